@@ -69,6 +69,28 @@ fn number_of(bytes: &[u8]) -> Option<u64> {
     }
 }
 
+// Each writer answers the spelling, or want of memory with the vector as it was. tools/refuse-memory runs this with
+// each allocation refused in turn.
+#[test]
+fn writers_want_memory(rt: HostRuntime) -> Result<(), Fail> {
+    for (n, bytes) in UNSIGNED {
+        let mut out = Vec::new(rt.alloc());
+        let answer = write_uint(rt.alloc(), n, &mut out);
+        assert_eq!(rt; out.as_slice(), if answer.is_ok() { bytes } else { &[] });
+    }
+    for (i, bytes) in SIGNED {
+        let mut out = Vec::new(rt.alloc());
+        let answer = write_int(rt.alloc(), i, &mut out);
+        assert_eq!(rt; out.as_slice(), if answer.is_ok() { bytes } else { &[] });
+    }
+    for (p, bytes) in PATTERNS {
+        let mut out = Vec::new(rt.alloc());
+        let answer = write_pattern(rt.alloc(), p, &mut out);
+        assert_eq!(rt; out.as_slice(), if answer.is_ok() { bytes } else { &[] });
+    }
+    Ok(())
+}
+
 #[test]
 fn unsigned_numbers(rt: HostRuntime) -> Result<(), Fail> {
     for (n, bytes) in UNSIGNED {
