@@ -1,0 +1,116 @@
+-- The laws of streams, by going along both of them.
+use Rattle.std.proofs.Common.{◌≡◌, ◌≢◌, ℕ, ◌+◌, ◌<◌, ◌≤◌, ◌⊎◌, inl, inr, List, [], ◌∷◌, ◌++◌, length, Option, Some, None, Result, Ok, Err, arith, refl, sym, ap, ◌∙◌, subst, append_assoc, length-append}
+use Rattle.std.proofs.lemmas.List.{append-nil}
+use Rattle.gob_types.specs.Table.{Table}
+use Rattle.gob_stream.specs.declared.fault.Fault.{Fault}
+use Rattle.gob_stream.specs.declared.fault.Fault.TheVariants as fault
+use Rattle.gob_stream.specs.Bounds.{Bounds}
+use Rattle.gob_stream.specs.Item.{StreamItem}
+use Rattle.gob_stream.specs.Body.{Body, definition, value, HasRoom, MayDefine}
+use Rattle.gob_stream.specs.Stream.{Counted, counted, Continues, no_more, and_then, Stream}
+use Rattle.gob_stream.specs.Outcome.{BeginsWith, GivesItems}
+use Rattle.gob_stream.specs.Readable.{readable_types, readable}
+use Rattle.gob_stream.specs.Reading.{SomeTaken, ReadsStream}
+use Rattle.gob_stream.specs.Writing.{WritesStream}
+use Rattle.gob_stream.specs.Laws.{GoesOn, AtLeast, ReadsThese}
+use Rattle.gob_stream.proofs.StreamLaws.{counted_prefix, counted_some, more_items}
+
+regroup : (b p x c q y : List ℕ) → (b ++ p) ++ x ≡ (c ++ q) ++ y → b ++ (p ++ x) ≡ c ++ (q ++ y)
+regroup b p x c q y e = sym (append_assoc b p x) ∙ e ∙ append_assoc c q y
+
+-- ---- one reading
+pub one_reading : {base : Table} {L : Bounds} {T U V : Table} {offset : ℕ} {items others : List StreamItem} {b c : List ℕ}
+    → Continues base L T offset items b U → Continues base L T offset others c V → b ≡ c → (items ≡ others) × (U ≡ V)
+one_reading no_more no_more e = (refl, refl)
+one_reading no_more (and_then {b = b} {c = c} q f s) e = absurd (let some = counted_some q in omega (arith, ap length e, length-append b c))
+one_reading (and_then {b = b} {c = c} p e r) no_more h = absurd (let some = counted_some p in omega (arith, ap length h, length-append b c))
+one_reading {base = base} {L = L} {V = V} (and_then {U = U} {next = m} {i = i} {items = items} {b = a} {c = b} p e r) (and_then {U = W} {next = n} {i = j} {items = others} {b = c} {c = d} q f s) h =
+    let one = counted_prefix b d p q h in
+    let lengths : length a ≡ length c = ap length one.bytes in
+    let offsets : n ≡ m = omega arith in
+    let s' = subst (λ (U : Table). Continues base L U m others d V) (sym one.table) (subst (λ n. Continues base L W n others d V) offsets s) in
+    let rest = one_reading r s' one.rest in
+    let ei : i ≡ j = one.item in let es : items ≡ others = rest.0 in
+    (cc, rest.1)
+
+-- ---- one begins the other
+goes_on_more : {i : StreamItem} {items others : List StreamItem} → GoesOn items others ⊎ GoesOn others items → GoesOn (i ∷ items) (i ∷ others) ⊎ GoesOn (i ∷ others) (i ∷ items)
+goes_on_more {i = i} (inl g) = inl (record { more = g.more; whole = ap (λ l. i ∷ l) g.whole })
+goes_on_more {i = i} (inr g) = inr (record { more = g.more; whole = ap (λ l. i ∷ l) g.whole })
+
+begin_from : {base : Table} {L : Bounds} {T U V : Table} {offset : ℕ} {items others : List StreamItem} {b c : List ℕ} (x y : List ℕ)
+    → Continues base L T offset items b U → Continues base L T offset others c V → b ++ x ≡ c ++ y → GoesOn items others ⊎ GoesOn others items
+begin_from {others = others} x y no_more q e = inl (record { more = others; whole = refl })
+begin_from {items = items} x y p no_more e = inr (record { more = items; whole = refl })
+begin_from {base = base} {L = L} {V = V} x y (and_then {U = U} {next = m} {i = i} {items = items} {b = a} {c = b} p e r) (and_then {U = W} {next = n} {i = j} {items = others} {b = c} {c = d} q f s) h =
+    let one = counted_prefix (b ++ x) (d ++ y) p q (regroup a b x c d y h) in
+    let lengths : length a ≡ length c = ap length one.bytes in
+    let offsets : n ≡ m = omega arith in
+    let s' = subst (λ (U : Table). Continues base L U m others d V) (sym one.table) (subst (λ n. Continues base L W n others d V) offsets s) in
+    subst (λ j. GoesOn (i ∷ items) (j ∷ others) ⊎ GoesOn (j ∷ others) (i ∷ items)) one.item (goes_on_more (begin_from x y r s' one.rest))
+
+pub begin_one_another : (base : Table) (L : Bounds) (bytes : List ℕ) (items others : List StreamItem) → BeginsWith base L bytes items → BeginsWith base L bytes others → GoesOn items others ⊎ GoesOn others items
+begin_one_another base L bytes items others p q = begin_from p.rest q.rest p.stream q.stream (sym p.whole ∙ q.whole)
+
+-- what isn't longer is all
+all_of : {items others : List StreamItem} → GoesOn items others → length others ≤ length items → items ≡ others
+all_of {items = items} {others = others} g l = sym (g.whole ∙ ap (λ m. items ++ m) (none g.more (omega (arith, ap length g.whole, length-append items g.more))) ∙ append-nil items)
+  where
+    none : (m : List StreamItem) → length m ≡ 0 → m ≡ []
+    none [] e = refl
+    none (i ∷ m) e = absurd (omega arith)
+
+pub give_one_list : (base : Table) (L : Bounds) (bytes : List ℕ) (items others : List StreamItem) → GivesItems base L bytes items → GivesItems base L bytes others → items ≡ others
+give_one_list base L bytes items others p q =
+    elim (begin_one_another base L bytes items others p.begins q.begins) [
+      | inl g ↦ all_of g (p.longest others q.begins)
+      | inr g ↦ sym (all_of g (q.longest items p.begins))
+    ]
+
+-- ---- wider limits
+wider_body : {base : Table} {L M : Bounds} {T U : Table} {i : StreamItem} {d : List ℕ} → AtLeast L M → Body base L T i d U → Body base M T i d U
+wider_body w (definition p l s n x q) = definition (record { own = p.own; new = p.new; room = let r = p.room in let t = w.types in omega arith }) (let t = w.depth in omega arith) s n x q
+wider_body w (value p l x q) = value p (let t = w.depth in omega arith) x q
+
+pub wider : {base : Table} {L M : Bounds} {T U : Table} {offset : ℕ} {items : List StreamItem} {b : List ℕ} → AtLeast L M → Continues base L T offset items b U → Continues base M T offset items b U
+wider w no_more = no_more
+wider w (and_then (counted p l s q) e r) = and_then (counted p (let t = w.item in omega arith) (let t = w.stream in omega arith) (wider_body w q)) e (wider w r)
+
+-- ---- read back
+readable_at_least : {L M : Bounds} → AtLeast L M → AtLeast (readable L) (readable M)
+readable_at_least a = record { item = a.item; depth = a.depth; types = omega arith; stream = a.stream }
+
+written_stream : (L : Bounds) (items : List StreamItem) (bytes : List ℕ) → WritesStream L items (Some []) (Some bytes) (Ok tt) → (T : Table) × Stream readable_types (readable L) items bytes T
+written_stream L items bytes w = (w.1, subst (λ b. Stream readable_types (readable L) items b w.1) (sym w.3) w.2)
+
+-- a front of the bytes of the stream of the items gives a front of them
+front_of : {base : Table} {L : Bounds} {items given : List StreamItem} {bytes : List ℕ} {T : Table} → Stream base L items bytes T → BeginsWith base L bytes given → GoesOn given items
+front_of {base = base} {L = L} {items = items} {given = given} {bytes = bytes} {T = T} p q =
+    elim (begin_one_another base L bytes given items q (record { front = bytes; rest = []; table = T; stream = p; whole = sym (append-nil bytes) })) [
+      | inl g ↦ g
+      | inr g ↦ record { more = []; whole = all_of g (shorter q.rest p q.stream q.whole) ∙ sym (append-nil given) }
+    ]
+  where
+    shorter : {front : List ℕ} {U : Table} (rest : List ℕ) → Stream base L items bytes T → Stream base L given front U → bytes ≡ front ++ rest → length given ≤ length items
+    shorter [] p r e = let same = (one_reading r p (sym (e ∙ append-nil _))).0 in omega (arith, ap length same)
+    shorter (d ∷ rest) p r e = let more = more_items (d ∷ rest) r p (sym e) (λ z. cc) in omega arith
+
+pub read_back : (L M : Bounds) (items given : List StreamItem) (bytes : List ℕ) (now : Option (List ℕ)) (result : Result (Unit {0}) Fault)
+    → AtLeast L M → WritesStream L items (Some []) (Some bytes) (Ok tt) → ReadsStream M bytes now given result → ReadsThese given items result
+read_back L M items given bytes now (Ok u) a w r = (one_reading r.1 (wider (readable_at_least a) (written_stream L items bytes w).1) refl).0
+read_back L M items given bytes now (Err (fault.Refused f)) a w r =
+    let s = written_stream L items bytes w in
+    r.1 (record { items = items; table = s.0; stream = wider (readable_at_least a) s.1 })
+read_back L M items given bytes now (Err fault.Read) a w r =
+    let s = written_stream L items bytes w in
+    let begins = r.holds.begins in
+    front_of (wider (readable_at_least a) s.1)
+    (record {
+      front = begins.front;
+      rest = begins.rest ++ r.taken.left;
+      table = begins.table;
+      stream = begins.stream;
+      whole = r.taken.whole ∙ ap (λ l. l ++ r.taken.left) begins.whole ∙ append_assoc begins.front begins.rest r.taken.left;
+    })
+read_back L M items given bytes now (Err fault.Memory) a w r = front_of (wider (readable_at_least a) (written_stream L items bytes w).1) r
+read_back L M items given bytes now (Err fault.Failed) a w r = absurd r

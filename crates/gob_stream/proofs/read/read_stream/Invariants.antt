@@ -1,0 +1,17 @@
+use Rattle.std.proofs.Common.{◌≡◌, ℕ, ◌-◌, List, Some}
+use Rattle.gob_stream.specs.Devices.{counts_up}
+use Rattle.gob_stream.specs.Item.{item_views}
+use Rattle.gob_stream.specs.Reading.{StandsAfter, SomeTaken, Given}
+use Rattle.gob_stream.proofs.read.read_stream.Given as goal
+
+abbrev pub invariant-loop-item : goal.invariant-loop-item
+invariant-loop-item g l = record {
+  given : Given l.initial.out.items l.out.items
+      (λ given. (rest : List ℕ) → g.R.Read.remaining l.initial.input.reader ≡ Some rest → SomeTaken rest (g.R.Read.remaining l.input.reader) (λ taken. StandsAfter l.session (item_views given) taken));
+  limits : l.session.limits ≡ l.initial.session.limits;
+  failures : l.input.failures ≡ l.initial.input.failures;
+  taken : l.input.taken ≡ counts_up l.initial.input.taken l.session.offset;
+}
+
+abbrev pub decreases-loop-item : goal.decreases-loop-item
+decreases-loop-item g l = l.session.limits.stream - l.session.offset

@@ -1,0 +1,12 @@
+pub mod Bounds
+pub mod Item
+pub mod Body
+pub mod Stream
+pub mod Outcome
+pub mod WriterRefusal
+pub mod Devices
+pub mod Readable
+pub mod Reading
+pub mod ReadParts
+pub mod Writing
+pub mod Laws

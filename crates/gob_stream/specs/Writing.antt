@@ -1,0 +1,157 @@
+-- What the writing calls answer, in the words of streams.
+use Rattle.std.specs.Prelude.{◌≡◌, ℕ, ◌+◌, ◌≤◌, List, [], ◌∷◌, ◌++◌, length, take, slice_get, true, false, Option, Some, Result, Ok, Err}
+use Rattle.std.specs.Io.KnownBytes.{Appends, Keeps}
+use Rattle.gob_types.specs.Table.{Table}
+use Rattle.gob_types.specs.Base.{base_table}
+use Rattle.gob_types.specs.Defined.{Defined, types}
+use Rattle.gob_types.specs.declared.reason.Reason.{Reason}
+use Rattle.gob_types.specs.declared.reason.Reason.TheVariants as reason
+use Rattle.gob_value.specs.declared.fault.SpellFault.{SpellFault}
+use Rattle.gob_value.specs.declared.fault.SpellFault.TheVariants as spelling
+use Rattle.gob_stream.specs.declared.fault.WriteFault.{WriteFault}
+use Rattle.gob_stream.specs.declared.fault.WriteFault.TheVariants as fault
+use Rattle.gob_stream.specs.declared.fault.WriteStop.{WriteStop}
+use Rattle.gob_stream.specs.declared.writer.StreamWriter.{StreamWriter}
+use Rattle.gob_stream.specs.Bounds.{Bounds}
+use Rattle.gob_stream.specs.Devices.{counts_up}
+use Rattle.gob_stream.specs.Item.{StreamItem}
+use Rattle.gob_stream.specs.Stream.{Stream, HasStream, Counted}
+use Rattle.gob_stream.specs.WriterRefusal.{RefusesItem}
+use Rattle.gob_stream.specs.Readable.{readable_types, readable}
+
+-- the table is the base table alone
+abbrev pub IsBase : Defined → Type 0
+IsBase d = types d ≡ base_table
+
+-- the writer has written these items, as these bytes
+pub record HasWritten (w : StreamWriter) (items : List StreamItem) (bytes : List ℕ) (T : Table) : Type 0 where
+  pub stream : Stream readable_types (readable w.limits) items bytes T
+  pub types : IsBase w.types
+  pub offset : w.offset ≡ length bytes
+  pub sound : w.failed ≡ false
+
+-- a front of the bytes of this item went out
+pub record WroteFront (L : Bounds) (T : Table) (offset : ℕ) (i : StreamItem) (old new : Option (List ℕ)) : Type 0 where
+  pub front : List ℕ
+  pub rest : List ℕ
+  pub table : Table
+  pub item : Counted readable_types L T offset i (front ++ rest) table
+  pub out : Appends old new front
+
+-- the bytes of this item went out, and the writer stands behind them
+pub record WroteItem (w w' : StreamWriter) (items : List StreamItem) (bytes : List ℕ) (T : Table) (i : StreamItem) (old new : Option (List ℕ)) : Type 0 where
+  pub more : List ℕ
+  pub table : Table
+  pub item : Counted readable_types (readable w.limits) T (length bytes) i more table
+  pub out : Appends old new more
+  pub limits : w'.limits ≡ w.limits
+  pub written : HasWritten w' (items ++ i ∷ []) (bytes ++ more) table
+
+-- nothing went out, and the writer is as before
+abbrev pub WroteNothing : (w w' : StreamWriter) → (old new : Option (List ℕ)) → Type 0
+WroteNothing w w' old new = (w' ≡ w) × Keeps old new
+
+-- what writing an item answers, for a writer that has written the items, over an output with the old bytes
+abbrev pub WritesItem : (w w' : StreamWriter) → List StreamItem → List ℕ → Table → StreamItem → (old new : Option (List ℕ)) → Result (Unit {0}) WriteFault → Type 0
+WritesItem w w' items bytes T i old new (Ok _) = WroteItem w w' items bytes T i old new
+WritesItem w w' items bytes T i old new (Err (fault.Refused r)) = RefusesItem readable_types (readable w.limits) T (length bytes) i r × WroteNothing w w' old new
+WritesItem w w' items bytes T i old new (Err fault.Write) = WroteFront (readable w.limits) T (length bytes) i old new × (w'.failed ≡ true)
+WritesItem w w' items bytes T i old new (Err fault.Memory) = WroteNothing w w' old new
+WritesItem w w' items bytes T i old new (Err fault.Failed) = ⊥
+
+-- the same, whatever it has written
+abbrev pub WritesNext : (w w' : StreamWriter) → StreamItem → (old new : Option (List ℕ)) → Result (Unit {0}) WriteFault → Type 0
+WritesNext w w' i old new result = (items : List StreamItem) (bytes : List ℕ) (T : Table) → HasWritten w items bytes T → WritesItem w w' items bytes T i old new result
+
+-- what a writer answers whose write failed: it writes nothing for good
+abbrev pub AnswersFailed : (w w' : StreamWriter) → (old new : Option (List ℕ)) → Result (Unit {0}) WriteFault → Type 0
+AnswersFailed w w' old new result = (result ≡ Err fault.Failed) × WroteNothing w w' old new
+
+-- the fault is `Write` exactly where a write failed, and the writer makes no further one
+abbrev pub CountsFault : (failures failures' : ℕ) → WriteFault → Type 0
+CountsFault failures failures' fault.Write = failures' ≡ counts_up failures 1
+CountsFault failures failures' _ = failures' ≡ failures
+
+-- the same of an answer: no write failed in a call that answers Ok
+abbrev pub CountsWrites : (failures failures' : ℕ) → Result (Unit {0}) WriteFault → Type 0
+CountsWrites failures failures' (Ok _) = failures' ≡ failures
+CountsWrites failures failures' (Err f) = CountsFault failures failures' f
+
+-- and of the writing of a list of items
+abbrev pub CountsStop : (failures failures' : ℕ) → Result (Unit {0}) WriteStop → Type 0
+CountsStop failures failures' (Ok _) = failures' ≡ failures
+CountsStop failures failures' (Err stop) = CountsFault failures failures' stop.fault
+
+-- a new writer has written nothing
+pub record IsNew (w : StreamWriter) (L : Bounds) : Type 0 where
+  pub limits : w.limits ≡ L
+  pub nothing : HasWritten w [] [] readable_types
+
+-- a front of the bytes went out
+pub record SentFront (bytes : List ℕ) (old new : Option (List ℕ)) : Type 0 where
+  pub front : List ℕ
+  pub rest : List ℕ
+  pub whole : bytes ≡ front ++ rest
+  pub out : Appends old new front
+
+-- the limits admit an item of this count and body at the offset
+pub record FitsLimits (L : Bounds) (offset : ℕ) (count body : List ℕ) : Type 0 where
+  pub item : length body ≤ L.item
+  pub stream : offset + length (count ++ body) ≤ L.stream
+
+-- what stops an item before any of its bytes goes out: such a reason, or no memory
+abbrev pub IsRefusal : (Reason → Type 0) → WriteFault → Type 0
+IsRefusal Refuses (fault.Refused r) = Refuses r
+IsRefusal Refuses fault.Write = ⊥
+IsRefusal Refuses fault.Memory = Unit {0}
+IsRefusal Refuses fault.Failed = ⊥
+
+-- the fault of a writer whose value isn't spelled
+abbrev pub spelling_fault : SpellFault → WriteFault
+spelling_fault spelling.TooDeep = fault.Refused reason.TooDeep
+spelling_fault spelling.DoesNotFit = fault.Refused reason.DoesNotFit
+spelling_fault spelling.Memory = fault.Memory
+
+-- the items before this one went out whole, and nothing else
+pub record WroteBefore (L : Bounds) (items : List StreamItem) (n : ℕ) (old new : Option (List ℕ)) : Type 0 where
+  pub within : n ≤ length items
+  pub bytes : List ℕ
+  pub table : Table
+  pub before : Stream readable_types (readable L) (take n items) bytes table
+  pub out : Appends old new bytes
+
+-- and this one is refused, so that no stream has all of them
+pub record RefusedThere (L : Bounds) (items : List StreamItem) (n : ℕ) (r : Reason) (old new : Option (List ℕ)) : Type 0 where
+  pub bytes : List ℕ
+  pub table : Table
+  pub item : StreamItem
+  pub before : Stream readable_types (readable L) (take n items) bytes table
+  pub out : Appends old new bytes
+  pub at : slice_get items n ≡ Some item
+  pub refused : RefusesItem readable_types (readable L) table (length bytes) item r
+  pub none : ¬ HasStream readable_types (readable L) items
+
+-- the items before this one went out whole, and a front of this one
+pub record CutThere (L : Bounds) (items : List StreamItem) (n : ℕ) (old new : Option (List ℕ)) : Type 0 where
+  pub bytes : List ℕ
+  pub front : List ℕ
+  pub rest : List ℕ
+  pub table : Table
+  pub last : Table
+  pub item : StreamItem
+  pub before : Stream readable_types (readable L) (take n items) bytes table
+  pub out : Appends old new (bytes ++ front)
+  pub at : slice_get items n ≡ Some item
+  pub counted : Counted readable_types (readable L) table (length bytes) item (front ++ rest) last
+
+-- what stopped the writing of a list of items, at this one
+abbrev pub StoppedAt : Bounds → List StreamItem → ℕ → (old new : Option (List ℕ)) → WriteFault → Type 0
+StoppedAt L items n old new (fault.Refused r) = RefusedThere L items n r old new
+StoppedAt L items n old new fault.Write = CutThere L items n old new
+StoppedAt L items n old new fault.Memory = WroteBefore L items n old new
+StoppedAt L items n old new fault.Failed = ⊥
+
+-- what writing a list of items answers
+abbrev pub WritesStream : Bounds → List StreamItem → (old new : Option (List ℕ)) → Result (Unit {0}) WriteStop → Type 0
+WritesStream L items old new (Ok _) = (bytes : List ℕ) × (T : Table) × Stream readable_types (readable L) items bytes T × Appends old new bytes
+WritesStream L items old new (Err stop) = StoppedAt L items stop.item old new stop.fault

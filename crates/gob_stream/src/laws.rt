@@ -1,0 +1,34 @@
+//! Laws of streams. Each function does nothing: its contract is a law that is proved here, once.
+
+ghost use Rattle.gob_stream.specs.Laws.{HaveOneReading, BeginOneAnother, GiveOneList};
+ghost use Rattle.gob_stream.specs.Laws.{StayStreams, AreReadBack};
+ghost use Rattle.gob_stream.specs.WriterRefusal.{HaveOneReason, AreNotCounted};
+
+/// A stream has one list of items, and one table of types behind it.
+pub fn streams_have_one_reading()
+    ensures { HaveOneReading }
+{}
+
+/// Of two streams with which bytes begin, one begins the other, so that there is a longest, whose items are
+/// what the bytes give.
+pub fn bytes_give_one_list()
+    ensures begin { BeginOneAnother }
+    ensures give { GiveOneList }
+{}
+
+/// A stream stays one under limits that are each at least its own.
+pub fn streams_stay()
+    ensures { StayStreams }
+{}
+
+/// What `write_stream` writes, `read_stream` reads back as that list, under limits that are each at least the
+/// writer's.
+pub fn streams_are_read_back()
+    ensures { AreReadBack }
+{}
+
+/// There is one reason at most for which an item isn't written, and none where some bytes are the item.
+pub fn one_refusal()
+    ensures reason { HaveOneReason }
+    ensures not_counted { AreNotCounted }
+{}

@@ -1,0 +1,44 @@
+//! Gob streams: items of definitions and values, one after another.
+//!
+//! ```text
+//! stream      item item item ..
+//! item        count body                  the count of the body's bytes, unsigned
+//! body        type number, description    of the type whose id the number is below 0: a definition
+//!             type number, value          of the type with that id
+//!
+//! 03 04 00 06                             one item of three bytes: type 2, int, the tag, the number 3
+//! ```
+//!
+//! A reader takes the bytes from an `Input` and gives `Item`s; a writer puts the bytes of items into an `Output`.
+//! Both keep to `Limits`, and both say where a stream stands: a `Refusal` names the first refused byte and why.
+#![tactic(auto)]
+
+mod count;
+mod fault;
+mod input;
+mod item;
+mod judge;
+pub mod laws;
+mod limits;
+mod output;
+mod read;
+mod send;
+mod session;
+mod spelled;
+mod writer;
+mod writing;
+
+pub use fault::{Fault, Refusal, WriteFault, WriteStop};
+pub use input::Input;
+pub use item::Item;
+pub use limits::Limits;
+pub use output::Output;
+pub use read::read_stream;
+pub use session::Session;
+pub use writer::StreamWriter;
+pub use writing::write_stream;
+
+#[cfg(test)]
+mod reading_tests;
+#[cfg(test)]
+mod writing_tests;

@@ -1,0 +1,75 @@
+//! A writer that counts its failed calls.
+
+ghost use Rattle.std.specs.Prelude.{◌≡◌};
+ghost use Rattle.gob_stream.specs.Devices.{WriteCounted, FlushCounted, counts_up};
+ghost use Rattle.std.specs.Io.KnownBytes.{WriteAppends, Keeps};
+ghost use Rattle.std.specs.Io.{WritesAtMost};
+
+use std::io;
+use std::io::Write;
+
+/// A writer that passes each write and flush on, and counts the calls that failed: an error, or no byte taken of
+/// some.
+#[derive(Drop)]
+pub struct Output<W> {
+    writer: W,
+    failures: u64,
+}
+
+impl<W> Output<W> {
+    /// Over this writer.
+    pub fn new(writer: W) -> Output<W>
+        ensures writer { result.writer ≡ writer }
+        ensures failures { result.failures ≡ 0 }
+    {
+        Output {
+            writer,
+            failures: 0,
+        }
+    }
+
+    /// How many calls failed so far. It stays at 2^64-1 once there.
+    pub fn failures(&self) -> u64
+        ensures { result ≡ self.now.failures }
+    {
+        self.failures
+    }
+
+    // Counts a failed call.
+    fn count_failure(&mut self)
+        ensures { self.new ≡ record self.old { failures = counts_up self.old.failures 1 } }
+    {
+        self.failures = self.failures.saturating_add(1);
+    }
+}
+
+impl<W: Write> Write for Output<W> {
+    ghost contents = { λ s. W.contents s.writer };
+
+    fn write(&mut self, buf: &[u8]) -> io::Result<usize>
+        ensures bound { WritesAtMost result buf.now }
+        ensures bytes { WriteAppends (W.contents self.old.writer) (W.contents self.new.writer) result buf.now }
+        ensures counted { WriteCounted self.old.failures self.new.failures result buf.now }
+    {
+        let result = self.writer.write(buf);
+        let failed = match &result {
+            Ok(n) => *n == 0 && !buf.is_empty(),
+            Err(_) => true,
+        };
+        if failed {
+            self.count_failure();
+        }
+        result
+    }
+
+    fn flush(&mut self) -> io::Result<()>
+        ensures bytes { Keeps (W.contents self.old.writer) (W.contents self.new.writer) }
+        ensures counted { FlushCounted self.old.failures self.new.failures result }
+    {
+        let result = self.writer.flush();
+        if result.is_err() {
+            self.count_failure();
+        }
+        result
+    }
+}

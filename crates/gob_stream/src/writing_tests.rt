@@ -1,0 +1,398 @@
+//! What no proof shows: the bytes of the documented rows, and that each call succeeds and stops where it should.
+
+use crate::fault::{WriteFault, WriteStop};
+use crate::item::Item;
+use crate::limits::Limits;
+use crate::output::Output;
+use crate::writer::StreamWriter;
+use crate::writing::write_stream;
+use gob_types::{Reason, TypeId};
+use gob_value::Value;
+use std::alloc::Global;
+use std::io;
+use std::io::Write;
+use std::test::Fail;
+
+// How a device answers the call that goes wrong.
+#[derive(Clone, Copy, Debug, PartialEq, Eq)]
+enum Wrong {
+    Nothing,
+    Interrupted,
+    Broken,
+    Zero,
+}
+
+// A writer that takes so many bytes at a time, and goes wrong at one call, counted from 1.
+#[derive(Drop)]
+struct Device {
+    taken: Vec<u8>,
+    most: usize,
+    calls: u64,
+    wrong_at: u64,
+    wrong: Wrong,
+    flushes: bool,
+}
+
+impl Write for Device {
+    fn write(&mut self, buf: &[u8]) -> io::Result<usize> {
+        self.calls = self.calls.saturating_add(1);
+        if self.calls == self.wrong_at {
+            match self.wrong {
+                Wrong::Interrupted => return Err(io::ErrorKind::Interrupted.into()),
+                Wrong::Broken => return Err(io::ErrorKind::BrokenPipe.into()),
+                Wrong::Zero => return Ok(0),
+                Wrong::Nothing => {}
+            }
+        }
+        let count = buf.len().min(self.most);
+        match self.taken.extend_from_slice(&buf[..count]) {
+            Ok(()) => Ok(count),
+            Err(_) => Err(io::ErrorKind::OutOfMemory.into()),
+        }
+    }
+
+    fn flush(&mut self) -> io::Result<()> {
+        if self.flushes {
+            Ok(())
+        } else {
+            Err(io::ErrorKind::BrokenPipe.into())
+        }
+    }
+}
+
+impl Device {
+    // Takes all that it is given, in one call each.
+    fn sound(alloc: Global) -> Device {
+        Device {
+            taken: Vec::new(alloc),
+            most: usize::MAX,
+            calls: 0,
+            wrong_at: 0,
+            wrong: Wrong::Nothing,
+            flushes: true,
+        }
+    }
+
+    // Takes one byte a call, and goes wrong at this one.
+    fn slow(alloc: Global, wrong_at: u64, wrong: Wrong) -> Device {
+        Device {
+            taken: Vec::new(alloc),
+            most: 1,
+            calls: 0,
+            wrong_at,
+            wrong,
+            flushes: true,
+        }
+    }
+}
+
+// A value, the id of its type, and the bytes of its item.
+#[derive(Drop)]
+struct Row {
+    id: u64,
+    value: Value,
+    bytes: &'static [u8],
+}
+
+fn documented(id: u64, value: Value, bytes: &'static [u8]) -> Row {
+    Row { id, value, bytes }
+}
+
+// The documented items of the basic types.
+fn rows(alloc: Global) -> Result<Vec<Row>, Fail> {
+    let text = [0xff].to_vec(alloc)?;
+    let raw = [0x00, 0xff].to_vec(alloc)?;
+    Ok(vec![in alloc;
+        documented(1, Value::Bool(true), b"\x03\x02\x00\x01"),
+        documented(2, Value::Int(3), b"\x03\x04\x00\x06"),
+        documented(
+            2,
+            Value::Int(i64::MIN),
+            b"\x0b\x04\x00\xf8\xff\xff\xff\xff\xff\xff\xff\xff"
+        ),
+        documented(3, Value::Uint(7), b"\x03\x06\x00\x07"),
+        documented(
+            4,
+            Value::Float(0x4031000000000000),
+            b"\x05\x08\x00\xfe\x31\x40"
+        ),
+        documented(5, Value::Bytes(raw), b"\x05\x0a\x00\x02\x00\xff"),
+        documented(6, Value::Str(text), b"\x04\x0c\x00\x01\xff"),
+        documented(
+            7,
+            Value::Complex(0x4031000000000000, 0),
+            b"\x06\x0e\x00\xfe\x31\x40\x00"
+        ),
+    ]?)
+}
+
+fn put(id: u64, value: Value) -> Item<Value> {
+    Item::Put {
+        id: TypeId(id),
+        value,
+    }
+}
+
+// Three items, of 4 bytes each.
+fn three(alloc: Global, middle: Item<Value>) -> Result<Vec<Item<Value>>, Fail> {
+    Ok(vec![in alloc; put(2, Value::Int(3)), middle, put(1, Value::Bool(true))]?)
+}
+
+#[test]
+fn items_are_the_documented_bytes(rt: HostRuntime) -> Result<(), Fail> {
+    let alloc = rt.alloc();
+    for row in &rows(alloc)? {
+        let mut device = Device::sound(alloc);
+        let mut output = Output::new(&mut device);
+        let mut writer = StreamWriter::new(alloc, Limits::standard())?;
+        assert_eq!(rt;
+            writer.put(alloc, &mut output, TypeId(row.id), &row.value),
+            Ok(())
+        );
+        assert_eq!(rt; output.failures(), 0);
+        assert_eq!(rt; device.taken.as_slice(), row.bytes);
+        assert_eq!(rt; device.calls, 1);
+    }
+    Ok(())
+}
+
+#[test]
+fn a_stream_is_its_items_in_order(rt: HostRuntime) -> Result<(), Fail> {
+    let alloc = rt.alloc();
+    let mut wanted = Vec::new(alloc);
+    let mut items = Vec::new(alloc);
+    for row in rows(alloc)? {
+        wanted.extend_from_slice(row.bytes)?;
+        items.push(put(row.id, row.value))?;
+    }
+    let mut device = Device::slow(alloc, 0, Wrong::Nothing);
+    let mut output = Output::new(&mut device);
+    assert_eq!(rt;
+        write_stream(alloc, &mut output, &items, Limits::standard()),
+        Ok(())
+    );
+    assert_eq!(rt; device.taken.as_slice(), wanted.as_slice());
+    Ok(())
+}
+
+#[test]
+fn nothing_of_a_value_that_does_not_fit_goes_out(rt: HostRuntime) -> Result<(), Fail> {
+    let alloc = rt.alloc();
+    let mut device = Device::sound(alloc);
+    let mut output = Output::new(&mut device);
+    let mut writer = StreamWriter::new(alloc, Limits::standard())?;
+    let refused = Err(WriteFault::Refused(Reason::DoesNotFit));
+    assert_eq!(rt;
+        writer.put(alloc, &mut output, TypeId(2), &Value::Int(3)),
+        Ok(())
+    );
+    assert_eq!(rt;
+        writer.put(alloc, &mut output, TypeId(2), &Value::Uint(3)),
+        refused
+    );
+    assert_eq!(rt;
+        writer.put(alloc, &mut output, TypeId(6), &Value::Many(Vec::new(alloc))),
+        refused
+    );
+    assert_eq!(rt;
+        writer.put(alloc, &mut output, TypeId(1), &Value::Bool(true)),
+        Ok(())
+    );
+    assert_eq!(rt;
+        device.taken.as_slice(),
+        b"\x03\x04\x00\x06\x03\x02\x00\x01".as_slice()
+    );
+    Ok(())
+}
+
+#[test]
+fn a_failed_write_is_the_last(rt: HostRuntime) -> Result<(), Fail> {
+    let alloc = rt.alloc();
+    let whole = b"\x03\x04\x00\x06\x03\x06\x00\x07\x03\x02\x00\x01";
+    for wrong in [Wrong::Interrupted, Wrong::Broken, Wrong::Zero] {
+        for wrong_at in 1..13u64 {
+            let items = three(alloc, put(3, Value::Uint(7)))?;
+            let mut device = Device::slow(alloc, wrong_at, wrong);
+            let mut output = Output::new(&mut device);
+            let stopped = WriteStop {
+                item: (wrong_at - 1) / 4,
+                fault: WriteFault::Write,
+            };
+            assert_eq!(rt;
+                write_stream(alloc, &mut output, &items, Limits::standard()),
+                Err(stopped)
+            );
+            assert_eq!(rt; output.failures(), 1);
+            let front = whole.get(..wrong_at as usize - 1).ok_or("no front")?;
+            assert_eq!(rt; device.taken.as_slice(), front);
+            assert_eq!(rt; device.calls, wrong_at);
+        }
+    }
+    Ok(())
+}
+
+#[test]
+fn a_writer_that_failed_writes_no_more(rt: HostRuntime) -> Result<(), Fail> {
+    let alloc = rt.alloc();
+    let mut device = Device::slow(alloc, 3, Wrong::Broken);
+    let mut output = Output::new(&mut device);
+    let mut writer = StreamWriter::new(alloc, Limits::standard())?;
+    let value = Value::Int(3);
+    assert_eq!(rt;
+        writer.put(alloc, &mut output, TypeId(2), &value),
+        Err(WriteFault::Write)
+    );
+    assert_eq!(rt;
+        writer.put(alloc, &mut output, TypeId(2), &value),
+        Err(WriteFault::Failed)
+    );
+    assert_eq!(rt;
+        writer.define(alloc, &mut output, TypeId(63), &value),
+        Err(WriteFault::Failed)
+    );
+    assert_eq!(rt; output.failures(), 1);
+    assert_eq!(rt; device.taken.as_slice(), b"\x03\x04".as_slice());
+    Ok(())
+}
+
+#[test]
+fn a_failed_flush_is_counted(rt: HostRuntime) -> Result<(), Fail> {
+    let alloc = rt.alloc();
+    let mut device = Device::sound(alloc);
+    let mut output = Output::new(&mut device);
+    assert!(rt; output.flush().is_ok());
+    assert_eq!(rt; output.failures(), 0);
+    let mut broken = Device {
+        flushes: false,
+        ..Device::sound(alloc)
+    };
+    let mut output = Output::new(&mut broken);
+    assert!(rt; output.flush().is_err());
+    assert_eq!(rt; output.failures(), 1);
+    Ok(())
+}
+
+#[test]
+fn limits_are_kept(rt: HostRuntime) -> Result<(), Fail> {
+    let alloc = rt.alloc();
+    // the limits for an item and for the stream, and what stops the writing of three items of 4, 4 and 4 bytes
+    let cases = [
+        (3, 12, None),
+        (2, 12, Some((0, Reason::ItemTooLong))),
+        (2, 3, Some((0, Reason::ItemTooLong))),
+        (3, 11, Some((2, Reason::StreamTooLong))),
+        (3, 7, Some((1, Reason::StreamTooLong))),
+        (3, 3, Some((0, Reason::StreamTooLong))),
+        (3, 0, Some((0, Reason::StreamTooLong))),
+    ];
+    for (item, stream, stop) in cases {
+        let items = three(alloc, put(3, Value::Uint(7)))?;
+        let limits = Limits::new(item, 1, 0, stream).ok_or("no limits")?;
+        let mut device = Device::sound(alloc);
+        let mut output = Output::new(&mut device);
+        let answer = write_stream(alloc, &mut output, &items, limits);
+        let (wanted, out) = match stop {
+            None => (Ok(()), 12),
+            Some((item, reason)) => (
+                Err(WriteStop {
+                    item,
+                    fault: WriteFault::Refused(reason),
+                }),
+                item * 4,
+            ),
+        };
+        assert_eq!(rt; answer, wanted);
+        assert_eq!(rt; device.taken.len() as u64, out);
+    }
+    Ok(())
+}
+
+#[test]
+fn other_types_are_refused(rt: HostRuntime) -> Result<(), Fail> {
+    let alloc = rt.alloc();
+    let mut device = Device::sound(alloc);
+    let mut output = Output::new(&mut device);
+    let mut writer = StreamWriter::new(alloc, Limits::standard())?;
+    for id in [0, 8, 9, 16, 24, 65] {
+        let refused = WriteFault::Refused(Reason::UndefinedType(TypeId(id)));
+        assert_eq!(rt;
+            writer.put(alloc, &mut output, TypeId(id), &Value::Nil),
+            Err(refused)
+        );
+    }
+    for id in [0, 2, 16, 63, 2147483648] {
+        let refused = WriteFault::Refused(Reason::ReservedType(TypeId(id)));
+        assert_eq!(rt;
+            writer.define(alloc, &mut output, TypeId(id), &Value::Nil),
+            Err(refused)
+        );
+    }
+    for id in [64, 65, 2147483647] {
+        let refused = WriteFault::Refused(Reason::TooManyTypes);
+        assert_eq!(rt;
+            writer.define(alloc, &mut output, TypeId(id), &Value::Nil),
+            Err(refused)
+        );
+    }
+    assert_eq!(rt; device.calls, 0);
+    Ok(())
+}
+
+#[test]
+fn a_value_too_deep_is_refused_as_that(rt: HostRuntime) -> Result<(), Fail> {
+    let alloc = rt.alloc();
+    let limits = Limits::new(100, 2, 0, 100).ok_or("no limits")?;
+    let mut device = Device::sound(alloc);
+    let mut output = Output::new(&mut device);
+    let mut writer = StreamWriter::new(alloc, limits)?;
+    // as many lists in one another as the depth says, round a number
+    let cases = [
+        (1, Reason::DoesNotFit),
+        (2, Reason::TooDeep),
+        (9, Reason::TooDeep),
+    ];
+    for (depth, reason) in cases {
+        let mut value = Value::Int(1);
+        for _ in 0..depth {
+            let parts = vec![in alloc; value]?;
+            value = Value::Many(parts);
+        }
+        assert_eq!(rt;
+            writer.put(alloc, &mut output, TypeId(2), &value),
+            Err(WriteFault::Refused(reason))
+        );
+    }
+    assert_eq!(rt; device.calls, 0);
+    Ok(())
+}
+
+#[test]
+fn writing_stops_at_the_item_refused(rt: HostRuntime) -> Result<(), Fail> {
+    let alloc = rt.alloc();
+    let middles = vec![in alloc;
+        (put(3, Value::Int(7)), Reason::DoesNotFit),
+        (put(65, Value::Int(7)), Reason::UndefinedType(TypeId(65))),
+        (
+            Item::Define {
+                id: TypeId(65),
+                described: Value::Nil
+            },
+            Reason::TooManyTypes
+        ),
+    ]?;
+    for (middle, reason) in middles {
+        let items = three(alloc, middle)?;
+        let mut device = Device::sound(alloc);
+        let mut output = Output::new(&mut device);
+        let stopped = WriteStop {
+            item: 1,
+            fault: WriteFault::Refused(reason),
+        };
+        assert_eq!(rt;
+            write_stream(alloc, &mut output, &items, Limits::standard()),
+            Err(stopped)
+        );
+        assert_eq!(rt; device.taken.as_slice(), b"\x03\x04\x00\x06".as_slice());
+    }
+    Ok(())
+}

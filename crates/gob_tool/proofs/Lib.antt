@@ -1,0 +1,5 @@
+pub mod TextLaws
+pub mod PrintLaws
+pub mod WordLaws
+pub mod FrontLaws
+pub mod ShowLaws

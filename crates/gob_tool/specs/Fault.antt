@@ -1,0 +1,27 @@
+-- What the program says of a fault. (docs/FORMAT.md, The program: this project's own.)
+use Rattle.std.specs.Prelude.{ℕ, List, codes, Option, Some, None}
+use Rattle.gob_stream.specs.declared.fault.Fault.{Fault}
+use Rattle.gob_stream.specs.declared.fault.Fault.TheVariants as reading
+use Rattle.gob_tool.specs.declared.fault.ToolFault.{ToolFault}
+use Rattle.gob_tool.specs.declared.fault.ToolFault.TheVariants as fault
+
+-- the exit status after it
+abbrev pub fault_status : ToolFault → ℕ
+fault_status (fault.Refused r) = 1
+fault_status fault.Read = 2
+fault_status fault.Write = 2
+fault_status fault.Memory = 2
+
+-- its line, which for a refused input is shown by tests
+abbrev pub fault_line : ToolFault → Option (List ℕ)
+fault_line (fault.Refused r) = None
+fault_line fault.Read = Some (codes "gob: read fault")
+fault_line fault.Write = Some (codes "gob: write fault")
+fault_line fault.Memory = Some (codes "gob: out of memory")
+
+-- the fault of a run whose reader met this one first; a reader's first fault is never `Failed`
+abbrev pub reading_fault : Fault → ToolFault
+reading_fault (reading.Refused r) = fault.Refused r
+reading_fault reading.Read = fault.Read
+reading_fault reading.Memory = fault.Memory
+reading_fault reading.Failed = fault.Memory

@@ -1,0 +1,6 @@
+pub mod Json
+pub mod Line
+pub mod Fault
+pub mod Words
+pub mod Showing
+pub mod Gathering

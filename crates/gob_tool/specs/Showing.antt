@@ -1,0 +1,84 @@
+-- What a run over a stream answers, and what it has written then.
+-- (docs/FORMAT.md, The JSON lines; The program: this project's own.)
+use Rattle.std.specs.Prelude.{◌≡◌, ℕ, ◌⊎◌, List, [], ◌++◌, Option, Some, Result, Ok, Err}
+use Rattle.std.specs.Io.KnownBytes.{Appends}
+use Rattle.gob_types.specs.Table.{Table}
+use Rattle.gob_types.specs.Base.{base_table}
+use Rattle.gob_stream.specs.Bounds.{Bounds}
+use Rattle.gob_stream.specs.Item.{StreamItem}
+use Rattle.gob_stream.specs.Stream.{Stream, IsStream}
+use Rattle.gob_stream.specs.Outcome.{BeginsWith, GivesItems}
+use Rattle.gob_stream.specs.Devices.{counts_up}
+use Rattle.gob_stream.specs.Reading.{SomeTaken}
+use Rattle.gob_stream.specs.Readable.{readable_types, readable}
+use Rattle.gob_tool.specs.declared.fault.ToolFault.{ToolFault}
+use Rattle.gob_tool.specs.declared.fault.ToolFault.TheVariants as fault
+use Rattle.gob_tool.specs.Line.{lines}
+
+-- the bytes are the stream of some items, of which this holds, and all of them were read
+pub record EndsWhole (L : Bounds) (bytes : List ℕ) (now : Option (List ℕ)) (P : List StreamItem → Type 0) : Type 0 where
+  pub items : List StreamItem
+  pub table : Table
+  pub stream : Stream readable_types (readable L) items bytes table
+  pub end : now ≡ Some []
+  pub holds : P items
+
+-- this holds of the items of the longest stream that the bytes begin with
+pub record Gives (L : Bounds) (bytes : List ℕ) (P : List StreamItem → Type 0) : Type 0 where
+  pub items : List StreamItem
+  pub given : GivesItems readable_types (readable L) bytes items
+  pub holds : P items
+
+-- this holds of the items of some stream that the bytes begin with
+pub record Begins (L : Bounds) (bytes : List ℕ) (P : List StreamItem → Type 0) : Type 0 where
+  pub items : List StreamItem
+  pub begins : BeginsWith readable_types (readable L) bytes items
+  pub holds : P items
+
+-- how a run over an input with these bytes left ends, where `Whole` holds of the items whose lines went out, or `Cut`
+-- after a failed write
+abbrev pub Runs : Bounds → (bytes : List ℕ) → (now : Option (List ℕ)) → (Whole Cut : List StreamItem → Type 0) → Result (Unit {0}) ToolFault → Type 0
+Runs L bytes now Whole Cut (Ok _) = EndsWhole L bytes now Whole
+Runs L bytes now Whole Cut (Err (fault.Refused r)) = Gives L bytes Whole × ¬ IsStream readable_types (readable L) bytes
+Runs L bytes now Whole Cut (Err fault.Read) = SomeTaken bytes now (λ taken. Gives L taken Whole)
+Runs L bytes now Whole Cut (Err fault.Write) = Begins L bytes Cut
+Runs L bytes now Whole Cut (Err fault.Memory) = Begins L bytes Whole
+
+-- known bytes grow by a front of these
+pub record AppendsFront (old new : Option (List ℕ)) (bytes : List ℕ) : Type 0 where
+  pub front : List ℕ
+  pub rest : List ℕ
+  pub whole : bytes ≡ front ++ rest
+  pub out : Appends old new front
+
+-- the lines of the items went out. Their types are those of the base table, as no definition is read yet
+abbrev pub WroteLines : (old new : Option (List ℕ)) → List StreamItem → Type 0
+WroteLines old new items = Appends old new (lines base_table items)
+
+-- a front of the lines of the items went out
+abbrev pub WroteFront : (old new : Option (List ℕ)) → List StreamItem → Type 0
+WroteFront old new items = AppendsFront old new (lines base_table items)
+
+-- how the run that shows a stream ends, over an input with these bytes left and an output with the old bytes
+abbrev pub Shows : Bounds → (bytes : List ℕ) → (now old new : Option (List ℕ)) → Result (Unit {0}) ToolFault → Type 0
+Shows L bytes now old new result = Runs L bytes now (WroteLines old new) (WroteFront old new) result
+
+-- the count is the same, or one higher
+abbrev pub MayCount : (failures failures' : ℕ) → Type 0
+MayCount failures failures' = (failures' ≡ failures) ⊎ (failures' ≡ counts_up failures 1)
+
+-- a read failed where the fault is `Read`, and else only before a failed write
+abbrev pub CountsReadFaults : (failures failures' : ℕ) → Result (Unit {0}) ToolFault → Type 0
+CountsReadFaults failures failures' (Ok _) = failures' ≡ failures
+CountsReadFaults failures failures' (Err (fault.Refused r)) = failures' ≡ failures
+CountsReadFaults failures failures' (Err fault.Read) = failures' ≡ counts_up failures 1
+CountsReadFaults failures failures' (Err fault.Write) = MayCount failures failures'
+CountsReadFaults failures failures' (Err fault.Memory) = failures' ≡ failures
+
+-- a write or a flush failed where the fault is `Write`, and else only the flush behind another fault
+abbrev pub CountsWriteFaults : (failures failures' : ℕ) → Result (Unit {0}) ToolFault → Type 0
+CountsWriteFaults failures failures' (Ok _) = failures' ≡ failures
+CountsWriteFaults failures failures' (Err (fault.Refused r)) = MayCount failures failures'
+CountsWriteFaults failures failures' (Err fault.Read) = MayCount failures failures'
+CountsWriteFaults failures failures' (Err fault.Write) = failures' ≡ counts_up failures 1
+CountsWriteFaults failures failures' (Err fault.Memory) = MayCount failures failures'

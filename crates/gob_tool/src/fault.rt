@@ -1,0 +1,73 @@
+//! What stops a run of the program.
+
+ghost use Rattle.std.specs.Prelude.{◌≡◌};
+ghost use Rattle.gob_tool.specs.Fault.{fault_status};
+
+use gob_num::Memory;
+use gob_stream::{Fault, Refusal};
+use std::fmt;
+
+/// What stops a run. Display writes the line that the program prints, without the line feed.
+#[derive(Clone, Copy, Debug, PartialEq, Eq)]
+pub enum ToolFault {
+    /// The input is no stream.
+    Refused(Refusal),
+    /// A read failed, or the input could not be opened.
+    Read,
+    /// A write or the flush at the end failed.
+    Write,
+    /// No memory was had.
+    Memory,
+}
+
+impl fmt::Display for ToolFault {
+    ghost use Rattle.gob_tool.specs.Fault.{fault_line};
+
+    ghost output = { fault_line };
+
+    fn fmt<W: fmt::Write>(&self, f: &mut fmt::Formatter<W>) -> fmt::Result {
+        match self {
+            ToolFault::Refused(refusal) => write!(f, "gob: {refusal}"),
+            ToolFault::Read => write!(f, "gob: read fault"),
+            ToolFault::Write => write!(f, "gob: write fault"),
+            ToolFault::Memory => write!(f, "gob: out of memory"),
+        }
+    }
+}
+
+impl From<Memory> for ToolFault {
+    ghost use Rattle.std.specs.Prelude.{◌≡◌};
+    ghost use Rattle.gob_tool.specs.declared.fault.ToolFault.TheVariants.{Memory};
+
+    ghost from_gives = { λ _ fault. fault ≡ Memory };
+
+    fn from(_: Memory) -> ToolFault {
+        ToolFault::Memory
+    }
+}
+
+impl From<Fault> for ToolFault {
+    ghost use Rattle.std.specs.Prelude.{◌≡◌};
+    ghost use Rattle.gob_tool.specs.Fault.{reading_fault};
+
+    ghost from_gives = { λ given fault. fault ≡ reading_fault given };
+
+    // A reader answers `Failed` behind a fault alone, where a run has ended.
+    fn from(fault: Fault) -> ToolFault {
+        match fault {
+            Fault::Refused(refusal) => ToolFault::Refused(refusal),
+            Fault::Read => ToolFault::Read,
+            Fault::Memory | Fault::Failed => ToolFault::Memory,
+        }
+    }
+}
+
+/// The exit status of the program after this fault: 1 for a refused input, 2 for the others.
+pub fn status(fault: &ToolFault) -> u8
+    ensures { result ≡ fault_status fault.now }
+{
+    match fault {
+        ToolFault::Refused(_) => 1,
+        ToolFault::Read | ToolFault::Write | ToolFault::Memory => 2,
+    }
+}

@@ -1,0 +1,25 @@
+//! Gob streams as JSON lines, and the runs of the program `gob`.
+//!
+//! ```text
+//! 03 04 00 06                             an item: the int 3
+//! {"type":2,"value":3}                    its line
+//! ```
+#![tactic(auto)]
+
+mod definition_json;
+mod fault;
+mod item_json;
+mod leaf;
+mod lines;
+mod parts;
+mod show;
+mod value_json;
+mod words;
+
+pub use fault::{ToolFault, status};
+pub use item_json::json_of;
+pub use show::run_show;
+pub use words::{Chosen, Order, OrderFault, order_of};
+
+#[cfg(test)]
+mod tests;

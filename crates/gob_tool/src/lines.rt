@@ -1,0 +1,103 @@
+//! Lines that wait to be written.
+
+ghost use Rattle.std.specs.Prelude.{◌≡◌, ◌++◌, ◌≤◌, ◌↔◌, [], IsTrue, OnOk, OnErr};
+ghost use Rattle.gob_stream.specs.Item.{item_view};
+ghost use Rattle.gob_tool.specs.Line.{line};
+ghost use Rattle.gob_tool.specs.Gathering.{Writes, Passes, CountsWrites};
+
+use crate::fault::ToolFault;
+use crate::item_json::write_item;
+use gob_num::Memory;
+use gob_stream::{Item, Output};
+use gob_types::Shapes;
+use gob_value::Value;
+use json::Writer;
+use std::alloc::Global;
+use std::io::Write;
+use std::mem;
+
+// How many bytes of lines are gathered before they are written.
+const MANY: usize = 65536;
+
+/// The lines of items, gathered so that each write is large.
+#[derive(Drop)]
+pub(crate) struct Lines {
+    // The lines that are not written yet.
+    gathered: Vec<u8>,
+    // Room for one line, kept from one to the next.
+    line: Vec<u8>,
+}
+
+impl Lines {
+    /// No lines yet.
+    pub(crate) fn new(alloc: Global) -> Lines
+        ensures { result.gathered.items ≡ [] }
+    {
+        Lines {
+            gathered: Vec::new(alloc),
+            line: Vec::new(alloc),
+        }
+    }
+
+    /// Appends the line of an item. After an error the lines are as before.
+    pub(crate) fn push<S: Shapes>(
+        &mut self,
+        alloc: Global,
+        item: &Item<Value>,
+        table: &S,
+    ) -> Result<(), Memory>
+        ensures ok { OnOk result (self.new.gathered.items
+            ≡ self.old.gathered.items ++ line (S.table table.now) (item_view item.now)) }
+        ensures err { OnErr result (self.new.gathered.items ≡ self.old.gathered.items) }
+    {
+        let mut room = mem::replace(&mut self.line, Vec::new(alloc));
+        room.clear();
+        let mut out = Writer::new(room);
+        let written = write_item(alloc, item, table, &mut out);
+        self.line = out.into_inner();
+        written?;
+        self.line.push(b'\n')?;
+        self.gathered.extend_from_slice(&self.line)?;
+        Ok(())
+    }
+
+    /// Writes the lines if there are enough of them to be worth a write. After an error a front of them is
+    /// written.
+    pub(crate) fn write_many<W: Write>(&mut self, output: &mut Output<W>) -> Result<(), ToolFault>
+        ensures passed { Passes (W.contents output.old.writer) (W.contents output.new.writer)
+            self.old.gathered.items self.new.gathered.items result }
+        ensures counted { CountsWrites output.old.failures output.new.failures result }
+    {
+        if self.gathered.len() < MANY {
+            return Ok(());
+        }
+        self.write_to(output)
+    }
+
+    /// Writes the lines, of which none are left then. After an error a front of them is written.
+    pub(crate) fn write_to<W: Write>(&mut self, output: &mut Output<W>) -> Result<(), ToolFault>
+        ensures written { Writes (W.contents output.old.writer) (W.contents output.new.writer)
+            self.old.gathered.items result }
+        ensures empty { OnOk result (self.new.gathered.items ≡ []) }
+        ensures counted { CountsWrites output.old.failures output.new.failures result }
+    {
+        write_whole(&self.gathered, output)?;
+        self.gathered.clear();
+        Ok(())
+    }
+}
+
+/// Writes all of the bytes, or a front of them before an error.
+fn write_whole<W: Write>(bytes: &[u8], output: &mut Output<W>) -> Result<(), ToolFault>
+    ensures written { Writes (W.contents output.old.writer) (W.contents output.new.writer) bytes.now result }
+    ensures counted { CountsWrites output.old.failures output.new.failures result }
+{
+    let mut rest = bytes;
+    while !rest.is_empty() {
+        match output.write(rest) {
+            Ok(count) if count > 0 => rest = &rest[count..],
+            _ => return Err(ToolFault::Write),
+        }
+    }
+    Ok(())
+}

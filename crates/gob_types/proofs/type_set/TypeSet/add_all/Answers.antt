@@ -1,0 +1,16 @@
+use Rattle.std.proofs.lemmas.Option.{slice_get-get_or}
+use Rattle.gob_types.proofs.FirstLaws.{contains_read, contains_at}
+use Rattle.gob_types.proofs.SetLaws.{adds_none_yet, adds_next, adds_one, adds_each}
+use Rattle.gob_types.proofs.type_set.TypeSet.add_all.Goals as goal
+
+pub returns : goal.returns
+returns c =
+    let ids = c.args.ids.now in
+    adds_each c.loop-id.invariant c.loop-id-test.false (contains_read ids)
+    (contains_at ids)
+
+pub loop-id-init : goal.loop-id-init
+loop-id-init c = adds_none_yet
+
+pub loop-id-preserved : goal.loop-id-preserved
+loop-id-preserved c = adds_next c.loop-id.invariant (slice_get-get_or c.args.ids.now c.loop-id.id-index _ c.loop-id-test.true) (adds_one _ c.in_ok-add.ensures.added)

@@ -1,0 +1,12 @@
+pub mod Reasons
+pub mod Table
+pub mod Base
+pub mod Ready
+pub mod Definable
+pub mod Defined
+pub mod Distinct
+pub mod Refused
+pub mod Readiness
+pub mod Walk
+pub mod Entered
+pub mod Laws

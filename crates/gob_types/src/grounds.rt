@@ -1,0 +1,103 @@
+//! Which types have finite values.
+//!
+//! Only arrays that hold something can have none: such an array has a finite value if its elements have. So
+//! from a type there is one way on, through the elements of arrays, and it ends at a type that is no such
+//! array, or goes round for ever. What is found of a type is found of all on the way to it, and is kept.
+ghost use Rattle.std.specs.Prelude.{◌≡◌, ◌<◌, ℕ, [], IfOk, OnOk, MatchBool, MatchOption};
+ghost use Rattle.gob_types.specs.Table.{IsDefined};
+ghost use Rattle.gob_types.specs.Defined.{types};
+ghost use Rattle.gob_types.specs.Ready.{IsGrounded, IsFilledArray};
+ghost use Rattle.gob_types.specs.Readiness.{IsComplete};
+ghost use Rattle.gob_types.specs.Walk.{IsFilledOf, KnowsGrounds, EndsWell, GoesOn};
+
+use crate::id::TypeId;
+use crate::kind::Kind;
+use crate::shapes::Shapes;
+use crate::table::Table;
+use crate::type_set::TypeSet;
+use gob_num::Memory;
+use std::alloc::Global;
+
+/// What has been found of the types of one table.
+#[derive(Drop)]
+pub(crate) struct Grounds {
+    // These have finite values.
+    grounded: TypeSet,
+    // These have none.
+    bottomless: TypeSet,
+}
+
+impl Grounds {
+    /// Nothing is known yet.
+    pub(crate) fn new(alloc: Global) -> Grounds
+        ensures grounded { result.grounded ≡ [] }
+        ensures bottomless { result.bottomless ≡ [] }
+    {
+        Grounds {
+            grounded: TypeSet::new(alloc),
+            bottomless: TypeSet::new(alloc),
+        }
+    }
+
+    /// Whether the type has finite values. All that it leads to has to be defined.
+    pub(crate) fn judge(&mut self, table: &Table, alloc: Global, id: TypeId) -> Result<bool, Memory>
+        requires complete { IsComplete (types table.now) id }
+        requires known { KnowsGrounds (types table.now) self.old.grounded self.old.bottomless }
+        ensures judged { let T = types table.now in
+            IfOk result (λ yes. MatchBool yes (IsGrounded T id) (¬ IsGrounded T id)) }
+        ensures known { OnOk result (KnowsGrounds (types table.now) self.new.grounded self.new.bottomless) }
+    {
+        let (way, ends) = self.follow(table, alloc, id)?;
+        if ends {
+            self.grounded.add_all(way.as_slice())?;
+            return Ok(true);
+        }
+        self.bottomless.add_all(way.as_slice())?;
+        Ok(false)
+    }
+
+    // Follows the elements of arrays from this type on until the answer is known. It gives the types on the
+    // way, of which nothing was known, and whether they have finite values.
+    fn follow(&self, table: &Table, alloc: Global, id: TypeId) -> Result<(TypeSet, bool), Memory>
+        requires complete { IsComplete (types table.now) id }
+        requires known { KnowsGrounds (types table.now) self.now.grounded self.now.bottomless }
+        ensures { let T = types table.now in
+            IfOk result (λ r. MatchBool r.1 (EndsWell T id r.0) (GoesOn T id self.now.bottomless r.0)) }
+    {
+        let mut way = TypeSet::new(alloc);
+        let mut at = id;
+        while !self.grounded.contains(at) {
+            if self.bottomless.contains(at) {
+                return Ok((way, false));
+            }
+            if !way.add(at)? {
+                return Ok((way, false));
+            }
+            let Some(elem) = filled_element(table, at) else {
+                return Ok((way, true));
+            };
+            at = elem;
+        }
+        Ok((way, true))
+    }
+}
+
+// The type of the elements, where this type is an array that holds some.
+fn filled_element(table: &Table, id: TypeId) -> Option<TypeId>
+    ensures { let T = types table.now in
+        MatchOption result (IsDefined T id → IsGrounded T id) (λ e. IsFilledOf T id e) }
+{
+    let shape = table.shape_of(id)?;
+    element_of_filled(&shape.kind)
+}
+
+// The type of the elements of an array that holds some.
+fn element_of_filled(kind: &Kind) -> Option<TypeId>
+    ensures { MatchOption result (¬ IsFilledArray kind.now)
+        (λ e. (n : ℕ) × (kind.now ≡ Kind.Array e n) × (0 < n)) }
+{
+    match kind {
+        Kind::Array { elem, len } if *len > 0 => Some(*elem),
+        _ => None,
+    }
+}

@@ -1,0 +1,77 @@
+//! Sets of type ids.
+ghost use Rattle.std.specs.Prelude.{◌≡◌, ◌^◌, ◌<◌, ◌↔◌, [], IsTrue, IfOk, OnOk, Contains, length};
+ghost use Rattle.gob_types.specs.Walk.{AddsAll, AddsOne};
+
+use crate::id::TypeId;
+use gob_num::Memory;
+use indexmap::IndexSet;
+use std::alloc::Global;
+use std::marker::Model;
+
+/// A set of type ids, in the order in which they were added.
+#[derive(Drop)]
+pub(crate) struct TypeSet {
+    ids: IndexSet<TypeId>,
+}
+
+impl Model for TypeSet {
+    ghost use Rattle.std.specs.Prelude.{List};
+    ghost use Rattle.gob_types.specs.declared.id.TypeId.{TypeId};
+
+    ghost Value = { List TypeId };
+
+    ghost view = { λ s. s.ids.keys };
+}
+
+impl TypeSet {
+    /// A set of no ids, which allocates nothing.
+    pub(crate) fn new(alloc: Global) -> TypeSet
+        ensures { result ≡ [] }
+    {
+        TypeSet {
+            ids: IndexSet::new(alloc),
+        }
+    }
+
+    /// The ids, in order.
+    pub(crate) fn as_slice(&self) -> &[TypeId]
+        ensures { result.now ≡ self.now }
+    {
+        self.ids.as_slice()
+    }
+
+    /// How many ids there are.
+    pub(crate) fn count(&self) -> usize
+        ensures count { result ≡ length self.now }
+        ensures small { result < 2 ^ 63 }
+    {
+        self.ids.len()
+    }
+
+    /// Whether the id is in the set.
+    pub(crate) fn contains(&self, id: TypeId) -> bool
+        ensures { IsTrue result ↔ Contains self.now id }
+    {
+        self.ids.contains(&id)
+    }
+
+    /// Adds an id, last, unless it is there, and says whether it is new.
+    pub(crate) fn add(&mut self, id: TypeId) -> Result<bool, Memory>
+        ensures added { IfOk result (λ new. AddsOne self.old self.new id new) }
+        ensures small { length self.old < 2 ^ 63 }
+    {
+        let count = self.ids.len();
+        self.ids.insert(id)?;
+        Ok(count < self.ids.len())
+    }
+
+    /// Adds ids, in order, but for those that are there.
+    pub(crate) fn add_all(&mut self, ids: &[TypeId]) -> Result<(), Memory>
+        ensures { OnOk result (AddsAll self.old self.new (Contains ids.now)) }
+    {
+        for id in ids {
+            self.add(*id)?;
+        }
+        Ok(())
+    }
+}

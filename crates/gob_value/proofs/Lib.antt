@@ -1,0 +1,11 @@
+pub mod ViewLaws
+pub mod TestSteps
+pub mod LeafLaws
+pub mod WithinLaws
+pub mod FitLaws
+pub mod AppendedLaws
+pub mod WrittenLaws
+pub mod WrittenSteps
+pub mod PrefixLaws
+pub mod UniqueLaws
+pub mod StayLaws

@@ -1,0 +1,12 @@
+pub mod Tree
+pub mod View
+pub mod Spelling
+pub mod Top
+pub mod Fits
+pub mod Within
+pub mod Elements
+pub mod Written
+pub mod Faults
+pub mod Basic
+pub mod Laws
+pub mod Description

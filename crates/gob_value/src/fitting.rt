@@ -1,0 +1,138 @@
+//! Whether a value is one of a type.
+
+ghost use Rattle.std.specs.Prelude.{◌≡◌, ◌↔◌, ◌≤◌, IsTrue, OnOk, IfErr};
+ghost use Rattle.gob_value.specs.View.{view, views, pair_views, field_views};
+ghost use Rattle.gob_value.specs.Elements.{element_type};
+ghost use Rattle.gob_value.specs.Within.{FitsWithin, FitsKindWithin};
+ghost use Rattle.gob_value.specs.Within.{AllFitWithin, PairsFitWithin, FieldsFitWithin};
+ghost use Rattle.gob_value.specs.Faults.{IsMisfit};
+
+use crate::depth::is_within;
+use crate::fault::Misfit;
+use crate::leaf::fits_leaf;
+use crate::value::Value;
+use gob_types::{Fields, Kind, Shapes, TypeId};
+
+/// Whether the value is one of the type and no deeper than `depth`, which is at most 1000: a value without
+/// parts has the depth 1. `TooDeep` is answered exactly where it is deeper, `DoesNotFit` exactly where it
+/// isn't and has no spelling at the type. Takes no memory, and looks no deeper than `depth`.
+pub fn fits<S: Shapes>(shapes: &S, id: TypeId, value: &Value, depth: u64) -> Result<(), Misfit>
+    requires { depth ≤ 1000 }
+    ensures ok { OnOk result (FitsWithin (S.table shapes.now) id depth (view value.now)) }
+    ensures fault { IfErr result (λ misfit. IsMisfit (S.table shapes.now) id depth (view value.now) misfit) }
+{
+    if fits_type(shapes, id, value, depth) {
+        return Ok(());
+    }
+    // what doesn't fit may still be too deep behind the part that doesn't
+    if is_within(value, depth) {
+        Err(Misfit::DoesNotFit)
+    } else {
+        Err(Misfit::TooDeep)
+    }
+}
+
+#[cycle(fits)]
+fn fits_type<S: Shapes>(shapes: &S, id: TypeId, value: &Value, depth: u64) -> bool
+    requires { depth ≤ 1000 }
+    ensures { IsTrue result ↔ FitsWithin (S.table shapes.now) id depth (view value.now) }
+{
+    match shapes.shape_of(id) {
+        Some(shape) => fits_kind(shapes, &shape.kind, value, depth),
+        None => false,
+    }
+}
+
+#[cycle(fits)]
+fn fits_kind<S: Shapes>(shapes: &S, kind: &Kind, value: &Value, depth: u64) -> bool
+    requires { depth ≤ 1000 }
+    ensures { IsTrue result ↔ FitsKindWithin (S.table shapes.now) kind.now depth (view value.now) }
+{
+    if depth == 0 {
+        return false;
+    }
+    match value {
+        Value::Many(parts) => match element_of(kind, parts.len() as u64) {
+            Some(elem) => all_fit(shapes, elem, parts, depth - 1),
+            None => false,
+        },
+        Value::Pairs(parts) => match kind {
+            Kind::Map { key, elem } => pairs_fit(shapes, *key, *elem, parts, depth - 1),
+            _ => false,
+        },
+        Value::Fields(parts) => match kind {
+            Kind::Struct { fields } => fields_fit(shapes, fields, parts, depth - 1),
+            _ => false,
+        },
+        _ => fits_leaf(kind, value),
+    }
+}
+
+#[cycle(fits)]
+fn all_fit<S: Shapes>(shapes: &S, elem: TypeId, parts: &[Value], depth: u64) -> bool
+    requires { depth ≤ 1000 }
+    ensures { IsTrue result ↔ AllFitWithin (S.table shapes.now) elem depth (views parts.now) }
+{
+    for part in parts {
+        if !fits_type(shapes, elem, part, depth) {
+            return false;
+        }
+    }
+    true
+}
+
+#[cycle(fits)]
+fn pairs_fit<S: Shapes>(
+    shapes: &S,
+    key: TypeId,
+    elem: TypeId,
+    parts: &[(Value, Value)],
+    depth: u64,
+) -> bool
+    requires { depth ≤ 1000 }
+    ensures { IsTrue result ↔ PairsFitWithin (S.table shapes.now) key elem depth (pair_views parts.now) }
+{
+    for (k, e) in parts {
+        if !fits_type(shapes, key, k, depth) {
+            return false;
+        }
+        if !fits_type(shapes, elem, e, depth) {
+            return false;
+        }
+    }
+    true
+}
+
+#[cycle(fits)]
+fn fields_fit<S: Shapes>(shapes: &S, types: &Fields, parts: &[(u64, Value)], depth: u64) -> bool
+    requires { depth ≤ 1000 }
+    ensures { IsTrue result ↔ FieldsFitWithin (S.table shapes.now) types.now 0 depth (field_views parts.now) }
+{
+    let mut next = 0;
+    for (number, part) in parts {
+        if *number < next {
+            return false;
+        }
+        match types.get(*number) {
+            None => return false,
+            Some(field) => {
+                if !fits_type(shapes, field.id, part, depth) {
+                    return false;
+                }
+            }
+        }
+        next = *number + 1;
+    }
+    true
+}
+
+// The type of the elements, where the kind is that of a list of so many.
+fn element_of(kind: &Kind, count: u64) -> Option<TypeId>
+    ensures { result ≡ element_type kind.now count }
+{
+    match kind {
+        Kind::Slice { elem } => Some(*elem),
+        Kind::Array { elem, len } if *len == count => Some(*elem),
+        _ => None,
+    }
+}
