@@ -5,14 +5,13 @@
 //! stream, 1 for an input that is no stream, and 2 for all else.
 #![tactic(auto)]
 
+use gob_stream::{Input, Limits, Output};
+use gob_tool::{OrderFault, ToolFault, order_of, run_show, status};
 use std::alloc::AllocError;
 use std::fs::File;
 use std::io::{BufReader, ErrorKind, Read};
 use std::process::ExitCode;
 use std::{env, fmt};
-
-use gob_stream::{Input, Limits, Output};
-use gob_tool::{OrderFault, ToolFault, order_of, run_show, status};
 
 // How many bytes are asked of the system at a time.
 const BUFFER: usize = 65536;
@@ -62,7 +61,10 @@ fn main(rt: HostRuntime) -> ExitCode {
 // Judges the words, then opens the input, then runs.
 fn run(rt: &HostRuntime) -> Result<(), Stop> {
     let words = words_of(rt)?;
-    let names = words.iter().map(|word| word.as_str()).collect::<Vec<&str>>(rt.alloc())?;
+    let names = words
+        .iter()
+        .map(|word| word.as_str())
+        .collect::<Vec<&str>>(rt.alloc())?;
     let order = order_of(&names).map_err(Stop::Words)?;
     match order.input {
         None => show(rt, rt.stdin()),

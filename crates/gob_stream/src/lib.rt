@@ -39,6 +39,8 @@ pub use writer::StreamWriter;
 pub use writing::write_stream;
 
 #[cfg(test)]
+mod memory_tests;
+#[cfg(test)]
 mod reading_tests;
 #[cfg(test)]
 mod writing_tests;
