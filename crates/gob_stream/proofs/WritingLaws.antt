@@ -191,6 +191,3 @@ counted_item {base = base} L {T = T} {U = U} {o = o} {i = i} {d = d} count {g = 
     let within = rw (same_body) at fits.item in
     let ends = rw (same_count, start, same_body) at fits.stream in
     subst (λ b. Counted base L T o i b U) (sym all) (counted (subst (λ m. IsUnsigned m count) is spelled) within ends body)
-
-pub counted_within : {base : Table} {L : Bounds} {T U : Table} {o : ℕ} {i : StreamItem} {b : List ℕ} → Counted base L T o i b U → o + length b ≤ L.stream
-counted_within (counted c d within body) = within
