@@ -351,3 +351,29 @@ fn the_laws_do_nothing() {
     super::laws::names_ready();
     super::laws::ranks_arrays();
 }
+
+// Each call answers, or wants memory and leaves the table as it was. tools/refuse-memory runs this with each
+// allocation refused in turn.
+#[test]
+fn tables_want_memory(rt: HostRuntime) {
+    let alloc = rt.alloc();
+    let Ok(mut table) = Table::new(alloc, 2) else {
+        return;
+    };
+    let shape = Shape {
+        name: Name::new(Vec::new(alloc)),
+        kind: Kind::Slice { elem: TypeId(2) },
+    };
+    if shape.definable() {
+        let defined = table.define(alloc, TypeId(65), shape);
+        let wanted = if table.count() == 0 {
+            Err(DefineFault::Memory)
+        } else {
+            Ok(())
+        };
+        assert_eq!(rt; defined, wanted);
+        assert_eq!(rt; table.shape_of(TypeId(65)).is_some(), defined.is_ok());
+    }
+    let answer = table.ready(alloc, TypeId(16));
+    assert!(rt; answer == Ok(()) || answer == Err(NotReady::Memory));
+}

@@ -1,4 +1,5 @@
-use Rattle.std.proofs.Common.{subst, Contains}
+use Rattle.std.proofs.Common.{◌≡◌, None, subst, Contains}
+use Rattle.gob_types.specs.Table.{shape_of}
 use Rattle.gob_types.specs.Ready.{IsGrounded}
 use Rattle.gob_types.specs.Readiness.{IsLeast}
 use Rattle.gob_types.specs.Defined.{types}
@@ -8,6 +9,12 @@ use Rattle.gob_types.proofs.table.Table.ready.Goals as goal
 
 pub least_bottomless-requires : goal.least_bottomless-requires
 least_bottomless-requires c = complete_within c.in_ok-met.ensures c.in_default.ensures
+
+pub returns-in-Some : goal.returns-in-Some
+returns-in-Some c =
+    let T = types c.args.self.now in
+    let least : IsLeast (λ u. Contains c.in_ok-met.met u × (shape_of T u ≡ None)) c.in-Some.undefined = c.in-Some.ensures in
+    least_reached c.in_ok-met.ensures least
 
 pub returns-in-Some-2 : goal.returns-in-Some-2
 returns-in-Some-2 c =
