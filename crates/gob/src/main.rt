@@ -5,6 +5,9 @@
 //! stream, 1 for an input that is no stream, and 2 for all else.
 #![tactic(auto)]
 
+ghost use Rattle.std.specs.Prelude.{◌≡◌};
+ghost use Rattle.gob.specs.Stop.{stop_status};
+
 use gob_stream::{Input, Limits, Output};
 use gob_tool::{OrderFault, ToolFault, order_of, run_show, status};
 use std::alloc::AllocError;
@@ -24,7 +27,9 @@ enum Stop {
 }
 
 impl Stop {
-    fn status(&self) -> u8 {
+    fn status(&self) -> u8
+        ensures { result ≡ stop_status self.now }
+    {
         match self {
             Stop::Words(fault) => fault.status(),
             Stop::Run(fault) => status(fault),
@@ -33,6 +38,10 @@ impl Stop {
 }
 
 impl fmt::Display for Stop {
+    ghost use Rattle.gob.specs.Stop.{stop_line};
+
+    ghost output = { stop_line };
+
     fn fmt<W: fmt::Write>(&self, f: &mut fmt::Formatter<W>) -> fmt::Result {
         match self {
             Stop::Words(fault) => write!(f, "{fault}"),
@@ -42,6 +51,12 @@ impl fmt::Display for Stop {
 }
 
 impl From<AllocError> for Stop {
+    ghost use Rattle.std.specs.Prelude.{◌≡◌};
+    ghost use Rattle.gob.specs.declared.Stop.TheVariants.{Run};
+    ghost use Rattle.gob_tool.specs.declared.fault.ToolFault.TheVariants as fault;
+
+    ghost from_gives = { λ _ stop. stop ≡ Run fault.Memory };
+
     fn from(_: AllocError) -> Stop {
         Stop::Run(ToolFault::Memory)
     }
