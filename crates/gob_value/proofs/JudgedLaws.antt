@@ -9,11 +9,13 @@ use Rattle.gob_types.specs.declared.kind.Kind.{Kind}
 use Rattle.gob_types.specs.declared.kind.Kind.TheVariants as kind
 use Rattle.gob_types.specs.declared.kind.Shape.{Shape}
 use Rattle.gob_types.specs.declared.reason.Reason.{Reason}
+use Rattle.gob_types.specs.declared.reason.Reason.TheVariants as reason
 use Rattle.gob_types.specs.Base.{gob_encoder_type}
 use Rattle.gob_types.specs.Definable.{IsReference}
 use Rattle.gob_types.proofs.GrowthLaws.{some_injective}
 use Rattle.gob_value.specs.Tree.{Tree}
 use Rattle.gob_value.specs.Description.{SaidField, SaidKind, said_array, said_slice, said_struct, said_map, said_opaque, Said, said, RefersTo, GivesFields, no_more, and_field, GivesKind, gives_array, gives_slice, gives_struct, gives_map, gives_opaque, Describes, IsBadReference, HasBadField, this_field, later_field, HasBadReference, HasBadLength, Misdescribes, kind_count, wrong_id, bad_reference, bad_length}
+use Rattle.gob_value.specs.DescriptionLaws.{IsRefused}
 use Rattle.gob_value.specs.Saying.{IsTypeNumber, HaveTypes, no_type, and_type}
 use Rattle.gob_value.specs.ShapeFaults.{IsDescription, IsShapeFault, IsKind, IsKindFault}
 use Rattle.gob_value.specs.declared.fault.ShapeFault.{ShapeFault}
@@ -175,3 +177,58 @@ kind_fault id v what fault.WrongId e i p = absurd p
 kind_fault id v what fault.BadReference e i p = bad_reference e i p
 kind_fault id v what fault.BadLength e i p = bad_length e i p.0 p.1
 kind_fault id v what fault.Memory e i p = some_shape id v what p.kind e i p.gives
+
+-- ---- each value is judged
+
+-- what is said is some kind, or why not
+abbrev KindJudged : SaidKind → Type 0
+KindJudged k = IsKind k ⊎ (HasBadReference k ⊎ (¬ HasBadReference k × HasBadLength k))
+
+kind_judged : (k : SaidKind) → KindJudged k
+kind_judged (said_array e l) = by l (refers_or_not e)
+  where
+    by : (l : ℤ) → IsTypeNumber e ⊎ IsBadReference e → KindJudged (said_array e l)
+    by (pos n) (inl p) = inl (record { kind = kind.Array p.type n; gives = gives_array p.refers refl })
+    by (negsuc n) (inl p) = inr (inr (λ bad. bad _ p.refers, tt))
+    by l (inr bad) = inr (inl bad)
+kind_judged (said_slice e) = by (refers_or_not e)
+  where
+    by : IsTypeNumber e ⊎ IsBadReference e → KindJudged (said_slice e)
+    by (inl p) = inl (record { kind = kind.Slice p.type; gives = gives_slice p.refers })
+    by (inr bad) = inr (inl bad)
+kind_judged (said_struct fs) = by (have_or_bad fs)
+  where
+    by : HaveTypes fs ⊎ HasBadField fs → KindJudged (said_struct fs)
+    by (inl p) = inl (struct_given p)
+    by (inr bad) = inr (inl bad)
+kind_judged (said_map k e) = by (refers_or_not k) (refers_or_not e)
+  where
+    by : IsTypeNumber k ⊎ IsBadReference k → IsTypeNumber e ⊎ IsBadReference e → KindJudged (said_map k e)
+    by (inl p) (inl q) = inl (record { kind = kind.Map p.type q.type; gives = gives_map p.refers q.refers })
+    by (inr bad) _ = inr (inl (inl bad))
+    by (inl p) (inr bad) = inr (inl (inr bad))
+kind_judged (said_opaque m) = inl (record { kind = kind.Opaque m; gives = gives_opaque })
+
+same_number : (i : ℤ) (n : ℕ) → (i ≡ pos n) ⊎ (i ≢ pos n)
+same_number (negsuc m) n = inr (λ e. cc)
+same_number (pos m) n = by (eqb_tells m n)
+  where
+    by : ((eqb m n ≡ true) × (m ≡ n)) ⊎ ((eqb m n ≡ false) × (m ≢ n)) → (pos m ≡ pos n) ⊎ (pos m ≢ pos n)
+    by (inl e) = inl (ap pos e.1)
+    by (inr e) = inr (λ f. e.1 (pos_injective f))
+
+pub judged : (id : TypeId) (v : Tree) → IsDescription id v ⊎ IsRefused id v
+judged id v = by (said v) refl
+  where
+    kind_by : (what : Said) → said v ≡ Some what → what.id ≡ pos id.0 → KindJudged what.kind → IsDescription id v ⊎ IsRefused id v
+    kind_by what e i (inl p) = inl (some_shape id v what p.kind e i p.gives)
+    kind_by what e i (inr (inl bad)) = inr (record { reason = reason.BadReference; refused = bad_reference e i bad })
+    kind_by what e i (inr (inr bad)) = inr (record { reason = reason.BadLength; refused = bad_length e i bad.0 bad.1 })
+
+    id_by : (what : Said) → said v ≡ Some what → (what.id ≡ pos id.0) ⊎ (what.id ≢ pos id.0) → IsDescription id v ⊎ IsRefused id v
+    id_by what e (inl i) = kind_by what e i (kind_judged what.kind)
+    id_by what e (inr n) = inr (record { reason = reason.WrongId; refused = wrong_id e n })
+
+    by : (o : Option Said) → said v ≡ o → IsDescription id v ⊎ IsRefused id v
+    by None e = inr (record { reason = reason.KindCount; refused = kind_count e })
+    by (Some what) e = id_by what e (same_number what.id id.0)

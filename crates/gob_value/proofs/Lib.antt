@@ -11,3 +11,5 @@ pub mod UniqueLaws
 pub mod StayLaws
 pub mod DescriptionSteps
 pub mod JudgedLaws
+pub mod DescribedLaws
+pub mod DefinableLaws

@@ -12,3 +12,4 @@ pub mod Description
 pub mod Described
 pub mod Saying
 pub mod ShapeFaults
+pub mod DescriptionLaws
