@@ -1,7 +1,7 @@
 -- A shape that a value of wireType describes may be defined.
 use Rattle.std.proofs.Common.{◌≡◌, ◌⊎◌, inl, inr, ◌≢◌, ℕ, zero, suc, ℤ, pos, ◌+◌, ◌≤◌, Bool, true, false, cond, eqb, List, [], ◌∷◌, Option, Some, None, arith, refl, sym, ap, ◌∙◌, subst, FitsSigned, w64}
 use Rattle.std.specs.Prelude.{slice_get}
-use Rattle.std.proofs.lemmas.Bool.{eqb-true}
+use Rattle.std.proofs.lemmas.Bool.{eqb-true, eq-eqb}
 use Rattle.std.proofs.lemmas.Bool.Decides.{eqb_tells}
 use Rattle.std.proofs.lemmas.Int.{ints}
 use Rattle.gob_num.specs.Signed.{IsSigned}
@@ -87,9 +87,42 @@ array_said false false false true e f fs elem len p q r s t h = let g = rw (p, q
 array_said false false false false true f fs elem len p q r s t h = let g = rw (p, q, r, s, t) at h in cc
 array_said false false false false false f fs elem len p q r s t h = let g = rw (p, q, r, s, t) at h in cc
 
+kind_of : (common : Fields) (o : Option SaidKind) (w : Said) → said_with common o ≡ Some w → o ≡ Some w.kind
+kind_of common None w e = cc
+kind_of common (Some k) w e = ap (λ (w : Said). Some w.kind) (some_injective e)
+
 -- the number at an array's Len
 length_fits : (v : Tree) (w : Said) (elem len : ℤ) → Fits base_table wire_type v → said v ≡ Some w → w.kind ≡ said_array elem len → FitsSigned w64 len
-length_fits v w elem len fit says is = ?
+length_fits v w elem len fit says is =
+    let whole = struct_back (type_back _ fit.spelled refl) in by whole.fields whole.spelled (ap said (sym whole.are) ∙ says)
+  where
+    -- the fields of the arrayType
+    within : (f : ℕ) (g : Tree) (b : List ℕ) → SpellsFields base_table wire_type_fields 0 (field f g no_field) b → (f ≡ 0) × (number_in (present 2 (fields_in (Some g))) ≡ len) → FitsSigned w64 len
+    within f g b p array =
+        let here : present 0 (field f g no_field) ≡ Some g = rw (eq-eqb f 0 array.0) refl in
+        let fit = present_back p 0 _ g refl here in
+        let inner = struct_back (type_back _ fit.spelled refl) in
+        let number = number_back inner.spelled 2 _ refl refl in
+        let same : number_in (present 2 inner.fields) ≡ len = ap (λ (g : Tree). number_in (present 2 (fields_in (Some g)))) (sym inner.are) ∙ array.1 in
+        subst (FitsSigned w64) same number
+
+    by : (fs : Fields) {b : List ℕ} → SpellsFields base_table wire_type_fields 0 fs b → said (Tree.fields fs) ≡ Some w → FitsSigned w64 len
+    by no_field p e = cc
+    by (field f g (field h k fs)) p e = cc
+    by (field f g no_field) p e =
+        let fs = fields_in (Some g) in
+        let array = array_said (eqb f 0) (eqb f 1) (eqb f 2) (eqb f 3) (eqb f 4) f fs elem len refl refl refl refl refl (kind_of (fields_in (present 0 fs)) (said_kind f fs) w e ∙ ap (λ (k : SaidKind). Some k) is) in
+        within f g _ p array
+
+has_length : {k : SaidKind} {g : Kind} → GivesKind k g → ((elem len : ℤ) → k ≡ said_array elem len → FitsSigned w64 len) → HasLength g
+has_length (gives_array {e = e} {l = l} r n) each = let h = each e l refl in omega (arith, ints)
+has_length (gives_slice r) each = tt
+has_length (gives_struct gs) each = tt
+has_length (gives_map p q) each = tt
+has_length gives_opaque each = tt
 
 pub definable : (t : TypeId) (v : Tree) (s : Shape) → Fits base_table wire_type v → Describes t v s → IsDefinable s
-definable t v s fit d = record { length = ?; references = kind_refers d.kind }
+definable t v s fit d = record {
+  length = has_length d.kind (λ elem len is. length_fits v d.what elem len fit d.says is);
+  references = kind_refers d.kind;
+}
