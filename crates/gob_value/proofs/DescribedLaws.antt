@@ -1,6 +1,6 @@
 -- The description that is made of a shape describes it, and is a value of wireType.
-use Rattle.std.proofs.Common.{◌≡◌, ℕ, suc, ℤ, pos, ◌+◌, ◌-◌, ◌^◌, ◌<◌, ◌≤◌, Bool, true, false, List, [], ◌∷◌, ◌++◌, length, Some, inl, inr, arith, refl, sym, ap, ◌∙◌, FitsSigned, w64, eqb}
-use Rattle.std.specs.Prelude.{slice_get}
+use Rattle.std.proofs.Common.{◌≡◌, ℕ, suc, ℤ, pos, ◌+◌, ◌-◌, ◌^◌, ◌<◌, ◌≤◌, Bool, true, false, List, [], ◌∷◌, ◌++◌, length, Some, inl, inr, Result, Ok, Err, subst, arith, refl, sym, ap, ◌∙◌, FitsSigned, w64, eqb}
+use Rattle.std.specs.Prelude.{slice_get, OnOk, IfOk}
 use Rattle.std.proofs.lemmas.Bool.{eqb-true}
 use Rattle.std.proofs.lemmas.Int.{ints}
 use Rattle.gob_num.proofs.UnsignedLaws.{unsigned_spelled}
@@ -18,6 +18,8 @@ use Rattle.gob_types.specs.Definable.{IsReference, IsDefinable, HasLength, great
 use Rattle.gob_types.specs.Ready.{Names, HasFieldOf}
 use Rattle.gob_types.specs.Table.{shape_of}
 use Rattle.gob_value.specs.Tree.{Tree, Trees, no_tree, tree, Fields, no_field, field, tree_count}
+use Rattle.gob_value.specs.View.{view}
+use Rattle.gob_value.specs.declared.value.Value.{Value}
 use Rattle.gob_value.specs.Spelling.{Spells, of_type, of_int, of_text, of_slice, of_struct, no_element, element, end_of_fields, next_field}
 use Rattle.gob_value.specs.Within.{FitsWithin, AllFitWithin, FieldsFitWithin}
 use Rattle.gob_value.specs.Description.{said, present, number_in, name_in, fields_in, elements_in, said_fields, Said, SaidKind, said_array, said_slice, said_struct, said_map, said_opaque, RefersTo, GivesFields, no_more, and_field, GivesKind, gives_array, gives_slice, gives_struct, gives_map, gives_opaque, Describes}
@@ -179,3 +181,17 @@ fits t s d c h = by s.kind d.length d.references c.fields
         wire_fits (omega arith) refl
         (struct_fits refl refl (one_more (omega arith) (omega arith) refl common (one_more (omega arith) (omega arith) refl key (one_more (omega arith) (omega arith) refl elem no_fields))))
     by (kind.Opaque m) l each n = wire_fits (omega arith) refl (struct_fits refl refl (one_more (omega arith) (omega arith) refl common no_fields))
+
+-- what is made of a shape fits, and a signed number holds its id
+pub made_fits : {E : Type 0} (t : TypeId) (s : Shape) (k : Kind) (common : Tree) (r : Result Value E) → IsDefinable s → IsCounted s.name → s.kind ≡ k → (t.0 < 2 ^ 63 → common ≡ Tree.fields (name_and_id s.name t))
+    → OnOk r (HasCountedFields k) → IfOk r (λ v. view v ≡ described_kind common k) → IfOk r (λ v. t.0 < 2 ^ 63 → FitsWithin base_table wire_type 5 (view v))
+made_fits t s k common (Err e) d c is first counted made = tt
+made_fits t s k common (Ok v) d c is first counted made = λ h.
+    let same : view v ≡ described t s = made ∙ ap (λ (c : Tree). described_kind c k) (first h) ∙ ap (described_kind (Tree.fields (name_and_id s.name t))) (sym is) in
+    let countable : IsCountable s = record { name = c; fields = subst HasCountedFields (sym is) counted } in
+    subst (FitsWithin base_table wire_type 5) (sym same) (fits t s d countable h)
+
+-- a kind without fields has none to count
+pub no_count : {X E : Type 0} {P : Type 0} (r : Result X E) → P → OnOk r P
+no_count (Ok x) p = p
+no_count (Err e) p = tt

@@ -11,6 +11,7 @@ use Rattle.gob_value.specs.Tree.{Tree, Trees, no_tree, tree, Fields, no_field, f
 use Rattle.gob_value.specs.View.{view, views, field_views, trees_of}
 use Rattle.gob_value.specs.Described.{name_and_id, field_types}
 use Rattle.gob_value.specs.Description.{present, said, said_with, said_kind, said_fields, fields_in, number_in, name_in, RefersTo, Said, GivesFields, no_more, and_field}
+use Rattle.gob_value.specs.DescriptionLaws.{IsCounted, AreCounted}
 use Rattle.gob_value.specs.Saying.{IsTypeNumber, HaveTypes, no_type, and_type}
 use Rattle.gob_value.specs.declared.value.Value.{Value}
 use Rattle.gob_value.proofs.ViewLaws.{field_item, views_item}
@@ -87,6 +88,17 @@ types_more vs ws fs i f v so_far is h e more =
 
 pub types_all : (vs : List Value) (fs : List Field) (i : ℕ) → map view vs ≡ map field_type (take i fs) → length fs ≤ i → views vs ≡ field_types fs
 types_all vs fs i so_far h = ap trees_of (so_far ∙ ap (map field_type) (take_all i fs h)) ∙ field_types-each fs
+
+-- names that are counted, one by one
+counted_push : (fs : List Field) (f : Field) → AreCounted fs → IsCounted f.name → AreCounted (fs ++ f ∷ [])
+counted_push [] f c h = (h, tt)
+counted_push (g ∷ fs) f c h = (c.0, counted_push fs f c.1 h)
+
+pub counted_more : (fs : List Field) (i : ℕ) (f : Field) → AreCounted (take i fs) → f ≡ get_or fs i f → i < length fs → IsCounted f.name → AreCounted (take (i + 1) fs)
+counted_more fs i f c is l h = rw (take_more fs i f l, ← is) (counted_push (take i fs) f c h)
+
+pub counted_all : (fs : List Field) (i : ℕ) → AreCounted (take i fs) → length fs ≤ i → AreCounted fs
+counted_all fs i c l = subst AreCounted (take_all i fs l) c
 
 -- ---- numbers of types
 

@@ -1,16 +1,19 @@
 //! The description of a shape.
 
-ghost use Rattle.std.specs.Prelude.{◌≡◌, ◌^◌, ◌<◌, ◌≤◌, IfOk, pos};
+ghost use Rattle.std.specs.Prelude.{◌≡◌, ◌^◌, ◌<◌, ◌≤◌, IfOk, OnOk, pos};
 ghost use Rattle.gob_types.specs.declared.id.TypeId.{TypeId};
+ghost use Rattle.gob_types.specs.Base.{base_table, wire_type};
 ghost use Rattle.gob_types.specs.Definable.{IsDefinable, IsReference, greatest_length};
 ghost use Rattle.gob_types.specs.Ready.{HasFieldOf};
 ghost use Rattle.gob_value.specs.Tree.{int, fields};
 ghost use Rattle.gob_value.specs.View.{view, views, field_views};
 ghost use Rattle.gob_value.specs.Described.{described, described_kind, name_and_id, field_types, wire_type_of};
+ghost use Rattle.gob_value.specs.DescriptionLaws.{IsCounted, AreCounted, HasCountedFields};
+ghost use Rattle.gob_value.specs.Within.{FitsWithin};
 
 use crate::value::Value;
 use gob_num::Memory;
-use gob_types::{Field, Fields, Kind, Name, Shape, TypeId};
+use gob_types::{Field, Fields, Kind, Marshal, Name, Shape, TypeId};
 use std::alloc::Global;
 
 /// The description of a shape that a description can give, for the type of this id: CommonType, Id, Elem and
@@ -18,7 +21,8 @@ use std::alloc::Global;
 /// on; it is described as 2^63-1. (Go's encoding/gob documentation, Encoding Details, on wireType.)
 pub fn describe(alloc: Global, id: TypeId, shape: &Shape) -> Result<Value, Memory>
     requires { IsDefinable shape.now }
-    ensures { IfOk result (λ value. id.0 < 2 ^ 63 → view value ≡ described id shape.now) }
+    ensures described { IfOk result (λ value. id.0 < 2 ^ 63 → view value ≡ described id shape.now) }
+    ensures fits { IfOk result (λ value. id.0 < 2 ^ 63 → FitsWithin base_table wire_type 5 (view value)) }
 {
     let common = name_and_id(alloc, &shape.name, id)?;
     match &shape.kind {
@@ -26,7 +30,7 @@ pub fn describe(alloc: Global, id: TypeId, shape: &Shape) -> Result<Value, Memor
         Kind::Slice { elem } => slice_type(alloc, common, *elem),
         Kind::Struct { fields } => struct_type(alloc, common, fields),
         Kind::Map { key, elem } => map_type(alloc, common, *key, *elem),
-        Kind::Opaque(_) => wire_type(alloc, 4, vec![in alloc; (0, common)]?),
+        Kind::Opaque(marshal) => opaque_type(alloc, common, *marshal),
         Kind::Basic(_) => unreachable!(),
     }
 }
@@ -56,7 +60,9 @@ fn slice_type(alloc: Global, common: Value, elem: TypeId) -> Result<Value, Memor
 // The structType, in its wireType, with this CommonType.
 fn struct_type(alloc: Global, common: Value, fields: &Fields) -> Result<Value, Memory>
     requires { (u : TypeId) → HasFieldOf fields.now u → IsReference u }
-    ensures { IfOk result (λ value. view value ≡ described_kind (view common) (Kind.Struct fields.now)) }
+    ensures described { IfOk result
+        (λ value. view value ≡ described_kind (view common) (Kind.Struct fields.now)) }
+    ensures counted { OnOk result (HasCountedFields (Kind.Struct fields.now)) }
 {
     let mut given = vec![in alloc; (0, common)]?;
     let fields = fields.as_slice();
@@ -76,10 +82,22 @@ fn map_type(alloc: Global, common: Value, key: TypeId, elem: TypeId) -> Result<V
     wire_type(alloc, 3, given)
 }
 
+// The type of an opaque type, in its wireType, with this CommonType.
+fn opaque_type(alloc: Global, common: Value, marshal: Marshal) -> Result<Value, Memory>
+    ensures { IfOk result (λ value. view value ≡ described_kind (view common) (Kind.Opaque marshal)) }
+{
+    let field = match marshal {
+        Marshal::Gob => 4,
+    };
+    let given = vec![in alloc; (0, common)]?;
+    wire_type(alloc, field, given)
+}
+
 // The fieldType of each field.
 fn field_types(alloc: Global, fields: &[Field]) -> Result<Vec<Value>, Memory>
     requires { (u : TypeId) → HasFieldOf fields.now u → IsReference u }
-    ensures { IfOk result (λ types. views types.items ≡ field_types fields.now) }
+    ensures described { IfOk result (λ types. views types.items ≡ field_types fields.now) }
+    ensures counted { OnOk result (AreCounted fields.now) }
 {
     let mut types = Vec::new(alloc);
     for field in fields {
@@ -98,7 +116,9 @@ fn wire_type(alloc: Global, field: u64, given: Vec<(u64, Value)>) -> Result<Valu
 
 // A CommonType or a fieldType.
 fn name_and_id(alloc: Global, name: &Name, id: TypeId) -> Result<Value, Memory>
-    ensures { IfOk result (λ value. id.0 < 2 ^ 63 → view value ≡ fields (name_and_id name.now id)) }
+    ensures described { IfOk result
+        (λ value. id.0 < 2 ^ 63 → view value ≡ fields (name_and_id name.now id)) }
+    ensures counted { OnOk result (IsCounted name.now) }
 {
     let text = name.as_bytes();
     let mut given = Vec::new(alloc);

@@ -2,7 +2,7 @@
 
 ghost use Rattle.std.specs.Prelude.{◌≡◌, ◌↔◌, ◌<◌, pos, IsTrue, IfOk, IfErr, MatchOption, MatchResult};
 ghost use Rattle.gob_types.specs.Base.{base_table, wire_type};
-ghost use Rattle.gob_types.specs.Definable.{IsReference};
+ghost use Rattle.gob_types.specs.Definable.{IsDefinable, IsReference};
 ghost use Rattle.gob_value.specs.View.{view, views, field_views};
 ghost use Rattle.gob_value.specs.Fits.{Fits};
 ghost use Rattle.gob_value.specs.Description.{said, said_fields, said_struct, present, number_in, name_in, Describes};
@@ -39,6 +39,7 @@ enum WireField {
 pub fn shape_from(alloc: Global, id: TypeId, described: &Value) -> Result<Shape, ShapeFault>
     requires { Fits base_table wire_type (view described.now) }
     ensures shape { IfOk result (λ shape. Describes id (view described.now) shape) }
+    ensures definable { IfOk result IsDefinable }
     ensures fault { IfErr result (λ fault. IsShapeFault id (view described.now) fault) }
 {
     let Some((wire, fields)) = wire_field(described) else {

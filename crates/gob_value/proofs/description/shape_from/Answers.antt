@@ -7,6 +7,7 @@ use Rattle.gob_value.specs.ShapeFaults.{IsShapeFault}
 use Rattle.gob_value.specs.declared.fault.ShapeFault.TheVariants as fault
 use Rattle.gob_value.proofs.TestSteps.{not_true}
 use Rattle.gob_value.proofs.JudgedLaws.{fault_at, kind_fault, some_shape}
+use Rattle.gob_value.proofs.DefinableLaws.{definable}
 use Rattle.gob_value.proofs.description.shape_from.Goals as goal
 
 pub returns-in_default-clause-fault : goal.returns-in_default-clause-fault
@@ -47,3 +48,6 @@ returns-clause-shape c =
       name = c.in_ok-name.ensures ∙ c.text_of.ensures ∙ ap (λ fs. name_in (present 0 fs)) c.struct_of-common.ensures;
       kind = c.in_ok-kind.ensures.kind;
     }
+
+pub returns-clause-definable : goal.returns-clause-definable
+returns-clause-definable c = definable c.args.id (view c.args.described.now) _ c.requires (returns-clause-shape c)
