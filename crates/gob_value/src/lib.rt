@@ -23,6 +23,8 @@
 mod depth;
 mod describing;
 mod description;
+#[cfg(test)]
+mod description_tests;
 mod fault;
 mod fitting;
 mod laws;
