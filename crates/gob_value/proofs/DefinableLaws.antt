@@ -1,10 +1,9 @@
 -- A shape that a value of wireType describes may be defined.
-use Rattle.std.proofs.Common.{◌≡◌, ◌⊎◌, inl, inr, ◌≢◌, ℕ, zero, suc, ℤ, pos, ◌+◌, ◌≤◌, Bool, true, false, cond, eqb, List, [], ◌∷◌, Option, Some, None, arith, refl, sym, ap, ◌∙◌, subst, FitsSigned, w64}
+use Rattle.std.proofs.Common.{◌≡◌, ◌⊎◌, inl, inr, ◌≢◌, ℕ, zero, suc, ℤ, Bool, true, false, eqb, List, Option, Some, None, arith, refl, sym, ap, ◌∙◌, subst, FitsSigned, w64}
 use Rattle.std.specs.Prelude.{slice_get}
 use Rattle.std.proofs.lemmas.Bool.{eqb-true, eq-eqb}
 use Rattle.std.proofs.lemmas.Bool.Decides.{eqb_tells}
 use Rattle.std.proofs.lemmas.Int.{ints}
-use Rattle.gob_num.specs.Signed.{IsSigned}
 use Rattle.gob_num.proofs.SignedLaws.{signed_fits}
 use Rattle.gob_types.specs.declared.id.TypeId.{TypeId}
 use Rattle.gob_types.specs.declared.basic.Basic.TheVariants as basic
@@ -13,14 +12,14 @@ use Rattle.gob_types.specs.declared.kind.Kind.{Kind}
 use Rattle.gob_types.specs.declared.kind.Kind.TheVariants as kind
 use Rattle.gob_types.specs.declared.kind.Shape.{Shape}
 use Rattle.gob_types.specs.Base.{base_table, wire_type, wire_type_fields, id}
-use Rattle.gob_types.specs.Definable.{IsReference, IsDefinable, HasLength, greatest_length}
-use Rattle.gob_types.specs.Ready.{Names, HasFieldOf}
+use Rattle.gob_types.specs.Definable.{IsReference, IsDefinable, HasLength}
+use Rattle.gob_types.specs.Ready.{Names}
 use Rattle.gob_types.specs.Table.{Table, shape_of}
 use Rattle.gob_types.proofs.GrowthLaws.{some_injective}
 use Rattle.gob_value.specs.Tree.{Tree, Fields, no_field, field}
 use Rattle.gob_value.specs.Spelling.{Spells, of_type, SpellsAs, of_int, of_struct, SpellsFields, end_of_fields, next_field}
 use Rattle.gob_value.specs.Fits.{Fits}
-use Rattle.gob_value.specs.Description.{present, number_in, fields_in, said, said_kind, said_with, Said, SaidField, SaidKind, said_array, RefersTo, GivesFields, no_more, and_field, GivesKind, gives_array, gives_slice, gives_struct, gives_map, gives_opaque, Describes}
+use Rattle.gob_value.specs.Description.{present, number_in, fields_in, said, said_kind, said_with, Said, SaidField, SaidKind, said_array, GivesFields, no_more, and_field, GivesKind, gives_array, gives_slice, gives_struct, gives_map, gives_opaque, Describes}
 
 -- ---- references
 

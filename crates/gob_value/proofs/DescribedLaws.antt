@@ -1,5 +1,5 @@
 -- The description that is made of a shape describes it, and is a value of wireType.
-use Rattle.std.proofs.Common.{◌≡◌, ℕ, suc, ℤ, pos, ◌+◌, ◌-◌, ◌^◌, ◌<◌, ◌≤◌, Bool, true, false, List, [], ◌∷◌, ◌++◌, length, Some, inl, inr, Result, Ok, Err, subst, arith, refl, sym, ap, ◌∙◌, FitsSigned, w64, eqb}
+use Rattle.std.proofs.Common.{◌≡◌, ℕ, suc, pos, ◌+◌, ◌-◌, ◌^◌, ◌<◌, ◌≤◌, Bool, true, false, List, [], ◌∷◌, ◌++◌, length, Some, inl, inr, Result, Ok, Err, subst, arith, refl, sym, ap, ◌∙◌, eqb}
 use Rattle.std.specs.Prelude.{slice_get, OnOk, IfOk}
 use Rattle.std.proofs.lemmas.Bool.{eqb-true}
 use Rattle.std.proofs.lemmas.Int.{ints}
@@ -17,12 +17,12 @@ use Rattle.gob_types.specs.Base as base
 use Rattle.gob_types.specs.Definable.{IsReference, IsDefinable, HasLength, greatest_length}
 use Rattle.gob_types.specs.Ready.{Names, HasFieldOf}
 use Rattle.gob_types.specs.Table.{shape_of}
-use Rattle.gob_value.specs.Tree.{Tree, Trees, no_tree, tree, Fields, no_field, field, tree_count}
+use Rattle.gob_value.specs.Tree.{Tree, Fields, no_field, field, tree_count}
 use Rattle.gob_value.specs.View.{view}
 use Rattle.gob_value.specs.declared.value.Value.{Value}
-use Rattle.gob_value.specs.Spelling.{Spells, of_type, of_int, of_text, of_slice, of_struct, no_element, element, end_of_fields, next_field}
+use Rattle.gob_value.specs.Spelling.{of_type, of_int, of_text, of_slice, of_struct, no_element, element, end_of_fields, next_field}
 use Rattle.gob_value.specs.Within.{FitsWithin, AllFitWithin, FieldsFitWithin}
-use Rattle.gob_value.specs.Description.{said, present, number_in, name_in, fields_in, elements_in, said_fields, Said, SaidKind, said_array, said_slice, said_struct, said_map, said_opaque, RefersTo, GivesFields, no_more, and_field, GivesKind, gives_array, gives_slice, gives_struct, gives_map, gives_opaque, Describes}
+use Rattle.gob_value.specs.Description.{said, present, number_in, name_in, elements_in, said_fields, Said, SaidKind, said_array, said_slice, said_struct, said_map, said_opaque, RefersTo, GivesFields, no_more, and_field, gives_array, gives_slice, gives_struct, gives_map, gives_opaque, Describes}
 use Rattle.gob_value.specs.Described.{described, described_kind, name_and_id, field_types, field_list, array_length, wire_type_of}
 use Rattle.gob_value.specs.DescriptionLaws.{IsCounted, AreCounted, HasCountedFields, IsCountable}
 

@@ -7,7 +7,7 @@ use Rattle.std.proofs.lemmas.List.{map-append, take_more, take_all}
 use Rattle.gob_types.specs.declared.id.TypeId.{TypeId}
 use Rattle.gob_types.specs.declared.kind.Field.{Field}
 use Rattle.gob_types.specs.Definable.{IsReference}
-use Rattle.gob_value.specs.Tree.{Tree, Trees, no_tree, tree, Fields, no_field, field}
+use Rattle.gob_value.specs.Tree.{Tree, tree, Fields, no_field, field}
 use Rattle.gob_value.specs.View.{view, views, field_views, trees_of}
 use Rattle.gob_value.specs.Described.{name_and_id, field_types}
 use Rattle.gob_value.specs.Description.{present, said, said_with, said_kind, said_fields, fields_in, number_in, name_in, RefersTo, Said, GivesFields, no_more, and_field}

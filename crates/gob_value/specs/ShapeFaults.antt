@@ -1,6 +1,5 @@
 -- What each fault says of a description: the first of the four demands that it doesn't meet, or no memory.
 -- (docs/FORMAT.md, Descriptions.)
-use Rattle.std.specs.Prelude.{ℤ}
 use Rattle.gob_types.specs.declared.id.TypeId.{TypeId}
 use Rattle.gob_types.specs.declared.kind.Kind.{Kind}
 use Rattle.gob_types.specs.declared.kind.Shape.{Shape}

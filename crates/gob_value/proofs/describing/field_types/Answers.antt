@@ -1,6 +1,5 @@
 use Rattle.std.proofs.Common.{arith, refl, length}
 use Rattle.std.proofs.lemmas.Option.{slice_get_read}
-use Rattle.gob_value.specs.View.{view}
 use Rattle.gob_value.proofs.DescriptionSteps.{types_more, types_all, counted_more, counted_all}
 use Rattle.gob_value.proofs.describing.field_types.Goals as goal
 

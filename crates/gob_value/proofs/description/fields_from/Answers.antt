@@ -1,5 +1,4 @@
 use Rattle.std.proofs.Common.{sym, ap, ◌∙◌, subst}
-use Rattle.gob_types.specs.declared.kind.Field.{Field}
 use Rattle.gob_value.specs.Description.{number_in, name_in, present, GivesFields, said_fields}
 use Rattle.gob_value.specs.View.{views}
 use Rattle.gob_value.proofs.DescriptionSteps.{refers_as, number_as, have_item, GivesSoFar, gives_start, gives_more, gives_end}

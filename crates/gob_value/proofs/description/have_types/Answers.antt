@@ -1,4 +1,4 @@
-use Rattle.std.proofs.Common.{◌≡◌, rules, refl, sym, ap, ◌∙◌, w64}
+use Rattle.std.proofs.Common.{rules, refl, sym, ap, ◌∙◌, w64}
 use Rattle.std.proofs.lemmas.Int.{to_z-of_z}
 use Rattle.gob_value.specs.Description.{number_in, present}
 use Rattle.gob_value.proofs.TestSteps.{keep, stop, not_true}
