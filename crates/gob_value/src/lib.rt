@@ -13,27 +13,40 @@
 //!
 //! - [`fits`] says whether a value is one of a type, and shallow enough.
 //! - [`spell`] appends the one spelling of a value that is.
+//! - [`shape_from`] gives the shape that a description gives, and [`describe`] a description of a shape.
 //! - [`spellings_begin_no_other`], [`spellings_are_unique`], [`spellings_tell_the_value`] and
-//!   [`spellings_stay`] are laws, which readers and writers rely on.
+//!   [`spellings_stay`] are laws, which readers and writers rely on, and so are
+//!   [`descriptions_tell_the_shape`], [`descriptions_are_judged`], [`descriptions_fit`] and
+//!   [`described_shapes_are_definable`].
 #![tactic(auto)]
 
-mod basic;
 mod depth;
+mod describing;
+mod description;
+#[cfg(test)]
+mod description_tests;
 mod fault;
 mod fitting;
 mod laws;
+mod laws_description;
 mod leaf;
+mod parts;
 mod spelling;
 #[cfg(test)]
 mod tests;
 mod value;
 mod writing;
 
-pub use basic::spell_basic;
-pub use fault::{Misfit, SpellFault};
+pub use describing::describe;
+pub use description::shape_from;
+pub use fault::{Misfit, ShapeFault, SpellFault};
 pub use fitting::fits;
 pub use laws::{
     spellings_are_unique, spellings_begin_no_other, spellings_stay, spellings_tell_the_value,
+};
+pub use laws_description::{
+    described_shapes_are_definable, descriptions_are_judged, descriptions_fit,
+    descriptions_tell_the_shape,
 };
 pub use spelling::spell;
 pub use value::Value;

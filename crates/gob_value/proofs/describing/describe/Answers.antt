@@ -1,0 +1,45 @@
+use Rattle.std.proofs.Common.{refl, inl, inr}
+use Rattle.gob_types.specs.declared.kind.Kind.TheVariants as kind
+use Rattle.gob_value.specs.View.{view}
+use Rattle.gob_value.proofs.DescribedLaws.{made_fits, no_count}
+use Rattle.gob_value.proofs.describing.describe.Goals as goal
+
+pub array_type-requires-clause-elem : goal.array_type-requires-clause-elem
+array_type-requires-clause-elem c = c.requires.references c.in-Array.elem (rw c.in-Array.is refl)
+
+pub slice_type-requires : goal.slice_type-requires
+slice_type-requires c = c.requires.references c.in-Slice.elem (rw c.in-Slice.is refl)
+
+pub struct_type-requires : goal.struct_type-requires
+struct_type-requires c = λ u h. c.requires.references u (rw c.in-Struct.is h)
+
+pub map_type-requires-clause-key : goal.map_type-requires-clause-key
+map_type-requires-clause-key c = c.requires.references c.in-Map.key (rw c.in-Map.is (inl refl))
+
+pub map_type-requires-clause-elem : goal.map_type-requires-clause-elem
+map_type-requires-clause-elem c = c.requires.references c.in-Map.elem (rw c.in-Map.is (inr refl))
+
+pub returns-in-Array-clause-fits : goal.returns-in-Array-clause-fits
+returns-in-Array-clause-fits c =
+    made_fits c.args.id c.args.shape.now (kind.Array c.in-Array.elem c.in-Array.len) (view c.in_ok-common.common) c.array_type.result
+    c.requires c.in_ok-common.ensures.counted c.in-Array.is c.in_ok-common.ensures.described (no_count c.array_type.result tt) c.array_type.ensures
+
+pub returns-in-Slice-clause-fits : goal.returns-in-Slice-clause-fits
+returns-in-Slice-clause-fits c =
+    made_fits c.args.id c.args.shape.now (kind.Slice c.in-Slice.elem) (view c.in_ok-common.common) c.slice_type.result
+    c.requires c.in_ok-common.ensures.counted c.in-Slice.is c.in_ok-common.ensures.described (no_count c.slice_type.result tt) c.slice_type.ensures
+
+pub returns-in-Struct-clause-fits : goal.returns-in-Struct-clause-fits
+returns-in-Struct-clause-fits c =
+    made_fits c.args.id c.args.shape.now (kind.Struct c.in-Struct.fields) (view c.in_ok-common.common) c.struct_type.result
+    c.requires c.in_ok-common.ensures.counted c.in-Struct.is c.in_ok-common.ensures.described c.struct_type.ensures.counted c.struct_type.ensures.described
+
+pub returns-in-Map-clause-fits : goal.returns-in-Map-clause-fits
+returns-in-Map-clause-fits c =
+    made_fits c.args.id c.args.shape.now (kind.Map c.in-Map.key c.in-Map.elem) (view c.in_ok-common.common) c.map_type.result
+    c.requires c.in_ok-common.ensures.counted c.in-Map.is c.in_ok-common.ensures.described (no_count c.map_type.result tt) c.map_type.ensures
+
+pub returns-in-Opaque-clause-fits : goal.returns-in-Opaque-clause-fits
+returns-in-Opaque-clause-fits c =
+    made_fits c.args.id c.args.shape.now (kind.Opaque c.in-Opaque.marshal) (view c.in_ok-common.common) c.opaque_type.result
+    c.requires c.in_ok-common.ensures.counted c.in-Opaque.is c.in_ok-common.ensures.described (no_count c.opaque_type.result tt) c.opaque_type.ensures
