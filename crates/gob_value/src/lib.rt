@@ -26,6 +26,7 @@ mod leaf;
 mod spelling;
 #[cfg(test)]
 mod tests;
+mod tidying;
 mod value;
 mod writing;
 
@@ -36,4 +37,5 @@ pub use laws::{
     spellings_are_unique, spellings_begin_no_other, spellings_stay, spellings_tell_the_value,
 };
 pub use spelling::spell;
+pub use tidying::tidy;
 pub use value::Value;
