@@ -11,3 +11,4 @@ pub mod Basic
 pub mod Laws
 pub mod Description
 pub mod Tidy
+pub mod TidyLaws

@@ -22,6 +22,7 @@ mod depth;
 mod fault;
 mod fitting;
 mod laws;
+mod laws_tidy;
 mod leaf;
 mod spelling;
 #[cfg(test)]
@@ -36,6 +37,7 @@ pub use fitting::fits;
 pub use laws::{
     spellings_are_unique, spellings_begin_no_other, spellings_stay, spellings_tell_the_value,
 };
+pub use laws_tidy::{tidy_form_is_no_deeper, tidy_form_is_tidy, tidy_form_is_unique};
 pub use spelling::spell;
 pub use tidying::tidy;
 pub use value::Value;

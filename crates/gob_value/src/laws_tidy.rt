@@ -1,0 +1,20 @@
+//! Laws of the tidy form. Each function does nothing: its contract is a law that is proved here, once.
+
+ghost use Rattle.gob_value.specs.Tidy.{Tidies};
+ghost use Rattle.gob_value.specs.TidyLaws.{IsOneForm, HaveTidyForm, IsItsOwnForm, IsNoDeeper};
+
+/// A value that fits its type has one tidy form.
+pub fn tidy_form_is_unique()
+    ensures one { IsOneForm Tidies }
+    ensures some { HaveTidyForm }
+{}
+
+/// Tidying twice is tidying once.
+pub fn tidy_form_is_tidy()
+    ensures { IsItsOwnForm Tidies }
+{}
+
+/// The tidy form of a value is no deeper than the value.
+pub fn tidy_form_is_no_deeper()
+    ensures { IsNoDeeper Tidies }
+{}
