@@ -11,3 +11,4 @@ pub mod UniqueLaws
 pub mod StayLaws
 pub mod TidySteps
 pub mod TidyLaws
+pub mod LengthLaws

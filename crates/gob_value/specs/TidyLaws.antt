@@ -26,3 +26,7 @@ IsItsOwnForm F = (T : Table) (t : TypeId) (v w : Tree) → F T t v w → F T t w
 -- the form is no deeper
 abbrev pub IsNoDeeper : Form → Type 0
 IsNoDeeper F = (T : Table) (t : TypeId) (v w : Tree) → F T t v w → depth w ≤ depth v
+
+-- nor is its spelling longer
+abbrev pub IsNoLonger : Form → Type 0
+IsNoLonger F = (T : Table) (t : TypeId) (v w : Tree) (b c : List ℕ) → F T t v w → Spells T t v b → Spells T t w c → length c ≤ length b

@@ -1,7 +1,7 @@
 //! Laws of the tidy form. Each function does nothing: its contract is a law that is proved here, once.
 
 ghost use Rattle.gob_value.specs.Tidy.{Tidies};
-ghost use Rattle.gob_value.specs.TidyLaws.{IsOneForm, HaveTidyForm, IsItsOwnForm, IsNoDeeper};
+ghost use Rattle.gob_value.specs.TidyLaws.{IsOneForm, HaveTidyForm, IsItsOwnForm, IsNoDeeper, IsNoLonger};
 
 /// A value that fits its type has one tidy form.
 pub fn tidy_form_is_unique()
@@ -17,4 +17,9 @@ pub fn tidy_form_is_tidy()
 /// The tidy form of a value is no deeper than the value.
 pub fn tidy_form_is_no_deeper()
     ensures { IsNoDeeper Tidies }
+{}
+
+/// The spelling of the tidy form is no longer than that of the value.
+pub fn tidy_form_is_no_longer()
+    ensures { IsNoLonger Tidies }
 {}
