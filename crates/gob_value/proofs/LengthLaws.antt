@@ -83,11 +83,11 @@ wider_gap {low = low} {next = next} {extra = extra} {f = f} {a = a} g l p = reco
       omega arith;
 }
 
-count_stays : {T : Table} {e : TypeId} {vs ws : Trees} → TidiesEach T e vs ws → tree_count ws ≡ tree_count vs
+pub count_stays : {T : Table} {e : TypeId} {vs ws : Trees} → TidiesEach T e vs ws → tree_count ws ≡ tree_count vs
 count_stays no_element = refl
 count_stays (element p ps) = omega (arith, count_stays ps)
 
-pair_count_stays : {T : Table} {k e : TypeId} {ps qs : Pairs} → TidiesPairs T k e ps qs → pair_count qs ≡ pair_count ps
+pub pair_count_stays : {T : Table} {k e : TypeId} {ps qs : Pairs} → TidiesPairs T k e ps qs → pair_count qs ≡ pair_count ps
 pair_count_stays no_entry = refl
 pair_count_stays (entry p q ps) = omega (arith, pair_count_stays ps)
 

@@ -12,3 +12,4 @@ pub mod StayLaws
 pub mod TidySteps
 pub mod TidyLaws
 pub mod LengthLaws
+pub mod TidyFits

@@ -1,8 +1,9 @@
 -- The laws of the tidy form. (They follow from docs/FORMAT.md, Tidy form; Values; Depth.)
-use Rattle.std.specs.Prelude.{◌≡◌, ℕ, ◌≤◌, List, length}
+use Rattle.std.specs.Prelude.{◌≡◌, ℕ, ◌+◌, ◌^◌, ◌<◌, ◌≤◌, List, length}
 use Rattle.gob_types.specs.declared.id.TypeId.{TypeId}
 use Rattle.gob_types.specs.Table.{Table}
-use Rattle.gob_value.specs.Tree.{Tree, depth}
+use Rattle.gob_value.specs.Tree.{Tree, Trees, no_tree, tree, Pairs, no_pair, pair, Fields, no_field, field, depth}
+use Rattle.gob_value.specs.Tree as Value
 use Rattle.gob_value.specs.Fits.{Fits}
 use Rattle.gob_value.specs.Spelling.{Spells}
 use Rattle.gob_value.specs.Tidy.{HasTidyForm}
@@ -30,3 +31,27 @@ IsNoDeeper F = (T : Table) (t : TypeId) (v w : Tree) → F T t v w → depth w �
 -- nor is its spelling longer
 abbrev pub IsNoLonger : Form → Type 0
 IsNoLonger F = (T : Table) (t : TypeId) (v w : Tree) (b c : List ℕ) → F T t v w → Spells T t v b → Spells T t w c → length c ≤ length b
+
+-- the numbers of the fields in a value, one more than which a delta may be, have 64 bits
+abbrev mutual
+  pub HasSmallNumbers : Tree → Type 0
+  HasSmallNumbers (Value.many vs) = AllHaveSmallNumbers vs
+  HasSmallNumbers (Value.pairs ps) = PairsHaveSmallNumbers ps
+  HasSmallNumbers (Value.fields fs) = FieldsHaveSmallNumbers fs
+  HasSmallNumbers _ = Unit {0}
+
+  pub AllHaveSmallNumbers : Trees → Type 0
+  AllHaveSmallNumbers no_tree = Unit {0}
+  AllHaveSmallNumbers (tree v vs) = HasSmallNumbers v × AllHaveSmallNumbers vs
+
+  pub PairsHaveSmallNumbers : Pairs → Type 0
+  PairsHaveSmallNumbers no_pair = Unit {0}
+  PairsHaveSmallNumbers (pair k e ps) = HasSmallNumbers k × HasSmallNumbers e × PairsHaveSmallNumbers ps
+
+  pub FieldsHaveSmallNumbers : Fields → Type 0
+  FieldsHaveSmallNumbers no_field = Unit {0}
+  FieldsHaveSmallNumbers (field f v fs) = (f + 1 < 2 ^ 64) × HasSmallNumbers v × FieldsHaveSmallNumbers fs
+
+-- the form of a value that fits does too
+abbrev pub Fitting : Form → Type 0
+Fitting F = (T : Table) (t : TypeId) (v w : Tree) → Fits T t v → HasSmallNumbers v → F T t v w → Fits T t w

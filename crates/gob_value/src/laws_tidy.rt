@@ -1,7 +1,7 @@
 //! Laws of the tidy form. Each function does nothing: its contract is a law that is proved here, once.
 
 ghost use Rattle.gob_value.specs.Tidy.{Tidies};
-ghost use Rattle.gob_value.specs.TidyLaws.{IsOneForm, HaveTidyForm, IsItsOwnForm, IsNoDeeper, IsNoLonger};
+ghost use Rattle.gob_value.specs.TidyLaws.{IsOneForm, HaveTidyForm, IsItsOwnForm, IsNoDeeper, IsNoLonger, Fitting};
 
 /// A value that fits its type has one tidy form.
 pub fn tidy_form_is_unique()
@@ -22,4 +22,9 @@ pub fn tidy_form_is_no_deeper()
 /// The spelling of the tidy form is no longer than that of the value.
 pub fn tidy_form_is_no_longer()
     ensures { IsNoLonger Tidies }
+{}
+
+/// The tidy form of a value that fits its type fits it too, where one more than each field's number has 64 bits.
+pub fn tidy_form_fits()
+    ensures { Fitting Tidies }
 {}
