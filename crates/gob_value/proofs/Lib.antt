@@ -13,3 +13,4 @@ pub mod TidySteps
 pub mod TidyLaws
 pub mod LengthLaws
 pub mod TidyFits
+pub mod DescriptionTidy

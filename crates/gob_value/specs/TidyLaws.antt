@@ -1,10 +1,14 @@
 -- The laws of the tidy form. (They follow from docs/FORMAT.md, Tidy form; Values; Depth.)
-use Rattle.std.specs.Prelude.{◌≡◌, ℕ, ◌+◌, ◌^◌, ◌<◌, ◌≤◌, List, length}
+use Rattle.std.specs.Prelude.{◌≡◌, ◌↔◌, ℕ, ◌+◌, ◌^◌, ◌<◌, ◌≤◌, List, length}
 use Rattle.gob_types.specs.declared.id.TypeId.{TypeId}
+use Rattle.gob_types.specs.declared.kind.Shape.{Shape}
+use Rattle.gob_types.specs.declared.reason.Reason.{Reason}
+use Rattle.gob_types.specs.Base.{base_table, wire_type}
 use Rattle.gob_types.specs.Table.{Table}
 use Rattle.gob_value.specs.Tree.{Tree, Trees, no_tree, tree, Pairs, no_pair, pair, Fields, no_field, field, depth}
 use Rattle.gob_value.specs.Tree as Value
 use Rattle.gob_value.specs.Fits.{Fits}
+use Rattle.gob_value.specs.Description.{Describes, Misdescribes}
 use Rattle.gob_value.specs.Spelling.{Spells}
 use Rattle.gob_value.specs.Tidy.{HasTidyForm}
 
@@ -55,3 +59,10 @@ abbrev mutual
 -- the form of a value that fits does too
 abbrev pub Fitting : Form → Type 0
 Fitting F = (T : Table) (t : TypeId) (v w : Tree) → Fits T t v → HasSmallNumbers v → F T t v w → Fits T t w
+
+-- the form of a description describes what the description does, or fails to for the same reason
+abbrev pub KeepsTheShape : Form → Type 0
+KeepsTheShape F = (t : TypeId) (v w : Tree) (s : Shape) → Fits base_table wire_type v → F base_table wire_type v w → Describes t v s ↔ Describes t w s
+
+abbrev pub KeepsTheReason : Form → Type 0
+KeepsTheReason F = (t : TypeId) (v w : Tree) (r : Reason) → Fits base_table wire_type v → F base_table wire_type v w → Misdescribes t v r ↔ Misdescribes t w r

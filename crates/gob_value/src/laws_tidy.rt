@@ -1,7 +1,8 @@
 //! Laws of the tidy form. Each function does nothing: its contract is a law that is proved here, once.
 
 ghost use Rattle.gob_value.specs.Tidy.{Tidies};
-ghost use Rattle.gob_value.specs.TidyLaws.{IsOneForm, HaveTidyForm, IsItsOwnForm, IsNoDeeper, IsNoLonger, Fitting};
+ghost use Rattle.gob_value.specs.TidyLaws.{IsOneForm, HaveTidyForm, IsItsOwnForm, IsNoDeeper, IsNoLonger};
+ghost use Rattle.gob_value.specs.TidyLaws.{Fitting, KeepsTheShape, KeepsTheReason};
 
 /// A value that fits its type has one tidy form.
 pub fn tidy_form_is_unique()
@@ -27,4 +28,10 @@ pub fn tidy_form_is_no_longer()
 /// The tidy form of a value that fits its type fits it too, where one more than each field's number has 64 bits.
 pub fn tidy_form_fits()
     ensures { Fitting Tidies }
+{}
+
+/// A description and its tidy form have the same shape under each id, or none for the same reason.
+pub fn tidy_form_says_the_same()
+    ensures shape { KeepsTheShape Tidies }
+    ensures reason { KeepsTheReason Tidies }
 {}

@@ -37,7 +37,10 @@ pub use fitting::fits;
 pub use laws::{
     spellings_are_unique, spellings_begin_no_other, spellings_stay, spellings_tell_the_value,
 };
-pub use laws_tidy::{tidy_form_fits, tidy_form_is_no_deeper, tidy_form_is_no_longer, tidy_form_is_tidy, tidy_form_is_unique};
+pub use laws_tidy::{
+    tidy_form_fits, tidy_form_is_no_deeper, tidy_form_is_no_longer, tidy_form_is_tidy,
+    tidy_form_is_unique, tidy_form_says_the_same,
+};
 pub use spelling::spell;
 pub use tidying::tidy;
 pub use value::Value;
