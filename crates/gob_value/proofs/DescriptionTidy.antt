@@ -72,7 +72,7 @@ number_left (gone (zero_basic tidy.of_float)) = refl
 number_left (gone (zero_basic tidy.of_complex)) = refl
 number_left (gone (zero_basic tidy.of_bytes)) = refl
 number_left (gone (zero_basic tidy.of_text)) = refl
-number_left (there of_basic q) = refl
+number_left (there (of_basic n) q) = refl
 
 name_left : {T : Table} {x y : Option Tree} → Left T (kind.Basic basic.Str) x y → name_in y ≡ name_in x
 name_left absent = refl
@@ -83,7 +83,7 @@ name_left (gone (zero_basic tidy.of_float)) = refl
 name_left (gone (zero_basic tidy.of_complex)) = refl
 name_left (gone (zero_basic tidy.of_bytes)) = refl
 name_left (gone (zero_basic tidy.of_text)) = refl
-name_left (there of_basic q) = refl
+name_left (there (of_basic n) q) = refl
 
 -- a struct, or no field where it is absent
 struct_left : {T : Table} {types : List Field} {x y : Option Tree} → Left T (kind.Struct types) x y → (b : List ℕ) × WrittenFields 0 (fields_in x) b × TidiesFields T types (fields_in x) (fields_in y)

@@ -99,8 +99,8 @@ mutual
   no_longer (of_type e p) q r = no_longer_as p q r
 
   no_longer_as : {T : Table} {k : Kind} {v w : Tree} {b c : List ℕ} → TidiesAs T k v w → Written v b → Written w c → length c ≤ length b
-  no_longer_as of_basic q r = let e = ap length (written_once q r) in omega arith
-  no_longer_as of_opaque q r = let e = ap length (written_once q r) in omega arith
+  no_longer_as (of_basic n) q r = let e = ap length (written_once q r) in omega arith
+  no_longer_as (of_opaque n) q r = let e = ap length (written_once q r) in omega arith
   no_longer_as (of_slice ps) (of_many {c = a} {b = b} q qs) (of_many {c = d} {b = c} r rs) = omega (arith, length-append a b, length-append d c, same_length q r (count_stays ps), each_no_longer ps qs rs)
   no_longer_as (of_array ps) (of_many {c = a} {b = b} q qs) (of_many {c = d} {b = c} r rs) = omega (arith, length-append a b, length-append d c, same_length q r (count_stays ps), each_no_longer ps qs rs)
   no_longer_as (of_map ps) (of_pairs {c = a} {b = b} q qs) (of_pairs {c = d} {b = c} r rs) = omega (arith, length-append a b, length-append d c, same_length q r (pair_count_stays ps), pairs_no_longer ps qs rs)

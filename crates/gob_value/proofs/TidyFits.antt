@@ -24,15 +24,15 @@ mutual
       record { bytes = r.bytes; spelled = spelling.of_type e r.spelled }
 
   tidy_fits_as : {T : Table} {k : Kind} {v w : Tree} {b : List ℕ} → SpellsAs T k v b → TidiesAs T k v w → HasSmallNumbers v → FitsKind T k w
-  tidy_fits_as {b = b} (spelling.of_bool p) of_basic h = record { bytes = b; spelled = spelling.of_bool p }
-  tidy_fits_as {b = b} (spelling.of_int p) of_basic h = record { bytes = b; spelled = spelling.of_int p }
-  tidy_fits_as {b = b} (spelling.of_uint p) of_basic h = record { bytes = b; spelled = spelling.of_uint p }
-  tidy_fits_as {b = b} (spelling.of_float p) of_basic h = record { bytes = b; spelled = spelling.of_float p }
-  tidy_fits_as {b = b} (spelling.of_complex p q) of_basic h = record { bytes = b; spelled = spelling.of_complex p q }
-  tidy_fits_as {b = b} (spelling.of_nil p) of_basic h = record { bytes = b; spelled = spelling.of_nil p }
-  tidy_fits_as {b = b} (spelling.of_bytes p) of_basic h = record { bytes = b; spelled = spelling.of_bytes p }
-  tidy_fits_as {b = b} (spelling.of_text p) of_basic h = record { bytes = b; spelled = spelling.of_text p }
-  tidy_fits_as {b = b} (spelling.of_opaque p) of_opaque h = record { bytes = b; spelled = spelling.of_opaque p }
+  tidy_fits_as {b = b} (spelling.of_bool p) (of_basic n) h = record { bytes = b; spelled = spelling.of_bool p }
+  tidy_fits_as {b = b} (spelling.of_int p) (of_basic n) h = record { bytes = b; spelled = spelling.of_int p }
+  tidy_fits_as {b = b} (spelling.of_uint p) (of_basic n) h = record { bytes = b; spelled = spelling.of_uint p }
+  tidy_fits_as {b = b} (spelling.of_float p) (of_basic n) h = record { bytes = b; spelled = spelling.of_float p }
+  tidy_fits_as {b = b} (spelling.of_complex p q) (of_basic n) h = record { bytes = b; spelled = spelling.of_complex p q }
+  tidy_fits_as {b = b} (spelling.of_nil p) (of_basic n) h = record { bytes = b; spelled = spelling.of_nil p }
+  tidy_fits_as {b = b} (spelling.of_bytes p) (of_basic n) h = record { bytes = b; spelled = spelling.of_bytes p }
+  tidy_fits_as {b = b} (spelling.of_text p) (of_basic n) h = record { bytes = b; spelled = spelling.of_text p }
+  tidy_fits_as {b = b} (spelling.of_opaque p) (of_opaque n) h = record { bytes = b; spelled = spelling.of_opaque p }
   tidy_fits_as (spelling.of_slice {c = c} q qs) (of_slice ps) h =
       let r = each_fits qs ps h in record { bytes = c ++ r.0; spelled = spelling.of_slice (subst (λ n. IsUnsigned n c) (sym (count_stays ps)) q) r.1 }
   tidy_fits_as (spelling.of_array {c = c} m q qs) (of_array ps) h =

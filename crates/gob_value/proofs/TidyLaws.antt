@@ -73,15 +73,15 @@ mutual
   tidy_form (spelling.of_type e p) = let r = tidy_form_as p in record { tidy = r.tidy; tidies = of_type e r.tidies }
 
   tidy_form_as : {T : Table} {k : Kind} {v : Tree} {b : List ℕ} → SpellsAs T k v b → HasTidyFormAs T k v
-  tidy_form_as {v = v} (spelling.of_bool p) = record { tidy = v; tidies = of_basic }
-  tidy_form_as {v = v} (spelling.of_int p) = record { tidy = v; tidies = of_basic }
-  tidy_form_as {v = v} (spelling.of_uint p) = record { tidy = v; tidies = of_basic }
-  tidy_form_as {v = v} (spelling.of_float p) = record { tidy = v; tidies = of_basic }
-  tidy_form_as {v = v} (spelling.of_complex p q) = record { tidy = v; tidies = of_basic }
-  tidy_form_as {v = v} (spelling.of_nil p) = record { tidy = v; tidies = of_basic }
-  tidy_form_as {v = v} (spelling.of_bytes p) = record { tidy = v; tidies = of_basic }
-  tidy_form_as {v = v} (spelling.of_text p) = record { tidy = v; tidies = of_basic }
-  tidy_form_as {v = v} (spelling.of_opaque p) = record { tidy = v; tidies = of_opaque }
+  tidy_form_as {v = v} (spelling.of_bool p) = record { tidy = v; tidies = of_basic (λ h. h) }
+  tidy_form_as {v = v} (spelling.of_int p) = record { tidy = v; tidies = of_basic (λ h. h) }
+  tidy_form_as {v = v} (spelling.of_uint p) = record { tidy = v; tidies = of_basic (λ h. h) }
+  tidy_form_as {v = v} (spelling.of_float p) = record { tidy = v; tidies = of_basic (λ h. h) }
+  tidy_form_as {v = v} (spelling.of_complex p q) = record { tidy = v; tidies = of_basic (λ h. h) }
+  tidy_form_as {v = v} (spelling.of_nil p) = record { tidy = v; tidies = of_basic (λ h. h) }
+  tidy_form_as {v = v} (spelling.of_bytes p) = record { tidy = v; tidies = of_basic (λ h. h) }
+  tidy_form_as {v = v} (spelling.of_text p) = record { tidy = v; tidies = of_basic (λ h. h) }
+  tidy_form_as {v = v} (spelling.of_opaque p) = record { tidy = v; tidies = of_opaque (λ h. h) }
   tidy_form_as (spelling.of_slice p ps) = let r = tidy_forms ps in record { tidy = Value.many r.tidy; tidies = of_slice r.tidies }
   tidy_form_as (spelling.of_array m p ps) = let r = tidy_forms ps in record { tidy = Value.many r.tidy; tidies = of_array r.tidies }
   tidy_form_as (spelling.of_map p ps) = let r = tidy_pairs ps in record { tidy = Value.pairs r.tidy; tidies = of_map r.tidies }
@@ -116,8 +116,8 @@ mutual
   one_tidy {T = T} {v = v} {x = x} (of_type e p) (of_type f q) = one_tidy_as p (subst (λ (s : Shape). TidiesAs T s.kind v x) (some_injective (sym f ∙ e)) q)
 
   one_tidy_as : {T : Table} {k : Kind} {v w x : Tree} → TidiesAs T k v w → TidiesAs T k v x → w ≡ x
-  one_tidy_as of_basic of_basic = refl
-  one_tidy_as of_opaque of_opaque = refl
+  one_tidy_as (of_basic n) (of_basic m) = refl
+  one_tidy_as (of_opaque n) (of_opaque m) = refl
   one_tidy_as (of_slice ps) (of_slice qs) = ap Value.many (one_tidy_each ps qs)
   one_tidy_as (of_array ps) (of_array qs) = ap Value.many (one_tidy_each ps qs)
   one_tidy_as (of_map ps) (of_map qs) = ap Value.pairs (one_tidy_pairs ps qs)
@@ -143,8 +143,8 @@ mutual
 
 -- a field that is kept is one to keep when it is tidy
 pub dropped_before : {T : Table} {k : Kind} {v w : Tree} → TidiesAs T k v w → IsDropped k w → IsDropped k v
-dropped_before of_basic d = d
-dropped_before of_opaque d = d
+dropped_before (of_basic n) d = d
+dropped_before (of_opaque n) d = d
 dropped_before (of_slice no_element) d = d
 dropped_before (of_slice (element p ps)) d = elim d [ ]
 dropped_before (of_array ps) d = elim d [ ]
@@ -156,8 +156,8 @@ mutual
   tidy_again (of_type e p) = of_type e (tidy_again_as p)
 
   tidy_again_as : {T : Table} {k : Kind} {v w : Tree} → TidiesAs T k v w → TidiesAs T k w w
-  tidy_again_as of_basic = of_basic
-  tidy_again_as of_opaque = of_opaque
+  tidy_again_as (of_basic n) = of_basic n
+  tidy_again_as (of_opaque n) = of_opaque n
   tidy_again_as (of_slice ps) = of_slice (tidy_again_each ps)
   tidy_again_as (of_array ps) = of_array (tidy_again_each ps)
   tidy_again_as (of_map ps) = of_map (tidy_again_pairs ps)
@@ -183,8 +183,8 @@ mutual
   no_deeper (of_type e p) = no_deeper_as p
 
   no_deeper_as : {T : Table} {k : Kind} {v w : Tree} → TidiesAs T k v w → depth w ≤ depth v
-  no_deeper_as of_basic = omega arith
-  no_deeper_as of_opaque = omega arith
+  no_deeper_as (of_basic n) = omega arith
+  no_deeper_as (of_opaque n) = omega arith
   no_deeper_as (of_slice ps) = omega (arith, each_no_deeper ps)
   no_deeper_as (of_array ps) = omega (arith, each_no_deeper ps)
   no_deeper_as (of_map ps) = omega (arith, pairs_no_deeper ps)

@@ -1,10 +1,12 @@
 -- One step of tidying the parts of a value.
-use Rattle.std.proofs.Common.{◌≡◌, ◌⊎◌, inl, inr, ℕ, ◌+◌, ◌≤◌, max, List, [], ◌∷◌, ◌++◌, length, Some, None, arith, refl, sym, ap, ◌∙◌, subst, append_assoc}
+use Rattle.std.proofs.Common.{◌≡◌, ◌⊎◌, inl, inr, ℕ, ◌+◌, ◌^◌, ◌<◌, ◌≤◌, max, List, [], ◌∷◌, ◌++◌, length, Some, None, arith, refl, sym, ap, ◌∙◌, subst, append_assoc}
 use Rattle.std.specs.Prelude.{slice_get, Result, Ok, Err, IfOk}
 use Rattle.gob_num.specs.declared.memory.Memory.{Memory}
 use Rattle.std.proofs.lemmas.List.{append-nil}
+use Rattle.gob_types.specs.declared.basic.Basic.{Basic}
 use Rattle.gob_types.specs.declared.id.TypeId.{TypeId}
 use Rattle.gob_types.specs.declared.kind.Field.{Field}
+use Rattle.gob_types.specs.declared.kind.Marshal.{Marshal}
 use Rattle.gob_types.specs.declared.kind.Kind.{Kind}
 use Rattle.gob_types.specs.declared.kind.Kind.TheVariants as kind
 use Rattle.gob_types.specs.declared.kind.Shape.{Shape}
@@ -12,7 +14,10 @@ use Rattle.gob_types.specs.Table.{Table, shape_of}
 use Rattle.gob_types.proofs.GrowthLaws.{some_injective}
 use Rattle.gob_value.specs.Tree.{Tree, Trees, tree, Pairs, pair, Fields, field, depth, trees_depth, pairs_depth, fields_depth}
 use Rattle.gob_value.specs.View.{view, views, pair_views, field_views}
-use Rattle.gob_value.specs.Tidy.{IsDropped, Tidies, of_type, TidiesAs, of_slice, of_array, of_map, of_struct, TidiesEach, no_element, element, TidiesPairs, no_entry, entry, TidiesFields, no_more, dropped, kept, HasTidyForm, HasTidyFormAs, HaveTidyForms, HaveTidyPairs, HaveTidyFields}
+use Rattle.gob_value.specs.TidyLaws.{HasSmallNumbers}
+use Rattle.gob_value.specs.Tidied.{IsTidied, IsTidiedAs, AreTidied, PairsTidied, FieldsTidied}
+use Rattle.gob_value.specs.Written.{HasParts}
+use Rattle.gob_value.specs.Tidy.{IsZero, of_bool, of_int, of_uint, of_float, of_complex, of_bytes, of_text, IsDropped, zero_basic, empty_slice, Tidies, of_type, TidiesAs, of_basic, of_opaque, of_slice, of_array, of_map, of_struct, TidiesEach, no_element, element, TidiesPairs, no_entry, entry, TidiesFields, no_more, dropped, kept, HasTidyForm, HasTidyFormAs, HaveTidyForms, HaveTidyPairs, HaveTidyFields}
 use Rattle.gob_value.specs.declared.value.Value.{Value}
 use Rattle.gob_value.proofs.TidyLaws.{same_shape}
 
@@ -44,13 +49,13 @@ module _ {A : Type 0} {Tidy : List A → List A → Type 0} {Known : List A → 
       nothing (x ∷ xs) h = absurd (omega arith)
 
 abbrev pub EachGoes : Table → TypeId → List Value → List Value → List Value → Type 0
-EachGoes T e = Goes (λ vs ws. TidiesEach T e (views vs) (views ws)) (λ vs. HaveTidyForms T e (views vs)) (λ vs. trees_depth (views vs))
+EachGoes T e = Goes (λ vs ws. AreTidied T e (views vs) (views ws)) (λ vs. HaveTidyForms T e (views vs)) (λ vs. trees_depth (views vs))
 
 abbrev pub PairsGo : Table → TypeId → TypeId → List (Value × Value) → List (Value × Value) → List (Value × Value) → Type 0
-PairsGo T k e = Goes (λ ps qs. TidiesPairs T k e (pair_views ps) (pair_views qs)) (λ ps. HaveTidyPairs T k e (pair_views ps)) (λ ps. pairs_depth (pair_views ps))
+PairsGo T k e = Goes (λ ps qs. PairsTidied T k e (pair_views ps) (pair_views qs)) (λ ps. HaveTidyPairs T k e (pair_views ps)) (λ ps. pairs_depth (pair_views ps))
 
 abbrev pub FieldsGo : Table → List Field → List (ℕ × Value) → List (ℕ × Value) → List (ℕ × Value) → Type 0
-FieldsGo T types = Goes (λ fs gs. TidiesFields T types (field_views fs) (field_views gs)) (λ fs. HaveTidyFields T types (field_views fs)) (λ fs. fields_depth (field_views fs))
+FieldsGo T types = Goes (λ fs gs. FieldsTidied T types (field_views fs) (field_views gs)) (λ fs. HaveTidyFields T types (field_views fs)) (λ fs. fields_depth (field_views fs))
 
 -- ---- kinds and values with parts
 
@@ -69,6 +74,37 @@ IsNoMap _ = Unit {0}
 abbrev pub IsNoStruct : Tree → Type 0
 IsNoStruct (Tree.fields fs) = ⊥
 IsNoStruct _ = Unit {0}
+
+-- a kind whose values have no parts
+abbrev pub IsPlain : Kind → Type 0
+IsPlain k = ((b : Basic) × (k ≡ kind.Basic b)) ⊎ ((m : Marshal) × (k ≡ kind.Opaque m))
+
+no_numbers : (v : Tree) → ¬ HasParts v → HasSmallNumbers v
+no_numbers (Tree.many vs) n = absurd (n tt)
+no_numbers (Tree.pairs ps) n = absurd (n tt)
+no_numbers (Tree.fields fs) n = absurd (n tt)
+no_numbers (Tree.bool x) n = tt
+no_numbers (Tree.int i) n = tt
+no_numbers (Tree.uint m) n = tt
+no_numbers (Tree.float p) n = tt
+no_numbers (Tree.complex p q) n = tt
+no_numbers (Tree.bytes s) n = tt
+no_numbers (Tree.text s) n = tt
+no_numbers Tree.nil n = tt
+no_numbers (Tree.opaque s) n = tt
+
+dropped_small : {k : Kind} {v : Tree} → IsDropped k v → HasSmallNumbers v
+dropped_small (zero_basic z) = zero_small z
+  where
+    zero_small : {v : Tree} → IsZero v → HasSmallNumbers v
+    zero_small of_bool = tt
+    zero_small of_int = tt
+    zero_small of_uint = tt
+    zero_small of_float = tt
+    zero_small of_complex = tt
+    zero_small of_bytes = tt
+    zero_small of_text = tt
+dropped_small empty_slice = tt
 
 -- ---- what a loop needs of the next part
 
@@ -105,9 +141,9 @@ module _ {T : Table} where
       inside : {e : TypeId} {v : Tree} {vs ws : Trees} → TidiesEach T e (tree v vs) ws → HasTidyForm T e v × HaveTidyForms T e vs
       inside (element {w = w} {ws = ws} p ps) = (record { tidy = w; tidies = p }, record { tidy = ws; tidies = ps })
 
-  pub each_on : {e : TypeId} {whole more tidied new rest : List Value} {part : Value} (made : Value) → EachGoes T e whole more tidied → more ≡ part ∷ rest → Tidies T e (view part) (view made)
+  pub each_on : {e : TypeId} {whole more tidied new rest : List Value} {part : Value} (made : Value) → EachGoes T e whole more tidied → more ≡ part ∷ rest → IsTidied T e (view part) (view made)
       → new ≡ tidied ++ made ∷ [] → EachGoes T e whole rest new
-  each_on made g h p n = let l = each_left g h in goes_on (made ∷ []) g h n (λ r q. element p q) l.forms (omega arith)
+  each_on made g h p n = let l = each_left g h in goes_on (made ∷ []) g h n (λ r q. record { tidies = element p.tidies q.tidies; small = (p.small, q.small) }) l.forms (omega arith)
 
   -- ---- keys and elements
 
@@ -122,8 +158,8 @@ module _ {T : Table} where
       inside (entry {y = y} {w = w} {qs = qs} o p ps) = (record { tidy = y; tidies = o }, record { tidy = w; tidies = p }, record { tidy = qs; tidies = ps })
 
   pub pairs_on : {k e : TypeId} {whole more tidied new rest : List (Value × Value)} {part : Value × Value} (made : Value × Value) → PairsGo T k e whole more tidied → more ≡ part ∷ rest
-      → Tidies T k (view part.0) (view made.0) → Tidies T e (view part.1) (view made.1) → new ≡ tidied ++ made ∷ [] → PairsGo T k e whole rest new
-  pairs_on made g h o p n = let l = pairs_left g h in goes_on (made ∷ []) g h n (λ r q. entry o p q) l.forms (omega arith)
+      → IsTidied T k (view part.0) (view made.0) → IsTidied T e (view part.1) (view made.1) → new ≡ tidied ++ made ∷ [] → PairsGo T k e whole rest new
+  pairs_on made g h o p n = let l = pairs_left g h in goes_on (made ∷ []) g h n (λ r q. record { tidies = entry o.tidies p.tidies q.tidies; small = (o.small, p.small, q.small) }) l.forms (omega arith)
 
   -- ---- fields
 
@@ -148,47 +184,32 @@ module _ {T : Table} where
       let same : s ≡ l.shape = same_shape T types f l.there m l.defined p in subst (λ (r : Shape). ¬ IsDropped r.kind v → HasTidyFormAs T r.kind v) (sym same) l.form
 
   module _ {types : List Field} {whole more tidied rest : List (ℕ × Value)} {f : ℕ} {v : Value} {e : Field} {s : Shape} where
-    pub field_dropped : FieldsGo T types whole more tidied → more ≡ (f, v) ∷ rest → slice_get types f ≡ Some e → shape_of T e.id ≡ Some s → IsDropped s.kind (view v) → FieldsGo T types whole rest tidied
-    field_dropped g h m p d = let l = field_left g h in goes_on [] g h (sym (append-nil tidied)) (λ r q. dropped m p d q) l.forms (omega arith)
+    pub field_dropped : FieldsGo T types whole more tidied → more ≡ (f, v) ∷ rest → slice_get types f ≡ Some e → shape_of T e.id ≡ Some s → IsDropped s.kind (view v) → f + 1 < 2 ^ 64 → FieldsGo T types whole rest tidied
+    field_dropped g h m p d b = let l = field_left g h in goes_on [] g h (sym (append-nil tidied)) (λ r q. record { tidies = dropped m p d q.tidies; small = (b, dropped_small d, q.small) }) l.forms (omega arith)
 
     pub field_kept : {new : List (ℕ × Value)} (w : Value) → FieldsGo T types whole more tidied → more ≡ (f, v) ∷ rest → slice_get types f ≡ Some e → shape_of T e.id ≡ Some s → ¬ IsDropped s.kind (view v)
-        → TidiesAs T s.kind (view v) (view w) → new ≡ tidied ++ (f, w) ∷ [] → FieldsGo T types whole rest new
-    field_kept w g h m p n o k = let l = field_left g h in goes_on ((f, w) ∷ []) g h k (λ r q. kept m p n o q) l.forms (omega arith)
+        → IsTidiedAs T s.kind (view v) (view w) → f + 1 < 2 ^ 64 → new ≡ tidied ++ (f, w) ∷ [] → FieldsGo T types whole rest new
+    field_kept w g h m p n o b k = let l = field_left g h in goes_on ((f, w) ∷ []) g h k (λ r q. record { tidies = kept m p n o.tidies q.tidies; small = (b, o.small, q.small) }) l.forms (omega arith)
 
   -- ---- a value with parts, and its parts
 
-  pub parts_of_many : {k : Kind} {e : TypeId} (vs : Trees) → IsListOf k e → HasTidyFormAs T k (Tree.many vs) → HaveTidyForms T e vs
-  parts_of_many vs (inl h) r = of_list (subst (λ (k : Kind). TidiesAs T k (Tree.many vs) r.tidy) h r.tidies)
-    where
-      of_list : {e : TypeId} {w : Tree} → TidiesAs T (kind.Slice e) (Tree.many vs) w → HaveTidyForms T e vs
-      of_list (of_slice {ws = ws} ps) = record { tidy = ws; tidies = ps }
-  parts_of_many vs (inr h) r = of_list (subst (λ (k : Kind). TidiesAs T k (Tree.many vs) r.tidy) h.1 r.tidies)
-    where
-      of_list : {e : TypeId} {n : ℕ} {w : Tree} → TidiesAs T (kind.Array e n) (Tree.many vs) w → HaveTidyForms T e vs
-      of_list (of_array {ws = ws} ps) = record { tidy = ws; tidies = ps }
+  pub many_of_parts : {k : Kind} {e : TypeId} {vs ws : Trees} → IsListOf k e → AreTidied T e vs ws → IsTidiedAs T k (Tree.many vs) (Tree.many ws)
+  many_of_parts {vs = vs} {ws = ws} (inl h) ps = record { tidies = subst (λ (k : Kind). TidiesAs T k (Tree.many vs) (Tree.many ws)) (sym h) (of_slice ps.tidies); small = ps.small }
+  many_of_parts {vs = vs} {ws = ws} (inr h) ps = record { tidies = subst (λ (k : Kind). TidiesAs T k (Tree.many vs) (Tree.many ws)) (sym h.1) (of_array ps.tidies); small = ps.small }
 
-  pub many_of_parts : {k : Kind} {e : TypeId} {vs ws : Trees} → IsListOf k e → TidiesEach T e vs ws → TidiesAs T k (Tree.many vs) (Tree.many ws)
-  many_of_parts {vs = vs} {ws = ws} (inl h) ps = subst (λ (k : Kind). TidiesAs T k (Tree.many vs) (Tree.many ws)) (sym h) (of_slice ps)
-  many_of_parts {vs = vs} {ws = ws} (inr h) ps = subst (λ (k : Kind). TidiesAs T k (Tree.many vs) (Tree.many ws)) (sym h.1) (of_array ps)
-
-  pub parts_of_pairs : {k e : TypeId} {ps : Pairs} → HasTidyFormAs T (kind.Map k e) (Tree.pairs ps) → HaveTidyPairs T k e ps
-  parts_of_pairs r = of_pairs r.tidies
+  pub plain_stays : {k : Kind} {v : Tree} → IsPlain k → HasTidyFormAs T k v → IsTidiedAs T k v v
+  plain_stays {v = v} (inl h) r =
+      let p = inside (subst (λ (k : Kind). TidiesAs T k v r.tidy) h.1 r.tidies) in
+      record { tidies = subst (λ (k : Kind). TidiesAs T k v v) (sym h.1) (of_basic p); small = no_numbers v p }
     where
-      of_pairs : {k e : TypeId} {ps : Pairs} {w : Tree} → TidiesAs T (kind.Map k e) (Tree.pairs ps) w → HaveTidyPairs T k e ps
-      of_pairs (of_map {qs = qs} p) = record { tidy = qs; tidies = p }
-
-  pub parts_of_fields : {types : List Field} {fs : Fields} → HasTidyFormAs T (kind.Struct types) (Tree.fields fs) → HaveTidyFields T types fs
-  parts_of_fields r = of_fields r.tidies
+      inside : {b : Basic} {v w : Tree} → TidiesAs T (kind.Basic b) v w → ¬ HasParts v
+      inside (of_basic n) = n
+  plain_stays {v = v} (inr h) r =
+      let p = inside (subst (λ (k : Kind). TidiesAs T k v r.tidy) h.1 r.tidies) in
+      record { tidies = subst (λ (k : Kind). TidiesAs T k v v) (sym h.1) (of_opaque p); small = no_numbers v p }
     where
-      of_fields : {types : List Field} {fs : Fields} {w : Tree} → TidiesAs T (kind.Struct types) (Tree.fields fs) w → HaveTidyFields T types fs
-      of_fields (of_struct {gs = gs} p) = record { tidy = gs; tidies = p }
-
-  -- at the shape that is found for the type
-  pub form_as : {t : TypeId} {v : Tree} {s : Shape} → HasTidyForm T t v → shape_of T t ≡ Some s → HasTidyFormAs T s.kind v
-  form_as {v = v} r h = inside r.tidies h
-    where
-      inside : {t : TypeId} {w : Tree} {s : Shape} → Tidies T t v w → shape_of T t ≡ Some s → HasTidyFormAs T s.kind v
-      inside {w = w} {s = s} (of_type {s = r} e p) f = let one : r ≡ s = some_injective (sym e ∙ f) in record { tidy = w; tidies = subst (λ (r : Shape). TidiesAs T r.kind v w) one p }
+      inside : {m : Marshal} {v w : Tree} → TidiesAs T (kind.Opaque m) v w → ¬ HasParts v
+      inside (of_opaque n) = n
 
   pub has_list : {k : Kind} {e : TypeId} {v : Tree} → IsListOf k e → HasTidyFormAs T k v → ¬ IsNoList v
   has_list {v = v} (inl h) r n = inside (subst (λ (k : Kind). TidiesAs T k v r.tidy) h r.tidies) n
@@ -216,6 +237,6 @@ module _ {T : Table} where
 pub nowhere : (T : Table) (types : List Field) (f : ℕ) {e g : Field} {s : Shape} → slice_get types f ≡ Some e → slice_get types f ≡ Some g → shape_of T e.id ≡ Some s → shape_of T g.id ≡ None → ⊥
 nowhere T types f {e = e} {g = g} m n p q = let one : e ≡ g = some_injective (sym m ∙ n) in let r = ap (λ (e : Field). shape_of T e.id) one in cc
 
-pub typed : (T : Table) (t : TypeId) (v : Value) {s : Shape} → shape_of T t ≡ Some s → (r : Result Value Memory) → IfOk r (λ w. TidiesAs T s.kind (view v) (view w)) → IfOk r (λ w. Tidies T t (view v) (view w))
-typed T t v e (Ok w) p = of_type e p
+pub typed : (T : Table) (t : TypeId) (v : Value) {s : Shape} → shape_of T t ≡ Some s → (r : Result Value Memory) → IfOk r (λ w. IsTidiedAs T s.kind (view v) (view w)) → IfOk r (λ w. IsTidied T t (view v) (view w))
+typed T t v e (Ok w) p = record { tidies = of_type e p.tidies; small = p.small }
 typed T t v e (Err m) p = tt

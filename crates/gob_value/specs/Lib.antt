@@ -12,3 +12,4 @@ pub mod Laws
 pub mod Description
 pub mod Tidy
 pub mod TidyLaws
+pub mod Tidied

@@ -11,6 +11,7 @@ use Rattle.gob_types.specs.declared.kind.Shape.{Shape}
 use Rattle.gob_types.specs.Table.{Table, shape_of}
 use Rattle.gob_value.specs.Tree.{Tree, Trees, no_tree, tree, Pairs, no_pair, pair, Fields, no_field, field}
 use Rattle.gob_value.specs.Tree as Value
+use Rattle.gob_value.specs.Written.{HasParts}
 
 -- false, a number or a pattern of 0, two patterns of 0, or no bytes
 pub data IsZero : Tree → Type 0 where
@@ -34,8 +35,8 @@ mutual
 
   -- the same at a kind: a value without parts stays as it is, any other has its parts tidied
   pub data TidiesAs (T : Table) : Kind → Tree → Tree → Type 0 where
-    of_basic : {b : Basic} {v : Tree} → TidiesAs T (kind.Basic b) v v
-    of_opaque : {m : Marshal} {v : Tree} → TidiesAs T (kind.Opaque m) v v
+    of_basic : {b : Basic} {v : Tree} → ¬ HasParts v → TidiesAs T (kind.Basic b) v v
+    of_opaque : {m : Marshal} {v : Tree} → ¬ HasParts v → TidiesAs T (kind.Opaque m) v v
     of_slice : {e : TypeId} {vs ws : Trees} → TidiesEach T e vs ws → TidiesAs T (kind.Slice e) (Value.many vs) (Value.many ws)
     of_array : {e : TypeId} {n : ℕ} {vs ws : Trees} → TidiesEach T e vs ws → TidiesAs T (kind.Array e n) (Value.many vs) (Value.many ws)
     of_map : {k e : TypeId} {ps qs : Pairs} → TidiesPairs T k e ps qs → TidiesAs T (kind.Map k e) (Value.pairs ps) (Value.pairs qs)

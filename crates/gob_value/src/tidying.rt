@@ -2,9 +2,9 @@
 
 ghost use Rattle.std.specs.Prelude.{◌↔◌, IsTrue, IfOk};
 ghost use Rattle.gob_value.specs.View.{view, views, pair_views, field_views};
-ghost use Rattle.gob_value.specs.Tidy.{IsZero, IsDropped, HasTidyForm, HasTidyFormAs};
+ghost use Rattle.gob_value.specs.Tidy.{Tidies, IsZero, IsDropped, HasTidyForm, HasTidyFormAs};
 ghost use Rattle.gob_value.specs.Tidy.{HaveTidyForms, HaveTidyPairs, HaveTidyFields};
-ghost use Rattle.gob_value.specs.Tidy.{Tidies, TidiesAs, TidiesEach, TidiesPairs, TidiesFields};
+ghost use Rattle.gob_value.specs.Tidied.{IsTidied, IsTidiedAs, AreTidied, PairsTidied, FieldsTidied};
 ghost use Rattle.gob_value.specs.Within.{FitsWithin};
 
 use crate::value::Value;
@@ -16,11 +16,12 @@ use std::alloc::Global;
 /// uint, float, complex, []byte, string and slice that are 0, false or empty. All else is kept: fields of other
 /// types, whatever they hold, and each element of a list or a map. (docs/FORMAT.md, Tidy form.)
 ///
-/// The value fits the type and is at most 1000 deep. Byte strings are moved and not copied. After `Memory` the
-/// value is dropped.
+/// The value fits the type and is at most 1000 deep; so does and is its tidy form. Byte strings are moved and not
+/// copied. After `Memory` the value is dropped.
 pub fn tidy<S: Shapes>(alloc: Global, shapes: &S, id: TypeId, value: Value) -> Result<Value, Memory>
     requires { FitsWithin (S.table shapes.now) id 1000 (view value) }
-    ensures { IfOk result (λ tidied. Tidies (S.table shapes.now) id (view value) (view tidied)) }
+    ensures tidy { IfOk result (λ tidied. Tidies (S.table shapes.now) id (view value) (view tidied)) }
+    ensures fits { IfOk result (λ tidied. FitsWithin (S.table shapes.now) id 1000 (view tidied)) }
 {
     tidy_type(alloc, shapes, id, value)
 }
@@ -28,7 +29,7 @@ pub fn tidy<S: Shapes>(alloc: Global, shapes: &S, id: TypeId, value: Value) -> R
 #[cycle(tidy)]
 fn tidy_type<S: Shapes>(alloc: Global, shapes: &S, id: TypeId, value: Value) -> Result<Value, Memory>
     requires { HasTidyForm (S.table shapes.now) id (view value) }
-    ensures { IfOk result (λ tidied. Tidies (S.table shapes.now) id (view value) (view tidied)) }
+    ensures { IfOk result (λ tidied. IsTidied (S.table shapes.now) id (view value) (view tidied)) }
 {
     match shapes.shape_of(id) {
         Some(shape) => tidy_kind(alloc, shapes, &shape.kind, value),
@@ -39,7 +40,7 @@ fn tidy_type<S: Shapes>(alloc: Global, shapes: &S, id: TypeId, value: Value) -> 
 #[cycle(tidy)]
 fn tidy_kind<S: Shapes>(alloc: Global, shapes: &S, kind: &Kind, value: Value) -> Result<Value, Memory>
     requires { HasTidyFormAs (S.table shapes.now) kind.now (view value) }
-    ensures { IfOk result (λ tidied. TidiesAs (S.table shapes.now) kind.now (view value) (view tidied)) }
+    ensures { IfOk result (λ tidied. IsTidiedAs (S.table shapes.now) kind.now (view value) (view tidied)) }
 {
     match kind {
         Kind::Basic(_) | Kind::Opaque(_) => Ok(value),
@@ -67,7 +68,7 @@ fn tidy_each<S: Shapes>(
 ) -> Result<Vec<Value>, Memory>
     requires { HaveTidyForms (S.table shapes.now) elem (views parts.items) }
     ensures { IfOk result
-        (λ tidied. TidiesEach (S.table shapes.now) elem (views parts.items) (views tidied.items)) }
+        (λ tidied. AreTidied (S.table shapes.now) elem (views parts.items) (views tidied.items)) }
 {
     let mut tidied = Vec::new(alloc);
     for part in parts {
@@ -86,7 +87,7 @@ fn tidy_pairs<S: Shapes>(
 ) -> Result<Vec<(Value, Value)>, Memory>
     requires { HaveTidyPairs (S.table shapes.now) key elem (pair_views parts.items) }
     ensures { IfOk result
-        (λ tidied. TidiesPairs (S.table shapes.now) key elem (pair_views parts.items) (pair_views tidied.items)) }
+        (λ tidied. PairsTidied (S.table shapes.now) key elem (pair_views parts.items) (pair_views tidied.items)) }
 {
     let mut tidied = Vec::new(alloc);
     for (k, e) in parts {
@@ -106,7 +107,7 @@ fn tidy_fields<S: Shapes>(
 ) -> Result<Vec<(u64, Value)>, Memory>
     requires { HaveTidyFields (S.table shapes.now) types.now (field_views parts.items) }
     ensures { IfOk result
-        (λ tidied. TidiesFields (S.table shapes.now) types.now (field_views parts.items) (field_views tidied.items)) }
+        (λ tidied. FieldsTidied (S.table shapes.now) types.now (field_views parts.items) (field_views tidied.items)) }
 {
     let mut tidied = Vec::new(alloc);
     for (number, part) in parts {

@@ -2,9 +2,10 @@ use Rattle.std.proofs.Common.{◌≡◌, ◌∷◌, ◌≤◌, ℕ, List, length
 use Rattle.std.proofs.lemmas.Bool.{false≢true}
 use Rattle.gob_value.specs.Tree.{depth, trees_depth, pairs_depth, fields_depth}
 use Rattle.gob_value.specs.View.{view, views, pair_views, field_views}
-use Rattle.gob_value.specs.Tidy.{of_map, of_struct, TidiesEach, no_element, TidiesPairs, no_entry, TidiesFields, no_more, HasTidyFormAs}
+use Rattle.gob_value.specs.Tidy.{of_map, of_struct, no_element, no_entry, no_more, HasTidyFormAs}
+use Rattle.gob_value.specs.Tidied.{AreTidied, PairsTidied, FieldsTidied}
 use Rattle.gob_value.specs.declared.value.Value.{Value, the_lemmas}
-use Rattle.gob_value.proofs.TidySteps.{goes_end, each_left, each_on, pairs_left, pairs_on, field_left, field_shallow, field_form, field_dropped, field_kept, parts_of_many, many_of_parts, parts_of_pairs, parts_of_fields, form_as, nowhere, typed, IsNoList, IsNoMap, IsNoStruct, has_list, has_map, has_struct}
+use Rattle.gob_value.proofs.TidySteps.{goes_end, each_left, each_on, pairs_left, pairs_on, field_left, field_shallow, field_form, field_dropped, field_kept, many_of_parts, plain_stays, nowhere, typed, IsNoList, IsNoMap, IsNoStruct, has_list, has_map, has_struct}
 use Rattle.gob_value.proofs.ViewLaws.{view-Many, view-Pairs, view-Fields}
 use Rattle.gob_value.proofs.tidying.+tidy.Goals as goal
 
@@ -25,8 +26,8 @@ tidy_each-loop-part-preserved g t c =
 pub tidy_each-returns : goal.tidy_each-returns
 tidy_each-returns g t c =
     let none = c.in-None.ensures.steps in
-    subst (λ (l : List Value). TidiesEach (g.S.Shapes.table c.args.shapes.now) c.args.elem (views l) (views c.loop-part.tidied.items)) c.into_iter-part-iterator.ensures.into_iter_gives.0
-    (goes_end c.loop-part.invariant.0 (sym c.loop-part.invariant.1 ∙ none.0) no_element)
+    subst (λ (l : List Value). AreTidied (g.S.Shapes.table c.args.shapes.now) c.args.elem (views l) (views c.loop-part.tidied.items)) c.into_iter-part-iterator.ensures.into_iter_gives.0
+    (goes_end c.loop-part.invariant.0 (sym c.loop-part.invariant.1 ∙ none.0) (record { tidies = no_element; small = tt }))
 
 -- ---- keys and elements
 
@@ -51,8 +52,8 @@ tidy_pairs-loop-k-preserved g t c =
 pub tidy_pairs-returns : goal.tidy_pairs-returns
 tidy_pairs-returns g t c =
     let none = c.in-None.ensures.steps in
-    subst (λ (l : List (Value × Value)). TidiesPairs (g.S.Shapes.table c.args.shapes.now) c.args.key c.args.elem (pair_views l) (pair_views c.loop-k.tidied.items)) c.into_iter-k-iterator.ensures.into_iter_gives.0
-    (goes_end c.loop-k.invariant.0 (sym c.loop-k.invariant.1 ∙ none.0) no_entry)
+    subst (λ (l : List (Value × Value)). PairsTidied (g.S.Shapes.table c.args.shapes.now) c.args.key c.args.elem (pair_views l) (pair_views c.loop-k.tidied.items)) c.into_iter-k-iterator.ensures.into_iter_gives.0
+    (goes_end c.loop-k.invariant.0 (sym c.loop-k.invariant.1 ∙ none.0) (record { tidies = no_entry; small = tt }))
 
 -- ---- fields
 
@@ -76,22 +77,22 @@ pub tidy_fields-loop-number-preserved-then-is_dropped : goal.tidy_fields-loop-nu
 tidy_fields-loop-number-preserved-then-is_dropped g t c =
     let s = c.in-Some.ensures.steps in
     let was = c.loop-number.invariant.1 in let gone = s.1 in let short = ap length s.0 in
-    (field_dropped c.loop-number.invariant.0 s.0 (sym c.in-Some-get.ensures.found) (sym c.in-Some-shape_of.ensures) (c.is_dropped.ensures.0 c.if-is_dropped.true), omega arith)
+    (field_dropped c.loop-number.invariant.0 s.0 (sym c.in-Some-get.ensures.found) (sym c.in-Some-shape_of.ensures) (c.is_dropped.ensures.0 c.if-is_dropped.true) c.in-Some-get.ensures.small, omega arith)
 
 pub tidy_fields-loop-number-preserved : goal.tidy_fields-loop-number-preserved
 tidy_fields-loop-number-preserved g t c =
     let s = c.in-Some.ensures.steps in
     let was = c.loop-number.invariant.1 in let gone = s.1 in let short = ap length s.0 in (
       field_kept c.in_ok-tidy_kind.field-0 c.loop-number.invariant.0 s.0 (sym c.in-Some-get.ensures.found) (sym c.in-Some-shape_of.ensures)
-      (λ d. false≢true (sym c.if-is_dropped.false ∙ c.is_dropped.ensures.1 d)) c.in_ok-tidy_kind.ensures c.in_ok-push.ensures.items,
+      (λ d. false≢true (sym c.if-is_dropped.false ∙ c.is_dropped.ensures.1 d)) c.in_ok-tidy_kind.ensures c.in-Some-get.ensures.small c.in_ok-push.ensures.items,
       omega arith,
     )
 
 pub tidy_fields-returns : goal.tidy_fields-returns
 tidy_fields-returns g t c =
     let none = c.in-None.ensures.steps in
-    subst (λ (l : List (ℕ × Value)). TidiesFields (g.S.Shapes.table c.args.shapes.now) c.args.types.now (field_views l) (field_views c.loop-number.tidied.items)) c.into_iter-number-iterator.ensures.into_iter_gives.0
-    (goes_end c.loop-number.invariant.0 (sym c.loop-number.invariant.1 ∙ none.0) no_more)
+    subst (λ (l : List (ℕ × Value)). FieldsTidied (g.S.Shapes.table c.args.shapes.now) c.args.types.now (field_views l) (field_views c.loop-number.tidied.items)) c.into_iter-number-iterator.ensures.into_iter_gives.0
+    (goes_end c.loop-number.invariant.0 (sym c.loop-number.invariant.1 ∙ none.0) (record { tidies = no_more; small = tt }))
 
 -- ---- values
 
@@ -117,12 +118,15 @@ tidy_kind-returns-in_ok-tidy_each-in-Many g t c =
 pub tidy_kind-returns-in_ok-tidy_pairs-in-Pairs : goal.tidy_kind-returns-in_ok-tidy_pairs-in-Pairs
 tidy_kind-returns-in_ok-tidy_pairs-in-Pairs g t c =
     let ps = c.in-Pairs.parts in let qs = c.in_ok-tidy_pairs-in-Pairs.field-0 in
-    rw (c.in-Map.is, c.in-Pairs.is, view-Pairs ps, view-Pairs qs) (of_map c.in_ok-tidy_pairs-in-Pairs.ensures)
+    rw (c.in-Map.is, c.in-Pairs.is, view-Pairs ps, view-Pairs qs) (let p = c.in_ok-tidy_pairs-in-Pairs.ensures in record { tidies = of_map p.tidies; small = p.small })
 
 pub tidy_kind-returns-in_ok-tidy_fields-in-Fields : goal.tidy_kind-returns-in_ok-tidy_fields-in-Fields
 tidy_kind-returns-in_ok-tidy_fields-in-Fields g t c =
     let fs = c.in-Fields.parts in let gs = c.in_ok-tidy_fields-in-Fields.field-0 in
-    rw (c.in-Struct.is, c.in-Fields.is, view-Fields fs, view-Fields gs) (of_struct c.in_ok-tidy_fields-in-Fields.ensures)
+    rw (c.in-Struct.is, c.in-Fields.is, view-Fields fs, view-Fields gs) (let p = c.in_ok-tidy_fields-in-Fields.ensures in record { tidies = of_struct p.tidies; small = p.small })
 
 pub tidy_type-returns : goal.tidy_type-returns
 tidy_type-returns g t c = typed (g.S.Shapes.table c.args.shapes.now) c.args.id c.args.value (sym c.in-Some.ensures) c.tidy_kind.result c.tidy_kind.ensures
+
+pub tidy_kind-returns-in-Basic : goal.tidy_kind-returns-in-Basic
+tidy_kind-returns-in-Basic g t c = plain_stays c.in-Basic.is c.requires
