@@ -50,16 +50,16 @@ left_of : {T : Table} {types : List Field} {next : ℕ} {fs gs : Fields} {b : Li
 left_of n e s h i no_more (end_of_fields q) = absent
 left_of {T = T} {types = types} n e s h i (dropped {f = f} {e = x} {s = r} {v = v} {fs = fs} {gs = gs} m p d ps) (next_field o a q qs) =
     elim (cases_eq f n) [
-      inl c ↦
-        let one : s ≡ r = same_shape T types n (sym (ap (slice_get types) c) ∙ m) h p i in
-        rw (present_here f n v fs c, none_before n (omega arith) ps qs) (gone (subst (λ (s : Shape). IsDropped s.kind v) (sym one) d))
+      | inl c ↦
+          let one : s ≡ r = same_shape T types n (sym (ap (slice_get types) c) ∙ m) h p i in
+          rw (present_here f n v fs c, none_before n (omega arith) ps qs) (gone (subst (λ (s : Shape). IsDropped s.kind v) (sym one) d))
       | inr c ↦ rw (present_past f n v fs c) (left_of n e s h i ps qs)
     ]
 left_of {T = T} {types = types} n e s h i (kept {f = f} {e = x} {s = r} {v = v} {w = w} {fs = fs} {gs = gs} m p d k ps) (next_field o a q qs) =
     elim (cases_eq f n) [
-      inl c ↦
-        let one : s ≡ r = same_shape T types n (sym (ap (slice_get types) c) ∙ m) h p i in
-        rw (present_here f n v fs c, present_here f n w gs c) (there (subst (λ (s : Shape). TidiesAs T s.kind v w) (sym one) k) q)
+      | inl c ↦
+          let one : s ≡ r = same_shape T types n (sym (ap (slice_get types) c) ∙ m) h p i in
+          rw (present_here f n v fs c, present_here f n w gs c) (there (subst (λ (s : Shape). TidiesAs T s.kind v w) (sym one) k) q)
       | inr c ↦ rw (present_past f n v fs c, present_past f n w gs c) (left_of n e s h i ps qs)
     ]
 

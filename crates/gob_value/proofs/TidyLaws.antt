@@ -101,7 +101,7 @@ mutual
   tidy_fields {fs = field f v fs} (spelling.next_field l m p (spelling.of_type {s = s} e q) ps) =
       let r = tidy_form_as q in let rs = tidy_fields ps in
       elim (dropped_told s.kind v) [
-        inl d ↦ record { tidy = rs.tidy; tidies = dropped m e d rs.tidies }
+        | inl d ↦ record { tidy = rs.tidy; tidies = dropped m e d rs.tidies }
         | inr n ↦ record { tidy = field f r.tidy rs.tidy; tidies = kept m e n r.tidies rs.tidies }
       ]
 

@@ -13,8 +13,11 @@
 //!
 //! - [`fits`] says whether a value is one of a type, and shallow enough.
 //! - [`spell`] appends the one spelling of a value that is.
+//! - [`tidy`] leaves out of each struct the fields that Go's encoder leaves out.
 //! - [`spellings_begin_no_other`], [`spellings_are_unique`], [`spellings_tell_the_value`] and
 //!   [`spellings_stay`] are laws, which readers and writers rely on.
+//! - [`tidy_form_is_unique`], [`tidy_form_is_tidy`], [`tidy_form_is_no_longer`], [`tidy_form_is_no_deeper`],
+//!   [`tidy_form_fits`] and [`tidy_form_says_the_same`] are the laws of the tidy form.
 #![tactic(auto)]
 
 mod basic;
@@ -27,6 +30,8 @@ mod leaf;
 mod spelling;
 #[cfg(test)]
 mod tests;
+#[cfg(test)]
+mod tidy_tests;
 mod tidying;
 mod value;
 mod writing;

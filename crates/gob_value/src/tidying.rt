@@ -27,7 +27,12 @@ pub fn tidy<S: Shapes>(alloc: Global, shapes: &S, id: TypeId, value: Value) -> R
 }
 
 #[cycle(tidy)]
-fn tidy_type<S: Shapes>(alloc: Global, shapes: &S, id: TypeId, value: Value) -> Result<Value, Memory>
+fn tidy_type<S: Shapes>(
+    alloc: Global,
+    shapes: &S,
+    id: TypeId,
+    value: Value,
+) -> Result<Value, Memory>
     requires { HasTidyForm (S.table shapes.now) id (view value) }
     ensures { IfOk result (λ tidied. IsTidied (S.table shapes.now) id (view value) (view tidied)) }
 {
@@ -38,7 +43,12 @@ fn tidy_type<S: Shapes>(alloc: Global, shapes: &S, id: TypeId, value: Value) -> 
 }
 
 #[cycle(tidy)]
-fn tidy_kind<S: Shapes>(alloc: Global, shapes: &S, kind: &Kind, value: Value) -> Result<Value, Memory>
+fn tidy_kind<S: Shapes>(
+    alloc: Global,
+    shapes: &S,
+    kind: &Kind,
+    value: Value,
+) -> Result<Value, Memory>
     requires { HasTidyFormAs (S.table shapes.now) kind.now (view value) }
     ensures { IfOk result (λ tidied. IsTidiedAs (S.table shapes.now) kind.now (view value) (view tidied)) }
 {

@@ -84,7 +84,7 @@ tidy_fields-loop-number-preserved g t c =
     let s = c.in-Some.ensures.steps in
     let was = c.loop-number.invariant.1 in let gone = s.1 in let short = ap length s.0 in (
       field_kept c.in_ok-tidy_kind.field-0 c.loop-number.invariant.0 s.0 (sym c.in-Some-get.ensures.found) (sym c.in-Some-shape_of.ensures)
-      (λ d. false≢true (sym c.if-is_dropped.false ∙ c.is_dropped.ensures.1 d)) c.in_ok-tidy_kind.ensures c.in-Some-get.ensures.small c.in_ok-push.ensures.items,
+          (λ d. false≢true (sym c.if-is_dropped.false ∙ c.is_dropped.ensures.1 d)) c.in_ok-tidy_kind.ensures c.in-Some-get.ensures.small c.in_ok-push.ensures.items,
       omega arith,
     )
 
