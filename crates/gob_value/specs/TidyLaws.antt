@@ -36,7 +36,7 @@ IsNoDeeper F = (T : Table) (t : TypeId) (v w : Tree) → F T t v w → depth w �
 abbrev pub IsNoLonger : Form → Type 0
 IsNoLonger F = (T : Table) (t : TypeId) (v w : Tree) (b c : List ℕ) → F T t v w → Spells T t v b → Spells T t w c → length c ≤ length b
 
--- the numbers of the fields in a value, one more than which a delta may be, have 64 bits
+-- one more than the number of each field in the value has 64 bits: where fields before it are dropped, its delta may be so great
 abbrev mutual
   pub HasSmallNumbers : Tree → Type 0
   HasSmallNumbers (Value.many vs) = AllHaveSmallNumbers vs
@@ -56,9 +56,9 @@ abbrev mutual
   FieldsHaveSmallNumbers no_field = Unit {0}
   FieldsHaveSmallNumbers (field f v fs) = (f + 1 < 2 ^ 64) × HasSmallNumbers v × FieldsHaveSmallNumbers fs
 
--- the form of a value that fits does too
-abbrev pub Fitting : Form → Type 0
-Fitting F = (T : Table) (t : TypeId) (v w : Tree) → Fits T t v → HasSmallNumbers v → F T t v w → Fits T t w
+-- the form of a value that fits its type fits it too
+abbrev pub StaysFitting : Form → Type 0
+StaysFitting F = (T : Table) (t : TypeId) (v w : Tree) → Fits T t v → HasSmallNumbers v → F T t v w → Fits T t w
 
 -- the form of a description describes what the description does, or fails to for the same reason
 abbrev pub KeepsTheShape : Form → Type 0

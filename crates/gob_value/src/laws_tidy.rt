@@ -2,7 +2,7 @@
 
 ghost use Rattle.gob_value.specs.Tidy.{Tidies};
 ghost use Rattle.gob_value.specs.TidyLaws.{IsOneForm, HaveTidyForm, IsItsOwnForm, IsNoDeeper, IsNoLonger};
-ghost use Rattle.gob_value.specs.TidyLaws.{Fitting, KeepsTheShape, KeepsTheReason};
+ghost use Rattle.gob_value.specs.TidyLaws.{StaysFitting, KeepsTheShape, KeepsTheReason};
 
 /// A value that fits its type has one tidy form.
 pub fn tidy_form_is_unique()
@@ -27,7 +27,7 @@ pub fn tidy_form_is_no_longer()
 
 /// The tidy form of a value that fits its type fits it too, where one more than each field's number has 64 bits.
 pub fn tidy_form_fits()
-    ensures { Fitting Tidies }
+    ensures { StaysFitting Tidies }
 {}
 
 /// A description and its tidy form have the same shape under each id, or none for the same reason.
