@@ -13,3 +13,9 @@ pub mod DescriptionSteps
 pub mod JudgedLaws
 pub mod DescribedLaws
 pub mod DefinableLaws
+pub mod TidySteps
+pub mod TidyLaws
+pub mod LengthLaws
+pub mod TidyFits
+pub mod DescriptionTidy
+pub mod DescribedTidy

@@ -13,3 +13,6 @@ pub mod Described
 pub mod Saying
 pub mod ShapeFaults
 pub mod DescriptionLaws
+pub mod Tidy
+pub mod TidyLaws
+pub mod Tidied

@@ -14,10 +14,13 @@
 //! - [`fits`] says whether a value is one of a type, and shallow enough.
 //! - [`spell`] appends the one spelling of a value that is.
 //! - [`shape_from`] gives the shape that a description gives, and [`describe`] a description of a shape.
+//! - [`tidy`] leaves out of each struct the fields that Go's encoder leaves out.
 //! - [`spellings_begin_no_other`], [`spellings_are_unique`], [`spellings_tell_the_value`] and
-//!   [`spellings_stay`] are laws, which readers and writers rely on, and so are
+//!   [`spellings_stay`] are laws, which readers and writers rely on. So are those of descriptions,
 //!   [`descriptions_tell_the_shape`], [`descriptions_are_judged`], [`descriptions_fit`] and
-//!   [`described_shapes_are_definable`].
+//!   [`described_shapes_are_definable`], and those of the tidy form, [`tidy_form_is_unique`],
+//!   [`tidy_form_is_tidy`], [`tidy_form_is_no_longer`], [`tidy_form_is_no_deeper`], [`tidy_form_fits`],
+//!   [`tidy_form_says_the_same`] and [`made_descriptions_are_tidy`].
 #![tactic(auto)]
 
 mod depth;
@@ -29,11 +32,15 @@ mod fault;
 mod fitting;
 mod laws;
 mod laws_description;
+mod laws_tidy;
 mod leaf;
 mod parts;
 mod spelling;
 #[cfg(test)]
 mod tests;
+#[cfg(test)]
+mod tidy_tests;
+mod tidying;
 mod value;
 mod writing;
 
@@ -48,5 +55,11 @@ pub use laws_description::{
     described_shapes_are_definable, descriptions_are_judged, descriptions_fit,
     descriptions_tell_the_shape,
 };
+pub use laws_tidy::{
+    made_descriptions_are_tidy,
+    tidy_form_fits, tidy_form_is_no_deeper, tidy_form_is_no_longer, tidy_form_is_tidy,
+    tidy_form_is_unique, tidy_form_says_the_same,
+};
 pub use spelling::spell;
+pub use tidying::tidy;
 pub use value::Value;

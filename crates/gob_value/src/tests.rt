@@ -65,16 +65,22 @@ fn text(alloc: Global, byte: u8) -> Result<Value, AllocError> {
 }
 
 // A struct with one or two fields.
-fn one(alloc: Global, number: u64, value: Value) -> Result<Value, AllocError> {
+pub(crate) fn one(alloc: Global, number: u64, value: Value) -> Result<Value, AllocError> {
     Ok(Value::Fields(vec![in alloc; (number, value)]?))
 }
 
-fn two(alloc: Global, first: u64, a: Value, second: u64, b: Value) -> Result<Value, AllocError> {
+pub(crate) fn two(
+    alloc: Global,
+    first: u64,
+    a: Value,
+    second: u64,
+    b: Value,
+) -> Result<Value, AllocError> {
     Ok(Value::Fields(vec![in alloc; (first, a), (second, b)]?))
 }
 
 // A list in a list and so on, of this depth or of depth 1.
-fn nested(alloc: Global, depth: u64) -> Result<Value, AllocError> {
+pub(crate) fn nested(alloc: Global, depth: u64) -> Result<Value, AllocError> {
     let mut value = Value::Many(Vec::new(alloc));
     for _ in 1..depth {
         value = Value::Many(vec![in alloc; value]?);
@@ -82,7 +88,7 @@ fn nested(alloc: Global, depth: u64) -> Result<Value, AllocError> {
     Ok(value)
 }
 
-fn field(alloc: Global, id: u64) -> Field {
+pub(crate) fn field(alloc: Global, id: u64) -> Field {
     Field {
         name: Name::new(Vec::new(alloc)),
         id: TypeId(id),
@@ -90,7 +96,7 @@ fn field(alloc: Global, id: u64) -> Field {
 }
 
 // Whether the table took the definition.
-fn defines(alloc: Global, table: &mut Table, id: u64, kind: Kind) -> bool {
+pub(crate) fn defines(alloc: Global, table: &mut Table, id: u64, kind: Kind) -> bool {
     let shape = Shape {
         name: Name::new(Vec::new(alloc)),
         kind,

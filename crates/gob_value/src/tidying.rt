@@ -1,0 +1,166 @@
+//! The tidy form of a value. Recursion is as deep as the value, at most 1000.
+
+ghost use Rattle.std.specs.Prelude.{◌↔◌, IsTrue, IfOk};
+ghost use Rattle.gob_value.specs.View.{view, views, pair_views, field_views};
+ghost use Rattle.gob_value.specs.Tidy.{Tidies, IsZero, IsDropped, HasTidyForm, HasTidyFormAs};
+ghost use Rattle.gob_value.specs.Tidy.{HaveTidyForms, HaveTidyPairs, HaveTidyFields};
+ghost use Rattle.gob_value.specs.Tidied.{IsTidied, IsTidiedAs, AreTidied, PairsTidied, FieldsTidied};
+ghost use Rattle.gob_value.specs.Within.{FitsWithin};
+
+use crate::value::Value;
+use gob_num::Memory;
+use gob_types::{Fields, Kind, Shapes, TypeId};
+use std::alloc::Global;
+
+/// The tidy form of a value of the type: at every level, each struct without its fields of the types bool, int,
+/// uint, float, complex, []byte, string and slice that are 0, false or empty. All else is kept: fields of other
+/// types, whatever they hold, and each element of a list or a map. (docs/FORMAT.md, Tidy form.)
+///
+/// The value fits the type and is at most 1000 deep; so does and is its tidy form. Byte strings are moved and not
+/// copied. After `Memory` the value is dropped.
+pub fn tidy<S: Shapes>(alloc: Global, shapes: &S, id: TypeId, value: Value) -> Result<Value, Memory>
+    requires { FitsWithin (S.table shapes.now) id 1000 (view value) }
+    ensures tidy { IfOk result (λ tidied. Tidies (S.table shapes.now) id (view value) (view tidied)) }
+    ensures fits { IfOk result (λ tidied. FitsWithin (S.table shapes.now) id 1000 (view tidied)) }
+{
+    tidy_type(alloc, shapes, id, value)
+}
+
+#[cycle(tidy)]
+fn tidy_type<S: Shapes>(
+    alloc: Global,
+    shapes: &S,
+    id: TypeId,
+    value: Value,
+) -> Result<Value, Memory>
+    requires { HasTidyForm (S.table shapes.now) id (view value) }
+    ensures { IfOk result (λ tidied. IsTidied (S.table shapes.now) id (view value) (view tidied)) }
+{
+    match shapes.shape_of(id) {
+        Some(shape) => tidy_kind(alloc, shapes, &shape.kind, value),
+        None => unreachable!(),
+    }
+}
+
+#[cycle(tidy)]
+fn tidy_kind<S: Shapes>(
+    alloc: Global,
+    shapes: &S,
+    kind: &Kind,
+    value: Value,
+) -> Result<Value, Memory>
+    requires { HasTidyFormAs (S.table shapes.now) kind.now (view value) }
+    ensures { IfOk result (λ tidied. IsTidiedAs (S.table shapes.now) kind.now (view value) (view tidied)) }
+{
+    match kind {
+        Kind::Basic(_) | Kind::Opaque(_) => Ok(value),
+        Kind::Slice { elem } | Kind::Array { elem, .. } => match value {
+            Value::Many(parts) => Ok(Value::Many(tidy_each(alloc, shapes, *elem, parts)?)),
+            _ => unreachable!(),
+        },
+        Kind::Map { key, elem } => match value {
+            Value::Pairs(parts) => Ok(Value::Pairs(tidy_pairs(alloc, shapes, *key, *elem, parts)?)),
+            _ => unreachable!(),
+        },
+        Kind::Struct { fields } => match value {
+            Value::Fields(parts) => Ok(Value::Fields(tidy_fields(alloc, shapes, fields, parts)?)),
+            _ => unreachable!(),
+        },
+    }
+}
+
+#[cycle(tidy)]
+fn tidy_each<S: Shapes>(
+    alloc: Global,
+    shapes: &S,
+    elem: TypeId,
+    parts: Vec<Value>,
+) -> Result<Vec<Value>, Memory>
+    requires { HaveTidyForms (S.table shapes.now) elem (views parts.items) }
+    ensures { IfOk result
+        (λ tidied. AreTidied (S.table shapes.now) elem (views parts.items) (views tidied.items)) }
+{
+    let mut tidied = Vec::new(alloc);
+    for part in parts {
+        tidied.push(tidy_type(alloc, shapes, elem, part)?)?;
+    }
+    Ok(tidied)
+}
+
+#[cycle(tidy)]
+fn tidy_pairs<S: Shapes>(
+    alloc: Global,
+    shapes: &S,
+    key: TypeId,
+    elem: TypeId,
+    parts: Vec<(Value, Value)>,
+) -> Result<Vec<(Value, Value)>, Memory>
+    requires { HaveTidyPairs (S.table shapes.now) key elem (pair_views parts.items) }
+    ensures { IfOk result
+        (λ tidied. PairsTidied (S.table shapes.now) key elem (pair_views parts.items) (pair_views tidied.items)) }
+{
+    let mut tidied = Vec::new(alloc);
+    for (k, e) in parts {
+        let k = tidy_type(alloc, shapes, key, k)?;
+        let e = tidy_type(alloc, shapes, elem, e)?;
+        tidied.push((k, e))?;
+    }
+    Ok(tidied)
+}
+
+#[cycle(tidy)]
+fn tidy_fields<S: Shapes>(
+    alloc: Global,
+    shapes: &S,
+    types: &Fields,
+    parts: Vec<(u64, Value)>,
+) -> Result<Vec<(u64, Value)>, Memory>
+    requires { HaveTidyFields (S.table shapes.now) types.now (field_views parts.items) }
+    ensures { IfOk result
+        (λ tidied. FieldsTidied (S.table shapes.now) types.now (field_views parts.items) (field_views tidied.items)) }
+{
+    let mut tidied = Vec::new(alloc);
+    for (number, part) in parts {
+        let Some(field) = types.get(number) else {
+            unreachable!()
+        };
+        let Some(shape) = shapes.shape_of(field.id) else {
+            unreachable!()
+        };
+        if is_dropped(&shape.kind, &part) {
+            drop(part);
+        } else {
+            tidied.push((number, tidy_kind(alloc, shapes, &shape.kind, part)?))?;
+        }
+    }
+    Ok(tidied)
+}
+
+// Whether a struct drops the value from a field of this kind.
+fn is_dropped(kind: &Kind, value: &Value) -> bool
+    ensures { IsTrue result ↔ IsDropped kind.now (view value.now) }
+{
+    match kind {
+        Kind::Basic(_) => is_zero(value),
+        Kind::Slice { .. } => match value {
+            Value::Many(parts) => parts.is_empty(),
+            _ => false,
+        },
+        _ => false,
+    }
+}
+
+// Whether a value of a basic type is false, 0 or empty.
+fn is_zero(value: &Value) -> bool
+    ensures { IsTrue result ↔ IsZero (view value.now) }
+{
+    match value {
+        Value::Bool(x) => !*x,
+        Value::Int(i) => *i == 0,
+        Value::Uint(n) => *n == 0,
+        Value::Float(p) => *p == 0,
+        Value::Complex(p, q) => *p == 0 && *q == 0,
+        Value::Bytes(s) | Value::Str(s) => s.is_empty(),
+        _ => false,
+    }
+}
