@@ -13,3 +13,4 @@ pub mod DescriptionSteps
 pub mod JudgedLaws
 pub mod DescribedLaws
 pub mod DefinableLaws
+pub mod DescribedCases
