@@ -19,3 +19,4 @@ pub mod LengthLaws
 pub mod TidyFits
 pub mod DescriptionTidy
 pub mod DescribedTidy
+pub mod DescribedCases

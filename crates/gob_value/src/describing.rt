@@ -7,7 +7,8 @@ ghost use Rattle.gob_types.specs.Definable.{IsDefinable, IsReference, greatest_l
 ghost use Rattle.gob_types.specs.Ready.{HasFieldOf};
 ghost use Rattle.gob_value.specs.Tree.{int, fields};
 ghost use Rattle.gob_value.specs.View.{view, views, field_views};
-ghost use Rattle.gob_value.specs.Described.{described, described_kind, name_and_id, field_types, wire_type_of};
+ghost use Rattle.gob_value.specs.Described.{described, described_kind, wire_type_of};
+ghost use Rattle.gob_value.specs.Described.{name_and_id, field_types};
 ghost use Rattle.gob_value.specs.DescriptionLaws.{IsCounted, AreCounted, HasCountedFields};
 ghost use Rattle.gob_value.specs.Within.{FitsWithin};
 

@@ -1,11 +1,13 @@
 //! The shape that a description gives.
 
-ghost use Rattle.std.specs.Prelude.{◌≡◌, ◌↔◌, ◌<◌, pos, IsTrue, IfOk, IfErr, MatchOption, MatchResult};
+ghost use Rattle.std.specs.Prelude.{◌≡◌, ◌↔◌, ◌<◌, pos, IsTrue, IfOk, IfErr};
+ghost use Rattle.std.specs.Prelude.{MatchOption, MatchResult};
 ghost use Rattle.gob_types.specs.Base.{base_table, wire_type};
 ghost use Rattle.gob_types.specs.Definable.{IsDefinable, IsReference};
 ghost use Rattle.gob_value.specs.View.{view, views, field_views};
 ghost use Rattle.gob_value.specs.Fits.{Fits};
-ghost use Rattle.gob_value.specs.Description.{said, said_fields, said_struct, present, number_in, name_in, Describes};
+ghost use Rattle.gob_value.specs.Description.{said, said_fields, said_struct, Describes};
+ghost use Rattle.gob_value.specs.Description.{present, number_in, name_in};
 ghost use Rattle.gob_value.specs.Description.{RefersTo, IsBadReference, GivesFields, GivesKind};
 ghost use Rattle.gob_value.specs.Saying.{kind_said, what_said, wire_number, IsTypeNumber, HaveTypes};
 ghost use Rattle.gob_value.specs.ShapeFaults.{IsShapeFault, IsKindFault};
@@ -105,8 +107,10 @@ fn kind_from(alloc: Global, wire: WireField, fields: &[(u64, Value)]) -> Result<
 
 // The array of an arrayType.
 fn array_from(fields: &[(u64, Value)]) -> Result<Kind, ShapeFault>
-    ensures kind { IfOk result (λ kind. GivesKind (kind_said WireField.ArrayT (field_views fields.now)) kind) }
-    ensures fault { IfErr result (λ fault. IsKindFault (kind_said WireField.ArrayT (field_views fields.now)) fault) }
+    ensures kind { IfOk result
+        (λ kind. GivesKind (kind_said WireField.ArrayT (field_views fields.now)) kind) }
+    ensures fault { IfErr result
+        (λ fault. IsKindFault (kind_said WireField.ArrayT (field_views fields.now)) fault) }
 {
     let elem = reference(number_of(fields, 1))?;
     let len = number_of(fields, 2);
@@ -121,8 +125,10 @@ fn array_from(fields: &[(u64, Value)]) -> Result<Kind, ShapeFault>
 
 // The slice of a sliceType.
 fn slice_from(fields: &[(u64, Value)]) -> Result<Kind, ShapeFault>
-    ensures kind { IfOk result (λ kind. GivesKind (kind_said WireField.SliceT (field_views fields.now)) kind) }
-    ensures fault { IfErr result (λ fault. IsKindFault (kind_said WireField.SliceT (field_views fields.now)) fault) }
+    ensures kind { IfOk result
+        (λ kind. GivesKind (kind_said WireField.SliceT (field_views fields.now)) kind) }
+    ensures fault { IfErr result
+        (λ fault. IsKindFault (kind_said WireField.SliceT (field_views fields.now)) fault) }
 {
     let elem = reference(number_of(fields, 1))?;
     Ok(Kind::Slice { elem })
@@ -131,7 +137,8 @@ fn slice_from(fields: &[(u64, Value)]) -> Result<Kind, ShapeFault>
 // The map of a mapType.
 fn map_from(fields: &[(u64, Value)]) -> Result<Kind, ShapeFault>
     ensures kind { IfOk result (λ kind. GivesKind (kind_said WireField.MapT (field_views fields.now)) kind) }
-    ensures fault { IfErr result (λ fault. IsKindFault (kind_said WireField.MapT (field_views fields.now)) fault) }
+    ensures fault { IfErr result
+        (λ fault. IsKindFault (kind_said WireField.MapT (field_views fields.now)) fault) }
 {
     let key = reference(number_of(fields, 1))?;
     let elem = reference(number_of(fields, 2))?;
@@ -141,7 +148,8 @@ fn map_from(fields: &[(u64, Value)]) -> Result<Kind, ShapeFault>
 // The struct of these fieldTypes. Each is judged before memory is taken for any.
 fn struct_from(alloc: Global, field_types: &[Value]) -> Result<Kind, ShapeFault>
     ensures kind { IfOk result (λ kind. GivesKind (said_struct (said_fields (views field_types.now))) kind) }
-    ensures fault { IfErr result (λ fault. IsKindFault (said_struct (said_fields (views field_types.now))) fault) }
+    ensures fault { IfErr result
+        (λ fault. IsKindFault (said_struct (said_fields (views field_types.now))) fault) }
 {
     if !have_types(field_types) {
         return Err(ShapeFault::BadReference);
