@@ -1,0 +1,90 @@
+-- The steps of a reader's state, with what its builder is told.
+use Rattle.std.proofs.Common.{◌≡◌, ℕ, zero, suc, ◌+◌, ◌-◌, ◌^◌, ◌<◌, ◌≤◌, Bool, true, false, List, [], ◌∷◌, ◌++◌, length, Option, Some, None, arith, refl, sym, ap, ◌∙◌, subst, append_assoc, drop, length-append}
+use Rattle.std.specs.Prelude.{slice_get, Result, Ok, Err, IfOk, IfErr}
+use Rattle.gob_num.specs.Unsigned.{IsUnsigned}
+use Rattle.gob_types.specs.declared.id.TypeId.{TypeId}
+use Rattle.gob_types.specs.declared.kind.Kind.{Kind}
+use Rattle.gob_types.specs.Table.{Table}
+use Rattle.gob_value.specs.Tree.{Tree}
+use Rattle.gob_value.specs.Spelling.{Spells}
+use Rattle.gob_read.specs.declared.frame.Frame.{Frame}
+use Rattle.gob_read.specs.declared.frame.Frame.TheVariants as frame
+use Rattle.gob_read.specs.declared.awaited.Awaited.{Awaited}
+use Rattle.gob_read.specs.declared.awaited.Awaited.TheVariants.{Number, Raw}
+use Rattle.gob_read.specs.declared.state.State.{State}
+use Rattle.gob_read.specs.Telling.{Telling, leave, Tells}
+use Rattle.gob_read.specs.WellFormed.{Follows, end_of_list, end_of_map}
+use Rattle.gob_read.specs.Building.{CanTell, IsTold}
+use Rattle.gob_read.specs.Frames.{IsOver, last_element, last_pair, GoesOn, item_of}
+use Rattle.gob_read.specs.Kinds.{HasKind}
+use Rattle.gob_read.specs.Within.{Within, At, Completed}
+use Rattle.gob_read.specs.Steps.{IsBegun, IsPlaced, IsEnded, IsRead, Settled, CanEnd, Ends, CanBegin, Begins}
+use Rattle.gob_read.proofs.Moves.{completed_value, moved, closed, part_whole}
+use Rattle.gob_read.proofs.ToldLaws.{behind, completed_follows, completed_weighs, told, can_tell}
+
+pub if_ok : {A E : Type 0} {P Q : A → Type 0} (r : Result A E) → ((v : A) → P v → Q v) → IfOk r P → IfOk r Q
+if_ok (Ok v) f p = f v p
+if_ok (Err e) f p = p
+
+first_is : {f g : Frame} → Some f ≡ Some g → f ≡ g
+first_is h = cc
+
+-- no part is open behind the outermost one
+pub ended_none : {T : Table} {t : TypeId} {X O : Type 0} {stands : X → List Telling → Type 0} {state : State X O} {z : List ℕ} → slice_get state.stack 0 ≡ None → IsEnded T t stands state z → IsRead T t stands state z
+ended_none {T = T} {t = t} {stands = stands} {state = state} {z = z} h e = from state.stack h e.completed
+  where
+    from : (fs : List Frame) → slice_get fs 0 ≡ None → Completed T t fs z e.us → IsRead T t stands state z
+    from [] h c = let v = completed_value c in record { us = e.us; value = v.value; spelled = v.spelled; tells = v.told; told = e.told }
+    from (f ∷ fs) h c = cc
+
+-- the innermost open part goes on
+pub ended_on : {T : Table} {t : TypeId} {X O : Type 0} {stands : X → List Telling → Type 0} {state state' : State X O} {f g : Frame} {z : List ℕ} → slice_get state.stack 0 ≡ Some f → GoesOn f g
+    → state'.stack ≡ g ∷ drop 1 state.stack → state'.awaited ≡ Number (item_of g) → state'.builder ≡ state.builder → IsEnded T t stands state z → IsPlaced T t stands state' z []
+ended_on {T = T} {t = t} {stands = stands} {state = state} {state' = state'} {f = f} {g = g} {z = z} h on stack awaited builder e = record {
+  us = e.us;
+  at = subst (λ fs. At T t fs state'.awaited z [] e.us) (sym stack) (subst (λ a. At T t (g ∷ drop 1 state.stack) a z [] e.us) (sym awaited) (from state.stack h e.completed));
+  told = subst (λ b. stands b e.us) (sym builder) e.told;
+}
+  where
+    from : (fs : List Frame) → slice_get fs 0 ≡ Some f → Completed T t fs z e.us → At T t (g ∷ drop 1 fs) (Number (item_of g)) z [] e.us
+    from [] h c = cc
+    from (k ∷ fs) h c = moved on (subst (λ k. Completed T t (k ∷ fs) z e.us) (first_is h) c)
+
+-- the innermost open part ends
+pub ended_over : {T : Table} {t : TypeId} {X O : Type 0} {stands : X → List Telling → Type 0} {state state' : State X O} {f : Frame} {z : List ℕ} → slice_get state.stack 0 ≡ Some f → IsOver f
+    → state'.stack ≡ drop 1 state.stack → IsTold stands state.builder state'.builder leave → IsEnded T t stands state z → IsEnded T t stands state' z
+ended_over {T = T} {t = t} {stands = stands} {state = state} {state' = state'} {f = f} {z = z} h over stack told_on e = record {
+  us = e.us ++ leave ∷ [];
+  completed = subst (λ fs. Completed T t fs z (e.us ++ leave ∷ [])) (sym stack) (from state.stack h e.completed);
+  told = told_on.each e.us e.told;
+}
+  where
+    from : (fs : List Frame) → slice_get fs 0 ≡ Some f → Completed T t fs z e.us → Completed T t (drop 1 fs) z (e.us ++ leave ∷ [])
+    from [] h c = cc
+    from (k ∷ fs) h c = closed over (subst (λ k. Completed T t (k ∷ fs) z e.us) (first_is h) c)
+
+pub can_leave : {X O : Type 0} {stands : X → List Telling → Type 0} {state : State X O} {f : Frame} → slice_get state.stack 0 ≡ Some f → IsOver f → CanEnd stands state → CanTell stands state.builder leave
+can_leave {stands = stands} {state = state} {f = f} h over c = from state.stack h c.ended.completed
+  where
+    at : {f : Frame} {fs : List Frame} → IsOver f → Completed c.table c.type (f ∷ fs) c.bytes c.ended.us → told c.ended.us < 2 ^ 64 → CanTell stands state.builder leave
+    at last_element d l = can_tell c.ended.us leave c.ended.told (completed_follows d) end_of_list (omega arith)
+    at last_pair d l = can_tell c.ended.us leave c.ended.told (completed_follows d) end_of_map (omega arith)
+
+    from : (fs : List Frame) → slice_get fs 0 ≡ Some f → Completed c.table c.type fs c.bytes c.ended.us → CanTell stands state.builder leave
+    from [] h d = cc
+    from (k ∷ fs) h d = at over (subst (λ k. Completed c.table c.type (k ∷ fs) c.bytes c.ended.us) (first_is h) d) (let w = completed_weighs d in let s = c.small in omega arith)
+
+pub over_can_end : {X O : Type 0} {stands : X → List Telling → Type 0} {state state' : State X O} {f : Frame} → slice_get state.stack 0 ≡ Some f → IsOver f
+    → state'.stack ≡ drop 1 state.stack → IsTold stands state.builder state'.builder leave → CanEnd stands state → CanEnd stands state'
+over_can_end h over stack told_on c = record { table = c.table; type = c.type; bytes = c.bytes; ended = ended_over h over stack told_on c.ended; small = c.small }
+
+-- a part ends where it begins
+pub begins_ended : {X O : Type 0} {stands : X → List Telling → Type 0} {old mid new : State X O} {P : Kind → Type 0} {n : ℕ} {whole : Bool}
+    → ((T : Table) (t u : TypeId) (k : Kind) (p c : List ℕ) → IsBegun T t stands old u p → HasKind T u k → P k → IsUnsigned n c → IsEnded T t stands mid (p ++ c))
+    → Ends stands mid new whole → Begins stands old new P n whole
+begins_ended f e = record { each = λ T t u k p c b h i n. e.each T t (p ++ c) (f T t u k p c b h i n) }
+
+pub begins_can_end : {X O : Type 0} {stands : X → List Telling → Type 0} {old mid : State X O} {P : Kind → Type 0} {n : ℕ}
+    → ((T : Table) (t u : TypeId) (k : Kind) (p c : List ℕ) → IsBegun T t stands old u p → HasKind T u k → P k → IsUnsigned n c → IsEnded T t stands mid (p ++ c))
+    → CanBegin stands old P n → CanEnd stands mid
+begins_can_end f r = record { table = r.table; type = r.type; bytes = r.before ++ r.bytes; ended = f r.table r.type r.id r.kind r.before r.bytes r.begun r.has r.holds r.spelled; small = r.small }

@@ -1,0 +1,5 @@
+use Rattle.gob_read.proofs.CheckedLaws.{told_counts}
+use Rattle.gob_read.proofs.check_builder.CheckBuilderBuilder.take.Goals as goal
+
+pub returns : goal.returns
+returns c = told_counts c.args.self.counts

@@ -1,0 +1,9 @@
+use Rattle.std.proofs.Common.{arith}
+use Rattle.gob_read.proofs.Runs.{judged_deep, judged_short}
+use Rattle.gob_read.proofs.run.Run.judge.Goals as goal
+
+pub returns-then-depth_now-self-clause-refused : goal.returns-then-depth_now-self-clause-refused
+returns-then-depth_now-self-clause-refused g c = rw c.refuse.ensures (λ T. judged_deep (omega arith))
+
+pub returns-then-self-clause-refused : goal.returns-then-self-clause-refused
+returns-then-self-clause-refused g c = rw c.refuse-then-self.ensures (λ T. judged_short (omega arith) c.if-self.true)

@@ -1,0 +1,19 @@
+use Rattle.std.proofs.Common.{refl, [], ◌∷◌}
+use Rattle.gob_read.proofs.Parts.{if_ok}
+use Rattle.gob_read.proofs.Runs.{number_goes_on, bad_head_refused, not_minimal_refused, not_allowed_stops, number_stepped}
+use Rattle.gob_read.proofs.run.Run.take_byte.Goals as goal
+
+pub returns-in-More-clause-ok : goal.returns-in-More-clause-ok
+returns-in-More-clause-ok g c = number_goes_on c.args.item c.args.b c.requires.awaited refl c.in-More.ensures.next refl refl refl c.in-More.ensures.judged
+
+pub returns-in-BadHead-clause-refused : goal.returns-in-BadHead-clause-refused
+returns-in-BadHead-clause-refused g c = rw c.refuse.ensures (bad_head_refused c.args.item c.args.b c.requires.awaited c.in-BadHead.ensures.judged)
+
+pub returns-in-NotMinimal-clause-refused : goal.returns-in-NotMinimal-clause-refused
+returns-in-NotMinimal-clause-refused g c = rw c.refuse-in-NotMinimal.ensures (not_minimal_refused c.args.item c.args.b c.requires.awaited c.in-NotMinimal.ensures.judged)
+
+pub returns-in-Done-clause-ok : goal.returns-in-Done-clause-ok
+returns-in-Done-clause-ok g c = if_ok c.take.result (λ whole h. number_stepped c.args.item (c.args.b ∷ []) c.requires.awaited refl c.in-Done.ensures.next refl refl c.in-Done.ensures.judged h) c.take.ensures.ok
+
+pub returns-in-Done-clause-refused : goal.returns-in-Done-clause-refused
+returns-in-Done-clause-refused g c = not_allowed_stops _ _ _ _ c.args.item (c.args.b ∷ []) c.take.result c.requires.awaited refl refl refl c.in-Done.ensures.judged c.take.ensures.refused

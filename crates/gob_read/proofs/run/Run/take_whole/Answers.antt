@@ -1,0 +1,17 @@
+use Rattle.std.proofs.Common.{◌++◌, List, ℕ, refl, sym, subst}
+use Rattle.gob_num.specs.Unsigned.{IsUnsigned}
+use Rattle.gob_read.proofs.Parts.{if_ok}
+use Rattle.gob_read.proofs.Runs.{not_allowed_stops, number_stepped, fresh_is}
+use Rattle.gob_read.proofs.run.Run.take_whole.Goals as goal
+
+pub returns-clause-ok : goal.returns-clause-ok
+returns-clause-ok g c =
+    let none = fresh_is c.args.item c.requires.awaited c.requires.stands c.requires.fresh in
+    let spelled = subst (λ (r : List ℕ). IsUnsigned c.args.n (r ++ c.args.front.now)) (sym none) c.requires.spelled in
+    if_ok c.take.result (λ whole h. number_stepped c.args.item c.args.front.now c.requires.awaited refl none refl refl spelled h) c.take.ensures.ok
+
+pub returns-clause-refused : goal.returns-clause-refused
+returns-clause-refused g c =
+    let none = fresh_is c.args.item c.requires.awaited c.requires.stands c.requires.fresh in
+    let spelled = subst (λ (r : List ℕ). IsUnsigned c.args.n (r ++ c.args.front.now)) (sym none) c.requires.spelled in
+    not_allowed_stops _ _ _ _ c.args.item c.args.front.now c.take.result c.requires.awaited refl refl refl spelled c.take.ensures.refused

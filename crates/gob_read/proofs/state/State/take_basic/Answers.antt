@@ -1,0 +1,53 @@
+use Rattle.std.proofs.Common.{arith, refl}
+use Rattle.gob_types.specs.declared.basic.Basic.TheVariants as basic
+use Rattle.gob_read.specs.Kinds.{is_bytes, is_text, of_bool, of_int, of_uint, of_float, of_nil}
+use Rattle.gob_read.proofs.FirstSteps.{can_begin_as, begins_as, as_scalar, as_raw, no_first, second_placed}
+use Rattle.gob_read.proofs.state.State.take_basic.Goals as goal
+
+pub returns-then-n-gt1-clause-refused : goal.returns-then-n-gt1-clause-refused
+returns-then-n-gt1-clause-refused g c = no_first basic.Bool c.in-Bool.is (record { not_allowed = λ a. omega arith; reason_is = refl })
+
+pub take_number-requires : goal.take_number-requires
+take_number-requires g c = can_begin_as (as_scalar basic.Bool c.in-Bool.is (of_bool (omega arith))) c.requires
+
+pub take_number-requires-in-Int : goal.take_number-requires-in-Int
+take_number-requires-in-Int g c = can_begin_as (as_scalar basic.Int c.in-Int.is of_int) c.requires
+
+pub take_number-requires-in-Uint : goal.take_number-requires-in-Uint
+take_number-requires-in-Uint g c = can_begin_as (as_scalar basic.Uint c.in-Uint.is of_uint) c.requires
+
+pub take_number-requires-in-Float : goal.take_number-requires-in-Float
+take_number-requires-in-Float g c = can_begin_as (as_scalar basic.Float c.in-Float.is (of_float c.to_pattern.ensures)) c.requires
+
+pub take_length-requires : goal.take_length-requires
+take_length-requires g c = can_begin_as (as_raw basic.Bytes c.in-Bytes.is is_bytes) c.requires
+
+pub take_length-requires-in-Str : goal.take_length-requires-in-Str
+take_length-requires-in-Str g c = can_begin_as (as_raw basic.Str c.in-Str.is is_text) c.requires
+
+pub take_number-requires-in-Interface : goal.take_number-requires-in-Interface
+take_number-requires-in-Interface g c = can_begin_as (as_scalar basic.Interface c.in-Interface.is (of_nil (omega arith))) c.requires
+
+pub returns-in_ok-take_number-in-Bool-clause-ok : goal.returns-in_ok-take_number-in-Bool-clause-ok
+returns-in_ok-take_number-in-Bool-clause-ok g c = begins_as (as_scalar basic.Bool c.in-Bool.is (of_bool (omega arith))) c.in_ok-take_number-in-Bool.ensures
+
+pub returns-in_ok-take_number-in-Int-clause-ok : goal.returns-in_ok-take_number-in-Int-clause-ok
+returns-in_ok-take_number-in-Int-clause-ok g c = begins_as (as_scalar basic.Int c.in-Int.is of_int) c.in_ok-take_number-in-Int.ensures
+
+pub returns-in_ok-take_number-in-Uint-clause-ok : goal.returns-in_ok-take_number-in-Uint-clause-ok
+returns-in_ok-take_number-in-Uint-clause-ok g c = begins_as (as_scalar basic.Uint c.in-Uint.is of_uint) c.in_ok-take_number-in-Uint.ensures
+
+pub returns-in_ok-take_number-in-Float-clause-ok : goal.returns-in_ok-take_number-in-Float-clause-ok
+returns-in_ok-take_number-in-Float-clause-ok g c = begins_as (as_scalar basic.Float c.in-Float.is (of_float c.to_pattern.ensures)) c.in_ok-take_number-in-Float.ensures
+
+pub returns-in_ok-take_length-in-Bytes-clause-ok : goal.returns-in_ok-take_length-in-Bytes-clause-ok
+returns-in_ok-take_length-in-Bytes-clause-ok g c = begins_as (as_raw basic.Bytes c.in-Bytes.is is_bytes) c.in_ok-take_length-in-Bytes.ensures
+
+pub returns-in_ok-take_length-in-Str-clause-ok : goal.returns-in_ok-take_length-in-Str-clause-ok
+returns-in_ok-take_length-in-Str-clause-ok g c = begins_as (as_raw basic.Str c.in-Str.is is_text) c.in_ok-take_length-in-Str.ensures
+
+pub returns-in-Complex-clause-ok : goal.returns-in-Complex-clause-ok
+returns-in-Complex-clause-ok g c = record { each = second_placed refl refl refl c.in-Complex.is c.to_pattern-in-Complex.ensures }
+
+pub returns-in_ok-take_number-in-Interface-clause-ok : goal.returns-in_ok-take_number-in-Interface-clause-ok
+returns-in_ok-take_number-in-Interface-clause-ok g c = begins_as (as_scalar basic.Interface c.in-Interface.is (of_nil (omega arith))) c.in_ok-take_number-in-Interface.ensures

@@ -1,0 +1,26 @@
+use Rattle.std.proofs.Common.{sym, ap, ◌∙◌, Some}
+use Rattle.gob_read.proofs.Parts.{if_ok}
+use Rattle.gob_read.proofs.ItemSteps.{if_err, blames}
+use Rattle.gob_read.proofs.FieldSteps.{delta_can, delta_takes, delta_refuses, not_open, not_fields, not_defined, not_struct}
+use Rattle.gob_read.proofs.state.State.take_delta.Goals as goal
+
+pub unreachable-requires : goal.unreachable-requires
+unreachable-requires g c = not_open c.requires c.in_default.ensures
+
+pub unreachable-requires-in_default-frame : goal.unreachable-requires-in_default-frame
+unreachable-requires-in_default-frame g c = not_fields c.requires c.in-Some.ensures c.in_default-frame.not-Fields
+
+pub unreachable-requires-in_default-shape_of : goal.unreachable-requires-in_default-shape_of
+unreachable-requires-in_default-shape_of g c = not_defined (sym c.in-Some.ensures ∙ ap Some c.in-Fields.is) c.requires c.in_default-shape_of.ensures
+
+pub unreachable-requires-in_default-kind : goal.unreachable-requires-in_default-kind
+unreachable-requires-in_default-kind g c = not_struct (sym c.in-Some.ensures ∙ ap Some c.in-Fields.is) c.requires c.in-Some-shape_of.ensures c.in_default-kind.not-Struct
+
+pub take_field-requires : goal.take_field-requires
+take_field-requires g c = delta_can (sym c.in-Some.ensures ∙ ap Some c.in-Fields.is) (record { shape = c.in-Some-shape_of.shape.now; there = sym c.in-Some-shape_of.ensures; kind = c.in-Struct.is }) c.requires
+
+pub returns-clause-ok : goal.returns-clause-ok
+returns-clause-ok g c = if_ok c.take_field.result (λ whole h. delta_takes c.requires.awaited (sym c.in-Some.ensures ∙ ap Some c.in-Fields.is) (record { shape = c.in-Some-shape_of.shape.now; there = sym c.in-Some-shape_of.ensures; kind = c.in-Struct.is }) h) c.take_field.ensures.ok
+
+pub returns-clause-refused : goal.returns-clause-refused
+returns-clause-refused g c = if_err c.take_field.result (λ e. blames e (λ r h. delta_refuses c.requires.awaited (sym c.in-Some.ensures ∙ ap Some c.in-Fields.is) (record { shape = c.in-Some-shape_of.shape.now; there = sym c.in-Some-shape_of.ensures; kind = c.in-Struct.is }) h)) c.take_field.ensures.refused

@@ -1,0 +1,10 @@
+use Rattle.gob_read.specs.Kinds.{of_list}
+use Rattle.gob_read.proofs.Parts.{if_ok}
+use Rattle.gob_read.proofs.FirstSteps.{can_begin_as, begins_as}
+use Rattle.gob_read.proofs.state.State.take_elements.Goals as goal
+
+pub take_count-requires : goal.take_count-requires
+take_count-requires g c = can_begin_as (λ k l. of_list l c.saturating_sub.ensures) c.requires
+
+pub returns : goal.returns
+returns g c = if_ok c.take_count.result (λ whole b. begins_as (λ k l. of_list l c.saturating_sub.ensures) b) c.take_count.ensures

@@ -1,0 +1,18 @@
+use Rattle.std.proofs.Common.{refl}
+use Rattle.gob_read.specs.Telling.{enter}
+use Rattle.gob_read.specs.WellFormed.{a_struct}
+use Rattle.gob_read.specs.declared.telling.GroupKind.TheVariants as group
+use Rattle.gob_read.proofs.ToldLaws.{begins_in}
+use Rattle.gob_read.proofs.Parts.{if_ok}
+use Rattle.gob_read.proofs.FirstSteps.{can_start}
+use Rattle.gob_read.proofs.FieldSteps.{can_begin_struct, struct_can_go_on, struct_begins}
+use Rattle.gob_read.proofs.state.State.take_first_delta.Goals as goal
+
+pub enter-requires : goal.enter-requires
+enter-requires g c = can_start (enter group.Fields) refl (can_begin_struct c.requires) (a_struct (begins_in c.args.self.now.stack))
+
+pub take_field-requires : goal.take_field-requires
+take_field-requires g c = struct_can_go_on c.in_ok-open.ensures c.in_ok-enter.ensures c.requires
+
+pub returns-clause-ok : goal.returns-clause-ok
+returns-clause-ok g c = if_ok c.take_field.result (λ whole h. struct_begins c.in_ok-open.ensures c.in_ok-enter.ensures h) c.take_field.ensures.ok

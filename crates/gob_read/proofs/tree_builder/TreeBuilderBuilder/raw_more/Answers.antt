@@ -1,0 +1,8 @@
+use Rattle.std.proofs.Common.{arith}
+use Rattle.gob_read.specs.Stack.{work_of}
+use Rattle.gob_read.specs.Telling.{raw_more}
+use Rattle.gob_read.proofs.BuiltLaws.{told_more}
+use Rattle.gob_read.proofs.tree_builder.TreeBuilderBuilder.raw_more.Goals as goal
+
+pub returns : goal.returns
+returns c = let s = c.args.self.now in record { each = λ us a. told_more (work_of s.work) (work_of c.add_bytes.new.self) s.held _ us (raw_more c.args.bytes.now) c.in_ok-add_bytes.ensures (omega arith) a }

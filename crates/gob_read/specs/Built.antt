@@ -1,0 +1,129 @@
+-- What a list of tellings makes: the open parts with what is in them so far, and the whole value once it is there.
+-- (docs/FORMAT.md, Tellings.)
+use Rattle.std.specs.Prelude.{ℕ, ℤ, pos, negsuc, ◌/◌, ◌%◌, ◌==◌, if◌then◌else◌, List, [], ◌∷◌, ◌++◌, Option, Some, None}
+use Rattle.gob_types.specs.declared.basic.Basic.{Basic}
+use Rattle.gob_types.specs.declared.basic.Basic.TheVariants as basic
+use Rattle.gob_value.specs.Tree.{Tree}
+use Rattle.gob_value.specs.View.{trees_of, pairs_of, fields_of}
+use Rattle.gob_read.specs.declared.telling.RawKind.{RawKind}
+use Rattle.gob_read.specs.declared.telling.RawKind.TheVariants as kind
+use Rattle.gob_read.specs.declared.telling.GroupKind.{GroupKind}
+use Rattle.gob_read.specs.declared.telling.GroupKind.TheVariants as group
+use Rattle.gob_read.specs.Telling.{Telling, number, raw_start, raw_more, enter, field, leave}
+
+-- the signed number that an unsigned one spells: its last bit is the sign
+abbrev pub signed_of : ℕ → ℤ
+signed_of n = if n % 2 == 0 then pos (n / 2) else negsuc (n / 2)
+
+-- a part of a basic type, by its numbers
+abbrev pub number_tree : Basic → ℕ → ℕ → Tree
+number_tree basic.Bool a b = Tree.bool (a == 1)
+number_tree basic.Int a b = Tree.int (signed_of a)
+number_tree basic.Uint a b = Tree.uint a
+number_tree basic.Float a b = Tree.float a
+number_tree basic.Complex a b = Tree.complex a b
+number_tree _ a b = Tree.nil
+
+-- a part of raw bytes
+abbrev pub raw_tree : RawKind → List ℕ → Tree
+raw_tree kind.Bytes s = Tree.bytes s
+raw_tree kind.Str s = Tree.text s
+raw_tree kind.Opaque s = Tree.opaque s
+
+-- an open part, with what is in it so far
+pub data Part : Type 0 where
+  raw : RawKind → List ℕ → Part
+  many : List Tree → Part
+  -- and a key that has no element yet
+  pairs : List (Tree × Tree) → Option Tree → Part
+  -- and the number of the next field
+  fields : List (ℕ × Tree) → Option ℕ → Part
+
+-- the part that a group begins with
+abbrev pub opened : GroupKind → Part
+opened group.Many = many []
+opened group.Pairs = pairs [] None
+opened group.Fields = fields [] None
+
+-- the value of the part where it ends
+abbrev pub closed : Part → Tree
+closed (raw k s) = raw_tree k s
+closed (many vs) = Tree.many (trees_of vs)
+closed (pairs ps key) = Tree.pairs (pairs_of ps)
+closed (fields fs next) = Tree.fields (fields_of fs)
+
+-- a part in the part
+abbrev pub added : Part → Tree → Part
+added (raw k s) v = raw k s
+added (many vs) v = many (vs ++ v ∷ [])
+added (pairs ps None) v = pairs ps (Some v)
+added (pairs ps (Some k)) v = pairs (ps ++ (k, v) ∷ []) None
+added (fields fs None) v = fields fs None
+added (fields fs (Some f)) v = fields (fs ++ (f, v) ∷ []) None
+
+-- more raw bytes in the part
+abbrev pub with_bytes : Part → List ℕ → Part
+with_bytes (raw k s) more = raw k (s ++ more)
+with_bytes (many vs) more = many vs
+with_bytes (pairs ps key) more = pairs ps key
+with_bytes (fields fs next) more = fields fs next
+
+-- the number of the next field in the part
+abbrev pub with_number : Part → ℕ → Part
+with_number (raw k s) f = raw k s
+with_number (many vs) f = many vs
+with_number (pairs ps key) f = pairs ps key
+with_number (fields fs next) f = fields fs (Some f)
+
+-- the open parts, innermost first, and the whole value
+pub record Work : Type 0 where
+  pub parts : List Part
+  pub whole : Option Tree
+
+abbrev pub no_work : Work
+no_work = record { parts = []; whole = None }
+
+-- a part begins
+abbrev pub begun : Work → Part → Work
+begun w p = record { parts = p ∷ w.parts; whole = w.whole }
+
+-- the innermost open part is changed so
+abbrev pub changed : (Part → Part) → List Part → List Part
+changed f [] = []
+changed f (p ∷ ps) = f p ∷ ps
+
+abbrev pub extended : Work → List ℕ → Work
+extended w s = record { parts = changed (λ p. with_bytes p s) w.parts; whole = w.whole }
+
+abbrev pub numbered : Work → ℕ → Work
+numbered w f = record { parts = changed (λ p. with_number p f) w.parts; whole = w.whole }
+
+abbrev pub put_in : List Part → Option Tree → Tree → Work
+put_in [] whole v = record { parts = []; whole = Some v }
+put_in (p ∷ ps) whole v = record { parts = added p v ∷ ps; whole = whole }
+
+-- a whole part comes into the innermost open one, or is the whole value
+abbrev pub put : Work → Tree → Work
+put w v = put_in w.parts w.whole v
+
+abbrev pub left_in : List Part → Option Tree → Work
+left_in [] whole = record { parts = []; whole = whole }
+left_in (p ∷ ps) whole = put_in ps whole (closed p)
+
+-- the innermost open part ends
+abbrev pub left : Work → Work
+left w = left_in w.parts w.whole
+
+-- what one more telling makes of it; one that may not come there is passed over
+abbrev pub told : Work → Telling → Work
+told w (number k a b) = put w (number_tree k a b)
+told w (raw_start k) = begun w (raw k [])
+told w (raw_more s) = extended w s
+told w (enter k) = begun w (opened k)
+told w (field f) = numbered w f
+told w leave = left w
+
+-- the tellings, one after another
+abbrev pub all_told : Work → List Telling → Work
+all_told w [] = w
+all_told w (t ∷ us) = all_told (told w t) us

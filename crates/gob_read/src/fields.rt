@@ -1,0 +1,76 @@
+//! The deltas of a struct.
+
+ghost use Rattle.std.specs.Prelude.{◌≡◌, ◌<◌, ◌≤◌, IfOk, IfErr, length};
+ghost use Rattle.gob_read.specs.Steps.{CanBeginStruct, BeginsStruct, CanGoOn, GoesOn, LeadsNowhere, CanTake, Takes, Refuses, Blames};
+
+use crate::awaited::{Awaited, Item};
+use crate::builder::Builder;
+use crate::frame::Frame;
+use crate::state::State;
+use crate::stop::Fault;
+use crate::telling::GroupKind;
+use gob_types::{Fields, Kind, Reason, Shapes, TypeId};
+
+impl<B: Builder> State<B> {
+    /// Takes the first delta of a struct of the type, which has these fields.
+    pub(crate) fn take_first_delta(
+        &mut self,
+        id: TypeId,
+        fields: &Fields,
+        n: u64,
+    ) -> Result<bool, Fault>
+        requires { CanBeginStruct B.stands self.old id fields.now n }
+        ensures ok { IfOk result (λ whole. BeginsStruct B.stands self.old self.new id fields.now n whole) }
+        ensures refused { IfErr result (Blames (λ reason. LeadsNowhere fields.now 0 n reason)) }
+    {
+        self.builder.enter(GroupKind::Fields)?;
+        self.stack.open(Frame::Fields { id, next: 0 })?;
+        self.take_field(id, 0, fields, n)
+    }
+
+    /// Takes the delta behind a field of the innermost open struct.
+    pub(crate) fn take_delta<S: Shapes>(&mut self, shapes: &S, n: u64) -> Result<bool, Fault>
+        requires { CanTake (S.table shapes.now) B.stands self.old Item.Delta n }
+        ensures ok { IfOk result (λ whole. Takes (S.table shapes.now) B.stands self.old self.new n whole) }
+        ensures refused { IfErr result (Blames (λ reason. Refuses (S.table shapes.now) B.stands self.old n reason)) }
+    {
+        let Some(frame) = self.stack.innermost() else {
+            unreachable!()
+        };
+        let Frame::Fields { id, next } = frame else {
+            unreachable!()
+        };
+        let Some(shape) = shapes.shape_of(id) else {
+            unreachable!()
+        };
+        let Kind::Struct { fields } = &shape.kind else {
+            unreachable!()
+        };
+        self.take_field(id, next, fields, n)
+    }
+
+    /// Takes a delta of the innermost open struct, which is of this type and has these fields, of which the next
+    /// has the number `next` or a greater one.
+    fn take_field(&mut self, id: TypeId, next: u64, fields: &Fields, n: u64) -> Result<bool, Fault>
+        requires { CanGoOn B.stands self.old id fields.now next n }
+        ensures ok { IfOk result (λ whole. GoesOn B.stands self.old self.new id fields.now next n whole) }
+        ensures refused { IfErr result (Blames (λ reason. LeadsNowhere fields.now next n reason)) }
+    {
+        if n == 0 {
+            self.stack.close();
+            self.builder.leave()?;
+            return Ok(self.after_part()?);
+        }
+        let number = next.saturating_add(n - 1);
+        let Some(field) = fields.get(number) else {
+            return Err(Fault::Refused(Reason::FieldNumber));
+        };
+        self.builder.field(number)?;
+        self.stack.replace(Frame::Fields {
+            id,
+            next: number + 1,
+        });
+        self.awaited = Awaited::Number(Item::Part { id: field.id });
+        Ok(false)
+    }
+}

@@ -1,0 +1,58 @@
+//! The bodies of gob items, read as they come.
+//!
+//! What stands in an item behind its type number is read here, in pieces of any lengths, and told to a builder:
+//!
+//! ```text
+//! 01 2c 01 42 00                the value of an item of type 65, Point { X int, Y int }
+//!
+//! 01        the first delta     enter struct, field 0
+//! 2c        an int's number     number int 44
+//! 01        the next delta      field 1
+//! 42        an int's number     number int 66
+//! 00        the end             leave
+//!
+//! 00 02 67 6f                   a string: the tag, as for each value that is no struct, the count, two raw bytes
+//! ```
+//!
+//! - [`BodyReader`] reads one body. It refuses at the place and for the reason that the grammar gives, in the
+//!   call that brings the last byte that shows it. It keeps a stack of the open parts, and nothing of what is
+//!   only announced.
+//! - A [`Builder`] makes something of what is told: [`TreeBuilder`] the value, [`CheckBuilder`] its [`Counts`].
+//! - [`laws`] has the laws of bodies that readers and writers rely on; [`readers_stay`] and the laws of tellings
+//!   and weights stand beside it.
+#![tactic(auto)]
+
+mod awaited;
+mod builder;
+#[cfg(test)]
+mod builder_tests;
+mod check_builder;
+mod fields;
+mod frame;
+pub mod laws;
+mod laws_builder;
+mod laws_reader;
+mod open;
+mod part;
+mod reader;
+mod run;
+mod stack;
+mod state;
+mod stop;
+mod telling;
+#[cfg(test)]
+mod tests;
+mod tree_builder;
+mod work;
+
+pub use builder::Builder;
+pub use check_builder::{CheckBuilder, Counts};
+pub use laws_builder::{
+    counts_are_the_weight, tellings_are_well_formed, tellings_have_the_weight,
+    tellings_tell_one_value, weights_are_within_spellings,
+};
+pub use laws_reader::readers_stay;
+pub use reader::{BodyReader, Progress};
+pub use stop::Stop;
+pub use telling::{GroupKind, RawKind};
+pub use tree_builder::TreeBuilder;

@@ -1,0 +1,137 @@
+//! The first number of a part, by the kind of its type.
+
+ghost use Rattle.std.specs.Prelude.{◌≡◌, ◌<◌, ◌≤◌, IfOk, IfErr, length};
+ghost use Rattle.gob_types.specs.declared.kind.Kind.TheVariants as kind;
+ghost use Rattle.gob_read.specs.Kinds.{IsScalar, IsRawKind, IsList, IsGroup};
+ghost use Rattle.gob_read.specs.Steps.{CanBegin, Begins, CanTakeFirst, TakesFirst, RefusesFirst, IsNoFirst, Blames};
+
+use crate::awaited::{Awaited, Item};
+use crate::builder::Builder;
+use crate::frame::Frame;
+use crate::state::State;
+use crate::stop::Fault;
+use crate::telling::{GroupKind, RawKind};
+use gob_num::{Memory, to_pattern};
+use gob_types::{Basic, Kind, Reason, Shapes, TypeId};
+
+impl<B: Builder> State<B> {
+    /// Takes the first number of a part of the type, and answers whether the value is whole then.
+    pub(crate) fn take_first<S: Shapes>(
+        &mut self,
+        shapes: &S,
+        id: TypeId,
+        n: u64,
+    ) -> Result<bool, Fault>
+        requires { CanTakeFirst (S.table shapes.now) B.stands self.old id n }
+        ensures ok { IfOk result (λ whole. TakesFirst (S.table shapes.now) B.stands self.old self.new id n whole) }
+        ensures refused { IfErr result (Blames (λ reason. RefusesFirst (S.table shapes.now) B.stands self.old id n reason)) }
+    {
+        let Some(shape) = shapes.shape_of(id) else {
+            unreachable!()
+        };
+        match &shape.kind {
+            Kind::Basic(basic) => self.take_basic(*basic, n),
+            Kind::Opaque(_) => Ok(self.take_length(RawKind::Opaque, n)?),
+            Kind::Struct { fields } => self.take_first_delta(id, fields, n),
+            Kind::Map { key, elem } => {
+                let left = n.saturating_sub(1);
+                let first = Frame::Key {
+                    key: *key,
+                    elem: *elem,
+                    left,
+                };
+                Ok(self.take_count(GroupKind::Pairs, first, n)?)
+            }
+            Kind::Slice { elem } => Ok(self.take_elements(*elem, n)?),
+            Kind::Array { elem, len } => {
+                if n != *len {
+                    return Err(Fault::Refused(Reason::ArrayCount));
+                }
+                Ok(self.take_elements(*elem, n)?)
+            }
+        }
+    }
+
+    /// Takes the first number of a part of a basic type.
+    fn take_basic(&mut self, basic: Basic, n: u64) -> Result<bool, Fault>
+        requires { CanBegin B.stands self.old (λ k. k ≡ kind.Basic basic) n }
+        ensures ok { IfOk result (λ whole. Begins B.stands self.old self.new (λ k. k ≡ kind.Basic basic) n whole) }
+        ensures refused { IfErr result (Blames (λ reason. IsNoFirst (kind.Basic basic) n reason)) }
+    {
+        match basic {
+            Basic::Bool => {
+                if n > 1 {
+                    return Err(Fault::Refused(Reason::Bool));
+                }
+                Ok(self.take_number(basic, n, n)?)
+            }
+            Basic::Int => Ok(self.take_number(basic, n, n)?),
+            Basic::Uint => Ok(self.take_number(basic, n, n)?),
+            Basic::Float => Ok(self.take_number(basic, n, to_pattern(n))?),
+            Basic::Bytes => Ok(self.take_length(RawKind::Bytes, n)?),
+            Basic::Str => Ok(self.take_length(RawKind::Str, n)?),
+            Basic::Complex => {
+                self.awaited = Awaited::Number(Item::Second {
+                    pattern: to_pattern(n),
+                });
+                Ok(false)
+            }
+            Basic::Interface => {
+                if n != 0 {
+                    return Err(Fault::Refused(Reason::InterfaceValue));
+                }
+                Ok(self.take_number(basic, n, n)?)
+            }
+        }
+    }
+
+    /// Takes a part that the number `n` spells, and tells it as `told`.
+    fn take_number(&mut self, basic: Basic, n: u64, told: u64) -> Result<bool, Memory>
+        requires { CanBegin B.stands self.old (λ k. IsScalar k n basic told) n }
+        ensures { IfOk result (λ whole. Begins B.stands self.old self.new (λ k. IsScalar k n basic told) n whole) }
+    {
+        self.builder.number(basic, told, 0)?;
+        self.after_part()
+    }
+
+    /// Takes how many raw bytes the part has.
+    fn take_length(&mut self, kind: RawKind, n: u64) -> Result<bool, Memory>
+        requires { CanBegin B.stands self.old (λ k. IsRawKind k kind) n }
+        ensures { IfOk result (λ whole. Begins B.stands self.old self.new (λ k. IsRawKind k kind) n whole) }
+    {
+        self.builder.raw_start(kind)?;
+        if n == 0 {
+            self.builder.leave()?;
+            return self.after_part();
+        }
+        self.awaited = Awaited::Raw { left: n };
+        Ok(false)
+    }
+
+    /// Takes how many elements a list has.
+    fn take_elements(&mut self, elem: TypeId, n: u64) -> Result<bool, Memory>
+        requires { CanBegin B.stands self.old (λ k. IsList k n elem) n }
+        ensures { IfOk result (λ whole. Begins B.stands self.old self.new (λ k. IsList k n elem) n whole) }
+    {
+        let first = Frame::Many {
+            elem,
+            left: n.saturating_sub(1),
+        };
+        self.take_count(GroupKind::Many, first, n)
+    }
+
+    /// Takes how many elements or pairs a part has. `first` is open while the first of them is read.
+    fn take_count(&mut self, group: GroupKind, first: Frame, n: u64) -> Result<bool, Memory>
+        requires { CanBegin B.stands self.old (λ k. IsGroup k n group first) n }
+        ensures { IfOk result (λ whole. Begins B.stands self.old self.new (λ k. IsGroup k n group first) n whole) }
+    {
+        self.builder.enter(group)?;
+        if n == 0 {
+            self.builder.leave()?;
+            return self.after_part();
+        }
+        self.stack.open(first)?;
+        self.awaited = Awaited::Number(first.item());
+        Ok(false)
+    }
+}

@@ -1,0 +1,97 @@
+//! The reader of a body.
+
+ghost use Rattle.std.specs.Prelude.{◌≡◌, ℕ, [], IfOk, IfErr, OnErr, Err, None, List, min};
+ghost use Rattle.gob_types.specs.declared.id.TypeId.{TypeId};
+ghost use Rattle.gob_types.specs.Table.{Table};
+ghost use Rattle.gob_types.specs.Ready.{IsReady};
+ghost use Rattle.gob_read.specs.Running.{StopsFor};
+ghost use Rattle.gob_read.specs.Reader.{Stands, IsUsable, Gives, RefusesBody, IsHeld};
+
+use crate::builder::Builder;
+use crate::run::Run;
+use crate::state::State;
+use crate::stop::Stop;
+use gob_num::Memory;
+use gob_types::{Shapes, TypeId};
+use std::alloc::Global;
+
+/// How far a push came.
+#[derive(Drop)]
+pub enum Progress<O: Drop> {
+    /// The whole piece was taken, and the body goes on behind it.
+    More,
+    /// The value is whole, and the announced length ends with it.
+    Done {
+        /// What the builder made of the value.
+        out: O,
+        /// How many bytes of the piece were taken.
+        used: usize,
+    },
+}
+
+/// A reader of one body, from behind its type number on, in pieces of any lengths.
+#[derive(Drop)]
+pub struct BodyReader<B: Builder> {
+    run: Option<Run<B>>,
+}
+
+impl<B: Builder> BodyReader<B> {
+    /// A reader of a value of the type. `length` bytes are announced for it and its tag, and none of its parts may
+    /// be deeper than `depth`, or than the builder takes.
+    pub fn new(alloc: Global, id: TypeId, length: u64, depth: u64) -> Result<BodyReader<B>, Memory>
+        ensures { IfOk result (λ reader. (T : Table) → IsReady T id → Stands T id (min depth B.DEPTH) length B.stands reader.run []) }
+    {
+        let run = Run::new(alloc, id, length, depth.min(B::DEPTH))?;
+        Ok(BodyReader { run: Some(run) })
+    }
+
+    /// Reads the next piece. `Memory` and refusals end the reader, as the end of the body does; a refusal comes in
+    /// the call that brings the last of the bytes that show it.
+    pub fn push<S: Shapes>(
+        &mut self,
+        _alloc: Global,
+        shapes: &S,
+        piece: &[u8],
+    ) -> Result<Progress<B::Out>, Stop>
+        requires { IsUsable (S.table shapes.now) B.stands self.old.run }
+        ensures given { IfOk result (λ progress. (t : TypeId) (limit announced : ℕ) (z : List ℕ) → Stands (S.table shapes.now) t limit announced B.stands self.old.run z
+            → Gives (S.table shapes.now) t limit announced B.stands B.means self.new.run z piece.now progress) }
+        ensures refused { IfErr result (StopsFor (λ refusal. RefusesBody (S.table shapes.now) B.stands self.old.run piece.now refusal)) }
+        ensures failed { self.old.run ≡ None → result ≡ Err Stop.Failed }
+        ensures ended { OnErr result (self.new.run ≡ None) }
+    {
+        let Some(mut run) = self.run.take() else {
+            return Err(Stop::Failed);
+        };
+        run.state.begin(shapes);
+        let room = run.length - run.taken;
+        let count = room.min(piece.len() as u64) as usize;
+        match run.advance(shapes, &piece[..count]) {
+            Ok(None) => {
+                self.run = Some(run);
+                Ok(Progress::More)
+            }
+            Ok(Some(used)) => {
+                let Run { state, .. } = run;
+                let State { builder, .. } = state;
+                Ok(Progress::Done {
+                    out: builder.take(),
+                    used,
+                })
+            }
+            Err(stop) => Err(stop),
+        }
+    }
+
+    /// How much is held of the value: each part from its first byte on, and the raw bytes that the builder stores.
+    /// It is at most the number of bytes taken, and 0 once the reader has ended.
+    pub fn held(&self) -> u64
+        ensures held { (T : Table) (t : TypeId) (limit announced : ℕ) (z : List ℕ) → Stands T t limit announced B.stands self.now.run z → IsHeld T t B.held_of z result }
+        ensures ended { self.now.run ≡ None → result ≡ 0 }
+    {
+        match &self.run {
+            Some(run) => run.held(),
+            None => 0,
+        }
+    }
+}

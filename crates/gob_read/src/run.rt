@@ -1,0 +1,320 @@
+//! A reader under way.
+
+ghost use Rattle.std.specs.Prelude.{◌≡◌, ℕ, ◌+◌, ◌<◌, ◌≤◌, List, [], ◌∷◌, OnOk, IfOk, IfErr, IfNone, IfSome, length, take};
+ghost use Rattle.gob_num.specs.Unsigned.{IsUnsigned};
+ghost use Rattle.gob_types.specs.declared.id.TypeId.{TypeId};
+ghost use Rattle.gob_types.specs.Table.{Table};
+ghost use Rattle.gob_types.specs.Ready.{IsReady};
+ghost use Rattle.gob_read.specs.Steps.{CanTake};
+ghost use Rattle.gob_read.specs.Running.{IsReachedSomewhere, IsOpenSomewhere, TakesMore, Steps, StopsFor, Opens as MayGoOn};
+ghost use Rattle.gob_read.specs.Running.{TakesNumber, RefusesNumber, RefusesAt, JudgesFor, EndsFor, GoesOn, Finishes, RefusesPiece};
+ghost use Rattle.gob_read.specs.Running.{IsNew, IsOpenIn, depth_of};
+ghost use Rattle.gob_read.specs.Reader.{HasTaken, IsHeld, begun_parts};
+
+use crate::awaited::{Awaited, Item};
+use crate::builder::Builder;
+use crate::stack::Opens;
+use crate::state::State;
+use crate::stop::{Fault, Stop};
+use gob_num::{Memory, Number, Step, Taken, take_uint};
+use gob_types::{Reason, Shapes, TypeId};
+use std::alloc::Global;
+
+/// A reader that has not ended. Offsets count from the first byte that it was given.
+#[derive(Drop)]
+pub(crate) struct Run<B: Builder> {
+    /// What it knows between two items.
+    pub(crate) state: State<B>,
+    /// The awaited number, as far as its bytes came.
+    pub(crate) number: Number,
+    /// The offset of the awaited item's first byte.
+    pub(crate) start: u64,
+    /// How many bytes were taken.
+    pub(crate) taken: u64,
+    /// How many bytes are announced.
+    pub(crate) length: u64,
+    /// The greatest depth of a part.
+    pub(crate) depth: u64,
+}
+
+/// What became of the front of a piece.
+#[derive(Clone, Copy, Debug, PartialEq, Eq)]
+pub(crate) struct Stepped {
+    /// How many bytes were taken.
+    pub(crate) used: usize,
+    /// Whether the value is whole with them.
+    pub(crate) whole: bool,
+}
+
+impl<B: Builder> Run<B> {
+    /// A reader of a value of the type that has taken nothing.
+    pub(crate) fn new(alloc: Global, id: TypeId, length: u64, depth: u64) -> Result<Run<B>, Memory>
+        ensures new { IfOk result (λ run. (T : Table) → IsReady T id → IsNew T id B.stands run) }
+        ensures length { IfOk result (λ run. run.length ≡ length) }
+        ensures depth { IfOk result (λ run. run.depth ≡ depth) }
+    {
+        let builder = B::fresh(alloc)?;
+        Ok(Run {
+            state: State {
+                builder,
+                stack: Opens::new(alloc),
+                awaited: Awaited::Top { id },
+            },
+            number: Number::new(),
+            start: 0,
+            taken: 0,
+            length,
+            depth,
+        })
+    }
+
+    /// Reads on, and answers how much of the piece was taken where the value is whole, and the body with it.
+    pub(crate) fn advance<S: Shapes>(
+        &mut self,
+        shapes: &S,
+        piece: &[u8],
+    ) -> Result<Option<usize>, Stop>
+        requires stands { IsReachedSomewhere (S.table shapes.now) B.stands self.old }
+        requires room { self.old.taken + length piece.now ≤ self.old.length }
+        ensures more { IfOk result (λ done. IfNone done (GoesOn (S.table shapes.now) B.stands self.old self.new piece.now)) }
+        ensures done { IfOk result (λ done. IfSome done (λ used. Finishes (S.table shapes.now) B.stands self.old self.new piece.now used)) }
+        ensures refused { IfErr result (StopsFor (λ refusal. RefusesPiece (S.table shapes.now) B.stands self.old piece.now refusal)) }
+        ensures length_kept { OnOk result (self.new.length ≡ self.old.length) }
+        ensures depth_kept { OnOk result (self.new.depth ≡ self.old.depth) }
+    {
+        if let Err(stop) = self.judge() {
+            return Err(stop);
+        }
+        let mut used = 0;
+        'items: for _ in 0..piece.len() {
+            if used == piece.len() {
+                return Ok(None);
+            }
+            match self.step(shapes, &piece[used..]) {
+                Ok(stepped) => {
+                    used += stepped.used;
+                    if stepped.whole {
+                        return match self.finish() {
+                            Ok(()) => Ok(Some(used)),
+                            Err(stop) => Err(stop),
+                        };
+                    }
+                }
+                Err(stop) => return Err(stop),
+            }
+            if let Err(stop) = self.judge() {
+                return Err(stop);
+            }
+        }
+        Ok(None)
+    }
+
+    /// The parts that have begun, and the raw bytes that are stored.
+    pub(crate) fn held(&self) -> u64
+        ensures { (T : Table) (t : TypeId) (z : List ℕ) → HasTaken T t B.stands self.now z → IsHeld T t B.held_of z result }
+    {
+        let _taken = self.taken;
+        self.state.builder.held().saturating_add(self.begun())
+    }
+
+    /// The parts that have begun, and that the builder isn't told of yet.
+    fn begun(&self) -> u64
+        ensures { (r : List ℕ) → self.now.taken ≡ self.now.start + length r → result ≡ begun_parts self.now.state.awaited r }
+    {
+        match self.state.awaited {
+            Awaited::Top { id: _ } => 0,
+            Awaited::Number(Item::Tag { id: _ }) => 0,
+            Awaited::Number(Item::Part { id: _ }) => u64::from(self.start < self.taken),
+            Awaited::Number(Item::Second { pattern: _ }) => 1,
+            Awaited::Number(Item::Delta) => 0,
+            Awaited::Raw { left: _ } => 0,
+        }
+    }
+
+    /// Stops at a part that is too deep, and at the end of the body.
+    fn judge(&self) -> Result<(), Stop>
+        requires { self.now.taken ≤ self.now.length }
+        ensures ok { OnOk result ((T : Table) → MayGoOn T B.stands self.now) }
+        ensures refused { IfErr result (StopsFor (λ refusal. (T : Table) → JudgesFor T B.stands self.now refusal)) }
+    {
+        if self.depth_now() > self.depth {
+            return Err(self.refuse(self.taken, Reason::TooDeep));
+        }
+        if self.taken == self.length {
+            return Err(self.refuse(self.taken, Reason::Short));
+        }
+        Ok(())
+    }
+
+    /// Stops where the body goes on behind the value.
+    fn finish(&self) -> Result<(), Stop>
+        requires { self.now.taken ≤ self.now.length }
+        ensures ok { OnOk result (self.now.taken ≡ self.now.length) }
+        ensures refused { IfErr result (StopsFor (λ refusal. EndsFor B.stands self.now refusal)) }
+    {
+        if self.taken < self.length {
+            return Err(self.refuse(self.taken, Reason::Extra));
+        }
+        Ok(())
+    }
+
+    /// The refusal that the bytes so far show.
+    fn refuse(&self, place: u64, reason: Reason) -> Stop
+        ensures { result ≡ Stop.Refused place self.now.taken reason }
+    {
+        Stop::Refused {
+            place,
+            seen: self.taken,
+            reason,
+        }
+    }
+
+    /// The depth of the part that the awaited item is in.
+    fn depth_now(&self) -> u64
+        ensures { result ≡ depth_of self.now.state.awaited self.now.state.stack }
+    {
+        let opens = self.state.stack.depth();
+        match self.state.awaited {
+            Awaited::Top { id: _ } => 0,
+            Awaited::Number(Item::Tag { id: _ }) => 0,
+            Awaited::Number(Item::Delta) => opens,
+            Awaited::Number(Item::Part { id: _ }) => opens + 1,
+            Awaited::Number(Item::Second { pattern: _ }) => opens + 1,
+            Awaited::Raw { left: _ } => opens + 1,
+        }
+    }
+
+    /// Takes the next item, or as much of it as there is.
+    fn step<S: Shapes>(&mut self, shapes: &S, rest: &[u8]) -> Result<Stepped, Stop>
+        requires stands { IsOpenSomewhere (S.table shapes.now) B.stands self.old }
+        requires some { 0 < length rest.now }
+        requires room { self.old.taken + length rest.now ≤ self.old.length }
+        ensures used { IfOk result (λ stepped. (0 < stepped.used) × (stepped.used ≤ length rest.now)) }
+        ensures more { IfOk result (λ stepped. TakesMore self.old self.new stepped.used) }
+        ensures ok { IfOk result (λ stepped. Steps (S.table shapes.now) B.stands self.old self.new (take stepped.used rest.now) stepped.whole) }
+        ensures refused { IfErr result (StopsFor (λ refusal. RefusesAt (S.table shapes.now) B.stands self.old rest.now refusal)) }
+    {
+        match self.state.awaited {
+            Awaited::Top { id: _ } => unreachable!(),
+            Awaited::Number(item) => self.step_number(shapes, item, rest),
+            Awaited::Raw { left } => Ok(self.step_raw(left, rest)?),
+        }
+    }
+
+    /// Takes the awaited number, or the next byte of it.
+    fn step_number<S: Shapes>(
+        &mut self,
+        shapes: &S,
+        item: Item,
+        rest: &[u8],
+    ) -> Result<Stepped, Stop>
+        requires awaited { self.old.state.awaited ≡ Awaited.Number item }
+        requires stands { IsOpenSomewhere (S.table shapes.now) B.stands self.old }
+        requires some { 0 < length rest.now }
+        requires room { self.old.taken + length rest.now ≤ self.old.length }
+        ensures used { IfOk result (λ stepped. (0 < stepped.used) × (stepped.used ≤ length rest.now)) }
+        ensures more { IfOk result (λ stepped. TakesMore self.old self.new stepped.used) }
+        ensures ok { IfOk result (λ stepped. Steps (S.table shapes.now) B.stands self.old self.new (take stepped.used rest.now) stepped.whole) }
+        ensures refused { IfErr result (StopsFor (λ refusal. RefusesAt (S.table shapes.now) B.stands self.old rest.now refusal)) }
+    {
+        if self.start == self.taken {
+            if let Taken::Whole { number, used } = take_uint(rest) {
+                return match self.take_whole(shapes, item, number, &rest[..used]) {
+                    Ok(whole) => Ok(Stepped { used, whole }),
+                    Err(stop) => Err(stop),
+                };
+            }
+        }
+        match self.take_byte(shapes, item, rest[0]) {
+            Ok(whole) => Ok(Stepped { used: 1, whole }),
+            Err(stop) => Err(stop),
+        }
+    }
+
+    /// Takes as many of the awaited raw bytes as there are.
+    fn step_raw(&mut self, left: u64, rest: &[u8]) -> Result<Stepped, Memory>
+        requires awaited { self.old.state.awaited ≡ Awaited.Raw left }
+        requires stands { IsOpenIn B.stands self.old }
+        requires some { 0 < length rest.now }
+        requires room { self.old.taken + length rest.now ≤ self.old.length }
+        ensures used { IfOk result (λ stepped. (0 < stepped.used) × (stepped.used ≤ length rest.now)) }
+        ensures more { IfOk result (λ stepped. TakesMore self.old self.new stepped.used) }
+        ensures ok { IfOk result (λ stepped. (T : Table) → Steps T B.stands self.old self.new (take stepped.used rest.now) stepped.whole) }
+    {
+        let used = left.min(rest.len() as u64) as usize;
+        let whole = self.take_chunk(left, &rest[..used])?;
+        Ok(Stepped { used, whole })
+    }
+
+    /// Takes raw bytes, and answers whether the value is whole then.
+    fn take_chunk(&mut self, left: u64, bytes: &[u8]) -> Result<bool, Memory>
+        requires awaited { self.old.state.awaited ≡ Awaited.Raw left }
+        requires stands { IsOpenIn B.stands self.old }
+        requires few { length bytes.now ≤ left }
+        requires room { self.old.taken + length bytes.now ≤ self.old.length }
+        ensures more { OnOk result (TakesMore self.old self.new (length bytes.now)) }
+        ensures ok { IfOk result (λ whole. (T : Table) → Steps T B.stands self.old self.new bytes.now whole) }
+    {
+        let whole = self.state.take_raw(left, bytes)?;
+        self.taken += bytes.len() as u64;
+        if bytes.len() as u64 == left {
+            self.start = self.taken;
+        }
+        Ok(whole)
+    }
+
+    /// Takes a whole number that stands in the piece, and answers whether the value is whole then.
+    fn take_whole<S: Shapes>(
+        &mut self,
+        shapes: &S,
+        item: Item,
+        n: u64,
+        front: &[u8],
+    ) -> Result<bool, Stop>
+        requires awaited { self.old.state.awaited ≡ Awaited.Number item }
+        requires stands { IsOpenSomewhere (S.table shapes.now) B.stands self.old }
+        requires fresh { self.old.start ≡ self.old.taken }
+        requires spelled { IsUnsigned n front.now }
+        requires room { self.old.taken + length front.now ≤ self.old.length }
+        ensures more { OnOk result (TakesMore self.old self.new (length front.now)) }
+        ensures ok { IfOk result (λ whole. Steps (S.table shapes.now) B.stands self.old self.new front.now whole) }
+        ensures refused { IfErr result (StopsFor (λ refusal. RefusesAt (S.table shapes.now) B.stands self.old front.now refusal)) }
+    {
+        self.taken += front.len() as u64;
+        self.take(shapes, item, n)
+    }
+
+    /// Takes the next byte of a number, and answers whether the value is whole then.
+    fn take_byte<S: Shapes>(&mut self, shapes: &S, item: Item, b: u8) -> Result<bool, Stop>
+        requires awaited { self.old.state.awaited ≡ Awaited.Number item }
+        requires stands { IsOpenSomewhere (S.table shapes.now) B.stands self.old }
+        requires room { self.old.taken + 1 ≤ self.old.length }
+        ensures more { OnOk result (TakesMore self.old self.new 1) }
+        ensures ok { IfOk result (λ whole. Steps (S.table shapes.now) B.stands self.old self.new (b ∷ []) whole) }
+        ensures refused { IfErr result (StopsFor (λ refusal. RefusesAt (S.table shapes.now) B.stands self.old (b ∷ []) refusal)) }
+    {
+        self.taken += 1;
+        match self.number.push(b) {
+            Step::More => Ok(false),
+            Step::BadHead => Err(self.refuse(self.start, Reason::BadHead)),
+            Step::NotMinimal => Err(self.refuse(self.start, Reason::NotMinimal)),
+            Step::Done(n) => self.take(shapes, item, n),
+        }
+    }
+
+    /// Takes the awaited number, whose last byte was taken, and answers whether the value is whole then.
+    fn take<S: Shapes>(&mut self, shapes: &S, item: Item, n: u64) -> Result<bool, Stop>
+        requires { CanTake (S.table shapes.now) B.stands self.old.state item n }
+        ensures ok { IfOk result (λ whole. TakesNumber (S.table shapes.now) B.stands self.old self.new n whole) }
+        ensures refused { IfErr result (StopsFor (λ refusal. RefusesNumber (S.table shapes.now) B.stands self.old n refusal)) }
+    {
+        match self.state.take(shapes, item, n) {
+            Ok(whole) => {
+                self.start = self.taken;
+                Ok(whole)
+            }
+            Err(Fault::Memory) => Err(Stop::Memory),
+            Err(Fault::Refused(reason)) => Err(self.refuse(self.start, reason)),
+        }
+    }
+}

@@ -1,0 +1,124 @@
+//! A reader between two items.
+
+ghost use Rattle.std.specs.Prelude.{◌≡◌, ◌-◌, ◌<◌, ◌≤◌, ◌↔◌, IfOk, IfErr, IsTrue, length};
+ghost use Rattle.gob_read.specs.Steps.{CanEnd, Ends, CanTake, Takes, Refuses, CanTakeRaw, TakesRaw, Blames};
+ghost use Rattle.gob_read.specs.Steps.{CanTakeTag, IsWrongTag, CanTakeSecond, TakesHere};
+ghost use Rattle.gob_read.specs.Kinds.{IsStructType, BeginsAs};
+
+use crate::awaited::{Awaited, Item};
+use crate::builder::Builder;
+use crate::stack::Opens;
+use crate::stop::Fault;
+use gob_num::{Memory, to_pattern};
+use gob_types::{Basic, Kind, Reason, Shapes, TypeId};
+
+/// What a reader knows between two items: what is made of the parts so far, which parts are open, and what is
+/// awaited. After a fault it is of no more use.
+#[derive(Drop)]
+pub(crate) struct State<B: Builder> {
+    /// What was told of each part so far.
+    pub(crate) builder: B,
+    /// The open parts.
+    pub(crate) stack: Opens,
+    /// What comes next.
+    pub(crate) awaited: Awaited,
+}
+
+impl<B: Builder> State<B> {
+    /// Before the first byte: finds what a body of the type begins with.
+    pub(crate) fn begin<S: Shapes>(&mut self, shapes: &S)
+        ensures begun { BeginsAs (S.table shapes.now) self.old.awaited self.new.awaited }
+        ensures builder { self.new.builder ≡ self.old.builder }
+        ensures stack { self.new.stack ≡ self.old.stack }
+    {
+        let Awaited::Top { id } = self.awaited else {
+            return;
+        };
+        let item = if is_struct(shapes, id) {
+            Item::Part { id }
+        } else {
+            Item::Tag { id }
+        };
+        self.awaited = Awaited::Number(item);
+    }
+
+    /// After a whole part: goes on to what is awaited behind it, or answers true where it was the outermost one.
+    pub(crate) fn after_part(&mut self) -> Result<bool, Memory>
+        requires { CanEnd B.stands self.old }
+        ensures { IfOk result (λ whole. Ends B.stands self.old self.new whole) }
+    {
+        'opens: loop {
+            let Some(frame) = self.stack.innermost() else {
+                return Ok(true);
+            };
+            if let Some(next) = frame.next() {
+                self.stack.replace(next);
+                self.awaited = Awaited::Number(next.item());
+                return Ok(false);
+            }
+            self.stack.close();
+            self.builder.leave()?;
+        }
+    }
+
+    /// Takes the awaited number, and answers whether the value is whole then.
+    pub(crate) fn take<S: Shapes>(&mut self, shapes: &S, item: Item, n: u64) -> Result<bool, Fault>
+        requires { CanTake (S.table shapes.now) B.stands self.old item n }
+        ensures ok { IfOk result (λ whole. Takes (S.table shapes.now) B.stands self.old self.new n whole) }
+        ensures refused { IfErr result (Blames (λ reason. Refuses (S.table shapes.now) B.stands self.old n reason)) }
+    {
+        match item {
+            Item::Tag { id } => self.take_tag(id, n),
+            Item::Part { id } => self.take_first(shapes, id, n),
+            Item::Second { pattern } => Ok(self.take_second(pattern, n)?),
+            Item::Delta => self.take_delta(shapes, n),
+        }
+    }
+
+    /// Takes the tag before the body's value, which is of this type.
+    fn take_tag(&mut self, id: TypeId, n: u64) -> Result<bool, Fault>
+        requires { CanTakeTag B.stands self.old id n }
+        ensures ok { IfOk result (λ whole. TakesHere B.stands self.old self.new n whole) }
+        ensures refused { IfErr result (Blames (λ reason. IsWrongTag n reason)) }
+    {
+        if n != 0 {
+            return Err(Fault::Refused(Reason::SingleTag));
+        }
+        self.awaited = Awaited::Number(Item::Part { id });
+        Ok(false)
+    }
+
+    /// Takes the imaginary part of a complex number, behind the pattern of its real part.
+    fn take_second(&mut self, pattern: u64, n: u64) -> Result<bool, Memory>
+        requires { CanTakeSecond B.stands self.old pattern n }
+        ensures { IfOk result (λ whole. TakesHere B.stands self.old self.new n whole) }
+    {
+        self.builder.number(Basic::Complex, pattern, to_pattern(n))?;
+        self.after_part()
+    }
+
+    /// Takes raw bytes of the part that is read, and answers whether the value is whole then.
+    pub(crate) fn take_raw(&mut self, left: u64, bytes: &[u8]) -> Result<bool, Memory>
+        requires { CanTakeRaw B.stands self.old left bytes.now }
+        ensures { IfOk result (λ whole. TakesRaw B.stands self.old self.new left bytes.now whole) }
+    {
+        self.builder.raw_more(bytes)?;
+        let rest = left - bytes.len() as u64;
+        if rest == 0 {
+            self.builder.leave()?;
+            return self.after_part();
+        }
+        self.awaited = Awaited::Raw { left: rest };
+        Ok(false)
+    }
+}
+
+/// Whether values of the type are structs, which stand behind no tag.
+pub(crate) fn is_struct<S: Shapes>(shapes: &S, id: TypeId) -> bool
+    ensures { IsTrue result ↔ IsStructType (S.table shapes.now) id }
+{
+    match shapes.shape_of(id) {
+        Some(shape) => matches!(shape.kind, Kind::Struct { fields: _ }),
+        None => false,
+    }
+}

@@ -1,0 +1,114 @@
+//! Building the tree of a value.
+
+ghost use Rattle.std.specs.Prelude.{◌≡◌, ◌+◌, ◌^◌, ◌<◌};
+ghost use Rattle.gob_value.specs.View.{view};
+ghost use Rattle.gob_read.specs.Built.{number_tree};
+
+use crate::builder::Builder;
+use crate::open::Open;
+use crate::telling::{GroupKind, RawKind};
+use crate::work::Work;
+use gob_num::{Memory, to_signed};
+use gob_types::Basic;
+use gob_value::Value;
+use std::alloc::Global;
+
+/// A [`Builder`] that makes a [`Value`]. It keeps the open parts on a stack of its own, so that a deep value
+/// takes no more of the machine's stack than a flat one.
+#[derive(Drop)]
+pub struct TreeBuilder {
+    alloc: Global,
+    work: Work,
+    held: u64,
+}
+
+/// The value of a part of a basic type, by its numbers.
+fn basic_value(kind: Basic, first: u64, second: u64) -> Value
+    ensures { view result ≡ number_tree kind first second }
+{
+    match kind {
+        Basic::Bool => Value::Bool(first == 1),
+        Basic::Int => Value::Int(to_signed(first)),
+        Basic::Uint => Value::Uint(first),
+        Basic::Float => Value::Float(first),
+        Basic::Complex => Value::Complex(first, second),
+        Basic::Bytes | Basic::Str | Basic::Interface => Value::Nil,
+    }
+}
+
+#[tactic(auto, using(crate::proofs::CountLaws::counting))]
+impl Builder for TreeBuilder {
+    type Out = Value;
+
+    ghost use Rattle.std.specs.Prelude.{◌≡◌, ◌+◌};
+    ghost use Rattle.gob_value.specs.View.{view};
+    ghost use Rattle.gob_read.specs.Stack.{work_of};
+    ghost use Rattle.gob_read.specs.Standing.{AreBuilt};
+    ghost use Rattle.gob_read.specs.Weight.{parts_told, raw_told};
+    ghost use Rattle.std.proofs.Math.Nat.{le_refl, le-add_right};
+
+    ghost DEPTH = { 1000 };
+
+    const DEPTH: u64 = 1000;
+
+    ghost stands = { λ builder us. AreBuilt (work_of builder.work) builder.held us };
+
+    ghost means = { λ value v. view value ≡ v };
+
+    ghost held_of = { λ us. parts_told us + raw_told us };
+
+    fn fresh(alloc: Global) -> Result<Self, Memory> {
+        Ok(TreeBuilder {
+            alloc,
+            work: Work::new(alloc),
+            held: 0,
+        })
+    }
+
+    fn number(&mut self, kind: Basic, first: u64, second: u64) -> Result<(), Memory> {
+        self.held += 1;
+        self.work.put(basic_value(kind, first, second))?;
+        Ok(())
+    }
+
+    fn raw_start(&mut self, kind: RawKind) -> Result<(), Memory> {
+        self.held += 1;
+        self.work.begin(Open::Raw(kind, Vec::new(self.alloc)))?;
+        Ok(())
+    }
+
+    fn raw_more(&mut self, bytes: &[u8]) -> Result<(), Memory> {
+        self.held += bytes.len() as u64;
+        self.work.add_bytes(bytes)?;
+        Ok(())
+    }
+
+    fn enter(&mut self, kind: GroupKind) -> Result<(), Memory> {
+        self.held += 1;
+        self.work.begin(Open::group(self.alloc, kind))?;
+        Ok(())
+    }
+
+    fn field(&mut self, number: u64) -> Result<(), Memory> {
+        self.work.name(number);
+        Ok(())
+    }
+
+    fn leave(&mut self) -> Result<(), Memory> {
+        self.work.leave()?;
+        Ok(())
+    }
+
+    fn held(&self) -> u64 {
+        self.held
+    }
+
+    fn take(self) -> Value {
+        self.work.into_value()
+    }
+
+    ghost between = { λ us. record {
+      parts = le-add_right (parts_told us) (raw_told us);
+      all = le_refl (parts_told us + raw_told us);
+    } };
+}
