@@ -1,8 +1,7 @@
 -- The description that is made of a shape has no field that its tidy form would drop.
-use Rattle.std.proofs.Common.{◌≡◌, ◌≢◌, ℕ, zero, suc, pos, ◌+◌, ◌<◌, ◌≤◌, Bool, true, false, List, [], ◌∷◌, Some, inl, inr, arith, refl, sym, ap, ◌∙◌, subst, eqb}
+use Rattle.std.proofs.Common.{◌≡◌, ℕ, suc, pos, ◌<◌, Bool, true, false, List, [], ◌∷◌, Some, inl, inr, arith, refl, eqb}
 use Rattle.std.specs.Prelude.{slice_get, codes}
 use Rattle.std.proofs.lemmas.Bool.{eqb-false}
-use Rattle.gob_types.specs.declared.basic.Basic.{Basic}
 use Rattle.gob_types.specs.declared.basic.Basic.TheVariants as basic
 use Rattle.gob_types.specs.declared.id.TypeId.{TypeId}
 use Rattle.gob_types.specs.declared.kind.Field.{Field}
@@ -18,7 +17,7 @@ use Rattle.gob_value.specs.Tree.{Tree, Trees, no_tree, tree, Fields, no_field, f
 use Rattle.gob_value.specs.Tree as Value
 use Rattle.gob_value.specs.Tidy.{IsDropped, zero_basic, Tidies, of_type, TidiesAs, of_basic, of_slice, of_struct, TidiesEach, no_element, element, TidiesFields, no_more, kept}
 use Rattle.gob_value.specs.Tidy as tidy
-use Rattle.gob_value.specs.Described.{described, described_kind, name_and_id, field_types, field_list, array_length, wire_type_of, id_number}
+use Rattle.gob_value.specs.Described.{described, described_kind, name_and_id, field_types, field_list, array_length, wire_type_of}
 
 -- the fields of CommonType and of fieldType
 abbrev name_and_id_fields : List Field
@@ -72,7 +71,7 @@ length_tidy n = by (eqb n 0) refl
   where
     by : (b : Bool) → eqb n 0 ≡ b → TidiesFields base_table array_type (array_length n) (array_length n)
     by true e = rw e no_more
-    by false e = rw e (kept refl refl (number_kept (omega (arith, eqb-false n 0 e))) int_tidy no_more)
+    by false e = rw e (kept refl refl (number_kept {n = n} (omega (arith, eqb-false n 0 e))) int_tidy no_more)
 
 in_wire_type : {f : ℕ} {g : Field} {name : List ℕ} {types : List Field} {fs : Fields} → slice_get wire_type_fields f ≡ Some g → shape_of base_table g.id ≡ Some (record { name = name; kind = kind.Struct types })
     → TidiesFields base_table types fs fs → Tidies base_table wire_type (wire_type_of f fs) (wire_type_of f fs)
@@ -88,13 +87,13 @@ described_tidy t s d l = by s.kind d.length d.references
     by (kind.Basic b) h each = absurd h
     by (kind.Array e n) h each =
         let first : IsReference e = each e refl in
-        in_wire_type refl refl (with_name s.name t l refl (kept refl refl (number_kept (omega (arith, first.0))) int_tidy (length_tidy n)))
+        in_wire_type refl refl (with_name s.name t l refl (kept refl refl (number_kept {n = e.0} (omega (arith, first.0))) int_tidy (length_tidy n)))
     by (kind.Slice e) h each =
         let first : IsReference e = each e refl in
-        in_wire_type refl refl (with_name s.name t l refl (kept refl refl (number_kept (omega (arith, first.0))) int_tidy no_more))
+        in_wire_type refl refl (with_name s.name t l refl (kept refl refl (number_kept {n = e.0} (omega (arith, first.0))) int_tidy no_more))
     by (kind.Struct fs) h each = in_wire_type refl refl (with_name s.name t l refl (fields_tidy fs each))
     by (kind.Map k e) h each =
         let first : IsReference k = each k (inl refl) in
         let second : IsReference e = each e (inr refl) in
-        in_wire_type refl refl (with_name s.name t l refl (kept refl refl (number_kept (omega (arith, first.0))) int_tidy (kept refl refl (number_kept (omega (arith, second.0))) int_tidy no_more)))
+        in_wire_type refl refl (with_name s.name t l refl (kept refl refl (number_kept {n = k.0} (omega (arith, first.0))) int_tidy (kept refl refl (number_kept {n = e.0} (omega (arith, second.0))) int_tidy no_more)))
     by (kind.Opaque m) h each = in_wire_type refl refl (with_name s.name t l refl no_more)

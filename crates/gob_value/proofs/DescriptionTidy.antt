@@ -1,5 +1,5 @@
 -- A description and its tidy form say the same.
-use Rattle.std.proofs.Common.{◌≡◌, ◌≢◌, ℕ, zero, suc, ℤ, ◌+◌, ◌<◌, ◌≤◌, inl, inr, List, [], ◌∷◌, Option, Some, None, arith, refl, sym, ap, ◌∙◌, subst}
+use Rattle.std.proofs.Common.{◌≡◌, ℕ, zero, suc, ◌<◌, inl, inr, List, [], ◌∷◌, Option, Some, None, arith, refl, sym, ap, ◌∙◌, subst}
 use Rattle.std.specs.Prelude.{slice_get, codes}
 use Rattle.std.proofs.lemmas.Bool.{cases_eq, eq-eqb, ne_eqb}
 use Rattle.gob_num.specs.Unsigned.{short}
@@ -16,13 +16,12 @@ use Rattle.gob_types.specs.Table.{Table, shape_of}
 use Rattle.gob_types.proofs.GrowthLaws.{some_injective}
 use Rattle.gob_value.specs.Tree.{Tree, Trees, no_tree, tree, Fields, no_field, field}
 use Rattle.gob_value.specs.Tree as Value
-use Rattle.gob_value.specs.Top.{IsStruct}
 use Rattle.gob_value.specs.Spelling.{Spells}
 use Rattle.gob_value.specs.Written.{Written, of_many, of_fields, WrittenEach, WrittenFields, end_of_fields, next_field}
 use Rattle.gob_value.specs.Written as written
 use Rattle.gob_value.specs.Tidy.{IsDropped, zero_basic, empty_slice, Tidies, of_type, TidiesAs, of_basic, of_slice, of_struct, TidiesEach, no_element, element, TidiesFields, no_more, dropped, kept}
 use Rattle.gob_value.specs.Tidy as tidy
-use Rattle.gob_value.specs.Description.{present, number_in, name_in, fields_in, elements_in, SaidField, SaidKind, said_array, said_slice, said_struct, said_map, said_opaque, Said, said_fields, said_kind, said_with, said, Describes, Misdescribes, kind_count, wrong_id, bad_reference, bad_length}
+use Rattle.gob_value.specs.Description.{present, number_in, name_in, fields_in, elements_in, SaidKind, said_slice, said_struct, said_fields, said_with, said, Describes, Misdescribes, kind_count, wrong_id, bad_reference, bad_length}
 use Rattle.gob_value.proofs.TidyLaws.{same_shape}
 use Rattle.gob_value.proofs.WrittenLaws.{spells_written}
 

@@ -1,8 +1,8 @@
 -- How long the spelling of a sum is, and the tidy form of a value.
-use Rattle.std.proofs.Common.{◌≡◌, ℕ, zero, suc, ◌+◌, ◌-◌, ◌*◌, ◌^◌, ◌<◌, ◌≤◌, inl, inr, List, [], ◌∷◌, ◌++◌, length, arith, refl, sym, ap, ◌∙◌, subst, length-append}
+use Rattle.std.proofs.Common.{◌≡◌, ℕ, suc, ◌+◌, ◌-◌, ◌^◌, ◌<◌, ◌≤◌, inl, inr, List, [], ◌∷◌, ◌++◌, length, arith, refl, sym, ap, subst, length-append}
 use Rattle.std.proofs.Math.Nat.{pow-succ'}
 use Rattle.std.proofs.lemmas.Bool.{cases_lt}
-use Rattle.gob_num.specs.Unsigned.{IsCounted, IsUnsigned, short, long, big_endian}
+use Rattle.gob_num.specs.Unsigned.{IsCounted, IsUnsigned, short, long}
 use Rattle.gob_num.proofs.DigitLaws.{pow256_mono, big_endian_below}
 use Rattle.gob_num.proofs.UnsignedLaws.{unsigned_unique, unsigned_spelled, unsigned_fits, unsigned_length}
 use Rattle.gob_types.specs.declared.id.TypeId.{TypeId}

@@ -17,7 +17,7 @@ use Rattle.gob_value.specs.View.{view, views, pair_views, field_views}
 use Rattle.gob_value.specs.TidyLaws.{HasSmallNumbers}
 use Rattle.gob_value.specs.Tidied.{IsTidied, IsTidiedAs, AreTidied, PairsTidied, FieldsTidied}
 use Rattle.gob_value.specs.Written.{HasParts}
-use Rattle.gob_value.specs.Tidy.{IsZero, of_bool, of_int, of_uint, of_float, of_complex, of_bytes, of_text, IsDropped, zero_basic, empty_slice, Tidies, of_type, TidiesAs, of_basic, of_opaque, of_slice, of_array, of_map, of_struct, TidiesEach, no_element, element, TidiesPairs, no_entry, entry, TidiesFields, no_more, dropped, kept, HasTidyForm, HasTidyFormAs, HaveTidyForms, HaveTidyPairs, HaveTidyFields}
+use Rattle.gob_value.specs.Tidy.{IsZero, of_bool, of_int, of_uint, of_float, of_complex, of_bytes, of_text, IsDropped, zero_basic, empty_slice, of_type, TidiesAs, of_basic, of_opaque, of_slice, of_array, of_map, of_struct, TidiesEach, element, TidiesPairs, entry, TidiesFields, dropped, kept, HasTidyForm, HasTidyFormAs, HaveTidyForms, HaveTidyPairs, HaveTidyFields}
 use Rattle.gob_value.specs.declared.value.Value.{Value}
 use Rattle.gob_value.proofs.TidyLaws.{same_shape}
 

@@ -1,4 +1,4 @@
-use Rattle.std.proofs.Common.{◌≡◌, ◌∷◌, ◌≤◌, ℕ, List, length, arith, rules, refl, sym, ap, ◌∙◌, subst, inl, inr}
+use Rattle.std.proofs.Common.{◌≤◌, ℕ, List, length, arith, rules, sym, ap, ◌∙◌, subst}
 use Rattle.std.proofs.lemmas.Bool.{false≢true}
 use Rattle.gob_value.specs.Tree.{depth, trees_depth, pairs_depth, fields_depth}
 use Rattle.gob_value.specs.View.{view, views, pair_views, field_views}

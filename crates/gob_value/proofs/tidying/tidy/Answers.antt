@@ -1,10 +1,5 @@
-use Rattle.std.specs.Prelude.{IfOk}
 use Rattle.std.proofs.lemmas.Result.{IfOk-weaker}
 use Rattle.std.proofs.Math.Nat.{le_trans}
-use Rattle.gob_value.specs.View.{view}
-use Rattle.gob_value.specs.Tidied.{IsTidied}
-use Rattle.gob_value.specs.Tidy.{Tidies}
-use Rattle.gob_value.specs.Within.{FitsWithin}
 use Rattle.gob_value.proofs.TidyFits.{tidy_fits}
 use Rattle.gob_value.proofs.TidyLaws.{tidy_form, no_deeper}
 use Rattle.gob_value.proofs.tidying.tidy.Goals as goal
