@@ -1,34 +1,30 @@
 -- The deltas of a struct, taken: what the builder can be told then, and what comes behind them.
-use Rattle.std.proofs.Common.{◌≡◌, Bool, ℕ, zero, suc, ◌+◌, ◌-◌, ◌^◌, ◌<◌, ◌≤◌, List, [], ◌∷◌, ◌++◌, length, Option, Some, None, arith, refl, sym, ap, ◌∙◌, subst, append_assoc, drop, length-append}
+use Rattle.std.proofs.Common.{◌≡◌, Bool, ℕ, zero, suc, ◌+◌, ◌-◌, ◌^◌, ◌<◌, ◌≤◌, List, [], ◌∷◌, ◌++◌, length, Some, None, arith, refl, sym, ap, ◌∙◌, subst, drop, length-append}
 use Rattle.std.specs.Prelude.{slice_get}
 use Rattle.gob_num.specs.Unsigned.{IsUnsigned}
 use Rattle.gob_types.specs.declared.id.TypeId.{TypeId}
 use Rattle.gob_types.specs.declared.kind.Field.{Field}
-use Rattle.gob_types.specs.declared.kind.Kind.{Kind}
 use Rattle.gob_types.specs.declared.kind.Kind.TheVariants as kind
 use Rattle.gob_types.specs.declared.reason.Reason.{Reason}
-use Rattle.gob_types.specs.declared.reason.Reason.TheVariants as reason
 use Rattle.gob_types.specs.declared.kind.Shape.{Shape}
 use Rattle.gob_types.specs.Table.{Table, shape_of}
 use Rattle.gob_types.proofs.GrowthLaws.{some_injective}
-use Rattle.gob_types.specs.Ready.{IsReady}
 use Rattle.gob_read.specs.declared.telling.GroupKind.TheVariants as group
 use Rattle.gob_read.specs.declared.frame.Frame.{Frame}
 use Rattle.gob_read.specs.declared.frame.Frame.TheVariants as frame
-use Rattle.gob_read.specs.declared.awaited.Awaited.{Awaited}
 use Rattle.gob_read.specs.declared.awaited.Awaited.TheVariants.{Number}
 use Rattle.gob_read.specs.declared.awaited.Item.TheVariants.{Part, Delta}
 use Rattle.gob_read.specs.declared.state.State.{State}
-use Rattle.gob_read.specs.Awaited.{Allowed, delta, first_of}
+use Rattle.gob_read.specs.Awaited.{delta}
 use Rattle.gob_read.specs.Telling.{Telling, enter, field, leave}
-use Rattle.gob_read.specs.WellFormed.{a_struct, a_number_of_field, end_of_struct, Follows, behind_number, before_field}
+use Rattle.gob_read.specs.WellFormed.{a_number_of_field, end_of_struct}
 use Rattle.gob_read.specs.Building.{CanTell, IsTold}
 use Rattle.gob_read.specs.Kinds.{HasKind}
 use Rattle.gob_read.specs.Within.{Within, OpenStruct, open_struct, At, at_part, at_delta, Completed}
-use Rattle.gob_read.specs.Steps.{IsBegun, IsInStruct, IsPlaced, IsEnded, IsDisallowed, CanEnd, Ends, CanBegin, CanBeginStruct, BeginsStruct, CanGoOn, GoesOn, LeadsNowhere, CanTake, Takes, Refuses, IsNoFirst}
+use Rattle.gob_read.specs.Steps.{IsBegun, IsInStruct, IsPlaced, IsEnded, CanEnd, Ends, CanBegin, CanBeginStruct, BeginsStruct, CanGoOn, GoesOn, LeadsNowhere, CanTake, Takes, Refuses, IsNoFirst}
 use Rattle.gob_read.proofs.KindLaws.{same_fields}
 use Rattle.gob_read.proofs.Moves.{fields_whole, field_begins, struct_opens}
-use Rattle.gob_read.proofs.ToldLaws.{before, behind, begins_in, open_follows, open_weighs, told, some, can_tell}
+use Rattle.gob_read.proofs.ToldLaws.{open_follows, open_weighs, told, some, can_tell}
 use Rattle.gob_read.proofs.Places.{delta_awaits}
 
 -- the struct's frame is the innermost

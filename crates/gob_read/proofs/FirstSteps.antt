@@ -1,5 +1,5 @@
 -- The first number of a part, taken: what the builder can be told then, and what comes behind it.
-use Rattle.std.proofs.Common.{◌≡◌, ℕ, pos, negsuc, zero, suc, ◌+◌, ◌-◌, ◌*◌, ◌/◌, ◌%◌, ◌^◌, ◌<◌, ◌≤◌, inl, inr, Bool, true, false, List, [], ◌∷◌, ◌++◌, length, Some, arith, refl, sym, ap, ◌∙◌, subst, append_assoc, length-append}
+use Rattle.std.proofs.Common.{◌≡◌, ℕ, pos, negsuc, zero, suc, ◌+◌, ◌*◌, ◌/◌, ◌%◌, ◌≤◌, inl, inr, Bool, true, false, List, [], ◌∷◌, ◌++◌, arith, refl, sym, ap, ◌∙◌, subst, append_assoc, length-append}
 use Rattle.std.proofs.Math.Nat.{div-add-mod}
 use Rattle.std.proofs.lemmas.Nat.{mod_below}
 use Rattle.std.proofs.lemmas.Bool.{cases_lt}
@@ -15,13 +15,11 @@ use Rattle.gob_types.specs.declared.reason.Reason.{Reason}
 use Rattle.gob_types.specs.Table.{Table}
 use Rattle.gob_value.specs.Tree.{Tree, no_tree, no_pair}
 use Rattle.gob_value.specs.Tree as Value
-use Rattle.gob_value.specs.Spelling.{Spells, SpellsAs, of_bool, of_int, of_uint, of_float, of_nil, of_bytes, of_text, of_opaque, of_map, no_element, no_entry}
+use Rattle.gob_value.specs.Spelling.{Spells, of_bool, of_int, of_uint, of_float, of_nil, of_bytes, of_text, of_opaque, of_map, no_element, no_entry}
 use Rattle.gob_read.specs.declared.telling.RawKind.{RawKind}
-use Rattle.gob_read.specs.declared.telling.RawKind.TheVariants as raw
 use Rattle.gob_read.specs.declared.telling.GroupKind.{GroupKind}
 use Rattle.gob_read.specs.declared.telling.GroupKind.TheVariants as group
 use Rattle.gob_read.specs.declared.frame.Frame.{Frame}
-use Rattle.gob_read.specs.declared.frame.Frame.TheVariants as frame
 use Rattle.gob_read.specs.declared.awaited.Awaited.TheVariants.{Number, Raw}
 use Rattle.gob_read.specs.declared.awaited.Item.TheVariants.{Second}
 use Rattle.gob_read.specs.declared.state.State.{State}
@@ -38,7 +36,7 @@ use Rattle.gob_read.proofs.Fronts.{append_nil}
 use Rattle.gob_read.proofs.KindLaws.{spelled_as}
 use Rattle.gob_read.proofs.Moves.{part_whole, list_spelled, list_begins, map_begins}
 use Rattle.gob_read.proofs.TellingLaws.{follows_then}
-use Rattle.gob_read.proofs.ToldLaws.{before, behind, begins_in, within_follows, within_weighs, told, told-append, some, can_tell}
+use Rattle.gob_read.proofs.ToldLaws.{before, begins_in, within_follows, within_weighs, told, told-append, some, can_tell}
 
 -- the builder can be told that the part begins
 pub can_start : {X O : Type 0} {stands : X → List Telling → Type 0} {state : State X O} {P : Kind → Type 0} {n : ℕ} {q : Place} (t : Telling) → told (t ∷ []) ≡ 1 → CanBegin stands state P n → Follows (before state.stack) t q → CanTell stands state.builder t

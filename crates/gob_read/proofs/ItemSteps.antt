@@ -1,5 +1,5 @@
 -- The tag, the second number of a complex one, and raw bytes, taken; and what a first number that isn't allowed shows.
-use Rattle.std.proofs.Common.{◌≡◌, ◌≢◌, ◌↔◌, IsTrue, rules, Bool, true, false, ℕ, zero, suc, ◌+◌, ◌-◌, ◌^◌, ◌<◌, ◌≤◌, List, [], ◌∷◌, ◌++◌, length, Option, Some, None, arith, refl, sym, ap, ◌∙◌, subst, append_assoc, length-append}
+use Rattle.std.proofs.Common.{◌≡◌, ◌↔◌, IsTrue, rules, Bool, true, false, ℕ, ◌+◌, ◌<◌, List, [], ◌∷◌, ◌++◌, length, Some, None, arith, refl, sym, ap, ◌∙◌, subst, append_assoc, length-append}
 use Rattle.std.specs.Prelude.{Result, Ok, Err, IfErr}
 use Rattle.gob_num.specs.Unsigned.{IsUnsigned, short, long}
 use Rattle.gob_num.specs.Pattern.{IsPattern}
@@ -12,34 +12,31 @@ use Rattle.gob_types.specs.declared.kind.Shape.{Shape}
 use Rattle.gob_types.specs.declared.reason.Reason.{Reason}
 use Rattle.gob_types.specs.declared.reason.Reason.TheVariants as reason
 use Rattle.gob_types.specs.Table.{Table, shape_of}
-use Rattle.gob_types.specs.Ready.{IsReady}
-use Rattle.gob_types.proofs.GrowthLaws.{some_injective}
 use Rattle.gob_value.specs.Tree.{Tree}
 use Rattle.gob_value.specs.Tree as Value
 use Rattle.gob_value.specs.Spelling.{Spells, of_complex, of_bytes, of_text, of_opaque}
 use Rattle.gob_value.specs.Top.{IsStruct}
 use Rattle.gob_read.specs.declared.telling.RawKind.{RawKind}
-use Rattle.gob_read.specs.declared.telling.RawKind.TheVariants as raw
 use Rattle.gob_read.specs.declared.frame.Frame.{Frame}
 use Rattle.gob_read.specs.declared.awaited.Awaited.{Awaited}
 use Rattle.gob_read.specs.declared.awaited.Awaited.TheVariants.{Top, Number, Raw}
 use Rattle.gob_read.specs.declared.awaited.Item.{Item}
-use Rattle.gob_read.specs.declared.awaited.Item.TheVariants.{Tag, Part, Second, Delta}
+use Rattle.gob_read.specs.declared.awaited.Item.TheVariants.{Tag, Part, Second}
 use Rattle.gob_read.specs.declared.state.State.{State}
 use Rattle.gob_read.specs.declared.stop.Fault.{Fault}
 use Rattle.gob_read.specs.declared.stop.Fault.TheVariants.{Memory, Refused}
-use Rattle.gob_read.specs.Awaited.{Allowed, Allows, reason_of, first_of, tag, a_number}
+use Rattle.gob_read.specs.Awaited.{first_of, tag, a_number}
 use Rattle.gob_read.specs.Awaits.{AwaitsTop, at_tag as awaits_tag}
 use Rattle.gob_read.specs.Telling.{Telling, number, raw_start, raw_more, leave, Tells, TellsRaw, more_bytes, tell_complex, tell_bytes, tell_text, tell_opaque}
 use Rattle.gob_read.specs.WellFormed.{a_number as number_follows, of_complex as two_numbers, raw_bytes, end_of_raw}
 use Rattle.gob_read.specs.Building.{CanTell, IsTold}
 use Rattle.gob_read.specs.Kinds.{HasKind, IsRawKind, is_bytes, is_text, is_opaque, IsList, is_array, IsStructType, BeginsAs, as_struct, as_tagged, number_stays, raw_stays}
 use Rattle.gob_read.specs.Within.{Within, behind_tag, At, at_tag, at_part, at_second, at_raw, Completed}
-use Rattle.gob_read.specs.Steps.{IsBegun, IsPlaced, IsEnded, Settled, IsDisallowed, Blames, CanEnd, Ends, CanBegin, Begins, CanBeginStruct, BeginsStruct, IsNoFirst, CanTakeFirst, TakesFirst, RefusesFirst, CanTake, Takes, Refuses, CanTakeTag, IsWrongTag, CanTakeSecond, TakesHere, CanTakeRaw, StaysRaw, TakesRaw}
+use Rattle.gob_read.specs.Steps.{IsBegun, IsPlaced, IsEnded, Blames, CanEnd, CanBegin, Begins, CanBeginStruct, BeginsStruct, IsNoFirst, CanTakeFirst, TakesFirst, RefusesFirst, CanTake, Takes, Refuses, CanTakeTag, IsWrongTag, CanTakeSecond, TakesHere, CanTakeRaw}
 use Rattle.gob_value.proofs.TestSteps.{not_true}
 use Rattle.gob_read.proofs.KindLaws.{spelled_as}
 use Rattle.gob_read.proofs.Moves.{part_whole}
-use Rattle.gob_read.proofs.ToldLaws.{before, begins_in, within_follows, within_weighs, raw_follows, raw_open_weighs, told, some, can_tell}
+use Rattle.gob_read.proofs.ToldLaws.{begins_in, within_follows, within_weighs, raw_follows, raw_open_weighs, some, can_tell}
 use Rattle.gob_read.proofs.Places.{part_awaits, part_defined}
 
 pub if_err : {A E : Type 0} {P Q : E → Type 0} (r : Result A E) → ((e : E) → P e → Q e) → IfErr r P → IfErr r Q

@@ -1,12 +1,11 @@
 -- The kind of a type, and what it says of spellings.
-use Rattle.std.proofs.Common.{◌≡◌, ℕ, List, Option, Some, refl, sym, ap, ◌∙◌, subst}
+use Rattle.std.proofs.Common.{◌≡◌, ℕ, List, Some, sym, ap, ◌∙◌, subst}
 use Rattle.gob_types.specs.declared.id.TypeId.{TypeId}
 use Rattle.gob_types.specs.declared.kind.Field.{Field}
 use Rattle.gob_types.specs.declared.kind.Kind.{Kind}
 use Rattle.gob_types.specs.declared.kind.Kind.TheVariants as kind
 use Rattle.gob_types.specs.declared.kind.Shape.{Shape}
 use Rattle.gob_types.specs.Table.{Table, shape_of}
-use Rattle.gob_types.specs.Ready.{IsReady, Names}
 use Rattle.gob_types.proofs.GrowthLaws.{some_injective}
 use Rattle.gob_value.specs.Tree.{Tree}
 use Rattle.gob_value.specs.Spelling.{Spells, of_type, SpellsAs}

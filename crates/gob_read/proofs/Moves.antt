@@ -1,30 +1,27 @@
 -- How the place moves: each step of a reader, in the words of the grammar.
-use Rattle.std.proofs.Common.{◌≡◌, ℕ, zero, suc, ◌+◌, ◌-◌, ◌<◌, ◌≤◌, List, [], ◌∷◌, ◌++◌, length, Option, Some, arith, refl, sym, ap, ◌∙◌, subst, append_assoc}
+use Rattle.std.proofs.Common.{◌≡◌, ℕ, suc, ◌+◌, ◌-◌, ◌≤◌, List, [], ◌∷◌, ◌++◌, Some, arith, refl, sym, ap, ◌∙◌, subst, append_assoc}
 use Rattle.std.specs.Prelude.{slice_get}
 use Rattle.gob_num.specs.Unsigned.{IsUnsigned}
-use Rattle.gob_num.specs.Pattern.{IsPattern}
 use Rattle.gob_types.specs.declared.id.TypeId.{TypeId}
-use Rattle.gob_types.specs.declared.basic.Basic.TheVariants as basic
 use Rattle.gob_types.specs.declared.kind.Field.{Field}
 use Rattle.gob_types.specs.declared.kind.Kind.{Kind}
 use Rattle.gob_types.specs.declared.kind.Kind.TheVariants as kind
-use Rattle.gob_types.specs.declared.kind.Shape.{Shape}
-use Rattle.gob_types.specs.Table.{Table, shape_of}
+use Rattle.gob_types.specs.Table.{Table}
 use Rattle.gob_value.specs.Tree.{Tree, Trees, no_tree, tree, Pairs, no_pair, pair, Fields, no_field, tree_count, pair_count}
 use Rattle.gob_value.specs.Tree as Value
-use Rattle.gob_value.specs.Spelling.{Spells, SpellsAs, of_slice, of_array, of_map, of_struct, SpellsEach, no_element, element, SpellsPairs, no_entry, entry, SpellsFields, end_of_fields, next_field}
-use Rattle.gob_value.specs.Top.{IsStruct, SpellsTop, at_once as top_at_once, tagged}
+use Rattle.gob_value.specs.Spelling.{Spells, of_slice, of_array, of_map, of_struct, SpellsEach, no_element, element, SpellsPairs, no_entry, entry, SpellsFields, end_of_fields, next_field}
+use Rattle.gob_value.specs.Top.{SpellsTop, at_once as top_at_once, tagged}
 use Rattle.gob_read.specs.declared.telling.GroupKind.TheVariants as group
 use Rattle.gob_read.specs.declared.frame.Frame.{Frame}
 use Rattle.gob_read.specs.declared.frame.Frame.TheVariants as frame
-use Rattle.gob_read.specs.declared.awaited.Awaited.TheVariants.{Number, Raw}
-use Rattle.gob_read.specs.declared.awaited.Item.TheVariants.{Part, Delta}
+use Rattle.gob_read.specs.declared.awaited.Awaited.TheVariants.{Number}
+use Rattle.gob_read.specs.declared.awaited.Item.TheVariants.{Delta}
 use Rattle.gob_read.specs.Telling.{Telling, enter, field, leave, Tells, tell_many, tell_pairs, tell_fields, TellsEach, tell_none, tell_each, TellsPairs, tell_no_pair, tell_pair, TellsFields, tell_no_field, tell_field}
 use Rattle.gob_read.specs.Frames.{IsOver, last_element, last_pair, GoesOn, to_element, to_value, to_key, to_delta, item_of}
 use Rattle.gob_read.specs.Kinds.{HasKind, IsList, is_slice, is_array}
 use Rattle.gob_read.specs.Within.{EachTold, none_told, one_told, PairsTold, no_pair_told, pair_told, FieldsTold, no_field_told, field_told, Within, at_once, behind_tag, in_list, at_key, at_value, in_field, OpenStruct, open_struct, At, at_part, at_delta, Completed}
 use Rattle.gob_read.proofs.Fronts.{append_nil}
-use Rattle.gob_read.proofs.KindLaws.{spelled_as, same_fields}
+use Rattle.gob_read.proofs.KindLaws.{spelled_as}
 
 pub each_spells : {T : Table} {e : TypeId} {vs : Trees} {b : List ℕ} {us : List Telling} → EachTold T e vs b us → SpellsEach T e vs b
 each_spells none_told = no_element

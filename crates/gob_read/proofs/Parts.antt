@@ -1,26 +1,22 @@
 -- The steps of a reader's state, with what its builder is told.
-use Rattle.std.proofs.Common.{◌≡◌, ℕ, zero, suc, ◌+◌, ◌-◌, ◌^◌, ◌<◌, ◌≤◌, Bool, true, false, List, [], ◌∷◌, ◌++◌, length, Option, Some, None, arith, refl, sym, ap, ◌∙◌, subst, append_assoc, drop, length-append}
-use Rattle.std.specs.Prelude.{slice_get, Result, Ok, Err, IfOk, IfErr}
+use Rattle.std.proofs.Common.{◌≡◌, ℕ, ◌^◌, ◌<◌, Bool, List, [], ◌∷◌, ◌++◌, Some, None, arith, sym, subst, drop}
+use Rattle.std.specs.Prelude.{slice_get, Result, Ok, Err, IfOk}
 use Rattle.gob_num.specs.Unsigned.{IsUnsigned}
 use Rattle.gob_types.specs.declared.id.TypeId.{TypeId}
 use Rattle.gob_types.specs.declared.kind.Kind.{Kind}
 use Rattle.gob_types.specs.Table.{Table}
-use Rattle.gob_value.specs.Tree.{Tree}
-use Rattle.gob_value.specs.Spelling.{Spells}
 use Rattle.gob_read.specs.declared.frame.Frame.{Frame}
-use Rattle.gob_read.specs.declared.frame.Frame.TheVariants as frame
-use Rattle.gob_read.specs.declared.awaited.Awaited.{Awaited}
-use Rattle.gob_read.specs.declared.awaited.Awaited.TheVariants.{Number, Raw}
+use Rattle.gob_read.specs.declared.awaited.Awaited.TheVariants.{Number}
 use Rattle.gob_read.specs.declared.state.State.{State}
-use Rattle.gob_read.specs.Telling.{Telling, leave, Tells}
-use Rattle.gob_read.specs.WellFormed.{Follows, end_of_list, end_of_map}
+use Rattle.gob_read.specs.Telling.{Telling, leave}
+use Rattle.gob_read.specs.WellFormed.{end_of_list, end_of_map}
 use Rattle.gob_read.specs.Building.{CanTell, IsTold}
 use Rattle.gob_read.specs.Frames.{IsOver, last_element, last_pair, GoesOn, item_of}
 use Rattle.gob_read.specs.Kinds.{HasKind}
-use Rattle.gob_read.specs.Within.{Within, At, Completed}
-use Rattle.gob_read.specs.Steps.{IsBegun, IsPlaced, IsEnded, IsRead, Settled, CanEnd, Ends, CanBegin, Begins}
-use Rattle.gob_read.proofs.Moves.{completed_value, moved, closed, part_whole}
-use Rattle.gob_read.proofs.ToldLaws.{behind, completed_follows, completed_weighs, told, can_tell}
+use Rattle.gob_read.specs.Within.{At, Completed}
+use Rattle.gob_read.specs.Steps.{IsBegun, IsPlaced, IsEnded, IsRead, CanEnd, Ends, CanBegin, Begins}
+use Rattle.gob_read.proofs.Moves.{completed_value, moved, closed}
+use Rattle.gob_read.proofs.ToldLaws.{completed_follows, completed_weighs, told, can_tell}
 
 pub if_ok : {A E : Type 0} {P Q : A → Type 0} (r : Result A E) → ((v : A) → P v → Q v) → IfOk r P → IfOk r Q
 if_ok (Ok v) f p = f v p

@@ -1,5 +1,5 @@
 -- A reader that a test pushes pieces to.
-use Rattle.std.proofs.Common.{◌≡◌, ℕ, List, Option, Some, None}
+use Rattle.std.proofs.Common.{ℕ, List, Option, Some, None}
 use Rattle.gob_types.specs.declared.id.TypeId.{TypeId}
 use Rattle.gob_types.specs.Table.{Table}
 use Rattle.gob_read.specs.Telling.{Telling}

@@ -1,5 +1,5 @@
 -- What was told of the parts so far: it is well formed, and weighs no more than their bytes, so that a builder can be told more.
-use Rattle.std.proofs.Common.{◌≡◌, ℕ, zero, suc, ◌+◌, ◌-◌, ◌^◌, ◌<◌, ◌≤◌, List, [], ◌∷◌, ◌++◌, length, arith, refl, sym, subst, length-append}
+use Rattle.std.proofs.Common.{◌≡◌, ℕ, ◌+◌, ◌^◌, ◌<◌, ◌≤◌, List, [], ◌∷◌, ◌++◌, length, arith, refl, sym, subst, length-append}
 use Rattle.gob_num.specs.Unsigned.{IsUnsigned}
 use Rattle.gob_num.proofs.PublicLaws.{unsigned_length}
 use Rattle.gob_types.specs.declared.id.TypeId.{TypeId}
@@ -11,12 +11,11 @@ use Rattle.gob_read.specs.declared.telling.GroupKind.TheVariants as group
 use Rattle.gob_read.specs.declared.telling.RawKind.{RawKind}
 use Rattle.gob_read.specs.declared.frame.Frame.{Frame}
 use Rattle.gob_read.specs.declared.frame.Frame.TheVariants as frame
-use Rattle.gob_read.specs.declared.awaited.Awaited.{Awaited}
-use Rattle.gob_read.specs.Telling.{Telling, raw_start, raw_more, enter, field, leave, Tells, TellsRaw, no_bytes, more_bytes}
+use Rattle.gob_read.specs.Telling.{Telling, raw_start, raw_more, enter, field, Tells, TellsRaw, no_bytes, more_bytes}
 use Rattle.gob_read.specs.Weight.{parts_told, raw_told}
 use Rattle.gob_read.specs.WellFormed.{Place, at_start, at_end, in_raw, in_many, before_key, before_element, before_field, behind_number, Begins, whole_value, an_element, a_key, its_element, a_field, Follows, a_raw_part, raw_bytes, a_list, a_map, a_struct, a_number_of_field, FollowsAll, no_telling, telling}
-use Rattle.gob_read.specs.Building.{HasRoom, CanTell}
-use Rattle.gob_read.specs.Within.{EachTold, none_told, one_told, PairsTold, no_pair_told, pair_told, FieldsTold, no_field_told, field_told, Within, at_once, behind_tag, in_list, at_key, at_value, in_field, OpenStruct, open_struct, At, at_tag, at_part, at_second, at_delta, at_raw, Completed}
+use Rattle.gob_read.specs.Building.{CanTell}
+use Rattle.gob_read.specs.Within.{EachTold, none_told, one_told, PairsTold, no_pair_told, pair_told, FieldsTold, no_field_told, field_told, Within, at_once, behind_tag, in_list, at_key, at_value, in_field, OpenStruct, open_struct, Completed}
 use Rattle.gob_read.proofs.TellingLaws.{follows_then, formed_more, tells_follows}
 use Rattle.gob_read.proofs.WeightLaws.{weight_within}
 use Rattle.gob_read.proofs.CountLaws.{parts_told-append, raw_told-append, tells_weight}

@@ -1,6 +1,5 @@
 use Rattle.std.proofs.Common.{arith}
 use Rattle.gob_types.specs.Defined.{types}
-use Rattle.gob_read.proofs.TestSteps.{usable}
 use Rattle.gob_read.proofs.tests.read.Goals as goal
 
 pub pieces-init : goal.pieces-init

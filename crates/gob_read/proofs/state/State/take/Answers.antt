@@ -1,5 +1,3 @@
-use Rattle.std.proofs.Common.{refl, sym, ap, ◌∙◌}
-use Rattle.gob_read.specs.declared.awaited.Awaited.TheVariants.{Number}
 use Rattle.gob_read.proofs.Parts.{if_ok}
 use Rattle.gob_read.proofs.ItemSteps.{if_err, blames, take_at, tag_can, second_can, here_takes, wrong_tag_refuses, part_can, part_takes, part_refuses}
 use Rattle.gob_read.proofs.state.State.take.Goals as goal

@@ -1,6 +1,5 @@
 use Rattle.std.proofs.Common.{refl, sym}
-use Rattle.gob_types.specs.declared.kind.Kind.TheVariants as kind
-use Rattle.gob_read.specs.Kinds.{HasKind, is_opaque, is_slice, is_array, of_map}
+use Rattle.gob_read.specs.Kinds.{is_opaque, is_slice, of_map}
 use Rattle.gob_read.proofs.Parts.{if_ok}
 use Rattle.gob_read.proofs.FieldSteps.{struct_no_first}
 use Rattle.gob_read.proofs.ItemSteps.{if_err, blames, first_can, first_takes, first_refuses, first_defined, count_no_first, struct_can, struct_takes, array_is}

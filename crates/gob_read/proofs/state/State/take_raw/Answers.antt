@@ -1,4 +1,4 @@
-use Rattle.std.proofs.Common.{arith, refl, ◌-◌, length}
+use Rattle.std.proofs.Common.{arith, refl}
 use Rattle.gob_read.proofs.Parts.{if_ok}
 use Rattle.gob_read.proofs.ItemSteps.{can_tell_more, can_end_raw, raw_can_end, raw_ended, raw_goes_on}
 use Rattle.gob_read.proofs.state.State.take_raw.Goals as goal
