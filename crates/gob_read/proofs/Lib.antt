@@ -34,4 +34,4 @@ pub mod Honest
 pub mod Counted
 pub mod Taken
 pub mod Stops
-pub mod TestSteps
+pub mod Pushed

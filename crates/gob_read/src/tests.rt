@@ -200,7 +200,8 @@ fn filled(alloc: Global) -> Result<Table, Fail> {
     }
 }
 
-// What comes of a body of which these bytes come in pieces of this length, if the end comes with the last of them.
+// What comes of a body of which these bytes come in a first piece and then others of these lengths, if the end comes with
+// the last of them.
 fn read<B: Builder>(
     alloc: Global,
     table: &Table,
@@ -208,7 +209,8 @@ fn read<B: Builder>(
     length: u64,
     depth: u64,
     bytes: &[u8],
-    piece: usize,
+    first: usize,
+    then: usize,
 ) -> Result<Option<B::Out>, Stop> {
     let Ok(()) = table.ready(alloc, TypeId(id)) else {
         return Ok(None);
@@ -216,6 +218,7 @@ fn read<B: Builder>(
     let mut reader: BodyReader<B> = BodyReader::new(alloc, TypeId(id), length, depth)?;
     let mut taken = 0usize;
     'pieces: for _ in 0..=bytes.len() {
+        let piece = if taken == 0 { first } else { then };
         let end = bytes.len().min(taken.saturating_add(piece));
         match reader.push(alloc, table, &bytes[taken..end]) {
             Ok(Progress::More) => {
@@ -242,25 +245,42 @@ fn is_respelled(alloc: Global, table: &Table, id: u64, value: &Value, bytes: &[u
     answer == Ok(()) && bytes.ends_with(&out) && out.len() + 1 >= bytes.len()
 }
 
-// Whether both builders read the body in pieces of each length.
-fn is_accepted(alloc: Global, table: &Table, id: u64, bytes: &[u8], counts: Counts) -> bool {
+// Whether both builders read the body in pieces of these lengths.
+fn is_read(
+    alloc: Global,
+    table: &Table,
+    id: u64,
+    bytes: &[u8],
+    counts: Counts,
+    first: usize,
+    then: usize,
+) -> bool {
     let length = bytes.len() as u64;
-    for piece in [1usize, 2, 3, 64] {
-        if read::<CheckBuilder>(alloc, table, id, length, 1000, bytes, piece) != Ok(Some(counts)) {
-            return false;
-        }
-        let Ok(Some(value)) = read::<TreeBuilder>(alloc, table, id, length, 1000, bytes, piece)
-        else {
-            return false;
-        };
-        if !is_respelled(alloc, table, id, &value, bytes) {
+    if read::<CheckBuilder>(alloc, table, id, length, 1000, bytes, first, then)
+        != Ok(Some(counts))
+    {
+        return false;
+    }
+    match read::<TreeBuilder>(alloc, table, id, length, 1000, bytes, first, then) {
+        Ok(Some(value)) => is_respelled(alloc, table, id, &value, bytes),
+        _ => false,
+    }
+}
+
+// Whether both builders read the body in pieces of each length, and cut in two at each place.
+fn is_accepted(alloc: Global, table: &Table, id: u64, bytes: &[u8], counts: Counts) -> bool {
+    for last in 0..bytes.len() {
+        let first = last + 1;
+        if !is_read(alloc, table, id, bytes, counts, first, first)
+            || !is_read(alloc, table, id, bytes, counts, first, usize::MAX)
+        {
             return false;
         }
     }
     true
 }
 
-// Whether the body is refused so in pieces of each length.
+// Whether the body is refused so in pieces of each length, and cut in two at each place.
 fn is_refused(
     alloc: Global,
     table: &Table,
@@ -270,8 +290,12 @@ fn is_refused(
     bytes: &[u8],
     stop: Stop,
 ) -> bool {
-    for piece in [1usize, 2, 3, 64] {
-        if read::<CheckBuilder>(alloc, table, id, length, depth, bytes, piece) != Err(stop) {
+    for last in 0..bytes.len().max(1) {
+        let first = last + 1;
+        if read::<CheckBuilder>(alloc, table, id, length, depth, bytes, first, first) != Err(stop)
+            || read::<TreeBuilder>(alloc, table, id, length, depth, bytes, first, usize::MAX).err()
+                != Some(stop)
+        {
             return false;
         }
     }

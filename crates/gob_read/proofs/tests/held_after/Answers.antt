@@ -1,5 +1,5 @@
 use Rattle.gob_types.specs.Defined.{types}
-use Rattle.gob_read.proofs.TestSteps.{usable}
+use Rattle.gob_read.proofs.Pushed.{usable}
 use Rattle.gob_read.proofs.tests.held_after.Goals as goal
 
 pub push-progress-requires : goal.push-progress-requires

@@ -1,4 +1,4 @@
--- A reader that a test pushes pieces to.
+-- A reader of a body that pieces are pushed to.
 use Rattle.std.proofs.Common.{ℕ, List, Option, Some, None}
 use Rattle.gob_types.specs.declared.id.TypeId.{TypeId}
 use Rattle.gob_types.specs.Table.{Table}

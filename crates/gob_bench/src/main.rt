@@ -1,0 +1,127 @@
+//! Measures the reader of bodies.
+//!
+//! `gob_bench` reads each of its bodies to counts and to trees, whole and in pieces, and prints what it counted.
+//! `gob_bench time` prints how fast it was too. `gob_bench write NAME` writes a body to standard output, which the C
+//! program `bench/walk.c` walks.
+#![tactic(auto)]
+
+mod bodies;
+mod fault;
+mod reading;
+
+use bodies::Body;
+use fault::Fault;
+use gob_read::{Builder, CheckBuilder, Counts, TreeBuilder};
+use gob_types::Table;
+use reading::{read, table};
+use std::env;
+use std::io::Write;
+use std::process::ExitCode;
+use std::time::Instant;
+
+// How often each speed is measured; the best is told.
+const TIMES: usize = 5;
+
+fn main(rt: HostRuntime) -> ExitCode {
+    match run(&rt) {
+        Ok(()) => ExitCode::SUCCESS,
+        Err(fault) => {
+            // Where standard error takes no line, the status still tells.
+            let _ = eprintln!(rt; "gob_bench: {fault}");
+            ExitCode::from(1)
+        }
+    }
+}
+
+fn run(rt: &HostRuntime) -> Result<(), Fault> {
+    let words = env::args(rt)?.collect::<Vec<String>>(rt.alloc())?;
+    let names = words
+        .iter()
+        .map(|word| word.as_str())
+        .collect::<Vec<&str>>(rt.alloc())?;
+    match names.as_slice() {
+        [_] => count_all(rt),
+        [_, "time"] => time_all(rt),
+        [_, "write", name] => write_body(rt, name),
+        _ => Err(Fault::Words),
+    }
+}
+
+// Writes the body of this name to standard output.
+fn write_body(rt: &HostRuntime, name: &str) -> Result<(), Fault> {
+    for body in Body::ALL {
+        if body.name() == name {
+            let bytes = body.bytes(rt.alloc())?;
+            rt.stdout().write_all(bytes.as_slice())?;
+            return Ok(());
+        }
+    }
+    Err(Fault::Words)
+}
+
+// Prints what is counted of each body.
+fn count_all(rt: &HostRuntime) -> Result<(), Fault> {
+    let types = table(rt.alloc())?;
+    for body in Body::ALL {
+        let bytes = body.bytes(rt.alloc())?;
+        let counts = count(rt, &types, body, bytes.as_slice())?;
+        let name = body.name();
+        let length = bytes.len();
+        println!(rt;
+            "{name}: {length} bytes, {} parts, {} raw bytes",
+            counts.nodes, counts.raw
+        )?;
+    }
+    Ok(())
+}
+
+// The counts of a body, which are to be the same in pieces of each length.
+fn count(rt: &HostRuntime, types: &Table, body: Body, bytes: &[u8]) -> Result<Counts, Fault> {
+    let id = body.type_id();
+    let whole = read::<CheckBuilder>(rt.alloc(), types, id, bytes, bytes.len())?;
+    for length in [65536, 1] {
+        let counts = read::<CheckBuilder>(rt.alloc(), types, id, bytes, length)?;
+        if counts.nodes != whole.nodes || counts.raw != whole.raw {
+            return Err(Fault::Counts);
+        }
+    }
+    Ok(whole)
+}
+
+// Prints how fast each body is read.
+fn time_all(rt: &HostRuntime) -> Result<(), Fault> {
+    let types = table(rt.alloc())?;
+    for body in Body::ALL {
+        let bytes = body.bytes(rt.alloc())?;
+        let bytes = bytes.as_slice();
+        for (pieces, length) in [
+            ("whole", bytes.len()),
+            ("pieces of 64 KiB", 65536),
+            ("byte by byte", 1),
+        ] {
+            let counts = speed::<CheckBuilder>(rt, &types, body, bytes, length)?;
+            let tree = speed::<TreeBuilder>(rt, &types, body, bytes, length)?;
+            let name = body.name();
+            println!(rt; "{name}, {pieces}: counts {counts} MB/s, tree {tree} MB/s")?;
+        }
+    }
+    Ok(())
+}
+
+// How fast the body is read to what the builder makes, in bytes a microsecond.
+fn speed<B: Builder>(
+    rt: &HostRuntime,
+    types: &Table,
+    body: Body,
+    bytes: &[u8],
+    length: usize,
+) -> Result<u128, Fault> {
+    let mut best = 0;
+    for _ in 0..TIMES {
+        let start = Instant::now(rt)?;
+        read::<B>(rt.alloc(), types, body.type_id(), bytes, length)?;
+        let micros = start.elapsed(rt)?.as_micros();
+        best = best.max(bytes.len() as u128 / micros.max(1));
+    }
+    Ok(best)
+}
