@@ -20,8 +20,8 @@ struct shape {
     int fields[4]; /* their types */
 };
 
-/* The base types that are used, and the benchmark's own: 64 a record, 65 a list of records, 66 a list of itself,
- * 67 a list of strings. */
+/* The base types that are used, and the benchmark's own: 65 a record, 66 a list of records, 67 a list of itself,
+ * 68 a list of strings. */
 static const struct shape types[] = {
     [1] = {BOOL, 0, 0, {0}},
     [2] = {INT, 0, 0, {0}},
@@ -29,10 +29,10 @@ static const struct shape types[] = {
     [4] = {FLOAT, 0, 0, {0}},
     [5] = {BYTES, 0, 0, {0}},
     [6] = {STRING, 0, 0, {0}},
-    [64] = {STRUCT, 0, 3, {2, 6, 4}},
-    [65] = {SLICE, 64, 0, {0}},
-    [66] = {SLICE, 66, 0, {0}},
-    [67] = {SLICE, 6, 0, {0}},
+    [65] = {STRUCT, 0, 3, {2, 6, 4}},
+    [66] = {SLICE, 65, 0, {0}},
+    [67] = {SLICE, 67, 0, {0}},
+    [68] = {SLICE, 6, 0, {0}},
 };
 
 struct walk {
@@ -108,7 +108,7 @@ static void value(struct walk *w, int type, int depth) {
 int main(int argc, char **argv) {
     if (argc != 3) refuse("usage: walk TYPE FILE");
     int type = atoi(argv[1]);
-    if (type < 1 || type > 67 || types[type].kind == NONE) refuse("type");
+    if (type < 1 || type > 68 || types[type].kind == NONE) refuse("type");
     FILE *file = fopen(argv[2], "rb");
     if (!file) refuse("file");
     fseek(file, 0, SEEK_END);

@@ -5,8 +5,8 @@ use gob_read::{BodyReader, Builder, Progress};
 use gob_types::{Field, Fields, Kind, Name, Shape, Table, TypeId};
 use std::alloc::Global;
 
-/// The base table, and behind it: 64 a record of an int, a string and a float, 65 a list of records, 66 a list of
-/// itself, 67 a list of strings.
+/// The base table, and behind it: 65 a record of an int, a string and a float, 66 a list of records, 67 a list of
+/// itself, 68 a list of strings.
 pub(crate) fn table(alloc: Global) -> Result<Table, Fault> {
     let mut table = Table::new(alloc, 4)?;
     let mut fields = Vec::new(alloc);
@@ -19,10 +19,10 @@ pub(crate) fn table(alloc: Global) -> Result<Table, Fault> {
     let record = Kind::Struct {
         fields: Fields::new(fields),
     };
-    define(alloc, &mut table, 64, record)?;
-    define(alloc, &mut table, 65, Kind::Slice { elem: TypeId(64) })?;
-    define(alloc, &mut table, 66, Kind::Slice { elem: TypeId(66) })?;
-    define(alloc, &mut table, 67, Kind::Slice { elem: TypeId(6) })?;
+    define(alloc, &mut table, 65, record)?;
+    define(alloc, &mut table, 66, Kind::Slice { elem: TypeId(65) })?;
+    define(alloc, &mut table, 67, Kind::Slice { elem: TypeId(67) })?;
+    define(alloc, &mut table, 68, Kind::Slice { elem: TypeId(6) })?;
     Ok(table)
 }
 

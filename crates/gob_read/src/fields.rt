@@ -13,6 +13,7 @@ use gob_types::{Fields, Kind, Reason, Shapes, TypeId};
 
 impl<B: Builder> State<B> {
     /// Takes the first delta of a struct of the type, which has these fields.
+    #[inline(always)]
     pub(crate) fn take_first_delta(
         &mut self,
         id: TypeId,
@@ -29,6 +30,7 @@ impl<B: Builder> State<B> {
     }
 
     /// Takes the delta behind a field of the innermost open struct.
+    #[inline(always)]
     pub(crate) fn take_delta<S: Shapes>(&mut self, shapes: &S, n: u64) -> Result<bool, Fault>
         requires { CanTake (S.table shapes.now) B.stands self.old Item.Delta n }
         ensures ok { IfOk result (λ whole. Takes (S.table shapes.now) B.stands self.old self.new n whole) }
@@ -51,6 +53,7 @@ impl<B: Builder> State<B> {
 
     /// Takes a delta of the innermost open struct, which is of this type and has these fields, of which the next
     /// has the number `next` or a greater one.
+    #[inline(always)]
     fn take_field(&mut self, id: TypeId, next: u64, fields: &Fields, n: u64) -> Result<bool, Fault>
         requires { CanGoOn B.stands self.old id fields.now next n }
         ensures ok { IfOk result (λ whole. GoesOn B.stands self.old self.new id fields.now next n whole) }

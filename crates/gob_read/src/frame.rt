@@ -45,6 +45,7 @@ impl Frame {
     ghost use Rattle.gob_read.specs.Frames.{IsOver, GoesOn, item_of};
 
     /// The open part behind the part that is read, where another part, or the end of the fields, is to come there.
+    #[inline(always)]
     pub(crate) fn next(self) -> Option<Frame>
         ensures { MatchOption result (IsOver self) (λ next. GoesOn self next) }
     {
@@ -74,6 +75,7 @@ impl Frame {
     }
 
     /// The number that is awaited where the next part in this one is to come.
+    #[inline(always)]
     pub(crate) fn item(self) -> Item
         ensures { result ≡ item_of self }
     {

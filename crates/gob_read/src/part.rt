@@ -16,6 +16,7 @@ use gob_types::{Basic, Kind, Reason, Shapes, TypeId};
 
 impl<B: Builder> State<B> {
     /// Takes the first number of a part of the type, and answers whether the value is whole then.
+    #[inline(always)]
     pub(crate) fn take_first<S: Shapes>(
         &mut self,
         shapes: &S,
@@ -53,6 +54,7 @@ impl<B: Builder> State<B> {
     }
 
     /// Takes the first number of a part of a basic type.
+    #[inline(always)]
     fn take_basic(&mut self, basic: Basic, n: u64) -> Result<bool, Fault>
         requires { CanBegin B.stands self.old (λ k. k ≡ kind.Basic basic) n }
         ensures ok { IfOk result (λ whole. Begins B.stands self.old self.new (λ k. k ≡ kind.Basic basic) n whole) }
@@ -86,6 +88,7 @@ impl<B: Builder> State<B> {
     }
 
     /// Takes a part that the number `n` spells, and tells it as `told`.
+    #[inline(always)]
     fn take_number(&mut self, basic: Basic, n: u64, told: u64) -> Result<bool, Memory>
         requires { CanBegin B.stands self.old (λ k. IsScalar k n basic told) n }
         ensures { IfOk result (λ whole. Begins B.stands self.old self.new (λ k. IsScalar k n basic told) n whole) }
@@ -95,6 +98,7 @@ impl<B: Builder> State<B> {
     }
 
     /// Takes how many raw bytes the part has.
+    #[inline(always)]
     fn take_length(&mut self, kind: RawKind, n: u64) -> Result<bool, Memory>
         requires { CanBegin B.stands self.old (λ k. IsRawKind k kind) n }
         ensures { IfOk result (λ whole. Begins B.stands self.old self.new (λ k. IsRawKind k kind) n whole) }
@@ -109,6 +113,7 @@ impl<B: Builder> State<B> {
     }
 
     /// Takes how many elements a list has.
+    #[inline(always)]
     fn take_elements(&mut self, elem: TypeId, n: u64) -> Result<bool, Memory>
         requires { CanBegin B.stands self.old (λ k. IsList k n elem) n }
         ensures { IfOk result (λ whole. Begins B.stands self.old self.new (λ k. IsList k n elem) n whole) }
@@ -121,6 +126,7 @@ impl<B: Builder> State<B> {
     }
 
     /// Takes how many elements or pairs a part has. `first` is open while the first of them is read.
+    #[inline(always)]
     fn take_count(&mut self, group: GroupKind, first: Frame, n: u64) -> Result<bool, Memory>
         requires { CanBegin B.stands self.old (λ k. IsGroup k n group first) n }
         ensures { IfOk result (λ whole. Begins B.stands self.old self.new (λ k. IsGroup k n group first) n whole) }

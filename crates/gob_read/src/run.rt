@@ -132,6 +132,7 @@ impl<B: Builder> Run<B> {
     }
 
     /// Stops at a part that is too deep, and at the end of the body.
+    #[inline(always)]
     fn judge(&self) -> Result<(), Stop>
         requires { self.now.taken ≤ self.now.length }
         ensures ok { OnOk result ((T : Table) → MayGoOn T B.stands self.now) }
@@ -170,6 +171,7 @@ impl<B: Builder> Run<B> {
     }
 
     /// The depth of the part that the awaited item is in.
+    #[inline(always)]
     fn depth_now(&self) -> u64
         ensures { result ≡ depth_of self.now.state.awaited self.now.state.stack }
     {
@@ -185,6 +187,7 @@ impl<B: Builder> Run<B> {
     }
 
     /// Takes the next item, or as much of it as there is.
+    #[inline(always)]
     fn step<S: Shapes>(&mut self, shapes: &S, rest: &[u8]) -> Result<Stepped, Stop>
         requires stands { IsOpenSomewhere (S.table shapes.now) B.stands self.old }
         requires some { 0 < length rest.now }
@@ -202,6 +205,7 @@ impl<B: Builder> Run<B> {
     }
 
     /// Takes the awaited number, or the next byte of it.
+    #[inline(always)]
     fn step_number<S: Shapes>(
         &mut self,
         shapes: &S,
@@ -264,6 +268,7 @@ impl<B: Builder> Run<B> {
     }
 
     /// Takes a whole number that stands in the piece, and answers whether the value is whole then.
+    #[inline(always)]
     fn take_whole<S: Shapes>(
         &mut self,
         shapes: &S,
@@ -285,6 +290,7 @@ impl<B: Builder> Run<B> {
     }
 
     /// Takes the next byte of a number, and answers whether the value is whole then.
+    #[inline(never)]
     fn take_byte<S: Shapes>(&mut self, shapes: &S, item: Item, b: u8) -> Result<bool, Stop>
         requires awaited { self.old.state.awaited ≡ Awaited.Number item }
         requires stands { IsOpenSomewhere (S.table shapes.now) B.stands self.old }
@@ -303,6 +309,7 @@ impl<B: Builder> Run<B> {
     }
 
     /// Takes the awaited number, whose last byte was taken, and answers whether the value is whole then.
+    #[inline(always)]
     fn take<S: Shapes>(&mut self, shapes: &S, item: Item, n: u64) -> Result<bool, Stop>
         requires { CanTake (S.table shapes.now) B.stands self.old.state item n }
         ensures ok { IfOk result (λ whole. TakesNumber (S.table shapes.now) B.stands self.old self.new n whole) }

@@ -42,6 +42,7 @@ impl Opens {
     }
 
     /// The innermost open part.
+    #[inline(always)]
     pub(crate) fn innermost(&self) -> Option<Frame>
         ensures { result ≡ slice_get self.now 0 }
     {
@@ -49,6 +50,7 @@ impl Opens {
     }
 
     /// Opens a part in the innermost one.
+    #[inline(always)]
     pub(crate) fn open(&mut self, frame: Frame) -> Result<(), Memory>
         ensures { OnOk result (self.new ≡ frame ∷ self.old) }
     {
@@ -57,6 +59,7 @@ impl Opens {
     }
 
     /// Closes the innermost open part, if there is one.
+    #[inline(always)]
     pub(crate) fn close(&mut self)
         ensures { self.new ≡ drop 1 self.old }
     {
@@ -64,6 +67,7 @@ impl Opens {
     }
 
     /// Says how far the innermost open part has come.
+    #[inline(always)]
     pub(crate) fn replace(&mut self, frame: Frame)
         requires { 0 < length self.old }
         ensures { self.new ≡ frame ∷ drop 1 self.old }

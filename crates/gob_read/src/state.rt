@@ -43,6 +43,7 @@ impl<B: Builder> State<B> {
     }
 
     /// After a whole part: goes on to what is awaited behind it, or answers true where it was the outermost one.
+    #[inline(always)]
     pub(crate) fn after_part(&mut self) -> Result<bool, Memory>
         requires { CanEnd B.stands self.old }
         ensures { IfOk result (λ whole. Ends B.stands self.old self.new whole) }
@@ -62,6 +63,7 @@ impl<B: Builder> State<B> {
     }
 
     /// Takes the awaited number, and answers whether the value is whole then.
+    #[inline(always)]
     pub(crate) fn take<S: Shapes>(&mut self, shapes: &S, item: Item, n: u64) -> Result<bool, Fault>
         requires { CanTake (S.table shapes.now) B.stands self.old item n }
         ensures ok { IfOk result (λ whole. Takes (S.table shapes.now) B.stands self.old self.new n whole) }
@@ -76,6 +78,7 @@ impl<B: Builder> State<B> {
     }
 
     /// Takes the tag before the body's value, which is of this type.
+    #[inline(always)]
     fn take_tag(&mut self, id: TypeId, n: u64) -> Result<bool, Fault>
         requires { CanTakeTag B.stands self.old id n }
         ensures ok { IfOk result (λ whole. TakesHere B.stands self.old self.new n whole) }

@@ -120,6 +120,7 @@ impl Shapes for Table {
 
     ghost distinct = { distinct-types };
 
+    #[inline]
     fn shape_of(&self, id: TypeId) -> Option<&Shape> {
         match self.shapes.get_index(likely_place(id)) {
             Some((there, shape)) if *there == id => Some(shape),
@@ -133,6 +134,7 @@ const BASE_COUNT: u64 = 17;
 
 // The place in the table where a type of this id stands, if the stream defines its types one after another
 // from 65 on, as Go's encoder does. A look-up tries it before it hashes.
+#[inline]
 fn likely_place(id: TypeId) -> usize {
     match id.0 {
         1..=8 => id.0 as usize - 1,

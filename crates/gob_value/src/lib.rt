@@ -56,9 +56,8 @@ pub use laws_description::{
     descriptions_tell_the_shape,
 };
 pub use laws_tidy::{
-    made_descriptions_are_tidy,
-    tidy_form_fits, tidy_form_is_no_deeper, tidy_form_is_no_longer, tidy_form_is_tidy,
-    tidy_form_is_unique, tidy_form_says_the_same,
+    made_descriptions_are_tidy, tidy_form_fits, tidy_form_is_no_deeper, tidy_form_is_no_longer,
+    tidy_form_is_tidy, tidy_form_is_unique, tidy_form_says_the_same,
 };
 pub use spelling::spell;
 pub use tidying::tidy;
