@@ -7,13 +7,13 @@ use Rattle.gob_types.specs.Ready.{IsReady}
 use Rattle.gob_types.proofs.GrowthLaws.{ready_defined}
 use Rattle.gob_value.specs.Tree.{Tree}
 use Rattle.gob_value.specs.Top.{SpellsTop}
-use Rattle.gob_read.specs.Stood.{IsStood}
+use Rattle.gob_read.specs.Stood.{IsShallow, IsStood}
 use Rattle.gob_read.specs.Telling.{Telling, Tells}
 use Rattle.gob_read.specs.Building.{IsComplete}
 use Rattle.gob_read.specs.Kinds.{IsStructType, BeginsAs, as_struct, as_tagged, number_stays, raw_stays}
 use Rattle.gob_read.specs.Within.{At, at_tag, at_part, at_once}
 use Rattle.gob_read.specs.Running.{IsReached, IsReachedSomewhere, StopsFor, GoesOn, Finishes, RefusesPiece}
-use Rattle.gob_read.specs.Reader.{HasTaken, nothing_taken, taken_so_far, IsAfter, Stands, IsUsable, StandsSomewhere, TakesPiece, EndsBody, RefusesBody}
+use Rattle.gob_read.specs.Reader.{HasTaken, nothing_taken, taken_so_far, IsAfter, Stands, IsUsable, StandsSomewhere, TakesPiece, EndsBody, RefusesBody, Stops}
 use Rattle.gob_read.specs.declared.frame.Frame.{Frame}
 use Rattle.gob_read.specs.declared.awaited.Awaited.{Awaited}
 use Rattle.gob_read.specs.declared.awaited.Awaited.TheVariants.{Top, Number}
@@ -22,6 +22,7 @@ use Rattle.gob_read.specs.declared.state.State.{State}
 use Rattle.gob_read.specs.declared.stop.Stop.{Stop}
 use Rattle.gob_read.specs.declared.stop.Stop.TheVariants as stops
 use Rattle.gob_read.specs.declared.run.Run.{Run}
+use Rattle.gob_read.proofs.Deepest.{shallow_within}
 use Rattle.gob_read.proofs.KindLaws.{struct_type}
 use Rattle.gob_read.proofs.Onward.{shallow_start}
 use Rattle.gob_read.proofs.Places.{no_top}
@@ -164,25 +165,27 @@ pub push_complete : {T : Table} {X O : Type 0} {stands : X → List Telling → 
 push_complete s f = let r = (f.finished s.type s.bytes s.reached).read in record { told = r.us; value = r.value; stood = r.told; tells = r.tells }
 
 pub push_done : {T : Table} {t : TypeId} (limit : ℕ) {announced : ℕ} {X O : Type 0} {stands : X → List Telling → Type 0} {means : O → Tree → Type 0} {run mid new : Run X O} {o ended : Option (Run X O)} {z piece : List ℕ} {count used : ℕ} {out : O} → ReadsOn T run mid o piece count
-    → Finishes T stands mid new (take count piece) used → ((us : List Telling) (v : Tree) → stands new.state.builder us → Tells v us → means out v) → ended ≡ None → Stands T t limit announced stands o z → EndsBody T t announced means ended z piece out used
-push_done {T = T} {t = t} limit {announced = announced} {stands = stands} {run = run} {z = z} {piece = piece} {count = count} {used = used} p f m e s =
+    → Finishes T stands mid new (take count piece) used → new.depth ≡ mid.depth → ((us : List Telling) (v : Tree) → stands new.state.builder us → Tells v us → means out v) → ended ≡ None → Stands T t limit announced stands o z → EndsBody T t limit announced means ended z piece out used
+push_done {T = T} {t = t} limit {announced = announced} {stands = stands} {run = run} {new = new} {z = z} {piece = piece} {count = count} {used = used} p f d m e s =
     let a : IsAfter T t limit announced stands run z = after_is p.was s in
     let h = begun_reached p.begun a.so_far in
     let r = (f.finished t z h).read in
     let one : take used (take count piece) ≡ take used piece = take_fewer piece used count f.within in
+    let shallow : IsShallow T t limit (z ++ take used (take count piece)) = subst (λ k. IsShallow T t k (z ++ take used (take count piece))) (d ∙ p.begun.depth_is ∙ a.depth_is) (f.finished t z h).shallow in
     record {
       ended = e;
       within = (let w = f.within in omega (arith, take_short piece count));
       made = record {
         value = r.value;
         spelled = subst (λ l. SpellsTop T t r.value (z ++ l)) one r.spelled;
+        not_deep = shallow_within r.spelled shallow;
         all = ap (λ l. length (z ++ l)) (sym one) ∙ f.all t z h ∙ p.begun.length_is ∙ a.length_is;
         meant = m r.us r.value r.told r.tells;
       };
     }
 
 pub push_stops : (T : Table) {X O : Type 0} (stands : X → List Telling → Type 0) (run mid : Run X O) (o : Option (Run X O)) (piece : List ℕ) (count : ℕ) (stop : Stop) → ReadsOn T run mid o piece count
-    → StopsFor (λ refusal. RefusesPiece T stands mid (take count piece) refusal) stop → StopsFor (λ refusal. RefusesBody T stands o piece refusal) stop
+    → StopsFor (λ refusal. RefusesPiece T stands mid (take count piece) refusal) stop → Stops o (λ refusal. RefusesBody T stands o piece refusal) stop
 push_stops T stands run mid o piece count (stops.Refused q s r) p k = record {
   each = λ t limit announced z h.
       let a : IsAfter T t limit announced stands run z = after_is p.was h in
@@ -191,4 +194,4 @@ push_stops T stands run mid o piece count (stops.Refused q s r) p k = record {
       same_first (p.begun.depth_is ∙ a.depth_is) (p.begun.length_is ∙ a.length_is) (ap (λ l. z ++ l) room) (k.each t z (begun_reached p.begun a.so_far));
 }
 push_stops T stands run mid o piece count stops.Memory p k = k
-push_stops T stands run mid o piece count stops.Failed p k = k
+push_stops T stands run mid o piece count stops.Failed p k = absurd k

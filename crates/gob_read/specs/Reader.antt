@@ -2,7 +2,7 @@
 use Rattle.std.specs.Prelude.{◌≡◌, ℕ, ◌+◌, ◌-◌, ◌≤◌, List, [], ◌∷◌, ◌++◌, length, take, Option, Some, None}
 use Rattle.gob_types.specs.declared.id.TypeId.{TypeId}
 use Rattle.gob_types.specs.Table.{Table}
-use Rattle.gob_value.specs.Tree.{Tree}
+use Rattle.gob_value.specs.Tree.{Tree, depth}
 use Rattle.gob_value.specs.Top.{SpellsTop}
 use Rattle.gob_read.specs.Refusal.{Refusal}
 use Rattle.gob_read.specs.First.{IsFirst}
@@ -15,6 +15,8 @@ use Rattle.gob_read.specs.declared.awaited.Awaited.{Awaited}
 use Rattle.gob_read.specs.declared.awaited.Awaited.TheVariants.{Number}
 use Rattle.gob_read.specs.declared.awaited.Item.TheVariants.{Part, Second}
 use Rattle.gob_read.specs.declared.run.Run.{Run}
+use Rattle.gob_read.specs.declared.stop.Stop.{Stop}
+use Rattle.gob_read.specs.declared.stop.Stop.TheVariants as stops
 use Rattle.gob_read.specs.declared.reader.Progress.{Progress}
 use Rattle.gob_read.specs.declared.reader.Progress.TheVariants.{More, Done}
 
@@ -48,10 +50,11 @@ abbrev pub IsUsable : Table → {X O : Type 0} → (X → List Telling → Type 
 IsUsable T stands None = Unit {0}
 IsUsable T stands (Some run) = StandsSomewhere T stands run
 
--- the bytes spell a value, all that were announced, and this was made of it
-pub record IsMade (T : Table) (t : TypeId) (announced : ℕ) {O : Type 0} (means : O → Tree → Type 0) (out : O) (z : List ℕ) : Type 0 where
+-- the bytes spell a value no deeper than the limit, all that were announced, and this was made of it
+pub record IsMade (T : Table) (t : TypeId) (limit announced : ℕ) {O : Type 0} (means : O → Tree → Type 0) (out : O) (z : List ℕ) : Type 0 where
   pub value : Tree
   pub spelled : SpellsTop T t value z
+  pub not_deep : depth value ≤ limit
   pub all : length z ≡ announced
   pub meant : means out value
 
@@ -61,19 +64,25 @@ pub record TakesPiece (T : Table) (t : TypeId) (limit announced : ℕ) {X O : Ty
   pub stood : IsStood T t limit announced (z ++ piece)
 
 -- so many bytes of the piece were taken, with which the body and its value end
-pub record EndsBody (T : Table) (t : TypeId) (announced : ℕ) {X O : Type 0} (means : O → Tree → Type 0) (run : Option (Run X O)) (z piece : List ℕ) (out : O) (used : ℕ) : Type 0 where
+pub record EndsBody (T : Table) (t : TypeId) (limit announced : ℕ) {X O : Type 0} (means : O → Tree → Type 0) (run : Option (Run X O)) (z piece : List ℕ) (out : O) (used : ℕ) : Type 0 where
   pub ended : run ≡ None
   pub within : used ≤ length piece
-  pub made : IsMade T t announced means out (z ++ take used piece)
+  pub made : IsMade T t limit announced means out (z ++ take used piece)
 
 -- after the bytes z a piece was pushed
 abbrev pub Gives : (T : Table) (t : TypeId) (limit announced : ℕ) {X O : Type 0} (stands : X → List Telling → Type 0) (means : O → Tree → Type 0) (run : Option (Run X O)) (z piece : List ℕ) → Progress O → Type 0
 Gives T t limit announced stands means run z piece More = TakesPiece T t limit announced stands run z piece
-Gives T t limit announced stands means run z piece (Done out used) = EndsBody T t announced means run z piece out used
+Gives T t limit announced stands means run z piece (Done out used) = EndsBody T t limit announced means run z piece out used
 
 -- the refusal is the one that is given of the bytes up to the announced length
 pub record RefusesBody (T : Table) {X O : Type 0} (stands : X → List Telling → Type 0) (run : Option (Run X O)) (piece : List ℕ) (refusal : Refusal) : Type 0 where
   pub each : (t : TypeId) (limit announced : ℕ) (z : List ℕ) → Stands T t limit announced stands run z → IsFirst T t limit announced (z ++ take (announced - length z) piece) refusal
+
+-- why a reader stops: what holds of the refusal, if there is one, and only one that has ended before says so
+abbrev pub Stops : {X O : Type 0} → Option (Run X O) → (Refusal → Type 0) → Stop → Type 0
+Stops run why (stops.Refused place seen reason) = why (record { place = place; seen = seen; reason = reason })
+Stops run why stops.Memory = Unit {0}
+Stops run why stops.Failed = run ≡ None
 
 -- the parts that have begun with these bytes of the awaited item, before the builder is told of them
 abbrev pub begun_parts : Awaited → List ℕ → ℕ

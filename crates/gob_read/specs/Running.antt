@@ -92,11 +92,11 @@ abbrev pub IsStepped : (T : Table) (t : TypeId) {X O : Type 0} (stands : X → L
 IsStepped T t stands run z true = IsFinished T t stands run z
 IsStepped T t stands run z false = IsReached T t stands run z
 
--- what holds of the refusal, if there is one
+-- what holds of the refusal, if there is one; a reader under way has not ended before
 abbrev pub StopsFor : (Refusal → Type 0) → Stop → Type 0
 StopsFor why (Refused place seen reason) = why (record { place = place; seen = seen; reason = reason })
 StopsFor why Memory = Unit {0}
-StopsFor why Failed = Unit {0}
+StopsFor why Failed = ⊥
 
 -- so many more bytes are taken, of a body as long and no deeper
 pub record TakesMore {X O : Type 0} (old new : Run X O) (count : ℕ) : Type 0 where

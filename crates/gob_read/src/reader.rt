@@ -4,8 +4,7 @@ ghost use Rattle.std.specs.Prelude.{◌≡◌, ℕ, [], IfOk, IfErr, OnErr, Err,
 ghost use Rattle.gob_types.specs.declared.id.TypeId.{TypeId};
 ghost use Rattle.gob_types.specs.Table.{Table};
 ghost use Rattle.gob_types.specs.Ready.{IsReady};
-ghost use Rattle.gob_read.specs.Running.{StopsFor};
-ghost use Rattle.gob_read.specs.Reader.{Stands, IsUsable, Gives, RefusesBody, IsHeld};
+ghost use Rattle.gob_read.specs.Reader.{Stands, IsUsable, Gives, RefusesBody, Stops, IsHeld};
 
 use crate::builder::Builder;
 use crate::run::Run;
@@ -56,7 +55,7 @@ impl<B: Builder> BodyReader<B> {
         requires { IsUsable (S.table shapes.now) B.stands self.old.run }
         ensures given { IfOk result (λ progress. (t : TypeId) (limit announced : ℕ) (z : List ℕ) → Stands (S.table shapes.now) t limit announced B.stands self.old.run z
             → Gives (S.table shapes.now) t limit announced B.stands B.means self.new.run z piece.now progress) }
-        ensures refused { IfErr result (StopsFor (λ refusal. RefusesBody (S.table shapes.now) B.stands self.old.run piece.now refusal)) }
+        ensures refused { IfErr result (Stops self.old.run (λ refusal. RefusesBody (S.table shapes.now) B.stands self.old.run piece.now refusal)) }
         ensures failed { self.old.run ≡ None → result ≡ Err Stop.Failed }
         ensures ended { OnErr result (self.new.run ≡ None) }
     {
