@@ -36,22 +36,6 @@ leaf_any T U k v b n (of_array m p ps) = absurd (n tt)
 leaf_any T U k v b n (of_map p ps) = absurd (n tt)
 leaf_any T U k v b n (of_struct ps) = absurd (n tt)
 
--- a value of a basic type has no parts
-pub basic_any : (T U : Table) (k : Kind) (v : Tree) (b : List ℕ) → (basic : _) → k ≡ kind.Basic basic → SpellsAs T k v b → SpellsAs U k v b
-basic_any T U k v b basic e (of_bool p) = of_bool p
-basic_any T U k v b basic e (of_int p) = of_int p
-basic_any T U k v b basic e (of_uint p) = of_uint p
-basic_any T U k v b basic e (of_float p) = of_float p
-basic_any T U k v b basic e (of_complex p q) = of_complex p q
-basic_any T U k v b basic e (of_nil p) = of_nil p
-basic_any T U k v b basic e (of_bytes p) = of_bytes p
-basic_any T U k v b basic e (of_text p) = of_text p
-basic_any T U k v b basic e (of_opaque p) = of_opaque p
-basic_any T U k v b basic e (of_slice p ps) = cc
-basic_any T U k v b basic e (of_array m p ps) = cc
-basic_any T U k v b basic e (of_map p ps) = cc
-basic_any T U k v b basic e (of_struct ps) = cc
-
 module _ (T : Table) where
   pub fits_bool : (k : Kind) (x : Bool) → (k ≡ kind.Basic basic.Bool) ↔ FitsKind T k (Tree.bool x)
   fits_bool k x = (λ e. rw e (let s = unsigned_spelled (truth x) (small x) in record { bytes = s.bytes; spelled = of_bool s.spelled }), λ f. back f.bytes f.spelled)

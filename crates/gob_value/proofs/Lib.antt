@@ -9,3 +9,5 @@ pub mod WrittenSteps
 pub mod PrefixLaws
 pub mod UniqueLaws
 pub mod StayLaws
+pub mod DescriptionSteps
+pub mod JudgedLaws

@@ -7,6 +7,8 @@ pub mod Within
 pub mod Elements
 pub mod Written
 pub mod Faults
-pub mod Basic
 pub mod Laws
 pub mod Description
+pub mod Described
+pub mod Saying
+pub mod ShapeFaults

@@ -1,5 +1,7 @@
 //! Why a value is not taken.
 
+use gob_num::Memory;
+
 /// Why a value isn't one of a type.
 #[derive(Clone, Copy, Debug, PartialEq, Eq)]
 pub enum Misfit {
@@ -31,5 +33,32 @@ impl From<Misfit> for SpellFault {
             Misfit::TooDeep => SpellFault::TooDeep,
             Misfit::DoesNotFit => SpellFault::DoesNotFit,
         }
+    }
+}
+
+/// Why a value of type 16 gives no shape: the first of these that holds.
+/// (Go's encoding/gob documentation, Encoding Details, on wireType; docs/FORMAT.md, Descriptions.)
+#[derive(Clone, Copy, Debug, PartialEq, Eq)]
+pub enum ShapeFault {
+    /// Not exactly one field of wireType is present.
+    KindCount,
+    /// The Id isn't the id that is being defined.
+    WrongId,
+    /// An Elem, a Key or the Id of a field is no type id from 1 to 2147483647, or is 24.
+    BadReference,
+    /// The Len of an array is below 0.
+    BadLength,
+    /// The allocator refused memory. The value describes a shape.
+    Memory,
+}
+
+impl From<Memory> for ShapeFault {
+    ghost use Rattle.std.specs.Prelude.{◌≡◌};
+    ghost use Rattle.gob_value.specs.declared.fault.ShapeFault.TheVariants as fault;
+
+    ghost from_gives = { λ _ given. given ≡ fault.Memory };
+
+    fn from(_: Memory) -> ShapeFault {
+        ShapeFault::Memory
     }
 }

@@ -17,20 +17,23 @@
 //!   [`spellings_stay`] are laws, which readers and writers rely on.
 #![tactic(auto)]
 
-mod basic;
 mod depth;
+mod describing;
+mod description;
 mod fault;
 mod fitting;
 mod laws;
 mod leaf;
+mod parts;
 mod spelling;
 #[cfg(test)]
 mod tests;
 mod value;
 mod writing;
 
-pub use basic::spell_basic;
-pub use fault::{Misfit, SpellFault};
+pub use describing::describe;
+pub use description::shape_from;
+pub use fault::{Misfit, ShapeFault, SpellFault};
 pub use fitting::fits;
 pub use laws::{
     spellings_are_unique, spellings_begin_no_other, spellings_stay, spellings_tell_the_value,

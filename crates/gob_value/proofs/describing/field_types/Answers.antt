@@ -1,0 +1,18 @@
+use Rattle.std.proofs.Common.{arith, refl, length}
+use Rattle.std.proofs.lemmas.Option.{slice_get_read}
+use Rattle.gob_value.specs.View.{view}
+use Rattle.gob_value.proofs.DescriptionSteps.{types_more, types_all}
+use Rattle.gob_value.proofs.describing.field_types.Goals as goal
+
+pub loop-field-preserved : goal.loop-field-preserved
+loop-field-preserved c =
+    let fields = c.args.fields.now in
+    let i = c.loop-field.field-index in
+    let f = c.field-item.result in
+    let there = slice_get_read fields (length fields) i f refl c.loop-field-test.true c.field-item.is in
+    let reference = c.requires f.id (record { number = i; field = f; there = there; type = refl }) in
+    types_more c.loop-field.types.items c.push.new.self.items fields i f c.in_ok-name_and_id.field-0 c.loop-field.invariant c.field-item.is c.loop-field-test.true
+    (c.in_ok-name_and_id.ensures (omega arith)) c.in_ok-push.ensures.items
+
+pub returns : goal.returns
+returns c = types_all c.loop-field.types.items c.args.fields.now c.loop-field.field-index c.loop-field.invariant c.loop-field-test.false

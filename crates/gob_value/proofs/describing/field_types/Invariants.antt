@@ -1,0 +1,8 @@
+use Rattle.std.proofs.Common.{◌≡◌, map, take}
+use Rattle.gob_value.specs.View.{view}
+use Rattle.gob_value.proofs.DescriptionSteps.{field_type}
+use Rattle.gob_value.proofs.describing.field_types.Given as goal
+
+-- the fieldTypes so far are those of the first fields
+abbrev pub invariant-loop-field : goal.invariant-loop-field
+invariant-loop-field l = map view l.types.items ≡ map field_type (take l.field-index l.fields)
