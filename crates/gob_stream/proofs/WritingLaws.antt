@@ -1,5 +1,5 @@
 -- What the writing calls rest on.
-use Rattle.std.proofs.Common.{◌≡◌, ◌≢◌, ℕ, pos, negsuc, ◌+◌, ◌^◌, ◌<◌, ◌≤◌, ◌⊎◌, inl, inr, Bool, true, false, cond, List, [], ◌∷◌, ◌++◌, length, Option, Some, None, refl, sym, ap, subst, ◌∙◌, arith, append_assoc, length-append}
+use Rattle.std.proofs.Common.{◌≡◌, ◌≢◌, ℕ, ℤ, pos, negsuc, ◌+◌, ◌^◌, ◌<◌, ◌≤◌, ◌⊎◌, inl, inr, Bool, true, false, cond, List, [], ◌∷◌, ◌++◌, length, Option, Some, None, refl, sym, ap, subst, ◌∙◌, arith, append_assoc, length-append}
 use Rattle.std.specs.Prelude.{◌==◌}
 use Rattle.std.proofs.lemmas.Bool.Decides.{eqb_tells}
 use Rattle.gob_num.specs.Unsigned.{IsUnsigned, short, long}
@@ -46,53 +46,53 @@ may_define L d most admits = record { own = admits.own; new = admits.new; room =
 base_within : {T : Table} → IsTable T → 17 ≤ length T
 base_within table = omega (arith, ap length table.behind_base, length-append base_table table.definitions)
 
-pub id_refusal : (L : Bounds) (d : Defined) {t : TypeId} (v : Tree) (o : ℕ) (f : DefineFault) → IsTable (types d) → d.most ≡ L.types → Refuses d t f
+pub id_refusal : (L : Bounds) (d : Defined) (t : TypeId) (v : Tree) (o : ℕ) (f : DefineFault) → IsTable (types d) → d.most ≡ L.types → Refuses d t f
     → IsRefusal (RefusesItem base_table L (types d) o (defines t v)) (definition_fault t f)
-id_refusal L d v o defining.ReservedType table most refused = refused_id (reserved refused)
-id_refusal L d {t = t} v o defining.DefinedTwice table most refused =
+id_refusal L d t v o defining.ReservedType table most refused = refused_id (reserved refused)
+id_refusal L d t v o defining.DefinedTwice table most refused =
     refused_id (defined_twice refused.0 (λ none. let no : None ≡ Some refused.1.0 = sym none ∙ refused.1.1 in cc))
-id_refusal L d v o defining.TooManyTypes table most refused =
+id_refusal L d t v o defining.TooManyTypes table most refused =
     refused_id (too_many refused.0 refused.1 (λ room. let full = refused.2 in let some = base_within table in omega arith))
-id_refusal L d v o defining.Memory table most refused = tt
+id_refusal L d t v o defining.Memory table most refused = tt
 
 -- ---- which values and descriptions are written
 
-value_refusal : (L : Bounds) {T : Table} {t : TypeId} (v : Tree) (f : SpellFault) → IsSpellFault T t L.depth v f → IsRefusal (RefusesValue L T t v) (spelling_fault f)
-value_refusal L v spelling.TooDeep fault = too_deep fault
-value_refusal L v spelling.DoesNotFit fault = does_not_fit fault.0 fault.1
-value_refusal L v spelling.Memory fault = tt
+value_refusal : (L : Bounds) (T : Table) (t : TypeId) (v : Tree) (f : SpellFault) → IsSpellFault T t L.depth v f → IsRefusal (RefusesValue L T t v) (spelling_fault f)
+value_refusal L T t v spelling.TooDeep fault = too_deep fault
+value_refusal L T t v spelling.DoesNotFit fault = does_not_fit fault.0 fault.1
+value_refusal L T t v spelling.Memory fault = tt
 
-shape_refusal : {t : TypeId} {v : Tree} (f : ShapeFault) → IsShapeFault t v f → IsRefusal (Misdescribes t v) (description_fault f)
-shape_refusal describing.KindCount fault = fault
-shape_refusal describing.WrongId fault = fault
-shape_refusal describing.BadReference fault = fault
-shape_refusal describing.BadLength fault = fault
-shape_refusal describing.Memory fault = tt
+shape_refusal : (t : TypeId) (v : Tree) (f : ShapeFault) → IsShapeFault t v f → IsRefusal (Misdescribes t v) (description_fault f)
+shape_refusal t v describing.KindCount fault = fault
+shape_refusal t v describing.WrongId fault = fault
+shape_refusal t v describing.BadReference fault = fault
+shape_refusal t v describing.BadLength fault = fault
+shape_refusal t v describing.Memory fault = tt
 
 pub put_refusal : (L : Bounds) {T : Table} (o : ℕ) {t : TypeId} (v : Tree) (f : SpellFault) → MayPut T t → IsSpellFault T t L.depth v f
     → IsRefusal (RefusesItem base_table L T o (puts t v)) (spelling_fault f)
-put_refusal L o v f may fault = refusal_weaker (spelling_fault f) (λ r. refused_value may) (value_refusal L v f fault)
+put_refusal L o v f may fault = refusal_weaker (spelling_fault f) (λ r. refused_value may) (value_refusal L _ _ v f fault)
 
 pub define_refusal : (L : Bounds) {T : Table} (o : ℕ) {t : TypeId} (v : Tree) (f : SpellFault) → MayDefine base_table L T t → IsSpellFault T wire_type L.depth v f
     → IsRefusal (RefusesItem base_table L T o (defines t v)) (spelling_fault f)
-define_refusal L o v f may fault = refusal_weaker (spelling_fault f) (λ r. refused_description may) (value_refusal L v f fault)
+define_refusal L o v f may fault = refusal_weaker (spelling_fault f) (λ r. refused_description may) (value_refusal L _ _ v f fault)
 
 pub description_refusal : (L : Bounds) {T : Table} (o : ℕ) {t : TypeId} (v : Tree) (f : ShapeFault) → MayDefine base_table L T t → depth v ≤ L.depth → Fits T wire_type v → IsShapeFault t v f
     → IsRefusal (RefusesItem base_table L T o (defines t v)) (description_fault f)
-description_refusal L o v f may within fits fault = refusal_weaker (description_fault f) (λ r. described_wrongly may within fits) (shape_refusal f fault)
+description_refusal L o v f may within fits fault = refusal_weaker (description_fault f) (λ r. described_wrongly may within fits) (shape_refusal _ v f fault)
 
 -- ---- which types can be put
 
 not_there : (o : Option Shape) → ¬ ((s : Shape) × (o ≡ Some s)) → o ≡ None
-not_there None no = refl
-not_there (Some s) no = absurd (no (s, refl))
+not_there None never = refl
+not_there (Some s) never = absurd (never (s, refl))
 
-pub type_refusal : {T : Table} {t : TypeId} (f : NotReady) → t ≢ gob_encoder_type → IsNotReady T t f → IsRefusal (RefusesType T t) (type_fault f)
-type_refusal {T = T} (unready.UndefinedType u) public unready =
+pub type_refusal : (T : Table) (t : TypeId) (f : NotReady) → t ≢ gob_encoder_type → IsNotReady T t f → IsRefusal (RefusesType T t) (type_fault f)
+type_refusal T t (unready.UndefinedType u) public unready =
     undefined public unready.has.0 (λ defined. let no : None ≡ Some defined.0 = sym unready.has.1 ∙ defined.1 in cc) (λ w reached bad. unready.least w (reached, not_there (shape_of T w) bad))
-type_refusal (unready.Bottomless u) public unready =
+type_refusal T t (unready.Bottomless u) public unready =
     bottomless public unready.0 unready.1.has.0 unready.1.has.1 (λ w reached bad. unready.1.least w (reached, bad))
-type_refusal unready.Memory public unready = tt
+type_refusal T t unready.Memory public unready = tt
 
 -- ---- the ids of defined types are small
 
@@ -128,6 +128,10 @@ zero_byte : {z : List ℕ} → IsUnsigned 0 z → z ≡ 0 ∷ []
 zero_byte (short _) = refl
 zero_byte (long c) = absurd (omega (arith, c.large))
 
+-- the bytes of a signed number are those of what it is equal to
+pub signed_as : {i : ℤ} {b : List ℕ} (j : ℤ) → IsSigned i b → i ≡ j → IsSigned j b
+signed_as {b = b} j spelled same = subst (λ k. IsSigned k b) same spelled
+
 -- the number of a definition and its description's spelling
 pub definition_body : (L : Bounds) {T : Table} {t : TypeId} {v : Tree} {s : Shape} {n : ℕ} {a b w : List ℕ} → MayDefine base_table L T t → depth v ≤ L.depth → Describes t v s
     → t.0 ≡ n + 1 → IsSigned (negsuc n) a → Spells T wire_type v b → w ≡ a ++ b → Body base_table L T (defines t v) w (T ++ (t, s) ∷ [])
@@ -139,9 +143,9 @@ pub value_body : (L : Bounds) {T : Table} {t : TypeId} {v : Tree} {h s w : List 
     → Body base_table L T (puts t v) w T
 value_body L {T = T} {t = t} {v = v} may within (head_of_struct has number) spelled whole =
     subst (λ w. Body base_table L T (puts t v) w T) (sym whole) (value may within number (at_once has.found has.struct spelled))
-value_body L {T = T} {t = t} {v = v} {s = s} may within (head_with_tag {a = a} {z = z} no number tag) spelled whole =
+value_body L {T = T} {t = t} {v = v} {s = s} may within (head_with_tag {a = a} {z = z} no_struct number tag) spelled whole =
     let defined = ready_defined may.ready in
-    let top : SpellsTop T t v (0 ∷ s) = tagged defined.1 (λ struct. no (record { shape = defined.0; found = defined.1; struct = struct })) spelled in
+    let top : SpellsTop T t v (0 ∷ s) = tagged defined.1 (λ struct. no_struct (record { shape = defined.0; found = defined.1; struct = struct })) spelled in
     subst (λ w. Body base_table L T (puts t v) w T) (sym (whole ∙ append_assoc a z s))
     (value may within number (subst (λ y. SpellsTop T t v (y ++ s)) (sym (zero_byte tag)) top))
 

@@ -5,7 +5,7 @@ ghost use Rattle.gob_num.specs.Unsigned.{IsUnsigned};
 ghost use Rattle.gob_num.specs.Spelled.{Appends};
 ghost use Rattle.gob_types.specs.Base.{base_table};
 ghost use Rattle.gob_types.specs.Definable.{IsDefinable};
-ghost use Rattle.gob_types.specs.Defined.{types};
+ghost use Rattle.gob_types.specs.Defined.{types, IsTable};
 ghost use Rattle.gob_value.specs.View.{view};
 ghost use Rattle.gob_stream.specs.Item.{defines, puts};
 ghost use Rattle.gob_stream.specs.Body.{Body, MayPut};
@@ -108,6 +108,7 @@ pub(crate) fn spell_definition(
     ensures ok { table.now.most ≡ limits.now.types → IfOk result (λ shape. Body base_table limits.now (types table.now)
         (defines id (view described.now)) body.new.items (types table.now ++ (id, shape) ∷ [])) }
     ensures definable { IfOk result (λ shape. IsDefinable shape) }
+    ensures known { IsTable (types table.now) }
     ensures err { table.now.most ≡ limits.now.types → (offset : ℕ) → IfErr result (IsRefusal (RefusesItem base_table
         limits.now (types table.now) offset (defines id (view described.now)))) }
     ensures early { IfErr result (IsRefusal (λ _. Unit {0})) }
