@@ -5,6 +5,7 @@ use Rattle.gob_num.specs.Signed.{IsSigned}
 use Rattle.gob_types.specs.declared.id.TypeId.{TypeId}
 use Rattle.gob_types.specs.declared.kind.Field.{Field}
 use Rattle.gob_types.specs.declared.kind.Kind.{Kind}
+use Rattle.gob_types.specs.declared.kind.Marshal.TheVariants as marshal
 use Rattle.gob_types.specs.declared.kind.Kind.TheVariants as kind
 use Rattle.gob_types.specs.declared.kind.Shape.{Shape}
 use Rattle.gob_types.specs.Table.{Table}
@@ -15,7 +16,7 @@ use Rattle.gob_value.specs.Tree.{Tree, Fields, no_field, field}
 use Rattle.gob_value.specs.Tree as Value
 use Rattle.gob_value.specs.Spelling.{Spells, of_type, SpellsAs, of_int, of_struct, SpellsFields, next_field}
 use Rattle.gob_value.specs.Fits.{Fits}
-use Rattle.gob_value.specs.Description.{Said, SaidField, SaidKind, said_array, said_slice, said_struct, said_map, said_opaque, said, said_kind, said_with, present, number_in, fields_in, elements_in, RefersTo, GivesFields, and_field, GivesKind, gives_array, gives_slice, gives_struct, gives_map, gives_opaque, Describes}
+use Rattle.gob_value.specs.Description.{Said, SaidField, SaidKind, said_array, said_slice, said_struct, said_map, said_opaque, said, said_kind, said_with, present, number_in, fields_in, elements_in, said_fields, RefersTo, GivesFields, and_field, GivesKind, gives_array, gives_slice, gives_struct, gives_map, gives_opaque, Describes}
 use Rattle.gob_num.specs.Signed.{not_negative}
 use Rattle.gob_num.proofs.UnsignedLaws.{unsigned_fits}
 
@@ -34,7 +35,7 @@ record ArePresent (T : Table) (fs : Fields) : Type 0 where
 none_present : {T : Table} → ArePresent T no_field
 none_present = record { each = λ n v at. absurd (cc at) }
 
-spelled_fields : {T : Table} {types : List Field} {next : ℕ} (fs : Fields) {b : List ℕ} → SpellsFields T types next fs b → (n : ℕ) (v : Tree) → present n fs ≡ Some v → IsOfSomeType T v
+spelled_fields : {T : Table} {types : List Field} (fs : Fields) {next : ℕ} {b : List ℕ} → SpellsFields T types next fs b → (n : ℕ) (v : Tree) → present n fs ≡ Some v → IsOfSomeType T v
 spelled_fields no_field spelled n v at = absurd (cc at)
 spelled_fields {T = T} (field f w fs) (next_field l m p q ps) n v at = by (f == n) at (spelled_fields fs ps n v)
   where
@@ -71,17 +72,19 @@ number_small {T = T} {fs = fs} {n = n} f all is = by (present f fs) is (all.each
 
 -- ---- the length of an array
 
+array_chosen : (x y m n p e l : ℤ) (gs : List SaidField) (a b c d g : Bool)
+    → cond a (Some (said_array x y)) (cond b (Some (said_slice m)) (cond c (Some (said_struct gs)) (cond d (Some (said_map n p)) (cond g (Some (said_opaque marshal.Gob)) None)))) ≡ Some (said_array e l) → l ≡ y
+array_chosen x y m n p e l gs true b c d g says = cc
+array_chosen x y m n p e l gs false true c d g says = absurd (cc)
+array_chosen x y m n p e l gs false false true d g says = absurd (cc)
+array_chosen x y m n p e l gs false false false true g says = absurd (cc)
+array_chosen x y m n p e l gs false false false false true says = absurd (cc)
+array_chosen x y m n p e l gs false false false false false says = absurd (cc)
+
 array_said : (f : ℕ) (fs : Fields) {e l : ℤ} → said_kind f fs ≡ Some (said_array e l) → l ≡ number_in (present 2 fs)
-array_said f fs says = by (f == 0) (f == 1) (f == 2) (f == 3) (f == 4) says
-  where
-    by : {x y e l m n p q : ℤ} {gs : List SaidField} (a b c d g : Bool)
-        → cond a (Some (said_array x y)) (cond b (Some (said_slice m)) (cond c (Some (said_struct gs)) (cond d (Some (said_map n p)) (cond g (Some (said_opaque _)) None)))) ≡ Some (said_array e l) → l ≡ y
-    by true b c d g says = cc
-    by false true c d g says = absurd (cc)
-    by false false true d g says = absurd (cc)
-    by false false false true g says = absurd (cc)
-    by false false false false true says = absurd (cc)
-    by false false false false false says = absurd (cc)
+array_said f fs {e = e} {l = l} says =
+    array_chosen (number_in (present 1 fs)) (number_in (present 2 fs)) (number_in (present 1 fs)) (number_in (present 1 fs)) (number_in (present 2 fs)) e l (said_fields (elements_in (present 1 fs)))
+    (f == 0) (f == 1) (f == 2) (f == 3) (f == 4) says
 
 has_length : {T : Table} (f : ℕ) (fs : Fields) {k : SaidKind} {kk : Kind} → ArePresent T fs → said_kind f fs ≡ Some k → GivesKind k kk → HasLength kk
 has_length f fs all says (gives_array refers len) = number_small 2 all (sym (array_said f fs says) ∙ len)
@@ -113,7 +116,7 @@ kind_with common (Some k) says = ap (λ w. Some w.kind) (some_injective says)
 
 described_length : {T : Table} {t id : TypeId} {v : Tree} {b : List ℕ} {s : Shape} → Spells T t v b → Describes id v s → HasLength s.kind
 described_length {T = T} {v = Value.fields (field f w no_field)} (of_type found (of_struct (next_field l m p q ps))) d =
-    has_length f (fields_in (Some w)) (fields_present w (record { type = _; bytes = _; spelled = q })) (kind_with _ _ d.says) d.kind
+    has_length f (fields_in (Some w)) (fields_present w (record { type = _; bytes = _; spelled = q })) (kind_with (fields_in (present 0 (fields_in (Some w)))) (said_kind f (fields_in (Some w))) d.says) d.kind
 described_length {v = _} spelled d = absurd (cc d.says)
 
 pub definable : {T : Table} {t id : TypeId} {v : Tree} {s : Shape} → Fits T t v → Describes id v s → IsDefinable s

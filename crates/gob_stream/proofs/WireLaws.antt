@@ -39,25 +39,25 @@ field_in T [] n f all at = absurd (cc at)
 field_in T (g ∷ fs) zero f all at = subst (λ h. IsDefined T h.id) (some_injective at) all.0
 field_in T (g ∷ fs) (suc n) f all at = field_in T fs n f all.1 at
 
-named_in : {T : Table} (k : Kind) {w : TypeId} → NamesIn T k → Names k w → IsDefined T w
-named_in (kind.Basic b) all names = absurd names
-named_in (kind.Array e n) all names = absurd all
-named_in {T = T} (kind.Slice e) all names = subst (IsDefined T) names all
-named_in {T = T} (kind.Struct fs) all names = subst (IsDefined T) names.type (field_in T fs names.number names.field all names.there)
-named_in (kind.Map k e) all names = absurd all
-named_in (kind.Opaque m) all names = absurd names
+named_in : (T : Table) (k : Kind) (w : TypeId) → NamesIn T k → Names k w → IsDefined T w
+named_in T (kind.Basic b) w all names = absurd names
+named_in T (kind.Array e n) w all names = absurd all
+named_in T (kind.Slice e) w all names = subst (IsDefined T) names all
+named_in T (kind.Struct fs) w all names = subst (IsDefined T) names.type (field_in T fs names.number names.field all names.there)
+named_in T (kind.Map k e) w all names = absurd all
+named_in T (kind.Opaque m) w all names = absurd names
 
-no_array : {T : Table} (k : Kind) → NamesIn T k → ¬ IsFilledArray k
-no_array (kind.Basic b) all filled = filled
-no_array (kind.Array e n) all filled = all
-no_array (kind.Slice e) all filled = filled
-no_array (kind.Struct fs) all filled = filled
-no_array (kind.Map k e) all filled = filled
-no_array (kind.Opaque m) all filled = filled
+no_array : (T : Table) (k : Kind) → NamesIn T k → ¬ IsFilledArray k
+no_array T (kind.Basic b) all filled = filled
+no_array T (kind.Array e n) all filled = all
+no_array T (kind.Slice e) all filled = filled
+no_array T (kind.Struct fs) all filled = filled
+no_array T (kind.Map k e) all filled = filled
+no_array T (kind.Opaque m) all filled = filled
 
-entry_in : {T : Table} (U : Table) (t : TypeId) (s : Shape) → AllIn T U → shape_of U t ≡ Some s → NamesIn T s.kind
-entry_in [] t s all found = absurd (cc found)
-entry_in {T = T} (entry ∷ U) t s all found = by (entry.0.0 == t.0) found (entry_in U t s all.1)
+entry_in : (T U : Table) (t : TypeId) (s : Shape) → AllIn T U → shape_of U t ≡ Some s → NamesIn T s.kind
+entry_in T [] t s all found = absurd (cc found)
+entry_in T (entry ∷ U) t s all found = by (entry.0.0 == t.0) found (entry_in T U t s all.1)
   where
     by : (b : Bool) → cond b (Some entry.1) (shape_of U t) ≡ Some s → (shape_of U t ≡ Some s → NamesIn T s.kind) → NamesIn T s.kind
     by true found rest = subst (λ x. NamesIn T x.kind) (some_injective found) all.0
@@ -65,12 +65,12 @@ entry_in {T = T} (entry ∷ U) t s all found = by (entry.0.0 == t.0) found (entr
 
 leads_in : {T : Table} {n : ℕ} {t u : TypeId} → AllIn T T → IsDefined T t → Leads T n t u → IsDefined T u
 leads_in all there here = there
-leads_in {T = T} {t = t} all there (onward {s = s} found names rest) = leads_in all (named_in s.kind (entry_in T t s all found) names) rest
+leads_in {T = T} {t = t} all there (onward {w = w} {s = s} found names rest) = leads_in all (named_in T s.kind w (entry_in T T t s all found) names) rest
 
 all_ready : {T : Table} {t : TypeId} → AllIn T T → IsDefined T t → IsReady T t
 all_ready {T = T} all there u reached =
     let defined = leads_in all there reached.leads in
-    (defined, record { rank = 0; has = plain defined.1 (no_array defined.0.kind (entry_in T u defined.0 all defined.1)) })
+    (defined, record { rank = 0; has = plain defined.1 (no_array T defined.0.kind (entry_in T T u defined.0 all defined.1)) })
 
 -- ---- the base table is one
 
