@@ -84,16 +84,58 @@ common : IsDefined base_table (record { 0 = 18 })
 common = (_, refl)
 
 base_in : AllIn base_table base_table
-base_in = (tt, (tt, (tt, (tt, (tt, (tt, (tt, (tt, (
-    ((_, refl), ((_, refl), ((_, refl), ((_, refl), ((_, refl), tt))))), (
-    (common, (two, (two, tt))), (
-    (six, (two, tt)), (
-    (common, (two, tt)), (
-    (common, ((_, refl), tt)), (
-    (six, (two, tt)), (
-    (_, refl), (
-    (common, (two, (two, tt))), (
-    (common, tt), tt)))))))))))))))))
+base_in = (
+  tt,
+  (
+    tt,
+    (
+      tt,
+      (
+        tt,
+        (
+          tt,
+          (
+            tt,
+            (
+              tt,
+              (
+                tt,
+                (
+                  ((_, refl), ((_, refl), ((_, refl), ((_, refl), ((_, refl), tt))))),
+                  (
+                    (common, (two, (two, tt))),
+                    (
+                      (six, (two, tt)),
+                      (
+                        (common, (two, tt)),
+                        (
+                          (common, ((_, refl), tt)),
+                          (
+                            (six, (two, tt)),
+                            (
+                              (_, refl),
+                              (
+                                (common, (two, (two, tt))),
+                                (
+                                  (common, tt),
+                                  tt,
+                                ),
+                              ),
+                            ),
+                          ),
+                        ),
+                      ),
+                    ),
+                  ),
+                ),
+              ),
+            ),
+          ),
+        ),
+      ),
+    ),
+  ),
+)
 
 pub wire_ready : IsReady base_table wire_type
 wire_ready = all_ready base_in (_, refl)

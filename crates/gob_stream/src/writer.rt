@@ -107,14 +107,7 @@ impl StreamWriter {
         if self.failed {
             return Err(WriteFault::Failed);
         }
-        spell_value(
-            alloc,
-            &self.types,
-            &self.limits,
-            id,
-            value,
-            &mut self.body,
-        )?;
+        spell_value(alloc, &self.types, &self.limits, id, value, &mut self.body)?;
         finish_item(alloc, &self.limits, self.offset, &self.body, &mut self.item)?;
         self.send(output)
     }

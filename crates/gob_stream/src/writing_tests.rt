@@ -6,8 +6,8 @@ use crate::limits::Limits;
 use crate::output::Output;
 use crate::writer::StreamWriter;
 use crate::writing::write_stream;
-use gob_types::{Reason, TypeId};
-use gob_value::Value;
+use gob_types::{Field, Fields, Kind, Name, Reason, Shape, TypeId};
+use gob_value::{Value, describe};
 use std::alloc::Global;
 use std::io;
 use std::io::Write;
@@ -308,37 +308,6 @@ fn limits_are_kept(rt: HostRuntime) -> Result<(), Fail> {
 }
 
 #[test]
-fn other_types_are_refused(rt: HostRuntime) -> Result<(), Fail> {
-    let alloc = rt.alloc();
-    let mut device = Device::sound(alloc);
-    let mut output = Output::new(&mut device);
-    let mut writer = StreamWriter::new(alloc, Limits::standard())?;
-    for id in [0, 8, 9, 16, 24, 65] {
-        let refused = WriteFault::Refused(Reason::UndefinedType(TypeId(id)));
-        assert_eq!(rt;
-            writer.put(alloc, &mut output, TypeId(id), &Value::Nil),
-            Err(refused)
-        );
-    }
-    for id in [0, 2, 16, 63, 2147483648] {
-        let refused = WriteFault::Refused(Reason::ReservedType(TypeId(id)));
-        assert_eq!(rt;
-            writer.define(alloc, &mut output, TypeId(id), &Value::Nil),
-            Err(refused)
-        );
-    }
-    for id in [64, 65, 2147483647] {
-        let refused = WriteFault::Refused(Reason::TooManyTypes);
-        assert_eq!(rt;
-            writer.define(alloc, &mut output, TypeId(id), &Value::Nil),
-            Err(refused)
-        );
-    }
-    assert_eq!(rt; device.calls, 0);
-    Ok(())
-}
-
-#[test]
 fn a_value_too_deep_is_refused_as_that(rt: HostRuntime) -> Result<(), Fail> {
     let alloc = rt.alloc();
     let limits = Limits::new(100, 2, 0, 100).ok_or("no limits")?;
@@ -352,11 +321,7 @@ fn a_value_too_deep_is_refused_as_that(rt: HostRuntime) -> Result<(), Fail> {
         (9, Reason::TooDeep),
     ];
     for (depth, reason) in cases {
-        let mut value = Value::Int(1);
-        for _ in 0..depth {
-            let parts = vec![in alloc; value]?;
-            value = Value::Many(parts);
-        }
+        let value = lists(alloc, depth + 1)?;
         assert_eq!(rt;
             writer.put(alloc, &mut output, TypeId(2), &value),
             Err(WriteFault::Refused(reason))
@@ -366,33 +331,247 @@ fn a_value_too_deep_is_refused_as_that(rt: HostRuntime) -> Result<(), Fail> {
     Ok(())
 }
 
-#[test]
-fn writing_stops_at_the_item_refused(rt: HostRuntime) -> Result<(), Fail> {
-    let alloc = rt.alloc();
-    let middles = vec![in alloc;
-        (put(3, Value::Int(7)), Reason::DoesNotFit),
-        (put(65, Value::Int(7)), Reason::UndefinedType(TypeId(65))),
-        (
-            Item::Define {
-                id: TypeId(65),
-                described: Value::Nil
-            },
-            Reason::TooManyTypes
+// A description or a value, in short.
+#[derive(Clone, Copy)]
+enum Told {
+    // Five lists in one another.
+    Deep,
+    Nil,
+    // A struct with no field present.
+    NoField,
+    // The description of an array type.
+    Array { id: i64, elem: i64, len: i64 },
+}
+
+fn array(id: i64, elem: i64, len: i64) -> Told {
+    Told::Array { id, elem, len }
+}
+
+fn made(alloc: Global, told: Told) -> Result<Value, Fail> {
+    match told {
+        Told::Deep => lists(alloc, 5),
+        Told::Nil => Ok(Value::Nil),
+        Told::NoField => Ok(Value::Fields(Vec::new(alloc))),
+        Told::Array { id, elem, len } => {
+            let common = vec![in alloc; (1, Value::Int(id))]?;
+            let array = vec![in alloc;
+                (0, Value::Fields(common)),
+                (1, Value::Int(elem)),
+                (2, Value::Int(len)),
+            ]?;
+            Ok(Value::Fields(vec![in alloc; (0, Value::Fields(array))]?))
+        }
+    }
+}
+
+// So many lists in one another, round a number.
+fn lists(alloc: Global, depth: u64) -> Result<Value, Fail> {
+    let mut value = Value::Int(1);
+    for _ in 1..depth {
+        value = Value::Many(vec![in alloc; value]?);
+    }
+    Ok(value)
+}
+
+// An item that is refused behind the definition of type 65 as `first`, under the limits for items, types and the
+// stream, and how many bytes are out when a bool of 4 bytes was written behind it.
+#[derive(Clone, Copy)]
+struct Case {
+    limits: (u64, u64, u64),
+    first: Told,
+    defines: bool,
+    id: u64,
+    told: Told,
+    reason: Reason,
+    out: usize,
+}
+
+fn definition(limits: (u64, u64, u64), id: u64, told: Told, reason: Reason) -> Case {
+    Case {
+        limits,
+        first: array(65, 2, 1),
+        defines: true,
+        id,
+        told,
+        reason,
+        out: 19,
+    }
+}
+
+fn value(first: Told, id: u64, told: Told, reason: Reason, out: usize) -> Case {
+    Case {
+        limits: (99, 1, 99),
+        first,
+        defines: false,
+        id,
+        told,
+        reason,
+        out,
+    }
+}
+
+// Where several reasons hold, the first of them is given.
+fn refused_definitions() -> [Case; 13] {
+    let wide = (99, 2, 99);
+    let full = (99, 1, 99);
+    let two = TypeId(2);
+    [
+        definition(full, 2, Told::Deep, Reason::ReservedType(two)),
+        definition(wide, 63, Told::Nil, Reason::ReservedType(TypeId(63))),
+        definition(
+            wide,
+            2147483648,
+            Told::Nil,
+            Reason::ReservedType(TypeId(2147483648)),
         ),
-    ]?;
-    for (middle, reason) in middles {
-        let items = three(alloc, middle)?;
-        let mut device = Device::sound(alloc);
+        definition(full, 65, Told::Deep, Reason::DefinedTwice(TypeId(65))),
+        definition(full, 66, Told::Deep, Reason::TooManyTypes),
+        definition(wide, 66, Told::Deep, Reason::TooDeep),
+        definition(wide, 66, Told::Nil, Reason::DoesNotFit),
+        definition(wide, 66, Told::NoField, Reason::KindCount),
+        definition(wide, 66, array(67, 24, -1), Reason::WrongId),
+        definition(wide, 66, array(66, 24, -1), Reason::BadReference),
+        definition((14, 2, 99), 66, array(66, 2, -1000), Reason::BadLength),
+        definition(
+            (14, 2, 33),
+            66,
+            array(66, 2147483647, 1),
+            Reason::ItemTooLong,
+        ),
+        definition(
+            (18, 2, 33),
+            66,
+            array(66, 2147483647, 1),
+            Reason::StreamTooLong,
+        ),
+    ]
+}
+
+fn refused_values() -> [Case; 8] {
+    let plain = array(65, 2, 1);
+    let open = array(65, 66, 1);
+    let endless = array(65, 65, 1);
+    [
+        value(plain, 0, Told::Deep, Reason::UndefinedType(TypeId(0)), 19),
+        value(plain, 24, Told::Deep, Reason::UndefinedType(TypeId(24)), 19),
+        value(plain, 66, Told::Deep, Reason::UndefinedType(TypeId(66)), 19),
+        value(open, 65, Told::Deep, Reason::UndefinedType(TypeId(66)), 20),
+        value(endless, 65, Told::Deep, Reason::Bottomless(TypeId(65)), 20),
+        value(plain, 65, Told::Deep, Reason::TooDeep, 19),
+        value(plain, 65, Told::Nil, Reason::DoesNotFit, 19),
+        value(plain, 16, Told::Nil, Reason::DoesNotFit, 19),
+    ]
+}
+
+// What the three calls answer, and how many bytes are out then.
+type Answers = (
+    Result<(), WriteFault>,
+    Result<(), WriteFault>,
+    Result<(), WriteFault>,
+    usize,
+);
+
+fn answers(alloc: Global, case: Case) -> Result<Answers, Fail> {
+    let (item, types, stream) = case.limits;
+    let limits = Limits::new(item, 4, types, stream).ok_or("no limits")?;
+    let first = made(alloc, case.first)?;
+    let second = made(alloc, case.told)?;
+    let mut device = Device::sound(alloc);
+    let mut output = Output::new(&mut device);
+    let mut writer = StreamWriter::new(alloc, limits)?;
+    let one = writer.define(alloc, &mut output, TypeId(65), &first);
+    let two = if case.defines {
+        writer.define(alloc, &mut output, TypeId(case.id), &second)
+    } else {
+        writer.put(alloc, &mut output, TypeId(case.id), &second)
+    };
+    let three = writer.put(alloc, &mut output, TypeId(1), &Value::Bool(true));
+    Ok((one, two, three, device.taken.len()))
+}
+
+#[test]
+fn definitions_are_refused_by_the_first_reason(rt: HostRuntime) -> Result<(), Fail> {
+    for case in refused_definitions() {
+        let refused = Err(WriteFault::Refused(case.reason));
+        assert_eq!(rt;
+            answers(rt.alloc(), case)?,
+            (Ok(()), refused, Ok(()), case.out)
+        );
+    }
+    Ok(())
+}
+
+#[test]
+fn values_are_refused_by_the_first_reason(rt: HostRuntime) -> Result<(), Fail> {
+    for case in refused_values() {
+        let refused = Err(WriteFault::Refused(case.reason));
+        assert_eq!(rt;
+            answers(rt.alloc(), case)?,
+            (Ok(()), refused, Ok(()), case.out)
+        );
+    }
+    Ok(())
+}
+
+// Go's documented example: the type Point of two ints, X and Y, as type 65, and Point { 22, 33 }.
+const POINT: [u8; 40] = [
+    0x1f, 0xff, 0x81, 0x03, 0x01, 0x01, 0x05, 0x50, 0x6f, 0x69, 0x6e, 0x74, 0x01, 0xff, 0x82, 0x00,
+    0x01, 0x02, 0x01, 0x01, 0x58, 0x01, 0x04, 0x00, 0x01, 0x01, 0x59, 0x01, 0x04, 0x00, 0x00, 0x00,
+    0x07, 0xff, 0x82, 0x01, 0x2c, 0x01, 0x42, 0x00,
+];
+
+fn field(alloc: Global, name: &[u8]) -> Result<Field, Fail> {
+    Ok(Field {
+        name: Name::new(name.to_vec(alloc)?),
+        id: TypeId(2),
+    })
+}
+
+fn point(alloc: Global) -> Result<Vec<Item<Value>>, Fail> {
+    let fields = vec![in alloc; field(alloc, b"X")?, field(alloc, b"Y")?]?;
+    let shape = Shape {
+        name: Name::new(b"Point".to_vec(alloc)?),
+        kind: Kind::Struct {
+            fields: Fields::new(fields),
+        },
+    };
+    let id = TypeId(65);
+    let described = describe(alloc, id, &shape)?;
+    let given = vec![in alloc; (0, Value::Int(22)), (1, Value::Int(33))]?;
+    Ok(vec![in alloc;
+        Item::Define { id, described },
+        put(65, Value::Fields(given)),
+    ]?)
+}
+
+#[test]
+fn the_documented_example_is_written(rt: HostRuntime) -> Result<(), Fail> {
+    let alloc = rt.alloc();
+    let items = point(alloc)?;
+    let mut device = Device::sound(alloc);
+    let mut output = Output::new(&mut device);
+    let answer = write_stream(alloc, &mut output, &items, Limits::standard());
+    assert_eq!(rt; answer, Ok(()));
+    assert_eq!(rt; device.taken.as_slice(), POINT.as_slice());
+    assert_eq!(rt; device.calls, 2);
+    Ok(())
+}
+
+#[test]
+fn a_failed_write_cuts_a_definition(rt: HostRuntime) -> Result<(), Fail> {
+    let alloc = rt.alloc();
+    let items = point(alloc)?;
+    for wrong_at in 1..41u64 {
+        let mut device = Device::slow(alloc, wrong_at, Wrong::Broken);
         let mut output = Output::new(&mut device);
         let stopped = WriteStop {
-            item: 1,
-            fault: WriteFault::Refused(reason),
+            item: u64::from(wrong_at > 32),
+            fault: WriteFault::Write,
         };
-        assert_eq!(rt;
-            write_stream(alloc, &mut output, &items, Limits::standard()),
-            Err(stopped)
-        );
-        assert_eq!(rt; device.taken.as_slice(), b"\x03\x04\x00\x06".as_slice());
+        let answer = write_stream(alloc, &mut output, &items, Limits::standard());
+        assert_eq!(rt; answer, Err(stopped));
+        let front = POINT.get(..wrong_at as usize - 1).ok_or("no front")?;
+        assert_eq!(rt; device.taken.as_slice(), front);
     }
     Ok(())
 }
