@@ -339,12 +339,8 @@ enum Told {
     Nil,
     // A struct with no field present.
     NoField,
-    // The description of an array type.
-    Array { id: i64, elem: i64, len: i64 },
-}
-
-fn array(id: i64, elem: i64, len: i64) -> Told {
-    Told::Array { id, elem, len }
+    // The description of an array type: its Id, Elem and Len.
+    Array(i64, i64, i64),
 }
 
 fn made(alloc: Global, told: Told) -> Result<Value, Fail> {
@@ -352,7 +348,7 @@ fn made(alloc: Global, told: Told) -> Result<Value, Fail> {
         Told::Deep => lists(alloc, 5),
         Told::Nil => Ok(Value::Nil),
         Told::NoField => Ok(Value::Fields(Vec::new(alloc))),
-        Told::Array { id, elem, len } => {
+        Told::Array(id, elem, len) => {
             let common = vec![in alloc; (1, Value::Int(id))]?;
             let array = vec![in alloc;
                 (0, Value::Fields(common)),
@@ -373,142 +369,108 @@ fn lists(alloc: Global, depth: u64) -> Result<Value, Fail> {
     Ok(value)
 }
 
-// An item that is refused behind the definition of type 65 as `first`, under the limits for items, types and the
-// stream, and how many bytes are out when a bool of 4 bytes was written behind it.
-#[derive(Clone, Copy)]
-struct Case {
-    limits: (u64, u64, u64),
-    first: Told,
-    defines: bool,
-    id: u64,
-    told: Told,
+// The limits for items, types and the stream.
+type Bounds = (u64, u64, u64);
+
+const WIDE: Bounds = (99, 2, 99);
+
+const FULL: Bounds = (99, 1, 99);
+
+// Definitions behind that of type 65 which are refused, and why. Where several reasons hold, the first is given.
+const REFUSED_DEFINITIONS: [(Bounds, u64, Told, Reason); 13] = [
+    (FULL, 2, Told::Deep, Reason::ReservedType(TypeId(2))),
+    (WIDE, 63, Told::Nil, Reason::ReservedType(TypeId(63))),
+    (
+        WIDE,
+        2147483648,
+        Told::Nil,
+        Reason::ReservedType(TypeId(2147483648)),
+    ),
+    (FULL, 65, Told::Deep, Reason::DefinedTwice(TypeId(65))),
+    (FULL, 66, Told::Deep, Reason::TooManyTypes),
+    (WIDE, 66, Told::Deep, Reason::TooDeep),
+    (WIDE, 66, Told::Nil, Reason::DoesNotFit),
+    (WIDE, 66, Told::NoField, Reason::KindCount),
+    (WIDE, 66, Told::Array(67, 24, -1), Reason::WrongId),
+    (WIDE, 66, Told::Array(66, 24, -1), Reason::BadReference),
+    (
+        (14, 2, 99),
+        66,
+        Told::Array(66, 2, -1000),
+        Reason::BadLength,
+    ),
+    (
+        (14, 2, 33),
+        66,
+        Told::Array(66, 2147483647, 1),
+        Reason::ItemTooLong,
+    ),
+    (
+        (18, 2, 33),
+        66,
+        Told::Array(66, 2147483647, 1),
+        Reason::StreamTooLong,
+    ),
+];
+
+// Values behind a definition of type 65 as an array of one such element, and why they are refused.
+const REFUSED_VALUES: [(i64, u64, Told, Reason); 8] = [
+    (2, 0, Told::Deep, Reason::UndefinedType(TypeId(0))),
+    (2, 24, Told::Deep, Reason::UndefinedType(TypeId(24))),
+    (2, 66, Told::Deep, Reason::UndefinedType(TypeId(66))),
+    (66, 65, Told::Deep, Reason::UndefinedType(TypeId(66))),
+    (65, 65, Told::Deep, Reason::Bottomless(TypeId(65))),
+    (2, 65, Told::Deep, Reason::TooDeep),
+    (2, 65, Told::Nil, Reason::DoesNotFit),
+    (2, 16, Told::Nil, Reason::DoesNotFit),
+];
+
+// Whether the definition of type 65 as an array of one such element is written, the item behind it refused for this
+// reason, and a bool of 4 bytes written behind that, with nothing between them.
+fn is_refused(
+    alloc: Global,
+    bounds: Bounds,
+    elem: i64,
+    item: Item<Value>,
     reason: Reason,
-    out: usize,
-}
-
-fn definition(limits: (u64, u64, u64), id: u64, told: Told, reason: Reason) -> Case {
-    Case {
-        limits,
-        first: array(65, 2, 1),
-        defines: true,
-        id,
-        told,
-        reason,
-        out: 19,
-    }
-}
-
-fn value(first: Told, id: u64, told: Told, reason: Reason, out: usize) -> Case {
-    Case {
-        limits: (99, 1, 99),
-        first,
-        defines: false,
-        id,
-        told,
-        reason,
-        out,
-    }
-}
-
-// Where several reasons hold, the first of them is given.
-fn refused_definitions() -> [Case; 13] {
-    let wide = (99, 2, 99);
-    let full = (99, 1, 99);
-    let two = TypeId(2);
-    [
-        definition(full, 2, Told::Deep, Reason::ReservedType(two)),
-        definition(wide, 63, Told::Nil, Reason::ReservedType(TypeId(63))),
-        definition(
-            wide,
-            2147483648,
-            Told::Nil,
-            Reason::ReservedType(TypeId(2147483648)),
-        ),
-        definition(full, 65, Told::Deep, Reason::DefinedTwice(TypeId(65))),
-        definition(full, 66, Told::Deep, Reason::TooManyTypes),
-        definition(wide, 66, Told::Deep, Reason::TooDeep),
-        definition(wide, 66, Told::Nil, Reason::DoesNotFit),
-        definition(wide, 66, Told::NoField, Reason::KindCount),
-        definition(wide, 66, array(67, 24, -1), Reason::WrongId),
-        definition(wide, 66, array(66, 24, -1), Reason::BadReference),
-        definition((14, 2, 99), 66, array(66, 2, -1000), Reason::BadLength),
-        definition(
-            (14, 2, 33),
-            66,
-            array(66, 2147483647, 1),
-            Reason::ItemTooLong,
-        ),
-        definition(
-            (18, 2, 33),
-            66,
-            array(66, 2147483647, 1),
-            Reason::StreamTooLong,
-        ),
-    ]
-}
-
-fn refused_values() -> [Case; 8] {
-    let plain = array(65, 2, 1);
-    let open = array(65, 66, 1);
-    let endless = array(65, 65, 1);
-    [
-        value(plain, 0, Told::Deep, Reason::UndefinedType(TypeId(0)), 19),
-        value(plain, 24, Told::Deep, Reason::UndefinedType(TypeId(24)), 19),
-        value(plain, 66, Told::Deep, Reason::UndefinedType(TypeId(66)), 19),
-        value(open, 65, Told::Deep, Reason::UndefinedType(TypeId(66)), 20),
-        value(endless, 65, Told::Deep, Reason::Bottomless(TypeId(65)), 20),
-        value(plain, 65, Told::Deep, Reason::TooDeep, 19),
-        value(plain, 65, Told::Nil, Reason::DoesNotFit, 19),
-        value(plain, 16, Told::Nil, Reason::DoesNotFit, 19),
-    ]
-}
-
-// What the three calls answer, and how many bytes are out then.
-type Answers = (
-    Result<(), WriteFault>,
-    Result<(), WriteFault>,
-    Result<(), WriteFault>,
-    usize,
-);
-
-fn answers(alloc: Global, case: Case) -> Result<Answers, Fail> {
-    let (item, types, stream) = case.limits;
-    let limits = Limits::new(item, 4, types, stream).ok_or("no limits")?;
-    let first = made(alloc, case.first)?;
-    let second = made(alloc, case.told)?;
+) -> Result<bool, Fail> {
+    let (most, types, stream) = bounds;
+    let limits = Limits::new(most, 4, types, stream).ok_or("no limits")?;
+    let array = made(alloc, Told::Array(65, elem, 1))?;
     let mut device = Device::sound(alloc);
     let mut output = Output::new(&mut device);
     let mut writer = StreamWriter::new(alloc, limits)?;
-    let one = writer.define(alloc, &mut output, TypeId(65), &first);
-    let two = if case.defines {
-        writer.define(alloc, &mut output, TypeId(case.id), &second)
-    } else {
-        writer.put(alloc, &mut output, TypeId(case.id), &second)
-    };
+    let one = writer.define(alloc, &mut output, TypeId(65), &array);
+    let two = writer.write_item(alloc, &mut output, &item);
     let three = writer.put(alloc, &mut output, TypeId(1), &Value::Bool(true));
-    Ok((one, two, three, device.taken.len()))
+    let out = if elem < 64 { 19 } else { 20 };
+    Ok(
+        one == Ok(())
+            && two == Err(WriteFault::Refused(reason))
+            && three == Ok(())
+            && device.taken.len() == out,
+    )
 }
 
 #[test]
 fn definitions_are_refused_by_the_first_reason(rt: HostRuntime) -> Result<(), Fail> {
-    for case in refused_definitions() {
-        let refused = Err(WriteFault::Refused(case.reason));
-        assert_eq!(rt;
-            answers(rt.alloc(), case)?,
-            (Ok(()), refused, Ok(()), case.out)
-        );
+    let alloc = rt.alloc();
+    for (bounds, id, told, reason) in REFUSED_DEFINITIONS {
+        let item = Item::Define {
+            id: TypeId(id),
+            described: made(alloc, told)?,
+        };
+        assert!(rt; is_refused(alloc, bounds, 2, item, reason)?);
     }
     Ok(())
 }
 
 #[test]
 fn values_are_refused_by_the_first_reason(rt: HostRuntime) -> Result<(), Fail> {
-    for case in refused_values() {
-        let refused = Err(WriteFault::Refused(case.reason));
-        assert_eq!(rt;
-            answers(rt.alloc(), case)?,
-            (Ok(()), refused, Ok(()), case.out)
-        );
+    let alloc = rt.alloc();
+    for (elem, id, told, reason) in REFUSED_VALUES {
+        let item = put(id, made(alloc, told)?);
+        assert!(rt; is_refused(alloc, FULL, elem, item, reason)?);
     }
     Ok(())
 }
