@@ -6,8 +6,8 @@ use crate::limits::Limits;
 use crate::output::Output;
 use crate::writer::StreamWriter;
 use crate::writing::write_stream;
-use gob_types::{Field, Fields, Kind, Name, Reason, Shape, TypeId};
-use gob_value::{Value, describe};
+use gob_types::{Reason, TypeId};
+use gob_value::Value;
 use std::alloc::Global;
 use std::io;
 use std::io::Write;
@@ -482,23 +482,22 @@ const POINT: [u8; 40] = [
     0x07, 0xff, 0x82, 0x01, 0x2c, 0x01, 0x42, 0x00,
 ];
 
-fn field(alloc: Global, name: &[u8]) -> Result<Field, Fail> {
-    Ok(Field {
-        name: Name::new(name.to_vec(alloc)?),
-        id: TypeId(2),
-    })
+// A CommonType or a fieldType.
+fn named(alloc: Global, name: &[u8], id: i64) -> Result<Value, Fail> {
+    let text = Value::Str(name.to_vec(alloc)?);
+    Ok(Value::Fields(vec![in alloc; (0, text), (1, Value::Int(id))]?))
+}
+
+fn described_point(alloc: Global) -> Result<Value, Fail> {
+    let fields = vec![in alloc; named(alloc, b"X", 2)?, named(alloc, b"Y", 2)?]?;
+    let point = named(alloc, b"Point", 65)?;
+    let given = vec![in alloc; (0, point), (1, Value::Many(fields))]?;
+    Ok(Value::Fields(vec![in alloc; (2, Value::Fields(given))]?))
 }
 
 fn point(alloc: Global) -> Result<Vec<Item<Value>>, Fail> {
-    let fields = vec![in alloc; field(alloc, b"X")?, field(alloc, b"Y")?]?;
-    let shape = Shape {
-        name: Name::new(b"Point".to_vec(alloc)?),
-        kind: Kind::Struct {
-            fields: Fields::new(fields),
-        },
-    };
     let id = TypeId(65);
-    let described = describe(alloc, id, &shape)?;
+    let described = described_point(alloc)?;
     let given = vec![in alloc; (0, Value::Int(22)), (1, Value::Int(33))]?;
     Ok(vec![in alloc;
         Item::Define { id, described },
@@ -516,24 +515,5 @@ fn the_documented_example_is_written(rt: HostRuntime) -> Result<(), Fail> {
     assert_eq!(rt; answer, Ok(()));
     assert_eq!(rt; device.taken.as_slice(), POINT.as_slice());
     assert_eq!(rt; device.calls, 2);
-    Ok(())
-}
-
-#[test]
-fn a_failed_write_cuts_a_definition(rt: HostRuntime) -> Result<(), Fail> {
-    let alloc = rt.alloc();
-    let items = point(alloc)?;
-    for wrong_at in 1..41u64 {
-        let mut device = Device::slow(alloc, wrong_at, Wrong::Broken);
-        let mut output = Output::new(&mut device);
-        let stopped = WriteStop {
-            item: u64::from(wrong_at > 32),
-            fault: WriteFault::Write,
-        };
-        let answer = write_stream(alloc, &mut output, &items, Limits::standard());
-        assert_eq!(rt; answer, Err(stopped));
-        let front = POINT.get(..wrong_at as usize - 1).ok_or("no front")?;
-        assert_eq!(rt; device.taken.as_slice(), front);
-    }
     Ok(())
 }

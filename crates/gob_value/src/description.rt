@@ -89,11 +89,7 @@ fn is_id(number: i64, id: TypeId) -> bool
 }
 
 // The kind that the fields of the struct in this field of wireType give.
-fn kind_from(
-    alloc: Global,
-    wire: WireField,
-    fields: &[(u64, Value)],
-) -> Result<Kind, ShapeFault>
+fn kind_from(alloc: Global, wire: WireField, fields: &[(u64, Value)]) -> Result<Kind, ShapeFault>
     ensures kind { IfOk result (λ kind. GivesKind (kind_said wire (field_views fields.now)) kind) }
     ensures fault { IfErr result (λ fault. IsKindFault (kind_said wire (field_views fields.now)) fault) }
 {
