@@ -2,6 +2,7 @@ pub mod Bounds
 pub mod Item
 pub mod Body
 pub mod Stream
+pub mod Refusing
 pub mod Outcome
 pub mod WriterRefusal
 pub mod Devices

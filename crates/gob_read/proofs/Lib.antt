@@ -1,0 +1,11 @@
+pub mod Whole
+pub mod Once
+pub mod Fronts
+pub mod Compare
+pub mod Firsts
+pub mod Onward
+pub mod Inside
+pub mod Stay
+pub mod Deep
+pub mod Seen
+pub mod Deepest

@@ -1,0 +1,16 @@
+pub mod Awaited
+pub mod Awaits
+pub mod Refusal
+pub mod First
+pub mod Stood
+pub mod Begins
+pub mod Telling
+pub mod WellFormed
+pub mod Weight
+pub mod Building
+pub mod Frames
+pub mod Kinds
+pub mod Within
+pub mod Steps
+pub mod Running
+pub mod Reader

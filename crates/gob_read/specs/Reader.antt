@@ -1,0 +1,96 @@
+-- What a reader of bodies stands for, and what a push gives.
+use Rattle.std.specs.Prelude.{◌≡◌, ℕ, ◌+◌, ◌-◌, ◌≤◌, List, [], ◌∷◌, ◌++◌, length, take, Option, Some, None}
+use Rattle.gob_types.specs.declared.id.TypeId.{TypeId}
+use Rattle.gob_types.specs.Table.{Table}
+use Rattle.gob_value.specs.Tree.{Tree}
+use Rattle.gob_value.specs.Top.{SpellsTop}
+use Rattle.gob_read.specs.Refusal.{Refusal}
+use Rattle.gob_read.specs.First.{IsFirst}
+use Rattle.gob_read.specs.Stood.{IsShallow, IsStood}
+use Rattle.gob_read.specs.Telling.{Telling}
+use Rattle.gob_read.specs.Within.{At}
+use Rattle.gob_read.specs.Running.{IsReached, IsNew}
+use Rattle.gob_read.specs.declared.frame.Frame.{Frame}
+use Rattle.gob_read.specs.declared.awaited.Awaited.{Awaited}
+use Rattle.gob_read.specs.declared.awaited.Awaited.TheVariants.{Top, Number, Raw}
+use Rattle.gob_read.specs.declared.awaited.Item.TheVariants.{Tag, Part, Second, Delta}
+use Rattle.gob_read.specs.declared.run.Run.{Run}
+use Rattle.gob_read.specs.declared.reader.Progress.{Progress}
+use Rattle.gob_read.specs.declared.reader.Progress.TheVariants.{More, Done}
+
+-- the reader is new, or has taken these bytes
+pub data HasTaken (T : Table) (t : TypeId) {X O : Type 0} (stands : X → List Telling → Type 0) (run : Run X O) : List ℕ → Type 0 where
+  nothing_taken : IsNew T t stands run → HasTaken T t stands run []
+  taken_so_far : {z : List ℕ} → IsReached T t stands run z → HasTaken T t stands run z
+
+-- a run under way stands after these bytes of a body of the type, of whose length so many bytes are announced, and
+-- whose parts may be no deeper than the limit
+pub record IsAfter (T : Table) (t : TypeId) (limit announced : ℕ) {X O : Type 0} (stands : X → List Telling → Type 0) (run : Run X O) (z : List ℕ) : Type 0 where
+  pub so_far : HasTaken T t stands run z
+  pub depth_is : run.depth ≡ limit
+  pub length_is : run.length ≡ announced
+  pub within : length z ≤ announced
+
+-- a reader that has ended stands after nothing
+abbrev pub Stands : Table → TypeId → ℕ → ℕ → {X O : Type 0} → (X → List Telling → Type 0) → Option (Run X O) → List ℕ → Type 0
+Stands T t limit announced stands None z = ⊥
+Stands T t limit announced stands (Some run) z = IsAfter T t limit announced stands run z
+
+pub record StandsSomewhere (T : Table) {X O : Type 0} (stands : X → List Telling → Type 0) (run : Run X O) : Type 0 where
+  pub type : TypeId
+  pub limit : ℕ
+  pub announced : ℕ
+  pub bytes : List ℕ
+  pub after : IsAfter T type limit announced stands run bytes
+
+-- it has ended, or stands after some bytes
+abbrev pub IsUsable : Table → {X O : Type 0} → (X → List Telling → Type 0) → Option (Run X O) → Type 0
+IsUsable T stands None = Unit {0}
+IsUsable T stands (Some run) = StandsSomewhere T stands run
+
+-- the bytes spell a value, all that were announced, and this was made of it
+pub record IsMade (T : Table) (t : TypeId) (limit announced : ℕ) {O : Type 0} (means : O → Tree → Type 0) (out : O) (z : List ℕ) : Type 0 where
+  pub value : Tree
+  pub spelled : SpellsTop T t value z
+  pub all : length z ≡ announced
+  pub shallow : IsShallow T t limit z
+  pub meant : means out value
+
+-- the piece was taken, and nothing that the bytes show is refused
+pub record TakesPiece (T : Table) (t : TypeId) (limit announced : ℕ) {X O : Type 0} (stands : X → List Telling → Type 0) (run : Option (Run X O)) (z piece : List ℕ) : Type 0 where
+  pub after : Stands T t limit announced stands run (z ++ piece)
+  pub stood : IsStood T t limit announced (z ++ piece)
+
+-- so many bytes of the piece were taken, with which the body and its value end
+pub record EndsBody (T : Table) (t : TypeId) (limit announced : ℕ) {X O : Type 0} (means : O → Tree → Type 0) (run : Option (Run X O)) (z piece : List ℕ) (out : O) (used : ℕ) : Type 0 where
+  pub ended : run ≡ None
+  pub within : used ≤ length piece
+  pub made : IsMade T t limit announced means out (z ++ take used piece)
+
+-- after the bytes z a piece was pushed
+abbrev pub Gives : (T : Table) (t : TypeId) (limit announced : ℕ) {X O : Type 0} (stands : X → List Telling → Type 0) (means : O → Tree → Type 0) (run : Option (Run X O)) (z piece : List ℕ) → Progress O → Type 0
+Gives T t limit announced stands means run z piece More = TakesPiece T t limit announced stands run z piece
+Gives T t limit announced stands means run z piece (Done out used) = EndsBody T t limit announced means run z piece out used
+
+-- the refusal is the one that is given of the bytes up to the announced length
+pub record RefusesBody (T : Table) {X O : Type 0} (stands : X → List Telling → Type 0) (run : Option (Run X O)) (piece : List ℕ) (refusal : Refusal) : Type 0 where
+  pub each : (t : TypeId) (limit announced : ℕ) (z : List ℕ) → Stands T t limit announced stands run z → IsFirst T t limit announced (z ++ take (announced - length z) piece) refusal
+
+-- the parts that have begun with these bytes of the awaited item, before the builder is told of them
+abbrev pub begun_parts : Awaited → List ℕ → ℕ
+begun_parts (Number (Part u)) (b ∷ r) = 1
+begun_parts (Number (Second q)) r = 1
+begun_parts _ r = 0
+
+-- after the bytes the tellings tell each part whose first byte is among them, but for so many that have just begun
+pub data AreTold (T : Table) (t : TypeId) : List ℕ → List Telling → ℕ → Type 0 where
+  none_yet : AreTold T t [] [] 0
+  so_many : {fs : List Frame} {awaited : Awaited} {p r : List ℕ} {us : List Telling} → At T t fs awaited p r us → AreTold T t (p ++ r) us (begun_parts awaited r)
+
+-- so much is held: of what is told, as much as the builder says, and the parts that have just begun
+pub record IsHeld (T : Table) (t : TypeId) (held_of : List Telling → ℕ) (z : List ℕ) (held : ℕ) : Type 0 where
+  pub us : List Telling
+  pub begun : ℕ
+  pub told : AreTold T t z us begun
+  pub held_is : held ≡ held_of us + begun
+  pub few : held ≤ length z

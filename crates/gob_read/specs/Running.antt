@@ -1,0 +1,153 @@
+-- Where a reader stands, by its parts.
+-- It describes the reader's stack.
+use Rattle.std.specs.Prelude.{◌≡◌, ℕ, ◌+◌, ◌^◌, ◌<◌, ◌≤◌, List, [], ◌∷◌, ◌++◌, length, take, Bool, true, false, Option, Some, None}
+use Rattle.gob_num.specs.Unsigned.{IsUnsigned, BeginsNumber}
+use Rattle.gob_types.specs.declared.id.TypeId.{TypeId}
+use Rattle.gob_types.specs.Table.{Table}
+use Rattle.gob_types.specs.Ready.{IsReady}
+use Rattle.gob_read.specs.Refusal.{Refusal}
+use Rattle.gob_read.specs.First.{IsFirst}
+use Rattle.gob_read.specs.Stood.{IsShallow, IsStood}
+use Rattle.gob_read.specs.Telling.{Telling}
+use Rattle.gob_read.specs.Steps.{IsPlaced, IsRead, Takes, Refuses}
+use Rattle.gob_read.specs.declared.stop.Stop.{Stop}
+use Rattle.gob_read.specs.declared.stop.Stop.TheVariants.{Refused, Memory, Failed}
+use Rattle.gob_read.specs.declared.frame.Frame.{Frame}
+use Rattle.gob_read.specs.declared.awaited.Awaited.{Awaited}
+use Rattle.gob_read.specs.declared.awaited.Awaited.TheVariants.{Top, Number, Raw}
+use Rattle.gob_read.specs.declared.awaited.Item.{Item}
+use Rattle.gob_read.specs.declared.awaited.Item.TheVariants.{Tag, Part, Second, Delta}
+use Rattle.gob_read.specs.declared.run.Run.{Run}
+
+-- the bytes of the awaited item that came
+abbrev pub IsUnderWay : Awaited → List ℕ → List ℕ → Type 0
+IsUnderWay (Top t) number r = (number ≡ []) × (r ≡ [])
+IsUnderWay (Number item) number r = (number ≡ r) × BeginsNumber r
+IsUnderWay (Raw left) number r = number ≡ []
+
+-- how deep the awaited item's part lies, where so many parts are open; a tag is in no part
+abbrev pub item_depth : Item → ℕ → ℕ
+item_depth (Tag t) count = 0
+item_depth (Part u) count = count + 1
+item_depth (Second q) count = count + 1
+item_depth Delta count = count
+
+abbrev pub depth_of : Awaited → List Frame → ℕ
+depth_of (Top t) stack = 0
+depth_of (Number item) stack = item_depth item (length stack)
+depth_of (Raw left) stack = length stack + 1
+
+-- the reader has come so far
+pub record IsReached (T : Table) (t : TypeId) {X O : Type 0} (stands : X → List Telling → Type 0) (run : Run X O) (z : List ℕ) : Type 0 where
+  pub ready : IsReady T t
+  pub before : List ℕ
+  pub under_way : List ℕ
+  pub placed : IsPlaced T t stands run.state before under_way
+  pub whole : z ≡ before ++ under_way
+  pub number_is : IsUnderWay run.state.awaited run.number under_way
+  pub start_is : run.start ≡ length before
+  pub taken_is : run.taken ≡ length z
+  pub shallow : IsShallow T t run.depth before
+  pub judged : 0 < length under_way → depth_of run.state.awaited run.state.stack ≤ run.depth
+
+-- and may take more
+pub record IsOpen (T : Table) (t : TypeId) {X O : Type 0} (stands : X → List Telling → Type 0) (run : Run X O) (z : List ℕ) : Type 0 where
+  pub reached : IsReached T t stands run z
+  pub not_deep : depth_of run.state.awaited run.state.stack ≤ run.depth
+  pub room : run.taken < run.length
+
+-- it stands so after some bytes
+pub record IsReachedSomewhere (T : Table) {X O : Type 0} (stands : X → List Telling → Type 0) (run : Run X O) : Type 0 where
+  pub type : TypeId
+  pub bytes : List ℕ
+  pub reached : IsReached T type stands run bytes
+
+pub record IsOpenSomewhere (T : Table) {X O : Type 0} (stands : X → List Telling → Type 0) (run : Run X O) : Type 0 where
+  pub type : TypeId
+  pub bytes : List ℕ
+  pub open_ : IsOpen T type stands run bytes
+
+-- the same under some table
+pub record IsOpenIn {X O : Type 0} (stands : X → List Telling → Type 0) (run : Run X O) : Type 0 where
+  pub table : Table
+  pub open_ : IsOpenSomewhere table stands run
+
+-- the reader has taken nothing, and looked nothing up
+pub record IsNew (T : Table) (t : TypeId) {X O : Type 0} (stands : X → List Telling → Type 0) (run : Run X O) : Type 0 where
+  pub ready : IsReady T t
+  pub awaited : run.state.awaited ≡ Top t
+  pub stack : run.state.stack ≡ []
+  pub told : stands run.state.builder []
+  pub number_is : run.number ≡ []
+  pub start_is : run.start ≡ 0
+  pub taken_is : run.taken ≡ 0
+
+-- the value is whole
+pub record IsFinished (T : Table) (t : TypeId) {X O : Type 0} (stands : X → List Telling → Type 0) (run : Run X O) (z : List ℕ) : Type 0 where
+  pub read : IsRead T t stands run.state z
+  pub taken_is : run.taken ≡ length z
+  pub shallow : IsShallow T t run.depth z
+
+abbrev pub IsStepped : (T : Table) (t : TypeId) {X O : Type 0} (stands : X → List Telling → Type 0) (run : Run X O) (z : List ℕ) → Bool → Type 0
+IsStepped T t stands run z true = IsFinished T t stands run z
+IsStepped T t stands run z false = IsReached T t stands run z
+
+-- what holds of the refusal, if there is one
+abbrev pub StopsFor : (Refusal → Type 0) → Stop → Type 0
+StopsFor why (Refused place seen reason) = why (record { place = place; seen = seen; reason = reason })
+StopsFor why Memory = Unit {0}
+StopsFor why Failed = Unit {0}
+
+-- so many more bytes are taken, of a body as long and no deeper
+pub record TakesMore {X O : Type 0} (old new : Run X O) (count : ℕ) : Type 0 where
+  pub taken : new.taken ≡ old.taken + count
+  pub length_is : new.length ≡ old.length
+  pub depth_is : new.depth ≡ old.depth
+
+-- wherever the reader may take more, it has stepped over these bytes
+pub record Steps (T : Table) {X O : Type 0} (stands : X → List Telling → Type 0) (old new : Run X O) (bytes : List ℕ) (whole : Bool) : Type 0 where
+  pub each : (t : TypeId) (z : List ℕ) → IsOpen T t stands old z → IsStepped T t stands new (z ++ bytes) whole
+
+-- wherever the reader may take more, this is the refusal that is given, whatever follows the bytes
+pub record RefusesAt (T : Table) {X O : Type 0} (stands : X → List Telling → Type 0) (run : Run X O) (bytes : List ℕ) (refusal : Refusal) : Type 0 where
+  pub each : (t : TypeId) (z x : List ℕ) → IsOpen T t stands run z → IsFirst T t run.depth run.length (z ++ (bytes ++ x)) refusal
+
+-- a number is taken, and the next item begins behind it
+pub record TakesNumber (T : Table) {X O : Type 0} (stands : X → List Telling → Type 0) (old new : Run X O) (n : ℕ) (whole : Bool) : Type 0 where
+  pub takes : Takes T stands old.state new.state n whole
+  pub start_is : new.start ≡ old.taken
+  pub number_is : new.number ≡ old.number
+  pub more : TakesMore old new 0
+
+-- the number isn't allowed where it stands
+pub record RefusesNumber (T : Table) {X O : Type 0} (stands : X → List Telling → Type 0) (run : Run X O) (n : ℕ) (refusal : Refusal) : Type 0 where
+  pub refuses : Refuses T stands run.state n refusal.reason
+  pub place_is : refusal.place ≡ run.start
+  pub seen_is : refusal.seen ≡ run.taken
+
+-- the reader may take more
+pub record Opens (T : Table) {X O : Type 0} (stands : X → List Telling → Type 0) (run : Run X O) : Type 0 where
+  pub each : (t : TypeId) (z : List ℕ) → IsReached T t stands run z → IsOpen T t stands run z
+
+-- where it stands, this is the refusal that is given, whatever follows within the body
+pub record JudgesFor (T : Table) {X O : Type 0} (stands : X → List Telling → Type 0) (run : Run X O) (refusal : Refusal) : Type 0 where
+  pub each : (t : TypeId) (z x : List ℕ) → IsReached T t stands run z → length (z ++ x) ≤ run.length → IsFirst T t run.depth run.length (z ++ x) refusal
+
+-- where the value is whole, this is the refusal that is given, whatever follows
+pub record EndsFor {X O : Type 0} (stands : X → List Telling → Type 0) (run : Run X O) (refusal : Refusal) : Type 0 where
+  pub each : (T : Table) (t : TypeId) (z x : List ℕ) → IsFinished T t stands run z → IsFirst T t run.depth run.length (z ++ x) refusal
+
+-- wherever the reader stood, the piece is taken and nothing is refused
+pub record GoesOn (T : Table) {X O : Type 0} (stands : X → List Telling → Type 0) (old new : Run X O) (piece : List ℕ) : Type 0 where
+  pub reached : (t : TypeId) (z : List ℕ) → IsReached T t stands old z → IsReached T t stands new (z ++ piece)
+  pub stood : (t : TypeId) (z : List ℕ) → IsReached T t stands old z → IsStood T t old.depth old.length (z ++ piece)
+
+-- wherever the reader stood, the value and the body end behind so many bytes of the piece
+pub record Finishes (T : Table) {X O : Type 0} (stands : X → List Telling → Type 0) (old new : Run X O) (piece : List ℕ) (used : ℕ) : Type 0 where
+  pub within : used ≤ length piece
+  pub finished : (t : TypeId) (z : List ℕ) → IsReached T t stands old z → IsFinished T t stands new (z ++ take used piece)
+  pub all : (t : TypeId) (z : List ℕ) → IsReached T t stands old z → length (z ++ take used piece) ≡ old.length
+
+-- wherever the reader stood, this is the refusal that is given of the piece
+pub record RefusesPiece (T : Table) {X O : Type 0} (stands : X → List Telling → Type 0) (run : Run X O) (piece : List ℕ) (refusal : Refusal) : Type 0 where
+  pub each : (t : TypeId) (z : List ℕ) → IsReached T t stands run z → IsFirst T t run.depth run.length (z ++ piece) refusal

@@ -1,0 +1,83 @@
+//! What is made of a value that is told.
+
+ghost use Rattle.std.specs.Prelude.{◌≡◌, ℕ, List, [], OnOk, IfOk};
+ghost use Rattle.gob_value.specs.Tree.{Tree};
+ghost use Rattle.gob_read.specs.Telling as telling;
+ghost use Rattle.gob_read.specs.Telling.{Telling, Tells};
+ghost use Rattle.gob_read.specs.Building.{CanTell, IsTold, IsComplete, IsBetween};
+
+use crate::telling::{GroupKind, RawKind};
+use gob_num::Memory;
+use gob_types::Basic;
+use std::alloc::Global;
+
+/// Makes something of a value of which it is told part by part, in the order of the first bytes.
+///
+/// A telling is a call of `number`, `raw_start`, `raw_more`, `enter`, `field` or `leave`. It may come where the list
+/// of all tellings so far stays well formed with it, and their parts and raw bytes together are fewer than 2^64
+/// (docs/FORMAT.md, Tellings). After [`Memory`] nothing is said of the builder, which can then only be dropped.
+pub trait Builder: Drop {
+    /// What is made of a value.
+    type Out: Drop;
+
+    ghost DEPTH: { ℕ };
+
+    /// The depth of the deepest value that may be told.
+    const DEPTH: u64;
+
+    // The builder stands for this list of tellings.
+    ghost stands: { Self → List Telling → Type 0 };
+
+    // What was made stands for this value.
+    ghost means: { Self.Out → Tree → Type 0 };
+
+    // How much a builder holds after these tellings.
+    ghost held_of: { List Telling → ℕ };
+
+    /// A builder that was told of no part yet.
+    fn fresh(alloc: Global) -> Result<Self, Memory>
+        ensures { IfOk result (λ builder. stands builder []) };
+
+    /// One whole part of a basic type whose parts are no raw bytes. For a float and a complex number these are the
+    /// patterns, else the first is the unsigned number as spelled. A number that isn't used is 0.
+    fn number(&mut self, kind: Basic, first: u64, second: u64) -> Result<(), Memory>
+        requires { CanTell stands self.old (telling.number kind first second) }
+        ensures { OnOk result (IsTold stands self.old self.new (telling.number kind first second)) };
+
+    /// A part of raw bytes begins.
+    fn raw_start(&mut self, kind: RawKind) -> Result<(), Memory>
+        requires { CanTell stands self.old (telling.raw_start kind) }
+        ensures { OnOk result (IsTold stands self.old self.new (telling.raw_start kind)) };
+
+    /// These bytes follow in it.
+    fn raw_more(&mut self, bytes: &[u8]) -> Result<(), Memory>
+        requires { CanTell stands self.old (telling.raw_more bytes.now) }
+        ensures { OnOk result (IsTold stands self.old self.new (telling.raw_more bytes.now)) };
+
+    /// A part that has parts begins.
+    fn enter(&mut self, kind: GroupKind) -> Result<(), Memory>
+        requires { CanTell stands self.old (telling.enter kind) }
+        ensures { OnOk result (IsTold stands self.old self.new (telling.enter kind)) };
+
+    /// The number of the next part of the open struct.
+    fn field(&mut self, number: u64) -> Result<(), Memory>
+        requires { CanTell stands self.old (telling.field number) }
+        ensures { OnOk result (IsTold stands self.old self.new (telling.field number)) };
+
+    /// The open part ends.
+    fn leave(&mut self) -> Result<(), Memory>
+        requires { CanTell stands self.old telling.leave }
+        ensures { OnOk result (IsTold stands self.old self.new telling.leave) };
+
+    /// The parts told, and the raw bytes that are stored.
+    fn held(&self) -> u64
+        ensures { (us : List Telling) → stands self.now us → result ≡ held_of us };
+
+    /// What was made of the whole value that was told.
+    fn take(self) -> Self::Out
+        requires { IsComplete stands self }
+        ensures { (us : List Telling) (v : Tree) → stands self us → Tells v us → means result v };
+
+    // Each part is held, and nothing but parts and raw bytes.
+    ghost between: { (us : List Telling) → IsBetween (held_of us) us };
+}
