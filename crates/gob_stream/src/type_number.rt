@@ -1,0 +1,127 @@
+//! The type number at which a body begins.
+
+use crate::body::{take_description, take_value};
+use crate::count::refusal;
+use crate::fault::{Fault, Refusal};
+use crate::limits::Limits;
+use crate::stage::{Extent, Stage, Stepped};
+use gob_num::{Number, Taken, to_signed};
+use gob_read::{BodyReader, Builder};
+use gob_types::{DefineFault, NotReady, Reason, Table, TypeId};
+use std::alloc::Global;
+
+// The type of descriptions.
+const WIRE_TYPE: TypeId = TypeId(16);
+
+// The type of this project's own for the descriptions of opaque types, which no value item may name.
+const GOB_ENCODER_TYPE: TypeId = TypeId(24);
+
+/// Takes bytes of the type number of a body, of which the number has the bytes before the offset `taken`, and where
+/// it is whole, those of what follows it.
+pub(crate) fn take_type_number<B: Builder>(
+    alloc: Global,
+    limits: Limits,
+    types: &mut Table,
+    body: Extent,
+    taken: u64,
+    mut number: Number,
+    piece: &[u8],
+) -> Result<Stepped<B>, Fault> {
+    let room = (body.end - taken).min(piece.len() as u64) as usize;
+    match number.take(&piece[..room]) {
+        Taken::More => more_of_type_number(body, taken, number, room),
+        Taken::Whole { number, used } => {
+            let rest = Extent {
+                begin: taken + used as u64,
+                end: body.end,
+            };
+            let mut stepped =
+                begin_rest(alloc, limits, types, body.begin, rest, number, &piece[used..])?;
+            stepped.used += used;
+            Ok(stepped)
+        }
+        Taken::BadHead => Err(Fault::Refused(refusal(
+            body.begin,
+            body.begin + 1,
+            Reason::BadHead,
+        ))),
+        Taken::NotMinimal => Err(Fault::Refused(refusal(
+            body.begin,
+            body.begin + 2,
+            Reason::NotMinimal,
+        ))),
+    }
+}
+
+// The type number goes on behind so many bytes of a piece, where the body does.
+fn more_of_type_number<B: Builder>(
+    body: Extent,
+    taken: u64,
+    number: Number,
+    used: usize,
+) -> Result<Stepped<B>, Fault> {
+    if taken + used as u64 == body.end {
+        return Err(Fault::Refused(refusal(body.end, body.end, Reason::Short)));
+    }
+    Ok(Stepped {
+        used,
+        stage: Stage::TypeNumber { body, number },
+        item: None,
+    })
+}
+
+// Takes bytes of what follows the type number, which begins at the place.
+fn begin_rest<B: Builder>(
+    alloc: Global,
+    limits: Limits,
+    types: &mut Table,
+    place: u64,
+    rest: Extent,
+    number: u64,
+    piece: &[u8],
+) -> Result<Stepped<B>, Fault> {
+    let number = to_signed(number);
+    let id = TypeId(number.unsigned_abs());
+    let length = rest.end - rest.begin;
+    if number < 0 {
+        admit(types, id, place, rest.begin)?;
+        let reader = BodyReader::new(alloc, WIRE_TYPE, length, limits.depth())?;
+        return take_description(alloc, types, id, rest, reader, piece);
+    }
+    make_ready(alloc, types, id, place, rest.begin)?;
+    let reader = BodyReader::new(alloc, id, length, limits.depth())?;
+    take_value(alloc, types, id, rest, reader, piece)
+}
+
+// Whether the type may be defined now.
+fn admit(types: &Table, id: TypeId, place: u64, seen: u64) -> Result<(), Refusal> {
+    let reason = match types.admits(id) {
+        Ok(()) => return Ok(()),
+        Err(DefineFault::ReservedType) => Reason::ReservedType(id),
+        Err(DefineFault::DefinedTwice) => Reason::DefinedTwice(id),
+        Err(DefineFault::TooManyTypes) => Reason::TooManyTypes,
+        // the table admits it, and nothing was to grow
+        Err(DefineFault::Memory) => return Ok(()),
+    };
+    Err(refusal(place, seen, reason))
+}
+
+// Whether values of the type may come now.
+fn make_ready(
+    alloc: Global,
+    types: &Table,
+    id: TypeId,
+    place: u64,
+    seen: u64,
+) -> Result<(), Fault> {
+    if id == GOB_ENCODER_TYPE {
+        return Err(Fault::Refused(refusal(place, seen, Reason::UndefinedType(id))));
+    }
+    let reason = match types.ready(alloc, id) {
+        Ok(()) => return Ok(()),
+        Err(NotReady::UndefinedType(undefined)) => Reason::UndefinedType(undefined),
+        Err(NotReady::Bottomless(bottomless)) => Reason::Bottomless(bottomless),
+        Err(NotReady::Memory) => return Err(Fault::Memory),
+    };
+    Err(Fault::Refused(refusal(place, seen, reason)))
+}
