@@ -56,6 +56,7 @@ impl<B: Builder> BodyReader<B> {
             → Gives (S.table _shapes.now) t limit announced B.stands B.means self.new.run z _piece.now progress) }
         ensures refused { IfErr result (StopsFor (λ refusal. RefusesBody (S.table _shapes.now) B.stands self.old.run _piece.now refusal)) }
         ensures failed { self.old.run ≡ None → result ≡ Err Stop.Failed }
+        ensures failed_only { result ≡ Err Stop.Failed → self.old.run ≡ None }
         ensures ended { OnErr result (self.new.run ≡ None) }
     {
         match self.run.take() {

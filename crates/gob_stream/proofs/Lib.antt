@@ -1,11 +1,4 @@
-pub mod ReadableLaws
-pub mod TakesLaws
 pub mod StreamLaws
-pub mod JudgeLaws
-pub mod CountLaws
-pub mod BodyLaws
-pub mod ItemLaws
-pub mod SessionLaws
 pub mod LawsOfStreams
 pub mod WritingLaws
 pub mod WriterSteps

@@ -7,6 +7,7 @@ pub mod Outcome
 pub mod WriterRefusal
 pub mod Devices
 pub mod Readable
+pub mod Standing
 pub mod Reading
 pub mod ReadParts
 pub mod Writing

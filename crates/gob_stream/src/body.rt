@@ -1,5 +1,19 @@
 //! What follows the type number of a body: a value, or the description of a type.
 
+ghost use Rattle.std.specs.Prelude.{◌≡◌, ℕ, ◌+◌, ◌<◌, ◌≤◌, ◌^◌, ◌++◌, ◌∷◌, [], List, OnOk, IfOk, IfErr, MatchResult};
+ghost use Rattle.gob_types.specs.Table.{Table};
+ghost use Rattle.gob_types.specs.Base.{base_table, wire_type};
+ghost use Rattle.gob_types.specs.Defined.{types, Admits};
+ghost use Rattle.gob_types.specs.Definable.{IsDefinable};
+ghost use Rattle.gob_value.specs.View.{view};
+ghost use Rattle.gob_value.specs.Fits.{Fits};
+ghost use Rattle.gob_value.specs.Description.{Describes};
+ghost use Rattle.gob_read.specs.Reader.{Stands};
+ghost use Rattle.gob_stream.specs.Standing.{size};
+ghost use Rattle.gob_stream.specs.ReadParts.{IsUnderWay, ReadsValue, ReadsDescription, StopsWithin, shape_fault};
+ghost use Rattle.gob_stream.specs.ReadParts.{fault_behind};
+ghost use Rattle.gob_stream.specs.ReadParts.{Defines, HasWireType};
+
 use crate::count::refusal;
 use crate::fault::Fault;
 use crate::item::Item;
@@ -18,7 +32,12 @@ pub(crate) fn take_value<B: Builder>(
     rest: Extent,
     mut reader: BodyReader<B>,
     piece: &[u8],
-) -> Result<Stepped<B>, Fault> {
+) -> Result<Stepped<B>, Fault>
+    requires stands { IsUnderWay (types types.now) id rest B.stands reader.run }
+    requires order { rest.begin ≤ rest.end }
+    ensures { (limit : ℕ) (z : List ℕ) → Stands (types types.now) id limit (size rest) B.stands reader.run z
+        → ReadsValue B.stands B.means (types types.now) id limit rest z piece.now result }
+{
     match reader.push(alloc, types, piece) {
         Ok(Progress::More) => Ok(Stepped {
             used: piece.len(),
@@ -30,7 +49,7 @@ pub(crate) fn take_value<B: Builder>(
             stage: next_count(rest),
             item: Some(Item::Put { id, value: out }),
         }),
-        Err(stop) => Err(fault_behind(rest.begin, stop)),
+        Err(stop) => Err(fault_of_stop(rest.begin, stop)),
     }
 }
 
@@ -42,7 +61,15 @@ pub(crate) fn take_description<B: Builder>(
     rest: Extent,
     mut reader: BodyReader<TreeBuilder>,
     piece: &[u8],
-) -> Result<Stepped<B>, Fault> {
+) -> Result<Stepped<B>, Fault>
+    requires stands { IsUnderWay (types types.old) wire_type rest ⟦<TreeBuilder as Builder>⟧.stands reader.run }
+    requires order { rest.begin ≤ rest.end }
+    requires admitted { Admits types.old id }
+    requires keeps { HasWireType (types types.old) }
+    ensures read { (limit : ℕ) (z : List ℕ) → Stands (types types.old) wire_type limit (size rest) ⟦<TreeBuilder as Builder>⟧.stands reader.run z
+        → ReadsDescription ⟦<TreeBuilder as Builder>⟧.stands (types types.old) id limit rest z piece.now (types types.new) result }
+    ensures most { types.new.most ≡ types.old.most }
+{
     match reader.push(alloc, types, piece) {
         Ok(Progress::More) => Ok(Stepped {
             used: piece.len(),
@@ -57,12 +84,14 @@ pub(crate) fn take_description<B: Builder>(
                 item: Some(Item::Define { id, described: out }),
             })
         }
-        Err(stop) => Err(fault_behind(rest.begin, stop)),
+        Err(stop) => Err(fault_of_stop(rest.begin, stop)),
     }
 }
 
 // The count of the item behind the body that ends there.
-fn next_count<B: Builder>(rest: Extent) -> Stage<B> {
+fn next_count<B: Builder>(rest: Extent) -> Stage<B>
+    ensures { result ≡ Stage.Count rest.end [] }
+{
     Stage::Count {
         begin: rest.end,
         number: Number::new(),
@@ -76,7 +105,12 @@ fn define(
     id: TypeId,
     rest: Extent,
     described: &Value,
-) -> Result<(), Fault> {
+) -> Result<(), Fault>
+    requires fits { Fits base_table wire_type (view described.now) }
+    requires admitted { Admits types.old id }
+    ensures defines { Defines rest id (view described.now) (types types.old) (types types.new) result }
+    ensures most { types.new.most ≡ types.old.most }
+{
     let shape = match shape_from(alloc, id, described) {
         Ok(shape) => shape,
         Err(fault) => return Err(fault_of(rest, fault)),
@@ -89,7 +123,9 @@ fn define(
 }
 
 // Why the description that is the rest of the body describes no type.
-fn fault_of(rest: Extent, fault: ShapeFault) -> Fault {
+fn fault_of(rest: Extent, fault: ShapeFault) -> Fault
+    ensures { result ≡ shape_fault rest fault }
+{
     let reason = match fault {
         ShapeFault::KindCount => Reason::KindCount,
         ShapeFault::WrongId => Reason::WrongId,
@@ -101,7 +137,10 @@ fn fault_of(rest: Extent, fault: ShapeFault) -> Fault {
 }
 
 // What stopped the reader of what begins at this offset of the stream.
-fn fault_behind(begin: u64, stop: Stop) -> Fault {
+fn fault_of_stop(begin: u64, stop: Stop) -> Fault
+    requires { StopsWithin begin stop }
+    ensures { result ≡ fault_behind begin stop }
+{
     match stop {
         Stop::Refused {
             place,

@@ -1,5 +1,14 @@
 //! The count at which an item begins.
 
+ghost use Rattle.std.specs.Prelude.{◌≡◌, ℕ, ◌+◌, ◌<◌, ◌≤◌, ◌++◌, [], List, Ok, Err, MatchResult, length};
+ghost use Rattle.gob_num.specs.Unsigned.{IsUnsigned, IsUnsignedFront};
+ghost use Rattle.gob_types.specs.Table.{Table};
+ghost use Rattle.gob_types.specs.Base.{base_table};
+ghost use Rattle.gob_read.specs.Telling.{Telling};
+ghost use Rattle.gob_stream.specs.Bounds.{greatest_stream};
+ghost use Rattle.gob_stream.specs.Refusing.{RefusesCount, refuses};
+ghost use Rattle.gob_stream.specs.ReadParts.{CountSteps, JudgesCount};
+
 use crate::fault::Refusal;
 use crate::limits::Limits;
 use crate::stage::{Extent, Stage, Stepped};
@@ -15,7 +24,12 @@ pub(crate) fn take_count<B: Builder>(
     taken: u64,
     mut number: Number,
     piece: &[u8],
-) -> Result<Stepped<B>, Refusal> {
+) -> Result<Stepped<B>, Refusal>
+    requires offset { begin ≤ greatest_stream }
+    requires taken { taken ≡ begin + length number }
+    requires front { IsUnsignedFront number }
+    ensures { CountSteps limits begin number piece.now result }
+{
     match number.take(piece) {
         Taken::More => Ok(Stepped {
             used: piece.len(),
@@ -44,7 +58,9 @@ pub(crate) fn body_of(
     begin: u64,
     end: u64,
     count: u64,
-) -> Result<Extent, Refusal> {
+) -> Result<Extent, Refusal>
+    ensures { JudgesCount limits begin end count result }
+{
     let stream = limits.stream();
     if count > limits.item() {
         return Err(refusal(begin, end, Reason::ItemTooLong));
@@ -62,7 +78,9 @@ pub(crate) fn body_of(
 }
 
 /// A refusal of what stands at the place, shown by so many bytes of the stream.
-pub(crate) fn refusal(place: u64, seen: u64, reason: Reason) -> Refusal {
+pub(crate) fn refusal(place: u64, seen: u64, reason: Reason) -> Refusal
+    ensures { result ≡ refuses place seen reason }
+{
     Refusal {
         place,
         seen,

@@ -1,5 +1,11 @@
 //! A stream under way.
 
+ghost use Rattle.std.specs.Prelude.{◌≡◌, ℕ, ◌+◌, ◌<◌, ◌≤◌, [], ◌++◌, List, length, IfOk, OnErr};
+ghost use Rattle.gob_stream.specs.Item.{StreamItem};
+ghost use Rattle.gob_stream.specs.Standing.{StandsAfter, IsUsable};
+ghost use Rattle.gob_stream.specs.Reading.{Given, Feeds, Finishes};
+ghost use Rattle.gob_stream.specs.ReadParts.{Advances};
+
 use crate::body::{take_description, take_value};
 use crate::count::{refusal, take_count};
 use crate::fault::Fault;
@@ -8,7 +14,7 @@ use crate::limits::Limits;
 use crate::stage::{Extent, Stage};
 use crate::type_number::take_type_number;
 use gob_num::{Memory, Number};
-use gob_read::Builder;
+use gob_read::{Builder, TreeBuilder};
 use gob_types::{Reason, Table};
 use std::alloc::Global;
 use std::mem;
@@ -37,7 +43,10 @@ pub(crate) struct Step<O: Drop> {
 
 impl<B: Builder> Reading<B> {
     /// Before the first byte.
-    pub(crate) fn new(alloc: Global, limits: Limits) -> Result<Reading<B>, Memory> {
+    pub(crate) fn new(alloc: Global, limits: Limits) -> Result<Reading<B>, Memory>
+        ensures stands { IfOk result (λ reading. StandsAfter B.stands ⟦<TreeBuilder as Builder>⟧.stands B.DEPTH reading [] []) }
+        ensures limits { IfOk result (λ reading. reading.limits ≡ limits) }
+    {
         let types = Table::new(alloc, limits.types())?;
         Ok(Reading {
             limits,
@@ -56,7 +65,15 @@ impl<B: Builder> Reading<B> {
         alloc: Global,
         piece: &[u8],
         out: &mut Vec<Item<B::Out>>,
-    ) -> Result<(), Fault> {
+    ) -> Result<(), Fault>
+        requires { IsUsable B.stands ⟦<TreeBuilder as Builder>⟧.stands B.DEPTH self.old }
+        ensures fed { Given out.old.items out.new.items (λ given. (items : List StreamItem) (bytes : List ℕ)
+            → StandsAfter B.stands ⟦<TreeBuilder as Builder>⟧.stands B.DEPTH self.old items bytes
+            → Feeds B.stands ⟦<TreeBuilder as Builder>⟧.stands B.means B.DEPTH self.old self.new items bytes piece.now given result) }
+        ensures usable { IsUsable B.stands ⟦<TreeBuilder as Builder>⟧.stands B.DEPTH self.new }
+        ensures failed { OnErr result (self.new.stage ≡ Stage.Failed) }
+        ensures limits { self.new.limits ≡ self.old.limits }
+    {
         let mut used = 0;
         for _ in 0..piece.len() {
             if used >= piece.len() {
@@ -72,7 +89,16 @@ impl<B: Builder> Reading<B> {
     }
 
     /// Takes some bytes from the front of the piece, one at least. After a fault nothing more is read.
-    pub(crate) fn step(&mut self, alloc: Global, piece: &[u8]) -> Result<Step<B::Out>, Fault> {
+    pub(crate) fn step(&mut self, alloc: Global, piece: &[u8]) -> Result<Step<B::Out>, Fault>
+        requires usable { IsUsable B.stands ⟦<TreeBuilder as Builder>⟧.stands B.DEPTH self.old }
+        requires some { 0 < length piece.now }
+        ensures advances { (items : List StreamItem) (bytes : List ℕ)
+            → StandsAfter B.stands ⟦<TreeBuilder as Builder>⟧.stands B.DEPTH self.old items bytes
+            → Advances B.stands ⟦<TreeBuilder as Builder>⟧.stands B.means B.DEPTH self.old self.new items bytes piece.now result }
+        ensures usable { IsUsable B.stands ⟦<TreeBuilder as Builder>⟧.stands B.DEPTH self.new }
+        ensures failed { OnErr result (self.new.stage ≡ Stage.Failed) }
+        ensures limits { self.new.limits ≡ self.old.limits }
+    {
         let stage = mem::replace(&mut self.stage, Stage::Failed);
         let stepped = match stage {
             Stage::Count { begin, number } => {
@@ -116,7 +142,14 @@ impl<B: Builder> Reading<B> {
     }
 
     /// At the end of the input: whether it is the end of the stream. After a fault nothing more is read.
-    pub(crate) fn finish(&mut self) -> Result<(), Fault> {
+    pub(crate) fn finish(&mut self) -> Result<(), Fault>
+        requires { IsUsable B.stands ⟦<TreeBuilder as Builder>⟧.stands B.DEPTH self.old }
+        ensures finishes { (items : List StreamItem) (bytes : List ℕ)
+            → StandsAfter B.stands ⟦<TreeBuilder as Builder>⟧.stands B.DEPTH self.old items bytes
+            → Finishes B.DEPTH self.old self.new items bytes result }
+        ensures usable { IsUsable B.stands ⟦<TreeBuilder as Builder>⟧.stands B.DEPTH self.new }
+        ensures failed { OnErr result (self.new.stage ≡ Stage.Failed) }
+    {
         match self.stage {
             Stage::Failed => Err(Fault::Failed),
             Stage::Count { begin, number: _ } if begin == self.taken => Ok(()),

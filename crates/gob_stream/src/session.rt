@@ -1,5 +1,7 @@
 //! Reading a stream.
 
+ghost use Rattle.gob_stream.specs.Standing.{IsUsable};
+
 use crate::fault::Fault;
 use crate::input::Input;
 use crate::item::Item;
@@ -7,7 +9,7 @@ use crate::limits::Limits;
 use crate::reading::Reading;
 use crate::stage::Stage;
 use gob_num::Memory;
-use gob_read::Builder;
+use gob_read::{Builder, TreeBuilder};
 use gob_types::Table;
 use std::alloc::Global;
 use std::io::Read;
@@ -19,11 +21,21 @@ const CHUNK: u64 = 1024;
 #[derive(Drop)]
 pub struct Session<B: Builder> {
     reading: Reading<B>,
+    ghost usable: { IsUsable B.stands ⟦<TreeBuilder as Builder>⟧.stands B.DEPTH reading },
 }
 
 impl<B: Builder> Session<B> {
+    ghost use Rattle.std.specs.Prelude.{◌≡◌, ℕ, List, [], Ok, Err, Some, IfOk, OnErr};
+    ghost use Rattle.gob_types.specs.Defined.{types};
+    ghost use Rattle.gob_stream.specs.Item.{StreamItem};
+    ghost use Rattle.gob_stream.specs.Standing.{StandsAfter};
+    ghost use Rattle.gob_stream.specs.Reading.{Given, Feeds, Finishes};
+
     /// A reader that has taken no byte.
-    pub fn new(alloc: Global, limits: Limits) -> Result<Session<B>, Memory> {
+    pub fn new(alloc: Global, limits: Limits) -> Result<Session<B>, Memory>
+        ensures stands { IfOk result (λ session. StandsAfter B.stands ⟦<TreeBuilder as Builder>⟧.stands B.DEPTH session.reading [] []) }
+        ensures limits { IfOk result (λ session. session.reading.limits ≡ limits) }
+    {
         let reading = Reading::new(alloc, limits)?;
         Ok(Session { reading })
     }
@@ -36,7 +48,15 @@ impl<B: Builder> Session<B> {
         alloc: Global,
         piece: &[u8],
         out: &mut Vec<Item<B::Out>>,
-    ) -> Result<(), Fault> {
+    ) -> Result<(), Fault>
+        ensures fed { Given out.old.items out.new.items (λ given. (items : List StreamItem) (bytes : List ℕ)
+            → StandsAfter B.stands ⟦<TreeBuilder as Builder>⟧.stands B.DEPTH self.old.reading items bytes
+            → Feeds B.stands ⟦<TreeBuilder as Builder>⟧.stands B.means B.DEPTH self.old.reading self.new.reading items bytes piece.now given result) }
+        ensures failed { OnErr result (self.new.reading.stage ≡ Stage.Failed) }
+        ensures stays { self.old.reading.stage ≡ Stage.Failed
+            → (result ≡ Err Fault.Failed) × (self.new.reading ≡ self.old.reading) × (out.new ≡ out.old) }
+        ensures limits { self.new.reading.limits ≡ self.old.reading.limits }
+    {
         if matches!(self.reading.stage, Stage::Failed) {
             return Err(Fault::Failed);
         }
@@ -46,12 +66,19 @@ impl<B: Builder> Session<B> {
     /// Says that no byte follows. Ok exactly between two items, and then nothing has changed; else the refusal
     /// `Ended` at the end of the bytes that came. It takes no memory. After a fault each call answers
     /// [`Fault::Failed`].
-    pub fn finish(&mut self) -> Result<(), Fault> {
+    pub fn finish(&mut self) -> Result<(), Fault>
+        ensures finishes { (items : List StreamItem) (bytes : List ℕ)
+            → StandsAfter B.stands ⟦<TreeBuilder as Builder>⟧.stands B.DEPTH self.old.reading items bytes
+            → Finishes B.DEPTH self.old.reading self.new.reading items bytes result }
+        ensures failed { OnErr result (self.new.reading.stage ≡ Stage.Failed) }
+    {
         self.reading.finish()
     }
 
     /// The types of the stream so far.
-    pub fn table(&self) -> &Table {
+    pub fn table(&self) -> &Table
+        ensures { result.now ≡ self.now.reading.types }
+    {
         &self.reading.types
     }
 

@@ -1,12 +1,21 @@
 //! The type number at which a body begins.
 
+ghost use Rattle.std.specs.Prelude.{◌≡◌, ℕ, ◌+◌, ◌<◌, ◌≤◌, ◌^◌, ◌++◌, [], List, Ok, Err, length, OnOk};
+ghost use Rattle.gob_num.specs.Unsigned.{IsUnsigned, IsUnsignedFront};
+ghost use Rattle.gob_types.specs.Base.{wire_type};
+ghost use Rattle.gob_types.specs.Defined.{types, Admits};
+ghost use Rattle.gob_stream.specs.Bounds.{Bounds, greatest_stream};
+ghost use Rattle.gob_stream.specs.Standing.{no_deeper, IsCount, IsRest};
+ghost use Rattle.gob_stream.specs.declared.stage.Extent.{Extent};
+ghost use Rattle.gob_stream.specs.ReadParts.{AreTypes, MaybeDefines, MaybePuts, StepsOn, GoesOnIn};
+
 use crate::body::{take_description, take_value};
 use crate::count::refusal;
 use crate::fault::{Fault, Refusal};
 use crate::limits::Limits;
 use crate::stage::{Extent, Stage, Stepped};
 use gob_num::{Number, Taken, to_signed};
-use gob_read::{BodyReader, Builder};
+use gob_read::{BodyReader, Builder, TreeBuilder};
 use gob_types::{DefineFault, NotReady, Reason, Table, TypeId};
 use std::alloc::Global;
 
@@ -26,7 +35,16 @@ pub(crate) fn take_type_number<B: Builder>(
     taken: u64,
     mut number: Number,
     piece: &[u8],
-) -> Result<Stepped<B>, Fault> {
+) -> Result<Stepped<B>, Fault>
+    requires types { AreTypes limits types.old }
+    requires begin { body.begin + length number ≡ taken }
+    requires room { taken < body.end }
+    requires end { body.end ≤ greatest_stream }
+    requires front { IsUnsignedFront number }
+    ensures read { (offset m : ℕ) (c : List ℕ) → IsCount (no_deeper B.DEPTH limits) offset m c body
+        → StepsOn B.stands ⟦<TreeBuilder as Builder>⟧.stands B.means (no_deeper B.DEPTH limits) (types types.old) offset (c ++ number) piece.now (types types.new) result }
+    ensures most { types.new.most ≡ types.old.most }
+{
     let room = (body.end - taken).min(piece.len() as u64) as usize;
     match number.take(&piece[..room]) {
         Taken::More => more_of_type_number(body, taken, number, room),
@@ -59,7 +77,11 @@ fn more_of_type_number<B: Builder>(
     taken: u64,
     number: Number,
     used: usize,
-) -> Result<Stepped<B>, Fault> {
+) -> Result<Stepped<B>, Fault>
+    requires within { taken + used ≤ body.end }
+    requires end { body.end ≤ greatest_stream }
+    ensures { GoesOnIn body (taken + used) number used result }
+{
     if taken + used as u64 == body.end {
         return Err(Fault::Refused(refusal(body.end, body.end, Reason::Short)));
     }
@@ -79,22 +101,33 @@ fn begin_rest<B: Builder>(
     rest: Extent,
     number: u64,
     piece: &[u8],
-) -> Result<Stepped<B>, Fault> {
+) -> Result<Stepped<B>, Fault>
+    requires types { AreTypes limits types.old }
+    requires order { rest.begin ≤ rest.end }
+    requires end { rest.end ≤ greatest_stream }
+    ensures read { (offset m : ℕ) (c a : List ℕ) (body : Extent) → IsCount (no_deeper B.DEPTH limits) offset m c body → body.begin ≡ place → IsUnsigned number a → IsRest body a rest
+        → StepsOn B.stands ⟦<TreeBuilder as Builder>⟧.stands B.means (no_deeper B.DEPTH limits) (types types.old) offset (c ++ a) piece.now (types types.new) result }
+    ensures most { types.new.most ≡ types.old.most }
+{
     let number = to_signed(number);
     let id = TypeId(number.unsigned_abs());
     let length = rest.end - rest.begin;
+    let depth = limits.depth().min(B::DEPTH);
     if number < 0 {
         admit(types, id, place, rest.begin)?;
-        let reader = BodyReader::new(alloc, WIRE_TYPE, length, limits.depth())?;
+        let reader = BodyReader::new(alloc, WIRE_TYPE, length, depth)?;
         return take_description(alloc, types, id, rest, reader, piece);
     }
     make_ready(alloc, types, id, place, rest.begin)?;
-    let reader = BodyReader::new(alloc, id, length, limits.depth())?;
+    let reader = BodyReader::new(alloc, id, length, depth)?;
     take_value(alloc, types, id, rest, reader, piece)
 }
 
 // Whether the type may be defined now.
-fn admit(types: &Table, id: TypeId, place: u64, seen: u64) -> Result<(), Refusal> {
+fn admit(types: &Table, id: TypeId, place: u64, seen: u64) -> Result<(), Refusal>
+    ensures judged { (L : Bounds) → AreTypes L types.now → MaybeDefines L (types types.now) id place seen result }
+    ensures admitted { OnOk result (Admits types.now id) }
+{
     let reason = match types.admits(id) {
         Ok(()) => return Ok(()),
         Err(DefineFault::ReservedType) => Reason::ReservedType(id),
@@ -113,7 +146,9 @@ fn make_ready(
     id: TypeId,
     place: u64,
     seen: u64,
-) -> Result<(), Fault> {
+) -> Result<(), Fault>
+    ensures { MaybePuts (types types.now) id place seen result }
+{
     if id == GOB_ENCODER_TYPE {
         return Err(Fault::Refused(refusal(place, seen, Reason::UndefinedType(id))));
     }

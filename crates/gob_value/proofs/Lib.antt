@@ -9,3 +9,4 @@ pub mod WrittenSteps
 pub mod PrefixLaws
 pub mod UniqueLaws
 pub mod StayLaws
+pub mod DefinableLaws

@@ -10,3 +10,4 @@ pub mod Faults
 pub mod Basic
 pub mod Laws
 pub mod Description
+pub mod ShapeFaults

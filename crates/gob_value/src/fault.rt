@@ -33,3 +33,19 @@ impl From<Misfit> for SpellFault {
         }
     }
 }
+
+/// Why a value of type 16 gives no shape: the first of these that holds.
+/// (Go's encoding/gob documentation, Encoding Details, on wireType; docs/FORMAT.md, Descriptions.)
+#[derive(Clone, Copy, Debug, PartialEq, Eq)]
+pub enum ShapeFault {
+    /// Not exactly one field of wireType is present.
+    KindCount,
+    /// The Id isn't the id that is being defined.
+    WrongId,
+    /// An Elem, a Key or the Id of a field is no type id from 1 to 2147483647, or is 24.
+    BadReference,
+    /// The Len of an array is below 0.
+    BadLength,
+    /// The allocator refused memory. The value describes a shape.
+    Memory,
+}

@@ -19,6 +19,7 @@
 
 mod basic;
 mod depth;
+mod description;
 mod fault;
 mod fitting;
 mod laws;
@@ -30,7 +31,8 @@ mod value;
 mod writing;
 
 pub use basic::spell_basic;
-pub use fault::{Misfit, SpellFault};
+pub use description::shape_from;
+pub use fault::{Misfit, ShapeFault, SpellFault};
 pub use fitting::fits;
 pub use laws::{
     spellings_are_unique, spellings_begin_no_other, spellings_stay, spellings_tell_the_value,
