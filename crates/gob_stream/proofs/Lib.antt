@@ -6,3 +6,5 @@ pub mod FaultSteps
 pub mod StreamSteps
 pub mod RefusalLaws
 pub mod EndLaws
+pub mod RefusingLaws
+pub mod OutcomeLaws

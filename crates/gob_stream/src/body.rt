@@ -1,7 +1,6 @@
 //! What follows the type number of a body: a value, or the description of a type.
 
 ghost use Rattle.std.specs.Prelude.{◌≡◌, ℕ, ◌+◌, ◌<◌, ◌≤◌, ◌^◌, ◌++◌, ◌∷◌, [], List, OnOk, IfOk, IfErr, MatchResult};
-ghost use Rattle.gob_types.specs.Table.{Table};
 ghost use Rattle.gob_types.specs.Base.{base_table, wire_type};
 ghost use Rattle.gob_types.specs.Defined.{types, Admits};
 ghost use Rattle.gob_types.specs.Definable.{IsDefinable};
@@ -27,18 +26,18 @@ use std::alloc::Global;
 /// Takes bytes of a value of the type.
 pub(crate) fn take_value<B: Builder>(
     alloc: Global,
-    types: &Table,
+    table: &Table,
     id: TypeId,
     rest: Extent,
     mut reader: BodyReader<B>,
     piece: &[u8],
 ) -> Result<Stepped<B>, Fault>
-    requires stands { IsUnderWay (types types.now) id rest B.stands reader.run }
+    requires stands { IsUnderWay (types table.now) id rest B.stands reader.run }
     requires order { rest.begin ≤ rest.end }
-    ensures { (limit : ℕ) (z : List ℕ) → Stands (types types.now) id limit (size rest) B.stands reader.run z
-        → ReadsValue B.stands B.means (types types.now) id limit rest z piece.now result }
+    ensures { (limit : ℕ) (z : List ℕ) → Stands (types table.now) id limit (size rest) B.stands reader.run z
+        → ReadsValue B.stands B.means (types table.now) id limit rest z piece.now result }
 {
-    match reader.push(alloc, types, piece) {
+    match reader.push(alloc, table, piece) {
         Ok(Progress::More) => Ok(Stepped {
             used: piece.len(),
             stage: Stage::Value { id, rest, reader },
@@ -56,28 +55,28 @@ pub(crate) fn take_value<B: Builder>(
 /// Takes bytes of the description of the type, and where it is whole, defines it.
 pub(crate) fn take_description<B: Builder>(
     alloc: Global,
-    types: &mut Table,
+    table: &mut Table,
     id: TypeId,
     rest: Extent,
     mut reader: BodyReader<TreeBuilder>,
     piece: &[u8],
 ) -> Result<Stepped<B>, Fault>
-    requires stands { IsUnderWay (types types.old) wire_type rest ⟦<TreeBuilder as Builder>⟧.stands reader.run }
+    requires stands { IsUnderWay (types table.old) wire_type rest ⟦<TreeBuilder as Builder>⟧.stands reader.run }
     requires order { rest.begin ≤ rest.end }
-    requires admitted { Admits types.old id }
-    requires keeps { HasWireType (types types.old) }
-    ensures read { (limit : ℕ) (z : List ℕ) → Stands (types types.old) wire_type limit (size rest) ⟦<TreeBuilder as Builder>⟧.stands reader.run z
-        → ReadsDescription ⟦<TreeBuilder as Builder>⟧.stands (types types.old) id limit rest z piece.now (types types.new) result }
-    ensures most { types.new.most ≡ types.old.most }
+    requires admitted { Admits table.old id }
+    requires keeps { HasWireType (types table.old) }
+    ensures read { (limit : ℕ) (z : List ℕ) → Stands (types table.old) wire_type limit (size rest) ⟦<TreeBuilder as Builder>⟧.stands reader.run z
+        → ReadsDescription ⟦<TreeBuilder as Builder>⟧.stands (types table.old) id limit rest z piece.now (types table.new) result }
+    ensures most { table.new.most ≡ table.old.most }
 {
-    match reader.push(alloc, types, piece) {
+    match reader.push(alloc, table, piece) {
         Ok(Progress::More) => Ok(Stepped {
             used: piece.len(),
             stage: Stage::Description { id, rest, reader },
             item: None,
         }),
         Ok(Progress::Done { out, used }) => {
-            define(alloc, types, id, rest, &out)?;
+            define(alloc, table, id, rest, &out)?;
             Ok(Stepped {
                 used,
                 stage: next_count(rest),
@@ -101,21 +100,21 @@ fn next_count<B: Builder>(rest: Extent) -> Stage<B>
 // Defines the type as it is described.
 fn define(
     alloc: Global,
-    types: &mut Table,
+    table: &mut Table,
     id: TypeId,
     rest: Extent,
     described: &Value,
 ) -> Result<(), Fault>
     requires fits { Fits base_table wire_type (view described.now) }
-    requires admitted { Admits types.old id }
-    ensures defines { Defines rest id (view described.now) (types types.old) (types types.new) result }
-    ensures most { types.new.most ≡ types.old.most }
+    requires admitted { Admits table.old id }
+    ensures defines { Defines rest id (view described.now) (types table.old) (types table.new) result }
+    ensures most { table.new.most ≡ table.old.most }
 {
     let shape = match shape_from(alloc, id, described) {
         Ok(shape) => shape,
         Err(fault) => return Err(fault_of(rest, fault)),
     };
-    match types.define(alloc, id, shape) {
+    match table.define(alloc, id, shape) {
         Ok(()) => Ok(()),
         // the table admits the type, so nothing but memory can be wanting
         Err(_) => Err(Fault::Memory),

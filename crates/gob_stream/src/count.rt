@@ -2,7 +2,6 @@
 
 ghost use Rattle.std.specs.Prelude.{◌≡◌, ℕ, ◌+◌, ◌<◌, ◌≤◌, ◌++◌, [], List, Ok, Err, MatchResult, length};
 ghost use Rattle.gob_num.specs.Unsigned.{IsUnsigned, IsUnsignedFront};
-ghost use Rattle.gob_types.specs.Table.{Table};
 ghost use Rattle.gob_types.specs.Base.{base_table};
 ghost use Rattle.gob_read.specs.Telling.{Telling};
 ghost use Rattle.gob_stream.specs.Bounds.{greatest_stream};

@@ -1,7 +1,5 @@
 //! Reading a stream.
 
-ghost use Rattle.gob_stream.specs.Standing.{IsUsable};
-
 use crate::fault::Fault;
 use crate::input::Input;
 use crate::item::Item;
@@ -21,14 +19,13 @@ const CHUNK: u64 = 1024;
 #[derive(Drop)]
 pub struct Session<B: Builder> {
     reading: Reading<B>,
-    ghost usable: { IsUsable B.stands ⟦<TreeBuilder as Builder>⟧.stands B.DEPTH reading },
 }
 
 impl<B: Builder> Session<B> {
     ghost use Rattle.std.specs.Prelude.{◌≡◌, ℕ, List, [], Ok, Err, Some, IfOk, OnErr};
     ghost use Rattle.gob_types.specs.Defined.{types};
     ghost use Rattle.gob_stream.specs.Item.{StreamItem};
-    ghost use Rattle.gob_stream.specs.Standing.{StandsAfter};
+    ghost use Rattle.gob_stream.specs.Standing.{StandsAfter, IsUsable};
     ghost use Rattle.gob_stream.specs.Reading.{Given, Feeds, Finishes};
 
     /// A reader that has taken no byte.
@@ -49,6 +46,7 @@ impl<B: Builder> Session<B> {
         piece: &[u8],
         out: &mut Vec<Item<B::Out>>,
     ) -> Result<(), Fault>
+        requires { IsUsable B.stands ⟦<TreeBuilder as Builder>⟧.stands B.DEPTH self.old.reading }
         ensures fed { Given out.old.items out.new.items (λ given. (items : List StreamItem) (bytes : List ℕ)
             → StandsAfter B.stands ⟦<TreeBuilder as Builder>⟧.stands B.DEPTH self.old.reading items bytes
             → Feeds B.stands ⟦<TreeBuilder as Builder>⟧.stands B.means B.DEPTH self.old.reading self.new.reading items bytes piece.now given result) }
@@ -56,6 +54,7 @@ impl<B: Builder> Session<B> {
         ensures stays { self.old.reading.stage ≡ Stage.Failed
             → (result ≡ Err Fault.Failed) × (self.new.reading ≡ self.old.reading) × (out.new ≡ out.old) }
         ensures limits { self.new.reading.limits ≡ self.old.reading.limits }
+        ensures usable { IsUsable B.stands ⟦<TreeBuilder as Builder>⟧.stands B.DEPTH self.new.reading }
     {
         if matches!(self.reading.stage, Stage::Failed) {
             return Err(Fault::Failed);
@@ -67,10 +66,12 @@ impl<B: Builder> Session<B> {
     /// `Ended` at the end of the bytes that came. It takes no memory. After a fault each call answers
     /// [`Fault::Failed`].
     pub fn finish(&mut self) -> Result<(), Fault>
+        requires { IsUsable B.stands ⟦<TreeBuilder as Builder>⟧.stands B.DEPTH self.old.reading }
         ensures finishes { (items : List StreamItem) (bytes : List ℕ)
             → StandsAfter B.stands ⟦<TreeBuilder as Builder>⟧.stands B.DEPTH self.old.reading items bytes
             → Finishes B.DEPTH self.old.reading self.new.reading items bytes result }
         ensures failed { OnErr result (self.new.reading.stage ≡ Stage.Failed) }
+        ensures usable { IsUsable B.stands ⟦<TreeBuilder as Builder>⟧.stands B.DEPTH self.new.reading }
     {
         self.reading.finish()
     }

@@ -30,20 +30,20 @@ const GOB_ENCODER_TYPE: TypeId = TypeId(24);
 pub(crate) fn take_type_number<B: Builder>(
     alloc: Global,
     limits: Limits,
-    types: &mut Table,
+    table: &mut Table,
     body: Extent,
     taken: u64,
     mut number: Number,
     piece: &[u8],
 ) -> Result<Stepped<B>, Fault>
-    requires types { AreTypes limits types.old }
+    requires known { AreTypes limits table.old }
     requires begin { body.begin + length number ≡ taken }
     requires room { taken < body.end }
     requires end { body.end ≤ greatest_stream }
     requires front { IsUnsignedFront number }
     ensures read { (offset m : ℕ) (c : List ℕ) → IsCount (no_deeper B.DEPTH limits) offset m c body
-        → StepsOn B.stands ⟦<TreeBuilder as Builder>⟧.stands B.means (no_deeper B.DEPTH limits) (types types.old) offset (c ++ number) piece.now (types types.new) result }
-    ensures most { types.new.most ≡ types.old.most }
+        → StepsOn B.stands ⟦<TreeBuilder as Builder>⟧.stands B.means (no_deeper B.DEPTH limits) (types table.old) offset (c ++ number) piece.now (types table.new) result }
+    ensures most { table.new.most ≡ table.old.most }
 {
     let room = (body.end - taken).min(piece.len() as u64) as usize;
     match number.take(&piece[..room]) {
@@ -54,7 +54,7 @@ pub(crate) fn take_type_number<B: Builder>(
                 end: body.end,
             };
             let mut stepped =
-                begin_rest(alloc, limits, types, body.begin, rest, number, &piece[used..])?;
+                begin_rest(alloc, limits, table, body.begin, rest, number, &piece[used..])?;
             stepped.used += used;
             Ok(stepped)
         }
@@ -96,39 +96,39 @@ fn more_of_type_number<B: Builder>(
 fn begin_rest<B: Builder>(
     alloc: Global,
     limits: Limits,
-    types: &mut Table,
+    table: &mut Table,
     place: u64,
     rest: Extent,
     number: u64,
     piece: &[u8],
 ) -> Result<Stepped<B>, Fault>
-    requires types { AreTypes limits types.old }
+    requires known { AreTypes limits table.old }
     requires order { rest.begin ≤ rest.end }
     requires end { rest.end ≤ greatest_stream }
     ensures read { (offset m : ℕ) (c a : List ℕ) (body : Extent) → IsCount (no_deeper B.DEPTH limits) offset m c body → body.begin ≡ place → IsUnsigned number a → IsRest body a rest
-        → StepsOn B.stands ⟦<TreeBuilder as Builder>⟧.stands B.means (no_deeper B.DEPTH limits) (types types.old) offset (c ++ a) piece.now (types types.new) result }
-    ensures most { types.new.most ≡ types.old.most }
+        → StepsOn B.stands ⟦<TreeBuilder as Builder>⟧.stands B.means (no_deeper B.DEPTH limits) (types table.old) offset (c ++ a) piece.now (types table.new) result }
+    ensures most { table.new.most ≡ table.old.most }
 {
     let number = to_signed(number);
     let id = TypeId(number.unsigned_abs());
     let length = rest.end - rest.begin;
     let depth = limits.depth().min(B::DEPTH);
     if number < 0 {
-        admit(types, id, place, rest.begin)?;
+        admit(table, id, place, rest.begin)?;
         let reader = BodyReader::new(alloc, WIRE_TYPE, length, depth)?;
-        return take_description(alloc, types, id, rest, reader, piece);
+        return take_description(alloc, table, id, rest, reader, piece);
     }
-    make_ready(alloc, types, id, place, rest.begin)?;
+    make_ready(alloc, table, id, place, rest.begin)?;
     let reader = BodyReader::new(alloc, id, length, depth)?;
-    take_value(alloc, types, id, rest, reader, piece)
+    take_value(alloc, table, id, rest, reader, piece)
 }
 
 // Whether the type may be defined now.
-fn admit(types: &Table, id: TypeId, place: u64, seen: u64) -> Result<(), Refusal>
-    ensures judged { (L : Bounds) → AreTypes L types.now → MaybeDefines L (types types.now) id place seen result }
-    ensures admitted { OnOk result (Admits types.now id) }
+fn admit(table: &Table, id: TypeId, place: u64, seen: u64) -> Result<(), Refusal>
+    ensures judged { (L : Bounds) → AreTypes L table.now → MaybeDefines L (types table.now) id place seen result }
+    ensures admitted { OnOk result (Admits table.now id) }
 {
-    let reason = match types.admits(id) {
+    let reason = match table.admits(id) {
         Ok(()) => return Ok(()),
         Err(DefineFault::ReservedType) => Reason::ReservedType(id),
         Err(DefineFault::DefinedTwice) => Reason::DefinedTwice(id),
@@ -142,17 +142,17 @@ fn admit(types: &Table, id: TypeId, place: u64, seen: u64) -> Result<(), Refusal
 // Whether values of the type may come now.
 fn make_ready(
     alloc: Global,
-    types: &Table,
+    table: &Table,
     id: TypeId,
     place: u64,
     seen: u64,
 ) -> Result<(), Fault>
-    ensures { MaybePuts (types types.now) id place seen result }
+    ensures { MaybePuts (types table.now) id place seen result }
 {
     if id == GOB_ENCODER_TYPE {
         return Err(Fault::Refused(refusal(place, seen, Reason::UndefinedType(id))));
     }
-    let reason = match types.ready(alloc, id) {
+    let reason = match table.ready(alloc, id) {
         Ok(()) => return Ok(()),
         Err(NotReady::UndefinedType(undefined)) => Reason::UndefinedType(undefined),
         Err(NotReady::Bottomless(bottomless)) => Reason::Bottomless(bottomless),
