@@ -8,3 +8,5 @@ pub mod RefusalLaws
 pub mod EndLaws
 pub mod RefusingLaws
 pub mod OutcomeLaws
+pub mod CountSteps
+pub mod TypeNumberSteps

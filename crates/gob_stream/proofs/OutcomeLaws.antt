@@ -78,12 +78,6 @@ one_front {base = base} {L = L} {V = V} x y (and_then {U = U} {next = m} {items 
     record { table = rest.table; front = cc; rest = rest.rest }
 
 -- ---- one ending
-same_refused : {L : Bounds} {T U : Table} {f g x y : List ℕ} {R S : Refusal} → HasWireStruct T → OneFront T U f g x y → RefusesNext base_table L T (length f) x R → RefusesNext base_table L U (length g) y S → R ≡ S
-same_refused {L = L} {g = g} {S = S} w o p q =
-    let q' = subst (λ (T : Table). RefusesNext base_table L T (length g) _ S) (sym o.table) q in
-    let q'' = subst (λ g. RefusesNext base_table L _ (length g) _ S) (sym o.front) q' in
-    next_once w p (subst (λ z. RefusesNext base_table L _ _ z S) (sym o.rest) q'')
-
 moved : {L : Bounds} {T U : Table} {f g x y : List ℕ} {R : Refusal} → OneFront T U f g x y → RefusesNext base_table L T (length f) x R → RefusesNext base_table L U (length g) y R
 moved {L = L} {T = T} {U = U} {f = f} {g = g} {x = x} {R = R} o p =
     let p' = subst (λ (T : Table). RefusesNext base_table L T (length f) x R) o.table p in
@@ -91,28 +85,27 @@ moved {L = L} {T = T} {U = U} {f = f} {g = g} {x = x} {R = R} o p =
     subst (λ z. RefusesNext base_table L U (length g) z R) o.rest p''
 
 -- no bytes show nothing
-no_number : {n : ℕ} {c r : List ℕ} → IsUnsigned n c → [] ≡ c ++ r → ⊥
-no_number {c = c} {r = r} u e = let l = (unsigned_length u).0 in let k = ap length e in absurd (omega (arith, length-append c r))
+no_number : {n : ℕ} {c : List ℕ} (r : List ℕ) → IsUnsigned n c → [] ≡ c ++ r → ⊥
+no_number {c = c} r u e = let l = (unsigned_length u).0 in let k = ap length e in absurd (omega (arith, length-append c r))
 
 count_shown : {L : Bounds} {offset : ℕ} {z : List ℕ} {R : Refusal} → RefusesCount L offset z R → z ≡ [] → ⊥
 count_shown (refusing.RefusesCount.bad_head h) e = subst IsBadHead e h
 count_shown (refusing.RefusesCount.not_minimal h) e = subst IsNotMinimal e h
-count_shown (item_too_long r e u l) f = no_number u (sym f ∙ e)
-count_shown (stream_too_long r e u l k) f = no_number u (sym f ∙ e)
+count_shown (item_too_long r e u l) f = no_number r u (sym f ∙ e)
+count_shown (stream_too_long r e u l k) f = no_number r u (sym f ∙ e)
 
-nothing_refused : {L : Bounds} {T : Table} {offset : ℕ} {R : Refusal} → RefusesNext base_table L T offset [] R → ⊥
-nothing_refused (refused_count p) = count_shown p refl
-nothing_refused (refused_body r e u l k p) = no_number u e
-
+nothing_refused : {L : Bounds} {T : Table} {offset : ℕ} {z : List ℕ} {R : Refusal} → RefusesNext base_table L T offset z R → z ≡ [] → ⊥
+nothing_refused (refused_count p) f = count_shown p f
+nothing_refused (refused_body r e u l k p) f = no_number r u (sym f ∙ e)
 
 ending_once : {L : Bounds} {bytes : List ℕ} {items : List StreamItem} {e f : Ending} → EndsSo base_table L bytes items e → EndsSo base_table L bytes items f → e ≡ f
 ending_once (at_the_end p) (at_the_end q) = refl
 ending_once {L = L} {bytes = bytes} (at_the_end p) (next_refused z q e r) =
-    let o = one_front [] z p q (append-nil bytes ∙ e) in absurd (nothing_refused (subst (λ z. RefusesNext base_table L _ _ z _) (sym o.rest) r))
+    let o = one_front [] z p q (append-nil bytes ∙ e) in absurd (nothing_refused r (sym o.rest))
 ending_once {bytes = bytes} (at_the_end p) (within_an_item z q e n r) = let o = one_front [] z p q (append-nil bytes ∙ e) in absurd (n (sym o.rest))
 ending_once {L = L} {bytes = bytes} (next_refused z q e r) (at_the_end p) =
-    let o = one_front [] z p q (append-nil bytes ∙ e) in absurd (nothing_refused (subst (λ z. RefusesNext base_table L _ _ z _) (sym o.rest) r))
-ending_once (next_refused z p e r) (next_refused y q f s) = ap (λ R. refused R) (same_refused (stream_wire p) (one_front z y p q (sym e ∙ f)) r s)
+    let o = one_front [] z p q (append-nil bytes ∙ e) in absurd (nothing_refused r (sym o.rest))
+ending_once (next_refused z p e r) (next_refused y q f s) = ap (λ R. refused R) (next_once (stream_wire q) (moved (one_front z y p q (sym e ∙ f)) r) s)
 ending_once (next_refused z p e r) (within_an_item y q f n s) = absurd (s _ (moved (one_front z y p q (sym e ∙ f)) r))
 ending_once {bytes = bytes} (within_an_item z q e n r) (at_the_end p) = let o = one_front [] z p q (append-nil bytes ∙ e) in absurd (n (sym o.rest))
 ending_once (within_an_item y q f n s) (next_refused z p e r) = absurd (s _ (moved (one_front z y p q (sym e ∙ f)) r))

@@ -52,14 +52,14 @@ pub data Starts (y : List ℕ) : Start → Type 0 where
   is_unfinished : IsUnsignedFront y → Starts y unfinished
   is_whole : {i : ℤ} {a z : List ℕ} → y ≡ a ++ z → IsSigned i a → Starts y (whole i a z)
 
-bad_not_number : {y a z : List ℕ} {i : ℤ} → IsBadHead y → y ≡ a ++ z → IsSigned i a → ⊥
-bad_not_number {y = y} {z = z} h e s = bad_head_none y h [] z (signed_unsigned s).1 (append-nil y ∙ e)
+bad_not_number : {y a : List ℕ} {i : ℤ} (z : List ℕ) → IsBadHead y → y ≡ a ++ z → IsSigned i a → ⊥
+bad_not_number {y = y} z h e s = bad_head_none y h [] z (signed_unsigned s).1 (append-nil y ∙ e)
 
-padded_not_number : {y a z : List ℕ} {i : ℤ} → IsNotMinimal y → y ≡ a ++ z → IsSigned i a → ⊥
-padded_not_number {y = y} {z = z} h e s = not_minimal_none y h [] z (signed_unsigned s).1 (append-nil y ∙ e)
+padded_not_number : {y a : List ℕ} {i : ℤ} (z : List ℕ) → IsNotMinimal y → y ≡ a ++ z → IsSigned i a → ⊥
+padded_not_number {y = y} z h e s = not_minimal_none y h [] z (signed_unsigned s).1 (append-nil y ∙ e)
 
-front_not_signed : {y a z : List ℕ} {i : ℤ} → IsUnsignedFront y → y ≡ a ++ z → IsSigned i a → ⊥
-front_not_signed {z = z} h e s = front_not_number z h (signed_unsigned s).1 e
+front_not_signed : {y a : List ℕ} {i : ℤ} (z : List ℕ) → IsUnsignedFront y → y ≡ a ++ z → IsSigned i a → ⊥
+front_not_signed z h e s = front_not_number z h (signed_unsigned s).1 e
 
 same_whole : {i j : ℤ} {a b x y : List ℕ} → i ≡ j → a ≡ b → x ≡ y → whole i a x ≡ whole j b y
 same_whole e f g = cc
@@ -68,18 +68,18 @@ pub one_start : {y : List ℕ} {s r : Start} → Starts y s → Starts y r → s
 one_start (is_bad h) (is_bad k) = refl
 one_start {y = y} (is_bad h) (is_padded k) = absurd (bad_head_not_padded y h k)
 one_start (is_bad h) (is_unfinished k) = absurd (front_not_bad_head k h)
-one_start (is_bad h) (is_whole e s) = absurd (bad_not_number h e s)
+one_start (is_bad h) (is_whole e s) = absurd (bad_not_number _ h e s)
 one_start {y = y} (is_padded h) (is_bad k) = absurd (bad_head_not_padded y k h)
 one_start (is_padded h) (is_padded k) = refl
 one_start (is_padded h) (is_unfinished k) = absurd (front_not_padded k h)
-one_start (is_padded h) (is_whole e s) = absurd (padded_not_number h e s)
+one_start (is_padded h) (is_whole e s) = absurd (padded_not_number _ h e s)
 one_start (is_unfinished h) (is_bad k) = absurd (front_not_bad_head h k)
 one_start (is_unfinished h) (is_padded k) = absurd (front_not_padded h k)
 one_start (is_unfinished h) (is_unfinished k) = refl
-one_start (is_unfinished h) (is_whole e s) = absurd (front_not_signed h e s)
-one_start (is_whole e s) (is_bad k) = absurd (bad_not_number k e s)
-one_start (is_whole e s) (is_padded k) = absurd (padded_not_number k e s)
-one_start (is_whole e s) (is_unfinished k) = absurd (front_not_signed k e s)
+one_start (is_unfinished h) (is_whole e s) = absurd (front_not_signed _ h e s)
+one_start (is_whole e s) (is_bad k) = absurd (bad_not_number _ k e s)
+one_start (is_whole e s) (is_padded k) = absurd (padded_not_number _ k e s)
+one_start (is_whole e s) (is_unfinished k) = absurd (front_not_signed _ k e s)
 one_start (is_whole {z = x} e s) (is_whole {z = y} f r) = let p = signed_prefix x y s r (sym e ∙ f) in same_whole p.value p.bytes p.rest
 
 -- ---- a body's refusals, by how it begins
@@ -125,6 +125,9 @@ not_all {T = T} {t = t} {limit = limit} {announced = announced} {z = z} {S = S} 
     let l = (only_extra [] s d (subst (λ y. body.Refused T t limit announced y S) (sym (append-nil z)) r)).1 in omega arith
 
 -- ---- one refusal
+same_misdescribed : {id : TypeId} {v w : Tree} {r s : Reason} → v ≡ w → Misdescribes id v r → Misdescribes id w s → r ≡ s
+same_misdescribed {id = id} {r = r} e p q = one_description (subst (λ v. Misdescribes id v r) e p) q
+
 one_definition : {base : Table} {L : Bounds} {T : Table} {offset m : ℕ} {id : TypeId} {a z : List ℕ} {R S : Refusal} → HasWireStruct T
     → RefusesDefinition base L T offset m id a z R → RefusesDefinition base L T offset m id a z S → R ≡ S
 one_definition {offset = offset} {a = a} w (by_id p) (by_id q) = ap (λ r. refuses offset (offset + length a) r) (one_id p q)
@@ -135,9 +138,9 @@ one_definition {offset = offset} {a = a} w (by_first p f) (by_first q g) = ap (�
 one_definition w (by_first p f) (by_description n q s d k) = absurd (not_all (at_once w.there w.struct s) d f.refused n)
 one_definition w (by_description n p s d k) (by_id q) = absurd (id_met q p)
 one_definition w (by_description n p s d k) (by_first q f) = absurd (not_all (at_once w.there w.struct s) d f.refused n)
-one_definition {offset = offset} {m = m} {id = id} {a = a} w (by_description n p s d {r = r} k) (by_description n' p' s' d' k') =
+one_definition {offset = offset} {m = m} {a = a} w (by_description n p s d k) (by_description n' p' s' d' k') =
     let e = (same_spelling [] [] s s' refl).value in
-    ap (λ r. refuses (offset + length a) (offset + m) r) (one_description (subst (λ v. Misdescribes id v r) e k) k')
+    ap (λ r. refuses (offset + length a) (offset + m) r) (same_misdescribed e k k')
 
 one_put : {L : Bounds} {T : Table} {offset m : ℕ} {t : TypeId} {a z : List ℕ} {R S : Refusal} → RefusesPut L T offset m t a z R → RefusesPut L T offset m t a z S → R ≡ S
 one_put {offset = offset} {a = a} (by_type p) (by_type q) = ap (λ r. refuses offset (offset + length a) r) (one_type p q)
@@ -236,9 +239,9 @@ next_not {base = base} {L = L} {T = T} {offset = offset} y w (refused_body {m = 
     let there : take m r ≡ d = ap (λ m. take m r) same.value ∙ ap (λ r. take (length d) r) same.rest ∙ take_front d y in
     body_not w (subst (λ m. RefusesBody base L T (offset + length c) m d R) same.value (subst (λ y. RefusesBody base L T (offset + length c) m y R) there q)) p
 
-same_next : {base : Table} {L : Bounds} {T : Table} {offset m n : ℕ} {c d r x : List ℕ} {R S : Refusal} → HasWireStruct T → m ≡ n → c ≡ d → r ≡ x
+same_next : {base : Table} {L : Bounds} {T : Table} {m n : ℕ} {c d r x : List ℕ} {R S : Refusal} (offset : ℕ) → HasWireStruct T → m ≡ n → c ≡ d → r ≡ x
     → RefusesBody base L T (offset + length c) m (take m r) R → RefusesBody base L T (offset + length d) n (take n x) S → R ≡ S
-same_next {base = base} {L = L} {T = T} {offset = offset} {m = m} {n = n} {c = c} {d = d} {r = r} {x = x} {R = R} w e f g p q =
+same_next {base = base} {L = L} {T = T} {m = m} {n = n} {c = c} {d = d} {r = r} {x = x} {R = R} offset w e f g p q =
     let P : ℕ → List ℕ → List ℕ → Type 0 = λ m c r. RefusesBody base L T (offset + length c) m (take m r) R in
     body_once w (subst (λ r. P n d r) g (subst (λ c. P n c r) f (subst (λ m. P m c r) e p))) q
 
@@ -246,5 +249,5 @@ pub next_once : {base : Table} {L : Bounds} {T : Table} {offset : ℕ} {z : List
 next_once w (refused_count p) (refused_count q) = count_once p q
 next_once w (refused_count p) (refused_body r e u l k q) = absurd (count_not r p u e l k)
 next_once w (refused_body r e u l k q) (refused_count p) = absurd (count_not r p u e l k)
-next_once w (refused_body {c = c} r e u l k p) (refused_body {c = d} x f v n o q) =
-    let same = unsigned_prefix r x u v (sym e ∙ f) in same_next w same.value same.bytes same.rest p q
+next_once {offset = offset} w (refused_body r e u l k p) (refused_body x f v n o q) =
+    let same = unsigned_prefix r x u v (sym e ∙ f) in same_next offset w same.value same.bytes same.rest p q

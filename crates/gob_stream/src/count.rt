@@ -38,14 +38,14 @@ pub(crate) fn take_count<B: Builder>(
         Taken::Whole {
             number: count,
             used,
-        } => Ok(Stepped {
-            used,
-            stage: Stage::TypeNumber {
-                body: body_of(limits, begin, taken + used as u64, count)?,
-                number,
-            },
-            item: None,
-        }),
+        } => match body_of(limits, begin, taken + used as u64, count) {
+            Ok(body) => Ok(Stepped {
+                used,
+                stage: Stage::TypeNumber { body, number },
+                item: None,
+            }),
+            Err(refusal) => Err(refusal),
+        },
         Taken::BadHead => Err(refusal(begin, begin + 1, Reason::BadHead)),
         Taken::NotMinimal => Err(refusal(begin, begin + 2, Reason::NotMinimal)),
     }
