@@ -35,22 +35,22 @@ at_end {L = L} {begin = begin} {z = z} r e u n (above_stream l k) = count_refuse
 at_end {L = L} {begin = begin} {c = c} {z = z} r e u n (no_body l k) =
     subst (λ s. IsCountRefused L begin z (refuses s s reason.Short)) n (empty_body r e (subst (λ m. IsUnsigned m c) l u) (omega arith))
 
-pub count_at_end : {L : Bounds} {begin taken m used : ℕ} {number piece : List ℕ} {R : Refusal} → used ≤ length piece → taken ≡ begin + length number → IsUnsigned m (number ++ take used piece)
+pub count_at_end : {L : Bounds} {begin taken m used : ℕ} {R : Refusal} (number piece : List ℕ) → used ≤ length piece → taken ≡ begin + length number → IsUnsigned m (number ++ take used piece)
     → CountJudged L begin (taken + used) m R → IsCountRefused L begin (number ++ piece) R
-count_at_end {used = used} {number = number} {piece = piece} l t u j =
+count_at_end {used = used} number piece l t u j =
     at_end (drop used piece) (cut number piece used) u (let n = cut_length number piece used l in omega arith) j
 
-pub count_whole : {L : Bounds} {begin taken m used : ℕ} {number piece now : List ℕ} {body : Extent} → used ≤ length piece → taken ≡ begin + length number → IsUnsigned m (number ++ take used piece) → now ≡ []
+pub count_whole : {L : Bounds} {begin taken m used : ℕ} {now : List ℕ} {body : Extent} (number piece : List ℕ) → used ≤ length piece → taken ≡ begin + length number → IsUnsigned m (number ++ take used piece) → now ≡ []
     → (0 < m) × (m ≤ L.item) × (taken + used + m ≤ L.stream) × (body.begin ≡ taken + used) × (body.end ≡ taken + used + m)
     → {X O : Type 0} → CountGoesOn {X = X} {O = O} L begin number piece (record { used = used; stage = stage.TypeNumber body now; item = None })
-count_whole {L = L} {begin = begin} {m = m} {used = used} {number = number} {piece = piece} {body = body} l t u e j {X = X} {O = O} =
+count_whole {L = L} {begin = begin} {m = m} {used = used} {body = body} number piece l t u e j {X = X} {O = O} =
     let n = cut_length number piece used l in
     subst (λ now. CountGoesOn {X = X} {O = O} L begin number piece (record { used = used; stage = stage.TypeNumber body now; item = None })) (sym e)
     (whole_count l (record { count = u; item = j.1; stream = omega arith; begin = omega arith; end = omega arith }) j.0)
 
-pub count_more : {L : Bounds} {begin : ℕ} {number piece now : List ℕ} → IsUnsignedFront (number ++ piece) → now ≡ number ++ piece
+pub count_more : {L : Bounds} {begin : ℕ} {now : List ℕ} (number piece : List ℕ) → IsUnsignedFront (number ++ piece) → now ≡ number ++ piece
     → {X O : Type 0} → CountGoesOn {X = X} {O = O} L begin number piece (record { used = length piece; stage = stage.Count begin now; item = None })
-count_more {L = L} {begin = begin} {number = number} {piece = piece} h e {X = X} {O = O} =
+count_more {L = L} {begin = begin} number piece h e {X = X} {O = O} =
     subst (λ now. CountGoesOn {X = X} {O = O} L begin number piece (record { used = length piece; stage = stage.Count begin now; item = None })) (sym e) (more_of_count h)
 
 pub count_bad : {L : Bounds} {begin : ℕ} {z : List ℕ} {R : Refusal} → IsBadHead z → R ≡ refuses begin (begin + 1) reason.BadHead → IsCountRefused L begin z R

@@ -10,3 +10,4 @@ pub mod RefusingLaws
 pub mod OutcomeLaws
 pub mod CountSteps
 pub mod TypeNumberSteps
+pub mod BodySteps
