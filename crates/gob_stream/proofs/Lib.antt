@@ -11,3 +11,4 @@ pub mod OutcomeLaws
 pub mod CountSteps
 pub mod TypeNumberSteps
 pub mod BodySteps
+pub mod DescriptionSteps

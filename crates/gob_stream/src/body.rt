@@ -75,14 +75,14 @@ pub(crate) fn take_description<B: Builder>(
             stage: Stage::Description { id, rest, reader },
             item: None,
         }),
-        Ok(Progress::Done { out, used }) => {
-            define(alloc, table, id, rest, &out)?;
-            Ok(Stepped {
+        Ok(Progress::Done { out, used }) => match define(alloc, table, id, rest, &out) {
+            Ok(()) => Ok(Stepped {
                 used,
                 stage: next_count(rest),
                 item: Some(Item::Define { id, described: out }),
-            })
-        }
+            }),
+            Err(fault) => Err(fault),
+        },
         Err(stop) => Err(fault_of_stop(rest.begin, stop)),
     }
 }
