@@ -55,7 +55,7 @@ stops_within run piece stop.Memory u l n r = tt
 stops_within run piece stop.Failed u l n r = tt
 
 -- ---- why a value is stopped
-not_ended : (T : Table) (t : TypeId) (limit announced : ℕ) {X O : Type 0} (stands : Standing X) (run : Option (Run X O)) (z : List ℕ) → Stands T t limit announced stands run z → run ≡ None → ⊥
+pub not_ended : (T : Table) (t : TypeId) (limit announced : ℕ) {X O : Type 0} (stands : Standing X) (run : Option (Run X O)) (z : List ℕ) → Stands T t limit announced stands run z → run ≡ None → ⊥
 not_ended T t limit announced stands None z s e = s
 not_ended T t limit announced stands (Some run) z s e = cc
 

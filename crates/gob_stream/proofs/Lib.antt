@@ -12,3 +12,4 @@ pub mod CountSteps
 pub mod TypeNumberSteps
 pub mod BodySteps
 pub mod DescriptionSteps
+pub mod WireLaws
