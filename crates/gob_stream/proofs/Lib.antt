@@ -13,3 +13,4 @@ pub mod TypeNumberSteps
 pub mod BodySteps
 pub mod DescriptionSteps
 pub mod WireLaws
+pub mod ValueSteps

@@ -5,6 +5,10 @@ use Rattle.gob_types.specs.declared.id.TypeId.{TypeId}
 use Rattle.gob_types.specs.declared.kind.Shape.{Shape}
 use Rattle.gob_types.specs.declared.reason.Reason.{Reason}
 use Rattle.gob_types.specs.declared.reason.Reason.TheVariants as reason
+use Rattle.gob_types.specs.declared.table.DefineFault.{DefineFault}
+use Rattle.gob_types.specs.declared.table.DefineFault.TheVariants as define
+use Rattle.gob_types.specs.declared.readiness.NotReady.{NotReady}
+use Rattle.gob_types.specs.declared.readiness.NotReady.TheVariants as unready
 use Rattle.gob_types.specs.Table.{Table}
 use Rattle.gob_types.specs.Base.{base_table, wire_type}
 use Rattle.gob_types.specs.Defined.{Defined, types}
@@ -184,3 +188,16 @@ Advances stands trees means most s s' items bytes piece (Err _) = ⊥
 pub data GoesOnIn {X O : Type 0} (body : Extent) (taken : ℕ) (number : List ℕ) (used : ℕ) : Result (Stepped X O) Fault → Type 0 where
   more_of_it : taken < body.end → GoesOnIn body taken number used (Ok (record { used = used; stage = stage.TypeNumber body number; item = None }))
   ends_there : taken ≡ body.end → GoesOnIn body taken number used (Err (fault.Refused (refuses body.end body.end reason.Short)))
+
+-- a table's reason to refuse the definition of an id
+abbrev pub define_reason : TypeId → DefineFault → Reason
+define_reason id define.ReservedType = reason.ReservedType id
+define_reason id define.DefinedTwice = reason.DefinedTwice id
+define_reason id define.TooManyTypes = reason.TooManyTypes
+define_reason id define.Memory = reason.TooManyTypes
+
+-- why a type isn't ready, as a fault of the type number at the place
+abbrev pub ready_fault : (place seen : ℕ) → NotReady → Fault
+ready_fault place seen (unready.UndefinedType u) = fault.Refused (refuses place seen (reason.UndefinedType u))
+ready_fault place seen (unready.Bottomless u) = fault.Refused (refuses place seen (reason.Bottomless u))
+ready_fault place seen unready.Memory = fault.Memory

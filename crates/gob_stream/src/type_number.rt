@@ -8,6 +8,7 @@ ghost use Rattle.gob_stream.specs.Bounds.{Bounds, greatest_stream};
 ghost use Rattle.gob_stream.specs.Standing.{no_deeper, IsCount, IsRest};
 ghost use Rattle.gob_stream.specs.declared.stage.Extent.{Extent};
 ghost use Rattle.gob_stream.specs.ReadParts.{AreTypes, MaybeDefines, MaybePuts, StepsOn, GoesOnIn};
+ghost use Rattle.gob_stream.specs.ReadParts.{define_reason, ready_fault};
 
 use crate::body::{take_description, take_value};
 use crate::count::refusal;
@@ -23,7 +24,7 @@ use std::alloc::Global;
 const WIRE_TYPE: TypeId = TypeId(16);
 
 // The type of this project's own for the descriptions of opaque types, which no value item may name.
-const GOB_ENCODER_TYPE: TypeId = TypeId(24);
+const GOB_ENCODER_TYPE: u64 = 24;
 
 /// Takes bytes of the type number of a body, of which the number has the bytes before the offset `taken`, and where
 /// it is whole, those of what follows it.
@@ -128,15 +129,21 @@ fn admit(table: &Table, id: TypeId, place: u64, seen: u64) -> Result<(), Refusal
     ensures judged { (L : Bounds) → AreTypes L table.now → MaybeDefines L (types table.now) id place seen result }
     ensures admitted { OnOk result (Admits table.now id) }
 {
-    let reason = match table.admits(id) {
-        Ok(()) => return Ok(()),
-        Err(DefineFault::ReservedType) => Reason::ReservedType(id),
-        Err(DefineFault::DefinedTwice) => Reason::DefinedTwice(id),
-        Err(DefineFault::TooManyTypes) => Reason::TooManyTypes,
-        // the table admits it, and nothing was to grow
-        Err(DefineFault::Memory) => return Ok(()),
-    };
-    Err(refusal(place, seen, reason))
+    match table.admits(id) {
+        Ok(()) => Ok(()),
+        Err(fault) => Err(refusal(place, seen, reason_of(id, fault))),
+    }
+}
+
+// Why a table refuses the definition of this id, which is never for want of memory.
+fn reason_of(id: TypeId, fault: DefineFault) -> Reason
+    ensures { result ≡ define_reason id fault }
+{
+    match fault {
+        DefineFault::ReservedType => Reason::ReservedType(id),
+        DefineFault::DefinedTwice => Reason::DefinedTwice(id),
+        DefineFault::TooManyTypes | DefineFault::Memory => Reason::TooManyTypes,
+    }
 }
 
 // Whether values of the type may come now.
@@ -149,14 +156,23 @@ fn make_ready(
 ) -> Result<(), Fault>
     ensures { MaybePuts (types table.now) id place seen result }
 {
-    if id == GOB_ENCODER_TYPE {
+    if id.0 == GOB_ENCODER_TYPE {
         return Err(Fault::Refused(refusal(place, seen, Reason::UndefinedType(id))));
     }
-    let reason = match table.ready(alloc, id) {
-        Ok(()) => return Ok(()),
-        Err(NotReady::UndefinedType(undefined)) => Reason::UndefinedType(undefined),
-        Err(NotReady::Bottomless(bottomless)) => Reason::Bottomless(bottomless),
-        Err(NotReady::Memory) => return Err(Fault::Memory),
+    match table.ready(alloc, id) {
+        Ok(()) => Ok(()),
+        Err(fault) => Err(fault_of(fault, place, seen)),
+    }
+}
+
+// Why values of a type can't come, for its number at the place.
+fn fault_of(fault: NotReady, place: u64, seen: u64) -> Fault
+    ensures { result ≡ ready_fault place seen fault }
+{
+    let reason = match fault {
+        NotReady::UndefinedType(undefined) => Reason::UndefinedType(undefined),
+        NotReady::Bottomless(bottomless) => Reason::Bottomless(bottomless),
+        NotReady::Memory => return Fault::Memory,
     };
-    Err(Fault::Refused(refusal(place, seen, reason)))
+    Fault::Refused(refusal(place, seen, reason))
 }
