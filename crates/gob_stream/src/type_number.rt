@@ -1,6 +1,7 @@
 //! The type number at which a body begins.
 
-ghost use Rattle.std.specs.Prelude.{◌≡◌, ℕ, ◌+◌, ◌<◌, ◌≤◌, ◌^◌, ◌++◌, [], List, Ok, Err, length, OnOk};
+ghost use Rattle.std.specs.Prelude.{◌≡◌, ℕ, ◌+◌, ◌<◌, ◌≤◌, ◌^◌, ◌++◌, [], List, Ok, Err, length, OnOk, min, pos};
+ghost use Rattle.gob_num.specs.Signed.{IsSigned};
 ghost use Rattle.gob_num.specs.Unsigned.{IsUnsigned, IsUnsignedFront};
 ghost use Rattle.gob_types.specs.Base.{wire_type};
 ghost use Rattle.gob_types.specs.Defined.{types, Admits};
@@ -112,16 +113,56 @@ fn begin_rest<B: Builder>(
 {
     let number = to_signed(number);
     let id = TypeId(number.unsigned_abs());
-    let length = rest.end - rest.begin;
-    let depth = limits.depth().min(B::DEPTH);
+    let depth = limits.depth();
     if number < 0 {
-        admit(table, id, place, rest.begin)?;
-        let reader = BodyReader::new(alloc, WIRE_TYPE, length, depth)?;
-        return take_description(alloc, table, id, rest, reader, piece);
+        let depth = depth.min(B::DEPTH);
+        return begin_description(alloc, depth, table, id, place, rest, piece);
     }
-    make_ready(alloc, table, id, place, rest.begin)?;
-    let reader = BodyReader::new(alloc, id, length, depth)?;
-    take_value(alloc, table, id, rest, reader, piece)
+    begin_value(alloc, depth, table, id, place, rest, piece)
+}
+
+// Takes bytes of the description of the type whose number stands at the place.
+fn begin_description<B: Builder>(
+    alloc: Global,
+    depth: u64,
+    table: &mut Table,
+    id: TypeId,
+    place: u64,
+    rest: Extent,
+    piece: &[u8],
+) -> Result<Stepped<B>, Fault> {
+    if let Err(refusal) = admit(table, id, place, rest.begin) {
+        return Err(Fault::Refused(refusal));
+    }
+    match BodyReader::new(alloc, WIRE_TYPE, rest.end - rest.begin, depth) {
+        Ok(reader) => take_description(alloc, table, id, rest, reader, piece),
+        Err(_) => Err(Fault::Memory),
+    }
+}
+
+// Takes bytes of a value of the type whose number stands at the place.
+fn begin_value<B: Builder>(
+    alloc: Global,
+    depth: u64,
+    table: &Table,
+    id: TypeId,
+    place: u64,
+    rest: Extent,
+    piece: &[u8],
+) -> Result<Stepped<B>, Fault>
+    requires { rest.begin ≤ rest.end }
+    ensures { (L : Bounds) (offset m : ℕ) (c a : List ℕ) (body : Extent) → L.depth ≡ min depth B.DEPTH → IsCount L offset m c body → body.begin ≡ place
+        → IsSigned (pos id.0) a → IsRest body a rest
+        → StepsOn B.stands ⟦<TreeBuilder as Builder>⟧.stands B.means L (types table.now) offset (c ++ a) piece.now (types table.now) result }
+{
+    match make_ready(alloc, table, id, place, rest.begin) {
+        Ok(()) => {}
+        Err(fault) => return Err(fault),
+    }
+    match BodyReader::new(alloc, id, rest.end - rest.begin, depth) {
+        Ok(reader) => take_value(alloc, table, id, rest, reader, piece),
+        Err(_) => Err(Fault::Memory),
+    }
 }
 
 // Whether the type may be defined now.
