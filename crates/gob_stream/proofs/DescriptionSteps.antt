@@ -3,7 +3,8 @@ use Rattle.std.proofs.Common.{◌≡◌, ℕ, ◌+◌, ◌-◌, ◌^◌, ◌≤�
 use Rattle.gob_types.specs.Base.{base_table, wire_type}
 use Rattle.gob_types.specs.Table.{shape_of}
 use Rattle.gob_types.specs.declared.kind.Shape.{Shape}
-use Rattle.gob_types.proofs.GrowthLaws.{Keeps, some_injective, shape_of-append}
+use Rattle.gob_types.proofs.GrowthLaws.{Keeps, some_injective, shape_of-append, ready_on}
+use Rattle.gob_types.specs.Ready.{IsReady}
 use Rattle.gob_value.specs.Spelling.{Spells}
 use Rattle.gob_value.specs.Top.{SpellsTop, at_once, tagged, IsStruct}
 use Rattle.gob_value.specs.Fits.{Fits}
@@ -48,7 +49,7 @@ pub shape_stopped : {rest : Extent} {id : TypeId} {v : Tree} {T : Table} {f : Fa
 shape_stopped {rest = rest} {id = id} {v = v} {T = T} s e w = subst (λ f. Defines rest id v T T (Err f)) (sym e) (judged s w)
 
 -- ---- descriptions are spelled as in the base table
-wire_spelled : {T : Table} {v : Tree} {z : List ℕ} → HasWireType T → SpellsTop T wire_type v z → Spells T wire_type v z
+pub wire_spelled : {T : Table} {v : Tree} {z : List ℕ} → HasWireType T → SpellsTop T wire_type v z → Spells T wire_type v z
 wire_spelled w (at_once e i s) = s
 wire_spelled {T = T} w (tagged e i s) =
     let there : shape_of T wire_type ≡ _ = ap (λ (T : Table). shape_of T wire_type) w.grown ∙ shape_of-append base_table w.more wire_type _ refl in
@@ -56,6 +57,9 @@ wire_spelled {T = T} w (tagged e i s) =
 
 wire_keeps : {T : Table} → HasWireType T → Keeps base_table T
 wire_keeps {T = T} w = subst (λ (T : Table). Keeps base_table T) (sym w.grown) (record { shape = λ t s e. shape_of-append base_table w.more t s e })
+
+pub wire_ready_in : {T : Table} → HasWireType T → IsReady T wire_type
+wire_ready_in w = ready_on (wire_keeps w) wire_ready
 
 pub wire_fits : {T : Table} {limit announced : ℕ} {z : List ℕ} {described : Value} → HasWireType T → IsMade T wire_type limit announced IsView described z → Fits base_table wire_type (view described)
 wire_fits w made = record { bytes = _; spelled = spells_back (wire_keeps w) wire_ready (subst (λ v. Spells _ wire_type v _) (sym made.meant) (wire_spelled w made.spelled)) }

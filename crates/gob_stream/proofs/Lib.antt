@@ -14,3 +14,4 @@ pub mod BodySteps
 pub mod DescriptionSteps
 pub mod WireLaws
 pub mod ValueSteps
+pub mod DefinitionSteps

@@ -1,6 +1,6 @@
 //! The type number at which a body begins.
 
-ghost use Rattle.std.specs.Prelude.{◌≡◌, ℕ, ◌+◌, ◌<◌, ◌≤◌, ◌^◌, ◌++◌, [], List, Ok, Err, length, OnOk, min, pos};
+ghost use Rattle.std.specs.Prelude.{◌≡◌, ℕ, ◌+◌, ◌<◌, ◌≤◌, ◌^◌, ◌++◌, [], List, Ok, Err, length, OnOk, min, pos, negsuc};
 ghost use Rattle.gob_num.specs.Signed.{IsSigned};
 ghost use Rattle.gob_num.specs.Unsigned.{IsUnsigned, IsUnsignedFront};
 ghost use Rattle.gob_types.specs.Base.{wire_type};
@@ -8,7 +8,7 @@ ghost use Rattle.gob_types.specs.Defined.{types, Admits};
 ghost use Rattle.gob_stream.specs.Bounds.{Bounds, greatest_stream};
 ghost use Rattle.gob_stream.specs.Standing.{no_deeper, IsCount, IsRest};
 ghost use Rattle.gob_stream.specs.declared.stage.Extent.{Extent};
-ghost use Rattle.gob_stream.specs.ReadParts.{AreTypes, MaybeDefines, MaybePuts, StepsOn, GoesOnIn};
+ghost use Rattle.gob_stream.specs.ReadParts.{AreTypes, HasWireType, MaybeDefines, MaybePuts, StepsOn, GoesOnIn};
 ghost use Rattle.gob_stream.specs.ReadParts.{define_reason, ready_fault};
 
 use crate::body::{take_description, take_value};
@@ -130,9 +130,18 @@ fn begin_description<B: Builder>(
     place: u64,
     rest: Extent,
     piece: &[u8],
-) -> Result<Stepped<B>, Fault> {
-    if let Err(refusal) = admit(table, id, place, rest.begin) {
-        return Err(Fault::Refused(refusal));
+) -> Result<Stepped<B>, Fault>
+    requires order { rest.begin ≤ rest.end }
+    requires depth { depth ≤ 1000 }
+    requires base { HasWireType (types table.old) }
+    ensures read { (L : Bounds) (offset m n : ℕ) (c a : List ℕ) (body : Extent) → L.depth ≡ depth → AreTypes L table.old → IsCount L offset m c body → body.begin ≡ place
+        → id.0 ≡ n + 1 → IsSigned (negsuc n) a → IsRest body a rest
+        → StepsOn B.stands ⟦<TreeBuilder as Builder>⟧.stands B.means L (types table.old) offset (c ++ a) piece.now (types table.new) result }
+    ensures most { table.new.most ≡ table.old.most }
+{
+    match admit(table, id, place, rest.begin) {
+        Ok(()) => {}
+        Err(refusal) => return Err(Fault::Refused(refusal)),
     }
     match BodyReader::new(alloc, WIRE_TYPE, rest.end - rest.begin, depth) {
         Ok(reader) => take_description(alloc, table, id, rest, reader, piece),
