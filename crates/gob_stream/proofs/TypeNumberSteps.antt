@@ -1,6 +1,8 @@
 -- Taking the bytes of a type number.
 use Rattle.std.proofs.Common.{◌≡◌, ◌≢◌, ℕ, ◌+◌, ◌-◌, ◌<◌, ◌≤◌, List, ◌++◌, length, Option, Some, None, Ok, Err, refl, sym, ap, ◌∙◌, subst, arith, length-append}
 use Rattle.std.proofs.lemmas.Option.{none-some}
+use Rattle.std.proofs.Common.{ℤ, pos, negsuc, ◌<ℤ◌, ◌≤ℤ◌, unsigned_abs}
+use Rattle.std.proofs.lemmas.Int.{ints}
 use Rattle.gob_types.specs.declared.id.TypeId.{TypeId}
 use Rattle.gob_types.specs.declared.kind.Shape.{Shape}
 use Rattle.gob_types.specs.declared.table.DefineFault.{DefineFault}
@@ -75,3 +77,12 @@ unready_for unready.Memory n r = no_memory_to_ask
 
 pub put_unready : {T : Table} {t : TypeId} {place seen : ℕ} {e : Fault} (f : NotReady) → e ≡ ready_fault place seen f → t.0 ≢ 24 → IsNotReady T t f → MaybePuts T t place seen (Err e)
 put_unready {T = T} {t = t} {place = place} {seen = seen} f e n r = subst (λ e. MaybePuts T t place seen (Err e)) (sym e) (unready_for f n r)
+
+-- ---- the id that a type number stands for
+pub negative_of : (i : ℤ) (k : ℕ) → i <ℤ pos 0 → k ≡ unsigned_abs i → (n : ℕ) × (i ≡ negsuc n) × (k ≡ n + 1)
+negative_of (pos m) k l e = absurd (omega (arith, ints))
+negative_of (negsuc n) k l e = (n, refl, omega (arith, ints))
+
+pub not_negative_of : (i : ℤ) (k : ℕ) → pos 0 ≤ℤ i → k ≡ unsigned_abs i → i ≡ pos k
+not_negative_of (pos m) k l e = ap (λ n. pos n) (let f : m ≡ k = omega (arith, ints) in f)
+not_negative_of (negsuc n) k l e = absurd (omega (arith, ints))
