@@ -15,3 +15,4 @@ pub mod DescriptionSteps
 pub mod WireLaws
 pub mod ValueSteps
 pub mod DefinitionSteps
+pub mod StandingSteps

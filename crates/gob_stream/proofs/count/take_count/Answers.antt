@@ -1,4 +1,3 @@
-use Rattle.std.proofs.Common.{arith}
 use Rattle.gob_stream.proofs.CountSteps.{count_at_end, count_whole, count_more, count_bad, count_padded}
 use Rattle.gob_stream.proofs.count.take_count.Goals as goal
 

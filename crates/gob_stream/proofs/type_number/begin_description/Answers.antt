@@ -1,9 +1,6 @@
 use Rattle.std.proofs.Common.{◌≡◌, ◌∙◌, [], refl, sym, subst, min, Err, arith}
-use Rattle.gob_types.specs.Base.{wire_type}
 use Rattle.gob_types.specs.Defined.{types}
-use Rattle.gob_read.specs.Reader.{Stands}
-use Rattle.gob_stream.specs.Standing.{size}
-use Rattle.gob_stream.specs.ReadParts.{MaybeDefines, ReadsDescription, no_memory}
+use Rattle.gob_stream.specs.ReadParts.{MaybeDefines, no_memory}
 use Rattle.gob_stream.proofs.DescriptionSteps.{wire_ready_in}
 use Rattle.gob_stream.proofs.DefinitionSteps.{define_is, define_refused, description_begins}
 use Rattle.gob_stream.proofs.type_number.begin_description.Goals as goal

@@ -1,4 +1,3 @@
-use Rattle.std.proofs.Common.{arith}
 use Rattle.gob_stream.proofs.TypeNumberSteps.{put_private, put_ready, put_unready}
 use Rattle.gob_stream.proofs.type_number.make_ready.Goals as goal
 

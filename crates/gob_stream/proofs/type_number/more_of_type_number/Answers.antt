@@ -1,4 +1,4 @@
-use Rattle.std.proofs.Common.{◌≡◌, ◌+◌, arith, sym, subst, Err, ap}
+use Rattle.std.proofs.Common.{arith}
 use Rattle.gob_stream.proofs.TypeNumberSteps.{ended_there}
 use Rattle.gob_stream.specs.ReadParts.{more_of_it}
 use Rattle.gob_stream.proofs.type_number.more_of_type_number.Goals as goal
