@@ -34,6 +34,8 @@ mod laws;
 mod laws_description;
 mod laws_tidy;
 mod leaf;
+#[cfg(test)]
+mod memory_tests;
 mod parts;
 mod spelling;
 #[cfg(test)]
