@@ -104,7 +104,7 @@ fn take_by_bytes(piece: &[u8]) -> Taken
     Taken::More
 }
 
-// How many digits follow the head.
+/// How many digits follow the head.
 pub(crate) fn digits_after(head: u8) -> u8
     requires { LEAST_HEAD ≤ head }
     ensures { head + result ≡ 256 }
@@ -112,7 +112,7 @@ pub(crate) fn digits_after(head: u8) -> u8
     255 - head + 1
 }
 
-// Whether fewer digits than these would hold the number, as the first of them shows.
+/// Whether fewer digits than these would hold the number, as the first of them shows.
 pub(crate) fn is_padded(count: u8, first: u8) -> bool
     requires { (0 < count) × (count ≤ 8) }
     ensures { IsTrue result ↔ IsNotMinimal ((256 - count) ∷ first ∷ []) }

@@ -92,7 +92,7 @@ impl StreamWriter {
         self.send(output, &item)
     }
 
-    // Writes an item.
+    /// Writes an item.
     pub(crate) fn write_item<W: Write>(
         &mut self,
         alloc: Global,

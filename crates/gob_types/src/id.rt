@@ -18,14 +18,14 @@ const GOB_ENCODER_TYPE: u64 = 24;
 impl TypeId {
     ghost use Rattle.gob_types.specs.Definable.{IsOwnId, IsReference};
 
-    // Whether a definition may give this id.
+    /// Whether a definition may give this id.
     pub(crate) fn is_own(&self) -> bool
         ensures { IsTrue result ↔ IsOwnId self.now }
     {
         64 <= self.0 && self.0 <= GREATEST_ID
     }
 
-    // Whether a description may refer to this id.
+    /// Whether a description may refer to this id.
     pub(crate) fn is_reference(&self) -> bool
         ensures { IsTrue result ↔ IsReference self.now }
     {
