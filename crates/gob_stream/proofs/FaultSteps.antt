@@ -1,5 +1,6 @@
--- How faults pass from a call to its caller.
-use Rattle.std.proofs.Common.{◌≡◌, Result, Ok, Err, IfErr, IsErrAnd, sym, subst}
+-- How faults and bytes pass from a call to its caller.
+use Rattle.std.proofs.Common.{◌≡◌, ℕ, List, ◌++◌, Result, Ok, Err, IfErr, OnOk, IsErrAnd, sym, ap, subst, ◌∙◌, append_assoc}
+use Rattle.gob_num.specs.Spelled.{Appends}
 use Rattle.gob_types.specs.declared.reason.Reason.{Reason}
 use Rattle.gob_stream.specs.declared.fault.WriteFault.{WriteFault}
 use Rattle.gob_stream.specs.declared.fault.WriteFault.TheVariants as fault
@@ -16,3 +17,10 @@ refusal_weaker (fault.Refused r) weaker p = weaker r p
 refusal_weaker fault.Write weaker p = p
 refusal_weaker fault.Memory weaker p = p
 refusal_weaker fault.Failed weaker p = p
+
+-- bytes behind bytes that were appended
+pub appends_more : {A E : Type 0} (P : List ℕ → Type 0) {Q : List ℕ → Type 0} (r : Result A E) (x : List ℕ) {y : List ℕ} (z a : List ℕ) → y ≡ x ++ a → OnOk r (Appends Q y z)
+    → ((b : List ℕ) → Q b → P (a ++ b)) → OnOk r (Appends P x z)
+appends_more P (Ok u) x z a first more both =
+    record { bytes = a ++ more.bytes; spelled = both more.bytes more.spelled; appended = more.appended ∙ ap (λ l. l ++ more.bytes) first ∙ append_assoc x a more.bytes }
+appends_more P (Err e) x z a first more both = tt

@@ -2,18 +2,13 @@
 use Rattle.std.proofs.Common.{◌≡◌, ◌≢◌, ℕ, ◌+◌, ◌<◌, ◌≤◌, ◌⊎◌, inl, inr, List, [], ◌∷◌, ◌++◌, length, Option, Some, None, Result, Ok, Err, arith, refl, sym, ap, ◌∙◌, subst, append_assoc, length-append}
 use Rattle.std.proofs.lemmas.List.{append-nil}
 use Rattle.gob_types.specs.Table.{Table}
-use Rattle.gob_stream.specs.declared.fault.Fault.{Fault}
-use Rattle.gob_stream.specs.declared.fault.Fault.TheVariants as fault
 use Rattle.gob_stream.specs.Bounds.{Bounds}
 use Rattle.gob_stream.specs.Item.{StreamItem}
 use Rattle.gob_stream.specs.Body.{Body, definition, value, HasRoom, MayDefine}
 use Rattle.gob_stream.specs.Stream.{Counted, counted, Continues, no_more, and_then, Stream}
 use Rattle.gob_stream.specs.Outcome.{BeginsWith, GivesItems}
-use Rattle.gob_stream.specs.Readable.{readable_types, readable}
-use Rattle.gob_stream.specs.Reading.{SomeTaken, ReadsStream}
-use Rattle.gob_stream.specs.Writing.{WritesStream}
-use Rattle.gob_stream.specs.Laws.{GoesOn, AtLeast, ReadsThese}
-use Rattle.gob_stream.proofs.StreamLaws.{counted_prefix, counted_some, more_items}
+use Rattle.gob_stream.specs.Laws.{GoesOn, AtLeast}
+use Rattle.gob_stream.proofs.StreamLaws.{counted_prefix, counted_some}
 
 regroup : (b p x c q y : List ℕ) → (b ++ p) ++ x ≡ (c ++ q) ++ y → b ++ (p ++ x) ≡ c ++ (q ++ y)
 regroup b p x c q y e = sym (append_assoc b p x) ∙ e ∙ append_assoc c q y
@@ -75,42 +70,3 @@ wider_body w (value p l x q) = value p (let t = w.depth in omega arith) x q
 pub wider : {base : Table} {L M : Bounds} {T U : Table} {offset : ℕ} {items : List StreamItem} {b : List ℕ} → AtLeast L M → Continues base L T offset items b U → Continues base M T offset items b U
 wider w no_more = no_more
 wider w (and_then (counted p l s q) e r) = and_then (counted p (let t = w.item in omega arith) (let t = w.stream in omega arith) (wider_body w q)) e (wider w r)
-
--- ---- read back
-readable_at_least : {L M : Bounds} → AtLeast L M → AtLeast (readable L) (readable M)
-readable_at_least a = record { item = a.item; depth = a.depth; types = omega arith; stream = a.stream }
-
-written_stream : (L : Bounds) (items : List StreamItem) (bytes : List ℕ) → WritesStream L items (Some []) (Some bytes) (Ok tt) → (T : Table) × Stream readable_types (readable L) items bytes T
-written_stream L items bytes w = (w.1, subst (λ b. Stream readable_types (readable L) items b w.1) (sym w.3) w.2)
-
--- a front of the bytes of the stream of the items gives a front of them
-front_of : {base : Table} {L : Bounds} {items given : List StreamItem} {bytes : List ℕ} {T : Table} → Stream base L items bytes T → BeginsWith base L bytes given → GoesOn given items
-front_of {base = base} {L = L} {items = items} {given = given} {bytes = bytes} {T = T} p q =
-    elim (begin_one_another base L bytes given items q (record { front = bytes; rest = []; table = T; stream = p; whole = sym (append-nil bytes) })) [
-      | inl g ↦ g
-      | inr g ↦ record { more = []; whole = all_of g (shorter q.rest p q.stream q.whole) ∙ sym (append-nil given) }
-    ]
-  where
-    shorter : {front : List ℕ} {U : Table} (rest : List ℕ) → Stream base L items bytes T → Stream base L given front U → bytes ≡ front ++ rest → length given ≤ length items
-    shorter [] p r e = let same = (one_reading r p (sym (e ∙ append-nil _))).0 in omega (arith, ap length same)
-    shorter (d ∷ rest) p r e = let more = more_items (d ∷ rest) r p (sym e) (λ z. cc) in omega arith
-
-pub read_back : (L M : Bounds) (items given : List StreamItem) (bytes : List ℕ) (now : Option (List ℕ)) (result : Result (Unit {0}) Fault)
-    → AtLeast L M → WritesStream L items (Some []) (Some bytes) (Ok tt) → ReadsStream M bytes now given result → ReadsThese given items result
-read_back L M items given bytes now (Ok u) a w r = (one_reading r.1 (wider (readable_at_least a) (written_stream L items bytes w).1) refl).0
-read_back L M items given bytes now (Err (fault.Refused f)) a w r =
-    let s = written_stream L items bytes w in
-    r.1 (record { items = items; table = s.0; stream = wider (readable_at_least a) s.1 })
-read_back L M items given bytes now (Err fault.Read) a w r =
-    let s = written_stream L items bytes w in
-    let begins = r.holds.begins in
-    front_of (wider (readable_at_least a) s.1)
-    (record {
-      front = begins.front;
-      rest = begins.rest ++ r.taken.left;
-      table = begins.table;
-      stream = begins.stream;
-      whole = r.taken.whole ∙ ap (λ l. l ++ r.taken.left) begins.whole ∙ append_assoc begins.front begins.rest r.taken.left;
-    })
-read_back L M items given bytes now (Err fault.Memory) a w r = front_of (wider (readable_at_least a) (written_stream L items bytes w).1) r
-read_back L M items given bytes now (Err fault.Failed) a w r = absurd r

@@ -13,3 +13,5 @@ pub mod FaultSteps
 pub mod StreamSteps
 pub mod RefusalLaws
 pub mod EndLaws
+pub mod WireLaws
+pub mod DefinableLaws

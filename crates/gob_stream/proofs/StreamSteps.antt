@@ -7,6 +7,7 @@ use Rattle.std.proofs.lemmas.Option.{slice_get-map, slice_get_read, slice_get_wi
 use Rattle.std.specs.Io.KnownBytes.{Appends}
 use Rattle.std.proofs.KnownBytes.{Appends-nil, Appends-trans, Appends-kept}
 use Rattle.gob_types.specs.Table.{Table}
+use Rattle.gob_types.specs.Base.{base_table}
 use Rattle.gob_value.specs.declared.value.Value.{Value}
 use Rattle.gob_stream.specs.declared.item.Item as declared
 use Rattle.gob_stream.specs.declared.fault.WriteFault.{WriteFault}
@@ -18,7 +19,6 @@ use Rattle.gob_stream.specs.Stream.{Stream, HasStream}
 use Rattle.gob_stream.specs.WriterRefusal.{RefusesItem}
 use Rattle.gob_types.specs.declared.reason.Reason.{Reason}
 use Rattle.gob_stream.proofs.EndLaws.{refused_ends}
-use Rattle.gob_stream.specs.Readable.{readable_types}
 use Rattle.gob_stream.specs.Writing.{HasWritten, IsNew, WritesNext, StoppedAt, WritesStream}
 
 -- a writer under these limits has written so many of the items, and nothing else went out
@@ -36,7 +36,7 @@ one_longer : (items : List StreamItem) (n : ℕ) (i : StreamItem) → slice_get 
 one_longer items n i at = take_more items n i (slice_get_within items n i at) ∙ ap (λ j. take n items ++ j ∷ []) (get_or_from_slice_get items n i i at)
 
 pub wrote_none : (L : Bounds) (items : List StreamItem) (w : StreamWriter) (old : Option (List ℕ)) → IsNew w L → WroteSome L items 0 w old old
-wrote_none L items w old new = record { bytes = []; table = readable_types; written = new.nothing; limits = new.limits; out = Appends-nil old }
+wrote_none L items w old new = record { bytes = []; table = base_table; written = new.nothing; limits = new.limits; out = Appends-nil old }
 
 pub wrote_more : (L : Bounds) (items : List StreamItem) (n : ℕ) (w w' : StreamWriter) (old mid new : Option (List ℕ)) (i : StreamItem) (u : Unit {0})
     → WroteSome L items n w old mid → slice_get items n ≡ Some i → WritesNext w w' i mid new (Ok u) → WroteSome L items (n + 1) w' old new
@@ -55,10 +55,10 @@ split_at items n i at =
     sym (take-append-drop n items) ∙ ap (λ l. take n items ++ l) (drop-cons items n i (slice_get_within items n i at) ∙ ap (λ j. j ∷ drop (suc n) items) (get_or_from_slice_get items n i i at))
 
 -- no stream goes on past an item that is refused behind the items before it
-no_stream : {M : Bounds} (items : List StreamItem) (n : ℕ) (i : StreamItem) {bytes : List ℕ} {T : Table} {r : Reason} → M.types ≡ 0 → slice_get items n ≡ Some i
-    → Stream readable_types M (take n items) bytes T → RefusesItem readable_types M T (length bytes) i r → ¬ HasStream readable_types M items
-no_stream {M = M} items n i none at before refused has =
-    refused_ends (drop (suc n) items) none refl before (omega arith) refused (subst (λ l. Stream readable_types M l has.bytes has.table) (split_at items n i at) has.stream)
+no_stream : {M : Bounds} (items : List StreamItem) (n : ℕ) (i : StreamItem) {bytes : List ℕ} {T : Table} {r : Reason} → slice_get items n ≡ Some i
+    → Stream base_table M (take n items) bytes T → RefusesItem base_table M T (length bytes) i r → ¬ HasStream base_table M items
+no_stream {M = M} items n i at before refused has =
+    refused_ends (drop (suc n) items) before (omega arith) refused (subst (λ l. Stream base_table M l has.bytes has.table) (split_at items n i at) has.stream)
 
 pub stopped : (L : Bounds) (items : List StreamItem) (n : ℕ) (w w' : StreamWriter) (old mid new : Option (List ℕ)) (i : StreamItem) (f : WriteFault)
     → WroteSome L items n w old mid → slice_get items n ≡ Some i → WritesNext w w' i mid new (Err f) → StoppedAt L items n old new f
@@ -72,7 +72,7 @@ stopped L items n w w' old mid new i (fault.Refused r) wrote at writes =
       out = Appends-kept old mid new wrote.bytes wrote.out next.1.1;
       at = at;
       refused = rw wrote.limits at next.0;
-      none = no_stream items n i refl at (rw wrote.limits at wrote.written.stream) (rw wrote.limits at next.0);
+      none = no_stream items n i at (rw wrote.limits at wrote.written.stream) (rw wrote.limits at next.0);
     }
 stopped L items n w w' old mid new i fault.Write wrote at writes =
     let next = writes (take n items) wrote.bytes wrote.table wrote.written in

@@ -1,15 +1,11 @@
 -- The laws of streams: their bytes tell their items, whatever the base table, the limits and the shapes are.
 -- They follow from Go's encoding/gob documentation, Encoding Details; docs/FORMAT.md, Items and streams.
-use Rattle.std.specs.Prelude.{◌≡◌, ℕ, ◌≤◌, ◌⊎◌, List, [], ◌++◌, Option, Some, Result, Ok, Err}
+use Rattle.std.specs.Prelude.{◌≡◌, ℕ, ◌≤◌, ◌⊎◌, List, [], ◌++◌}
 use Rattle.gob_types.specs.Table.{Table}
-use Rattle.gob_stream.specs.declared.fault.Fault.{Fault}
-use Rattle.gob_stream.specs.declared.fault.Fault.TheVariants as fault
 use Rattle.gob_stream.specs.Bounds.{Bounds}
 use Rattle.gob_stream.specs.Item.{StreamItem}
 use Rattle.gob_stream.specs.Stream.{Stream}
 use Rattle.gob_stream.specs.Outcome.{BeginsWith, GivesItems}
-use Rattle.gob_stream.specs.Reading.{ReadsStream}
-use Rattle.gob_stream.specs.Writing.{WritesStream}
 
 -- bytes are the stream of one list of items, with one table behind it
 abbrev pub HaveOneReading : Type 0
@@ -42,17 +38,3 @@ pub record AtLeast (L M : Bounds) : Type 0 where
 abbrev pub StayStreams : Type 0
 StayStreams = (base : Table) (L M : Bounds) (items : List StreamItem) (bytes : List ℕ) (T : Table)
     → AtLeast L M → Stream base L items bytes T → Stream base M items bytes T
-
--- what a reader gives of the stream of the items: those at Ok, a front of them before a failed read or without memory,
--- and no refusal
-abbrev pub ReadsThese : (given items : List StreamItem) → Result (Unit {0}) Fault → Type 0
-ReadsThese given items (Ok _) = given ≡ items
-ReadsThese given items (Err (fault.Refused r)) = ⊥
-ReadsThese given items (Err fault.Read) = GoesOn given items
-ReadsThese given items (Err fault.Memory) = GoesOn given items
-ReadsThese given items (Err fault.Failed) = ⊥
-
--- what is written is read back as that list, under limits that are each at least the writer's
-abbrev pub AreReadBack : Type 0
-AreReadBack = (L M : Bounds) (items given : List StreamItem) (bytes : List ℕ) (now : Option (List ℕ)) (result : Result (Unit {0}) Fault)
-    → AtLeast L M → WritesStream L items (Some []) (Some bytes) (Ok tt) → ReadsStream M bytes now given result → ReadsThese given items result

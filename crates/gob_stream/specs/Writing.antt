@@ -1,13 +1,24 @@
 -- What the writing calls answer, in the words of streams.
-use Rattle.std.specs.Prelude.{◌≡◌, ℕ, ◌+◌, ◌≤◌, List, [], ◌∷◌, ◌++◌, length, take, slice_get, true, false, Option, Some, Result, Ok, Err}
+use Rattle.std.specs.Prelude.{◌≡◌, ℕ, pos, ◌+◌, ◌≤◌, List, [], ◌∷◌, ◌++◌, length, take, slice_get, true, false, Option, Some, Result, Ok, Err}
 use Rattle.std.specs.Io.KnownBytes.{Appends, Keeps}
-use Rattle.gob_types.specs.Table.{Table}
+use Rattle.gob_types.specs.Table.{Table, shape_of}
 use Rattle.gob_types.specs.Base.{base_table}
-use Rattle.gob_types.specs.Defined.{Defined, types}
+use Rattle.gob_types.specs.Defined.{types}
+use Rattle.gob_num.specs.Unsigned.{IsUnsigned}
+use Rattle.gob_num.specs.Signed.{IsSigned}
+use Rattle.gob_types.specs.declared.id.TypeId.{TypeId}
+use Rattle.gob_types.specs.declared.table.DefineFault.{DefineFault}
+use Rattle.gob_types.specs.declared.table.DefineFault.TheVariants as defining
+use Rattle.gob_types.specs.declared.readiness.NotReady.{NotReady}
+use Rattle.gob_types.specs.declared.readiness.NotReady.TheVariants as unready
 use Rattle.gob_types.specs.declared.reason.Reason.{Reason}
 use Rattle.gob_types.specs.declared.reason.Reason.TheVariants as reason
+use Rattle.gob_types.specs.declared.kind.Shape.{Shape}
+use Rattle.gob_value.specs.Top.{IsStruct}
 use Rattle.gob_value.specs.declared.fault.SpellFault.{SpellFault}
 use Rattle.gob_value.specs.declared.fault.SpellFault.TheVariants as spelling
+use Rattle.gob_value.specs.declared.fault.ShapeFault.{ShapeFault}
+use Rattle.gob_value.specs.declared.fault.ShapeFault.TheVariants as describing
 use Rattle.gob_stream.specs.declared.fault.WriteFault.{WriteFault}
 use Rattle.gob_stream.specs.declared.fault.WriteFault.TheVariants as fault
 use Rattle.gob_stream.specs.declared.fault.WriteStop.{WriteStop}
@@ -17,16 +28,12 @@ use Rattle.gob_stream.specs.Devices.{counts_up}
 use Rattle.gob_stream.specs.Item.{StreamItem}
 use Rattle.gob_stream.specs.Stream.{Stream, HasStream, Counted}
 use Rattle.gob_stream.specs.WriterRefusal.{RefusesItem}
-use Rattle.gob_stream.specs.Readable.{readable_types, readable}
-
--- the table is the base table alone
-abbrev pub IsBase : Defined → Type 0
-IsBase d = types d ≡ base_table
 
 -- the writer has written these items, as these bytes
 pub record HasWritten (w : StreamWriter) (items : List StreamItem) (bytes : List ℕ) (T : Table) : Type 0 where
-  pub stream : Stream readable_types (readable w.limits) items bytes T
-  pub types : IsBase w.types
+  pub stream : Stream base_table w.limits items bytes T
+  pub table : types w.types ≡ T
+  pub room : w.types.most ≡ w.limits.types
   pub offset : w.offset ≡ length bytes
   pub sound : w.failed ≡ false
 
@@ -35,27 +42,31 @@ pub record WroteFront (L : Bounds) (T : Table) (offset : ℕ) (i : StreamItem) (
   pub front : List ℕ
   pub rest : List ℕ
   pub table : Table
-  pub item : Counted readable_types L T offset i (front ++ rest) table
+  pub item : Counted base_table L T offset i (front ++ rest) table
   pub out : Appends old new front
 
 -- the bytes of this item went out, and the writer stands behind them
 pub record WroteItem (w w' : StreamWriter) (items : List StreamItem) (bytes : List ℕ) (T : Table) (i : StreamItem) (old new : Option (List ℕ)) : Type 0 where
   pub more : List ℕ
   pub table : Table
-  pub item : Counted readable_types (readable w.limits) T (length bytes) i more table
+  pub item : Counted base_table w.limits T (length bytes) i more table
   pub out : Appends old new more
   pub limits : w'.limits ≡ w.limits
   pub written : HasWritten w' (items ++ i ∷ []) (bytes ++ more) table
 
+-- the writer is as before, whatever stands in the memory in which it spells items
+abbrev pub IsUnchanged : (w w' : StreamWriter) → Type 0
+IsUnchanged w w' = w' ≡ record w { body = w'.body; item = w'.item }
+
 -- nothing went out, and the writer is as before
 abbrev pub WroteNothing : (w w' : StreamWriter) → (old new : Option (List ℕ)) → Type 0
-WroteNothing w w' old new = (w' ≡ w) × Keeps old new
+WroteNothing w w' old new = IsUnchanged w w' × Keeps old new
 
 -- what writing an item answers, for a writer that has written the items, over an output with the old bytes
 abbrev pub WritesItem : (w w' : StreamWriter) → List StreamItem → List ℕ → Table → StreamItem → (old new : Option (List ℕ)) → Result (Unit {0}) WriteFault → Type 0
 WritesItem w w' items bytes T i old new (Ok _) = WroteItem w w' items bytes T i old new
-WritesItem w w' items bytes T i old new (Err (fault.Refused r)) = RefusesItem readable_types (readable w.limits) T (length bytes) i r × WroteNothing w w' old new
-WritesItem w w' items bytes T i old new (Err fault.Write) = WroteFront (readable w.limits) T (length bytes) i old new × (w'.failed ≡ true)
+WritesItem w w' items bytes T i old new (Err (fault.Refused r)) = RefusesItem base_table w.limits T (length bytes) i r × WroteNothing w w' old new
+WritesItem w w' items bytes T i old new (Err fault.Write) = WroteFront w.limits T (length bytes) i old new × (w'.failed ≡ true)
 WritesItem w w' items bytes T i old new (Err fault.Memory) = WroteNothing w w' old new
 WritesItem w w' items bytes T i old new (Err fault.Failed) = ⊥
 
@@ -85,7 +96,7 @@ CountsStop failures failures' (Err stop) = CountsFault failures failures' stop.f
 -- a new writer has written nothing
 pub record IsNew (w : StreamWriter) (L : Bounds) : Type 0 where
   pub limits : w.limits ≡ L
-  pub nothing : HasWritten w [] [] readable_types
+  pub nothing : HasWritten w [] [] base_table
 
 -- a front of the bytes went out
 pub record SentFront (bytes : List ℕ) (old new : Option (List ℕ)) : Type 0 where
@@ -98,6 +109,24 @@ pub record SentFront (bytes : List ℕ) (old new : Option (List ℕ)) : Type 0 w
 pub record FitsLimits (L : Bounds) (offset : ℕ) (count body : List ℕ) : Type 0 where
   pub item : length body ≤ L.item
   pub stream : offset + length (count ++ body) ≤ L.stream
+
+-- the bytes are the item of this body, as the limits admit it at the offset
+pub record IsWhole (L : Bounds) (offset : ℕ) (body bytes : List ℕ) : Type 0 where
+  pub count : List ℕ
+  pub spelled : IsUnsigned (length body) count
+  pub fits : FitsLimits L offset count body
+  pub whole : bytes ≡ count ++ body
+
+-- the values of the type are structs
+pub record HasStructs (T : Table) (t : TypeId) : Type 0 where
+  pub shape : Shape
+  pub found : shape_of T t ≡ Some shape
+  pub struct : IsStruct shape.kind
+
+-- the bytes stand before the spelling of a value of the type in an item: its number, and the tag where it is no struct
+pub data IsHead (T : Table) (t : TypeId) : List ℕ → Type 0 where
+  head_of_struct : {a : List ℕ} → HasStructs T t → IsSigned (pos t.0) a → IsHead T t a
+  head_with_tag : {a z : List ℕ} → ¬ HasStructs T t → IsSigned (pos t.0) a → IsUnsigned 0 z → IsHead T t (a ++ z)
 
 -- what stops an item before any of its bytes goes out: such a reason, or no memory
 abbrev pub IsRefusal : (Reason → Type 0) → WriteFault → Type 0
@@ -112,12 +141,33 @@ spelling_fault spelling.TooDeep = fault.Refused reason.TooDeep
 spelling_fault spelling.DoesNotFit = fault.Refused reason.DoesNotFit
 spelling_fault spelling.Memory = fault.Memory
 
+-- of one whose value's type isn't ready
+abbrev pub type_fault : NotReady → WriteFault
+type_fault (unready.UndefinedType t) = fault.Refused (reason.UndefinedType t)
+type_fault (unready.Bottomless t) = fault.Refused (reason.Bottomless t)
+type_fault unready.Memory = fault.Memory
+
+-- of one whose table takes no definition of this id
+abbrev pub definition_fault : TypeId → DefineFault → WriteFault
+definition_fault t defining.ReservedType = fault.Refused (reason.ReservedType t)
+definition_fault t defining.DefinedTwice = fault.Refused (reason.DefinedTwice t)
+definition_fault t defining.TooManyTypes = fault.Refused reason.TooManyTypes
+definition_fault t defining.Memory = fault.Memory
+
+-- of one whose description gives no shape
+abbrev pub description_fault : ShapeFault → WriteFault
+description_fault describing.KindCount = fault.Refused reason.KindCount
+description_fault describing.WrongId = fault.Refused reason.WrongId
+description_fault describing.BadReference = fault.Refused reason.BadReference
+description_fault describing.BadLength = fault.Refused reason.BadLength
+description_fault describing.Memory = fault.Memory
+
 -- the items before this one went out whole, and nothing else
 pub record WroteBefore (L : Bounds) (items : List StreamItem) (n : ℕ) (old new : Option (List ℕ)) : Type 0 where
   pub within : n ≤ length items
   pub bytes : List ℕ
   pub table : Table
-  pub before : Stream readable_types (readable L) (take n items) bytes table
+  pub before : Stream base_table L (take n items) bytes table
   pub out : Appends old new bytes
 
 -- and this one is refused, so that no stream has all of them
@@ -125,11 +175,11 @@ pub record RefusedThere (L : Bounds) (items : List StreamItem) (n : ℕ) (r : Re
   pub bytes : List ℕ
   pub table : Table
   pub item : StreamItem
-  pub before : Stream readable_types (readable L) (take n items) bytes table
+  pub before : Stream base_table L (take n items) bytes table
   pub out : Appends old new bytes
   pub at : slice_get items n ≡ Some item
-  pub refused : RefusesItem readable_types (readable L) table (length bytes) item r
-  pub none : ¬ HasStream readable_types (readable L) items
+  pub refused : RefusesItem base_table L table (length bytes) item r
+  pub none : ¬ HasStream base_table L items
 
 -- the items before this one went out whole, and a front of this one
 pub record CutThere (L : Bounds) (items : List StreamItem) (n : ℕ) (old new : Option (List ℕ)) : Type 0 where
@@ -139,10 +189,10 @@ pub record CutThere (L : Bounds) (items : List StreamItem) (n : ℕ) (old new : 
   pub table : Table
   pub last : Table
   pub item : StreamItem
-  pub before : Stream readable_types (readable L) (take n items) bytes table
+  pub before : Stream base_table L (take n items) bytes table
   pub out : Appends old new (bytes ++ front)
   pub at : slice_get items n ≡ Some item
-  pub counted : Counted readable_types (readable L) table (length bytes) item (front ++ rest) last
+  pub counted : Counted base_table L table (length bytes) item (front ++ rest) last
 
 -- what stopped the writing of a list of items, at this one
 abbrev pub StoppedAt : Bounds → List StreamItem → ℕ → (old new : Option (List ℕ)) → WriteFault → Type 0
@@ -153,5 +203,5 @@ StoppedAt L items n old new fault.Failed = ⊥
 
 -- what writing a list of items answers
 abbrev pub WritesStream : Bounds → List StreamItem → (old new : Option (List ℕ)) → Result (Unit {0}) WriteStop → Type 0
-WritesStream L items old new (Ok _) = (bytes : List ℕ) × (T : Table) × Stream readable_types (readable L) items bytes T × Appends old new bytes
+WritesStream L items old new (Ok _) = (bytes : List ℕ) × (T : Table) × Stream base_table L items bytes T × Appends old new bytes
 WritesStream L items old new (Err stop) = StoppedAt L items stop.item old new stop.fault

@@ -1,7 +1,7 @@
 //! Laws of streams. Each function does nothing: its contract is a law that is proved here, once.
 
 ghost use Rattle.gob_stream.specs.Laws.{HaveOneReading, BeginOneAnother, GiveOneList};
-ghost use Rattle.gob_stream.specs.Laws.{StayStreams, AreReadBack};
+ghost use Rattle.gob_stream.specs.Laws.{StayStreams};
 ghost use Rattle.gob_stream.specs.WriterRefusal.{HaveOneReason, AreNotCounted};
 
 /// A stream has one list of items, and one table of types behind it.
@@ -19,12 +19,6 @@ pub fn bytes_give_one_list()
 /// A stream stays one under limits that are each at least its own.
 pub fn streams_stay()
     ensures { StayStreams }
-{}
-
-/// What `write_stream` writes, `read_stream` reads back as that list, under limits that are each at least the
-/// writer's.
-pub fn streams_are_read_back()
-    ensures { AreReadBack }
 {}
 
 /// There is one reason at most for which an item isn't written, and none where some bytes are the item.

@@ -1,33 +1,67 @@
 //! The bytes of an item.
 
-ghost use Rattle.std.specs.Prelude.{◌+◌, ◌^◌, ◌<◌, ◌≤◌, ◌↔◌, ◌++◌, ℕ, length, IsTrue, IfOk, IfErr, OnOk};
+ghost use Rattle.std.specs.Prelude.{◌≡◌, ◌+◌, ◌^◌, ◌<◌, ◌↔◌, ◌++◌, ◌∷◌, [], ℕ, length, IsTrue, IfOk, OnOk, IfErr};
 ghost use Rattle.gob_num.specs.Unsigned.{IsUnsigned};
+ghost use Rattle.gob_num.specs.Spelled.{Appends};
+ghost use Rattle.gob_types.specs.Base.{base_table};
+ghost use Rattle.gob_types.specs.Definable.{IsDefinable};
+ghost use Rattle.gob_types.specs.Defined.{types, IsTable};
 ghost use Rattle.gob_value.specs.View.{view};
-ghost use Rattle.gob_stream.specs.Item.{puts};
-ghost use Rattle.gob_stream.specs.Body.{Body};
-ghost use Rattle.gob_stream.specs.Stream.{Counted};
-ghost use Rattle.gob_stream.specs.WriterRefusal.{RefusesItem, RefusesBody};
-ghost use Rattle.gob_stream.specs.Readable.{readable_types, readable};
-ghost use Rattle.gob_stream.specs.Writing.{IsBase, IsRefusal, FitsLimits};
+ghost use Rattle.gob_stream.specs.Item.{defines, puts};
+ghost use Rattle.gob_stream.specs.Body.{Body, MayPut};
+ghost use Rattle.gob_stream.specs.WriterRefusal.{RefusesItem, RefusesType, RefusesBody};
+ghost use Rattle.gob_stream.specs.Writing.{IsRefusal, IsWhole, FitsLimits, definition_fault, HasStructs, IsHead};
 
 use crate::fault::WriteFault;
 use crate::limits::Limits;
-use gob_num::{write_int, write_uint};
-use gob_types::{Reason, Table, TypeId};
-use gob_value::{SpellFault, Value, spell};
+use gob_num::{Memory, write_int, write_uint};
+use gob_types::{DefineFault, Kind, NotReady, Reason, Shape, Shapes, Table, TypeId};
+use gob_value::{ShapeFault, SpellFault, Value, shape_from, spell};
 use std::alloc::{AllocError, Global};
 
 impl From<SpellFault> for WriteFault {
     ghost use Rattle.std.specs.Prelude.{◌≡◌};
     ghost use Rattle.gob_stream.specs.Writing.{spelling_fault};
 
-    ghost from_gives = { λ spelling fault. fault ≡ spelling_fault spelling };
+    ghost from_gives = { λ given fault. fault ≡ spelling_fault given };
 
     fn from(fault: SpellFault) -> WriteFault {
         match fault {
             SpellFault::TooDeep => WriteFault::Refused(Reason::TooDeep),
             SpellFault::DoesNotFit => WriteFault::Refused(Reason::DoesNotFit),
             SpellFault::Memory => WriteFault::Memory,
+        }
+    }
+}
+
+impl From<ShapeFault> for WriteFault {
+    ghost use Rattle.std.specs.Prelude.{◌≡◌};
+    ghost use Rattle.gob_stream.specs.Writing.{description_fault};
+
+    ghost from_gives = { λ given fault. fault ≡ description_fault given };
+
+    fn from(fault: ShapeFault) -> WriteFault {
+        match fault {
+            ShapeFault::KindCount => WriteFault::Refused(Reason::KindCount),
+            ShapeFault::WrongId => WriteFault::Refused(Reason::WrongId),
+            ShapeFault::BadReference => WriteFault::Refused(Reason::BadReference),
+            ShapeFault::BadLength => WriteFault::Refused(Reason::BadLength),
+            ShapeFault::Memory => WriteFault::Memory,
+        }
+    }
+}
+
+impl From<NotReady> for WriteFault {
+    ghost use Rattle.std.specs.Prelude.{◌≡◌};
+    ghost use Rattle.gob_stream.specs.Writing.{type_fault};
+
+    ghost from_gives = { λ given fault. fault ≡ type_fault given };
+
+    fn from(fault: NotReady) -> WriteFault {
+        match fault {
+            NotReady::UndefinedType(id) => WriteFault::Refused(Reason::UndefinedType(id)),
+            NotReady::Bottomless(id) => WriteFault::Refused(Reason::Bottomless(id)),
+            NotReady::Memory => WriteFault::Memory,
         }
     }
 }
@@ -43,60 +77,115 @@ impl From<AllocError> for WriteFault {
     }
 }
 
-/// The bytes of the item that gives this value, where it begins at the offset: its count, and its body.
-pub(crate) fn spell_value_item(
-    alloc: Global,
-    types: &Table,
-    limits: &Limits,
-    offset: u64,
-    id: TypeId,
-    value: &Value,
-) -> Result<Vec<u8>, WriteFault>
-    ensures ok { IsBase types.now → IfOk result (λ item. Counted readable_types (readable limits.now) readable_types
-        offset (puts id (view value.now)) item.items readable_types) }
-    ensures end { IfOk result (λ item. offset + length item.items < 2 ^ 64) }
-    ensures err { IsBase types.now → IfErr result (IsRefusal (RefusesItem readable_types (readable limits.now)
-        readable_types offset (puts id (view value.now)))) }
-    ensures early { IfErr result (IsRefusal (λ _. Unit {0})) }
+/// The fault of a writer whose table takes no definition of this id.
+pub(crate) fn definition_fault(id: TypeId, fault: DefineFault) -> WriteFault
+    ensures { result ≡ definition_fault id fault }
 {
-    let body = spell_value_body(alloc, types, limits, id, value)?;
-    let mut item = Vec::new(alloc);
-    write_uint(alloc, body.len() as u64, &mut item)?;
-    judge_length(limits, offset, &item, &body)?;
-    item.extend_from_slice(&body)?;
-    Ok(item)
+    match fault {
+        DefineFault::ReservedType => WriteFault::Refused(Reason::ReservedType(id)),
+        DefineFault::DefinedTwice => WriteFault::Refused(Reason::DefinedTwice(id)),
+        DefineFault::TooManyTypes => WriteFault::Refused(Reason::TooManyTypes),
+        DefineFault::Memory => WriteFault::Memory,
+    }
 }
 
-// The body of the item that gives this value: the number of its type, the tag, and its spelling.
-fn spell_value_body(
+// The type of descriptions, wireType.
+const WIRE_TYPE: TypeId = TypeId(16);
+
+// The type that no value item may be of, gobEncoderType.
+const GOB_ENCODER_TYPE: TypeId = TypeId(24);
+
+/// Spells the body of the item that defines this type, in place of what the vector held, and gives the type's shape:
+/// the id below 0, and the description.
+pub(crate) fn spell_definition(
     alloc: Global,
-    types: &Table,
+    table: &Table,
+    limits: &Limits,
+    id: TypeId,
+    described: &Value,
+    body: &mut Vec<u8>,
+) -> Result<Shape, WriteFault>
+    ensures ok { table.now.most ≡ limits.now.types → IfOk result (λ shape. Body base_table limits.now (types table.now)
+        (defines id (view described.now)) body.new.items (types table.now ++ (id, shape) ∷ [])) }
+    ensures definable { IfOk result (λ shape. IsDefinable shape) }
+    ensures known { IsTable (types table.now) }
+    ensures err { table.now.most ≡ limits.now.types → (offset : ℕ) → IfErr result (IsRefusal (RefusesItem base_table
+        limits.now (types table.now) offset (defines id (view described.now)))) }
+    ensures early { IfErr result (IsRefusal (λ _. Unit {0})) }
+{
+    if let Err(fault) = table.admits(id) {
+        return Err(definition_fault(id, fault));
+    }
+    body.clear();
+    write_int(alloc, -(id.0 as i64), body)?;
+    spell(alloc, table, WIRE_TYPE, described, limits.depth(), body)?;
+    let shape = shape_from(alloc, id, described)?;
+    Ok(shape)
+}
+
+/// Spells the body of the item that gives this value, in place of what the vector held: the number of its type, the
+/// tag where the value is no struct, and its spelling.
+pub(crate) fn spell_value(
+    alloc: Global,
+    table: &Table,
     limits: &Limits,
     id: TypeId,
     value: &Value,
-) -> Result<Vec<u8>, WriteFault>
-    ensures ok { IsBase types.now → IfOk result (λ body. Body readable_types (readable limits.now) readable_types
-        (puts id (view value.now)) body.items readable_types) }
-    ensures err { IsBase types.now → (offset : ℕ) → IfErr result (IsRefusal (RefusesItem readable_types
-        (readable limits.now) readable_types offset (puts id (view value.now)))) }
+    body: &mut Vec<u8>,
+) -> Result<(), WriteFault>
+    ensures ok { OnOk result (Body base_table limits.now (types table.now) (puts id (view value.now)) body.new.items
+        (types table.now)) }
+    ensures err { (offset : ℕ) → IfErr result (IsRefusal (RefusesItem base_table limits.now (types table.now) offset
+        (puts id (view value.now)))) }
     ensures early { IfErr result (IsRefusal (λ _. Unit {0})) }
 {
-    if !is_readable(id) {
-        return Err(WriteFault::Refused(Reason::UndefinedType(id)));
+    judge_type(alloc, table, id)?;
+    body.clear();
+    write_head(alloc, table, id, body)?;
+    spell(alloc, table, id, value, limits.depth(), body)?;
+    Ok(())
+}
+
+// Appends what stands before the value in its item: the number of its type, and the tag 0 where it is no struct.
+fn write_head(alloc: Global, table: &Table, id: TypeId, body: &mut Vec<u8>) -> Result<(), Memory>
+    requires { id.0 < 2 ^ 63 }
+    ensures { OnOk result (Appends (IsHead (types table.now) id) body.old.items body.new.items) }
+{
+    write_int(alloc, id.0 as i64, body)?;
+    if has_structs(table, id) {
+        return Ok(());
     }
-    let mut body = Vec::new(alloc);
-    write_int(alloc, id.0 as i64, &mut body)?;
-    write_uint(alloc, 0, &mut body)?;
-    spell(alloc, types, id, value, limits.depth(), &mut body)?;
-    Ok(body)
+    write_uint(alloc, 0, body)
+}
+
+/// Makes the item of this body, in place of what the vector held, where the limits admit it at the offset: the count
+/// of the body's bytes, and the body.
+pub(crate) fn finish_item(
+    alloc: Global,
+    limits: &Limits,
+    offset: u64,
+    body: &[u8],
+    item: &mut Vec<u8>,
+) -> Result<(), WriteFault>
+    ensures ok { OnOk result (IsWhole limits.now offset body.now item.new.items) }
+    ensures end { OnOk result (offset + length item.new.items < 2 ^ 64) }
+    ensures err { IfErr result (IsRefusal (RefusesBody limits.now offset body.now)) }
+    ensures early { IfErr result (IsRefusal (λ _. Unit {0})) }
+{
+    item.clear();
+    write_uint(alloc, body.len() as u64, item)?;
+    judge_length(limits, offset, item, body)?;
+    item.extend_from_slice(body)?;
+    Ok(())
 }
 
 // Whether the limits admit an item of this count and body at the offset.
 fn judge_length(limits: &Limits, offset: u64, count: &[u8], body: &[u8]) -> Result<(), WriteFault>
     requires { IsUnsigned (length body.now) count.now }
-    ensures ok { OnOk result (FitsLimits (readable limits.now) offset count.now body.now) }
+    ensures ok { OnOk result (FitsLimits limits.now offset count.now body.now) }
     ensures end { OnOk result (offset + length (count.now ++ body.now) < 2 ^ 64) }
-    ensures err { IfErr result (IsRefusal (RefusesBody (readable limits.now) offset body.now)) }
+    ensures err { IfErr result (IsRefusal (RefusesBody limits.now offset body.now)) }
+    ensures early { IfErr result (IsRefusal (λ _. Unit {0})) }
 {
     if body.len() as u64 > limits.item() {
         return Err(WriteFault::Refused(Reason::ItemTooLong));
@@ -108,9 +197,26 @@ fn judge_length(limits: &Limits, offset: u64, count: &[u8], body: &[u8]) -> Resu
     Ok(())
 }
 
-// Whether values of the type can be written so far: it is one of the basic types 1 to 7.
-fn is_readable(id: TypeId) -> bool
-    ensures { IsTrue result ↔ ((1 ≤ id.0) × (id.0 ≤ 7)) }
+// Whether values of the type may come now.
+fn judge_type(alloc: Global, table: &Table, id: TypeId) -> Result<(), WriteFault>
+    ensures ok { OnOk result (MayPut (types table.now) id) }
+    ensures small { OnOk result (id.0 < 2 ^ 63) }
+    ensures err { IfErr result (IsRefusal (RefusesType (types table.now) id)) }
+    ensures early { IfErr result (IsRefusal (λ _. Unit {0})) }
 {
-    1 <= id.0 && id.0 <= 7
+    if id == GOB_ENCODER_TYPE {
+        return Err(WriteFault::Refused(Reason::UndefinedType(id)));
+    }
+    table.ready(alloc, id)?;
+    Ok(())
+}
+
+// Whether the values of the type are structs, which stand in an item without a tag.
+fn has_structs(table: &Table, id: TypeId) -> bool
+    ensures { IsTrue result ↔ HasStructs (types table.now) id }
+{
+    match table.shape_of(id) {
+        Some(shape) => matches!(shape.kind, Kind::Struct { .. }),
+        None => false,
+    }
 }

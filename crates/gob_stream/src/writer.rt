@@ -1,8 +1,7 @@
 //! Writing a stream item by item.
 
-ghost use Rattle.std.specs.Prelude.{true, false, ◌≡◌, ◌+◌, ◌^◌, ◌<◌, ◌↔◌, length, IsTrue, IfOk, IfErr, OnOk, OnErr};
+ghost use Rattle.std.specs.Prelude.{true, false, ◌≡◌, ◌+◌, ◌^◌, ◌<◌, length, IfOk, IfErr, OnOk, OnErr};
 ghost use Rattle.std.specs.Io.KnownBytes.{Appends};
-ghost use Rattle.gob_types.specs.Definable.{IsOwnId};
 ghost use Rattle.gob_value.specs.View.{view};
 ghost use Rattle.gob_stream.specs.Item.{defines, puts, item_view};
 ghost use Rattle.gob_stream.specs.Writing.{IsNew, WritesNext, AnswersFailed, CountsWrites, SentFront};
@@ -12,9 +11,9 @@ use crate::item::Item;
 use crate::limits::Limits;
 use crate::output::Output;
 use crate::send::send_all;
-use crate::spelled::spell_value_item;
+use crate::spelled::{definition_fault, finish_item, spell_definition, spell_value};
 use gob_num::Memory;
-use gob_types::{Reason, Table, TypeId};
+use gob_types::{Table, TypeId};
 use gob_value::Value;
 use std::alloc::Global;
 use std::io::Write;
@@ -23,10 +22,14 @@ use std::io::Write;
 #[derive(Drop)]
 pub struct StreamWriter {
     limits: Limits,
+    // The types of the stream so far.
     types: Table,
     // How many bytes of the stream are out.
     offset: u64,
     failed: bool,
+    // Where the body of an item is spelled, and then the item: kept from one item to the next.
+    body: Vec<u8>,
+    item: Vec<u8>,
 }
 
 impl StreamWriter {
@@ -34,21 +37,27 @@ impl StreamWriter {
     pub fn new(alloc: Global, limits: Limits) -> Result<StreamWriter, Memory>
         ensures { IfOk result (λ writer. IsNew writer limits) }
     {
-        // no definition is written so far
-        let types = Table::new(alloc, 0)?;
+        let types = Table::new(alloc, limits.types())?;
         Ok(StreamWriter {
             limits,
             types,
             offset: 0,
             failed: false,
+            body: Vec::new(alloc),
+            item: Vec::new(alloc),
         })
     }
 
-    /// Writes the definition of a type, by its description. So far every definition is refused: an id below 64 or
-    /// above 2147483647 as `ReservedType`, any other as `TooManyTypes`. `WriteFault` says what each fault leaves.
+    /// Writes the definition of a type, by its description, a value of type 16. Refused, in this order: an id below
+    /// 64 or above 2147483647 as `ReservedType`, one that is defined already as `DefinedTwice`, a definition beyond
+    /// the limit for types as `TooManyTypes`, a description that is deeper than the limit as `TooDeep`, one that isn't
+    /// a value of type 16 as `DoesNotFit`, one that describes no shape for this id as `KindCount`, `WrongId`,
+    /// `BadReference` or `BadLength`, an item whose count is above the limit for items as `ItemTooLong`, and one that
+    /// would end beyond the limit for the stream as `StreamTooLong`. The type needn't be ready. `WriteFault` says what
+    /// each fault leaves. (docs/FORMAT.md, Refusals, the writer's order.)
     pub fn define<W: Write>(
         &mut self,
-        _alloc: Global,
+        alloc: Global,
         output: &mut Output<W>,
         id: TypeId,
         described: &Value,
@@ -62,16 +71,26 @@ impl StreamWriter {
         if self.failed {
             return Err(WriteFault::Failed);
         }
-        if !is_own(id) {
-            return Err(WriteFault::Refused(Reason::ReservedType(id)));
+        let shape = spell_definition(
+            alloc,
+            &self.types,
+            &self.limits,
+            id,
+            described,
+            &mut self.body,
+        )?;
+        finish_item(alloc, &self.limits, self.offset, &self.body, &mut self.item)?;
+        if let Err(fault) = self.types.define(alloc, id, shape) {
+            return Err(definition_fault(id, fault));
         }
-        Err(WriteFault::Refused(Reason::TooManyTypes))
+        self.send(output)
     }
 
-    /// Writes a value of a type. Refused, in this order: a type that isn't one of 1 to 7 as `UndefinedType`, a value
-    /// that is deeper than the limit as `TooDeep`, a value that isn't one of the type as `DoesNotFit`, an item whose
-    /// count is above the limit for items as `ItemTooLong`, and one that would end beyond the limit for the stream as
-    /// `StreamTooLong`. `WriteFault` says what each fault leaves.
+    /// Writes a value of a type. Refused, in this order: a type that leads to one that isn't defined, or is 24, as
+    /// `UndefinedType`, one that leads to an array without finite values as `Bottomless`, a value that is deeper than
+    /// the limit as `TooDeep`, a value that isn't one of the type as `DoesNotFit`, an item whose count is above the
+    /// limit for items as `ItemTooLong`, and one that would end beyond the limit for the stream as `StreamTooLong`.
+    /// `WriteFault` says what each fault leaves. (docs/FORMAT.md, Refusals, the writer's order.)
     pub fn put<W: Write>(
         &mut self,
         alloc: Global,
@@ -88,8 +107,9 @@ impl StreamWriter {
         if self.failed {
             return Err(WriteFault::Failed);
         }
-        let item = spell_value_item(alloc, &self.types, &self.limits, self.offset, id, value)?;
-        self.send(output, &item)
+        spell_value(alloc, &self.types, &self.limits, id, value, &mut self.body)?;
+        finish_item(alloc, &self.limits, self.offset, &self.body, &mut self.item)?;
+        self.send(output)
     }
 
     /// Writes an item.
@@ -111,30 +131,23 @@ impl StreamWriter {
         }
     }
 
-    // Sends the bytes of an item. The writer counts as failed until the last of them is out.
-    fn send<W: Write>(&mut self, output: &mut Output<W>, item: &[u8]) -> Result<(), WriteFault>
-        requires { self.old.offset + length item.now < 2 ^ 64 }
-        ensures ok { OnOk result (Appends (W.contents output.old.writer) (W.contents output.new.writer) item.now) }
-        ensures behind { OnOk result (self.new ≡ record self.old { offset = self.old.offset + length item.now; failed = false }) }
-        ensures front { OnErr result (SentFront item.now (W.contents output.old.writer) (W.contents output.new.writer)) }
+    // Sends the item that was spelled. The writer counts as failed until the last of its bytes is out.
+    fn send<W: Write>(&mut self, output: &mut Output<W>) -> Result<(), WriteFault>
+        requires { self.old.offset + length self.old.item.items < 2 ^ 64 }
+        ensures ok { OnOk result
+            (Appends (W.contents output.old.writer) (W.contents output.new.writer) self.old.item.items) }
+        ensures behind { OnOk result
+            (self.new ≡ record self.old { offset = self.old.offset + length self.old.item.items; failed = false }) }
+        ensures front { OnErr result
+            (SentFront self.old.item.items (W.contents output.old.writer) (W.contents output.new.writer)) }
         ensures failed { OnErr result (self.new ≡ record self.old { failed = true }) }
         ensures fault { IfErr result (λ fault. fault ≡ WriteFault.Write) }
         ensures counted { CountsWrites output.old.failures output.new.failures result }
     {
         self.failed = true;
-        send_all(output, item)?;
+        send_all(output, &self.item)?;
         self.failed = false;
-        self.offset += item.len() as u64;
+        self.offset += self.item.len() as u64;
         Ok(())
     }
-}
-
-// The greatest id of a type.
-const GREATEST_ID: u64 = 2147483647;
-
-// Whether a definition may give this id.
-fn is_own(id: TypeId) -> bool
-    ensures { IsTrue result ↔ IsOwnId id }
-{
-    64 <= id.0 && id.0 <= GREATEST_ID
 }

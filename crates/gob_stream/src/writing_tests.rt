@@ -308,37 +308,6 @@ fn limits_are_kept(rt: HostRuntime) -> Result<(), Fail> {
 }
 
 #[test]
-fn other_types_are_refused(rt: HostRuntime) -> Result<(), Fail> {
-    let alloc = rt.alloc();
-    let mut device = Device::sound(alloc);
-    let mut output = Output::new(&mut device);
-    let mut writer = StreamWriter::new(alloc, Limits::standard())?;
-    for id in [0, 8, 9, 16, 24, 65] {
-        let refused = WriteFault::Refused(Reason::UndefinedType(TypeId(id)));
-        assert_eq!(rt;
-            writer.put(alloc, &mut output, TypeId(id), &Value::Nil),
-            Err(refused)
-        );
-    }
-    for id in [0, 2, 16, 63, 2147483648] {
-        let refused = WriteFault::Refused(Reason::ReservedType(TypeId(id)));
-        assert_eq!(rt;
-            writer.define(alloc, &mut output, TypeId(id), &Value::Nil),
-            Err(refused)
-        );
-    }
-    for id in [64, 65, 2147483647] {
-        let refused = WriteFault::Refused(Reason::TooManyTypes);
-        assert_eq!(rt;
-            writer.define(alloc, &mut output, TypeId(id), &Value::Nil),
-            Err(refused)
-        );
-    }
-    assert_eq!(rt; device.calls, 0);
-    Ok(())
-}
-
-#[test]
 fn a_value_too_deep_is_refused_as_that(rt: HostRuntime) -> Result<(), Fail> {
     let alloc = rt.alloc();
     let limits = Limits::new(100, 2, 0, 100).ok_or("no limits")?;
@@ -352,11 +321,7 @@ fn a_value_too_deep_is_refused_as_that(rt: HostRuntime) -> Result<(), Fail> {
         (9, Reason::TooDeep),
     ];
     for (depth, reason) in cases {
-        let mut value = Value::Int(1);
-        for _ in 0..depth {
-            let parts = vec![in alloc; value]?;
-            value = Value::Many(parts);
-        }
+        let value = lists(alloc, depth + 1)?;
         assert_eq!(rt;
             writer.put(alloc, &mut output, TypeId(2), &value),
             Err(WriteFault::Refused(reason))
@@ -366,33 +331,189 @@ fn a_value_too_deep_is_refused_as_that(rt: HostRuntime) -> Result<(), Fail> {
     Ok(())
 }
 
-#[test]
-fn writing_stops_at_the_item_refused(rt: HostRuntime) -> Result<(), Fail> {
-    let alloc = rt.alloc();
-    let middles = vec![in alloc;
-        (put(3, Value::Int(7)), Reason::DoesNotFit),
-        (put(65, Value::Int(7)), Reason::UndefinedType(TypeId(65))),
-        (
-            Item::Define {
-                id: TypeId(65),
-                described: Value::Nil
-            },
-            Reason::TooManyTypes
-        ),
-    ]?;
-    for (middle, reason) in middles {
-        let items = three(alloc, middle)?;
-        let mut device = Device::sound(alloc);
-        let mut output = Output::new(&mut device);
-        let stopped = WriteStop {
-            item: 1,
-            fault: WriteFault::Refused(reason),
-        };
-        assert_eq!(rt;
-            write_stream(alloc, &mut output, &items, Limits::standard()),
-            Err(stopped)
-        );
-        assert_eq!(rt; device.taken.as_slice(), b"\x03\x04\x00\x06".as_slice());
+// A description or a value, in short.
+#[derive(Clone, Copy)]
+enum Told {
+    // Five lists in one another.
+    Deep,
+    Nil,
+    // A struct with no field present.
+    NoField,
+    // The description of an array type: its Id, Elem and Len.
+    Array(i64, i64, i64),
+}
+
+fn made(alloc: Global, told: Told) -> Result<Value, Fail> {
+    match told {
+        Told::Deep => lists(alloc, 5),
+        Told::Nil => Ok(Value::Nil),
+        Told::NoField => Ok(Value::Fields(Vec::new(alloc))),
+        Told::Array(id, elem, len) => {
+            let common = vec![in alloc; (1, Value::Int(id))]?;
+            let array = vec![in alloc;
+                (0, Value::Fields(common)),
+                (1, Value::Int(elem)),
+                (2, Value::Int(len)),
+            ]?;
+            Ok(Value::Fields(vec![in alloc; (0, Value::Fields(array))]?))
+        }
     }
+}
+
+// So many lists in one another, round a number.
+fn lists(alloc: Global, depth: u64) -> Result<Value, Fail> {
+    let mut value = Value::Int(1);
+    for _ in 1..depth {
+        value = Value::Many(vec![in alloc; value]?);
+    }
+    Ok(value)
+}
+
+// The limits for items, types and the stream.
+type Bounds = (u64, u64, u64);
+
+const WIDE: Bounds = (99, 2, 99);
+
+const FULL: Bounds = (99, 1, 99);
+
+// Definitions behind that of type 65 which are refused, and why. Where several reasons hold, the first is given.
+const REFUSED_DEFINITIONS: [(Bounds, u64, Told, Reason); 13] = [
+    (FULL, 2, Told::Deep, Reason::ReservedType(TypeId(2))),
+    (WIDE, 63, Told::Nil, Reason::ReservedType(TypeId(63))),
+    (
+        WIDE,
+        2147483648,
+        Told::Nil,
+        Reason::ReservedType(TypeId(2147483648)),
+    ),
+    (FULL, 65, Told::Deep, Reason::DefinedTwice(TypeId(65))),
+    (FULL, 66, Told::Deep, Reason::TooManyTypes),
+    (WIDE, 66, Told::Deep, Reason::TooDeep),
+    (WIDE, 66, Told::Nil, Reason::DoesNotFit),
+    (WIDE, 66, Told::NoField, Reason::KindCount),
+    (WIDE, 66, Told::Array(67, 24, -1), Reason::WrongId),
+    (WIDE, 66, Told::Array(66, 24, -1), Reason::BadReference),
+    (
+        (14, 2, 99),
+        66,
+        Told::Array(66, 2, -1000),
+        Reason::BadLength,
+    ),
+    (
+        (14, 2, 33),
+        66,
+        Told::Array(66, 2147483647, 1),
+        Reason::ItemTooLong,
+    ),
+    (
+        (18, 2, 33),
+        66,
+        Told::Array(66, 2147483647, 1),
+        Reason::StreamTooLong,
+    ),
+];
+
+// Values behind a definition of type 65 as an array of one such element, and why they are refused.
+const REFUSED_VALUES: [(i64, u64, Told, Reason); 8] = [
+    (2, 0, Told::Deep, Reason::UndefinedType(TypeId(0))),
+    (2, 24, Told::Deep, Reason::UndefinedType(TypeId(24))),
+    (2, 66, Told::Deep, Reason::UndefinedType(TypeId(66))),
+    (66, 65, Told::Deep, Reason::UndefinedType(TypeId(66))),
+    (65, 65, Told::Deep, Reason::Bottomless(TypeId(65))),
+    (2, 65, Told::Deep, Reason::TooDeep),
+    (2, 65, Told::Nil, Reason::DoesNotFit),
+    (2, 16, Told::Nil, Reason::DoesNotFit),
+];
+
+// Whether the definition of type 65 as an array of one such element is written, the item behind it refused for this
+// reason, and a bool of 4 bytes written behind that, with nothing between them.
+fn is_refused(
+    alloc: Global,
+    bounds: Bounds,
+    elem: i64,
+    item: Item<Value>,
+    reason: Reason,
+) -> Result<bool, Fail> {
+    let (most, types, stream) = bounds;
+    let limits = Limits::new(most, 4, types, stream).ok_or("no limits")?;
+    let array = made(alloc, Told::Array(65, elem, 1))?;
+    let mut device = Device::sound(alloc);
+    let mut output = Output::new(&mut device);
+    let mut writer = StreamWriter::new(alloc, limits)?;
+    let one = writer.define(alloc, &mut output, TypeId(65), &array);
+    let two = writer.write_item(alloc, &mut output, &item);
+    let three = writer.put(alloc, &mut output, TypeId(1), &Value::Bool(true));
+    let out = if elem < 64 { 19 } else { 20 };
+    Ok(
+        one == Ok(())
+            && two == Err(WriteFault::Refused(reason))
+            && three == Ok(())
+            && device.taken.len() == out,
+    )
+}
+
+#[test]
+fn definitions_are_refused_by_the_first_reason(rt: HostRuntime) -> Result<(), Fail> {
+    let alloc = rt.alloc();
+    for (bounds, id, told, reason) in REFUSED_DEFINITIONS {
+        let item = Item::Define {
+            id: TypeId(id),
+            described: made(alloc, told)?,
+        };
+        assert!(rt; is_refused(alloc, bounds, 2, item, reason)?);
+    }
+    Ok(())
+}
+
+#[test]
+fn values_are_refused_by_the_first_reason(rt: HostRuntime) -> Result<(), Fail> {
+    let alloc = rt.alloc();
+    for (elem, id, told, reason) in REFUSED_VALUES {
+        let item = put(id, made(alloc, told)?);
+        assert!(rt; is_refused(alloc, FULL, elem, item, reason)?);
+    }
+    Ok(())
+}
+
+// Go's documented example: the type Point of two ints, X and Y, as type 65, and Point { 22, 33 }.
+const POINT: [u8; 40] = [
+    0x1f, 0xff, 0x81, 0x03, 0x01, 0x01, 0x05, 0x50, 0x6f, 0x69, 0x6e, 0x74, 0x01, 0xff, 0x82, 0x00,
+    0x01, 0x02, 0x01, 0x01, 0x58, 0x01, 0x04, 0x00, 0x01, 0x01, 0x59, 0x01, 0x04, 0x00, 0x00, 0x00,
+    0x07, 0xff, 0x82, 0x01, 0x2c, 0x01, 0x42, 0x00,
+];
+
+// A CommonType or a fieldType.
+fn named(alloc: Global, name: &[u8], id: i64) -> Result<Value, Fail> {
+    let text = Value::Str(name.to_vec(alloc)?);
+    Ok(Value::Fields(vec![in alloc; (0, text), (1, Value::Int(id))]?))
+}
+
+fn described_point(alloc: Global) -> Result<Value, Fail> {
+    let fields = vec![in alloc; named(alloc, b"X", 2)?, named(alloc, b"Y", 2)?]?;
+    let point = named(alloc, b"Point", 65)?;
+    let given = vec![in alloc; (0, point), (1, Value::Many(fields))]?;
+    Ok(Value::Fields(vec![in alloc; (2, Value::Fields(given))]?))
+}
+
+fn point(alloc: Global) -> Result<Vec<Item<Value>>, Fail> {
+    let id = TypeId(65);
+    let described = described_point(alloc)?;
+    let given = vec![in alloc; (0, Value::Int(22)), (1, Value::Int(33))]?;
+    Ok(vec![in alloc;
+        Item::Define { id, described },
+        put(65, Value::Fields(given)),
+    ]?)
+}
+
+#[test]
+fn the_documented_example_is_written(rt: HostRuntime) -> Result<(), Fail> {
+    let alloc = rt.alloc();
+    let items = point(alloc)?;
+    let mut device = Device::sound(alloc);
+    let mut output = Output::new(&mut device);
+    let answer = write_stream(alloc, &mut output, &items, Limits::standard());
+    assert_eq!(rt; answer, Ok(()));
+    assert_eq!(rt; device.taken.as_slice(), POINT.as_slice());
+    assert_eq!(rt; device.calls, 2);
     Ok(())
 }

@@ -2,7 +2,7 @@
 ghost use Rattle.std.specs.Prelude.{◌≡◌, ◌≤◌, ◌⊎◌, IfOk, OnOk, IfSome, Some, None, Contains, MatchResult};
 ghost use Rattle.gob_types.specs.declared.id.TypeId.{TypeId};
 ghost use Rattle.gob_types.specs.Table.{shape_of, IsDefined};
-ghost use Rattle.gob_types.specs.Defined.{types};
+ghost use Rattle.gob_types.specs.Defined.{types, IsTable};
 ghost use Rattle.gob_types.specs.Ready.{Names, HasFieldOf, IsGrounded, IsReady};
 ghost use Rattle.gob_types.specs.Readiness.{IsNotReady, IsComplete};
 ghost use Rattle.gob_types.specs.Walk.{AddsAll, IsReach, IsFilledOf, IsLeastBad};
@@ -46,9 +46,11 @@ impl Table {
     /// What isn't defined is answered before what has no finite value, and of several ids the least. The time
     /// is linear in the types that are reached and in what their shapes name.
     pub fn ready(&self, alloc: Global, id: TypeId) -> Result<(), NotReady>
-        ensures { let T = types self.now in
+        ensures judged { let T = types self.now in
             MatchResult result (λ _. IsReady T id) (λ fault. IsNotReady T id fault) }
+        ensures known { IsTable (types self.now) }
     {
+        self.learn();
         let met = reached(self, alloc, id)?;
         if let Some(undefined) = least_undefined(self, &met) {
             return Err(NotReady::UndefinedType(undefined));

@@ -77,13 +77,22 @@ impl Table {
         self.shapes.len() as u64 - BASE_COUNT
     }
 
+    // What is known of every table: a caller learns it by this call, which does nothing.
+    pub(crate) fn learn(&self)
+        ensures { IsTable (types self.now) }
+    {
+        let _ = &self.shapes;
+    }
+
     /// Whether the table takes a definition of this id, or the first reason why it refuses one. It never
     /// answers [`DefineFault::Memory`].
     pub fn admits(&self, id: TypeId) -> Result<(), DefineFault>
         ensures admitted { OnOk result (Admits self.now id) }
         ensures refused { IfErr result (λ fault. Refuses self.now id fault) }
         ensures judged { IfErr result (λ fault. ¬ (fault ≡ DefineFault.Memory)) }
+        ensures known { IsTable (types self.now) }
     {
+        self.learn();
         if !id.is_own() {
             return Err(DefineFault::ReservedType);
         }

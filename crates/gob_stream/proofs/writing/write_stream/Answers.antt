@@ -2,12 +2,12 @@ use Rattle.std.proofs.Common.{[], refl, ◌∙◌, arith}
 use Rattle.std.proofs.KnownBytes.{Appends-nil}
 use Rattle.gob_stream.specs.Stream.{no_more}
 use Rattle.gob_stream.specs.Item.{item_view, item_views}
-use Rattle.gob_stream.specs.Readable.{readable_types}
+use Rattle.gob_types.specs.Base.{base_table}
 use Rattle.gob_stream.proofs.StreamSteps.{wrote_none, wrote_more, wrote_all, stopped, item_at}
 use Rattle.gob_stream.proofs.writing.write_stream.Goals as goal
 
 pub returns-in_default-clause-writes : goal.returns-in_default-clause-writes
-returns-in_default-clause-writes g c = record { within = omega arith; bytes = []; table = readable_types; before = no_more; out = Appends-nil _ }
+returns-in_default-clause-writes g c = record { within = omega arith; bytes = []; table = base_table; before = no_more; out = Appends-nil _ }
 
 pub loop-i-init : goal.loop-i-init
 loop-i-init g c = record { wrote = wrote_none c.args.limits (item_views c.args.items.now) c.in-Ok.writer _ c.in-Ok.ensures; sound = refl }

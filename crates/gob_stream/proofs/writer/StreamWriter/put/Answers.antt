@@ -1,21 +1,32 @@
+use Rattle.std.proofs.Common.{refl}
 use Rattle.std.proofs.lemmas.Result.{err_from_is_err_and}
 use Rattle.gob_value.specs.View.{view}
 use Rattle.gob_stream.specs.Item.{puts}
-use Rattle.gob_stream.proofs.WriterSteps.{refused_writes, early_counts, sent_writes}
+use Rattle.gob_stream.specs.WriterRefusal.{refused_body}
+use Rattle.gob_stream.proofs.FaultSteps.{refusal_weaker}
+use Rattle.gob_stream.proofs.WritingLaws.{whole_item}
+use Rattle.gob_stream.proofs.WriterSteps.{refused_writes, sent_writes}
 use Rattle.gob_stream.proofs.writer.StreamWriter.put.Goals as goal
 
-pub returns-in_err-item-clause-writes : goal.returns-in_err-item-clause-writes
-returns-in_err-item-clause-writes g c = λ items bytes T written.
+pub returns-in_err-spell_value-clause-writes : goal.returns-in_err-spell_value-clause-writes
+returns-in_err-spell_value-clause-writes g c = λ items bytes T written.
     let p = err_from_is_err_and c.from_residual.result c.from_residual.ensures.1 in
-    rw (p.1, p.2) (refused_writes c.args.self.now items bytes T (puts c.args.id (view c.args.value.now)) _ c.in_err-item.field-0.0 written (c.in_err-item.ensures.err written.types))
+    let w = c.args.self.now in
+    rw (p.1, p.2) (refused_writes w (record w { body = c.spell_value.new.body }) items bytes T (puts c.args.id (view c.args.value.now)) _ c.in_err-spell_value.field-0.0 written refl
+    (c.in_err-spell_value.ensures.err w.offset))
 
-pub returns-in_err-item-clause-counted : goal.returns-in_err-item-clause-counted
-returns-in_err-item-clause-counted g c =
-    let p = err_from_is_err_and c.from_residual.result c.from_residual.ensures.1 in
-    rw (p.1, p.2) (early_counts c.args.output.now.failures c.in_err-item.field-0.0 c.in_err-item.ensures.early)
+pub returns-in_err-finish_item-clause-writes : goal.returns-in_err-finish_item-clause-writes
+returns-in_err-finish_item-clause-writes g c = λ items bytes T written.
+    let p = err_from_is_err_and c.from_residual-in_err-finish_item.result c.from_residual-in_err-finish_item.ensures.1 in
+    let w = c.args.self.now in
+    let refused = rw c.deref.ensures.value at c.in_err-finish_item.ensures.err in
+    rw (p.1, p.2) (refused_writes w (record w { body = c.spell_value.new.body; item = c.finish_item.new.item }) items bytes T (puts c.args.id (view c.args.value.now)) _ c.in_err-finish_item.field-0.0 written refl
+    (refusal_weaker _ (λ r. refused_body c.in_ok-spell_value.ensures.ok) refused))
 
 pub returns-clause-writes : goal.returns-clause-writes
 returns-clause-writes g c = λ items bytes T written.
-    let sent = rw c.deref.ensures.value at c.send.ensures in
-    sent_writes c.args.self.now c.send.new.self items bytes T (puts c.args.id (view c.args.value.now)) _ _ c.in_ok-item.item.items c.send.result written
-    (c.in_ok-item.ensures.ok written.types) sent.ok sent.behind sent.front sent.failed sent.fault
+    let w = c.args.self.now in
+    let whole = rw c.deref.ensures.value at c.in_ok-finish_item.ensures.ok in
+    sent_writes w (record w { body = c.spell_value.new.body; item = c.finish_item.new.item }) c.send.new.self items bytes T _ (puts c.args.id (view c.args.value.now)) _ _ c.send.result written
+    (record { limits = refl; offset = refl; most = refl; table = refl; item = whole_item c.in_ok-spell_value.ensures.ok whole })
+    c.send.ensures.ok c.send.ensures.behind c.send.ensures.front c.send.ensures.failed c.send.ensures.fault

@@ -10,14 +10,14 @@ use Rattle.gob_types.proofs.table.Table.ready.Goals as goal
 pub least_bottomless-requires : goal.least_bottomless-requires
 least_bottomless-requires c = complete_within c.in_ok-met.ensures c.in_default.ensures
 
-pub returns-in-Some : goal.returns-in-Some
-returns-in-Some c =
+pub returns-in-Some-clause-judged : goal.returns-in-Some-clause-judged
+returns-in-Some-clause-judged c =
     let T = types c.args.self.now in
     let least : IsLeast (λ u. Contains c.in_ok-met.met u × (shape_of T u ≡ None)) c.in-Some.undefined = c.in-Some.ensures in
     least_reached c.in_ok-met.ensures least
 
-pub returns-in-Some-2 : goal.returns-in-Some-2
-returns-in-Some-2 c =
+pub returns-in-Some-2-clause-judged : goal.returns-in-Some-2-clause-judged
+returns-in-Some-2-clause-judged c =
     let T = types c.args.self.now in
     let reach = c.in_ok-met.ensures in
     let least : IsLeast (λ u. Contains c.in_ok-met.met u × ¬ IsGrounded T u) c.in-Some-2.bottomless =
