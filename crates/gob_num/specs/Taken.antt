@@ -1,12 +1,23 @@
 -- What is taken from the front of a piece of a stream, where an unsigned number is to stand there.
-use Rattle.std.specs.Prelude.{ℕ, ◌≤◌, List, length, take}
+use Rattle.std.specs.Prelude.{ℕ, ◌≤◌, List, [], ◌++◌, length, take}
 use Rattle.gob_num.specs.Unsigned.{IsUnsigned, IsUnsignedFront, IsBadHead, IsNotMinimal}
 use Rattle.gob_num.specs.declared.unsigned.Taken.{Taken}
 use Rattle.gob_num.specs.declared.unsigned.Taken.TheVariants.{Whole, More, BadHead, NotMinimal}
 
--- what each answer says of the piece
+-- what each answer says of the piece, behind the bytes of a number that came before
+abbrev pub TakesOn : List ℕ → List ℕ → Taken → Type 0
+TakesOn old piece (Whole number used) = (used ≤ length piece) × IsUnsigned number (old ++ take used piece)
+TakesOn old piece More = IsUnsignedFront (old ++ piece)
+TakesOn old piece BadHead = IsBadHead (old ++ piece)
+TakesOn old piece NotMinimal = IsNotMinimal (old ++ piece)
+
+-- the same where none came before
 abbrev pub Takes : List ℕ → Taken → Type 0
-Takes piece (Whole number used) = (used ≤ length piece) × IsUnsigned number (take used piece)
-Takes piece More = IsUnsignedFront piece
-Takes piece BadHead = IsBadHead piece
-Takes piece NotMinimal = IsNotMinimal piece
+Takes piece taken = TakesOn [] piece taken
+
+-- the bytes of the number that is under way after the answer: none after any but `More`
+abbrev pub left : Taken → List ℕ → List ℕ
+left (Whole number used) bytes = []
+left More bytes = bytes
+left BadHead bytes = []
+left NotMinimal bytes = []

@@ -1,5 +1,5 @@
 //! A number that is read one byte after another.
-use crate::unsigned::{LEAST_HEAD, digits_after, is_padded};
+use crate::unsigned::{LEAST_HEAD, Taken, digits_after, is_padded, take_uint};
 use std::marker::Model;
 
 /// What the bytes of a number so far are.
@@ -40,6 +40,7 @@ impl Model for Number {
 impl Number {
     ghost use Rattle.std.specs.Prelude.{◌≡◌, [], ◌∷◌, ◌++◌};
     ghost use Rattle.gob_num.specs.Step.{Judges, next};
+    ghost use Rattle.gob_num.specs.Taken.{TakesOn, left};
 
     /// A number that has taken no byte.
     pub fn new() -> Self
@@ -73,6 +74,41 @@ impl Number {
         self.value = value;
         self.left -= 1;
         Step::More
+    }
+
+    /// Takes bytes from the front of the piece until the number is whole, and says what stands there behind the bytes
+    /// since `new`. After any answer but [`Taken::More`] the number is as new.
+    pub fn take(&mut self, piece: &[u8]) -> Taken
+        ensures taken { TakesOn self.old piece.now result }
+        ensures left { self.new ≡ left result (self.old ++ piece.now) }
+    {
+        if self.count > 0 {
+            return self.take_by_bytes(piece);
+        }
+        match take_uint(piece) {
+            Taken::More => self.take_by_bytes(piece),
+            taken => taken,
+        }
+    }
+
+    // The same, byte by byte.
+    pub(crate) fn take_by_bytes(&mut self, piece: &[u8]) -> Taken
+        ensures taken { TakesOn self.old piece.now result }
+        ensures left { self.new ≡ left result (self.old ++ piece.now) }
+    {
+        let _front = self.count;
+        for (i, b) in piece.iter().enumerate() {
+            match self.push(*b) {
+                Step::More => {}
+                Step::Done(number) => return Taken::Whole {
+                    number,
+                    used: i + 1,
+                },
+                Step::BadHead => return Taken::BadHead,
+                Step::NotMinimal => return Taken::NotMinimal,
+            }
+        }
+        Taken::More
     }
 
     // Takes the first byte.

@@ -6,7 +6,7 @@ ghost use Rattle.gob_num.specs.Spelled.{Appends};
 ghost use Rattle.gob_num.specs.Taken.{Takes};
 
 use crate::memory::Memory;
-use crate::number::{Number, Step};
+use crate::number::Number;
 use std::alloc::Global;
 
 // The head before eight digits, which is the least.
@@ -62,7 +62,7 @@ pub fn take_uint(piece: &[u8]) -> Taken
     }
     match rest.first_chunk::<8>() {
         Some(digits) => take_digits(*head, digits),
-        None => take_by_bytes(piece),
+        None => Number::new().take_by_bytes(piece),
     }
 }
 
@@ -83,25 +83,6 @@ fn take_digits(head: u8, digits: &[u8; 8]) -> Taken
         number,
         used: usize::from(count) + 1,
     }
-}
-
-// Takes a number of which not all digits may be there.
-fn take_by_bytes(piece: &[u8]) -> Taken
-    ensures { Takes piece.now result }
-{
-    let mut number = Number::new();
-    for (i, b) in piece.iter().enumerate() {
-        match number.push(*b) {
-            Step::More => {}
-            Step::Done(number) => return Taken::Whole {
-                number,
-                used: i + 1,
-            },
-            Step::BadHead => return Taken::BadHead,
-            Step::NotMinimal => return Taken::NotMinimal,
-        }
-    }
-    Taken::More
 }
 
 /// How many digits follow the head.

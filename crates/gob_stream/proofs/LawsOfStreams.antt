@@ -8,7 +8,7 @@ use Rattle.gob_stream.specs.Body.{Body, definition, value, HasRoom, MayDefine}
 use Rattle.gob_stream.specs.Stream.{Counted, counted, Continues, no_more, and_then, Stream}
 use Rattle.gob_stream.specs.Outcome.{BeginsWith, GivesItems}
 use Rattle.gob_stream.specs.Laws.{GoesOn, AtLeast}
-use Rattle.gob_stream.proofs.StreamLaws.{counted_prefix, counted_some}
+use Rattle.gob_stream.proofs.StreamLaws.{counted_prefix, counted_some, more_items}
 
 regroup : (b p x c q y : List ℕ) → (b ++ p) ++ x ≡ (c ++ q) ++ y → b ++ (p ++ x) ≡ c ++ (q ++ y)
 regroup b p x c q y e = sym (append_assoc b p x) ∙ e ∙ append_assoc c q y

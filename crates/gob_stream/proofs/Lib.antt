@@ -1,11 +1,4 @@
-pub mod ReadableLaws
-pub mod TakesLaws
 pub mod StreamLaws
-pub mod JudgeLaws
-pub mod CountLaws
-pub mod BodyLaws
-pub mod ItemLaws
-pub mod SessionLaws
 pub mod LawsOfStreams
 pub mod WritingLaws
 pub mod WriterSteps
@@ -15,3 +8,12 @@ pub mod RefusalLaws
 pub mod EndLaws
 pub mod WireLaws
 pub mod DefinableLaws
+pub mod RefusingLaws
+pub mod OutcomeLaws
+pub mod CountSteps
+pub mod TypeNumberSteps
+pub mod BodySteps
+pub mod DescriptionSteps
+pub mod ValueSteps
+pub mod DefinitionSteps
+pub mod StandingSteps

@@ -38,12 +38,12 @@ one_counted (counted {c = a} {d = b} p q r body) (counted {c = c} {d = d} p' q' 
 
 -- ---- demands that are met leave no reason
 
-id_met : {base : Table} {L : Bounds} {T : Table} {t : TypeId} {r : Reason} → RefusesId base L T t r → MayDefine base L T t → ⊥
+pub id_met : {base : Table} {L : Bounds} {T : Table} {t : TypeId} {r : Reason} → RefusesId base L T t r → MayDefine base L T t → ⊥
 id_met (reserved not_own) may = not_own may.own
 id_met (defined_twice own old) may = old may.new
 id_met (too_many own new full) may = full may.room
 
-type_met : {T : Table} {t : TypeId} {r : Reason} → RefusesType T t r → MayPut T t → ⊥
+pub type_met : {T : Table} {t : TypeId} {r : Reason} → RefusesType T t r → MayPut T t → ⊥
 type_met (private_type is) may = may.public is
 type_met (undefined public reached not_there least) may = not_there (may.ready _ reached).0
 type_met (bottomless public all reached endless least) may = endless (may.ready _ reached).1
@@ -76,7 +76,7 @@ good_length gives_opaque bad = bad
 one_said : (v : Tree) {what what' : Said} → said v ≡ Some what → said v ≡ Some what' → what ≡ what'
 one_said v {what = what} {what' = what'} p q = let e : Some what ≡ Some what' = sym p ∙ q in cc
 
-description_met : {t : TypeId} {v : Tree} {s : _} {r : Reason} → Misdescribes t v r → Describes t v s → ⊥
+pub description_met : {t : TypeId} {v : Tree} {s : _} {r : Reason} → Misdescribes t v r → Describes t v s → ⊥
 description_met (kind_count none) d = absurd (let e : None ≡ Some d.what = sym none ∙ d.says in cc)
 description_met {v = v} (wrong_id says other) d = other (ap (λ w. w.id) (one_said v says d.says) ∙ d.same_id)
 description_met {v = v} (bad_reference says same bad) d = good_references d.kind (subst (λ w. HasBadReference w.kind) (one_said v says d.says) bad)
@@ -102,7 +102,7 @@ not_counted (refused_body body bad) (counted p q r body') = let same = one_body 
 
 -- ---- one reason
 
-one_id : {base : Table} {L : Bounds} {T : Table} {t : TypeId} {r s : Reason} → RefusesId base L T t r → RefusesId base L T t s → r ≡ s
+pub one_id : {base : Table} {L : Bounds} {T : Table} {t : TypeId} {r s : Reason} → RefusesId base L T t r → RefusesId base L T t s → r ≡ s
 one_id (reserved p) (reserved q) = refl
 one_id (reserved p) (defined_twice own old) = absurd (p own)
 one_id (reserved p) (too_many own new full) = absurd (p own)
@@ -116,7 +116,7 @@ one_id (too_many own new full) (too_many own' new' full') = refl
 same_id : {t u : TypeId} → t.0 ≤ u.0 → u.0 ≤ t.0 → t ≡ u
 same_id {t = t} {u = u} p q = let same : t.0 ≡ u.0 = omega (arith, p, q) in ap id same
 
-one_type : {T : Table} {t : TypeId} {r s : Reason} → RefusesType T t r → RefusesType T t s → r ≡ s
+pub one_type : {T : Table} {t : TypeId} {r s : Reason} → RefusesType T t r → RefusesType T t s → r ≡ s
 one_type (private_type p) (private_type q) = refl
 one_type (private_type p) (undefined public reached bad least) = absurd (public p)
 one_type (private_type p) (bottomless public all reached bad least) = absurd (public p)
@@ -137,7 +137,7 @@ one_value (does_not_fit shallow bad) (does_not_fit shallow' bad') = refl
 says_none : (v : Tree) {what : Said} → said v ≡ None → said v ≡ Some what → ⊥
 says_none v {what = what} p q = let e : None ≡ Some what = sym p ∙ q in cc
 
-one_description : {t : TypeId} {v : Tree} {r s : Reason} → Misdescribes t v r → Misdescribes t v s → r ≡ s
+pub one_description : {t : TypeId} {v : Tree} {r s : Reason} → Misdescribes t v r → Misdescribes t v s → r ≡ s
 one_description (kind_count p) (kind_count q) = refl
 one_description {v = v} (kind_count p) (wrong_id says bad) = absurd (says_none v p says)
 one_description {v = v} (kind_count p) (bad_reference says same bad) = absurd (says_none v p says)

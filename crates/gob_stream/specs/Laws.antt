@@ -1,11 +1,13 @@
 -- The laws of streams: their bytes tell their items, whatever the base table, the limits and the shapes are.
 -- They follow from Go's encoding/gob documentation, Encoding Details; docs/FORMAT.md, Items and streams.
-use Rattle.std.specs.Prelude.{◌≡◌, ℕ, ◌≤◌, ◌⊎◌, List, [], ◌++◌}
+use Rattle.std.specs.Prelude.{◌≡◌, ℕ, ◌≤◌, ◌⊎◌, List, ◌++◌, length}
 use Rattle.gob_types.specs.Table.{Table}
+use Rattle.gob_types.specs.Base.{base_table}
+use Rattle.gob_stream.specs.declared.fault.Refusal.{Refusal}
 use Rattle.gob_stream.specs.Bounds.{Bounds}
 use Rattle.gob_stream.specs.Item.{StreamItem}
-use Rattle.gob_stream.specs.Stream.{Stream}
-use Rattle.gob_stream.specs.Outcome.{BeginsWith, GivesItems}
+use Rattle.gob_stream.specs.Stream.{Counted, Stream}
+use Rattle.gob_stream.specs.Outcome.{BeginsWith, GivesItems, RefusesNext, Ending, Outcome}
 
 -- bytes are the stream of one list of items, with one table behind it
 abbrev pub HaveOneReading : Type 0
@@ -38,3 +40,13 @@ pub record AtLeast (L M : Bounds) : Type 0 where
 abbrev pub StayStreams : Type 0
 StayStreams = (base : Table) (L M : Bounds) (items : List StreamItem) (bytes : List ℕ) (T : Table)
     → AtLeast L M → Stream base L items bytes T → Stream base M items bytes T
+
+-- bytes have one outcome: one list of items, and one ending
+abbrev pub HaveOneOutcome : Type 0
+HaveOneOutcome = (L : Bounds) (bytes : List ℕ) (items others : List StreamItem) (e f : Ending)
+    → Outcome base_table L bytes items e → Outcome base_table L bytes others f → (items ≡ others) × (e ≡ f)
+
+-- what is refused behind a stream is no item
+abbrev pub RefuseNoItem : Type 0
+RefuseNoItem = (L : Bounds) (items : List StreamItem) (front z : List ℕ) (T : Table) (R : Refusal) → Stream base_table L items front T → RefusesNext base_table L T (length front) z R
+    → (i : StreamItem) (b y : List ℕ) (U : Table) → Counted base_table L T (length front) i b U → ¬ (z ≡ b ++ y)

@@ -2,10 +2,12 @@ pub mod Bounds
 pub mod Item
 pub mod Body
 pub mod Stream
+pub mod Refusing
 pub mod Outcome
 pub mod WriterRefusal
 pub mod Devices
 pub mod Readable
+pub mod Standing
 pub mod Reading
 pub mod ReadParts
 pub mod Writing

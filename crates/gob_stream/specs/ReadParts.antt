@@ -1,149 +1,203 @@
--- What the parts of a reader answer: one byte, a count, a body's bytes, an item.
-use Rattle.std.specs.Prelude.{◌≡◌, ◌≢◌, ℕ, pos, ◌+◌, ◌-◌, ◌<◌, ◌≤◌, List, [], ◌∷◌, ◌++◌, length, Option, Some, None, Result, Ok, Err, vec_len}
-use Rattle.std.specs.Global.{Vec}
-use Rattle.gob_num.specs.Unsigned.{IsUnsigned}
-use Rattle.gob_num.specs.Signed.{IsSigned}
+-- What the parts of a reader answer: a count, a type number, what follows it, an item.
+use Rattle.std.specs.Prelude.{◌≡◌, ◌≢◌, ℕ, ◌+◌, ◌-◌, ◌^◌, ◌<◌, ◌≤◌, List, [], ◌∷◌, ◌++◌, length, take, Option, Some, None, Result, Ok, Err}
+use Rattle.gob_num.specs.Unsigned.{IsUnsigned, IsUnsignedFront}
 use Rattle.gob_types.specs.declared.id.TypeId.{TypeId}
-use Rattle.gob_types.specs.declared.basic.Basic.{Basic}
-use Rattle.gob_types.specs.declared.kind.Kind.TheVariants as kind
-use Rattle.gob_types.specs.Table.{shape_of}
+use Rattle.gob_types.specs.declared.kind.Shape.{Shape}
+use Rattle.gob_types.specs.declared.reason.Reason.{Reason}
+use Rattle.gob_types.specs.declared.reason.Reason.TheVariants as reason
+use Rattle.gob_types.specs.declared.table.DefineFault.{DefineFault}
+use Rattle.gob_types.specs.declared.table.DefineFault.TheVariants as define
+use Rattle.gob_types.specs.declared.readiness.NotReady.{NotReady}
+use Rattle.gob_types.specs.declared.readiness.NotReady.TheVariants as unready
+use Rattle.gob_types.specs.Table.{Table}
+use Rattle.gob_types.specs.Base.{base_table, wire_type}
+use Rattle.gob_types.specs.Defined.{Defined, types}
 use Rattle.gob_value.specs.Tree.{Tree}
-use Rattle.gob_value.specs.Spelling.{SpellsAs}
+use Rattle.gob_value.specs.View.{view}
+use Rattle.gob_value.specs.Description.{Describes, Misdescribes}
 use Rattle.gob_value.specs.declared.value.Value.{Value}
+use Rattle.gob_value.specs.declared.fault.ShapeFault.{ShapeFault}
+use Rattle.gob_value.specs.declared.fault.ShapeFault.TheVariants as shape
+use Rattle.gob_read.specs.Refusal as body
+use Rattle.gob_read.specs.First.{IsFirst}
+use Rattle.gob_read.specs.Reader.{Stands, IsMade}
+use Rattle.gob_read.specs.declared.run.Run.{Run}
+use Rattle.gob_read.specs.declared.reader.BodyReader.{BodyReader}
+use Rattle.gob_read.specs.declared.stop.Stop.{Stop}
+use Rattle.gob_read.specs.declared.stop.Stop.TheVariants as stop
+use Rattle.gob_read.specs.declared.tree_builder.TreeBuilder.{TreeBuilder}
+use Rattle.gob_stream.specs.declared.fault.Refusal.{Refusal}
 use Rattle.gob_stream.specs.declared.fault.Fault.{Fault}
 use Rattle.gob_stream.specs.declared.fault.Fault.TheVariants as fault
-use Rattle.gob_stream.specs.declared.judge.Stop.{Stop}
-use Rattle.gob_stream.specs.declared.judge.Stop.TheVariants as stop
 use Rattle.gob_stream.specs.declared.item.Item as declared
-use Rattle.gob_stream.specs.declared.count.Count.{Count}
-use Rattle.gob_stream.specs.declared.read.Next.{Next}
+use Rattle.gob_stream.specs.declared.item.Item.TheVariants as item
+use Rattle.gob_stream.specs.declared.stage.Stage.{Stage}
+use Rattle.gob_stream.specs.declared.stage.Stage.TheVariants as stage
+use Rattle.gob_stream.specs.declared.stage.Stepped.{Stepped}
+use Rattle.gob_stream.specs.declared.stage.Extent.{Extent}
+use Rattle.gob_stream.specs.declared.reading.Reading.{Reading}
+use Rattle.gob_stream.specs.declared.reading.Step.{Step}
 use Rattle.gob_stream.specs.Bounds.{Bounds}
-use Rattle.gob_stream.specs.Item.{StreamItem, puts, item_view}
+use Rattle.gob_stream.specs.Item.{StreamItem, ItemMeans}
+use Rattle.gob_stream.specs.Body.{MayDefine, MayPut}
+use Rattle.gob_stream.specs.WriterRefusal.{RefusesId, RefusesType}
 use Rattle.gob_stream.specs.Stream.{Counted}
-use Rattle.gob_stream.specs.Devices.{counts_up}
-use Rattle.gob_stream.specs.Readable.{readable_types, readable}
-use Rattle.gob_stream.specs.Reading.{SomeTaken}
+use Rattle.gob_stream.specs.Refusing.{RefusesCount, behind, refuses}
+use Rattle.gob_stream.specs.Outcome.{RefusesNext}
+use Rattle.gob_stream.specs.Standing.{Standing, StandsIn, StandsAfter, IsCount, IsRest, IsBehind, size, no_deeper}
+use Rattle.gob_stream.specs.Reading.{IsShown}
 
--- the type is this basic one
-pub record IsReadable (t : TypeId) (k : Basic) : Type 0 where
-  pub name : List ℕ
-  pub shape : shape_of readable_types t ≡ Some (record { name = name; kind = kind.Basic k })
+-- more of the count was taken, or all of it
+pub data CountGoesOn {X O : Type 0} (L : Bounds) (begin : ℕ) (number piece : List ℕ) : Stepped X O → Type 0 where
+  more_of_count : IsUnsignedFront (number ++ piece) → CountGoesOn L begin number piece (record { used = length piece; stage = stage.Count begin (number ++ piece); item = None })
+  whole_count : {m used : ℕ} {body : Extent} → used ≤ length piece → IsCount L begin m (number ++ take used piece) body → 0 < m
+      → CountGoesOn L begin number piece (record { used = used; stage = stage.TypeNumber body []; item = None })
 
--- the bodies that are read: a value of one of these types, behind its type number and the tag
-pub data IsReadableBody : StreamItem → List ℕ → Type 0 where
-  of_basic : {t : TypeId} {k : Basic} {v : Tree} {a b : List ℕ} → IsReadable t k → IsSigned (pos t.0) a
-      → SpellsAs readable_types (kind.Basic k) v b → IsReadableBody (puts t v) (a ++ (0 ∷ b))
+-- the count is refused, or the empty body behind it
+pub data IsCountRefused (L : Bounds) (begin : ℕ) (z : List ℕ) : Refusal → Type 0 where
+  count_refused : {R : Refusal} → RefusesCount L begin z R → IsCountRefused L begin z R
+  empty_body : {c : List ℕ} (r : List ℕ) → z ≡ c ++ r → IsUnsigned 0 c → begin + length c ≤ L.stream
+      → IsCountRefused L begin z (refuses (begin + length c) (begin + length c) reason.Short)
 
--- a front of the bytes is so, and these are left behind it
-pub record HasFront (P : List ℕ → Type 0) (bytes left : List ℕ) : Type 0 where
-  pub front : List ℕ
-  pub holds : P front
-  pub whole : bytes ≡ front ++ left
+-- why a count is refused that is whole
+pub data CountJudged (L : Bounds) (begin end count : ℕ) : Refusal → Type 0 where
+  above_item : L.item < count → CountJudged L begin end count (refuses begin end reason.ItemTooLong)
+  above_stream : count ≤ L.item → L.stream < end + count → CountJudged L begin end count (refuses begin end reason.StreamTooLong)
+  no_body : count ≡ 0 → end ≤ L.stream → CountJudged L begin end count (refuses end end reason.Short)
 
--- no front of the bytes is so
-abbrev pub NoFront : (List ℕ → Type 0) → List ℕ → Type 0
-NoFront P bytes = (front left : List ℕ) → P front → bytes ≡ front ++ left → ⊥
+-- what taking bytes of a count answers, of which the number came before
+abbrev pub CountSteps : {X O : Type 0} → Bounds → (begin : ℕ) → (number piece : List ℕ) → Result (Stepped X O) Refusal → Type 0
+CountSteps L begin number piece (Ok stepped) = CountGoesOn L begin number piece stepped
+CountSteps L begin number piece (Err R) = IsCountRefused L begin (number ++ piece) R
 
--- what taking something from the front of bytes answers, where it is seen by `view` and spelled so
-pub data Takes {X A : Type 0} (view : X → A) (Spells : A → List ℕ → Type 0) (bytes left : List ℕ) : Result X Stop → Type 0 where
-  took : {x : X} → HasFront (Spells (view x)) bytes left → Takes view Spells bytes left (Ok x)
-  nothing : {e : Stop} → ((v : A) → NoFront (Spells v) bytes) → Takes view Spells bytes left (Err e)
-  no_memory : Takes view Spells bytes left (Err stop.Memory)
+-- what judging a count from `begin` to `end` answers
+abbrev pub JudgesCount : Bounds → (begin end count : ℕ) → Result Extent Refusal → Type 0
+JudgesCount L begin end count (Ok body) = (0 < count) × (count ≤ L.item) × (end + count ≤ L.stream) × (body.begin ≡ end) × (body.end ≡ end + count)
+JudgesCount L begin end count (Err R) = CountJudged L begin end count R
 
--- a count of bytes, and the bytes
-pub data SpellsString : List ℕ → List ℕ → Type 0 where
-  counted_string : {s c : List ℕ} → IsUnsigned (length s) c → SpellsString s (c ++ s)
+-- what reads a part of the stream stands after some bytes of it
+pub record IsUnderWay (T : Table) (t : TypeId) (rest : Extent) {X O : Type 0} (stands : Standing X) (run : Option (Run X O)) : Type 0 where
+  pub limit : ℕ
+  pub bytes : List ℕ
+  pub after : Stands T t limit (size rest) stands run bytes
 
--- the tag before a value that is no struct
-abbrev pub SpellsTag : Unit {0} → List ℕ → Type 0
-SpellsTag _ bytes = IsUnsigned 0 bytes
+-- places and counts behind this offset are numbers of 64 bits
+abbrev pub StopsWithin : ℕ → Stop → Type 0
+StopsWithin begin (stop.Refused place seen reason) = (begin + place < 2 ^ 64) × (begin + seen < 2 ^ 64)
+StopsWithin begin _ = Unit {0}
 
--- a value of a basic type
-abbrev pub SpellsBasic : Basic → Tree → List ℕ → Type 0
-SpellsBasic basic = SpellsAs readable_types (kind.Basic basic)
+-- a stop of what begins at this offset, as a fault of the stream
+abbrev pub fault_behind : ℕ → Stop → Fault
+fault_behind begin (stop.Refused place seen reason) = fault.Refused (refuses (begin + place) (begin + seen) reason)
+fault_behind begin stop.Memory = fault.Memory
+fault_behind begin stop.Failed = fault.Failed
 
--- what judging the bytes that came of a body of this length answers
-abbrev pub JudgesBody : List ℕ → ℕ → Result (declared.Item Value) Fault → Type 0
-JudgesBody bytes size (Ok item) = (length bytes ≡ size) × IsReadableBody (item_view item) bytes
-JudgesBody bytes size (Err (fault.Refused r)) = length bytes ≡ size → (i : StreamItem) → ¬ IsReadableBody i bytes
-JudgesBody bytes size (Err fault.Memory) = Unit {0}
-JudgesBody bytes size (Err fault.Read) = ⊥
-JudgesBody bytes size (Err fault.Failed) = ⊥
+-- what became of a piece, where z was read of a value of the type
+pub data ReadsValue {X O : Type 0} (stands : Standing X) (means : O → Tree → Type 0) (T : Table) (t : TypeId) (limit : ℕ) (rest : Extent) (z piece : List ℕ) : Result (Stepped X O) Fault → Type 0 where
+  value_goes_on : {reader : BodyReader X O} → IsBehind T t limit rest stands reader (z ++ piece)
+      → ReadsValue stands means T t limit rest z piece (Ok (record { used = length piece; stage = stage.Value t rest reader; item = None }))
+  value_ends : {out : O} {used : ℕ} → used ≤ length piece → IsMade T t limit (size rest) means out (z ++ take used piece)
+      → ReadsValue stands means T t limit rest z piece (Ok (record { used = used; stage = stage.Count rest.end []; item = Some (item.Put t out) }))
+  value_refused : {R : body.Refusal} → IsFirst T t limit (size rest) (z ++ take (size rest - length z) piece) R
+      → ReadsValue stands means T t limit rest z piece (Err (fault.Refused (behind rest.begin R)))
+  no_memory_for_value : ReadsValue stands means T t limit rest z piece (Err fault.Memory)
 
--- the fault is a refusal
-abbrev pub IsRefused : Fault → Type 0
-IsRefused (fault.Refused r) = Unit {0}
-IsRefused _ = ⊥
+-- what is made of a description
+abbrev pub IsView : Value → Tree → Type 0
+IsView described v = view described ≡ v
 
--- what reading a byte answers
-abbrev pub ReadsByte : List ℕ → Option (List ℕ) → Result (Option ℕ) Fault → Type 0
-ReadsByte rest now (Ok None) = (rest ≡ []) × (now ≡ Some [])
-ReadsByte rest now (Ok (Some b)) = SomeTaken rest now (λ taken. taken ≡ b ∷ [])
-ReadsByte rest now (Err e) = now ≡ Some rest
+-- the whole description was read, with so many bytes of the piece
+pub record IsDescribed (T : Table) (limit : ℕ) (rest : Extent) (z piece : List ℕ) (described : Value) (used : ℕ) : Type 0 where
+  pub within : used ≤ length piece
+  pub made : IsMade T wire_type limit (size rest) IsView described (z ++ take used piece)
 
--- no number begins the bytes
-abbrev pub NoCount : List ℕ → Type 0
-NoCount bytes = (n : ℕ) → NoFront (IsUnsigned n) bytes
+-- what became of a piece, where z was read of the description of the type; the second table is the one behind it
+pub data ReadsDescription {X O : Type 0} (trees : Standing TreeBuilder) (T : Table) (id : TypeId) (limit : ℕ) (rest : Extent) (z piece : List ℕ) : Table → Result (Stepped X O) Fault → Type 0 where
+  description_goes_on : {reader : BodyReader TreeBuilder Value} {U : Table} → U ≡ T → IsBehind T wire_type limit rest trees reader (z ++ piece)
+      → ReadsDescription trees T id limit rest z piece U (Ok (record { used = length piece; stage = stage.Description id rest reader; item = None }))
+  description_ends : {described : Value} {s : Shape} {U : Table} {used : ℕ} → IsDescribed T limit rest z piece described used → Describes id (view described) s → U ≡ T ++ (id, s) ∷ []
+      → ReadsDescription trees T id limit rest z piece U (Ok (record { used = used; stage = stage.Count rest.end []; item = Some (item.Define id described) }))
+  description_refused : {R : body.Refusal} {U : Table} → U ≡ T → IsFirst T wire_type limit (size rest) (z ++ take (size rest - length z) piece) R
+      → ReadsDescription trees T id limit rest z piece U (Err (fault.Refused (behind rest.begin R)))
+  describes_nothing : {described : Value} {used : ℕ} {r : Reason} {U : Table} → U ≡ T → IsDescribed T limit rest z piece described used → Misdescribes id (view described) r
+      → ReadsDescription trees T id limit rest z piece U (Err (fault.Refused (refuses rest.begin rest.end r)))
+  no_memory_for_description : {U : Table} → ReadsDescription trees T id limit rest z piece U (Err fault.Memory)
 
--- what reading a count answers
-abbrev pub ReadsCount : List ℕ → Option (List ℕ) → Result (Option Count) Fault → Type 0
-ReadsCount rest now (Ok None) = (rest ≡ []) × (now ≡ Some [])
-ReadsCount rest now (Ok (Some count)) = SomeTaken rest now (λ taken. IsUnsigned count.value taken × (length taken ≡ count.length))
-ReadsCount rest now (Err (fault.Refused r)) = (rest ≢ []) × NoCount rest
-ReadsCount rest now (Err fault.Read) = SomeTaken rest now NoCount
-ReadsCount rest now (Err fault.Memory) = ⊥
-ReadsCount rest now (Err fault.Failed) = ⊥
+-- descriptions are spelled as in the base table
+pub record HasWireType (T : Table) : Type 0 where
+  pub more : Table
+  pub grown : T ≡ base_table ++ more
 
--- the limits allow an item with this count at the offset
-pub record Allows (L : Bounds) (offset : ℕ) (count : Count) : Type 0 where
-  pub item : count.value ≤ L.item
-  pub stream : offset + count.length + count.value ≤ L.stream
+-- a fault of the description that this part of the stream is
+abbrev pub shape_fault : Extent → ShapeFault → Fault
+shape_fault rest shape.KindCount = fault.Refused (refuses rest.begin rest.end reason.KindCount)
+shape_fault rest shape.WrongId = fault.Refused (refuses rest.begin rest.end reason.WrongId)
+shape_fault rest shape.BadReference = fault.Refused (refuses rest.begin rest.end reason.BadReference)
+shape_fault rest shape.BadLength = fault.Refused (refuses rest.begin rest.end reason.BadLength)
+shape_fault rest shape.Memory = fault.Memory
 
--- what reading so many bytes answers, or those up to the end of the input
-abbrev pub ReadsBytes : ℕ → List ℕ → Option (List ℕ) → Result (Vec ℕ) Fault → Type 0
-ReadsBytes size rest now (Ok body) = SomeTaken rest now (λ taken. taken ≡ body.items) × (vec_len body < size → now ≡ Some [])
-ReadsBytes size rest now (Err (fault.Refused r)) = ⊥
-ReadsBytes size rest now (Err fault.Read) = SomeTaken rest now (λ taken. length taken < size)
-ReadsBytes size rest now (Err fault.Memory) = Unit {0}
-ReadsBytes size rest now (Err fault.Failed) = ⊥
+-- what defining a type by its description answers
+pub data Defines (rest : Extent) (id : TypeId) (v : Tree) (T : Table) : Table → Result (Unit {0}) Fault → Type 0 where
+  defined : {s : Shape} {U : Table} → Describes id v s → U ≡ T ++ (id, s) ∷ [] → Defines rest id v T U (Ok tt)
+  described_wrongly : {r : Reason} {U : Table} → Misdescribes id v r → U ≡ T → Defines rest id v T U (Err (fault.Refused (refuses rest.begin rest.end r)))
+  no_memory_to_define : {U : Table} → U ≡ T → Defines rest id v T U (Err fault.Memory)
 
--- the bytes are the item at this offset of the stream
-abbrev pub IsItemAt : Bounds → ℕ → StreamItem → List ℕ → Type 0
-IsItemAt L offset i bytes = Counted readable_types (readable L) readable_types offset i bytes readable_types
+-- what became of a piece behind the bytes z of an item that begins at the offset, where the types were those of T; the
+-- second table is the one behind it
+pub data StepsOn {X O : Type 0} (stands : Standing X) (trees : Standing TreeBuilder) (means : O → Tree → Type 0) (L : Bounds) (T : Table) (offset : ℕ) (z piece : List ℕ) : Table → Result (Stepped X O) Fault → Type 0 where
+  goes_on : {awaits : Stage X O} {U : Table} {used : ℕ} → U ≡ T → used ≤ length piece → StandsIn stands trees L T offset awaits (z ++ take used piece)
+      → StepsOn stands trees means L T offset z piece U (Ok (record { used = used; stage = awaits; item = None }))
+  gives : {given : declared.Item O} {i : StreamItem} {U : Table} {used next : ℕ} → used ≤ length piece → Counted base_table L T offset i (z ++ take used piece) U
+      → ItemMeans means given i → next ≡ offset + length (z ++ take used piece)
+      → StepsOn stands trees means L T offset z piece U (Ok (record { used = used; stage = stage.Count next []; item = Some given }))
+  refuses_it : {R : Refusal} {U : Table} → RefusesNext base_table L T offset (z ++ piece) R → R.reason ≢ reason.Ended
+      → StepsOn stands trees means L T offset z piece U (Err (fault.Refused R))
+  no_memory : {U : Table} → StepsOn stands trees means L T offset z piece U (Err fault.Memory)
 
--- no item begins the bytes
-abbrev pub NoItem : Bounds → ℕ → List ℕ → Type 0
-NoItem L offset bytes = (i : StreamItem) → NoFront (IsItemAt L offset i) bytes
+-- what is known of the types of a stream under the limits
+pub record AreTypes (L : Bounds) (d : Defined) : Type 0 where
+  pub base : HasWireType (types d)
+  pub most : d.most ≡ L.types
 
--- what reading the item at this offset answers
-abbrev pub ReadsItem : Bounds → ℕ → List ℕ → Option (List ℕ) → Result (Option Next) Fault → Type 0
-ReadsItem L offset rest now (Ok None) = (rest ≡ []) × (now ≡ Some [])
-ReadsItem L offset rest now (Ok (Some next)) =
-    SomeTaken rest now (λ taken. IsItemAt L offset (item_view next.item) taken × (next.end ≡ offset + length taken))
-ReadsItem L offset rest now (Err (fault.Refused r)) = (rest ≢ []) × NoItem L offset rest
-ReadsItem L offset rest now (Err fault.Read) = SomeTaken rest now (NoItem L offset)
-ReadsItem L offset rest now (Err fault.Memory) = Unit {0}
-ReadsItem L offset rest now (Err fault.Failed) = ⊥
+-- what asking for leave to define answers
+pub data MaybeDefines (L : Bounds) (T : Table) (id : TypeId) (place seen : ℕ) : Result (Unit {0}) Refusal → Type 0 where
+  may_define : MayDefine base_table L T id → MaybeDefines L T id place seen (Ok tt)
+  may_not : {r : Reason} → RefusesId base_table L T id r → MaybeDefines L T id place seen (Err (refuses place seen r))
 
--- how many bytes are taken: one, or none at the end of the input and before a failed read
-abbrev pub TakesByte : (taken taken' : ℕ) → Result (Option ℕ) Fault → Type 0
-TakesByte taken taken' (Ok None) = taken' ≡ taken
-TakesByte taken taken' (Ok (Some b)) = taken' ≡ counts_up taken 1
-TakesByte taken taken' (Err e) = (e ≡ fault.Read) × (taken' ≡ taken)
+-- what asking for leave to give a value answers
+pub data MaybePuts (T : Table) (t : TypeId) (place seen : ℕ) : Result (Unit {0}) Fault → Type 0 where
+  may_put : MayPut T t → MaybePuts T t place seen (Ok tt)
+  may_not_put : {r : Reason} → RefusesType T t r → MaybePuts T t place seen (Err (fault.Refused (refuses place seen r)))
+  no_memory_to_ask : MaybePuts T t place seen (Err fault.Memory)
 
--- of a count of one to nine bytes those, and nine at most before a fault
-abbrev pub TakesCount : (taken taken' : ℕ) → Result (Option Count) Fault → Type 0
-TakesCount taken taken' (Ok None) = taken' ≡ taken
-TakesCount taken taken' (Ok (Some count)) = (taken' ≡ counts_up taken count.length) × (0 < count.length) × (count.length ≤ 9)
-TakesCount taken taken' (Err e) = taken' ≤ taken + 9
+-- the front of the piece was taken, one byte at least, and an item is whole with it or not
+pub data AdvancesOver {X O : Type 0} (stands : Standing X) (trees : Standing TreeBuilder) (means : O → Tree → Type 0) (most : ℕ) (s' : Reading X O) (items : List StreamItem) (bytes piece : List ℕ) : ℕ → Option (declared.Item O) → Type 0 where
+  over_some : {used : ℕ} → 0 < used → used ≤ length piece → StandsAfter stands trees most s' items (bytes ++ take used piece)
+      → AdvancesOver stands trees means most s' items bytes piece used None
+  over_item : {used : ℕ} {given : declared.Item O} {i : StreamItem} → 0 < used → used ≤ length piece → ItemMeans means given i
+      → StandsAfter stands trees most s' (items ++ i ∷ []) (bytes ++ take used piece) → AdvancesOver stands trees means most s' items bytes piece used (Some given)
 
--- of a body its bytes
-abbrev pub TakesBytes : ℕ → (taken taken' : ℕ) → Result (Vec ℕ) Fault → Type 0
-TakesBytes size taken taken' (Ok body) = taken' ≡ counts_up taken (vec_len body)
-TakesBytes size taken taken' (Err e) = taken' ≤ taken + size
+-- what a step over the front of a piece answers, behind these bytes, of which the items were given
+abbrev pub Advances : {X O : Type 0} → (stands : Standing X) (trees : Standing TreeBuilder) (means : O → Tree → Type 0) (most : ℕ) (s s' : Reading X O) → List StreamItem → (bytes piece : List ℕ) → Result (Step O) Fault → Type 0
+Advances stands trees means most s s' items bytes piece (Ok step) = AdvancesOver stands trees means most s' items bytes piece step.used step.item
+Advances stands trees means most s s' items bytes piece (Err (fault.Refused R)) = IsShown (no_deeper most s.limits) (bytes ++ piece) items R
+Advances stands trees means most s s' items bytes piece (Err fault.Memory) = Unit {0}
+Advances stands trees means most s s' items bytes piece (Err _) = ⊥
 
--- of an item those up to its end, and no more than the limit and a count before a fault
-abbrev pub TakesItem : Bounds → ℕ → (taken taken' : ℕ) → Result (Option Next) Fault → Type 0
-TakesItem L offset taken taken' (Ok None) = taken' ≡ taken
-TakesItem L offset taken taken' (Ok (Some next)) = (taken' ≡ counts_up taken (next.end - offset)) × (offset < next.end) × (next.end ≤ L.stream)
-TakesItem L offset taken taken' (Err e) = taken' ≤ taken + (L.stream - offset) + 9
+-- the type number goes on where the body does
+pub data GoesOnIn {X O : Type 0} (body : Extent) (taken : ℕ) (number : List ℕ) (used : ℕ) : Result (Stepped X O) Fault → Type 0 where
+  more_of_it : taken < body.end → GoesOnIn body taken number used (Ok (record { used = used; stage = stage.TypeNumber body number; item = None }))
+  ends_there : taken ≡ body.end → GoesOnIn body taken number used (Err (fault.Refused (refuses body.end body.end reason.Short)))
+
+-- a table's reason to refuse the definition of an id
+abbrev pub define_reason : TypeId → DefineFault → Reason
+define_reason id define.ReservedType = reason.ReservedType id
+define_reason id define.DefinedTwice = reason.DefinedTwice id
+define_reason id define.TooManyTypes = reason.TooManyTypes
+define_reason id define.Memory = reason.TooManyTypes
+
+-- why a type isn't ready, as a fault of the type number at the place
+abbrev pub ready_fault : (place seen : ℕ) → NotReady → Fault
+ready_fault place seen (unready.UndefinedType u) = fault.Refused (refuses place seen (reason.UndefinedType u))
+ready_fault place seen (unready.Bottomless u) = fault.Refused (refuses place seen (reason.Bottomless u))
+ready_fault place seen unready.Memory = fault.Memory

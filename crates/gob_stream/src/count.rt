@@ -1,110 +1,88 @@
 //! The count at which an item begins.
 
-ghost use Rattle.std.specs.Prelude.{◌≡◌, ℕ, ◌+◌, ◌^◌, ◌<◌, ◌≤◌, List, Some, None, MatchResult};
-ghost use Rattle.gob_stream.specs.Bounds.{AreLimits, greatest_stream};
-ghost use Rattle.gob_stream.specs.Reading.{CountsReads};
-ghost use Rattle.gob_stream.specs.ReadParts.{ReadsByte, TakesByte, ReadsCount, TakesCount, Allows, IsRefused};
+ghost use Rattle.std.specs.Prelude.{◌≡◌, ℕ, ◌+◌, ◌<◌, ◌≤◌, ◌++◌, [], List, Ok, Err, MatchResult, length};
+ghost use Rattle.gob_num.specs.Unsigned.{IsUnsigned, IsUnsignedFront};
+ghost use Rattle.gob_types.specs.Base.{base_table};
+ghost use Rattle.gob_read.specs.Telling.{Telling};
+ghost use Rattle.gob_stream.specs.Bounds.{greatest_stream};
+ghost use Rattle.gob_stream.specs.Refusing.{RefusesCount, refuses};
+ghost use Rattle.gob_stream.specs.ReadParts.{CountSteps, JudgesCount};
 
-use crate::fault::{Fault, Refusal};
-use crate::input::Input;
+use crate::fault::Refusal;
 use crate::limits::Limits;
-use gob_num::{Number, Step};
+use crate::stage::{Extent, Stage, Stepped};
+use gob_num::{Number, Taken};
+use gob_read::Builder;
 use gob_types::Reason;
-use std::io::Read;
 
-/// The count of an item.
-#[derive(Clone, Copy)]
-pub(crate) struct Count {
-    /// How many bytes the item's body has.
-    pub value: u64,
-    /// How many bytes spell that.
-    pub length: u64,
-}
-
-/// The next byte, or None at the end of the input.
-pub(crate) fn take_byte<R: Read>(input: &mut Input<R>) -> Result<Option<u8>, Fault>
-    ensures read { (rest : List ℕ) → R.remaining input.old.reader ≡ Some rest
-        → ReadsByte rest (R.remaining input.new.reader) result }
-    ensures failures { CountsReads input.old.failures input.new.failures result }
-    ensures taken { TakesByte input.old.taken input.new.taken result }
+/// Takes bytes of the count of the item that begins at this offset, of which the number has the bytes before the
+/// offset `taken`.
+pub(crate) fn take_count<B: Builder>(
+    limits: Limits,
+    begin: u64,
+    taken: u64,
+    mut number: Number,
+    piece: &[u8],
+) -> Result<Stepped<B>, Refusal>
+    requires offset { begin ≤ greatest_stream }
+    requires taken { taken ≡ begin + length number }
+    requires front { IsUnsignedFront number }
+    ensures { CountSteps limits begin number piece.now result }
 {
-    let mut byte = [0u8; 1];
-    match input.read(&mut byte) {
-        Ok(0) => Ok(None),
-        Ok(_) => Ok(Some(byte[0])),
-        Err(_) => Err(Fault::Read),
+    match number.take(piece) {
+        Taken::More => Ok(Stepped {
+            used: piece.len(),
+            stage: Stage::Count { begin, number },
+            item: None,
+        }),
+        Taken::Whole {
+            number: count,
+            used,
+        } => match body_of(limits, begin, taken + used as u64, count) {
+            Ok(body) => Ok(Stepped {
+                used,
+                stage: Stage::TypeNumber { body, number },
+                item: None,
+            }),
+            Err(refusal) => Err(refusal),
+        },
+        Taken::BadHead => Err(refusal(begin, begin + 1, Reason::BadHead)),
+        Taken::NotMinimal => Err(refusal(begin, begin + 2, Reason::NotMinimal)),
     }
 }
 
-/// Reads the count at this offset of the stream, and no byte behind it. None at the end of the input, which is
-/// then the end of the stream.
-pub(crate) fn read_count<R: Read>(input: &mut Input<R>, offset: u64) -> Result<Option<Count>, Fault>
-    requires { offset ≤ greatest_stream }
-    ensures read { (rest : List ℕ) → R.remaining input.old.reader ≡ Some rest
-        → ReadsCount rest (R.remaining input.new.reader) result }
-    ensures failures { CountsReads input.old.failures input.new.failures result }
-    ensures taken { TakesCount input.old.taken input.new.taken result }
+/// The body of so many bytes behind the count from `begin` to `end`, where the limits allow the item.
+pub(crate) fn body_of(
+    limits: Limits,
+    begin: u64,
+    end: u64,
+    count: u64,
+) -> Result<Extent, Refusal>
+    ensures { JudgesCount limits begin end count result }
 {
-    let mut number = Number::new();
-    let mut length = 0;
-    loop {
-        let Some(byte) = take_byte(input)? else {
-            return at_end(offset, length);
-        };
-        length += 1;
-        let reason = match number.push(byte) {
-            Step::More => continue,
-            Step::Done(value) => return Ok(Some(Count { value, length })),
-            Step::BadHead => Reason::BadHead,
-            Step::NotMinimal => Reason::NotMinimal,
-        };
-        return Err(Fault::Refused(Refusal {
-            place: offset,
-            seen: offset + length,
-            reason,
-        }));
-    }
-}
-
-// What the end of the input is behind so many bytes of a count.
-fn at_end(offset: u64, length: u64) -> Result<Option<Count>, Fault>
-    requires { offset + length < 2 ^ 64 }
-    ensures { MatchResult result
-        (λ count. (length ≡ 0) × (count ≡ None))
-        (λ fault. (0 < length) × IsRefused fault) }
-{
-    if length == 0 {
-        return Ok(None);
-    }
-    let end = offset + length;
-    Err(Fault::Refused(Refusal {
-        place: end,
-        seen: end,
-        reason: Reason::Ended,
-    }))
-}
-
-/// The offset at which the body begins, for a count at this offset, where the limits allow the item.
-pub(crate) fn body_offset(limits: Limits, offset: u64, count: Count) -> Result<u64, Refusal>
-    requires offset { offset ≤ greatest_stream }
-    requires length { count.length ≤ 9 }
-    ensures limits { AreLimits limits }
-    ensures begin { MatchResult result
-        (λ begin. (begin ≡ offset + count.length) × Allows limits offset count)
-        (λ _. ¬ Allows limits offset count) }
-{
-    let begin = offset + count.length;
     let stream = limits.stream();
-    let reason = if count.value > limits.item() {
-        Reason::ItemTooLong
-    } else if begin > stream || count.value > stream - begin {
-        Reason::StreamTooLong
-    } else {
-        return Ok(begin);
-    };
-    Err(Refusal {
-        place: offset,
-        seen: begin,
-        reason,
+    if count > limits.item() {
+        return Err(refusal(begin, end, Reason::ItemTooLong));
+    }
+    if end > stream || count > stream - end {
+        return Err(refusal(begin, end, Reason::StreamTooLong));
+    }
+    if count == 0 {
+        return Err(refusal(end, end, Reason::Short));
+    }
+    Ok(Extent {
+        begin: end,
+        end: end + count,
     })
+}
+
+/// A refusal of what stands at the place, shown by so many bytes of the stream.
+pub(crate) fn refusal(place: u64, seen: u64, reason: Reason) -> Refusal
+    ensures { result ≡ refuses place seen reason }
+{
+    Refusal {
+        place,
+        seen,
+        reason,
+    }
 }

@@ -1,7 +1,7 @@
 //! Laws of streams. Each function does nothing: its contract is a law that is proved here, once.
 
 ghost use Rattle.gob_stream.specs.Laws.{HaveOneReading, BeginOneAnother, GiveOneList};
-ghost use Rattle.gob_stream.specs.Laws.{StayStreams};
+ghost use Rattle.gob_stream.specs.Laws.{StayStreams, HaveOneOutcome, RefuseNoItem};
 ghost use Rattle.gob_stream.specs.WriterRefusal.{HaveOneReason, AreNotCounted};
 
 /// A stream has one list of items, and one table of types behind it.
@@ -25,4 +25,14 @@ pub fn streams_stay()
 pub fn one_refusal()
     ensures reason { HaveOneReason }
     ensures not_counted { AreNotCounted }
+{}
+
+/// Bytes have one outcome: one list of items, and behind these one ending.
+pub fn bytes_have_one_outcome()
+    ensures { HaveOneOutcome }
+{}
+
+/// What is refused behind a stream is no item there.
+pub fn refused_bytes_are_no_item()
+    ensures { RefuseNoItem }
 {}

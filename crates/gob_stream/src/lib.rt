@@ -13,18 +13,21 @@
 //! Both keep to `Limits`, and both say where a stream stands: a `Refusal` names the first refused byte and why.
 #![tactic(auto)]
 
+mod body;
 mod count;
 mod fault;
 mod input;
 mod item;
-mod judge;
 pub mod laws;
 mod limits;
 mod output;
 mod read;
+mod reading;
 mod send;
 mod session;
 mod spelled;
+mod stage;
+mod type_number;
 mod writer;
 mod writing;
 

@@ -1,119 +1,77 @@
-//! The rows of docs/FORMAT.md on reading, and readers that fail, never end, or give a byte at a time.
+//! The rows of docs/FORMAT.md on reading, in pieces of any lengths, and readers that fail, never end, or give a byte at
+//! a time.
 
 use super::*;
-use gob_types::{Reason, TypeId};
-use gob_value::Value;
+use gob_num::{Memory, write_int, write_uint};
+use gob_read::TreeBuilder;
+use gob_types::{Reason, Table, TypeId};
+use gob_value::{Value, spell};
+use std::alloc::Global;
 use std::io;
 use std::io::{ErrorKind, Read};
 use std::process::Abort;
 use std::test::*;
 
-// A basic value, to compare with.
-enum Want {
-    Bool(bool),
-    Int(i64),
-    Uint(u64),
-    Float(u64),
-    Complex(u64, u64),
-    Bytes(&'static [u8]),
-    Str(&'static [u8]),
-}
-
-// Whole streams, with the type and the value of their items.
-const WHOLE: [(&[u8], &[(u64, Want)]); 11] = [
-    (&[], &[]),
-    (&[0x03, 0x04, 0x00, 0x06], &[(2, Want::Int(3))]),
-    (
-        &[0x03, 0x04, 0x00, 0x06, 0x03, 0x02, 0x00, 0x01],
-        &[(2, Want::Int(3)), (1, Want::Bool(true))],
-    ),
-    (
-        &[
-            0x0b, 0x04, 0x00, 0xf8, 0xff, 0xff, 0xff, 0xff, 0xff, 0xff, 0xff, 0xff,
-        ],
-        &[(2, Want::Int(i64::MIN))],
-    ),
-    (
-        &[0x05, 0x08, 0x00, 0xfe, 0x31, 0x40],
-        &[(4, Want::Float(0x4031_0000_0000_0000))],
-    ),
-    (
-        &[0x06, 0x0e, 0x00, 0xfe, 0x31, 0x40, 0x00],
-        &[(7, Want::Complex(0x4031_0000_0000_0000, 0))],
-    ),
-    (&[0x04, 0x0c, 0x00, 0x01, 0xff], &[(6, Want::Str(&[0xff]))]),
-    (
-        &[0x05, 0x0a, 0x00, 0x02, 0x00, 0xff],
-        &[(5, Want::Bytes(&[0x00, 0xff]))],
-    ),
-    (&[0x03, 0x02, 0x00, 0x00], &[(1, Want::Bool(false))]),
-    (&[0x03, 0x06, 0x00, 0x07], &[(3, Want::Uint(7))]),
-    (&[0x03, 0x0a, 0x00, 0x00], &[(5, Want::Bytes(&[]))]),
+// Streams under the standard limits: how many items they begin with, and what is refused behind them.
+const ROWS: [(&str, &[u8], u64, Option<Refusal>); 50] = [
+    ("nothing", b"", 0, None),
+    ("an int", b"\x03\x04\x00\x06", 1, None),
+    ("a struct and a value", b"\x1f\xff\x81\x03\x01\x01\x05\x50\x6f\x69\x6e\x74\x01\xff\x82\x00\x01\x02\x01\x01\x58\x01\x04\x00\x01\x01\x59\x01\x04\x00\x00\x00\x07\xff\x82\x01\x2c\x01\x42\x00", 2, None),
+    ("two values", b"\x1f\xff\x81\x03\x01\x01\x05\x50\x6f\x69\x6e\x74\x01\xff\x82\x00\x01\x02\x01\x01\x58\x01\x04\x00\x01\x01\x59\x01\x04\x00\x00\x00\x07\xff\x82\x01\x2c\x01\x42\x00\x07\xff\x82\x01\x2c\x01\x42\x00", 3, None),
+    ("a struct that names itself", b"\x22\xff\x81\x03\x01\x01\x04\x4e\x6f\x64\x65\x01\xff\x82\x00\x01\x02\x01\x01\x56\x01\x04\x00\x01\x04\x4e\x65\x78\x74\x01\xff\x82\x00\x00\x00\x09\xff\x82\x01\x02\x01\x01\x04\x00\x00", 2, None),
+    ("a map with a key twice", b"\x0e\xff\x81\x04\x01\x02\xff\x82\x00\x01\x0c\x01\x04\x00\x00\x0a\xff\x82\x00\x02\x01\x61\x02\x01\x61\x04", 2, None),
+    ("the least int", b"\x0b\x04\x00\xf8\xff\xff\xff\xff\xff\xff\xff\xff", 1, None),
+    ("a digit too many", b"\x04\x04\x00\xff\x7f", 0, Some(Refusal { place: 3, seen: 5, reason: Reason::NotMinimal })),
+    ("the same before the end", b"\x09\x04\x00\xff\x7f", 0, Some(Refusal { place: 3, seen: 5, reason: Reason::NotMinimal })),
+    ("bytes behind a value", b"\x04\x04\x00\x06\x00", 0, Some(Refusal { place: 4, seen: 4, reason: Reason::Extra })),
+    ("announced behind a value", b"\x04\x04\x00\x06", 0, Some(Refusal { place: 4, seen: 4, reason: Reason::Extra })),
+    ("an empty body", b"\x00", 0, Some(Refusal { place: 1, seen: 1, reason: Reason::Short })),
+    ("a value cut off", b"\x03\x04\x00\xff", 0, Some(Refusal { place: 4, seen: 4, reason: Reason::Short })),
+    ("a long string announced", b"\x0b\x0c\x00\xf8\xff\xff\xff\xff\xff\xff\xff\xff", 0, Some(Refusal { place: 12, seen: 12, reason: Reason::Short })),
+    ("no such type", b"\x03\xff\x82\x00", 0, Some(Refusal { place: 1, seen: 3, reason: Reason::UndefinedType(TypeId(65)) })),
+    ("no such type, nothing behind", b"\x02\xff\x82", 0, Some(Refusal { place: 1, seen: 3, reason: Reason::UndefinedType(TypeId(65)) })),
+    ("a field of no type", b"\x16\xff\x81\x03\x01\x01\x01\x53\x01\xff\x82\x00\x01\x01\x01\x01\x41\x01\xff\x84\x00\x00\x00\x07\xff\x82\x01\x02\x02\x04\x00", 1, Some(Refusal { place: 24, seen: 26, reason: Reason::UndefinedType(TypeId(66)) })),
+    ("types in any order", b"\x16\xff\x81\x03\x01\x01\x01\x53\x01\xff\x82\x00\x01\x01\x01\x01\x41\x01\xff\x84\x00\x00\x00\x0c\xff\x83\x02\x01\x02\xff\x84\x00\x01\x04\x00\x00\x07\xff\x82\x01\x02\x02\x04\x00", 3, None),
+    ("defined twice", b"\x1f\xff\x81\x03\x01\x01\x05\x50\x6f\x69\x6e\x74\x01\xff\x82\x00\x01\x02\x01\x01\x58\x01\x04\x00\x01\x01\x59\x01\x04\x00\x00\x00\x1f\xff\x81\x03\x01\x01\x05\x50\x6f\x69\x6e\x74\x01\xff\x82\x00\x01\x02\x01\x01\x58\x01\x04\x00\x01\x01\x59\x01\x04\x00\x00\x00", 1, Some(Refusal { place: 33, seen: 35, reason: Reason::DefinedTwice(TypeId(65)) })),
+    ("no such field", b"\x1f\xff\x81\x03\x01\x01\x05\x50\x6f\x69\x6e\x74\x01\xff\x82\x00\x01\x02\x01\x01\x58\x01\x04\x00\x01\x01\x59\x01\x04\x00\x00\x00\x07\xff\x82\x01\x2c\x02\x42\x00", 1, Some(Refusal { place: 37, seen: 38, reason: Reason::FieldNumber })),
+    ("an array of itself", b"\x0f\xff\x81\x01\x01\x02\xff\x82\x00\x01\xff\x82\x01\x02\x00\x00\x05\xff\x82\x00\x01\x01", 1, Some(Refusal { place: 17, seen: 19, reason: Reason::Bottomless(TypeId(65)) })),
+    ("an opaque type", b"\x10\xff\x81\x05\x01\x01\x04\x54\x69\x6d\x65\x01\xff\x82\x00\x00\x00\x06\xff\x82\x00\x02\x0a\x0b", 2, None),
+    ("another kind of opaque type", b"\x10\xff\x81\x07\x01\x01\x04\x54\x69\x6d\x65\x01\xff\x82\x00\x00\x00\x06\xff\x82\x00\x02\x0a\x0b", 0, Some(Refusal { place: 3, seen: 4, reason: Reason::FieldNumber })),
+    ("the least own id", b"\x0b\x7f\x02\x01\x02\xff\x80\x00\x01\x04\x00\x00", 1, None),
+    ("a reserved id", b"\x02\x7d\x00", 0, Some(Refusal { place: 1, seen: 2, reason: Reason::ReservedType(TypeId(63)) })),
+    ("a bool of 2", b"\x03\x02\x00\x02", 0, Some(Refusal { place: 3, seen: 4, reason: Reason::Bool })),
+    ("a bool of 128", b"\x04\x02\x00\xff\x80", 0, Some(Refusal { place: 3, seen: 5, reason: Reason::Bool })),
+    ("a tag of 1", b"\x03\x04\x01\x06", 0, Some(Refusal { place: 2, seen: 3, reason: Reason::SingleTag })),
+    ("a value item cut off", b"\x1f\xff\x81\x03\x01\x01\x05\x50\x6f\x69\x6e\x74\x01\xff\x82\x00\x01\x02\x01\x01\x58\x01\x04\x00\x01\x01\x59\x01\x04\x00\x00\x00\x07\xff\x82\x01", 1, Some(Refusal { place: 36, seen: 36, reason: Reason::Ended })),
+    ("a float", b"\x05\x08\x00\xfe\x31\x40", 1, None),
+    ("a complex number", b"\x06\x0e\x00\xfe\x31\x40\x00", 1, None),
+    ("text that is no UTF-8", b"\x04\x0c\x00\x01\xff", 1, None),
+    ("bytes", b"\x05\x0a\x00\x02\x00\xff", 1, None),
+    ("a zero that is present", b"\x1f\xff\x81\x03\x01\x01\x05\x50\x6f\x69\x6e\x74\x01\xff\x82\x00\x01\x02\x01\x01\x58\x01\x04\x00\x01\x01\x59\x01\x04\x00\x00\x00\x07\xff\x82\x01\x00\x01\x42\x00", 2, None),
+    ("nil", b"\x03\x10\x00\x00", 1, None),
+    ("an interface", b"\x06\x10\x00\x03\x69\x6e\x74", 0, Some(Refusal { place: 3, seen: 4, reason: Reason::InterfaceValue })),
+    ("a bad head", b"\xf7", 0, Some(Refusal { place: 0, seen: 1, reason: Reason::BadHead })),
+    ("a bad head in a body", b"\x02\x80\x00", 0, Some(Refusal { place: 1, seen: 2, reason: Reason::BadHead })),
+    ("an item too long", b"\xfc\x04\x00\x00\x01", 0, Some(Refusal { place: 0, seen: 5, reason: Reason::ItemTooLong })),
+    ("no kind", b"\x03\xff\x81\x00", 0, Some(Refusal { place: 3, seen: 4, reason: Reason::KindCount })),
+    ("more behind a description", b"\x04\xff\x81\x00\x00", 0, Some(Refusal { place: 4, seen: 4, reason: Reason::Extra })),
+    ("another id", b"\x0c\xff\x81\x02\x01\x02\xff\x84\x00\x01\x04\x00\x00", 0, Some(Refusal { place: 3, seen: 13, reason: Reason::WrongId })),
+    ("a reference to nothing", b"\x0a\xff\x81\x02\x01\x02\xff\x82\x00\x00\x00", 0, Some(Refusal { place: 3, seen: 11, reason: Reason::BadReference })),
+    ("a length below 0", b"\x0e\xff\x81\x01\x01\x02\xff\x82\x00\x01\x04\x01\x01\x00\x00", 0, Some(Refusal { place: 3, seen: 15, reason: Reason::BadLength })),
+    ("an array of 2 with 1", b"\x0e\xff\x81\x01\x01\x02\xff\x82\x00\x01\x04\x01\x04\x00\x00\x05\xff\x82\x00\x01\x06", 1, Some(Refusal { place: 19, seen: 20, reason: Reason::ArrayCount })),
+    ("an array of 2", b"\x0e\xff\x81\x01\x01\x02\xff\x82\x00\x01\x04\x01\x04\x00\x00\x06\xff\x82\x00\x02\x02\x04", 2, None),
+    ("a struct of nothing", b"\x0d\xff\x81\x03\x01\x01\x01\x45\x01\xff\x82\x00\x00\x00\x03\xff\x82\x00", 2, None),
+    ("type 0", b"\x02\x00\x00", 0, Some(Refusal { place: 1, seen: 2, reason: Reason::UndefinedType(TypeId(0)) })),
+    ("type 24", b"\x02\x30\x00", 0, Some(Refusal { place: 1, seen: 2, reason: Reason::UndefinedType(TypeId(24)) })),
+    ("a type number cut off", b"\x01\xff", 0, Some(Refusal { place: 2, seen: 2, reason: Reason::Short })),
 ];
 
-// No streams, with the reason, its place, and how many bytes show it.
-const REFUSED: [(&[u8], Reason, u64, u64); 22] = [
-    (&[0x04, 0x04, 0x00, 0xff, 0x7f], Reason::NotMinimal, 3, 5),
-    (&[0x09, 0x04, 0x00, 0xff, 0x7f], Reason::NotMinimal, 3, 5),
-    (&[0x04, 0x04, 0x00, 0x06, 0x00], Reason::Extra, 4, 4),
-    (&[0x04, 0x04, 0x00, 0x06], Reason::Extra, 4, 4),
-    (&[0x00], Reason::Short, 1, 1),
-    (&[0x03, 0x04, 0x00, 0xff], Reason::Short, 4, 4),
-    (
-        &[
-            0x0b, 0x0c, 0x00, 0xf8, 0xff, 0xff, 0xff, 0xff, 0xff, 0xff, 0xff, 0xff,
-        ],
-        Reason::Short,
-        12,
-        12,
-    ),
-    (
-        &[0x03, 0xff, 0x82, 0x00],
-        Reason::UndefinedType(TypeId(65)),
-        1,
-        3,
-    ),
-    (&[0x02, 0xff, 0x82], Reason::UndefinedType(TypeId(65)), 1, 3),
-    (&[0x02, 0x00, 0x00], Reason::UndefinedType(TypeId(0)), 1, 2),
-    (&[0x02, 0x30, 0x00], Reason::UndefinedType(TypeId(24)), 1, 2),
-    (&[0x02, 0x7d, 0x00], Reason::ReservedType(TypeId(63)), 1, 2),
-    (&[0x03, 0x02, 0x00, 0x02], Reason::Bool, 3, 4),
-    (&[0x04, 0x02, 0x00, 0xff, 0x80], Reason::Bool, 3, 5),
-    (&[0x03, 0x04, 0x01, 0x06], Reason::SingleTag, 2, 3),
-    (&[0xf7], Reason::BadHead, 0, 1),
-    (&[0x02, 0x80, 0x00], Reason::BadHead, 1, 2),
-    (&[0xfc, 0x04, 0x00, 0x00, 0x01], Reason::ItemTooLong, 0, 5),
-    (&[0xff], Reason::Ended, 1, 1),
-    (&[0x03], Reason::Ended, 1, 1),
-    (&[0x03, 0x04, 0x00], Reason::Ended, 3, 3),
-    (&[0x04, 0x0c, 0x00, 0x02, 0x61], Reason::Short, 5, 5),
+// Streams under a depth limit of 5.
+const DEEP: [(&str, &[u8], u64, Option<Refusal>); 3] = [
+    ("depth 5", b"\x0d\xff\x81\x02\x01\x02\xff\x82\x00\x01\xff\x82\x00\x00\x08\xff\x82\x00\x01\x01\x01\x01\x00", 2, None),
+    ("depth 6", b"\x0d\xff\x81\x02\x01\x02\xff\x82\x00\x01\xff\x82\x00\x00\x09\xff\x82\x00\x01\x01\x01\x01\x01\x00", 1, Some(Refusal { place: 23, seen: 23, reason: Reason::TooDeep })),
+    ("depth 6, shown before the end", b"\x0d\xff\x81\x02\x01\x02\xff\x82\x00\x01\xff\x82\x00\x00\x08\xff\x82\x00\x01\x01\x01\x01\x01", 1, Some(Refusal { place: 23, seen: 23, reason: Reason::TooDeep })),
 ];
-
-// Whether the item is a value of the type, this one.
-fn is_put(item: &Item<Value>, want: &(u64, Want)) -> bool {
-    match item {
-        Item::Put { id, value } => id.0 == want.0 && is_value(value, &want.1),
-        Item::Define { .. } => false,
-    }
-}
-
-fn is_value(value: &Value, want: &Want) -> bool {
-    match (value, want) {
-        (Value::Bool(a), Want::Bool(b)) => *a == *b,
-        (Value::Int(a), Want::Int(b)) => *a == *b,
-        (Value::Uint(a), Want::Uint(b)) => *a == *b,
-        (Value::Float(a), Want::Float(b)) => *a == *b,
-        (Value::Complex(a, b), Want::Complex(c, d)) => *a == *c && *b == *d,
-        (Value::Bytes(a), Want::Bytes(b)) => a.as_slice() == *b,
-        (Value::Str(a), Want::Str(b)) => a.as_slice() == *b,
-        _ => false,
-    }
-}
-
-// Whether these are the items wanted, in order.
-fn are_put(items: &[Item<Value>], want: &[(u64, Want)]) -> bool {
-    items.len() == want.len() && items.iter().zip(want).all(|(item, w)| is_put(item, w))
-}
 
 fn refusal(reason: Reason, place: u64, seen: u64) -> Fault {
     Fault::Refused(Refusal {
@@ -121,6 +79,177 @@ fn refusal(reason: Reason, place: u64, seen: u64) -> Fault {
         seen,
         reason,
     })
+}
+
+// What a run gave: the items, their bytes when they are written again, and what stopped it.
+#[derive(Drop)]
+struct Run {
+    items: u64,
+    bytes: Vec<u8>,
+    fault: Option<Fault>,
+}
+
+// Appends the item, written with the types of the table.
+fn write_again(
+    alloc: Global,
+    table: &Table,
+    item: &Item<Value>,
+    out: &mut Vec<u8>,
+) -> Result<(), Fail> {
+    let mut body = Vec::new(alloc);
+    match item {
+        Item::Define { id, described } => {
+            write_int(alloc, -(id.0 as i64), &mut body)?;
+            spell(alloc, table, TypeId(16), described, 1000, &mut body)
+                .map_err(|_| "a description that is read fits")?;
+        }
+        Item::Put { id, value } => {
+            write_int(alloc, id.0 as i64, &mut body)?;
+            if !matches!(value, Value::Fields(_)) {
+                body.push(0)?;
+            }
+            spell(alloc, table, *id, value, 1000, &mut body)
+                .map_err(|_| "a value that is read fits")?;
+        }
+    }
+    write_uint(alloc, body.len() as u64, out)?;
+    out.extend_from_slice(&body)?;
+    Ok(())
+}
+
+fn run_of(
+    alloc: Global,
+    table: &Table,
+    items: &[Item<Value>],
+    fault: Option<Fault>,
+) -> Result<Run, Fail> {
+    let mut bytes = Vec::new(alloc);
+    for item in items {
+        write_again(alloc, table, item, &mut bytes)?;
+    }
+    Ok(Run {
+        items: items.len() as u64,
+        bytes,
+        fault,
+    })
+}
+
+// What a session gives that is fed these pieces.
+fn fed(alloc: Global, limits: Limits, pieces: &[&[u8]]) -> Result<Run, Fail> {
+    let mut session = Session::<TreeBuilder>::new(alloc, limits)?;
+    let mut items = Vec::new(alloc);
+    for piece in pieces {
+        if let Err(fault) = session.feed(alloc, *piece, &mut items) {
+            return run_of(alloc, session.table(), &items, Some(fault));
+        }
+    }
+    let fault = session.finish().err();
+    run_of(alloc, session.table(), &items, fault)
+}
+
+// The same byte by byte.
+fn fed_by_bytes(alloc: Global, limits: Limits, bytes: &[u8]) -> Result<Run, Fail> {
+    let mut session = Session::<TreeBuilder>::new(alloc, limits)?;
+    let mut items = Vec::new(alloc);
+    for i in 0..bytes.len() {
+        if let Err(fault) = session.feed(alloc, &bytes[i..i + 1], &mut items) {
+            let seen = (i + 1) as u64;
+            return match fault {
+                Fault::Refused(refused) if refused.seen == seen => {
+                    run_of(alloc, session.table(), &items, Some(fault))
+                }
+                _ => Err("a refusal comes with the byte that shows it".into()),
+            };
+        }
+    }
+    let fault = session.finish().err();
+    run_of(alloc, session.table(), &items, fault)
+}
+
+// What a session gives that reads item by item.
+fn read_by_items(alloc: Global, limits: Limits, bytes: &[u8]) -> Result<Run, Fail> {
+    let mut session = Session::<TreeBuilder>::new(alloc, limits)?;
+    let mut input = Input::new(bytes);
+    let mut items = Vec::new(alloc);
+    for _ in 0..bytes.len() + 1 {
+        match session.read_item(alloc, &mut input) {
+            Ok(Some(item)) => items.push(item)?,
+            Ok(None) => return run_of(alloc, session.table(), &items, None),
+            Err(fault) => return run_of(alloc, session.table(), &items, Some(fault)),
+        }
+    }
+    Err("there are fewer items than bytes".into())
+}
+
+// Whether a run gave what was wanted of these bytes.
+fn is_wanted(run: &Run, bytes: &[u8], items: u64, refused: &Option<Refusal>) -> bool {
+    let fault = match refused {
+        Some(refusal) => Some(Fault::Refused(*refusal)),
+        None => None,
+    };
+    let again = bytes.get(..run.bytes.len()) == Some(run.bytes.as_slice());
+    let all = fault.is_some() || run.bytes.len() == bytes.len();
+    run.items == items && run.fault == fault && again && all
+}
+
+#[test]
+fn rows_in_any_pieces(rt: HostRuntime) -> Result<(), Fail> {
+    let limits = Limits::standard();
+    for (what, bytes, items, refused) in &ROWS {
+        let run = fed_by_bytes(rt.alloc(), limits, bytes)?;
+        assert!(rt; is_wanted(&run, bytes, *items, refused), "{what}: {:?} {:?}", run.items, run.fault);
+        for cut in 0..bytes.len() + 1 {
+            let run = fed(rt.alloc(), limits, &[&bytes[..cut], &bytes[cut..]])?;
+            assert!(rt; is_wanted(&run, bytes, *items, refused), "{what}, cut at {cut}: {:?} {:?}", run.items, run.fault);
+        }
+    }
+    Ok(())
+}
+
+#[test]
+fn rows_item_by_item(rt: HostRuntime) -> Result<(), Fail> {
+    for (what, bytes, items, refused) in &ROWS {
+        let run = read_by_items(rt.alloc(), Limits::standard(), bytes)?;
+        assert!(rt; is_wanted(&run, bytes, *items, refused), "{what}: {:?} {:?}", run.items, run.fault);
+    }
+    Ok(())
+}
+
+#[test]
+fn deep_rows(rt: HostRuntime) -> Result<(), Fail> {
+    let limits = Limits::new(100, 5, 10, 100).ok_or("limits")?;
+    for (what, bytes, items, refused) in &DEEP {
+        let run = fed_by_bytes(rt.alloc(), limits, bytes)?;
+        assert!(rt; is_wanted(&run, bytes, *items, refused), "{what}: {:?} {:?}", run.items, run.fault);
+        let run = read_by_items(rt.alloc(), limits, bytes)?;
+        assert!(rt; is_wanted(&run, bytes, *items, refused), "{what}: {:?} {:?}", run.items, run.fault);
+    }
+    Ok(())
+}
+
+// Whether the run stopped within an item, at the end of these bytes, or not at all where there are so many.
+fn is_cut(run: &Run, bytes: &[u8]) -> bool {
+    let end = bytes.len() as u64;
+    let wanted = if run.bytes.len() == bytes.len() {
+        None
+    } else {
+        Some(refusal(Reason::Ended, end, end))
+    };
+    run.fault == wanted && bytes.get(..run.bytes.len()) == Some(run.bytes.as_slice())
+}
+
+#[test]
+fn accepted_rows_cut_off(rt: HostRuntime) -> Result<(), Fail> {
+    for (what, bytes, _, refused) in &ROWS {
+        if refused.is_some() {
+            continue;
+        }
+        for cut in 0..bytes.len() {
+            let run = fed(rt.alloc(), Limits::standard(), &[&bytes[..cut]])?;
+            assert!(rt; is_cut(&run, &bytes[..cut]), "{what}, cut off at {cut}: {:?}", run.fault);
+        }
+    }
+    Ok(())
 }
 
 // A reader that gives these bytes over and over.
@@ -172,31 +301,6 @@ impl Read for Failing {
             _ => Ok(0),
         }
     }
-}
-
-#[test]
-fn whole_streams(rt: HostRuntime) -> Result<(), Fail> {
-    for (i, (bytes, want)) in WHOLE.iter().enumerate() {
-        let mut input = Input::new(*bytes);
-        let mut out = Vec::new(rt.alloc());
-        read_stream(rt.alloc(), &mut input, Limits::standard(), &mut out)?;
-        assert!(rt; are_put(&out, want), "row {i}");
-        assert_eq!(rt; input.taken(), bytes.len() as u64, "row {i}");
-        assert_eq!(rt; input.failures(), 0, "row {i}");
-    }
-    Ok(())
-}
-
-#[test]
-fn refused_streams(rt: HostRuntime) -> Result<(), Fail> {
-    for (i, (bytes, reason, place, seen)) in REFUSED.iter().enumerate() {
-        let mut input = Input::new(*bytes);
-        let mut out = Vec::new(rt.alloc());
-        let result = read_stream(rt.alloc(), &mut input, Limits::standard(), &mut out);
-        assert_eq!(rt; result, Err(refusal(*reason, *place, *seen)), "row {i}");
-        assert!(rt; out.is_empty(), "row {i}");
-    }
-    Ok(())
 }
 
 #[test]
@@ -280,7 +384,7 @@ fn read_failing(
         calls: 0,
         at: 0,
     });
-    let mut session = Session::new(rt.alloc(), Limits::standard())?;
+    let mut session = Session::<TreeBuilder>::new(rt.alloc(), Limits::standard())?;
     for items in 0..3 {
         match session.read_item(rt.alloc(), &mut input) {
             Ok(Some(_)) => {}
@@ -325,7 +429,7 @@ fn failing_readers(rt: HostRuntime) -> Result<(), Fail> {
 fn a_fault_is_for_good(rt: HostRuntime) -> Result<(), Fail> {
     let bytes: &'static [u8] = &[0x03, 0x04, 0x01, 0x06, 0x03, 0x04, 0x00, 0x06];
     let mut input = Input::new(bytes);
-    let mut session = Session::new(rt.alloc(), Limits::standard())?;
+    let mut session = Session::<TreeBuilder>::new(rt.alloc(), Limits::standard())?;
     let first = session.read_item(rt.alloc(), &mut input);
     assert!(rt; matches!(first, Err(Fault::Refused(_))));
     let second = session.read_item(rt.alloc(), &mut input);

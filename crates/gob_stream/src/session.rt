@@ -1,74 +1,117 @@
-//! Reading a stream item by item.
-
-ghost use Rattle.std.specs.Prelude.{◌≤◌};
+//! Reading a stream.
 
 use crate::fault::Fault;
 use crate::input::Input;
 use crate::item::Item;
 use crate::limits::Limits;
-use crate::read::read_next;
+use crate::reading::Reading;
+use crate::stage::Stage;
 use gob_num::Memory;
-use gob_value::Value;
+use gob_read::{Builder, TreeBuilder};
+use gob_types::Table;
 use std::alloc::Global;
 use std::io::Read;
 
-/// A reader of one stream, from its first byte on.
+// How many bytes are read at a time, at most.
+const CHUNK: u64 = 1024;
+
+/// A reader of one stream, from its first byte on, that makes of each value what `B` builds.
 #[derive(Drop)]
-pub struct Session {
-    limits: Limits,
-    // Where the next item begins.
-    offset: u64,
-    // Whether it met a fault.
-    failed: bool,
-    ghost within: { offset ≤ limits.stream },
+pub struct Session<B: Builder> {
+    reading: Reading<B>,
 }
 
-impl Session {
-    ghost use Rattle.std.specs.Prelude.{◌≡◌, ℕ, List, [], Some, true, is_err, IfOk};
+impl<B: Builder> Session<B> {
+    ghost use Rattle.std.specs.Prelude.{◌≡◌, ℕ, List, [], Ok, Err, Some, IfOk, OnErr};
+    ghost use Rattle.gob_types.specs.Defined.{types};
     ghost use Rattle.gob_stream.specs.Item.{StreamItem};
-    ghost use Rattle.gob_stream.specs.Reading.{StandsAfter, ReadsNext, TakesNext, CountsReads};
+    ghost use Rattle.gob_stream.specs.Standing.{StandsAfter, IsUsable};
+    ghost use Rattle.gob_stream.specs.Reading.{Given, Feeds, Finishes};
 
-    /// A reader that stands at the beginning of a stream.
-    pub fn new(_alloc: Global, limits: Limits) -> Result<Session, Memory>
-        ensures stands { IfOk result (λ session. StandsAfter session [] []) }
-        ensures limits { IfOk result (λ session. session.limits ≡ limits) }
+    /// A reader that has taken no byte.
+    pub fn new(alloc: Global, limits: Limits) -> Result<Session<B>, Memory>
+        ensures stands { IfOk result (λ session. StandsAfter B.stands ⟦<TreeBuilder as Builder>⟧.stands B.DEPTH session.reading [] []) }
+        ensures limits { IfOk result (λ session. session.reading.limits ≡ limits) }
     {
-        Ok(Session {
-            limits,
-            offset: 0,
-            failed: false,
-        })
+        let reading = Reading::new(alloc, limits)?;
+        Ok(Session { reading })
     }
 
-    /// Reads the next item, and no byte behind it. None at the end of the input between two items. A read that
-    /// fails for any reason, `Interrupted` too, is a fault. After a fault each call answers `Fault::Failed`.
+    /// Takes the next piece of the stream, and appends the items that are whole with it to `out`, also those before
+    /// a fault. A refusal comes in the call that brings the last of the bytes that show it, and never says `Ended`.
+    /// After a fault each call answers [`Fault::Failed`].
+    pub fn feed(
+        &mut self,
+        alloc: Global,
+        piece: &[u8],
+        out: &mut Vec<Item<B::Out>>,
+    ) -> Result<(), Fault>
+        requires { IsUsable B.stands ⟦<TreeBuilder as Builder>⟧.stands B.DEPTH self.old.reading }
+        ensures fed { Given out.old.items out.new.items (λ given. (items : List StreamItem) (bytes : List ℕ)
+            → StandsAfter B.stands ⟦<TreeBuilder as Builder>⟧.stands B.DEPTH self.old.reading items bytes
+            → Feeds B.stands ⟦<TreeBuilder as Builder>⟧.stands B.means B.DEPTH self.old.reading self.new.reading items bytes piece.now given result) }
+        ensures failed { OnErr result (self.new.reading.stage ≡ Stage.Failed) }
+        ensures stays { self.old.reading.stage ≡ Stage.Failed
+            → (result ≡ Err Fault.Failed) × (self.new.reading ≡ self.old.reading) × (out.new ≡ out.old) }
+        ensures limits { self.new.reading.limits ≡ self.old.reading.limits }
+        ensures usable { IsUsable B.stands ⟦<TreeBuilder as Builder>⟧.stands B.DEPTH self.new.reading }
+    {
+        if matches!(self.reading.stage, Stage::Failed) {
+            return Err(Fault::Failed);
+        }
+        self.reading.feed(alloc, piece, out)
+    }
+
+    /// Says that no byte follows. Ok exactly between two items, and then nothing has changed; else the refusal
+    /// `Ended` at the end of the bytes that came. It takes no memory. After a fault each call answers
+    /// [`Fault::Failed`].
+    pub fn finish(&mut self) -> Result<(), Fault>
+        requires { IsUsable B.stands ⟦<TreeBuilder as Builder>⟧.stands B.DEPTH self.old.reading }
+        ensures finishes { (items : List StreamItem) (bytes : List ℕ)
+            → StandsAfter B.stands ⟦<TreeBuilder as Builder>⟧.stands B.DEPTH self.old.reading items bytes
+            → Finishes B.DEPTH self.old.reading self.new.reading items bytes result }
+        ensures failed { OnErr result (self.new.reading.stage ≡ Stage.Failed) }
+        ensures usable { IsUsable B.stands ⟦<TreeBuilder as Builder>⟧.stands B.DEPTH self.new.reading }
+    {
+        self.reading.finish()
+    }
+
+    /// The types of the stream so far.
+    pub fn table(&self) -> &Table
+        ensures { result.now ≡ self.now.reading.types }
+    {
+        &self.reading.types
+    }
+
+    /// Reads up to the end of the next item, and no byte behind it. None at the end of the input between two items.
+    /// A read that fails for any reason, `Interrupted` too, is a fault. After a fault each call answers
+    /// [`Fault::Failed`].
     pub fn read_item<R: Read>(
         &mut self,
         alloc: Global,
         input: &mut Input<R>,
-    ) -> Result<Option<Item<Value>>, Fault>
-        ensures read { (items : List StreamItem) (bytes rest : List ℕ) → StandsAfter self.old items bytes
-            → R.remaining input.old.reader ≡ Some rest
-            → ReadsNext self.old self.new items bytes rest (R.remaining input.new.reader) result }
-        ensures failed { self.new.failed ≡ is_err result }
-        ensures stays { self.old.failed ≡ true
-            → (result ≡ Err Fault.Failed) × (self.new ≡ self.old) × (input.new ≡ input.old) }
-        ensures limits { self.new.limits ≡ self.old.limits }
-        ensures failures { CountsReads input.old.failures input.new.failures result }
-        ensures taken { TakesNext self.old self.new input.old.taken input.new.taken result }
-    {
-        if self.failed {
+    ) -> Result<Option<Item<B::Out>>, Fault> {
+        if matches!(self.reading.stage, Stage::Failed) {
             return Err(Fault::Failed);
         }
-        match read_next(alloc, input, self.limits, self.offset) {
-            Ok(None) => Ok(None),
-            Ok(Some(next)) => {
-                self.offset = next.end;
-                Ok(Some(next.item))
-            }
-            Err(fault) => {
-                self.failed = true;
-                Err(fault)
+        let mut chunk = [0u8; CHUNK as usize];
+        'pieces: loop {
+            let wanted = CHUNK.min(self.reading.wanted()) as usize;
+            match input.read(&mut chunk[..wanted]) {
+                Ok(0) => {
+                    self.reading.finish()?;
+                    return Ok(None);
+                }
+                Ok(n) => {
+                    let step = self.reading.step(alloc, &chunk[..n])?;
+                    if step.item.is_some() {
+                        return Ok(step.item);
+                    }
+                }
+                Err(_) => {
+                    self.reading.stage = Stage::Failed;
+                    return Err(Fault::Read);
+                }
             }
         }
     }

@@ -1,9 +1,0 @@
-use Rattle.std.proofs.Common.{◌≡◌, take}
-use Rattle.gob_num.specs.Unsigned.{IsUnsignedFront}
-use Rattle.gob_num.proofs.unsigned.take_by_bytes.Given as goal
-
-abbrev pub invariant-loop-i : goal.invariant-loop-i
-invariant-loop-i l = record {
-  taken : l.number ≡ take l.i l.piece;
-  front : IsUnsignedFront (take l.i l.piece);
-}

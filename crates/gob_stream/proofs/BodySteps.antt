@@ -1,0 +1,80 @@
+-- Taking the bytes of a value or a description.
+use Rattle.std.proofs.Common.{◌≡◌, ◌≢◌, ℕ, ◌+◌, ◌-◌, ◌^◌, ◌<◌, ◌≤◌, List, [], ◌∷◌, ◌++◌, length, take, Option, Some, None, Result, Ok, Err, arith, refl, sym, ap, ◌∙◌, subst, length-append}
+use Rattle.std.proofs.lemmas.List.{length-take}
+use Rattle.gob_types.specs.declared.id.TypeId.{TypeId}
+use Rattle.gob_types.specs.Table.{Table}
+use Rattle.gob_value.specs.Tree.{Tree}
+use Rattle.gob_read.specs.Refusal as body
+use Rattle.gob_read.specs.Refusal.{Refused, extra, too_deep, short_of, bad_head_at, not_minimal_at, not_allowed}
+use Rattle.gob_read.specs.First.{IsFirst}
+use Rattle.gob_read.specs.Running.{StopsFor}
+use Rattle.gob_read.specs.Reader.{Stands, RefusesBody}
+use Rattle.gob_read.specs.declared.run.Run.{Run}
+use Rattle.gob_read.specs.declared.stop.Stop.{Stop}
+use Rattle.gob_read.specs.declared.stop.Stop.TheVariants as stop
+use Rattle.gob_read.proofs.Seen.{seen_within}
+use Rattle.gob_read.specs.Reader.{Gives}
+use Rattle.gob_read.specs.declared.reader.BodyReader.{BodyReader}
+use Rattle.gob_read.specs.declared.reader.Progress.{Progress}
+use Rattle.gob_read.specs.declared.reader.Progress.TheVariants as progress
+use Rattle.gob_stream.specs.declared.item.Item.TheVariants as item
+use Rattle.gob_stream.specs.declared.stage.Stage.{Stage}
+use Rattle.gob_stream.specs.declared.stage.Stage.TheVariants as stage
+use Rattle.gob_stream.specs.declared.fault.Fault.{Fault}
+use Rattle.gob_stream.specs.declared.stage.Extent.{Extent}
+use Rattle.gob_stream.specs.Standing.{Standing, size}
+use Rattle.gob_stream.specs.ReadParts.{IsUnderWay, StopsWithin, fault_behind, ReadsValue, value_goes_on, value_ends, value_refused, no_memory_for_value}
+
+-- ---- what stands has taken no more than was announced
+stood_within : (T : Table) (t : TypeId) (limit announced : ℕ) {X O : Type 0} (stands : Standing X) (run : Option (Run X O)) (z : List ℕ) → Stands T t limit announced stands run z → length z ≤ announced
+stood_within T t limit announced stands None z s = absurd s
+stood_within T t limit announced stands (Some run) z s = s.within
+
+-- ---- a refusal is seen behind its place, and within the body
+place_before : {T : Table} {t : TypeId} {limit announced : ℕ} {z : List ℕ} {R : body.Refusal} → Refused T t limit announced z R → R.place ≤ R.seen
+place_before (extra r s e l) = omega arith
+place_before (too_deep r a e l) = omega arith
+place_before (short_of r a e n h) = omega arith
+place_before (bad_head_at r a e h) = omega arith
+place_before (not_minimal_at r a e h) = omega arith
+place_before (not_allowed r a e u h) = omega arith
+
+pub within_body : (z piece : List ℕ) (announced : ℕ) → length z ≤ announced → length (z ++ take (announced - length z) piece) ≤ announced
+within_body z piece announced l = omega (arith, length-append z (take (announced - length z) piece), length-take (announced - length z) piece)
+
+pub stops_within : {T : Table} {t : TypeId} {rest : Extent} {X O : Type 0} {stands : Standing X} (run : Option (Run X O)) (piece : List ℕ) (s : Stop) → IsUnderWay T t rest stands run → rest.begin ≤ rest.end → rest.end < 2 ^ 64
+    → StopsFor (λ refusal. RefusesBody T stands run piece refusal) s → StopsWithin rest.begin s
+stops_within {T = T} {t = t} {rest = rest} {stands = stands} run piece (stop.Refused place seen reason) u l n r =
+    let first = r.each t u.limit (size rest) u.bytes u.after in
+    let w = stood_within T t u.limit (size rest) stands run u.bytes u.after in
+    let b = within_body u.bytes piece (size rest) w in
+    let s = seen_within first.refused in
+    let p = place_before first.refused in
+    (omega arith, omega arith)
+stops_within run piece stop.Memory u l n r = tt
+stops_within run piece stop.Failed u l n r = tt
+
+-- ---- why a value is stopped
+pub not_ended : (T : Table) (t : TypeId) (limit announced : ℕ) {X O : Type 0} (stands : Standing X) (run : Option (Run X O)) (z : List ℕ) → Stands T t limit announced stands run z → run ≡ None → ⊥
+not_ended T t limit announced stands None z s e = s
+not_ended T t limit announced stands (Some run) z s e = cc
+
+pub value_stopped : {T : Table} {t : TypeId} {limit : ℕ} {rest : Extent} {X O : Type 0} {stands : Standing X} {means : O → Tree → Type 0} (run : Option (Run X O)) (z piece : List ℕ) (s : Stop) {f : Fault} → f ≡ fault_behind rest.begin s
+    → StopsFor (λ refusal. RefusesBody T stands run piece refusal) s → (s ≡ stop.Failed → run ≡ None) → Stands T t limit (size rest) stands run z → ReadsValue {X = X} {O = O} stands means T t limit rest z piece (Err f)
+value_stopped {T = T} {t = t} {limit = limit} {rest = rest} {X = X} {O = O} {stands = stands} {means = means} run z piece (stop.Refused place seen reason) e r n s =
+    subst (λ f. ReadsValue {X = X} {O = O} stands means T t limit rest z piece (Err f)) (sym e) (value_refused (r.each t limit (size rest) z s))
+value_stopped {T = T} {t = t} {limit = limit} {rest = rest} {X = X} {O = O} {stands = stands} {means = means} run z piece stop.Memory e r n s =
+    subst (λ f. ReadsValue {X = X} {O = O} stands means T t limit rest z piece (Err f)) (sym e) no_memory_for_value
+value_stopped {T = T} {t = t} {limit = limit} {rest = rest} {stands = stands} run z piece stop.Failed e r n s = absurd (not_ended T t limit (size rest) stands run z s (n refl))
+
+pub value_more : {T : Table} {t : TypeId} {limit : ℕ} {rest : Extent} {X O : Type 0} {stands : Standing X} {means : O → Tree → Type 0} {p : Progress O} (reader : BodyReader X O) (z piece : List ℕ) → p ≡ progress.More
+    → Gives T t limit (size rest) stands means reader.run z piece p → ReadsValue stands means T t limit rest z piece (Ok (record { used = length piece; stage = stage.Value t rest reader; item = None }))
+value_more {T = T} {t = t} {limit = limit} {rest = rest} {stands = stands} {means = means} reader z piece e h =
+    let g = subst (λ p. Gives T t limit (size rest) stands means reader.run z piece p) e h in
+    value_goes_on (record { after = g.after; stood = g.stood })
+
+pub value_done : {T : Table} {t : TypeId} {limit : ℕ} {rest : Extent} {X O : Type 0} {stands : Standing X} {means : O → Tree → Type 0} {p : Progress O} {out : O} {used : ℕ} {st : Stage X O} (run : Option (Run X O)) (z piece : List ℕ) → p ≡ progress.Done out used
+    → Gives T t limit (size rest) stands means run z piece p → st ≡ stage.Count rest.end [] → ReadsValue stands means T t limit rest z piece (Ok (record { used = used; stage = st; item = Some (item.Put t out) }))
+value_done {T = T} {t = t} {limit = limit} {rest = rest} {stands = stands} {means = means} {out = out} {used = used} run z piece e h f =
+    let g = subst (λ p. Gives T t limit (size rest) stands means run z piece p) e h in
+    subst (λ st. ReadsValue stands means T t limit rest z piece (Ok (record { used = used; stage = st; item = Some (item.Put t out) }))) (sym f) (value_ends g.within g.made)

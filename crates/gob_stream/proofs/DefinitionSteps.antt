@@ -1,0 +1,125 @@
+-- What becomes of an item where a piece of its description is taken.
+use Rattle.std.proofs.Common.{◌≡◌, ◌≢◌, ℕ, pos, negsuc, ◌+◌, ◌-◌, ◌≤◌, List, [], ◌∷◌, ◌++◌, length, take, Option, Some, None, Result, Ok, Err, arith, refl, sym, ap, ◌∙◌, subst, append_assoc, length-append}
+use Rattle.std.proofs.lemmas.List.{length-take, append-nil}
+use Rattle.gob_num.specs.Unsigned.{IsUnsigned}
+use Rattle.gob_num.specs.Signed.{IsSigned}
+use Rattle.gob_types.specs.declared.id.TypeId.{TypeId}
+use Rattle.gob_types.specs.declared.reason.Reason.{Reason}
+use Rattle.gob_types.specs.declared.reason.Reason.TheVariants as reason
+use Rattle.gob_types.specs.Base.{base_table, wire_type}
+use Rattle.gob_types.specs.Table.{Table}
+use Rattle.gob_value.specs.Tree.{Tree, depth}
+use Rattle.gob_value.specs.View.{view}
+use Rattle.gob_value.specs.Spelling.{Spells}
+use Rattle.gob_value.specs.Description.{Misdescribes, kind_count, wrong_id, bad_reference, bad_length}
+use Rattle.gob_value.specs.declared.value.Value.{Value}
+use Rattle.gob_read.specs.First.{IsFirst}
+use Rattle.gob_read.specs.Reader.{IsMade}
+use Rattle.gob_read.specs.declared.tree_builder.TreeBuilder.{TreeBuilder}
+use Rattle.gob_read.proofs.Deepest.{shallow_within}
+use Rattle.gob_read.proofs.Seen.{take_whole}
+use Rattle.gob_stream.specs.declared.fault.Refusal.{Refusal}
+use Rattle.gob_stream.specs.declared.fault.Fault.{Fault}
+use Rattle.gob_stream.specs.declared.fault.Fault.TheVariants as fault
+use Rattle.gob_stream.specs.declared.stage.Extent.{Extent}
+use Rattle.gob_stream.specs.declared.stage.Stepped.{Stepped}
+use Rattle.gob_stream.specs.Bounds.{Bounds}
+use Rattle.gob_stream.specs.Item.{defines, means_definition}
+use Rattle.gob_stream.specs.Body.{Body, definition, MayDefine}
+use Rattle.gob_stream.specs.Stream.{Counted, counted}
+use Rattle.gob_stream.specs.WriterRefusal.{RefusesId, reserved, defined_twice, too_many}
+use Rattle.gob_stream.specs.Refusing.{behind, refuses, RefusesBody, refused_id, refused_description, described_wrongly}
+use Rattle.gob_stream.specs.Outcome.{RefusesNext, refused_body}
+use Rattle.gob_stream.specs.Standing.{Standing, in_description, IsCount, IsRest, size}
+use Rattle.gob_stream.specs.ReadParts.{HasWireType, IsView, IsDescribed, MaybeDefines, may_define, may_not, ReadsDescription, description_goes_on, description_ends, description_refused, describes_nothing, no_memory_for_description, StepsOn, goes_on, gives, refuses_it, no_memory}
+use Rattle.gob_stream.proofs.ValueSteps.{three, take_over, body_there, refused_shown, lies, stands_as, counted_as}
+use Rattle.gob_stream.proofs.DescriptionSteps.{wire_spelled}
+
+description_shown : {id : TypeId} {v : Tree} {r : Reason} → Misdescribes id v r → r ≢ reason.Ended
+description_shown (kind_count p) e = cc
+description_shown (wrong_id p q) e = cc
+description_shown (bad_reference p q b) e = cc
+description_shown (bad_length p q n b) e = cc
+
+-- the description that was read, as the value that the program has
+made_spelled : {T : Table} {limit announced : ℕ} {d : Value} {z : List ℕ} → HasWireType T → IsMade T wire_type limit announced IsView d z → Spells T wire_type (view d) z
+made_spelled w made = subst (λ v. Spells _ wire_type v _) (sym made.meant) (wire_spelled w made.spelled)
+
+made_depth : {T : Table} {limit announced : ℕ} {d : Value} {z : List ℕ} → IsMade T wire_type limit announced IsView d z → depth (view d) ≤ limit
+made_depth {limit = limit} made = subst (λ v. depth v ≤ limit) (sym made.meant) (shallow_within made.spelled made.shallow)
+
+pub description_steps : {X O : Type 0} {stands : Standing X} {trees : Standing TreeBuilder} {means : O → Tree → Type 0} {L : Bounds} {T U : Table} {offset m n : ℕ} {id : TypeId} {body rest : Extent} {result : Result (Stepped X O) Fault} (c a y piece : List ℕ)
+    → IsCount L offset m c body → id.0 ≡ n + 1 → IsSigned (negsuc n) a → IsRest body a rest → MayDefine base_table L T id → HasWireType T → length y ≤ size rest → ReadsDescription trees T id L.depth rest y piece U result
+    → StepsOn stands trees means L T offset (c ++ (a ++ y)) piece U result
+description_steps {X = X} {O = O} {stands = stands} {trees = trees} {L = L} {T = T} {offset = offset} c a y piece k n s r p h w (description_goes_on e b) =
+    let there : (c ++ (a ++ y)) ++ take (length piece) piece ≡ c ++ (a ++ (y ++ piece)) = ap (λ l. (c ++ (a ++ y)) ++ l) (take_whole piece (length piece) (omega arith)) ∙ three c a y piece in
+    goes_on e (omega arith) (stands_as there (in_description k n s r p b))
+description_steps {L = L} {T = T} {U = U} {offset = offset} {m = m} {id = id} {rest = rest} c a y piece k n s r p h w (description_ends {described = described} {s = shape} {used = used} d ds e) =
+    let lie = lies k r in
+    let made = d.made in let within = d.within in
+    let all = made.all in let z1 = lie.size_is in let z2 = lie.within in let z3 = lie.ends in let z4 = k.stream in
+    let long : length (a ++ (y ++ take used piece)) ≡ m = omega (arith, length-append a (y ++ take used piece)) in
+    let whole : length (c ++ (a ++ (y ++ take used piece))) ≡ length c + m = omega (arith, length-append c (a ++ (y ++ take used piece))) in
+    let item : Counted base_table L T offset (defines id (view described)) (c ++ (a ++ (y ++ take used piece))) (T ++ (id, shape) ∷ []) =
+        counted (subst (λ n. IsUnsigned n c) (sym long) k.count) (let i = k.item in omega arith) (omega arith) (definition p (made_depth made) ds n s (made_spelled h made)) in
+    let there = three c a y (take used piece) in
+    let l = ap length there in
+    let item' : Counted base_table L T offset (defines id (view described)) (c ++ (a ++ (y ++ take used piece))) U =
+        subst (λ (U : Table). Counted base_table L T offset (defines id (view described)) (c ++ (a ++ (y ++ take used piece))) U) (sym e) item in
+    gives within (counted_as there item') means_definition (omega arith)
+description_steps {L = L} {T = T} {offset = offset} {m = m} {rest = rest} c a y piece k n s r p h w (description_refused {R = R} e f) =
+    let lie = lies k r in
+    let there = body_there a y piece m (size rest) lie.within lie.size_is w in
+    let first = subst (λ n. IsFirst T wire_type L.depth n (y ++ take (size rest - length y) piece) R) lie.size_is f in
+    let refused : RefusesBody base_table L T (offset + length c) m (take m (a ++ (y ++ piece))) (behind (offset + length c + length a) R) = refused_description (y ++ take (size rest - length y) piece) there n s p first in
+    refuses_it
+    (subst (λ n. RefusesNext base_table L T offset ((c ++ (a ++ y)) ++ piece) (behind n R)) (sym lie.begins)
+        (refused_body (a ++ (y ++ piece)) (three c a y piece) k.count k.item k.stream refused))
+    (refused_shown f.refused)
+description_steps {L = L} {T = T} {offset = offset} {m = m} {rest = rest} c a y piece k n s r p h w (describes_nothing {described = described} {used = used} {r = why} e d x) =
+    let lie = lies k r in
+    let made = d.made in let within = d.within in
+    let all = made.all in
+    let count : size rest - length y ≡ used = omega (arith, length-append y (take used piece), length-take used piece) in
+    let there = body_there a y piece m (size rest) lie.within lie.size_is w ∙ ap (λ n. a ++ (y ++ take n piece)) count in
+    let z1 = lie.size_is in let z2 = lie.within in
+    let long : length (take m (a ++ (y ++ piece))) ≡ m = omega (arith, ap length there, length-append a (y ++ take used piece)) in
+    let refused : RefusesBody base_table L T (offset + length c) m (take m (a ++ (y ++ piece))) (refuses (offset + length c + length a) (offset + length c + m) why) =
+        described_wrongly there long n s p (made_spelled h made) (made_depth made) x in
+    let next : RefusesNext base_table L T offset ((c ++ (a ++ y)) ++ piece) (refuses (offset + length c + length a) (offset + length c + m) why) =
+        refused_body (a ++ (y ++ piece)) (three c a y piece) k.count k.item k.stream refused in
+    let placed = subst (λ n. RefusesNext base_table L T offset ((c ++ (a ++ y)) ++ piece) (refuses n (offset + length c + m) why)) (sym lie.begins) next in
+    refuses_it (subst (λ n. RefusesNext base_table L T offset ((c ++ (a ++ y)) ++ piece) (refuses rest.begin n why)) (sym lie.ends) placed) (description_shown x)
+description_steps c a y piece k n s r p h w no_memory_for_description = no_memory
+
+-- ---- a description begins
+id_shown : {L : Bounds} {T : Table} {id : TypeId} {r : Reason} → RefusesId base_table L T id r → r ≢ reason.Ended
+id_shown (reserved n) e = cc
+id_shown (defined_twice o n) e = cc
+id_shown (too_many o n r) e = cc
+
+err_injective : {A E : Type 0} {x y : E} → ◌≡◌ {A = Result A E} (Err x) (Err y) → x ≡ y
+err_injective e = cc
+
+pub define_is : {L : Bounds} {T : Table} {id : TypeId} {place seen : ℕ} {r : Result (Unit {0}) Refusal} → MaybeDefines L T id place seen r → r ≡ Ok tt → MayDefine base_table L T id
+define_is (may_define p) e = p
+define_is (may_not r) e = cc
+
+pub define_refused : {X O : Type 0} {stands : Standing X} {trees : Standing TreeBuilder} {means : O → Tree → Type 0} {L : Bounds} {T U : Table} {offset m n : ℕ} {id : TypeId} {body rest : Extent} {r : Result (Unit {0}) Refusal} {R : Refusal} (c a piece : List ℕ)
+    → IsCount L offset m c body → id.0 ≡ n + 1 → IsSigned (negsuc n) a → IsRest body a rest → MaybeDefines L T id body.begin rest.begin r → r ≡ Err R → StepsOn {X = X} {O = O} stands trees means L T offset (c ++ a) piece U (Err (fault.Refused R))
+define_refused c a piece k n s r (may_define p) e = cc
+define_refused {X = X} {O = O} {stands = stands} {trees = trees} {means = means} {L = L} {T = T} {U = U} {offset = offset} {m = m} {body = body} {rest = rest} c a piece k n s r (may_not {r = w} q) e =
+    let lie = lies k r in
+    let there = take_over a piece m lie.within in
+    let refused : RefusesBody base_table L T (offset + length c) m (take m (a ++ piece)) (refuses (offset + length c) (offset + length c + length a) w) = refused_id (take (m - length a) piece) there n s q in
+    let next : RefusesNext base_table L T offset ((c ++ a) ++ piece) (refuses (offset + length c) (offset + length c + length a) w) = refused_body (a ++ piece) (append_assoc c a piece) k.count k.item k.stream refused in
+    let placed = subst (λ n. RefusesNext base_table L T offset ((c ++ a) ++ piece) (refuses n (offset + length c + length a) w)) (sym k.begin) next in
+    let seen = subst (λ n. RefusesNext base_table L T offset ((c ++ a) ++ piece) (refuses body.begin n w)) (sym lie.begins) placed in
+    subst (λ R. StepsOn {X = X} {O = O} stands trees means L T offset (c ++ a) piece U (Err (fault.Refused R))) (err_injective e) (refuses_it seen (id_shown q))
+
+pub description_begins : {X O : Type 0} {stands : Standing X} {trees : Standing TreeBuilder} {means : O → Tree → Type 0} {L : Bounds} {T U : Table} {offset m n limit : ℕ} {id : TypeId} {body rest : Extent} {result : Result (Stepped X O) Fault} (c a piece : List ℕ)
+    → IsCount L offset m c body → id.0 ≡ n + 1 → IsSigned (negsuc n) a → IsRest body a rest → MayDefine base_table L T id → HasWireType T → limit ≡ L.depth → ReadsDescription trees T id limit rest [] piece U result
+    → StepsOn stands trees means L T offset (c ++ a) piece U result
+description_begins {stands = stands} {trees = trees} {means = means} {L = L} {T = T} {U = U} {offset = offset} {id = id} {rest = rest} {result = result} c a piece k n s r p h e q =
+    let q' = subst (λ limit. ReadsDescription trees T id limit rest [] piece U result) e q in
+    subst (λ l. StepsOn stands trees means L T offset (c ++ l) piece U result) (append-nil a) (description_steps c a [] piece k n s r p h (omega arith) q')

@@ -1,0 +1,97 @@
+-- Taking the bytes of a description.
+use Rattle.std.proofs.Common.{◌≡◌, ℕ, ◌+◌, ◌-◌, ◌^◌, ◌≤◌, List, [], ◌∷◌, ◌++◌, length, take, Option, Some, None, Result, Ok, Err, refl, sym, ap, ◌∙◌, subst}
+use Rattle.gob_types.specs.Base.{base_table, wire_type}
+use Rattle.gob_types.specs.Table.{shape_of}
+use Rattle.gob_types.specs.declared.kind.Shape.{Shape}
+use Rattle.gob_types.proofs.GrowthLaws.{Keeps, some_injective, shape_of-append, ready_on}
+use Rattle.gob_types.specs.Ready.{IsReady}
+use Rattle.gob_value.specs.Spelling.{Spells}
+use Rattle.gob_value.specs.Top.{SpellsTop, at_once, tagged, IsStruct}
+use Rattle.gob_value.specs.Fits.{Fits}
+use Rattle.gob_value.specs.View.{view}
+use Rattle.gob_value.specs.declared.value.Value.{Value}
+use Rattle.gob_value.proofs.StayLaws.{spells_back}
+use Rattle.gob_read.specs.Running.{StopsFor}
+use Rattle.gob_read.specs.Reader.{Stands, RefusesBody, IsMade, Gives}
+use Rattle.gob_read.specs.declared.run.Run.{Run}
+use Rattle.gob_read.specs.declared.stop.Stop.{Stop}
+use Rattle.gob_read.specs.declared.stop.Stop.TheVariants as stop
+use Rattle.gob_read.specs.declared.reader.BodyReader.{BodyReader}
+use Rattle.gob_read.specs.declared.reader.Progress.{Progress}
+use Rattle.gob_read.specs.declared.reader.Progress.TheVariants as progress
+use Rattle.gob_read.specs.declared.tree_builder.TreeBuilder.{TreeBuilder}
+use Rattle.gob_stream.specs.declared.item.Item.TheVariants as item
+use Rattle.gob_stream.specs.declared.stage.Stage.{Stage}
+use Rattle.gob_stream.specs.declared.stage.Stage.TheVariants as stage
+use Rattle.gob_stream.specs.declared.stage.Stepped.{Stepped}
+use Rattle.gob_stream.specs.Standing.{Standing, size}
+use Rattle.gob_stream.specs.ReadParts.{HasWireType, IsView, IsDescribed, IsUnderWay, fault_behind, ReadsDescription, description_goes_on, description_ends, description_refused, describes_nothing, no_memory_for_description, defined}
+use Rattle.gob_stream.proofs.WireLaws.{wire_ready}
+use Rattle.gob_stream.proofs.BodySteps.{not_ended}
+use Rattle.gob_types.specs.declared.id.TypeId.{TypeId}
+use Rattle.gob_types.specs.Table.{Table}
+use Rattle.gob_value.specs.Tree.{Tree}
+use Rattle.gob_value.specs.ShapeFaults.{IsShapeFault}
+use Rattle.gob_value.specs.declared.fault.ShapeFault.{ShapeFault}
+use Rattle.gob_value.specs.declared.fault.ShapeFault.TheVariants as shape
+use Rattle.gob_stream.specs.declared.fault.Fault.{Fault}
+use Rattle.gob_stream.specs.declared.stage.Extent.{Extent}
+use Rattle.gob_stream.specs.ReadParts.{Defines, described_wrongly, no_memory_to_define, shape_fault}
+
+judged : {rest : Extent} {id : TypeId} {v : Tree} {T : Table} (s : ShapeFault) → IsShapeFault id v s → Defines rest id v T T (Err (shape_fault rest s))
+judged shape.KindCount w = described_wrongly w refl
+judged shape.WrongId w = described_wrongly w refl
+judged shape.BadReference w = described_wrongly w refl
+judged shape.BadLength w = described_wrongly w refl
+judged shape.Memory w = no_memory_to_define refl
+
+pub shape_stopped : {rest : Extent} {id : TypeId} {v : Tree} {T : Table} {f : Fault} (s : ShapeFault) → f ≡ shape_fault rest s → IsShapeFault id v s → Defines rest id v T T (Err f)
+shape_stopped {rest = rest} {id = id} {v = v} {T = T} s e w = subst (λ f. Defines rest id v T T (Err f)) (sym e) (judged s w)
+
+-- ---- descriptions are spelled as in the base table
+pub wire_spelled : {T : Table} {v : Tree} {z : List ℕ} → HasWireType T → SpellsTop T wire_type v z → Spells T wire_type v z
+wire_spelled w (at_once e i s) = s
+wire_spelled {T = T} w (tagged e i s) =
+    let there : shape_of T wire_type ≡ _ = ap (λ (T : Table). shape_of T wire_type) w.grown ∙ shape_of-append base_table w.more wire_type _ refl in
+    absurd (i (subst (λ (s : Shape). IsStruct s.kind) (some_injective (sym there ∙ e)) tt))
+
+wire_keeps : {T : Table} → HasWireType T → Keeps base_table T
+wire_keeps {T = T} w = subst (λ (T : Table). Keeps base_table T) (sym w.grown) (record { shape = λ t s e. shape_of-append base_table w.more t s e })
+
+pub wire_ready_in : {T : Table} → HasWireType T → IsReady T wire_type
+wire_ready_in w = ready_on (wire_keeps w) wire_ready
+
+pub wire_fits : {T : Table} {limit announced : ℕ} {z : List ℕ} {described : Value} → HasWireType T → IsMade T wire_type limit announced IsView described z → Fits base_table wire_type (view described)
+wire_fits w made = record { bytes = _; spelled = spells_back (wire_keeps w) wire_ready (subst (λ v. Spells _ wire_type v _) (sym made.meant) (wire_spelled w made.spelled)) }
+
+-- ---- what became of a piece of a description
+pub made_of : {T : Table} {limit : ℕ} {rest : Extent} {p : Progress Value} {described : Value} {used : ℕ} (trees : Standing TreeBuilder) (run : Option (Run TreeBuilder Value)) (z piece : List ℕ) → p ≡ progress.Done described used
+    → Gives T wire_type limit (size rest) trees IsView run z piece p → IsDescribed T limit rest z piece described used
+made_of {T = T} {limit = limit} {rest = rest} trees run z piece e h =
+    let g = subst (λ p. Gives T wire_type limit (size rest) trees IsView run z piece p) e h in record { within = g.within; made = g.made }
+
+pub description_more : {T : Table} {id : TypeId} {limit : ℕ} {rest : Extent} {X O : Type 0} {trees : Standing TreeBuilder} {p : Progress Value} (reader : BodyReader TreeBuilder Value) (z piece : List ℕ) → p ≡ progress.More
+    → Gives T wire_type limit (size rest) trees IsView reader.run z piece p
+    → ReadsDescription {X = X} {O = O} trees T id limit rest z piece T (Ok (record { used = length piece; stage = stage.Description id rest reader; item = None }))
+description_more {T = T} {limit = limit} {rest = rest} {trees = trees} reader z piece e h =
+    let g = subst (λ p. Gives T wire_type limit (size rest) trees IsView reader.run z piece p) e h in
+    description_goes_on refl (record { after = g.after; stood = g.stood })
+
+pub description_done : {T U : Table} {id : TypeId} {limit : ℕ} {rest : Extent} {X O : Type 0} {trees : Standing TreeBuilder} {described : Value} {used : ℕ} {st : Stage X O} {z piece : List ℕ} → IsDescribed T limit rest z piece described used
+    → Defines rest id (view described) T U (Ok tt) → st ≡ stage.Count rest.end []
+    → ReadsDescription {X = X} {O = O} trees T id limit rest z piece U (Ok (record { used = used; stage = st; item = Some (item.Define id described) }))
+description_done {T = T} {U = U} {id = id} {limit = limit} {rest = rest} {X = X} {O = O} {trees = trees} {described = described} {used = used} {z = z} {piece = piece} d (defined s e) f =
+    subst (λ st. ReadsDescription {X = X} {O = O} trees T id limit rest z piece U (Ok (record { used = used; stage = st; item = Some (item.Define id described) }))) (sym f) (description_ends d s e)
+
+pub description_wrong : {T U : Table} {id : TypeId} {limit : ℕ} {rest : Extent} {X O : Type 0} {trees : Standing TreeBuilder} {described : Value} {used : ℕ} {f : Fault} {z piece : List ℕ} → IsDescribed T limit rest z piece described used
+    → Defines rest id (view described) T U (Err f) → ReadsDescription {X = X} {O = O} trees T id limit rest z piece U (Err f)
+description_wrong d (described_wrongly w e) = describes_nothing e d w
+description_wrong d (no_memory_to_define e) = no_memory_for_description
+
+pub description_stopped : {T : Table} {id : TypeId} {limit : ℕ} {rest : Extent} {X O : Type 0} {trees : Standing TreeBuilder} (run : Option (Run TreeBuilder Value)) (z piece : List ℕ) (s : Stop) {f : Fault} → f ≡ fault_behind rest.begin s
+    → StopsFor (λ refusal. RefusesBody T trees run piece refusal) s → (s ≡ stop.Failed → run ≡ None) → Stands T wire_type limit (size rest) trees run z → ReadsDescription {X = X} {O = O} trees T id limit rest z piece T (Err f)
+description_stopped {T = T} {id = id} {limit = limit} {rest = rest} {X = X} {O = O} {trees = trees} run z piece (stop.Refused place seen reason) e r n s =
+    subst (λ f. ReadsDescription {X = X} {O = O} trees T id limit rest z piece T (Err f)) (sym e) (description_refused refl (r.each wire_type limit (size rest) z s))
+description_stopped {T = T} {id = id} {limit = limit} {rest = rest} {X = X} {O = O} {trees = trees} run z piece stop.Memory e r n s =
+    subst (λ f. ReadsDescription {X = X} {O = O} trees T id limit rest z piece T (Err f)) (sym e) no_memory_for_description
+description_stopped {T = T} {limit = limit} {rest = rest} {trees = trees} run z piece stop.Failed e r n s = absurd (not_ended T wire_type limit (size rest) trees run z s (n refl))

@@ -1,0 +1,146 @@
+-- What becomes of an item where a piece of its value or its description is taken.
+use Rattle.std.proofs.Common.{◌≡◌, ◌≢◌, ℕ, zero, suc, pos, negsuc, ◌+◌, ◌-◌, ◌<◌, ◌≤◌, List, [], ◌∷◌, ◌++◌, length, take, Option, Some, None, Result, Ok, Err, arith, refl, sym, ap, ◌∙◌, subst, append_assoc, length-append}
+use Rattle.std.proofs.lemmas.List.{length-take, append-nil}
+use Rattle.gob_types.specs.declared.reason.Reason.{Reason}
+use Rattle.gob_stream.specs.WriterRefusal.{RefusesType, private_type, undefined, bottomless}
+use Rattle.gob_num.specs.Unsigned.{IsUnsigned}
+use Rattle.gob_num.specs.Signed.{IsSigned}
+use Rattle.gob_types.specs.declared.id.TypeId.{TypeId}
+use Rattle.gob_types.specs.declared.reason.Reason.TheVariants as reason
+use Rattle.gob_types.specs.Base.{base_table, wire_type}
+use Rattle.gob_types.specs.Table.{Table}
+use Rattle.gob_value.specs.Tree.{Tree, depth}
+use Rattle.gob_value.specs.Top.{SpellsTop}
+use Rattle.gob_read.specs.Refusal as body
+use Rattle.gob_read.specs.Refusal.{Refused, extra, too_deep, short_of, bad_head_at, not_minimal_at, not_allowed}
+use Rattle.gob_read.specs.Awaited.{Allowed, any, tag, truth_value, array_count, delta, nil, reason_of}
+use Rattle.gob_read.specs.First.{IsFirst}
+use Rattle.gob_read.specs.declared.tree_builder.TreeBuilder.{TreeBuilder}
+use Rattle.gob_read.proofs.Deepest.{shallow_within}
+use Rattle.gob_read.proofs.Seen.{take_whole}
+use Rattle.gob_stream.specs.declared.fault.Refusal.{Refusal}
+use Rattle.gob_stream.specs.declared.fault.Fault.{Fault}
+use Rattle.gob_stream.specs.declared.fault.Fault.TheVariants as fault
+use Rattle.gob_stream.specs.declared.stage.Extent.{Extent}
+use Rattle.gob_stream.specs.declared.stage.Stage.{Stage}
+use Rattle.gob_stream.specs.declared.stage.Stepped.{Stepped}
+use Rattle.gob_stream.specs.Bounds.{Bounds}
+use Rattle.gob_stream.specs.Item.{StreamItem, puts, means_value}
+use Rattle.gob_stream.specs.Body.{Body, value, MayPut}
+use Rattle.gob_stream.specs.Stream.{Counted, counted}
+use Rattle.gob_stream.specs.Refusing.{behind, refuses, RefusesBody, refused_value, refused_type}
+use Rattle.gob_stream.specs.Outcome.{RefusesNext, refused_body}
+use Rattle.gob_stream.specs.Standing.{Standing, StandsIn, in_value, IsCount, IsRest, IsBehind, size}
+use Rattle.gob_stream.specs.ReadParts.{MaybePuts, may_put, may_not_put, no_memory_to_ask, ReadsValue, value_goes_on, value_ends, value_refused, no_memory_for_value, StepsOn, goes_on, gives, refuses_it, no_memory}
+
+-- ---- lists
+pub three : (c a y p : List ℕ) → (c ++ (a ++ y)) ++ p ≡ c ++ (a ++ (y ++ p))
+three c a y p = append_assoc c (a ++ y) p ∙ ap (λ l. c ++ l) (append_assoc a y p)
+
+pub take_over : (a x : List ℕ) (m : ℕ) → length a ≤ m → take m (a ++ x) ≡ a ++ take (m - length a) x
+take_over [] x m l = ap (λ n. take n x) (let e : m ≡ m - 0 = omega arith in e)
+take_over (b ∷ a) x zero l = absurd (omega arith)
+take_over (b ∷ a) x (suc m) l =
+    let e : m - length a ≡ suc m - length (b ∷ a) = omega arith in
+    ap (λ r. b ∷ r) (take_over a x m (omega arith) ∙ ap (λ n. a ++ take n x) e)
+
+-- what is there of a body whose rest has the bytes y and then the piece
+pub body_there : (a y piece : List ℕ) (m n : ℕ) → length a ≤ m → n ≡ m - length a → length y ≤ n → take m (a ++ (y ++ piece)) ≡ a ++ (y ++ take (n - length y) piece)
+body_there a y piece m n l e k =
+    take_over a (y ++ piece) m l ∙ ap (λ r. a ++ r) (ap (λ n. take n (y ++ piece)) (sym e) ∙ take_over y piece n k)
+
+-- ---- the reasons of bodies
+reason_shown : (a : Allowed) → reason_of a ≢ reason.Ended
+reason_shown any e = cc
+reason_shown tag e = cc
+reason_shown truth_value e = cc
+reason_shown (array_count n) e = cc
+reason_shown (delta n) e = cc
+reason_shown nil e = cc
+
+pub refused_shown : {T : Table} {t : TypeId} {limit announced : ℕ} {z : List ℕ} {R : body.Refusal} → Refused T t limit announced z R → R.reason ≢ reason.Ended
+refused_shown (extra r s e l) f = cc
+refused_shown (too_deep r a e l) f = cc
+refused_shown (short_of r a e n h) f = cc
+refused_shown (bad_head_at r a e h) f = cc
+refused_shown (not_minimal_at r a e h) f = cc
+refused_shown (not_allowed r {a = k} a e u h) f = absurd (reason_shown k f)
+
+-- ---- where the rest of a body lies
+pub record Lies (L : Bounds) (offset m : ℕ) (c a : List ℕ) (rest : Extent) : Type 0 where
+  pub within : length a ≤ m
+  pub size_is : size rest ≡ m - length a
+  pub begins : rest.begin ≡ offset + length c + length a
+  pub ends : rest.end ≡ offset + length c + m
+
+pub lies : {L : Bounds} {offset m : ℕ} {c a : List ℕ} {body rest : Extent} → IsCount L offset m c body → IsRest body a rest → Lies L offset m c a rest
+lies k r =
+    let b = k.begin in let e = k.end in let rb = r.begin in let re = r.end in let w = r.within in
+    record { within = omega arith; size_is = omega arith; begins = omega arith; ends = omega arith }
+
+pub stands_as : {X O : Type 0} {stands : Standing X} {trees : Standing TreeBuilder} {L : Bounds} {T : Table} {offset : ℕ} {st : Stage X O} {z w : List ℕ} → w ≡ z → StandsIn stands trees L T offset st z → StandsIn stands trees L T offset st w
+stands_as {stands = stands} {trees = trees} {L = L} {T = T} {offset = offset} {st = st} e h = subst (λ z. StandsIn stands trees L T offset st z) (sym e) h
+
+pub counted_as : {L : Bounds} {T U : Table} {offset : ℕ} {i : StreamItem} {z w : List ℕ} → w ≡ z → Counted base_table L T offset i z U → Counted base_table L T offset i w U
+counted_as {L = L} {T = T} {U = U} {offset = offset} {i = i} e h = subst (λ z. Counted base_table L T offset i z U) (sym e) h
+
+-- ---- values
+pub value_steps : {X O : Type 0} {stands : Standing X} {trees : Standing TreeBuilder} {means : O → Tree → Type 0} {L : Bounds} {T : Table} {offset m : ℕ} {t : TypeId} {body rest : Extent} {result : Result (Stepped X O) Fault} (c a y piece : List ℕ)
+    → IsCount L offset m c body → IsSigned (pos t.0) a → IsRest body a rest → MayPut T t → length y ≤ size rest → ReadsValue stands means T t L.depth rest y piece result
+    → StepsOn stands trees means L T offset (c ++ (a ++ y)) piece T result
+value_steps {stands = stands} {trees = trees} {L = L} {T = T} {offset = offset} c a y piece k s r p w (value_goes_on b) =
+    let there : (c ++ (a ++ y)) ++ take (length piece) piece ≡ c ++ (a ++ (y ++ piece)) = ap (λ l. (c ++ (a ++ y)) ++ l) (take_whole piece (length piece) (omega arith)) ∙ three c a y piece in
+    goes_on refl (omega arith) (stands_as there (in_value k s r p b))
+value_steps {L = L} {T = T} {offset = offset} {m = m} {t = t} {rest = rest} c a y piece k s r p w (value_ends {used = used} l made) =
+    let lie = lies k r in
+    let all = made.all in let z1 = lie.size_is in let z2 = lie.within in let z3 = lie.ends in let z4 = k.stream in
+    let long : length (a ++ (y ++ take used piece)) ≡ m = omega (arith, length-append a (y ++ take used piece)) in
+    let whole : length (c ++ (a ++ (y ++ take used piece))) ≡ length c + m = omega (arith, length-append c (a ++ (y ++ take used piece))) in
+    let item : Counted base_table L T offset (puts t made.value) (c ++ (a ++ (y ++ take used piece))) T = counted (subst (λ n. IsUnsigned n c) (sym long) k.count) (let i = k.item in omega arith) (omega arith) (value p (shallow_within made.spelled made.shallow) s made.spelled) in
+    let there = three c a y (take used piece) in
+    let n = ap length there in
+    gives l (counted_as there item) (means_value made.meant) (omega arith)
+value_steps {stands = stands} {trees = trees} {means = means} {L = L} {T = T} {offset = offset} {m = m} {t = t} {rest = rest} c a y piece k s r p w (value_refused {R = R} f) =
+    let lie = lies k r in
+    let there = body_there a y piece m (size rest) lie.within lie.size_is w in
+    let first = subst (λ n. IsFirst T t L.depth n (y ++ take (size rest - length y) piece) R) lie.size_is f in
+    let refused : RefusesBody base_table L T (offset + length c) m (take m (a ++ (y ++ piece))) (behind (offset + length c + length a) R) = refused_value (y ++ take (size rest - length y) piece) there s p first in
+    refuses_it
+    (subst (λ n. RefusesNext base_table L T offset ((c ++ (a ++ y)) ++ piece) (behind n R)) (sym lie.begins)
+        (refused_body (a ++ (y ++ piece)) (three c a y piece) k.count k.item k.stream refused))
+    (refused_shown f.refused)
+value_steps c a y piece k s r p w no_memory_for_value = no_memory
+
+-- ---- a value begins
+err_injective : {A E : Type 0} {x y : E} → ◌≡◌ {A = Result A E} (Err x) (Err y) → x ≡ y
+err_injective e = cc
+
+type_shown : {T : Table} {t : TypeId} {r : Reason} → RefusesType T t r → r ≢ reason.Ended
+type_shown (private_type p) e = cc
+type_shown (undefined p q n l) e = cc
+type_shown (bottomless p q r n l) e = cc
+
+pub put_is : {T : Table} {t : TypeId} {place seen : ℕ} {r : Result (Unit {0}) Fault} → MaybePuts T t place seen r → r ≡ Ok tt → MayPut T t
+put_is (may_put p) e = p
+put_is (may_not_put r) e = cc
+put_is no_memory_to_ask e = cc
+
+pub put_refused : {X O : Type 0} {stands : Standing X} {trees : Standing TreeBuilder} {means : O → Tree → Type 0} {L : Bounds} {T : Table} {offset m : ℕ} {t : TypeId} {body rest : Extent} {r : Result (Unit {0}) Fault} {f : Fault} (c a piece : List ℕ)
+    → IsCount L offset m c body → IsSigned (pos t.0) a → IsRest body a rest → MaybePuts T t body.begin rest.begin r → r ≡ Err f → StepsOn {X = X} {O = O} stands trees means L T offset (c ++ a) piece T (Err f)
+put_refused c a piece k s r (may_put p) e = cc
+put_refused {X = X} {O = O} {stands = stands} {trees = trees} {means = means} {L = L} {T = T} {offset = offset} {m = m} {body = body} {rest = rest} c a piece k s r (may_not_put {r = w} q) e =
+    let lie = lies k r in
+    let there = take_over a piece m lie.within in
+    let refused : RefusesBody base_table L T (offset + length c) m (take m (a ++ piece)) (refuses (offset + length c) (offset + length c + length a) w) = refused_type (take (m - length a) piece) there s q in
+    let next : RefusesNext base_table L T offset ((c ++ a) ++ piece) (refuses (offset + length c) (offset + length c + length a) w) = refused_body (a ++ piece) (append_assoc c a piece) k.count k.item k.stream refused in
+    let placed = subst (λ n. RefusesNext base_table L T offset ((c ++ a) ++ piece) (refuses n (offset + length c + length a) w)) (sym k.begin) next in
+    let seen = subst (λ n. RefusesNext base_table L T offset ((c ++ a) ++ piece) (refuses body.begin n w)) (sym lie.begins) placed in
+    let same : fault.Refused (refuses body.begin rest.begin w) ≡ _ = err_injective e in
+    subst (λ f. StepsOn {X = X} {O = O} stands trees means L T offset (c ++ a) piece T (Err f)) same (refuses_it seen (type_shown q))
+put_refused {X = X} {O = O} {stands = stands} {trees = trees} {means = means} {L = L} {T = T} {offset = offset} c a piece k s r no_memory_to_ask e =
+    subst (λ f. StepsOn {X = X} {O = O} stands trees means L T offset (c ++ a) piece T (Err f)) (err_injective e) no_memory
+
+pub value_begins : {X O : Type 0} {stands : Standing X} {trees : Standing TreeBuilder} {means : O → Tree → Type 0} {L : Bounds} {T : Table} {offset m : ℕ} {t : TypeId} {body rest : Extent} {result : Result (Stepped X O) Fault} (c a piece : List ℕ)
+    → IsCount L offset m c body → IsSigned (pos t.0) a → IsRest body a rest → MayPut T t → ReadsValue stands means T t L.depth rest [] piece result → StepsOn stands trees means L T offset (c ++ a) piece T result
+value_begins {stands = stands} {trees = trees} {means = means} {L = L} {T = T} {offset = offset} {result = result} c a piece k s r p q =
+    subst (λ l. StepsOn stands trees means L T offset (c ++ l) piece T result) (append-nil a) (value_steps c a [] piece k s r p (omega arith) q)

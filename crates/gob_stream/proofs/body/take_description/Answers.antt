@@ -1,0 +1,28 @@
+use Rattle.std.proofs.Common.{arith, ap, Err}
+use Rattle.gob_types.specs.Base.{wire_type}
+use Rattle.gob_stream.specs.Standing.{size}
+use Rattle.gob_stream.proofs.BodySteps.{stops_within}
+use Rattle.gob_stream.proofs.DescriptionSteps.{wire_fits, made_of, description_more, description_done, description_wrong, description_stopped}
+use Rattle.gob_stream.proofs.body.take_description.Goals as goal
+
+pub define-requires-clause-fits : goal.define-requires-clause-fits
+define-requires-clause-fits g c =
+    let u = c.requires.stands in
+    wire_fits c.requires.keeps (made_of {rest = c.args.rest} _ c.push.new.self.run u.bytes c.args.piece.now c.in-Ok-Done.field-0-is (c.in-Ok-Done.ensures.given wire_type u.limit (size c.args.rest) u.bytes u.after)).made
+
+pub fault_of_stop-requires : goal.fault_of_stop-requires
+fault_of_stop-requires g c = stops_within c.args.reader.run c.args.piece.now c.in-Err.stop c.requires.stands c.requires.order (omega arith) c.in-Err.ensures.refused
+
+pub returns-in-Ok-More-clause-read : goal.returns-in-Ok-More-clause-read
+returns-in-Ok-More-clause-read g c = λ limit z s. description_more c.push.new.self z c.args.piece.now c.in-Ok-More.field-0-is (c.in-Ok-More.ensures.given wire_type limit (size c.args.rest) z s)
+
+pub returns-in-Ok-clause-read : goal.returns-in-Ok-clause-read
+returns-in-Ok-clause-read g c = λ limit z s.
+    description_done (made_of _ c.push.new.self.run z c.args.piece.now c.in-Ok-Done.field-0-is (c.in-Ok-Done.ensures.given wire_type limit (size c.args.rest) z s)) c.in-Ok.ensures.defines c.next_count.ensures
+
+pub returns-in-Ok-Done-clause-read : goal.returns-in-Ok-Done-clause-read
+returns-in-Ok-Done-clause-read g c = λ limit z s.
+    description_wrong (made_of _ c.push.new.self.run z c.args.piece.now c.in-Ok-Done.field-0-is (c.in-Ok-Done.ensures.given wire_type limit (size c.args.rest) z s)) c.in-Err-define.ensures.defines
+
+pub returns-clause-read : goal.returns-clause-read
+returns-clause-read g c = λ limit z s. description_stopped c.args.reader.run z c.args.piece.now c.in-Err.stop c.fault_of_stop.ensures c.in-Err.ensures.refused (λ e. c.in-Err.ensures.failed_only (ap (λ x. Err x) e)) s

@@ -1,0 +1,152 @@
+//! What follows the type number of a body: a value, or the description of a type.
+
+ghost use Rattle.std.specs.Prelude.{◌≡◌, ℕ, ◌+◌, ◌<◌, ◌≤◌, ◌^◌, ◌++◌, ◌∷◌, [], List, OnOk, IfOk, IfErr, MatchResult};
+ghost use Rattle.gob_types.specs.Base.{base_table, wire_type};
+ghost use Rattle.gob_types.specs.Defined.{types, Admits};
+ghost use Rattle.gob_types.specs.Definable.{IsDefinable};
+ghost use Rattle.gob_value.specs.View.{view};
+ghost use Rattle.gob_value.specs.Fits.{Fits};
+ghost use Rattle.gob_value.specs.Description.{Describes};
+ghost use Rattle.gob_read.specs.Reader.{Stands};
+ghost use Rattle.gob_stream.specs.Standing.{size};
+ghost use Rattle.gob_stream.specs.ReadParts.{IsUnderWay, ReadsValue, ReadsDescription, StopsWithin, shape_fault};
+ghost use Rattle.gob_stream.specs.ReadParts.{fault_behind};
+ghost use Rattle.gob_stream.specs.ReadParts.{Defines, HasWireType};
+
+use crate::count::refusal;
+use crate::fault::Fault;
+use crate::item::Item;
+use crate::stage::{Extent, Stage, Stepped};
+use gob_num::Number;
+use gob_read::{BodyReader, Builder, Progress, Stop, TreeBuilder};
+use gob_types::{Reason, Table, TypeId};
+use gob_value::{ShapeFault, Value, shape_from};
+use std::alloc::Global;
+
+/// Takes bytes of a value of the type.
+pub(crate) fn take_value<B: Builder>(
+    alloc: Global,
+    table: &Table,
+    id: TypeId,
+    rest: Extent,
+    mut reader: BodyReader<B>,
+    piece: &[u8],
+) -> Result<Stepped<B>, Fault>
+    requires stands { IsUnderWay (types table.now) id rest B.stands reader.run }
+    requires order { rest.begin ≤ rest.end }
+    ensures { (limit : ℕ) (z : List ℕ) → Stands (types table.now) id limit (size rest) B.stands reader.run z
+        → ReadsValue B.stands B.means (types table.now) id limit rest z piece.now result }
+{
+    match reader.push(alloc, table, piece) {
+        Ok(Progress::More) => Ok(Stepped {
+            used: piece.len(),
+            stage: Stage::Value { id, rest, reader },
+            item: None,
+        }),
+        Ok(Progress::Done { out, used }) => Ok(Stepped {
+            used,
+            stage: next_count(rest),
+            item: Some(Item::Put { id, value: out }),
+        }),
+        Err(stop) => Err(fault_of_stop(rest.begin, stop)),
+    }
+}
+
+/// Takes bytes of the description of the type, and where it is whole, defines it.
+pub(crate) fn take_description<B: Builder>(
+    alloc: Global,
+    table: &mut Table,
+    id: TypeId,
+    rest: Extent,
+    mut reader: BodyReader<TreeBuilder>,
+    piece: &[u8],
+) -> Result<Stepped<B>, Fault>
+    requires stands { IsUnderWay (types table.old) wire_type rest ⟦<TreeBuilder as Builder>⟧.stands reader.run }
+    requires order { rest.begin ≤ rest.end }
+    requires admitted { Admits table.old id }
+    requires keeps { HasWireType (types table.old) }
+    ensures read { (limit : ℕ) (z : List ℕ) → Stands (types table.old) wire_type limit (size rest) ⟦<TreeBuilder as Builder>⟧.stands reader.run z
+        → ReadsDescription ⟦<TreeBuilder as Builder>⟧.stands (types table.old) id limit rest z piece.now (types table.new) result }
+    ensures most { table.new.most ≡ table.old.most }
+{
+    match reader.push(alloc, table, piece) {
+        Ok(Progress::More) => Ok(Stepped {
+            used: piece.len(),
+            stage: Stage::Description { id, rest, reader },
+            item: None,
+        }),
+        Ok(Progress::Done { out, used }) => match define(alloc, table, id, rest, &out) {
+            Ok(()) => Ok(Stepped {
+                used,
+                stage: next_count(rest),
+                item: Some(Item::Define { id, described: out }),
+            }),
+            Err(fault) => Err(fault),
+        },
+        Err(stop) => Err(fault_of_stop(rest.begin, stop)),
+    }
+}
+
+// The count of the item behind the body that ends there.
+fn next_count<B: Builder>(rest: Extent) -> Stage<B>
+    ensures { result ≡ Stage.Count rest.end [] }
+{
+    Stage::Count {
+        begin: rest.end,
+        number: Number::new(),
+    }
+}
+
+// Defines the type as it is described.
+fn define(
+    alloc: Global,
+    table: &mut Table,
+    id: TypeId,
+    rest: Extent,
+    described: &Value,
+) -> Result<(), Fault>
+    requires fits { Fits base_table wire_type (view described.now) }
+    requires admitted { Admits table.old id }
+    ensures defines { Defines rest id (view described.now) (types table.old) (types table.new) result }
+    ensures most { table.new.most ≡ table.old.most }
+{
+    let shape = match shape_from(alloc, id, described) {
+        Ok(shape) => shape,
+        Err(fault) => return Err(fault_of(rest, fault)),
+    };
+    match table.define(alloc, id, shape) {
+        Ok(()) => Ok(()),
+        // the table admits the type, so nothing but memory can be wanting
+        Err(_) => Err(Fault::Memory),
+    }
+}
+
+// Why the description that is the rest of the body describes no type.
+fn fault_of(rest: Extent, fault: ShapeFault) -> Fault
+    ensures { result ≡ shape_fault rest fault }
+{
+    let reason = match fault {
+        ShapeFault::KindCount => Reason::KindCount,
+        ShapeFault::WrongId => Reason::WrongId,
+        ShapeFault::BadReference => Reason::BadReference,
+        ShapeFault::BadLength => Reason::BadLength,
+        ShapeFault::Memory => return Fault::Memory,
+    };
+    Fault::Refused(refusal(rest.begin, rest.end, reason))
+}
+
+// What stopped the reader of what begins at this offset of the stream.
+fn fault_of_stop(begin: u64, stop: Stop) -> Fault
+    requires { StopsWithin begin stop }
+    ensures { result ≡ fault_behind begin stop }
+{
+    match stop {
+        Stop::Refused {
+            place,
+            seen,
+            reason,
+        } => Fault::Refused(refusal(begin + place, begin + seen, reason)),
+        Stop::Memory => Fault::Memory,
+        Stop::Failed => Fault::Failed,
+    }
+}

@@ -1,0 +1,180 @@
+//! A stream under way.
+
+ghost use Rattle.std.specs.Prelude.{◌≡◌, ℕ, ◌+◌, ◌<◌, ◌≤◌, [], ◌++◌, List, length, IfOk, OnErr};
+ghost use Rattle.gob_stream.specs.Item.{StreamItem};
+ghost use Rattle.gob_stream.specs.Standing.{StandsAfter, IsUsable};
+ghost use Rattle.gob_stream.specs.Reading.{Given, Feeds, Finishes};
+ghost use Rattle.gob_stream.specs.ReadParts.{Advances};
+
+use crate::body::{take_description, take_value};
+use crate::count::{refusal, take_count};
+use crate::fault::Fault;
+use crate::item::Item;
+use crate::limits::Limits;
+use crate::stage::{Extent, Stage};
+use crate::type_number::take_type_number;
+use gob_num::{Memory, Number};
+use gob_read::{Builder, TreeBuilder};
+use gob_types::{Reason, Table};
+use std::alloc::Global;
+use std::mem;
+
+/// What a reader of items knows of the stream so far.
+#[derive(Drop)]
+pub(crate) struct Reading<B: Builder> {
+    /// The limits of the stream.
+    pub(crate) limits: Limits,
+    /// The types that it has defined.
+    pub(crate) types: Table,
+    /// How many bytes of it were taken.
+    pub(crate) taken: u64,
+    /// What is awaited.
+    pub(crate) stage: Stage<B>,
+}
+
+/// What became of the front of a piece.
+#[derive(Drop)]
+pub(crate) struct Step<O: Drop> {
+    /// How many bytes of the piece were taken.
+    pub(crate) used: usize,
+    /// The item that is whole with them.
+    pub(crate) item: Option<Item<O>>,
+}
+
+impl<B: Builder> Reading<B> {
+    /// Before the first byte.
+    pub(crate) fn new(alloc: Global, limits: Limits) -> Result<Reading<B>, Memory>
+        ensures stands { IfOk result (λ reading. StandsAfter B.stands ⟦<TreeBuilder as Builder>⟧.stands B.DEPTH reading [] []) }
+        ensures limits { IfOk result (λ reading. reading.limits ≡ limits) }
+    {
+        let types = Table::new(alloc, limits.types())?;
+        Ok(Reading {
+            limits,
+            types,
+            taken: 0,
+            stage: Stage::Count {
+                begin: 0,
+                number: Number::new(),
+            },
+        })
+    }
+
+    /// Takes the piece, and appends the items that are whole with it.
+    pub(crate) fn feed(
+        &mut self,
+        alloc: Global,
+        piece: &[u8],
+        out: &mut Vec<Item<B::Out>>,
+    ) -> Result<(), Fault>
+        requires { IsUsable B.stands ⟦<TreeBuilder as Builder>⟧.stands B.DEPTH self.old }
+        ensures fed { Given out.old.items out.new.items (λ given. (items : List StreamItem) (bytes : List ℕ)
+            → StandsAfter B.stands ⟦<TreeBuilder as Builder>⟧.stands B.DEPTH self.old items bytes
+            → Feeds B.stands ⟦<TreeBuilder as Builder>⟧.stands B.means B.DEPTH self.old self.new items bytes piece.now given result) }
+        ensures usable { IsUsable B.stands ⟦<TreeBuilder as Builder>⟧.stands B.DEPTH self.new }
+        ensures failed { OnErr result (self.new.stage ≡ Stage.Failed) }
+        ensures limits { self.new.limits ≡ self.old.limits }
+    {
+        let mut used = 0;
+        for _ in 0..piece.len() {
+            if used >= piece.len() {
+                break;
+            }
+            let step = self.step(alloc, &piece[used..])?;
+            used += step.used;
+            if let Some(item) = step.item {
+                self.give(item, out)?;
+            }
+        }
+        Ok(())
+    }
+
+    /// Takes some bytes from the front of the piece, one at least. After a fault nothing more is read.
+    pub(crate) fn step(&mut self, alloc: Global, piece: &[u8]) -> Result<Step<B::Out>, Fault>
+        requires usable { IsUsable B.stands ⟦<TreeBuilder as Builder>⟧.stands B.DEPTH self.old }
+        requires some { 0 < length piece.now }
+        ensures advances { (items : List StreamItem) (bytes : List ℕ)
+            → StandsAfter B.stands ⟦<TreeBuilder as Builder>⟧.stands B.DEPTH self.old items bytes
+            → Advances B.stands ⟦<TreeBuilder as Builder>⟧.stands B.means B.DEPTH self.old self.new items bytes piece.now result }
+        ensures usable { IsUsable B.stands ⟦<TreeBuilder as Builder>⟧.stands B.DEPTH self.new }
+        ensures failed { OnErr result (self.new.stage ≡ Stage.Failed) }
+        ensures limits { self.new.limits ≡ self.old.limits }
+    {
+        let stage = mem::replace(&mut self.stage, Stage::Failed);
+        let stepped = match stage {
+            Stage::Count { begin, number } => {
+                match take_count(self.limits, begin, self.taken, number, piece) {
+                    Ok(stepped) => stepped,
+                    Err(refusal) => return Err(Fault::Refused(refusal)),
+                }
+            }
+            Stage::TypeNumber { body, number } => take_type_number(
+                alloc,
+                self.limits,
+                &mut self.types,
+                body,
+                self.taken,
+                number,
+                piece,
+            )?,
+            Stage::Value { id, rest, reader } => {
+                take_value(alloc, &self.types, id, rest, reader, piece)?
+            }
+            Stage::Description { id, rest, reader } => {
+                take_description(alloc, &mut self.types, id, rest, reader, piece)?
+            }
+            Stage::Failed => return Err(Fault::Failed),
+        };
+        self.taken += stepped.used as u64;
+        self.stage = stepped.stage;
+        Ok(Step {
+            used: stepped.used,
+            item: stepped.item,
+        })
+    }
+
+    // Appends an item. Without memory for it nothing more is read.
+    fn give(&mut self, item: Item<B::Out>, out: &mut Vec<Item<B::Out>>) -> Result<(), Fault> {
+        if out.push(item).is_err() {
+            self.stage = Stage::Failed;
+            return Err(Fault::Memory);
+        }
+        Ok(())
+    }
+
+    /// At the end of the input: whether it is the end of the stream. After a fault nothing more is read.
+    pub(crate) fn finish(&mut self) -> Result<(), Fault>
+        requires { IsUsable B.stands ⟦<TreeBuilder as Builder>⟧.stands B.DEPTH self.old }
+        ensures finishes { (items : List StreamItem) (bytes : List ℕ)
+            → StandsAfter B.stands ⟦<TreeBuilder as Builder>⟧.stands B.DEPTH self.old items bytes
+            → Finishes B.DEPTH self.old self.new items bytes result }
+        ensures usable { IsUsable B.stands ⟦<TreeBuilder as Builder>⟧.stands B.DEPTH self.new }
+        ensures failed { OnErr result (self.new.stage ≡ Stage.Failed) }
+    {
+        match self.stage {
+            Stage::Failed => Err(Fault::Failed),
+            Stage::Count { begin, number: _ } if begin == self.taken => Ok(()),
+            _ => {
+                self.stage = Stage::Failed;
+                Err(Fault::Refused(refusal(
+                    self.taken,
+                    self.taken,
+                    Reason::Ended,
+                )))
+            }
+        }
+    }
+
+    /// How many bytes can be read at once without going past the item's end: one where that isn't known.
+    pub(crate) fn wanted(&self) -> u64 {
+        match &self.stage {
+            Stage::Value { rest, .. } => self.left(*rest),
+            Stage::Description { rest, .. } => self.left(*rest),
+            _ => 1,
+        }
+    }
+
+    // How many bytes of a part of the stream are to come.
+    fn left(&self, rest: Extent) -> u64 {
+        rest.end - self.taken
+    }
+}

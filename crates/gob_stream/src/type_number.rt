@@ -1,0 +1,228 @@
+//! The type number at which a body begins.
+
+ghost use Rattle.std.specs.Prelude.{◌≡◌, ℕ, ◌+◌, ◌<◌, ◌≤◌, ◌^◌, ◌++◌, [], List, Ok, Err, length, OnOk, min, pos, negsuc};
+ghost use Rattle.gob_num.specs.Signed.{IsSigned};
+ghost use Rattle.gob_num.specs.Unsigned.{IsUnsigned, IsUnsignedFront};
+ghost use Rattle.gob_types.specs.Base.{wire_type};
+ghost use Rattle.gob_types.specs.Defined.{types, Admits};
+ghost use Rattle.gob_stream.specs.Bounds.{Bounds, greatest_stream};
+ghost use Rattle.gob_stream.specs.Standing.{no_deeper, IsCount, IsRest};
+ghost use Rattle.gob_stream.specs.declared.stage.Extent.{Extent};
+ghost use Rattle.gob_stream.specs.ReadParts.{AreTypes, HasWireType, MaybeDefines, MaybePuts, StepsOn, GoesOnIn};
+ghost use Rattle.gob_stream.specs.ReadParts.{define_reason, ready_fault};
+
+use crate::body::{take_description, take_value};
+use crate::count::refusal;
+use crate::fault::{Fault, Refusal};
+use crate::limits::Limits;
+use crate::stage::{Extent, Stage, Stepped};
+use gob_num::{Number, Taken, to_signed};
+use gob_read::{BodyReader, Builder, TreeBuilder};
+use gob_types::{DefineFault, NotReady, Reason, Table, TypeId};
+use std::alloc::Global;
+
+// The type of descriptions.
+const WIRE_TYPE: TypeId = TypeId(16);
+
+// The type of this project's own for the descriptions of opaque types, which no value item may name.
+const GOB_ENCODER_TYPE: u64 = 24;
+
+/// Takes bytes of the type number of a body, of which the number has the bytes before the offset `taken`, and where
+/// it is whole, those of what follows it.
+pub(crate) fn take_type_number<B: Builder>(
+    alloc: Global,
+    limits: Limits,
+    table: &mut Table,
+    body: Extent,
+    taken: u64,
+    mut number: Number,
+    piece: &[u8],
+) -> Result<Stepped<B>, Fault>
+    requires known { AreTypes limits table.old }
+    requires begin { body.begin + length number ≡ taken }
+    requires room { taken < body.end }
+    requires end { body.end ≤ greatest_stream }
+    requires front { IsUnsignedFront number }
+    ensures read { (offset m : ℕ) (c : List ℕ) → IsCount (no_deeper B.DEPTH limits) offset m c body
+        → StepsOn B.stands ⟦<TreeBuilder as Builder>⟧.stands B.means (no_deeper B.DEPTH limits) (types table.old) offset (c ++ number) piece.now (types table.new) result }
+    ensures most { table.new.most ≡ table.old.most }
+{
+    let room = (body.end - taken).min(piece.len() as u64) as usize;
+    match number.take(&piece[..room]) {
+        Taken::More => more_of_type_number(body, taken, number, room),
+        Taken::Whole { number, used } => {
+            let rest = Extent {
+                begin: taken + used as u64,
+                end: body.end,
+            };
+            let mut stepped =
+                begin_rest(alloc, limits, table, body.begin, rest, number, &piece[used..])?;
+            stepped.used += used;
+            Ok(stepped)
+        }
+        Taken::BadHead => Err(Fault::Refused(refusal(
+            body.begin,
+            body.begin + 1,
+            Reason::BadHead,
+        ))),
+        Taken::NotMinimal => Err(Fault::Refused(refusal(
+            body.begin,
+            body.begin + 2,
+            Reason::NotMinimal,
+        ))),
+    }
+}
+
+// The type number goes on behind so many bytes of a piece, where the body does.
+fn more_of_type_number<B: Builder>(
+    body: Extent,
+    taken: u64,
+    number: Number,
+    used: usize,
+) -> Result<Stepped<B>, Fault>
+    requires within { taken + used ≤ body.end }
+    requires end { body.end ≤ greatest_stream }
+    ensures { GoesOnIn body (taken + used) number used result }
+{
+    if taken + used as u64 == body.end {
+        return Err(Fault::Refused(refusal(body.end, body.end, Reason::Short)));
+    }
+    Ok(Stepped {
+        used,
+        stage: Stage::TypeNumber { body, number },
+        item: None,
+    })
+}
+
+// Takes bytes of what follows the type number, which begins at the place.
+fn begin_rest<B: Builder>(
+    alloc: Global,
+    limits: Limits,
+    table: &mut Table,
+    place: u64,
+    rest: Extent,
+    number: u64,
+    piece: &[u8],
+) -> Result<Stepped<B>, Fault>
+    requires known { AreTypes limits table.old }
+    requires order { rest.begin ≤ rest.end }
+    requires end { rest.end ≤ greatest_stream }
+    ensures read { (offset m : ℕ) (c a : List ℕ) (body : Extent) → IsCount (no_deeper B.DEPTH limits) offset m c body → body.begin ≡ place → IsUnsigned number a → IsRest body a rest
+        → StepsOn B.stands ⟦<TreeBuilder as Builder>⟧.stands B.means (no_deeper B.DEPTH limits) (types table.old) offset (c ++ a) piece.now (types table.new) result }
+    ensures most { table.new.most ≡ table.old.most }
+{
+    let number = to_signed(number);
+    let id = TypeId(number.unsigned_abs());
+    let depth = limits.depth();
+    if number < 0 {
+        let depth = depth.min(B::DEPTH);
+        return begin_description(alloc, depth, table, id, place, rest, piece);
+    }
+    begin_value(alloc, depth, table, id, place, rest, piece)
+}
+
+// Takes bytes of the description of the type whose number stands at the place.
+fn begin_description<B: Builder>(
+    alloc: Global,
+    depth: u64,
+    table: &mut Table,
+    id: TypeId,
+    place: u64,
+    rest: Extent,
+    piece: &[u8],
+) -> Result<Stepped<B>, Fault>
+    requires order { rest.begin ≤ rest.end }
+    requires depth { depth ≤ 1000 }
+    requires base { HasWireType (types table.old) }
+    ensures read { (L : Bounds) (offset m n : ℕ) (c a : List ℕ) (body : Extent) → L.depth ≡ depth → AreTypes L table.old → IsCount L offset m c body → body.begin ≡ place
+        → id.0 ≡ n + 1 → IsSigned (negsuc n) a → IsRest body a rest
+        → StepsOn B.stands ⟦<TreeBuilder as Builder>⟧.stands B.means L (types table.old) offset (c ++ a) piece.now (types table.new) result }
+    ensures most { table.new.most ≡ table.old.most }
+{
+    match admit(table, id, place, rest.begin) {
+        Ok(()) => {}
+        Err(refusal) => return Err(Fault::Refused(refusal)),
+    }
+    match BodyReader::new(alloc, WIRE_TYPE, rest.end - rest.begin, depth) {
+        Ok(reader) => take_description(alloc, table, id, rest, reader, piece),
+        Err(_) => Err(Fault::Memory),
+    }
+}
+
+// Takes bytes of a value of the type whose number stands at the place.
+fn begin_value<B: Builder>(
+    alloc: Global,
+    depth: u64,
+    table: &Table,
+    id: TypeId,
+    place: u64,
+    rest: Extent,
+    piece: &[u8],
+) -> Result<Stepped<B>, Fault>
+    requires { rest.begin ≤ rest.end }
+    ensures { (L : Bounds) (offset m : ℕ) (c a : List ℕ) (body : Extent) → L.depth ≡ min depth B.DEPTH → IsCount L offset m c body → body.begin ≡ place
+        → IsSigned (pos id.0) a → IsRest body a rest
+        → StepsOn B.stands ⟦<TreeBuilder as Builder>⟧.stands B.means L (types table.now) offset (c ++ a) piece.now (types table.now) result }
+{
+    match make_ready(alloc, table, id, place, rest.begin) {
+        Ok(()) => {}
+        Err(fault) => return Err(fault),
+    }
+    match BodyReader::new(alloc, id, rest.end - rest.begin, depth) {
+        Ok(reader) => take_value(alloc, table, id, rest, reader, piece),
+        Err(_) => Err(Fault::Memory),
+    }
+}
+
+// Whether the type may be defined now.
+fn admit(table: &Table, id: TypeId, place: u64, seen: u64) -> Result<(), Refusal>
+    ensures judged { (L : Bounds) → AreTypes L table.now → MaybeDefines L (types table.now) id place seen result }
+    ensures admitted { OnOk result (Admits table.now id) }
+{
+    match table.admits(id) {
+        Ok(()) => Ok(()),
+        Err(fault) => Err(refusal(place, seen, reason_of(id, fault))),
+    }
+}
+
+// Why a table refuses the definition of this id, which is never for want of memory.
+fn reason_of(id: TypeId, fault: DefineFault) -> Reason
+    ensures { result ≡ define_reason id fault }
+{
+    match fault {
+        DefineFault::ReservedType => Reason::ReservedType(id),
+        DefineFault::DefinedTwice => Reason::DefinedTwice(id),
+        DefineFault::TooManyTypes | DefineFault::Memory => Reason::TooManyTypes,
+    }
+}
+
+// Whether values of the type may come now.
+fn make_ready(
+    alloc: Global,
+    table: &Table,
+    id: TypeId,
+    place: u64,
+    seen: u64,
+) -> Result<(), Fault>
+    ensures { MaybePuts (types table.now) id place seen result }
+{
+    if id.0 == GOB_ENCODER_TYPE {
+        return Err(Fault::Refused(refusal(place, seen, Reason::UndefinedType(id))));
+    }
+    match table.ready(alloc, id) {
+        Ok(()) => Ok(()),
+        Err(fault) => Err(fault_of(fault, place, seen)),
+    }
+}
+
+// Why values of a type can't come, for its number at the place.
+fn fault_of(fault: NotReady, place: u64, seen: u64) -> Fault
+    ensures { result ≡ ready_fault place seen fault }
+{
+    let reason = match fault {
+        NotReady::UndefinedType(undefined) => Reason::UndefinedType(undefined),
+        NotReady::Bottomless(bottomless) => Reason::Bottomless(bottomless),
+        NotReady::Memory => return Fault::Memory,
+    };
+    Fault::Refused(refusal(place, seen, reason))
+}
