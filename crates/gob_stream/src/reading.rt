@@ -155,11 +155,7 @@ impl<B: Builder> Reading<B> {
             Stage::Count { begin, number: _ } if begin == self.taken => Ok(()),
             _ => {
                 self.stage = Stage::Failed;
-                Err(Fault::Refused(refusal(
-                    self.taken,
-                    self.taken,
-                    Reason::Ended,
-                )))
+                Err(Fault::Refused(refusal(self.taken, self.taken, Reason::Ended)))
             }
         }
     }
