@@ -91,7 +91,7 @@ impl Number {
         }
     }
 
-    // The same, byte by byte.
+    /// The same, byte by byte.
     pub(crate) fn take_by_bytes(&mut self, piece: &[u8]) -> Taken
         ensures taken { TakesOn self.old piece.now result }
         ensures left { self.new ≡ left result (self.old ++ piece.now) }

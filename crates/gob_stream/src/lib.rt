@@ -46,4 +46,6 @@ mod memory_tests;
 #[cfg(test)]
 mod reading_tests;
 #[cfg(test)]
+mod test_rows;
+#[cfg(test)]
 mod writing_tests;

@@ -77,7 +77,7 @@ impl Table {
         self.shapes.len() as u64 - BASE_COUNT
     }
 
-    // What is known of every table: a caller learns it by this call, which does nothing.
+    /// What is known of every table: a caller learns it by this call, which does nothing.
     pub(crate) fn learn(&self)
         ensures { IsTable (types self.now) }
     {
