@@ -10,6 +10,9 @@ pub mod WireLaws
 pub mod DefinableLaws
 pub mod RefusingLaws
 pub mod OutcomeLaws
+pub mod ShownLaws
+pub mod UnderWayLaws
+pub mod StayLaws
 pub mod CountSteps
 pub mod TypeNumberSteps
 pub mod BodySteps

@@ -1,6 +1,6 @@
 -- The laws of streams: their bytes tell their items, whatever the base table, the limits and the shapes are.
 -- They follow from Go's encoding/gob documentation, Encoding Details; docs/FORMAT.md, Items and streams.
-use Rattle.std.specs.Prelude.{◌≡◌, ℕ, ◌≤◌, ◌⊎◌, List, ◌++◌, length}
+use Rattle.std.specs.Prelude.{◌≡◌, ℕ, ◌≤◌, ◌⊎◌, List, ◌++◌, length, take}
 use Rattle.gob_types.specs.Table.{Table}
 use Rattle.gob_types.specs.Base.{base_table}
 use Rattle.gob_stream.specs.declared.fault.Refusal.{Refusal}
@@ -8,6 +8,7 @@ use Rattle.gob_stream.specs.Bounds.{Bounds}
 use Rattle.gob_stream.specs.Item.{StreamItem}
 use Rattle.gob_stream.specs.Stream.{Counted, Stream}
 use Rattle.gob_stream.specs.Outcome.{BeginsWith, GivesItems, RefusesNext, Ending, Outcome}
+use Rattle.gob_stream.specs.Reading.{IsShown}
 
 -- bytes are the stream of one list of items, with one table behind it
 abbrev pub HaveOneReading : Type 0
@@ -50,3 +51,8 @@ HaveOneOutcome = (L : Bounds) (bytes : List ℕ) (items others : List StreamItem
 abbrev pub RefuseNoItem : Type 0
 RefuseNoItem = (L : Bounds) (items : List StreamItem) (front z : List ℕ) (T : Table) (R : Refusal) → Stream base_table L items front T → RefusesNext base_table L T (length front) z R
     → (i : StreamItem) (b y : List ℕ) (U : Table) → Counted base_table L T (length front) i b U → ¬ (z ≡ b ++ y)
+
+-- the bytes that show a refusal are there, and it is the one of all bytes that begin with them
+abbrev pub StayShown : Type 0
+StayShown = (L : Bounds) (bytes others : List ℕ) (items : List StreamItem) (R : Refusal) → IsShown L bytes items R → take R.seen others ≡ take R.seen bytes
+    → (R.seen ≤ length bytes) × IsShown L others items R

@@ -1,7 +1,7 @@
 //! Laws of streams. Each function does nothing: its contract is a law that is proved here, once.
 
 ghost use Rattle.gob_stream.specs.Laws.{HaveOneReading, BeginOneAnother, GiveOneList};
-ghost use Rattle.gob_stream.specs.Laws.{StayStreams, HaveOneOutcome, RefuseNoItem};
+ghost use Rattle.gob_stream.specs.Laws.{StayStreams, HaveOneOutcome, RefuseNoItem, StayShown};
 ghost use Rattle.gob_stream.specs.WriterRefusal.{HaveOneReason, AreNotCounted};
 
 /// A stream has one list of items, and one table of types behind it.
@@ -35,4 +35,10 @@ pub fn bytes_have_one_outcome()
 /// What is refused behind a stream is no item there.
 pub fn refused_bytes_are_no_item()
     ensures { RefuseNoItem }
+{}
+
+/// The refusal that the bytes show is the same for all bytes that begin with those that show it, and so are the
+/// items before it.
+pub fn shown_refusals_stay()
+    ensures { StayShown }
 {}
