@@ -12,8 +12,6 @@ use Rattle.gob_stream.specs.declared.fault.Fault.{Fault}
 use Rattle.gob_stream.specs.declared.fault.Fault.TheVariants as fault
 use Rattle.gob_stream.specs.declared.item.Item as declared
 use Rattle.gob_stream.specs.declared.reading.Reading.{Reading}
-use Rattle.gob_stream.specs.declared.stage.Stage.{Stage}
-use Rattle.gob_stream.specs.declared.stage.Stage.TheVariants as stage
 use Rattle.gob_stream.specs.Bounds.{Bounds}
 use Rattle.gob_stream.specs.Devices.{counts_up, Rose}
 use Rattle.gob_stream.specs.Item.{StreamItem, ItemsMean, ItemMeans}
@@ -63,12 +61,6 @@ abbrev pub Finishes : {X O : Type 0} → ℕ → (s s' : Reading X O) → List S
 Finishes most s s' items bytes (Ok _) = Outcome base_table (no_deeper most s.limits) bytes items the_end × (s' ≡ s)
 Finishes most s s' items bytes (Err (fault.Refused R)) = Outcome base_table (no_deeper most s.limits) bytes items (refused R) × (R.reason ≡ reason.Ended)
 Finishes most s s' items bytes (Err _) = ⊥
-
--- how many bytes can be taken at once without going past the end of the item: one where that isn't known
-abbrev pub to_come : {X O : Type 0} → Stage X O → (taken : ℕ) → ℕ
-to_come (stage.Value t rest reader) taken = rest.end - taken
-to_come (stage.Description id rest reader) taken = rest.end - taken
-to_come _ taken = 1
 
 -- the bytes z of an item that begins at the offset are no more than those that show the refusal, or than its count and its body
 pub data IsNoFurther (L : Bounds) (offset : ℕ) (z : List ℕ) (R : Refusal) : Type 0 where

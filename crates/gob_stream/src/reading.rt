@@ -1,9 +1,9 @@
 //! A stream under way.
 
-ghost use Rattle.std.specs.Prelude.{◌≡◌, ℕ, ◌+◌, ◌<◌, ◌≤◌, [], ◌++◌, List, length, Err, IfOk, IfSome, OnErr};
+ghost use Rattle.std.specs.Prelude.{◌≡◌, ℕ, ◌+◌, ◌<◌, ◌≤◌, [], ◌++◌, List, length, IfOk, OnErr};
 ghost use Rattle.gob_stream.specs.Item.{StreamItem};
 ghost use Rattle.gob_stream.specs.Standing.{StandsAfter, IsUsable};
-ghost use Rattle.gob_stream.specs.Reading.{Given, Feeds, Finishes, to_come};
+ghost use Rattle.gob_stream.specs.Reading.{Given, Feeds, Finishes};
 ghost use Rattle.gob_stream.specs.ReadParts.{Advances};
 
 use crate::body::{take_description, take_value};
@@ -95,8 +95,6 @@ impl<B: Builder> Reading<B> {
         ensures advances { (items : List StreamItem) (bytes : List ℕ)
             → StandsAfter B.stands ⟦<TreeBuilder as Builder>⟧.stands B.DEPTH self.old items bytes
             → Advances B.stands ⟦<TreeBuilder as Builder>⟧.stands B.means B.DEPTH self.old self.new items bytes piece.now result }
-        ensures whole { IfOk result (λ step. length piece.now ≤ to_come self.old.stage self.old.taken → step.used ≡ length piece.now) }
-        ensures between { IfOk result (λ step. IfSome step.item (λ _. self.new.stage ≡ Stage.Count self.new.taken [])) }
         ensures usable { IsUsable B.stands ⟦<TreeBuilder as Builder>⟧.stands B.DEPTH self.new }
         ensures failed { OnErr result (self.new.stage ≡ Stage.Failed) }
         ensures limits { self.new.limits ≡ self.old.limits }
@@ -151,9 +149,6 @@ impl<B: Builder> Reading<B> {
             → Finishes B.DEPTH self.old self.new items bytes result }
         ensures usable { IsUsable B.stands ⟦<TreeBuilder as Builder>⟧.stands B.DEPTH self.new }
         ensures failed { OnErr result (self.new.stage ≡ Stage.Failed) }
-        ensures stays { self.old.stage ≡ Stage.Failed → (result ≡ Err Fault.Failed) × (self.new ≡ self.old) }
-        ensures limits { self.new.limits ≡ self.old.limits }
-        ensures taken { self.new.taken ≡ self.old.taken }
     {
         match self.stage {
             Stage::Failed => Err(Fault::Failed),
@@ -170,10 +165,7 @@ impl<B: Builder> Reading<B> {
     }
 
     /// How many bytes can be read at once without going past the item's end: one where that isn't known.
-    pub(crate) fn wanted(&self) -> u64
-        requires { IsUsable B.stands ⟦<TreeBuilder as Builder>⟧.stands B.DEPTH self.now }
-        ensures { result ≡ to_come self.now.stage self.now.taken }
-    {
+    pub(crate) fn wanted(&self) -> u64 {
         match &self.stage {
             Stage::Value { rest, .. } => self.left(*rest),
             Stage::Description { rest, .. } => self.left(*rest),
