@@ -17,3 +17,4 @@ pub mod DescriptionSteps
 pub mod ValueSteps
 pub mod DefinitionSteps
 pub mod StandingSteps
+pub mod NumberSteps
