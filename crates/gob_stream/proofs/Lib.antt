@@ -21,3 +21,4 @@ pub mod ValueSteps
 pub mod DefinitionSteps
 pub mod StandingSteps
 pub mod SessionSteps
+pub mod NumberSteps

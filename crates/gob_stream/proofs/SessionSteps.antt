@@ -6,7 +6,7 @@ use Rattle.std.specs.Result.{IsErrAnd}
 use Rattle.std.specs.Io.KnownBytes.{Consumes, Keeps, IsAtEnd}
 use Rattle.std.proofs.KnownBytes.{Consumes-nil, Consumes-trans, Consumes-kept}
 use Rattle.gob_num.specs.Unsigned.{IsUnsignedFront}
-use Rattle.gob_num.proofs.UnsignedLaws.{unsigned_length}
+use Rattle.gob_num.proofs.UnsignedLaws.{unsigned_length, unsigned_prefix}
 use Rattle.gob_types.specs.Table.{Table}
 use Rattle.gob_types.specs.Base.{base_table}
 use Rattle.gob_types.specs.Defined.{types}
@@ -33,7 +33,8 @@ use Rattle.gob_stream.proofs.OutcomeLaws.{one_front}
 use Rattle.gob_stream.proofs.ShownLaws.{next_seen}
 use Rattle.gob_stream.proofs.StayLaws.{refused_behind}
 use Rattle.gob_stream.proofs.ValueSteps.{Lies, lies, three}
-use Rattle.gob_stream.proofs.UnderWayLaws.{refused_later, after_gives}
+use Rattle.gob_stream.proofs.StreamLaws.{counted_prefix}
+use Rattle.gob_stream.proofs.UnderWayLaws.{front_shorter, refused_later, after_gives}
 
 -- the tellings that a builder of trees stands for
 abbrev pub trees : Standing TreeBuilder
@@ -152,12 +153,12 @@ room_of u n = after_room (somewhere u n).after
 piece_no_further : {X O : Type 0} {stands : Standing X} {trees : Standing TreeBuilder} {L : Bounds} {T : Table} {offset : ℕ} (taken : ℕ) {awaits : Stage X O} {z : List ℕ} (piece : List ℕ) {R : Refusal}
     → StandsIn stands trees L T offset awaits z → RefusesNext base_table L T offset (z ++ piece) R → taken ≡ offset + length z → 0 < length piece → length piece ≤ to_come awaits taken
     → IsNoFurther L offset (z ++ piece) R
-piece_no_further {offset = offset} taken {z = z} piece {R = R} (in_count f) r e m l =
-    let before : offset + length z < R.seen = refused_later piece (in_count f) r in
+piece_no_further {X = X} {O = O} {stands = stands} {trees = trees} {offset = offset} taken {z = z} piece {R = R} (in_count f) r e m l =
+    let before : offset + length z < R.seen = refused_later {X = X} {O = O} {stands = stands} {trees = trees} piece (in_count f) r in
     let there : R.seen ≤ offset + length (z ++ piece) = next_seen r in
     up_to_the_last_shown (omega (arith, length-append z piece))
-piece_no_further {offset = offset} taken piece {R = R} (in_type_number {c = c} {number = number} k f w) r e m l =
-    let before : offset + length (c ++ number) < R.seen = refused_later piece (in_type_number k f w) r in
+piece_no_further {X = X} {O = O} {stands = stands} {trees = trees} {offset = offset} taken piece {R = R} (in_type_number {c = c} {number = number} k f w) r e m l =
+    let before : offset + length (c ++ number) < R.seen = refused_later {X = X} {O = O} {stands = stands} {trees = trees} piece (in_type_number k f w) r in
     let there : R.seen ≤ offset + length ((c ++ number) ++ piece) = next_seen r in
     up_to_the_last_shown (omega (arith, length-append (c ++ number) piece))
 piece_no_further taken piece (in_value {c = c} {a = a} {z = z} k s r p b) q e m l =
@@ -226,7 +227,7 @@ pub step_stops : {X O : Type 0} {stands : Standing X} {trees : Standing TreeBuil
 step_stops {most = most} {s = s} {items = items} piece (fault.Refused R) f p =
     let L = no_deeper most s.limits in
     shown (taken_as (λ x b.
-        let h : IsShown L _ items R = f.each items _ b.after in
+        let h : IsShown L _ items R = (f.each items _ b.after).0 in
         (subst (λ y. IsShown L y items R) b.whole h, subst (λ y. EndsInItem L y items R) b.whole (ends_in_item piece b.after f.some f.few h))) p)
 step_stops {most = most} {s = s} {items = items} piece fault.Memory f p =
     taken_as (λ x b. subst (λ y. BeginsWith base_table (no_deeper most s.limits) y items) b.whole (begins_more piece b.after)) p
@@ -234,21 +235,21 @@ step_stops {items = items} piece fault.Read f p = absurd (f.each items _ p.holds
 step_stops {items = items} piece fault.Failed f p = absurd (f.each items _ p.holds.after)
 
 -- a read that fails
-pub read_stops : {X O : Type 0} {stands : Standing X} {trees : Standing TreeBuilder} {most : ℕ} {s : Reading X O} {items : List StreamItem} {bytes rest : List ℕ} {old mid now : Option (List ℕ)} → old ≡ Some rest → Keeps mid now
+pub read_stops : {X O : Type 0} {stands : Standing X} {trees : Standing TreeBuilder} {most : ℕ} {s : Reading X O} {items : List StreamItem} (bytes : List ℕ) {rest : List ℕ} {old mid now : Option (List ℕ)} → old ≡ Some rest → Keeps mid now
     → SomeConsumed old mid (λ more. StandsAfter stands trees most s items (bytes ++ more)) → SomeTaken rest now (λ taken. GivesItems base_table (no_deeper most s.limits) (bytes ++ taken) items)
-read_stops e k p = taken_as (λ x a. after_gives a) (known_taken e (consumed_still k p))
+read_stops bytes e k p = taken_as (λ x a. after_gives a) (known_taken e (consumed_still k p))
 
 -- the end of the input within an item
-pub end_stops : {X O : Type 0} (most : ℕ) (s s' : Reading X O) {items : List StreamItem} {bytes rest : List ℕ} {now : Option (List ℕ)} (e : Fault) → now ≡ Some [] → Finishes most s s' items (bytes ++ rest) (Err e)
+pub end_stops : {X O : Type 0} (most : ℕ) (s s' : Reading X O) (items : List StreamItem) (bytes rest : List ℕ) {now : Option (List ℕ)} (e : Fault) → now ≡ Some [] → Finishes most s s' items (bytes ++ rest) (Err e)
     → StopsNext (no_deeper most s.limits) items bytes rest now e
-end_stops most s s' (fault.Refused R) n f = ended n f.0 f.1
-end_stops most s s' fault.Read n f = absurd f
-end_stops most s s' fault.Memory n f = absurd f
-end_stops most s s' fault.Failed n f = absurd f
+end_stops most s s' items bytes rest (fault.Refused R) n f = ended n f.0 f.1
+end_stops most s s' items bytes rest fault.Read n f = absurd f
+end_stops most s s' items bytes rest fault.Memory n f = absurd f
+end_stops most s s' items bytes rest fault.Failed n f = absurd f
 
 -- ---- the end of the stream
 -- behind it nothing was taken
-record NothingMore {X O : Type 0} (s s' : Reading X O) (more : List ℕ) : Type 0 where
+pub record NothingMore {X O : Type 0} (s s' : Reading X O) (more : List ℕ) : Type 0 where
   pub none : more ≡ []
   pub same : s' ≡ s
 
@@ -263,3 +264,44 @@ nothing_more {s = s} {s' = s'} {bytes = bytes} more a b o g = record { none = no
     none : EndsSo base_table _ (bytes ++ more) _ the_end → more ≡ []
     none (at_the_end p) =
         front_of_nothing a.under_way more (one_front [] (a.under_way ++ more) p a.stream (append-nil (bytes ++ more) ∙ (ap (λ l. l ++ more) a.whole ∙ append_assoc a.front a.under_way more))).rest
+
+-- ---- the item that is whole
+-- a stream that goes on behind another by one item
+record OneAfter (base : Table) (L : Bounds) (T U : Table) (offset : ℕ) (i : StreamItem) (x y : List ℕ) : Type 0 where
+  bytes : List ℕ
+  counted : Counted base L T offset i bytes U
+  whole : x ≡ bytes ++ y
+
+one_after : {base : Table} {L : Bounds} {T U V : Table} {offset next : ℕ} {i : StreamItem} {items : List StreamItem} {b c : List ℕ} (x y : List ℕ)
+    → Continues base L T offset items b U → next ≡ offset + length b → Continues base L T offset (items ++ i ∷ []) c V → b ++ x ≡ c ++ y → OneAfter base L U V next i x y
+one_after {base = base} {L = L} {T = T} {i = i} x y (no_more {offset = offset}) n (and_then {b = c} p e no_more) h = record {
+  bytes = c;
+  counted = subst (λ o. Counted base L T o i c _) (let f : offset ≡ _ = omega arith in f) p;
+  whole = h ∙ append_assoc c [] y;
+}
+one_after {base = base} {L = L} {V = V} {i = i} x y (and_then {U = U} {next = m} {items = items} {b = a} {c = b} p e r) k (and_then {U = W} {next = n} {b = c} {c = d} q f s) h =
+    let one = counted_prefix (b ++ x) (d ++ y) p q (sym (append_assoc a b x) ∙ h ∙ append_assoc c d y) in
+    let lengths : length a ≡ length c = ap length one.bytes in
+    let offsets : n ≡ m = omega arith in
+    let s' = subst (λ (U : Table). Continues base L U m (items ++ i ∷ []) d V) (sym one.table) (subst (λ n. Continues base L W n (items ++ i ∷ []) d V) offsets s) in
+    one_after x y r (omega (arith, length-append a b)) s' one.rest
+
+-- with a piece of no more bytes than can be taken at once nothing comes behind the item
+nothing_behind : {X O : Type 0} {stands : Standing X} {trees : Standing TreeBuilder} {base : Table} {L : Bounds} {T U : Table} {offset : ℕ} (taken : ℕ) {awaits : Stage X O} {z b : List ℕ} {i : StreamItem} (piece y : List ℕ)
+    → StandsIn stands trees L T offset awaits z → Counted base L T offset i b U → z ++ piece ≡ b ++ y → taken ≡ offset + length z → length piece ≤ wanted_in awaits taken → length y ≡ 0
+nothing_behind taken piece y (in_count {number = number} f) (counted {c = c} {d = d} u k w p) e t l =
+    let longer = front_shorter piece (d ++ y) f u (e ∙ append_assoc c d y) in
+    omega (arith, ap length e, length-append number piece, length-append (c ++ d) y, length-append c d)
+nothing_behind taken piece y (in_type_number {c = a} {number = number} k f w) (counted {c = c} {d = d} u l s p) e t m =
+    let same = unsigned_prefix (number ++ piece) (d ++ y) k.count u (sym (append_assoc a number piece) ∙ (e ∙ append_assoc c d y)) in
+    let v = same.value in omega (arith, ap length same.rest, length-append number piece, length-append d y)
+nothing_behind taken piece y (in_value {c = x} {a = a} {z = z} k i r q w) (counted {c = c} {d = d} u l s p) e t m =
+    let same = unsigned_prefix (a ++ (z ++ piece)) (d ++ y) k.count u (sym (three x a z piece) ∙ (e ∙ append_assoc c d y)) in
+    let v = same.value in let lie = lies k r in let z1 = lie.ends in
+    let n : length (x ++ (a ++ z)) ≡ length x + (length a + length z) = omega (arith, length-append x (a ++ z), length-append a z) in
+    omega (arith, ap length same.rest, length-append a (z ++ piece), length-append z piece, length-append d y)
+nothing_behind taken piece y (in_description {c = x} {a = a} {z = z} k j i r q w) (counted {c = c} {d = d} u l s p) e t m =
+    let same = unsigned_prefix (a ++ (z ++ piece)) (d ++ y) k.count u (sym (three x a z piece) ∙ (e ∙ append_assoc c d y)) in
+    let v = same.value in let lie = lies k r in let z1 = lie.ends in
+    let n : length (x ++ (a ++ z)) ≡ length x + (length a + length z) = omega (arith, length-append x (a ++ z), length-append a z) in
+    omega (arith, ap length same.rest, length-append a (z ++ piece), length-append z piece, length-append d y)
