@@ -6,13 +6,14 @@ use Rattle.std.specs.Result.{IsErrAnd}
 use Rattle.std.specs.Io.KnownBytes.{Consumes, Keeps, IsAtEnd}
 use Rattle.std.proofs.KnownBytes.{Consumes-nil, Consumes-trans, Consumes-kept}
 use Rattle.gob_num.specs.Unsigned.{IsUnsignedFront}
-use Rattle.gob_num.proofs.UnsignedLaws.{unsigned_length, unsigned_prefix}
+use Rattle.gob_num.proofs.UnsignedLaws.{unsigned_length}
 use Rattle.gob_types.specs.Table.{Table}
 use Rattle.gob_types.specs.Base.{base_table}
 use Rattle.gob_types.specs.Defined.{types}
 use Rattle.gob_value.specs.Tree.{Tree}
 use Rattle.gob_read.specs.contracts.tree_builder.TreeBuilderBuilder.TheImpl as tree_builder
 use Rattle.gob_read.specs.declared.tree_builder.TreeBuilder.{TreeBuilder}
+use Rattle.gob_read.proofs.Seen.{take_whole}
 use Rattle.gob_stream.specs.declared.fault.Refusal.{Refusal}
 use Rattle.gob_stream.specs.declared.fault.Fault.{Fault}
 use Rattle.gob_stream.specs.declared.fault.Fault.TheVariants as fault
@@ -27,14 +28,13 @@ use Rattle.gob_stream.specs.Item.{StreamItem, ItemMeans}
 use Rattle.gob_stream.specs.Stream.{Counted, counted, Continues, no_more, and_then, Stream}
 use Rattle.gob_stream.specs.Outcome.{BeginsWith, GivesItems, RefusesNext, EndsSo, at_the_end, Outcome, the_end, refused}
 use Rattle.gob_stream.specs.Standing.{Standing, StandsIn, in_count, in_type_number, in_value, in_description, StandsAfter, IsUsable, has_failed, stands_after, no_deeper}
-use Rattle.gob_stream.specs.Reading.{Taken, SomeTaken, IsShown, to_come, IsNoFurther, up_to_the_last_shown, within_the_item, EndsInItem, GivesNext, RefusesNextItem, shown, ended, StopsNext, ReadsNext, Finishes}
-use Rattle.gob_stream.specs.ReadParts.{Advances, AdvancesOver, over_some, over_item}
+use Rattle.gob_stream.specs.Reading.{Taken, SomeTaken, IsShown, IsNoFurther, up_to_the_last_shown, within_the_item, EndsInItem, GivesNext, RefusesNextItem, shown, ended, StopsNext, ReadsNext, Finishes}
+use Rattle.gob_stream.specs.ReadParts.{Advances, AdvancesOver, over_some, over_item, wanted_in}
 use Rattle.gob_stream.proofs.OutcomeLaws.{one_front}
 use Rattle.gob_stream.proofs.ShownLaws.{next_seen}
 use Rattle.gob_stream.proofs.StayLaws.{refused_behind}
 use Rattle.gob_stream.proofs.ValueSteps.{Lies, lies, three}
-use Rattle.gob_stream.proofs.StreamLaws.{counted_prefix}
-use Rattle.gob_stream.proofs.UnderWayLaws.{front_shorter, refused_later, after_gives}
+use Rattle.gob_stream.proofs.UnderWayLaws.{refused_later, after_gives}
 
 -- the tellings that a builder of trees stands for
 abbrev pub trees : Standing TreeBuilder
@@ -128,7 +128,7 @@ front_short {b = b} f = shorter b f.rest f.more (unsigned_length f.spelled).1
     shorter b (d ∷ r) m l = omega (arith, length-append b (d ∷ r))
 
 stage_room : {X O : Type 0} {stands : Standing X} {trees : Standing TreeBuilder} {L : Bounds} {T : Table} {offset taken : ℕ} {awaits : Stage X O} {z : List ℕ}
-    → StandsIn stands trees L T offset awaits z → offset ≤ L.stream → taken ≡ offset + length z → Room L.stream taken (to_come awaits taken)
+    → StandsIn stands trees L T offset awaits z → offset ≤ L.stream → taken ≡ offset + length z → Room L.stream taken (wanted_in awaits taken)
 stage_room (in_count {number = number} f) l e = let n = front_short f in record { some = omega arith; within = omega arith }
 stage_room (in_type_number {c = c} {number = number} k f w) l e =
     let s = k.stream in record { some = omega arith; within = omega (arith, length-append c number) }
@@ -142,16 +142,16 @@ stage_room (in_description {c = c} {a = a} {z = z} k i s r p b) l e =
     record { some = omega arith; within = omega arith }
 
 pub after_room : {X O : Type 0} {stands : Standing X} {trees : Standing TreeBuilder} {most : ℕ} {s : Reading X O} {items : List StreamItem} {bytes : List ℕ}
-    → StandsAfter stands trees most s items bytes → Room s.limits.stream s.taken (to_come s.stage s.taken)
+    → StandsAfter stands trees most s items bytes → Room s.limits.stream s.taken (wanted_in s.stage s.taken)
 after_room a = stage_room a.stage (stream_within a.stream) (let t = a.taken in omega (arith, ap length a.whole, length-append a.front a.under_way))
 
-pub room_of : {X O : Type 0} {stands : Standing X} {trees : Standing TreeBuilder} {most : ℕ} {s : Reading X O} → IsUsable stands trees most s → IsSound s → Room s.limits.stream s.taken (to_come s.stage s.taken)
+pub room_of : {X O : Type 0} {stands : Standing X} {trees : Standing TreeBuilder} {most : ℕ} {s : Reading X O} → IsUsable stands trees most s → IsSound s → Room s.limits.stream s.taken (wanted_in s.stage s.taken)
 room_of u n = after_room (somewhere u n).after
 
 -- ---- what is refused
 -- a piece of no more bytes than can be taken at once ends with what shows the refusal, or within the item
 piece_no_further : {X O : Type 0} {stands : Standing X} {trees : Standing TreeBuilder} {L : Bounds} {T : Table} {offset : ℕ} (taken : ℕ) {awaits : Stage X O} {z : List ℕ} (piece : List ℕ) {R : Refusal}
-    → StandsIn stands trees L T offset awaits z → RefusesNext base_table L T offset (z ++ piece) R → taken ≡ offset + length z → 0 < length piece → length piece ≤ to_come awaits taken
+    → StandsIn stands trees L T offset awaits z → RefusesNext base_table L T offset (z ++ piece) R → taken ≡ offset + length z → 0 < length piece → length piece ≤ wanted_in awaits taken
     → IsNoFurther L offset (z ++ piece) R
 piece_no_further {X = X} {O = O} {stands = stands} {trees = trees} {offset = offset} taken {z = z} piece {R = R} (in_count f) r e m l =
     let before : offset + length z < R.seen = refused_later {X = X} {O = O} {stands = stands} {trees = trees} piece (in_count f) r in
@@ -181,7 +181,7 @@ refused_there {most = most} {s = s} piece {R = R} a h =
     subst (λ z. RefusesNext base_table L (types s.types) (length a.front) z R) o.rest (subst (λ f. RefusesNext base_table L (types s.types) (length f) b.left R) o.front moved)
 
 ends_in_item : {X O : Type 0} {stands : Standing X} {trees : Standing TreeBuilder} {most : ℕ} {s : Reading X O} {items : List StreamItem} {bytes : List ℕ} (piece : List ℕ) {R : Refusal} → StandsAfter stands trees most s items bytes
-    → 0 < length piece → length piece ≤ to_come s.stage s.taken → IsShown (no_deeper most s.limits) (bytes ++ piece) items R → EndsInItem (no_deeper most s.limits) (bytes ++ piece) items R
+    → 0 < length piece → length piece ≤ wanted_in s.stage s.taken → IsShown (no_deeper most s.limits) (bytes ++ piece) items R → EndsInItem (no_deeper most s.limits) (bytes ++ piece) items R
 ends_in_item {s = s} piece a m l h = record {
   front = a.front;
   item = a.under_way ++ piece;
@@ -219,7 +219,7 @@ stood_before {bytes = bytes} piece e c p = known_taken e (consumed_more piece c 
 pub record Stepped {X O : Type 0} (stands : Standing X) (trees : Standing TreeBuilder) (means : O → Tree → Type 0) (most : ℕ) (s s' : Reading X O) (piece : List ℕ) (result : Result (Step O) Fault) : Type 0 where
   pub each : (items : List StreamItem) (bytes : List ℕ) → StandsAfter stands trees most s items bytes → Advances stands trees means most s s' items bytes piece result
   pub some : 0 < length piece
-  pub few : length piece ≤ to_come s.stage s.taken
+  pub few : length piece ≤ wanted_in s.stage s.taken
 
 -- a step that is refused, or wants memory
 pub step_stops : {X O : Type 0} {stands : Standing X} {trees : Standing TreeBuilder} {means : O → Tree → Type 0} {most : ℕ} {s s' : Reading X O} {items : List StreamItem} {bytes rest : List ℕ} (piece : List ℕ) {now : Option (List ℕ)} (e : Fault)
@@ -266,42 +266,29 @@ nothing_more {s = s} {s' = s'} {bytes = bytes} more a b o g = record { none = no
         front_of_nothing a.under_way more (one_front [] (a.under_way ++ more) p a.stream (append-nil (bytes ++ more) ∙ (ap (λ l. l ++ more) a.whole ∙ append_assoc a.front a.under_way more))).rest
 
 -- ---- the item that is whole
--- a stream that goes on behind another by one item
-record OneAfter (base : Table) (L : Bounds) (T U : Table) (offset : ℕ) (i : StreamItem) (x y : List ℕ) : Type 0 where
-  bytes : List ℕ
-  counted : Counted base L T offset i bytes U
-  whole : x ≡ bytes ++ y
+between_items : {X O : Type 0} {stands : Standing X} {trees : Standing TreeBuilder} {L : Bounds} {T : Table} {offset : ℕ} (n : ℕ) {awaits : Stage X O} {z : List ℕ} → StandsIn stands trees L T offset awaits z → awaits ≡ stage.Count n [] → z ≡ []
+between_items n (in_count {number = number} f) e = let g : number ≡ [] = cc in g
+between_items n (in_type_number k f w) e = cc
+between_items n (in_value k s r p b) e = cc
+between_items n (in_description k i s r p b) e = cc
 
-one_after : {base : Table} {L : Bounds} {T U V : Table} {offset next : ℕ} {i : StreamItem} {items : List StreamItem} {b c : List ℕ} (x y : List ℕ)
-    → Continues base L T offset items b U → next ≡ offset + length b → Continues base L T offset (items ++ i ∷ []) c V → b ++ x ≡ c ++ y → OneAfter base L U V next i x y
-one_after {base = base} {L = L} {T = T} {i = i} x y (no_more {offset = offset}) n (and_then {b = c} p e no_more) h = record {
-  bytes = c;
-  counted = subst (λ o. Counted base L T o i c _) (let f : offset ≡ _ = omega arith in f) p;
-  whole = h ∙ append_assoc c [] y;
-}
-one_after {base = base} {L = L} {V = V} {i = i} x y (and_then {U = U} {next = m} {items = items} {b = a} {c = b} p e r) k (and_then {U = W} {next = n} {b = c} {c = d} q f s) h =
-    let one = counted_prefix (b ++ x) (d ++ y) p q (sym (append_assoc a b x) ∙ h ∙ append_assoc c d y) in
-    let lengths : length a ≡ length c = ap length one.bytes in
-    let offsets : n ≡ m = omega arith in
-    let s' = subst (λ (U : Table). Continues base L U m (items ++ i ∷ []) d V) (sym one.table) (subst (λ n. Continues base L W n (items ++ i ∷ []) d V) offsets s) in
-    one_after x y r (omega (arith, length-append a b)) s' one.rest
+-- the item was given with the last byte of the piece
+gives_next : {X O : Type 0} {stands : Standing X} {trees : Standing TreeBuilder} {means : O → Tree → Type 0} {most : ℕ} {s' : Reading X O} {given : declared.Item O} {i : StreamItem} {items : List StreamItem} {bytes : List ℕ} (n : ℕ)
+    → ItemMeans means given i → StandsAfter stands trees most s' (items ++ i ∷ []) bytes → s'.stage ≡ stage.Count n [] → GivesNext stands trees means most s' given items bytes
+gives_next {most = most} {s' = s'} {i = i} {items = items} n m a e =
+    let all = a.whole ∙ ap (λ l. a.front ++ l) (between_items n a.stage e) ∙ append-nil a.front in
+    record { item = i; meant = m; after = a; stream = subst (λ b. Stream base_table (no_deeper most s'.limits) (items ++ i ∷ []) b (types s'.types)) (sym all) a.stream }
 
--- with a piece of no more bytes than can be taken at once nothing comes behind the item
-nothing_behind : {X O : Type 0} {stands : Standing X} {trees : Standing TreeBuilder} {base : Table} {L : Bounds} {T U : Table} {offset : ℕ} (taken : ℕ) {awaits : Stage X O} {z b : List ℕ} {i : StreamItem} (piece y : List ℕ)
-    → StandsIn stands trees L T offset awaits z → Counted base L T offset i b U → z ++ piece ≡ b ++ y → taken ≡ offset + length z → length piece ≤ wanted_in awaits taken → length y ≡ 0
-nothing_behind taken piece y (in_count {number = number} f) (counted {c = c} {d = d} u k w p) e t l =
-    let longer = front_shorter piece (d ++ y) f u (e ∙ append_assoc c d y) in
-    omega (arith, ap length e, length-append number piece, length-append (c ++ d) y, length-append c d)
-nothing_behind taken piece y (in_type_number {c = a} {number = number} k f w) (counted {c = c} {d = d} u l s p) e t m =
-    let same = unsigned_prefix (number ++ piece) (d ++ y) k.count u (sym (append_assoc a number piece) ∙ (e ∙ append_assoc c d y)) in
-    let v = same.value in omega (arith, ap length same.rest, length-append number piece, length-append d y)
-nothing_behind taken piece y (in_value {c = x} {a = a} {z = z} k i r q w) (counted {c = c} {d = d} u l s p) e t m =
-    let same = unsigned_prefix (a ++ (z ++ piece)) (d ++ y) k.count u (sym (three x a z piece) ∙ (e ∙ append_assoc c d y)) in
-    let v = same.value in let lie = lies k r in let z1 = lie.ends in
-    let n : length (x ++ (a ++ z)) ≡ length x + (length a + length z) = omega (arith, length-append x (a ++ z), length-append a z) in
-    omega (arith, ap length same.rest, length-append a (z ++ piece), length-append z piece, length-append d y)
-nothing_behind taken piece y (in_description {c = x} {a = a} {z = z} k j i r q w) (counted {c = c} {d = d} u l s p) e t m =
-    let same = unsigned_prefix (a ++ (z ++ piece)) (d ++ y) k.count u (sym (three x a z piece) ∙ (e ∙ append_assoc c d y)) in
-    let v = same.value in let lie = lies k r in let z1 = lie.ends in
-    let n : length (x ++ (a ++ z)) ≡ length x + (length a + length z) = omega (arith, length-append x (a ++ z), length-append a z) in
-    omega (arith, ap length same.rest, length-append a (z ++ piece), length-append z piece, length-append d y)
+over_the_item : {X O : Type 0} {stands : Standing X} {trees : Standing TreeBuilder} {means : O → Tree → Type 0} {most : ℕ} {s' : Reading X O} {items : List StreamItem} {bytes piece : List ℕ} (used n : ℕ) (o : Option (declared.Item O)) {given : declared.Item O}
+    → o ≡ Some given → used ≡ length piece → s'.stage ≡ stage.Count n [] → AdvancesOver stands trees means most s' items bytes piece used o → GivesNext stands trees means most s' given items (bytes ++ piece)
+over_the_item used n o e u c (over_some m l a) = cc
+over_the_item {stands = stands} {trees = trees} {means = means} {most = most} {s' = s'} {items = items} {bytes = bytes} {piece = piece} used n o {given = given} e u c (over_item {given = x} {i = i} k l m a) =
+    let same : x ≡ given = cc in
+    let whole : bytes ++ take used piece ≡ bytes ++ piece = ap (λ l. bytes ++ l) (take_whole piece used (omega arith)) in
+    subst (λ b. GivesNext stands trees means most s' given items b) whole (gives_next n (subst (λ x. ItemMeans means x i) same m) a c)
+
+over_the_piece : {X O : Type 0} {stands : Standing X} {trees : Standing TreeBuilder} {means : O → Tree → Type 0} {most : ℕ} {s' : Reading X O} {items : List StreamItem} {bytes piece : List ℕ} (used : ℕ) (o : Option (declared.Item O))
+    → o ≡ None → used ≡ length piece → AdvancesOver stands trees means most s' items bytes piece used o → StandsAfter stands trees most s' items (bytes ++ piece)
+over_the_piece {stands = stands} {trees = trees} {most = most} {s' = s'} {items = items} {bytes = bytes} {piece = piece} used o e u (over_some m l a) =
+    subst (λ b. StandsAfter stands trees most s' items (bytes ++ b)) (take_whole piece used (omega arith)) a
+over_the_piece used o e u (over_item k l m a) = cc
