@@ -48,7 +48,7 @@ pub begin_one_another : (base : Table) (L : Bounds) (bytes : List ℕ) (items ot
 begin_one_another base L bytes items others p q = begin_from p.rest q.rest p.stream q.stream (sym p.whole ∙ q.whole)
 
 -- what isn't longer is all
-all_of : {items others : List StreamItem} → GoesOn items others → length others ≤ length items → items ≡ others
+pub all_of : {items others : List StreamItem} → GoesOn items others → length others ≤ length items → items ≡ others
 all_of {items = items} {others = others} g l = sym (g.whole ∙ ap (λ m. items ++ m) (none g.more (omega (arith, ap length g.whole, length-append items g.more))) ∙ append-nil items)
   where
     none : (m : List StreamItem) → length m ≡ 0 → m ≡ []

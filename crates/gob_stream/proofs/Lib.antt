@@ -13,6 +13,7 @@ pub mod OutcomeLaws
 pub mod ShownLaws
 pub mod UnderWayLaws
 pub mod StayLaws
+pub mod ReadBackLaws
 pub mod CountSteps
 pub mod TypeNumberSteps
 pub mod BodySteps

@@ -27,6 +27,13 @@ pub refused_behind : {L : Bounds} {bytes : List ℕ} {items : List StreamItem} {
 refused_behind (next_refused {f = f} z p e q) n = record { front = f; left = z; table = _; stream = p; whole = e; next = q }
 refused_behind (within_an_item z p e m q) n = absurd (n refl)
 
+-- the bytes that show it are there
+pub shown_there : {L : Bounds} {bytes : List ℕ} {items : List StreamItem} {R : Refusal} → IsShown L bytes items R → R.seen ≤ length bytes
+shown_there h =
+    let b = refused_behind h.outcome.ends h.shown in
+    let seen = next_seen b.next in
+    omega (arith, ap length b.whole, length-append b.front b.left)
+
 -- other bytes that begin with those that show it
 others_begin : (f y w others : List ℕ) (k : ℕ) → length f ≤ k → take k others ≡ take k (f ++ (y ++ w)) → length y ≡ k - length f → others ≡ f ++ (y ++ drop k others)
 others_begin f y w others k l e n =

@@ -4,7 +4,7 @@ use Rattle.std.proofs.lemmas.Bool.{cases_lt}
 use Rattle.std.proofs.lemmas.List.{append-nil}
 use Rattle.gob_num.specs.Unsigned.{IsUnsigned, IsUnsignedFront, IsBadHead, IsNotMinimal}
 use Rattle.gob_num.specs.Signed.{IsSigned}
-use Rattle.gob_num.proofs.UnsignedLaws.{unsigned_prefix}
+use Rattle.gob_num.proofs.UnsignedLaws.{unsigned_prefix, unsigned_length}
 use Rattle.gob_num.proofs.SignedLaws.{signed_unsigned}
 use Rattle.gob_num.proofs.FrontLaws.{front_not_bad_head, front_not_padded}
 use Rattle.gob_types.specs.declared.id.TypeId.{TypeId}
@@ -18,6 +18,7 @@ use Rattle.gob_read.proofs.Firsts.{front_not_number}
 use Rattle.gob_read.proofs.Onward.{nothing_yet}
 use Rattle.gob_stream.specs.declared.fault.Refusal.{Refusal}
 use Rattle.gob_stream.specs.declared.stage.Stage.{Stage}
+use Rattle.gob_stream.specs.declared.stage.Stage.TheVariants as stage
 use Rattle.gob_stream.specs.declared.stage.Extent.{Extent}
 use Rattle.gob_stream.specs.declared.reading.Reading.{Reading}
 use Rattle.gob_stream.specs.Bounds.{Bounds}
@@ -198,3 +199,39 @@ after_refused piece a q =
     let all = ap (λ l. l ++ piece) a.whole ∙ append_assoc a.front a.under_way piece in
     let l = refused_later piece a.stage q in
     (outcome_refused (a.under_way ++ piece) all a.stream q, omega (arith, ap length a.whole, length-append a.front a.under_way))
+
+-- ---- whether an item is under way
+no_number : {n : ℕ} {c : List ℕ} (w : List ℕ) → IsUnsigned n c → c ++ w ≡ [] → ⊥
+no_number {c = c} w u e = let some = (unsigned_length u).0 in omega (arith, ap length e, length-append c w)
+
+awaits_count : {X O : Type 0} {stands : Standing X} {trees : Standing TreeBuilder} {L : Bounds} {T : Table} {offset : ℕ} {awaits : Stage X O} {z : List ℕ}
+    → StandsIn stands trees L T offset awaits z → z ≡ [] → awaits ≡ stage.Count offset []
+awaits_count {offset = offset} (in_count f) e = ap (λ n. stage.Count offset n) e
+awaits_count (in_type_number {number = number} k f l) e = absurd (no_number number k.count e)
+awaits_count (in_value {a = a} {z = z} k s r p w) e = absurd (no_number (a ++ z) k.count e)
+awaits_count (in_description {a = a} {z = z} k n s r p w) e = absurd (no_number (a ++ z) k.count e)
+
+begins_there : {X O : Type 0} {stands : Standing X} {trees : Standing TreeBuilder} {L : Bounds} {T : Table} {offset begin : ℕ} {awaits : Stage X O} {z number : List ℕ}
+    → StandsIn stands trees L T offset awaits z → awaits ≡ stage.Count begin number → begin ≡ offset
+begins_there (in_count f) e = cc
+begins_there (in_type_number k f l) e = absurd (cc)
+begins_there (in_value k s r p w) e = absurd (cc)
+begins_there (in_description k n s r p w) e = absurd (cc)
+
+-- between two items the count of the next one is awaited
+pub none_awaits_count : {X O : Type 0} {stands : Standing X} {trees : Standing TreeBuilder} {most : ℕ} {s : Reading X O} {items : List StreamItem} {bytes : List ℕ} (a : StandsAfter stands trees most s items bytes)
+    → a.under_way ≡ [] → s.stage ≡ stage.Count s.taken []
+none_awaits_count {s = s} a e =
+    let t : s.taken ≡ length a.front = a.taken ∙ ap length (a.whole ∙ ap (λ l. a.front ++ l) e ∙ append-nil a.front) in
+    awaits_count a.stage e ∙ ap (λ n. stage.Count n []) (sym t)
+
+-- and where that begins behind all bytes that were taken, no item is under way
+pub count_begins_here : {X O : Type 0} {stands : Standing X} {trees : Standing TreeBuilder} {most : ℕ} {s : Reading X O} {items : List StreamItem} {bytes number : List ℕ} {begin : ℕ} (a : StandsAfter stands trees most s items bytes)
+    → s.stage ≡ stage.Count begin number → begin ≡ s.taken → a.under_way ≡ []
+count_begins_here {s = s} {begin = begin} a e f =
+    let b : begin ≡ length a.front = begins_there a.stage e in
+    none a.under_way (let t = a.taken in omega (arith, ap length a.whole, length-append a.front a.under_way))
+  where
+    none : (z : List ℕ) → length z ≡ 0 → z ≡ []
+    none [] l = refl
+    none (x ∷ z) l = absurd (omega arith)

@@ -2,7 +2,10 @@
 
 ghost use Rattle.gob_stream.specs.Laws.{HaveOneReading, BeginOneAnother, GiveOneList};
 ghost use Rattle.gob_stream.specs.Laws.{StayStreams, HaveOneOutcome, RefuseNoItem, StayShown};
+ghost use Rattle.gob_stream.specs.Laws.{AreReadBack, ShowNoRefusal, AreReadBackInPieces};
 ghost use Rattle.gob_stream.specs.WriterRefusal.{HaveOneReason, AreNotCounted};
+
+use gob_read::{Builder, TreeBuilder};
 
 /// A stream has one list of items, and one table of types behind it.
 pub fn streams_have_one_reading()
@@ -19,6 +22,20 @@ pub fn bytes_give_one_list()
 /// A stream stays one under limits that are each at least its own.
 pub fn streams_stay()
     ensures { StayStreams }
+{}
+
+/// What `write_stream` writes, `read_stream` reads back as that list, under limits that are each at least the
+/// writer's. No front of it shows a refusal.
+pub fn streams_are_read_back()
+    ensures whole { AreReadBack }
+    ensures fronts { ShowNoRefusal }
+{}
+
+/// What `write_stream` writes, a session reads back in whatever pieces it is fed, under limits that are each at least
+/// the writer's and with a builder that takes values as deep: no feed is refused, behind the last byte those items
+/// were given, and finishing answers Ok.
+pub fn streams_are_read_back_in_pieces<B: Builder>()
+    ensures { AreReadBackInPieces B.stands ⟦<TreeBuilder as Builder>⟧.stands B.means B.DEPTH }
 {}
 
 /// There is one reason at most for which an item isn't written, and none where some bytes are the item.

@@ -1,6 +1,6 @@
 //! A stream under way.
 
-ghost use Rattle.std.specs.Prelude.{◌≡◌, ℕ, ◌-◌, ◌<◌, ◌≤◌, [], ◌∷◌, ◌++◌, List, length, Err, IfOk, IfErr, OnOk, OnErr};
+ghost use Rattle.std.specs.Prelude.{◌≡◌, ℕ, ◌-◌, ◌<◌, ◌≤◌, [], ◌∷◌, ◌++◌, List, length, Err, IfOk, IfErr, IfSome, OnOk, OnErr};
 ghost use Rattle.gob_types.specs.Defined.{types};
 ghost use Rattle.gob_stream.specs.Item.{StreamItem};
 ghost use Rattle.gob_stream.specs.Standing.{StandsIn, StandsAfter, IsUsable, no_deeper};
@@ -103,6 +103,7 @@ impl<B: Builder> Reading<B> {
             → StandsAfter B.stands ⟦<TreeBuilder as Builder>⟧.stands B.DEPTH self.old items bytes
             → Advances B.stands ⟦<TreeBuilder as Builder>⟧.stands B.means B.DEPTH self.old self.new items bytes piece.now result }
         ensures whole { length piece.now ≤ wanted_in self.old.stage self.old.taken → IfOk result (λ step. step.used ≡ length piece.now) }
+        ensures between { IfOk result (λ step. IfSome step.item (λ _. self.new.stage ≡ Stage.Count self.new.taken [])) }
         ensures usable { IsUsable B.stands ⟦<TreeBuilder as Builder>⟧.stands B.DEPTH self.new }
         ensures failed { OnErr result (self.new.stage ≡ Stage.Failed) }
         ensures limits { self.new.limits ≡ self.old.limits }
@@ -145,6 +146,9 @@ impl<B: Builder> Reading<B> {
             → Finishes B.DEPTH self.old self.new items bytes result }
         ensures usable { IsUsable B.stands ⟦<TreeBuilder as Builder>⟧.stands B.DEPTH self.new }
         ensures failed { OnErr result (self.new.stage ≡ Stage.Failed) }
+        ensures stays { self.old.stage ≡ Stage.Failed → (result ≡ Err Fault.Failed) × (self.new ≡ self.old) }
+        ensures limits { self.new.limits ≡ self.old.limits }
+        ensures taken { self.new.taken ≡ self.old.taken }
     {
         match self.stage {
             Stage::Failed => Err(Fault::Failed),
