@@ -7,8 +7,7 @@ use Rattle.gob_value.specs.Tree.{Tree}
 use Rattle.gob_read.specs.Refusal as body
 use Rattle.gob_read.specs.Refusal.{Refused, extra, too_deep, short_of, bad_head_at, not_minimal_at, not_allowed}
 use Rattle.gob_read.specs.First.{IsFirst}
-use Rattle.gob_read.specs.Running.{StopsFor}
-use Rattle.gob_read.specs.Reader.{Stands, RefusesBody}
+use Rattle.gob_read.specs.Reader.{Stands, RefusesBody, Stops}
 use Rattle.gob_read.specs.declared.run.Run.{Run}
 use Rattle.gob_read.specs.declared.stop.Stop.{Stop}
 use Rattle.gob_read.specs.declared.stop.Stop.TheVariants as stop
@@ -43,7 +42,7 @@ pub within_body : (z piece : List ℕ) (announced : ℕ) → length z ≤ announ
 within_body z piece announced l = omega (arith, length-append z (take (announced - length z) piece), length-take (announced - length z) piece)
 
 pub stops_within : {T : Table} {t : TypeId} {rest : Extent} {X O : Type 0} {stands : Standing X} (run : Option (Run X O)) (piece : List ℕ) (s : Stop) → IsUnderWay T t rest stands run → rest.begin ≤ rest.end → rest.end < 2 ^ 64
-    → StopsFor (λ refusal. RefusesBody T stands run piece refusal) s → StopsWithin rest.begin s
+    → Stops run (λ refusal. RefusesBody T stands run piece refusal) s → StopsWithin rest.begin s
 stops_within {T = T} {t = t} {rest = rest} {stands = stands} run piece (stop.Refused place seen reason) u l n r =
     let first = r.each t u.limit (size rest) u.bytes u.after in
     let w = stood_within T t u.limit (size rest) stands run u.bytes u.after in
@@ -60,12 +59,12 @@ not_ended T t limit announced stands None z s e = s
 not_ended T t limit announced stands (Some run) z s e = cc
 
 pub value_stopped : {T : Table} {t : TypeId} {limit : ℕ} {rest : Extent} {X O : Type 0} {stands : Standing X} {means : O → Tree → Type 0} (run : Option (Run X O)) (z piece : List ℕ) (s : Stop) {f : Fault} → f ≡ fault_behind rest.begin s
-    → StopsFor (λ refusal. RefusesBody T stands run piece refusal) s → (s ≡ stop.Failed → run ≡ None) → Stands T t limit (size rest) stands run z → ReadsValue {X = X} {O = O} stands means T t limit rest z piece (Err f)
-value_stopped {T = T} {t = t} {limit = limit} {rest = rest} {X = X} {O = O} {stands = stands} {means = means} run z piece (stop.Refused place seen reason) e r n s =
+    → Stops run (λ refusal. RefusesBody T stands run piece refusal) s → Stands T t limit (size rest) stands run z → ReadsValue {X = X} {O = O} stands means T t limit rest z piece (Err f)
+value_stopped {T = T} {t = t} {limit = limit} {rest = rest} {X = X} {O = O} {stands = stands} {means = means} run z piece (stop.Refused place seen reason) e r s =
     subst (λ f. ReadsValue {X = X} {O = O} stands means T t limit rest z piece (Err f)) (sym e) (value_refused (r.each t limit (size rest) z s))
-value_stopped {T = T} {t = t} {limit = limit} {rest = rest} {X = X} {O = O} {stands = stands} {means = means} run z piece stop.Memory e r n s =
+value_stopped {T = T} {t = t} {limit = limit} {rest = rest} {X = X} {O = O} {stands = stands} {means = means} run z piece stop.Memory e r s =
     subst (λ f. ReadsValue {X = X} {O = O} stands means T t limit rest z piece (Err f)) (sym e) no_memory_for_value
-value_stopped {T = T} {t = t} {limit = limit} {rest = rest} {stands = stands} run z piece stop.Failed e r n s = absurd (not_ended T t limit (size rest) stands run z s (n refl))
+value_stopped {T = T} {t = t} {limit = limit} {rest = rest} {stands = stands} run z piece stop.Failed e r s = absurd (not_ended T t limit (size rest) stands run z s r)
 
 pub value_more : {T : Table} {t : TypeId} {limit : ℕ} {rest : Extent} {X O : Type 0} {stands : Standing X} {means : O → Tree → Type 0} {p : Progress O} (reader : BodyReader X O) (z piece : List ℕ) → p ≡ progress.More
     → Gives T t limit (size rest) stands means reader.run z piece p → ReadsValue stands means T t limit rest z piece (Ok (record { used = length piece; stage = stage.Value t rest reader; item = None }))

@@ -16,7 +16,6 @@ use Rattle.gob_value.specs.declared.value.Value.{Value}
 use Rattle.gob_read.specs.First.{IsFirst}
 use Rattle.gob_read.specs.Reader.{IsMade}
 use Rattle.gob_read.specs.declared.tree_builder.TreeBuilder.{TreeBuilder}
-use Rattle.gob_read.proofs.Deepest.{shallow_within}
 use Rattle.gob_read.proofs.Seen.{take_whole}
 use Rattle.gob_stream.specs.declared.fault.Refusal.{Refusal}
 use Rattle.gob_stream.specs.declared.fault.Fault.{Fault}
@@ -46,7 +45,7 @@ made_spelled : {T : Table} {limit announced : ℕ} {d : Value} {z : List ℕ} �
 made_spelled w made = subst (λ v. Spells _ wire_type v _) (sym made.meant) (wire_spelled w made.spelled)
 
 made_depth : {T : Table} {limit announced : ℕ} {d : Value} {z : List ℕ} → IsMade T wire_type limit announced IsView d z → depth (view d) ≤ limit
-made_depth {limit = limit} made = subst (λ v. depth v ≤ limit) (sym made.meant) (shallow_within made.spelled made.shallow)
+made_depth {limit = limit} made = subst (λ v. depth v ≤ limit) (sym made.meant) made.not_deep
 
 pub description_steps : {X O : Type 0} {stands : Standing X} {trees : Standing TreeBuilder} {means : O → Tree → Type 0} {L : Bounds} {T U : Table} {offset m n : ℕ} {id : TypeId} {body rest : Extent} {result : Result (Stepped X O) Fault} (c a y piece : List ℕ)
     → IsCount L offset m c body → id.0 ≡ n + 1 → IsSigned (negsuc n) a → IsRest body a rest → MayDefine base_table L T id → HasWireType T → length y ≤ size rest → ReadsDescription trees T id L.depth rest y piece U result

@@ -11,8 +11,7 @@ use Rattle.gob_value.specs.Fits.{Fits}
 use Rattle.gob_value.specs.View.{view}
 use Rattle.gob_value.specs.declared.value.Value.{Value}
 use Rattle.gob_value.proofs.StayLaws.{spells_back}
-use Rattle.gob_read.specs.Running.{StopsFor}
-use Rattle.gob_read.specs.Reader.{Stands, RefusesBody, IsMade, Gives}
+use Rattle.gob_read.specs.Reader.{Stands, RefusesBody, Stops, IsMade, Gives}
 use Rattle.gob_read.specs.declared.run.Run.{Run}
 use Rattle.gob_read.specs.declared.stop.Stop.{Stop}
 use Rattle.gob_read.specs.declared.stop.Stop.TheVariants as stop
@@ -89,9 +88,9 @@ description_wrong d (described_wrongly w e) = describes_nothing e d w
 description_wrong d (no_memory_to_define e) = no_memory_for_description
 
 pub description_stopped : {T : Table} {id : TypeId} {limit : ℕ} {rest : Extent} {X O : Type 0} {trees : Standing TreeBuilder} (run : Option (Run TreeBuilder Value)) (z piece : List ℕ) (s : Stop) {f : Fault} → f ≡ fault_behind rest.begin s
-    → StopsFor (λ refusal. RefusesBody T trees run piece refusal) s → (s ≡ stop.Failed → run ≡ None) → Stands T wire_type limit (size rest) trees run z → ReadsDescription {X = X} {O = O} trees T id limit rest z piece T (Err f)
-description_stopped {T = T} {id = id} {limit = limit} {rest = rest} {X = X} {O = O} {trees = trees} run z piece (stop.Refused place seen reason) e r n s =
+    → Stops run (λ refusal. RefusesBody T trees run piece refusal) s → Stands T wire_type limit (size rest) trees run z → ReadsDescription {X = X} {O = O} trees T id limit rest z piece T (Err f)
+description_stopped {T = T} {id = id} {limit = limit} {rest = rest} {X = X} {O = O} {trees = trees} run z piece (stop.Refused place seen reason) e r s =
     subst (λ f. ReadsDescription {X = X} {O = O} trees T id limit rest z piece T (Err f)) (sym e) (description_refused refl (r.each wire_type limit (size rest) z s))
-description_stopped {T = T} {id = id} {limit = limit} {rest = rest} {X = X} {O = O} {trees = trees} run z piece stop.Memory e r n s =
+description_stopped {T = T} {id = id} {limit = limit} {rest = rest} {X = X} {O = O} {trees = trees} run z piece stop.Memory e r s =
     subst (λ f. ReadsDescription {X = X} {O = O} trees T id limit rest z piece T (Err f)) (sym e) no_memory_for_description
-description_stopped {T = T} {limit = limit} {rest = rest} {trees = trees} run z piece stop.Failed e r n s = absurd (not_ended T wire_type limit (size rest) trees run z s (n refl))
+description_stopped {T = T} {limit = limit} {rest = rest} {trees = trees} run z piece stop.Failed e r s = absurd (not_ended T wire_type limit (size rest) trees run z s r)

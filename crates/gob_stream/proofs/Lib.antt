@@ -10,6 +10,10 @@ pub mod WireLaws
 pub mod DefinableLaws
 pub mod RefusingLaws
 pub mod OutcomeLaws
+pub mod ShownLaws
+pub mod UnderWayLaws
+pub mod StayLaws
+pub mod ReadBackLaws
 pub mod CountSteps
 pub mod TypeNumberSteps
 pub mod BodySteps
@@ -17,3 +21,5 @@ pub mod DescriptionSteps
 pub mod ValueSteps
 pub mod DefinitionSteps
 pub mod StandingSteps
+pub mod SessionSteps
+pub mod NumberSteps

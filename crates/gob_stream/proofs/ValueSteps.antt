@@ -16,7 +16,6 @@ use Rattle.gob_read.specs.Refusal.{Refused, extra, too_deep, short_of, bad_head_
 use Rattle.gob_read.specs.Awaited.{Allowed, any, tag, truth_value, array_count, delta, nil, reason_of}
 use Rattle.gob_read.specs.First.{IsFirst}
 use Rattle.gob_read.specs.declared.tree_builder.TreeBuilder.{TreeBuilder}
-use Rattle.gob_read.proofs.Deepest.{shallow_within}
 use Rattle.gob_read.proofs.Seen.{take_whole}
 use Rattle.gob_stream.specs.declared.fault.Refusal.{Refusal}
 use Rattle.gob_stream.specs.declared.fault.Fault.{Fault}
@@ -96,7 +95,7 @@ value_steps {L = L} {T = T} {offset = offset} {m = m} {t = t} {rest = rest} c a 
     let all = made.all in let z1 = lie.size_is in let z2 = lie.within in let z3 = lie.ends in let z4 = k.stream in
     let long : length (a ++ (y ++ take used piece)) ≡ m = omega (arith, length-append a (y ++ take used piece)) in
     let whole : length (c ++ (a ++ (y ++ take used piece))) ≡ length c + m = omega (arith, length-append c (a ++ (y ++ take used piece))) in
-    let item : Counted base_table L T offset (puts t made.value) (c ++ (a ++ (y ++ take used piece))) T = counted (subst (λ n. IsUnsigned n c) (sym long) k.count) (let i = k.item in omega arith) (omega arith) (value p (shallow_within made.spelled made.shallow) s made.spelled) in
+    let item : Counted base_table L T offset (puts t made.value) (c ++ (a ++ (y ++ take used piece))) T = counted (subst (λ n. IsUnsigned n c) (sym long) k.count) (let i = k.item in omega arith) (omega arith) (value p made.not_deep s made.spelled) in
     let there = three c a y (take used piece) in
     let n = ap length there in
     gives l (counted_as there item) (means_value made.meant) (omega arith)

@@ -154,10 +154,32 @@ pub data StepsOn {X O : Type 0} (stands : Standing X) (trees : Standing TreeBuil
       → StepsOn stands trees means L T offset z piece U (Err (fault.Refused R))
   no_memory : {U : Table} → StepsOn stands trees means L T offset z piece U (Err fault.Memory)
 
+-- the body of some item, as its count says
+pub record HasCount (L : Bounds) (body : Extent) : Type 0 where
+  pub offset : ℕ
+  pub size : ℕ
+  pub bytes : List ℕ
+  pub is : IsCount L offset size bytes body
+
 -- what is known of the types of a stream under the limits
 pub record AreTypes (L : Bounds) (d : Defined) : Type 0 where
   pub base : HasWireType (types d)
   pub most : d.most ≡ L.types
+
+-- the reader awaits this behind some bytes of an item, with which so many bytes of the stream were taken
+pub record IsWithinItem {X O : Type 0} (stands : Standing X) (trees : Standing TreeBuilder) (L : Bounds) (d : Defined) (taken : ℕ) (awaits : Stage X O) : Type 0 where
+  pub offset : ℕ
+  pub bytes : List ℕ
+  pub in_item : StandsIn stands trees L (types d) offset awaits bytes
+  pub taken_is : taken ≡ offset + length bytes
+  pub within : offset ≤ L.stream
+  pub known : AreTypes L d
+
+-- how many bytes are sure to be of the item under way, where so many of the stream were taken
+abbrev pub wanted_in : {X O : Type 0} → Stage X O → (taken : ℕ) → ℕ
+wanted_in (stage.Value t rest reader) taken = rest.end - taken
+wanted_in (stage.Description id rest reader) taken = rest.end - taken
+wanted_in _ taken = 1
 
 -- what asking for leave to define answers
 pub data MaybeDefines (L : Bounds) (T : Table) (id : TypeId) (place seen : ℕ) : Result (Unit {0}) Refusal → Type 0 where
@@ -180,7 +202,7 @@ pub data AdvancesOver {X O : Type 0} (stands : Standing X) (trees : Standing Tre
 -- what a step over the front of a piece answers, behind these bytes, of which the items were given
 abbrev pub Advances : {X O : Type 0} → (stands : Standing X) (trees : Standing TreeBuilder) (means : O → Tree → Type 0) (most : ℕ) (s s' : Reading X O) → List StreamItem → (bytes piece : List ℕ) → Result (Step O) Fault → Type 0
 Advances stands trees means most s s' items bytes piece (Ok step) = AdvancesOver stands trees means most s' items bytes piece step.used step.item
-Advances stands trees means most s s' items bytes piece (Err (fault.Refused R)) = IsShown (no_deeper most s.limits) (bytes ++ piece) items R
+Advances stands trees means most s s' items bytes piece (Err (fault.Refused R)) = IsShown (no_deeper most s.limits) (bytes ++ piece) items R × (length bytes < R.seen)
 Advances stands trees means most s s' items bytes piece (Err fault.Memory) = Unit {0}
 Advances stands trees means most s s' items bytes piece (Err _) = ⊥
 

@@ -1,8 +1,10 @@
 -- What the reading calls answer, in the words of streams.
 use Rattle.std.specs.Prelude.{◌≡◌, ◌≢◌, ℕ, ◌+◌, ◌-◌, ◌<◌, ◌≤◌, List, [], ◌∷◌, ◌++◌, length, Option, Some, None, Result, Ok, Err}
+use Rattle.gob_num.specs.Unsigned.{IsUnsigned}
 use Rattle.gob_types.specs.declared.reason.Reason.TheVariants as reason
 use Rattle.gob_types.specs.Table.{Table}
 use Rattle.gob_types.specs.Base.{base_table}
+use Rattle.gob_types.specs.Defined.{types}
 use Rattle.gob_value.specs.Tree.{Tree}
 use Rattle.gob_read.specs.declared.tree_builder.TreeBuilder.{TreeBuilder}
 use Rattle.gob_stream.specs.declared.fault.Refusal.{Refusal}
@@ -14,7 +16,7 @@ use Rattle.gob_stream.specs.Bounds.{Bounds}
 use Rattle.gob_stream.specs.Devices.{counts_up, Rose}
 use Rattle.gob_stream.specs.Item.{StreamItem, ItemsMean, ItemMeans}
 use Rattle.gob_stream.specs.Stream.{Stream}
-use Rattle.gob_stream.specs.Outcome.{BeginsWith, Outcome, Ending, the_end, refused}
+use Rattle.gob_stream.specs.Outcome.{BeginsWith, GivesItems, Outcome, the_end, refused}
 use Rattle.gob_stream.specs.Standing.{Standing, StandsAfter, no_deeper}
 
 -- of the bytes that were left, some were taken and these are left now
@@ -59,6 +61,61 @@ abbrev pub Finishes : {X O : Type 0} → ℕ → (s s' : Reading X O) → List S
 Finishes most s s' items bytes (Ok _) = Outcome base_table (no_deeper most s.limits) bytes items the_end × (s' ≡ s)
 Finishes most s s' items bytes (Err (fault.Refused R)) = Outcome base_table (no_deeper most s.limits) bytes items (refused R) × (R.reason ≡ reason.Ended)
 Finishes most s s' items bytes (Err _) = ⊥
+
+-- the bytes z of an item that begins at the offset are no more than those that show the refusal, or than its count and its body
+pub data IsNoFurther (L : Bounds) (offset : ℕ) (z : List ℕ) (R : Refusal) : Type 0 where
+  up_to_the_last_shown : R.seen ≡ offset + length z → IsNoFurther L offset z R
+  within_the_item : {m : ℕ} {c : List ℕ} (y : List ℕ) → z ≡ c ++ y → IsUnsigned m c → m ≤ L.item → offset + length c + m ≤ L.stream → length y ≤ m
+      → IsNoFurther L offset z R
+
+-- the bytes are those of the items, and of the one that is refused behind them no more than that
+pub record EndsInItem (L : Bounds) (bytes : List ℕ) (items : List StreamItem) (R : Refusal) : Type 0 where
+  pub front : List ℕ
+  pub item : List ℕ
+  pub table : Table
+  pub stream : Stream base_table L items front table
+  pub whole : bytes ≡ front ++ item
+  pub no_further : IsNoFurther L (length front) item R
+
+-- an item was given with the last of the bytes, which are the stream of this item behind the others
+pub record GivesNext {X O : Type 0} (stands : Standing X) (trees : Standing TreeBuilder) (means : O → Tree → Type 0) (most : ℕ) (s' : Reading X O) (given : declared.Item O) (items : List StreamItem) (bytes : List ℕ) : Type 0 where
+  pub item : StreamItem
+  pub meant : ItemMeans means given item
+  pub after : StandsAfter stands trees most s' (items ++ item ∷ []) bytes
+  pub stream : Stream base_table (no_deeper most s'.limits) (items ++ item ∷ []) bytes (types s'.types)
+
+-- the next item is refused: for what the bytes show with some of the rest, or since all of it ends within the item
+pub data RefusesNextItem (L : Bounds) (items : List StreamItem) (bytes rest : List ℕ) (now : Option (List ℕ)) (R : Refusal) : Type 0 where
+  shown : SomeTaken rest now (λ taken. IsShown L (bytes ++ taken) items R × EndsInItem L (bytes ++ taken) items R) → RefusesNextItem L items bytes rest now R
+  ended : now ≡ Some [] → Outcome base_table L (bytes ++ rest) items (refused R) → R.reason ≡ reason.Ended → RefusesNextItem L items bytes rest now R
+
+-- what stops a session that had given the items, of these bytes, over a reader with the rest left
+abbrev pub StopsNext : Bounds → List StreamItem → (bytes rest : List ℕ) → Option (List ℕ) → Fault → Type 0
+StopsNext L items bytes rest now (fault.Refused R) = RefusesNextItem L items bytes rest now R
+StopsNext L items bytes rest now fault.Read = SomeTaken rest now (λ taken. GivesItems base_table L (bytes ++ taken) items)
+StopsNext L items bytes rest now fault.Memory = SomeTaken rest now (λ taken. BeginsWith base_table L (bytes ++ taken) items)
+StopsNext L items bytes rest now fault.Failed = ⊥
+
+-- what reading the next item answers
+abbrev pub ReadsNext : {X O : Type 0} → (stands : Standing X) (trees : Standing TreeBuilder) (means : O → Tree → Type 0) (most : ℕ) (s s' : Reading X O) → List StreamItem → (bytes rest : List ℕ) → Option (List ℕ) → Result (Option (declared.Item O)) Fault → Type 0
+ReadsNext stands trees means most s s' items bytes rest now (Ok (Some given)) = SomeTaken rest now (λ taken. GivesNext stands trees means most s' given items (bytes ++ taken))
+ReadsNext stands trees means most s s' items bytes rest now (Ok None) = (rest ≡ []) × (now ≡ Some []) × Outcome base_table (no_deeper most s.limits) bytes items the_end × (s' ≡ s)
+ReadsNext stands trees means most s s' items bytes rest now (Err e) = StopsNext (no_deeper most s.limits) items bytes rest now e
+
+-- how many bytes reading an item takes: those up to its end, within the limit, and before a fault no more than the limit
+-- leaves and a count
+abbrev pub TakesNext : {X O : Type 0} → (s s' : Reading X O) → (taken taken' : ℕ) → Result (Option (declared.Item O)) Fault → Type 0
+TakesNext s s' taken taken' (Ok None) = taken' ≡ taken
+TakesNext s s' taken taken' (Ok (Some item)) = (taken' ≡ counts_up taken (s'.taken - s.taken)) × (s.taken < s'.taken) × (s'.taken ≤ s.limits.stream)
+TakesNext s s' taken taken' (Err e) = taken' ≤ taken + (s.limits.stream + 9 - s.taken)
+
+-- what reading a whole stream answers, over a reader with these bytes left, where the items were given
+abbrev pub ReadsStream : Bounds → List ℕ → Option (List ℕ) → List StreamItem → Result (Unit {0}) Fault → Type 0
+ReadsStream L bytes now items (Ok _) = (T : Table) × Stream base_table L items bytes T × (now ≡ Some [])
+ReadsStream L bytes now items (Err (fault.Refused R)) = Outcome base_table L bytes items (refused R)
+ReadsStream L bytes now items (Err fault.Read) = SomeTaken bytes now (λ taken. GivesItems base_table L taken items)
+ReadsStream L bytes now items (Err fault.Memory) = BeginsWith base_table L bytes items
+ReadsStream L bytes now items (Err fault.Failed) = ⊥
 
 -- a call answers `Read` exactly where a read failed in it, which ended the call
 abbrev pub CountsReads : {A : Type 0} → (failures failures' : ℕ) → Result A Fault → Type 0

@@ -1,5 +1,9 @@
 //! Reading all items of a stream.
 
+ghost use Rattle.std.specs.Prelude.{◌≡◌, ℕ, ◌+◌, ◌≤◌, List, Some};
+ghost use Rattle.gob_stream.specs.Item.{item_views};
+ghost use Rattle.gob_stream.specs.Reading.{ReadsStream, Given, CountsReads};
+
 use crate::fault::Fault;
 use crate::input::Input;
 use crate::item::Item;
@@ -18,7 +22,13 @@ pub fn read_stream<R: Read>(
     input: &mut Input<R>,
     limits: Limits,
     out: &mut Vec<Item<Value>>,
-) -> Result<(), Fault> {
+) -> Result<(), Fault>
+    ensures items { Given out.old.items out.new.items (λ given. (bytes : List ℕ)
+        → R.remaining input.old.reader ≡ Some bytes
+        → ReadsStream limits bytes (R.remaining input.new.reader) (item_views given) result) }
+    ensures counted { CountsReads input.old.failures input.new.failures result }
+    ensures taken { input.new.taken ≤ input.old.taken + limits.stream + 9 }
+{
     let mut session = Session::<TreeBuilder>::new(alloc, limits)?;
     while let Some(item) = session.read_item(alloc, input)? {
         out.push(item).map_err(Memory::from)?;

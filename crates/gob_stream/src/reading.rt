@@ -1,17 +1,18 @@
 //! A stream under way.
 
-ghost use Rattle.std.specs.Prelude.{◌≡◌, ℕ, ◌+◌, ◌<◌, ◌≤◌, [], ◌++◌, List, length, IfOk, OnErr};
+ghost use Rattle.std.specs.Prelude.{◌≡◌, ℕ, ◌-◌, ◌<◌, ◌≤◌, [], ◌∷◌, ◌++◌, List, length, Err, IfOk, IfErr, IfSome, OnOk, OnErr};
+ghost use Rattle.gob_types.specs.Defined.{types};
 ghost use Rattle.gob_stream.specs.Item.{StreamItem};
-ghost use Rattle.gob_stream.specs.Standing.{StandsAfter, IsUsable};
+ghost use Rattle.gob_stream.specs.Standing.{StandsIn, StandsAfter, IsUsable, no_deeper};
 ghost use Rattle.gob_stream.specs.Reading.{Given, Feeds, Finishes};
-ghost use Rattle.gob_stream.specs.ReadParts.{Advances};
+ghost use Rattle.gob_stream.specs.ReadParts.{Advances, StepsOn, IsWithinItem, wanted_in};
 
 use crate::body::{take_description, take_value};
 use crate::count::{refusal, take_count};
 use crate::fault::Fault;
 use crate::item::Item;
 use crate::limits::Limits;
-use crate::stage::{Extent, Stage};
+use crate::stage::{Extent, Stage, Stepped};
 use crate::type_number::take_type_number;
 use gob_num::{Memory, Number};
 use gob_read::{Builder, TreeBuilder};
@@ -75,14 +76,20 @@ impl<B: Builder> Reading<B> {
         ensures limits { self.new.limits ≡ self.old.limits }
     {
         let mut used = 0;
-        for _ in 0..piece.len() {
-            if used >= piece.len() {
-                break;
+        'steps: for _ in 0..piece.len() {
+            if used == piece.len() {
+                return Ok(());
             }
-            let step = self.step(alloc, &piece[used..])?;
-            used += step.used;
-            if let Some(item) = step.item {
-                self.give(item, out)?;
+            match self.step(alloc, &piece[used..]) {
+                Ok(step) => {
+                    used += step.used;
+                    if let Some(item) = step.item {
+                        if let Err(fault) = self.give(item, out) {
+                            return Err(fault);
+                        }
+                    }
+                }
+                Err(fault) => return Err(fault),
             }
         }
         Ok(())
@@ -95,45 +102,35 @@ impl<B: Builder> Reading<B> {
         ensures advances { (items : List StreamItem) (bytes : List ℕ)
             → StandsAfter B.stands ⟦<TreeBuilder as Builder>⟧.stands B.DEPTH self.old items bytes
             → Advances B.stands ⟦<TreeBuilder as Builder>⟧.stands B.means B.DEPTH self.old self.new items bytes piece.now result }
+        ensures whole { length piece.now ≤ wanted_in self.old.stage self.old.taken → IfOk result (λ step. step.used ≡ length piece.now) }
+        ensures between { IfOk result (λ step. IfSome step.item (λ _. self.new.stage ≡ Stage.Count self.new.taken [])) }
         ensures usable { IsUsable B.stands ⟦<TreeBuilder as Builder>⟧.stands B.DEPTH self.new }
         ensures failed { OnErr result (self.new.stage ≡ Stage.Failed) }
         ensures limits { self.new.limits ≡ self.old.limits }
     {
         let stage = mem::replace(&mut self.stage, Stage::Failed);
-        let stepped = match stage {
-            Stage::Count { begin, number } => {
-                match take_count(self.limits, begin, self.taken, number, piece) {
-                    Ok(stepped) => stepped,
-                    Err(refusal) => return Err(Fault::Refused(refusal)),
-                }
+        match take_awaited(alloc, self.limits, &mut self.types, self.taken, stage, piece) {
+            Ok(stepped) => {
+                self.taken += stepped.used as u64;
+                self.stage = stepped.stage;
+                Ok(Step {
+                    used: stepped.used,
+                    item: stepped.item,
+                })
             }
-            Stage::TypeNumber { body, number } => take_type_number(
-                alloc,
-                self.limits,
-                &mut self.types,
-                body,
-                self.taken,
-                number,
-                piece,
-            )?,
-            Stage::Value { id, rest, reader } => {
-                take_value(alloc, &self.types, id, rest, reader, piece)?
-            }
-            Stage::Description { id, rest, reader } => {
-                take_description(alloc, &mut self.types, id, rest, reader, piece)?
-            }
-            Stage::Failed => return Err(Fault::Failed),
-        };
-        self.taken += stepped.used as u64;
-        self.stage = stepped.stage;
-        Ok(Step {
-            used: stepped.used,
-            item: stepped.item,
-        })
+            Err(fault) => Err(fault),
+        }
     }
 
     // Appends an item. Without memory for it nothing more is read.
-    fn give(&mut self, item: Item<B::Out>, out: &mut Vec<Item<B::Out>>) -> Result<(), Fault> {
+    fn give(&mut self, item: Item<B::Out>, out: &mut Vec<Item<B::Out>>) -> Result<(), Fault>
+        ensures given { OnOk result (out.new.items ≡ out.old.items ++ item ∷ []) }
+        ensures kept { OnOk result (self.new ≡ self.old) }
+        ensures memory { IfErr result (λ fault. fault ≡ Fault.Memory) }
+        ensures as_before { OnErr result (out.new.items ≡ out.old.items) }
+        ensures failed { OnErr result (self.new.stage ≡ Stage.Failed) }
+        ensures limits { self.new.limits ≡ self.old.limits }
+    {
         if out.push(item).is_err() {
             self.stage = Stage::Failed;
             return Err(Fault::Memory);
@@ -149,6 +146,9 @@ impl<B: Builder> Reading<B> {
             → Finishes B.DEPTH self.old self.new items bytes result }
         ensures usable { IsUsable B.stands ⟦<TreeBuilder as Builder>⟧.stands B.DEPTH self.new }
         ensures failed { OnErr result (self.new.stage ≡ Stage.Failed) }
+        ensures stays { self.old.stage ≡ Stage.Failed → (result ≡ Err Fault.Failed) × (self.new ≡ self.old) }
+        ensures limits { self.new.limits ≡ self.old.limits }
+        ensures taken { self.new.taken ≡ self.old.taken }
     {
         match self.stage {
             Stage::Failed => Err(Fault::Failed),
@@ -161,7 +161,11 @@ impl<B: Builder> Reading<B> {
     }
 
     /// How many bytes can be read at once without going past the item's end: one where that isn't known.
-    pub(crate) fn wanted(&self) -> u64 {
+    pub(crate) fn wanted(&self) -> u64
+        requires { IsUsable B.stands ⟦<TreeBuilder as Builder>⟧.stands B.DEPTH self.now }
+        ensures value { result ≡ wanted_in self.now.stage self.now.taken }
+        ensures some { 0 < result }
+    {
         match &self.stage {
             Stage::Value { rest, .. } => self.left(*rest),
             Stage::Description { rest, .. } => self.left(*rest),
@@ -170,7 +174,44 @@ impl<B: Builder> Reading<B> {
     }
 
     // How many bytes of a part of the stream are to come.
-    fn left(&self, rest: Extent) -> u64 {
+    fn left(&self, rest: Extent) -> u64
+        requires { self.now.taken ≤ rest.end }
+        ensures { result ≡ rest.end - self.now.taken }
+    {
         rest.end - self.taken
+    }
+}
+
+// Takes some bytes of what is awaited from the front of the piece, where so many bytes of the stream were taken.
+fn take_awaited<B: Builder>(
+    alloc: Global,
+    limits: Limits,
+    table: &mut Table,
+    taken: u64,
+    stage: Stage<B>,
+    piece: &[u8],
+) -> Result<Stepped<B>, Fault>
+    requires stands { ¬ (stage ≡ Stage.Failed) → IsWithinItem B.stands ⟦<TreeBuilder as Builder>⟧.stands (no_deeper B.DEPTH limits) table.old taken stage }
+    requires some { 0 < length piece.now }
+    ensures steps { (offset : ℕ) (z : List ℕ) → StandsIn B.stands ⟦<TreeBuilder as Builder>⟧.stands (no_deeper B.DEPTH limits) (types table.old) offset stage z
+        → StepsOn B.stands ⟦<TreeBuilder as Builder>⟧.stands B.means (no_deeper B.DEPTH limits) (types table.old) offset z piece.now (types table.new) result }
+    ensures some { IfOk result (λ stepped. 0 < stepped.used) }
+    ensures whole { length piece.now ≤ wanted_in stage taken → IfOk result (λ stepped. stepped.used ≡ length piece.now) }
+    ensures failed { stage ≡ Stage.Failed → result ≡ Err Fault.Failed }
+    ensures most { table.new.most ≡ table.old.most }
+{
+    match stage {
+        Stage::Count { begin, number } => match take_count(limits, begin, taken, number, piece) {
+            Ok(stepped) => Ok(stepped),
+            Err(refusal) => Err(Fault::Refused(refusal)),
+        },
+        Stage::TypeNumber { body, number } => {
+            take_type_number(alloc, limits, table, body, taken, number, piece)
+        }
+        Stage::Value { id, rest, reader } => take_value(alloc, table, id, rest, reader, piece),
+        Stage::Description { id, rest, reader } => {
+            take_description(alloc, table, id, rest, reader, piece)
+        }
+        Stage::Failed => Err(Fault::Failed),
     }
 }

@@ -22,15 +22,16 @@ pub struct Session<B: Builder> {
 }
 
 impl<B: Builder> Session<B> {
-    ghost use Rattle.std.specs.Prelude.{◌≡◌, ℕ, List, [], Ok, Err, Some, IfOk, OnErr};
-    ghost use Rattle.gob_types.specs.Defined.{types};
+    ghost use Rattle.std.specs.Prelude.{◌≡◌, ℕ, List, [], Err, Some, IfOk, OnErr};
     ghost use Rattle.gob_stream.specs.Item.{StreamItem};
     ghost use Rattle.gob_stream.specs.Standing.{StandsAfter, IsUsable};
-    ghost use Rattle.gob_stream.specs.Reading.{Given, Feeds, Finishes};
+    ghost use Rattle.gob_stream.specs.Reading.{Given, Feeds, Finishes, ReadsNext, CountsReads, TakesNext};
 
     /// A reader that has taken no byte.
     pub fn new(alloc: Global, limits: Limits) -> Result<Session<B>, Memory>
         ensures stands { IfOk result (λ session. StandsAfter B.stands ⟦<TreeBuilder as Builder>⟧.stands B.DEPTH session.reading [] []) }
+        ensures usable { IfOk result (λ session. IsUsable B.stands ⟦<TreeBuilder as Builder>⟧.stands B.DEPTH session.reading) }
+        ensures taken { IfOk result (λ session. session.reading.taken ≡ 0) }
         ensures limits { IfOk result (λ session. session.reading.limits ≡ limits) }
     {
         let reading = Reading::new(alloc, limits)?;
@@ -71,6 +72,8 @@ impl<B: Builder> Session<B> {
             → StandsAfter B.stands ⟦<TreeBuilder as Builder>⟧.stands B.DEPTH self.old.reading items bytes
             → Finishes B.DEPTH self.old.reading self.new.reading items bytes result }
         ensures failed { OnErr result (self.new.reading.stage ≡ Stage.Failed) }
+        ensures stays { self.old.reading.stage ≡ Stage.Failed → (result ≡ Err Fault.Failed) × (self.new.reading ≡ self.old.reading) }
+        ensures limits { self.new.reading.limits ≡ self.old.reading.limits }
         ensures usable { IsUsable B.stands ⟦<TreeBuilder as Builder>⟧.stands B.DEPTH self.new.reading }
     {
         self.reading.finish()
@@ -90,7 +93,21 @@ impl<B: Builder> Session<B> {
         &mut self,
         alloc: Global,
         input: &mut Input<R>,
-    ) -> Result<Option<Item<B::Out>>, Fault> {
+    ) -> Result<Option<Item<B::Out>>, Fault>
+        requires { IsUsable B.stands ⟦<TreeBuilder as Builder>⟧.stands B.DEPTH self.old.reading }
+        ensures read { (items : List StreamItem) (bytes rest : List ℕ)
+            → StandsAfter B.stands ⟦<TreeBuilder as Builder>⟧.stands B.DEPTH self.old.reading items bytes
+            → R.remaining input.old.reader ≡ Some rest
+            → ReadsNext B.stands ⟦<TreeBuilder as Builder>⟧.stands B.means B.DEPTH self.old.reading self.new.reading
+            items bytes rest (R.remaining input.new.reader) result }
+        ensures failed { OnErr result (self.new.reading.stage ≡ Stage.Failed) }
+        ensures stays { self.old.reading.stage ≡ Stage.Failed
+            → (result ≡ Err Fault.Failed) × (self.new.reading ≡ self.old.reading) × (input.new ≡ input.old) }
+        ensures usable { IsUsable B.stands ⟦<TreeBuilder as Builder>⟧.stands B.DEPTH self.new.reading }
+        ensures limits { self.new.reading.limits ≡ self.old.reading.limits }
+        ensures counted { CountsReads input.old.failures input.new.failures result }
+        ensures taken { TakesNext self.old.reading self.new.reading input.old.taken input.new.taken result }
+    {
         if matches!(self.reading.stage, Stage::Failed) {
             return Err(Fault::Failed);
         }

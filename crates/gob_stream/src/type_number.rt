@@ -1,6 +1,6 @@
 //! The type number at which a body begins.
 
-ghost use Rattle.std.specs.Prelude.{◌≡◌, ℕ, ◌+◌, ◌<◌, ◌≤◌, ◌^◌, ◌++◌, [], List, Ok, Err, length, OnOk, min, pos, negsuc};
+ghost use Rattle.std.specs.Prelude.{◌≡◌, ℕ, ◌+◌, ◌<◌, ◌≤◌, ◌++◌, [], List, length, IfOk, OnOk, min, pos, negsuc};
 ghost use Rattle.gob_num.specs.Signed.{IsSigned};
 ghost use Rattle.gob_num.specs.Unsigned.{IsUnsigned, IsUnsignedFront};
 ghost use Rattle.gob_types.specs.Base.{wire_type};
@@ -8,7 +8,7 @@ ghost use Rattle.gob_types.specs.Defined.{types, Admits};
 ghost use Rattle.gob_stream.specs.Bounds.{Bounds, greatest_stream};
 ghost use Rattle.gob_stream.specs.Standing.{no_deeper, IsCount, IsRest};
 ghost use Rattle.gob_stream.specs.declared.stage.Extent.{Extent};
-ghost use Rattle.gob_stream.specs.ReadParts.{AreTypes, HasWireType, MaybeDefines, MaybePuts, StepsOn, GoesOnIn};
+ghost use Rattle.gob_stream.specs.ReadParts.{AreTypes, HasCount, HasWireType, MaybeDefines, MaybePuts, StepsOn, GoesOnIn};
 ghost use Rattle.gob_stream.specs.ReadParts.{define_reason, ready_fault};
 
 use crate::body::{take_description, take_value};
@@ -39,12 +39,15 @@ pub(crate) fn take_type_number<B: Builder>(
     piece: &[u8],
 ) -> Result<Stepped<B>, Fault>
     requires known { AreTypes limits table.old }
+    requires counted { HasCount (no_deeper B.DEPTH limits) body }
     requires begin { body.begin + length number ≡ taken }
     requires room { taken < body.end }
     requires end { body.end ≤ greatest_stream }
     requires front { IsUnsignedFront number }
+    requires some { 0 < length piece.now }
     ensures read { (offset m : ℕ) (c : List ℕ) → IsCount (no_deeper B.DEPTH limits) offset m c body
         → StepsOn B.stands ⟦<TreeBuilder as Builder>⟧.stands B.means (no_deeper B.DEPTH limits) (types table.old) offset (c ++ number) piece.now (types table.new) result }
+    ensures some { IfOk result (λ stepped. 0 < stepped.used) }
     ensures most { table.new.most ≡ table.old.most }
 {
     let room = (body.end - taken).min(piece.len() as u64) as usize;
@@ -55,19 +58,20 @@ pub(crate) fn take_type_number<B: Builder>(
                 begin: taken + used as u64,
                 end: body.end,
             };
-            let mut stepped = begin_rest(
-                alloc,
-                limits,
-                table,
-                body.begin,
-                rest,
-                number,
-                &piece[used..],
-            )?;
-            stepped.used += used;
-            Ok(stepped)
+            match begin_rest(alloc, limits, table, body.begin, rest, number, &piece[used..]) {
+                Ok(stepped) => Ok(Stepped {
+                    used: used + stepped.used,
+                    stage: stepped.stage,
+                    item: stepped.item,
+                }),
+                Err(fault) => Err(fault),
+            }
         }
-        Taken::BadHead => Err(Fault::Refused(refusal(body.begin, body.begin + 1, Reason::BadHead))),
+        Taken::BadHead => Err(Fault::Refused(refusal(
+            body.begin,
+            body.begin + 1,
+            Reason::BadHead,
+        ))),
         Taken::NotMinimal => Err(Fault::Refused(refusal(
             body.begin,
             body.begin + 2,
@@ -200,7 +204,13 @@ fn reason_of(id: TypeId, fault: DefineFault) -> Reason
 }
 
 // Whether values of the type may come now.
-fn make_ready(alloc: Global, table: &Table, id: TypeId, place: u64, seen: u64) -> Result<(), Fault>
+fn make_ready(
+    alloc: Global,
+    table: &Table,
+    id: TypeId,
+    place: u64,
+    seen: u64,
+) -> Result<(), Fault>
     ensures { MaybePuts (types table.now) id place seen result }
 {
     if id.0 == GOB_ENCODER_TYPE {

@@ -1,4 +1,4 @@
-use Rattle.std.proofs.Common.{arith, ap, Err}
+use Rattle.std.proofs.Common.{arith}
 use Rattle.gob_types.specs.Base.{wire_type}
 use Rattle.gob_stream.specs.Standing.{size}
 use Rattle.gob_stream.proofs.BodySteps.{stops_within}
@@ -25,4 +25,4 @@ returns-in-Ok-Done-clause-read g c = λ limit z s.
     description_wrong (made_of _ c.push.new.self.run z c.args.piece.now c.in-Ok-Done.field-0-is (c.in-Ok-Done.ensures.given wire_type limit (size c.args.rest) z s)) c.in-Err-define.ensures.defines
 
 pub returns-clause-read : goal.returns-clause-read
-returns-clause-read g c = λ limit z s. description_stopped c.args.reader.run z c.args.piece.now c.in-Err.stop c.fault_of_stop.ensures c.in-Err.ensures.refused (λ e. c.in-Err.ensures.failed_only (ap (λ x. Err x) e)) s
+returns-clause-read g c = λ limit z s. description_stopped c.args.reader.run z c.args.piece.now c.in-Err.stop c.fault_of_stop.ensures c.in-Err.ensures.refused s

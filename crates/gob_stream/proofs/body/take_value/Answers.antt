@@ -1,4 +1,4 @@
-use Rattle.std.proofs.Common.{arith, ap, Err}
+use Rattle.std.proofs.Common.{arith}
 use Rattle.gob_stream.proofs.BodySteps.{stops_within, value_stopped, value_more, value_done}
 use Rattle.gob_stream.specs.Standing.{size}
 use Rattle.gob_stream.proofs.body.take_value.Goals as goal
@@ -13,4 +13,4 @@ pub returns-in-Ok-Done : goal.returns-in-Ok-Done
 returns-in-Ok-Done g c = λ limit z s. value_done c.push.new.self.run z c.args.piece.now c.in-Ok-Done.field-0-is (c.in-Ok-Done.ensures.given c.args.id limit (size c.args.rest) z s) c.next_count.ensures
 
 pub returns-in-Err : goal.returns-in-Err
-returns-in-Err g c = λ limit z s. value_stopped c.args.reader.run z c.args.piece.now c.in-Err.stop c.fault_of_stop.ensures c.in-Err.ensures.refused (λ e. c.in-Err.ensures.failed_only (ap (λ x. Err x) e)) s
+returns-in-Err g c = λ limit z s. value_stopped c.args.reader.run z c.args.piece.now c.in-Err.stop c.fault_of_stop.ensures c.in-Err.ensures.refused s

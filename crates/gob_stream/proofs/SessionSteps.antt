@@ -1,0 +1,294 @@
+-- Reading the next item, piece by piece.
+use Rattle.std.proofs.Common.{◌≡◌, ◌≢◌, ℕ, zero, suc, ◌+◌, ◌-◌, ◌<◌, ◌≤◌, ◌⊎◌, inl, inr, List, [], ◌∷◌, ◌++◌, length, take, Option, Some, None, Result, Ok, Err, arith, refl, sym, ap, ◌∙◌, subst, append_assoc, length-append}
+use Rattle.std.proofs.lemmas.List.{append-nil}
+use Rattle.std.specs.Prelude.{IfSome}
+use Rattle.std.specs.Result.{IsErrAnd}
+use Rattle.std.specs.Io.KnownBytes.{Consumes, Keeps, IsAtEnd}
+use Rattle.std.proofs.KnownBytes.{Consumes-nil, Consumes-trans, Consumes-kept}
+use Rattle.gob_num.specs.Unsigned.{IsUnsignedFront}
+use Rattle.gob_num.proofs.UnsignedLaws.{unsigned_length}
+use Rattle.gob_types.specs.Table.{Table}
+use Rattle.gob_types.specs.Base.{base_table}
+use Rattle.gob_types.specs.Defined.{types}
+use Rattle.gob_value.specs.Tree.{Tree}
+use Rattle.gob_read.specs.contracts.tree_builder.TreeBuilderBuilder.TheImpl as tree_builder
+use Rattle.gob_read.specs.declared.tree_builder.TreeBuilder.{TreeBuilder}
+use Rattle.gob_read.proofs.Seen.{take_whole}
+use Rattle.gob_stream.specs.declared.fault.Refusal.{Refusal}
+use Rattle.gob_stream.specs.declared.fault.Fault.{Fault}
+use Rattle.gob_stream.specs.declared.fault.Fault.TheVariants as fault
+use Rattle.gob_stream.specs.declared.item.Item as declared
+use Rattle.gob_stream.specs.declared.reading.Reading.{Reading}
+use Rattle.gob_stream.specs.declared.reading.Step.{Step}
+use Rattle.gob_stream.specs.declared.stage.Stage.{Stage}
+use Rattle.gob_stream.specs.declared.stage.Stage.TheVariants as stage
+use Rattle.gob_stream.specs.Bounds.{Bounds}
+use Rattle.gob_stream.specs.Devices.{counts_up}
+use Rattle.gob_stream.specs.Item.{StreamItem, ItemMeans}
+use Rattle.gob_stream.specs.Stream.{Counted, counted, Continues, no_more, and_then, Stream}
+use Rattle.gob_stream.specs.Outcome.{BeginsWith, GivesItems, RefusesNext, EndsSo, at_the_end, Outcome, the_end, refused}
+use Rattle.gob_stream.specs.Standing.{Standing, StandsIn, in_count, in_type_number, in_value, in_description, StandsAfter, IsUsable, has_failed, stands_after, no_deeper}
+use Rattle.gob_stream.specs.Reading.{Taken, SomeTaken, IsShown, IsNoFurther, up_to_the_last_shown, within_the_item, EndsInItem, GivesNext, RefusesNextItem, shown, ended, StopsNext, ReadsNext, Finishes}
+use Rattle.gob_stream.specs.ReadParts.{Advances, AdvancesOver, over_some, over_item, wanted_in}
+use Rattle.gob_stream.proofs.OutcomeLaws.{one_front}
+use Rattle.gob_stream.proofs.ShownLaws.{next_seen}
+use Rattle.gob_stream.proofs.StayLaws.{refused_behind}
+use Rattle.gob_stream.proofs.ValueSteps.{Lies, lies, three}
+use Rattle.gob_stream.proofs.UnderWayLaws.{refused_later, after_gives}
+
+-- the tellings that a builder of trees stands for
+abbrev pub trees : Standing TreeBuilder
+trees = tree_builder.stands-value.it
+
+-- the reading met no fault
+abbrev pub IsSound : {X O : Type 0} → Reading X O → Type 0
+IsSound s = s.stage ≢ stage.Failed
+
+-- ---- bytes that were consumed of those that are left
+pub record SomeConsumed (old now : Option (List ℕ)) (P : List ℕ → Type 0) : Type 0 where
+  pub bytes : List ℕ
+  pub consumed : Consumes old now bytes
+  pub holds : P bytes
+
+pub consumed_as : {old now : Option (List ℕ)} {P Q : List ℕ → Type 0} → ((x : List ℕ) → P x → Q x) → SomeConsumed old now P → SomeConsumed old now Q
+consumed_as f p = record { bytes = p.bytes; consumed = p.consumed; holds = f p.bytes p.holds }
+
+-- and then some more
+pub consumed_more : {old mid now : Option (List ℕ)} {P Q : List ℕ → Type 0} (more : List ℕ) → Consumes mid now more → ((x : List ℕ) → P x → Q (x ++ more)) → SomeConsumed old mid P → SomeConsumed old now Q
+consumed_more {old = old} {mid = mid} {now = now} more c f p =
+    record { bytes = p.bytes ++ more; consumed = Consumes-trans old mid now p.bytes more p.consumed c; holds = f p.bytes p.holds }
+
+pub consumed_still : {old mid now : Option (List ℕ)} {P : List ℕ → Type 0} → Keeps mid now → SomeConsumed old mid P → SomeConsumed old now P
+consumed_still {old = old} {mid = mid} {now = now} k p = record { bytes = p.bytes; consumed = Consumes-kept old mid now p.bytes p.consumed k; holds = p.holds }
+
+-- a read that gave nothing
+pub consumed_nothing : {old mid now : Option (List ℕ)} {P : List ℕ → Type 0} {n : ℕ} (buf : List ℕ) → n ≡ 0 → Consumes mid now (take n buf) → SomeConsumed old mid P → SomeConsumed old now P
+consumed_nothing {mid = mid} {now = now} {P = P} {n = n} buf e c p =
+    consumed_more [] (subst (λ n. Consumes mid now (take n buf)) e c) (λ x h. subst P (sym (append-nil x)) h) p
+
+-- of known bytes
+taken_known : {rest more : List ℕ} (now : Option (List ℕ)) → Consumes (Some rest) now more → Taken rest now more
+taken_known None c = absurd c
+taken_known (Some left) c = record { left = left; known = refl; whole = c }
+
+pub known_taken : {old now : Option (List ℕ)} {rest : List ℕ} {P : List ℕ → Type 0} → old ≡ Some rest → SomeConsumed old now P → SomeTaken rest now P
+known_taken {now = now} e p = record { bytes = p.bytes; taken = taken_known now (subst (λ o. Consumes o now p.bytes) e p.consumed); holds = p.holds }
+
+-- all of them
+pub record AllTaken (now : Option (List ℕ)) (P : Type 0) : Type 0 where
+  pub ended : now ≡ Some []
+  pub holds : P
+
+all_of : {now : Option (List ℕ)} {rest : List ℕ} {P : List ℕ → Type 0} (p : SomeTaken rest now P) → p.taken.left ≡ [] → AllTaken now (P rest)
+all_of {P = P} p e =
+    record { ended = p.taken.known ∙ ap (λ l. Some l) e; holds = subst P (sym (p.taken.whole ∙ ap (λ l. p.bytes ++ l) e ∙ append-nil p.bytes)) p.holds }
+
+pub all_taken : {old now : Option (List ℕ)} {rest : List ℕ} {P : List ℕ → Type 0} → old ≡ Some rest → IsAtEnd now → SomeConsumed old now P → AllTaken now (P rest)
+all_taken {now = now} e f p = let t = known_taken e p in all_of t (subst IsAtEnd t.taken.known f)
+
+-- ---- where a session stands
+-- wherever the first reading stood, the second stands behind some more bytes, those that were consumed
+pub record StoodOn {X O : Type 0} (stands : Standing X) (trees : Standing TreeBuilder) (most : ℕ) (s s' : Reading X O) (old now : Option (List ℕ)) : Type 0 where
+  pub each : (items : List StreamItem) (bytes : List ℕ) → StandsAfter stands trees most s items bytes
+      → SomeConsumed old now (λ more. StandsAfter stands trees most s' items (bytes ++ more))
+
+pub record StandsSomewhere {X O : Type 0} (stands : Standing X) (trees : Standing TreeBuilder) (most : ℕ) (s : Reading X O) : Type 0 where
+  pub items : List StreamItem
+  pub bytes : List ℕ
+  pub after : StandsAfter stands trees most s items bytes
+
+pub somewhere : {X O : Type 0} {stands : Standing X} {trees : Standing TreeBuilder} {most : ℕ} {s : Reading X O} → IsUsable stands trees most s → IsSound s → StandsSomewhere stands trees most s
+somewhere (has_failed f) n = absurd (n f)
+somewhere (stands_after {items = items} {bytes = bytes} a) n = record { items = items; bytes = bytes; after = a }
+
+pub stood_first : {X O : Type 0} {stands : Standing X} {trees : Standing TreeBuilder} {most : ℕ} {s : Reading X O} (now : Option (List ℕ)) → StoodOn stands trees most s s now now
+stood_first {stands = stands} {trees = trees} {most = most} {s = s} now = record {
+  each = λ items bytes a. record { bytes = []; consumed = Consumes-nil now; holds = subst (λ b. StandsAfter stands trees most s items b) (sym (append-nil bytes)) a };
+}
+
+-- ---- how much can be taken
+-- a stream keeps to its limit
+continues_within : {base : Table} {L : Bounds} {T U : Table} {o : ℕ} {items : List StreamItem} {b : List ℕ} → Continues base L T o items b U → o ≤ L.stream → o + length b ≤ L.stream
+continues_within no_more l = omega arith
+continues_within (and_then {b = b} {c = c} (counted {c = x} {d = d} u k w p) e r) l = let n = continues_within r (omega arith) in omega (arith, length-append b c)
+
+pub stream_within : {base : Table} {L : Bounds} {U : Table} {items : List StreamItem} {b : List ℕ} → Stream base L items b U → length b ≤ L.stream
+stream_within p = let l = continues_within p (omega arith) in omega arith
+
+-- what is taken next, one byte at least, ends with the limit and a count at the latest
+pub record Room (stream taken wanted : ℕ) : Type 0 where
+  pub some : 0 < wanted
+  pub within : taken + wanted ≤ stream + 9
+
+front_short : {b : List ℕ} → IsUnsignedFront b → length b < 9
+front_short {b = b} f = shorter b f.rest f.more (unsigned_length f.spelled).1
+  where
+    shorter : (b r : List ℕ) → r ≢ [] → length (b ++ r) ≤ 9 → length b < 9
+    shorter b [] m l = absurd (m refl)
+    shorter b (d ∷ r) m l = omega (arith, length-append b (d ∷ r))
+
+stage_room : {X O : Type 0} {stands : Standing X} {trees : Standing TreeBuilder} {L : Bounds} {T : Table} {offset taken : ℕ} {awaits : Stage X O} {z : List ℕ}
+    → StandsIn stands trees L T offset awaits z → offset ≤ L.stream → taken ≡ offset + length z → Room L.stream taken (wanted_in awaits taken)
+stage_room (in_count {number = number} f) l e = let n = front_short f in record { some = omega arith; within = omega arith }
+stage_room (in_type_number {c = c} {number = number} k f w) l e =
+    let s = k.stream in record { some = omega arith; within = omega (arith, length-append c number) }
+stage_room (in_value {c = c} {a = a} {z = z} k s r p b) l e =
+    let lie = lies k r in let room = b.stood.room in let z1 = lie.ends in let z2 = lie.size_is in let z3 = lie.within in let z4 = k.stream in
+    let n : length (c ++ (a ++ z)) ≡ length c + (length a + length z) = omega (arith, length-append c (a ++ z), length-append a z) in
+    record { some = omega arith; within = omega arith }
+stage_room (in_description {c = c} {a = a} {z = z} k i s r p b) l e =
+    let lie = lies k r in let room = b.stood.room in let z1 = lie.ends in let z2 = lie.size_is in let z3 = lie.within in let z4 = k.stream in
+    let n : length (c ++ (a ++ z)) ≡ length c + (length a + length z) = omega (arith, length-append c (a ++ z), length-append a z) in
+    record { some = omega arith; within = omega arith }
+
+pub after_room : {X O : Type 0} {stands : Standing X} {trees : Standing TreeBuilder} {most : ℕ} {s : Reading X O} {items : List StreamItem} {bytes : List ℕ}
+    → StandsAfter stands trees most s items bytes → Room s.limits.stream s.taken (wanted_in s.stage s.taken)
+after_room a = stage_room a.stage (stream_within a.stream) (let t = a.taken in omega (arith, ap length a.whole, length-append a.front a.under_way))
+
+pub room_of : {X O : Type 0} {stands : Standing X} {trees : Standing TreeBuilder} {most : ℕ} {s : Reading X O} → IsUsable stands trees most s → IsSound s → Room s.limits.stream s.taken (wanted_in s.stage s.taken)
+room_of u n = after_room (somewhere u n).after
+
+-- ---- what is refused
+-- a piece of no more bytes than can be taken at once ends with what shows the refusal, or within the item
+piece_no_further : {X O : Type 0} {stands : Standing X} {trees : Standing TreeBuilder} {L : Bounds} {T : Table} {offset : ℕ} (taken : ℕ) {awaits : Stage X O} {z : List ℕ} (piece : List ℕ) {R : Refusal}
+    → StandsIn stands trees L T offset awaits z → RefusesNext base_table L T offset (z ++ piece) R → taken ≡ offset + length z → 0 < length piece → length piece ≤ wanted_in awaits taken
+    → IsNoFurther L offset (z ++ piece) R
+piece_no_further {X = X} {O = O} {stands = stands} {trees = trees} {offset = offset} taken {z = z} piece {R = R} (in_count f) r e m l =
+    let before : offset + length z < R.seen = refused_later {X = X} {O = O} {stands = stands} {trees = trees} piece (in_count f) r in
+    let there : R.seen ≤ offset + length (z ++ piece) = next_seen r in
+    up_to_the_last_shown (omega (arith, length-append z piece))
+piece_no_further {X = X} {O = O} {stands = stands} {trees = trees} {offset = offset} taken piece {R = R} (in_type_number {c = c} {number = number} k f w) r e m l =
+    let before : offset + length (c ++ number) < R.seen = refused_later {X = X} {O = O} {stands = stands} {trees = trees} piece (in_type_number k f w) r in
+    let there : R.seen ≤ offset + length ((c ++ number) ++ piece) = next_seen r in
+    up_to_the_last_shown (omega (arith, length-append (c ++ number) piece))
+piece_no_further taken piece (in_value {c = c} {a = a} {z = z} k s r p b) q e m l =
+    let lie = lies k r in let z1 = lie.ends in
+    let n : length (c ++ (a ++ z)) ≡ length c + (length a + length z) = omega (arith, length-append c (a ++ z), length-append a z) in
+    within_the_item (a ++ (z ++ piece)) (three c a z piece) k.count k.item k.stream (omega (arith, length-append a (z ++ piece), length-append z piece))
+piece_no_further taken piece (in_description {c = c} {a = a} {z = z} k i s r p b) q e m l =
+    let lie = lies k r in let z1 = lie.ends in
+    let n : length (c ++ (a ++ z)) ≡ length c + (length a + length z) = omega (arith, length-append c (a ++ z), length-append a z) in
+    within_the_item (a ++ (z ++ piece)) (three c a z piece) k.count k.item k.stream (omega (arith, length-append a (z ++ piece), length-append z piece))
+
+-- the refusal is one of what stands behind the front
+refused_there : {X O : Type 0} {stands : Standing X} {trees : Standing TreeBuilder} {most : ℕ} {s : Reading X O} {items : List StreamItem} {bytes : List ℕ} (piece : List ℕ) {R : Refusal} (a : StandsAfter stands trees most s items bytes)
+    → IsShown (no_deeper most s.limits) (bytes ++ piece) items R → RefusesNext base_table (no_deeper most s.limits) (types s.types) (length a.front) (a.under_way ++ piece) R
+refused_there {most = most} {s = s} piece {R = R} a h =
+    let L = no_deeper most s.limits in
+    let b = refused_behind h.outcome.ends h.shown in
+    let o = one_front b.left (a.under_way ++ piece) b.stream a.stream (sym b.whole ∙ (ap (λ l. l ++ piece) a.whole ∙ append_assoc a.front a.under_way piece)) in
+    let moved = subst (λ (T : Table). RefusesNext base_table L T (length b.front) b.left R) o.table b.next in
+    subst (λ z. RefusesNext base_table L (types s.types) (length a.front) z R) o.rest (subst (λ f. RefusesNext base_table L (types s.types) (length f) b.left R) o.front moved)
+
+ends_in_item : {X O : Type 0} {stands : Standing X} {trees : Standing TreeBuilder} {most : ℕ} {s : Reading X O} {items : List StreamItem} {bytes : List ℕ} (piece : List ℕ) {R : Refusal} → StandsAfter stands trees most s items bytes
+    → 0 < length piece → length piece ≤ wanted_in s.stage s.taken → IsShown (no_deeper most s.limits) (bytes ++ piece) items R → EndsInItem (no_deeper most s.limits) (bytes ++ piece) items R
+ends_in_item {s = s} piece a m l h = record {
+  front = a.front;
+  item = a.under_way ++ piece;
+  table = types s.types;
+  stream = a.stream;
+  whole = ap (λ b. b ++ piece) a.whole ∙ append_assoc a.front a.under_way piece;
+  no_further = piece_no_further s.taken piece a.stage (refused_there piece a h) (let t = a.taken in omega (arith, ap length a.whole, length-append a.front a.under_way)) m l;
+}
+
+begins_more : {X O : Type 0} {stands : Standing X} {trees : Standing TreeBuilder} {most : ℕ} {s : Reading X O} {items : List StreamItem} {bytes : List ℕ} (piece : List ℕ) → StandsAfter stands trees most s items bytes
+    → BeginsWith base_table (no_deeper most s.limits) (bytes ++ piece) items
+begins_more {s = s} piece a =
+    record { front = a.front; rest = a.under_way ++ piece; table = types s.types; stream = a.stream; whole = ap (λ b. b ++ piece) a.whole ∙ append_assoc a.front a.under_way piece }
+
+-- ---- what stops the reading of an item
+-- the fault that a `?` returns is the callee's
+pub passed_on : {A E : Type 0} (Q : Result A E → Type 0) (r : Result A E) (e : E) → IsErrAnd r (λ y. y ≡ e) → Q (Err e) → Q r
+passed_on Q (Ok x) e p q = absurd p
+passed_on Q (Err y) e p q = subst (λ e. Q (Err e)) (sym p) q
+
+taken_as : {rest : List ℕ} {now : Option (List ℕ)} {P Q : List ℕ → Type 0} → ((x : List ℕ) → P x → Q x) → SomeTaken rest now P → SomeTaken rest now Q
+taken_as f p = record { bytes = p.bytes; taken = p.taken; holds = f p.bytes p.holds }
+
+-- the reading stood behind these bytes and some more, and then a piece was read
+pub record StoodBefore {X O : Type 0} (stands : Standing X) (trees : Standing TreeBuilder) (most : ℕ) (s : Reading X O) (items : List StreamItem) (bytes piece more : List ℕ) : Type 0 where
+  pub before : List ℕ
+  pub after : StandsAfter stands trees most s items (bytes ++ before)
+  pub whole : (bytes ++ before) ++ piece ≡ bytes ++ more
+
+pub stood_before : {X O : Type 0} {stands : Standing X} {trees : Standing TreeBuilder} {most : ℕ} {s : Reading X O} {items : List StreamItem} {bytes : List ℕ} {old mid now : Option (List ℕ)} {rest : List ℕ} (piece : List ℕ) → old ≡ Some rest → Consumes mid now piece
+    → SomeConsumed old mid (λ more. StandsAfter stands trees most s items (bytes ++ more)) → SomeTaken rest now (StoodBefore stands trees most s items bytes piece)
+stood_before {bytes = bytes} piece e c p = known_taken e (consumed_more piece c (λ x a. record { before = x; after = a; whole = append_assoc bytes x piece }) p)
+
+-- wherever the reading stood, this is what a step over the piece answered
+pub record Stepped {X O : Type 0} (stands : Standing X) (trees : Standing TreeBuilder) (means : O → Tree → Type 0) (most : ℕ) (s s' : Reading X O) (piece : List ℕ) (result : Result (Step O) Fault) : Type 0 where
+  pub each : (items : List StreamItem) (bytes : List ℕ) → StandsAfter stands trees most s items bytes → Advances stands trees means most s s' items bytes piece result
+  pub some : 0 < length piece
+  pub few : length piece ≤ wanted_in s.stage s.taken
+
+-- a step that is refused, or wants memory
+pub step_stops : {X O : Type 0} {stands : Standing X} {trees : Standing TreeBuilder} {means : O → Tree → Type 0} {most : ℕ} {s s' : Reading X O} {items : List StreamItem} {bytes rest : List ℕ} (piece : List ℕ) {now : Option (List ℕ)} (e : Fault)
+    → Stepped stands trees means most s s' piece (Err e) → SomeTaken rest now (StoodBefore stands trees most s items bytes piece) → StopsNext (no_deeper most s.limits) items bytes rest now e
+step_stops {most = most} {s = s} {items = items} piece (fault.Refused R) f p =
+    let L = no_deeper most s.limits in
+    shown (taken_as (λ x b.
+        let h : IsShown L _ items R = (f.each items _ b.after).0 in
+        (subst (λ y. IsShown L y items R) b.whole h, subst (λ y. EndsInItem L y items R) b.whole (ends_in_item piece b.after f.some f.few h))) p)
+step_stops {most = most} {s = s} {items = items} piece fault.Memory f p =
+    taken_as (λ x b. subst (λ y. BeginsWith base_table (no_deeper most s.limits) y items) b.whole (begins_more piece b.after)) p
+step_stops {items = items} piece fault.Read f p = absurd (f.each items _ p.holds.after)
+step_stops {items = items} piece fault.Failed f p = absurd (f.each items _ p.holds.after)
+
+-- a read that fails
+pub read_stops : {X O : Type 0} {stands : Standing X} {trees : Standing TreeBuilder} {most : ℕ} {s : Reading X O} {items : List StreamItem} (bytes : List ℕ) {rest : List ℕ} {old mid now : Option (List ℕ)} → old ≡ Some rest → Keeps mid now
+    → SomeConsumed old mid (λ more. StandsAfter stands trees most s items (bytes ++ more)) → SomeTaken rest now (λ taken. GivesItems base_table (no_deeper most s.limits) (bytes ++ taken) items)
+read_stops bytes e k p = taken_as (λ x a. after_gives a) (known_taken e (consumed_still k p))
+
+-- the end of the input within an item
+pub end_stops : {X O : Type 0} (most : ℕ) (s s' : Reading X O) (items : List StreamItem) (bytes rest : List ℕ) {now : Option (List ℕ)} (e : Fault) → now ≡ Some [] → Finishes most s s' items (bytes ++ rest) (Err e)
+    → StopsNext (no_deeper most s.limits) items bytes rest now e
+end_stops most s s' items bytes rest (fault.Refused R) n f = ended n f.0 f.1
+end_stops most s s' items bytes rest fault.Read n f = absurd f
+end_stops most s s' items bytes rest fault.Memory n f = absurd f
+end_stops most s s' items bytes rest fault.Failed n f = absurd f
+
+-- ---- the end of the stream
+-- behind it nothing was taken
+pub record NothingMore {X O : Type 0} (s s' : Reading X O) (more : List ℕ) : Type 0 where
+  pub none : more ≡ []
+  pub same : s' ≡ s
+
+front_of_nothing : (x y : List ℕ) → [] ≡ x ++ y → y ≡ []
+front_of_nothing [] y e = sym e
+front_of_nothing (d ∷ x) y e = cc
+
+pub nothing_more : {X O : Type 0} {stands : Standing X} {trees : Standing TreeBuilder} {most : ℕ} {s s' : Reading X O} {items : List StreamItem} {bytes : List ℕ} (more : List ℕ) → StandsAfter stands trees most s items bytes → StandsAfter stands trees most s' items (bytes ++ more)
+    → Outcome base_table (no_deeper most s.limits) (bytes ++ more) items the_end → (s' ≡ s) ⊎ (s.taken < s'.taken) → NothingMore s s' more
+nothing_more {s = s} {s' = s'} {bytes = bytes} more a b o g = record { none = none o.ends; same = elim g [ inl e ↦ e | inr l ↦ absurd (let t = a.taken in let u = b.taken in let n = ap length (none o.ends) in omega (arith, length-append bytes more)) ] }
+  where
+    none : EndsSo base_table _ (bytes ++ more) _ the_end → more ≡ []
+    none (at_the_end p) =
+        front_of_nothing a.under_way more (one_front [] (a.under_way ++ more) p a.stream (append-nil (bytes ++ more) ∙ (ap (λ l. l ++ more) a.whole ∙ append_assoc a.front a.under_way more))).rest
+
+-- ---- the item that is whole
+between_items : {X O : Type 0} {stands : Standing X} {trees : Standing TreeBuilder} {L : Bounds} {T : Table} {offset : ℕ} (n : ℕ) {awaits : Stage X O} {z : List ℕ} → StandsIn stands trees L T offset awaits z → awaits ≡ stage.Count n [] → z ≡ []
+between_items n (in_count {number = number} f) e = let g : number ≡ [] = cc in g
+between_items n (in_type_number k f w) e = cc
+between_items n (in_value k s r p b) e = cc
+between_items n (in_description k i s r p b) e = cc
+
+-- the item was given with the last byte of the piece
+gives_next : {X O : Type 0} {stands : Standing X} {trees : Standing TreeBuilder} {means : O → Tree → Type 0} {most : ℕ} {s' : Reading X O} {given : declared.Item O} {i : StreamItem} {items : List StreamItem} {bytes : List ℕ} (n : ℕ)
+    → ItemMeans means given i → StandsAfter stands trees most s' (items ++ i ∷ []) bytes → s'.stage ≡ stage.Count n [] → GivesNext stands trees means most s' given items bytes
+gives_next {most = most} {s' = s'} {i = i} {items = items} n m a e =
+    let all = a.whole ∙ ap (λ l. a.front ++ l) (between_items n a.stage e) ∙ append-nil a.front in
+    record { item = i; meant = m; after = a; stream = subst (λ b. Stream base_table (no_deeper most s'.limits) (items ++ i ∷ []) b (types s'.types)) (sym all) a.stream }
+
+over_the_item : {X O : Type 0} {stands : Standing X} {trees : Standing TreeBuilder} {means : O → Tree → Type 0} {most : ℕ} {s' : Reading X O} {items : List StreamItem} {bytes piece : List ℕ} (used n : ℕ) (o : Option (declared.Item O)) {given : declared.Item O}
+    → o ≡ Some given → used ≡ length piece → s'.stage ≡ stage.Count n [] → AdvancesOver stands trees means most s' items bytes piece used o → GivesNext stands trees means most s' given items (bytes ++ piece)
+over_the_item used n o e u c (over_some m l a) = cc
+over_the_item {stands = stands} {trees = trees} {means = means} {most = most} {s' = s'} {items = items} {bytes = bytes} {piece = piece} used n o {given = given} e u c (over_item {given = x} {i = i} k l m a) =
+    let same : x ≡ given = cc in
+    let whole : bytes ++ take used piece ≡ bytes ++ piece = ap (λ l. bytes ++ l) (take_whole piece used (omega arith)) in
+    subst (λ b. GivesNext stands trees means most s' given items b) whole (gives_next n (subst (λ x. ItemMeans means x i) same m) a c)
+
+over_the_piece : {X O : Type 0} {stands : Standing X} {trees : Standing TreeBuilder} {means : O → Tree → Type 0} {most : ℕ} {s' : Reading X O} {items : List StreamItem} {bytes piece : List ℕ} (used : ℕ) (o : Option (declared.Item O))
+    → o ≡ None → used ≡ length piece → AdvancesOver stands trees means most s' items bytes piece used o → StandsAfter stands trees most s' items (bytes ++ piece)
+over_the_piece {stands = stands} {trees = trees} {most = most} {s' = s'} {items = items} {bytes = bytes} {piece = piece} used o e u (over_some m l a) =
+    subst (λ b. StandsAfter stands trees most s' items (bytes ++ b)) (take_whole piece used (omega arith)) a
+over_the_piece used o e u (over_item k l m a) = cc
