@@ -6,6 +6,8 @@ pub mod FaultSteps
 pub mod StreamSteps
 pub mod RefusalLaws
 pub mod EndLaws
+pub mod FinishSteps
+pub mod WantedSteps
 pub mod WireLaws
 pub mod DefinableLaws
 pub mod RefusingLaws
