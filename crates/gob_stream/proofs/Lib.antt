@@ -18,3 +18,4 @@ pub mod ValueSteps
 pub mod DefinitionSteps
 pub mod StandingSteps
 pub mod NumberSteps
+pub mod StageSteps
