@@ -1,14 +1,14 @@
 -- The laws of streams, by going along both of them.
-use Rattle.std.proofs.Common.{◌≡◌, ◌≢◌, ℕ, ◌+◌, ◌<◌, ◌≤◌, ◌⊎◌, inl, inr, List, [], ◌∷◌, ◌++◌, length, Option, Some, None, Result, Ok, Err, arith, refl, sym, ap, ◌∙◌, subst, append_assoc, length-append}
+use Rattle.std.proofs.Common.{◌≡◌, ℕ, ◌≤◌, ◌⊎◌, inl, inr, List, [], ◌∷◌, ◌++◌, length, arith, refl, sym, ap, ◌∙◌, subst, append_assoc, length-append}
 use Rattle.std.proofs.lemmas.List.{append-nil}
 use Rattle.gob_types.specs.Table.{Table}
 use Rattle.gob_stream.specs.Bounds.{Bounds}
 use Rattle.gob_stream.specs.Item.{StreamItem}
-use Rattle.gob_stream.specs.Body.{Body, definition, value, HasRoom, MayDefine}
-use Rattle.gob_stream.specs.Stream.{Counted, counted, Continues, no_more, and_then, Stream}
+use Rattle.gob_stream.specs.Body.{Body, definition, value}
+use Rattle.gob_stream.specs.Stream.{counted, Continues, no_more, and_then}
 use Rattle.gob_stream.specs.Outcome.{BeginsWith, GivesItems}
 use Rattle.gob_stream.specs.Laws.{GoesOn, AtLeast}
-use Rattle.gob_stream.proofs.StreamLaws.{counted_prefix, counted_some, more_items}
+use Rattle.gob_stream.proofs.StreamLaws.{counted_prefix, counted_some}
 
 regroup : (b p x c q y : List ℕ) → (b ++ p) ++ x ≡ (c ++ q) ++ y → b ++ (p ++ x) ≡ c ++ (q ++ y)
 regroup b p x c q y e = sym (append_assoc b p x) ∙ e ∙ append_assoc c q y
@@ -48,7 +48,7 @@ pub begin_one_another : (base : Table) (L : Bounds) (bytes : List ℕ) (items ot
 begin_one_another base L bytes items others p q = begin_from p.rest q.rest p.stream q.stream (sym p.whole ∙ q.whole)
 
 -- what isn't longer is all
-all_of : {items others : List StreamItem} → GoesOn items others → length others ≤ length items → items ≡ others
+pub all_of : {items others : List StreamItem} → GoesOn items others → length others ≤ length items → items ≡ others
 all_of {items = items} {others = others} g l = sym (g.whole ∙ ap (λ m. items ++ m) (none g.more (omega (arith, ap length g.whole, length-append items g.more))) ∙ append-nil items)
   where
     none : (m : List StreamItem) → length m ≡ 0 → m ≡ []

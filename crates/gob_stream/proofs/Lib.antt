@@ -10,6 +10,10 @@ pub mod WireLaws
 pub mod DefinableLaws
 pub mod RefusingLaws
 pub mod OutcomeLaws
+pub mod ShownLaws
+pub mod UnderWayLaws
+pub mod StayLaws
+pub mod ReadBackLaws
 pub mod CountSteps
 pub mod TypeNumberSteps
 pub mod BodySteps

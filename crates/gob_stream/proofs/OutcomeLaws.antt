@@ -1,9 +1,8 @@
 -- Bytes have one outcome.
-use Rattle.std.proofs.Common.{◌≡◌, ◌≢◌, ℕ, ◌+◌, ◌≤◌, List, [], ◌∷◌, ◌++◌, length, Some, arith, refl, sym, ap, ◌∙◌, subst, append_assoc, length-append}
+use Rattle.std.proofs.Common.{◌≡◌, ◌≢◌, ℕ, List, [], ◌∷◌, ◌++◌, length, arith, refl, sym, ap, ◌∙◌, subst, append_assoc, length-append}
 use Rattle.std.proofs.lemmas.List.{append-nil}
 use Rattle.gob_num.specs.Unsigned.{IsUnsigned, IsBadHead, IsNotMinimal}
 use Rattle.gob_num.proofs.UnsignedLaws.{unsigned_length}
-use Rattle.gob_types.specs.declared.kind.Shape.{Shape}
 use Rattle.gob_types.specs.declared.reason.Reason.TheVariants as reason
 use Rattle.gob_types.specs.Base.{base_table, wire_type}
 use Rattle.gob_types.specs.Table.{Table}
@@ -15,8 +14,8 @@ use Rattle.gob_stream.specs.Body.{Body, definition, value}
 use Rattle.gob_stream.specs.Stream.{Counted, counted, Continues, no_more, and_then, Stream}
 use Rattle.gob_stream.specs.Refusing.{refuses, RefusesCount, item_too_long, stream_too_long}
 use Rattle.gob_stream.specs.Refusing as refusing
-use Rattle.gob_stream.specs.Outcome.{RefusesNext, refused_count, refused_body, Ending, the_end, refused, EndsSo, at_the_end, next_refused, within_an_item, Outcome}
-use Rattle.gob_stream.proofs.StreamLaws.{counted_prefix, counted_some, NoNext, gives_items}
+use Rattle.gob_stream.specs.Outcome.{RefusesNext, refused_count, refused_body, Ending, refused, EndsSo, at_the_end, next_refused, within_an_item, Outcome}
+use Rattle.gob_stream.proofs.StreamLaws.{counted_prefix, NoNext, gives_items}
 use Rattle.gob_stream.proofs.LawsOfStreams.{give_one_list}
 use Rattle.gob_stream.proofs.RefusingLaws.{HasWireStruct, next_not, next_once}
 

@@ -1,5 +1,5 @@
 -- One refusal is given at most of what stands behind the items of a stream, and none where an item stands.
-use Rattle.std.proofs.Common.{◌≡◌, ◌≢◌, ℕ, ℤ, suc, pos, negsuc, ◌+◌, ◌-◌, ◌<◌, ◌≤◌, ◌⊎◌, inl, inr, List, [], ◌∷◌, ◌++◌, length, take, Some, None, arith, refl, sym, ap, ◌∙◌, subst, append_assoc, length-append}
+use Rattle.std.proofs.Common.{◌≡◌, ℕ, ℤ, pos, negsuc, ◌+◌, ◌-◌, ◌≤◌, List, [], ◌++◌, length, take, Some, arith, refl, sym, ap, ◌∙◌, subst, append_assoc, length-append}
 use Rattle.std.proofs.lemmas.List.{append-nil, take-append-le}
 use Rattle.gob_num.specs.Unsigned.{IsUnsigned, IsUnsignedFront, IsBadHead, IsNotMinimal}
 use Rattle.gob_num.specs.Signed.{IsSigned}

@@ -1,28 +1,23 @@
 -- What follows from the definition of a stream: its bytes tell its items.
-use Rattle.std.proofs.Common.{◌≡◌, ◌≢◌, ℕ, ℤ, zero, suc, pos, negsuc, ◌+◌, ◌<◌, ◌≤◌, ◌⊎◌, inl, inr, List, [], ◌∷◌, ◌++◌, length, Option, Some, None, arith, refl, sym, ap, ◌∙◌, subst, append_assoc, length-append}
+use Rattle.std.proofs.Common.{◌≡◌, ◌≢◌, ℕ, ℤ, pos, ◌+◌, ◌<◌, ◌≤◌, List, [], ◌∷◌, ◌++◌, length, arith, refl, sym, ap, ◌∙◌, subst, append_assoc, length-append}
 use Rattle.std.proofs.lemmas.List.{append-nil}
-use Rattle.gob_num.specs.Unsigned.{IsUnsigned}
-use Rattle.gob_num.specs.Signed.{IsSigned}
-use Rattle.gob_num.specs.Spelled.{Same}
 use Rattle.gob_num.proofs.DigitLaws.{append_split}
 use Rattle.gob_num.proofs.UnsignedLaws.{unsigned_prefix, unsigned_length}
 use Rattle.gob_num.proofs.SignedLaws.{signed_prefix}
 use Rattle.gob_types.specs.declared.id.TypeId.{TypeId}
 use Rattle.gob_types.specs.declared.kind.Field.{Field}
 use Rattle.gob_types.specs.declared.kind.Kind.{Kind}
-use Rattle.gob_types.specs.declared.kind.Kind.TheVariants as kind
 use Rattle.gob_types.specs.declared.kind.Shape.{Shape}
-use Rattle.gob_types.specs.Base.{id, wire_type}
-use Rattle.gob_types.specs.Table.{Table, shape_of}
+use Rattle.gob_types.specs.Base.{id}
+use Rattle.gob_types.specs.Table.{Table}
 use Rattle.gob_value.specs.Tree.{Tree}
-use Rattle.gob_value.specs.Spelling.{Spells}
-use Rattle.gob_value.specs.Top.{SpellsTop, at_once, tagged, IsStruct}
+use Rattle.gob_value.specs.Top.{SpellsTop}
 use Rattle.gob_value.specs.Description.{SaidField, SaidKind, Said, RefersTo, GivesFields, no_more as no_more_fields, and_field, GivesKind, gives_array, gives_slice, gives_struct, gives_map, gives_opaque, Describes}
 use Rattle.gob_stream.specs.Bounds.{Bounds}
-use Rattle.gob_stream.specs.Item.{StreamItem, defines, puts}
+use Rattle.gob_stream.specs.Item.{StreamItem, defines}
 use Rattle.gob_stream.specs.Body.{Body, definition, value}
 use Rattle.gob_stream.specs.Stream.{Counted, counted, Continues, no_more, and_then, Stream}
-use Rattle.gob_stream.specs.Outcome.{BeginsWith, GivesItems}
+use Rattle.gob_stream.specs.Outcome.{GivesItems}
 use Rattle.gob_types.proofs.GrowthLaws.{some_injective}
 use Rattle.gob_value.proofs.PrefixLaws.{same_spelling, same_top}
 

@@ -1,13 +1,22 @@
 -- The laws of streams: their bytes tell their items, whatever the base table, the limits and the shapes are.
 -- They follow from Go's encoding/gob documentation, Encoding Details; docs/FORMAT.md, Items and streams.
-use Rattle.std.specs.Prelude.{◌≡◌, ℕ, ◌≤◌, ◌⊎◌, List, ◌++◌, length}
+use Rattle.std.specs.Prelude.{◌≡◌, ℕ, ◌≤◌, ◌⊎◌, List, [], ◌++◌, length, take, Option, Some, Result, Ok, Err}
 use Rattle.gob_types.specs.Table.{Table}
 use Rattle.gob_types.specs.Base.{base_table}
+use Rattle.gob_value.specs.Tree.{Tree}
+use Rattle.gob_read.specs.declared.tree_builder.TreeBuilder.{TreeBuilder}
 use Rattle.gob_stream.specs.declared.fault.Refusal.{Refusal}
+use Rattle.gob_stream.specs.declared.fault.Fault.{Fault}
+use Rattle.gob_stream.specs.declared.fault.Fault.TheVariants as fault
+use Rattle.gob_stream.specs.declared.item.Item as declared
+use Rattle.gob_stream.specs.declared.reading.Reading.{Reading}
 use Rattle.gob_stream.specs.Bounds.{Bounds}
 use Rattle.gob_stream.specs.Item.{StreamItem}
 use Rattle.gob_stream.specs.Stream.{Counted, Stream}
 use Rattle.gob_stream.specs.Outcome.{BeginsWith, GivesItems, RefusesNext, Ending, Outcome}
+use Rattle.gob_stream.specs.Standing.{Standing, StandsAfter, no_deeper}
+use Rattle.gob_stream.specs.Reading.{IsShown, ReadsStream, Feeds, Finishes}
+use Rattle.gob_stream.specs.Writing.{WritesStream}
 
 -- bytes are the stream of one list of items, with one table behind it
 abbrev pub HaveOneReading : Type 0
@@ -41,6 +50,42 @@ abbrev pub StayStreams : Type 0
 StayStreams = (base : Table) (L M : Bounds) (items : List StreamItem) (bytes : List ℕ) (T : Table)
     → AtLeast L M → Stream base L items bytes T → Stream base M items bytes T
 
+-- a writer under limits that are each at most these has written the items as the bytes
+pub record WrittenWithin (M : Bounds) (items : List StreamItem) (bytes : List ℕ) : Type 0 where
+  pub limits : Bounds
+  pub within : AtLeast limits M
+  pub written : WritesStream limits items (Some []) (Some bytes) (Ok tt)
+
+-- what a reader gives of the stream of the items: those at Ok, a front of them before a failed read or without memory,
+-- and no refusal
+abbrev pub ReadsThese : (given items : List StreamItem) → Result (Unit {0}) Fault → Type 0
+ReadsThese given items (Ok _) = given ≡ items
+ReadsThese given items (Err (fault.Refused r)) = ⊥
+ReadsThese given items (Err fault.Read) = GoesOn given items
+ReadsThese given items (Err fault.Memory) = GoesOn given items
+ReadsThese given items (Err fault.Failed) = ⊥
+
+-- what is written is read back as that list, under limits that are each at least the writer's
+abbrev pub AreReadBack : Type 0
+AreReadBack = (M : Bounds) (items given : List StreamItem) (bytes : List ℕ) (now : Option (List ℕ)) (result : Result (Unit {0}) Fault)
+    → WrittenWithin M items bytes → ReadsStream M bytes now given result → ReadsThese given items result
+
+-- nor does any front of it show a refusal
+abbrev pub ShowNoRefusal : Type 0
+ShowNoRefusal = (M : Bounds) (items given : List StreamItem) (front rest : List ℕ) (R : Refusal) → WrittenWithin M items (front ++ rest) → ¬ IsShown M front given R
+
+-- in whatever pieces what is written is fed to a session, under limits that are each at least the writer's
+pub record AreReadBackInPieces {X O : Type 0} (stands : Standing X) (trees : Standing TreeBuilder) (means : O → Tree → Type 0) (most : ℕ) : Type 0 where
+  -- each feed answers Ok, or wants memory
+  pub fed : (s s' : Reading X O) (items before : List StreamItem) (bytes piece rest : List ℕ) (given : List (declared.Item O)) (result : Result (Unit {0}) Fault)
+      → WrittenWithin (no_deeper most s.limits) items ((bytes ++ piece) ++ rest) → Feeds stands trees means most s s' before bytes piece given result → (result ≡ Ok tt) ⊎ (result ≡ Err fault.Memory)
+  -- behind the last byte those items were given
+  pub given : (s : Reading X O) (items before : List StreamItem) (bytes : List ℕ)
+      → WrittenWithin (no_deeper most s.limits) items bytes → StandsAfter stands trees most s before bytes → before ≡ items
+  -- and finishing answers Ok
+  pub finished : (s s' : Reading X O) (items before : List StreamItem) (bytes : List ℕ) (result : Result (Unit {0}) Fault)
+      → WrittenWithin (no_deeper most s.limits) items bytes → Finishes most s s' before bytes result → result ≡ Ok tt
+
 -- bytes have one outcome: one list of items, and one ending
 abbrev pub HaveOneOutcome : Type 0
 HaveOneOutcome = (L : Bounds) (bytes : List ℕ) (items others : List StreamItem) (e f : Ending)
@@ -50,3 +95,8 @@ HaveOneOutcome = (L : Bounds) (bytes : List ℕ) (items others : List StreamItem
 abbrev pub RefuseNoItem : Type 0
 RefuseNoItem = (L : Bounds) (items : List StreamItem) (front z : List ℕ) (T : Table) (R : Refusal) → Stream base_table L items front T → RefusesNext base_table L T (length front) z R
     → (i : StreamItem) (b y : List ℕ) (U : Table) → Counted base_table L T (length front) i b U → ¬ (z ≡ b ++ y)
+
+-- the bytes that show a refusal are there, and it is the one of all bytes that begin with them
+abbrev pub StayShown : Type 0
+StayShown = (L : Bounds) (bytes others : List ℕ) (items : List StreamItem) (R : Refusal) → IsShown L bytes items R → take R.seen others ≡ take R.seen bytes
+    → (R.seen ≤ length bytes) × IsShown L others items R

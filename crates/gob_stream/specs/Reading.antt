@@ -14,7 +14,7 @@ use Rattle.gob_stream.specs.Bounds.{Bounds}
 use Rattle.gob_stream.specs.Devices.{counts_up, Rose}
 use Rattle.gob_stream.specs.Item.{StreamItem, ItemsMean, ItemMeans}
 use Rattle.gob_stream.specs.Stream.{Stream}
-use Rattle.gob_stream.specs.Outcome.{BeginsWith, Outcome, Ending, the_end, refused}
+use Rattle.gob_stream.specs.Outcome.{BeginsWith, GivesItems, Outcome, the_end, refused}
 use Rattle.gob_stream.specs.Standing.{Standing, StandsAfter, no_deeper}
 
 -- of the bytes that were left, some were taken and these are left now
@@ -59,6 +59,14 @@ abbrev pub Finishes : {X O : Type 0} → ℕ → (s s' : Reading X O) → List S
 Finishes most s s' items bytes (Ok _) = Outcome base_table (no_deeper most s.limits) bytes items the_end × (s' ≡ s)
 Finishes most s s' items bytes (Err (fault.Refused R)) = Outcome base_table (no_deeper most s.limits) bytes items (refused R) × (R.reason ≡ reason.Ended)
 Finishes most s s' items bytes (Err _) = ⊥
+
+-- what reading a whole stream answers, over a reader with these bytes left, where the items were given
+abbrev pub ReadsStream : Bounds → List ℕ → Option (List ℕ) → List StreamItem → Result (Unit {0}) Fault → Type 0
+ReadsStream L bytes now items (Ok _) = (T : Table) × Stream base_table L items bytes T × (now ≡ Some [])
+ReadsStream L bytes now items (Err (fault.Refused R)) = Outcome base_table L bytes items (refused R)
+ReadsStream L bytes now items (Err fault.Read) = SomeTaken bytes now (λ taken. GivesItems base_table L taken items)
+ReadsStream L bytes now items (Err fault.Memory) = BeginsWith base_table L bytes items
+ReadsStream L bytes now items (Err fault.Failed) = ⊥
 
 -- a call answers `Read` exactly where a read failed in it, which ended the call
 abbrev pub CountsReads : {A : Type 0} → (failures failures' : ℕ) → Result A Fault → Type 0

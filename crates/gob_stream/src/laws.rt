@@ -1,8 +1,11 @@
 //! Laws of streams. Each function does nothing: its contract is a law that is proved here, once.
 
 ghost use Rattle.gob_stream.specs.Laws.{HaveOneReading, BeginOneAnother, GiveOneList};
-ghost use Rattle.gob_stream.specs.Laws.{StayStreams, HaveOneOutcome, RefuseNoItem};
+ghost use Rattle.gob_stream.specs.Laws.{StayStreams, HaveOneOutcome, RefuseNoItem, StayShown};
+ghost use Rattle.gob_stream.specs.Laws.{AreReadBack, ShowNoRefusal, AreReadBackInPieces};
 ghost use Rattle.gob_stream.specs.WriterRefusal.{HaveOneReason, AreNotCounted};
+
+use gob_read::{Builder, TreeBuilder};
 
 /// A stream has one list of items, and one table of types behind it.
 pub fn streams_have_one_reading()
@@ -21,6 +24,20 @@ pub fn streams_stay()
     ensures { StayStreams }
 {}
 
+/// What `write_stream` writes, `read_stream` reads back as that list, under limits that are each at least the
+/// writer's. No front of it shows a refusal.
+pub fn streams_are_read_back()
+    ensures whole { AreReadBack }
+    ensures fronts { ShowNoRefusal }
+{}
+
+/// What `write_stream` writes, a session reads back in whatever pieces it is fed, under limits that are each at least
+/// the writer's and with a builder that takes values as deep: no feed is refused, behind the last byte those items
+/// were given, and finishing answers Ok.
+pub fn streams_are_read_back_in_pieces<B: Builder>()
+    ensures { AreReadBackInPieces B.stands ⟦<TreeBuilder as Builder>⟧.stands B.means B.DEPTH }
+{}
+
 /// There is one reason at most for which an item isn't written, and none where some bytes are the item.
 pub fn one_refusal()
     ensures reason { HaveOneReason }
@@ -35,4 +52,10 @@ pub fn bytes_have_one_outcome()
 /// What is refused behind a stream is no item there.
 pub fn refused_bytes_are_no_item()
     ensures { RefuseNoItem }
+{}
+
+/// The refusal that the bytes show is the same for all bytes that begin with those that show it, and so are the
+/// items before it.
+pub fn shown_refusals_stay()
+    ensures { StayShown }
 {}

@@ -11,6 +11,15 @@
 //!
 //! A reader takes the bytes from an `Input` and gives `Item`s; a writer puts the bytes of items into an `Output`.
 //! Both keep to `Limits`, and both say where a stream stands: a `Refusal` names the first refused byte and why.
+//!
+//! [`laws`] has what is true of all streams:
+//!
+//! - [`laws::streams_are_read_back`], [`laws::streams_are_read_back_in_pieces`]: what was written is read back.
+//! - [`laws::streams_have_one_reading`], [`laws::bytes_give_one_list`], [`laws::bytes_have_one_outcome`]: bytes tell
+//!   their items, and how they end.
+//! - [`laws::shown_refusals_stay`], [`laws::refused_bytes_are_no_item`]: a refusal is the same whatever follows, and
+//!   right.
+//! - [`laws::streams_stay`], [`laws::one_refusal`]: of limits, and of what isn't written.
 #![tactic(auto)]
 
 mod body;

@@ -1,0 +1,100 @@
+-- What is written is read back.
+use Rattle.std.proofs.Common.{◌≡◌, ℕ, ◌≤◌, ◌⊎◌, inl, inr, List, [], ◌∷◌, ◌++◌, length, Option, Result, Ok, Err, arith, refl, sym, ap, ◌∙◌, subst, append_assoc, length-append}
+use Rattle.std.proofs.lemmas.List.{append-nil, take-append-le}
+use Rattle.gob_types.specs.Table.{Table}
+use Rattle.gob_types.specs.Base.{base_table}
+use Rattle.gob_value.specs.Tree.{Tree}
+use Rattle.gob_read.specs.declared.tree_builder.TreeBuilder.{TreeBuilder}
+use Rattle.gob_stream.specs.declared.fault.Refusal.{Refusal}
+use Rattle.gob_stream.specs.declared.fault.Fault.{Fault}
+use Rattle.gob_stream.specs.declared.fault.Fault.TheVariants as fault
+use Rattle.gob_stream.specs.declared.item.Item as declared
+use Rattle.gob_stream.specs.declared.reading.Reading.{Reading}
+use Rattle.gob_stream.specs.Bounds.{Bounds}
+use Rattle.gob_stream.specs.Item.{StreamItem}
+use Rattle.gob_stream.specs.Stream.{Stream}
+use Rattle.gob_stream.specs.Outcome.{BeginsWith, GivesItems, the_end, refused, at_the_end, Outcome}
+use Rattle.gob_stream.specs.Standing.{Standing, no_deeper}
+use Rattle.gob_stream.specs.Reading.{IsShown, ReadsStream, Feeds, Finishes}
+use Rattle.gob_stream.specs.Laws.{GoesOn, WrittenWithin, ReadsThese, AreReadBackInPieces}
+use Rattle.gob_stream.proofs.StreamLaws.{counted_some, more_items, NoNext, gives_items}
+use Rattle.gob_stream.proofs.LawsOfStreams.{one_reading, begin_one_another, all_of, give_one_list, wider}
+use Rattle.gob_stream.proofs.OutcomeLaws.{outcome_once}
+use Rattle.gob_stream.proofs.UnderWayLaws.{after_gives}
+use Rattle.gob_stream.proofs.StayLaws.{shown_there, shown_refusal_stays}
+
+-- ---- what was written is a stream, and its end
+record IsStreamOf (M : Bounds) (items : List StreamItem) (bytes : List ℕ) : Type 0 where
+  table : Table
+  stream : Stream base_table M items bytes table
+
+written_stream : {M : Bounds} {items : List StreamItem} {bytes : List ℕ} → WrittenWithin M items bytes → IsStreamOf M items bytes
+written_stream {items = items} w =
+    let wrote = w.written in
+    record { table = wrote.1; stream = wider w.within (subst (λ b. Stream base_table w.limits items b wrote.1) (sym wrote.3) wrote.2) }
+
+none_behind : {L : Bounds} {T : Table} {offset : ℕ} → NoNext base_table L T offset []
+none_behind = λ i U b y q e. let some = counted_some q in omega (arith, ap length e, length-append b y)
+
+written_ends : {M : Bounds} {items : List StreamItem} {bytes : List ℕ} → WrittenWithin M items bytes → Outcome base_table M bytes items the_end
+written_ends {M = M} {items = items} {bytes = bytes} w =
+    let s = written_stream w in
+    record { gives = subst (λ b. GivesItems base_table M b items) (append-nil bytes) (gives_items [] s.stream none_behind); ends = at_the_end s.stream }
+
+not_refused : {M : Bounds} {items given : List StreamItem} {bytes : List ℕ} {R : Refusal} → WrittenWithin M items bytes → Outcome base_table M bytes given (refused R) → ⊥
+not_refused {M = M} {items = items} {given = given} {bytes = bytes} {R = R} w h =
+    let one = (outcome_once M bytes items given the_end (refused R) (written_ends w) h).1 in cc
+
+-- ---- by a reader of streams
+-- a front of the bytes of the stream of the items gives a front of them
+front_of : {base : Table} {L : Bounds} {items given : List StreamItem} {bytes : List ℕ} {T : Table} → Stream base L items bytes T → BeginsWith base L bytes given → GoesOn given items
+front_of {base = base} {L = L} {items = items} {given = given} {bytes = bytes} {T = T} p q =
+    elim (begin_one_another base L bytes given items q (record { front = bytes; rest = []; table = T; stream = p; whole = sym (append-nil bytes) })) [
+      | inl g ↦ g
+      | inr g ↦ record { more = []; whole = all_of g (shorter q.rest p q.stream q.whole) ∙ sym (append-nil given) }
+    ]
+  where
+    shorter : {front : List ℕ} {U : Table} (rest : List ℕ) → Stream base L items bytes T → Stream base L given front U → bytes ≡ front ++ rest → length given ≤ length items
+    shorter [] p r e = let same = (one_reading r p (sym (e ∙ append-nil _))).0 in omega (arith, ap length same)
+    shorter (d ∷ rest) p r e = let more = more_items (d ∷ rest) r p (sym e) (λ z. cc) in omega arith
+
+begins_more : {base : Table} {L : Bounds} {items : List StreamItem} {bytes taken : List ℕ} (left : List ℕ) → BeginsWith base L taken items → bytes ≡ taken ++ left → BeginsWith base L bytes items
+begins_more left b e =
+    record { front = b.front; rest = b.rest ++ left; table = b.table; stream = b.stream; whole = e ∙ ap (λ l. l ++ left) b.whole ∙ append_assoc b.front b.rest left }
+
+pub read_back : (M : Bounds) (items given : List StreamItem) (bytes : List ℕ) (now : Option (List ℕ)) (result : Result (Unit {0}) Fault)
+    → WrittenWithin M items bytes → ReadsStream M bytes now given result → ReadsThese given items result
+read_back M items given bytes now (Ok u) w r = (one_reading r.1 (written_stream w).stream refl).0
+read_back M items given bytes now (Err (fault.Refused R)) w r = not_refused w r
+read_back M items given bytes now (Err fault.Read) w r = front_of (written_stream w).stream (begins_more r.taken.left r.holds.begins r.taken.whole)
+read_back M items given bytes now (Err fault.Memory) w r = front_of (written_stream w).stream r
+read_back M items given bytes now (Err fault.Failed) w r = absurd r
+
+pub shows_no_refusal : (M : Bounds) (items given : List StreamItem) (front rest : List ℕ) (R : Refusal) → WrittenWithin M items (front ++ rest) → ¬ IsShown M front given R
+shows_no_refusal M items given front rest R w h =
+    not_refused w (shown_refusal_stays M front (front ++ rest) given R h (take-append-le R.seen front rest (shown_there h))).1.outcome
+
+-- ---- by a session, in any pieces
+fed_back : {X O : Type 0} (stands : Standing X) (trees : Standing TreeBuilder) (means : O → Tree → Type 0) (most : ℕ) (s s' : Reading X O) (items before : List StreamItem) (bytes piece rest : List ℕ) (given : List (declared.Item O)) (result : Result (Unit {0}) Fault)
+    → WrittenWithin (no_deeper most s.limits) items ((bytes ++ piece) ++ rest) → Feeds stands trees means most s s' before bytes piece given result → (result ≡ Ok tt) ⊎ (result ≡ Err fault.Memory)
+fed_back stands trees means most s s' items before bytes piece rest given (Ok u) w f = inl refl
+fed_back stands trees means most s s' items before bytes piece rest given (Err (fault.Refused R)) w f =
+    absurd (shows_no_refusal (no_deeper most s.limits) items (before ++ f.0.more) (bytes ++ piece) rest R w f.0.holds)
+fed_back stands trees means most s s' items before bytes piece rest given (Err fault.Read) w f = absurd f
+fed_back stands trees means most s s' items before bytes piece rest given (Err fault.Memory) w f = inr refl
+fed_back stands trees means most s s' items before bytes piece rest given (Err fault.Failed) w f = absurd f
+
+finished_back : {X O : Type 0} (most : ℕ) (s s' : Reading X O) (items before : List StreamItem) (bytes : List ℕ) (result : Result (Unit {0}) Fault)
+    → WrittenWithin (no_deeper most s.limits) items bytes → Finishes most s s' before bytes result → result ≡ Ok tt
+finished_back most s s' items before bytes (Ok u) w f = refl
+finished_back most s s' items before bytes (Err (fault.Refused R)) w f = absurd (not_refused w f.0)
+finished_back most s s' items before bytes (Err fault.Read) w f = absurd f
+finished_back most s s' items before bytes (Err fault.Memory) w f = absurd f
+finished_back most s s' items before bytes (Err fault.Failed) w f = absurd f
+
+pub read_back_in_pieces : {X O : Type 0} (stands : Standing X) (trees : Standing TreeBuilder) (means : O → Tree → Type 0) (most : ℕ) → AreReadBackInPieces stands trees means most
+read_back_in_pieces stands trees means most = record {
+  fed = fed_back stands trees means most;
+  given = λ s items before bytes w a. give_one_list base_table (no_deeper most s.limits) bytes before items (after_gives a) (written_ends w).gives;
+  finished = finished_back most;
+}

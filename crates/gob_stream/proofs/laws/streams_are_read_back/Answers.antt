@@ -1,0 +1,8 @@
+use Rattle.gob_stream.proofs.ReadBackLaws.{read_back, shows_no_refusal}
+use Rattle.gob_stream.proofs.laws.streams_are_read_back.Goals as goal
+
+pub returns-clause-whole : goal.returns-clause-whole
+returns-clause-whole c = read_back
+
+pub returns-clause-fronts : goal.returns-clause-fronts
+returns-clause-fronts c = shows_no_refusal
