@@ -23,3 +23,5 @@ pub mod DescriptionSteps
 pub mod ValueSteps
 pub mod DefinitionSteps
 pub mod StandingSteps
+pub mod NumberSteps
+pub mod StageSteps
