@@ -6,6 +6,8 @@ pub mod FaultSteps
 pub mod StreamSteps
 pub mod RefusalLaws
 pub mod EndLaws
+pub mod FinishSteps
+pub mod WantedSteps
 pub mod WireLaws
 pub mod DefinableLaws
 pub mod RefusingLaws
@@ -23,3 +25,4 @@ pub mod DefinitionSteps
 pub mod StandingSteps
 pub mod SessionSteps
 pub mod NumberSteps
+pub mod StageSteps

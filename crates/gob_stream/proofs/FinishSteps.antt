@@ -1,0 +1,21 @@
+-- What a reader answers at the end of its input.
+use Rattle.std.proofs.Common.{◌≡◌, ◌≢◌, ℕ, List, [], refl, sym, ap, ◌∙◌, subst}
+use Rattle.gob_types.specs.declared.reason.Reason.TheVariants as reason
+use Rattle.gob_types.specs.Base.{base_table}
+use Rattle.gob_read.specs.declared.tree_builder.TreeBuilder.{TreeBuilder}
+use Rattle.gob_stream.specs.declared.fault.Refusal.{Refusal}
+use Rattle.gob_stream.specs.declared.reading.Reading.{Reading}
+use Rattle.gob_stream.specs.declared.stage.Stage.TheVariants as stage
+use Rattle.gob_stream.specs.Item.{StreamItem}
+use Rattle.gob_stream.specs.Refusing.{refuses}
+use Rattle.gob_stream.specs.Outcome.{Outcome, refused}
+use Rattle.gob_stream.specs.Standing.{Standing, StandsAfter, no_deeper}
+use Rattle.gob_stream.proofs.UnderWayLaws.{after_some, none_awaits_count}
+
+-- where the count of the next item is not awaited from there on, the bytes end within an item
+pub ended_within : {X O : Type 0} {stands : Standing X} {trees : Standing TreeBuilder} {most : ℕ} {s : Reading X O} {items : List StreamItem} {bytes : List ℕ} {R : Refusal}
+    → StandsAfter stands trees most s items bytes → s.stage ≢ stage.Count s.taken [] → R ≡ refuses s.taken s.taken reason.Ended
+    → Outcome base_table (no_deeper most s.limits) bytes items (refused R) × (R.reason ≡ reason.Ended)
+ended_within {most = most} {s = s} {items = items} {bytes = bytes} a n e =
+    let here = e ∙ ap (λ m. refuses m m reason.Ended) a.taken in
+    (subst (λ R. Outcome base_table (no_deeper most s.limits) bytes items (refused R)) (sym here) (after_some a (λ u. n (none_awaits_count a u))), ap (λ (R : Refusal). R.reason) e)
