@@ -23,3 +23,4 @@ pub mod DefinitionSteps
 pub mod StandingSteps
 pub mod NumberSteps
 pub mod StageSteps
+pub mod AdvanceSteps
