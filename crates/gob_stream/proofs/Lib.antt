@@ -26,3 +26,4 @@ pub mod StandingSteps
 pub mod SessionSteps
 pub mod NumberSteps
 pub mod StageSteps
+pub mod AdvanceSteps

@@ -224,3 +224,9 @@ pub rest_left : {L : Bounds} {offset m taken : ℕ} {c a z : List ℕ} {body res
 rest_left {c = c} {a = a} y k r e t =
     let lie = lies k r in let b = lie.begins in let f = lie.ends in
     omega (arith, ap length e, length-append c (a ++ y), length-append a y)
+
+-- where a body is under way, bytes of it are to come
+pub rest_some : {L : Bounds} {offset m taken : ℕ} {c a z : List ℕ} {body rest : Extent} (y : List ℕ) → IsCount L offset m c body → IsRest body a rest → z ≡ c ++ (a ++ y) → taken ≡ offset + length z → length y < size rest → taken < rest.end
+rest_some {c = c} {a = a} y k r e t l =
+    let lie = lies k r in let b = lie.begins in let f = lie.ends in
+    omega (arith, ap length e, length-append c (a ++ y), length-append a y)

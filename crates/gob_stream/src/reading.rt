@@ -2,6 +2,7 @@
 
 ghost use Rattle.std.specs.Prelude.{◌≡◌, ℕ, ◌-◌, ◌<◌, ◌≤◌, [], ◌∷◌, ◌++◌, List, length, Err, IfOk, IfErr, IfSome, OnOk, OnErr};
 ghost use Rattle.gob_types.specs.Defined.{types};
+ghost use Rattle.gob_stream.specs.Bounds.{AreLimits};
 ghost use Rattle.gob_stream.specs.Item.{StreamItem};
 ghost use Rattle.gob_stream.specs.Standing.{StandsIn, StandsAfter, IsUsable, no_deeper};
 ghost use Rattle.gob_stream.specs.Reading.{Given, Feeds, Finishes};
@@ -102,6 +103,7 @@ impl<B: Builder> Reading<B> {
         ensures advances { (items : List StreamItem) (bytes : List ℕ)
             → StandsAfter B.stands ⟦<TreeBuilder as Builder>⟧.stands B.DEPTH self.old items bytes
             → Advances B.stands ⟦<TreeBuilder as Builder>⟧.stands B.means B.DEPTH self.old self.new items bytes piece.now result }
+        ensures used { IfOk result (λ step. (0 < step.used) × (step.used ≤ length piece.now)) }
         ensures whole { length piece.now ≤ wanted_in self.old.stage self.old.taken → IfOk result (λ step. step.used ≡ length piece.now) }
         ensures between { IfOk result (λ step. IfSome step.item (λ _. self.new.stage ≡ Stage.Count self.new.taken [])) }
         ensures usable { IsUsable B.stands ⟦<TreeBuilder as Builder>⟧.stands B.DEPTH self.new }
@@ -199,6 +201,7 @@ fn take_awaited<B: Builder>(
     ensures whole { length piece.now ≤ wanted_in stage taken → IfOk result (λ stepped. stepped.used ≡ length piece.now) }
     ensures failed { stage ≡ Stage.Failed → result ≡ Err Fault.Failed }
     ensures most { table.new.most ≡ table.old.most }
+    ensures limits { AreLimits limits }
 {
     match stage {
         Stage::Count { begin, number } => match take_count(limits, begin, taken, number, piece) {
