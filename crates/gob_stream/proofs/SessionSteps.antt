@@ -227,8 +227,8 @@ pub step_stops : {X O : Type 0} {stands : Standing X} {trees : Standing TreeBuil
 step_stops {most = most} {s = s} {items = items} piece (fault.Refused R) f p =
     let L = no_deeper most s.limits in
     shown (taken_as (λ x b.
-        let h : IsShown L _ items R = (f.each items _ b.after).0 in
-        (subst (λ y. IsShown L y items R) b.whole h, subst (λ y. EndsInItem L y items R) b.whole (ends_in_item piece b.after f.some f.few h))) p)
+    let h : IsShown L _ items R = (f.each items _ b.after).0 in
+    (subst (λ y. IsShown L y items R) b.whole h, subst (λ y. EndsInItem L y items R) b.whole (ends_in_item piece b.after f.some f.few h))) p)
 step_stops {most = most} {s = s} {items = items} piece fault.Memory f p =
     taken_as (λ x b. subst (λ y. BeginsWith base_table (no_deeper most s.limits) y items) b.whole (begins_more piece b.after)) p
 step_stops {items = items} piece fault.Read f p = absurd (f.each items _ p.holds.after)

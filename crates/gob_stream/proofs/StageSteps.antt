@@ -133,7 +133,7 @@ count_stops {M = M} {begin = begin} {T = T} {number = number} {piece = piece} w 
     let s = w.stream in
     let none : begin + length c + 0 ≡ begin + length c = omega arith in
     let next : RefusesNext base_table M T begin (number ++ piece) (refuses (begin + length c + 0) (begin + length c + 0) reason.Short) =
-        refused_body r e u (omega arith) (omega arith) (short refl no_bytes) in
+    refused_body r e u (omega arith) (omega arith) (short refl no_bytes) in
     refuses_it (subst (λ n. RefusesNext base_table M T begin (number ++ piece) (refuses n n reason.Short)) none next) (λ e. cc)
 
 there : {X O : Type 0} {stands : Standing X} {trees : Standing TreeBuilder} {means : O → Tree → Type 0} {L : Bounds} {T U : Table} {offset begin : ℕ} {number z piece : List ℕ} {result : Result (Stepped X O) Fault} → CountParts offset begin number z

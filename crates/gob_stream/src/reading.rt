@@ -111,7 +111,14 @@ impl<B: Builder> Reading<B> {
         ensures limits { self.new.limits ≡ self.old.limits }
     {
         let stage = mem::replace(&mut self.stage, Stage::Failed);
-        match take_awaited(alloc, self.limits, &mut self.types, self.taken, stage, piece) {
+        match take_awaited(
+            alloc,
+            self.limits,
+            &mut self.types,
+            self.taken,
+            stage,
+            piece,
+        ) {
             Ok(stepped) => {
                 self.taken += stepped.used as u64;
                 self.stage = stepped.stage;

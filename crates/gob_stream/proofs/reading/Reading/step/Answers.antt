@@ -27,7 +27,7 @@ returns-in-Ok-clause-used g c =
 pub returns-in-Ok-clause-usable : goal.returns-in-Ok-clause-usable
 returns-in-Ok-clause-usable g c =
     usable_on c.requires.usable (λ e. not_err c.in-Ok.is (c.take_awaited.ensures.failed (c.replace-stage.ensures.value ∙ e))) (λ items bytes a.
-        advanced a (c.in-Ok.ensures.steps (length a.front) a.under_way (stands_there c.replace-stage.ensures.value a.stage)) c.take_awaited.ensures.most c.in-Ok.ensures.some)
+    advanced a (c.in-Ok.ensures.steps (length a.front) a.under_way (stands_there c.replace-stage.ensures.value a.stage)) c.take_awaited.ensures.most c.in-Ok.ensures.some)
 
 pub returns-in-Err-clause-advances : goal.returns-in-Err-clause-advances
 returns-in-Err-clause-advances g c = λ items bytes a. stopped_by c.args.self.now a (c.in-Err.ensures.steps (length a.front) a.under_way (stands_there c.replace-stage.ensures.value a.stage))
