@@ -1,5 +1,5 @@
 -- A step of a reader over the front of a piece.
-use Rattle.std.proofs.Common.{◌≡◌, ◌≢◌, ℕ, ◌+◌, ◌^◌, ◌<◌, ◌≤◌, List, [], ◌∷◌, ◌++◌, length, take, Option, Some, None, Result, Ok, Err, arith, refl, sym, ap, ◌∙◌, subst, append_assoc, length-append}
+use Rattle.std.proofs.Common.{◌≡◌, ◌≢◌, ℕ, ◌+◌, ◌^◌, ◌<◌, ◌≤◌, List, [], ◌∷◌, ◌++◌, length, take, Option, Some, None, Result, Ok, Err, IfSome, arith, refl, sym, ap, ◌∙◌, subst, append_assoc, length-append}
 use Rattle.std.proofs.lemmas.List.{append-nil, length-take}
 use Rattle.gob_num.specs.Unsigned.{IsUnsignedFront}
 use Rattle.gob_num.proofs.FrontLaws.{begins_front}
@@ -84,6 +84,12 @@ pub step_few : {X O : Type 0} {stands : Standing X} {trees : Standing TreeBuilde
     → StepsOn stands trees means L T offset z piece U (Ok stepped) → stepped.used ≤ length piece
 step_few (goes_on e k s) = k
 step_few (gives k q w n) = k
+
+-- an item that is whole has the next count behind it
+pub item_between : {X O : Type 0} {stands : Standing X} {trees : Standing TreeBuilder} {means : O → Tree → Type 0} {L : Bounds} {T U : Table} {offset taken : ℕ} {z piece : List ℕ} {stepped : Stepped X O}
+    → taken ≡ offset + length z → StepsOn stands trees means L T offset z piece U (Ok stepped) → IfSome stepped.item (λ _. stepped.stage ≡ stage.Count (taken + stepped.used) [])
+item_between t (goes_on e k s) = tt
+item_between {z = z} {piece = piece} t (gives {used = used} k q m n) = ap (λ n. stage.Count n []) (omega (arith, length-append z (take used piece), length-take used piece))
 
 -- ---- the reader moves on
 no_bytes : IsUnsignedFront []
