@@ -102,6 +102,7 @@ impl<B: Builder> Reading<B> {
         ensures advances { (items : List StreamItem) (bytes : List ℕ)
             → StandsAfter B.stands ⟦<TreeBuilder as Builder>⟧.stands B.DEPTH self.old items bytes
             → Advances B.stands ⟦<TreeBuilder as Builder>⟧.stands B.means B.DEPTH self.old self.new items bytes piece.now result }
+        ensures used { IfOk result (λ step. (0 < step.used) × (step.used ≤ length piece.now)) }
         ensures whole { length piece.now ≤ wanted_in self.old.stage self.old.taken → IfOk result (λ step. step.used ≡ length piece.now) }
         ensures between { IfOk result (λ step. IfSome step.item (λ _. self.new.stage ≡ Stage.Count self.new.taken [])) }
         ensures usable { IsUsable B.stands ⟦<TreeBuilder as Builder>⟧.stands B.DEPTH self.new }
