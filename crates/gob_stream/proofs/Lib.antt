@@ -26,3 +26,4 @@ pub mod DefinitionSteps
 pub mod StandingSteps
 pub mod NumberSteps
 pub mod StageSteps
+pub mod AdvanceSteps

@@ -2,6 +2,7 @@
 
 ghost use Rattle.std.specs.Prelude.{◌≡◌, ℕ, ◌-◌, ◌<◌, ◌≤◌, [], ◌∷◌, ◌++◌, List, length, Err, IfOk, IfErr, IfSome, OnOk, OnErr};
 ghost use Rattle.gob_types.specs.Defined.{types};
+ghost use Rattle.gob_stream.specs.Bounds.{AreLimits};
 ghost use Rattle.gob_stream.specs.Item.{StreamItem};
 ghost use Rattle.gob_stream.specs.Standing.{StandsIn, StandsAfter, IsUsable, no_deeper};
 ghost use Rattle.gob_stream.specs.Reading.{Given, Feeds, Finishes};
@@ -204,6 +205,7 @@ fn take_awaited<B: Builder>(
     ensures whole { length piece.now ≤ wanted_in stage taken → IfOk result (λ stepped. stepped.used ≡ length piece.now) }
     ensures failed { stage ≡ Stage.Failed → result ≡ Err Fault.Failed }
     ensures most { table.new.most ≡ table.old.most }
+    ensures limits { AreLimits limits }
 {
     match stage {
         Stage::Count { begin, number } => match take_count(limits, begin, taken, number, piece) {

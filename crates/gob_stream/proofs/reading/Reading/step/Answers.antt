@@ -1,20 +1,33 @@
-use Rattle.std.proofs.Common.{arith}
+use Rattle.std.proofs.Common.{◌≡◌, ◌∙◌, sym, length, arith}
+use Rattle.gob_types.specs.Defined.{types}
+use Rattle.gob_stream.specs.declared.stage.Stage.TheVariants as stage
+use Rattle.gob_stream.specs.Standing.{StandsIn, no_deeper}
+use Rattle.gob_stream.proofs.AdvanceSteps.{usable_item, step_bound, step_few, advanced, usable_on, stopped_by, not_err, stands_there, within_there}
 use Rattle.gob_stream.proofs.reading.Reading.step.Goals as goal
 
 pub take_awaited-requires-clause-stands : goal.take_awaited-requires-clause-stands
-take_awaited-requires-clause-stands g c = ?
+take_awaited-requires-clause-stands g c = λ n. within_there c.replace-stage.ensures.value (usable_item c.requires.usable (λ e. n (c.replace-stage.ensures.value ∙ e)))
 
 pub overflow_add-self : goal.overflow_add-self
-overflow_add-self g c = ?
+overflow_add-self g c =
+    let w = usable_item c.requires.usable (λ e. not_err c.in-Ok.is (c.take_awaited.ensures.failed (c.replace-stage.ensures.value ∙ e))) in
+    let b = step_bound w.bytes c.args.piece.now w.within w.taken_is (c.in-Ok.ensures.steps w.offset w.bytes (stands_there c.replace-stage.ensures.value w.in_item)) in
+    let most = c.take_awaited.ensures.limits.stream in
+    omega arith
 
 pub returns-in-Ok-clause-advances : goal.returns-in-Ok-clause-advances
-returns-in-Ok-clause-advances g c = λ items bytes a. ?
+returns-in-Ok-clause-advances g c = λ items bytes a.
+    advanced a (c.in-Ok.ensures.steps (length a.front) a.under_way (stands_there c.replace-stage.ensures.value a.stage)) c.take_awaited.ensures.most c.in-Ok.ensures.some
 
-pub returns-in-Ok-clause-whole : goal.returns-in-Ok-clause-whole
-returns-in-Ok-clause-whole g c = ?
+pub returns-in-Ok-clause-used : goal.returns-in-Ok-clause-used
+returns-in-Ok-clause-used g c =
+    let w = usable_item c.requires.usable (λ e. not_err c.in-Ok.is (c.take_awaited.ensures.failed (c.replace-stage.ensures.value ∙ e))) in
+    (c.in-Ok.ensures.some, step_few (c.in-Ok.ensures.steps w.offset w.bytes (stands_there c.replace-stage.ensures.value w.in_item)))
 
 pub returns-in-Ok-clause-usable : goal.returns-in-Ok-clause-usable
-returns-in-Ok-clause-usable g c = ?
+returns-in-Ok-clause-usable g c =
+    usable_on c.requires.usable (λ e. not_err c.in-Ok.is (c.take_awaited.ensures.failed (c.replace-stage.ensures.value ∙ e))) (λ items bytes a.
+        advanced a (c.in-Ok.ensures.steps (length a.front) a.under_way (stands_there c.replace-stage.ensures.value a.stage)) c.take_awaited.ensures.most c.in-Ok.ensures.some)
 
 pub returns-in-Err-clause-advances : goal.returns-in-Err-clause-advances
-returns-in-Err-clause-advances g c = λ items bytes a. ?
+returns-in-Err-clause-advances g c = λ items bytes a. stopped_by c.args.self.now a (c.in-Err.ensures.steps (length a.front) a.under_way (stands_there c.replace-stage.ensures.value a.stage))

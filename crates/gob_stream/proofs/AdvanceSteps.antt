@@ -1,0 +1,147 @@
+-- A step of a reader over the front of a piece.
+use Rattle.std.proofs.Common.{◌≡◌, ◌≢◌, ℕ, ◌+◌, ◌^◌, ◌<◌, ◌≤◌, List, [], ◌∷◌, ◌++◌, length, take, Option, Some, None, Result, Ok, Err, arith, refl, sym, ap, ◌∙◌, subst, append_assoc, length-append}
+use Rattle.std.proofs.lemmas.List.{append-nil, length-take}
+use Rattle.gob_num.specs.Unsigned.{IsUnsignedFront}
+use Rattle.gob_num.proofs.FrontLaws.{begins_front}
+use Rattle.gob_num.proofs.UnsignedLaws.{unsigned_length}
+use Rattle.gob_types.specs.Base.{base_table}
+use Rattle.gob_types.specs.Defined.{Defined, types}
+use Rattle.gob_types.specs.Table.{Table}
+use Rattle.gob_value.specs.Tree.{Tree}
+use Rattle.gob_read.specs.declared.tree_builder.TreeBuilder.{TreeBuilder}
+use Rattle.gob_stream.specs.declared.fault.Fault.{Fault}
+use Rattle.gob_stream.specs.declared.item.Item as declared
+use Rattle.gob_stream.specs.declared.stage.Stage.{Stage}
+use Rattle.gob_stream.specs.declared.stage.Stage.TheVariants as stage
+use Rattle.gob_stream.specs.declared.stage.Stepped.{Stepped}
+use Rattle.gob_stream.specs.declared.reading.Reading.{Reading}
+use Rattle.gob_stream.specs.Bounds.{Bounds}
+use Rattle.gob_stream.specs.Item.{StreamItem}
+use Rattle.gob_stream.specs.Body.{Body, definition, value}
+use Rattle.gob_stream.specs.Stream.{Counted, counted, Continues, no_more, and_then, Stream}
+use Rattle.gob_stream.specs.Standing.{Standing, StandsIn, in_count, in_type_number, in_value, in_description, StandsAfter, IsUsable, has_failed, stands_after, no_deeper}
+use Rattle.gob_stream.specs.ReadParts.{AreTypes, HasWireType, IsWithinItem, StepsOn, goes_on, gives, refuses_it, no_memory, AdvancesOver, over_some, over_item, Advances}
+use Rattle.gob_stream.proofs.StreamLaws.{one_more}
+use Rattle.gob_stream.proofs.ValueSteps.{lies}
+use Rattle.gob_stream.proofs.UnderWayLaws.{after_refused}
+
+-- ---- what a stream leaves behind it
+record Grown (T U : Table) : Type 0 where
+  more : Table
+  grown : U ≡ T ++ more
+
+body_grows : {L : Bounds} {T U : Table} {i : StreamItem} {d : List ℕ} → Body base_table L T i d U → Grown T U
+body_grows (definition p l s x n q) = record { more = _; grown = refl }
+body_grows {T = T} (value p l n q) = record { more = []; grown = sym (append-nil T) }
+
+grows : {L : Bounds} {T U : Table} {offset : ℕ} {items : List StreamItem} {b : List ℕ} → Continues base_table L T offset items b U → Grown T U
+grows {T = T} no_more = record { more = []; grown = sym (append-nil T) }
+grows {T = T} (and_then (counted u l s p) e r) =
+    let first = body_grows p in let rest = grows r in
+    record { more = first.more ++ rest.more; grown = rest.grown ∙ ap (λ T. T ++ rest.more) first.grown ∙ append_assoc T first.more rest.more }
+
+ends_within : {L : Bounds} {T U : Table} {offset : ℕ} {items : List StreamItem} {b : List ℕ} → Continues base_table L T offset items b U → offset ≤ L.stream → offset + length b ≤ L.stream
+ends_within no_more l = omega arith
+ends_within (and_then {b = b} {c = c} (counted u k s p) e r) l = let n = ends_within r (omega arith) in omega (arith, length-append b c)
+
+pub item_of : {X O : Type 0} {stands : Standing X} {trees : Standing TreeBuilder} {most : ℕ} {s : Reading X O} {items : List StreamItem} {bytes : List ℕ} → StandsAfter stands trees most s items bytes
+    → IsWithinItem stands trees (no_deeper most s.limits) s.types s.taken s.stage
+item_of a =
+    let t = a.taken in let g = grows a.stream in
+    record {
+      offset = length a.front;
+      bytes = a.under_way;
+      in_item = a.stage;
+      taken_is = omega (arith, ap length a.whole, length-append a.front a.under_way);
+      within = (let n = ends_within a.stream (omega arith) in omega arith);
+      known = record { base = record { more = g.more; grown = g.grown }; most = a.room };
+    }
+
+pub usable_item : {X O : Type 0} {stands : Standing X} {trees : Standing TreeBuilder} {most : ℕ} {s : Reading X O} → IsUsable stands trees most s → s.stage ≢ stage.Failed → IsWithinItem stands trees (no_deeper most s.limits) s.types s.taken s.stage
+usable_item (has_failed e) n = absurd (n e)
+usable_item (stands_after a) n = item_of a
+
+-- ---- the bytes of an item end within the limit, but for a count's
+in_bound : {X O : Type 0} {stands : Standing X} {trees : Standing TreeBuilder} {L : Bounds} {T : Table} {offset : ℕ} {awaits : Stage X O} {z : List ℕ} → StandsIn stands trees L T offset awaits z → offset ≤ L.stream → offset + length z ≤ L.stream + 9
+in_bound (in_count {number = number} f) l = let n = (unsigned_length f.spelled).1 in omega (arith, length-append number f.rest)
+in_bound (in_type_number {c = c} {number = number} k f w) l = let s = k.stream in omega (arith, length-append c number)
+in_bound (in_value {c = c} {a = a} {z = z} k s r p b) l =
+    let lie = lies k r in let n = lie.size_is in let w = lie.within in let room = b.stood.room in let s = k.stream in
+    omega (arith, length-append c (a ++ z), length-append a z)
+in_bound (in_description {c = c} {a = a} {z = z} k n s r p b) l =
+    let lie = lies k r in let n = lie.size_is in let w = lie.within in let room = b.stood.room in let s = k.stream in
+    omega (arith, length-append c (a ++ z), length-append a z)
+
+pub step_bound : {X O : Type 0} {stands : Standing X} {trees : Standing TreeBuilder} {means : O → Tree → Type 0} {L : Bounds} {T U : Table} {offset taken : ℕ} {stepped : Stepped X O} (z piece : List ℕ) → offset ≤ L.stream → taken ≡ offset + length z
+    → StepsOn stands trees means L T offset z piece U (Ok stepped) → taken + stepped.used ≤ L.stream + 9
+step_bound z piece l t (goes_on {used = used} e k s) = let n = in_bound s l in omega (arith, length-append z (take used piece), length-take used piece)
+step_bound z piece l t (gives {used = used} k q w m) = let n = item_ends q in omega (arith, length-append z (take used piece), length-take used piece)
+  where
+    item_ends : {L : Bounds} {T U : Table} {offset : ℕ} {i : StreamItem} {b : List ℕ} → Counted base_table L T offset i b U → offset + length b ≤ L.stream
+    item_ends (counted u k s p) = s
+
+pub step_few : {X O : Type 0} {stands : Standing X} {trees : Standing TreeBuilder} {means : O → Tree → Type 0} {L : Bounds} {T U : Table} {offset : ℕ} {z piece : List ℕ} {stepped : Stepped X O}
+    → StepsOn stands trees means L T offset z piece U (Ok stepped) → stepped.used ≤ length piece
+step_few (goes_on e k s) = k
+step_few (gives k q w n) = k
+
+-- ---- the reader moves on
+no_bytes : IsUnsignedFront []
+no_bytes = begins_front {bytes = []} tt
+
+-- the reader that has moved on so
+abbrev pub moved : {X O : Type 0} → Reading X O → Defined → Stepped X O → Reading X O
+moved s d stepped = record { limits = s.limits; types = d; taken = s.taken + stepped.used; stage = stepped.stage }
+
+pub advanced : {X O : Type 0} {stands : Standing X} {trees : Standing TreeBuilder} {means : O → Tree → Type 0} {most : ℕ} {s : Reading X O} {d : Defined} {items : List StreamItem} {bytes piece : List ℕ} {stepped : Stepped X O} (a : StandsAfter stands trees most s items bytes)
+    → StepsOn stands trees means (no_deeper most s.limits) (types s.types) (length a.front) a.under_way piece (types d) (Ok stepped) → d.most ≡ s.types.most → 0 < stepped.used
+    → AdvancesOver stands trees means most (moved s d stepped) items bytes piece stepped.used stepped.item
+advanced {stands = stands} {trees = trees} {most = most} {s = s} {d = d} {items = items} {bytes = bytes} {piece = piece} a (goes_on {awaits = awaits} {used = used} e k st) m some =
+    let t = a.taken in
+    over_some some k (record {
+      front = a.front;
+      under_way = a.under_way ++ take used piece;
+      whole = ap (λ l. l ++ take used piece) a.whole ∙ append_assoc a.front a.under_way (take used piece);
+      stream = subst (λ (T : Table). Stream base_table (no_deeper most s.limits) items a.front T) (sym e) a.stream;
+      stage = subst (λ (T : Table). StandsIn stands trees (no_deeper most s.limits) T (length a.front) awaits (a.under_way ++ take used piece)) (sym e) st;
+      taken = omega (arith, length-append bytes (take used piece), length-take used piece);
+      room = m ∙ a.room;
+    })
+advanced {X = X} {O = O} {stands = stands} {trees = trees} {most = most} {s = s} {d = d} {bytes = bytes} {piece = piece} a (gives {used = used} {next = next} k q w n) m some =
+    let t = a.taken in
+    let all = a.front ++ (a.under_way ++ take used piece) in
+    let here : next ≡ length (a.front ++ (a.under_way ++ take used piece)) = omega (arith, length-append a.front (a.under_way ++ take used piece)) in
+    let behind : StandsIn {X = X} {O = O} stands trees (no_deeper most s.limits) (types d) (length all) (stage.Count (length all) []) [] = in_count no_bytes in
+    over_item some k w (record {
+      front = all;
+      under_way = [];
+      whole = ap (λ l. l ++ take used piece) a.whole ∙ append_assoc a.front a.under_way (take used piece) ∙ sym (append-nil all);
+      stream = one_more a.stream (omega arith) q;
+      stage = subst (λ n. StandsIn {X = X} {O = O} stands trees (no_deeper most s.limits) (types d) (length all) (stage.Count n []) []) (sym here) behind;
+      taken = omega (arith, length-append bytes (take used piece), length-take used piece);
+      room = m ∙ a.room;
+    })
+
+pub usable_on : {X O : Type 0} {stands : Standing X} {trees : Standing TreeBuilder} {means : O → Tree → Type 0} {most : ℕ} {s s' : Reading X O} {piece : List ℕ} {used : ℕ} {given : Option (declared.Item O)} → IsUsable stands trees most s → s.stage ≢ stage.Failed
+    → ((items : List StreamItem) (bytes : List ℕ) → StandsAfter stands trees most s items bytes → AdvancesOver stands trees means most s' items bytes piece used given) → IsUsable stands trees most s'
+usable_on (has_failed e) n f = absurd (n e)
+usable_on {stands = stands} {trees = trees} {means = means} {most = most} {s' = s'} {piece = piece} (stands_after {items = items} {bytes = bytes} a) n f = over (f items bytes a)
+  where
+    over : {used : ℕ} {given : Option (declared.Item _)} → AdvancesOver stands trees means most s' items bytes piece used given → IsUsable stands trees most s'
+    over (over_some p l b) = stands_after b
+    over (over_item p l w b) = stands_after b
+
+-- or stops
+pub stopped_by : {X O : Type 0} {stands : Standing X} {trees : Standing TreeBuilder} {means : O → Tree → Type 0} {most : ℕ} {s : Reading X O} {items : List StreamItem} {bytes piece : List ℕ} {U : Table} {f : Fault} (s' : Reading X O) (a : StandsAfter stands trees most s items bytes)
+    → StepsOn {X = X} {O = O} stands trees means (no_deeper most s.limits) (types s.types) (length a.front) a.under_way piece U (Err f) → Advances stands trees means most s s' items bytes piece (Err f)
+stopped_by {piece = piece} s' a (refuses_it q n) = let r = after_refused piece a q in (record { outcome = r.0; shown = n }, r.1)
+stopped_by s' a no_memory = tt
+
+pub not_err : {A E : Type 0} {r : Result A E} {a : A} {e : E} → r ≡ Ok a → r ≡ Err e → ⊥
+not_err p q = let e : Ok _ ≡ Err _ = sym p ∙ q in cc
+
+pub stands_there : {X O : Type 0} {stands : Standing X} {trees : Standing TreeBuilder} {L : Bounds} {T : Table} {offset : ℕ} {old now : Stage X O} {z : List ℕ} → now ≡ old → StandsIn stands trees L T offset old z → StandsIn stands trees L T offset now z
+stands_there {stands = stands} {trees = trees} {L = L} {T = T} {offset = offset} {z = z} e s = subst (λ st. StandsIn stands trees L T offset st z) (sym e) s
+
+pub within_there : {X O : Type 0} {stands : Standing X} {trees : Standing TreeBuilder} {L : Bounds} {d : Defined} {taken : ℕ} {old now : Stage X O} → now ≡ old → IsWithinItem stands trees L d taken old → IsWithinItem stands trees L d taken now
+within_there {stands = stands} {trees = trees} {L = L} {d = d} {taken = taken} e s = subst (λ st. IsWithinItem stands trees L d taken st) (sym e) s
