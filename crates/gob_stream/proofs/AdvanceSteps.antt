@@ -1,5 +1,5 @@
 -- A step of a reader over the front of a piece.
-use Rattle.std.proofs.Common.{◌≡◌, ◌≢◌, ℕ, ◌+◌, ◌^◌, ◌<◌, ◌≤◌, List, [], ◌∷◌, ◌++◌, length, take, Option, Some, None, Result, Ok, Err, arith, refl, sym, ap, ◌∙◌, subst, append_assoc, length-append}
+use Rattle.std.proofs.Common.{◌≡◌, ◌≢◌, ℕ, ◌+◌, ◌^◌, ◌<◌, ◌≤◌, List, [], ◌∷◌, ◌++◌, length, take, Option, Some, None, IfSome, Result, Ok, Err, arith, refl, sym, ap, ◌∙◌, subst, append_assoc, length-append}
 use Rattle.std.proofs.lemmas.List.{append-nil, length-take}
 use Rattle.gob_num.specs.Unsigned.{IsUnsignedFront}
 use Rattle.gob_num.proofs.FrontLaws.{begins_front}
@@ -84,6 +84,13 @@ pub step_few : {X O : Type 0} {stands : Standing X} {trees : Standing TreeBuilde
     → StepsOn stands trees means L T offset z piece U (Ok stepped) → stepped.used ≤ length piece
 step_few (goes_on e k s) = k
 step_few (gives k q w n) = k
+
+-- behind an item the count of the next one is awaited
+pub step_between : {X O : Type 0} {stands : Standing X} {trees : Standing TreeBuilder} {means : O → Tree → Type 0} {L : Bounds} {T U : Table} {offset taken : ℕ} {stepped : Stepped X O} (z piece : List ℕ) → taken ≡ offset + length z
+    → StepsOn stands trees means L T offset z piece U (Ok stepped) → IfSome stepped.item (λ _. stepped.stage ≡ stage.Count (taken + stepped.used) [])
+step_between z piece t (goes_on e k s) = tt
+step_between {taken = taken} z piece t (gives {used = used} {next = next} k q w n) =
+    let here : next ≡ taken + used = omega (arith, length-append z (take used piece), length-take used piece) in ap (λ n. stage.Count n []) here
 
 -- ---- the reader moves on
 no_bytes : IsUnsignedFront []

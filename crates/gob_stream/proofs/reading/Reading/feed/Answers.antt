@@ -1,4 +1,4 @@
-use Rattle.std.proofs.Common.{◌++◌, ◌∷◌, [], arith, ap, ◌∙◌, length-drop}
+use Rattle.std.proofs.Common.{◌++◌, ◌∷◌, [], length, arith, ap, ◌∙◌, length-drop}
 use Rattle.std.proofs.lemmas.List.{take_rest}
 use Rattle.gob_stream.proofs.FeedSteps.{feed_start, feed_on, feed_item, feed_there, fed_all, feed_no_memory, feed_stops}
 use Rattle.gob_stream.proofs.reading.Reading.feed.Goals.{in-Some+in_default-give, in_default}

@@ -2,7 +2,7 @@ use Rattle.std.proofs.Common.{◌≡◌, ◌∙◌, sym, length, arith}
 use Rattle.gob_types.specs.Defined.{types}
 use Rattle.gob_stream.specs.declared.stage.Stage.TheVariants as stage
 use Rattle.gob_stream.specs.Standing.{StandsIn, no_deeper}
-use Rattle.gob_stream.proofs.AdvanceSteps.{usable_item, step_bound, step_few, advanced, usable_on, stopped_by, not_err, stands_there, within_there}
+use Rattle.gob_stream.proofs.AdvanceSteps.{usable_item, step_bound, step_few, step_between, advanced, usable_on, stopped_by, not_err, stands_there, within_there}
 use Rattle.gob_stream.proofs.reading.Reading.step.Goals as goal
 
 pub take_awaited-requires-clause-stands : goal.take_awaited-requires-clause-stands
@@ -23,6 +23,11 @@ pub returns-in-Ok-clause-used : goal.returns-in-Ok-clause-used
 returns-in-Ok-clause-used g c =
     let w = usable_item c.requires.usable (λ e. not_err c.in-Ok.is (c.take_awaited.ensures.failed (c.replace-stage.ensures.value ∙ e))) in
     (c.in-Ok.ensures.some, step_few (c.in-Ok.ensures.steps w.offset w.bytes (stands_there c.replace-stage.ensures.value w.in_item)))
+
+pub returns-in-Ok-clause-between : goal.returns-in-Ok-clause-between
+returns-in-Ok-clause-between g c =
+    let w = usable_item c.requires.usable (λ e. not_err c.in-Ok.is (c.take_awaited.ensures.failed (c.replace-stage.ensures.value ∙ e))) in
+    step_between w.bytes c.args.piece.now w.taken_is (c.in-Ok.ensures.steps w.offset w.bytes (stands_there c.replace-stage.ensures.value w.in_item))
 
 pub returns-in-Ok-clause-usable : goal.returns-in-Ok-clause-usable
 returns-in-Ok-clause-usable g c =
