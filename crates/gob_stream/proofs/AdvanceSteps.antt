@@ -1,5 +1,5 @@
 -- A step of a reader over the front of a piece.
-use Rattle.std.proofs.Common.{◌≡◌, ◌≢◌, ℕ, ◌+◌, ◌^◌, ◌<◌, ◌≤◌, List, [], ◌∷◌, ◌++◌, length, take, Option, Some, None, IfSome, Result, Ok, Err, arith, refl, sym, ap, ◌∙◌, subst, append_assoc, length-append}
+use Rattle.std.proofs.Common.{◌≡◌, ◌≢◌, ℕ, ◌+◌, ◌<◌, ◌≤◌, List, [], ◌++◌, length, take, Option, IfSome, Result, Ok, Err, arith, refl, sym, ap, ◌∙◌, subst, append_assoc, length-append}
 use Rattle.std.proofs.lemmas.List.{append-nil, length-take}
 use Rattle.gob_num.specs.Unsigned.{IsUnsignedFront}
 use Rattle.gob_num.proofs.FrontLaws.{begins_front}
@@ -20,7 +20,7 @@ use Rattle.gob_stream.specs.Item.{StreamItem}
 use Rattle.gob_stream.specs.Body.{Body, definition, value}
 use Rattle.gob_stream.specs.Stream.{Counted, counted, Continues, no_more, and_then, Stream}
 use Rattle.gob_stream.specs.Standing.{Standing, StandsIn, in_count, in_type_number, in_value, in_description, StandsAfter, IsUsable, has_failed, stands_after, no_deeper}
-use Rattle.gob_stream.specs.ReadParts.{AreTypes, HasWireType, IsWithinItem, StepsOn, goes_on, gives, refuses_it, no_memory, AdvancesOver, over_some, over_item, Advances}
+use Rattle.gob_stream.specs.ReadParts.{IsWithinItem, StepsOn, goes_on, gives, refuses_it, no_memory, AdvancesOver, over_some, over_item, Advances}
 use Rattle.gob_stream.proofs.StreamLaws.{one_more}
 use Rattle.gob_stream.proofs.ValueSteps.{lies}
 use Rattle.gob_stream.proofs.UnderWayLaws.{after_refused}

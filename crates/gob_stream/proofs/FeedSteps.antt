@@ -11,7 +11,6 @@ use Rattle.gob_stream.specs.declared.fault.Fault.{Fault}
 use Rattle.gob_stream.specs.declared.fault.Fault.TheVariants as fault
 use Rattle.gob_stream.specs.declared.item.Item as declared
 use Rattle.gob_stream.specs.declared.reading.Reading.{Reading}
-use Rattle.gob_stream.specs.declared.reading.Step.{Step}
 use Rattle.gob_stream.specs.Bounds.{Bounds}
 use Rattle.gob_stream.specs.Item.{StreamItem, ItemMeans, ItemsMean, mean_none, mean_more}
 use Rattle.gob_stream.specs.Stream.{Stream}
@@ -205,12 +204,14 @@ stops_so : {X O : Type 0} {stands : Standing X} {trees : Standing TreeBuilder} {
     → ((all : List StreamItem) → StandsAfter stands trees most t all (bytes ++ take used piece) → Advances stands trees means most t s' all (bytes ++ take used piece) (rest_of piece used) (Err f))
     → Feeds stands trees means most s s' items bytes piece given (Err f)
 stops_so {most = most} {items = items} s s' bytes piece used (fault.Refused R) before e stops =
-    let r = stops (items ++ before.more) before.holds in
-    (record {
-      more = before.more;
-      mean = before.mean;
-      holds = shown_all most bytes piece used e r.0;
-    }, let n = r.1 in omega (arith, length-append bytes (take used piece)))
+    let r = stops (items ++ before.more) before.holds in (
+      record {
+        more = before.more;
+        mean = before.mean;
+        holds = shown_all most bytes piece used e r.0;
+      },
+      let n = r.1 in omega (arith, length-append bytes (take used piece)),
+    )
 stops_so {items = items} s s' bytes piece used fault.Read before e stops = stops (items ++ before.more) before.holds
 stops_so s s' bytes piece used fault.Memory before e stops =
     record { more = before.more; mean = before.mean; holds = begins_so (rest_of piece used) before.holds e (all_bytes bytes piece used) }

@@ -38,11 +38,11 @@ steps-preserved g c =
       | in-Some+in_default-give w ↦
           feed_there (w.self-is ∙ w.in_default-give.ensures.kept)
           (feed_item c.steps.invariant (record { some = c.in-Ok.ensures.used; usable = c.in-Ok.ensures.usable; limits = c.in-Ok.ensures.limits; advances = c.in-Ok.ensures.advances })
-            w.in-Some.is (ap (λ v. v.items) w.out-is ∙ w.in_default-give.ensures.given ∙ ap (λ x. c.steps.out.items ++ x ∷ []) w.in-Some.item-is))
+          w.in-Some.is (ap (λ v. v.items) w.out-is ∙ w.in_default-give.ensures.given ∙ ap (λ x. c.steps.out.items ++ x ∷ []) w.in-Some.item-is))
       | in_default w ↦
           feed_there w.self-is
           (feed_on c.steps.invariant (record { some = c.in-Ok.ensures.used; usable = c.in-Ok.ensures.usable; limits = c.in-Ok.ensures.limits; advances = c.in-Ok.ensures.advances })
-            w.in_default.is (ap (λ v. v.items) w.out-is))
+          w.in_default.is (ap (λ v. v.items) w.out-is))
     ]
 
 pub returns-clause-fed : goal.returns-clause-fed

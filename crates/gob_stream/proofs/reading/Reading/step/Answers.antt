@@ -1,7 +1,4 @@
-use Rattle.std.proofs.Common.{◌≡◌, ◌∙◌, sym, length, arith}
-use Rattle.gob_types.specs.Defined.{types}
-use Rattle.gob_stream.specs.declared.stage.Stage.TheVariants as stage
-use Rattle.gob_stream.specs.Standing.{StandsIn, no_deeper}
+use Rattle.std.proofs.Common.{◌∙◌, length, arith}
 use Rattle.gob_stream.proofs.AdvanceSteps.{usable_item, step_bound, step_few, step_between, advanced, usable_on, stopped_by, not_err, stands_there, within_there}
 use Rattle.gob_stream.proofs.reading.Reading.step.Goals as goal
 
@@ -32,7 +29,7 @@ returns-in-Ok-clause-between g c =
 pub returns-in-Ok-clause-usable : goal.returns-in-Ok-clause-usable
 returns-in-Ok-clause-usable g c =
     usable_on c.requires.usable (λ e. not_err c.in-Ok.is (c.take_awaited.ensures.failed (c.replace-stage.ensures.value ∙ e))) (λ items bytes a.
-        advanced a (c.in-Ok.ensures.steps (length a.front) a.under_way (stands_there c.replace-stage.ensures.value a.stage)) c.take_awaited.ensures.most c.in-Ok.ensures.some)
+    advanced a (c.in-Ok.ensures.steps (length a.front) a.under_way (stands_there c.replace-stage.ensures.value a.stage)) c.take_awaited.ensures.most c.in-Ok.ensures.some)
 
 pub returns-in-Err-clause-advances : goal.returns-in-Err-clause-advances
 returns-in-Err-clause-advances g c = λ items bytes a. stopped_by c.args.self.now a (c.in-Err.ensures.steps (length a.front) a.under_way (stands_there c.replace-stage.ensures.value a.stage))
