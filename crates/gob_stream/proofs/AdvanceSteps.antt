@@ -1,5 +1,5 @@
 -- A step of a reader over the front of a piece.
-use Rattle.std.proofs.Common.{◌≡◌, ◌≢◌, ℕ, ◌+◌, ◌^◌, ◌<◌, ◌≤◌, List, [], ◌∷◌, ◌++◌, length, take, Option, Some, None, Result, Ok, Err, IfSome, arith, refl, sym, ap, ◌∙◌, subst, append_assoc, length-append}
+use Rattle.std.proofs.Common.{◌≡◌, ◌≢◌, ℕ, ◌+◌, ◌<◌, ◌≤◌, List, [], ◌++◌, length, take, Option, IfSome, Result, Ok, Err, arith, refl, sym, ap, ◌∙◌, subst, append_assoc, length-append}
 use Rattle.std.proofs.lemmas.List.{append-nil, length-take}
 use Rattle.gob_num.specs.Unsigned.{IsUnsignedFront}
 use Rattle.gob_num.proofs.FrontLaws.{begins_front}
@@ -20,7 +20,7 @@ use Rattle.gob_stream.specs.Item.{StreamItem}
 use Rattle.gob_stream.specs.Body.{Body, definition, value}
 use Rattle.gob_stream.specs.Stream.{Counted, counted, Continues, no_more, and_then, Stream}
 use Rattle.gob_stream.specs.Standing.{Standing, StandsIn, in_count, in_type_number, in_value, in_description, StandsAfter, IsUsable, has_failed, stands_after, no_deeper}
-use Rattle.gob_stream.specs.ReadParts.{AreTypes, HasWireType, IsWithinItem, StepsOn, goes_on, gives, refuses_it, no_memory, AdvancesOver, over_some, over_item, Advances}
+use Rattle.gob_stream.specs.ReadParts.{IsWithinItem, StepsOn, goes_on, gives, refuses_it, no_memory, AdvancesOver, over_some, over_item, Advances}
 use Rattle.gob_stream.proofs.StreamLaws.{one_more}
 use Rattle.gob_stream.proofs.ValueSteps.{lies}
 use Rattle.gob_stream.proofs.UnderWayLaws.{after_refused}
@@ -85,11 +85,12 @@ pub step_few : {X O : Type 0} {stands : Standing X} {trees : Standing TreeBuilde
 step_few (goes_on e k s) = k
 step_few (gives k q w n) = k
 
--- an item that is whole has the next count behind it
-pub item_between : {X O : Type 0} {stands : Standing X} {trees : Standing TreeBuilder} {means : O → Tree → Type 0} {L : Bounds} {T U : Table} {offset taken : ℕ} {z piece : List ℕ} {stepped : Stepped X O}
-    → taken ≡ offset + length z → StepsOn stands trees means L T offset z piece U (Ok stepped) → IfSome stepped.item (λ _. stepped.stage ≡ stage.Count (taken + stepped.used) [])
-item_between t (goes_on e k s) = tt
-item_between {z = z} {piece = piece} t (gives {used = used} k q m n) = ap (λ n. stage.Count n []) (omega (arith, length-append z (take used piece), length-take used piece))
+-- behind an item the count of the next one is awaited
+pub step_between : {X O : Type 0} {stands : Standing X} {trees : Standing TreeBuilder} {means : O → Tree → Type 0} {L : Bounds} {T U : Table} {offset taken : ℕ} {stepped : Stepped X O} (z piece : List ℕ) → taken ≡ offset + length z
+    → StepsOn stands trees means L T offset z piece U (Ok stepped) → IfSome stepped.item (λ _. stepped.stage ≡ stage.Count (taken + stepped.used) [])
+step_between z piece t (goes_on e k s) = tt
+step_between {taken = taken} z piece t (gives {used = used} {next = next} k q w n) =
+    let here : next ≡ taken + used = omega (arith, length-append z (take used piece), length-take used piece) in ap (λ n. stage.Count n []) here
 
 -- ---- the reader moves on
 no_bytes : IsUnsignedFront []

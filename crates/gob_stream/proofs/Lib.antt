@@ -7,6 +7,7 @@ pub mod StreamSteps
 pub mod RefusalLaws
 pub mod EndLaws
 pub mod FinishSteps
+pub mod FeedSteps
 pub mod WantedSteps
 pub mod WireLaws
 pub mod DefinableLaws

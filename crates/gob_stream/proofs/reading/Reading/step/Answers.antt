@@ -1,8 +1,5 @@
-use Rattle.std.proofs.Common.{◌≡◌, ◌∙◌, sym, length, arith}
-use Rattle.gob_types.specs.Defined.{types}
-use Rattle.gob_stream.specs.declared.stage.Stage.TheVariants as stage
-use Rattle.gob_stream.specs.Standing.{StandsIn, no_deeper}
-use Rattle.gob_stream.proofs.AdvanceSteps.{usable_item, step_bound, step_few, item_between, advanced, usable_on, stopped_by, not_err, stands_there, within_there}
+use Rattle.std.proofs.Common.{◌∙◌, length, arith}
+use Rattle.gob_stream.proofs.AdvanceSteps.{usable_item, step_bound, step_few, step_between, advanced, usable_on, stopped_by, not_err, stands_there, within_there}
 use Rattle.gob_stream.proofs.reading.Reading.step.Goals as goal
 
 pub take_awaited-requires-clause-stands : goal.take_awaited-requires-clause-stands
@@ -24,6 +21,11 @@ returns-in-Ok-clause-used g c =
     let w = usable_item c.requires.usable (λ e. not_err c.in-Ok.is (c.take_awaited.ensures.failed (c.replace-stage.ensures.value ∙ e))) in
     (c.in-Ok.ensures.some, step_few (c.in-Ok.ensures.steps w.offset w.bytes (stands_there c.replace-stage.ensures.value w.in_item)))
 
+pub returns-in-Ok-clause-between : goal.returns-in-Ok-clause-between
+returns-in-Ok-clause-between g c =
+    let w = usable_item c.requires.usable (λ e. not_err c.in-Ok.is (c.take_awaited.ensures.failed (c.replace-stage.ensures.value ∙ e))) in
+    step_between w.bytes c.args.piece.now w.taken_is (c.in-Ok.ensures.steps w.offset w.bytes (stands_there c.replace-stage.ensures.value w.in_item))
+
 pub returns-in-Ok-clause-usable : goal.returns-in-Ok-clause-usable
 returns-in-Ok-clause-usable g c =
     usable_on c.requires.usable (λ e. not_err c.in-Ok.is (c.take_awaited.ensures.failed (c.replace-stage.ensures.value ∙ e))) (λ items bytes a.
@@ -31,8 +33,3 @@ returns-in-Ok-clause-usable g c =
 
 pub returns-in-Err-clause-advances : goal.returns-in-Err-clause-advances
 returns-in-Err-clause-advances g c = λ items bytes a. stopped_by c.args.self.now a (c.in-Err.ensures.steps (length a.front) a.under_way (stands_there c.replace-stage.ensures.value a.stage))
-
-pub returns-in-Ok-clause-between : goal.returns-in-Ok-clause-between
-returns-in-Ok-clause-between g c =
-    let w = usable_item c.requires.usable (λ e. not_err c.in-Ok.is (c.take_awaited.ensures.failed (c.replace-stage.ensures.value ∙ e))) in
-    item_between w.taken_is (c.in-Ok.ensures.steps w.offset w.bytes (stands_there c.replace-stage.ensures.value w.in_item))

@@ -1,0 +1,229 @@
+-- What a reader has come to within a piece, step by step.
+use Rattle.std.proofs.Common.{◌≡◌, ℕ, ◌+◌, ◌-◌, ◌<◌, ◌≤◌, List, [], ◌∷◌, ◌++◌, length, take, drop, Option, Some, None, Err, arith, refl, sym, ap, ◌∙◌, subst, append_assoc, length-append, length-drop}
+use Rattle.std.proofs.Math.Seq.{take-add}
+use Rattle.std.proofs.lemmas.List.{append-nil, take-append-drop, take_all, take_rest}
+use Rattle.gob_types.specs.Base.{base_table}
+use Rattle.gob_types.specs.Defined.{types}
+use Rattle.gob_value.specs.Tree.{Tree}
+use Rattle.gob_read.specs.declared.tree_builder.TreeBuilder.{TreeBuilder}
+use Rattle.gob_stream.specs.declared.fault.Refusal.{Refusal}
+use Rattle.gob_stream.specs.declared.fault.Fault.{Fault}
+use Rattle.gob_stream.specs.declared.fault.Fault.TheVariants as fault
+use Rattle.gob_stream.specs.declared.item.Item as declared
+use Rattle.gob_stream.specs.declared.reading.Reading.{Reading}
+use Rattle.gob_stream.specs.Bounds.{Bounds}
+use Rattle.gob_stream.specs.Item.{StreamItem, ItemMeans, ItemsMean, mean_none, mean_more}
+use Rattle.gob_stream.specs.Stream.{Stream}
+use Rattle.gob_stream.specs.Outcome.{BeginsWith}
+use Rattle.gob_stream.specs.Standing.{Standing, StandsAfter, IsUsable, no_deeper}
+use Rattle.gob_stream.specs.Reading.{Given, GivesOn, IsShown, Feeds}
+use Rattle.gob_stream.specs.ReadParts.{AdvancesOver, over_some, over_item, Advances}
+
+-- ---- the piece
+-- a piece from there on, as a slice
+abbrev pub rest_of : List ℕ → ℕ → List ℕ
+rest_of piece used = take (length piece - used) (drop used piece)
+
+further : (bytes piece : List ℕ) (used step : ℕ) → (bytes ++ take used piece) ++ take step (rest_of piece used) ≡ bytes ++ take (used + step) piece
+further bytes piece used step =
+    ap (λ l. (bytes ++ take used piece) ++ take step l) (take_rest piece used) ∙ append_assoc bytes (take used piece) (take step (drop used piece))
+    ∙ ap (λ l. bytes ++ l) (sym (take-add used step piece))
+
+all_bytes : (bytes piece : List ℕ) (used : ℕ) → (bytes ++ take used piece) ++ rest_of piece used ≡ bytes ++ piece
+all_bytes bytes piece used =
+    ap (λ l. (bytes ++ take used piece) ++ l) (take_rest piece used) ∙ append_assoc bytes (take used piece) (drop used piece) ∙ ap (λ l. bytes ++ l) (take-append-drop used piece)
+
+-- ---- the items
+one_item_more : {O : Type 0} {means : O → Tree → Type 0} {given : List (declared.Item O)} {items : List StreamItem} {one : declared.Item O} {i : StreamItem}
+    → ItemsMean means given items → ItemMeans means one i → ItemsMean means (given ++ one ∷ []) (items ++ i ∷ [])
+one_item_more mean_none m = mean_more m mean_none
+one_item_more (mean_more n ms) m = mean_more n (one_item_more ms m)
+
+-- ---- what was read of the piece
+-- wherever the reader stood, it stands behind so many bytes of the piece now, and the items were given
+abbrev pub ReadsOn : {X O : Type 0} → (stands : Standing X) (trees : Standing TreeBuilder) (means : O → Tree → Type 0) (most : ℕ) (s s' : Reading X O) → (piece : List ℕ) → ℕ → List (declared.Item O) → Type 0
+ReadsOn stands trees means most s s' piece used given =
+    (items : List StreamItem) (bytes : List ℕ) → StandsAfter stands trees most s items bytes → GivesOn means given items (λ all. StandsAfter stands trees most s' all (bytes ++ take used piece))
+
+-- so many bytes of the piece were taken, in so many steps
+pub record HasFed {X O : Type 0} (stands : Standing X) (trees : Standing TreeBuilder) (means : O → Tree → Type 0) (most : ℕ) (s s' : Reading X O) (out out' : List (declared.Item O)) (piece : List ℕ) (used steps : ℕ) : Type 0 where
+  pub within : used ≤ length piece
+  pub onward : steps ≤ used
+  pub usable : IsUsable stands trees most s'
+  pub limits : s'.limits ≡ s.limits
+  pub fed : Given out out' (ReadsOn stands trees means most s s' piece used)
+
+pub feed_start : {X O : Type 0} {stands : Standing X} {trees : Standing TreeBuilder} {means : O → Tree → Type 0} {most : ℕ} {s : Reading X O} (out : List (declared.Item O)) (piece : List ℕ)
+    → IsUsable stands trees most s → HasFed stands trees means most s s out out piece 0 0
+feed_start {stands = stands} {trees = trees} {most = most} {s = s} out piece u = record {
+  within = omega arith;
+  onward = omega arith;
+  usable = u;
+  limits = refl;
+  fed = record {
+    given = [];
+    appended = sym (append-nil out);
+    holds = λ items bytes a. record {
+      more = [];
+      mean = mean_none;
+      holds = subst (λ b. StandsAfter stands trees most s (items ++ []) b) (sym (append-nil bytes)) (subst (λ i. StandsAfter stands trees most s i bytes) (sym (append-nil items)) a);
+    };
+  };
+}
+
+-- a step over the front of a piece
+pub record StepsOver {X O : Type 0} (stands : Standing X) (trees : Standing TreeBuilder) (means : O → Tree → Type 0) (most : ℕ) (s s' : Reading X O) (piece : List ℕ) (used : ℕ) (item : Option (declared.Item O)) : Type 0 where
+  pub some : (0 < used) × (used ≤ length piece)
+  pub usable : IsUsable stands trees most s'
+  pub limits : s'.limits ≡ s.limits
+  pub advances : (items : List StreamItem) (bytes : List ℕ) → StandsAfter stands trees most s items bytes → AdvancesOver stands trees means most s' items bytes piece used item
+
+stands_over : {X O : Type 0} {stands : Standing X} {trees : Standing TreeBuilder} {means : O → Tree → Type 0} {most : ℕ} {s' : Reading X O} {items : List StreamItem} {bytes piece : List ℕ} {used : ℕ} {item : Option (declared.Item O)}
+    → AdvancesOver stands trees means most s' items bytes piece used item → item ≡ None → StandsAfter stands trees most s' items (bytes ++ take used piece)
+stands_over (over_some p l a) e = a
+stands_over (over_item p l m a) e = absurd (cc)
+
+-- an item is whole with it
+record GivesOne {X O : Type 0} (stands : Standing X) (trees : Standing TreeBuilder) (means : O → Tree → Type 0) (most : ℕ) (s' : Reading X O) (items : List StreamItem) (bytes : List ℕ) (given : declared.Item O) : Type 0 where
+  item : StreamItem
+  mean : ItemMeans means given item
+  after : StandsAfter stands trees most s' (items ++ item ∷ []) bytes
+
+gives_over : {X O : Type 0} {stands : Standing X} {trees : Standing TreeBuilder} {means : O → Tree → Type 0} {most : ℕ} {s' : Reading X O} {items : List StreamItem} {bytes piece : List ℕ} {used : ℕ} {item : Option (declared.Item O)} {given : declared.Item O}
+    → AdvancesOver stands trees means most s' items bytes piece used item → item ≡ Some given → GivesOne stands trees means most s' items (bytes ++ take used piece) given
+gives_over (over_some p l a) e = absurd (cc)
+gives_over {means = means} {given = given} (over_item {given = one} {i = i} p l m a) e =
+    let same : one ≡ given = cc in record { item = i; mean = subst (λ x. ItemMeans means x i) same m; after = a }
+
+-- with a step the reader has come further, by no item
+pub feed_on : {X O : Type 0} {stands : Standing X} {trees : Standing TreeBuilder} {means : O → Tree → Type 0} {most : ℕ} {s t t' : Reading X O} {out out' out'' : List (declared.Item O)} {piece : List ℕ} {used steps step : ℕ} {item : Option (declared.Item O)}
+    → HasFed stands trees means most s t out out' piece used steps → StepsOver stands trees means most t t' (rest_of piece used) step item → item ≡ None → out'' ≡ out'
+    → HasFed stands trees means most s t' out out'' piece (used + step) (steps + 1)
+feed_on {stands = stands} {trees = trees} {most = most} {t' = t'} {piece = piece} {used = used} {step = step} h o e f =
+    let w = h.within in let n = h.onward in let p = o.some.0 in let q = o.some.1 in
+    record {
+      within = omega (arith, ap length (take_rest piece used), length-drop used piece);
+      onward = omega arith;
+      usable = o.usable;
+      limits = o.limits ∙ h.limits;
+      fed = record {
+        given = h.fed.given;
+        appended = f ∙ h.fed.appended;
+        holds = λ items bytes a.
+            let before = h.fed.holds items bytes a in
+            record {
+              more = before.more;
+              mean = before.mean;
+              holds = subst (λ b. StandsAfter stands trees most t' (items ++ before.more) b) (further bytes piece used step)
+                  (stands_over (o.advances (items ++ before.more) (bytes ++ take used piece) before.holds) e);
+            };
+      };
+    }
+
+-- or by one
+pub feed_item : {X O : Type 0} {stands : Standing X} {trees : Standing TreeBuilder} {means : O → Tree → Type 0} {most : ℕ} {s t t' : Reading X O} {out out' out'' : List (declared.Item O)} {piece : List ℕ} {used steps step : ℕ} {item : Option (declared.Item O)} {given : declared.Item O}
+    → HasFed stands trees means most s t out out' piece used steps → StepsOver stands trees means most t t' (rest_of piece used) step item → item ≡ Some given → out'' ≡ out' ++ given ∷ []
+    → HasFed stands trees means most s t' out out'' piece (used + step) (steps + 1)
+feed_item {stands = stands} {trees = trees} {most = most} {t' = t'} {out = out} {piece = piece} {used = used} {step = step} {given = given} h o e f =
+    let w = h.within in let n = h.onward in let p = o.some.0 in let q = o.some.1 in
+    record {
+      within = omega (arith, ap length (take_rest piece used), length-drop used piece);
+      onward = omega arith;
+      usable = o.usable;
+      limits = o.limits ∙ h.limits;
+      fed = record {
+        given = h.fed.given ++ given ∷ [];
+        appended = f ∙ ap (λ l. l ++ given ∷ []) h.fed.appended ∙ append_assoc out h.fed.given (given ∷ []);
+        holds = λ items bytes a.
+            let before = h.fed.holds items bytes a in
+            let one = gives_over (o.advances (items ++ before.more) (bytes ++ take used piece) before.holds) e in
+            record {
+              more = before.more ++ one.item ∷ [];
+              mean = one_item_more before.mean one.mean;
+              holds = subst (λ i. StandsAfter stands trees most t' i (bytes ++ take (used + step) piece)) (append_assoc items before.more (one.item ∷ []))
+                  (subst (λ b. StandsAfter stands trees most t' ((items ++ before.more) ++ one.item ∷ []) b) (further bytes piece used step) one.after);
+            };
+      };
+    }
+
+-- it stands there by whichever name it goes
+pub feed_there : {X O : Type 0} {stands : Standing X} {trees : Standing TreeBuilder} {means : O → Tree → Type 0} {most : ℕ} {s t t' : Reading X O} {out out' : List (declared.Item O)} {piece : List ℕ} {used steps : ℕ}
+    → t' ≡ t → HasFed stands trees means most s t out out' piece used steps → HasFed stands trees means most s t' out out' piece used steps
+feed_there {stands = stands} {trees = trees} {means = means} {most = most} {s = s} {out = out} {out' = out'} {piece = piece} {used = used} {steps = steps} e h =
+    subst (λ t. HasFed stands trees means most s t out out' piece used steps) (sym e) h
+
+-- ---- how feeding ends
+-- the whole piece was taken
+pub fed_all : {X O : Type 0} {stands : Standing X} {trees : Standing TreeBuilder} {means : O → Tree → Type 0} {most : ℕ} {s s' : Reading X O} {out out' : List (declared.Item O)} {piece : List ℕ} {used steps : ℕ}
+    → HasFed stands trees means most s s' out out' piece used steps → length piece ≤ used
+    → Given out out' (λ given. (items : List StreamItem) (bytes : List ℕ) → StandsAfter stands trees most s items bytes → GivesOn means given items (λ all. StandsAfter stands trees most s' all (bytes ++ piece)))
+fed_all {stands = stands} {trees = trees} {most = most} {s' = s'} {piece = piece} {used = used} h l = record {
+  given = h.fed.given;
+  appended = h.fed.appended;
+  holds = λ items bytes a.
+      let before = h.fed.holds items bytes a in
+      record {
+        more = before.more;
+        mean = before.mean;
+        holds = subst (λ p. StandsAfter stands trees most s' (items ++ before.more) (bytes ++ p)) (take_all used piece l) before.holds;
+      };
+}
+
+-- the bytes begin with the stream of the items that were given
+begins_so : {X O : Type 0} {stands : Standing X} {trees : Standing TreeBuilder} {most : ℕ} {s : Reading X O} {L : Bounds} {items : List StreamItem} {bytes all : List ℕ} (rest : List ℕ)
+    → StandsAfter stands trees most s items bytes → s.limits ≡ L → bytes ++ rest ≡ all → BeginsWith base_table (no_deeper most L) all items
+begins_so {most = most} {s = s} {items = items} rest a e f = record {
+  front = a.front;
+  rest = a.under_way ++ rest;
+  table = types s.types;
+  stream = subst (λ L. Stream base_table (no_deeper most L) items a.front (types s.types)) e a.stream;
+  whole = sym f ∙ ap (λ l. l ++ rest) a.whole ∙ append_assoc a.front a.under_way rest;
+}
+
+-- without memory
+pub feed_no_memory : {X O : Type 0} {stands : Standing X} {trees : Standing TreeBuilder} {means : O → Tree → Type 0} {most : ℕ} {s t : Reading X O} {out out' out'' : List (declared.Item O)} {piece : List ℕ} {used steps : ℕ} {f : Fault} (s' : Reading X O)
+    → HasFed stands trees means most s t out out' piece used steps → f ≡ fault.Memory → out'' ≡ out'
+    → Given out out'' (λ given. (items : List StreamItem) (bytes : List ℕ) → StandsAfter stands trees most s items bytes → Feeds stands trees means most s s' items bytes piece given (Err f))
+feed_no_memory {stands = stands} {trees = trees} {means = means} {most = most} {s = s} {piece = piece} {used = used} s' h e f = record {
+  given = h.fed.given;
+  appended = f ∙ h.fed.appended;
+  holds = λ items bytes a.
+      let before = h.fed.holds items bytes a in
+      subst (λ f. Feeds stands trees means most s s' items bytes piece h.fed.given (Err f)) (sym e)
+      (record { more = before.more; mean = before.mean; holds = begins_so (rest_of piece used) before.holds h.limits (all_bytes bytes piece used) });
+}
+
+-- at a fault of a step
+shown_all : (most : ℕ) {K L : Bounds} {items : List StreamItem} {R : Refusal} (bytes piece : List ℕ) (used : ℕ) → K ≡ L
+    → IsShown (no_deeper most K) ((bytes ++ take used piece) ++ rest_of piece used) items R → IsShown (no_deeper most L) (bytes ++ piece) items R
+shown_all most {K = K} {L = L} {items = items} {R = R} bytes piece used e i =
+    subst (λ b. IsShown (no_deeper most L) b items R) (all_bytes bytes piece used) (subst (λ K. IsShown (no_deeper most K) ((bytes ++ take used piece) ++ rest_of piece used) items R) e i)
+
+stops_so : {X O : Type 0} {stands : Standing X} {trees : Standing TreeBuilder} {means : O → Tree → Type 0} {most : ℕ} {t : Reading X O} {items : List StreamItem} {given : List (declared.Item O)} (s s' : Reading X O) (bytes piece : List ℕ) (used : ℕ) (f : Fault)
+    → GivesOn means given items (λ all. StandsAfter stands trees most t all (bytes ++ take used piece)) → t.limits ≡ s.limits
+    → ((all : List StreamItem) → StandsAfter stands trees most t all (bytes ++ take used piece) → Advances stands trees means most t s' all (bytes ++ take used piece) (rest_of piece used) (Err f))
+    → Feeds stands trees means most s s' items bytes piece given (Err f)
+stops_so {most = most} {items = items} s s' bytes piece used (fault.Refused R) before e stops =
+    let r = stops (items ++ before.more) before.holds in (
+      record {
+        more = before.more;
+        mean = before.mean;
+        holds = shown_all most bytes piece used e r.0;
+      },
+      let n = r.1 in omega (arith, length-append bytes (take used piece)),
+    )
+stops_so {items = items} s s' bytes piece used fault.Read before e stops = stops (items ++ before.more) before.holds
+stops_so s s' bytes piece used fault.Memory before e stops =
+    record { more = before.more; mean = before.mean; holds = begins_so (rest_of piece used) before.holds e (all_bytes bytes piece used) }
+stops_so {items = items} s s' bytes piece used fault.Failed before e stops = stops (items ++ before.more) before.holds
+
+pub feed_stops : {X O : Type 0} {stands : Standing X} {trees : Standing TreeBuilder} {means : O → Tree → Type 0} {most : ℕ} {s t : Reading X O} {out out' : List (declared.Item O)} {piece : List ℕ} {used steps : ℕ} (f : Fault) (s' : Reading X O)
+    → HasFed stands trees means most s t out out' piece used steps
+    → ((items : List StreamItem) (bytes : List ℕ) → StandsAfter stands trees most t items bytes → Advances stands trees means most t s' items bytes (rest_of piece used) (Err f))
+    → Given out out' (λ given. (items : List StreamItem) (bytes : List ℕ) → StandsAfter stands trees most s items bytes → Feeds stands trees means most s s' items bytes piece given (Err f))
+feed_stops {s = s} {piece = piece} {used = used} f s' h stops = record {
+  given = h.fed.given;
+  appended = h.fed.appended;
+  holds = λ items bytes a.
+      stops_so s s' bytes piece used f (h.fed.holds items bytes a) h.limits (λ all b. stops all (bytes ++ take used piece) b);
+}
