@@ -1,8 +1,9 @@
 -- Reading the next item, piece by piece.
-use Rattle.std.proofs.Common.{◌≡◌, ◌≢◌, ℕ, zero, suc, ◌+◌, ◌-◌, ◌<◌, ◌≤◌, ◌⊎◌, inl, inr, List, [], ◌∷◌, ◌++◌, length, take, Option, Some, None, Result, Ok, Err, arith, refl, sym, ap, ◌∙◌, subst, append_assoc, length-append}
-use Rattle.std.proofs.lemmas.List.{append-nil}
+use Rattle.std.proofs.Common.{◌≡◌, ◌≢◌, ℕ, zero, suc, ◌+◌, ◌-◌, ◌<◌, ◌≤◌, ◌⊎◌, inl, inr, List, [], ◌∷◌, ◌++◌, length, take, Option, Some, None, Result, Ok, Err, arith, refl, sym, ap, ◌∙◌, subst, append_assoc, length-append, true, false}
+use Rattle.std.proofs.lemmas.List.{append-nil, length-take, take-append-le}
 use Rattle.std.specs.Prelude.{IfSome}
 use Rattle.std.specs.Result.{IsErrAnd}
+use Rattle.std.specs.Option.{is_some}
 use Rattle.std.specs.Io.KnownBytes.{Consumes, Keeps, IsAtEnd}
 use Rattle.std.proofs.KnownBytes.{Consumes-nil, Consumes-trans, Consumes-kept}
 use Rattle.gob_num.specs.Unsigned.{IsUnsignedFront}
@@ -28,7 +29,7 @@ use Rattle.gob_stream.specs.Item.{StreamItem, ItemMeans}
 use Rattle.gob_stream.specs.Stream.{Counted, counted, Continues, no_more, and_then, Stream}
 use Rattle.gob_stream.specs.Outcome.{BeginsWith, GivesItems, RefusesNext, EndsSo, at_the_end, Outcome, the_end, refused}
 use Rattle.gob_stream.specs.Standing.{Standing, StandsIn, in_count, in_type_number, in_value, in_description, StandsAfter, IsUsable, has_failed, stands_after, no_deeper}
-use Rattle.gob_stream.specs.Reading.{Taken, SomeTaken, IsShown, IsNoFurther, up_to_the_last_shown, within_the_item, EndsInItem, GivesNext, RefusesNextItem, shown, ended, StopsNext, ReadsNext, Finishes}
+use Rattle.gob_stream.specs.Reading.{Taken, SomeTaken, IsShown, IsNoFurther, up_to_the_last_shown, within_the_item, EndsInItem, GivesNext, RefusesNextItem, shown, ended, StopsNext, ReadsNext, TakesNext, Finishes, CountsReads}
 use Rattle.gob_stream.specs.ReadParts.{Advances, AdvancesOver, over_some, over_item, wanted_in}
 use Rattle.gob_stream.proofs.OutcomeLaws.{one_front}
 use Rattle.gob_stream.proofs.ShownLaws.{next_seen}
@@ -37,8 +38,8 @@ use Rattle.gob_stream.proofs.ValueSteps.{Lies, lies, three}
 use Rattle.gob_stream.proofs.UnderWayLaws.{refused_later, after_gives}
 
 -- the tellings that a builder of trees stands for
-abbrev pub trees : Standing TreeBuilder
-trees = tree_builder.stands-value.it
+abbrev pub told_trees : Standing TreeBuilder
+told_trees = tree_builder.stands-value.it
 
 -- the reading met no fault
 abbrev pub IsSound : {X O : Type 0} → Reading X O → Type 0
@@ -215,55 +216,111 @@ pub stood_before : {X O : Type 0} {stands : Standing X} {trees : Standing TreeBu
     → SomeConsumed old mid (λ more. StandsAfter stands trees most s items (bytes ++ more)) → SomeTaken rest now (StoodBefore stands trees most s items bytes piece)
 stood_before {bytes = bytes} piece e c p = known_taken e (consumed_more piece c (λ x a. record { before = x; after = a; whole = append_assoc bytes x piece }) p)
 
+-- so many bytes were read into a buffer of no more bytes than can be taken at once
+pub record IsRead (n wanted : ℕ) (buf : List ℕ) : Type 0 where
+  pub some : 0 < n
+  pub within : n ≤ length buf
+  pub few : length buf ≤ wanted
+
+pub piece_length : {n wanted : ℕ} {buf : List ℕ} (tail : List ℕ) → IsRead n wanted buf → length (take n (buf ++ tail)) ≡ n
+piece_length {n = n} {buf = buf} tail r = let l = r.within in omega (arith, length-take n (buf ++ tail), length-append buf tail)
+
+pub piece_consumed : {n wanted : ℕ} {buf : List ℕ} (mid now : Option (List ℕ)) (tail : List ℕ) → IsRead n wanted buf → Consumes mid now (take n buf) → Consumes mid now (take n (buf ++ tail))
+piece_consumed {n = n} {buf = buf} mid now tail r c = subst (λ b. Consumes mid now b) (sym (take-append-le n buf tail r.within)) c
+
 -- wherever the reading stood, this is what a step over the piece answered
 pub record Stepped {X O : Type 0} (stands : Standing X) (trees : Standing TreeBuilder) (means : O → Tree → Type 0) (most : ℕ) (s s' : Reading X O) (piece : List ℕ) (result : Result (Step O) Fault) : Type 0 where
   pub each : (items : List StreamItem) (bytes : List ℕ) → StandsAfter stands trees most s items bytes → Advances stands trees means most s s' items bytes piece result
   pub some : 0 < length piece
   pub few : length piece ≤ wanted_in s.stage s.taken
 
+pub stepped : {X O : Type 0} (stands : Standing X) (trees : Standing TreeBuilder) (means : O → Tree → Type 0) (most : ℕ) (s s' : Reading X O) {n : ℕ} {buf : List ℕ} (tail : List ℕ) (result : Result (Step O) Fault) → IsRead n (wanted_in s.stage s.taken) buf
+    → ((items : List StreamItem) (bytes : List ℕ) → StandsAfter stands trees most s items bytes → Advances stands trees means most s s' items bytes (take n (buf ++ tail)) result) → Stepped stands trees means most s s' (take n (buf ++ tail)) result
+stepped stands trees means most s s' tail result r f = let l = piece_length tail r in let some = r.some in let within = r.within in let few = r.few in record { each = f; some = omega arith; few = omega arith }
+
 -- a step that is refused, or wants memory
-pub step_stops : {X O : Type 0} {stands : Standing X} {trees : Standing TreeBuilder} {means : O → Tree → Type 0} {most : ℕ} {s s' : Reading X O} {items : List StreamItem} {bytes rest : List ℕ} (piece : List ℕ) {now : Option (List ℕ)} (e : Fault)
+step_stops_here : {X O : Type 0} {stands : Standing X} {trees : Standing TreeBuilder} {means : O → Tree → Type 0} {most : ℕ} {s s' : Reading X O} {items : List StreamItem} {bytes rest : List ℕ} (piece : List ℕ) {now : Option (List ℕ)} (e : Fault)
     → Stepped stands trees means most s s' piece (Err e) → SomeTaken rest now (StoodBefore stands trees most s items bytes piece) → StopsNext (no_deeper most s.limits) items bytes rest now e
-step_stops {most = most} {s = s} {items = items} piece (fault.Refused R) f p =
+step_stops_here {most = most} {s = s} {items = items} piece (fault.Refused R) f p =
     let L = no_deeper most s.limits in
     shown (taken_as (λ x b.
     let h : IsShown L _ items R = (f.each items _ b.after).0 in
     (subst (λ y. IsShown L y items R) b.whole h, subst (λ y. EndsInItem L y items R) b.whole (ends_in_item piece b.after f.some f.few h))) p)
-step_stops {most = most} {s = s} {items = items} piece fault.Memory f p =
+step_stops_here {most = most} {s = s} {items = items} piece fault.Memory f p =
     taken_as (λ x b. subst (λ y. BeginsWith base_table (no_deeper most s.limits) y items) b.whole (begins_more piece b.after)) p
-step_stops {items = items} piece fault.Read f p = absurd (f.each items _ p.holds.after)
-step_stops {items = items} piece fault.Failed f p = absurd (f.each items _ p.holds.after)
+step_stops_here {items = items} piece fault.Read f p = absurd (f.each items _ p.holds.after)
+step_stops_here {items = items} piece fault.Failed f p = absurd (f.each items _ p.holds.after)
+
+pub step_stops : {X O : Type 0} {stands : Standing X} {trees : Standing TreeBuilder} {means : O → Tree → Type 0} {most : ℕ} {L : Bounds} {s s' : Reading X O} {items : List StreamItem} {bytes rest : List ℕ} (piece : List ℕ) {now : Option (List ℕ)} (e : Fault)
+    → s.limits ≡ L → Stepped stands trees means most s s' piece (Err e) → SomeTaken rest now (StoodBefore stands trees most s items bytes piece) → StopsNext (no_deeper most L) items bytes rest now e
+step_stops {most = most} {items = items} {bytes = bytes} {rest = rest} piece {now = now} e l f p = subst (λ L. StopsNext (no_deeper most L) items bytes rest now e) l (step_stops_here piece e f p)
 
 -- a read that fails
-pub read_stops : {X O : Type 0} {stands : Standing X} {trees : Standing TreeBuilder} {most : ℕ} {s : Reading X O} {items : List StreamItem} (bytes : List ℕ) {rest : List ℕ} {old mid now : Option (List ℕ)} → old ≡ Some rest → Keeps mid now
-    → SomeConsumed old mid (λ more. StandsAfter stands trees most s items (bytes ++ more)) → SomeTaken rest now (λ taken. GivesItems base_table (no_deeper most s.limits) (bytes ++ taken) items)
-read_stops bytes e k p = taken_as (λ x a. after_gives a) (known_taken e (consumed_still k p))
+pub read_stops : {X O : Type 0} {stands : Standing X} {trees : Standing TreeBuilder} {most : ℕ} {L : Bounds} {s : Reading X O} {items : List StreamItem} (bytes : List ℕ) {rest : List ℕ} {old mid now : Option (List ℕ)} → s.limits ≡ L → old ≡ Some rest → Keeps mid now
+    → SomeConsumed old mid (λ more. StandsAfter stands trees most s items (bytes ++ more)) → SomeTaken rest now (λ taken. GivesItems base_table (no_deeper most L) (bytes ++ taken) items)
+read_stops {most = most} {items = items} bytes l e k p =
+    taken_as (λ x a. subst (λ L. GivesItems base_table (no_deeper most L) (bytes ++ x) items) l (after_gives a)) (known_taken e (consumed_still k p))
 
 -- the end of the input within an item
-pub end_stops : {X O : Type 0} (most : ℕ) (s s' : Reading X O) (items : List StreamItem) (bytes rest : List ℕ) {now : Option (List ℕ)} (e : Fault) → now ≡ Some [] → Finishes most s s' items (bytes ++ rest) (Err e)
-    → StopsNext (no_deeper most s.limits) items bytes rest now e
-end_stops most s s' items bytes rest (fault.Refused R) n f = ended n f.0 f.1
-end_stops most s s' items bytes rest fault.Read n f = absurd f
-end_stops most s s' items bytes rest fault.Memory n f = absurd f
-end_stops most s s' items bytes rest fault.Failed n f = absurd f
+pub end_stops : {X O : Type 0} (most : ℕ) {L : Bounds} (s s' : Reading X O) (items : List StreamItem) (bytes rest : List ℕ) {now : Option (List ℕ)} (e : Fault) → s.limits ≡ L → now ≡ Some [] → Finishes most s s' items (bytes ++ rest) (Err e)
+    → StopsNext (no_deeper most L) items bytes rest now e
+end_stops most s s' items bytes rest (fault.Refused R) l n f = ended n (subst (λ L. Outcome base_table (no_deeper most L) (bytes ++ rest) items (refused R)) l f.0) f.1
+end_stops most s s' items bytes rest fault.Read l n f = absurd f
+end_stops most s s' items bytes rest fault.Memory l n f = absurd f
+end_stops most s s' items bytes rest fault.Failed l n f = absurd f
+
+-- none of these counts as a read that failed
+pub counts_none : {A : Type 0} (failures failures' : ℕ) (r : Result A Fault) (e : Fault) → IsErrAnd r (λ y. y ≡ e) → e ≢ fault.Read → failures' ≡ failures → CountsReads failures failures' r
+counts_none f f' (Ok x) e p n h = h
+counts_none f f' (Err (fault.Refused R)) e p n h = h
+counts_none f f' (Err fault.Read) e p n h = absurd (n (sym p))
+counts_none f f' (Err fault.Memory) e p n h = h
+counts_none f f' (Err fault.Failed) e p n h = h
+
+advances_unread : {X O : Type 0} {stands : Standing X} {trees : Standing TreeBuilder} {means : O → Tree → Type 0} {most : ℕ} {s s' : Reading X O} {items : List StreamItem} {bytes : List ℕ} (piece : List ℕ) (e : Fault) → StandsAfter stands trees most s items bytes
+    → Stepped stands trees means most s s' piece (Err e) → e ≡ fault.Read → ⊥
+advances_unread piece (fault.Refused R) a p e = cc
+advances_unread piece fault.Memory a p e = cc
+advances_unread {items = items} {bytes = bytes} piece fault.Read a p e = p.each items bytes a
+advances_unread piece fault.Failed a p e = cc
+
+pub step_unread : {X O : Type 0} {stands : Standing X} {trees : Standing TreeBuilder} {means : O → Tree → Type 0} {most : ℕ} {s s' : Reading X O} (piece : List ℕ) (e : Fault) → StandsSomewhere stands trees most s
+    → Stepped stands trees means most s s' piece (Err e) → e ≢ fault.Read
+step_unread piece e w p = advances_unread piece e w.after p
+
+pub end_unread : {X O : Type 0} (most : ℕ) (s s' : Reading X O) (items : List StreamItem) (bytes : List ℕ) (e : Fault) → Finishes most s s' items bytes (Err e) → e ≢ fault.Read
+end_unread most s s' items bytes (fault.Refused R) p e = cc
+end_unread most s s' items bytes fault.Memory p e = cc
+end_unread most s s' items bytes fault.Read p e = p
+end_unread most s s' items bytes fault.Failed p e = cc
 
 -- ---- the end of the stream
 -- behind it nothing was taken
-pub record NothingMore {X O : Type 0} (s s' : Reading X O) (more : List ℕ) : Type 0 where
+pub record NothingMore {X O : Type 0} (most : ℕ) (s s' : Reading X O) (items : List StreamItem) (bytes more : List ℕ) : Type 0 where
   pub none : more ≡ []
   pub same : s' ≡ s
+  pub outcome : Outcome base_table (no_deeper most s.limits) bytes items the_end
 
 front_of_nothing : (x y : List ℕ) → [] ≡ x ++ y → y ≡ []
 front_of_nothing [] y e = sym e
 front_of_nothing (d ∷ x) y e = cc
 
-pub nothing_more : {X O : Type 0} {stands : Standing X} {trees : Standing TreeBuilder} {most : ℕ} {s s' : Reading X O} {items : List StreamItem} {bytes : List ℕ} (more : List ℕ) → StandsAfter stands trees most s items bytes → StandsAfter stands trees most s' items (bytes ++ more)
-    → Outcome base_table (no_deeper most s.limits) (bytes ++ more) items the_end → (s' ≡ s) ⊎ (s.taken < s'.taken) → NothingMore s s' more
-nothing_more {s = s} {s' = s'} {bytes = bytes} more a b o g = record { none = none o.ends; same = elim g [ inl e ↦ e | inr l ↦ absurd (let t = a.taken in let u = b.taken in let n = ap length (none o.ends) in omega (arith, length-append bytes more)) ] }
-  where
-    none : EndsSo base_table _ (bytes ++ more) _ the_end → more ≡ []
-    none (at_the_end p) =
-        front_of_nothing a.under_way more (one_front [] (a.under_way ++ more) p a.stream (append-nil (bytes ++ more) ∙ (ap (λ l. l ++ more) a.whole ∙ append_assoc a.front a.under_way more))).rest
+no_more_taken : {X O : Type 0} {stands : Standing X} {trees : Standing TreeBuilder} {most : ℕ} {s : Reading X O} {items : List StreamItem} {bytes : List ℕ} (more : List ℕ) (a : StandsAfter stands trees most s items bytes)
+    → EndsSo base_table (no_deeper most s.limits) (bytes ++ more) items the_end → more ≡ []
+no_more_taken {bytes = bytes} more a (at_the_end p) =
+    front_of_nothing a.under_way more (one_front [] (a.under_way ++ more) p a.stream (append-nil (bytes ++ more) ∙ (ap (λ l. l ++ more) a.whole ∙ append_assoc a.front a.under_way more))).rest
+
+pub nothing_more : {X O : Type 0} {stands : Standing X} {trees : Standing TreeBuilder} {most : ℕ} {s s' : Reading X O} {items : List StreamItem} {bytes : List ℕ} (more : List ℕ) → s'.limits ≡ s.limits
+    → StandsAfter stands trees most s items bytes → StandsAfter stands trees most s' items (bytes ++ more)
+    → Outcome base_table (no_deeper most s'.limits) (bytes ++ more) items the_end → (s' ≡ s) ⊎ (s.taken < s'.taken) → NothingMore most s s' items bytes more
+nothing_more {most = most} {s = s} {s' = s'} {items = items} {bytes = bytes} more l a b o g =
+    let here = subst (λ L. Outcome base_table (no_deeper most L) (bytes ++ more) items the_end) l o in
+    let none = no_more_taken more a here.ends in
+    record {
+      none = none;
+      same = elim g [ inl e ↦ e | inr less ↦ absurd (let t = a.taken in let u = b.taken in let n = ap length none in omega (arith, length-append bytes more)) ];
+      outcome = subst (λ b. Outcome base_table (no_deeper most s.limits) b items the_end) (ap (λ m. bytes ++ m) none ∙ append-nil bytes) here;
+    }
 
 -- ---- the item that is whole
 between_items : {X O : Type 0} {stands : Standing X} {trees : Standing TreeBuilder} {L : Bounds} {T : Table} {offset : ℕ} (n : ℕ) {awaits : Stage X O} {z : List ℕ} → StandsIn stands trees L T offset awaits z → awaits ≡ stage.Count n [] → z ≡ []
@@ -279,7 +336,7 @@ gives_next {most = most} {s' = s'} {i = i} {items = items} n m a e =
     let all = a.whole ∙ ap (λ l. a.front ++ l) (between_items n a.stage e) ∙ append-nil a.front in
     record { item = i; meant = m; after = a; stream = subst (λ b. Stream base_table (no_deeper most s'.limits) (items ++ i ∷ []) b (types s'.types)) (sym all) a.stream }
 
-over_the_item : {X O : Type 0} {stands : Standing X} {trees : Standing TreeBuilder} {means : O → Tree → Type 0} {most : ℕ} {s' : Reading X O} {items : List StreamItem} {bytes piece : List ℕ} (used n : ℕ) (o : Option (declared.Item O)) {given : declared.Item O}
+pub over_the_item : {X O : Type 0} {stands : Standing X} {trees : Standing TreeBuilder} {means : O → Tree → Type 0} {most : ℕ} {s' : Reading X O} {items : List StreamItem} {bytes piece : List ℕ} (used n : ℕ) (o : Option (declared.Item O)) {given : declared.Item O}
     → o ≡ Some given → used ≡ length piece → s'.stage ≡ stage.Count n [] → AdvancesOver stands trees means most s' items bytes piece used o → GivesNext stands trees means most s' given items (bytes ++ piece)
 over_the_item used n o e u c (over_some m l a) = cc
 over_the_item {stands = stands} {trees = trees} {means = means} {most = most} {s' = s'} {items = items} {bytes = bytes} {piece = piece} used n o {given = given} e u c (over_item {given = x} {i = i} k l m a) =
@@ -287,8 +344,79 @@ over_the_item {stands = stands} {trees = trees} {means = means} {most = most} {s
     let whole : bytes ++ take used piece ≡ bytes ++ piece = ap (λ l. bytes ++ l) (take_whole piece used (omega arith)) in
     subst (λ b. GivesNext stands trees means most s' given items b) whole (gives_next n (subst (λ x. ItemMeans means x i) same m) a c)
 
-over_the_piece : {X O : Type 0} {stands : Standing X} {trees : Standing TreeBuilder} {means : O → Tree → Type 0} {most : ℕ} {s' : Reading X O} {items : List StreamItem} {bytes piece : List ℕ} (used : ℕ) (o : Option (declared.Item O))
+if_some : {A : Type 0} (P : Type 0) {o : Option A} {x : A} → IfSome o (λ _. P) → o ≡ Some x → P
+if_some P {o = Some y} p e = p
+if_some P {o = None} p e = cc
+
+pub step_gives : {X O : Type 0} {stands : Standing X} {trees : Standing TreeBuilder} {means : O → Tree → Type 0} {most : ℕ} {s s' : Reading X O} {items : List StreamItem} {bytes : List ℕ} (piece : List ℕ) (n : ℕ) (step : Step O) {given : declared.Item O}
+    → Stepped stands trees means most s s' piece (Ok step) → step.used ≡ length piece → IfSome step.item (λ _. s'.stage ≡ stage.Count n []) → step.item ≡ Some given → StandsAfter stands trees most s items bytes
+    → GivesNext stands trees means most s' given items (bytes ++ piece)
+step_gives {s' = s'} {items = items} {bytes = bytes} piece n step p u b e a = over_the_item step.used n step.item e u (if_some (s'.stage ≡ stage.Count n []) b e) (p.each items bytes a)
+
+-- the item of this call
+pub reads_item : {X O : Type 0} (stands : Standing X) (trees : Standing TreeBuilder) (means : O → Tree → Type 0) (most : ℕ) (s s' : Reading X O) (items : List StreamItem) (bytes rest : List ℕ) (now : Option (List ℕ)) (o : Option (declared.Item O)) → o ≢ None
+    → ((given : declared.Item O) → o ≡ Some given → SomeTaken rest now (λ taken. GivesNext stands trees means most s' given items (bytes ++ taken))) → ReadsNext stands trees means most s s' items bytes rest now (Ok o)
+reads_item stands trees means most s s' items bytes rest now None n f = absurd (n refl)
+reads_item stands trees means most s s' items bytes rest now (Some x) n f = f x refl
+
+pub gives_taken : {X O : Type 0} {stands : Standing X} {trees : Standing TreeBuilder} {means : O → Tree → Type 0} {most : ℕ} {s s' : Reading X O} {items : List StreamItem} {bytes rest : List ℕ} {now : Option (List ℕ)} (piece : List ℕ) (n : ℕ) (step : Step O) {given : declared.Item O}
+    → Stepped stands trees means most s s' piece (Ok step) → step.used ≡ length piece → IfSome step.item (λ _. s'.stage ≡ stage.Count n []) → step.item ≡ Some given → SomeTaken rest now (StoodBefore stands trees most s items bytes piece)
+    → SomeTaken rest now (λ taken. GivesNext stands trees means most s' given items (bytes ++ taken))
+gives_taken {stands = stands} {trees = trees} {means = means} {most = most} {s' = s'} {items = items} piece n step {given = given} p u b e q =
+    taken_as (λ x w. subst (λ y. GivesNext stands trees means most s' given items y) w.whole (step_gives piece n step p u b e w.after)) q
+
+pub takes_item : {X O : Type 0} (s s' : Reading X O) (t t' : ℕ) (o : Option (declared.Item O)) → o ≢ None
+    → ((given : declared.Item O) → o ≡ Some given → (t' ≡ counts_up t (s'.taken - s.taken)) × (s.taken < s'.taken) × (s'.taken ≤ s.limits.stream)) → TakesNext s s' t t' (Ok o)
+takes_item s s' t t' None n f = absurd (n refl)
+takes_item s s' t t' (Some x) n f = f x refl
+
+pub over_the_piece : {X O : Type 0} {stands : Standing X} {trees : Standing TreeBuilder} {means : O → Tree → Type 0} {most : ℕ} {s' : Reading X O} {items : List StreamItem} {bytes piece : List ℕ} (used : ℕ) (o : Option (declared.Item O))
     → o ≡ None → used ≡ length piece → AdvancesOver stands trees means most s' items bytes piece used o → StandsAfter stands trees most s' items (bytes ++ piece)
 over_the_piece {stands = stands} {trees = trees} {most = most} {s' = s'} {items = items} {bytes = bytes} {piece = piece} used o e u (over_some m l a) =
     subst (λ b. StandsAfter stands trees most s' items (bytes ++ b)) (take_whole piece used (omega arith)) a
 over_the_piece used o e u (over_item k l m a) = cc
+
+-- ---- how far a step comes
+over_taken : {X O : Type 0} {stands : Standing X} {trees : Standing TreeBuilder} {means : O → Tree → Type 0} {most : ℕ} {s' : Reading X O} {items : List StreamItem} (bytes piece : List ℕ) (used : ℕ) (o : Option (declared.Item O))
+    → AdvancesOver stands trees means most s' items bytes piece used o → used ≤ length piece → s'.taken ≡ length bytes + used
+over_taken bytes piece used o (over_some m l a) u = let v = a.taken in omega (arith, length-append bytes (take used piece), length-take used piece)
+over_taken bytes piece used o (over_item k l m a) u = let v = a.taken in omega (arith, length-append bytes (take used piece), length-take used piece)
+
+pub step_taken : {X O : Type 0} {stands : Standing X} {trees : Standing TreeBuilder} {means : O → Tree → Type 0} {most : ℕ} {s s' : Reading X O} (piece : List ℕ) (step : Step O) → step.used ≡ length piece → StandsSomewhere stands trees most s
+    → Stepped stands trees means most s s' piece (Ok step) → s'.taken ≡ s.taken + length piece
+step_taken piece step u w f = let t = w.after.taken in let n = over_taken w.bytes piece step.used step.item (f.each w.items w.bytes w.after) (omega arith) in omega arith
+
+-- behind the item the stream keeps to its limit
+pub item_within : {X O : Type 0} {stands : Standing X} {trees : Standing TreeBuilder} {means : O → Tree → Type 0} {most : ℕ} {s' : Reading X O} {given : declared.Item O} {items : List StreamItem} {bytes : List ℕ} → GivesNext stands trees means most s' given items bytes → s'.taken ≤ s'.limits.stream
+item_within p = let t = p.after.taken in let l = stream_within p.stream in omega arith
+
+pub no_less : {X O : Type 0} {s s' : Reading X O} → (s' ≡ s) ⊎ (s.taken < s'.taken) → s.taken ≤ s'.taken
+no_less (inl e) = let t = ap (λ s. s.taken) e in omega arith
+no_less (inr l) = omega arith
+
+-- ---- a step that gives no item
+pub some_there : {A : Type 0} (o : Option A) → is_some o ≡ true → o ≢ None
+some_there None e n = cc
+some_there (Some x) e n = cc
+
+pub none_there : {A : Type 0} (o : Option A) → is_some o ≡ false → o ≡ None
+none_there None e = refl
+none_there (Some x) e = cc
+
+pub stood_further : {X O : Type 0} {stands : Standing X} {trees : Standing TreeBuilder} {means : O → Tree → Type 0} {most : ℕ} {s mid s' : Reading X O} {old between now : Option (List ℕ)} (piece : List ℕ) (step : Step O) → Consumes between now piece
+    → Stepped stands trees means most mid s' piece (Ok step) → step.used ≡ length piece → step.item ≡ None → StoodOn stands trees most s mid old between → StoodOn stands trees most s s' old now
+stood_further {stands = stands} {trees = trees} {most = most} {s' = s'} piece step c p u n q = record {
+  each = λ items bytes a.
+      consumed_more piece c
+      (λ x b. subst (λ y. StandsAfter stands trees most s' items y) (append_assoc bytes x piece) (over_the_piece step.used step.item n u (p.each items (bytes ++ x) b)))
+      (q.each items bytes a);
+}
+
+stands_sound : {X O : Type 0} {stands : Standing X} {trees : Standing TreeBuilder} {L : Bounds} {T : Table} {offset : ℕ} {awaits : Stage X O} {z : List ℕ} → StandsIn stands trees L T offset awaits z → awaits ≢ stage.Failed
+stands_sound (in_count f) e = cc
+stands_sound (in_type_number k f w) e = cc
+stands_sound (in_value k s r p b) e = cc
+stands_sound (in_description k i s r p b) e = cc
+
+pub still_sound : {X O : Type 0} {stands : Standing X} {trees : Standing TreeBuilder} {most : ℕ} {s s' : Reading X O} {old now : Option (List ℕ)} → StandsSomewhere stands trees most s → StoodOn stands trees most s s' old now → IsSound s'
+still_sound w q = stands_sound (q.each w.items w.bytes w.after).holds.stage
