@@ -22,4 +22,5 @@ pub mod ValueSteps
 pub mod DefinitionSteps
 pub mod StandingSteps
 pub mod SessionSteps
+pub mod StreamReadSteps
 pub mod NumberSteps
