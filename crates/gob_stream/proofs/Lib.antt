@@ -25,6 +25,7 @@ pub mod ValueSteps
 pub mod DefinitionSteps
 pub mod StandingSteps
 pub mod SessionSteps
+pub mod StreamReadSteps
 pub mod NumberSteps
 pub mod StageSteps
 pub mod AdvanceSteps

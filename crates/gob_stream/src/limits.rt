@@ -79,7 +79,8 @@ impl Limits {
 
     /// The most definitions.
     pub fn types(&self) -> u64
-        ensures { result ≡ self.now.types }
+        ensures types { result ≡ self.now.types }
+        ensures limits { AreLimits self.now }
     {
         self.types
     }

@@ -48,6 +48,7 @@ impl<B: Builder> Reading<B> {
     pub(crate) fn new(alloc: Global, limits: Limits) -> Result<Reading<B>, Memory>
         ensures stands { IfOk result (λ reading. StandsAfter B.stands ⟦<TreeBuilder as Builder>⟧.stands B.DEPTH reading [] []) }
         ensures limits { IfOk result (λ reading. reading.limits ≡ limits) }
+        ensures allowed { AreLimits limits }
     {
         let types = Table::new(alloc, limits.types())?;
         Ok(Reading {
@@ -111,14 +112,7 @@ impl<B: Builder> Reading<B> {
         ensures limits { self.new.limits ≡ self.old.limits }
     {
         let stage = mem::replace(&mut self.stage, Stage::Failed);
-        match take_awaited(
-            alloc,
-            self.limits,
-            &mut self.types,
-            self.taken,
-            stage,
-            piece,
-        ) {
+        match take_awaited(alloc, self.limits, &mut self.types, self.taken, stage, piece) {
             Ok(stepped) => {
                 self.taken += stepped.used as u64;
                 self.stage = stepped.stage;
@@ -164,7 +158,11 @@ impl<B: Builder> Reading<B> {
             Stage::Count { begin, number: _ } if begin == self.taken => Ok(()),
             _ => {
                 self.stage = Stage::Failed;
-                Err(Fault::Refused(refusal(self.taken, self.taken, Reason::Ended)))
+                Err(Fault::Refused(refusal(
+                    self.taken,
+                    self.taken,
+                    Reason::Ended,
+                )))
             }
         }
     }

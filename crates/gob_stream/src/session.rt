@@ -23,6 +23,7 @@ pub struct Session<B: Builder> {
 
 impl<B: Builder> Session<B> {
     ghost use Rattle.std.specs.Prelude.{◌≡◌, ℕ, List, [], Err, Some, IfOk, OnErr};
+    ghost use Rattle.gob_stream.specs.Bounds.{AreLimits};
     ghost use Rattle.gob_stream.specs.Item.{StreamItem};
     ghost use Rattle.gob_stream.specs.Standing.{StandsAfter, IsUsable};
     ghost use Rattle.gob_stream.specs.Reading.{Given, Feeds, Finishes, ReadsNext, CountsReads, TakesNext};
@@ -33,6 +34,7 @@ impl<B: Builder> Session<B> {
         ensures usable { IfOk result (λ session. IsUsable B.stands ⟦<TreeBuilder as Builder>⟧.stands B.DEPTH session.reading) }
         ensures taken { IfOk result (λ session. session.reading.taken ≡ 0) }
         ensures limits { IfOk result (λ session. session.reading.limits ≡ limits) }
+        ensures allowed { AreLimits limits }
     {
         let reading = Reading::new(alloc, limits)?;
         Ok(Session { reading })
