@@ -60,11 +60,11 @@ description_steps {L = L} {T = T} {U = U} {offset = offset} {m = m} {id = id} {r
     let long : length (a ++ (y ++ take used piece)) ≡ m = omega (arith, length-append a (y ++ take used piece)) in
     let whole : length (c ++ (a ++ (y ++ take used piece))) ≡ length c + m = omega (arith, length-append c (a ++ (y ++ take used piece))) in
     let item : Counted base_table L T offset (defines id (view described)) (c ++ (a ++ (y ++ take used piece))) (T ++ (id, shape) ∷ []) =
-        counted (subst (λ n. IsUnsigned n c) (sym long) k.count) (let i = k.item in omega arith) (omega arith) (definition p (made_depth made) ds n s (made_spelled h made)) in
+    counted (subst (λ n. IsUnsigned n c) (sym long) k.count) (let i = k.item in omega arith) (omega arith) (definition p (made_depth made) ds n s (made_spelled h made)) in
     let there = three c a y (take used piece) in
     let l = ap length there in
     let item' : Counted base_table L T offset (defines id (view described)) (c ++ (a ++ (y ++ take used piece))) U =
-        subst (λ (U : Table). Counted base_table L T offset (defines id (view described)) (c ++ (a ++ (y ++ take used piece))) U) (sym e) item in
+    subst (λ (U : Table). Counted base_table L T offset (defines id (view described)) (c ++ (a ++ (y ++ take used piece))) U) (sym e) item in
     gives within (counted_as there item') means_definition (omega arith)
 description_steps {L = L} {T = T} {offset = offset} {m = m} {rest = rest} c a y piece k n s r p h w (description_refused {R = R} e f) =
     let lie = lies k r in
@@ -73,7 +73,7 @@ description_steps {L = L} {T = T} {offset = offset} {m = m} {rest = rest} c a y 
     let refused : RefusesBody base_table L T (offset + length c) m (take m (a ++ (y ++ piece))) (behind (offset + length c + length a) R) = refused_description (y ++ take (size rest - length y) piece) there n s p first in
     refuses_it
     (subst (λ n. RefusesNext base_table L T offset ((c ++ (a ++ y)) ++ piece) (behind n R)) (sym lie.begins)
-        (refused_body (a ++ (y ++ piece)) (three c a y piece) k.count k.item k.stream refused))
+    (refused_body (a ++ (y ++ piece)) (three c a y piece) k.count k.item k.stream refused))
     (refused_shown f.refused)
 description_steps {L = L} {T = T} {offset = offset} {m = m} {rest = rest} c a y piece k n s r p h w (describes_nothing {described = described} {used = used} {r = why} e d x) =
     let lie = lies k r in
@@ -84,9 +84,9 @@ description_steps {L = L} {T = T} {offset = offset} {m = m} {rest = rest} c a y 
     let z1 = lie.size_is in let z2 = lie.within in
     let long : length (take m (a ++ (y ++ piece))) ≡ m = omega (arith, ap length there, length-append a (y ++ take used piece)) in
     let refused : RefusesBody base_table L T (offset + length c) m (take m (a ++ (y ++ piece))) (refuses (offset + length c + length a) (offset + length c + m) why) =
-        described_wrongly there long n s p (made_spelled h made) (made_depth made) x in
+    described_wrongly there long n s p (made_spelled h made) (made_depth made) x in
     let next : RefusesNext base_table L T offset ((c ++ (a ++ y)) ++ piece) (refuses (offset + length c + length a) (offset + length c + m) why) =
-        refused_body (a ++ (y ++ piece)) (three c a y piece) k.count k.item k.stream refused in
+    refused_body (a ++ (y ++ piece)) (three c a y piece) k.count k.item k.stream refused in
     let placed = subst (λ n. RefusesNext base_table L T offset ((c ++ (a ++ y)) ++ piece) (refuses n (offset + length c + m) why)) (sym lie.begins) next in
     refuses_it (subst (λ n. RefusesNext base_table L T offset ((c ++ (a ++ y)) ++ piece) (refuses rest.begin n why)) (sym lie.ends) placed) (description_shown x)
 description_steps c a y piece k n s r p h w no_memory_for_description = no_memory

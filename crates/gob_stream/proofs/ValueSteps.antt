@@ -106,7 +106,7 @@ value_steps {stands = stands} {trees = trees} {means = means} {L = L} {T = T} {o
     let refused : RefusesBody base_table L T (offset + length c) m (take m (a ++ (y ++ piece))) (behind (offset + length c + length a) R) = refused_value (y ++ take (size rest - length y) piece) there s p first in
     refuses_it
     (subst (λ n. RefusesNext base_table L T offset ((c ++ (a ++ y)) ++ piece) (behind n R)) (sym lie.begins)
-        (refused_body (a ++ (y ++ piece)) (three c a y piece) k.count k.item k.stream refused))
+    (refused_body (a ++ (y ++ piece)) (three c a y piece) k.count k.item k.stream refused))
     (refused_shown f.refused)
 value_steps c a y piece k s r p w no_memory_for_value = no_memory
 

@@ -52,12 +52,7 @@ pub(crate) fn take_count<B: Builder>(
 }
 
 /// The body of so many bytes behind the count from `begin` to `end`, where the limits allow the item.
-pub(crate) fn body_of(
-    limits: Limits,
-    begin: u64,
-    end: u64,
-    count: u64,
-) -> Result<Extent, Refusal>
+pub(crate) fn body_of(limits: Limits, begin: u64, end: u64, count: u64) -> Result<Extent, Refusal>
     ensures { JudgesCount limits begin end count result }
 {
     let stream = limits.stream();

@@ -112,7 +112,14 @@ impl<B: Builder> Reading<B> {
         ensures limits { self.new.limits ≡ self.old.limits }
     {
         let stage = mem::replace(&mut self.stage, Stage::Failed);
-        match take_awaited(alloc, self.limits, &mut self.types, self.taken, stage, piece) {
+        match take_awaited(
+            alloc,
+            self.limits,
+            &mut self.types,
+            self.taken,
+            stage,
+            piece,
+        ) {
             Ok(stepped) => {
                 self.taken += stepped.used as u64;
                 self.stage = stepped.stage;
@@ -158,11 +165,7 @@ impl<B: Builder> Reading<B> {
             Stage::Count { begin, number: _ } if begin == self.taken => Ok(()),
             _ => {
                 self.stage = Stage::Failed;
-                Err(Fault::Refused(refusal(
-                    self.taken,
-                    self.taken,
-                    Reason::Ended,
-                )))
+                Err(Fault::Refused(refusal(self.taken, self.taken, Reason::Ended)))
             }
         }
     }

@@ -58,7 +58,15 @@ pub(crate) fn take_type_number<B: Builder>(
                 begin: taken + used as u64,
                 end: body.end,
             };
-            match begin_rest(alloc, limits, table, body.begin, rest, number, &piece[used..]) {
+            match begin_rest(
+                alloc,
+                limits,
+                table,
+                body.begin,
+                rest,
+                number,
+                &piece[used..],
+            ) {
                 Ok(stepped) => Ok(Stepped {
                     used: used + stepped.used,
                     stage: stepped.stage,
@@ -67,11 +75,7 @@ pub(crate) fn take_type_number<B: Builder>(
                 Err(fault) => Err(fault),
             }
         }
-        Taken::BadHead => Err(Fault::Refused(refusal(
-            body.begin,
-            body.begin + 1,
-            Reason::BadHead,
-        ))),
+        Taken::BadHead => Err(Fault::Refused(refusal(body.begin, body.begin + 1, Reason::BadHead))),
         Taken::NotMinimal => Err(Fault::Refused(refusal(
             body.begin,
             body.begin + 2,
@@ -204,13 +208,7 @@ fn reason_of(id: TypeId, fault: DefineFault) -> Reason
 }
 
 // Whether values of the type may come now.
-fn make_ready(
-    alloc: Global,
-    table: &Table,
-    id: TypeId,
-    place: u64,
-    seen: u64,
-) -> Result<(), Fault>
+fn make_ready(alloc: Global, table: &Table, id: TypeId, place: u64, seen: u64) -> Result<(), Fault>
     ensures { MaybePuts (types table.now) id place seen result }
 {
     if id.0 == GOB_ENCODER_TYPE {

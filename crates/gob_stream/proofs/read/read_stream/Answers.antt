@@ -30,7 +30,7 @@ returns-in_err-item-clause-items g c =
     let p = read bytes e in
     passed_on (λ r. ReadsStream c.args.limits bytes (g.R.Read.remaining c.read_item.new.input.reader) (item_views given) r) c.from_residual-in_err-item.result _ c.from_residual-in_err-item.ensures.1
     (stream_stops (no_deeper 1000 c.loop-session.session.reading.limits) (item_views given) (g.R.Read.remaining c.read_item.new.input.reader) _ limits p
-        (c.in_err-item.ensures.read (item_views given) p.bytes p.taken.left p.holds p.taken.known)))
+    (c.in_err-item.ensures.read (item_views given) p.bytes p.taken.left p.holds p.taken.known)))
     c.loop-session.invariant.given
 
 pub loop-session-preserved : goal.loop-session-preserved

@@ -21,7 +21,7 @@ returns-in-Ok-new g c = λ L offset m d a body e k b s r.
     let p = put_is c.in-Ok.ensures refl in
     value_begins d a c.args.piece.now k s r p
     (subst (λ n. ReadsValue g.B.Builder.stands g.B.Builder.means (types c.args.table.now) c.args.id n c.args.rest [] c.args.piece.now c.take_value.result) (sym e)
-        (c.take_value.ensures (min c.args.depth g.B.Builder.DEPTH) [] (c.in-Ok-new.ensures (types c.args.table.now) p.ready)))
+    (c.take_value.ensures (min c.args.depth g.B.Builder.DEPTH) [] (c.in-Ok-new.ensures (types c.args.table.now) p.ready)))
 
 pub returns-in-Err-new : goal.returns-in-Err-new
 returns-in-Err-new g c = λ L offset m d a body e k b s r. no_memory
