@@ -2,6 +2,7 @@
 use Rattle.std.proofs.Common.{◌≡◌, ℕ, ◌+◌, ◌-◌, ◌<◌, ◌≤◌, List, [], ◌∷◌, ◌++◌, length, take, drop, Option, Some, None, Err, arith, refl, sym, ap, ◌∙◌, subst, append_assoc, length-append, length-drop}
 use Rattle.std.proofs.Math.Seq.{take-add}
 use Rattle.std.proofs.lemmas.List.{append-nil, take-append-drop, take_all, take_rest}
+use Rattle.gob_types.specs.Table.{Table}
 use Rattle.gob_types.specs.Base.{base_table}
 use Rattle.gob_types.specs.Defined.{types}
 use Rattle.gob_value.specs.Tree.{Tree}
@@ -14,9 +15,8 @@ use Rattle.gob_stream.specs.declared.reading.Reading.{Reading}
 use Rattle.gob_stream.specs.Bounds.{Bounds}
 use Rattle.gob_stream.specs.Item.{StreamItem, ItemMeans, ItemsMean, mean_none, mean_more}
 use Rattle.gob_stream.specs.Stream.{Stream}
-use Rattle.gob_stream.specs.Outcome.{BeginsWith}
 use Rattle.gob_stream.specs.Standing.{Standing, StandsAfter, IsUsable, no_deeper}
-use Rattle.gob_stream.specs.Reading.{Given, GivesOn, IsShown, Feeds}
+use Rattle.gob_stream.specs.Reading.{Given, GivesOn, IsShown, HasTypesBehind, HasTypesBeyond, Feeds}
 use Rattle.gob_stream.specs.ReadParts.{AdvancesOver, over_some, over_item, Advances}
 
 -- ---- the piece
@@ -169,28 +169,39 @@ fed_all {stands = stands} {trees = trees} {most = most} {s' = s'} {piece = piece
       };
 }
 
--- the bytes begin with the stream of the items that were given
-begins_so : {X O : Type 0} {stands : Standing X} {trees : Standing TreeBuilder} {most : ℕ} {s : Reading X O} {L : Bounds} {items : List StreamItem} {bytes all : List ℕ} (rest : List ℕ)
-    → StandsAfter stands trees most s items bytes → s.limits ≡ L → bytes ++ rest ≡ all → BeginsWith base_table (no_deeper most L) all items
-begins_so {most = most} {s = s} {items = items} rest a e f = record {
+-- the bytes begin with the stream of the items that were given, behind which these are the types
+types_behind : {X O : Type 0} {stands : Standing X} {trees : Standing TreeBuilder} {most : ℕ} {s : Reading X O} {L : Bounds} {items : List StreamItem} {bytes all : List ℕ} {T : Table} (rest : List ℕ)
+    → StandsAfter stands trees most s items bytes → s.limits ≡ L → T ≡ types s.types → bytes ++ rest ≡ all → HasTypesBehind (no_deeper most L) all items T
+types_behind {most = most} {s = s} {L = L} {items = items} rest a e t f = record {
   front = a.front;
   rest = a.under_way ++ rest;
-  table = types s.types;
-  stream = subst (λ L. Stream base_table (no_deeper most L) items a.front (types s.types)) e a.stream;
+  stream =
+      subst (λ (T : Table). Stream base_table (no_deeper most L) items a.front T) (sym t)
+      (subst (λ L. Stream base_table (no_deeper most L) items a.front (types s.types)) e a.stream);
   whole = sym f ∙ ap (λ l. l ++ rest) a.whole ∙ append_assoc a.front a.under_way rest;
 }
 
--- without memory
-pub feed_no_memory : {X O : Type 0} {stands : Standing X} {trees : Standing TreeBuilder} {means : O → Tree → Type 0} {most : ℕ} {s t : Reading X O} {out out' out'' : List (declared.Item O)} {piece : List ℕ} {used steps : ℕ} {f : Fault} (s' : Reading X O)
-    → HasFed stands trees means most s t out out' piece used steps → f ≡ fault.Memory → out'' ≡ out'
+-- nor behind any further item
+types_at : {L : Bounds} {bytes : List ℕ} {items : List StreamItem} {T : Table} → HasTypesBehind L bytes items T → HasTypesBeyond L bytes items T
+types_at {L = L} {bytes = bytes} {items = items} {T = T} b =
+    record { more = []; at_most_one = omega arith; behind = subst (λ i. HasTypesBehind L bytes i T) (sym (append-nil items)) b }
+
+types_one_on : {L : Bounds} {bytes : List ℕ} {items : List StreamItem} {T : Table} (i : StreamItem) → HasTypesBehind L bytes (items ++ i ∷ []) T → HasTypesBeyond L bytes items T
+types_one_on i b = record { more = i ∷ []; at_most_one = omega arith; behind = b }
+
+-- without memory for the item that is whole with a step
+pub feed_no_memory : {X O : Type 0} {stands : Standing X} {trees : Standing TreeBuilder} {means : O → Tree → Type 0} {most : ℕ} {s t t' : Reading X O} {out out' out'' : List (declared.Item O)} {piece : List ℕ} {used steps step : ℕ} {item : Option (declared.Item O)} {one : declared.Item O} {f : Fault} (s' : Reading X O)
+    → HasFed stands trees means most s t out out' piece used steps → StepsOver stands trees means most t t' (rest_of piece used) step item → item ≡ Some one → s'.types ≡ t'.types → f ≡ fault.Memory → out'' ≡ out'
     → Given out out'' (λ given. (items : List StreamItem) (bytes : List ℕ) → StandsAfter stands trees most s items bytes → Feeds stands trees means most s s' items bytes piece given (Err f))
-feed_no_memory {stands = stands} {trees = trees} {means = means} {most = most} {s = s} {piece = piece} {used = used} s' h e f = record {
+feed_no_memory {stands = stands} {trees = trees} {means = means} {most = most} {s = s} {piece = piece} {used = used} {step = step} s' h o n k e f = record {
   given = h.fed.given;
   appended = f ∙ h.fed.appended;
   holds = λ items bytes a.
       let before = h.fed.holds items bytes a in
+      let one = gives_over (o.advances (items ++ before.more) (bytes ++ take used piece) before.holds) n in
+      let there = ap (λ b. b ++ rest_of piece (used + step)) (further bytes piece used step) ∙ all_bytes bytes piece (used + step) in
       subst (λ f. Feeds stands trees means most s s' items bytes piece h.fed.given (Err f)) (sym e)
-      (record { more = before.more; mean = before.mean; holds = begins_so (rest_of piece used) before.holds h.limits (all_bytes bytes piece used) });
+      (record { more = before.more; mean = before.mean; holds = types_one_on one.item (types_behind (rest_of piece (used + step)) one.after (o.limits ∙ h.limits) (ap types k) there) });
 }
 
 -- at a fault of a step
@@ -200,30 +211,30 @@ shown_all most {K = K} {L = L} {items = items} {R = R} bytes piece used e i =
     subst (λ b. IsShown (no_deeper most L) b items R) (all_bytes bytes piece used) (subst (λ K. IsShown (no_deeper most K) ((bytes ++ take used piece) ++ rest_of piece used) items R) e i)
 
 stops_so : {X O : Type 0} {stands : Standing X} {trees : Standing TreeBuilder} {means : O → Tree → Type 0} {most : ℕ} {t : Reading X O} {items : List StreamItem} {given : List (declared.Item O)} (s s' : Reading X O) (bytes piece : List ℕ) (used : ℕ) (f : Fault)
-    → GivesOn means given items (λ all. StandsAfter stands trees most t all (bytes ++ take used piece)) → t.limits ≡ s.limits
+    → GivesOn means given items (λ all. StandsAfter stands trees most t all (bytes ++ take used piece)) → t.limits ≡ s.limits → s'.types ≡ t.types
     → ((all : List StreamItem) → StandsAfter stands trees most t all (bytes ++ take used piece) → Advances stands trees means most t s' all (bytes ++ take used piece) (rest_of piece used) (Err f))
     → Feeds stands trees means most s s' items bytes piece given (Err f)
-stops_so {most = most} {items = items} s s' bytes piece used (fault.Refused R) before e stops =
+stops_so {most = most} {items = items} s s' bytes piece used (fault.Refused R) before e k stops =
     let r = stops (items ++ before.more) before.holds in (
       record {
         more = before.more;
         mean = before.mean;
-        holds = shown_all most bytes piece used e r.0;
+        holds = (shown_all most bytes piece used e r.0, types_behind (rest_of piece used) before.holds e (ap types k) (all_bytes bytes piece used));
       },
       let n = r.1 in omega (arith, length-append bytes (take used piece)),
     )
-stops_so {items = items} s s' bytes piece used fault.Read before e stops = stops (items ++ before.more) before.holds
-stops_so s s' bytes piece used fault.Memory before e stops =
-    record { more = before.more; mean = before.mean; holds = begins_so (rest_of piece used) before.holds e (all_bytes bytes piece used) }
-stops_so {items = items} s s' bytes piece used fault.Failed before e stops = stops (items ++ before.more) before.holds
+stops_so {items = items} s s' bytes piece used fault.Read before e k stops = stops (items ++ before.more) before.holds
+stops_so s s' bytes piece used fault.Memory before e k stops =
+    record { more = before.more; mean = before.mean; holds = types_at (types_behind (rest_of piece used) before.holds e (ap types k) (all_bytes bytes piece used)) }
+stops_so {items = items} s s' bytes piece used fault.Failed before e k stops = stops (items ++ before.more) before.holds
 
 pub feed_stops : {X O : Type 0} {stands : Standing X} {trees : Standing TreeBuilder} {means : O → Tree → Type 0} {most : ℕ} {s t : Reading X O} {out out' : List (declared.Item O)} {piece : List ℕ} {used steps : ℕ} (f : Fault) (s' : Reading X O)
-    → HasFed stands trees means most s t out out' piece used steps
+    → HasFed stands trees means most s t out out' piece used steps → s'.types ≡ t.types
     → ((items : List StreamItem) (bytes : List ℕ) → StandsAfter stands trees most t items bytes → Advances stands trees means most t s' items bytes (rest_of piece used) (Err f))
     → Given out out' (λ given. (items : List StreamItem) (bytes : List ℕ) → StandsAfter stands trees most s items bytes → Feeds stands trees means most s s' items bytes piece given (Err f))
-feed_stops {s = s} {piece = piece} {used = used} f s' h stops = record {
+feed_stops {s = s} {piece = piece} {used = used} f s' h k stops = record {
   given = h.fed.given;
   appended = h.fed.appended;
   holds = λ items bytes a.
-      stops_so s s' bytes piece used f (h.fed.holds items bytes a) h.limits (λ all b. stops all (bytes ++ take used piece) b);
+      stops_so s s' bytes piece used f (h.fed.holds items bytes a) h.limits k (λ all b. stops all (bytes ++ take used piece) b);
 }

@@ -79,7 +79,7 @@ fed_back : {X O : Type 0} (stands : Standing X) (trees : Standing TreeBuilder) (
     → WrittenWithin (no_deeper most s.limits) items ((bytes ++ piece) ++ rest) → Feeds stands trees means most s s' before bytes piece given result → (result ≡ Ok tt) ⊎ (result ≡ Err fault.Memory)
 fed_back stands trees means most s s' items before bytes piece rest given (Ok u) w f = inl refl
 fed_back stands trees means most s s' items before bytes piece rest given (Err (fault.Refused R)) w f =
-    absurd (shows_no_refusal (no_deeper most s.limits) items (before ++ f.0.more) (bytes ++ piece) rest R w f.0.holds)
+    absurd (shows_no_refusal (no_deeper most s.limits) items (before ++ f.0.more) (bytes ++ piece) rest R w f.0.holds.0)
 fed_back stands trees means most s s' items before bytes piece rest given (Err fault.Read) w f = absurd f
 fed_back stands trees means most s s' items before bytes piece rest given (Err fault.Memory) w f = inr refl
 fed_back stands trees means most s s' items before bytes piece rest given (Err fault.Failed) w f = absurd f

@@ -48,12 +48,26 @@ pub record IsShown (L : Bounds) (bytes : List ℕ) (items : List StreamItem) (R 
   pub outcome : Outcome base_table L bytes items (refused R)
   pub shown : R.reason ≢ reason.Ended
 
+-- the bytes begin with the stream of the items, and these are the types behind it
+pub record HasTypesBehind (L : Bounds) (bytes : List ℕ) (items : List StreamItem) (T : Table) : Type 0 where
+  pub front : List ℕ
+  pub rest : List ℕ
+  pub stream : Stream base_table L items front T
+  pub whole : bytes ≡ front ++ rest
+
+-- or these are the types behind one item more
+pub record HasTypesBeyond (L : Bounds) (bytes : List ℕ) (items : List StreamItem) (T : Table) : Type 0 where
+  pub more : List StreamItem
+  pub at_most_one : length more ≤ 1
+  pub behind : HasTypesBehind L bytes (items ++ more) T
+
 -- what feeding a piece answers, where the items were given, to a session that had given the items before, of these bytes
 abbrev pub Feeds : {X O : Type 0} → (stands : Standing X) (trees : Standing TreeBuilder) (means : O → Tree → Type 0) (most : ℕ) (s s' : Reading X O) → List StreamItem → (bytes piece : List ℕ) → List (declared.Item O) → Result (Unit {0}) Fault → Type 0
 Feeds stands trees means most s s' items bytes piece given (Ok _) = GivesOn means given items (λ all. StandsAfter stands trees most s' all (bytes ++ piece))
-Feeds stands trees means most s s' items bytes piece given (Err (fault.Refused R)) = GivesOn means given items (λ all. IsShown (no_deeper most s.limits) (bytes ++ piece) all R) × (length bytes < R.seen)
+Feeds stands trees means most s s' items bytes piece given (Err (fault.Refused R)) =
+    GivesOn means given items (λ all. IsShown (no_deeper most s.limits) (bytes ++ piece) all R × HasTypesBehind (no_deeper most s.limits) (bytes ++ piece) all (types s'.types)) × (length bytes < R.seen)
 Feeds stands trees means most s s' items bytes piece given (Err fault.Read) = ⊥
-Feeds stands trees means most s s' items bytes piece given (Err fault.Memory) = GivesOn means given items (λ all. BeginsWith base_table (no_deeper most s.limits) (bytes ++ piece) all)
+Feeds stands trees means most s s' items bytes piece given (Err fault.Memory) = GivesOn means given items (λ all. HasTypesBeyond (no_deeper most s.limits) (bytes ++ piece) all (types s'.types))
 Feeds stands trees means most s s' items bytes piece given (Err fault.Failed) = ⊥
 
 -- what finishing answers: nothing has changed at the end of a stream, else the bytes end within an item

@@ -1,6 +1,6 @@
 //! What follows the type number of a body: a value, or the description of a type.
 
-ghost use Rattle.std.specs.Prelude.{◌≡◌, ℕ, ◌+◌, ◌<◌, ◌≤◌, ◌^◌, ◌++◌, ◌∷◌, [], List, OnOk, IfOk, IfErr, MatchResult};
+ghost use Rattle.std.specs.Prelude.{◌≡◌, ℕ, ◌+◌, ◌<◌, ◌≤◌, ◌^◌, ◌++◌, ◌∷◌, [], List, OnOk, OnErr, IfOk, IfErr, MatchResult};
 ghost use Rattle.gob_types.specs.Base.{base_table, wire_type};
 ghost use Rattle.gob_types.specs.Defined.{types, Admits};
 ghost use Rattle.gob_types.specs.Definable.{IsDefinable};
@@ -68,6 +68,7 @@ pub(crate) fn take_description<B: Builder>(
     ensures read { (limit : ℕ) (z : List ℕ) → Stands (types table.old) wire_type limit (size rest) ⟦<TreeBuilder as Builder>⟧.stands reader.run z
         → ReadsDescription ⟦<TreeBuilder as Builder>⟧.stands (types table.old) id limit rest z piece.now (types table.new) result }
     ensures most { table.new.most ≡ table.old.most }
+    ensures unchanged { OnErr result (table.new ≡ table.old) }
 {
     match reader.push(alloc, table, piece) {
         Ok(Progress::More) => Ok(Stepped {
@@ -109,6 +110,7 @@ fn define(
     requires admitted { Admits table.old id }
     ensures defines { Defines rest id (view described.now) (types table.old) (types table.new) result }
     ensures most { table.new.most ≡ table.old.most }
+    ensures unchanged { OnErr result (table.new ≡ table.old) }
 {
     let shape = match shape_from(alloc, id, described) {
         Ok(shape) => shape,

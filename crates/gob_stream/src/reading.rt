@@ -109,6 +109,7 @@ impl<B: Builder> Reading<B> {
         ensures between { IfOk result (λ step. IfSome step.item (λ _. self.new.stage ≡ Stage.Count self.new.taken [])) }
         ensures usable { IsUsable B.stands ⟦<TreeBuilder as Builder>⟧.stands B.DEPTH self.new }
         ensures failed { OnErr result (self.new.stage ≡ Stage.Failed) }
+        ensures types { OnErr result (self.new.types ≡ self.old.types) }
         ensures limits { self.new.limits ≡ self.old.limits }
     {
         let stage = mem::replace(&mut self.stage, Stage::Failed);
@@ -139,6 +140,7 @@ impl<B: Builder> Reading<B> {
         ensures memory { IfErr result (λ fault. fault ≡ Fault.Memory) }
         ensures as_before { OnErr result (out.new.items ≡ out.old.items) }
         ensures failed { OnErr result (self.new.stage ≡ Stage.Failed) }
+        ensures types { self.new.types ≡ self.old.types }
         ensures limits { self.new.limits ≡ self.old.limits }
     {
         if out.push(item).is_err() {
@@ -157,6 +159,7 @@ impl<B: Builder> Reading<B> {
         ensures usable { IsUsable B.stands ⟦<TreeBuilder as Builder>⟧.stands B.DEPTH self.new }
         ensures failed { OnErr result (self.new.stage ≡ Stage.Failed) }
         ensures stays { self.old.stage ≡ Stage.Failed → (result ≡ Err Fault.Failed) × (self.new ≡ self.old) }
+        ensures types { self.new.types ≡ self.old.types }
         ensures limits { self.new.limits ≡ self.old.limits }
         ensures taken { self.new.taken ≡ self.old.taken }
     {
@@ -209,6 +212,7 @@ fn take_awaited<B: Builder>(
     ensures whole { length piece.now ≤ wanted_in stage taken → IfOk result (λ stepped. stepped.used ≡ length piece.now) }
     ensures failed { stage ≡ Stage.Failed → result ≡ Err Fault.Failed }
     ensures most { table.new.most ≡ table.old.most }
+    ensures unchanged { OnErr result (table.new ≡ table.old) }
     ensures limits { AreLimits limits }
 {
     match stage {

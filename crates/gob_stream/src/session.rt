@@ -75,6 +75,7 @@ impl<B: Builder> Session<B> {
             → Finishes B.DEPTH self.old.reading self.new.reading items bytes result }
         ensures failed { OnErr result (self.new.reading.stage ≡ Stage.Failed) }
         ensures stays { self.old.reading.stage ≡ Stage.Failed → (result ≡ Err Fault.Failed) × (self.new.reading ≡ self.old.reading) }
+        ensures types { self.new.reading.types ≡ self.old.reading.types }
         ensures limits { self.new.reading.limits ≡ self.old.reading.limits }
         ensures usable { IsUsable B.stands ⟦<TreeBuilder as Builder>⟧.stands B.DEPTH self.new.reading }
     {

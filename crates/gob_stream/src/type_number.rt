@@ -1,6 +1,6 @@
 //! The type number at which a body begins.
 
-ghost use Rattle.std.specs.Prelude.{◌≡◌, ℕ, ◌+◌, ◌<◌, ◌≤◌, ◌++◌, [], List, length, IfOk, OnOk, min, pos, negsuc};
+ghost use Rattle.std.specs.Prelude.{◌≡◌, ℕ, ◌+◌, ◌<◌, ◌≤◌, ◌++◌, [], List, length, IfOk, OnOk, OnErr, min, pos, negsuc};
 ghost use Rattle.gob_num.specs.Signed.{IsSigned};
 ghost use Rattle.gob_num.specs.Unsigned.{IsUnsigned, IsUnsignedFront};
 ghost use Rattle.gob_types.specs.Base.{wire_type};
@@ -49,6 +49,7 @@ pub(crate) fn take_type_number<B: Builder>(
         → StepsOn B.stands ⟦<TreeBuilder as Builder>⟧.stands B.means (no_deeper B.DEPTH limits) (types table.old) offset (c ++ number) piece.now (types table.new) result }
     ensures some { IfOk result (λ stepped. 0 < stepped.used) }
     ensures most { table.new.most ≡ table.old.most }
+    ensures unchanged { OnErr result (table.new ≡ table.old) }
 {
     let room = (body.end - taken).min(piece.len() as u64) as usize;
     match number.take(&piece[..room]) {
@@ -121,6 +122,7 @@ fn begin_rest<B: Builder>(
     ensures read { (offset m : ℕ) (c a : List ℕ) (body : Extent) → IsCount (no_deeper B.DEPTH limits) offset m c body → body.begin ≡ place → IsUnsigned number a → IsRest body a rest
         → StepsOn B.stands ⟦<TreeBuilder as Builder>⟧.stands B.means (no_deeper B.DEPTH limits) (types table.old) offset (c ++ a) piece.now (types table.new) result }
     ensures most { table.new.most ≡ table.old.most }
+    ensures unchanged { OnErr result (table.new ≡ table.old) }
 {
     let number = to_signed(number);
     let id = TypeId(number.unsigned_abs());
@@ -149,6 +151,7 @@ fn begin_description<B: Builder>(
         → id.0 ≡ n + 1 → IsSigned (negsuc n) a → IsRest body a rest
         → StepsOn B.stands ⟦<TreeBuilder as Builder>⟧.stands B.means L (types table.old) offset (c ++ a) piece.now (types table.new) result }
     ensures most { table.new.most ≡ table.old.most }
+    ensures unchanged { OnErr result (table.new ≡ table.old) }
 {
     match admit(table, id, place, rest.begin) {
         Ok(()) => {}
