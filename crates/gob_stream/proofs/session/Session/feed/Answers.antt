@@ -9,5 +9,5 @@ use Rattle.gob_stream.proofs.session.Session.feed.Goals.{in-Failed, in_default}
 pub returns-then-matches-clause-fed : goal.returns-then-matches-clause-fed
 returns-then-matches-clause-fed g c =
     let failed : c.args.self.now.reading.stage ≡ stage.Failed =
-        elim c.match-matches.branch [ in-Failed w ↦ w.in-Failed.is | in_default w ↦ let e = w.matches-is in let t = c.if-matches.true in absurd (cc) ] in
+    elim c.match-matches.branch [ in-Failed w ↦ w.in-Failed.is | in_default w ↦ let e = w.matches-is in let t = c.if-matches.true in absurd (cc) ] in
     record { given = []; appended = sym (append-nil c.args.out.now.items); holds = λ items bytes a. absurd (parts failed a.stage) }
