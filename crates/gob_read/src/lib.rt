@@ -32,6 +32,8 @@ mod frame;
 pub mod laws;
 mod laws_builder;
 mod laws_reader;
+#[cfg(test)]
+mod memory_tests;
 mod open;
 mod part;
 mod reader;

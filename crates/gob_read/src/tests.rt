@@ -1,23 +1,28 @@
 //! Bodies of each shape, whole and in pieces, and bodies that are refused.
+ghost use Rattle.std.specs.Prelude.{◌≡◌, None};
+
 use super::*;
-use gob_types::{Field, Fields, Kind, Marshal, Name, Reason, Shape, Shapes, Table, TypeId};
-use gob_value::{Value, spell};
+use gob_num::Memory;
+use gob_types::{
+    Field, Fields, Kind, Marshal, Name, NotReady, Reason, Shape, Shapes, Table, TypeId,
+};
+use gob_value::{SpellFault, Value, spell};
 use std::alloc::{AllocError, Global};
 use std::test::*;
 
 const POINT: u64 = 65; // struct { int, int }
 
-const NODE: u64 = 66; // struct { int, NODE }
+pub(crate) const NODE: u64 = 66; // struct { int, NODE }
 
 const PAIR: u64 = 67; // [2]int
 
-const NEST: u64 = 68; // []NEST
+pub(crate) const NEST: u64 = 68; // []NEST
 
-const AGES: u64 = 69; // map[string]int
+pub(crate) const AGES: u64 = 69; // map[string]int
 
 const STAMP: u64 = 70; // opaque
 
-const BOTH: u64 = 71; // map[NEST]POINT
+pub(crate) const BOTH: u64 = 71; // map[NEST]POINT
 
 // Type, body, parts and raw bytes.
 const ACCEPTED: [(u64, &[u8], u64, u64); 24] = [
@@ -164,8 +169,9 @@ fn defines_struct(
     ))
 }
 
-fn filled(alloc: Global) -> Result<Table, Fail> {
-    let mut table = Table::new(alloc, 10000).or(Err("memory"))?;
+// The table of these types. Each of them may be defined, so a definition that isn't taken lacks memory.
+pub(crate) fn filled(alloc: Global) -> Result<Table, Memory> {
+    let mut table = Table::new(alloc, 10000)?;
     let mut ok = defines_struct(alloc, &mut table, POINT, 2)?;
     ok = defines_struct(alloc, &mut table, NODE, NODE)? && ok;
     let int = TypeId(2);
@@ -193,16 +199,12 @@ fn filled(alloc: Global) -> Result<Table, Fail> {
             elem: point,
         },
     ) && ok;
-    if ok {
-        Ok(table)
-    } else {
-        Err("definition".into())
-    }
+    if ok { Ok(table) } else { Err(Memory) }
 }
 
 // What comes of a body of which these bytes come in a first piece and then others of these lengths, if the end comes with
-// the last of them.
-fn read<B: Builder>(
+// the last of them. Behind it the reader has ended.
+pub(crate) fn read<B: Builder>(
     alloc: Global,
     table: &Table,
     id: u64,
@@ -212,9 +214,11 @@ fn read<B: Builder>(
     first: usize,
     then: usize,
 ) -> Result<Option<B::Out>, Stop> {
-    let Ok(()) = table.ready(alloc, TypeId(id)) else {
-        return Ok(None);
-    };
+    match table.ready(alloc, TypeId(id)) {
+        Ok(()) => {}
+        Err(NotReady::Memory) => return Err(Stop::Memory),
+        Err(_) => return Ok(None),
+    }
     let mut reader: BodyReader<B> = BodyReader::new(alloc, TypeId(id), length, depth)?;
     let mut taken = 0usize;
     'pieces: for _ in 0..=bytes.len() {
@@ -228,21 +232,48 @@ fn read<B: Builder>(
                 taken = end;
             }
             Ok(Progress::Done { out, used }) => {
-                if bytes.len() - taken == used && reader.held() == 0 {
+                if bytes.len() - taken == used && has_ended(alloc, table, &mut reader) {
                     return Ok(Some(out));
                 }
                 return Ok(None);
             }
-            Err(stop) => return Err(stop),
+            Err(stop) => {
+                if has_ended(alloc, table, &mut reader) {
+                    return Err(stop);
+                }
+                return Ok(None);
+            }
         }
     }
     Ok(None)
 }
 
-fn is_respelled(alloc: Global, table: &Table, id: u64, value: &Value, bytes: &[u8]) -> bool {
+// Whether nothing is held, and pushes answer no more than that the reader has ended.
+fn has_ended<B: Builder>(alloc: Global, table: &Table, reader: &mut BodyReader<B>) -> bool
+    requires { reader.old.run ≡ None }
+{
+    let Err(first) = reader.push(alloc, table, b"") else {
+        return false;
+    };
+    let Err(second) = reader.push(alloc, table, b"\x01") else {
+        return false;
+    };
+    first == Stop::Failed && second == Stop::Failed && reader.held() == 0
+}
+
+// Whether the value is spelled as the body, or not at all for want of memory.
+pub(crate) fn is_respelled(
+    alloc: Global,
+    table: &Table,
+    id: u64,
+    value: &Value,
+    bytes: &[u8],
+) -> bool {
     let mut out = Vec::new(alloc);
-    let answer = spell(alloc, table, TypeId(id), value, 1000, &mut out);
-    answer == Ok(()) && bytes.ends_with(&out) && out.len() + 1 >= bytes.len()
+    match spell(alloc, table, TypeId(id), value, 1000, &mut out) {
+        Ok(()) => bytes.ends_with(&out) && out.len() + 1 >= bytes.len(),
+        Err(fault) => fault == SpellFault::Memory,
+    }
 }
 
 // Whether both builders read the body in pieces of these lengths.

@@ -8,7 +8,7 @@ pub loop-piece-init : goal.loop-piece-init
 loop-piece-init g c = record {
   next = rw (c.into_iter-piece-iterator.ensures.into_iter_gives, c.chunks-piece-items.ensures.size) (omega arith);
   finite = tt;
-  pushed = record { limit = _; announced = _; bytes = _; after = c.in_ok-reader.ensures (types c.args.types.now) c.in-Ok.ensures };
+  pushed = record { limit = _; announced = _; bytes = _; after = c.in_ok-reader.ensures (types c.args.types.now) c.in-Ok.ensures.judged };
 }
 
 pub push-requires : goal.push-requires
