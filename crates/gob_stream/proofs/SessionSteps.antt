@@ -1,5 +1,5 @@
 -- Reading the next item, piece by piece.
-use Rattle.std.proofs.Common.{◌≡◌, ◌≢◌, ℕ, zero, suc, ◌+◌, ◌-◌, ◌<◌, ◌≤◌, ◌⊎◌, inl, inr, List, [], ◌∷◌, ◌++◌, length, take, Option, Some, None, Result, Ok, Err, arith, refl, sym, ap, ◌∙◌, subst, append_assoc, length-append, true, false}
+use Rattle.std.proofs.Common.{◌≡◌, ◌≢◌, ℕ, ◌+◌, ◌-◌, ◌<◌, ◌≤◌, ◌⊎◌, inl, inr, List, [], ◌∷◌, ◌++◌, length, take, Option, Some, None, Result, Ok, Err, arith, refl, sym, ap, ◌∙◌, subst, append_assoc, length-append, true, false}
 use Rattle.std.proofs.lemmas.List.{append-nil, length-take, take-append-le}
 use Rattle.std.specs.Prelude.{IfSome}
 use Rattle.std.specs.Result.{IsErrAnd}
@@ -26,15 +26,15 @@ use Rattle.gob_stream.specs.declared.stage.Stage.TheVariants as stage
 use Rattle.gob_stream.specs.Bounds.{Bounds}
 use Rattle.gob_stream.specs.Devices.{counts_up}
 use Rattle.gob_stream.specs.Item.{StreamItem, ItemMeans}
-use Rattle.gob_stream.specs.Stream.{Counted, counted, Continues, no_more, and_then, Stream}
+use Rattle.gob_stream.specs.Stream.{counted, Continues, no_more, and_then, Stream}
 use Rattle.gob_stream.specs.Outcome.{BeginsWith, GivesItems, RefusesNext, EndsSo, at_the_end, Outcome, the_end, refused}
 use Rattle.gob_stream.specs.Standing.{Standing, StandsIn, in_count, in_type_number, in_value, in_description, StandsAfter, IsUsable, has_failed, stands_after, no_deeper}
-use Rattle.gob_stream.specs.Reading.{Taken, SomeTaken, IsShown, IsNoFurther, up_to_the_last_shown, within_the_item, EndsInItem, GivesNext, RefusesNextItem, shown, ended, StopsNext, ReadsNext, TakesNext, Finishes, CountsReads}
+use Rattle.gob_stream.specs.Reading.{Taken, SomeTaken, IsShown, IsNoFurther, up_to_the_last_shown, within_the_item, EndsInItem, GivesNext, shown, ended, StopsNext, ReadsNext, TakesNext, Finishes, CountsReads}
 use Rattle.gob_stream.specs.ReadParts.{Advances, AdvancesOver, over_some, over_item, wanted_in}
 use Rattle.gob_stream.proofs.OutcomeLaws.{one_front}
 use Rattle.gob_stream.proofs.ShownLaws.{next_seen}
 use Rattle.gob_stream.proofs.StayLaws.{refused_behind}
-use Rattle.gob_stream.proofs.ValueSteps.{Lies, lies, three}
+use Rattle.gob_stream.proofs.ValueSteps.{lies, three}
 use Rattle.gob_stream.proofs.UnderWayLaws.{refused_later, after_gives}
 
 -- the tellings that a builder of trees stands for
@@ -418,5 +418,8 @@ stands_sound (in_type_number k f w) e = cc
 stands_sound (in_value k s r p b) e = cc
 stands_sound (in_description k i s r p b) e = cc
 
+pub sound_after : {X O : Type 0} {stands : Standing X} {trees : Standing TreeBuilder} {most : ℕ} {s : Reading X O} {items : List StreamItem} {bytes : List ℕ} → StandsAfter stands trees most s items bytes → IsSound s
+sound_after a = stands_sound a.stage
+
 pub still_sound : {X O : Type 0} {stands : Standing X} {trees : Standing TreeBuilder} {most : ℕ} {s s' : Reading X O} {old now : Option (List ℕ)} → StandsSomewhere stands trees most s → StoodOn stands trees most s s' old now → IsSound s'
-still_sound w q = stands_sound (q.each w.items w.bytes w.after).holds.stage
+still_sound w q = sound_after (q.each w.items w.bytes w.after).holds

@@ -1,5 +1,5 @@
 -- Reading all items of a stream.
-use Rattle.std.proofs.Common.{◌≡◌, ◌≢◌, ℕ, ◌+◌, ◌-◌, ◌<◌, ◌≤◌, min, List, [], ◌∷◌, ◌++◌, length, take, Option, Some, None, Result, Ok, Err, arith, refl, sym, ap, ◌∙◌, subst, append_assoc}
+use Rattle.std.proofs.Common.{◌≡◌, ℕ, ◌-◌, ◌<◌, ◌≤◌, min, List, [], ◌∷◌, ◌++◌, take, Option, Some, None, Ok, Err, arith, refl, sym, ap, ◌∙◌, subst, append_assoc}
 use Rattle.std.proofs.lemmas.List.{append-nil, take-append-le}
 use Rattle.gob_types.specs.Table.{Table}
 use Rattle.gob_types.specs.Base.{base_table}
@@ -19,7 +19,7 @@ use Rattle.gob_stream.specs.Item.{StreamItem, ItemMeans, means_definition, means
 use Rattle.gob_stream.specs.Outcome.{BeginsWith, GivesItems, Outcome, EndsSo, at_the_end, the_end, refused}
 use Rattle.gob_stream.specs.Stream.{Stream, no_more}
 use Rattle.gob_stream.specs.Standing.{Standing, StandsAfter, no_deeper}
-use Rattle.gob_stream.specs.Reading.{Taken, SomeTaken, Given, IsShown, GivesNext, RefusesNextItem, shown, ended, StopsNext, ReadsNext, TakesNext, ReadsStream}
+use Rattle.gob_stream.specs.Reading.{SomeTaken, Given, IsShown, GivesNext, RefusesNextItem, shown, ended, StopsNext, ReadsNext, TakesNext, ReadsStream}
 use Rattle.gob_stream.proofs.StayLaws.{shown_there, shown_refusal_stays}
 
 -- ---- items that were given

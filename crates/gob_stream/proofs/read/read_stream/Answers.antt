@@ -1,9 +1,9 @@
-use Rattle.std.proofs.Common.{◌≡◌, ◌++◌, ◌∷◌, [], Err, arith, refl, sym, ap, ◌∙◌}
+use Rattle.std.proofs.Common.{◌≡◌, ◌++◌, ◌∷◌, [], arith, refl, ap, ◌∙◌}
 use Rattle.std.proofs.lemmas.Grind.{common_steps}
 use Rattle.gob_stream.specs.Item.{item_views}
 use Rattle.gob_stream.specs.Standing.{no_deeper}
 use Rattle.gob_stream.specs.Reading.{ReadsStream}
-use Rattle.gob_stream.proofs.SessionSteps.{passed_on, told_trees, known_taken, stood_first}
+use Rattle.gob_stream.proofs.SessionSteps.{passed_on, known_taken, stood_first}
 use Rattle.gob_stream.proofs.StreamReadSteps.{given_none, given_as, given_more, given_still, tree_limits, begins_empty, stands_begins, stream_stops, stands_next, stream_ends, item_taken}
 use Rattle.gob_stream.proofs.read.read_stream.Goals as goal
 

@@ -1,4 +1,3 @@
-use Rattle.std.proofs.lemmas.Result.{IfOk-weaker}
 use Rattle.gob_stream.specs.Standing.{stands_after}
 use Rattle.gob_stream.proofs.session.Session.new.Goals as goal
 
