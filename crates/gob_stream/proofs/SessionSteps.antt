@@ -1,7 +1,7 @@
 -- Reading the next item, piece by piece.
 use Rattle.std.proofs.Common.{◌≡◌, ◌≢◌, ℕ, ◌+◌, ◌-◌, ◌<◌, ◌≤◌, ◌⊎◌, inl, inr, List, [], ◌∷◌, ◌++◌, length, take, Option, Some, None, Result, Ok, Err, arith, refl, sym, ap, ◌∙◌, subst, append_assoc, length-append, true, false}
 use Rattle.std.proofs.lemmas.List.{append-nil, length-take, take-append-le}
-use Rattle.std.specs.Prelude.{IfSome}
+use Rattle.std.specs.Prelude.{IfSome, OnErr}
 use Rattle.std.specs.Result.{IsErrAnd}
 use Rattle.std.specs.Option.{is_some}
 use Rattle.std.specs.Io.KnownBytes.{Consumes, Keeps, IsAtEnd}
@@ -107,6 +107,14 @@ stood_first {stands = stands} {trees = trees} {most = most} {s = s} now = record
   each = λ items bytes a. record { bytes = []; consumed = Consumes-nil now; holds = subst (λ b. StandsAfter stands trees most s items b) (sym (append-nil bytes)) a };
 }
 
+-- where no item was given, the types are those that they were
+pub types_stay : {X O : Type 0} {stands : Standing X} {trees : Standing TreeBuilder} {most : ℕ} {s s' : Reading X O} {old now : Option (List ℕ)} → s'.limits ≡ s.limits
+    → StandsSomewhere stands trees most s → StoodOn stands trees most s s' old now → types s'.types ≡ types s.types
+types_stay {most = most} {s = s} {s' = s'} l w p =
+    let a = w.after in let b = p.each w.items w.bytes w.after in let c = b.holds in
+    let stream = subst (λ L. Stream base_table (no_deeper most L) w.items c.front (types s'.types)) l c.stream in
+    (one_front c.under_way (a.under_way ++ b.bytes) stream a.stream (sym c.whole ∙ (ap (λ x. x ++ b.bytes) a.whole ∙ append_assoc a.front a.under_way b.bytes))).table
+
 -- ---- how much can be taken
 -- a stream keeps to its limit
 continues_within : {base : Table} {L : Bounds} {T U : Table} {o : ℕ} {items : List StreamItem} {b : List ℕ} → Continues base L T o items b U → o ≤ L.stream → o + length b ≤ L.stream
@@ -202,6 +210,10 @@ begins_more {s = s} piece a =
 pub passed_on : {A E : Type 0} (Q : Result A E → Type 0) (r : Result A E) (e : E) → IsErrAnd r (λ y. y ≡ e) → Q (Err e) → Q r
 passed_on Q (Ok x) e p q = absurd p
 passed_on Q (Err y) e p q = subst (λ e. Q (Err e)) (sym p) q
+
+pub on_err : {A E P : Type 0} (r : Result A E) → P → OnErr r P
+on_err (Ok x) p = tt
+on_err (Err e) p = p
 
 taken_as : {rest : List ℕ} {now : Option (List ℕ)} {P Q : List ℕ → Type 0} → ((x : List ℕ) → P x → Q x) → SomeTaken rest now P → SomeTaken rest now Q
 taken_as f p = record { bytes = p.bytes; taken = p.taken; holds = f p.bytes p.holds }

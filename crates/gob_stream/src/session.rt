@@ -24,6 +24,7 @@ pub struct Session<B: Builder> {
 impl<B: Builder> Session<B> {
     ghost use Rattle.std.specs.Prelude.{◌≡◌, ℕ, List, [], Err, Some, IfOk, OnErr};
     ghost use Rattle.gob_stream.specs.Bounds.{AreLimits};
+    ghost use Rattle.gob_types.specs.Defined.{types};
     ghost use Rattle.gob_stream.specs.Item.{StreamItem};
     ghost use Rattle.gob_stream.specs.Standing.{StandsAfter, IsUsable};
     ghost use Rattle.gob_stream.specs.Reading.{Given, Feeds, Finishes, ReadsNext, CountsReads, TakesNext};
@@ -107,6 +108,7 @@ impl<B: Builder> Session<B> {
         ensures stays { self.old.reading.stage ≡ Stage.Failed
             → (result ≡ Err Fault.Failed) × (self.new.reading ≡ self.old.reading) × (input.new ≡ input.old) }
         ensures usable { IsUsable B.stands ⟦<TreeBuilder as Builder>⟧.stands B.DEPTH self.new.reading }
+        ensures types { OnErr result (types self.new.reading.types ≡ types self.old.reading.types) }
         ensures limits { self.new.reading.limits ≡ self.old.reading.limits }
         ensures counted { CountsReads input.old.failures input.new.failures result }
         ensures taken { TakesNext self.old.reading self.new.reading input.old.taken input.new.taken result }

@@ -1,8 +1,9 @@
 use Rattle.std.proofs.Common.{◌<◌, ◌++◌, length, take, drop, Ok, Err, inl, inr, arith, refl, sym, ap, ◌∙◌}
 use Rattle.std.proofs.lemmas.Grind.{common_steps}
-use Rattle.gob_stream.specs.Reading.{ReadsNext, TakesNext}
+use Rattle.gob_types.specs.Defined.{types}
+use Rattle.gob_stream.specs.Reading.{ReadsNext, CountsReads, TakesNext}
 use Rattle.gob_stream.specs.ReadParts.{wanted_in}
-use Rattle.gob_stream.proofs.SessionSteps.{IsSound, told_trees, consumed_nothing, all_taken, somewhere, stood_first, room_of, passed_on, IsRead, piece_length, piece_consumed, stepped, stood_before, step_stops, read_stops, end_stops, counts_none, step_unread, end_unread, nothing_more, step_gives, reads_item, gives_taken, takes_item, step_taken, item_within, no_less, some_there, none_there, stood_further, still_sound}
+use Rattle.gob_stream.proofs.SessionSteps.{IsSound, told_trees, types_stay, on_err, consumed_nothing, all_taken, somewhere, stood_first, room_of, passed_on, IsRead, piece_length, piece_consumed, stepped, stood_before, step_stops, read_stops, end_stops, counts_none, step_unread, end_unread, nothing_more, step_gives, reads_item, gives_taken, takes_item, step_taken, item_within, no_less, some_there, none_there, stood_further, still_sound}
 use Rattle.gob_stream.proofs.session.Session.read_item.Goals as goal
 use Rattle.gob_stream.proofs.session.Session.read_item.Goals.{in-Failed, in_default}
 
@@ -187,3 +188,16 @@ returns-in-Err-clause-taken g c =
     let limit = ap (λ L. L.stream) c.pieces.invariant.limits in
     let less = no_less c.pieces.invariant.grown in
     omega (arith, room.some, room.within, c.in-Err.ensures.counted.0)
+
+pub returns-in_err-finish-in-Ok-eq0-clause-types : goal.returns-in_err-finish-in-Ok-eq0-clause-types
+returns-in_err-finish-in-Ok-eq0-clause-types g c =
+    on_err c.from_residual.result
+    (ap types c.finish.ensures.types ∙ types_stay c.pieces.invariant.limits c.pieces.invariant.began c.pieces.invariant.stood)
+
+pub returns-in_err-step-in-Ok-clause-types : goal.returns-in_err-step-in-Ok-clause-types
+returns-in_err-step-in-Ok-clause-types g c =
+    on_err c.from_residual-in_err-step-in-Ok.result
+    (ap types c.in_err-step-in-Ok.ensures.types ∙ types_stay c.pieces.invariant.limits c.pieces.invariant.began c.pieces.invariant.stood)
+
+pub returns-in-Err-clause-types : goal.returns-in-Err-clause-types
+returns-in-Err-clause-types g c = types_stay c.pieces.invariant.limits c.pieces.invariant.began c.pieces.invariant.stood
