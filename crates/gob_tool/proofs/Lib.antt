@@ -2,4 +2,7 @@ pub mod TextLaws
 pub mod PrintLaws
 pub mod WordLaws
 pub mod FrontLaws
+pub mod LinesStay
+pub mod BoundLaws
+pub mod GatherLaws
 pub mod ShowLaws

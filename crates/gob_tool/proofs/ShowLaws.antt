@@ -1,208 +1,399 @@
--- How a run that gathers lines goes on from item to item, and how it ends.
-use Rattle.std.proofs.Common.{◌≡◌, ◌≢◌, ℕ, arith, List, [], ◌∷◌, ◌++◌, Option, Some, None, Result, Ok, Err, ◌∙◌, ap, sym, subst, refl, append_assoc, append-nil}
+-- How a run that gathers lines goes on from piece to piece, and how it ends.
+use Rattle.std.proofs.Common.{◌≡◌, ◌≢◌, ℕ, ◌+◌, ◌-◌, ◌<◌, arith, length-append, List, [], ◌++◌, length, take, Option, Some, None, Result, Ok, Err, ◌∙◌, ap, sym, subst, refl, append_assoc, append-nil}
+use Rattle.std.proofs.lemmas.List.{take-append-le}
 use Rattle.std.specs.Result.{IsErrAnd}
-use Rattle.std.specs.Io.KnownBytes.{Appends, Keeps}
-use Rattle.std.proofs.KnownBytes.{Appends-nil, Appends-trans, Appends-kept}
+use Rattle.std.specs.Io.KnownBytes.{Appends, Keeps, Consumes, IsAtEnd}
+use Rattle.std.proofs.KnownBytes.{Appends-nil, Appends-trans, Consumes-nil, Consumes-trans, Consumes-kept}
+use Rattle.gob_types.specs.declared.reason.Reason.TheVariants as reason
 use Rattle.gob_types.specs.Table.{Table}
 use Rattle.gob_types.specs.Base.{base_table}
+use Rattle.gob_types.specs.Defined.{types}
 use Rattle.gob_value.specs.declared.value.Value.{Value}
+use Rattle.gob_read.specs.contracts.tree_builder.TreeBuilderBuilder.TheImpl as tree_builder
+use Rattle.gob_read.specs.declared.tree_builder.TreeBuilder.{TreeBuilder}
+use Rattle.gob_stream.specs.declared.fault.Refusal.{Refusal}
 use Rattle.gob_stream.specs.declared.fault.Fault.{Fault}
 use Rattle.gob_stream.specs.declared.fault.Fault.TheVariants as reading
 use Rattle.gob_stream.specs.declared.item.Item as declared
-use Rattle.gob_stream.specs.declared.session.Session.{Session}
-use Rattle.gob_stream.specs.Bounds.{Bounds}
-use Rattle.gob_stream.specs.Item.{StreamItem, item_view}
-use Rattle.gob_stream.specs.Stream.{Stream, IsStream, no_more}
-use Rattle.gob_stream.specs.Outcome.{BeginsWith, GivesItems}
-use Rattle.gob_stream.specs.Reading.{StandsAfter, ReadsNext, SomeTaken, Taken}
-use Rattle.gob_stream.specs.Readable.{readable_types, readable}
-use Rattle.gob_stream.proofs.StreamLaws.{more_items}
+use Rattle.gob_stream.specs.declared.reading.Reading.{Reading}
+use Rattle.gob_stream.specs.Bounds.{Bounds, greatest_depth}
+use Rattle.gob_stream.specs.Item.{StreamItem, item_views, ItemsMean, mean_none, mean_more, means_definition, means_value}
+use Rattle.gob_stream.specs.Stream.{Stream, no_more}
+use Rattle.gob_stream.specs.Outcome.{BeginsWith, the_end, EndsSo, at_the_end}
+use Rattle.gob_stream.specs.Reading.{GivesOn, SomeTaken, Taken, HasTypesBehind, HasTypesBeyond, IsShown, Feeds, Finishes}
+use Rattle.gob_stream.proofs.OutcomeLaws.{one_front}
+use Rattle.gob_stream.proofs.StayLaws.{shown_there, shown_refusal_stays}
+use Rattle.gob_stream.proofs.UnderWayLaws.{after_gives}
 use Rattle.gob_tool.specs.declared.fault.ToolFault.{ToolFault}
 use Rattle.gob_tool.specs.declared.fault.ToolFault.TheVariants as fault
-use Rattle.gob_tool.specs.Line.{line, lines}
+use Rattle.gob_tool.specs.Line.{lines}
 use Rattle.gob_tool.specs.Fault.{reading_fault}
-use Rattle.gob_tool.specs.Showing.{EndsWhole, Gives, Begins, Runs, AppendsFront, WroteLines, WroteFront, Shows}
-use Rattle.gob_tool.specs.Gathering.{Gathered, StandsBehind, PassesSome}
+use Rattle.gob_tool.specs.Showing.{EndsWhole, IsRefused, Gives, Begins, Runs, AppendsFront}
+use Rattle.gob_tool.specs.Gathering.{Gathered, GaveItems, StandsBehind, StandsIn, PassesSome, Gathers, TakesPiece, CountsOnlyReads, within_trees}
+use Rattle.gob_tool.proofs.LinesStay.{lines_stay, first_items}
+use Rattle.gob_tool.proofs.BoundLaws.{stands_within}
+use Rattle.gob_tool.proofs.GatherLaws.{lines_append}
 
-pub lines_grown : (T : Table) (items : List StreamItem) (i : StreamItem) → lines T (items ++ i ∷ []) ≡ lines T items ++ line T i
-lines_grown T [] i = append-nil (line T i)
-lines_grown T (j ∷ items) i = ap (λ (l : List ℕ). line T j ++ l) (lines_grown T items i) ∙ sym (append_assoc (line T j) (lines T items) (line T i))
+-- ---- lines of the items of a stream
+-- bytes begin with a stream and with a longer one: the lines of the first items are the same by the types behind either
+pub same_lines : {L : Bounds} {U V : Table} {f g : List ℕ} (items others : List StreamItem) (x y : List ℕ) → Stream base_table L items f U → Stream base_table L (items ++ others) g V → f ++ x ≡ g ++ y
+    → lines V items ≡ lines U items
+same_lines items others x y p q e =
+    let t = first_items items others q in
+    let one = one_front x (t.rest ++ y) p t.stream (e ∙ ap (λ (l : List ℕ). l ++ y) t.whole ∙ append_assoc t.front t.rest y) in
+    lines_stay t.stream t.keeps ∙ ap (λ (T : Table). lines T items) (sym one.table)
 
--- a new session stands behind nothing
-pub stands_first : (s : Session) (bytes : List ℕ) (now out : Option (List ℕ)) (gathered : List ℕ) → StandsAfter s [] [] → gathered ≡ [] → now ≡ Some bytes → StandsBehind s bytes now out out gathered
-stands_first s bytes now out gathered stands none known = record {
-  items = [];
+pub lines_once : {L : Bounds} {U V : Table} {f g : List ℕ} (items : List StreamItem) (x y : List ℕ) → Stream base_table L items f U → Stream base_table L items g V → f ++ x ≡ g ++ y
+    → lines V items ≡ lines U items
+lines_once items x y p q e = let one = one_front x y p q e in ap (λ (T : Table). lines T items) (sym one.table)
+
+-- the bytes begin with the stream of the items and perhaps of more, and these are the types behind all of them
+record TypesBehind (L : Bounds) (bytes : List ℕ) (items : List StreamItem) (T : Table) : Type 0 where
+  more : List StreamItem
+  front : List ℕ
+  rest : List ℕ
+  stream : Stream base_table L (items ++ more) front T
+  whole : bytes ≡ front ++ rest
+
+types_behind : {L : Bounds} {bytes : List ℕ} {items : List StreamItem} {T : Table} → HasTypesBehind L bytes items T → TypesBehind L bytes items T
+types_behind {L = L} {items = items} {T = T} t = record {
+  more = [];
+  front = t.front;
+  rest = t.rest;
+  stream = subst (λ (l : List StreamItem). Stream base_table L l t.front T) (sym (append-nil items)) t.stream;
+  whole = t.whole;
+}
+
+types_beyond : {L : Bounds} {bytes : List ℕ} {items : List StreamItem} {T : Table} → HasTypesBeyond L bytes items T → TypesBehind L bytes items T
+types_beyond t = record { more = t.more; front = t.behind.front; rest = t.behind.rest; stream = t.behind.stream; whole = t.behind.whole }
+
+-- the lines by the types that are behind some items of a stream and more
+begins_lines : {L : Bounds} {bytes : List ℕ} {items : List StreamItem} {T : Table} → TypesBehind L bytes items T → (b : BeginsWith base_table L bytes items) → lines T items ≡ lines b.table items
+begins_lines {items = items} t b = same_lines items t.more b.rest t.rest b.stream t.stream (sym b.whole ∙ t.whole)
+
+-- the lines of what was given behind the others
+lines_given : (T : Table) (items : List StreamItem) (given : List (declared.Item Value)) (more : List StreamItem) → item_views given ≡ more → lines T items ++ lines T (item_views given) ≡ lines T (items ++ more)
+lines_given T items given more e = ap (λ (l : List StreamItem). lines T items ++ lines T l) e ∙ sym (lines_append T items more)
+
+-- ---- what goes out, and what is gathered
+gathered_grown : (old mid new : Option (List ℕ)) (gathered more after all : List ℕ) → Gathered old mid gathered all → PassesSome mid new (gathered ++ more) after → Gathered old new after (all ++ more)
+gathered_grown old mid new gathered more after all g p = record {
+  written = g.written ++ p.written;
+  out = Appends-trans old mid new g.written p.written g.out p.out;
+  whole = append_assoc g.written p.written after ∙ ap (λ (l : List ℕ). g.written ++ l) (sym p.whole) ∙ sym (append_assoc g.written gathered more) ∙ ap (λ (l : List ℕ). l ++ more) g.whole;
+}
+
+front_grown : (old mid new : Option (List ℕ)) (gathered more all : List ℕ) → Gathered old mid gathered all → AppendsFront mid new (gathered ++ more) → AppendsFront old new (all ++ more)
+front_grown old mid new gathered more all g f = record {
+  front = g.written ++ f.front;
+  rest = f.rest;
+  whole = ap (λ (l : List ℕ). l ++ more) (sym g.whole) ∙ append_assoc g.written gathered more ∙ ap (λ (l : List ℕ). g.written ++ l) f.whole ∙ sym (append_assoc g.written f.front f.rest);
+  out = Appends-trans old mid new g.written f.front g.out f.out;
+}
+
+pub front_out : (old mid new : Option (List ℕ)) (gathered all : List ℕ) → Gathered old mid gathered all → AppendsFront mid new gathered → AppendsFront old new all
+front_out old mid new gathered all g f =
+    subst (λ (l : List ℕ). AppendsFront old new l) (append-nil all) (front_grown old mid new gathered [] all g (subst (λ (l : List ℕ). AppendsFront mid new l) (sym (append-nil gathered)) f))
+
+pub all_out : (old mid new : Option (List ℕ)) (gathered all : List ℕ) → Gathered old mid gathered all → Appends mid new gathered → Appends old new all
+all_out old mid new gathered all g a = subst (λ (l : List ℕ). Appends old new l) g.whole (Appends-trans old mid new g.written gathered g.out a)
+
+pub whole_front : (old new : Option (List ℕ)) (all : List ℕ) → Appends old new all → AppendsFront old new all
+whole_front old new all a = record { front = all; rest = []; whole = sym (append-nil all); out = a }
+
+-- ---- a piece
+views_mean : {given : List (declared.Item Value)} {items : List StreamItem} → ItemsMean tree_builder.means-value.it given items → item_views given ≡ items
+views_mean mean_none = refl
+views_mean (mean_more means_definition more) = let rest = views_mean more in cc
+views_mean (mean_more (means_value m) more) = let rest = views_mean more in let one : _ ≡ _ = m in cc
+
+-- the types behind more items are behind the first of them and the others
+fewer : {L : Bounds} {bytes : List ℕ} {T : Table} (items left : List StreamItem) → TypesBehind L bytes (items ++ left) T → TypesBehind L bytes items T
+fewer {L = L} {T = T} items left t = record {
+  more = left ++ t.more;
+  front = t.front;
+  rest = t.rest;
+  stream = subst (λ (l : List StreamItem). Stream base_table L l t.front T) (append_assoc items left t.more) t.stream;
+  whole = t.whole;
+}
+
+-- some of the items of a stream, with what holds of their lines
+begins_at : {L : Bounds} {bytes : List ℕ} {items : List StreamItem} {T : Table} (P : List ℕ → Type 0) → TypesBehind L bytes items T → P (lines T items) → Begins L bytes P
+begins_at {L = L} {bytes = bytes} {items = items} P t h =
+    let f = first_items items t.more t.stream in
+    let b : BeginsWith base_table L bytes items =
+    record { front = f.front; rest = f.rest ++ t.rest; table = f.table; stream = f.stream; whole = t.whole ∙ ap (λ (l : List ℕ). l ++ t.rest) f.whole ∙ append_assoc f.front f.rest t.rest } in
+    record { items = items; begins = b; holds = subst P (begins_lines t b) h }
+
+-- how taking a piece ends at the error that a `?` returns
+pub piece_at : (L : Bounds) (s : Reading TreeBuilder Value) (bytes : List ℕ) (old new : Option (List ℕ)) (gathered : List ℕ) (r : Result (Unit {0}) ToolFault) (f : ToolFault) → IsErrAnd r (λ e. e ≡ f)
+    → TakesPiece L s bytes old new gathered (Err f) → TakesPiece L s bytes old new gathered r
+piece_at L s bytes old new gathered (Ok u) f e h = absurd e
+piece_at L s bytes old new gathered (Err g) f e h = subst (λ f. TakesPiece L s bytes old new gathered (Err f)) (sym e) h
+
+-- a reader took a piece and gave these items, while a run stood behind the bytes before
+module _ (s s' : Reading TreeBuilder Value) (bytes piece : List ℕ) (given : List (declared.Item Value)) (old mid new : Option (List ℕ)) (gathered after : List ℕ)
+    (same : s'.limits ≡ s.limits) (b : StandsBehind s bytes old mid gathered) where
+  -- wherever it stops, the types are those behind what it gave, and perhaps behind more
+  fed_types : (r : Result (Unit {0}) Fault) → Feeds tree_builder.stands-value.it tree_builder.stands-value.it tree_builder.means-value.it greatest_depth s s' b.items bytes piece given r
+      → GivesOn tree_builder.means-value.it given b.items (λ all. TypesBehind (within_trees s.limits) (bytes ++ piece) all (types s'.types))
+  fed_types (Ok u) f = record {
+    more = f.more;
+    mean = f.mean;
+    holds = types_behind (record {
+      front = f.holds.front;
+      rest = f.holds.under_way;
+      stream = subst (λ (L : Bounds). Stream base_table (within_trees L) (b.items ++ f.more) f.holds.front (types s'.types)) same f.holds.stream;
+      whole = f.holds.whole;
+    });
+  }
+  fed_types (Err (reading.Refused R)) f = record { more = f.0.more; mean = f.0.mean; holds = types_behind f.0.holds.1 }
+  fed_types (Err reading.Read) f = absurd f
+  fed_types (Err reading.Memory) f = record { more = f.more; mean = f.mean; holds = types_beyond f.holds }
+  fed_types (Err reading.Failed) f = absurd f
+
+  -- what was gathered before, by the types of now
+  by_types_of_now : (more : List StreamItem) → TypesBehind (within_trees s.limits) (bytes ++ piece) (b.items ++ more) (types s'.types) → Gathered old mid gathered (lines (types s'.types) b.items)
+  by_types_of_now more t =
+      let longer = subst (λ (l : List StreamItem). Stream base_table (within_trees s.limits) l t.front (types s'.types)) (append_assoc b.items more t.more) t.stream in
+      let whole = sym (append_assoc b.gave.front b.gave.under_way piece) ∙ ap (λ (l : List ℕ). l ++ piece) (sym b.gave.whole) ∙ t.whole in
+      let kept = same_lines b.items (more ++ t.more) (b.gave.under_way ++ piece) t.rest b.gave.stream longer whole in
+      subst (λ (l : List ℕ). Gathered old mid gathered l) (sym kept) b.out
+
+  -- all of their lines were gathered
+  all_gathered : (more : List StreamItem) → item_views given ≡ more → TypesBehind (within_trees s.limits) (bytes ++ piece) (b.items ++ more) (types s'.types)
+      → PassesSome mid new (gathered ++ lines (types s'.types) (item_views given)) after → Gathered old new after (lines (types s'.types) (b.items ++ more))
+  all_gathered more mean t p =
+      let grown = gathered_grown old mid new gathered (lines (types s'.types) (item_views given)) after (lines (types s'.types) b.items) (by_types_of_now more t) p in
+      subst (λ (l : List ℕ). Gathered old new after l) (lines_given (types s'.types) b.items given more mean) grown
+
+  -- memory was wanting for a line, or a write failed
+  pub piece_stopped : (fed : Result (Unit {0}) Fault) (f : ToolFault) → Feeds tree_builder.stands-value.it tree_builder.stands-value.it tree_builder.means-value.it greatest_depth s s' b.items bytes piece given fed
+      → Gathers (types s'.types) (item_views given) mid new gathered after (Err f) → TakesPiece (within_trees s.limits) s' (bytes ++ piece) old new after (Err f)
+  piece_stopped fed (fault.Refused R) f h = absurd h
+  piece_stopped fed fault.Read f h = absurd h
+  piece_stopped fed fault.Write f h =
+      let on = fed_types fed f in
+      let grown = front_grown old mid new gathered (lines (types s'.types) (item_views given)) (lines (types s'.types) b.items) (by_types_of_now on.more on.holds) h in
+      begins_at (AppendsFront old new) on.holds (subst (λ (l : List ℕ). AppendsFront old new l) (lines_given (types s'.types) b.items given on.more (views_mean on.mean)) grown)
+  piece_stopped fed fault.Memory f h =
+      let on = fed_types fed f in
+      let first : b.items ++ on.more ≡ (b.items ++ h.first) ++ h.left = ap (λ (l : List StreamItem). b.items ++ l) (sym (views_mean on.mean) ∙ h.whole) ∙ sym (append_assoc b.items h.first h.left) in
+      let t = fewer (b.items ++ h.first) h.left (subst (λ (l : List StreamItem). TypesBehind (within_trees s.limits) (bytes ++ piece) l (types s'.types)) first on.holds) in
+      let grown = gathered_grown old mid new gathered (lines (types s'.types) h.first) after (lines (types s'.types) b.items) (by_types_of_now on.more on.holds) h.passes in
+      begins_at (Gathered old new after) t (subst (λ (l : List ℕ). Gathered old new after l) (sym (lines_append (types s'.types) b.items h.first)) grown)
+
+  -- all lines were gathered, and the reader goes on
+  pub piece_taken : (u : Unit {0}) → Feeds tree_builder.stands-value.it tree_builder.stands-value.it tree_builder.means-value.it greatest_depth s s' b.items bytes piece given (Ok u)
+      → PassesSome mid new (gathered ++ lines (types s'.types) (item_views given)) after → StandsBehind s' (bytes ++ piece) old new after
+  unfolding fed_types
+  piece_taken u f p =
+      let on = fed_types (Ok u) f in
+      record { items = b.items ++ f.more; gave = f.holds; out = all_gathered f.more (views_mean f.mean) on.holds p }
+
+  -- or it met a fault
+  pub piece_refused : (e : Fault) → Feeds tree_builder.stands-value.it tree_builder.stands-value.it tree_builder.means-value.it greatest_depth s s' b.items bytes piece given (Err e)
+      → PassesSome mid new (gathered ++ lines (types s'.types) (item_views given)) after → TakesPiece (within_trees s.limits) s' (bytes ++ piece) old new after (Err (reading_fault e))
+  piece_refused (reading.Refused R) f p =
+      let g = f.0 in
+      let shown = g.holds.0 in
+      let t = types_behind g.holds.1 in (
+        record {
+          items = b.items ++ g.more;
+          outcome = shown.outcome;
+          holds = subst (λ (l : List ℕ). Gathered old new after l) (begins_lines t shown.outcome.gives.begins) (all_gathered g.more (views_mean g.mean) t p);
+        },
+        shown.shown,
+      )
+  piece_refused reading.Read f p = absurd f
+  piece_refused reading.Memory f p = let t = types_beyond f.holds in begins_at (Gathered old new after) t (all_gathered f.more (views_mean f.mean) t p)
+  piece_refused reading.Failed f p = absurd f
+
+-- ---- from piece to piece
+pub reads_first : (s : Reading TreeBuilder Value) (read out : Option (List ℕ)) (gathered : List ℕ) → GaveItems s [] [] → gathered ≡ [] → StandsIn s read read out out gathered
+reads_first s read out gathered gave none = record {
   taken = [];
-  left = bytes;
-  stands = stands;
-  known = known;
-  whole = refl;
-  out = record { written = []; out = Appends-nil out; whole = none };
+  input = Consumes-nil read;
+  behind = record { items = []; gave = gave; out = record { written = []; out = Appends-nil out; whole = none } };
 }
 
--- an item was read, and its line is gathered
-pub stands_next : (s s' : Session) (bytes : List ℕ) (now now' old new : Option (List ℕ)) (gathered gathered' : List ℕ) (item : declared.Item Value) → StandsBehind s bytes now old new gathered
-    → ((items : List StreamItem) (taken rest : List ℕ) → StandsAfter s items taken → now ≡ Some rest → ReadsNext s s' items taken rest now' (Ok (Some item)))
-    → gathered' ≡ gathered ++ line base_table (item_view item) → StandsBehind s' bytes now' old new gathered'
-stands_next s s' bytes now now' old new gathered gathered' item b read grown =
-    let r = read b.items b.taken b.left b.stands b.known in
-    let i = item_view item in
-    record {
-      items = b.items ++ i ∷ [];
-      taken = b.taken ++ r.bytes;
-      left = r.taken.left;
-      stands = r.holds;
-      known = r.taken.known;
-      whole = b.whole ∙ ap (λ (l : List ℕ). b.taken ++ l) r.taken.whole ∙ sym (append_assoc b.taken r.bytes r.taken.left);
-      out = record {
-        written = b.out.written;
-        out = b.out.out;
-        whole = ap (λ (l : List ℕ). b.out.written ++ l) grown ∙ sym (append_assoc b.out.written gathered (line base_table i)) ∙ ap (λ (l : List ℕ). l ++ line base_table i) b.out.whole
-            ∙ sym (lines_grown base_table b.items i);
-      };
-    }
+pub reads_on : {s s' : Reading TreeBuilder Value} (read now next old mid new : Option (List ℕ)) (gathered after piece : List ℕ) (i : StandsIn s read now old mid gathered) → Consumes now next piece
+    → StandsBehind s' (i.taken ++ piece) old new after → StandsIn s' read next old new after
+reads_on read now next old mid new gathered after piece i c b = record { taken = i.taken ++ piece; input = Consumes-trans read now next i.taken piece i.input c; behind = b }
 
--- some of what was gathered went out
-pub stands_passed : (s : Session) (bytes : List ℕ) (now old new new' : Option (List ℕ)) (gathered gathered' : List ℕ) → StandsBehind s bytes now old new gathered
-    → PassesSome new new' gathered gathered' → StandsBehind s bytes now old new' gathered'
-stands_passed s bytes now old new new' gathered gathered' b p = record {
-  items = b.items;
-  taken = b.taken;
-  left = b.left;
-  stands = b.stands;
-  known = b.known;
-  whole = b.whole;
-  out = record {
-    written = b.out.written ++ p.written;
-    out = Appends-trans old new new' b.out.written p.written b.out.out p.out;
-    whole = append_assoc b.out.written p.written gathered' ∙ ap (λ (l : List ℕ). b.out.written ++ l) (sym p.whole) ∙ b.out.whole;
-  };
-}
+-- what was consumed of known bytes
+taken_of : (bytes : List ℕ) (now : Option (List ℕ)) (taken : List ℕ) → Consumes (Some bytes) now taken → Taken bytes now taken
+taken_of bytes None taken c = absurd c
+taken_of bytes (Some left) taken c = record { left = left; known = refl; whole = c }
 
--- the stream so far, under the limits of the run
-stream_so_far : (s : Session) (L : Bounds) (items : List StreamItem) (taken : List ℕ) → s.limits ≡ L → (a : StandsAfter s items taken) → Stream readable_types (readable L) items taken a.table
-stream_so_far s L items taken same a = subst (λ M. Stream readable_types (readable M) items taken a.table) same a.stream
+known_taken : (read now : Option (List ℕ)) (bytes taken : List ℕ) → read ≡ Some bytes → Consumes read now taken → Taken bytes now taken
+known_taken read now bytes taken known c = taken_of bytes now taken (subst (λ (o : Option (List ℕ)). Consumes o now taken) known c)
 
--- no memory was had for more
-pub begun : (s : Session) (L : Bounds) (bytes : List ℕ) (now old new : Option (List ℕ)) (gathered : List ℕ) → s.limits ≡ L → StandsBehind s bytes now old new gathered → Begins L bytes (Gathered old new gathered)
-begun s L bytes now old new gathered same b = record {
-  items = b.items;
-  begins = record { front = b.taken; rest = b.left; table = b.stands.table; stream = stream_so_far s L b.items b.taken same b.stands; whole = b.whole };
-  holds = b.out;
-}
+-- nothing is left
+none_left : (now : Option (List ℕ)) (left : List ℕ) → now ≡ Some left → IsAtEnd now → left ≡ []
+none_left now left e h = subst IsAtEnd e h
 
+-- all was taken
+all_taken : (read now next : Option (List ℕ)) (bytes taken : List ℕ) → read ≡ Some bytes → Consumes read now taken → Consumes now next [] → IsAtEnd next → (taken ≡ bytes) × (next ≡ Some [])
+all_taken read now next bytes taken known c d h =
+    let t = known_taken read next bytes (taken ++ []) known (Consumes-trans read now next taken [] c d) in
+    let none = none_left next t.left t.known h in
+    (sym (t.whole ∙ ap (λ (l : List ℕ). (taken ++ []) ++ l) none ∙ append-nil (taken ++ []) ∙ append-nil taken), t.known ∙ ap Some none)
+
+-- the lines of what a session gave, by the types behind the items of any stream with which the bytes begin
+gave_lines : {s : Reading TreeBuilder Value} {items : List StreamItem} {taken bytes : List ℕ} (more : List ℕ) → bytes ≡ taken ++ more → GaveItems s items taken → (b : BeginsWith base_table (within_trees s.limits) bytes items)
+    → lines (types s.types) items ≡ lines b.table items
+gave_lines {items = items} more e a b =
+    lines_once items b.rest (a.under_way ++ more) b.stream a.stream (sym b.whole ∙ e ∙ ap (λ (l : List ℕ). l ++ more) a.whole ∙ append_assoc a.front a.under_way more)
+
+pub record HasTable (L : Bounds) (bytes : List ℕ) (items : List StreamItem) : Type 0 where
+  pub table : Table
+  pub stream : Stream base_table L items bytes table
+
+whole_stream : {L : Bounds} {bytes : List ℕ} {items : List StreamItem} → EndsSo base_table L bytes items the_end → HasTable L bytes items
+whole_stream (at_the_end {T = T} p) = record { table = T; stream = p }
+
+-- the input ended between two items
+pub ended : (M : Bounds) (s s' : Reading TreeBuilder Value) (read now next old new : Option (List ℕ)) (bytes gathered : List ℕ) (u : Unit {0}) → s.limits ≡ M → (i : StandsIn s read now old new gathered) → read ≡ Some bytes → Consumes now next [] → IsAtEnd next
+    → ((items : List StreamItem) (taken : List ℕ) → GaveItems s items taken → Finishes greatest_depth s s' items taken (Ok u)) → EndsWhole (within_trees M) bytes next (Gathered old new gathered)
+ended M s s' read now next old new bytes gathered u same i known c h finish =
+    let all = all_taken read now next bytes i.taken known i.input c h in
+    let b = i.behind in
+    let o = (finish b.items i.taken b.gave).0 in
+    let w = whole_stream o.ends in
+    let begins : BeginsWith base_table (within_trees s.limits) i.taken b.items = record { front = i.taken; rest = []; table = w.table; stream = w.stream; whole = sym (append-nil i.taken) } in
+    subst (λ (L : Bounds). EndsWhole (within_trees L) bytes next (Gathered old new gathered)) same (record {
+      items = b.items;
+      table = w.table;
+      stream = subst (λ l. Stream base_table (within_trees s.limits) b.items l w.table) all.0 w.stream;
+      end = all.1;
+      holds = subst (λ (l : List ℕ). Gathered old new gathered l) (gave_lines [] (sym (append-nil i.taken)) b.gave begins) b.out;
+    })
+
+-- or within an item
+pub ended_within : (M : Bounds) (s s' : Reading TreeBuilder Value) (read now next old new : Option (List ℕ)) (bytes gathered : List ℕ) (C : List ℕ → Type 0) (e : Fault) → s.limits ≡ M → (i : StandsIn s read now old new gathered) → read ≡ Some bytes → Consumes now next [] → IsAtEnd next
+    → ((items : List StreamItem) (taken : List ℕ) → GaveItems s items taken → Finishes greatest_depth s s' items taken (Err e)) → Runs (within_trees M) bytes next (Gathered old new gathered) C (Err (reading_fault e))
+ended_within M s s' read now next old new bytes gathered C (reading.Refused R) same i known c h finish =
+    let all = all_taken read now next bytes i.taken known i.input c h in
+    let b = i.behind in
+    let o = (finish b.items i.taken b.gave).0 in
+    subst (λ (L : Bounds). IsRefused (within_trees L) bytes R (Gathered old new gathered)) same
+    (subst (λ l. IsRefused (within_trees s.limits) l R (Gathered old new gathered)) all.0
+    (record { items = b.items; outcome = o; holds = subst (λ (l : List ℕ). Gathered old new gathered l) (gave_lines [] (sym (append-nil i.taken)) b.gave o.gives.begins) b.out }))
+ended_within M s s' read now next old new bytes gathered C reading.Read same i known c h finish = absurd (finish i.behind.items i.taken i.behind.gave)
+ended_within M s s' read now next old new bytes gathered C reading.Memory same i known c h finish = absurd (finish i.behind.items i.taken i.behind.gave)
+ended_within M s s' read now next old new bytes gathered C reading.Failed same i known c h finish = absurd (finish i.behind.items i.taken i.behind.gave)
+
+-- a read failed
+pub read_failed : (M : Bounds) (s : Reading TreeBuilder Value) (read now next old new : Option (List ℕ)) (bytes gathered : List ℕ) → s.limits ≡ M → (i : StandsIn s read now old new gathered) → read ≡ Some bytes → Keeps now next
+    → SomeTaken bytes next (λ taken. Gives (within_trees M) taken (Gathered old new gathered))
+read_failed M s read now next old new bytes gathered same i known k =
+    let b = i.behind in
+    let g = after_gives b.gave in
+    subst (λ (L : Bounds). SomeTaken bytes next (λ taken. Gives (within_trees L) taken (Gathered old new gathered))) same (record {
+      bytes = i.taken;
+      taken = known_taken read next bytes i.taken known (Consumes-kept read now next i.taken i.input k);
+      holds = record { items = b.items; given = g; holds = subst (λ (l : List ℕ). Gathered old new gathered l) (gave_lines [] (sym (append-nil i.taken)) b.gave g.begins) b.out };
+    })
+
+-- the same of more bytes
+begins_more : {L : Bounds} {bytes all : List ℕ} {P : List ℕ → Type 0} (more : List ℕ) → all ≡ bytes ++ more → Begins L bytes P → Begins L all P
+begins_more more e b =
+    record { items = b.items; begins = record { front = b.begins.front; rest = b.begins.rest ++ more; table = b.begins.table; stream = b.begins.stream; whole = e ∙ ap (λ (l : List ℕ). l ++ more) b.begins.whole ∙ append_assoc b.begins.front b.begins.rest more }; holds = b.holds }
+
+refused_more : {L : Bounds} {bytes all : List ℕ} {R : Refusal} {P : List ℕ → Type 0} (more : List ℕ) → all ≡ bytes ++ more → R.reason ≢ reason.Ended → IsRefused L bytes R P → IsRefused L all R P
+refused_more {L = L} {bytes = bytes} {all = all} {R = R} {P = P} more e n b =
+    let shown : IsShown L bytes b.items R = record { outcome = b.outcome; shown = n } in
+    let there = shown_there shown in
+    let same : take R.seen all ≡ take R.seen bytes = ap (λ (l : List ℕ). take R.seen l) e ∙ take-append-le R.seen bytes more there in
+    let stays = (shown_refusal_stays L bytes all b.items R shown same).1 in
+    let was = b.outcome.gives.begins in
+    let is = stays.outcome.gives.begins in
+    let begins = sym is.whole ∙ e ∙ ap (λ (l : List ℕ). l ++ more) was.whole ∙ append_assoc was.front was.rest more in
+    record { items = b.items; outcome = stays.outcome; holds = subst P (lines_once b.items is.rest (was.rest ++ more) is.stream was.stream begins) b.holds }
+
+-- a piece ended the run
+stopped_there : (L : Bounds) (s : Reading TreeBuilder Value) (read next old new : Option (List ℕ)) (bytes gathered taken : List ℕ) (f : ToolFault) → read ≡ Some bytes → Consumes read next taken
+    → TakesPiece L s taken old new gathered (Err f) → Runs L bytes next (Gathered old new gathered) (AppendsFront old new) (Err f)
+stopped_there L s read next old new bytes gathered taken (fault.Refused R) known c h = let t = known_taken read next bytes taken known c in refused_more t.left t.whole h.1 h.0
+stopped_there L s read next old new bytes gathered taken fault.Read known c h = absurd h
+stopped_there L s read next old new bytes gathered taken fault.Write known c h = let t = known_taken read next bytes taken known c in begins_more t.left t.whole h
+stopped_there L s read next old new bytes gathered taken fault.Memory known c h = let t = known_taken read next bytes taken known c in begins_more t.left t.whole h
+
+pub stopped : (L M : Bounds) (s : Reading TreeBuilder Value) (read next old new : Option (List ℕ)) (bytes gathered taken : List ℕ) (f : ToolFault) → L ≡ M → read ≡ Some bytes → Consumes read next taken
+    → TakesPiece (within_trees L) s taken old new gathered (Err f) → Runs (within_trees M) bytes next (Gathered old new gathered) (AppendsFront old new) (Err f)
+stopped L M s read next old new bytes gathered taken f same known c h =
+    subst (λ (L : Bounds). Runs (within_trees L) bytes next (Gathered old new gathered) (AppendsFront old new) (Err f)) same (stopped_there (within_trees L) s read next old new bytes gathered taken f known c h)
+
+-- no bytes were read
+pub read_none : (now next : Option (List ℕ)) (n : ℕ) (buffer : List ℕ) → n ≡ 0 → Consumes now next (take n buffer) → Consumes now next []
+read_none now next n buffer e c = subst (λ k. Consumes now next (take k buffer)) e c
+
+-- reads that failed are counted: none at the end of the input
+pub finish_counts : (s s' : Reading TreeBuilder Value) (items : List StreamItem) (bytes : List ℕ) (failures failures' : ℕ) (e : Fault) → Finishes greatest_depth s s' items bytes (Err e) → failures' ≡ failures
+    → CountsOnlyReads failures failures' (Err (reading_fault e))
+finish_counts s s' items bytes failures failures' (reading.Refused R) f h = h
+finish_counts s s' items bytes failures failures' reading.Read f h = absurd f
+finish_counts s s' items bytes failures failures' reading.Memory f h = h
+finish_counts s s' items bytes failures failures' reading.Failed f h = h
+
+-- nor while a piece is taken
+pub piece_counts : (L : Bounds) (s : Reading TreeBuilder Value) (bytes : List ℕ) (old new : Option (List ℕ)) (gathered : List ℕ) (failures failures' : ℕ) (f : ToolFault) → TakesPiece L s bytes old new gathered (Err f) → failures' ≡ failures
+    → CountsOnlyReads failures failures' (Err f)
+piece_counts L s bytes old new gathered failures failures' (fault.Refused R) h e = e
+piece_counts L s bytes old new gathered failures failures' fault.Read h e = absurd h
+piece_counts L s bytes old new gathered failures failures' fault.Write h e = e
+piece_counts L s bytes old new gathered failures failures' fault.Memory h e = e
+
+pub reads_at : (failures failures' : ℕ) (r : Result (Unit {0}) ToolFault) (f : ToolFault) → IsErrAnd r (λ e. e ≡ f) → CountsOnlyReads failures failures' (Err f) → CountsOnlyReads failures failures' r
+reads_at failures failures' (Ok u) f e h = absurd e
+reads_at failures failures' (Err g) f e h = subst (λ f. CountsOnlyReads failures failures' (Err f)) (sym e) h
+
+-- each piece brings the reader nearer to where it has to stop
+pub falls : (s s' : Reading TreeBuilder Value) (items others : List StreamItem) (taken piece : List ℕ) → GaveItems s items taken → GaveItems s' others (taken ++ piece) → s'.limits ≡ s.limits → 0 < length piece
+    → s'.limits.stream + 9 - s'.taken < s.limits.stream + 9 - s.taken
+falls s s' items others taken piece a b same some =
+    let bound = stands_within b in
+    let stream = ap (λ (L : Bounds). L.stream) same in
+    omega (arith, a.taken, b.taken, length-append taken piece)
+
+-- ---- the run
 -- how the run ends at the error that a `?` returns
-pub runs_at : (L : Bounds) (bytes : List ℕ) (now : Option (List ℕ)) (P C : List StreamItem → Type 0) (r : Result (Unit {0}) ToolFault) (f : ToolFault) → IsErrAnd r (λ e. e ≡ f) → Runs L bytes now P C (Err f) → Runs L bytes now P C r
+pub runs_at : (L : Bounds) (bytes : List ℕ) (now : Option (List ℕ)) (P C : List ℕ → Type 0) (r : Result (Unit {0}) ToolFault) (f : ToolFault) → IsErrAnd r (λ e. e ≡ f) → Runs L bytes now P C (Err f) → Runs L bytes now P C r
 runs_at L bytes now P C (Ok u) f e h = absurd e
 runs_at L bytes now P C (Err g) f e h = subst (λ f. Runs L bytes now P C (Err f)) (sym e) h
 
-pub runs_cut : (L : Bounds) (bytes : List ℕ) (now : Option (List ℕ)) (P C : List StreamItem → Type 0) (r : Result (Unit {0}) ToolFault) (f : ToolFault) → IsErrAnd r (λ e. e ≡ f) → f ≡ fault.Write → Begins L bytes C → Runs L bytes now P C r
+pub runs_cut : (L : Bounds) (bytes : List ℕ) (now : Option (List ℕ)) (P C : List ℕ → Type 0) (r : Result (Unit {0}) ToolFault) (f : ToolFault) → IsErrAnd r (λ e. e ≡ f) → f ≡ fault.Write → Begins L bytes C → Runs L bytes now P C r
 runs_cut L bytes now P C r f e write h = runs_at L bytes now P C r f e (subst (λ f. Runs L bytes now P C (Err f)) (sym write) h)
 
 -- no memory was had before the first item
 pub begun_first : (L : Bounds) (bytes : List ℕ) (out : Option (List ℕ)) (gathered : List ℕ) → gathered ≡ [] → Begins L bytes (Gathered out out gathered)
 begun_first L bytes out gathered none = record {
   items = [];
-  begins = record { front = []; rest = bytes; table = readable_types; stream = no_more; whole = refl };
+  begins = record { front = []; rest = bytes; table = base_table; stream = no_more; whole = refl };
   holds = record { written = []; out = Appends-nil out; whole = none };
 }
 
--- a front of what was gathered went out
-pub front_out : (items : List StreamItem) (old new new' : Option (List ℕ)) (gathered : List ℕ) → Gathered old new gathered items → AppendsFront new new' gathered → WroteFront old new' items
-front_out items old new new' gathered g f = record {
-  front = g.written ++ f.front;
-  rest = f.rest;
-  whole = sym g.whole ∙ ap (λ (l : List ℕ). g.written ++ l) f.whole ∙ sym (append_assoc g.written f.front f.rest);
-  out = Appends-trans old new new' g.written f.front g.out f.out;
-}
+-- what holds of the lines may be said in other words
+pub begun_as : (L : Bounds) (bytes : List ℕ) (P Q : List ℕ → Type 0) → Begins L bytes P → ((all : List ℕ) → P all → Q all) → Begins L bytes Q
+begun_as L bytes P Q b f = record { items = b.items; begins = b.begins; holds = f _ b.holds }
 
-pub cut : (L : Bounds) (bytes : List ℕ) (old new new' : Option (List ℕ)) (gathered : List ℕ) → Begins L bytes (Gathered old new gathered) → AppendsFront new new' gathered → Begins L bytes (WroteFront old new')
-cut L bytes old new new' gathered r f = record { items = r.items; begins = r.begins; holds = front_out r.items old new new' gathered r.holds f }
-
--- the input ended
-pub ended : (s s' : Session) (L : Bounds) (bytes : List ℕ) (now now' old new : Option (List ℕ)) (gathered : List ℕ) → s'.limits ≡ L → StandsBehind s bytes now old new gathered
-    → ((items : List StreamItem) (taken rest : List ℕ) → StandsAfter s items taken → now ≡ Some rest → ReadsNext s s' items taken rest now' (Ok None))
-    → EndsWhole L bytes now' (Gathered old new gathered)
-ended s s' L bytes now now' old new gathered same b read =
-    let r = read b.items b.taken b.left b.stands b.known in
-    let all : b.taken ≡ bytes = sym (b.whole ∙ ap (λ (l : List ℕ). b.taken ++ l) r.0 ∙ append-nil b.taken) in
-    record {
-      items = b.items;
-      table = r.2.table;
-      stream = subst (λ l. Stream readable_types (readable L) b.items l r.2.table) all (stream_so_far s' L b.items b.taken same r.2);
-      end = r.1;
-      holds = b.out;
-    }
-
--- a stream and something behind it, where no longer stream begins the whole, is no stream
-pub not_whole : (L : Bounds) (items : List StreamItem) (front rest : List ℕ) (T : Table) → Stream readable_types (readable L) items front T → rest ≢ [] → GivesItems readable_types (readable L) (front ++ rest) items
-    → ¬ IsStream readable_types (readable L) (front ++ rest)
-not_whole L items front rest T p some given q =
-    let more = more_items rest p q.stream refl some in
-    let less = given.longest q.items (record { front = front ++ rest; rest = []; table = q.table; stream = q.stream; whole = sym (append-nil (front ++ rest)) }) in
-    omega arith
-
--- the reader met a fault
-pub faulted : (s s' : Session) (L : Bounds) (bytes : List ℕ) (now now' old new : Option (List ℕ)) (gathered : List ℕ) (C : List StreamItem → Type 0) (f : Fault) → s.limits ≡ L → StandsBehind s bytes now old new gathered
-    → ((items : List StreamItem) (taken rest : List ℕ) → StandsAfter s items taken → now ≡ Some rest → ReadsNext s s' items taken rest now' (Err f))
-    → Runs L bytes now' (Gathered old new gathered) C (Err (reading_fault f))
-faulted s s' L bytes now now' old new gathered C (reading.Refused r) same b read =
-    let e = read b.items b.taken b.left b.stands b.known in
-    let given = subst (λ M. GivesItems readable_types (readable M) (b.taken ++ b.left) b.items) same e.0 in
-    let stream = stream_so_far s L b.items b.taken same b.stands in
-    subst (λ l. Gives L l (Gathered old new gathered) × ¬ IsStream readable_types (readable L) l) (sym b.whole) (
-      record { items = b.items; given = given; holds = b.out },
-      not_whole L b.items b.taken b.left b.stands.table stream e.1 given,
-    )
-faulted s s' L bytes now now' old new gathered C reading.Read same b read =
-    let e = read b.items b.taken b.left b.stands b.known in
-    record {
-      bytes = b.taken ++ e.bytes;
-      taken = record { left = e.taken.left; known = e.taken.known; whole = b.whole ∙ ap (λ (l : List ℕ). b.taken ++ l) e.taken.whole ∙ sym (append_assoc b.taken e.bytes e.taken.left) };
-      holds = record { items = b.items; given = subst (λ M. GivesItems readable_types (readable M) (b.taken ++ e.bytes) b.items) same e.holds; holds = b.out };
-    }
-faulted s s' L bytes now now' old new gathered C reading.Memory same b read = begun s L bytes now old new gathered same b
-faulted s s' L bytes now now' old new gathered C reading.Failed same b read = absurd (read b.items b.taken b.left b.stands b.known)
-
--- the items before any end but a failed write
-pub begun_before : (L : Bounds) (bytes : List ℕ) (now : Option (List ℕ)) (P C : List StreamItem → Type 0) (r : Result (Unit {0}) ToolFault) → Runs L bytes now P C r → (r ≡ Err fault.Write → ⊥) → Begins L bytes P
+-- the lines before any end but a failed write
+pub begun_before : (L : Bounds) (bytes : List ℕ) (now : Option (List ℕ)) (P C : List ℕ → Type 0) (r : Result (Unit {0}) ToolFault) → Runs L bytes now P C r → (r ≡ Err fault.Write → ⊥) → Begins L bytes P
 begun_before L bytes now P C (Ok u) e other = record {
   items = e.items;
   begins = record { front = bytes; rest = []; table = e.table; stream = e.stream; whole = sym (append-nil bytes) };
   holds = e.holds;
 }
-begun_before L bytes now P C (Err (fault.Refused r)) e other = record { items = e.0.items; begins = e.0.given.begins; holds = e.0.holds }
+begun_before L bytes now P C (Err (fault.Refused R)) e other = record { items = e.items; begins = e.outcome.gives.begins; holds = e.holds }
 begun_before L bytes now P C (Err fault.Read) e other =
-    let b = e.holds.given.begins in
-    record {
-      items = e.holds.items;
-      begins = record {
-        front = b.front;
-        rest = b.rest ++ e.taken.left;
-        table = b.table;
-        stream = b.stream;
-        whole = e.taken.whole ∙ ap (λ (l : List ℕ). l ++ e.taken.left) b.whole ∙ append_assoc b.front b.rest e.taken.left;
-      };
-      holds = e.holds.holds;
-    }
+    begins_more e.taken.left e.taken.whole (record { items = e.holds.items; begins = e.holds.given.begins; holds = e.holds.holds })
 begun_before L bytes now P C (Err fault.Write) e other = absurd (other refl)
 begun_before L bytes now P C (Err fault.Memory) e other = e
 
--- what holds of the items may be said in other words
-pub runs_as : (L : Bounds) (bytes : List ℕ) (now : Option (List ℕ)) (P Q C D : List StreamItem → Type 0) (r : Result (Unit {0}) ToolFault) → Runs L bytes now P C r → (r ≡ Err fault.Write → ⊥) → ((items : List StreamItem) → P items → Q items) → Runs L bytes now Q D r
-runs_as L bytes now P Q C D (Ok u) e other f = record { items = e.items; table = e.table; stream = e.stream; end = e.end; holds = f e.items e.holds }
-runs_as L bytes now P Q C D (Err (fault.Refused r)) e other f = (record { items = e.0.items; given = e.0.given; holds = f e.0.items e.0.holds }, e.1)
-runs_as L bytes now P Q C D (Err fault.Read) e other f = record { bytes = e.bytes; taken = e.taken; holds = record { items = e.holds.items; given = e.holds.given; holds = f e.holds.items e.holds.holds } }
+pub runs_as : (L : Bounds) (bytes : List ℕ) (now : Option (List ℕ)) (P Q C D : List ℕ → Type 0) (r : Result (Unit {0}) ToolFault) → Runs L bytes now P C r → (r ≡ Err fault.Write → ⊥) → ((all : List ℕ) → P all → Q all) → Runs L bytes now Q D r
+runs_as L bytes now P Q C D (Ok u) e other f = record { items = e.items; table = e.table; stream = e.stream; end = e.end; holds = f _ e.holds }
+runs_as L bytes now P Q C D (Err (fault.Refused R)) e other f = record { items = e.items; outcome = e.outcome; holds = f _ e.holds }
+runs_as L bytes now P Q C D (Err fault.Read) e other f = record { bytes = e.bytes; taken = e.taken; holds = record { items = e.holds.items; given = e.holds.given; holds = f _ e.holds.holds } }
 runs_as L bytes now P Q C D (Err fault.Write) e other f = absurd (other refl)
-runs_as L bytes now P Q C D (Err fault.Memory) e other f = record { items = e.items; begins = e.begins; holds = f e.items e.holds }
-
-pub begun_as : (L : Bounds) (bytes : List ℕ) (P Q : List StreamItem → Type 0) → Begins L bytes P → ((items : List StreamItem) → P items → Q items) → Begins L bytes Q
-begun_as L bytes P Q b f = record { items = b.items; begins = b.begins; holds = f b.items b.holds }
-
--- all that was gathered went out
-pub all_out : (items : List StreamItem) (old new new' : Option (List ℕ)) (gathered : List ℕ) → Gathered old new gathered items → Appends new new' gathered → WroteLines old new' items
-all_out items old new new' gathered g more = subst (Appends old new') g.whole (Appends-trans old new new' g.written gathered g.out more)
-
--- lines that went out whole are a front of themselves
-pub whole_front : (items : List StreamItem) (old new : Option (List ℕ)) → WroteLines old new items → WroteFront old new items
-whole_front items old new out = record { front = lines base_table items; rest = []; whole = sym (append-nil (lines base_table items)); out = out }
+runs_as L bytes now P Q C D (Err fault.Memory) e other f = begun_as L bytes P Q e f

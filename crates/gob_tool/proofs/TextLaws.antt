@@ -1,5 +1,5 @@
 -- Which of its two forms the JSON of a text has.
-use Rattle.std.proofs.Common.{◌≡◌, ℕ, List, Bool, true, false, codes, refl, ap, sym, ◌∙◌, if◌then◌else◌}
+use Rattle.std.proofs.Common.{◌≡◌, ℕ, List, Bool, true, false, codes, refl, if◌then◌else◌}
 use Rattle.std.specs.Str.{IsUtf8, is_utf8}
 use Rattle.std.proofs.lemmas.Str.{is_utf8-from_IsUtf8, IsUtf8-from_is_utf8}
 use Rattle.serde_json.specs.Data.{Data, string, object, member, no_members}

@@ -1,31 +1,41 @@
 -- Where a run stands while lines are gathered. For private clauses.
-use Rattle.std.specs.Prelude.{◌≡◌, ℕ, List, [], ◌++◌, Option, Some, Result, Ok, Err}
-use Rattle.std.specs.Io.KnownBytes.{Appends}
-use Rattle.gob_types.specs.Base.{base_table}
-use Rattle.gob_stream.specs.declared.session.Session.{Session}
+use Rattle.std.specs.Prelude.{◌≡◌, ◌≢◌, ℕ, List, ◌++◌, Option, Result, Ok, Err}
+use Rattle.std.specs.Io.KnownBytes.{Appends, Consumes}
+use Rattle.gob_types.specs.declared.reason.Reason.TheVariants as reason
+use Rattle.gob_types.specs.Defined.{types}
+use Rattle.gob_types.specs.Table.{Table}
+use Rattle.gob_value.specs.declared.value.Value.{Value}
+use Rattle.gob_read.specs.contracts.tree_builder.TreeBuilderBuilder.TheImpl as tree_builder
+use Rattle.gob_read.specs.declared.tree_builder.TreeBuilder.{TreeBuilder}
+use Rattle.gob_stream.specs.declared.reading.Reading.{Reading}
+use Rattle.gob_stream.specs.Bounds.{Bounds, greatest_depth}
 use Rattle.gob_stream.specs.Item.{StreamItem}
 use Rattle.gob_stream.specs.Devices.{counts_up}
-use Rattle.gob_stream.specs.Reading.{StandsAfter}
+use Rattle.gob_stream.specs.Standing.{StandsAfter, IsUsable, no_deeper}
 use Rattle.gob_tool.specs.declared.fault.ToolFault.{ToolFault}
 use Rattle.gob_tool.specs.declared.fault.ToolFault.TheVariants as fault
 use Rattle.gob_tool.specs.Line.{lines}
-use Rattle.gob_tool.specs.Showing.{AppendsFront}
+use Rattle.gob_tool.specs.Showing.{AppendsFront, IsRefused, Begins}
 
--- what went out, and then these lines, are the lines of the items
-pub record Gathered (old new : Option (List ℕ)) (gathered : List ℕ) (items : List StreamItem) : Type 0 where
+-- what went out, and then what is gathered, are these bytes
+pub record Gathered (old new : Option (List ℕ)) (gathered : List ℕ) (all : List ℕ) : Type 0 where
   pub written : List ℕ
   pub out : Appends old new written
-  pub whole : written ++ gathered ≡ lines base_table items
+  pub whole : written ++ gathered ≡ all
 
--- the session stands behind some of the bytes, and the lines of their items went out or are gathered
-pub record StandsBehind (s : Session) (bytes : List ℕ) (now old new : Option (List ℕ)) (gathered : List ℕ) : Type 0 where
+-- the reader of trees has given the items, of these bytes
+abbrev pub GaveItems : Reading TreeBuilder Value → List StreamItem → List ℕ → Type 0
+GaveItems s items bytes = StandsAfter tree_builder.stands-value.it tree_builder.stands-value.it greatest_depth s items bytes
+
+-- the reader of trees stands after some bytes, or has met a fault
+abbrev pub IsReading : Reading TreeBuilder Value → Type 0
+IsReading s = IsUsable tree_builder.stands-value.it tree_builder.stands-value.it greatest_depth s
+
+-- the reader has taken these bytes, and the lines of the items that it gave went out or are gathered
+pub record StandsBehind (s : Reading TreeBuilder Value) (bytes : List ℕ) (old new : Option (List ℕ)) (gathered : List ℕ) : Type 0 where
   pub items : List StreamItem
-  pub taken : List ℕ
-  pub left : List ℕ
-  pub stands : StandsAfter s items taken
-  pub known : now ≡ Some left
-  pub whole : bytes ≡ taken ++ left
-  pub out : Gathered old new gathered items
+  pub gave : GaveItems s items bytes
+  pub out : Gathered old new gathered (lines (types s.types) items)
 
 -- the bytes went out, or a front of them where a write failed
 abbrev pub Writes : (old new : Option (List ℕ)) → List ℕ → Result (Unit {0}) ToolFault → Type 0
@@ -41,6 +51,39 @@ pub record PassesSome (old new : Option (List ℕ)) (before after : List ℕ) : 
 abbrev pub Passes : (old new : Option (List ℕ)) → (before after : List ℕ) → Result (Unit {0}) ToolFault → Type 0
 Passes old new before after (Ok _) = PassesSome old new before after
 Passes old new before after (Err e) = (e ≡ fault.Write) × AppendsFront old new before
+
+-- the lines of the first ones of the items were gathered behind what was, and some of all that went out
+pub record GathersFirst (T : Table) (items : List StreamItem) (old new : Option (List ℕ)) (before after : List ℕ) : Type 0 where
+  pub first : List StreamItem
+  pub left : List StreamItem
+  pub whole : items ≡ first ++ left
+  pub passes : PassesSome old new (before ++ lines T first) after
+
+-- the lines of the items were gathered, or of the first ones where memory was wanting
+abbrev pub Gathers : Table → List StreamItem → (old new : Option (List ℕ)) → (before after : List ℕ) → Result (Unit {0}) ToolFault → Type 0
+Gathers T items old new before after (Ok _) = PassesSome old new (before ++ lines T items) after
+Gathers T items old new before after (Err (fault.Refused r)) = ⊥
+Gathers T items old new before after (Err fault.Read) = ⊥
+Gathers T items old new before after (Err fault.Write) = AppendsFront old new (before ++ lines T items)
+Gathers T items old new before after (Err fault.Memory) = GathersFirst T items old new before after
+
+-- what taking a piece answers, with which the reader took these bytes, under these limits
+abbrev pub TakesPiece : Bounds → (s : Reading TreeBuilder Value) → (bytes : List ℕ) → (old new : Option (List ℕ)) → (gathered : List ℕ) → Result (Unit {0}) ToolFault → Type 0
+TakesPiece L s bytes old new gathered (Ok _) = StandsBehind s bytes old new gathered
+TakesPiece L s bytes old new gathered (Err (fault.Refused R)) = IsRefused L bytes R (Gathered old new gathered) × (R.reason ≢ reason.Ended)
+TakesPiece L s bytes old new gathered (Err fault.Read) = ⊥
+TakesPiece L s bytes old new gathered (Err fault.Write) = Begins L bytes (AppendsFront old new)
+TakesPiece L s bytes old new gathered (Err fault.Memory) = Begins L bytes (Gathered old new gathered)
+
+-- the limits of a reader of trees
+abbrev pub within_trees : Bounds → Bounds
+within_trees L = no_deeper greatest_depth L
+
+-- what was consumed of the input was taken
+pub record StandsIn (s : Reading TreeBuilder Value) (read now old new : Option (List ℕ)) (gathered : List ℕ) : Type 0 where
+  pub taken : List ℕ
+  pub input : Consumes read now taken
+  pub behind : StandsBehind s taken old new gathered
 
 -- the count rises where a write failed
 abbrev pub CountsWrites : (failures failures' : ℕ) → Result (Unit {0}) ToolFault → Type 0

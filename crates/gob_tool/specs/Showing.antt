@@ -4,42 +4,49 @@ use Rattle.std.specs.Prelude.{◌≡◌, ℕ, ◌⊎◌, List, [], ◌++◌, Opt
 use Rattle.std.specs.Io.KnownBytes.{Appends}
 use Rattle.gob_types.specs.Table.{Table}
 use Rattle.gob_types.specs.Base.{base_table}
+use Rattle.gob_stream.specs.declared.fault.Refusal.{Refusal}
 use Rattle.gob_stream.specs.Bounds.{Bounds}
 use Rattle.gob_stream.specs.Item.{StreamItem}
-use Rattle.gob_stream.specs.Stream.{Stream, IsStream}
-use Rattle.gob_stream.specs.Outcome.{BeginsWith, GivesItems}
+use Rattle.gob_stream.specs.Stream.{Stream}
+use Rattle.gob_stream.specs.Outcome.{BeginsWith, GivesItems, Outcome, refused}
 use Rattle.gob_stream.specs.Devices.{counts_up}
 use Rattle.gob_stream.specs.Reading.{SomeTaken}
-use Rattle.gob_stream.specs.Readable.{readable_types, readable}
 use Rattle.gob_tool.specs.declared.fault.ToolFault.{ToolFault}
 use Rattle.gob_tool.specs.declared.fault.ToolFault.TheVariants as fault
 use Rattle.gob_tool.specs.Line.{lines}
 
--- the bytes are the stream of some items, of which this holds, and all of them were read
-pub record EndsWhole (L : Bounds) (bytes : List ℕ) (now : Option (List ℕ)) (P : List StreamItem → Type 0) : Type 0 where
+-- the bytes are the stream of some items, all of them were read, and this holds of the lines of the items by the types
+-- behind them
+pub record EndsWhole (L : Bounds) (bytes : List ℕ) (now : Option (List ℕ)) (P : List ℕ → Type 0) : Type 0 where
   pub items : List StreamItem
   pub table : Table
-  pub stream : Stream readable_types (readable L) items bytes table
+  pub stream : Stream base_table L items bytes table
   pub end : now ≡ Some []
-  pub holds : P items
+  pub holds : P (lines table items)
 
--- this holds of the items of the longest stream that the bytes begin with
-pub record Gives (L : Bounds) (bytes : List ℕ) (P : List StreamItem → Type 0) : Type 0 where
+-- the bytes are refused so, and this holds of the lines of the items before the refusal
+pub record IsRefused (L : Bounds) (bytes : List ℕ) (R : Refusal) (P : List ℕ → Type 0) : Type 0 where
   pub items : List StreamItem
-  pub given : GivesItems readable_types (readable L) bytes items
-  pub holds : P items
+  pub outcome : Outcome base_table L bytes items (refused R)
+  pub holds : P (lines outcome.gives.begins.table items)
 
--- this holds of the items of some stream that the bytes begin with
-pub record Begins (L : Bounds) (bytes : List ℕ) (P : List StreamItem → Type 0) : Type 0 where
+-- this holds of the lines of the items of the longest stream that the bytes begin with
+pub record Gives (L : Bounds) (bytes : List ℕ) (P : List ℕ → Type 0) : Type 0 where
   pub items : List StreamItem
-  pub begins : BeginsWith readable_types (readable L) bytes items
-  pub holds : P items
+  pub given : GivesItems base_table L bytes items
+  pub holds : P (lines given.begins.table items)
 
--- how a run over an input with these bytes left ends, where `Whole` holds of the items whose lines went out, or `Cut`
+-- this holds of the lines of the items of some stream that the bytes begin with
+pub record Begins (L : Bounds) (bytes : List ℕ) (P : List ℕ → Type 0) : Type 0 where
+  pub items : List StreamItem
+  pub begins : BeginsWith base_table L bytes items
+  pub holds : P (lines begins.table items)
+
+-- how a run over an input with these bytes left ends, where `Whole` holds of the lines that were to go out, or `Cut`
 -- after a failed write
-abbrev pub Runs : Bounds → (bytes : List ℕ) → (now : Option (List ℕ)) → (Whole Cut : List StreamItem → Type 0) → Result (Unit {0}) ToolFault → Type 0
+abbrev pub Runs : Bounds → (bytes : List ℕ) → (now : Option (List ℕ)) → (Whole Cut : List ℕ → Type 0) → Result (Unit {0}) ToolFault → Type 0
 Runs L bytes now Whole Cut (Ok _) = EndsWhole L bytes now Whole
-Runs L bytes now Whole Cut (Err (fault.Refused r)) = Gives L bytes Whole × ¬ IsStream readable_types (readable L) bytes
+Runs L bytes now Whole Cut (Err (fault.Refused R)) = IsRefused L bytes R Whole
 Runs L bytes now Whole Cut (Err fault.Read) = SomeTaken bytes now (λ taken. Gives L taken Whole)
 Runs L bytes now Whole Cut (Err fault.Write) = Begins L bytes Cut
 Runs L bytes now Whole Cut (Err fault.Memory) = Begins L bytes Whole
@@ -51,17 +58,10 @@ pub record AppendsFront (old new : Option (List ℕ)) (bytes : List ℕ) : Type 
   pub whole : bytes ≡ front ++ rest
   pub out : Appends old new front
 
--- the lines of the items went out. Their types are those of the base table, as no definition is read yet
-abbrev pub WroteLines : (old new : Option (List ℕ)) → List StreamItem → Type 0
-WroteLines old new items = Appends old new (lines base_table items)
-
--- a front of the lines of the items went out
-abbrev pub WroteFront : (old new : Option (List ℕ)) → List StreamItem → Type 0
-WroteFront old new items = AppendsFront old new (lines base_table items)
-
--- how the run that shows a stream ends, over an input with these bytes left and an output with the old bytes
+-- how the run that shows a stream ends, over an input with these bytes left and an output with the old bytes: the lines
+-- went out, and nothing else, or after a failed write a front of them
 abbrev pub Shows : Bounds → (bytes : List ℕ) → (now old new : Option (List ℕ)) → Result (Unit {0}) ToolFault → Type 0
-Shows L bytes now old new result = Runs L bytes now (WroteLines old new) (WroteFront old new) result
+Shows L bytes now old new result = Runs L bytes now (Appends old new) (AppendsFront old new) result
 
 -- the count is the same, or one higher
 abbrev pub MayCount : (failures failures' : ℕ) → Type 0

@@ -1,5 +1,5 @@
 -- What the words of the command line ask for. (docs/FORMAT.md, The program: this project's own.)
-use Rattle.std.specs.Prelude.{ℕ, List, [], ◌∷◌, codes, Option, Some, None, Result, Ok, Err, ◌≡◌}
+use Rattle.std.specs.Prelude.{ℕ, List, [], ◌∷◌, codes, Option, Some, None}
 use Rattle.gob_tool.specs.declared.words.Chosen.{Chosen}
 use Rattle.gob_tool.specs.declared.words.Chosen.TheVariants as chosen
 

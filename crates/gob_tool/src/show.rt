@@ -1,22 +1,28 @@
 //! The run that prints a stream.
 
-ghost use Rattle.std.specs.Prelude.{◌≡◌, ℕ, List, [], Some};
-ghost use Rattle.gob_types.specs.Base.{base_table};
-ghost use Rattle.gob_types.specs.Defined.{types};
-ghost use Rattle.gob_stream.specs.Reading.{StandsAfter};
-ghost use Rattle.gob_tool.specs.Showing.{Runs, Shows, WroteFront, CountsReadFaults, CountsWriteFaults};
-ghost use Rattle.gob_tool.specs.Gathering.{Gathered, CountsOnlyReads, CountsOnlyWrites};
+ghost use Rattle.std.specs.Prelude.{◌≡◌, ◌≢◌, ℕ, ◌<◌, List, [], ◌++◌, length, Option, Some};
+ghost use Rattle.gob_stream.specs.declared.reading.Reading.{Reading};
+ghost use Rattle.gob_stream.specs.Item.{StreamItem};
+ghost use Rattle.gob_tool.specs.Showing.{Runs, Shows, AppendsFront, CountsReadFaults, CountsWriteFaults};
+ghost use Rattle.gob_tool.specs.Gathering.{Gathered, GaveItems, StandsBehind, TakesPiece, IsReading, within_trees};
+ghost use Rattle.gob_tool.specs.Gathering.{CountsOnlyReads, CountsOnlyWrites};
 
 use crate::fault::ToolFault;
 use crate::lines::Lines;
-use gob_stream::{Input, Limits, Output, Session};
-use gob_types::Table;
+use gob_num::Memory;
+use gob_read::TreeBuilder;
+use gob_stream::{Input, Item, Limits, Output, Session};
+use gob_value::Value;
 use std::alloc::Global;
 use std::io::{Read, Write};
+
+// How many bytes are asked of the input at a time.
+const PIECE: usize = 65536;
 
 /// Writes the JSON line of each item of a stream, and nothing else, and ends with a flush. Ok exactly at the
 /// end of a whole stream. Before a fault is answered the lines of the items before it are written; at
 /// `ToolFault::Write` a front of them may be. A flush that fails is that fault where no other came before it.
+/// The input is read in pieces of 64 KiB. What it takes in memory doesn't grow with the stream.
 pub fn run_show<R: Read, W: Write>(
     alloc: Global,
     input: &mut Input<R>,
@@ -54,40 +60,66 @@ fn show_items<R: Read, W: Write>(
     ensures shown { (bytes : List ℕ) → R.remaining input.old.reader ≡ Some bytes
         → Runs limits bytes (R.remaining input.new.reader)
         (Gathered (W.contents output.old.writer) (W.contents output.new.writer) lines.new.gathered.items)
-        (WroteFront (W.contents output.old.writer) (W.contents output.new.writer)) result }
+        (AppendsFront (W.contents output.old.writer) (W.contents output.new.writer)) result }
     ensures reads { CountsOnlyReads input.old.failures input.new.failures result }
     ensures writes { CountsOnlyWrites output.old.failures output.new.failures result }
 {
-    let table = Table::new(alloc, 0)?;
-    let mut session = Session::new(alloc, limits)?;
-    gather(alloc, input, output, &table, &mut session, lines)
+    let mut buffer = vec![in alloc; 0; PIECE].map_err(Memory::from)?;
+    let mut session = Session::<TreeBuilder>::new(alloc, limits)?;
+    show_pieces(alloc, input, output, &mut session, &mut buffer, lines)
 }
 
-/// The same, over a table of the base types and a session that has read nothing.
-fn gather<R: Read, W: Write>(
+/// The same, over a session that has read nothing, and with room for a piece.
+fn show_pieces<R: Read, W: Write>(
     alloc: Global,
     input: &mut Input<R>,
     output: &mut Output<W>,
-    table: &Table,
-    session: &mut Session,
+    session: &mut Session<TreeBuilder>,
+    buffer: &mut [u8],
     lines: &mut Lines,
 ) -> Result<(), ToolFault>
-    requires types { types table.now ≡ base_table }
-    requires stands { StandsAfter session.old [] [] }
+    requires stands { GaveItems session.old.reading [] [] }
+    requires room { 0 < length buffer.old }
     requires lines { lines.old.gathered.items ≡ [] }
     ensures shown { (bytes : List ℕ) → R.remaining input.old.reader ≡ Some bytes
-        → Runs session.old.limits bytes (R.remaining input.new.reader)
+        → Runs (within_trees session.old.reading.limits) bytes (R.remaining input.new.reader)
         (Gathered (W.contents output.old.writer) (W.contents output.new.writer) lines.new.gathered.items)
-        (WroteFront (W.contents output.old.writer) (W.contents output.new.writer)) result }
+        (AppendsFront (W.contents output.old.writer) (W.contents output.new.writer)) result }
     ensures reads { CountsOnlyReads input.old.failures input.new.failures result }
     ensures writes { CountsOnlyWrites output.old.failures output.new.failures result }
 {
-    'items: while let Some(item) = session.read_item(alloc, input)? {
-        let pushed = lines.push(alloc, &item, table);
-        // Dropped here, and not on each way out of the loop: the proof has one case in place of fourteen.
-        drop(item);
-        pushed?;
-        lines.write_many(output)?;
+    let mut items = Vec::new(alloc);
+    'pieces: loop {
+        match input.read(buffer) {
+            Ok(0) => return Ok(session.finish()?),
+            Ok(count) => {
+                show_piece(alloc, &buffer[..count], session, &mut items, lines, output)?
+            }
+            Err(_) => return Err(ToolFault::Read),
+        }
     }
-    Ok(())
+}
+
+/// Takes a piece of the stream, and gathers the lines of the items that are whole with it, also of those before a
+/// refusal. The room for the items is kept from one piece to the next.
+fn show_piece<W: Write>(
+    alloc: Global,
+    piece: &[u8],
+    session: &mut Session<TreeBuilder>,
+    items: &mut Vec<Item<Value>>,
+    lines: &mut Lines,
+    output: &mut Output<W>,
+) -> Result<(), ToolFault>
+    requires { IsReading session.old.reading }
+    ensures shown { (bytes : List ℕ) (start : Option (List ℕ))
+        → StandsBehind session.old.reading bytes start (W.contents output.old.writer) lines.old.gathered.items
+        → TakesPiece (within_trees session.old.reading.limits) session.new.reading (bytes ++ piece.now)
+        start (W.contents output.new.writer) lines.new.gathered.items result }
+    ensures limits { session.new.reading.limits ≡ session.old.reading.limits }
+    ensures writes { CountsOnlyWrites output.old.failures output.new.failures result }
+{
+    items.clear();
+    let fed = session.feed(alloc, piece, items);
+    lines.show(alloc, items.as_slice(), session.table(), output)?;
+    Ok(fed?)
 }

@@ -1,6 +1,4 @@
-use Rattle.std.proofs.Common.{rules, ◌≡◌, ap, sym}
-use Rattle.json.specs.Tree.{json_tokens}
-use Rattle.serde_json.specs.Written.{outline}
+use Rattle.std.proofs.Common.{rules}
 use Rattle.gob_tool.proofs.TextLaws.{utf8_json, bytes_json}
 use Rattle.gob_tool.proofs.leaf.write_text.Goals as goal
 

@@ -1,10 +1,11 @@
 -- What was gathered goes out at the end, whole or, at a failed write, a front of it.
-use Rattle.std.proofs.Common.{rules, ◌≡◌, ◌∙◌, List, ℕ, Err, ap, sym, subst}
-use Rattle.gob_stream.specs.Item.{StreamItem}
+use Rattle.std.proofs.Common.{rules, ◌≡◌, Err, sym, subst}
+use Rattle.std.specs.Io.KnownBytes.{Appends}
 use Rattle.std.proofs.KnownBytes.{Appends-kept}
 use Rattle.gob_tool.specs.declared.fault.ToolFault.TheVariants as fault
-use Rattle.gob_tool.specs.Showing.{Runs, Shows, WroteFront, WroteLines}
-use Rattle.gob_tool.proofs.ShowLaws.{begun_before, cut, runs_cut, runs_as, all_out, whole_front, begun_as}
+use Rattle.gob_tool.specs.Gathering.{Gathered}
+use Rattle.gob_tool.specs.Showing.{AppendsFront, Shows}
+use Rattle.gob_tool.proofs.ShowLaws.{begun_before, begun_as, runs_cut, runs_as, front_out, all_out, whole_front}
 use Rattle.gob_tool.proofs.show.run_show.Goals as goal
 use Rattle.gob_tool.proofs.show.run_show.Goals.{in_default-2, in_default}
 
@@ -12,19 +13,37 @@ pub returns-in_err-write_to-clause-shown : goal.returns-in_err-write_to-clause-s
 returns-in_err-write_to-clause-shown g c = λ bytes known.
     let other : c.show_items-shown.result ≡ Err fault.Write → ⊥ = search rules in
     let failed = c.in_err-write_to.ensures.written in
-    runs_cut c.args.limits bytes _ _ _ c.from_residual.result _ c.from_residual.ensures.1 failed.0
-    (cut c.args.limits bytes _ _ _ _ (begun_before c.args.limits bytes _ _ _ c.show_items-shown.result (c.show_items-shown.ensures.shown bytes known) other) failed.1)
+    let old = g.W.Write.contents c.args.output.now.writer in
+    let mid = g.W.Write.contents c.show_items-shown.new.output.writer in
+    let new = g.W.Write.contents c.write_to.new.output.writer in
+    let next = g.R.Read.remaining c.show_items-shown.new.input.reader in
+    let gathered = c.show_items-shown.new.lines.gathered.items in
+    let before = begun_before c.args.limits bytes next (Gathered old mid gathered) (AppendsFront old mid) c.show_items-shown.result (c.show_items-shown.ensures.shown bytes known) other in
+    runs_cut c.args.limits bytes next (Appends old new) (AppendsFront old new) c.from_residual.result _ c.from_residual.ensures.1 failed.0
+    (begun_as c.args.limits bytes (Gathered old mid gathered) (AppendsFront old new) before (λ all h. front_out old mid new gathered all h failed.1))
 
 pub returns-in-Ok-clause-shown : goal.returns-in-Ok-clause-shown
 returns-in-Ok-clause-shown g c = λ bytes known.
     let other : c.show_items-shown.result ≡ Err fault.Write → ⊥ = search rules in
-    let before = begun_before c.args.limits bytes _ _ _ c.show_items-shown.result (c.show_items-shown.ensures.shown bytes known) other in
-    begun_as c.args.limits bytes _ _ before
-    (λ items gathered. whole_front items _ _ (Appends-kept _ _ _ _ (all_out items _ _ _ _ gathered c.in_ok-write_to.ensures.written) c.flush-flushed.ensures.bytes))
+    let old = g.W.Write.contents c.args.output.now.writer in
+    let mid = g.W.Write.contents c.show_items-shown.new.output.writer in
+    let new = g.W.Write.contents c.write_to.new.output.writer in
+    let end = g.W.Write.contents c.flush-flushed.new.self.writer in
+    let next = g.R.Read.remaining c.show_items-shown.new.input.reader in
+    let gathered = c.show_items-shown.new.lines.gathered.items in
+    let before = begun_before c.args.limits bytes next (Gathered old mid gathered) (AppendsFront old mid) c.show_items-shown.result (c.show_items-shown.ensures.shown bytes known) other in
+    begun_as c.args.limits bytes (Gathered old mid gathered) (AppendsFront old end) before
+    (λ all h. whole_front old end all (Appends-kept old new end all (all_out old mid new gathered all h c.in_ok-write_to.ensures.written) c.flush-flushed.ensures.bytes))
 
 pub returns-clause-shown : goal.returns-clause-shown
 returns-clause-shown g c = λ bytes known.
     let other : c.show_items-shown.result ≡ Err fault.Write → ⊥ = search rules in
-    let whole = runs_as c.args.limits bytes _ _ _ _ (WroteFront _ _) c.show_items-shown.result (c.show_items-shown.ensures.shown bytes known) other
-    (λ items gathered. Appends-kept _ _ _ _ (all_out items _ _ _ _ gathered c.in_ok-write_to.ensures.written) c.flush-flushed.ensures.bytes) in
-    elim c.match-shown.branch [ in_default-2 w ↦ subst (Shows _ _ _ _ _) (sym w.result-is) whole | in_default w ↦ subst (Shows _ _ _ _ _) (sym w.result-is) whole ]
+    let old = g.W.Write.contents c.args.output.now.writer in
+    let mid = g.W.Write.contents c.show_items-shown.new.output.writer in
+    let new = g.W.Write.contents c.write_to.new.output.writer in
+    let end = g.W.Write.contents c.flush-flushed.new.self.writer in
+    let next = g.R.Read.remaining c.show_items-shown.new.input.reader in
+    let gathered = c.show_items-shown.new.lines.gathered.items in
+    let whole = runs_as c.args.limits bytes next (Gathered old mid gathered) (Appends old end) (AppendsFront old mid) (AppendsFront old end) c.show_items-shown.result (c.show_items-shown.ensures.shown bytes known) other
+    (λ all h. Appends-kept old new end all (all_out old mid new gathered all h c.in_ok-write_to.ensures.written) c.flush-flushed.ensures.bytes) in
+    elim c.match-shown.branch [ in_default-2 w ↦ subst (λ r. Shows c.args.limits bytes next old end r) (sym w.result-is) whole | in_default w ↦ subst (λ r. Shows c.args.limits bytes next old end r) (sym w.result-is) whole ]

@@ -2,7 +2,7 @@
 use Rattle.std.proofs.Common.{rules, ◌≡◌, ◌++◌, ◌∷◌, ◌∙◌, ap, [], List, ℕ}
 use Rattle.json.specs.Tree.{json_tokens}
 use Rattle.json.specs.Print.{print}
-use Rattle.serde_json.specs.Written.{outline, compact_text}
+use Rattle.serde_json.specs.Written.{outline}
 use Rattle.gob_stream.specs.Item.{item_view}
 use Rattle.gob_tool.specs.Line.{item_json}
 use Rattle.gob_tool.proofs.PrintLaws.{printed}
