@@ -6,7 +6,6 @@ pub mod Refusing
 pub mod Outcome
 pub mod WriterRefusal
 pub mod Devices
-pub mod Readable
 pub mod Standing
 pub mod Reading
 pub mod ReadParts
