@@ -12,12 +12,9 @@ use gob_stream::{Input, Limits, Output};
 use gob_tool::{OrderFault, ToolFault, order_of, run_show, status};
 use std::alloc::AllocError;
 use std::fs::File;
-use std::io::{BufReader, ErrorKind, Read};
+use std::io::{ErrorKind, Read};
 use std::process::ExitCode;
 use std::{env, fmt};
-
-// How many bytes are asked of the system at a time.
-const BUFFER: usize = 65536;
 
 // What ends the program with a line on standard error.
 #[derive(Clone, Copy)]
@@ -99,13 +96,9 @@ fn words_of(rt: &HostRuntime) -> Result<Vec<String>, Stop> {
     }
 }
 
+// The run reads in large pieces, so that nothing need be kept between it and the reader.
 fn show<R: Read + Drop>(rt: &HostRuntime, reader: R) -> Result<(), Stop> {
-    match BufReader::with_capacity(rt.alloc(), BUFFER, reader) {
-        Ok(reader) => {
-            let mut input = Input::new(reader);
-            let mut output = Output::new(rt.stdout());
-            run_show(rt.alloc(), &mut input, &mut output, Limits::standard()).map_err(Stop::Run)
-        }
-        Err(_) => Err(Stop::Run(ToolFault::Memory)),
-    }
+    let mut input = Input::new(reader);
+    let mut output = Output::new(rt.stdout());
+    run_show(rt.alloc(), &mut input, &mut output, Limits::standard()).map_err(Stop::Run)
 }
