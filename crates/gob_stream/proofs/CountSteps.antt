@@ -1,6 +1,6 @@
 -- Taking the bytes of a count and of a type number.
-use Rattle.std.proofs.Common.{◌≡◌, ◌≢◌, ℕ, ◌+◌, ◌-◌, ◌<◌, ◌≤◌, ◌⊎◌, inl, inr, List, [], ◌∷◌, ◌++◌, length, take, drop, None, arith, refl, sym, ap, ◌∙◌, subst, append_assoc, length-append}
-use Rattle.std.proofs.lemmas.List.{append-nil, take-append-drop, length-take}
+use Rattle.std.proofs.Common.{◌≡◌, ℕ, ◌+◌, ◌<◌, ◌≤◌, List, [], ◌++◌, length, take, drop, None, arith, sym, ap, ◌∙◌, subst, append_assoc, length-append}
+use Rattle.std.proofs.lemmas.List.{take-append-drop, length-take}
 use Rattle.gob_num.specs.Unsigned.{IsUnsigned, IsUnsignedFront, IsBadHead, IsNotMinimal}
 use Rattle.gob_types.specs.declared.reason.Reason.TheVariants as reason
 use Rattle.gob_stream.specs.declared.fault.Refusal.{Refusal}
@@ -9,8 +9,7 @@ use Rattle.gob_stream.specs.declared.stage.Extent.{Extent}
 use Rattle.gob_stream.specs.Bounds.{Bounds}
 use Rattle.gob_stream.specs.Refusing.{refuses, RefusesCount, item_too_long, stream_too_long}
 use Rattle.gob_stream.specs.Refusing as refusing
-use Rattle.gob_stream.specs.Standing.{IsCount}
-use Rattle.gob_stream.specs.ReadParts.{CountGoesOn, more_of_count, whole_count, IsCountRefused, count_refused, empty_body, CountJudged, above_item, above_stream, no_body, JudgesCount}
+use Rattle.gob_stream.specs.ReadParts.{CountGoesOn, more_of_count, whole_count, IsCountRefused, count_refused, empty_body, CountJudged, above_item, above_stream, no_body}
 
 -- ---- a count that is whole
 pub judged_item : {L : Bounds} {begin end count : ℕ} {R : Refusal} → R ≡ refuses begin end reason.ItemTooLong → L.item < count → CountJudged L begin end count R

@@ -1,5 +1,5 @@
 -- What becomes of an item where a piece of its description is taken.
-use Rattle.std.proofs.Common.{◌≡◌, ◌≢◌, ℕ, pos, negsuc, ◌+◌, ◌-◌, ◌≤◌, List, [], ◌∷◌, ◌++◌, length, take, Option, Some, None, Result, Ok, Err, arith, refl, sym, ap, ◌∙◌, subst, append_assoc, length-append}
+use Rattle.std.proofs.Common.{◌≡◌, ◌≢◌, ℕ, negsuc, ◌+◌, ◌-◌, ◌≤◌, List, [], ◌∷◌, ◌++◌, length, take, Result, Ok, Err, arith, sym, ap, ◌∙◌, subst, append_assoc, length-append}
 use Rattle.std.proofs.lemmas.List.{length-take, append-nil}
 use Rattle.gob_num.specs.Unsigned.{IsUnsigned}
 use Rattle.gob_num.specs.Signed.{IsSigned}
@@ -24,13 +24,13 @@ use Rattle.gob_stream.specs.declared.stage.Extent.{Extent}
 use Rattle.gob_stream.specs.declared.stage.Stepped.{Stepped}
 use Rattle.gob_stream.specs.Bounds.{Bounds}
 use Rattle.gob_stream.specs.Item.{defines, means_definition}
-use Rattle.gob_stream.specs.Body.{Body, definition, MayDefine}
+use Rattle.gob_stream.specs.Body.{definition, MayDefine}
 use Rattle.gob_stream.specs.Stream.{Counted, counted}
 use Rattle.gob_stream.specs.WriterRefusal.{RefusesId, reserved, defined_twice, too_many}
 use Rattle.gob_stream.specs.Refusing.{behind, refuses, RefusesBody, refused_id, refused_description, described_wrongly}
 use Rattle.gob_stream.specs.Outcome.{RefusesNext, refused_body}
 use Rattle.gob_stream.specs.Standing.{Standing, in_description, IsCount, IsRest, size}
-use Rattle.gob_stream.specs.ReadParts.{HasWireType, IsView, IsDescribed, MaybeDefines, may_define, may_not, ReadsDescription, description_goes_on, description_ends, description_refused, describes_nothing, no_memory_for_description, StepsOn, goes_on, gives, refuses_it, no_memory}
+use Rattle.gob_stream.specs.ReadParts.{HasWireType, IsView, MaybeDefines, may_define, may_not, ReadsDescription, description_goes_on, description_ends, description_refused, describes_nothing, no_memory_for_description, StepsOn, goes_on, gives, refuses_it, no_memory}
 use Rattle.gob_stream.proofs.ValueSteps.{three, take_over, body_there, refused_shown, lies, stands_as, counted_as}
 use Rattle.gob_stream.proofs.DescriptionSteps.{wire_spelled}
 

@@ -1,5 +1,5 @@
 -- Taking the bytes of a description.
-use Rattle.std.proofs.Common.{◌≡◌, ℕ, ◌+◌, ◌-◌, ◌^◌, ◌≤◌, List, [], ◌∷◌, ◌++◌, length, take, Option, Some, None, Result, Ok, Err, refl, sym, ap, ◌∙◌, subst}
+use Rattle.std.proofs.Common.{◌≡◌, ℕ, List, [], length, Option, Some, None, Ok, Err, refl, sym, ap, ◌∙◌, subst}
 use Rattle.gob_types.specs.Base.{base_table, wire_type}
 use Rattle.gob_types.specs.Table.{shape_of}
 use Rattle.gob_types.specs.declared.kind.Shape.{Shape}
@@ -22,9 +22,8 @@ use Rattle.gob_read.specs.declared.tree_builder.TreeBuilder.{TreeBuilder}
 use Rattle.gob_stream.specs.declared.item.Item.TheVariants as item
 use Rattle.gob_stream.specs.declared.stage.Stage.{Stage}
 use Rattle.gob_stream.specs.declared.stage.Stage.TheVariants as stage
-use Rattle.gob_stream.specs.declared.stage.Stepped.{Stepped}
 use Rattle.gob_stream.specs.Standing.{Standing, size}
-use Rattle.gob_stream.specs.ReadParts.{HasWireType, IsView, IsDescribed, IsUnderWay, fault_behind, ReadsDescription, description_goes_on, description_ends, description_refused, describes_nothing, no_memory_for_description, defined}
+use Rattle.gob_stream.specs.ReadParts.{HasWireType, IsView, IsDescribed, fault_behind, ReadsDescription, description_goes_on, description_ends, description_refused, describes_nothing, no_memory_for_description, defined}
 use Rattle.gob_stream.proofs.WireLaws.{wire_ready}
 use Rattle.gob_stream.proofs.BodySteps.{not_ended}
 use Rattle.gob_types.specs.declared.id.TypeId.{TypeId}

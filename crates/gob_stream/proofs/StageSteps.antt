@@ -1,14 +1,12 @@
 -- What is known of a reader by what it awaits, and what becomes of it where a piece is taken.
-use Rattle.std.proofs.Common.{◌≡◌, ◌≢◌, ℕ, pos, negsuc, zero, suc, ◌+◌, ◌-◌, ◌<◌, ◌≤◌, List, [], ◌∷◌, ◌++◌, length, take, Option, Some, None, Result, Ok, Err, IfOk, arith, refl, sym, ap, ◌∙◌, subst, append_assoc, length-append}
+use Rattle.std.proofs.Common.{◌≡◌, ◌≢◌, ℕ, pos, negsuc, ◌+◌, ◌-◌, ◌<◌, ◌≤◌, List, [], ◌++◌, length, take, Result, Ok, Err, IfOk, arith, refl, sym, ap, ◌∙◌, subst, length-append}
 use Rattle.std.proofs.lemmas.List.{append-nil, length-take}
-use Rattle.gob_num.specs.Unsigned.{IsUnsigned, IsUnsignedFront}
+use Rattle.gob_num.specs.Unsigned.{IsUnsignedFront}
 use Rattle.gob_num.specs.Signed.{IsSigned}
 use Rattle.gob_num.proofs.FrontLaws.{begins_front}
-use Rattle.gob_num.proofs.UnsignedLaws.{unsigned_length}
 use Rattle.gob_types.specs.declared.id.TypeId.{TypeId}
 use Rattle.gob_types.specs.declared.reason.Reason.TheVariants as reason
 use Rattle.gob_types.specs.Base.{base_table, wire_type}
-use Rattle.gob_types.specs.Defined.{Defined, types, Admits}
 use Rattle.gob_types.specs.Table.{Table}
 use Rattle.gob_value.specs.Tree.{Tree}
 use Rattle.gob_value.specs.declared.value.Value.{Value}
@@ -26,12 +24,11 @@ use Rattle.gob_stream.specs.declared.stage.Extent.{Extent}
 use Rattle.gob_stream.specs.declared.stage.Stepped.{Stepped}
 use Rattle.gob_stream.specs.Bounds.{Bounds}
 use Rattle.gob_stream.specs.Body.{MayDefine, MayPut}
-use Rattle.gob_stream.specs.Stream.{Counted, counted}
 use Rattle.gob_stream.specs.Refusing.{refuses, RefusesCount, item_too_long, stream_too_long, short}
 use Rattle.gob_stream.specs.Refusing as refusing
 use Rattle.gob_stream.specs.Outcome.{RefusesNext, refused_count, refused_body}
 use Rattle.gob_stream.specs.Standing.{Standing, StandsIn, in_count, in_type_number, in_value, in_description, IsCount, IsRest, IsBehind, size}
-use Rattle.gob_stream.specs.ReadParts.{CountGoesOn, more_of_count, whole_count, IsCountRefused, count_refused, empty_body, HasCount, IsUnderWay, IsWithinItem, AreTypes, HasWireType, wanted_in, ReadsValue, value_goes_on, value_ends, value_refused, no_memory_for_value, ReadsDescription, description_goes_on, description_ends, description_refused, describes_nothing, no_memory_for_description, StepsOn, goes_on, gives, refuses_it, no_memory}
+use Rattle.gob_stream.specs.ReadParts.{CountGoesOn, more_of_count, whole_count, IsCountRefused, count_refused, empty_body, HasWireType, ReadsValue, value_goes_on, value_ends, value_refused, no_memory_for_value, ReadsDescription, description_goes_on, description_ends, description_refused, describes_nothing, no_memory_for_description, StepsOn, goes_on, gives, refuses_it, no_memory}
 use Rattle.gob_stream.proofs.ValueSteps.{stands_as, lies, value_steps}
 use Rattle.gob_stream.proofs.DefinitionSteps.{description_steps}
 use Rattle.gob_stream.proofs.NumberSteps.{number_taken}

@@ -1,5 +1,5 @@
 -- Taking the bytes of a type number.
-use Rattle.std.proofs.Common.{◌≡◌, ◌≢◌, ℕ, ◌+◌, ◌-◌, ◌<◌, ◌≤◌, List, ◌++◌, length, Option, Some, None, Ok, Err, refl, sym, ap, ◌∙◌, subst, arith, length-append}
+use Rattle.std.proofs.Common.{◌≡◌, ◌≢◌, ℕ, ◌+◌, ◌≤◌, List, length, Option, Some, None, Ok, Err, refl, sym, ap, ◌∙◌, subst, arith, length-append}
 use Rattle.std.proofs.lemmas.Option.{none-some}
 use Rattle.std.proofs.Common.{ℤ, pos, negsuc, ◌<ℤ◌, ◌≤ℤ◌, unsigned_abs}
 use Rattle.std.proofs.lemmas.Int.{ints}
@@ -9,15 +9,14 @@ use Rattle.gob_types.specs.declared.table.DefineFault.{DefineFault}
 use Rattle.gob_types.specs.declared.table.DefineFault.TheVariants as define
 use Rattle.gob_types.specs.declared.readiness.NotReady.{NotReady}
 use Rattle.gob_types.specs.declared.readiness.NotReady.TheVariants as unready
-use Rattle.gob_types.specs.Table.{Table, shape_of, IsDefined}
+use Rattle.gob_types.specs.Table.{Table, shape_of}
 use Rattle.gob_types.specs.Base.{base_table, gob_encoder_type}
 use Rattle.gob_types.specs.Defined.{Defined, types, Admits}
 use Rattle.gob_types.specs.Refused.{Refuses}
 use Rattle.gob_types.specs.Ready.{IsReady}
 use Rattle.gob_types.specs.Readiness.{IsNotReady}
 use Rattle.gob_stream.specs.Bounds.{Bounds}
-use Rattle.gob_stream.specs.Body.{MayDefine}
-use Rattle.gob_stream.specs.WriterRefusal.{RefusesId, reserved, defined_twice, too_many, RefusesType, private_type, undefined, bottomless}
+use Rattle.gob_stream.specs.WriterRefusal.{RefusesId, reserved, defined_twice, too_many, private_type, undefined, bottomless}
 use Rattle.gob_types.specs.declared.reason.Reason.TheVariants as reason
 use Rattle.gob_stream.specs.declared.fault.Refusal.{Refusal}
 use Rattle.gob_stream.specs.declared.fault.Fault.{Fault}

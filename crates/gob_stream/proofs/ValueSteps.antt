@@ -1,23 +1,21 @@
 -- What becomes of an item where a piece of its value or its description is taken.
-use Rattle.std.proofs.Common.{◌≡◌, ◌≢◌, ℕ, zero, suc, pos, negsuc, ◌+◌, ◌-◌, ◌<◌, ◌≤◌, List, [], ◌∷◌, ◌++◌, length, take, Option, Some, None, Result, Ok, Err, arith, refl, sym, ap, ◌∙◌, subst, append_assoc, length-append}
-use Rattle.std.proofs.lemmas.List.{length-take, append-nil}
+use Rattle.std.proofs.Common.{◌≡◌, ◌≢◌, ℕ, zero, suc, pos, ◌+◌, ◌-◌, ◌≤◌, List, [], ◌∷◌, ◌++◌, length, take, Result, Ok, Err, arith, refl, sym, ap, ◌∙◌, subst, append_assoc, length-append}
+use Rattle.std.proofs.lemmas.List.{append-nil}
 use Rattle.gob_types.specs.declared.reason.Reason.{Reason}
 use Rattle.gob_stream.specs.WriterRefusal.{RefusesType, private_type, undefined, bottomless}
 use Rattle.gob_num.specs.Unsigned.{IsUnsigned}
 use Rattle.gob_num.specs.Signed.{IsSigned}
 use Rattle.gob_types.specs.declared.id.TypeId.{TypeId}
 use Rattle.gob_types.specs.declared.reason.Reason.TheVariants as reason
-use Rattle.gob_types.specs.Base.{base_table, wire_type}
+use Rattle.gob_types.specs.Base.{base_table}
 use Rattle.gob_types.specs.Table.{Table}
-use Rattle.gob_value.specs.Tree.{Tree, depth}
-use Rattle.gob_value.specs.Top.{SpellsTop}
+use Rattle.gob_value.specs.Tree.{Tree}
 use Rattle.gob_read.specs.Refusal as body
 use Rattle.gob_read.specs.Refusal.{Refused, extra, too_deep, short_of, bad_head_at, not_minimal_at, not_allowed}
 use Rattle.gob_read.specs.Awaited.{Allowed, any, tag, truth_value, array_count, delta, nil, reason_of}
 use Rattle.gob_read.specs.First.{IsFirst}
 use Rattle.gob_read.specs.declared.tree_builder.TreeBuilder.{TreeBuilder}
 use Rattle.gob_read.proofs.Seen.{take_whole}
-use Rattle.gob_stream.specs.declared.fault.Refusal.{Refusal}
 use Rattle.gob_stream.specs.declared.fault.Fault.{Fault}
 use Rattle.gob_stream.specs.declared.fault.Fault.TheVariants as fault
 use Rattle.gob_stream.specs.declared.stage.Extent.{Extent}
@@ -25,11 +23,11 @@ use Rattle.gob_stream.specs.declared.stage.Stage.{Stage}
 use Rattle.gob_stream.specs.declared.stage.Stepped.{Stepped}
 use Rattle.gob_stream.specs.Bounds.{Bounds}
 use Rattle.gob_stream.specs.Item.{StreamItem, puts, means_value}
-use Rattle.gob_stream.specs.Body.{Body, value, MayPut}
+use Rattle.gob_stream.specs.Body.{value, MayPut}
 use Rattle.gob_stream.specs.Stream.{Counted, counted}
 use Rattle.gob_stream.specs.Refusing.{behind, refuses, RefusesBody, refused_value, refused_type}
 use Rattle.gob_stream.specs.Outcome.{RefusesNext, refused_body}
-use Rattle.gob_stream.specs.Standing.{Standing, StandsIn, in_value, IsCount, IsRest, IsBehind, size}
+use Rattle.gob_stream.specs.Standing.{Standing, StandsIn, in_value, IsCount, IsRest, size}
 use Rattle.gob_stream.specs.ReadParts.{MaybePuts, may_put, may_not_put, no_memory_to_ask, ReadsValue, value_goes_on, value_ends, value_refused, no_memory_for_value, StepsOn, goes_on, gives, refuses_it, no_memory}
 
 -- ---- lists

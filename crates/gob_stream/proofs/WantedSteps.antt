@@ -10,7 +10,7 @@ use Rattle.gob_stream.specs.declared.stage.Stage.TheVariants as stage
 use Rattle.gob_stream.specs.declared.stage.Extent.{Extent}
 use Rattle.gob_stream.specs.declared.reading.Reading.{Reading}
 use Rattle.gob_stream.specs.Bounds.{Bounds}
-use Rattle.gob_stream.specs.Standing.{Standing, IsCount, IsRest, size, StandsIn, in_count, in_type_number, in_value, in_description, StandsAfter, IsUsable, has_failed, stands_after}
+use Rattle.gob_stream.specs.Standing.{Standing, IsCount, IsRest, size, StandsIn, in_count, in_type_number, in_value, in_description, IsUsable, has_failed, stands_after}
 
 -- bytes that are fewer than what is left of the body end before the item does
 before_end : {L : Bounds} {offset m : ℕ} {c a : List ℕ} {body rest : Extent} (z : List ℕ) → IsCount L offset m c body → IsRest body a rest → length z < size rest → offset + length (c ++ (a ++ z)) < rest.end

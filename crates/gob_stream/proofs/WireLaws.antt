@@ -1,15 +1,14 @@
 -- wireType is ready in the base table, and so means the same in each table of a stream.
-use Rattle.std.proofs.Common.{◌≡◌, ◌⊎◌, inl, inr, ℕ, zero, suc, List, [], ◌∷◌, Bool, true, false, cond, Some, None, refl, sym, ap, ◌∙◌, subst}
+use Rattle.std.proofs.Common.{◌≡◌, ℕ, zero, suc, List, [], ◌∷◌, Bool, true, false, cond, Some, refl, subst}
 use Rattle.std.specs.Prelude.{◌==◌, slice_get}
 use Rattle.gob_types.specs.declared.id.TypeId.{TypeId}
-use Rattle.gob_types.specs.declared.basic.Basic.{Basic}
 use Rattle.gob_types.specs.declared.kind.Field.{Field}
 use Rattle.gob_types.specs.declared.kind.Kind.{Kind}
 use Rattle.gob_types.specs.declared.kind.Kind.TheVariants as kind
 use Rattle.gob_types.specs.declared.kind.Shape.{Shape}
 use Rattle.gob_types.specs.Base.{base_table, wire_type}
 use Rattle.gob_types.specs.Table.{Table, shape_of, IsDefined, Extends}
-use Rattle.gob_types.specs.Ready.{Names, HasFieldOf, Leads, here, onward, Reaches, IsFilledArray, IsGrounded, plain, IsReady}
+use Rattle.gob_types.specs.Ready.{Names, Leads, here, onward, IsFilledArray, plain, IsReady}
 use Rattle.gob_types.specs.Defined.{IsTable}
 use Rattle.gob_types.proofs.GrowthLaws.{extends_keeps, some_injective}
 use Rattle.gob_value.specs.Tree.{Tree}

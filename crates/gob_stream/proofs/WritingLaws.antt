@@ -1,5 +1,5 @@
 -- What the writing calls rest on.
-use Rattle.std.proofs.Common.{◌≡◌, ◌≢◌, ℕ, ℤ, pos, negsuc, ◌+◌, ◌^◌, ◌<◌, ◌≤◌, ◌⊎◌, inl, inr, Bool, true, false, cond, List, [], ◌∷◌, ◌++◌, length, Option, Some, None, refl, sym, ap, subst, ◌∙◌, arith, append_assoc, length-append}
+use Rattle.std.proofs.Common.{◌≡◌, ◌≢◌, ℕ, ℤ, negsuc, ◌+◌, ◌^◌, ◌<◌, ◌≤◌, ◌⊎◌, inl, inr, true, false, cond, List, [], ◌∷◌, ◌++◌, length, Option, Some, None, refl, sym, ap, subst, ◌∙◌, arith, append_assoc, length-append}
 use Rattle.std.specs.Prelude.{◌==◌}
 use Rattle.std.proofs.lemmas.Bool.Decides.{eqb_tells}
 use Rattle.gob_num.specs.Unsigned.{IsUnsigned, short, long}
@@ -10,9 +10,9 @@ use Rattle.gob_types.specs.declared.table.DefineFault.{DefineFault}
 use Rattle.gob_types.specs.declared.table.DefineFault.TheVariants as defining
 use Rattle.gob_types.specs.declared.readiness.NotReady.{NotReady}
 use Rattle.gob_types.specs.declared.readiness.NotReady.TheVariants as unready
-use Rattle.gob_types.specs.Table.{Table, shape_of, IsDefined}
+use Rattle.gob_types.specs.Table.{Table, shape_of}
 use Rattle.gob_types.specs.Base.{base_table, wire_type, gob_encoder_type}
-use Rattle.gob_types.specs.Defined.{Defined, types, IsTable, Admits, definition_count}
+use Rattle.gob_types.specs.Defined.{Defined, types, IsTable, Admits}
 use Rattle.gob_types.specs.Refused.{Refuses}
 use Rattle.gob_types.specs.Ready.{IsReady}
 use Rattle.gob_types.specs.Readiness.{IsNotReady}
@@ -33,8 +33,8 @@ use Rattle.gob_stream.specs.Bounds.{Bounds}
 use Rattle.gob_stream.specs.Item.{StreamItem, defines, puts}
 use Rattle.gob_stream.specs.Body.{Body, definition, value, MayDefine, MayPut}
 use Rattle.gob_stream.specs.Stream.{Counted, counted}
-use Rattle.gob_stream.specs.WriterRefusal.{reserved, defined_twice, too_many, RefusesType, undefined, bottomless, RefusesValue, too_deep, does_not_fit, RefusesItem, refused_id, refused_description, described_wrongly, refused_type, refused_value}
-use Rattle.gob_stream.specs.Writing.{IsRefusal, IsWhole, HasStructs, IsHead, head_of_struct, head_with_tag, spelling_fault, type_fault, definition_fault, description_fault}
+use Rattle.gob_stream.specs.WriterRefusal.{reserved, defined_twice, too_many, RefusesType, undefined, bottomless, RefusesValue, too_deep, does_not_fit, RefusesItem, refused_id, refused_description, described_wrongly, refused_value}
+use Rattle.gob_stream.specs.Writing.{IsRefusal, IsWhole, IsHead, head_of_struct, head_with_tag, spelling_fault, type_fault, definition_fault, description_fault}
 use Rattle.gob_stream.proofs.FaultSteps.{refusal_weaker}
 
 -- ---- which ids can be defined

@@ -44,7 +44,7 @@ use Rattle.gob_stream.specs.WriterRefusal.{RefusesId, RefusesType}
 use Rattle.gob_stream.specs.Stream.{Counted}
 use Rattle.gob_stream.specs.Refusing.{RefusesCount, behind, refuses}
 use Rattle.gob_stream.specs.Outcome.{RefusesNext}
-use Rattle.gob_stream.specs.Standing.{Standing, StandsIn, StandsAfter, IsCount, IsRest, IsBehind, size, no_deeper}
+use Rattle.gob_stream.specs.Standing.{Standing, StandsIn, StandsAfter, IsCount, IsBehind, size, no_deeper}
 use Rattle.gob_stream.specs.Reading.{IsShown}
 
 -- more of the count was taken, or all of it

@@ -1,6 +1,6 @@
 -- How far a reader of items has come in a stream, by what it awaits.
 -- It describes the reader's state.
-use Rattle.std.specs.Prelude.{◌≡◌, ℕ, pos, negsuc, ◌+◌, ◌-◌, ◌<◌, ◌≤◌, ◌⊎◌, min, List, [], ◌++◌, length}
+use Rattle.std.specs.Prelude.{◌≡◌, ℕ, pos, negsuc, ◌+◌, ◌-◌, ◌<◌, ◌≤◌, min, List, ◌++◌, length}
 use Rattle.gob_num.specs.Unsigned.{IsUnsigned, IsUnsignedFront}
 use Rattle.gob_num.specs.Signed.{IsSigned}
 use Rattle.gob_types.specs.declared.id.TypeId.{TypeId}
@@ -10,7 +10,6 @@ use Rattle.gob_types.specs.Defined.{types}
 use Rattle.gob_read.specs.Telling.{Telling}
 use Rattle.gob_read.specs.Stood.{IsStood}
 use Rattle.gob_read.specs.Reader.{Stands}
-use Rattle.gob_read.specs.declared.run.Run.{Run}
 use Rattle.gob_read.specs.declared.reader.BodyReader.{BodyReader}
 use Rattle.gob_read.specs.declared.tree_builder.TreeBuilder.{TreeBuilder}
 use Rattle.gob_value.specs.declared.value.Value.{Value}

@@ -1,8 +1,4 @@
-use Rattle.std.proofs.Common.{◌++◌, ◌+◌, ◌-◌, ◌≡◌, ◌≢◌, ◌<◌, length, Result, Ok, IfOk, arith, refl, sym, ap, subst, length-append}
-use Rattle.gob_types.specs.Defined.{types}
-use Rattle.gob_stream.specs.declared.stage.Stage.TheVariants as stage
-use Rattle.gob_stream.specs.Standing.{no_deeper, size}
-use Rattle.gob_stream.specs.ReadParts.{StepsOn}
+use Rattle.std.proofs.Common.{length, arith, refl, ap, length-append}
 use Rattle.gob_stream.proofs.StageSteps.{parts, count_steps, count_refuses, count_some, value_taken, description_taken, value_some, value_all, description_some, description_all, number_steps, awaits, one_used, rest_left}
 use Rattle.gob_stream.proofs.reading.take_awaited.Goals as goal
 

@@ -1,4 +1,4 @@
-use Rattle.std.proofs.Common.{◌≡◌, ◌≢◌, ℕ, rules, sym, ap, ◌∙◌}
+use Rattle.std.proofs.Common.{◌≢◌, ℕ, rules, sym, ap, ◌∙◌}
 use borrow.Author.Tests.{eqb-true}
 use Rattle.gob_types.specs.Base.{id, gob_encoder_type}
 use Rattle.gob_stream.specs.WriterRefusal.{private_type}

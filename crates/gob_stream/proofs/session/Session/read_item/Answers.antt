@@ -1,7 +1,7 @@
 use Rattle.std.proofs.Common.{◌<◌, ◌++◌, length, take, drop, Ok, Err, inl, inr, arith, refl, sym, ap, ◌∙◌}
 use Rattle.std.proofs.lemmas.Grind.{common_steps}
 use Rattle.gob_types.specs.Defined.{types}
-use Rattle.gob_stream.specs.Reading.{ReadsNext, CountsReads, TakesNext}
+use Rattle.gob_stream.specs.Reading.{ReadsNext, TakesNext}
 use Rattle.gob_stream.specs.ReadParts.{wanted_in}
 use Rattle.gob_stream.proofs.SessionSteps.{IsSound, told_trees, types_stay, on_err, consumed_nothing, all_taken, somewhere, stood_first, room_of, passed_on, IsRead, piece_length, piece_consumed, stepped, stood_before, step_stops, read_stops, end_stops, counts_none, step_unread, end_unread, nothing_more, step_gives, reads_item, gives_taken, takes_item, step_taken, item_within, no_less, some_there, none_there, stood_further, still_sound}
 use Rattle.gob_stream.proofs.session.Session.read_item.Goals as goal
