@@ -199,6 +199,7 @@ impl<B: Builder> Run<B> {
     {
         match self.state.awaited {
             Awaited::Top { id: _ } => unreachable!(),
+            Awaited::Number(Item::Part { id }) => self.step_part(shapes, id, rest),
             Awaited::Number(item) => self.step_number(shapes, item, rest),
             Awaited::Raw { left } => Ok(self.step_raw(left, rest)?),
         }
@@ -206,7 +207,7 @@ impl<B: Builder> Run<B> {
 
     /// Takes the awaited number, or the next byte of it.
     #[inline(always)]
-    fn step_number<S: Shapes>(
+    pub(crate) fn step_number<S: Shapes>(
         &mut self,
         shapes: &S,
         item: Item,
