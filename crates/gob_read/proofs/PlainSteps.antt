@@ -16,6 +16,7 @@ use Rattle.gob_read.specs.declared.awaited.Item.{Item}
 use Rattle.gob_read.specs.declared.awaited.Item.TheVariants.{Part, Delta}
 use Rattle.gob_read.specs.declared.state.State.{State}
 use Rattle.gob_read.specs.declared.run.Run.{Run}
+use Rattle.gob_read.specs.declared.run.Stepped.{Stepped}
 use Rattle.gob_read.specs.declared.plain.Entered.{Entered}
 use Rattle.gob_read.specs.Telling.{Telling, number, raw_start, raw_more, leave, field}
 use Rattle.gob_read.specs.Building.{IsTold}
@@ -23,7 +24,7 @@ use Rattle.gob_read.specs.Frames.{to_delta}
 use Rattle.gob_read.specs.Kinds.{HasKind, IsScalar, IsRawKind}
 use Rattle.gob_read.specs.Steps.{IsInStruct, CanBegin, Ends, CanGoOn, GoesOn, CanTakeRaw}
 use Rattle.gob_read.specs.Running.{IsOpen, IsOpenSomewhere, IsOpenIn, IsStepped, IsReached, TakesMore, Steps, Opens, depth_of, item_depth, IsReachedSomewhere}
-use Rattle.gob_read.specs.Plain.{CanTellPlain, IsStateKept, TellsPlain, told_nothing, told_number, told_bytes, IsInFields, IsInStructFrame, Passes, TakesPlain, not_taken, plain_taken, EntersField, NamesField, TakesName, not_named, named, CanEndFields, EndsFields}
+use Rattle.gob_read.specs.Plain.{CanTellPlain, IsStateKept, TellsPlain, told_nothing, told_number, told_bytes, IsInFields, IsInStructFrame, StepsPlain, not_stepped, stepped_over, Passes, TakesPlain, not_taken, plain_taken, EntersField, NamesField, TakesName, not_named, named, CanEndFields, EndsFields}
 use Rattle.gob_read.proofs.Fronts.{append_nil}
 use Rattle.gob_read.proofs.Parts.{ended_on, begins_ended}
 use Rattle.gob_read.proofs.FirstSteps.{number_ended, length_placed}
@@ -378,3 +379,21 @@ plain_open {rest = rest} {used = used} p o deep room some = record { type = o.ty
 
 pub plain_more : {T : Table} {X O : Type 0} {stands : X → List Telling → Type 0} {old new : Run X O} {rest : List ℕ} {used : ℕ} → IsPlainTaken T stands old new rest used → TakesMore old new used
 plain_more {rest = rest} {used = used} p = record { taken = (let t = p.passes.more.taken in let w = p.within in omega (arith, length-take used rest)); length_is = p.passes.more.length_is; depth_is = p.passes.more.depth_is }
+
+-- what was stepped over, or not
+pub record HasStepped (T : Table) {X O : Type 0} (stands : X → List Telling → Type 0) (old new : Run X O) (rest : List ℕ) (s : Stepped) : Type 0 where
+  pub within : s.used ≤ length rest
+  pub more : TakesMore old new s.used
+  pub steps : Steps T stands old new (take s.used rest) s.whole
+
+pub stepped_some : {T : Table} {X O : Type 0} {stands : X → List Telling → Type 0} {old new : Run X O} {rest : List ℕ} {s : Stepped} → StepsPlain T stands old new rest s → 0 < s.used → HasStepped T stands old new rest s
+stepped_some (not_stepped z e) l = absurd (omega arith)
+stepped_some (stepped_over p w m s) l = record { within = w; more = m; steps = s }
+
+pub stepped_none : {T : Table} {X O : Type 0} {stands : X → List Telling → Type 0} {old new : Run X O} {rest : List ℕ} {s : Stepped} → StepsPlain T stands old new rest s → s.used ≤ 0 → new ≡ old
+stepped_none (not_stepped z e) l = e
+stepped_none (stepped_over p w m s) l = absurd (omega arith)
+
+pub plain_stepped : {T : Table} {X O : Type 0} {stands : X → List Telling → Type 0} {old new : Run X O} {rest : List ℕ} {used : ℕ} → TakesPlain T stands old new rest used → StepsPlain T stands old new rest (record { used = used; whole = false })
+plain_stepped (not_taken e) = not_stepped refl e
+plain_stepped (plain_taken s w p a k) = stepped_over s w (plain_more (record { within = w; passes = p; awaited = a; stack = k })) p.steps

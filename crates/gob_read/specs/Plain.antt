@@ -19,6 +19,7 @@ use Rattle.gob_read.specs.declared.awaited.Item.TheVariants.{Part, Delta}
 use Rattle.gob_read.specs.declared.telling.RawKind.{RawKind}
 use Rattle.gob_read.specs.declared.state.State.{State}
 use Rattle.gob_read.specs.declared.run.Run.{Run}
+use Rattle.gob_read.specs.declared.run.Stepped.{Stepped}
 use Rattle.gob_read.specs.declared.plain.Entered.{Entered}
 
 -- a part of the basic type begins with this number, and these bytes stand behind it
@@ -58,6 +59,11 @@ pub record Passes (T : Table) {X O : Type 0} (stands : X → List Telling → Ty
 pub data TakesPlain (T : Table) {X O : Type 0} (stands : X → List Telling → Type 0) (old new : Run X O) (rest : List ℕ) : ℕ → Type 0 where
   not_taken : new ≡ old → TakesPlain T stands old new rest 0
   plain_taken : {used : ℕ} → 0 < used → used ≤ length rest → Passes T stands old new (take used rest) → new.state.awaited ≡ Number Delta → new.state.stack ≡ old.state.stack → TakesPlain T stands old new rest used
+
+-- so much of the piece was stepped over, or nothing was done
+pub data StepsPlain (T : Table) {X O : Type 0} (stands : X → List Telling → Type 0) (old new : Run X O) (rest : List ℕ) (s : Stepped) : Type 0 where
+  not_stepped : s.used ≡ 0 → new ≡ old → StepsPlain T stands old new rest s
+  stepped_over : 0 < s.used → s.used ≤ length rest → TakesMore old new s.used → Steps T stands old new (take s.used rest) s.whole → StepsPlain T stands old new rest s
 
 -- the delta was taken, and a part of this type is awaited in the struct
 pub record EntersField (T : Table) {X O : Type 0} (stands : X → List Telling → Type 0) (old new : Run X O) (n : ℕ) (u : TypeId) (next : ℕ) (part : TypeId) : Type 0 where

@@ -6,7 +6,7 @@ ghost use Rattle.gob_types.specs.Table.{Table};
 ghost use Rattle.gob_types.specs.declared.kind.Kind.TheVariants as kind;
 ghost use Rattle.gob_read.specs.Kinds.{HasKind, IsScalar, IsRawKind};
 ghost use Rattle.gob_read.specs.Running.{IsOpenSomewhere, IsOpenIn, TakesMore, Steps, StopsFor, RefusesAt};
-ghost use Rattle.gob_read.specs.Plain.{CanTellPlain, TellsPlain, IsInFields, IsInStructFrame, TakesPlain, TakesName};
+ghost use Rattle.gob_read.specs.Plain.{CanTellPlain, TellsPlain, IsInFields, IsInStructFrame, TakesPlain, TakesName, StepsPlain};
 
 use crate::awaited::{Awaited, Item};
 use crate::builder::Builder;
@@ -89,7 +89,7 @@ impl<B: Builder> State<B> {
 
 impl<B: Builder> Run<B> {
     /// Takes the awaited part, or the next byte of its first number. In a struct it takes what stands whole behind it too.
-    #[inline(never)]
+    #[inline(always)]
     pub(crate) fn step_part<S: Shapes>(
         &mut self,
         shapes: &S,
@@ -105,43 +105,62 @@ impl<B: Builder> Run<B> {
         ensures ok { IfOk result (λ stepped. Steps (S.table shapes.now) B.stands self.old self.new (take stepped.used rest.now) stepped.whole) }
         ensures refused { IfErr result (StopsFor (λ refusal. RefusesAt (S.table shapes.now) B.stands self.old rest.now refusal)) }
     {
-        let used = self.take_plain_first(shapes, id, rest)?;
-        if used == 0 {
-            return self.step_number(shapes, Item::Part { id }, rest);
+        let stepped = self.step_plain(shapes, id, rest)?;
+        if stepped.used > 0 {
+            return Ok(stepped);
         }
-        if used == rest.len() {
-            return Ok(Stepped { used, whole: false });
+        self.step_number(shapes, Item::Part { id }, rest)
+    }
+
+    /// Takes the awaited part and what stands whole behind it in its struct, if it is in a struct and no byte of it was taken
+    /// before. Where it isn't taken, nothing is done.
+    #[inline(always)]
+    fn step_plain<S: Shapes>(
+        &mut self,
+        shapes: &S,
+        id: TypeId,
+        rest: &[u8],
+    ) -> Result<Stepped, Memory>
+        requires awaited { self.old.state.awaited ≡ Awaited.Number (Item.Part id) }
+        requires stands { IsOpenSomewhere (S.table shapes.now) B.stands self.old }
+        requires room { self.old.taken + length rest.now ≤ self.old.length }
+        ensures { IfOk result (λ stepped. StepsPlain (S.table shapes.now) B.stands self.old self.new rest.now stepped) }
+    {
+        if self.start != self.taken {
+            return Ok(Stepped::NONE);
         }
         let Some(Frame::Fields { id: of, next }) = self.state.stack.innermost() else {
-            return Ok(Stepped { used, whole: false });
+            return Ok(Stepped::NONE);
         };
+        self.step_parts(shapes, of, next, id, rest)
+    }
+
+    /// Takes the awaited part of the innermost open struct, and what stands whole behind it there.
+    #[inline(never)]
+    fn step_parts<S: Shapes>(
+        &mut self,
+        shapes: &S,
+        of: TypeId,
+        next: u64,
+        id: TypeId,
+        rest: &[u8],
+    ) -> Result<Stepped, Memory>
+        requires awaited { self.old.state.awaited ≡ Awaited.Number (Item.Part id) }
+        requires inside { IsInFields of next self.old.state.stack }
+        requires stands { IsOpenSomewhere (S.table shapes.now) B.stands self.old }
+        requires fresh { self.old.start ≡ self.old.taken }
+        requires room { self.old.taken + length rest.now ≤ self.old.length }
+        ensures { IfOk result (λ stepped. StepsPlain (S.table shapes.now) B.stands self.old self.new rest.now stepped) }
+    {
+        let used = self.take_plain(shapes, id, rest)?;
+        if used == 0 || used == rest.len() {
+            return Ok(Stepped { used, whole: false });
+        }
         let more = self.step_fields(shapes, of, next, &rest[used..])?;
         Ok(Stepped {
             used: used + more.used,
             whole: more.whole,
         })
-    }
-
-    /// Takes the awaited part as `take_plain` does, if it is in a struct and no byte of it was taken before.
-    #[inline(always)]
-    fn take_plain_first<S: Shapes>(
-        &mut self,
-        shapes: &S,
-        id: TypeId,
-        rest: &[u8],
-    ) -> Result<usize, Memory>
-        requires awaited { self.old.state.awaited ≡ Awaited.Number (Item.Part id) }
-        requires stands { IsOpenSomewhere (S.table shapes.now) B.stands self.old }
-        requires room { self.old.taken + length rest.now ≤ self.old.length }
-        ensures { IfOk result (λ used. TakesPlain (S.table shapes.now) B.stands self.old self.new rest.now used) }
-    {
-        if self.start != self.taken {
-            return Ok(0);
-        }
-        let Some(Frame::Fields { id: _, next: _ }) = self.state.stack.innermost() else {
-            return Ok(0);
-        };
-        self.take_plain(shapes, id, rest)
     }
 
     /// Takes the deltas of the innermost open struct, and the parts behind them, as long as they stand whole in the piece.

@@ -46,6 +46,14 @@ pub(crate) struct Stepped {
     pub(crate) whole: bool,
 }
 
+impl Stepped {
+    /// Nothing of the piece.
+    pub(crate) const NONE: Stepped = Stepped {
+        used: 0,
+        whole: false,
+    };
+}
+
 impl<B: Builder> Run<B> {
     /// A reader of a value of the type that has taken nothing.
     pub(crate) fn new(alloc: Global, id: TypeId, length: u64, depth: u64) -> Result<Run<B>, Memory>
