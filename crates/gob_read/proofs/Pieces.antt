@@ -15,7 +15,7 @@ take_none : (n : ℕ) → take {A = ℕ} n [] ≡ []
 take_none zero = refl
 take_none (suc n) = refl
 
-take_further : (xs : List ℕ) (used count : ℕ) → take (used + count) xs ≡ take used xs ++ take count (drop used xs)
+pub take_further : (xs : List ℕ) (used count : ℕ) → take (used + count) xs ≡ take used xs ++ take count (drop used xs)
 take_further xs zero count = ap (λ n. take n xs) (zero-add count)
 take_further [] (suc used) count = rw suc-add (sym (take_none count))
 take_further (x ∷ xs) (suc used) count = rw suc-add (ap (λ l. x ∷ l) (take_further xs used count))
@@ -27,7 +27,7 @@ take_all (x ∷ xs) zero l = absurd (omega arith)
 take_all (x ∷ xs) (suc n) l = ap (λ l. x ∷ l) (take_all xs n (omega arith))
 
 -- the slice from there on is the rest
-slice_rest : (piece : List ℕ) (used : ℕ) → take (length piece - used) (drop used piece) ≡ drop used piece
+pub slice_rest : (piece : List ℕ) (used : ℕ) → take (length piece - used) (drop used piece) ≡ drop used piece
 slice_rest piece used = take_all (drop used piece) (length piece - used) (omega (arith, length-drop used piece))
 
 -- what was read so far, with more of the piece

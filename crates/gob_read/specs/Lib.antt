@@ -13,6 +13,7 @@ pub mod Kinds
 pub mod Within
 pub mod Steps
 pub mod Running
+pub mod Plain
 pub mod Reader
 pub mod ReaderLaws
 pub mod Counted

@@ -1,6 +1,9 @@
 //! The deltas of a struct.
 
-ghost use Rattle.std.specs.Prelude.{◌≡◌, ◌<◌, ◌≤◌, IfOk, IfErr, length};
+ghost use Rattle.std.specs.Prelude.{◌≡◌, ◌+◌, ◌^◌, ◌<◌, ◌≤◌, IfOk, IfErr, OnOk, length};
+ghost use Rattle.gob_read.specs.Telling as telling;
+ghost use Rattle.gob_read.specs.Building.{CanTell};
+ghost use Rattle.gob_read.specs.Plain.{NamesField, CanEndFields, EndsFields};
 ghost use Rattle.gob_read.specs.Steps.{CanBeginStruct, BeginsStruct, CanGoOn, GoesOn, LeadsNowhere, CanTake, Takes, Refuses, Blames};
 
 use crate::awaited::{Awaited, Item};
@@ -9,6 +12,7 @@ use crate::frame::Frame;
 use crate::state::State;
 use crate::stop::Fault;
 use crate::telling::GroupKind;
+use gob_num::Memory;
 use gob_types::{Fields, Kind, Reason, Shapes, TypeId};
 
 impl<B: Builder> State<B> {
@@ -60,20 +64,41 @@ impl<B: Builder> State<B> {
         ensures refused { IfErr result (Blames (λ reason. LeadsNowhere fields.now next n reason)) }
     {
         if n == 0 {
-            self.stack.close();
-            self.builder.leave()?;
-            return Ok(self.after_part()?);
+            return Ok(self.end_fields()?);
         }
         let number = next.saturating_add(n - 1);
         let Some(field) = fields.get(number) else {
             return Err(Fault::Refused(Reason::FieldNumber));
         };
+        self.name_field(id, number, field.id)?;
+        Ok(false)
+    }
+
+    /// Takes the number of the next field of the innermost open struct, which is of this type, and the type of its part.
+    #[inline(always)]
+    pub(crate) fn name_field(&mut self, id: TypeId, number: u64, part: TypeId) -> Result<(), Memory>
+        requires named { CanTell B.stands self.old.builder (telling.field number) }
+        requires inside { 0 < length self.old.stack }
+        requires small { number + 1 < 2 ^ 64 }
+        ensures { OnOk result (NamesField B.stands self.old self.new id number part) }
+    {
         self.builder.field(number)?;
         self.stack.replace(Frame::Fields {
             id,
             next: number + 1,
         });
-        self.awaited = Awaited::Number(Item::Part { id: field.id });
-        Ok(false)
+        self.awaited = Awaited::Number(Item::Part { id: part });
+        Ok(())
+    }
+
+    /// Ends the innermost open struct, and answers whether the value is whole then.
+    #[inline(always)]
+    pub(crate) fn end_fields(&mut self) -> Result<bool, Memory>
+        requires { CanEndFields B.stands self.old }
+        ensures { IfOk result (λ whole. EndsFields B.stands self.old self.new whole) }
+    {
+        self.stack.close();
+        self.builder.leave()?;
+        self.after_part()
     }
 }

@@ -36,6 +36,7 @@ mod laws_reader;
 mod memory_tests;
 mod open;
 mod part;
+mod plain;
 mod reader;
 mod run;
 mod stack;

@@ -46,6 +46,14 @@ pub(crate) struct Stepped {
     pub(crate) whole: bool,
 }
 
+impl Stepped {
+    /// Nothing of the piece.
+    pub(crate) const NONE: Stepped = Stepped {
+        used: 0,
+        whole: false,
+    };
+}
+
 impl<B: Builder> Run<B> {
     /// A reader of a value of the type that has taken nothing.
     pub(crate) fn new(alloc: Global, id: TypeId, length: u64, depth: u64) -> Result<Run<B>, Memory>
@@ -199,6 +207,7 @@ impl<B: Builder> Run<B> {
     {
         match self.state.awaited {
             Awaited::Top { id: _ } => unreachable!(),
+            Awaited::Number(Item::Part { id }) => self.step_part(shapes, id, rest),
             Awaited::Number(item) => self.step_number(shapes, item, rest),
             Awaited::Raw { left } => Ok(self.step_raw(left, rest)?),
         }
@@ -206,7 +215,7 @@ impl<B: Builder> Run<B> {
 
     /// Takes the awaited number, or the next byte of it.
     #[inline(always)]
-    fn step_number<S: Shapes>(
+    pub(crate) fn step_number<S: Shapes>(
         &mut self,
         shapes: &S,
         item: Item,

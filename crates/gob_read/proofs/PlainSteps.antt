@@ -1,0 +1,399 @@
+-- Parts that stand whole in a piece, taken one behind another.
+use Rattle.std.proofs.Common.{◌≡◌, ℕ, ◌+◌, ◌-◌, ◌^◌, ◌<◌, ◌≤◌, Bool, false, List, [], ◌∷◌, ◌++◌, length, take, drop, get_or, zero, suc, Option, Some, None, arith, refl, sym, ap, ◌∙◌, subst, append_assoc, length-append, length-drop, length-take}
+use Rattle.std.specs.Prelude.{slice_get}
+use Rattle.gob_num.specs.Unsigned.{IsUnsigned, short}
+use Rattle.gob_types.specs.declared.id.TypeId.{TypeId}
+use Rattle.gob_types.specs.declared.basic.Basic.{Basic}
+use Rattle.gob_types.specs.declared.kind.Field.{Field}
+use Rattle.gob_types.specs.declared.kind.Kind.{Kind}
+use Rattle.gob_types.specs.declared.kind.Kind.TheVariants as kind
+use Rattle.gob_types.specs.Table.{Table}
+use Rattle.gob_read.specs.declared.telling.RawKind.{RawKind}
+use Rattle.gob_read.specs.declared.frame.Frame.{Frame}
+use Rattle.gob_read.specs.declared.frame.Frame.TheVariants as frame
+use Rattle.gob_read.specs.declared.awaited.Awaited.TheVariants.{Number, Raw}
+use Rattle.gob_read.specs.declared.awaited.Item.{Item}
+use Rattle.gob_read.specs.declared.awaited.Item.TheVariants.{Part, Delta}
+use Rattle.gob_read.specs.declared.state.State.{State}
+use Rattle.gob_read.specs.declared.run.Run.{Run}
+use Rattle.gob_read.specs.declared.run.Stepped.{Stepped}
+use Rattle.gob_read.specs.declared.plain.Entered.{Entered}
+use Rattle.gob_read.specs.Telling.{Telling, number, raw_start, raw_more, leave, field}
+use Rattle.gob_read.specs.Building.{IsTold}
+use Rattle.gob_read.specs.Frames.{to_delta}
+use Rattle.gob_read.specs.Kinds.{HasKind, IsScalar, IsRawKind}
+use Rattle.gob_read.specs.Steps.{IsInStruct, CanBegin, Ends, CanGoOn, GoesOn, CanTakeRaw}
+use Rattle.gob_read.specs.Running.{IsOpen, IsOpenSomewhere, IsOpenIn, IsStepped, IsReached, TakesMore, Steps, Opens, depth_of, item_depth, IsReachedSomewhere}
+use Rattle.gob_read.specs.Plain.{CanTellPlain, IsStateKept, TellsPlain, told_nothing, told_number, told_bytes, IsInFields, IsInStructFrame, StepsPlain, not_stepped, stepped_over, Passes, TakesPlain, not_taken, plain_taken, EntersField, NamesField, TakesName, not_named, named, CanEndFields, EndsFields}
+use Rattle.gob_read.proofs.Fronts.{append_nil}
+use Rattle.gob_read.proofs.Parts.{ended_on, begins_ended}
+use Rattle.gob_read.proofs.FirstSteps.{number_ended, length_placed}
+use Rattle.gob_read.proofs.FieldSteps.{at_delta_of, delta_inside, delta_takes, field_placed}
+use Rattle.gob_read.proofs.ItemSteps.{placed_begun, part_takes, first_takes, raw_ended}
+use Rattle.gob_read.proofs.Pieces.{HasCome, come_start, come_on, come_open, steps_on, take_further, slice_rest}
+use Rattle.gob_read.proofs.Runs.{number_stepped, raw_stepped, fresh_is}
+
+pub head_is : (fs : List Frame) {f : Frame} → slice_get fs 0 ≡ Some f → fs ≡ f ∷ drop 1 fs
+head_is [] h = cc
+head_is (g ∷ fs) h = cc
+
+pub opens_here : {T : Table} {X O : Type 0} {stands : X → List Telling → Type 0} {run : Run X O} → depth_of run.state.awaited run.state.stack ≤ run.depth → run.taken < run.length → Opens T stands run
+opens_here l r = record { each = λ t z h. record { reached = h; not_deep = l; room = r } }
+
+-- one step behind another
+pub steps_then : {T : Table} {X O : Type 0} {stands : X → List Telling → Type 0} {old mid new : Run X O} {a b : List ℕ} {whole : Bool} → Steps T stands old mid a false → Opens T stands mid → Steps T stands mid new b whole → Steps T stands old new (a ++ b) whole
+steps_then {T = T} {stands = stands} {new = new} {a = a} {b = b} {whole = whole} f o g = record { each = λ t z h. subst (λ l. IsStepped T t stands new l whole) (append_assoc z a b) (g.each t (z ++ a) (o.each t (z ++ a) (f.each t z h))) }
+
+-- so many more bytes are taken, and the next item begins behind them
+pub record Moves {X O : Type 0} (old new : Run X O) (count : ℕ) : Type 0 where
+  pub taken : new.taken ≡ old.taken + count
+  pub start : new.start ≡ new.taken
+  pub number : new.number ≡ old.number
+  pub length_is : new.length ≡ old.length
+  pub depth_is : new.depth ≡ old.depth
+
+pub moves_more : {X O : Type 0} {old new : Run X O} {count : ℕ} → Moves old new count → TakesMore old new count
+moves_more m = record { taken = m.taken; length_is = m.length_is; depth_is = m.depth_is }
+
+-- the run with so many more bytes taken
+abbrev behind : {X O : Type 0} → Run X O → ℕ → Run X O
+behind run count = record { state = run.state; number = run.number; start = run.start; taken = run.taken + count; length = run.length; depth = run.depth }
+
+-- behind a whole part of a struct its next delta is awaited
+delta_behind : {X O : Type 0} {stands : X → List Telling → Type 0} {new : State X O} {u : TypeId} {next : ℕ} → IsInFields u next new.stack → new.awaited ≡ Number Delta → Ends stands new new false
+delta_behind {new = new} f w = record { each = λ T t z e. ended_on f to_delta (head_is new.stack f) w refl e }
+
+-- a part that one number spells
+pub scalar_stepped : {T : Table} {X O : Type 0} {stands : X → List Telling → Type 0} {run new : Run X O} {id u : TypeId} {next n a : ℕ} {b : Basic} (c : List ℕ) → run.state.awaited ≡ Number (Part id) → IsInFields u next run.state.stack → run.number ≡ []
+    → HasKind T id (kind.Basic b) → IsScalar (kind.Basic b) n b a → IsTold stands run.state.builder new.state.builder (number b a 0) → new.state.stack ≡ run.state.stack → new.state.awaited ≡ Number Delta → Moves run new (length c) → IsUnsigned n c → Steps T stands run new c false
+scalar_stepped {T = T} {stands = stands} {run = run} {new = new} {id = id} {u = u} {next = next} {n = n} {a = a} {b = b} c e f none h i told s w m spelled =
+    let inside : IsInFields u next new.state.stack = ap (λ (l : List Frame). slice_get l 0) s ∙ f in
+    let begins = begins_ended {P = λ k. IsScalar k n b a} (number_ended s told) (delta_behind inside w) in
+    number_stepped {mid = behind run (length c)} (Part id) c e refl none refl refl (subst (λ (r : List ℕ). IsUnsigned n (r ++ c)) (sym none) spelled)
+    (record { takes = part_takes e (first_takes h i begins); start_is = m.start ∙ m.taken; number_is = m.number; more = record { taken = (let t = m.taken in omega arith); length_is = m.length_is; depth_is = m.depth_is } })
+
+-- a part that a count of bytes and the bytes spell
+pub bytes_stepped : {T : Table} {X O : Type 0} {stands : X → List Telling → Type 0} {run new : Run X O} {id u : TypeId} {next : ℕ} {b : Basic} {x : RawKind} {one two : X} (c bytes : List ℕ) → run.state.awaited ≡ Number (Part id) → IsInFields u next run.state.stack → run.number ≡ []
+    → HasKind T id (kind.Basic b) → IsRawKind (kind.Basic b) x → IsTold stands run.state.builder one (raw_start x) → IsTold stands one two (raw_more bytes) → IsTold stands two new.state.builder leave → new.state.stack ≡ run.state.stack → new.state.awaited ≡ Number Delta
+    → Moves run new (length c + length bytes) → IsUnsigned (length bytes) c → 0 < length bytes → length run.state.stack + 1 ≤ run.depth → run.taken + length c < run.length → Steps T stands run new (c ++ bytes) false
+bytes_stepped {T = T} {X = X} {O = O} {stands = stands} {run = run} {new = new} {id = id} {u = u} {next = next} {b = b} {x = x} {one = one} {two = two} c bytes e f none h i begun more ended s w m spelled some deep room = steps_then {mid = mid} first (opens_here deep room) second
+  where
+    mid : Run X O
+    mid = record { state = record { builder = one; stack = run.state.stack; awaited = Raw (length bytes) }; number = run.number; start = run.taken + length c; taken = run.taken + length c; length = run.length; depth = run.depth }
+
+    inside : IsInFields u next new.state.stack
+    inside = ap (λ (l : List Frame). slice_get l 0) s ∙ f
+
+    first : Steps T stands run mid c false
+    first =
+        number_stepped {mid = behind run (length c)} (Part id) c e refl none refl refl (subst (λ (r : List ℕ). IsUnsigned (length bytes) (r ++ c)) (sym none) spelled)
+        (record { takes = part_takes e (first_takes h i (record { each = length_placed refl refl begun (λ z. absurd (omega arith)) })); start_is = refl; number_is = refl; more = record { taken = omega arith; length_is = refl; depth_is = refl } })
+
+    second : Steps T stands mid new bytes false
+    second =
+        raw_stepped (length bytes) bytes refl (omega arith) m.number (let t = m.taken in omega arith) m.depth_is (λ _. (let t = m.taken in let k = m.start in omega arith)) (λ l. absurd (omega arith))
+        (record { last = λ T t p r b z. (delta_behind inside w).each T t (p ++ (r ++ bytes)) (raw_ended bytes refl s more ended refl b); other = λ T t p r b l. absurd (omega arith) })
+
+-- the part can be told
+pub can_tell_plain : {T : Table} {X O : Type 0} {stands : X → List Telling → Type 0} {run : Run X O} {id : TypeId} {n used : ℕ} {b : Basic} (rest : List ℕ) → run.state.awaited ≡ Number (Part id) → IsOpenSomewhere T stands run → run.start ≡ run.taken → run.taken + length rest < 2 ^ 64
+    → HasKind T id (kind.Basic b) → used ≤ length rest → IsUnsigned n (take used rest) → CanTellPlain stands run.state b n (take (length rest - used) (drop used rest))
+can_tell_plain {T = T} {id = id} {used = used} {b = b} rest e o f l h w spelled =
+    let r = o.open_.reached in
+    let k = r.start_is in
+    record {
+      begins = record { table = T; type = o.type; id = id; kind = kind.Basic b; before = r.before; bytes = take used rest; begun = placed_begun e r.placed; has = h; holds = refl; spelled = spelled; small = omega (arith, length-append r.before (take used rest), length-take used rest) };
+      small = omega (arith, length-take used rest, ap length (slice_rest rest used), length-drop used rest);
+    }
+
+pub can_take_told : {X O : Type 0} {stands : X → List Telling → Type 0} {state : State X O} {b : Basic} {x : RawKind} {n : ℕ} {one : X} {more : List ℕ} → CanTellPlain stands state b n more → IsRawKind (kind.Basic b) x → 0 < n → n ≤ length more → IsTold stands state.builder one (raw_start x)
+    → CanTakeRaw {O = O} stands (record { builder = one; stack = state.stack; awaited = Raw n }) n (take n more)
+can_take_told {stands = stands} {state = state} {x = x} {n = n} {one = one} {more = more} r i some few told =
+    let g = r.begins in
+    record {
+      awaited = refl;
+      few = omega (arith, length-take n more);
+      table = g.table;
+      type = g.type;
+      before = g.before ++ g.bytes;
+      so_far = [];
+      placed = length_placed {state = state} {mid = record { builder = one; stack = state.stack; awaited = Raw n }} refl refl told (λ z. absurd (omega arith)) g.table g.type g.id g.kind g.before g.bytes g.begun g.has (subst (λ k. IsRawKind k x) (sym g.holds) i) g.spelled;
+      small = (let l = r.small in omega (arith, length-take n more, length-append (g.before ++ g.bytes) (take n more), length-append g.before g.bytes));
+    }
+
+-- the part was told, and taken so
+pub plain_takes : {T : Table} {X O : Type 0} {stands : X → List Telling → Type 0} {old new : Run X O} {mid : State X O} {id : TypeId} {b : Basic} {n used more : ℕ} (rest : List ℕ) → old.state.awaited ≡ Number (Part id) → IsInStructFrame old.state.stack → IsOpenSomewhere T stands old
+    → old.start ≡ old.taken → old.taken + length rest ≤ old.length → HasKind T id (kind.Basic b) → used ≤ length rest → 0 < used → IsUnsigned n (take used rest) → TellsPlain stands old.state mid b n (take (length rest - used) (drop used rest)) (Some more)
+    → new.state.builder ≡ mid.builder → new.state.stack ≡ mid.stack → new.state.awaited ≡ Number Delta → Moves old new (used + more) → TakesPlain T stands old new rest (used + more)
+plain_takes {T = T} {X = X} {O = O} {stands = stands} {old = old} {new = new} {mid = mid} {id = id} {b = b} {n = n} {used = used} {more = more} rest e f o fresh room h w some spelled tells s k a m = from tells
+  where
+    next : List ℕ
+    next = take (length rest - used) (drop used rest)
+
+    size : length next ≡ length rest - used
+    size = ap length (slice_rest rest used) ∙ length-drop used rest
+
+    cut : take (used + more) rest ≡ take used rest ++ take more next
+    cut = take_further rest used more ∙ ap (λ l. take used rest ++ take more l) (sym (slice_rest rest used))
+
+    none : old.number ≡ []
+    none = fresh_is (Part id) e o fresh
+
+    deep : length old.state.stack + 1 ≤ old.depth
+    deep = subst (λ a. depth_of a old.state.stack ≤ old.depth) e o.open_.not_deep
+
+    passed : more ≤ length next → Steps T stands old new (take used rest ++ take more next) false → new.state.stack ≡ old.state.stack → TakesPlain T stands old new rest (used + more)
+    passed l steps stack = plain_taken (omega arith) (omega (arith, size)) (record {
+      more = record { taken = (let t = m.taken in omega (arith, size, length-take (used + more) rest)); length_is = m.length_is; depth_is = m.depth_is };
+      steps = subst (λ c. Steps T stands old new c false) (sym cut) steps;
+      fresh = m.start;
+    }) a stack
+
+    moved : {count : ℕ} → count ≡ used + more → Moves old new count
+    moved c = record { taken = (let t = m.taken in omega arith); start = m.start; number = m.number; length_is = m.length_is; depth_is = m.depth_is }
+
+    builder_is : {mid' : X} {t : Telling} → IsTold stands mid' mid.builder t → IsTold stands mid' new.state.builder t
+    builder_is {mid' = mid'} {t = t} h = subst (λ x. IsTold stands mid' x t) (sym s) h
+
+    from : TellsPlain stands old.state mid b n next (Some more) → TakesPlain T stands old new rest (used + more)
+    from (told_number z i told kept) =
+        let nothing : take more next ≡ [] = subst (λ j. take j next ≡ []) (sym z) refl in
+        passed (omega arith)
+        (subst (λ c. Steps T stands old new c false) (sym (ap (λ l. take used rest ++ l) nothing ∙ append_nil (take used rest)))
+        (scalar_stepped (take used rest) e f.innermost none h i (builder_is told) (k ∙ kept.stack) a (moved (omega (arith, length-take used rest))) spelled))
+        (k ∙ kept.stack)
+    from (told_bytes z i l few begun told ended kept) =
+        let count : length (take n next) ≡ n = omega (arith, length-take n next) in
+        passed (omega arith)
+        (subst (λ j. Steps T stands old new (take used rest ++ take j next) false) (sym z)
+        (bytes_stepped (take used rest) (take n next) e f.innermost none h i begun told (builder_is ended) (k ∙ kept.stack) a (moved (omega (arith, length-take used rest, count)))
+        (subst (λ j. IsUnsigned j (take used rest)) (sym count) spelled) (omega arith) deep (omega (arith, length-take used rest, size))))
+        (k ∙ kept.stack)
+
+-- the delta leads to a field
+pub can_go_on : {T : Table} {X O : Type 0} {stands : X → List Telling → Type 0} {run : Run X O} {u : TypeId} {types : List Field} {next n : ℕ} → run.state.awaited ≡ Number Delta → IsInFields u next run.state.stack → HasKind T u (kind.Struct types) → IsOpenSomewhere T stands run
+    → run.start ≡ run.taken → run.taken + 1 < 2 ^ 64 → n < 128 → CanGoOn stands run.state u types next n
+can_go_on {T = T} {n = n} e f h o fresh l s =
+    let r = o.open_.reached in
+    let k = r.start_is in
+    record { table = T; type = o.type; before = r.before; bytes = n ∷ []; inside = (delta_inside e f h r.placed).0; spelled = short s; small = omega (arith, length-append r.before (n ∷ [])) }
+
+pub name_takes : {T : Table} {X O : Type 0} {stands : X → List Telling → Type 0} {old new : Run X O} {u : TypeId} {types : List Field} {next n f : ℕ} {part : Field} → old.state.awaited ≡ Number Delta → IsInFields u next old.state.stack → HasKind T u (kind.Struct types) → IsOpenSomewhere T stands old
+    → old.start ≡ old.taken → n < 128 → next ≤ f → f + 1 ≡ next + n → slice_get types f ≡ Some part → NamesField stands old.state new.state u f part.id → Moves old new 1 → EntersField T stands old new n u (f + 1) part.id
+name_takes {T = T} {stands = stands} {old = old} {new = new} {u = u} {next = next} {n = n} {f = f} {part = part} e i h o fresh s l m g names moves = record {
+  passes = record { more = moves_more moves; steps = steps; fresh = moves.start };
+  awaited = names.awaited;
+  inside = ap (λ (l : List Frame). slice_get l 0) names.stack;
+  as_deep = ap length names.stack ∙ sym (ap length (head_is old.state.stack i));
+}
+  where
+    none : old.number ≡ []
+    none = fresh_is Delta e o fresh
+
+    steps : Steps T stands old new (n ∷ []) false
+    steps =
+        number_stepped {mid = behind old 1} Delta (n ∷ []) e refl none refl refl (subst (λ (r : List ℕ). IsUnsigned n (r ++ n ∷ [])) (sym none) (short s))
+        (record { takes = delta_takes e i h (record { each = field_placed f names.stack names.awaited names.told l m g }); start_is = moves.start ∙ moves.taken; number_is = moves.number; more = record { taken = (let t = moves.taken in omega arith); length_is = moves.length_is; depth_is = moves.depth_is } })
+
+-- the end of the struct
+pub can_end_fields : {X O : Type 0} {stands : X → List Telling → Type 0} {run : Run X O} → run.state.awaited ≡ Number Delta → IsOpenIn stands run → run.start ≡ run.taken → run.length < 2 ^ 64 → CanEndFields stands run.state
+can_end_fields e o fresh l =
+    let r = o.open_.open_.reached in
+    let d = at_delta_of e r.placed in
+    let k = r.start_is in
+    let room = o.open_.open_.room in
+    record { id = d.id; types = d.types; next = d.next; goes_on = record { table = o.table; type = o.open_.type; before = r.before; bytes = 0 ∷ []; inside = d.inside; spelled = short (omega arith); small = omega (arith, length-append r.before (0 ∷ [])) } }
+
+pub end_steps : {X O : Type 0} {stands : X → List Telling → Type 0} {old new : Run X O} {whole : Bool} → old.state.awaited ≡ Number Delta → IsOpenIn stands old → old.start ≡ old.taken → EndsFields stands old.state new.state whole → Moves old new 1 → (T : Table) → Steps T stands old new (0 ∷ []) whole
+end_steps {old = old} e o fresh ends moves T =
+    let none = fresh_is Delta e o.open_ fresh in
+    number_stepped {mid = behind old 1} Delta (0 ∷ []) e refl none refl refl (subst (λ (r : List ℕ). IsUnsigned 0 (r ++ 0 ∷ [])) (sym none) (short (omega arith)))
+    (record {
+      takes = record { each = λ t p r c d b n. (let x = at_delta_of e b in (ends.each x.id x.types x.next).each T t p c x.inside n) };
+      start_is = moves.start ∙ moves.taken;
+      number_is = moves.number;
+      more = record { taken = (let t = moves.taken in omega arith); length_is = moves.length_is; depth_is = moves.depth_is };
+    })
+
+-- nothing was told
+pub untold : {X O : Type 0} {stands : X → List Telling → Type 0} {old new : State X O} {b : Basic} {n : ℕ} {more : List ℕ} {used : Option ℕ} → used ≡ None → TellsPlain stands old new b n more used → new ≡ old
+untold z (told_nothing e) = e
+untold z (told_number e i t k) = cc
+untold z (told_bytes e i l few a b c k) = cc
+
+pub told_as : {X O : Type 0} {stands : X → List Telling → Type 0} {old new : State X O} {b : Basic} {n used : ℕ} {more : List ℕ} {r : Option ℕ} → r ≡ Some used → TellsPlain stands old new b n more r → TellsPlain stands old new b n more (Some used)
+told_as {stands = stands} {old = old} {new = new} {b = b} {n = n} {more = more} e h = subst (TellsPlain stands old new b n more) e h
+
+pub told_within : {X O : Type 0} {stands : X → List Telling → Type 0} {old new : State X O} {b : Basic} {n used : ℕ} {more : List ℕ} → TellsPlain stands old new b n more (Some used) → used ≤ length more
+told_within (told_number z i t k) = omega arith
+told_within (told_bytes z i l few a b c k) = omega arith
+
+-- no delta was taken, or one was
+pub unnamed : {T : Table} {X O : Type 0} {stands : X → List Telling → Type 0} {old new : Run X O} {n : ℕ} {u : TypeId} {r : Option Entered} → r ≡ None → TakesName T stands old new n u r → new ≡ old
+unnamed z (not_named e) = e
+unnamed z (named e) = cc
+
+pub named_as : {T : Table} {X O : Type 0} {stands : X → List Telling → Type 0} {old new : Run X O} {n : ℕ} {u : TypeId} {r : Option Entered} {e : Entered} → r ≡ Some e → TakesName T stands old new n u r → EntersField T stands old new n u e.next e.part
+named_as {T = T} {stands = stands} {old = old} {new = new} {n = n} {u = u} z h = entered (subst (TakesName T stands old new n u) z h)
+  where
+    entered : {e : Entered} → TakesName T stands old new n u (Some e) → EntersField T stands old new n u e.next e.part
+    entered (named e) = e
+
+-- within a struct so much of the piece was taken, and this is awaited
+pub record AtItem (T : Table) {X O : Type 0} (stands : X → List Telling → Type 0) (old run : Run X O) (rest : List ℕ) (used count : ℕ) (i : Item) (u : TypeId) (next : ℕ) : Type 0 where
+  pub come : HasCome T stands old run rest used count
+  pub awaited : run.state.awaited ≡ Number i
+  pub inside : IsInFields u next run.state.stack
+  pub fresh : run.start ≡ run.taken
+  pub deep : length run.state.stack < run.depth
+
+pub item_start : {T : Table} {X O : Type 0} {stands : X → List Telling → Type 0} {run : Run X O} {i : Item} {u : TypeId} {next : ℕ} (rest : List ℕ) → run.state.awaited ≡ Number i → IsInFields u next run.state.stack → run.start ≡ run.taken → length run.state.stack < run.depth → AtItem T stands run run rest 0 0 i u next
+item_start rest a i f d = record { come = come_start rest; awaited = a; inside = i; fresh = f; deep = d }
+
+-- it may be taken where more of the piece is there
+pub item_opens : {T : Table} {X O : Type 0} {stands : X → List Telling → Type 0} {old run : Run X O} {rest : List ℕ} {used count : ℕ} {i : Item} {u : TypeId} {next : ℕ} → AtItem T stands old run rest used count i u next → item_depth i (length run.state.stack) ≤ length run.state.stack + 1 → old.taken + length rest ≤ old.length → used < length rest → Opens T stands run
+item_opens {run = run} h l room some =
+    let d : depth_of run.state.awaited run.state.stack ≤ run.depth = subst (λ a. depth_of a run.state.stack ≤ run.depth) (sym h.awaited) (let k = h.deep in omega arith) in
+    let t = h.come.more.taken in let n = h.come.more.length_is in
+    opens_here d (omega arith)
+
+pub item_open : {T : Table} {X O : Type 0} {stands : X → List Telling → Type 0} {old run : Run X O} {rest : List ℕ} {used count : ℕ} {i : Item} {u : TypeId} {next : ℕ} → AtItem T stands old run rest used count i u next → IsOpenSomewhere T stands old → item_depth i (length run.state.stack) ≤ length run.state.stack + 1 → old.taken + length rest ≤ old.length → used < length rest → IsOpenSomewhere T stands run
+item_open h o l room some = come_open (record { type = o.type; bytes = o.bytes; reached = o.open_.reached }) h.come (item_opens h l room some)
+
+pub come_steps : {T : Table} {X O : Type 0} {stands : X → List Telling → Type 0} {old new : Run X O} {rest : List ℕ} {used count : ℕ} → HasCome T stands old new rest used count → Steps T stands old new (take used rest) false
+come_steps h = record { each = λ t z o. h.reached t z o.reached }
+
+one_at : (xs : List ℕ) (used : ℕ) → used < length xs → take 1 (drop used xs) ≡ get_or xs used 0 ∷ []
+one_at [] used l = absurd (omega arith)
+one_at (x ∷ xs) zero l = refl
+one_at (x ∷ xs) (suc used) l = one_at xs used (omega arith)
+
+pub rest_some : (rest : List ℕ) (used : ℕ) → length (take (length rest - used) (drop used rest)) ≡ length rest - used
+rest_some rest used = ap length (slice_rest rest used) ∙ length-drop used rest
+
+-- the delta was taken
+pub named_on : {T : Table} {X O : Type 0} {stands : X → List Telling → Type 0} {old run new : Run X O} {rest : List ℕ} {used count next next' : ℕ} {u part : TypeId} → AtItem T stands old run rest used count Delta u next → old.taken + length rest ≤ old.length → used < length rest
+    → EntersField T stands run new (get_or rest used 0) u next' part → AtItem T stands old new rest (used + 1) (count + 1) (Part part) u next'
+named_on {T = T} {stands = stands} {run = run} {new = new} {rest = rest} {used = used} h room some e =
+    let one : take 1 (take (length rest - used) (drop used rest)) ≡ get_or rest used 0 ∷ [] = ap (λ (l : List ℕ). take 1 l) (slice_rest rest used) ∙ one_at rest used some in
+    let n = e.passes.more.depth_is in let m = e.as_deep in let d = h.deep in
+    record {
+      come = come_on h.come (item_opens h (omega arith) room some) (record { some = omega arith; few = omega (arith, rest_some rest used); more = e.passes.more; steps = subst (λ c. Steps T stands run new c false) (sym one) e.passes.steps });
+      awaited = e.awaited;
+      inside = e.inside;
+      fresh = e.passes.fresh;
+      deep = omega arith;
+    }
+
+-- what a taken part was taken so
+pub record IsPlainTaken (T : Table) {X O : Type 0} (stands : X → List Telling → Type 0) (old new : Run X O) (rest : List ℕ) (used : ℕ) : Type 0 where
+  pub within : used ≤ length rest
+  pub passes : Passes T stands old new (take used rest)
+  pub awaited : new.state.awaited ≡ Number Delta
+  pub stack : new.state.stack ≡ old.state.stack
+
+pub taken_some : {T : Table} {X O : Type 0} {stands : X → List Telling → Type 0} {old new : Run X O} {rest : List ℕ} {used : ℕ} → TakesPlain T stands old new rest used → 0 < used → IsPlainTaken T stands old new rest used
+taken_some (not_taken e) l = absurd (omega arith)
+taken_some (plain_taken s w p a k) l = record { within = w; passes = p; awaited = a; stack = k }
+
+pub taken_none : {T : Table} {X O : Type 0} {stands : X → List Telling → Type 0} {old new : Run X O} {rest : List ℕ} {used : ℕ} → TakesPlain T stands old new rest used → used ≡ 0 → new ≡ old
+taken_none (not_taken e) z = e
+taken_none (plain_taken s w p a k) z = absurd (omega arith)
+
+pub taken_within : {T : Table} {X O : Type 0} {stands : X → List Telling → Type 0} {old new : Run X O} {rest : List ℕ} {used : ℕ} → TakesPlain T stands old new rest used → used ≤ length rest
+taken_within (not_taken e) = omega arith
+taken_within (plain_taken s w p a k) = w
+
+-- the part was taken
+pub plain_on : {T : Table} {X O : Type 0} {stands : X → List Telling → Type 0} {old run new : Run X O} {rest : List ℕ} {used count taken next : ℕ} {u part : TypeId} → AtItem T stands old run rest used count (Part part) u next → old.taken + length rest ≤ old.length → used < length rest
+    → 0 < taken → IsPlainTaken T stands run new (take (length rest - used) (drop used rest)) taken → AtItem T stands old new rest (used + taken) (count + 1) Delta u next
+plain_on {new = new} {rest = rest} {used = used} {taken = taken} h room some l p =
+    let w = p.within in
+    let n = p.passes.more.depth_is in let m = ap length p.stack in let d = h.deep in
+    let t = p.passes.more.taken in
+    record {
+      come = come_on h.come (item_opens h (omega arith) room some) (record {
+        some = l;
+        few = w;
+        more = record { taken = omega (arith, length-take taken (take (length rest - used) (drop used rest))); length_is = p.passes.more.length_is; depth_is = p.passes.more.depth_is };
+        steps = p.passes.steps;
+      });
+      awaited = p.awaited;
+      inside = ap (λ (l : List Frame). slice_get l 0) p.stack ∙ h.inside;
+      fresh = p.passes.fresh;
+      deep = omega arith;
+    }
+
+pub fewer : {T : Table} {X O : Type 0} {stands : X → List Telling → Type 0} {old run : Run X O} {rest : List ℕ} {used count : ℕ} {i : Item} {u : TypeId} {next : ℕ} (less : ℕ) → AtItem T stands old run rest used count i u next → less ≤ count → AtItem T stands old run rest used less i u next
+fewer less h l = record { come = record { within = h.come.within; more = h.come.more; onward = (let k = h.come.onward in omega arith); reached = h.come.reached }; awaited = h.awaited; inside = h.inside; fresh = h.fresh; deep = h.deep }
+
+-- the struct has ended
+pub end_on : {T : Table} {X O : Type 0} {stands : X → List Telling → Type 0} {old run new : Run X O} {rest : List ℕ} {used count next : ℕ} {u : TypeId} {whole : Bool} → AtItem T stands old run rest used count Delta u next → old.taken + length rest ≤ old.length → used < length rest → get_or rest used 0 ≡ 0
+    → Steps T stands run new (0 ∷ []) whole → Steps T stands old new (take (used + 1) rest) whole
+end_on {T = T} {stands = stands} {old = old} {new = new} {rest = rest} {used = used} {whole = whole} h room some z s =
+    let cut : take (used + 1) rest ≡ take used rest ++ 0 ∷ [] = take_further rest used 1 ∙ ap (λ l. take used rest ++ l) (one_at rest used some ∙ ap (λ n. n ∷ []) z) in
+    subst (λ c. Steps T stands old new c whole) (sym cut) (steps_then (come_steps h.come) (item_opens h (omega arith) room some) s)
+
+-- more was taken behind it
+pub behind_it : {T : Table} {X O : Type 0} {stands : X → List Telling → Type 0} {old mid new : Run X O} {whole : Bool} (rest : List ℕ) (used more : ℕ) → Steps T stands old mid (take used rest) false → Opens T stands mid → Steps T stands mid new (take more (take (length rest - used) (drop used rest))) whole
+    → Steps T stands old new (take (used + more) rest) whole
+behind_it {T = T} {stands = stands} {old = old} {new = new} {whole = whole} rest used more f o g =
+    let cut : take (used + more) rest ≡ take used rest ++ take more (take (length rest - used) (drop used rest)) = take_further rest used more ∙ ap (λ l. take used rest ++ take more l) (sym (slice_rest rest used)) in
+    subst (λ c. Steps T stands old new c whole) (sym cut) (steps_then f o g)
+
+pub ends_go_on : {X O : Type 0} {stands : X → List Telling → Type 0} {old new : State X O} {u : TypeId} {types : List Field} {next n : ℕ} {whole : Bool} → n ≡ 0 → EndsFields stands old new whole → GoesOn stands old new u types next n whole
+ends_go_on {stands = stands} {old = old} {new = new} {u = u} {types = types} {next = next} {whole = whole} z e = subst (λ n. GoesOn stands old new u types next n whole) (sym z) (e.each u types next)
+
+pub go_on_ends : {X O : Type 0} {stands : X → List Telling → Type 0} {state : State X O} {u : TypeId} {types : List Field} {next n : ℕ} → n ≡ 0 → CanGoOn stands state u types next n → CanEndFields stands state
+go_on_ends {stands = stands} {state = state} {u = u} {types = types} {next = next} z r = record { id = u; types = types; next = next; goes_on = subst (λ n. CanGoOn stands state u types next n) z r }
+
+pub more_then : {X O : Type 0} {old mid new : Run X O} {a b : ℕ} → TakesMore old mid a → TakesMore mid new b → TakesMore old new (a + b)
+more_then f g = record { taken = (let x = f.taken in let y = g.taken in omega arith); length_is = g.length_is ∙ f.length_is; depth_is = g.depth_is ∙ f.depth_is }
+
+-- what was taken within the struct
+pub record HasPassed (T : Table) {X O : Type 0} (stands : X → List Telling → Type 0) (old new : Run X O) (rest : List ℕ) (used : ℕ) : Type 0 where
+  pub more : TakesMore old new used
+  pub steps : Steps T stands old new (take used rest) false
+
+pub item_passed : {T : Table} {X O : Type 0} {stands : X → List Telling → Type 0} {old run : Run X O} {rest : List ℕ} {used count : ℕ} {i : Item} {u : TypeId} {next : ℕ} → AtItem T stands old run rest used count i u next → HasPassed T stands old run rest used
+item_passed h = record { more = h.come.more; steps = come_steps h.come }
+
+pub same_passed : {T : Table} {X O : Type 0} {stands : X → List Telling → Type 0} {old run new : Run X O} {rest : List ℕ} {used : ℕ} → new ≡ run → HasPassed T stands old run rest used → HasPassed T stands old new rest used
+same_passed {T = T} {stands = stands} {old = old} {rest = rest} {used = used} e h = subst (λ r. HasPassed T stands old r rest used) (sym e) h
+
+pub plain_passed : {T : Table} {X O : Type 0} {stands : X → List Telling → Type 0} {old run new : Run X O} {rest : List ℕ} {used count taken next : ℕ} {u part : TypeId} → AtItem T stands old run rest used count (Part part) u next → old.taken + length rest ≤ old.length → used < length rest
+    → TakesPlain T stands run new (take (length rest - used) (drop used rest)) taken → HasPassed T stands old new rest (used + taken)
+plain_passed {T = T} {stands = stands} {old = old} {new = new} {rest = rest} {used = used} h room some (not_taken e) = same_passed e (subst (HasPassed T stands old _ rest) (omega arith) (item_passed h))
+plain_passed h room some (plain_taken s w p a k) = item_passed (plain_on h room some s (record { within = w; passes = p; awaited = a; stack = k }))
+
+-- behind the first part
+pub part_deep : {T : Table} {X O : Type 0} {stands : X → List Telling → Type 0} {run : Run X O} {id : TypeId} → run.state.awaited ≡ Number (Part id) → IsOpenSomewhere T stands run → length run.state.stack + 1 ≤ run.depth
+part_deep {run = run} e o = subst (λ a. depth_of a run.state.stack ≤ run.depth) e o.open_.not_deep
+
+pub plain_opens : {T : Table} {X O : Type 0} {stands : X → List Telling → Type 0} {old new : Run X O} {rest : List ℕ} {used : ℕ} → IsPlainTaken T stands old new rest used → length old.state.stack + 1 ≤ old.depth → old.taken + length rest ≤ old.length → used < length rest → Opens T stands new
+plain_opens {new = new} {rest = rest} {used = used} p deep room some =
+    let n = p.passes.more.depth_is in let m = ap length p.stack in let t = p.passes.more.taken in let l = p.passes.more.length_is in
+    opens_here (subst (λ a. depth_of a new.state.stack ≤ new.depth) (sym p.awaited) (omega arith)) (omega (arith, length-take used rest))
+
+pub plain_open : {T : Table} {X O : Type 0} {stands : X → List Telling → Type 0} {old new : Run X O} {rest : List ℕ} {used : ℕ} → IsPlainTaken T stands old new rest used → IsOpenSomewhere T stands old → length old.state.stack + 1 ≤ old.depth → old.taken + length rest ≤ old.length → used < length rest → IsOpenSomewhere T stands new
+plain_open {rest = rest} {used = used} p o deep room some = record { type = o.type; bytes = o.bytes ++ take used rest; open_ = (plain_opens p deep room some).each o.type (o.bytes ++ take used rest) (p.passes.steps.each o.type o.bytes o.open_) }
+
+pub plain_more : {T : Table} {X O : Type 0} {stands : X → List Telling → Type 0} {old new : Run X O} {rest : List ℕ} {used : ℕ} → IsPlainTaken T stands old new rest used → TakesMore old new used
+plain_more {rest = rest} {used = used} p = record { taken = (let t = p.passes.more.taken in let w = p.within in omega (arith, length-take used rest)); length_is = p.passes.more.length_is; depth_is = p.passes.more.depth_is }
+
+-- what was stepped over, or not
+pub record HasStepped (T : Table) {X O : Type 0} (stands : X → List Telling → Type 0) (old new : Run X O) (rest : List ℕ) (s : Stepped) : Type 0 where
+  pub within : s.used ≤ length rest
+  pub more : TakesMore old new s.used
+  pub steps : Steps T stands old new (take s.used rest) s.whole
+
+pub stepped_some : {T : Table} {X O : Type 0} {stands : X → List Telling → Type 0} {old new : Run X O} {rest : List ℕ} {s : Stepped} → StepsPlain T stands old new rest s → 0 < s.used → HasStepped T stands old new rest s
+stepped_some (not_stepped z e) l = absurd (omega arith)
+stepped_some (stepped_over p w m s) l = record { within = w; more = m; steps = s }
+
+pub stepped_none : {T : Table} {X O : Type 0} {stands : X → List Telling → Type 0} {old new : Run X O} {rest : List ℕ} {s : Stepped} → StepsPlain T stands old new rest s → s.used ≤ 0 → new ≡ old
+stepped_none (not_stepped z e) l = e
+stepped_none (stepped_over p w m s) l = absurd (omega arith)
+
+pub plain_stepped : {T : Table} {X O : Type 0} {stands : X → List Telling → Type 0} {old new : Run X O} {rest : List ℕ} {used : ℕ} → TakesPlain T stands old new rest used → StepsPlain T stands old new rest (record { used = used; whole = false })
+plain_stepped (not_taken e) = not_stepped refl e
+plain_stepped (plain_taken s w p a k) = stepped_over s w (plain_more (record { within = w; passes = p; awaited = a; stack = k })) p.steps

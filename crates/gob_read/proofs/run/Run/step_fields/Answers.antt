@@ -1,0 +1,41 @@
+use Rattle.std.proofs.Common.{◌+◌, arith}
+use Rattle.gob_read.proofs.PlainSteps.{item_open, item_passed, same_passed, unnamed, named_as, named_on, plain_on, plain_passed, taken_some, taken_within, fewer, end_on, rest_some}
+use Rattle.gob_read.proofs.run.Run.step_fields.Goals as goal
+
+pub take_end-requires-clause-stands : goal.take_end-requires-clause-stands
+take_end-requires-clause-stands g c = record { table = g.S.Shapes.table c.args.shapes.now; open_ = item_open c.fields.invariant.at c.requires.stands (omega arith) c.requires.room c.fields.invariant.some }
+
+pub returns-then-rest-used-eq0-clause-ok : goal.returns-then-rest-used-eq0-clause-ok
+returns-then-rest-used-eq0-clause-ok g c = end_on c.fields.invariant.at c.requires.room c.fields.invariant.some c.if-rest-used-eq0.true (c.in_ok-whole.ensures.ok (g.S.Shapes.table c.args.shapes.now))
+
+pub take_name-requires-clause-stands : goal.take_name-requires-clause-stands
+take_name-requires-clause-stands g c = item_open c.fields.invariant.at c.requires.stands (omega arith) c.requires.room c.fields.invariant.some
+
+pub returns-in_default-2-clause-ok : goal.returns-in_default-2-clause-ok
+returns-in_default-2-clause-ok g c = (same_passed (unnamed c.in_default-2.is c.in_ok-entered.ensures) (item_passed c.fields.invariant.at)).steps
+
+pub returns-then-used-rest-clause-ok : goal.returns-then-used-rest-clause-ok
+returns-then-used-rest-clause-ok g c = (item_passed (named_on c.fields.invariant.at c.requires.room c.fields.invariant.some (named_as c.in-Some-2.is c.in_ok-entered.ensures))).steps
+
+pub take_plain-requires-clause-stands : goal.take_plain-requires-clause-stands
+take_plain-requires-clause-stands g c = item_open (named_on c.fields.invariant.at c.requires.room c.fields.invariant.some (named_as c.in-Some-2.is c.in_ok-entered.ensures)) c.requires.stands (omega arith) c.requires.room (omega arith)
+
+pub overflow_add-used-in-fields : goal.overflow_add-used-in-fields
+overflow_add-used-in-fields g c = let w = taken_within c.in_ok-taken.ensures in omega (arith, rest_some c.args.rest.now (c.fields.used + 1))
+
+pub returns-then-taken-eq0-clause-more : goal.returns-then-taken-eq0-clause-more
+returns-then-taken-eq0-clause-more g c =
+    (plain_passed (named_on c.fields.invariant.at c.requires.room c.fields.invariant.some (named_as c.in-Some-2.is c.in_ok-entered.ensures)) c.requires.room (omega arith) c.in_ok-taken.ensures).more
+
+pub returns-then-taken-eq0-clause-ok : goal.returns-then-taken-eq0-clause-ok
+returns-then-taken-eq0-clause-ok g c =
+    (plain_passed (named_on c.fields.invariant.at c.requires.room c.fields.invariant.some (named_as c.in-Some-2.is c.in_ok-entered.ensures)) c.requires.room (omega arith) c.in_ok-taken.ensures).steps
+
+pub fields-preserved : goal.fields-preserved
+fields-preserved g c =
+    let taken = taken_some c.in_ok-taken.ensures (omega arith) in
+    let w = taken.within in
+    record {
+      at = fewer (c.fields.counter + 1) (plain_on (named_on c.fields.invariant.at c.requires.room c.fields.invariant.some (named_as c.in-Some-2.is c.in_ok-entered.ensures)) c.requires.room (omega arith) (omega arith) taken) (omega arith);
+      some = omega (arith, rest_some c.args.rest.now (c.fields.used + 1));
+    }

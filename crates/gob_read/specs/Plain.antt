@@ -1,0 +1,95 @@
+-- Parts of a basic type that stand whole in a piece, and are spelled by one number or by a count of bytes and the bytes.
+-- It describes the reader's stack.
+use Rattle.std.specs.Prelude.{◌≡◌, ℕ, ◌+◌, ◌-◌, ◌^◌, ◌<◌, ◌≤◌, List, [], ◌∷◌, length, take, drop, Option, Some, None, slice_get, Bool, false}
+use Rattle.gob_types.specs.declared.id.TypeId.{TypeId}
+use Rattle.gob_types.specs.declared.basic.Basic.{Basic}
+use Rattle.gob_types.specs.declared.kind.Field.{Field}
+use Rattle.gob_types.specs.declared.kind.Kind.TheVariants as kind
+use Rattle.gob_types.specs.Table.{Table}
+use Rattle.gob_num.specs.Unsigned.{IsUnsigned}
+use Rattle.gob_read.specs.Telling.{Telling, number, raw_start, raw_more, leave, field}
+use Rattle.gob_read.specs.Building.{IsTold}
+use Rattle.gob_read.specs.Kinds.{IsScalar, IsRawKind}
+use Rattle.gob_read.specs.Steps.{CanBegin, CanGoOn, GoesOn}
+use Rattle.gob_read.specs.Running.{TakesMore, Steps}
+use Rattle.gob_read.specs.declared.frame.Frame.{Frame}
+use Rattle.gob_read.specs.declared.frame.Frame.TheVariants as frame
+use Rattle.gob_read.specs.declared.awaited.Awaited.TheVariants.{Number}
+use Rattle.gob_read.specs.declared.awaited.Item.TheVariants.{Part, Delta}
+use Rattle.gob_read.specs.declared.telling.RawKind.{RawKind}
+use Rattle.gob_read.specs.declared.state.State.{State}
+use Rattle.gob_read.specs.declared.run.Run.{Run}
+use Rattle.gob_read.specs.declared.run.Stepped.{Stepped}
+use Rattle.gob_read.specs.declared.plain.Entered.{Entered}
+
+-- a part of the basic type begins with this number, and these bytes stand behind it
+pub record CanTellPlain {X O : Type 0} (stands : X → List Telling → Type 0) (state : State X O) (basic : Basic) (n : ℕ) (more : List ℕ) : Type 0 where
+  pub begins : CanBegin stands state (λ k. k ≡ kind.Basic basic) n
+  pub small : length begins.before + length begins.bytes + length more < 2 ^ 64
+
+-- only the builder is another
+pub record IsStateKept {X O : Type 0} (old new : State X O) : Type 0 where
+  pub stack : new.stack ≡ old.stack
+  pub awaited : new.awaited ≡ old.awaited
+
+-- the builder was told of the part that has this number and so many of the bytes behind it, or nothing was done
+pub data TellsPlain {X O : Type 0} (stands : X → List Telling → Type 0) (old new : State X O) (basic : Basic) (n : ℕ) (more : List ℕ) : Option ℕ → Type 0 where
+  told_nothing : new ≡ old → TellsPlain stands old new basic n more None
+  told_number : {a used : ℕ} → used ≡ 0 → IsScalar (kind.Basic basic) n basic a → IsTold stands old.builder new.builder (number basic a 0) → IsStateKept old new → TellsPlain stands old new basic n more (Some used)
+  told_bytes : {x : RawKind} {one two : X} {used : ℕ} → used ≡ n → IsRawKind (kind.Basic basic) x → 0 < n → n ≤ length more → IsTold stands old.builder one (raw_start x) → IsTold stands one two (raw_more (take n more))
+      → IsTold stands two new.builder leave → IsStateKept old new → TellsPlain stands old new basic n more (Some used)
+
+-- the innermost open part is a struct of the type, of which a field before this one is read
+abbrev pub IsInFields : TypeId → ℕ → List Frame → Type 0
+IsInFields u next fs = slice_get fs 0 ≡ Some (frame.Fields u next)
+
+-- it is a struct
+pub record IsInStructFrame (fs : List Frame) : Type 0 where
+  pub id : TypeId
+  pub next : ℕ
+  pub innermost : IsInFields id next fs
+
+-- the reader has stepped over the bytes, and the next item begins behind them
+pub record Passes (T : Table) {X O : Type 0} (stands : X → List Telling → Type 0) (old new : Run X O) (bytes : List ℕ) : Type 0 where
+  pub more : TakesMore old new (length bytes)
+  pub steps : Steps T stands old new bytes false
+  pub fresh : new.start ≡ new.taken
+
+-- the part was taken with so many bytes, and a delta is awaited behind it in the same struct, or nothing was done
+pub data TakesPlain (T : Table) {X O : Type 0} (stands : X → List Telling → Type 0) (old new : Run X O) (rest : List ℕ) : ℕ → Type 0 where
+  not_taken : new ≡ old → TakesPlain T stands old new rest 0
+  plain_taken : {used : ℕ} → 0 < used → used ≤ length rest → Passes T stands old new (take used rest) → new.state.awaited ≡ Number Delta → new.state.stack ≡ old.state.stack → TakesPlain T stands old new rest used
+
+-- so much of the piece was stepped over, or nothing was done
+pub data StepsPlain (T : Table) {X O : Type 0} (stands : X → List Telling → Type 0) (old new : Run X O) (rest : List ℕ) (s : Stepped) : Type 0 where
+  not_stepped : s.used ≡ 0 → new ≡ old → StepsPlain T stands old new rest s
+  stepped_over : 0 < s.used → s.used ≤ length rest → TakesMore old new s.used → Steps T stands old new (take s.used rest) s.whole → StepsPlain T stands old new rest s
+
+-- the delta was taken, and a part of this type is awaited in the struct
+pub record EntersField (T : Table) {X O : Type 0} (stands : X → List Telling → Type 0) (old new : Run X O) (n : ℕ) (u : TypeId) (next : ℕ) (part : TypeId) : Type 0 where
+  pub passes : Passes T stands old new (n ∷ [])
+  pub awaited : new.state.awaited ≡ Number (Part part)
+  pub inside : IsInFields u next new.state.stack
+  pub as_deep : length new.state.stack ≡ length old.state.stack
+
+-- so many bytes lead to a field, or nothing was done
+pub data TakesName (T : Table) {X O : Type 0} (stands : X → List Telling → Type 0) (old new : Run X O) (n : ℕ) (u : TypeId) : Option Entered → Type 0 where
+  not_named : new ≡ old → TakesName T stands old new n u None
+  named : {e : Entered} → EntersField T stands old new n u e.next e.part → TakesName T stands old new n u (Some e)
+
+-- the number of the next field was told, and its part is awaited
+pub record NamesField {X O : Type 0} (stands : X → List Telling → Type 0) (old new : State X O) (u : TypeId) (number : ℕ) (part : TypeId) : Type 0 where
+  pub stack : new.stack ≡ frame.Fields u (number + 1) ∷ drop 1 old.stack
+  pub awaited : new.awaited ≡ Number (Part part)
+  pub told : IsTold stands old.builder new.builder (field number)
+
+-- the delta 0 of the innermost open struct is to come
+pub record CanEndFields {X O : Type 0} (stands : X → List Telling → Type 0) (state : State X O) : Type 0 where
+  pub id : TypeId
+  pub types : List Field
+  pub next : ℕ
+  pub goes_on : CanGoOn stands state id types next 0
+
+-- what comes behind it is settled
+pub record EndsFields {X O : Type 0} (stands : X → List Telling → Type 0) (old new : State X O) (whole : Bool) : Type 0 where
+  pub each : (id : TypeId) (types : List Field) (next : ℕ) → GoesOn stands old new id types next 0 whole
