@@ -2,7 +2,7 @@
 //! a time.
 
 use super::*;
-use crate::test_rows::{DEEP, ROWS};
+use crate::test_rows::{DEEP, LIMITED, ROWS};
 use gob_read::TreeBuilder;
 use gob_types::{Reason, TypeId};
 use gob_value::Value;
@@ -88,6 +88,14 @@ fn read_by_items(alloc: Global, limits: Limits, bytes: &[u8]) -> Result<Run, Fai
     Err("there are fewer items than bytes".into())
 }
 
+// What reading all of the stream gives.
+fn read_at_once(alloc: Global, limits: Limits, bytes: &[u8]) -> Result<Run, Fail> {
+    let mut input = Input::new(bytes);
+    let mut items = Vec::new(alloc);
+    let fault = read_stream(alloc, &mut input, limits, &mut items).err();
+    run_of(alloc, &items, fault)
+}
+
 // Whether a run gave what was wanted of these bytes.
 fn is_wanted(run: &Run, bytes: &[u8], items: u64, refused: &Option<Refusal>) -> bool {
     let fault = match refused {
@@ -99,40 +107,29 @@ fn is_wanted(run: &Run, bytes: &[u8], items: u64, refused: &Option<Refusal>) -> 
     run.items == items && run.fault == fault && again && all
 }
 
+// Whether the bytes give what is wanted: byte by byte, in two pieces cut at any place, item by item, and at once.
+fn give(
+    alloc: Global,
+    limits: Limits,
+    bytes: &[u8],
+    items: u64,
+    refused: &Option<Refusal>,
+) -> Result<bool, Fail> {
+    let mut right = is_wanted(&fed_by_bytes(alloc, limits, bytes)?, bytes, items, refused)
+        && is_wanted(&read_by_items(alloc, limits, bytes)?, bytes, items, refused)
+        && is_wanted(&read_at_once(alloc, limits, bytes)?, bytes, items, refused);
+    for cut in 0..bytes.len() + 1 {
+        let run = fed(alloc, limits, &[&bytes[..cut], &bytes[cut..]])?;
+        right = right && is_wanted(&run, bytes, items, refused);
+    }
+    Ok(right)
+}
+
 #[test]
 fn rows_in_any_pieces(rt: HostRuntime) -> Result<(), Fail> {
     let limits = Limits::standard();
     for (what, bytes, items, refused) in &ROWS {
-        let run = fed_by_bytes(rt.alloc(), limits, bytes)?;
-        assert!(rt;
-            is_wanted(&run, bytes, *items, refused),
-            "{what}: {:?} {:?}",
-            run.items,
-            run.fault
-        );
-        for cut in 0..bytes.len() + 1 {
-            let run = fed(rt.alloc(), limits, &[&bytes[..cut], &bytes[cut..]])?;
-            assert!(rt;
-                is_wanted(&run, bytes, *items, refused),
-                "{what}, cut at {cut}: {:?} {:?}",
-                run.items,
-                run.fault
-            );
-        }
-    }
-    Ok(())
-}
-
-#[test]
-fn rows_item_by_item(rt: HostRuntime) -> Result<(), Fail> {
-    for (what, bytes, items, refused) in &ROWS {
-        let run = read_by_items(rt.alloc(), Limits::standard(), bytes)?;
-        assert!(rt;
-            is_wanted(&run, bytes, *items, refused),
-            "{what}: {:?} {:?}",
-            run.items,
-            run.fault
-        );
+        assert!(rt; give(rt.alloc(), limits, bytes, *items, refused)?, "{what}");
     }
     Ok(())
 }
@@ -141,20 +138,16 @@ fn rows_item_by_item(rt: HostRuntime) -> Result<(), Fail> {
 fn deep_rows(rt: HostRuntime) -> Result<(), Fail> {
     let limits = Limits::new(100, 5, 10, 100).ok_or("limits")?;
     for (what, bytes, items, refused) in &DEEP {
-        let run = fed_by_bytes(rt.alloc(), limits, bytes)?;
-        assert!(rt;
-            is_wanted(&run, bytes, *items, refused),
-            "{what}: {:?} {:?}",
-            run.items,
-            run.fault
-        );
-        let run = read_by_items(rt.alloc(), limits, bytes)?;
-        assert!(rt;
-            is_wanted(&run, bytes, *items, refused),
-            "{what}: {:?} {:?}",
-            run.items,
-            run.fault
-        );
+        assert!(rt; give(rt.alloc(), limits, bytes, *items, refused)?, "{what}");
+    }
+    Ok(())
+}
+
+#[test]
+fn limited_rows(rt: HostRuntime) -> Result<(), Fail> {
+    for (what, bytes, stream, items, refused) in &LIMITED {
+        let limits = Limits::new(u64::MAX, 1000, 0, *stream).ok_or("limits")?;
+        assert!(rt; give(rt.alloc(), limits, bytes, *items, refused)?, "{what}");
     }
     Ok(())
 }
@@ -237,46 +230,6 @@ impl Read for Failing {
             _ => Ok(0),
         }
     }
-}
-
-#[test]
-fn limited_streams(rt: HostRuntime) -> Result<(), Fail> {
-    let rows: [(&'static [u8], u64, usize, Reason, u64, u64); 4] = [
-        (&[0x03, 0x04, 0x00, 0x06], 3, 0, Reason::StreamTooLong, 0, 1),
-        (
-            &[0x03, 0x04, 0x00, 0x06, 0x03, 0x02, 0x00, 0x01],
-            7,
-            1,
-            Reason::StreamTooLong,
-            4,
-            5,
-        ),
-        (
-            &[0xf8, 0xff, 0xff, 0xff, 0xff, 0xff, 0xff, 0xff, 0xff],
-            7,
-            0,
-            Reason::StreamTooLong,
-            0,
-            9,
-        ),
-        (
-            &[0x04, 0xff, 0x81, 0x00, 0x00],
-            9,
-            0,
-            Reason::TooManyTypes,
-            1,
-            3,
-        ),
-    ];
-    for (i, (bytes, stream, items, reason, place, seen)) in rows.iter().enumerate() {
-        let limits = Limits::new(u64::MAX, 1000, 0, *stream).ok_or("limits")?;
-        let mut input = Input::new(*bytes);
-        let mut out = Vec::new(rt.alloc());
-        let result = read_stream(rt.alloc(), &mut input, limits, &mut out);
-        assert_eq!(rt; result, Err(refusal(*reason, *place, *seen)), "row {i}");
-        assert_eq!(rt; out.len(), *items, "row {i}");
-    }
-    Ok(())
 }
 
 #[test]

@@ -440,3 +440,58 @@ pub(crate) const DEEP: [(&str, &[u8], u64, Option<Refusal>); 3] = [
         }),
     ),
 ];
+
+/// Streams under a limit for the stream, which stands behind the bytes, and a limit for types of 0.
+pub(crate) const LIMITED: [(&str, &[u8], u64, u64, Option<Refusal>); 5] = [
+    (
+        "an int of 4 bytes in 3",
+        b"\x03\x04\x00\x06",
+        3,
+        0,
+        Some(Refusal {
+            place: 0,
+            seen: 1,
+            reason: Reason::StreamTooLong,
+        }),
+    ),
+    (
+        "the second of two items",
+        b"\x03\x04\x00\x06\x03\x02\x00\x01",
+        7,
+        1,
+        Some(Refusal {
+            place: 4,
+            seen: 5,
+            reason: Reason::StreamTooLong,
+        }),
+    ),
+    (
+        "two items as long as the limit",
+        b"\x03\x04\x00\x06\x03\x02\x00\x01",
+        8,
+        2,
+        None,
+    ),
+    (
+        "the greatest count",
+        b"\xf8\xff\xff\xff\xff\xff\xff\xff\xff",
+        7,
+        0,
+        Some(Refusal {
+            place: 0,
+            seen: 9,
+            reason: Reason::StreamTooLong,
+        }),
+    ),
+    (
+        "a definition too many",
+        b"\x04\xff\x81\x00\x00",
+        9,
+        0,
+        Some(Refusal {
+            place: 1,
+            seen: 3,
+            reason: Reason::TooManyTypes,
+        }),
+    ),
+];
