@@ -5,12 +5,10 @@ use Rattle.gob_num.specs.Unsigned.{IsUnsigned, short}
 use Rattle.gob_types.specs.declared.id.TypeId.{TypeId}
 use Rattle.gob_types.specs.declared.basic.Basic.{Basic}
 use Rattle.gob_types.specs.declared.kind.Field.{Field}
-use Rattle.gob_types.specs.declared.kind.Kind.{Kind}
 use Rattle.gob_types.specs.declared.kind.Kind.TheVariants as kind
 use Rattle.gob_types.specs.Table.{Table}
 use Rattle.gob_read.specs.declared.telling.RawKind.{RawKind}
 use Rattle.gob_read.specs.declared.frame.Frame.{Frame}
-use Rattle.gob_read.specs.declared.frame.Frame.TheVariants as frame
 use Rattle.gob_read.specs.declared.awaited.Awaited.TheVariants.{Number, Raw}
 use Rattle.gob_read.specs.declared.awaited.Item.{Item}
 use Rattle.gob_read.specs.declared.awaited.Item.TheVariants.{Part, Delta}
@@ -18,19 +16,19 @@ use Rattle.gob_read.specs.declared.state.State.{State}
 use Rattle.gob_read.specs.declared.run.Run.{Run}
 use Rattle.gob_read.specs.declared.run.Stepped.{Stepped}
 use Rattle.gob_read.specs.declared.plain.Entered.{Entered}
-use Rattle.gob_read.specs.Telling.{Telling, number, raw_start, raw_more, leave, field}
+use Rattle.gob_read.specs.Telling.{Telling, number, raw_start, raw_more, leave}
 use Rattle.gob_read.specs.Building.{IsTold}
 use Rattle.gob_read.specs.Frames.{to_delta}
 use Rattle.gob_read.specs.Kinds.{HasKind, IsScalar, IsRawKind}
-use Rattle.gob_read.specs.Steps.{IsInStruct, CanBegin, Ends, CanGoOn, GoesOn, CanTakeRaw}
-use Rattle.gob_read.specs.Running.{IsOpen, IsOpenSomewhere, IsOpenIn, IsStepped, IsReached, TakesMore, Steps, Opens, depth_of, item_depth, IsReachedSomewhere}
-use Rattle.gob_read.specs.Plain.{CanTellPlain, IsStateKept, TellsPlain, told_nothing, told_number, told_bytes, IsInFields, IsInStructFrame, StepsPlain, not_stepped, stepped_over, Passes, TakesPlain, not_taken, plain_taken, EntersField, NamesField, TakesName, not_named, named, CanEndFields, EndsFields}
+use Rattle.gob_read.specs.Steps.{Ends, CanGoOn, GoesOn, CanTakeRaw}
+use Rattle.gob_read.specs.Running.{IsOpenSomewhere, IsOpenIn, IsStepped, TakesMore, Steps, Opens, depth_of, item_depth}
+use Rattle.gob_read.specs.Plain.{CanTellPlain, TellsPlain, told_nothing, told_number, told_bytes, IsInFields, IsInStructFrame, StepsPlain, not_stepped, stepped_over, Passes, TakesPlain, not_taken, plain_taken, EntersField, NamesField, TakesName, not_named, named, CanEndFields, EndsFields}
 use Rattle.gob_read.proofs.Fronts.{append_nil}
 use Rattle.gob_read.proofs.Parts.{ended_on, begins_ended}
 use Rattle.gob_read.proofs.FirstSteps.{number_ended, length_placed}
 use Rattle.gob_read.proofs.FieldSteps.{at_delta_of, delta_inside, delta_takes, field_placed}
 use Rattle.gob_read.proofs.ItemSteps.{placed_begun, part_takes, first_takes, raw_ended}
-use Rattle.gob_read.proofs.Pieces.{HasCome, come_start, come_on, come_open, steps_on, take_further, slice_rest}
+use Rattle.gob_read.proofs.Pieces.{HasCome, come_start, come_on, come_open, take_further, slice_rest}
 use Rattle.gob_read.proofs.Runs.{number_stepped, raw_stepped, fresh_is}
 
 pub head_is : (fs : List Frame) {f : Frame} → slice_get fs 0 ≡ Some f → fs ≡ f ∷ drop 1 fs

@@ -1,12 +1,11 @@
 -- Parts of a basic type that stand whole in a piece, and are spelled by one number or by a count of bytes and the bytes.
 -- It describes the reader's stack.
-use Rattle.std.specs.Prelude.{◌≡◌, ℕ, ◌+◌, ◌-◌, ◌^◌, ◌<◌, ◌≤◌, List, [], ◌∷◌, length, take, drop, Option, Some, None, slice_get, Bool, false}
+use Rattle.std.specs.Prelude.{◌≡◌, ℕ, ◌+◌, ◌^◌, ◌<◌, ◌≤◌, List, [], ◌∷◌, length, take, drop, Option, Some, None, slice_get, Bool, false}
 use Rattle.gob_types.specs.declared.id.TypeId.{TypeId}
 use Rattle.gob_types.specs.declared.basic.Basic.{Basic}
 use Rattle.gob_types.specs.declared.kind.Field.{Field}
 use Rattle.gob_types.specs.declared.kind.Kind.TheVariants as kind
 use Rattle.gob_types.specs.Table.{Table}
-use Rattle.gob_num.specs.Unsigned.{IsUnsigned}
 use Rattle.gob_read.specs.Telling.{Telling, number, raw_start, raw_more, leave, field}
 use Rattle.gob_read.specs.Building.{IsTold}
 use Rattle.gob_read.specs.Kinds.{IsScalar, IsRawKind}
