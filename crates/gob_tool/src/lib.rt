@@ -20,6 +20,3 @@ pub use fault::{ToolFault, status};
 pub use item_json::json_of;
 pub use show::run_show;
 pub use words::{Chosen, Order, OrderFault, order_of};
-
-#[cfg(test)]
-mod tests;

@@ -1,0 +1,16 @@
+//! Tests of what the commands do, by the public calls of `gob_tool`. What the program shows of a stream is in
+//! `interop/rows`; here is what no stream shows: devices that fail, other limits, lines without a stream, words.
+#![tactic(auto)]
+
+#[cfg(test)]
+mod devices;
+#[cfg(test)]
+mod faults;
+#[cfg(test)]
+mod lines;
+#[cfg(test)]
+mod runs;
+#[cfg(test)]
+mod streams;
+#[cfg(test)]
+mod words;
