@@ -32,6 +32,3 @@ pub use number::{Number, Step};
 pub use pattern::{to_pattern, write_pattern};
 pub use signed::{to_signed, write_int};
 pub use unsigned::{Taken, take_uint, write_uint};
-
-#[cfg(test)]
-mod tests;

@@ -49,12 +49,3 @@ pub use read::read_stream;
 pub use session::Session;
 pub use writer::StreamWriter;
 pub use writing::write_stream;
-
-#[cfg(test)]
-mod memory_tests;
-#[cfg(test)]
-mod reading_tests;
-#[cfg(test)]
-mod test_rows;
-#[cfg(test)]
-mod writing_tests;

@@ -42,6 +42,3 @@ pub use readiness::NotReady;
 pub use reason::Reason;
 pub use shapes::Shapes;
 pub use table::{DefineFault, Table};
-
-#[cfg(test)]
-mod tests;

@@ -26,22 +26,14 @@
 mod depth;
 mod describing;
 mod description;
-#[cfg(test)]
-mod description_tests;
 mod fault;
 mod fitting;
 mod laws;
 mod laws_description;
 mod laws_tidy;
 mod leaf;
-#[cfg(test)]
-mod memory_tests;
 mod parts;
 mod spelling;
-#[cfg(test)]
-mod tests;
-#[cfg(test)]
-mod tidy_tests;
 mod tidying;
 mod value;
 mod writing;

@@ -1,0 +1,12 @@
+pub mod FoundLaws
+pub mod ClashLaws
+pub mod SearchLaws
+pub mod ConversionLaws
+pub mod KindLaws
+pub mod NameLaws
+pub mod ReceiveLaws
+pub mod HaveLaws
+pub mod Loops
+pub mod ReceiveSteps
+pub mod PartLaws
+pub mod FitLaws

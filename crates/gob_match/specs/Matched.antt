@@ -1,0 +1,43 @@
+-- What a match is of, and what is kept of it. (docs/FORMAT.md, Matching and receiving.)
+use Rattle.std.specs.Prelude.{◌≡◌, ℕ, List, Some, slice_get}
+use Rattle.gob_types.specs.declared.id.TypeId.{TypeId}
+use Rattle.gob_types.specs.Table.{Table}
+use Rattle.gob_match.specs.declared.conversion.Conversion.{Conversion}
+use Rattle.gob_match.specs.declared.matched.Matched.{Matched}
+use Rattle.gob_match.specs.declared.pair.TypePair.{TypePair}
+use Rattle.gob_match.specs.declared.step.Step.{Step}
+use Rattle.gob_match.specs.Pairs.{of_types}
+use Rattle.gob_match.specs.Matching.{Names}
+use Rattle.gob_match.specs.Search.{Entry, IsAt}
+use Rattle.gob_match.specs.Exploring.{ConvertsAt}
+
+-- the pairs are a closed list that begins with the two types, and each has its conversion
+pub record IsMatched (T U : Table) (t u : TypeId) (found : List Entry) (conversions : List Conversion) : Type 0 where
+  pub begins : IsAt found 0 (of_types t u)
+  pub conversion : (k : ℕ) (p : TypePair) → IsAt found k p → (w : Conversion) × (slice_get conversions k ≡ Some w) × ConvertsAt T U p w
+  pub named : (k : ℕ) (p q : TypePair) (s : Step) → IsAt found k p → Names T U p s q → (j : ℕ) × IsAt found j q
+
+-- the stream's types, and the one that is matched
+abbrev pub stream_of : {S W : Type 0} → Matched S W → S
+stream_of m = m.stream.now
+
+abbrev pub stream_type : {S W : Type 0} → Matched S W → TypeId
+stream_type m = m.id
+
+-- the wanted types, and the one that is matched
+abbrev pub wanted_of : {S W : Type 0} → Matched S W → W
+wanted_of m = m.wanted.now
+
+abbrev pub wanted_type : {S W : Type 0} → Matched S W → TypeId
+wanted_type m = m.wanted_id
+
+-- it is a match of these two types
+pub record IsMatchOf {S W : Type 0} (stream : S) (t : TypeId) (wanted : W) (u : TypeId) (m : Matched S W) : Type 0 where
+  pub of_stream : stream_of m ≡ stream
+  pub of_type : stream_type m ≡ t
+  pub of_wanted : wanted_of m ≡ wanted
+  pub of_wanted_type : wanted_type m ≡ u
+
+-- what is kept of the match is right, where these are the tables of the two sides
+abbrev pub IsSound : {S W : Type 0} → (S → Table) → (W → Table) → Matched S W → Type 0
+IsSound stream wanted m = IsMatched (stream m.stream.now) (wanted m.wanted.now) m.id m.wanted_id m.found m.conversions.items

@@ -1,0 +1,87 @@
+//! Whether two types match.
+
+ghost use Rattle.std.specs.Prelude.{◌≡◌, ◌<◌, length, IfOk, OnOk, IfErr};
+ghost use Rattle.gob_types.specs.Ready.{IsReady};
+ghost use Rattle.gob_match.specs.Matching.{Match};
+ghost use Rattle.gob_match.specs.Matched.{IsMatchOf, IsSound};
+ghost use Rattle.gob_match.specs.Faults.{IsMatchFault};
+ghost use Rattle.gob_match.specs.Exploring.{Explores, IsExploreFault};
+ghost use Rattle.gob_match.specs.Search.{AreReadyAt};
+
+use crate::adding::add_named;
+use crate::conversion::Conversion;
+use crate::fault::{MatchFault, PairFault};
+use crate::found::Found;
+use crate::kinds::match_kinds;
+use crate::matched::Matched;
+use crate::pair::TypePair;
+use gob_types::{Shapes, TypeId};
+use std::alloc::Global;
+
+/// Whether values of a stream's type can be received as values of a wanted type.
+pub fn match_types<'a, S: Shapes, T: Shapes>(
+    alloc: Global,
+    stream: &'a S,
+    id: TypeId,
+    wanted: &'a T,
+    wanted_id: TypeId,
+) -> Result<Matched<'a, S, T>, MatchFault>
+    requires stream_ready { IsReady (S.table stream.now) id }
+    requires wanted_ready { IsReady (T.table wanted.now) wanted_id }
+    ensures matched { OnOk result (Match (S.table stream.now) (T.table wanted.now) id wanted_id) }
+    ensures of { IfOk result (IsMatchOf stream.now id wanted.now wanted_id) }
+    ensures sound { IfOk result (IsSound S.table T.table) }
+    ensures fault { IfErr result (IsMatchFault (S.table stream.now) (T.table wanted.now) id wanted_id) }
+{
+    let start = TypePair {
+        stream: id,
+        wanted: wanted_id,
+    };
+    let mut found = Found::start(alloc, start)?;
+    let mut conversions = Vec::new(alloc);
+    let mut next = 0;
+    while next < found.count() {
+        match explore(alloc, &mut found, next, stream, wanted) {
+            Ok(conversion) => conversions.push(conversion)?,
+            Err(PairFault::Memory) => return Err(MatchFault::Memory),
+            Err(PairFault::Clash(reason)) => {
+                let path = found.path_to(alloc, next)?;
+                return Err(MatchFault::Clash { path, reason });
+            }
+        }
+        next += 1;
+    }
+    Ok(Matched {
+        stream,
+        id,
+        wanted,
+        wanted_id,
+        found,
+        conversions,
+    })
+}
+
+// The conversion of the pair at a place. The pairs that it leads to are added.
+fn explore<S: Shapes, T: Shapes>(
+    alloc: Global,
+    found: &mut Found,
+    place: usize,
+    stream: &S,
+    wanted: &T,
+) -> Result<Conversion, PairFault>
+    requires there { place < length found.old }
+    requires ready { AreReadyAt (S.table stream.now) (T.table wanted.now) found.old place }
+    ensures explored { IfOk result (Explores (S.table stream.now) (T.table wanted.now) found.old found.new place) }
+    ensures fault { IfErr result (IsExploreFault (S.table stream.now) (T.table wanted.now) found.old found.new place) }
+{
+    let pair = found.pair_at(place);
+    let Some(shape) = stream.shape_of(pair.stream) else {
+        unreachable!()
+    };
+    let Some(other) = wanted.shape_of(pair.wanted) else {
+        unreachable!()
+    };
+    let conversion = match_kinds(alloc, &shape.kind, &other.kind)?;
+    add_named(alloc, found, place, &conversion)?;
+    Ok(conversion)
+}

@@ -1,0 +1,146 @@
+//! Reading and writing where memory may be refused: the right answer, or want of memory and nothing else.
+//! tools/refuse-memory runs these with each allocation refused in turn, so they make nothing beside what they test.
+
+use crate::devices::Small;
+use crate::sessions::feed_both;
+use gob_stream::{
+    Fault, Input, Item, Limits, Output, StreamWriter, WriteFault, read_stream, write_stream,
+};
+use gob_types::TypeId;
+use gob_value::Value;
+use std::alloc::Global;
+use std::test::*;
+
+// A stream, and how many items it has.
+#[derive(Clone, Copy)]
+struct Stream(&'static [u8], usize);
+
+const INT: &[u8] = b"\x03\x04\x00\x06";
+
+const FLOAT: &[u8] = b"\x05\x08\x00\xfe\x31\x40";
+
+const COMPLEX: &[u8] = b"\x06\x0e\x00\xfe\x31\x40\x00";
+
+const TEXT: &[u8] = b"\x04\x0c\x00\x01\xff";
+
+const RAW: &[u8] = b"\x05\x0a\x00\x02\x00\xff";
+
+const STREAMS: [Stream; 10] = [
+    Stream(INT, 1),
+    Stream(FLOAT, 1),
+    Stream(COMPLEX, 1),
+    Stream(TEXT, 1),
+    Stream(RAW, 1),
+    // a struct of two ints, and a value
+    Stream(
+        b"\x1f\xff\x81\x03\x01\x01\x05\x50\x6f\x69\x6e\x74\x01\xff\x82\x00\x01\x02\x01\x01\x58\x01\x04\x00\x01\x01\x59\x01\x04\x00\x00\x00\x07\xff\x82\x01\x2c\x01\x42\x00",
+        2,
+    ),
+    // a struct that names itself, and a value
+    Stream(
+        b"\x22\xff\x81\x03\x01\x01\x04\x4e\x6f\x64\x65\x01\xff\x82\x00\x01\x02\x01\x01\x56\x01\x04\x00\x01\x04\x4e\x65\x78\x74\x01\xff\x82\x00\x00\x00\x09\xff\x82\x01\x02\x01\x01\x04\x00\x00",
+        2,
+    ),
+    // a map from string to int, and a value
+    Stream(
+        b"\x0e\xff\x81\x04\x01\x02\xff\x82\x00\x01\x0c\x01\x04\x00\x00\x0a\xff\x82\x00\x02\x01\x61\x02\x01\x61\x04",
+        2,
+    ),
+    // a struct of a slice that is defined behind it, and a value
+    Stream(
+        b"\x16\xff\x81\x03\x01\x01\x01\x53\x01\xff\x82\x00\x01\x01\x01\x01\x41\x01\xff\x84\x00\x00\x00\x0c\xff\x83\x02\x01\x02\xff\x84\x00\x01\x04\x00\x00\x07\xff\x82\x01\x02\x02\x04\x00",
+        3,
+    ),
+    // an opaque type, and a value
+    Stream(
+        b"\x10\xff\x81\x05\x01\x01\x04\x54\x69\x6d\x65\x01\xff\x82\x00\x00\x00\x06\xff\x82\x00\x02\x0a\x0b",
+        2,
+    ),
+];
+
+// Whether all of the items are there, or some for want of memory.
+fn is_right(answer: Result<(), Fault>, items: usize, whole: usize) -> bool {
+    match answer {
+        Ok(()) => items == whole,
+        Err(fault) => fault == Fault::Memory && items <= whole,
+    }
+}
+
+#[test]
+fn reading_wants_memory(rt: HostRuntime) {
+    for Stream(bytes, count) in STREAMS {
+        let mut input = Input::new(bytes);
+        let mut items = Vec::new(rt.alloc());
+        let answer = read_stream(rt.alloc(), &mut input, Limits::standard(), &mut items);
+        assert!(rt; is_right(answer, items.len(), count));
+    }
+}
+
+#[test]
+fn sessions_want_memory(rt: HostRuntime) {
+    for Stream(bytes, count) in STREAMS {
+        let mut items = Vec::new(rt.alloc());
+        let (one, two) = bytes.split_at(bytes.len() / 2);
+        let answer = feed_both(rt.alloc(), one, two, &mut items);
+        assert!(rt; is_right(answer, items.len(), count));
+    }
+}
+
+// Writes a stream of one value.
+fn put_one(alloc: Global, small: &mut Small, id: u64, value: &Value) -> Result<(), WriteFault> {
+    let mut output = Output::new(small);
+    let mut writer = StreamWriter::new(alloc, Limits::standard())?;
+    writer.put(alloc, &mut output, TypeId(id), value)
+}
+
+// Whether the value was written as these bytes, or not at all for want of memory.
+fn is_written(alloc: Global, id: u64, value: &Value, bytes: &[u8]) -> bool {
+    let mut small = Small::new();
+    match put_one(alloc, &mut small, id, value) {
+        Ok(()) => small.taken() == Some(bytes),
+        Err(fault) => fault == WriteFault::Memory && small.taken() == Some(&[]),
+    }
+}
+
+#[test]
+fn writing_wants_memory(rt: HostRuntime) {
+    let alloc = rt.alloc();
+    let pattern = 0x4031_0000_0000_0000;
+    assert!(rt; is_written(alloc, 2, &Value::Int(3), INT), "an int");
+    assert!(rt;
+        is_written(alloc, 4, &Value::Float(pattern), FLOAT),
+        "a float"
+    );
+    assert!(rt;
+        is_written(alloc, 7, &Value::Complex(pattern, 0), COMPLEX),
+        "a complex number"
+    );
+    if let Ok(text) = [0xff].to_vec(alloc) {
+        assert!(rt; is_written(alloc, 6, &Value::Str(text), TEXT), "text");
+    }
+}
+
+// Whether the items are written as these bytes, or a front of the items for want of memory.
+fn are_written(alloc: Global, items: &[Item<Value>], bytes: &[u8]) -> bool {
+    let mut small = Small::new();
+    let answer = {
+        let mut output = Output::new(&mut small);
+        write_stream(alloc, &mut output, items, Limits::standard())
+    };
+    let front = small.taken().unwrap_or(&[]);
+    match answer {
+        Ok(()) => front == bytes,
+        Err(stop) => stop.fault == WriteFault::Memory && bytes.starts_with(front),
+    }
+}
+
+#[test]
+fn writing_definitions_wants_memory(rt: HostRuntime) {
+    let alloc = rt.alloc();
+    for Stream(bytes, _) in STREAMS {
+        let mut items = Vec::new(alloc);
+        let mut input = Input::new(bytes);
+        let answer = read_stream(alloc, &mut input, Limits::standard(), &mut items);
+        assert!(rt; answer.is_err() || are_written(alloc, &items, bytes));
+    }
+}

@@ -1,0 +1,163 @@
+//! The rows of docs/FORMAT.md on reading, and more, in that page's notation: what, a stream, and what it gives, which is how
+//! many items it begins with and what is refused behind these.
+
+use std::alloc::Global;
+use std::test::Fail;
+
+/// Rows under the standard limits.
+pub(crate) const ROWS: &str = "
+nothing |  | 0 items
+an int | 03 04 00 06 | 1 items
+a struct and a value | POINT 07 ff 82 01 2c 01 42 00 | 2 items
+two values | POINT 07 ff 82 01 2c 01 42 00 07 ff 82 01 2c 01 42 00 | 3 items
+a struct that names itself | NODE 09 ff 82 01 02 01 01 04 00 00 | 2 items
+a map with a key twice | MAP 0a ff 82 00 02 01 61 02 01 61 04 | 2 items
+the least int | 0b 04 00 f8 ff ff ff ff ff ff ff ff | 1 items
+a digit too many | 04 04 00 ff 7f | 0 items, refused 2 NotMinimal at 3 seen 5
+the same before the end | 09 04 00 ff 7f | 0 items, refused 2 NotMinimal at 3 seen 5
+bytes behind a value | 04 04 00 06 00 | 0 items, refused 6 Extra at 4 seen 4
+announced behind a value | 04 04 00 06 | 0 items, refused 6 Extra at 4 seen 4
+an empty body | 00 | 0 items, refused 5 Short at 1 seen 1
+a value cut off | 03 04 00 ff | 0 items, refused 5 Short at 4 seen 4
+a long string announced | 0b 0c 00 f8 ff ff ff ff ff ff ff ff | 0 items, refused 5 Short at 12 seen 12
+no such type | 03 ff 82 00 | 0 items, refused 10 UndefinedType(65) at 1 seen 3
+no such type, nothing behind | 02 ff 82 | 0 items, refused 10 UndefinedType(65) at 1 seen 3
+a field of no type | OUTER 07 ff 82 01 02 02 04 00 | 1 items, refused 10 UndefinedType(66) at 24 seen 26
+types in any order | OUTER 0c ff 83 02 01 02 ff 84 00 01 04 00 00 07 ff 82 01 02 02 04 00 | 3 items
+defined twice | POINT POINT | 1 items, refused 8 DefinedTwice(65) at 33 seen 35
+no such field | POINT 07 ff 82 01 2c 02 42 00 | 1 items, refused 15 FieldNumber at 37 seen 38
+an array of itself | LOOP 05 ff 82 00 01 01 | 1 items, refused 11 Bottomless(65) at 17 seen 19
+an opaque type | TIME 06 ff 82 00 02 0a 0b | 2 items
+another kind of opaque type | 10 ff 81 07 01 01 04 54 69 6d 65 01 ff 82 00 00 00 06 ff 82 00 02 0a 0b | 0 items, refused 15 FieldNumber at 3 seen 4
+the least own id | 0b 7f 02 01 02 ff 80 00 01 04 00 00 | 1 items
+a reserved id | 02 7d 00 | 0 items, refused 7 ReservedType(63) at 1 seen 2
+a bool of 2 | 03 02 00 02 | 0 items, refused 13 Bool at 3 seen 4
+a bool of 128 | 04 02 00 ff 80 | 0 items, refused 13 Bool at 3 seen 5
+a tag of 1 | 03 04 01 06 | 0 items, refused 12 SingleTag at 2 seen 3
+a value item cut off | POINT 07 ff 82 01 | 1 items, refused 22 Ended at 36 seen 36
+a float | 05 08 00 fe 31 40 | 1 items
+a complex number | 06 0e 00 fe 31 40 00 | 1 items
+text that is no UTF-8 | 04 0c 00 01 ff | 1 items
+bytes | 05 0a 00 02 00 ff | 1 items
+a zero that is present | POINT 07 ff 82 01 00 01 42 00 | 2 items
+nil | 03 10 00 00 | 1 items
+an interface | 06 10 00 03 69 6e 74 | 0 items, refused 16 InterfaceValue at 3 seen 4
+a bad head | f7 | 0 items, refused 1 BadHead at 0 seen 1
+a bad head in a body | 02 80 00 | 0 items, refused 1 BadHead at 1 seen 2
+an item too long | fc 04 00 00 01 | 0 items, refused 3 ItemTooLong at 0 seen 5
+no kind | 03 ff 81 00 | 0 items, refused 18 KindCount at 3 seen 4
+more behind a description | 04 ff 81 00 00 | 0 items, refused 6 Extra at 4 seen 4
+another id | 0c ff 81 02 01 02 ff 84 00 01 04 00 00 | 0 items, refused 19 WrongId at 3 seen 13
+a reference to nothing | 0a ff 81 02 01 02 ff 82 00 00 00 | 0 items, refused 20 BadReference at 3 seen 11
+a length below 0 | 0e ff 81 01 01 02 ff 82 00 01 04 01 01 00 00 | 0 items, refused 21 BadLength at 3 seen 15
+an array of 2 with 1 | ARRAY 05 ff 82 00 01 06 | 1 items, refused 14 ArrayCount at 19 seen 20
+an array of 2 | ARRAY 06 ff 82 00 02 02 04 | 2 items
+a struct of nothing | 0d ff 81 03 01 01 01 45 01 ff 82 00 00 00 03 ff 82 00 | 2 items
+type 0 | 02 00 00 | 0 items, refused 10 UndefinedType(0) at 1 seen 2
+type 24 | 02 30 00 | 0 items, refused 10 UndefinedType(24) at 1 seen 2
+a long list announced | LIST 0c ff 82 00 f8 ff ff ff ff ff ff ff ff | 1 items, refused 5 Short at 27 seen 27
+a type number cut off | 01 ff | 0 items, refused 5 Short at 2 seen 2
+";
+
+/// Rows under a depth limit of 5.
+pub(crate) const DEEP: &str = "
+depth 5 | LIST 08 ff 82 00 01 01 01 01 00 | 2 items
+depth 6 | LIST 09 ff 82 00 01 01 01 01 01 00 | 1 items, refused 17 TooDeep at 23 seen 23
+depth 6, shown before the end | LIST 08 ff 82 00 01 01 01 01 01 | 1 items, refused 17 TooDeep at 23 seen 23
+";
+
+/// Rows under a limit of 3 for the stream, and of 0 for types.
+pub(crate) const IN_3: &str = "
+an int of 4 bytes in 3 | 03 04 00 06 | 0 items, refused 4 StreamTooLong at 0 seen 1
+";
+
+/// The same with a limit of 7 for the stream.
+pub(crate) const IN_7: &str = "
+the second of two items | 03 04 00 06 03 02 00 01 | 1 items, refused 4 StreamTooLong at 4 seen 5
+the greatest count | f8 ff ff ff ff ff ff ff ff | 0 items, refused 4 StreamTooLong at 0 seen 9
+";
+
+/// With one of 8.
+pub(crate) const IN_8: &str = "
+two items as long as the limit | 03 04 00 06 03 02 00 01 | 2 items
+";
+
+/// And with one of 9.
+pub(crate) const IN_9: &str = "
+a definition too many | 04 ff 81 00 00 | 0 items, refused 9 TooManyTypes at 1 seen 3
+";
+
+/// A row of a table.
+#[derive(Drop)]
+pub(crate) struct Row {
+    /// What it is.
+    pub(crate) what: &'static str,
+    /// The bytes of the stream.
+    pub(crate) bytes: Vec<u8>,
+    /// What it gives.
+    pub(crate) gives: &'static str,
+}
+
+/// The row of this line.
+pub(crate) fn row_of(alloc: Global, line: &'static str) -> Result<Row, Fail> {
+    let mut parts = line.split(" | ");
+    match (parts.next(), parts.next(), parts.next()) {
+        (Some(what), Some(stream), Some(gives)) => Ok(Row {
+            what,
+            bytes: bytes_of(alloc, stream)?,
+            gives,
+        }),
+        _ => Err("a row has three parts".into()),
+    }
+}
+
+const POINT: &str =
+    "1f ff 81 03 01 01 05 50 6f 69 6e 74 01 ff 82 00 01 02 01 01 58 01 04 00 01 01 59 01 04 00 00 00";
+
+const NODE: &str =
+    "22 ff 81 03 01 01 04 4e 6f 64 65 01 ff 82 00 01 02 01 01 56 01 04 00 01 04 4e 65 78 74 01 ff 82 00 00 00";
+// A struct with a field A of type 66.
+const OUTER: &str = "16 ff 81 03 01 01 01 53 01 ff 82 00 01 01 01 01 41 01 ff 84 00 00 00";
+
+const ARRAY: &str = "0e ff 81 01 01 02 ff 82 00 01 04 01 04 00 00";
+
+const LOOP: &str = "0f ff 81 01 01 02 ff 82 00 01 ff 82 01 02 00 00";
+
+const LIST: &str = "0d ff 81 02 01 02 ff 82 00 01 ff 82 00 00";
+
+const MAP: &str = "0e ff 81 04 01 02 ff 82 00 01 0c 01 04 00 00";
+
+const TIME: &str = "10 ff 81 05 01 01 04 54 69 6d 65 01 ff 82 00 00 00";
+
+/// The bytes that are written so: in hexadecimal, or by the name of a definition.
+pub(crate) fn bytes_of(alloc: Global, text: &str) -> Result<Vec<u8>, Fail> {
+    let mut bytes = Vec::new(alloc);
+    for word in text.split_whitespace() {
+        append(alloc, definition(word), &mut bytes)?;
+    }
+    Ok(bytes)
+}
+
+// The definition of this name, or else the word itself.
+fn definition<'a>(word: &'a str) -> &'a str {
+    match word {
+        "POINT" => POINT,
+        "NODE" => NODE,
+        "OUTER" => OUTER,
+        "ARRAY" => ARRAY,
+        "LOOP" => LOOP,
+        "LIST" => LIST,
+        "MAP" => MAP,
+        "TIME" => TIME,
+        _ => word,
+    }
+}
+
+// Appends bytes in hexadecimal.
+fn append(alloc: Global, text: &str, bytes: &mut Vec<u8>) -> Result<(), Fail> {
+    for word in text.split_whitespace() {
+        let more = hex::decode(alloc, word)?;
+        bytes.extend_from_slice(&more)?;
+    }
+    Ok(())
+}

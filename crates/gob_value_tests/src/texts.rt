@@ -1,0 +1,58 @@
+//! The numbers of the reasons for which bytes are refused, and what is printed of them.
+use crate::rows::expect;
+use gob_num::Memory;
+use gob_types::{Reason, TypeId};
+use std::alloc::{AllocError, Global};
+use std::test::Fail;
+
+// The reasons in the order of their numbers, the first of which is 1.
+static REASONS: [(Reason, &str); 23] = [
+    (Reason::BadHead, "BadHead"),
+    (Reason::NotMinimal, "NotMinimal"),
+    (Reason::ItemTooLong, "ItemTooLong"),
+    (Reason::StreamTooLong, "StreamTooLong"),
+    (Reason::Short, "Short"),
+    (Reason::Extra, "Extra"),
+    (Reason::ReservedType(TypeId(65)), "ReservedType(65)"),
+    (Reason::DefinedTwice(TypeId(65)), "DefinedTwice(65)"),
+    (Reason::TooManyTypes, "TooManyTypes"),
+    (Reason::UndefinedType(TypeId(65)), "UndefinedType(65)"),
+    (Reason::Bottomless(TypeId(65)), "Bottomless(65)"),
+    (Reason::SingleTag, "SingleTag"),
+    (Reason::Bool, "Bool"),
+    (Reason::ArrayCount, "ArrayCount"),
+    (Reason::FieldNumber, "FieldNumber"),
+    (Reason::InterfaceValue, "InterfaceValue"),
+    (Reason::TooDeep, "TooDeep"),
+    (Reason::KindCount, "KindCount"),
+    (Reason::WrongId, "WrongId"),
+    (Reason::BadReference, "BadReference"),
+    (Reason::BadLength, "BadLength"),
+    (Reason::Ended, "Ended"),
+    (Reason::DoesNotFit, "DoesNotFit"),
+];
+
+fn is_printed(alloc: Global, reason: Reason, text: &str) -> Result<bool, AllocError> {
+    let printed = format!(in alloc; "{reason}")?;
+    Ok(printed.as_str() == text)
+}
+
+#[test]
+fn reasons_have_numbers_and_names(rt: HostRuntime) -> Result<(), Fail> {
+    for (i, (reason, text)) in REASONS.iter().enumerate() {
+        let is_right = is_printed(rt.alloc(), *reason, text)?
+            && usize::from(reason.number()) == i + 1;
+        expect(&rt, is_right, "REASONS", i);
+    }
+    Ok(())
+}
+
+#[test]
+fn others_are_printed(rt: HostRuntime) -> Result<(), Fail> {
+    let id = TypeId(65);
+    let id = format!(in rt.alloc(); "{id}")?;
+    expect(&rt, id.as_str() == "65", "a type id", 0);
+    let memory = format!(in rt.alloc(); "{Memory}")?;
+    expect(&rt, memory.as_str() == "out of memory", "want of memory", 0);
+    Ok(())
+}
