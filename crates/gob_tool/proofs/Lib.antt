@@ -1,5 +1,6 @@
 pub mod TextLaws
 pub mod PrintLaws
+pub mod WrittenLaws
 pub mod WordLaws
 pub mod FrontLaws
 pub mod LinesStay
