@@ -149,7 +149,7 @@ module _ (s s' : Reading TreeBuilder Value) (bytes piece : List ℕ) (given : Li
   }
   fed_types (Err (reading.Refused R)) f = record { more = f.0.more; mean = f.0.mean; holds = types_behind f.0.holds.1 }
   fed_types (Err reading.Read) f = absurd f
-  fed_types (Err reading.Memory) f = record { more = f.more; mean = f.mean; holds = types_beyond f.holds }
+  fed_types (Err reading.Memory) f = record { more = f.more; mean = f.mean; holds = types_beyond f.holds.1 }
   fed_types (Err reading.Failed) f = absurd f
 
   -- what was gathered before, by the types of now
@@ -206,7 +206,7 @@ module _ (s s' : Reading TreeBuilder Value) (bytes piece : List ℕ) (given : Li
         shown.shown,
       )
   piece_refused reading.Read f p = absurd f
-  piece_refused reading.Memory f p = let t = types_beyond f.holds in begins_at (Gathered old new after) t (all_gathered f.more (views_mean f.mean) t p)
+  piece_refused reading.Memory f p = let t = types_beyond f.holds.1 in begins_at (Gathered old new after) t (all_gathered f.more (views_mean f.mean) t p)
   piece_refused reading.Failed f p = absurd f
 
 -- ---- from piece to piece
