@@ -182,7 +182,7 @@ piece_no_further taken piece (in_description {c = c} {a = a} {z = z} k i s r p b
     within_the_item (a ++ (z ++ piece)) (three c a z piece) k.count k.item k.stream (omega (arith, length-append a (z ++ piece), length-append z piece))
 
 -- the refusal is one of what stands behind the front
-refused_there : {X O : Type 0} {stands : Standing X} {trees : Standing TreeBuilder} {most : ℕ} {s : Reading X O} {items : List StreamItem} {bytes : List ℕ} (piece : List ℕ) {R : Refusal} (a : StandsAfter stands trees most s items bytes)
+pub refused_there : {X O : Type 0} {stands : Standing X} {trees : Standing TreeBuilder} {most : ℕ} {s : Reading X O} {items : List StreamItem} {bytes : List ℕ} (piece : List ℕ) {R : Refusal} (a : StandsAfter stands trees most s items bytes)
     → IsShown (no_deeper most s.limits) (bytes ++ piece) items R → RefusesNext base_table (no_deeper most s.limits) (types s.types) (length a.front) (a.under_way ++ piece) R
 refused_there {most = most} {s = s} piece {R = R} a h =
     let L = no_deeper most s.limits in

@@ -20,6 +20,7 @@ use Rattle.gob_stream.specs.Outcome.{GivesItems, GivesButLast, Outcome, EndsSo, 
 use Rattle.gob_stream.specs.Stream.{Stream, no_more}
 use Rattle.gob_stream.specs.Standing.{Standing, StandsAfter, no_deeper}
 use Rattle.gob_stream.specs.Reading.{SomeTaken, Given, IsShown, GivesNext, RefusesNextItem, shown, ended, StopsNext, ReadsNext, TakesNext, ReadsStream}
+use Rattle.gob_stream.proofs.StandLaws.{limits_stay}
 use Rattle.gob_stream.proofs.StayLaws.{shown_there, shown_refusal_stays}
 use Rattle.gob_stream.proofs.StreamLaws.{NoNext, counted_some, gives_items, but_none, before_last}
 use Rattle.gob_stream.proofs.UnderWayLaws.{after_gives}
@@ -53,11 +54,7 @@ view_meant (means_value {v = v} e) = cc
 
 -- no limit allows a deeper value than a builder of trees takes
 pub tree_limits : {L : Bounds} → AreLimits L → no_deeper 1000 L ≡ L
-tree_limits {L = L} a =
-    let with_depth : ℕ → Bounds = λ d. record { item = L.item; depth = d; types = L.types; stream = L.stream } in
-    let deep = a.depth in
-    let e : min L.depth 1000 ≡ L.depth = omega arith in
-    ap with_depth e
+tree_limits {L = L} a = limits_stay 1000 L a.depth
 
 -- ---- bytes that were taken before, and some more
 taken_again : {bytes : List ℕ} {mid now : Option (List ℕ)} {P Q R : List ℕ → Type 0} (p : SomeTaken bytes mid P) → ((more : List ℕ) → Q more → R (p.bytes ++ more)) → SomeTaken p.taken.left now Q → SomeTaken bytes now R

@@ -3,6 +3,5 @@ pub mod PrintLaws
 pub mod WordLaws
 pub mod FrontLaws
 pub mod LinesStay
-pub mod BoundLaws
 pub mod GatherLaws
 pub mod ShowLaws
