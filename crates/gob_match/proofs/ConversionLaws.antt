@@ -35,7 +35,7 @@ use Rattle.std.proofs.Common.{append-nil, ◌-◌}
 
 -- ---- fields of one name
 
-three_ways : (i j : ℕ) → (i < j) ⊎ ((i ≡ j) ⊎ (j < i))
+pub three_ways : (i j : ℕ) → (i < j) ⊎ ((i ≡ j) ⊎ (j < i))
 three_ways zero zero = inr (inl refl)
 three_ways zero (suc j) = inl (omega arith)
 three_ways (suc i) zero = inr (inr (omega arith))

@@ -1,5 +1,5 @@
 -- Steps of receiving a value.
-use Rattle.std.proofs.Common.{◌≡◌, ℕ, zero, suc, ◌+◌, ◌^◌, ◌<◌, ◌≤◌, List, [], ◌∷◌, length, Some, Vec, arith, refl, sym, ap, ◌∙◌, subst, true≢false, is_some, inl, inr}
+use Rattle.std.proofs.Common.{◌≡◌, ℕ, zero, suc, ◌+◌, ◌≤◌, List, [], ◌∷◌, Some, Vec, arith, refl, sym, ap, ◌∙◌, subst, true≢false, is_some, inl, inr}
 use Rattle.std.specs.Prelude.{slice_get, Result, Ok, Err, IfOk}
 use Rattle.gob_num.specs.declared.memory.Memory.{Memory}
 use Rattle.std.specs.Global.{Global}
@@ -7,7 +7,6 @@ use Rattle.gob_types.proofs.GrowthLaws.{some_injective}
 use Rattle.gob_types.specs.declared.id.TypeId.{TypeId}
 use Rattle.gob_types.specs.declared.kind.Field.{Field}
 use Rattle.gob_types.specs.declared.kind.Kind.{Kind}
-use Rattle.gob_types.specs.declared.kind.Kind.TheVariants as kind
 use Rattle.gob_types.specs.declared.kind.Shape.{Shape}
 use Rattle.gob_types.specs.Table.{Table}
 use Rattle.gob_value.specs.Tree.{Tree, Trees, tree, Pairs, pair, Fields, field, depth, trees_depth, pairs_depth, fields_depth}
@@ -27,9 +26,9 @@ use Rattle.gob_match.specs.declared.conversion.Conversion.TheVariants as convers
 use Rattle.gob_match.specs.declared.pair.TypePair.{TypePair}
 use Rattle.gob_match.specs.declared.step.Step.{Step}
 use Rattle.gob_match.specs.declared.step.Step.TheVariants as step
-use Rattle.gob_match.specs.Pairs.{of_types, RepeatsName}
-use Rattle.gob_match.specs.Matching.{KindsMatch, basics, opaques, arrays, slices, maps, structs, HasShapes}
-use Rattle.gob_match.specs.Search.{Entry, IsAt}
+use Rattle.gob_match.specs.Pairs.{RepeatsName}
+use Rattle.gob_match.specs.Matching.{KindsMatch, basics, opaques, arrays, slices, maps, structs}
+use Rattle.gob_match.specs.Search.{Entry}
 use Rattle.gob_match.specs.Struct as struct
 use Rattle.gob_match.specs.Struct.{AreCommonFields}
 use Rattle.gob_match.specs.Conversions as kept
@@ -37,7 +36,7 @@ use Rattle.gob_match.specs.Conversions.{IsConversion, ConversionNames}
 use Rattle.gob_match.specs.Exploring.{ConvertsAt}
 use Rattle.gob_match.specs.Received as relation
 use Rattle.gob_match.specs.Received.{IsPresent, first, later, IsAbsent, HasPresent, Receives, ReceivesAs, ReceivesFields}
-use Rattle.gob_match.specs.Receiving.{IsReceived, AreReceived, PairsReceived, FieldsReceived, no_more, absent, present, IsOfMatch, IsReceivable, AreReceivable, PairsReceivable, IsReceivableField, FieldsReceivable, HaveRisingNumbers}
+use Rattle.gob_match.specs.Receiving.{IsReceived, AreReceived, PairsReceived, FieldsReceived, no_more, absent, present, IsOfMatch, IsReceivable, AreReceivable, PairsReceivable, FieldsReceivable, HaveRisingNumbers}
 use Rattle.gob_match.proofs.ConversionLaws.{common_sound, conversion_named, one_number}
 
 -- ---- what stands in a value that fits

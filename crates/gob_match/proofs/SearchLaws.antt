@@ -95,7 +95,7 @@ pub record IsReadyPair (T U : Table) (p : TypePair) : Type 0 where
   pub stream : IsReady T p.stream
   pub wanted : IsReady U p.wanted
 
-named_ready : {T U : Table} {p q : TypePair} {s : Step} → IsReadyPair T U p → Names T U p s q → IsReadyPair T U q
+pub named_ready : {T U : Table} {p q : TypePair} {s : Step} → IsReadyPair T U p → Names T U p s q → IsReadyPair T U q
 named_ready r n = record { stream = growth.names_ready r.stream n.shapes.stream (stream_named n.named); wanted = growth.names_ready r.wanted n.shapes.wanted (wanted_named n.named) }
 
 -- ---- the search
@@ -362,7 +362,7 @@ searched_least {p = p} r at clash h = record {
 
 -- ---- the place of a pair
 
-same_itself : (p : TypePair) → same_pair p p ≡ true
+pub same_itself : (p : TypePair) → same_pair p p ≡ true
 same_itself p = ap (λ b. b && (p.wanted.0 == p.wanted.0)) (nat_eq_equiv.refl p.stream.0) ∙ nat_eq_equiv.refl p.wanted.0
 
 pub place_found : (p : TypePair) (es : List Entry) (r : Option ℕ) → r ≡ position (same_pair p) (keys_of es) → is_some r ≡ is_some (lookup (same_pair p) es) → MatchOption r ((k : ℕ) → IsAt es k p → ⊥) (λ k. IsAt es k p)

@@ -7,7 +7,7 @@ use Rattle.gob_types.specs.Table.{Table}
 use Rattle.gob_value.specs.Tree.{Tree, Trees, Pairs, Fields, no_field, field}
 use Rattle.gob_value.specs.Fits.{Fits}
 use Rattle.gob_value.specs.Spelling.{SpellsEach, SpellsPairs, SpellsFields}
-use Rattle.gob_value.specs.TidyLaws.{HasSmallNumbers, AllHaveSmallNumbers, PairsHaveSmallNumbers, FieldsHaveSmallNumbers}
+use Rattle.gob_value.specs.TidyLaws.{HasSmallNumbers, AllHaveSmallNumbers, PairsHaveSmallNumbers}
 use Rattle.gob_value.specs.declared.value.Value.{Value}
 use Rattle.gob_match.specs.declared.common.CommonField.{CommonField}
 use Rattle.gob_match.specs.declared.conversion.Conversion.{Conversion}

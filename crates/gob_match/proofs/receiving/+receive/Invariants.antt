@@ -1,4 +1,4 @@
-use Rattle.std.proofs.Common.{◌+◌, ◌*◌, drop, List}
+use Rattle.std.proofs.Common.{◌+◌, ◌*◌, drop}
 use Rattle.gob_value.specs.Tree.{depth, trees_depth, pairs_depth, fields_depth}
 use Rattle.gob_value.specs.View.{view, views, pair_views, field_views}
 use Rattle.gob_match.specs.Receiving.{GivesEach, GivesPairs, GivesFields}
