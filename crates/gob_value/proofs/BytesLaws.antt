@@ -1,5 +1,5 @@
 -- A spelling consists of bytes exactly where the byte strings in its value do.
-use Rattle.std.proofs.Common.{ℕ, ◌<◌, List, [], ◌∷◌, ◌++◌, arith}
+use Rattle.std.proofs.Common.{ℕ, ◌<◌, List, [], ◌++◌, arith}
 use Rattle.std.specs.Prelude.{◌↔◌}
 use Rattle.gob_num.specs.Unsigned.{AreBytes}
 use Rattle.gob_num.proofs.PublicLaws.{unsigned_bytes, signed_unsigned, pattern_unsigned, bytes-append, bytes_front, bytes_rest}
