@@ -1,27 +1,26 @@
 -- Two ready types match or clash, and where they clash there is a least clash.
 use Rattle.std.proofs.Common.{◌≡◌, ℕ, zero, suc, ◌+◌, ◌<◌, ◌≤◌, ◌⊎◌, inl, inr, Bool, true, false, List, [], ◌∷◌, ◌++◌, length, map, Contains, Option, Some, None, arith, refl, sym, ap, ◌∙◌, subst, true≢false, is_some}
-use Rattle.std.specs.Prelude.{slice_get}
 use Rattle.std.proofs.Math.Nat.{eq-or-lt_of_le}
-use Rattle.gob_types.proofs.GrowthLaws.{some_injective, reaches_itself}
-use Rattle.std.specs.Prelude.{◌==◌, if◌then◌else◌}
-use borrow.Author.Tests.{eqb-true}
 use Rattle.std.proofs.lemmas.Option.{slice_get_within}
-use Rattle.gob_types.proofs.FirstLaws.{contains_read, contains_at, slice_get-append_left}
+use Rattle.std.specs.Prelude.{slice_get, ◌==◌, if◌then◌else◌}
+use borrow.Author.Tests.{eqb-true}
 use Rattle.gob_types.specs.declared.id.TypeId.{TypeId}
 use Rattle.gob_types.specs.declared.kind.Shape.{Shape}
-use Rattle.gob_types.specs.Table.{Table, shape_of}
 use Rattle.gob_types.specs.Ready.{IsReady}
+use Rattle.gob_types.specs.Table.{Table, shape_of}
+use Rattle.gob_types.proofs.FirstLaws.{contains_read, contains_at, slice_get-append_left}
+use Rattle.gob_types.proofs.GrowthLaws.{some_injective, reaches_itself}
 use Rattle.gob_match.specs.declared.pair.TypePair.{TypePair}
-use Rattle.gob_match.specs.declared.step.Step.{Step}
 use Rattle.gob_match.specs.declared.reason.ClashReason.{ClashReason}
-use Rattle.gob_match.specs.Pairs.{of_types, NamesPair}
-use Rattle.gob_match.specs.Matching.{KindsMatch, HasShapes, HasMatchingShapes, Names, Match}
+use Rattle.gob_match.specs.declared.step.Step.{Step}
 use Rattle.gob_match.specs.Clashing.{HasClashingShapes, Leads, here, onward, ClashAt, IsLeastClash}
+use Rattle.gob_match.specs.Matching.{KindsMatch, HasShapes, HasMatchingShapes, Names, Match}
+use Rattle.gob_match.specs.Pairs.{of_types, NamesPair}
 use Rattle.gob_match.proofs.ClashLaws.{one_stream, one_wanted, match_or_clash_at}
-use Rattle.gob_match.proofs.FoundLaws.{same_pair, same_exact}
-use Rattle.gob_match.proofs.SearchLaws.{IsReadyPair, named_ready, same_itself, below_or_past, slice_get-append_right}
 use Rattle.gob_match.proofs.ConversionLaws.{undefined}
+use Rattle.gob_match.proofs.FoundLaws.{same_pair, same_exact}
 use Rattle.gob_match.proofs.KindChoice.{items_choice, kinds_choice, Clash, AllNamed, SomeNamed, named_choice}
+use Rattle.gob_match.proofs.SearchLaws.{IsReadyPair, named_ready, same_itself, below_or_past, slice_get-append_right}
 
 -- ---- pairs in a list
 

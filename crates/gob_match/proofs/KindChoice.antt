@@ -1,22 +1,22 @@
 -- Two kinds match, or clash for one reason. What they name has a property, or something that they name has another.
 use Rattle.std.proofs.Common.{◌≡◌, ◌≢◌, ℕ, zero, suc, ◌<◌, ◌⊎◌, inl, inr, List, [], ◌∷◌, Some, arith, refl, sym, ap, ◌∙◌, subst, true≢false, is_some}
 use Rattle.std.specs.Prelude.{slice_get}
-use Rattle.gob_types.proofs.GrowthLaws.{some_injective}
-use Rattle.gob_types.specs.declared.id.TypeId.{TypeId}
 use Rattle.gob_types.specs.declared.basic.Basic.{Basic}
 use Rattle.gob_types.specs.declared.basic.Basic.TheVariants as basic
+use Rattle.gob_types.specs.declared.id.TypeId.{TypeId}
 use Rattle.gob_types.specs.declared.kind.Field.{Field}
-use Rattle.gob_types.specs.declared.kind.Marshal.{Marshal}
-use Rattle.gob_types.specs.declared.kind.Marshal.TheVariants as marshal
 use Rattle.gob_types.specs.declared.kind.Kind.{Kind}
 use Rattle.gob_types.specs.declared.kind.Kind.TheVariants as kind
+use Rattle.gob_types.specs.declared.kind.Marshal.{Marshal}
+use Rattle.gob_types.specs.declared.kind.Marshal.TheVariants as marshal
+use Rattle.gob_types.proofs.GrowthLaws.{some_injective}
 use Rattle.gob_match.specs.declared.pair.TypePair.{TypePair}
-use Rattle.gob_match.specs.declared.step.Step.{Step}
-use Rattle.gob_match.specs.declared.step.Step.TheVariants as step
 use Rattle.gob_match.specs.declared.reason.ClashReason.{ClashReason}
 use Rattle.gob_match.specs.declared.reason.ClashReason.TheVariants as clash
-use Rattle.gob_match.specs.Pairs.{of_types, HasName, RepeatsName, ShareName, NamesPair, element_of_arrays, element_of_slices, key_of_maps, element_of_maps, field_of_structs}
+use Rattle.gob_match.specs.declared.step.Step.{Step}
+use Rattle.gob_match.specs.declared.step.Step.TheVariants as step
 use Rattle.gob_match.specs.Matching.{KindsMatch, basics, opaques, arrays, slices, maps, structs, KindsClash, basics_differ, opaques_differ, lengths_differ, name_repeated, nothing_in_common, unlike}
+use Rattle.gob_match.specs.Pairs.{of_types, HasName, RepeatsName, ShareName, NamesPair, element_of_arrays, element_of_slices, key_of_maps, element_of_maps, field_of_structs}
 use Rattle.gob_match.proofs.ConversionLaws.{three_ways}
 use Rattle.gob_match.proofs.HaveLaws.{same_or_not}
 

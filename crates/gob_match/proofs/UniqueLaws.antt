@@ -1,24 +1,24 @@
 -- Where two types match, a value of the first is received as one value alone.
 use Rattle.std.proofs.Common.{◌≡◌, ℕ, suc, ◌≤◌, List, Contains, Some, arith, refl, sym, ap, ◌∙◌, subst}
 use Rattle.std.specs.Prelude.{slice_get}
-use Rattle.gob_types.proofs.GrowthLaws.{some_injective}
+use Rattle.gob_types.specs.declared.basic.Basic.{Basic}
 use Rattle.gob_types.specs.declared.id.TypeId.{TypeId}
 use Rattle.gob_types.specs.declared.kind.Field.{Field}
 use Rattle.gob_types.specs.declared.kind.Kind.{Kind}
 use Rattle.gob_types.specs.declared.kind.Kind.TheVariants as kind
 use Rattle.gob_types.specs.declared.kind.Marshal.{Marshal}
-use Rattle.gob_types.specs.declared.basic.Basic.{Basic}
 use Rattle.gob_types.specs.declared.kind.Shape.{Shape}
 use Rattle.gob_types.specs.Table.{Table}
+use Rattle.gob_types.proofs.GrowthLaws.{some_injective}
+use Rattle.gob_value.specs.Spelling.{Spells, SpellsAs, SpellsEach, SpellsPairs, SpellsFields}
+use Rattle.gob_value.specs.Spelling as spelling
 use Rattle.gob_value.specs.Tree.{Tree, Trees, tree, Pairs, pair, Fields, field}
 use Rattle.gob_value.specs.Tree as Value
-use Rattle.gob_value.specs.Spelling as spelling
-use Rattle.gob_value.specs.Spelling.{Spells, SpellsAs, SpellsEach, SpellsPairs, SpellsFields}
 use Rattle.gob_match.specs.declared.pair.TypePair.{TypePair}
 use Rattle.gob_match.specs.declared.step.Step.TheVariants as step
-use Rattle.gob_match.specs.Pairs as pairs
-use Rattle.gob_match.specs.Pairs.{RepeatsName, element_of_arrays, element_of_slices, key_of_maps, element_of_maps, field_of_structs}
 use Rattle.gob_match.specs.Matching.{KindsMatch, structs, IsClosed}
+use Rattle.gob_match.specs.Pairs.{RepeatsName, element_of_arrays, element_of_slices, key_of_maps, element_of_maps, field_of_structs}
+use Rattle.gob_match.specs.Pairs as pairs
 use Rattle.gob_match.specs.Received.{IsPresent, first, later, HasPresent, Receives, of_types, ReceivesAs, of_basics, of_opaques, of_arrays, of_slices, of_maps, of_structs, ReceivesEach, no_element, element, ReceivesPairs, no_entry, entry, ReceivesFields, no_more, absent, received}
 use Rattle.gob_match.proofs.ConversionLaws.{one_number}
 use Rattle.gob_match.proofs.HaveLaws.{AreNamed}

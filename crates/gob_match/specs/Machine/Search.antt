@@ -1,10 +1,10 @@
 -- What a search has found so far: pairs of types in the order in which they were added, each with the pair that named it.
 use Rattle.std.specs.Prelude.{◌≡◌, ℕ, ◌<◌, List, [], ◌∷◌, ◌++◌, Option, Some, None, slice_get}
-use Rattle.gob_types.specs.Table.{Table}
 use Rattle.gob_types.specs.Ready.{IsReady}
+use Rattle.gob_types.specs.Table.{Table}
+use Rattle.gob_match.specs.declared.found.Origin.{Origin}
 use Rattle.gob_match.specs.declared.pair.TypePair.{TypePair}
 use Rattle.gob_match.specs.declared.step.Step.{Step}
-use Rattle.gob_match.specs.declared.found.Origin.{Origin}
 
 abbrev pub Entry : Type 0
 Entry = TypePair × Option Origin

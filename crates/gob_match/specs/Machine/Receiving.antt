@@ -4,18 +4,18 @@ use Rattle.std.specs.Prelude.{◌≡◌, ℕ, ◌+◌, ◌^◌, ◌<◌, List, [
 use Rattle.gob_types.specs.declared.id.TypeId.{TypeId}
 use Rattle.gob_types.specs.declared.kind.Field.{Field}
 use Rattle.gob_types.specs.Table.{Table}
-use Rattle.gob_value.specs.Tree.{Tree, Trees, Pairs, Fields, no_field, field}
+use Rattle.gob_value.specs.declared.value.Value.{Value}
 use Rattle.gob_value.specs.Fits.{Fits}
 use Rattle.gob_value.specs.Spelling.{SpellsEach, SpellsPairs, SpellsFields}
 use Rattle.gob_value.specs.TidyLaws.{HasSmallNumbers, AllHaveSmallNumbers, PairsHaveSmallNumbers}
-use Rattle.gob_value.specs.declared.value.Value.{Value}
+use Rattle.gob_value.specs.Tree.{Tree, Trees, Pairs, Fields, no_field, field}
 use Rattle.gob_match.specs.declared.common.CommonField.{CommonField}
 use Rattle.gob_match.specs.declared.conversion.Conversion.{Conversion}
 use Rattle.gob_match.specs.declared.matched.Matched.{Matched}
 use Rattle.gob_match.specs.declared.pair.TypePair.{TypePair}
-use Rattle.gob_match.specs.Search.{Entry, IsAt}
-use Rattle.gob_match.specs.Matched.{IsMatched}
-use Rattle.gob_match.specs.Exploring.{ConvertsAt}
+use Rattle.gob_match.specs.Machine.Exploring.{ConvertsAt}
+use Rattle.gob_match.specs.Machine.Search.{Entry, IsAt}
+use Rattle.gob_match.specs.Machine.Kept.{IsMatched}
 use Rattle.gob_match.specs.Received.{IsPresent, IsAbsent, Receives, ReceivesEach, ReceivesPairs}
 
 -- ---- what is given

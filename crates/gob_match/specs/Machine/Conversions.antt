@@ -1,22 +1,22 @@
--- What two shapes that match name, as it is kept.
-use Rattle.std.specs.Prelude.{◌≡◌, ◌⊎◌, ℕ, List, Some, slice_get, Vec}
+-- What becomes of a value of two kinds that match, and the pairs of types that it leads to.
 use Rattle.std.specs.Global.{Global}
-use Rattle.gob_types.specs.declared.id.TypeId.{TypeId}
+use Rattle.std.specs.Prelude.{◌≡◌, ◌⊎◌, ℕ, List, Some, slice_get, Vec}
 use Rattle.gob_types.specs.declared.basic.Basic.{Basic}
+use Rattle.gob_types.specs.declared.id.TypeId.{TypeId}
 use Rattle.gob_types.specs.declared.kind.Field.{Field}
-use Rattle.gob_types.specs.declared.kind.Marshal.{Marshal}
 use Rattle.gob_types.specs.declared.kind.Kind.{Kind}
 use Rattle.gob_types.specs.declared.kind.Kind.TheVariants as kind
+use Rattle.gob_types.specs.declared.kind.Marshal.{Marshal}
 use Rattle.gob_match.specs.declared.common.CommonField.{CommonField}
+use Rattle.gob_match.specs.declared.conversion.Conversion.{Conversion}
+use Rattle.gob_match.specs.declared.conversion.Conversion.TheVariants as conversion
 use Rattle.gob_match.specs.declared.pair.TypePair.{TypePair}
 use Rattle.gob_match.specs.declared.step.Step.{Step}
 use Rattle.gob_match.specs.declared.step.Step.TheVariants as step
-use Rattle.gob_match.specs.declared.conversion.Conversion.{Conversion}
-use Rattle.gob_match.specs.declared.conversion.Conversion.TheVariants as conversion
+use Rattle.gob_match.specs.Machine.Struct.{AreCommonFields}
 use Rattle.gob_match.specs.Pairs.{of_types}
-use Rattle.gob_match.specs.Struct.{AreCommonFields}
 
--- this is kept of two shapes
+-- it is the conversion of two kinds
 pub data IsConversion : Kind → Kind → Conversion → Type 0 where
   of_basics : {b c : Basic} → IsConversion (kind.Basic b) (kind.Basic c) conversion.Unchanged
   of_opaques : {m n : Marshal} → IsConversion (kind.Opaque m) (kind.Opaque n) conversion.Unchanged

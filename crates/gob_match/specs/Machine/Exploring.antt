@@ -1,28 +1,28 @@
--- What is found out about two shapes, and about the pair of types that has them.
+-- What exploring a pair of types finds: the conversion of its shapes and the pairs that they name, or why they clash.
 use Rattle.std.specs.Prelude.{◌≡◌, ℕ, List, Result, MatchResult}
 use Rattle.gob_types.specs.declared.kind.Kind.{Kind}
 use Rattle.gob_types.specs.declared.kind.Shape.{Shape}
 use Rattle.gob_types.specs.Table.{Table}
-use Rattle.gob_match.specs.declared.pair.TypePair.{TypePair}
-use Rattle.gob_match.specs.declared.reason.ClashReason.{ClashReason}
 use Rattle.gob_match.specs.declared.conversion.Conversion.{Conversion}
 use Rattle.gob_match.specs.declared.fault.PairFault.{PairFault}
 use Rattle.gob_match.specs.declared.fault.PairFault.TheVariants as pair_fault
-use Rattle.gob_match.specs.Matching.{KindsMatch, KindsClash, HasShapes, Names}
+use Rattle.gob_match.specs.declared.pair.TypePair.{TypePair}
+use Rattle.gob_match.specs.declared.reason.ClashReason.{ClashReason}
 use Rattle.gob_match.specs.Clashing.{HasClashingShapes}
-use Rattle.gob_match.specs.Search.{Entry, IsAt, AddsPairs}
-use Rattle.gob_match.specs.Conversions.{IsConversion}
+use Rattle.gob_match.specs.Machine.Conversions.{IsConversion}
+use Rattle.gob_match.specs.Machine.Search.{Entry, IsAt, AddsPairs}
+use Rattle.gob_match.specs.Matching.{KindsMatch, KindsClash, HasShapes, Names}
 
--- the two shapes match, and this is their conversion
+-- the two kinds match, and this is their conversion
 pub record Converts (k l : Kind) (w : Conversion) : Type 0 where
   pub match : KindsMatch k l
   pub conversion : IsConversion k l w
 
--- the shapes match, or clash for a reason
+-- the kinds match, or clash for the reason
 abbrev pub MatchAnswers : Kind → Kind → Result Conversion ClashReason → Type 0
 MatchAnswers k l r = MatchResult r (Converts k l) (KindsClash k l)
 
--- why two shapes have no conversion; out of memory tells nothing of them
+-- why two kinds have no conversion; want of memory tells nothing of them
 abbrev pub IsPairFault : Kind → Kind → PairFault → Type 0
 IsPairFault k l (pair_fault.Clash reason) = KindsClash k l reason
 IsPairFault k l pair_fault.Memory = Unit {0}
