@@ -1,41 +1,37 @@
 -- The conversions of shapes that match, and the pairs that they lead to.
-use Rattle.std.proofs.Common.{◌≡◌, ℕ, zero, suc, ◌+◌, ◌^◌, ◌<◌, ◌≤◌, ◌⊎◌, inl, inr, List, [], ◌∷◌, ◌++◌, length, Some, None, arith, refl, sym, ap, ◌∙◌, subst, append_assoc, true≢false, is_some}
+use Rattle.std.proofs.Common.{◌≡◌, ℕ, zero, suc, ◌+◌, ◌^◌, ◌<◌, ◌≤◌, ◌⊎◌, inl, inr, List, [], ◌∷◌, ◌++◌, length, Some, None, arith, refl, sym, ap, ◌∙◌, subst, append_assoc, true≢false, is_some, length-append, get_or, append-nil, ◌-◌}
+use Rattle.std.proofs.Math.Nat.{eq-or-lt_of_le}
+use Rattle.std.proofs.lemmas.Option.{slice_get-get_or, slice_get_within}
 use Rattle.std.specs.Prelude.{slice_get}
-use Rattle.gob_types.proofs.GrowthLaws.{some_injective}
 use Rattle.gob_types.specs.declared.id.TypeId.{TypeId}
 use Rattle.gob_types.specs.declared.kind.Field.{Field}
 use Rattle.gob_types.specs.declared.kind.Kind.{Kind}
 use Rattle.gob_types.specs.declared.kind.Kind.TheVariants as kind
 use Rattle.gob_types.specs.declared.kind.Shape.{Shape}
+use Rattle.gob_types.specs.Ready.{IsReady}
 use Rattle.gob_types.specs.Table.{Table, shape_of}
+use Rattle.gob_types.proofs.FirstLaws.{slice_get-append_left}
+use Rattle.gob_types.proofs.GrowthLaws.{some_injective, reaches_itself}
 use Rattle.gob_match.specs.declared.common.CommonField.{CommonField}
+use Rattle.gob_match.specs.declared.conversion.Conversion.{Conversion}
+use Rattle.gob_match.specs.declared.conversion.Conversion.TheVariants as conversion
 use Rattle.gob_match.specs.declared.pair.TypePair.{TypePair}
 use Rattle.gob_match.specs.declared.step.Step.{Step}
 use Rattle.gob_match.specs.declared.step.Step.TheVariants as step
-use Rattle.gob_match.specs.declared.conversion.Conversion.{Conversion}
-use Rattle.gob_match.specs.Pairs.{of_types, RepeatsName, NamesPair, element_of_arrays, element_of_slices, key_of_maps, element_of_maps, field_of_structs}
+use Rattle.gob_match.specs.Machine.Conversions.{IsConversion, of_basics, of_opaques, of_arrays, of_slices, of_maps, of_structs, HasCommon, ConversionNames}
+use Rattle.gob_match.specs.Machine.Exploring.{Converts, ConvertsAt, Explores}
+use Rattle.gob_match.specs.Machine.Search.{Entry, came, IsAt, AddsPairs}
+use Rattle.gob_match.specs.Machine.Struct.{AreCommonFields, no_more, missing, common}
+use Rattle.gob_match.specs.Machine.Kept.{IsMatched}
 use Rattle.gob_match.specs.Matching.{KindsMatch, structs, HasShapes, HasMatchingShapes, Names}
-use Rattle.gob_match.specs.Struct.{AreCommonFields, no_more, missing, common}
-use Rattle.gob_match.specs.Conversions.{IsConversion, of_basics, of_opaques, of_arrays, of_slices, of_maps, of_structs, HasCommon, ConversionNames}
-use Rattle.gob_match.specs.Exploring.{Converts, ConvertsAt, Explores}
-use Rattle.gob_match.specs.Search.{Entry, came, IsAt, AddsPairs}
+use Rattle.gob_match.specs.Pairs.{of_types, RepeatsName, NamesPair, element_of_arrays, element_of_slices, key_of_maps, element_of_maps, field_of_structs}
 use Rattle.gob_match.proofs.ClashLaws.{one_stream, one_wanted}
 use Rattle.gob_match.proofs.FoundLaws.{IsStepTo}
-use Rattle.std.proofs.Common.{length-append, get_or}
-use Rattle.std.proofs.lemmas.Option.{slice_get-get_or}
-use Rattle.gob_types.proofs.GrowthLaws.{reaches_itself}
-use Rattle.gob_types.specs.Ready.{IsReady}
-use Rattle.gob_match.specs.declared.conversion.Conversion.TheVariants as conversion
-use Rattle.gob_match.specs.Matched.{IsMatched}
 use Rattle.gob_match.proofs.SearchLaws.{Searched, at_within, at_back, one_at, kept_at, below_or_past, slice_get-append_right}
-use Rattle.gob_types.proofs.FirstLaws.{slice_get-append_left}
-use Rattle.std.proofs.Math.Nat.{eq-or-lt_of_le}
-use Rattle.std.proofs.lemmas.Option.{slice_get_within}
-use Rattle.std.proofs.Common.{append-nil, ◌-◌}
 
 -- ---- fields of one name
 
-three_ways : (i j : ℕ) → (i < j) ⊎ ((i ≡ j) ⊎ (j < i))
+pub three_ways : (i j : ℕ) → (i < j) ⊎ ((i ≡ j) ⊎ (j < i))
 three_ways zero zero = inr (inl refl)
 three_ways zero (suc j) = inl (omega arith)
 three_ways (suc i) zero = inr (inr (omega arith))
@@ -217,7 +213,7 @@ adds_all {cs = cs} m whole = adds_as m
     (λ s q h. record { place = h.place; field = h.field; there = h.there; step = h.step; pair = h.pair })
     (λ s q h. record { place = h.place; below = omega (arith, whole, slice_get_within cs h.place h.field h.there); field = h.field; there = h.there; step = h.step; pair = h.pair })
 
--- ---- a pair that was explored at
+-- ---- a pair that was explored
 
 pub explored : {T U : Table} {old new : List Entry} {place : ℕ} {p : TypePair} {s t : Shape} {w : Conversion} → IsAt old place p → HasShapes T U p s t → Converts s.kind t.kind w → AddsPairs old new place (ConversionNames w) → Explores T U old new place w
 explored {T = T} {U = U} {p = p} {s = s} {t = t} {w = w} at shapes converts added = record {

@@ -4,23 +4,23 @@ use Rattle.std.specs.Prelude.{slice_get, Result, Ok, Err, IfOk}
 use Rattle.gob_num.specs.declared.memory.Memory.{Memory}
 use Rattle.gob_num.specs.Unsigned.{IsUnsigned}
 use Rattle.gob_num.proofs.UnsignedLaws.{unsigned_spelled}
-use Rattle.gob_types.proofs.GrowthLaws.{some_injective}
 use Rattle.gob_types.specs.declared.id.TypeId.{TypeId}
 use Rattle.gob_types.specs.declared.kind.Field.{Field}
 use Rattle.gob_types.specs.declared.kind.Kind.{Kind}
 use Rattle.gob_types.specs.declared.kind.Shape.{Shape}
 use Rattle.gob_types.specs.Table.{Table}
-use Rattle.gob_value.specs.Tree.{Tree, Trees, Pairs, Fields, tree_count, pair_count}
+use Rattle.gob_types.proofs.GrowthLaws.{some_injective}
+use Rattle.gob_value.specs.declared.value.Value.{Value}
 use Rattle.gob_value.specs.Fits.{Fits, FitsKind}
-use Rattle.gob_value.specs.Spelling as spelling
 use Rattle.gob_value.specs.Spelling.{Spells, SpellsAs, SpellsEach, SpellsPairs, SpellsFields}
+use Rattle.gob_value.specs.Spelling as spelling
 use Rattle.gob_value.specs.TidyLaws.{HasSmallNumbers, AllHaveSmallNumbers, PairsHaveSmallNumbers, FieldsHaveSmallNumbers}
-use Rattle.gob_match.specs.Received.{Receives, of_types, ReceivesAs, of_basics, of_opaques, of_arrays, of_slices, of_maps, of_structs, ReceivesEach, no_element, element, ReceivesPairs, no_entry, entry, ReceivesFields, no_more, absent, received}
+use Rattle.gob_value.specs.Tree.{Tree, Trees, Pairs, Fields, tree_count, pair_count}
 use Rattle.gob_value.specs.View.{view}
 use Rattle.gob_value.specs.Within.{FitsWithin}
-use Rattle.gob_value.specs.declared.value.Value.{Value}
 use Rattle.gob_match.specs.declared.pair.TypePair.{TypePair}
-use Rattle.gob_match.specs.Receiving.{IsReceived}
+use Rattle.gob_match.specs.Machine.Receiving.{IsReceived}
+use Rattle.gob_match.specs.Received.{Receives, of_types, ReceivesAs, of_basics, of_opaques, of_arrays, of_slices, of_maps, of_structs, ReceivesEach, no_element, element, ReceivesPairs, no_entry, entry, ReceivesFields, no_more, absent, received}
 use Rattle.gob_match.proofs.ReceiveLaws.{no_deeper}
 use Rattle.gob_match.proofs.ReceiveSteps.{present_fits}
 

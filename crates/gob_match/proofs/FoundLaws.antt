@@ -1,17 +1,16 @@
 -- Pairs that were added, and the paths to them.
-use Rattle.std.proofs.Common.{◌≡◌, ℕ, zero, suc, ◌<◌, Bool, true, false, List, [], ◌∷◌, ◌++◌, length, get_or, Option, Some, None, arith, refl, sym, ap, ◌∙◌, subst, append_assoc, append-nil, true≢false, is_some}
-use Rattle.std.specs.Prelude.{slice_get, ◌&&◌, ◌==◌, position}
-use Rattle.std.specs.Map.{keys_of}
-use Rattle.std.proofs.lemmas.Option.{slice_get_within, slice_get-get_or}
-use Rattle.std.proofs.lemmas.List.Quantifiers.{position-Some}
+use Rattle.std.proofs.Common.{◌≡◌, ℕ, zero, suc, ◌<◌, Bool, true, false, List, [], ◌∷◌, ◌++◌, length, get_or, Option, Some, None, arith, refl, sym, ap, ◌∙◌, subst, append_assoc, append-nil, true≢false, is_some, reverse}
 use Rattle.std.proofs.lemmas.List.{reverse-append}
+use Rattle.std.proofs.lemmas.List.Quantifiers.{position-Some}
+use Rattle.std.proofs.lemmas.Option.{slice_get_within, slice_get-get_or}
+use Rattle.std.specs.Map.{keys_of}
+use Rattle.std.specs.Prelude.{slice_get, ◌&&◌, ◌==◌, position}
 use borrow.Author.Tests.{eqb-true}
 use Rattle.gob_types.proofs.GrowthLaws.{some_injective}
+use Rattle.gob_match.specs.declared.found.Origin.{Origin}
 use Rattle.gob_match.specs.declared.pair.TypePair.{TypePair}
 use Rattle.gob_match.specs.declared.step.Step.{Step}
-use Rattle.gob_match.specs.Search.{Entry, came, IsPathTo, at_start, from, HasPath, HasOrigin, IsAt, AddsPairs}
-use Rattle.gob_match.specs.declared.found.Origin.{Origin}
-use Rattle.std.proofs.Common.{reverse}
+use Rattle.gob_match.specs.Machine.Search.{Entry, came, IsPathTo, at_start, from, HasPath, HasOrigin, IsAt, AddsPairs}
 
 -- ---- equal pairs
 

@@ -1,26 +1,23 @@
 -- Kinds that match, and kinds that clash.
-use Rattle.std.proofs.Common.{◌≡◌, ◌≢◌, ℕ, ◌<◌, ◌⊎◌, inl, inr, List, [], ◌∷◌, length, refl, sym, ap, ◌∙◌, subst, arith}
-use Rattle.gob_types.specs.declared.id.TypeId.{TypeId}
+use Rattle.std.proofs.Common.{◌≡◌, ◌≢◌, ℕ, ◌<◌, ◌⊎◌, inl, inr, List, [], ◌∷◌, length, refl, sym, ap, ◌∙◌, subst, arith, Vec, Option, Some, None, MatchOption, true≢false, is_some}
+use Rattle.std.proofs.lemmas.Option.{slice_get_within}
+use Rattle.std.specs.Global.{Global}
 use Rattle.gob_types.specs.declared.basic.Basic.{Basic}
+use Rattle.gob_types.specs.declared.id.TypeId.{TypeId}
 use Rattle.gob_types.specs.declared.kind.Field.{Field}
-use Rattle.gob_types.specs.declared.kind.Marshal.{Marshal}
 use Rattle.gob_types.specs.declared.kind.Kind.{Kind}
 use Rattle.gob_types.specs.declared.kind.Kind.TheVariants as kind
-use Rattle.gob_match.specs.declared.reason.ClashReason.TheVariants as clash
+use Rattle.gob_types.specs.declared.kind.Marshal.{Marshal}
+use Rattle.gob_match.specs.declared.common.CommonField.{CommonField}
 use Rattle.gob_match.specs.declared.conversion.Conversion.TheVariants as conversion
 use Rattle.gob_match.specs.declared.pair.TypePair.{TypePair}
-use Rattle.gob_match.specs.Pairs.{of_types}
-use Rattle.gob_match.specs.Matching.{basics, opaques, arrays, slices, maps, structs, KindsClash, basics_differ, lengths_differ, nothing_in_common, unlike, AreAlike}
-use Rattle.gob_match.specs.Conversions.{of_basics, of_opaques, of_arrays, of_slices, of_maps, of_structs}
-use Rattle.std.proofs.Common.{Vec, Option, Some, None, MatchOption, true≢false, is_some}
-use Rattle.std.specs.Global.{Global}
-use Rattle.std.proofs.lemmas.Option.{slice_get_within}
-use Rattle.gob_match.specs.declared.common.CommonField.{CommonField}
-use Rattle.gob_match.specs.Pairs.{RepeatsName, ShareName}
-use Rattle.gob_match.specs.Matching.{HaveDistinctNames, HaveInCommon}
-use Rattle.gob_match.specs.Struct.{AreCommonFields}
+use Rattle.gob_match.specs.declared.reason.ClashReason.TheVariants as clash
+use Rattle.gob_match.specs.Machine.Conversions.{of_basics, of_opaques, of_arrays, of_slices, of_maps, of_structs}
+use Rattle.gob_match.specs.Machine.Exploring.{Converts}
+use Rattle.gob_match.specs.Machine.Struct.{AreCommonFields}
+use Rattle.gob_match.specs.Matching.{basics, opaques, arrays, slices, maps, structs, KindsClash, basics_differ, lengths_differ, nothing_in_common, unlike, AreAlike, HaveDistinctNames, HaveInCommon}
+use Rattle.gob_match.specs.Pairs.{of_types, RepeatsName, ShareName}
 use Rattle.gob_match.proofs.ConversionLaws.{common_sound, common_whole}
-use Rattle.gob_match.specs.Exploring.{Converts}
 
 -- ---- shapes of other kinds
 

@@ -10,3 +10,6 @@ pub mod Loops
 pub mod ReceiveSteps
 pub mod PartLaws
 pub mod FitLaws
+pub mod UniqueLaws
+pub mod KindChoice
+pub mod ChoiceLaws

@@ -1,19 +1,18 @@
 -- Names that are kept in a set.
-use Rattle.std.proofs.Common.{◌≡◌, ℕ, zero, suc, ◌+◌, ◌^◌, ◌<◌, ◌≤◌, Bool, true, false, not, List, [], ◌∷◌, ◌++◌, length, map, get_or, Contains, Option, Some, None, MatchOption, Bor, nat_eq, arith, refl, sym, ap, ◌∙◌, subst, true≢false, is_some}
-use Rattle.std.specs.Prelude.{slice_get, position, if◌then◌else◌, ◌||◌}
-use Rattle.std.specs.List.{list_any}
-use Rattle.std.specs.Cmp.Lexicographic.{pointwise, bytes_decides}
-use Rattle.std.proofs.lemmas.List.Quantifiers.{position-Some}
-use Rattle.gob_types.proofs.GrowthLaws.{some_injective}
-use Rattle.gob_types.proofs.FirstLaws.{contains_read, contains_at}
-use Rattle.std.proofs.Common.{drop, append_assoc, append-nil, length-append, ◌⊎◌, inl, inr}
+use Rattle.std.proofs.Common.{◌≡◌, ℕ, zero, suc, ◌+◌, ◌^◌, ◌<◌, ◌≤◌, Bool, true, false, not, List, [], ◌∷◌, ◌++◌, length, map, get_or, Contains, Option, Some, None, MatchOption, Bor, nat_eq, arith, refl, sym, ap, ◌∙◌, subst, true≢false, is_some, drop, append_assoc, append-nil, length-append, ◌⊎◌, inl, inr}
 use Rattle.std.proofs.Math.Nat.{eq-or-lt_of_le}
+use Rattle.std.proofs.lemmas.List.Quantifiers.{position-Some}
 use Rattle.std.proofs.lemmas.Option.{slice_get_within, slice_get-get_or}
-use Rattle.gob_types.proofs.FirstLaws.{slice_get-append_left}
+use Rattle.std.specs.Cmp.Lexicographic.{pointwise, bytes_decides}
+use Rattle.std.specs.List.{list_any}
+use Rattle.std.specs.Prelude.{slice_get, position, if◌then◌else◌, ◌||◌}
 use Rattle.gob_types.specs.declared.kind.Field.{Field}
+use Rattle.gob_types.proofs.FirstLaws.{contains_read, contains_at, slice_get-append_left}
+use Rattle.gob_types.proofs.GrowthLaws.{some_injective}
 use Rattle.gob_match.specs.declared.common.CommonField.{CommonField}
+use Rattle.gob_match.specs.Machine.Struct.{AddsName, AreNames, AreCommonFields, no_more, missing, common}
 use Rattle.gob_match.specs.Pairs.{RepeatsName, of_types}
-use Rattle.gob_match.specs.Struct.{AddsName, AreNames, AreCommonFields, no_more, missing, common}
+use Rattle.gob_match.proofs.Loops.{drop_at, drop_all}
 
 abbrev pub Kept : Type 0
 Kept = Bor (List ℕ)
@@ -134,11 +133,6 @@ names_all {fields = fields} h whole = record {
 
 -- ---- the fields of both structs
 
-drop_at : (gs : List Field) (n : ℕ) (g : Field) → slice_get gs n ≡ Some g → drop n gs ≡ g ∷ drop (suc n) gs
-drop_at [] n g there = absurd (true≢false (sym (ap is_some there)))
-drop_at (x ∷ xs) zero g there = ap (λ h. h ∷ xs) (some_injective there)
-drop_at (x ∷ xs) (suc n) g there = drop_at xs n g there
-
 -- the common fields so far, before those of what is left, are those of the whole
 pub record CommonSoFar (fs gs : List Field) (n : ℕ) (cs : List CommonField) : Type 0 where
   pub completes : (rest : List CommonField) → AreCommonFields fs n (drop n gs) rest → AreCommonFields fs 0 gs (cs ++ rest)
@@ -147,9 +141,7 @@ pub common_none : {fs gs : List Field} → CommonSoFar fs gs 0 []
 common_none = record { completes = λ rest h. h }
 
 left : {fs : List Field} (gs : List Field) (n : ℕ) {g : Field} {cs : List CommonField} → slice_get gs n ≡ Some g → AreCommonFields fs n (g ∷ drop (n + 1) gs) cs → AreCommonFields fs n (drop n gs) cs
-left {fs = fs} gs n {g = g} {cs = cs} there h =
-    let e : n + 1 ≡ suc n = omega arith in
-    subst (λ zs. AreCommonFields fs n zs cs) (sym (drop_at gs n g there)) (subst (λ m. AreCommonFields fs n (g ∷ drop m gs) cs) e h)
+left {fs = fs} gs n {g = g} {cs = cs} there h = subst (λ zs. AreCommonFields fs n zs cs) (sym (drop_at gs n g there)) h
 
 pub common_missing : {fs gs : List Field} {n : ℕ} {g : Field} {cs : List CommonField} {names : List (List ℕ)} → CommonSoFar fs gs n cs → slice_get gs n ≡ Some g → AreNames fs names → ¬ Contains names g.name → CommonSoFar fs gs (n + 1) cs
 common_missing {gs = gs} {n = n} {g = g} {names = names} h there are absent =
@@ -165,12 +157,6 @@ common_next {fs = fs} {gs = gs} {n = n} {j = j} {f = f} {g = g} {cs = cs} {c = c
 
 pub common_all : {fs gs : List Field} {n : ℕ} {cs : List CommonField} → CommonSoFar fs gs n cs → length gs ≤ n → AreCommonFields fs 0 gs cs
 common_all {fs = fs} {gs = gs} {n = n} {cs = cs} h whole = subst (AreCommonFields fs 0 gs) (append-nil cs) (h.completes [] (subst (λ zs. AreCommonFields fs n zs []) (sym (drop_all n gs whole)) no_more))
-  where
-    drop_all : (n : ℕ) (gs : List Field) → length gs ≤ n → drop n gs ≡ []
-    drop_all zero [] w = refl
-    drop_all zero (g ∷ gs) w = absurd (omega (arith, w))
-    drop_all (suc n) [] w = refl
-    drop_all (suc n) (g ∷ gs) w = drop_all n gs (omega (arith, w))
 
 -- what an added name tells
 pub added_new : (old new : List (List ℕ)) (name : List ℕ) (b : Bool) → b ≡ true → AddsName old new name b → AddsName old new name true

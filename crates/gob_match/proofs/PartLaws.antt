@@ -1,20 +1,20 @@
 -- The present field of a number, as a search among the parts finds it.
-use Rattle.std.proofs.Common.{◌≡◌, ℕ, zero, suc, ◌+◌, ◌<◌, ◌≤◌, ◌⊎◌, inl, inr, List, [], ◌∷◌, length, get_or, Some, arith, refl, sym, ap, ◌∙◌, subst, true≢false, is_some}
-use Rattle.std.specs.Prelude.{slice_get}
-use Rattle.std.specs.declared.cmp.Ordering.TheVariants.{Less, Equal, Greater}
-use Rattle.std.specs.List.{HoldsAt}
-use Rattle.std.specs.List.Sorted.{IsNonDecreasingBy, IsPartitionPoint}
-use Rattle.std.specs.Ordering.{nat_cmp, ordering_index}
+use Rattle.std.proofs.Common.{◌≡◌, ℕ, zero, suc, ◌<◌, ◌≤◌, ◌⊎◌, inl, inr, List, [], ◌∷◌, length, get_or, Some, arith, refl, sym, ap, ◌∙◌, subst, true≢false, is_some}
 use Rattle.std.proofs.Math.Nat.{eq-or-lt_of_le}
 use Rattle.std.proofs.lemmas.Bool.Decides.{nat_tests}
 use Rattle.std.proofs.lemmas.Cmp.{ranked}
 use Rattle.std.proofs.lemmas.Option.{slice_get_within, slice_get-get_or, get_or_from_slice_get}
+use Rattle.std.specs.List.{HoldsAt}
+use Rattle.std.specs.List.Sorted.{IsNonDecreasingBy, IsPartitionPoint}
+use Rattle.std.specs.Ordering.{nat_cmp, ordering_index}
+use Rattle.std.specs.Prelude.{slice_get}
+use Rattle.std.specs.declared.cmp.Ordering.TheVariants.{Less, Equal, Greater}
 use Rattle.gob_types.proofs.GrowthLaws.{some_injective}
+use Rattle.gob_value.specs.declared.value.Value.{Value}
 use Rattle.gob_value.specs.Tree.{Tree, Fields, field}
 use Rattle.gob_value.specs.View.{view, field_views}
-use Rattle.gob_value.specs.declared.value.Value.{Value}
+use Rattle.gob_match.specs.Machine.Receiving.{HaveRisingNumbers}
 use Rattle.gob_match.specs.Received.{IsPresent, first, later, IsAbsent}
-use Rattle.gob_match.specs.Receiving.{HaveRisingNumbers}
 use Rattle.gob_match.proofs.SearchLaws.{below_or_past}
 
 present_at : (ps : List (ℕ × Value)) (i : ℕ) {p : ℕ × Value} → slice_get ps i ≡ Some p → IsPresent p.0 (view p.1) (field_views ps)

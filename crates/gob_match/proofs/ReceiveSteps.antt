@@ -1,43 +1,42 @@
 -- Steps of receiving a value.
-use Rattle.std.proofs.Common.{◌≡◌, ℕ, zero, suc, ◌+◌, ◌^◌, ◌<◌, ◌≤◌, List, [], ◌∷◌, length, Some, Vec, arith, refl, sym, ap, ◌∙◌, subst, true≢false, is_some, inl, inr}
+use Rattle.std.proofs.Common.{◌≡◌, ℕ, zero, suc, ◌+◌, ◌≤◌, List, [], ◌∷◌, Some, Vec, arith, refl, sym, ap, ◌∙◌, subst, true≢false, is_some, inl, inr}
+use Rattle.std.specs.Global.{Global}
 use Rattle.std.specs.Prelude.{slice_get, Result, Ok, Err, IfOk}
 use Rattle.gob_num.specs.declared.memory.Memory.{Memory}
-use Rattle.std.specs.Global.{Global}
-use Rattle.gob_types.proofs.GrowthLaws.{some_injective}
 use Rattle.gob_types.specs.declared.id.TypeId.{TypeId}
 use Rattle.gob_types.specs.declared.kind.Field.{Field}
 use Rattle.gob_types.specs.declared.kind.Kind.{Kind}
-use Rattle.gob_types.specs.declared.kind.Kind.TheVariants as kind
 use Rattle.gob_types.specs.declared.kind.Shape.{Shape}
 use Rattle.gob_types.specs.Table.{Table}
-use Rattle.gob_value.specs.Tree.{Tree, Trees, tree, Pairs, pair, Fields, field, depth, trees_depth, pairs_depth, fields_depth}
-use Rattle.gob_value.specs.Tree as Value
-use Rattle.gob_value.specs.View.{view, views, pair_views, field_views}
+use Rattle.gob_types.proofs.GrowthLaws.{some_injective}
+use Rattle.gob_value.specs.declared.value.Value.{Value, Many, Pairs as ValuePairs, Fields as ValueFields}
 use Rattle.gob_value.specs.Fits.{Fits, FitsKind}
-use Rattle.gob_value.specs.Written.{HasParts}
 use Rattle.gob_value.specs.Spelling.{Spells, of_type, SpellsAs, of_bool, of_int, of_uint, of_float, of_complex, of_nil, of_bytes, of_text, of_opaque, of_slice, of_array, of_map, of_struct, SpellsEach, SpellsPairs, SpellsFields, next_field}
 use Rattle.gob_value.specs.Spelling as spelling
 use Rattle.gob_value.specs.TidyLaws.{HasSmallNumbers}
-use Rattle.gob_value.specs.declared.value.Value.{Value, Many, Pairs as ValuePairs, Fields as ValueFields}
-use Rattle.gob_value.proofs.ViewLaws.{view-Many, view-Pairs, view-Fields}
+use Rattle.gob_value.specs.Tree.{Tree, Trees, tree, Pairs, pair, Fields, field, depth, trees_depth, pairs_depth, fields_depth}
+use Rattle.gob_value.specs.Tree as Value
+use Rattle.gob_value.specs.View.{view, views, pair_views, field_views}
+use Rattle.gob_value.specs.Written.{HasParts}
 use Rattle.gob_value.proofs.TidySteps.{IsNoList, IsNoMap, IsNoStruct}
+use Rattle.gob_value.proofs.ViewLaws.{view-Many, view-Pairs, view-Fields}
 use Rattle.gob_match.specs.declared.common.CommonField.{CommonField}
 use Rattle.gob_match.specs.declared.conversion.Conversion.{Conversion}
 use Rattle.gob_match.specs.declared.conversion.Conversion.TheVariants as conversion
 use Rattle.gob_match.specs.declared.pair.TypePair.{TypePair}
 use Rattle.gob_match.specs.declared.step.Step.{Step}
 use Rattle.gob_match.specs.declared.step.Step.TheVariants as step
-use Rattle.gob_match.specs.Pairs.{of_types, RepeatsName}
-use Rattle.gob_match.specs.Matching.{KindsMatch, basics, opaques, arrays, slices, maps, structs, HasShapes}
-use Rattle.gob_match.specs.Search.{Entry, IsAt}
-use Rattle.gob_match.specs.Struct as struct
-use Rattle.gob_match.specs.Struct.{AreCommonFields}
-use Rattle.gob_match.specs.Conversions as kept
-use Rattle.gob_match.specs.Conversions.{IsConversion, ConversionNames}
-use Rattle.gob_match.specs.Exploring.{ConvertsAt}
-use Rattle.gob_match.specs.Received as relation
+use Rattle.gob_match.specs.Machine.Conversions.{IsConversion, ConversionNames}
+use Rattle.gob_match.specs.Machine.Conversions as kept
+use Rattle.gob_match.specs.Machine.Exploring.{ConvertsAt}
+use Rattle.gob_match.specs.Machine.Receiving.{IsReceived, AreReceived, PairsReceived, FieldsReceived, no_more, absent, present, IsOfMatch, IsReceivable, AreReceivable, PairsReceivable, FieldsReceivable, HaveRisingNumbers}
+use Rattle.gob_match.specs.Machine.Search.{Entry}
+use Rattle.gob_match.specs.Machine.Struct.{AreCommonFields}
+use Rattle.gob_match.specs.Machine.Struct as struct
+use Rattle.gob_match.specs.Matching.{KindsMatch, basics, opaques, arrays, slices, maps, structs}
+use Rattle.gob_match.specs.Pairs.{RepeatsName}
 use Rattle.gob_match.specs.Received.{IsPresent, first, later, IsAbsent, HasPresent, Receives, ReceivesAs, ReceivesFields}
-use Rattle.gob_match.specs.Receiving.{IsReceived, AreReceived, PairsReceived, FieldsReceived, no_more, absent, present, IsOfMatch, IsReceivable, AreReceivable, PairsReceivable, IsReceivableField, FieldsReceivable, HaveRisingNumbers}
+use Rattle.gob_match.specs.Received as relation
 use Rattle.gob_match.proofs.ConversionLaws.{common_sound, conversion_named, one_number}
 
 -- ---- what stands in a value that fits
@@ -79,10 +78,6 @@ pub present_fits : {T : Table} {types : List Field} {next f : ℕ} {e : Field} {
 present_fits {T = T} {v = v} (next_field {b = b} l at a p ps) first there = subst (λ (e : Field). Fits T e.id v) (some_injective (sym at ∙ there)) (record { bytes = b; spelled = p })
 present_fits (next_field l at a p ps) (later h) there = present_fits ps h there
 present_fits (spelling.end_of_fields e) h there = elim h [ ]
-
-pub present_shallow : {f : ℕ} {v : Tree} {fs : Fields} → IsPresent f v fs → depth v ≤ fields_depth fs
-present_shallow first = omega arith
-present_shallow (later p) = let h = present_shallow p in omega arith
 
 -- the first field has at least the number that is next, and those behind it have greater ones
 fields_front : {T : Table} {types : List Field} {next f : ℕ} {v : Tree} {fs : Fields} {b : List ℕ} → SpellsFields T types next (field f v fs) b → (next ≤ f) × (c : List ℕ) × SpellsFields T types (f + 1) fs c

@@ -1,34 +1,30 @@
 -- The search: the pairs that were added, in the order of the lengths of their paths.
-use Rattle.std.proofs.Common.{◌≡◌, ℕ, zero, suc, ◌+◌, ◌-◌, ◌<◌, ◌≤◌, ◌⊎◌, inl, inr, List, [], ◌∷◌, ◌++◌, length, Contains, Option, Some, None, arith, refl, sym, ap, ◌∙◌, subst, length-append, true≢false, is_some}
-use Rattle.std.specs.Prelude.{slice_get}
-use Rattle.std.specs.Map.{keys_of}
+use Rattle.std.proofs.Common.{◌≡◌, ℕ, zero, suc, ◌+◌, ◌-◌, ◌<◌, ◌≤◌, ◌⊎◌, inl, inr, List, [], ◌∷◌, ◌++◌, length, Contains, Option, Some, None, arith, refl, sym, ap, ◌∙◌, subst, length-append, true≢false, is_some, get_or, MatchOption, true}
 use Rattle.std.proofs.Math.Nat.{eq-or-lt_of_le}
-use Rattle.std.proofs.Common.{get_or}
+use Rattle.std.proofs.lemmas.Map.Keys.{any_passes_from_place}
+use Rattle.std.proofs.lemmas.Map.Made.{is_some-lookup}
 use Rattle.std.proofs.lemmas.Option.{slice_get_within, slice_get-get_or}
-use Rattle.gob_types.proofs.GrowthLaws.{some_injective}
-use Rattle.gob_types.proofs.GrowthLaws as growth
-use Rattle.gob_types.proofs.FirstLaws.{slice_get-append_left, contains_read, contains_at}
+use Rattle.std.specs.Cmp.{nat_eq_equiv}
+use Rattle.std.specs.Map.{keys_of, lookup}
+use Rattle.std.specs.Prelude.{slice_get, position, ◌==◌, ◌&&◌}
 use Rattle.gob_types.specs.declared.id.TypeId.{TypeId}
 use Rattle.gob_types.specs.declared.kind.Kind.{Kind}
-use Rattle.gob_types.specs.Table.{Table}
 use Rattle.gob_types.specs.Ready.{IsReady}
 use Rattle.gob_types.specs.Ready as types
-use Rattle.gob_match.specs.declared.pair.TypePair.{TypePair}
-use Rattle.gob_match.specs.declared.step.Step.{Step}
-use Rattle.gob_match.specs.declared.reason.ClashReason.{ClashReason}
-use Rattle.gob_match.specs.Pairs.{of_types, NamesPair, element_of_arrays, element_of_slices, key_of_maps, element_of_maps, field_of_structs}
-use Rattle.gob_match.specs.Matching.{HasMatchingShapes, Names, Match}
-use Rattle.gob_match.specs.Clashing.{HasClashingShapes, Leads, here, onward, IsLeastClash}
+use Rattle.gob_types.specs.Table.{Table}
+use Rattle.gob_types.proofs.FirstLaws.{slice_get-append_left, contains_read, contains_at}
+use Rattle.gob_types.proofs.GrowthLaws.{some_injective}
+use Rattle.gob_types.proofs.GrowthLaws as growth
 use Rattle.gob_match.specs.declared.found.Origin.{Origin}
-use Rattle.gob_match.specs.Search.{Entry, came, IsPathTo, at_start, from, HasPath, IsAt, AddsPairs}
-use Rattle.std.proofs.Common.{MatchOption, true}
-use Rattle.std.specs.Prelude.{position, ◌==◌, ◌&&◌}
-use Rattle.std.specs.Map.{lookup}
-use Rattle.std.specs.Cmp.{nat_eq_equiv}
-use Rattle.std.proofs.lemmas.Map.Made.{is_some-lookup}
-use Rattle.std.proofs.lemmas.Map.Keys.{any_passes_from_place}
-use Rattle.gob_match.proofs.FoundLaws.{same_pair, known_at}
+use Rattle.gob_match.specs.declared.pair.TypePair.{TypePair}
+use Rattle.gob_match.specs.declared.reason.ClashReason.{ClashReason}
+use Rattle.gob_match.specs.declared.step.Step.{Step}
+use Rattle.gob_match.specs.Clashing.{HasClashingShapes, Leads, here, onward, IsLeastClash}
+use Rattle.gob_match.specs.Machine.Search.{Entry, came, IsPathTo, at_start, from, HasPath, IsAt, AddsPairs}
+use Rattle.gob_match.specs.Matching.{HasMatchingShapes, Names, Match}
+use Rattle.gob_match.specs.Pairs.{of_types, NamesPair, element_of_arrays, element_of_slices, key_of_maps, element_of_maps, field_of_structs}
 use Rattle.gob_match.proofs.ClashLaws.{match_or_clash_at}
+use Rattle.gob_match.proofs.FoundLaws.{same_pair, known_at}
 
 -- ---- lists with more behind them
 
@@ -95,7 +91,7 @@ pub record IsReadyPair (T U : Table) (p : TypePair) : Type 0 where
   pub stream : IsReady T p.stream
   pub wanted : IsReady U p.wanted
 
-named_ready : {T U : Table} {p q : TypePair} {s : Step} → IsReadyPair T U p → Names T U p s q → IsReadyPair T U q
+pub named_ready : {T U : Table} {p q : TypePair} {s : Step} → IsReadyPair T U p → Names T U p s q → IsReadyPair T U q
 named_ready r n = record { stream = growth.names_ready r.stream n.shapes.stream (stream_named n.named); wanted = growth.names_ready r.wanted n.shapes.wanted (wanted_named n.named) }
 
 -- ---- the search
@@ -112,7 +108,7 @@ pub record WasNamed (T U : Table) (es : List Entry) (b : ℕ) (s : Step) (q : Ty
   pub match : HasMatchingShapes T U pair
   pub named : Names T U pair s q
 
--- the first pairs were explored at
+-- the first pairs were explored
 pub record Searched (T U : Table) (start : TypePair) (es : List Entry) (next : ℕ) : Type 0 where
   pub begins : IsAt es 0 start
   pub first : (k : ℕ) (q : TypePair) → slice_get es k ≡ Some (q, None) → q ≡ start
@@ -163,7 +159,7 @@ searched_start {T = T} {U = U} p r = record {
 
 -- ---- a step
 
--- the pair at the place was explored at, and what it names was added
+-- the pair at the place was explored, and what it names was added
 pub searched_on : {T U : Table} {start p : TypePair} {es new : List Entry} {next : ℕ} → Searched T U start es next → IsAt es next p → HasMatchingShapes T U p → AddsPairs es new next (Names T U p)
     → Searched T U start new (next + 1)
 searched_on {T = T} {U = U} {start = start} {p = p} {es = es} {new = new} {next = next} r at match added =
@@ -291,7 +287,7 @@ key_back [] k p there = absurd (true≢false (sym (ap is_some there)))
 key_back (x ∷ es) zero p there = record { origin = x.1; there = ap (λ (q : TypePair). Some (q, x.1)) (some_injective there) }
 key_back (x ∷ es) (suc k) p there = let at = key_back es k p there in record { origin = at.origin; there = at.there }
 
--- each pair that was added was explored at, and so they are a closed list
+-- each pair that was added was explored, and so they are a closed list
 pub searched_match : {T U : Table} {t u : TypeId} {es : List Entry} {next : ℕ} → Searched T U (of_types t u) es next → length es ≤ next → Match T U t u
 searched_match {T = T} {U = U} {es = es} {next = next} r whole = record {
   pairs = keys_of es;
@@ -362,7 +358,7 @@ searched_least {p = p} r at clash h = record {
 
 -- ---- the place of a pair
 
-same_itself : (p : TypePair) → same_pair p p ≡ true
+pub same_itself : (p : TypePair) → same_pair p p ≡ true
 same_itself p = ap (λ b. b && (p.wanted.0 == p.wanted.0)) (nat_eq_equiv.refl p.stream.0) ∙ nat_eq_equiv.refl p.wanted.0
 
 pub place_found : (p : TypePair) (es : List Entry) (r : Option ℕ) → r ≡ position (same_pair p) (keys_of es) → is_some r ≡ is_some (lookup (same_pair p) es) → MatchOption r ((k : ℕ) → IsAt es k p → ⊥) (λ k. IsAt es k p)

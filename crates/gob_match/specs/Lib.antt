@@ -1,13 +1,9 @@
 pub mod Pairs
 pub mod Matching
 pub mod Clashing
-pub mod Search
-pub mod Struct
-pub mod Conversions
-pub mod Exploring
-pub mod Matched
-pub mod Faults
 pub mod Received
-pub mod Receiving
 pub mod Reasons
+pub mod Faults
+pub mod Matched
 pub mod Laws
+pub mod Machine

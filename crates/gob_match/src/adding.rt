@@ -1,8 +1,8 @@
 //! Pairs that a conversion leads to are added to a search.
 
 ghost use Rattle.std.specs.Prelude.{◌≡◌, OnOk};
-ghost use Rattle.gob_match.specs.Search.{AddsPairs};
-ghost use Rattle.gob_match.specs.Conversions.{ConversionNames, HasCommon};
+ghost use Rattle.gob_match.specs.Machine.Search.{AddsPairs};
+ghost use Rattle.gob_match.specs.Machine.Conversions.{ConversionNames, HasCommon};
 
 use crate::common::CommonField;
 use crate::conversion::Conversion;

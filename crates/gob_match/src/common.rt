@@ -1,7 +1,7 @@
 //! The fields that two structs have in common.
 
 ghost use Rattle.std.specs.Prelude.{◌≡◌, ◌∷◌, [], IfOk, IfErr, OnOk, MatchResult};
-ghost use Rattle.gob_match.specs.Struct.{AreCommonFields, AreNames};
+ghost use Rattle.gob_match.specs.Machine.Struct.{AreCommonFields, AreNames};
 
 use crate::names::NameSet;
 use crate::pair::TypePair;

@@ -2,7 +2,7 @@
 
 ghost use Rattle.std.specs.Prelude.{◌≡◌, ◌∷◌, [], ◌^◌, ◌<◌, IfOk, MatchOption, ℕ, None, length, Some, slice_get};
 ghost use Rattle.std.specs.Option.{option_copied};
-ghost use Rattle.gob_match.specs.Search.{IsPathTo, HasPath, HasOrigin, IsAt, AddsPairs, came};
+ghost use Rattle.gob_match.specs.Machine.Search.{IsPathTo, HasPath, HasOrigin, IsAt, AddsPairs, came};
 
 use crate::pair::TypePair;
 use crate::step::Step;
@@ -28,7 +28,7 @@ pub(crate) struct Found {
 impl Model for Found {
     ghost use Rattle.std.specs.Prelude.{List};
     ghost use Rattle.std.specs.Option.{option_copied};
-    ghost use Rattle.gob_match.specs.Search.{Entry};
+    ghost use Rattle.gob_match.specs.Machine.Search.{Entry};
 
     ghost Value = { List Entry };
 

@@ -3,8 +3,8 @@
 ghost use Rattle.std.specs.Prelude.{◌≡◌, OnOk, IfOk, IfErr};
 ghost use Rattle.gob_match.specs.Pairs.{of_types};
 ghost use Rattle.gob_match.specs.Matching.{HaveDistinctNames};
-ghost use Rattle.gob_match.specs.Struct.{AreCommonFields};
-ghost use Rattle.gob_match.specs.Exploring.{Converts, MatchAnswers, IsPairFault};
+ghost use Rattle.gob_match.specs.Machine.Struct.{AreCommonFields};
+ghost use Rattle.gob_match.specs.Machine.Exploring.{Converts, MatchAnswers, IsPairFault};
 
 use crate::common::{CommonField, common_fields};
 use crate::conversion::Conversion;

@@ -5,8 +5,8 @@ ghost use Rattle.gob_types.specs.Ready.{IsReady};
 ghost use Rattle.gob_match.specs.Matching.{Match};
 ghost use Rattle.gob_match.specs.Matched.{IsMatchOf, IsSound};
 ghost use Rattle.gob_match.specs.Faults.{IsMatchFault};
-ghost use Rattle.gob_match.specs.Exploring.{Explores, IsExploreFault};
-ghost use Rattle.gob_match.specs.Search.{AreReadyAt};
+ghost use Rattle.gob_match.specs.Machine.Exploring.{Explores, IsExploreFault};
+ghost use Rattle.gob_match.specs.Machine.Search.{AreReadyAt};
 
 use crate::adding::add_named;
 use crate::conversion::Conversion;

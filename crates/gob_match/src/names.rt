@@ -1,7 +1,7 @@
 //! The names of a struct's fields.
 
 ghost use Rattle.std.specs.Prelude.{◌≡◌, ◌++◌, ◌∷◌, [], ◌<◌, ◌^◌, IfOk, MatchOption, Some, slice_get, Contains};
-ghost use Rattle.gob_match.specs.Struct.{AddsName, AreNames};
+ghost use Rattle.gob_match.specs.Machine.Struct.{AddsName, AreNames};
 ghost use Rattle.gob_match.specs.Pairs.{RepeatsName};
 
 use gob_num::Memory;

@@ -6,9 +6,9 @@ ghost use Rattle.gob_value.specs.Within.{FitsWithin};
 ghost use Rattle.gob_value.specs.Written.{HasParts};
 ghost use Rattle.gob_match.specs.Matched.{IsSound, stream_of, stream_type, wanted_of, wanted_type};
 ghost use Rattle.gob_match.specs.Received.{Receives, IsPresent, IsAbsent};
-ghost use Rattle.gob_match.specs.Receiving.{CanReceive, CanReceiveEach, CanReceivePairs, CanReceiveFields};
-ghost use Rattle.gob_match.specs.Receiving.{Gives, GivesEach, GivesPairs, GivesFields, HasConversion, IsPairOf};
-ghost use Rattle.gob_match.specs.Receiving.{HaveRisingNumbers};
+ghost use Rattle.gob_match.specs.Machine.Receiving.{CanReceive, CanReceiveEach, CanReceivePairs, CanReceiveFields};
+ghost use Rattle.gob_match.specs.Machine.Receiving.{Gives, GivesEach, GivesPairs, GivesFields, HasConversion, IsPairOf};
+ghost use Rattle.gob_match.specs.Machine.Receiving.{HaveRisingNumbers};
 
 use crate::common::CommonField;
 use crate::conversion::Conversion;

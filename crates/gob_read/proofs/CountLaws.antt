@@ -50,7 +50,7 @@ both {us = us} {ws = ws} c d = record {
   raw = omega (arith, raw_told-append us ws, c.raw, d.raw);
 }
 
-raw_counts : {s : List ℕ} {us : List Telling} → TellsRaw s us → Counts us 0 (length s)
+pub raw_counts : {s : List ℕ} {us : List Telling} → TellsRaw s us → Counts us 0 (length s)
 raw_counts no_bytes = record { parts = refl; raw = refl }
 raw_counts (more_bytes {s = s} {us = us} c t) =
     let x = raw_counts t in
@@ -75,15 +75,15 @@ mutual
   tells_counts (tell_pairs t) = let c = one_then (enter group.Pairs) one_group (pairs_counts t) in record { parts = c.parts; raw = omega (arith, c.raw) }
   tells_counts (tell_fields t) = let c = one_then (enter group.Fields) one_group (fields_counts t) in record { parts = c.parts; raw = omega (arith, c.raw) }
 
-  each_counts : {vs : Trees} {us : List Telling} → TellsEach vs us → Counts us (parts_of_all vs) (raw_of_all vs)
+  pub each_counts : {vs : Trees} {us : List Telling} → TellsEach vs us → Counts us (parts_of_all vs) (raw_of_all vs)
   each_counts tell_none = record { parts = refl; raw = refl }
   each_counts (tell_each t ts) = both (tells_counts t) (each_counts ts)
 
-  pairs_counts : {ps : Pairs} {us : List Telling} → TellsPairs ps us → Counts us (parts_of_pairs ps) (raw_of_pairs ps)
+  pub pairs_counts : {ps : Pairs} {us : List Telling} → TellsPairs ps us → Counts us (parts_of_pairs ps) (raw_of_pairs ps)
   pairs_counts tell_no_pair = record { parts = refl; raw = refl }
   pairs_counts (tell_pair k e ts) = both (tells_counts k) (both (tells_counts e) (pairs_counts ts))
 
-  fields_counts : {fs : Fields} {us : List Telling} → TellsFields fs us → Counts us (parts_of_fields fs) (raw_of_fields fs)
+  pub fields_counts : {fs : Fields} {us : List Telling} → TellsFields fs us → Counts us (parts_of_fields fs) (raw_of_fields fs)
   fields_counts tell_no_field = record { parts = refl; raw = refl }
   fields_counts (tell_field t ts) = let c = both (tells_counts t) (fields_counts ts) in record { parts = c.parts; raw = c.raw }
 

@@ -19,6 +19,7 @@ pub mod Runs
 pub mod Pieces
 pub mod PlainSteps
 pub mod Bodies
+pub mod HeldLaws
 pub mod Held
 pub mod Grown
 pub mod FirstSteps

@@ -137,14 +137,14 @@ run_delta_met {types = types} x y f e no_fields l g n h = met x y (let k = slice
 run_delta_met {types = types} {b = b'} x y f' e' (field_then {f = f} {e = e} {a = a} {b = b} {c = c} k g n s q) l g' n' h =
     met x ((b ++ c) ++ (b' ++ y)) (let m = slice_get_within types f e g in omega arith) n (h ∙ append_assoc a (b ++ c) (b' ++ y))
 
-number_then : {T : Table} {types : List Field} {m : ℕ} {e : Field} {b : List ℕ} (y : List ℕ) (f : ℕ) → NextField T types m (b ++ y) → m ≤ f → slice_get types f ≡ Some e → IsUnsigned (f + 1 - m) b → StandsFirst T e.id y
+pub number_then : {T : Table} {types : List Field} {m : ℕ} {e : Field} {b : List ℕ} (y : List ℕ) (f : ℕ) → NextField T types m (b ++ y) → m ≤ f → slice_get types f ≡ Some e → IsUnsigned (f + 1 - m) b → StandsFirst T e.id y
 number_then {T = T} {types = types} {e = e} y f c l g n =
     let u = unsigned_prefix y c.rest n c.spelled c.whole in
     let one : f ≡ c.f = let v = u.value in let k = c.above in omega arith in
     let type : c.type ≡ e = some_injective (sym c.is ∙ ap (λ n. slice_get types n) (sym one) ∙ g) in
     subst (StandsFirst T e.id) (sym u.rest) (subst (λ (t : Field). StandsFirst T t.id c.rest) type c.value)
 
-key_here : {T : Table} {k : TypeId} {v : Tree} {a : List ℕ} (x y : List ℕ) → Spells T k v a → x ≡ a ++ y → StandsFirst T k x
+pub key_here : {T : Table} {k : TypeId} {v : Tree} {a : List ℕ} (x y : List ℕ) → Spells T k v a → x ≡ a ++ y → StandsFirst T k x
 key_here {v = v} {a = a} x y s h = record { value = v; bytes = a; rest = y; spelled = s; whole = h }
 
 -- a place in the part itself, and a part in it

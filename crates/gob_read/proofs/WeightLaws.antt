@@ -42,11 +42,11 @@ mutual
   weight_as (of_map {c = c} {b = b} u s) = omega (arith, some u, pairs_within s, length-append c b)
   weight_as (of_struct s) = omega (arith, fields_within s)
 
-  each_within : {T : Table} {e : TypeId} {vs : Trees} {b : List ℕ} → SpellsEach T e vs b → parts_of_all vs + raw_of_all vs ≤ length b
+  pub each_within : {T : Table} {e : TypeId} {vs : Trees} {b : List ℕ} → SpellsEach T e vs b → parts_of_all vs + raw_of_all vs ≤ length b
   each_within no_element = omega arith
   each_within (element {b = b} {c = c} s r) = omega (arith, weight_within s, each_within r, length-append b c)
 
-  pairs_within : {T : Table} {k e : TypeId} {ps : Pairs} {b : List ℕ} → SpellsPairs T k e ps b → parts_of_pairs ps + raw_of_pairs ps ≤ length b
+  pub pairs_within : {T : Table} {k e : TypeId} {ps : Pairs} {b : List ℕ} → SpellsPairs T k e ps b → parts_of_pairs ps + raw_of_pairs ps ≤ length b
   pairs_within no_entry = omega arith
   pairs_within (entry {a = a} {b = b} {c = c} s r p) = omega (arith, weight_within s, weight_within r, pairs_within p, length-append a (b ++ c), length-append b c)
 

@@ -1,6 +1,6 @@
 -- What the trait `Builder` asks, in words of the relation between a builder and the lists of tellings that it stands for.
 -- (docs/FORMAT.md, Tellings.)
-use Rattle.std.specs.Prelude.{ℕ, ◌+◌, ◌^◌, ◌<◌, ◌≤◌, List, [], ◌∷◌, ◌++◌}
+use Rattle.std.specs.Prelude.{◌+◌, ◌^◌, ◌<◌, List, [], ◌∷◌, ◌++◌}
 use Rattle.gob_value.specs.Tree.{Tree}
 use Rattle.gob_read.specs.Telling.{Telling, Tells}
 use Rattle.gob_read.specs.WellFormed.{IsWellFormed}
@@ -27,8 +27,3 @@ pub record IsComplete {B : Type 0} (stands : B → List Telling → Type 0) (bui
   pub value : Tree
   pub stood : stands builder told
   pub tells : Tells value told
-
--- what is held is the parts that are told, and some of their raw bytes
-pub record IsBetween (held : ℕ) (us : List Telling) : Type 0 where
-  pub parts : parts_told us ≤ held
-  pub all : held ≤ parts_told us + raw_told us

@@ -7,6 +7,7 @@ pub mod Begins
 pub mod Telling
 pub mod WellFormed
 pub mod Weight
+pub mod Held
 pub mod Building
 pub mod Frames
 pub mod Kinds

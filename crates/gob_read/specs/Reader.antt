@@ -1,5 +1,5 @@
 -- What a reader of bodies stands for, and what a push gives.
-use Rattle.std.specs.Prelude.{◌≡◌, ℕ, ◌+◌, ◌-◌, ◌≤◌, List, [], ◌∷◌, ◌++◌, length, take, Option, Some, None}
+use Rattle.std.specs.Prelude.{◌≡◌, ℕ, ◌-◌, ◌≤◌, List, [], ◌++◌, length, take, Option, Some, None}
 use Rattle.gob_types.specs.declared.id.TypeId.{TypeId}
 use Rattle.gob_types.specs.Table.{Table}
 use Rattle.gob_value.specs.Tree.{Tree, depth}
@@ -8,12 +8,7 @@ use Rattle.gob_read.specs.Refusal.{Refusal}
 use Rattle.gob_read.specs.First.{IsFirst}
 use Rattle.gob_read.specs.Stood.{IsStood}
 use Rattle.gob_read.specs.Telling.{Telling}
-use Rattle.gob_read.specs.Within.{At}
 use Rattle.gob_read.specs.Running.{IsReached, IsNew}
-use Rattle.gob_read.specs.declared.frame.Frame.{Frame}
-use Rattle.gob_read.specs.declared.awaited.Awaited.{Awaited}
-use Rattle.gob_read.specs.declared.awaited.Awaited.TheVariants.{Number}
-use Rattle.gob_read.specs.declared.awaited.Item.TheVariants.{Part, Second}
 use Rattle.gob_read.specs.declared.run.Run.{Run}
 use Rattle.gob_read.specs.declared.stop.Stop.{Stop}
 use Rattle.gob_read.specs.declared.stop.Stop.TheVariants as stops
@@ -83,22 +78,3 @@ abbrev pub Stops : {X O : Type 0} → Option (Run X O) → (Refusal → Type 0) 
 Stops run why (stops.Refused place seen reason) = why (record { place = place; seen = seen; reason = reason })
 Stops run why stops.Memory = Unit {0}
 Stops run why stops.Failed = run ≡ None
-
--- the parts that have begun with these bytes of the awaited item, before the builder is told of them
-abbrev pub begun_parts : Awaited → List ℕ → ℕ
-begun_parts (Number (Part u)) (b ∷ r) = 1
-begun_parts (Number (Second q)) r = 1
-begun_parts _ r = 0
-
--- after the bytes the tellings tell each part whose first byte is among them, but for so many that have just begun
-pub data AreTold (T : Table) (t : TypeId) : List ℕ → List Telling → ℕ → Type 0 where
-  none_yet : AreTold T t [] [] 0
-  so_many : {fs : List Frame} {awaited : Awaited} {p r : List ℕ} {us : List Telling} → At T t fs awaited p r us → AreTold T t (p ++ r) us (begun_parts awaited r)
-
--- so much is held: of what is told, as much as the builder says, and the parts that have just begun
-pub record IsHeld (T : Table) (t : TypeId) (held_of : List Telling → ℕ) (z : List ℕ) (held : ℕ) : Type 0 where
-  pub us : List Telling
-  pub begun : ℕ
-  pub told : AreTold T t z us begun
-  pub held_is : held ≡ held_of us + begun
-  pub few : held ≤ length z

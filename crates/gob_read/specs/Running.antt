@@ -1,6 +1,6 @@
 -- Where a reader stands, by its parts.
 -- It describes the reader's stack.
-use Rattle.std.specs.Prelude.{◌≡◌, ℕ, ◌+◌, ◌<◌, ◌≤◌, List, [], ◌++◌, length, take, Bool, true, false}
+use Rattle.std.specs.Prelude.{◌≡◌, ℕ, ◌+◌, ◌<◌, ◌≤◌, List, [], ◌∷◌, ◌++◌, length, take, Bool, true, false}
 use Rattle.gob_num.specs.Unsigned.{BeginsNumber}
 use Rattle.gob_types.specs.declared.id.TypeId.{TypeId}
 use Rattle.gob_types.specs.Table.{Table}
@@ -36,6 +36,12 @@ abbrev pub depth_of : Awaited → List Frame → ℕ
 depth_of (Top t) stack = 0
 depth_of (Number item) stack = item_depth item (length stack)
 depth_of (Raw left) stack = length stack + 1
+
+-- the parts that have begun with these bytes of the awaited item, before the builder is told of them
+abbrev pub begun_parts : Awaited → List ℕ → ℕ
+begun_parts (Number (Part u)) (b ∷ r) = 1
+begun_parts (Number (Second q)) r = 1
+begun_parts _ r = 0
 
 -- the reader has come so far
 pub record IsReached (T : Table) (t : TypeId) {X O : Type 0} (stands : X → List Telling → Type 0) (run : Run X O) (z : List ℕ) : Type 0 where

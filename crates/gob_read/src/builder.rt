@@ -1,10 +1,12 @@
 //! What is made of a value that is told.
 
-ghost use Rattle.std.specs.Prelude.{◌≡◌, ℕ, List, [], OnOk, IfOk};
+ghost use Rattle.std.specs.Prelude.{◌≡◌, ℕ, Bool, List, [], OnOk, IfOk};
 ghost use Rattle.gob_value.specs.Tree.{Tree};
 ghost use Rattle.gob_read.specs.Telling as telling;
 ghost use Rattle.gob_read.specs.Telling.{Telling, Tells};
-ghost use Rattle.gob_read.specs.Building.{CanTell, IsTold, IsComplete, IsBetween};
+ghost use Rattle.gob_read.specs.Building.{CanTell, IsTold, IsComplete};
+ghost use Rattle.gob_read.specs.Weight.{parts_told, raw_told};
+ghost use Rattle.gob_read.specs.Held.{held_of};
 
 use crate::telling::{GroupKind, RawKind};
 use gob_num::Memory;
@@ -31,8 +33,8 @@ pub trait Builder: Drop {
     // What was made stands for this value.
     ghost means: { Self.Out → Tree → Type 0 };
 
-    // How much a builder holds after these tellings.
-    ghost held_of: { List Telling → ℕ };
+    // Whether raw bytes are stored.
+    ghost stores_raw: { Bool };
 
     /// A builder that was told of no part yet.
     fn fresh(alloc: Global) -> Result<Self, Memory>
@@ -71,13 +73,10 @@ pub trait Builder: Drop {
 
     /// The parts told, and the raw bytes that are stored.
     fn held(&self) -> u64
-        ensures { (us : List Telling) → stands self.now us → result ≡ held_of us };
+        ensures { (us : List Telling) → stands self.now us → result ≡ held_of stores_raw (parts_told us) (raw_told us) };
 
     /// What was made of the whole value that was told.
     fn take(self) -> Self::Out
         requires { IsComplete stands self }
         ensures { (us : List Telling) (v : Tree) → stands self us → Tells v us → means result v };
-
-    // Each part is held, and nothing but parts and raw bytes.
-    ghost between: { (us : List Telling) → IsBetween (held_of us) us };
 }

@@ -37,9 +37,8 @@ impl CheckBuilder {
 impl Builder for CheckBuilder {
     type Out = Counts;
 
+    ghost use Rattle.std.specs.Prelude.{false};
     ghost use Rattle.gob_read.specs.Counted.{AreTold, AreCountsOf};
-    ghost use Rattle.gob_read.specs.Weight.{parts_told, raw_told};
-    ghost use Rattle.std.proofs.Math.Nat.{le_refl, le-add_right};
 
     ghost DEPTH = { 1000 };
 
@@ -49,7 +48,7 @@ impl Builder for CheckBuilder {
 
     ghost means = { λ counts v. AreCountsOf counts v };
 
-    ghost held_of = { parts_told };
+    ghost stores_raw = { false };
 
     fn fresh(_alloc: Global) -> Result<Self, Memory> {
         Ok(CheckBuilder {
@@ -92,9 +91,4 @@ impl Builder for CheckBuilder {
     fn take(self) -> Counts {
         self.counts
     }
-
-    ghost between = { λ us. record {
-      parts = le_refl (parts_told us);
-      all = le-add_right (parts_told us) (raw_told us);
-    } };
 }

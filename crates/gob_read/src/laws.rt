@@ -7,6 +7,7 @@ ghost use Rattle.gob_read.specs.Laws.{GiveOne, StayShown, StandPromptly, StandBe
 ghost use Rattle.gob_read.specs.Laws.{StayAwaited, AwaitNoMore, StayStanding, StayRefused, RefuseNoMore};
 ghost use Rattle.gob_read.specs.Laws.{SeenBeginNone, DeepBeginDeep, PlacesBegin, AwaitedGoOn, TablesCountArrays};
 ghost use Rattle.gob_read.specs.Laws.{FrontsStand, StandingAreFronts};
+ghost use Rattle.gob_read.specs.Held.{StandingArePartial, HoldOnce, HoldAtMostTheirLength};
 
 /// After the same bytes one thing comes next, in a part of one depth.
 pub fn bytes_stop_once()
@@ -68,6 +69,14 @@ pub fn awaited_places_go_on()
 pub fn fronts_stand_in_values()
     ensures stand { FrontsStand }
     ensures front { StandingAreFronts }
+{}
+
+/// Of bytes that stand one number of parts and raw bytes is held, and at most as many as there are bytes, whatever
+/// counts they announce.
+pub fn held_is_one()
+    ensures some { StandingArePartial }
+    ensures one { HoldOnce }
+    ensures few { HoldAtMostTheirLength }
 {}
 
 /// The arrays of a stream's table have lengths that can be spelled, as some laws ask of a table.

@@ -24,16 +24,12 @@
 
 mod awaited;
 mod builder;
-#[cfg(test)]
-mod builder_tests;
 mod check_builder;
 mod fields;
 mod frame;
 pub mod laws;
 mod laws_builder;
 mod laws_reader;
-#[cfg(test)]
-mod memory_tests;
 mod open;
 mod part;
 mod plain;
@@ -43,8 +39,6 @@ mod stack;
 mod state;
 mod stop;
 mod telling;
-#[cfg(test)]
-mod tests;
 mod tree_builder;
 mod work;
 

@@ -4,7 +4,8 @@ ghost use Rattle.std.specs.Prelude.{◌≡◌, ℕ, [], IfOk, IfErr, OnErr, Err,
 ghost use Rattle.gob_types.specs.declared.id.TypeId.{TypeId};
 ghost use Rattle.gob_types.specs.Table.{Table};
 ghost use Rattle.gob_types.specs.Ready.{IsReady};
-ghost use Rattle.gob_read.specs.Reader.{Stands, IsUsable, Gives, RefusesBody, Stops, IsHeld};
+ghost use Rattle.gob_read.specs.Reader.{Stands, IsUsable, Gives, RefusesBody, Stops};
+ghost use Rattle.gob_read.specs.Held.{IsHeld};
 
 use crate::builder::Builder;
 use crate::run::Run;
@@ -85,7 +86,7 @@ impl<B: Builder> BodyReader<B> {
     /// How much is held of the value: each part from its first byte on, and the raw bytes that the builder stores.
     /// It is at most the number of bytes taken, and 0 once the reader has ended.
     pub fn held(&self) -> u64
-        ensures held { (T : Table) (t : TypeId) (limit announced : ℕ) (z : List ℕ) → Stands T t limit announced B.stands self.now.run z → IsHeld T t B.held_of z result }
+        ensures held { (T : Table) (t : TypeId) (limit announced : ℕ) (z : List ℕ) → Stands T t limit announced B.stands self.now.run z → IsHeld T t B.stores_raw z result }
         ensures ended { self.now.run ≡ None → result ≡ 0 }
     {
         match &self.run {

@@ -8,8 +8,9 @@ ghost use Rattle.gob_types.specs.Ready.{IsReady};
 ghost use Rattle.gob_read.specs.Steps.{CanTake};
 ghost use Rattle.gob_read.specs.Running.{IsReachedSomewhere, IsOpenSomewhere, TakesMore, Steps, StopsFor, Opens as MayGoOn};
 ghost use Rattle.gob_read.specs.Running.{TakesNumber, RefusesNumber, RefusesAt, JudgesFor, EndsFor, GoesOn, Finishes, RefusesPiece};
-ghost use Rattle.gob_read.specs.Running.{IsNew, IsOpenIn, depth_of};
-ghost use Rattle.gob_read.specs.Reader.{HasTaken, IsHeld, begun_parts};
+ghost use Rattle.gob_read.specs.Running.{IsNew, IsOpenIn, depth_of, begun_parts};
+ghost use Rattle.gob_read.specs.Reader.{HasTaken};
+ghost use Rattle.gob_read.specs.Held.{IsHeld};
 
 use crate::awaited::{Awaited, Item};
 use crate::builder::Builder;
@@ -119,7 +120,7 @@ impl<B: Builder> Run<B> {
 
     /// The parts that have begun, and the raw bytes that are stored.
     pub(crate) fn held(&self) -> u64
-        ensures { (T : Table) (t : TypeId) (z : List ℕ) → HasTaken T t B.stands self.now z → IsHeld T t B.held_of z result }
+        ensures { (T : Table) (t : TypeId) (z : List ℕ) → HasTaken T t B.stands self.now z → IsHeld T t B.stores_raw z result }
     {
         let _taken = self.taken;
         self.state.builder.held().saturating_add(self.begun())

@@ -40,12 +40,10 @@ fn basic_value(kind: Basic, first: u64, second: u64) -> Value
 impl Builder for TreeBuilder {
     type Out = Value;
 
-    ghost use Rattle.std.specs.Prelude.{◌≡◌, ◌+◌};
+    ghost use Rattle.std.specs.Prelude.{◌≡◌, true};
     ghost use Rattle.gob_value.specs.View.{view};
     ghost use Rattle.gob_read.specs.Stack.{work_of};
     ghost use Rattle.gob_read.specs.Standing.{AreBuilt};
-    ghost use Rattle.gob_read.specs.Weight.{parts_told, raw_told};
-    ghost use Rattle.std.proofs.Math.Nat.{le_refl, le-add_right};
 
     ghost DEPTH = { 1000 };
 
@@ -55,7 +53,7 @@ impl Builder for TreeBuilder {
 
     ghost means = { λ value v. view value ≡ v };
 
-    ghost held_of = { λ us. parts_told us + raw_told us };
+    ghost stores_raw = { true };
 
     fn fresh(alloc: Global) -> Result<Self, Memory> {
         Ok(TreeBuilder {
@@ -106,9 +104,4 @@ impl Builder for TreeBuilder {
     fn take(self) -> Value {
         self.work.into_value()
     }
-
-    ghost between = { λ us. record {
-      parts = le-add_right (parts_told us) (raw_told us);
-      all = le_refl (parts_told us + raw_told us);
-    } };
 }

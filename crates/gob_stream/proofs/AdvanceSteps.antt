@@ -40,7 +40,7 @@ grows {T = T} (and_then (counted u l s p) e r) =
     let first = body_grows p in let rest = grows r in
     record { more = first.more ++ rest.more; grown = rest.grown ∙ ap (λ T. T ++ rest.more) first.grown ∙ append_assoc T first.more rest.more }
 
-ends_within : {L : Bounds} {T U : Table} {offset : ℕ} {items : List StreamItem} {b : List ℕ} → Continues base_table L T offset items b U → offset ≤ L.stream → offset + length b ≤ L.stream
+pub ends_within : {L : Bounds} {T U : Table} {offset : ℕ} {items : List StreamItem} {b : List ℕ} → Continues base_table L T offset items b U → offset ≤ L.stream → offset + length b ≤ L.stream
 ends_within no_more l = omega arith
 ends_within (and_then {b = b} {c = c} (counted u k s p) e r) l = let n = ends_within r (omega arith) in omega (arith, length-append b c)
 
@@ -62,7 +62,7 @@ usable_item (has_failed e) n = absurd (n e)
 usable_item (stands_after a) n = item_of a
 
 -- ---- the bytes of an item end within the limit, but for a count's
-in_bound : {X O : Type 0} {stands : Standing X} {trees : Standing TreeBuilder} {L : Bounds} {T : Table} {offset : ℕ} {awaits : Stage X O} {z : List ℕ} → StandsIn stands trees L T offset awaits z → offset ≤ L.stream → offset + length z ≤ L.stream + 9
+pub in_bound : {X O : Type 0} {stands : Standing X} {trees : Standing TreeBuilder} {L : Bounds} {T : Table} {offset : ℕ} {awaits : Stage X O} {z : List ℕ} → StandsIn stands trees L T offset awaits z → offset ≤ L.stream → offset + length z ≤ L.stream + 9
 in_bound (in_count {number = number} f) l = let n = (unsigned_length f.spelled).1 in omega (arith, length-append number f.rest)
 in_bound (in_type_number {c = c} {number = number} k f w) l = let s = k.stream in omega (arith, length-append c number)
 in_bound (in_value {c = c} {a = a} {z = z} k s r p b) l =

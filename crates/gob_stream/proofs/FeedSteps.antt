@@ -16,8 +16,11 @@ use Rattle.gob_stream.specs.Bounds.{Bounds}
 use Rattle.gob_stream.specs.Item.{StreamItem, ItemMeans, ItemsMean, mean_none, mean_more}
 use Rattle.gob_stream.specs.Stream.{Stream}
 use Rattle.gob_stream.specs.Standing.{Standing, StandsAfter, IsUsable, no_deeper}
-use Rattle.gob_stream.specs.Reading.{Given, GivesOn, IsShown, HasTypesBehind, HasTypesBeyond, Feeds}
+use Rattle.gob_stream.specs.Outcome.{BeginsWith, GivesItems, GivesButLast}
+use Rattle.gob_stream.specs.Reading.{Given, GivesOn, IsShown, HasTypesBehind, HasTypesBeyond, GivesOfTaken, Feeds}
 use Rattle.gob_stream.specs.ReadParts.{AdvancesOver, over_some, over_item, Advances}
+use Rattle.gob_stream.proofs.StreamLaws.{but_none, before_last}
+use Rattle.gob_stream.proofs.UnderWayLaws.{after_gives}
 
 -- ---- the piece
 -- a piece from there on, as a slice
@@ -189,19 +192,33 @@ types_at {L = L} {bytes = bytes} {items = items} {T = T} b =
 types_one_on : {L : Bounds} {bytes : List ℕ} {items : List StreamItem} {T : Table} (i : StreamItem) → HasTypesBehind L bytes (items ++ i ∷ []) T → HasTypesBeyond L bytes items T
 types_one_on i b = record { more = i ∷ []; at_most_one = omega arith; behind = b }
 
+-- and what they give
+given_by : {X O : Type 0} {stands : Standing X} {trees : Standing TreeBuilder} {most : ℕ} {s : Reading X O} {L : Bounds} {items : List StreamItem} {bytes : List ℕ}
+    → StandsAfter stands trees most s items bytes → s.limits ≡ L → GivesItems base_table (no_deeper most L) bytes items
+given_by {most = most} {items = items} {bytes = bytes} a e = subst (λ L. GivesItems base_table (no_deeper most L) bytes items) e (after_gives a)
+
+behind_stream : {X O : Type 0} {stands : Standing X} {trees : Standing TreeBuilder} {most : ℕ} {s : Reading X O} {L : Bounds} {items : List StreamItem} {bytes : List ℕ} (more : List ℕ)
+    → StandsAfter stands trees most s items bytes → s.limits ≡ L → BeginsWith base_table (no_deeper most L) (bytes ++ more) items
+behind_stream more a e = let b = types_behind more a e refl refl in record { front = b.front; rest = b.rest; table = _; stream = b.stream; whole = b.whole }
+
+taken_so : {L : Bounds} {taken : ℕ} {front bytes : List ℕ} {items : List StreamItem} (rest : List ℕ) → taken ≡ length front → front ++ rest ≡ bytes → GivesButLast base_table L front items → GivesOfTaken L taken bytes items
+taken_so {front = front} rest t e g = record { front = front; rest = rest; whole = sym e; taken_is = t; given = g }
+
 -- without memory for the item that is whole with a step
 pub feed_no_memory : {X O : Type 0} {stands : Standing X} {trees : Standing TreeBuilder} {means : O → Tree → Type 0} {most : ℕ} {s t t' : Reading X O} {out out' out'' : List (declared.Item O)} {piece : List ℕ} {used steps step : ℕ} {item : Option (declared.Item O)} {one : declared.Item O} {f : Fault} (s' : Reading X O)
-    → HasFed stands trees means most s t out out' piece used steps → StepsOver stands trees means most t t' (rest_of piece used) step item → item ≡ Some one → s'.types ≡ t'.types → f ≡ fault.Memory → out'' ≡ out'
+    → HasFed stands trees means most s t out out' piece used steps → StepsOver stands trees means most t t' (rest_of piece used) step item → item ≡ Some one → s'.types ≡ t'.types → s'.taken ≡ t'.taken → f ≡ fault.Memory → out'' ≡ out'
     → Given out out'' (λ given. (items : List StreamItem) (bytes : List ℕ) → StandsAfter stands trees most s items bytes → Feeds stands trees means most s s' items bytes piece given (Err f))
-feed_no_memory {stands = stands} {trees = trees} {means = means} {most = most} {s = s} {piece = piece} {used = used} {step = step} s' h o n k e f = record {
+feed_no_memory {stands = stands} {trees = trees} {means = means} {most = most} {s = s} {piece = piece} {used = used} {step = step} s' h o n k v e f = record {
   given = h.fed.given;
   appended = f ∙ h.fed.appended;
   holds = λ items bytes a.
       let before = h.fed.holds items bytes a in
       let one = gives_over (o.advances (items ++ before.more) (bytes ++ take used piece) before.holds) n in
       let there = ap (λ b. b ++ rest_of piece (used + step)) (further bytes piece used step) ∙ all_bytes bytes piece (used + step) in
+      let behind = types_one_on one.item (types_behind (rest_of piece (used + step)) one.after (o.limits ∙ h.limits) (ap types k) there) in
+      let lost = before_last one.item (behind_stream (take step (rest_of piece used)) before.holds h.limits) (given_by one.after (o.limits ∙ h.limits)) in
       subst (λ f. Feeds stands trees means most s s' items bytes piece h.fed.given (Err f)) (sym e)
-      (record { more = before.more; mean = before.mean; holds = types_one_on one.item (types_behind (rest_of piece (used + step)) one.after (o.limits ∙ h.limits) (ap types k) there) });
+      (record { more = before.more; mean = before.mean; holds = (taken_so (rest_of piece (used + step)) (v ∙ one.after.taken) there lost, behind) });
 }
 
 -- at a fault of a step
@@ -211,10 +228,10 @@ shown_all most {K = K} {L = L} {items = items} {R = R} bytes piece used e i =
     subst (λ b. IsShown (no_deeper most L) b items R) (all_bytes bytes piece used) (subst (λ K. IsShown (no_deeper most K) ((bytes ++ take used piece) ++ rest_of piece used) items R) e i)
 
 stops_so : {X O : Type 0} {stands : Standing X} {trees : Standing TreeBuilder} {means : O → Tree → Type 0} {most : ℕ} {t : Reading X O} {items : List StreamItem} {given : List (declared.Item O)} (s s' : Reading X O) (bytes piece : List ℕ) (used : ℕ) (f : Fault)
-    → GivesOn means given items (λ all. StandsAfter stands trees most t all (bytes ++ take used piece)) → t.limits ≡ s.limits → s'.types ≡ t.types
+    → GivesOn means given items (λ all. StandsAfter stands trees most t all (bytes ++ take used piece)) → t.limits ≡ s.limits → s'.types ≡ t.types → s'.taken ≡ t.taken
     → ((all : List StreamItem) → StandsAfter stands trees most t all (bytes ++ take used piece) → Advances stands trees means most t s' all (bytes ++ take used piece) (rest_of piece used) (Err f))
     → Feeds stands trees means most s s' items bytes piece given (Err f)
-stops_so {most = most} {items = items} s s' bytes piece used (fault.Refused R) before e k stops =
+stops_so {most = most} {items = items} s s' bytes piece used (fault.Refused R) before e k v stops =
     let r = stops (items ++ before.more) before.holds in (
       record {
         more = before.more;
@@ -223,18 +240,23 @@ stops_so {most = most} {items = items} s s' bytes piece used (fault.Refused R) b
       },
       let n = r.1 in omega (arith, length-append bytes (take used piece)),
     )
-stops_so {items = items} s s' bytes piece used fault.Read before e k stops = stops (items ++ before.more) before.holds
-stops_so s s' bytes piece used fault.Memory before e k stops =
-    record { more = before.more; mean = before.mean; holds = types_at (types_behind (rest_of piece used) before.holds e (ap types k) (all_bytes bytes piece used)) }
-stops_so {items = items} s s' bytes piece used fault.Failed before e k stops = stops (items ++ before.more) before.holds
+stops_so {items = items} s s' bytes piece used fault.Read before e k v stops = stops (items ++ before.more) before.holds
+stops_so s s' bytes piece used fault.Memory before e k v stops =
+    let all = all_bytes bytes piece used in
+    record {
+      more = before.more;
+      mean = before.mean;
+      holds = (taken_so (rest_of piece used) (v ∙ before.holds.taken) all (but_none (given_by before.holds e)), types_at (types_behind (rest_of piece used) before.holds e (ap types k) all));
+    }
+stops_so {items = items} s s' bytes piece used fault.Failed before e k v stops = stops (items ++ before.more) before.holds
 
 pub feed_stops : {X O : Type 0} {stands : Standing X} {trees : Standing TreeBuilder} {means : O → Tree → Type 0} {most : ℕ} {s t : Reading X O} {out out' : List (declared.Item O)} {piece : List ℕ} {used steps : ℕ} (f : Fault) (s' : Reading X O)
-    → HasFed stands trees means most s t out out' piece used steps → s'.types ≡ t.types
+    → HasFed stands trees means most s t out out' piece used steps → s'.types ≡ t.types → s'.taken ≡ t.taken
     → ((items : List StreamItem) (bytes : List ℕ) → StandsAfter stands trees most t items bytes → Advances stands trees means most t s' items bytes (rest_of piece used) (Err f))
     → Given out out' (λ given. (items : List StreamItem) (bytes : List ℕ) → StandsAfter stands trees most s items bytes → Feeds stands trees means most s s' items bytes piece given (Err f))
-feed_stops {s = s} {piece = piece} {used = used} f s' h k stops = record {
+feed_stops {s = s} {piece = piece} {used = used} f s' h k v stops = record {
   given = h.fed.given;
   appended = h.fed.appended;
   holds = λ items bytes a.
-      stops_so s s' bytes piece used f (h.fed.holds items bytes a) h.limits k (λ all b. stops all (bytes ++ take used piece) b);
+      stops_so s s' bytes piece used f (h.fed.holds items bytes a) h.limits k v (λ all b. stops all (bytes ++ take used piece) b);
 }

@@ -1,3 +1,4 @@
+pub mod PublicLaws
 pub mod StreamLaws
 pub mod LawsOfStreams
 pub mod WritingLaws
@@ -17,6 +18,8 @@ pub mod ShownLaws
 pub mod UnderWayLaws
 pub mod StayLaws
 pub mod ReadBackLaws
+pub mod SomeOutcome
+pub mod StandLaws
 pub mod CountSteps
 pub mod TypeNumberSteps
 pub mod BodySteps

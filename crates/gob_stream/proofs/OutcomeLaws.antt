@@ -34,6 +34,10 @@ continues_wire (and_then (counted u l s p) e r) w = continues_wire r (body_wire 
 pub stream_wire : {L : Bounds} {U : Table} {items : List StreamItem} {b : List ℕ} → Stream base_table L items b U → HasWireStruct U
 stream_wire p = continues_wire p base_wire
 
+-- the same bytes by another name
+pub stream_at : {L : Bounds} {U : Table} {items : List StreamItem} {b c : List ℕ} → b ≡ c → Stream base_table L items b U → Stream base_table L items c U
+stream_at {L = L} {U = U} {items = items} e p = subst (λ b. Stream base_table L items b U) e p
+
 -- ---- what is refused
 pub refused_no_item : (L : Bounds) (items : List StreamItem) (front z : List ℕ) (T : Table) (R : Refusal) → Stream base_table L items front T → RefusesNext base_table L T (length front) z R
     → (i : StreamItem) (b y : List ℕ) (U : Table) → Counted base_table L T (length front) i b U → ¬ (z ≡ b ++ y)

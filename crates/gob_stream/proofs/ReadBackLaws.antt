@@ -67,7 +67,7 @@ pub read_back : (M : Bounds) (items given : List StreamItem) (bytes : List ℕ) 
 read_back M items given bytes now (Ok u) w r = (one_reading r.1 (written_stream w).stream refl).0
 read_back M items given bytes now (Err (fault.Refused R)) w r = not_refused w r
 read_back M items given bytes now (Err fault.Read) w r = front_of (written_stream w).stream (begins_more r.taken.left r.holds.begins r.taken.whole)
-read_back M items given bytes now (Err fault.Memory) w r = front_of (written_stream w).stream r
+read_back M items given bytes now (Err fault.Memory) w r = front_of (written_stream w).stream (begins_more r.taken.left r.holds.begins r.taken.whole)
 read_back M items given bytes now (Err fault.Failed) w r = absurd r
 
 pub shows_no_refusal : (M : Bounds) (items given : List StreamItem) (front rest : List ℕ) (R : Refusal) → WrittenWithin M items (front ++ rest) → ¬ IsShown M front given R

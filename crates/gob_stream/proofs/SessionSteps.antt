@@ -7,7 +7,7 @@ use Rattle.std.specs.Option.{is_some}
 use Rattle.std.specs.Io.KnownBytes.{Consumes, Keeps, IsAtEnd}
 use Rattle.std.proofs.KnownBytes.{Consumes-nil, Consumes-trans, Consumes-kept}
 use Rattle.gob_num.specs.Unsigned.{IsUnsignedFront}
-use Rattle.gob_num.proofs.UnsignedLaws.{unsigned_length}
+use Rattle.gob_num.proofs.UnsignedLaws.{unsigned_length, unsigned_prefix}
 use Rattle.gob_types.specs.Table.{Table}
 use Rattle.gob_types.specs.Base.{base_table}
 use Rattle.gob_types.specs.Defined.{types}
@@ -21,21 +21,23 @@ use Rattle.gob_stream.specs.declared.fault.Fault.TheVariants as fault
 use Rattle.gob_stream.specs.declared.item.Item as declared
 use Rattle.gob_stream.specs.declared.reading.Reading.{Reading}
 use Rattle.gob_stream.specs.declared.reading.Step.{Step}
+use Rattle.gob_stream.specs.declared.stage.Extent.{Extent}
 use Rattle.gob_stream.specs.declared.stage.Stage.{Stage}
 use Rattle.gob_stream.specs.declared.stage.Stage.TheVariants as stage
 use Rattle.gob_stream.specs.Bounds.{Bounds}
 use Rattle.gob_stream.specs.Devices.{counts_up}
 use Rattle.gob_stream.specs.Item.{StreamItem, ItemMeans}
-use Rattle.gob_stream.specs.Stream.{counted, Continues, no_more, and_then, Stream}
-use Rattle.gob_stream.specs.Outcome.{BeginsWith, GivesItems, RefusesNext, EndsSo, at_the_end, Outcome, the_end, refused}
-use Rattle.gob_stream.specs.Standing.{Standing, StandsIn, in_count, in_type_number, in_value, in_description, StandsAfter, IsUsable, has_failed, stands_after, no_deeper}
+use Rattle.gob_stream.specs.Stream.{Counted, counted, Continues, no_more, and_then, Stream}
+use Rattle.gob_stream.specs.Outcome.{GivesItems, GivesButLast, RefusesNext, EndsSo, at_the_end, Outcome, the_end, refused}
+use Rattle.gob_stream.specs.Standing.{Standing, StandsIn, in_count, in_type_number, in_value, in_description, IsCount, StandsAfter, IsUsable, has_failed, stands_after, no_deeper}
 use Rattle.gob_stream.specs.Reading.{Taken, SomeTaken, IsShown, IsNoFurther, up_to_the_last_shown, within_the_item, EndsInItem, GivesNext, shown, ended, StopsNext, ReadsNext, TakesNext, Finishes, CountsReads}
 use Rattle.gob_stream.specs.ReadParts.{Advances, AdvancesOver, over_some, over_item, wanted_in}
 use Rattle.gob_stream.proofs.OutcomeLaws.{one_front}
 use Rattle.gob_stream.proofs.ShownLaws.{next_seen}
 use Rattle.gob_stream.proofs.StayLaws.{refused_behind}
 use Rattle.gob_stream.proofs.ValueSteps.{lies, three}
-use Rattle.gob_stream.proofs.UnderWayLaws.{refused_later, after_gives}
+use Rattle.gob_stream.proofs.StreamLaws.{LastNext, gives_but_last}
+use Rattle.gob_stream.proofs.UnderWayLaws.{refused_later, after_gives, front_shorter}
 
 -- the tellings that a builder of trees stands for
 abbrev pub told_trees : Standing TreeBuilder
@@ -180,7 +182,7 @@ piece_no_further taken piece (in_description {c = c} {a = a} {z = z} k i s r p b
     within_the_item (a ++ (z ++ piece)) (three c a z piece) k.count k.item k.stream (omega (arith, length-append a (z ++ piece), length-append z piece))
 
 -- the refusal is one of what stands behind the front
-refused_there : {X O : Type 0} {stands : Standing X} {trees : Standing TreeBuilder} {most : ℕ} {s : Reading X O} {items : List StreamItem} {bytes : List ℕ} (piece : List ℕ) {R : Refusal} (a : StandsAfter stands trees most s items bytes)
+pub refused_there : {X O : Type 0} {stands : Standing X} {trees : Standing TreeBuilder} {most : ℕ} {s : Reading X O} {items : List StreamItem} {bytes : List ℕ} (piece : List ℕ) {R : Refusal} (a : StandsAfter stands trees most s items bytes)
     → IsShown (no_deeper most s.limits) (bytes ++ piece) items R → RefusesNext base_table (no_deeper most s.limits) (types s.types) (length a.front) (a.under_way ++ piece) R
 refused_there {most = most} {s = s} piece {R = R} a h =
     let L = no_deeper most s.limits in
@@ -200,10 +202,34 @@ ends_in_item {s = s} piece a m l h = record {
   no_further = piece_no_further s.taken piece a.stage (refused_there piece a h) (let t = a.taken in omega (arith, ap length a.whole, length-append a.front a.under_way)) m l;
 }
 
-begins_more : {X O : Type 0} {stands : Standing X} {trees : Standing TreeBuilder} {most : ℕ} {s : Reading X O} {items : List StreamItem} {bytes : List ℕ} (piece : List ℕ) → StandsAfter stands trees most s items bytes
-    → BeginsWith base_table (no_deeper most s.limits) (bytes ++ piece) items
-begins_more {s = s} piece a =
-    record { front = a.front; rest = a.under_way ++ piece; table = types s.types; stream = a.stream; whole = ap (λ b. b ++ piece) a.whole ∙ append_assoc a.front a.under_way piece }
+-- what is there of the item under way, and a piece of no more bytes than can be taken at once, begin no second item
+covered : {L : Bounds} {T U : Table} {offset m : ℕ} {c b : List ℕ} {body : Extent} {i : StreamItem} (w x y : List ℕ) → IsCount L offset m c body → length w + length x ≤ m → Counted base_table L T offset i b U → (c ++ w) ++ x ≡ b ++ y
+    → length y ≡ 0
+covered {c = c} w x y k l (counted {c = d} {d = e} u n s p) h =
+    let same = unsigned_prefix (w ++ x) (e ++ y) k.count u (sym (append_assoc c w x) ∙ h ∙ append_assoc d e y) in
+    omega (arith, same.value, ap length same.rest, length-append w x, length-append e y)
+
+count_covered : {L : Bounds} {T U : Table} {offset : ℕ} {number b : List ℕ} {i : StreamItem} (x y : List ℕ) → IsUnsignedFront number → length x ≤ 1 → Counted base_table L T offset i b U → number ++ x ≡ b ++ y → length y ≡ 0
+count_covered {number = number} x y f l (counted {c = d} {d = e} u n s p) h =
+    let all = h ∙ append_assoc d e y in
+    let short = front_shorter x (e ++ y) f u all in
+    omega (arith, ap length all, length-append number x, length-append d (e ++ y), length-append e y)
+
+no_second : {X O : Type 0} {stands : Standing X} {trees : Standing TreeBuilder} {L : Bounds} {T : Table} {offset : ℕ} (taken : ℕ) {awaits : Stage X O} {z : List ℕ} (piece : List ℕ)
+    → StandsIn stands trees L T offset awaits z → taken ≡ offset + length z → length piece ≤ wanted_in awaits taken → LastNext base_table L T offset (z ++ piece)
+no_second taken piece (in_count f) e l = λ i U b y q h. count_covered piece y f l q h
+no_second taken piece (in_type_number {number = number} k f w) e l = λ i U b y q h. covered number piece y k (omega arith) q h
+no_second taken piece (in_value {c = c} {a = a} {z = z} k s r p b) e l = λ i U x y q h.
+    let lie = lies k r in covered (a ++ z) piece y k (omega (arith, lie.ends, length-append c (a ++ z), length-append a z)) q h
+no_second taken piece (in_description {c = c} {a = a} {z = z} k n s r p b) e l = λ i U x y q h.
+    let lie = lies k r in covered (a ++ z) piece y k (omega (arith, lie.ends, length-append c (a ++ z), length-append a z)) q h
+
+pub after_but_last : {X O : Type 0} {stands : Standing X} {trees : Standing TreeBuilder} {most : ℕ} {s : Reading X O} {items : List StreamItem} {bytes : List ℕ} (piece : List ℕ) → StandsAfter stands trees most s items bytes
+    → length piece ≤ wanted_in s.stage s.taken → GivesButLast base_table (no_deeper most s.limits) (bytes ++ piece) items
+after_but_last {most = most} {s = s} {items = items} piece a l =
+    let all = ap (λ b. b ++ piece) a.whole ∙ append_assoc a.front a.under_way piece in
+    let here : s.taken ≡ length a.front + length a.under_way = let t = a.taken in omega (arith, ap length a.whole, length-append a.front a.under_way) in
+    subst (λ b. GivesButLast base_table (no_deeper most s.limits) b items) (sym all) (gives_but_last (a.under_way ++ piece) a.stream (no_second s.taken piece a.stage here l))
 
 -- ---- what stops the reading of an item
 -- the fault that a `?` returns is the callee's
@@ -259,7 +285,7 @@ step_stops_here {most = most} {s = s} {items = items} piece (fault.Refused R) f 
     let h : IsShown L _ items R = (f.each items _ b.after).0 in
     (subst (λ y. IsShown L y items R) b.whole h, subst (λ y. EndsInItem L y items R) b.whole (ends_in_item piece b.after f.some f.few h))) p)
 step_stops_here {most = most} {s = s} {items = items} piece fault.Memory f p =
-    taken_as (λ x b. subst (λ y. BeginsWith base_table (no_deeper most s.limits) y items) b.whole (begins_more piece b.after)) p
+    taken_as (λ x b. subst (λ y. GivesButLast base_table (no_deeper most s.limits) y items) b.whole (after_but_last piece b.after f.few)) p
 step_stops_here {items = items} piece fault.Read f p = absurd (f.each items _ p.holds.after)
 step_stops_here {items = items} piece fault.Failed f p = absurd (f.each items _ p.holds.after)
 

@@ -17,7 +17,7 @@ use Rattle.gob_stream.specs.Bounds.{Bounds}
 use Rattle.gob_stream.specs.Item.{StreamItem, defines}
 use Rattle.gob_stream.specs.Body.{Body, definition, value}
 use Rattle.gob_stream.specs.Stream.{Counted, counted, Continues, no_more, and_then, Stream}
-use Rattle.gob_stream.specs.Outcome.{GivesItems}
+use Rattle.gob_stream.specs.Outcome.{BeginsWith, GivesItems, GivesButLast}
 use Rattle.gob_types.proofs.GrowthLaws.{some_injective}
 use Rattle.gob_value.proofs.PrefixLaws.{same_spelling, same_top}
 
@@ -119,29 +119,63 @@ one_more {base = base} {L = L} {T = T} {V = V} {offset = offset} {i = i} {c = c}
 abbrev pub NoNext : Table → Bounds → Table → ℕ → List ℕ → Type 0
 NoNext base L T offset bytes = (i : StreamItem) (U : Table) (b y : List ℕ) → Counted base L T offset i b U → bytes ≡ b ++ y → ⊥
 
--- where no item begins what follows a stream, no longer stream begins the whole
-longest_from : {base : Table} {L : Bounds} {T U V : Table} {offset end : ℕ} {items others : List StreamItem} {b c : List ℕ} (rest y : List ℕ)
-    → Continues base L T offset items b U → end ≡ offset + length b → NoNext base L U end rest → Continues base L T offset others c V → b ++ rest ≡ c ++ y → length others ≤ length items
-longest_from rest y p e n no_more h = omega arith
-longest_from {base = base} {L = L} {T = T} rest y (no_more {offset = offset}) e n (and_then {U = W} {i = j} {b = c} {c = d} q f s) h =
-    absurd (n j W c (d ++ y) (subst (λ n. Counted base L T n j c W) (here_is offset _ e) q) (h ∙ append_assoc c d y))
+-- an item that begins these bytes is all of them
+abbrev pub LastNext : Table → Bounds → Table → ℕ → List ℕ → Type 0
+LastNext base L T offset bytes = (i : StreamItem) (U : Table) (b y : List ℕ) → Counted base L T offset i b U → bytes ≡ b ++ y → length y ≡ 0
+
+-- at most so many items begin these bytes
+abbrev pub AtMost : Table → Bounds → Table → ℕ → ℕ → List ℕ → Type 0
+AtMost base L T offset most bytes = (items : List StreamItem) (U : Table) (b y : List ℕ) → Continues base L T offset items b U → bytes ≡ b ++ y → length items ≤ most
+
+none_at_most : {base : Table} {L : Bounds} {T : Table} {offset : ℕ} {bytes : List ℕ} → NoNext base L T offset bytes → AtMost base L T offset 0 bytes
+none_at_most n items U b y no_more e = omega arith
+none_at_most n items U b y (and_then {i = i} {b = c} {c = d} q f s) e = absurd (n i _ c (d ++ y) q (e ∙ append_assoc c d y))
+
+one_at_most : {base : Table} {L : Bounds} {T : Table} {offset : ℕ} {bytes : List ℕ} → LastNext base L T offset bytes → AtMost base L T offset 1 bytes
+one_at_most n items U b y no_more e = omega arith
+one_at_most n items U b y (and_then q f no_more) e = omega arith
+one_at_most n items U b y (and_then {i = i} {b = c} q f (and_then {b = d} {c = x} p g s)) e =
+    let last = n i _ c ((d ++ x) ++ y) q (e ∙ append_assoc c (d ++ x) y) in
+    let some = counted_some p in
+    omega (arith, length-append (d ++ x) y, length-append d x)
+
+-- with no more items than that behind a stream, no stream begins the whole that is longer by more
+longer_from : {base : Table} {L : Bounds} {T U V : Table} {offset end most : ℕ} {items others : List StreamItem} {b c : List ℕ} (rest y : List ℕ)
+    → Continues base L T offset items b U → end ≡ offset + length b → AtMost base L U end most rest → Continues base L T offset others c V → b ++ rest ≡ c ++ y → length others ≤ length items + most
+longer_from {base = base} {L = L} {T = T} {V = V} {others = others} {c = c} rest y (no_more {offset = offset}) e n q h =
+    let few = n others V c y (subst (λ n. Continues base L T n others c V) (here_is offset _ e) q) h in omega arith
   where
     here_is : (offset end : ℕ) → end ≡ offset + 0 → offset ≡ end
     here_is offset end e = omega arith
-longest_from {base = base} {L = L} {V = V} rest y (and_then {U = U} {next = m} {b = a} {c = b} p e r) k n (and_then {U = W} {next = n'} {items = others} {b = c} {c = d} q f s) h =
+longer_from rest y (and_then p e r) k n no_more h = omega arith
+longer_from {base = base} {L = L} {V = V} rest y (and_then {U = U} {next = m} {b = a} {c = b} p e r) k n (and_then {U = W} {next = n'} {items = others} {b = c} {c = d} q f s) h =
     let one = counted_prefix (b ++ rest) (d ++ y) p q (regroup a b rest c d y h) in
     let lengths : length a ≡ length c = ap length one.bytes in
     let offsets : n' ≡ m = omega arith in
     let s' = subst (λ (U : Table). Continues base L U m others d V) (sym one.table) (subst (λ n. Continues base L W n others d V) offsets s) in
-    let shorter = longest_from rest y r (omega (arith, length-append a b)) n s' one.rest in
+    let shorter = longer_from rest y r (omega (arith, length-append a b)) n s' one.rest in
     omega arith
 
 pub gives_items : {base : Table} {L : Bounds} {T : Table} {items : List StreamItem} {b : List ℕ} (rest : List ℕ)
     → Stream base L items b T → NoNext base L T (length b) rest → GivesItems base L (b ++ rest) items
 gives_items {T = T} {b = b} rest p n = record {
   begins = record { front = b; rest = rest; table = T; stream = p; whole = refl };
-  longest = λ others q. longest_from rest q.rest p (omega arith) n q.stream q.whole;
+  longest = λ others q. let few = longer_from rest q.rest p (omega arith) (none_at_most n) q.stream q.whole in omega arith;
 }
+
+pub gives_but_last : {base : Table} {L : Bounds} {T : Table} {items : List StreamItem} {b : List ℕ} (rest : List ℕ)
+    → Stream base L items b T → LastNext base L T (length b) rest → GivesButLast base L (b ++ rest) items
+gives_but_last {T = T} {b = b} rest p n = record {
+  begins = record { front = b; rest = rest; table = T; stream = p; whole = refl };
+  but_last = λ others q. longer_from rest q.rest p (omega arith) (one_at_most n) q.stream q.whole;
+}
+
+-- all items that bytes give, and those before the last
+pub but_none : {base : Table} {L : Bounds} {bytes : List ℕ} {items : List StreamItem} → GivesItems base L bytes items → GivesButLast base L bytes items
+but_none g = record { begins = g.begins; but_last = λ others q. let l = g.longest others q in omega arith }
+
+pub before_last : {base : Table} {L : Bounds} {bytes : List ℕ} {items : List StreamItem} (i : StreamItem) → BeginsWith base L bytes items → GivesItems base L bytes (items ++ i ∷ []) → GivesButLast base L bytes items
+before_last {items = items} i b g = record { begins = b; but_last = λ others q. let l = g.longest others q in omega (arith, length-append items (i ∷ [])) }
 
 -- a longer stream has more items
 pub more_items : {base : Table} {L : Bounds} {T U V : Table} {offset : ℕ} {items others : List StreamItem} {b c : List ℕ} (x : List ℕ)

@@ -1,5 +1,5 @@
 -- Reading all items of a stream.
-use Rattle.std.proofs.Common.{◌≡◌, ℕ, ◌-◌, ◌<◌, ◌≤◌, min, List, [], ◌∷◌, ◌++◌, take, Option, Some, None, Ok, Err, arith, refl, sym, ap, ◌∙◌, subst, append_assoc}
+use Rattle.std.proofs.Common.{◌≡◌, ℕ, ◌-◌, ◌<◌, ◌≤◌, min, List, [], ◌∷◌, ◌++◌, length, take, Option, Some, None, Ok, Err, arith, refl, sym, ap, ◌∙◌, subst, append_assoc, length-append}
 use Rattle.std.proofs.lemmas.List.{append-nil, take-append-le}
 use Rattle.gob_types.specs.Table.{Table}
 use Rattle.gob_types.specs.Base.{base_table}
@@ -16,11 +16,14 @@ use Rattle.gob_stream.specs.declared.reading.Reading.{Reading}
 use Rattle.gob_stream.specs.Bounds.{Bounds, AreLimits}
 use Rattle.gob_stream.specs.Devices.{counts_up}
 use Rattle.gob_stream.specs.Item.{StreamItem, ItemMeans, means_definition, means_value, item_view, item_views}
-use Rattle.gob_stream.specs.Outcome.{BeginsWith, GivesItems, Outcome, EndsSo, at_the_end, the_end, refused}
+use Rattle.gob_stream.specs.Outcome.{GivesItems, GivesButLast, Outcome, EndsSo, at_the_end, the_end, refused}
 use Rattle.gob_stream.specs.Stream.{Stream, no_more}
 use Rattle.gob_stream.specs.Standing.{Standing, StandsAfter, no_deeper}
 use Rattle.gob_stream.specs.Reading.{SomeTaken, Given, IsShown, GivesNext, RefusesNextItem, shown, ended, StopsNext, ReadsNext, TakesNext, ReadsStream}
+use Rattle.gob_stream.proofs.StandLaws.{limits_stay}
 use Rattle.gob_stream.proofs.StayLaws.{shown_there, shown_refusal_stays}
+use Rattle.gob_stream.proofs.StreamLaws.{NoNext, counted_some, gives_items, but_none, before_last}
+use Rattle.gob_stream.proofs.UnderWayLaws.{after_gives}
 
 -- ---- items that were given
 pub given_none : {A : Type 0} {old : List A} {P : List A → Type 0} → P [] → Given old old P
@@ -51,11 +54,7 @@ view_meant (means_value {v = v} e) = cc
 
 -- no limit allows a deeper value than a builder of trees takes
 pub tree_limits : {L : Bounds} → AreLimits L → no_deeper 1000 L ≡ L
-tree_limits {L = L} a =
-    let with_depth : ℕ → Bounds = λ d. record { item = L.item; depth = d; types = L.types; stream = L.stream } in
-    let deep = a.depth in
-    let e : min L.depth 1000 ≡ L.depth = omega arith in
-    ap with_depth e
+tree_limits {L = L} a = limits_stay 1000 L a.depth
 
 -- ---- bytes that were taken before, and some more
 taken_again : {bytes : List ℕ} {mid now : Option (List ℕ)} {P Q R : List ℕ → Type 0} (p : SomeTaken bytes mid P) → ((more : List ℕ) → Q more → R (p.bytes ++ more)) → SomeTaken p.taken.left now Q → SomeTaken bytes now R
@@ -66,18 +65,13 @@ taken_again p f q = record {
 }
 
 -- ---- where a stream stops
-pub begins_empty : (L : Bounds) (bytes : List ℕ) → BeginsWith base_table L bytes []
-begins_empty L bytes = record { front = []; rest = bytes; table = base_table; stream = no_more; whole = refl }
+-- no bytes begin an item
+none_behind : {L : Bounds} {T : Table} {offset : ℕ} → NoNext base_table L T offset []
+none_behind = λ i U b y q e. let some = counted_some q in omega (arith, ap length e, length-append b y)
 
-begins_longer : {L : Bounds} {bytes : List ℕ} {items : List StreamItem} (more : List ℕ) → BeginsWith base_table L bytes items → BeginsWith base_table L (bytes ++ more) items
-begins_longer more b = record { front = b.front; rest = b.rest ++ more; table = b.table; stream = b.stream; whole = ap (λ l. l ++ more) b.whole ∙ append_assoc b.front b.rest more }
-
-pub stands_begins : {most : ℕ} {L : Bounds} {stands : Standing TreeBuilder} {s : Reading TreeBuilder Value} {items : List StreamItem} {bytes : List ℕ} {mid : Option (List ℕ)} → no_deeper most s.limits ≡ L
-    → SomeTaken bytes mid (λ taken. StandsAfter stands stands most s items taken) → BeginsWith base_table L bytes items
-stands_begins {s = s} {items = items} {bytes = bytes} l p =
-    let a = p.holds in
-    subst (λ L. BeginsWith base_table L bytes items) l
-    (record { front = a.front; rest = a.under_way ++ p.taken.left; table = types s.types; stream = a.stream; whole = p.taken.whole ∙ ap (λ b. b ++ p.taken.left) a.whole ∙ append_assoc a.front a.under_way p.taken.left })
+-- nothing was taken
+pub took_nothing : (L : Bounds) {bytes : List ℕ} {now : Option (List ℕ)} → now ≡ Some bytes → SomeTaken bytes now (λ taken. GivesButLast base_table L taken [])
+took_nothing L {bytes = bytes} known = record { bytes = []; taken = record { left = bytes; known = known; whole = refl }; holds = but_none (gives_items [] no_more none_behind) }
 
 -- a refusal that some of the bytes show is that of all of them
 shown_of_all : {L : Bounds} {bytes front : List ℕ} (left : List ℕ) {items : List StreamItem} {R : Refusal} → bytes ≡ front ++ left → IsShown L front items R → Outcome base_table L bytes items (refused R)
@@ -94,9 +88,7 @@ pub stream_stops : {P : List ℕ → Type 0} {L : Bounds} (M : Bounds) {bytes : 
     → ReadsStream L bytes now items (Err e)
 stream_stops M {bytes = bytes} items now (fault.Refused R) l p h = subst (λ L. Outcome base_table L bytes items (refused R)) l (refused_of_all p h)
 stream_stops M {bytes = bytes} items now fault.Read l p h = subst (λ L. SomeTaken bytes now (λ taken. GivesItems base_table L taken items)) l (taken_again p (λ more g. g) h)
-stream_stops M {bytes = bytes} items now fault.Memory l p h =
-    let t = taken_again {R = λ x. BeginsWith base_table M x items} p (λ more b. b) h in
-    subst (λ L. BeginsWith base_table L bytes items) l (subst (λ b. BeginsWith base_table M b items) (sym t.taken.whole) (begins_longer t.taken.left t.holds))
+stream_stops M {bytes = bytes} items now fault.Memory l p h = subst (λ L. SomeTaken bytes now (λ taken. GivesButLast base_table L taken items)) l (taken_again p (λ more g. g) h)
 stream_stops M items now fault.Failed l p h = absurd h
 
 -- ---- one more item, or none
@@ -108,6 +100,22 @@ stands_next {stands = stands} {most = most} s s' given now item e p h =
     subst (λ (o : Option (declared.Item Value)). ReadsNext stands stands IsSeen most s s' (item_views given) p.bytes p.taken.left now (Ok o)) e h in
     taken_again p
     (λ more g. subst (λ items. StandsAfter stands stands most s' items (p.bytes ++ more)) (ap (λ i. item_views given ++ i ∷ []) (sym (view_meant g.meant)) ∙ sym (views_more given item)) g.after) h'
+
+-- an item for which no memory was had
+pub item_lost : {stands : Standing TreeBuilder} {most : ℕ} {L : Bounds} (s s' : Reading TreeBuilder Value) (given : List (declared.Item Value)) {bytes : List ℕ} {mid : Option (List ℕ)} (now : Option (List ℕ)) {o : Option (declared.Item Value)} (item : declared.Item Value) → o ≡ Some item
+    → no_deeper most s.limits ≡ L → s'.limits ≡ s.limits → (p : SomeTaken bytes mid (λ taken. StandsAfter stands stands most s (item_views given) taken))
+    → ReadsNext stands stands IsSeen most s s' (item_views given) p.bytes p.taken.left now (Ok o) → SomeTaken bytes now (λ taken. GivesButLast base_table L taken (item_views given))
+item_lost {stands = stands} {most = most} {L = L} s s' given {bytes = bytes} now item e l same p h =
+    let M = no_deeper most s.limits in
+    let items = item_views given in
+    let h' : SomeTaken p.taken.left now (λ taken. GivesNext stands stands IsSeen most s' item items (p.bytes ++ taken)) =
+    subst (λ (o : Option (declared.Item Value)). ReadsNext stands stands IsSeen most s s' items p.bytes p.taken.left now (Ok o)) e h in
+    let a = p.holds in
+    subst (λ L. SomeTaken bytes now (λ taken. GivesButLast base_table L taken items)) l
+    (taken_again {R = λ x. GivesButLast base_table M x items} p
+    (λ more g. before_last g.item
+    (record { front = a.front; rest = a.under_way ++ more; table = types s.types; stream = a.stream; whole = ap (λ b. b ++ more) a.whole ∙ append_assoc a.front a.under_way more })
+    (subst (λ L. GivesItems base_table (no_deeper most L) (p.bytes ++ more) (items ++ g.item ∷ [])) same (after_gives g.after))) h')
 
 pub record IsWhole (L : Bounds) (bytes : List ℕ) (items : List StreamItem) : Type 0 where
   pub table : Table

@@ -19,7 +19,7 @@ use Rattle.gob_stream.specs.Stream.{Stream, HasStream}
 use Rattle.gob_stream.specs.WriterRefusal.{RefusesItem}
 use Rattle.gob_types.specs.declared.reason.Reason.{Reason}
 use Rattle.gob_stream.proofs.EndLaws.{refused_ends}
-use Rattle.gob_stream.specs.Writing.{HasWritten, IsNew, WritesNext, StoppedAt, WritesStream}
+use Rattle.gob_stream.specs.Writing.{HasWritten, IsNew, WritesNext, Leaves, StoppedAt, WritesStream}
 
 -- a writer under these limits has written so many of the items, and nothing else went out
 pub record WroteSome (L : Bounds) (items : List StreamItem) (n : ℕ) (w : StreamWriter) (old new : Option (List ℕ)) : Type 0 where
@@ -61,38 +61,37 @@ no_stream {M = M} items n i at before refused has =
     refused_ends (drop (suc n) items) before (omega arith) refused (subst (λ l. Stream base_table M l has.bytes has.table) (split_at items n i at) has.stream)
 
 pub stopped : (L : Bounds) (items : List StreamItem) (n : ℕ) (w w' : StreamWriter) (old mid new : Option (List ℕ)) (i : StreamItem) (f : WriteFault)
-    → WroteSome L items n w old mid → slice_get items n ≡ Some i → WritesNext w w' i mid new (Err f) → StoppedAt L items n old new f
-stopped L items n w w' old mid new i (fault.Refused r) wrote at writes =
+    → WroteSome L items n w old mid → slice_get items n ≡ Some i → WritesNext w w' i mid new (Err f) → Leaves w w' mid new (Err f) → StoppedAt L items n old new f
+stopped L items n w w' old mid new i (fault.Refused r) wrote at writes leaves =
     let next = writes (take n items) wrote.bytes wrote.table wrote.written in
     record {
       bytes = wrote.bytes;
       table = wrote.table;
       item = i;
       before = rw wrote.limits at wrote.written.stream;
-      out = Appends-kept old mid new wrote.bytes wrote.out next.1.1;
+      out = Appends-kept old mid new wrote.bytes wrote.out leaves.1;
       at = at;
-      refused = rw wrote.limits at next.0;
-      none = no_stream items n i at (rw wrote.limits at wrote.written.stream) (rw wrote.limits at next.0);
+      refused = rw wrote.limits at next;
+      none = no_stream items n i at (rw wrote.limits at wrote.written.stream) (rw wrote.limits at next);
     }
-stopped L items n w w' old mid new i fault.Write wrote at writes =
+stopped L items n w w' old mid new i fault.Write wrote at writes leaves =
     let next = writes (take n items) wrote.bytes wrote.table wrote.written in
     record {
       bytes = wrote.bytes;
-      front = next.0.front;
-      rest = next.0.rest;
+      front = next.front;
+      rest = next.rest;
       table = wrote.table;
-      last = next.0.table;
+      last = next.table;
       item = i;
       before = rw wrote.limits at wrote.written.stream;
-      out = Appends-trans old mid new wrote.bytes next.0.front wrote.out next.0.out;
+      out = Appends-trans old mid new wrote.bytes next.front wrote.out next.out;
       at = at;
-      counted = rw wrote.limits at next.0.item;
+      counted = rw wrote.limits at next.item;
     }
-stopped L items n w w' old mid new i fault.Memory wrote at writes =
-    let next = writes (take n items) wrote.bytes wrote.table wrote.written in
+stopped L items n w w' old mid new i fault.Memory wrote at writes leaves =
     let within : n ≤ length items = omega (arith, slice_get_within items n i at) in
-    record { within = within; bytes = wrote.bytes; table = wrote.table; before = rw wrote.limits at wrote.written.stream; out = Appends-kept old mid new wrote.bytes wrote.out next.1 }
-stopped L items n w w' old mid new i fault.Failed wrote at writes = absurd (writes (take n items) wrote.bytes wrote.table wrote.written)
+    record { within = within; bytes = wrote.bytes; table = wrote.table; before = rw wrote.limits at wrote.written.stream; out = Appends-kept old mid new wrote.bytes wrote.out leaves.1 }
+stopped L items n w w' old mid new i fault.Failed wrote at writes leaves = absurd (writes (take n items) wrote.bytes wrote.table wrote.written)
 
 pub wrote_all : (L : Bounds) (items : List (declared.Item Value)) (n : ℕ) (w : StreamWriter) (old new : Option (List ℕ)) (u : Unit {0})
     → WroteSome L (item_views items) n w old new → length items ≤ n → WritesStream L (item_views items) old new (Ok u)

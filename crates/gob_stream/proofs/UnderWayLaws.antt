@@ -66,7 +66,7 @@ stands_no_next s = λ i U b y p e. stands_before_the_end y s p e
 -- ---- what is refused later is shown by more bytes
 
 -- a front of a number is shorter than each number that begins with it
-front_shorter : {y c : List ℕ} {n : ℕ} (x r : List ℕ) → IsUnsignedFront y → IsUnsigned n c → y ++ x ≡ c ++ r → length y < length c
+pub front_shorter : {y c : List ℕ} {n : ℕ} (x r : List ℕ) → IsUnsignedFront y → IsUnsigned n c → y ++ x ≡ c ++ r → length y < length c
 front_shorter {y = y} {c = c} x r f u e =
     elim (cases_lt (length y) (length c)) [ inl l ↦ l | inr l ↦ let g = goes_on_behind y x c r e l in absurd (front_not_number g.more f u g.front) ]
 

@@ -11,17 +11,32 @@ use Rattle.gob_stream.specs.declared.writer.StreamWriter.{StreamWriter}
 use Rattle.gob_stream.specs.Item.{StreamItem}
 use Rattle.gob_stream.specs.Stream.{Stream, Counted}
 use Rattle.gob_stream.specs.WriterRefusal.{RefusesItem}
-use Rattle.gob_stream.specs.Writing.{HasWritten, WritesItem, IsUnchanged, IsRefusal, SentFront, CountsFault}
+use Rattle.gob_types.specs.declared.id.TypeId.{TypeId}
+use Rattle.gob_types.specs.declared.table.DefineFault.{DefineFault}
+use Rattle.gob_types.specs.declared.table.DefineFault.TheVariants as defining
+use Rattle.gob_stream.specs.Writing.{HasWritten, WritesItem, Leaves, IsUnchanged, IsRefusal, SentFront, CountsFault, definition_fault}
 use Rattle.gob_stream.proofs.StreamLaws.{one_more}
 
--- a fault before any byte went out is a refusal of the item, or leaves all as it was
+-- a fault before any byte went out is a refusal of the item, or want of memory
 pub refused_writes : (w w' : StreamWriter) (items : List StreamItem) (bytes : List ℕ) (T : Table) (i : StreamItem) (out : Option (List ℕ)) (f : WriteFault)
-    → HasWritten w items bytes T → IsUnchanged w w' → IsRefusal (RefusesItem base_table w.limits (types w.types) w.offset i) f → WritesItem w w' items bytes T i out out (Err f)
-refused_writes w w' items bytes T i out (fault.Refused r) written same refused =
-    (rw (← written.table, ← written.offset) refused, (same, Keeps-refl out))
-refused_writes w w' items bytes T i out fault.Write written same refused = absurd refused
-refused_writes w w' items bytes T i out fault.Memory written same refused = (same, Keeps-refl out)
-refused_writes w w' items bytes T i out fault.Failed written same refused = absurd refused
+    → HasWritten w items bytes T → IsRefusal (RefusesItem base_table w.limits (types w.types) w.offset i) f → WritesItem w w' items bytes T i out out (Err f)
+refused_writes w w' items bytes T i out (fault.Refused r) written refused = rw (← written.table, ← written.offset) refused
+refused_writes w w' items bytes T i out fault.Write written refused = absurd refused
+refused_writes w w' items bytes T i out fault.Memory written refused = tt
+refused_writes w w' items bytes T i out fault.Failed written refused = absurd refused
+
+-- and leaves all as it was
+pub refused_leaves : (w w' : StreamWriter) (out : Option (List ℕ)) (f : WriteFault) → IsUnchanged w w' → IsRefusal (λ _. Unit {0}) f → Leaves w w' out out (Err f)
+refused_leaves w w' out (fault.Refused r) same early = (same, Keeps-refl out)
+refused_leaves w w' out fault.Write same early = absurd early
+refused_leaves w w' out fault.Memory same early = (same, Keeps-refl out)
+refused_leaves w w' out fault.Failed same early = absurd early
+
+pub definition_early : (t : TypeId) (f : DefineFault) → IsRefusal (λ _. Unit {0}) (definition_fault t f)
+definition_early t defining.ReservedType = tt
+definition_early t defining.DefinedTwice = tt
+definition_early t defining.TooManyTypes = tt
+definition_early t defining.Memory = tt
 
 -- and no write was made
 pub early_counts : (count : ℕ) (f : WriteFault) → IsRefusal (λ _. Unit {0}) f → CountsFault count count f
@@ -42,9 +57,9 @@ pub record HasItem (w ready : StreamWriter) (i : StreamItem) (U : Table) : Type 
 pub sent_writes : (w ready w' : StreamWriter) (items : List StreamItem) (bytes : List ℕ) (T U : Table) (i : StreamItem) (old new : Option (List ℕ))
     (r : Result (Unit {0}) WriteFault) → HasWritten w items bytes T → HasItem w ready i U
     → OnOk r (Appends old new ready.item.items) → OnOk r (w' ≡ record ready { offset = ready.offset + length ready.item.items; failed = false })
-    → OnErr r (SentFront ready.item.items old new) → OnErr r (w' ≡ record ready { failed = true }) → IfErr r (λ f. f ≡ fault.Write)
+    → OnErr r (SentFront ready.item.items old new) → IfErr r (λ f. f ≡ fault.Write)
     → WritesItem w w' items bytes T i old new r
-sent_writes w ready w' items bytes T U i old new (Ok u) written has out behind front failed is =
+sent_writes w ready w' items bytes T U i old new (Ok u) written has out behind front is =
     let here : Counted base_table w.limits T (length bytes) i ready.item.items U = rw (← written.table, ← written.offset) has.item in
     let limits : w'.limits ≡ w.limits = ap (λ x. x.limits) behind ∙ has.limits in
     record {
@@ -61,9 +76,13 @@ sent_writes w ready w' items bytes T U i old new (Ok u) written has out behind f
         sound = ap (λ x. x.failed) behind;
       };
     }
-sent_writes w ready w' items bytes T U i old new (Err f) written has out behind front failed is =
+sent_writes w ready w' items bytes T U i old new (Err f) written has out behind front is =
     let here : Counted base_table w.limits T (length bytes) i ready.item.items U = rw (← written.table, ← written.offset) has.item in
-    subst (λ g. WritesItem w w' items bytes T i old new (Err g)) (sym is) (
-      record { front = front.front; rest = front.rest; table = U; item = subst (λ b. Counted base_table w.limits T (length bytes) i b U) front.whole here; out = front.out },
-      ap (λ x. x.failed) failed,
-    )
+    subst (λ g. WritesItem w w' items bytes T i old new (Err g)) (sym is)
+    (record { front = front.front; rest = front.rest; table = U; item = subst (λ b. Counted base_table w.limits T (length bytes) i b U) front.whole here; out = front.out })
+
+-- a writer whose send failed writes no more
+pub sent_leaves : (w ready w' : StreamWriter) (old new : Option (List ℕ)) (offset : ℕ) (r : Result (Unit {0}) WriteFault)
+    → OnOk r (w' ≡ record ready { offset = offset; failed = false }) → OnErr r (w' ≡ record ready { failed = true }) → IfErr r (λ f. f ≡ fault.Write) → Leaves w w' old new r
+sent_leaves w ready w' old new offset (Ok u) behind failed is = ap (λ x. x.failed) behind
+sent_leaves w ready w' old new offset (Err f) behind failed is = subst (λ g. Leaves w w' old new (Err g)) (sym is) (ap (λ x. x.failed) failed)

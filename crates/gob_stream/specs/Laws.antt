@@ -1,8 +1,9 @@
 -- The laws of streams: their bytes tell their items, whatever the base table, the limits and the shapes are.
 -- They follow from Go's encoding/gob documentation, Encoding Details; docs/FORMAT.md, Items and streams.
-use Rattle.std.specs.Prelude.{◌≡◌, ℕ, ◌≤◌, ◌⊎◌, List, [], ◌++◌, length, take, Option, Some, Result, Ok, Err}
+use Rattle.std.specs.Prelude.{◌≡◌, ℕ, ◌+◌, ◌≤◌, ◌⊎◌, List, [], ◌++◌, length, take, Option, Some, Result, Ok, Err}
 use Rattle.gob_types.specs.Table.{Table}
 use Rattle.gob_types.specs.Base.{base_table}
+use Rattle.gob_types.specs.Defined.{types}
 use Rattle.gob_value.specs.Tree.{Tree}
 use Rattle.gob_read.specs.declared.tree_builder.TreeBuilder.{TreeBuilder}
 use Rattle.gob_stream.specs.declared.fault.Refusal.{Refusal}
@@ -15,7 +16,7 @@ use Rattle.gob_stream.specs.Item.{StreamItem}
 use Rattle.gob_stream.specs.Stream.{Counted, Stream}
 use Rattle.gob_stream.specs.Outcome.{BeginsWith, GivesItems, RefusesNext, Ending, Outcome}
 use Rattle.gob_stream.specs.Standing.{Standing, StandsAfter, no_deeper}
-use Rattle.gob_stream.specs.Reading.{IsShown, ReadsStream, Feeds, Finishes}
+use Rattle.gob_stream.specs.Reading.{IsShown, HasTypesBehind, ReadsStream, Feeds, Finishes}
 use Rattle.gob_stream.specs.Writing.{WritesStream}
 
 -- bytes are the stream of one list of items, with one table behind it
@@ -86,10 +87,33 @@ pub record AreReadBackInPieces {X O : Type 0} (stands : Standing X) (trees : Sta
   pub finished : (s s' : Reading X O) (items before : List StreamItem) (bytes : List ℕ) (result : Result (Unit {0}) Fault)
       → WrittenWithin (no_deeper most s.limits) items bytes → Finishes most s s' before bytes result → result ≡ Ok tt
 
+-- what a session stands for that has given the items, of these bytes, under its limits and no deeper than its builder goes
+pub record GivesWhatStands {X : Type 0} (O : Type 0) (stands : Standing X) (trees : Standing TreeBuilder) (most : ℕ) : Type 0 where
+  -- the items are those that the grammar finds in the bytes
+  pub items : (s : Reading X O) (items : List StreamItem) (bytes : List ℕ) → StandsAfter stands trees most s items bytes → GivesItems base_table (no_deeper most s.limits) bytes items
+  -- which show no refusal
+  pub unrefused : (s : Reading X O) (items others : List StreamItem) (bytes : List ℕ) (R : Refusal) → StandsAfter stands trees most s items bytes → ¬ IsShown (no_deeper most s.limits) bytes others R
+  -- its types are those behind the items
+  pub types_behind : (s : Reading X O) (items : List StreamItem) (bytes : List ℕ) → StandsAfter stands trees most s items bytes → HasTypesBehind (no_deeper most s.limits) bytes items (types s.types)
+  -- and a count is the most that it takes beyond the limit for the stream
+  pub within : (s : Reading X O) (items : List StreamItem) (bytes : List ℕ) → StandsAfter stands trees most s items bytes → length bytes ≤ s.limits.stream + 9
+
+-- behind the items with which bytes begin there is one table of types
+abbrev pub HaveOneTable : Type 0
+HaveOneTable = (L : Bounds) (bytes : List ℕ) (items : List StreamItem) (T U : Table) → HasTypesBehind L bytes items T → HasTypesBehind L bytes items U → T ≡ U
+
+-- limits that are no deeper than a builder goes are the limits themselves
+abbrev pub StayLimits : Type 0
+StayLimits = (most : ℕ) (L : Bounds) → L.depth ≤ most → no_deeper most L ≡ L
+
 -- bytes have one outcome: one list of items, and one ending
 abbrev pub HaveOneOutcome : Type 0
 HaveOneOutcome = (L : Bounds) (bytes : List ℕ) (items others : List StreamItem) (e f : Ending)
     → Outcome base_table L bytes items e → Outcome base_table L bytes others f → (items ≡ others) × (e ≡ f)
+
+-- and no bytes are without one
+abbrev pub HaveAnOutcome : Type 0
+HaveAnOutcome = (L : Bounds) (bytes : List ℕ) → ¬ ((items : List StreamItem) (e : Ending) → ¬ Outcome base_table L bytes items e)
 
 -- what is refused behind a stream is no item
 abbrev pub RefuseNoItem : Type 0

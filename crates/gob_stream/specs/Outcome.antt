@@ -23,6 +23,11 @@ pub record GivesItems (base : Table) (L : Bounds) (bytes : List ℕ) (items : Li
   pub begins : BeginsWith base L bytes items
   pub longest : (others : List StreamItem) → BeginsWith base L bytes others → length others ≤ length items
 
+-- or with none that has more than one item more: of the items that they give, these are all but the last at most
+pub record GivesButLast (base : Table) (L : Bounds) (bytes : List ℕ) (items : List StreamItem) : Type 0 where
+  pub begins : BeginsWith base L bytes items
+  pub but_last : (others : List StreamItem) → BeginsWith base L bytes others → length others ≤ length items + 1
+
 -- z is what is there behind the stream: the next item is refused for what these bytes show
 pub data RefusesNext (base : Table) (L : Bounds) (T : Table) (offset : ℕ) (z : List ℕ) : Refusal → Type 0 where
   refused_count : {R : Refusal} → RefusesCount L offset z R → RefusesNext base L T offset z R

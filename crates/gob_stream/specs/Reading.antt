@@ -16,7 +16,7 @@ use Rattle.gob_stream.specs.Bounds.{Bounds}
 use Rattle.gob_stream.specs.Devices.{counts_up, Rose}
 use Rattle.gob_stream.specs.Item.{StreamItem, ItemsMean, ItemMeans}
 use Rattle.gob_stream.specs.Stream.{Stream}
-use Rattle.gob_stream.specs.Outcome.{BeginsWith, GivesItems, Outcome, the_end, refused}
+use Rattle.gob_stream.specs.Outcome.{GivesItems, GivesButLast, Outcome, the_end, refused}
 use Rattle.gob_stream.specs.Standing.{Standing, StandsAfter, no_deeper}
 
 -- of the bytes that were left, some were taken and these are left now
@@ -61,13 +61,22 @@ pub record HasTypesBeyond (L : Bounds) (bytes : List ℕ) (items : List StreamIt
   pub at_most_one : length more ≤ 1
   pub behind : HasTypesBehind L bytes (items ++ more) T
 
+-- so many of the bytes were taken, and of the items that these give, all but the last at most are these
+pub record GivesOfTaken (L : Bounds) (taken : ℕ) (bytes : List ℕ) (items : List StreamItem) : Type 0 where
+  pub front : List ℕ
+  pub rest : List ℕ
+  pub whole : bytes ≡ front ++ rest
+  pub taken_is : taken ≡ length front
+  pub given : GivesButLast base_table L front items
+
 -- what feeding a piece answers, where the items were given, to a session that had given the items before, of these bytes
 abbrev pub Feeds : {X O : Type 0} → (stands : Standing X) (trees : Standing TreeBuilder) (means : O → Tree → Type 0) (most : ℕ) (s s' : Reading X O) → List StreamItem → (bytes piece : List ℕ) → List (declared.Item O) → Result (Unit {0}) Fault → Type 0
 Feeds stands trees means most s s' items bytes piece given (Ok _) = GivesOn means given items (λ all. StandsAfter stands trees most s' all (bytes ++ piece))
 Feeds stands trees means most s s' items bytes piece given (Err (fault.Refused R)) =
     GivesOn means given items (λ all. IsShown (no_deeper most s.limits) (bytes ++ piece) all R × HasTypesBehind (no_deeper most s.limits) (bytes ++ piece) all (types s'.types)) × (length bytes < R.seen)
 Feeds stands trees means most s s' items bytes piece given (Err fault.Read) = ⊥
-Feeds stands trees means most s s' items bytes piece given (Err fault.Memory) = GivesOn means given items (λ all. HasTypesBeyond (no_deeper most s.limits) (bytes ++ piece) all (types s'.types))
+Feeds stands trees means most s s' items bytes piece given (Err fault.Memory) =
+    GivesOn means given items (λ all. GivesOfTaken (no_deeper most s.limits) s'.taken (bytes ++ piece) all × HasTypesBeyond (no_deeper most s.limits) (bytes ++ piece) all (types s'.types))
 Feeds stands trees means most s s' items bytes piece given (Err fault.Failed) = ⊥
 
 -- what finishing answers: nothing has changed at the end of a stream, else the bytes end within an item
@@ -107,7 +116,7 @@ pub data RefusesNextItem (L : Bounds) (items : List StreamItem) (bytes rest : Li
 abbrev pub StopsNext : Bounds → List StreamItem → (bytes rest : List ℕ) → Option (List ℕ) → Fault → Type 0
 StopsNext L items bytes rest now (fault.Refused R) = RefusesNextItem L items bytes rest now R
 StopsNext L items bytes rest now fault.Read = SomeTaken rest now (λ taken. GivesItems base_table L (bytes ++ taken) items)
-StopsNext L items bytes rest now fault.Memory = SomeTaken rest now (λ taken. BeginsWith base_table L (bytes ++ taken) items)
+StopsNext L items bytes rest now fault.Memory = SomeTaken rest now (λ taken. GivesButLast base_table L (bytes ++ taken) items)
 StopsNext L items bytes rest now fault.Failed = ⊥
 
 -- what reading the next item answers
@@ -128,7 +137,7 @@ abbrev pub ReadsStream : Bounds → List ℕ → Option (List ℕ) → List Stre
 ReadsStream L bytes now items (Ok _) = (T : Table) × Stream base_table L items bytes T × (now ≡ Some [])
 ReadsStream L bytes now items (Err (fault.Refused R)) = Outcome base_table L bytes items (refused R)
 ReadsStream L bytes now items (Err fault.Read) = SomeTaken bytes now (λ taken. GivesItems base_table L taken items)
-ReadsStream L bytes now items (Err fault.Memory) = BeginsWith base_table L bytes items
+ReadsStream L bytes now items (Err fault.Memory) = SomeTaken bytes now (λ taken. GivesButLast base_table L taken items)
 ReadsStream L bytes now items (Err fault.Failed) = ⊥
 
 -- a call answers `Read` exactly where a read failed in it, which ended the call

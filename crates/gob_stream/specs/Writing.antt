@@ -65,14 +65,23 @@ WroteNothing w w' old new = IsUnchanged w w' × Keeps old new
 -- what writing an item answers, for a writer that has written the items, over an output with the old bytes
 abbrev pub WritesItem : (w w' : StreamWriter) → List StreamItem → List ℕ → Table → StreamItem → (old new : Option (List ℕ)) → Result (Unit {0}) WriteFault → Type 0
 WritesItem w w' items bytes T i old new (Ok _) = WroteItem w w' items bytes T i old new
-WritesItem w w' items bytes T i old new (Err (fault.Refused r)) = RefusesItem base_table w.limits T (length bytes) i r × WroteNothing w w' old new
-WritesItem w w' items bytes T i old new (Err fault.Write) = WroteFront w.limits T (length bytes) i old new × (w'.failed ≡ true)
-WritesItem w w' items bytes T i old new (Err fault.Memory) = WroteNothing w w' old new
+WritesItem w w' items bytes T i old new (Err (fault.Refused r)) = RefusesItem base_table w.limits T (length bytes) i r
+WritesItem w w' items bytes T i old new (Err fault.Write) = WroteFront w.limits T (length bytes) i old new
+WritesItem w w' items bytes T i old new (Err fault.Memory) = Unit {0}
 WritesItem w w' items bytes T i old new (Err fault.Failed) = ⊥
 
 -- the same, whatever it has written
 abbrev pub WritesNext : (w w' : StreamWriter) → StreamItem → (old new : Option (List ℕ)) → Result (Unit {0}) WriteFault → Type 0
 WritesNext w w' i old new result = (items : List StreamItem) (bytes : List ℕ) (T : Table) → HasWritten w items bytes T → WritesItem w w' items bytes T i old new result
+
+-- what an answer leaves of any writer: after a refusal, or without memory, nothing went out and it is as before; after a
+-- failed write it writes no more
+abbrev pub Leaves : (w w' : StreamWriter) → (old new : Option (List ℕ)) → Result (Unit {0}) WriteFault → Type 0
+Leaves w w' old new (Ok _) = w'.failed ≡ false
+Leaves w w' old new (Err (fault.Refused r)) = WroteNothing w w' old new
+Leaves w w' old new (Err fault.Write) = w'.failed ≡ true
+Leaves w w' old new (Err fault.Memory) = WroteNothing w w' old new
+Leaves w w' old new (Err fault.Failed) = (w.failed ≡ true) × WroteNothing w w' old new
 
 -- what a writer answers whose write failed: it writes nothing for good
 abbrev pub AnswersFailed : (w w' : StreamWriter) → (old new : Option (List ℕ)) → Result (Unit {0}) WriteFault → Type 0

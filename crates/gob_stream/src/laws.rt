@@ -1,7 +1,8 @@
 //! Laws of streams. Each function does nothing: its contract is a law that is proved here, once.
 
 ghost use Rattle.gob_stream.specs.Laws.{HaveOneReading, BeginOneAnother, GiveOneList};
-ghost use Rattle.gob_stream.specs.Laws.{StayStreams, HaveOneOutcome, RefuseNoItem, StayShown};
+ghost use Rattle.gob_stream.specs.Laws.{StayStreams, HaveOneOutcome, HaveAnOutcome, RefuseNoItem, StayShown};
+ghost use Rattle.gob_stream.specs.Laws.{GivesWhatStands, HaveOneTable, StayLimits};
 ghost use Rattle.gob_stream.specs.Laws.{AreReadBack, ShowNoRefusal, AreReadBackInPieces};
 ghost use Rattle.gob_stream.specs.WriterRefusal.{HaveOneReason, AreNotCounted};
 
@@ -44,9 +45,26 @@ pub fn one_refusal()
     ensures not_counted { AreNotCounted }
 {}
 
-/// Bytes have one outcome: one list of items, and behind these one ending.
+/// What a session has given are the items that the grammar finds in the bytes so far, which show no refusal; its types
+/// are those behind the items.
+pub fn sessions_give_what_stands<B: Builder>()
+    ensures { GivesWhatStands B.Out B.stands ⟦<TreeBuilder as Builder>⟧.stands B.DEPTH }
+{}
+
+/// Behind the items with which bytes begin there is one table of types.
+pub fn items_have_one_table()
+    ensures { HaveOneTable }
+{}
+
+/// Limits that are no deeper than a builder goes are those that its session keeps to.
+pub fn limits_stay()
+    ensures { StayLimits }
+{}
+
+/// Bytes have one outcome under each limits: one list of items, and behind these one ending. None are without one.
 pub fn bytes_have_one_outcome()
-    ensures { HaveOneOutcome }
+    ensures one { HaveOneOutcome }
+    ensures some { HaveAnOutcome }
 {}
 
 /// What is refused behind a stream is no item there.

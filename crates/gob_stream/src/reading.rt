@@ -110,6 +110,7 @@ impl<B: Builder> Reading<B> {
         ensures usable { IsUsable B.stands ⟦<TreeBuilder as Builder>⟧.stands B.DEPTH self.new }
         ensures failed { OnErr result (self.new.stage ≡ Stage.Failed) }
         ensures types { OnErr result (self.new.types ≡ self.old.types) }
+        ensures taken { OnErr result (self.new.taken ≡ self.old.taken) }
         ensures limits { self.new.limits ≡ self.old.limits }
     {
         let stage = mem::replace(&mut self.stage, Stage::Failed);
@@ -141,6 +142,7 @@ impl<B: Builder> Reading<B> {
         ensures as_before { OnErr result (out.new.items ≡ out.old.items) }
         ensures failed { OnErr result (self.new.stage ≡ Stage.Failed) }
         ensures types { self.new.types ≡ self.old.types }
+        ensures taken { self.new.taken ≡ self.old.taken }
         ensures limits { self.new.limits ≡ self.old.limits }
     {
         if out.push(item).is_err() {

@@ -4,7 +4,7 @@ ghost use Rattle.std.specs.Prelude.{true, false, ◌≡◌, ◌+◌, ◌^◌, �
 ghost use Rattle.std.specs.Io.KnownBytes.{Appends};
 ghost use Rattle.gob_value.specs.View.{view};
 ghost use Rattle.gob_stream.specs.Item.{defines, puts, item_view};
-ghost use Rattle.gob_stream.specs.Writing.{IsNew, WritesNext, AnswersFailed, CountsWrites, SentFront};
+ghost use Rattle.gob_stream.specs.Writing.{IsNew, WritesNext, Leaves, AnswersFailed, CountsWrites, SentFront};
 
 use crate::fault::WriteFault;
 use crate::item::Item;
@@ -64,6 +64,8 @@ impl StreamWriter {
     ) -> Result<(), WriteFault>
         ensures writes { WritesNext self.old self.new (defines id (view described.now))
             (W.contents output.old.writer) (W.contents output.new.writer) result }
+        ensures leaves { Leaves self.old self.new
+            (W.contents output.old.writer) (W.contents output.new.writer) result }
         ensures failed { self.old.failed ≡ true →
             AnswersFailed self.old self.new (W.contents output.old.writer) (W.contents output.new.writer) result }
         ensures counted { CountsWrites output.old.failures output.new.failures result }
@@ -100,6 +102,8 @@ impl StreamWriter {
     ) -> Result<(), WriteFault>
         ensures writes { WritesNext self.old self.new (puts id (view value.now))
             (W.contents output.old.writer) (W.contents output.new.writer) result }
+        ensures leaves { Leaves self.old self.new
+            (W.contents output.old.writer) (W.contents output.new.writer) result }
         ensures failed { self.old.failed ≡ true →
             AnswersFailed self.old self.new (W.contents output.old.writer) (W.contents output.new.writer) result }
         ensures counted { CountsWrites output.old.failures output.new.failures result }
@@ -120,6 +124,8 @@ impl StreamWriter {
         item: &Item<Value>,
     ) -> Result<(), WriteFault>
         ensures writes { WritesNext self.old self.new (item_view item.now)
+            (W.contents output.old.writer) (W.contents output.new.writer) result }
+        ensures leaves { Leaves self.old self.new
             (W.contents output.old.writer) (W.contents output.new.writer) result }
         ensures failed { self.old.failed ≡ true →
             AnswersFailed self.old self.new (W.contents output.old.writer) (W.contents output.new.writer) result }

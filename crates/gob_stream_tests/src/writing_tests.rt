@@ -17,8 +17,15 @@ fn put(id: u64, value: Value) -> Item<Value> {
     }
 }
 
-// The items that are documented of the basic types.
-fn basic_items(alloc: Global) -> Result<Vec<Item<Value>>, Fail> {
+fn define(id: u64, described: Value) -> Item<Value> {
+    Item::Define {
+        id: TypeId(id),
+        described,
+    }
+}
+
+// The documented items: of the basic types, and the type Point with Point { 22, 33 }.
+fn documented(alloc: Global) -> Result<Vec<Item<Value>>, Fail> {
     let pattern = 0x4031000000000000;
     let mut items = Vec::new(alloc);
     items.push(put(1, Value::Bool(true)))?;
@@ -29,49 +36,55 @@ fn basic_items(alloc: Global) -> Result<Vec<Item<Value>>, Fail> {
     items.push(put(5, Value::Bytes([0x00, 0xff].to_vec(alloc)?)))?;
     items.push(put(6, Value::Str([0xff].to_vec(alloc)?)))?;
     items.push(put(7, Value::Complex(pattern, 0)))?;
+    items.push(define(65, described_point(alloc)?))?;
+    items.push(put(65, two_fields(alloc, Value::Int(22), Value::Int(33))?))?;
     Ok(items)
 }
 
-// The bytes of each.
-const BASIC_BYTES: &str = "03 02 00 01
+// And their bytes.
+const DOCUMENTED: &str = "03 02 00 01
     03 04 00 06
     0b 04 00 f8 ff ff ff ff ff ff ff ff
     03 06 00 07
     05 08 00 fe 31 40
     05 0a 00 02 00 ff
     04 0c 00 01 ff
-    06 0e 00 fe 31 40 00";
+    06 0e 00 fe 31 40 00
+    POINT
+    07 ff 82 01 2c 01 42 00";
 
 #[test]
 fn items_are_the_documented_bytes(rt: HostRuntime) -> Result<(), Fail> {
-    let items = basic_items(rt.alloc())?;
+    let items = documented(rt.alloc())?;
     let mut device = Device::slow(rt.alloc(), 0, Wrong::Nothing);
     let mut output = Output::new(&mut device);
     let answer = write_stream(rt.alloc(), &mut output, &items, Limits::standard());
-    let wanted = bytes_of(rt.alloc(), BASIC_BYTES)?;
-    assert_eq!(rt; answer, Ok(()));
-    assert!(rt; device.taken == wanted);
+    let wanted = bytes_of(rt.alloc(), DOCUMENTED)?;
+    assert!(rt; answer.is_ok() && device.taken == wanted);
     Ok(())
 }
 
 #[test]
-fn a_writer_goes_on_after_a_refusal(rt: HostRuntime) -> Result<(), Fail> {
+fn writers_go_on_after_a_refusal_alone(rt: HostRuntime) -> Result<(), Fail> {
+    let refused = Err(WriteFault::Refused(Reason::DoesNotFit));
+    let failed = Err(WriteFault::Failed);
     let mut device = Device::sound(rt.alloc());
     let answers = write_four(rt.alloc(), &mut device, Value::Int(3))?;
-    let refused = Err(WriteFault::Refused(Reason::DoesNotFit));
-    assert_eq!(rt; answers, [Ok(()), refused, refused, Ok(())]);
-    let wanted: &[u8] = b"\x03\x04\x00\x06\x03\x04\x00\x06";
-    assert_eq!(rt; device.taken.as_slice(), wanted);
-    Ok(())
-}
-
-#[test]
-fn a_writer_that_failed_writes_no_more(rt: HostRuntime) -> Result<(), Fail> {
+    assert!(rt; answers == [Ok(()), refused, refused, Ok(())], "a refusal");
+    assert!(rt;
+        device.taken.as_slice() == b"\x03\x04\x00\x06\x03\x04\x00\x06".as_slice(),
+        "a refusal"
+    );
     let mut device = Device::slow(rt.alloc(), 3, Wrong::Broken);
     let answers = write_four(rt.alloc(), &mut device, Value::Int(3))?;
-    let failed = Err(WriteFault::Failed);
-    assert_eq!(rt; answers, [Err(WriteFault::Write), failed, failed, failed]);
-    assert_eq!(rt; device.taken.as_slice(), [0x03, 0x04].as_slice());
+    assert!(rt;
+        answers == [Err(WriteFault::Write), failed, failed, failed],
+        "a failed write"
+    );
+    assert!(rt;
+        device.taken.as_slice() == b"\x03\x04".as_slice(),
+        "a failed write"
+    );
     Ok(())
 }
 
@@ -187,7 +200,7 @@ fn limits_are_kept(rt: HostRuntime) -> Result<(), Fail> {
 
 // A description or a value, in short.
 #[derive(Clone, Copy)]
-enum Told {
+enum Short {
     // So many lists in one another, round a number.
     Lists(u64),
     Nil,
@@ -197,12 +210,12 @@ enum Told {
     Array(i64, i64, i64),
 }
 
-fn made(alloc: Global, told: Told) -> Result<Value, AllocError> {
-    match told {
-        Told::Lists(depth) => lists(alloc, depth),
-        Told::Nil => Ok(Value::Nil),
-        Told::NoField => Ok(Value::Fields(Vec::new(alloc))),
-        Told::Array(id, elem, len) => described_array(alloc, id, elem, len),
+fn value_of(alloc: Global, short: Short) -> Result<Value, AllocError> {
+    match short {
+        Short::Lists(depth) => lists(alloc, depth),
+        Short::Nil => Ok(Value::Nil),
+        Short::NoField => Ok(Value::Fields(Vec::new(alloc))),
+        Short::Array(id, elem, len) => described_array(alloc, id, elem, len),
     }
 }
 
@@ -224,115 +237,142 @@ fn described_array(alloc: Global, id: i64, elem: i64, len: i64) -> Result<Value,
     one_field(alloc, 0, Value::Fields(array))
 }
 
-#[test]
-fn a_value_too_deep_is_refused_as_that(rt: HostRuntime) -> Result<(), Fail> {
-    let limits = Limits::new(100, 2, 0, 100).ok_or("no limits")?;
-    for depth in 1..4 {
-        let value = lists(rt.alloc(), depth)?;
-        let reason = if depth > 1 {
-            Reason::TooDeep
-        } else {
-            Reason::DoesNotFit
-        };
-        let answer = put_one(rt.alloc(), limits, &value);
-        assert_eq!(rt; answer, Err(WriteFault::Refused(reason)), "{depth} lists");
-    }
-    Ok(())
-}
-
-// Writes the value as an int.
-fn put_one(alloc: Global, limits: Limits, value: &Value) -> Result<(), WriteFault> {
-    let mut output = Output::new(Device::sound(alloc));
-    let mut writer = StreamWriter::new(alloc, limits)?;
-    writer.put(alloc, &mut output, TypeId(2), value)
-}
-
-// A definition behind that of type 65: the limits for items, for types and for the stream, its id, what describes it,
-// and why it is refused. Where several reasons hold, the first is given.
+// What is refused behind the definition of type 65 as an array of one element of some type, under a depth of 4: the limits
+// for items, for types and for the stream; the type of the element; what is written and why it is refused. Where several
+// reasons hold, the first is given.
 #[derive(Clone, Copy)]
-struct Definition(u64, u64, u64, u64, Told, Reason);
+struct Refused(Bounds, i64, Told, Reason);
 
-const DEFINITIONS: [Definition; 13] = [
-    Definition(
-        99,
-        1,
-        99,
+#[derive(Clone, Copy)]
+struct Bounds(u64, u64, u64);
+
+const FULL: Bounds = Bounds(99, 1, 99);
+
+const WIDE: Bounds = Bounds(99, 2, 99);
+
+const REFUSED: [Refused; 24] = [
+    Refused(
+        FULL,
         2,
-        Told::Lists(4),
+        Told::Define(2, Short::Lists(4)),
         Reason::ReservedType(TypeId(2)),
     ),
-    Definition(99, 2, 99, 63, Told::Nil, Reason::ReservedType(TypeId(63))),
-    Definition(
-        99,
+    Refused(
+        WIDE,
         2,
-        99,
-        2147483648,
-        Told::Nil,
+        Told::Define(63, Short::Nil),
+        Reason::ReservedType(TypeId(63)),
+    ),
+    Refused(
+        WIDE,
+        2,
+        Told::Define(2147483648, Short::Nil),
         Reason::ReservedType(TypeId(2147483648)),
     ),
-    Definition(
-        99,
-        1,
-        99,
-        65,
-        Told::Lists(4),
+    Refused(
+        FULL,
+        2,
+        Told::Define(65, Short::Lists(4)),
         Reason::DefinedTwice(TypeId(65)),
     ),
-    Definition(99, 1, 99, 66, Told::Lists(4), Reason::TooManyTypes),
-    Definition(99, 2, 99, 66, Told::Lists(4), Reason::TooDeep),
-    Definition(99, 2, 99, 66, Told::Nil, Reason::DoesNotFit),
-    Definition(99, 2, 99, 66, Told::NoField, Reason::KindCount),
-    Definition(99, 2, 99, 66, Told::Array(67, 24, -1), Reason::WrongId),
-    Definition(99, 2, 99, 66, Told::Array(66, 24, -1), Reason::BadReference),
-    Definition(14, 2, 99, 66, Told::Array(66, 2, -1000), Reason::BadLength),
-    Definition(
-        14,
+    Refused(
+        FULL,
         2,
-        33,
-        66,
-        Told::Array(66, 2147483647, 1),
+        Told::Define(66, Short::Lists(4)),
+        Reason::TooManyTypes,
+    ),
+    Refused(WIDE, 2, Told::Define(66, Short::Lists(4)), Reason::TooDeep),
+    Refused(WIDE, 2, Told::Define(66, Short::Nil), Reason::DoesNotFit),
+    Refused(WIDE, 2, Told::Define(66, Short::NoField), Reason::KindCount),
+    Refused(
+        WIDE,
+        2,
+        Told::Define(66, Short::Array(67, 24, -1)),
+        Reason::WrongId,
+    ),
+    Refused(
+        WIDE,
+        2,
+        Told::Define(66, Short::Array(66, 24, -1)),
+        Reason::BadReference,
+    ),
+    Refused(
+        Bounds(14, 2, 99),
+        2,
+        Told::Define(66, Short::Array(66, 2, -1000)),
+        Reason::BadLength,
+    ),
+    Refused(
+        Bounds(14, 2, 33),
+        2,
+        Told::Define(66, Short::Array(66, 2147483647, 1)),
         Reason::ItemTooLong,
     ),
-    Definition(
-        18,
+    Refused(
+        Bounds(18, 2, 33),
         2,
-        33,
-        66,
-        Told::Array(66, 2147483647, 1),
+        Told::Define(66, Short::Array(66, 2147483647, 1)),
         Reason::StreamTooLong,
     ),
+    Refused(
+        FULL,
+        2,
+        Told::Put(0, Short::Lists(4)),
+        Reason::UndefinedType(TypeId(0)),
+    ),
+    Refused(
+        FULL,
+        2,
+        Told::Put(24, Short::Lists(4)),
+        Reason::UndefinedType(TypeId(24)),
+    ),
+    Refused(
+        FULL,
+        2,
+        Told::Put(66, Short::Lists(4)),
+        Reason::UndefinedType(TypeId(66)),
+    ),
+    Refused(
+        FULL,
+        66,
+        Told::Put(65, Short::Lists(4)),
+        Reason::UndefinedType(TypeId(66)),
+    ),
+    Refused(
+        FULL,
+        65,
+        Told::Put(65, Short::Lists(4)),
+        Reason::Bottomless(TypeId(65)),
+    ),
+    Refused(FULL, 2, Told::Put(65, Short::Lists(4)), Reason::TooDeep),
+    Refused(FULL, 2, Told::Put(65, Short::Nil), Reason::DoesNotFit),
+    Refused(FULL, 2, Told::Put(16, Short::Nil), Reason::DoesNotFit),
+    Refused(FULL, 2, Told::Put(2, Short::Lists(3)), Reason::DoesNotFit),
+    Refused(FULL, 2, Told::Put(2, Short::Lists(4)), Reason::TooDeep),
+    Refused(FULL, 2, Told::Put(2, Short::Lists(9)), Reason::TooDeep),
 ];
 
-// A value behind a definition of type 65 as an array of one such element: the type of the element, that of the value,
-// the value, and why it is refused.
+// An item, in short.
 #[derive(Clone, Copy)]
-struct Refused(i64, u64, Told, Reason);
+enum Told {
+    Define(u64, Short),
+    Put(u64, Short),
+}
 
-const REFUSED: [Refused; 8] = [
-    Refused(2, 0, Told::Lists(4), Reason::UndefinedType(TypeId(0))),
-    Refused(2, 24, Told::Lists(4), Reason::UndefinedType(TypeId(24))),
-    Refused(2, 66, Told::Lists(4), Reason::UndefinedType(TypeId(66))),
-    Refused(66, 65, Told::Lists(4), Reason::UndefinedType(TypeId(66))),
-    Refused(65, 65, Told::Lists(4), Reason::Bottomless(TypeId(65))),
-    Refused(2, 65, Told::Lists(4), Reason::TooDeep),
-    Refused(2, 65, Told::Nil, Reason::DoesNotFit),
-    Refused(2, 16, Told::Nil, Reason::DoesNotFit),
-];
+fn item_of(alloc: Global, told: Told) -> Result<Item<Value>, AllocError> {
+    match told {
+        Told::Define(id, described) => Ok(define(id, value_of(alloc, described)?)),
+        Told::Put(id, value) => Ok(put(id, value_of(alloc, value)?)),
+    }
+}
 
-// Whether the definition of type 65 as an array of one such element goes out, and the item behind it is refused so.
-fn is_refused(
-    alloc: Global,
-    limits: Limits,
-    elem: i64,
-    item: Item<Value>,
-    reason: Reason,
-) -> Result<bool, Fail> {
+// Whether it is refused so, and the definition before it is all that goes out.
+fn is_refused(alloc: Global, row: Refused) -> Result<bool, Fail> {
+    let Refused(Bounds(item, types, stream), elem, told, reason) = row;
+    let limits = Limits::new(item, 4, types, stream).ok_or("no limits")?;
     let mut items = Vec::new(alloc);
-    items.push(Item::Define {
-        id: TypeId(65),
-        described: described_array(alloc, 65, elem, 1)?,
-    })?;
-    items.push(item)?;
+    items.push(define(65, described_array(alloc, 65, elem, 1)?))?;
+    items.push(item_of(alloc, told)?)?;
     let mut device = Device::sound(alloc);
     let mut output = Output::new(&mut device);
     let answer = write_stream(alloc, &mut output, &items, limits);
@@ -340,29 +380,9 @@ fn is_refused(
 }
 
 #[test]
-fn definitions_are_refused_by_the_first_reason(rt: HostRuntime) -> Result<(), Fail> {
-    let alloc = rt.alloc();
-    for Definition(most, types, stream, id, told, reason) in DEFINITIONS {
-        let limits = Limits::new(most, 4, types, stream).ok_or("no limits")?;
-        let item = Item::Define {
-            id: TypeId(id),
-            described: made(alloc, told)?,
-        };
-        assert!(rt; is_refused(alloc, limits, 2, item, reason)?, "{reason}");
-    }
-    Ok(())
-}
-
-#[test]
-fn values_are_refused_by_the_first_reason(rt: HostRuntime) -> Result<(), Fail> {
-    let alloc = rt.alloc();
-    let limits = Limits::new(99, 4, 1, 99).ok_or("no limits")?;
-    for Refused(elem, id, told, reason) in REFUSED {
-        let item = put(id, made(alloc, told)?);
-        assert!(rt;
-            is_refused(alloc, limits, elem, item, reason)?,
-            "type {id}: {reason}"
-        );
+fn items_are_refused_by_the_first_reason(rt: HostRuntime) -> Result<(), Fail> {
+    for (i, row) in REFUSED.iter().enumerate() {
+        assert!(rt; is_refused(rt.alloc(), *row)?, "row {i}");
     }
     Ok(())
 }
@@ -394,28 +414,4 @@ fn described_point(alloc: Global) -> Result<Value, AllocError> {
     fields.push(named(alloc, b"Y", 2)?)?;
     let point = two_fields(alloc, named(alloc, b"Point", 65)?, Value::Many(fields))?;
     one_field(alloc, 2, point)
-}
-
-// Go's documented example: the type Point, and Point { 22, 33 }.
-fn point(alloc: Global) -> Result<Vec<Item<Value>>, Fail> {
-    let mut items = Vec::new(alloc);
-    items.push(Item::Define {
-        id: TypeId(65),
-        described: described_point(alloc)?,
-    })?;
-    items.push(put(65, two_fields(alloc, Value::Int(22), Value::Int(33))?))?;
-    Ok(items)
-}
-
-#[test]
-fn the_documented_example_is_written(rt: HostRuntime) -> Result<(), Fail> {
-    let items = point(rt.alloc())?;
-    let mut device = Device::sound(rt.alloc());
-    let mut output = Output::new(&mut device);
-    let answer = write_stream(rt.alloc(), &mut output, &items, Limits::standard());
-    let wanted = bytes_of(rt.alloc(), "POINT 07 ff 82 01 2c 01 42 00")?;
-    assert_eq!(rt; answer, Ok(()));
-    assert!(rt; device.taken == wanted);
-    assert_eq!(rt; device.calls, 2);
-    Ok(())
 }

@@ -4,6 +4,5 @@ pub mod WrittenLaws
 pub mod WordLaws
 pub mod FrontLaws
 pub mod LinesStay
-pub mod BoundLaws
 pub mod GatherLaws
 pub mod ShowLaws

@@ -21,9 +21,7 @@ use Rattle.gob_stream.specs.Item.{StreamItem, item_views, ItemsMean, mean_none, 
 use Rattle.gob_stream.specs.Stream.{Stream, no_more}
 use Rattle.gob_stream.specs.Outcome.{BeginsWith, the_end, EndsSo, at_the_end}
 use Rattle.gob_stream.specs.Reading.{GivesOn, SomeTaken, Taken, HasTypesBehind, HasTypesBeyond, IsShown, Feeds, Finishes}
-use Rattle.gob_stream.proofs.OutcomeLaws.{one_front}
-use Rattle.gob_stream.proofs.StayLaws.{shown_there, shown_refusal_stays}
-use Rattle.gob_stream.proofs.UnderWayLaws.{after_gives}
+use Rattle.gob_stream.proofs.PublicLaws.{after_gives, one_table, shown_there, shown_refusal_stays, stands_within}
 use Rattle.gob_tool.specs.declared.fault.ToolFault.{ToolFault}
 use Rattle.gob_tool.specs.declared.fault.ToolFault.TheVariants as fault
 use Rattle.gob_tool.specs.Line.{lines}
@@ -31,21 +29,21 @@ use Rattle.gob_tool.specs.Fault.{reading_fault}
 use Rattle.gob_tool.specs.Showing.{EndsWhole, IsRefused, Gives, Begins, Runs, AppendsFront}
 use Rattle.gob_tool.specs.Gathering.{Gathered, GaveItems, StandsBehind, StandsIn, PassesSome, Gathers, TakesPiece, CountsOnlyReads, within_trees}
 use Rattle.gob_tool.proofs.LinesStay.{lines_stay, first_items}
-use Rattle.gob_tool.proofs.BoundLaws.{stands_within}
 use Rattle.gob_tool.proofs.GatherLaws.{lines_append}
 
 -- ---- lines of the items of a stream
+pub lines_once : {L : Bounds} {U V : Table} {f g : List ℕ} (items : List StreamItem) (x y : List ℕ) → Stream base_table L items f U → Stream base_table L items g V → f ++ x ≡ g ++ y
+    → lines V items ≡ lines U items
+lines_once {L = L} {U = U} {V = V} {f = f} {g = g} items x y p q e =
+    let one = one_table L (f ++ x) items U V (record { front = f; rest = x; stream = p; whole = refl }) (record { front = g; rest = y; stream = q; whole = e }) in
+    ap (λ (T : Table). lines T items) (sym one)
+
 -- bytes begin with a stream and with a longer one: the lines of the first items are the same by the types behind either
 pub same_lines : {L : Bounds} {U V : Table} {f g : List ℕ} (items others : List StreamItem) (x y : List ℕ) → Stream base_table L items f U → Stream base_table L (items ++ others) g V → f ++ x ≡ g ++ y
     → lines V items ≡ lines U items
 same_lines items others x y p q e =
     let t = first_items items others q in
-    let one = one_front x (t.rest ++ y) p t.stream (e ∙ ap (λ (l : List ℕ). l ++ y) t.whole ∙ append_assoc t.front t.rest y) in
-    lines_stay t.stream t.keeps ∙ ap (λ (T : Table). lines T items) (sym one.table)
-
-pub lines_once : {L : Bounds} {U V : Table} {f g : List ℕ} (items : List StreamItem) (x y : List ℕ) → Stream base_table L items f U → Stream base_table L items g V → f ++ x ≡ g ++ y
-    → lines V items ≡ lines U items
-lines_once items x y p q e = let one = one_front x y p q e in ap (λ (T : Table). lines T items) (sym one.table)
+    lines_stay t.stream t.keeps ∙ lines_once items x (t.rest ++ y) p t.stream (e ∙ ap (λ (l : List ℕ). l ++ y) t.whole ∙ append_assoc t.front t.rest y)
 
 -- the bytes begin with the stream of the items and perhaps of more, and these are the types behind all of them
 record TypesBehind (L : Bounds) (bytes : List ℕ) (items : List StreamItem) (T : Table) : Type 0 where
@@ -149,7 +147,7 @@ module _ (s s' : Reading TreeBuilder Value) (bytes piece : List ℕ) (given : Li
   }
   fed_types (Err (reading.Refused R)) f = record { more = f.0.more; mean = f.0.mean; holds = types_behind f.0.holds.1 }
   fed_types (Err reading.Read) f = absurd f
-  fed_types (Err reading.Memory) f = record { more = f.more; mean = f.mean; holds = types_beyond f.holds }
+  fed_types (Err reading.Memory) f = record { more = f.more; mean = f.mean; holds = types_beyond f.holds.1 }
   fed_types (Err reading.Failed) f = absurd f
 
   -- what was gathered before, by the types of now
@@ -206,7 +204,7 @@ module _ (s s' : Reading TreeBuilder Value) (bytes piece : List ℕ) (given : Li
         shown.shown,
       )
   piece_refused reading.Read f p = absurd f
-  piece_refused reading.Memory f p = let t = types_beyond f.holds in begins_at (Gathered old new after) t (all_gathered f.more (views_mean f.mean) t p)
+  piece_refused reading.Memory f p = let t = types_beyond f.holds.1 in begins_at (Gathered old new after) t (all_gathered f.more (views_mean f.mean) t p)
   piece_refused reading.Failed f p = absurd f
 
 -- ---- from piece to piece

@@ -89,6 +89,46 @@ impl Reason {
             Reason::DoesNotFit => 23,
         }
     }
+
+    // The reason's name, which is that of its variant.
+    fn name(&self) -> &'static str {
+        match self {
+            Reason::BadHead => "BadHead",
+            Reason::NotMinimal => "NotMinimal",
+            Reason::ItemTooLong => "ItemTooLong",
+            Reason::StreamTooLong => "StreamTooLong",
+            Reason::Short => "Short",
+            Reason::Extra => "Extra",
+            Reason::ReservedType(_) => "ReservedType",
+            Reason::DefinedTwice(_) => "DefinedTwice",
+            Reason::TooManyTypes => "TooManyTypes",
+            Reason::UndefinedType(_) => "UndefinedType",
+            Reason::Bottomless(_) => "Bottomless",
+            Reason::SingleTag => "SingleTag",
+            Reason::Bool => "Bool",
+            Reason::ArrayCount => "ArrayCount",
+            Reason::FieldNumber => "FieldNumber",
+            Reason::InterfaceValue => "InterfaceValue",
+            Reason::TooDeep => "TooDeep",
+            Reason::KindCount => "KindCount",
+            Reason::WrongId => "WrongId",
+            Reason::BadReference => "BadReference",
+            Reason::BadLength => "BadLength",
+            Reason::Ended => "Ended",
+            Reason::DoesNotFit => "DoesNotFit",
+        }
+    }
+
+    // The type that it speaks of.
+    fn id(&self) -> Option<TypeId> {
+        match self {
+            Reason::ReservedType(id)
+            | Reason::DefinedTwice(id)
+            | Reason::UndefinedType(id)
+            | Reason::Bottomless(id) => Some(*id),
+            _ => None,
+        }
+    }
 }
 
 impl fmt::Display for Reason {
@@ -98,30 +138,10 @@ impl fmt::Display for Reason {
     ghost output = { λ reason. Some (reason_text reason) };
 
     fn fmt<W: fmt::Write>(&self, f: &mut fmt::Formatter<W>) -> fmt::Result {
-        match self {
-            Reason::BadHead => write!(f, "BadHead"),
-            Reason::NotMinimal => write!(f, "NotMinimal"),
-            Reason::ItemTooLong => write!(f, "ItemTooLong"),
-            Reason::StreamTooLong => write!(f, "StreamTooLong"),
-            Reason::Short => write!(f, "Short"),
-            Reason::Extra => write!(f, "Extra"),
-            Reason::ReservedType(id) => write!(f, "ReservedType({id})"),
-            Reason::DefinedTwice(id) => write!(f, "DefinedTwice({id})"),
-            Reason::TooManyTypes => write!(f, "TooManyTypes"),
-            Reason::UndefinedType(id) => write!(f, "UndefinedType({id})"),
-            Reason::Bottomless(id) => write!(f, "Bottomless({id})"),
-            Reason::SingleTag => write!(f, "SingleTag"),
-            Reason::Bool => write!(f, "Bool"),
-            Reason::ArrayCount => write!(f, "ArrayCount"),
-            Reason::FieldNumber => write!(f, "FieldNumber"),
-            Reason::InterfaceValue => write!(f, "InterfaceValue"),
-            Reason::TooDeep => write!(f, "TooDeep"),
-            Reason::KindCount => write!(f, "KindCount"),
-            Reason::WrongId => write!(f, "WrongId"),
-            Reason::BadReference => write!(f, "BadReference"),
-            Reason::BadLength => write!(f, "BadLength"),
-            Reason::Ended => write!(f, "Ended"),
-            Reason::DoesNotFit => write!(f, "DoesNotFit"),
+        let name = self.name();
+        match self.id() {
+            Some(id) => write!(f, "{name}({id})"),
+            None => f.write_str(name),
         }
     }
 }

@@ -9,6 +9,7 @@ pub mod WrittenSteps
 pub mod PrefixLaws
 pub mod UniqueLaws
 pub mod StayLaws
+pub mod BytesLaws
 pub mod DescriptionSteps
 pub mod JudgedLaws
 pub mod DescribedLaws

@@ -8,6 +8,7 @@ pub mod Elements
 pub mod Written
 pub mod Faults
 pub mod Laws
+pub mod Bytes
 pub mod Description
 pub mod Described
 pub mod Saying

@@ -1,5 +1,6 @@
 -- A value of a stream: a part, with the parts in it. A presence is part of it: a field that is present with its zero
--- value isn't an absent one. (Go's encoding/gob documentation, Types and Values; docs/FORMAT.md, Values.)
+-- value isn't an absent one. Byte strings are lists of naturals here; those of a stream have numbers below 256
+-- (`HoldsBytes`). (Go's encoding/gob documentation, Types and Values; docs/FORMAT.md, Values.)
 use Rattle.std.specs.Prelude.{ℕ, ℤ, ◌+◌, max, List, Bool}
 
 mutual

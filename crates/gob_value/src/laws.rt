@@ -3,6 +3,7 @@
 ghost use Rattle.gob_value.specs.Spelling.{Spells};
 ghost use Rattle.gob_value.specs.Top.{SpellsTop};
 ghost use Rattle.gob_value.specs.Laws.{EndByThemselves, AreOne, HaveOneValue, StaySpelled, AreNoMore};
+ghost use Rattle.gob_value.specs.Bytes.{ConsistOfBytes};
 
 /// No spelling of a value begins another one of its type, so a reader knows where it ends.
 pub fn spellings_begin_no_other()
@@ -28,4 +29,11 @@ pub fn spellings_stay()
     ensures top { StaySpelled SpellsTop }
     ensures no_more { AreNoMore Spells }
     ensures no_more_top { AreNoMore SpellsTop }
+{}
+
+/// A spelling consists of bytes, numbers below 256, exactly where the byte strings in its value do, as those of a
+/// [`Value`](crate::Value) always do. (The definitions have naturals for both.)
+pub fn spellings_are_bytes()
+    ensures value { ConsistOfBytes Spells }
+    ensures top { ConsistOfBytes SpellsTop }
 {}

@@ -1,10 +1,12 @@
-//! The tidy form of a value. Recursion is as deep as the value, at most 1000.
+//! The tidy form of a value. Recursion is as deep as the value.
 
 ghost use Rattle.std.specs.Prelude.{◌↔◌, IsTrue, IfOk};
 ghost use Rattle.gob_value.specs.View.{view, views, pair_views, field_views};
 ghost use Rattle.gob_value.specs.Tidy.{Tidies, IsZero, IsDropped, HasTidyForm, HasTidyFormAs};
 ghost use Rattle.gob_value.specs.Tidy.{HaveTidyForms, HaveTidyPairs, HaveTidyFields};
 ghost use Rattle.gob_value.specs.Tidied.{IsTidied, IsTidiedAs, AreTidied, PairsTidied, FieldsTidied};
+ghost use Rattle.gob_value.specs.Tree.{depth};
+ghost use Rattle.gob_value.specs.Fits.{Fits};
 ghost use Rattle.gob_value.specs.Within.{FitsWithin};
 
 use crate::value::Value;
@@ -16,12 +18,12 @@ use std::alloc::Global;
 /// uint, float, complex, []byte, string and slice that are 0, false or empty. All else is kept: fields of other
 /// types, whatever they hold, and each element of a list or a map. (docs/FORMAT.md, Tidy form.)
 ///
-/// The value fits the type and is at most 1000 deep; so does and is its tidy form. Byte strings are moved and not
-/// copied. After `Memory` the value is dropped.
+/// The value fits the type, however deep it is; so does its tidy form, which is no deeper. Byte strings are moved and
+/// not copied. After `Memory` the value is dropped.
 pub fn tidy<S: Shapes>(alloc: Global, shapes: &S, id: TypeId, value: Value) -> Result<Value, Memory>
-    requires { FitsWithin (S.table shapes.now) id 1000 (view value) }
+    requires { Fits (S.table shapes.now) id (view value) }
     ensures tidy { IfOk result (λ tidied. Tidies (S.table shapes.now) id (view value) (view tidied)) }
-    ensures fits { IfOk result (λ tidied. FitsWithin (S.table shapes.now) id 1000 (view tidied)) }
+    ensures fits { IfOk result (λ tidied. FitsWithin (S.table shapes.now) id (depth (view value)) (view tidied)) }
 {
     tidy_type(alloc, shapes, id, value)
 }

@@ -1,9 +1,9 @@
 use Rattle.std.proofs.Common.{subst, length, refl}
 use Rattle.std.proofs.lemmas.Option.{slice_get_read}
 use Rattle.gob_match.specs.declared.step.Step.TheVariants as step
-use Rattle.gob_match.specs.Search.{AddsPairs}
-use Rattle.gob_match.proofs.FoundLaws.{IsStepTo}
+use Rattle.gob_match.specs.Machine.Search.{AddsPairs}
 use Rattle.gob_match.proofs.ConversionLaws.{adds_next, adds_all}
+use Rattle.gob_match.proofs.FoundLaws.{IsStepTo}
 use Rattle.gob_match.proofs.adding.add_fields.Goals as goal
 
 pub loop-field-preserved : goal.loop-field-preserved

@@ -1,4 +1,4 @@
-use Rattle.gob_match.specs.Search.{AddsPairs}
+use Rattle.gob_match.specs.Machine.Search.{AddsPairs}
 use Rattle.gob_match.proofs.ConversionLaws.{IsAmongFirst}
 use Rattle.gob_match.proofs.adding.add_fields.Given as goal
 

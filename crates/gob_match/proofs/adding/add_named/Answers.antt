@@ -1,6 +1,6 @@
 use Rattle.std.proofs.Common.{subst, sym}
-use Rattle.gob_match.specs.Search.{AddsPairs}
-use Rattle.gob_match.specs.Conversions.{ConversionNames}
+use Rattle.gob_match.specs.Machine.Conversions.{ConversionNames}
+use Rattle.gob_match.specs.Machine.Search.{AddsPairs}
 use Rattle.gob_match.proofs.ConversionLaws.{adds_joined}
 use Rattle.gob_match.proofs.adding.add_named.Goals as goal
 

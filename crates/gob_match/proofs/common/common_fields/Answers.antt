@@ -1,6 +1,6 @@
 use Rattle.std.proofs.Common.{◌≡◌, ℕ, List, length, refl, sym, ap, Contains, subst, Some, arith}
-use Rattle.std.specs.Prelude.{slice_get}
 use Rattle.std.proofs.lemmas.Option.{slice_get_read}
+use Rattle.std.specs.Prelude.{slice_get}
 use Rattle.gob_match.specs.declared.common.CommonField.{CommonField}
 use Rattle.gob_match.specs.Pairs.{of_types}
 use Rattle.gob_match.proofs.NameLaws.{CommonSoFar, common_none, common_missing, common_next, common_all, no_field}

@@ -1,6 +1,6 @@
 use Rattle.std.proofs.Common.{inl, inr}
+use Rattle.gob_match.specs.Machine.Struct.{AreNames}
 use Rattle.gob_match.specs.Matching.{name_repeated}
-use Rattle.gob_match.specs.Struct.{AreNames}
 use Rattle.gob_match.proofs.KindLaws.{repeated}
 use Rattle.gob_match.proofs.kinds.match_fields.Goals as goal
 

@@ -1,10 +1,10 @@
 use Rattle.std.proofs.Common.{refl, sym, subst, arith}
-use Rattle.gob_match.specs.Pairs.{of_types}
-use Rattle.gob_match.specs.Exploring.{IsExploreFault}
 use Rattle.gob_match.specs.Clashing.{IsLeastClash}
-use Rattle.gob_match.specs.Search.{IsPathTo}
-use Rattle.gob_match.proofs.SearchLaws.{Searched, searched_start, searched_on, searched_match, searched_least}
+use Rattle.gob_match.specs.Machine.Exploring.{IsExploreFault}
+use Rattle.gob_match.specs.Machine.Search.{IsPathTo}
+use Rattle.gob_match.specs.Pairs.{of_types}
 use Rattle.gob_match.proofs.ConversionLaws.{conversions_none, conversions_on, matched, converts_match}
+use Rattle.gob_match.proofs.SearchLaws.{Searched, searched_start, searched_on, searched_match, searched_least}
 use Rattle.gob_match.proofs.matching.match_types.Goals as goal
 
 pub loop-next-init : goal.loop-next-init

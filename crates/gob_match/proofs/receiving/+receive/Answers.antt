@@ -1,16 +1,14 @@
-use Rattle.std.proofs.Common.{◌≡◌, List, [], ◌∷◌, append-nil, length, arith, rules, refl, sym, ap, subst}
-use Rattle.std.specs.Prelude.{slice_get, Some}
+use Rattle.std.proofs.Common.{[], ◌∷◌, append-nil, length, arith, rules, refl, sym, subst}
 use Rattle.std.proofs.lemmas.Option.{slice_get_read}
+use Rattle.gob_value.specs.declared.value.Value.{the_lemmas}
 use Rattle.gob_value.specs.Fits.{Fits}
-use Rattle.gob_value.specs.View.{view, views, pair_views, field_views}
-use Rattle.gob_value.specs.declared.value.Value.{Value, the_lemmas}
+use Rattle.gob_value.specs.View.{view}
 use Rattle.gob_value.proofs.TidySteps.{IsNoList, IsNoMap, IsNoStruct}
-use Rattle.gob_value.proofs.ViewLaws.{view-Many, view-Pairs, view-Fields}
-use Rattle.gob_match.specs.Exploring.{ConvertsAt}
+use Rattle.gob_match.specs.Machine.Receiving.{no_more, absent, present}
 use Rattle.gob_match.specs.Received.{no_element, element, no_entry, entry}
-use Rattle.gob_match.specs.Receiving.{no_more, absent, present, IsReceivable}
 use Rattle.gob_match.proofs.Loops.{completes_start, completes_on, completes_end}
-use Rattle.gob_match.proofs.ReceiveSteps.{each_fits, each_shallow, pair_fits, pair_shallow, present_fits, present_shallow, rising, is_leaf, copy_received, is_list, list_receivable, list_received, list_depth, is_map, map_receivable, map_received, map_depth, is_struct, struct_receivable, struct_received, struct_depth}
+use Rattle.gob_match.proofs.ReceiveLaws.{present_shallow}
+use Rattle.gob_match.proofs.ReceiveSteps.{each_fits, each_shallow, pair_fits, pair_shallow, present_fits, rising, is_leaf, copy_received, is_list, list_receivable, list_received, list_depth, is_map, map_receivable, map_received, map_depth, is_struct, struct_receivable, struct_received, struct_depth}
 use Rattle.gob_match.proofs.receiving.+receive.Goals as goal
 
 -- ---- elements

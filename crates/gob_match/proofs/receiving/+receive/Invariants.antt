@@ -1,7 +1,7 @@
-use Rattle.std.proofs.Common.{◌+◌, ◌*◌, drop, List}
+use Rattle.std.proofs.Common.{◌+◌, ◌*◌, drop}
 use Rattle.gob_value.specs.Tree.{depth, trees_depth, pairs_depth, fields_depth}
 use Rattle.gob_value.specs.View.{view, views, pair_views, field_views}
-use Rattle.gob_match.specs.Receiving.{GivesEach, GivesPairs, GivesFields}
+use Rattle.gob_match.specs.Machine.Receiving.{GivesEach, GivesPairs, GivesFields}
 use Rattle.gob_match.proofs.Loops.{Completes}
 use Rattle.gob_match.proofs.receiving.+receive.Given as goal
 

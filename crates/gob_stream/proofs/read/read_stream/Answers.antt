@@ -4,12 +4,12 @@ use Rattle.gob_stream.specs.Item.{item_views}
 use Rattle.gob_stream.specs.Standing.{no_deeper}
 use Rattle.gob_stream.specs.Reading.{ReadsStream}
 use Rattle.gob_stream.proofs.SessionSteps.{passed_on, known_taken, stood_first}
-use Rattle.gob_stream.proofs.StreamReadSteps.{given_none, given_as, given_more, given_still, tree_limits, begins_empty, stands_begins, stream_stops, stands_next, stream_ends, item_taken}
+use Rattle.gob_stream.proofs.StreamReadSteps.{given_none, given_as, given_more, given_still, tree_limits, took_nothing, item_lost, stream_stops, stands_next, stream_ends, item_taken}
 use Rattle.gob_stream.proofs.read.read_stream.Goals as goal
 
 pub returns-in_err-session-clause-items : goal.returns-in_err-session-clause-items
 returns-in_err-session-clause-items g c =
-    given_none (λ bytes e. passed_on (λ r. ReadsStream c.args.limits bytes (g.R.Read.remaining c.args.input.now.reader) [] r) c.from_residual.result _ c.from_residual.ensures.1 (begins_empty c.args.limits bytes))
+    given_none (λ bytes e. passed_on (λ r. ReadsStream c.args.limits bytes (g.R.Read.remaining c.args.input.now.reader) [] r) c.from_residual.result _ c.from_residual.ensures.1 (took_nothing c.args.limits e))
 
 pub loop-session-init : goal.loop-session-init
 loop-session-init g c =
@@ -57,7 +57,10 @@ returns-in_err-map_err-clause-items g c =
     let kept : c.push.new.self.items ≡ c.loop-session.out.items = grind (arith, common_steps) in
     let limits = ap (λ L. no_deeper 1000 L) c.loop-session.invariant.limits ∙ tree_limits c.new.ensures.allowed in
     given_still kept (given_as (λ given read bytes e.
-    passed_on (λ r. ReadsStream c.args.limits bytes (g.R.Read.remaining c.read_item.new.input.reader) (item_views given) r) c.from_residual-in_err-map_err.result _ c.from_residual-in_err-map_err.ensures.1 (stands_begins limits (read bytes e)))
+    let p = read bytes e in
+    passed_on (λ r. ReadsStream c.args.limits bytes (g.R.Read.remaining c.read_item.new.input.reader) (item_views given) r) c.from_residual-in_err-map_err.result _ c.from_residual-in_err-map_err.ensures.1
+    (item_lost c.loop-session.session.reading c.read_item.new.self.reading given (g.R.Read.remaining c.read_item.new.input.reader) c.in-Some.item c.in-Some.is limits c.in_ok-item.ensures.limits p
+    (c.in_ok-item.ensures.read (item_views given) p.bytes p.taken.left p.holds p.taken.known)))
     c.loop-session.invariant.given)
 
 pub returns-clause-items : goal.returns-clause-items

@@ -15,7 +15,7 @@ loop-i-init g c = record { wrote = wrote_none c.args.limits (item_views c.args.i
 pub returns-in-Err-clause-writes : goal.returns-in-Err-clause-writes
 returns-in-Err-clause-writes g c =
     stopped c.args.limits (item_views c.args.items.now) c.loop-i.i c.loop-i.writer c.write_item.new.self _ _ _ (item_view c.index-items-i.result) c.in-Err.fault
-    c.loop-i.invariant.wrote (item_at c.args.items.now c.loop-i.i c.index-items-i.result c.index-items-i.is c.loop-i-test.true) c.in-Err.ensures.writes
+    c.loop-i.invariant.wrote (item_at c.args.items.now c.loop-i.i c.index-items-i.result c.index-items-i.is c.loop-i-test.true) c.in-Err.ensures.writes c.in-Err.ensures.leaves
 
 pub loop-i-preserved : goal.loop-i-preserved
 loop-i-preserved g c = record {

@@ -1,6 +1,6 @@
 -- Where no memory is had at the begin, nothing is written. No limits allow deeper values than a reader of trees takes.
 use Rattle.std.proofs.Common.{◌∙◌, ap, subst}
-use Rattle.gob_stream.proofs.StreamReadSteps.{tree_limits}
+use Rattle.gob_stream.proofs.PublicLaws.{limits_stay}
 use Rattle.gob_tool.specs.declared.fault.ToolFault.TheVariants as fault
 use Rattle.gob_tool.specs.Gathering.{Gathered, within_trees}
 use Rattle.gob_tool.specs.Showing.{Runs, AppendsFront}
@@ -26,5 +26,5 @@ returns-clause-shown g c = λ bytes known.
     let old = g.W.Write.contents c.args.output.now.writer in
     let new = g.W.Write.contents c.show_pieces.new.output.writer in
     let next = g.R.Read.remaining c.show_pieces.new.input.reader in
-    let limits = ap (λ L. within_trees L) c.in_ok-session.ensures.limits ∙ tree_limits c.in_ok-session.ensures.allowed in
+    let limits = ap (λ L. within_trees L) c.in_ok-session.ensures.limits ∙ limits_stay _ _ c.in_ok-session.ensures.allowed.depth in
     subst (λ L. Runs L bytes next (Gathered old new c.show_pieces.new.lines.gathered.items) (AppendsFront old new) c.show_pieces.result) limits (c.show_pieces.ensures.shown bytes known)

@@ -1,5 +1,4 @@
 use Rattle.std.proofs.lemmas.Result.{IfOk-weaker}
-use Rattle.std.proofs.Math.Nat.{le_trans}
 use Rattle.gob_value.proofs.TidyFits.{tidy_fits}
 use Rattle.gob_value.proofs.TidyLaws.{tidy_form, no_deeper}
 use Rattle.gob_value.proofs.tidying.tidy.Goals as goal
@@ -13,5 +12,5 @@ returns-clause-tidy g c = IfOk-weaker c.tidy_type.result _ _ (λ w p. p.tidies) 
 pub returns-clause-fits : goal.returns-clause-fits
 returns-clause-fits g c =
     IfOk-weaker c.tidy_type.result _ _
-    (λ w p. let f = tidy_fits c.requires.spelled p.tidies p.small in record { bytes = f.bytes; spelled = f.spelled; within = le_trans (no_deeper p.tidies) c.requires.within })
+    (λ w p. let f = tidy_fits c.requires.spelled p.tidies p.small in record { bytes = f.bytes; spelled = f.spelled; within = no_deeper p.tidies })
     c.tidy_type.ensures

@@ -1,8 +1,8 @@
 use Rattle.std.proofs.Common.{◌≡◌, ◌++◌, ◌∷◌, [], sym, subst, ◌∙◌}
-use Rattle.indexmap.proofs.CallerLemmas.{insert_entry-new}
-use Rattle.gob_match.specs.Search.{came, IsAt, AddsPairs}
+use Rattle.gob_match.specs.Machine.Search.{came, IsAt, AddsPairs}
 use Rattle.gob_match.proofs.FoundLaws.{same_pair, known_at, no_lookup, IsStepTo, adds_known, adds_new, at_new}
 use Rattle.gob_match.proofs.found.Found.add.Goals as goal
+use Rattle.indexmap.proofs.CallerLemmas.{insert_entry-new}
 
 pub returns-in-Some-clause-at : goal.returns-in-Some-clause-at
 returns-in-Some-clause-at c = subst (λ es. IsAt es c.in-Some.known c.args.pair) c.self.view_is (known_at c.args.pair c.self.inside.pairs.entries c.in-Some.known (sym c.in-Some.ensures.index))

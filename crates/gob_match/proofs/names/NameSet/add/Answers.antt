@@ -1,5 +1,5 @@
 use Rattle.std.proofs.Common.{subst}
-use Rattle.gob_match.specs.Struct.{AddsName}
+use Rattle.gob_match.specs.Machine.Struct.{AddsName}
 use Rattle.gob_match.proofs.NameLaws.{bytes_of, names_added}
 use Rattle.gob_match.proofs.names.NameSet.add.Goals as goal
 

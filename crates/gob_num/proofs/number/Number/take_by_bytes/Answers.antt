@@ -1,4 +1,4 @@
-use Rattle.std.proofs.Common.{[], ◌++◌, ◌∙◌, sym, subst, append-nil}
+use Rattle.std.proofs.Common.{◌∙◌, sym, subst, append-nil}
 use Rattle.gob_num.specs.Unsigned.{IsUnsignedFront}
 use Rattle.gob_num.proofs.FrontLaws.{begins_front}
 use Rattle.gob_num.proofs.number.Number.take_by_bytes.Goals as goal

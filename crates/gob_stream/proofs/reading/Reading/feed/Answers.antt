@@ -24,13 +24,13 @@ pub returns-in-Err-give-clause-fed : goal.returns-in-Err-give-clause-fed
 returns-in-Err-give-clause-fed g c =
     feed_no_memory c.give.new.self c.steps.invariant
     (record { some = c.in-Ok.ensures.used; usable = c.in-Ok.ensures.usable; limits = c.in-Ok.ensures.limits; advances = c.in-Ok.ensures.advances })
-    c.in-Some.is c.give.ensures.types c.in-Err-give.ensures.memory c.in-Err-give.ensures.as_before
+    c.in-Some.is c.give.ensures.types c.give.ensures.taken c.in-Err-give.ensures.memory c.in-Err-give.ensures.as_before
 
 pub returns-in-Err-give-clause-limits : goal.returns-in-Err-give-clause-limits
 returns-in-Err-give-clause-limits g c = c.give.ensures.limits ∙ c.step.ensures.limits ∙ c.steps.invariant.limits
 
 pub returns-in-Err-clause-fed : goal.returns-in-Err-clause-fed
-returns-in-Err-clause-fed g c = feed_stops c.in-Err.fault c.step.new.self c.steps.invariant c.in-Err.ensures.types c.in-Err.ensures.advances
+returns-in-Err-clause-fed g c = feed_stops c.in-Err.fault c.step.new.self c.steps.invariant c.in-Err.ensures.types c.in-Err.ensures.taken c.in-Err.ensures.advances
 
 pub returns-in-Err-clause-limits : goal.returns-in-Err-clause-limits
 returns-in-Err-clause-limits g c = c.step.ensures.limits ∙ c.steps.invariant.limits

@@ -1,0 +1,69 @@
+//! How much is held of a body under way.
+
+ghost use Rattle.std.specs.Prelude.{OnOk};
+ghost use Rattle.gob_types.specs.Defined.{types};
+ghost use Rattle.gob_read.specs.Reader.{IsUsable};
+
+use crate::reading::reader;
+use crate::row::{Body, numbers};
+use crate::types::table;
+use gob_num::Memory;
+use gob_read::{BodyReader, Builder, CheckBuilder, Stop, TreeBuilder};
+use gob_types::Table;
+use std::alloc::Global;
+use std::test::*;
+
+// Type, body, and what is held after each of its bytes by a builder of trees and by one that counts: each part from its
+// first byte on, the tag being in none, and by trees each raw byte. With the last byte the reader ends: it has the value, or
+// refuses the body.
+const ROWS: &str = "\
+7: 00 fe 31 40 fe f0 3f: 0 1 1 1 1 1 0: 0 1 1 1 1 1 0
+6: 00 05 68 65 6c 6c 6f: 0 1 2 3 4 5 0: 0 1 1 1 1 1 0
+6 10: 00 f8 ff ff ff ff ff ff ff ff: 0 1 1 1 1 1 1 1 1 0: 0 1 1 1 1 1 1 1 1 0
+66: 01 02 01 01 04 01 00 00 00: 1 2 2 3 4 4 5 5 0: 1 2 2 3 4 4 5 5 0
+68: 00 01 01 01 01 01 01 02 00 00: 0 1 2 3 4 5 6 7 8 0: 0 1 2 3 4 5 6 7 8 0
+69: 00 02 01 61 02 01 61 04: 0 1 2 3 4 5 6 0: 0 1 2 2 3 4 4 0
+73: 01 01 01 05 01 07 01 fe 31 40 01 02 67 6f 01 00 01 fe 31 40 00 01 00 01 02 00 09 01 02 01 61 02 01 61 04 01 01 78 01 03 00 00 00: 1 2 2 3 3 4 4 5 5 5 5 6 7 8 8 9 9 10 10 10 10 10 11 11 12 13 14 14 15 16 17 18 19 20 21 21 22 23 23 24 25 25 0: 1 2 2 3 3 4 4 5 5 5 5 6 6 6 6 7 7 8 8 8 8 8 9 9 10 11 12 12 13 14 14 15 16 16 17 17 18 18 18 19 20 20 0
+";
+
+// Whether this field of the row says what is held after each byte, and the reader has ended then.
+fn is_held<B: Builder>(
+    alloc: Global,
+    table: &Table,
+    row: &str,
+    field: usize,
+) -> Result<bool, Stop> {
+    let body = Body::of(alloc, row)?;
+    let mut reader: BodyReader<B> = reader(alloc, table, &body)?;
+    let held = held_after_each(alloc, table, &mut reader, &body.bytes)?;
+    let ended = reader.push(alloc, table, b"\x00").err() == Some(Stop::Failed);
+    Ok(ended && held == numbers(alloc, row, field)?)
+}
+
+fn held_after_each<B: Builder>(
+    alloc: Global,
+    table: &Table,
+    reader: &mut BodyReader<B>,
+    bytes: &[u8],
+) -> Result<Vec<u64>, Memory>
+    requires { IsUsable (types table.now) B.stands reader.old.run }
+    ensures { OnOk result (IsUsable (types table.now) B.stands reader.new.run) }
+{
+    let mut held = Vec::new(alloc);
+    'bytes: for byte in bytes {
+        let _progress = reader.push(alloc, table, &[*byte]);
+        held.push(reader.held())?;
+    }
+    Ok(held)
+}
+
+#[test]
+fn held_after_each_byte(rt: HostRuntime) -> Result<(), Fail> {
+    let alloc = rt.alloc();
+    let table = table(alloc)?;
+    for row in ROWS.lines() {
+        assert!(rt; is_held::<TreeBuilder>(alloc, &table, row, 2)?, "{row}");
+        assert!(rt; is_held::<CheckBuilder>(alloc, &table, row, 3)?, "{row}");
+    }
+    Ok(())
+}

@@ -1,0 +1,20 @@
+//! Tests of `gob_read` by its public calls: bodies of each shape, whole and in pieces, bodies that are refused, how
+//! much is held of a body under way, and reading where memory may be refused.
+//!
+//! Rows are lines of text, one for each body:
+//!
+//! ```text
+//! 65: 01 2c 01 42 00: 3 0       the type, the body, and what is due: here its parts and its raw bytes
+//! ```
+#![tactic(auto)]
+
+#[cfg(test)]
+mod bodies;
+#[cfg(test)]
+mod held;
+#[cfg(test)]
+mod reading;
+#[cfg(test)]
+mod row;
+#[cfg(test)]
+mod types;

@@ -1,0 +1,7 @@
+-- The laws that the proofs of other crates cite, in one place; src/laws.rt says each of them. Declares nothing.
+pub use Rattle.gob_stream.proofs.StandLaws.{limits_stay, one_table, stands_within}
+pub use Rattle.gob_stream.proofs.UnderWayLaws.{after_gives}
+pub use Rattle.gob_stream.proofs.StayLaws.{shown_there, shown_refusal_stays}
+pub use Rattle.gob_stream.proofs.ReadBackLaws.{read_back}
+pub use Rattle.gob_stream.proofs.OutcomeLaws.{outcome_once}
+pub use Rattle.gob_stream.proofs.SomeOutcome.{outcome_somehow}

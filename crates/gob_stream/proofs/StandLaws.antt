@@ -1,0 +1,54 @@
+-- What a session stands for, for its caller.
+use Rattle.std.proofs.Common.{◌≡◌, ℕ, ◌+◌, ◌≤◌, min, List, [], ◌++◌, length, arith, sym, ap, ◌∙◌, subst, length-append}
+use Rattle.std.proofs.lemmas.List.{append-nil}
+use Rattle.gob_types.specs.Base.{base_table}
+use Rattle.gob_types.specs.Defined.{types}
+use Rattle.gob_types.specs.Table.{Table}
+use Rattle.gob_read.specs.declared.tree_builder.TreeBuilder.{TreeBuilder}
+use Rattle.gob_stream.specs.declared.fault.Refusal.{Refusal}
+use Rattle.gob_stream.specs.declared.reading.Reading.{Reading}
+use Rattle.gob_stream.specs.Bounds.{Bounds}
+use Rattle.gob_stream.specs.Item.{StreamItem}
+use Rattle.gob_stream.specs.Laws.{GivesWhatStands}
+use Rattle.gob_stream.specs.Outcome.{RefusesNext}
+use Rattle.gob_stream.specs.Reading.{IsShown, HasTypesBehind}
+use Rattle.gob_stream.specs.Standing.{Standing, StandsAfter, no_deeper}
+use Rattle.gob_stream.proofs.AdvanceSteps.{in_bound, ends_within}
+use Rattle.gob_stream.proofs.LawsOfStreams.{give_one_list}
+use Rattle.gob_stream.proofs.OutcomeLaws.{one_front}
+use Rattle.gob_stream.proofs.SessionSteps.{refused_there}
+use Rattle.gob_stream.proofs.UnderWayLaws.{after_gives, stands_unrefused}
+
+pub limits_stay : (most : ℕ) (L : Bounds) → L.depth ≤ most → no_deeper most L ≡ L
+limits_stay most L deep =
+    let with_depth : ℕ → Bounds = λ d. record { item = L.item; depth = d; types = L.types; stream = L.stream } in
+    let e : min L.depth most ≡ L.depth = omega arith in
+    ap with_depth e
+
+pub one_table : (L : Bounds) (bytes : List ℕ) (items : List StreamItem) (T U : Table) → HasTypesBehind L bytes items T → HasTypesBehind L bytes items U → T ≡ U
+one_table L bytes items T U p q = (one_front p.rest q.rest p.stream q.stream (sym p.whole ∙ q.whole)).table
+
+pub stands_within : {X O : Type 0} {stands : Standing X} {trees : Standing TreeBuilder} {most : ℕ} {s : Reading X O} {items : List StreamItem} {bytes : List ℕ}
+    → StandsAfter stands trees most s items bytes → length bytes ≤ s.limits.stream + 9
+stands_within a = let front = ends_within a.stream (omega arith) in let n = in_bound a.stage (omega arith) in omega (arith, ap length a.whole, length-append a.front a.under_way)
+
+pub stands_types : {X O : Type 0} {stands : Standing X} {trees : Standing TreeBuilder} {most : ℕ} {s : Reading X O} {items : List StreamItem} {bytes : List ℕ}
+    → StandsAfter stands trees most s items bytes → HasTypesBehind (no_deeper most s.limits) bytes items (types s.types)
+stands_types a = record { front = a.front; rest = a.under_way; stream = a.stream; whole = a.whole }
+
+unrefused : {X O : Type 0} {stands : Standing X} {trees : Standing TreeBuilder} {most : ℕ} {s : Reading X O} {items others : List StreamItem} {bytes : List ℕ} {R : Refusal}
+    → StandsAfter stands trees most s items bytes → ¬ IsShown (no_deeper most s.limits) bytes others R
+unrefused {most = most} {s = s} {items = items} {others = others} {bytes = bytes} {R = R} a h =
+    let L = no_deeper most s.limits in
+    let same : others ≡ items = give_one_list base_table L bytes others items h.outcome.gives (after_gives a) in
+    let here = subst (λ l. IsShown L bytes l R) same h in
+    let there = refused_there [] a (subst (λ b. IsShown L b items R) (sym (append-nil bytes)) here) in
+    stands_unrefused a.stage (subst (λ z. RefusesNext base_table L (types s.types) (length a.front) z R) (append-nil a.under_way) there)
+
+pub gives_what_stands : {X : Type 0} (O : Type 0) (stands : Standing X) (trees : Standing TreeBuilder) (most : ℕ) → GivesWhatStands O stands trees most
+gives_what_stands O stands trees most = record {
+  items = λ s items bytes a. after_gives a;
+  unrefused = λ s items others bytes R a. unrefused a;
+  types_behind = λ s items bytes a. stands_types a;
+  within = λ s items bytes a. stands_within a;
+}

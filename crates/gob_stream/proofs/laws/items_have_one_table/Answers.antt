@@ -1,0 +1,5 @@
+use Rattle.gob_stream.proofs.StandLaws.{one_table}
+use Rattle.gob_stream.proofs.laws.items_have_one_table.Goals as goal
+
+pub returns : goal.returns
+returns c = one_table
