@@ -1,5 +1,5 @@
--- The number and the name of each refusal. (docs/FORMAT.md, Refusals.)
-use Rattle.std.specs.Prelude.{ℕ, List, ◌++◌, codes}
+-- The number, the name and the text of each refusal. (docs/FORMAT.md, Refusals.)
+use Rattle.std.specs.Prelude.{ℕ, List, ◌++◌, codes, Option, Some, None}
 use Rattle.std.specs.Fmt.{decimal}
 use Rattle.gob_types.specs.declared.id.TypeId.{TypeId}
 use Rattle.gob_types.specs.declared.reason.Reason.{Reason}
@@ -30,32 +30,44 @@ reason_number reason.BadLength = 21
 reason_number reason.Ended = 22
 reason_number reason.DoesNotFit = 23
 
--- a name with the id in parentheses behind it
-abbrev pub with_id : List ℕ → TypeId → List ℕ
-with_id name id = name ++ (codes "(" ++ (decimal id.0 ++ codes ")"))
+abbrev pub reason_name : Reason → List ℕ
+reason_name reason.BadHead = codes "BadHead"
+reason_name reason.NotMinimal = codes "NotMinimal"
+reason_name reason.ItemTooLong = codes "ItemTooLong"
+reason_name reason.StreamTooLong = codes "StreamTooLong"
+reason_name reason.Short = codes "Short"
+reason_name reason.Extra = codes "Extra"
+reason_name (reason.ReservedType id) = codes "ReservedType"
+reason_name (reason.DefinedTwice id) = codes "DefinedTwice"
+reason_name reason.TooManyTypes = codes "TooManyTypes"
+reason_name (reason.UndefinedType id) = codes "UndefinedType"
+reason_name (reason.Bottomless id) = codes "Bottomless"
+reason_name reason.SingleTag = codes "SingleTag"
+reason_name reason.Bool = codes "Bool"
+reason_name reason.ArrayCount = codes "ArrayCount"
+reason_name reason.FieldNumber = codes "FieldNumber"
+reason_name reason.InterfaceValue = codes "InterfaceValue"
+reason_name reason.TooDeep = codes "TooDeep"
+reason_name reason.KindCount = codes "KindCount"
+reason_name reason.WrongId = codes "WrongId"
+reason_name reason.BadReference = codes "BadReference"
+reason_name reason.BadLength = codes "BadLength"
+reason_name reason.Ended = codes "Ended"
+reason_name reason.DoesNotFit = codes "DoesNotFit"
 
--- the name as it is printed, with the id where there is one
+-- the type id that it carries
+abbrev pub reason_id : Reason → Option TypeId
+reason_id (reason.ReservedType id) = Some id
+reason_id (reason.DefinedTwice id) = Some id
+reason_id (reason.UndefinedType id) = Some id
+reason_id (reason.Bottomless id) = Some id
+reason_id _ = None
+
+-- a name with the id in parentheses behind it, where there is one
+abbrev pub name_and_id : List ℕ → Option TypeId → List ℕ
+name_and_id name None = name
+name_and_id name (Some id) = name ++ (codes "(" ++ (decimal id.0 ++ codes ")"))
+
+-- the reason as it is printed
 abbrev pub reason_text : Reason → List ℕ
-reason_text reason.BadHead = codes "BadHead"
-reason_text reason.NotMinimal = codes "NotMinimal"
-reason_text reason.ItemTooLong = codes "ItemTooLong"
-reason_text reason.StreamTooLong = codes "StreamTooLong"
-reason_text reason.Short = codes "Short"
-reason_text reason.Extra = codes "Extra"
-reason_text (reason.ReservedType id) = with_id (codes "ReservedType") id
-reason_text (reason.DefinedTwice id) = with_id (codes "DefinedTwice") id
-reason_text reason.TooManyTypes = codes "TooManyTypes"
-reason_text (reason.UndefinedType id) = with_id (codes "UndefinedType") id
-reason_text (reason.Bottomless id) = with_id (codes "Bottomless") id
-reason_text reason.SingleTag = codes "SingleTag"
-reason_text reason.Bool = codes "Bool"
-reason_text reason.ArrayCount = codes "ArrayCount"
-reason_text reason.FieldNumber = codes "FieldNumber"
-reason_text reason.InterfaceValue = codes "InterfaceValue"
-reason_text reason.TooDeep = codes "TooDeep"
-reason_text reason.KindCount = codes "KindCount"
-reason_text reason.WrongId = codes "WrongId"
-reason_text reason.BadReference = codes "BadReference"
-reason_text reason.BadLength = codes "BadLength"
-reason_text reason.Ended = codes "Ended"
-reason_text reason.DoesNotFit = codes "DoesNotFit"
+reason_text r = name_and_id (reason_name r) (reason_id r)
