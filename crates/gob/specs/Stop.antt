@@ -1,15 +1,31 @@
--- How the program ends where it doesn't end well. (docs/FORMAT.md, The program: this project's own.)
-use Rattle.std.specs.Prelude.{ℕ, List, codes, Option, Some}
+-- How the program ends. (docs/FORMAT.md, The program: this project's own.)
+use Rattle.std.specs.Prelude.{ℕ, List, codes, Option, Result, Ok, Err}
+use Rattle.gob_tool.specs.declared.fault.ToolFault.{ToolFault}
+use Rattle.gob_tool.specs.declared.words.Chosen.{Chosen}
 use Rattle.gob_tool.specs.Fault.{fault_status, fault_line}
+use Rattle.gob_tool.specs.Showing.{Does}
+use Rattle.gob_tool.specs.Words.{standard_limits}
 use Rattle.gob.specs.declared.Stop.{Stop}
 use Rattle.gob.specs.declared.Stop.TheVariants.{Words, Run}
 
--- the exit status
+-- the exit status after what ends it with a line
 abbrev pub stop_status : Stop → ℕ
 stop_status (Words fault) = 2
 stop_status (Run fault) = fault_status fault
 
--- the line on standard error, which for a refused input is shown by tests
-abbrev pub stop_line : Stop → Option (List ℕ)
-stop_line (Words fault) = Some (codes "gob: bad arguments")
+-- the exit status
+abbrev pub ending_status : Result (Unit {0}) Stop → ℕ
+ending_status (Ok _) = 0
+ending_status (Err stop) = stop_status stop
+
+-- the line on standard error
+abbrev pub stop_line : Stop → List ℕ
+stop_line (Words fault) = codes "gob: bad arguments"
 stop_line (Run fault) = fault_line fault
+
+-- a run of the command over an input with these bytes, and an output with the old ones, ends so
+pub record EndsRun (command : Chosen) (bytes : List ℕ) (old : Option (List ℕ)) (result : Result (Unit {0}) ToolFault) : Type 0 where
+  -- what is left of the input, and what the output has then
+  pub now : Option (List ℕ)
+  pub new : Option (List ℕ)
+  pub does : Does command standard_limits bytes now old new result

@@ -5,16 +5,18 @@
 //! stream, 1 for an input that is no stream, and 2 for all else.
 #![tactic(auto)]
 
-ghost use Rattle.std.specs.Prelude.{◌≡◌};
-ghost use Rattle.gob.specs.Stop.{stop_status};
+ghost use Rattle.std.specs.Prelude.{◌≡◌, ℕ, List, Some, MatchResult};
+ghost use Rattle.std.specs.Process.{exit_status};
+ghost use Rattle.gob_tool.specs.declared.fault.ToolFault.TheVariants as fault;
+ghost use Rattle.gob.specs.Stop.{stop_status, ending_status, EndsRun};
 
-use gob_stream::{Input, Limits, Output};
-use gob_tool::{OrderFault, ToolFault, order_of, run_show, status};
-use std::alloc::AllocError;
+use gob_stream::{Input, Output};
+use gob_tool::{Order, OrderFault, ToolFault, order_of, run_order, status};
+use std::alloc::{AllocError, Global};
 use std::fs::File;
-use std::io::{ErrorKind, Read};
+use std::io::{ErrorKind, Read, Write};
 use std::process::ExitCode;
-use std::{env, fmt};
+use std::{env, fmt, io};
 
 // What ends the program with a line on standard error.
 #[derive(Clone, Copy)]
@@ -35,9 +37,10 @@ impl Stop {
 }
 
 impl fmt::Display for Stop {
+    ghost use Rattle.std.specs.Prelude.{Some};
     ghost use Rattle.gob.specs.Stop.{stop_line};
 
-    ghost output = { stop_line };
+    ghost output = { λ stop. Some (stop_line stop) };
 
     fn fmt<W: fmt::Write>(&self, f: &mut fmt::Formatter<W>) -> fmt::Result {
         match self {
@@ -60,7 +63,14 @@ impl From<AllocError> for Stop {
 }
 
 fn main(rt: HostRuntime) -> ExitCode {
-    match run(&rt) {
+    end(&rt, run(&rt))
+}
+
+// Tells what stopped the run, and gives the exit status.
+fn end(rt: &HostRuntime, ending: Result<(), Stop>) -> ExitCode
+    ensures { exit_status result ≡ ending_status ending }
+{
+    match ending {
         Ok(()) => ExitCode::SUCCESS,
         Err(stop) => {
             // Where standard error takes no line, the status still tells.
@@ -78,13 +88,14 @@ fn run(rt: &HostRuntime) -> Result<(), Stop> {
         .map(|word| word.as_str())
         .collect::<Vec<&str>>(rt.alloc())?;
     let order = order_of(&names).map_err(Stop::Words)?;
-    match order.input {
-        None => show(rt, rt.stdin()),
-        Some(path) => match File::open(rt, path) {
-            Ok(file) => show(rt, file),
-            Err(_) => Err(Stop::Run(ToolFault::Read)),
-        },
-    }
+    let ending = match order.input {
+        None => carry_out(rt.alloc(), &order, rt.stdin(), rt.stdout()),
+        Some(path) => {
+            let file = opened(File::open(rt, path))?;
+            carry_out(rt.alloc(), &order, file, rt.stdout())
+        }
+    };
+    ending.map_err(Stop::Run)
 }
 
 // The words of the command line. One that isn't UTF-8 is none that the program knows.
@@ -96,9 +107,24 @@ fn words_of(rt: &HostRuntime) -> Result<Vec<String>, Stop> {
     }
 }
 
+// A file that isn't opened is one that isn't read.
+fn opened(file: io::Result<File>) -> Result<File, Stop>
+    ensures { MatchResult file (λ file. result ≡ Ok file) (λ _. result ≡ Err (Stop.Run fault.Read)) }
+{
+    file.map_err(|_| Stop::Run(ToolFault::Read))
+}
+
 // The run reads in large pieces, so that nothing need be kept between it and the reader.
-fn show<R: Read + Drop>(rt: &HostRuntime, reader: R) -> Result<(), Stop> {
+fn carry_out<R: Read + Drop, W: Write + Drop>(
+    alloc: Global,
+    order: &Order,
+    reader: R,
+    writer: W,
+) -> Result<(), ToolFault>
+    ensures { (bytes : List ℕ) → R.remaining reader ≡ Some bytes
+        → EndsRun order.now.command bytes (W.contents writer) result }
+{
     let mut input = Input::new(reader);
-    let mut output = Output::new(rt.stdout());
-    run_show(rt.alloc(), &mut input, &mut output, Limits::standard()).map_err(Stop::Run)
+    let mut output = Output::new(writer);
+    run_order(alloc, order, &mut input, &mut output)
 }

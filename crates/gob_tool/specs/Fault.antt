@@ -1,7 +1,8 @@
 -- What the program says of a fault. (docs/FORMAT.md, The program: this project's own.)
-use Rattle.std.specs.Prelude.{ℕ, List, codes, Option, Some, None}
+use Rattle.std.specs.Prelude.{ℕ, List, ◌++◌, codes}
 use Rattle.gob_stream.specs.declared.fault.Fault.{Fault}
 use Rattle.gob_stream.specs.declared.fault.Fault.TheVariants as reading
+use Rattle.gob_stream.specs.RefusalText.{refusal_text}
 use Rattle.gob_tool.specs.declared.fault.ToolFault.{ToolFault}
 use Rattle.gob_tool.specs.declared.fault.ToolFault.TheVariants as fault
 
@@ -12,12 +13,12 @@ fault_status fault.Read = 2
 fault_status fault.Write = 2
 fault_status fault.Memory = 2
 
--- its line, which for a refused input is shown by tests
-abbrev pub fault_line : ToolFault → Option (List ℕ)
-fault_line (fault.Refused r) = None
-fault_line fault.Read = Some (codes "gob: read fault")
-fault_line fault.Write = Some (codes "gob: write fault")
-fault_line fault.Memory = Some (codes "gob: out of memory")
+-- its line
+abbrev pub fault_line : ToolFault → List ℕ
+fault_line (fault.Refused R) = codes "gob: " ++ refusal_text R
+fault_line fault.Read = codes "gob: read fault"
+fault_line fault.Write = codes "gob: write fault"
+fault_line fault.Memory = codes "gob: out of memory"
 
 -- the fault of a run whose reader met this one first; a reader's first fault is never `Failed`
 abbrev pub reading_fault : Fault → ToolFault

@@ -13,6 +13,8 @@ use Rattle.gob_stream.specs.Devices.{counts_up}
 use Rattle.gob_stream.specs.Reading.{SomeTaken}
 use Rattle.gob_tool.specs.declared.fault.ToolFault.{ToolFault}
 use Rattle.gob_tool.specs.declared.fault.ToolFault.TheVariants as fault
+use Rattle.gob_tool.specs.declared.words.Chosen.{Chosen}
+use Rattle.gob_tool.specs.declared.words.Chosen.TheVariants as chosen
 use Rattle.gob_tool.specs.Line.{lines}
 
 -- the bytes are the stream of some items, all of them were read, and this holds of the lines of the items by the types
@@ -62,6 +64,10 @@ pub record AppendsFront (old new : Option (List ℕ)) (bytes : List ℕ) : Type 
 -- went out, and nothing else, or after a failed write a front of them
 abbrev pub Shows : Bounds → (bytes : List ℕ) → (now old new : Option (List ℕ)) → Result (Unit {0}) ToolFault → Type 0
 Shows L bytes now old new result = Runs L bytes now (Appends old new) (AppendsFront old new) result
+
+-- how the run of a command ends
+abbrev pub Does : Chosen → Bounds → (bytes : List ℕ) → (now old new : Option (List ℕ)) → Result (Unit {0}) ToolFault → Type 0
+Does chosen.Show L bytes now old new result = Shows L bytes now old new result
 
 -- the count is the same, or one higher
 abbrev pub MayCount : (failures failures' : ℕ) → Type 0

@@ -21,9 +21,10 @@ pub enum ToolFault {
 }
 
 impl fmt::Display for ToolFault {
+    ghost use Rattle.std.specs.Prelude.{Some};
     ghost use Rattle.gob_tool.specs.Fault.{fault_line};
 
-    ghost output = { fault_line };
+    ghost output = { λ fault. Some (fault_line fault) };
 
     fn fmt<W: fmt::Write>(&self, f: &mut fmt::Formatter<W>) -> fmt::Result {
         match self {

@@ -12,11 +12,13 @@ mod item_json;
 mod leaf;
 mod lines;
 mod parts;
+mod run;
 mod show;
 mod value_json;
 mod words;
 
 pub use fault::{ToolFault, status};
 pub use item_json::json_of;
+pub use run::run_order;
 pub use show::run_show;
 pub use words::{Chosen, Order, OrderFault, order_of};

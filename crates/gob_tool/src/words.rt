@@ -5,6 +5,7 @@ ghost use Rattle.std.specs.Option.{option_map};
 ghost use Rattle.gob_tool.specs.declared.words.Chosen.{Chosen};
 ghost use Rattle.gob_tool.specs.Words.{Asks};
 
+use gob_stream::Limits;
 use std::fmt;
 
 /// What the program is to do.
@@ -21,6 +22,17 @@ pub struct Order<'a> {
     pub command: Chosen,
     /// The name of the file that is read. None: standard input.
     pub input: Option<&'a str>,
+}
+
+impl Order<'_> {
+    ghost use Rattle.gob_tool.specs.Words.{standard_limits};
+
+    /// The limits under which the file is read: the standard ones, since no word names others yet.
+    pub fn limits(&self) -> Limits
+        ensures { result ≡ standard_limits }
+    {
+        Limits::standard()
+    }
 }
 
 /// The words ask for nothing that the program does. Display writes the line that it prints, without the line

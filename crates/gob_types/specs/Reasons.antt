@@ -1,5 +1,7 @@
--- The number of each refusal. (docs/FORMAT.md, Refusals.)
-use Rattle.std.specs.Prelude.{ℕ}
+-- The number, the name and the text of each refusal. (docs/FORMAT.md, Refusals.)
+use Rattle.std.specs.Prelude.{ℕ, List, ◌++◌, codes, Option, Some, None}
+use Rattle.std.specs.Fmt.{decimal}
+use Rattle.gob_types.specs.declared.id.TypeId.{TypeId}
 use Rattle.gob_types.specs.declared.reason.Reason.{Reason}
 use Rattle.gob_types.specs.declared.reason.Reason.TheVariants as reason
 
@@ -27,3 +29,45 @@ reason_number reason.BadReference = 20
 reason_number reason.BadLength = 21
 reason_number reason.Ended = 22
 reason_number reason.DoesNotFit = 23
+
+abbrev pub reason_name : Reason → List ℕ
+reason_name reason.BadHead = codes "BadHead"
+reason_name reason.NotMinimal = codes "NotMinimal"
+reason_name reason.ItemTooLong = codes "ItemTooLong"
+reason_name reason.StreamTooLong = codes "StreamTooLong"
+reason_name reason.Short = codes "Short"
+reason_name reason.Extra = codes "Extra"
+reason_name (reason.ReservedType id) = codes "ReservedType"
+reason_name (reason.DefinedTwice id) = codes "DefinedTwice"
+reason_name reason.TooManyTypes = codes "TooManyTypes"
+reason_name (reason.UndefinedType id) = codes "UndefinedType"
+reason_name (reason.Bottomless id) = codes "Bottomless"
+reason_name reason.SingleTag = codes "SingleTag"
+reason_name reason.Bool = codes "Bool"
+reason_name reason.ArrayCount = codes "ArrayCount"
+reason_name reason.FieldNumber = codes "FieldNumber"
+reason_name reason.InterfaceValue = codes "InterfaceValue"
+reason_name reason.TooDeep = codes "TooDeep"
+reason_name reason.KindCount = codes "KindCount"
+reason_name reason.WrongId = codes "WrongId"
+reason_name reason.BadReference = codes "BadReference"
+reason_name reason.BadLength = codes "BadLength"
+reason_name reason.Ended = codes "Ended"
+reason_name reason.DoesNotFit = codes "DoesNotFit"
+
+-- the type id that it carries
+abbrev pub reason_id : Reason → Option TypeId
+reason_id (reason.ReservedType id) = Some id
+reason_id (reason.DefinedTwice id) = Some id
+reason_id (reason.UndefinedType id) = Some id
+reason_id (reason.Bottomless id) = Some id
+reason_id _ = None
+
+-- a name with the id in parentheses behind it, where there is one
+abbrev pub name_and_id : List ℕ → Option TypeId → List ℕ
+name_and_id name None = name
+name_and_id name (Some id) = name ++ (codes "(" ++ (decimal id.0 ++ codes ")"))
+
+-- the reason as it is printed
+abbrev pub reason_text : Reason → List ℕ
+reason_text r = name_and_id (reason_name r) (reason_id r)

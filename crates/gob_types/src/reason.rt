@@ -1,7 +1,7 @@
 //! Why bytes or values are refused.
 
 ghost use Rattle.std.specs.Prelude.{◌≡◌};
-ghost use Rattle.gob_types.specs.Reasons.{reason_number};
+ghost use Rattle.gob_types.specs.Reasons.{reason_number, reason_name, reason_id};
 
 use crate::id::TypeId;
 use std::fmt;
@@ -91,7 +91,9 @@ impl Reason {
     }
 
     // The reason's name, which is that of its variant.
-    fn name(&self) -> &'static str {
+    fn name(&self) -> &'static str
+        ensures { result.now ≡ reason_name self.now }
+    {
         match self {
             Reason::BadHead => "BadHead",
             Reason::NotMinimal => "NotMinimal",
@@ -120,7 +122,9 @@ impl Reason {
     }
 
     // The type that it speaks of.
-    fn id(&self) -> Option<TypeId> {
+    fn id(&self) -> Option<TypeId>
+        ensures { result ≡ reason_id self.now }
+    {
         match self {
             Reason::ReservedType(id)
             | Reason::DefinedTwice(id)
@@ -132,6 +136,11 @@ impl Reason {
 }
 
 impl fmt::Display for Reason {
+    ghost use Rattle.std.specs.Prelude.{Some};
+    ghost use Rattle.gob_types.specs.Reasons.{reason_text};
+
+    ghost output = { λ reason. Some (reason_text reason) };
+
     fn fmt<W: fmt::Write>(&self, f: &mut fmt::Formatter<W>) -> fmt::Result {
         let name = self.name();
         match self.id() {
