@@ -1,5 +1,5 @@
 -- What a session stands for, for its caller.
-use Rattle.std.proofs.Common.{◌≡◌, ℕ, ◌+◌, ◌≤◌, min, List, [], ◌++◌, length, arith, sym, ap, ◌∙◌, subst, length-append}
+use Rattle.std.proofs.Common.{◌≡◌, ℕ, ◌+◌, ◌≤◌, min, List, [], length, arith, sym, ap, ◌∙◌, subst, length-append}
 use Rattle.std.proofs.lemmas.List.{append-nil}
 use Rattle.gob_types.specs.Base.{base_table}
 use Rattle.gob_types.specs.Defined.{types}

@@ -3,6 +3,7 @@ use Rattle.std.proofs.Common.{◌≡◌, ◌≢◌, ℕ, ◌+◌, ◌≤◌, Lis
 use Rattle.std.proofs.lemmas.Option.{none-some}
 use Rattle.std.proofs.Common.{ℤ, pos, negsuc, ◌<ℤ◌, ◌≤ℤ◌, unsigned_abs}
 use Rattle.std.proofs.lemmas.Int.{ints}
+use Rattle.gob_num.specs.Signed.{IsSigned}
 use Rattle.gob_types.specs.declared.id.TypeId.{TypeId}
 use Rattle.gob_types.specs.declared.kind.Shape.{Shape}
 use Rattle.gob_types.specs.declared.table.DefineFault.{DefineFault}
@@ -78,6 +79,9 @@ pub put_unready : {T : Table} {t : TypeId} {place seen : ℕ} {e : Fault} (f : N
 put_unready {T = T} {t = t} {place = place} {seen = seen} f e n r = subst (λ e. MaybePuts T t place seen (Err e)) (sym e) (unready_for f n r)
 
 -- ---- the id that a type number stands for
+pub signed_as : {i j : ℤ} {a : List ℕ} → i ≡ j → IsSigned i a → IsSigned j a
+signed_as {a = a} e s = subst (λ i. IsSigned i a) e s
+
 pub negative_of : (i : ℤ) (k : ℕ) → i <ℤ pos 0 → k ≡ unsigned_abs i → (n : ℕ) × (i ≡ negsuc n) × (k ≡ n + 1)
 negative_of (pos m) k l e = absurd (omega (arith, ints))
 negative_of (negsuc n) k l e = (n, refl, omega (arith, ints))

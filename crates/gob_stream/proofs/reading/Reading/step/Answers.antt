@@ -1,4 +1,5 @@
 use Rattle.std.proofs.Common.{◌∙◌, length, arith}
+use Rattle.gob_types.specs.Defined.{types}
 use Rattle.gob_stream.proofs.AdvanceSteps.{usable_item, step_bound, step_few, step_between, advanced, usable_on, stopped_by, not_err, stands_there, within_there}
 use Rattle.gob_stream.proofs.reading.Reading.step.Goals as goal
 
@@ -8,7 +9,7 @@ take_awaited-requires-clause-stands g c = λ n. within_there c.replace-stage.ens
 pub overflow_add-self : goal.overflow_add-self
 overflow_add-self g c =
     let w = usable_item c.requires.usable (λ e. not_err c.in-Ok.is (c.take_awaited.ensures.failed (c.replace-stage.ensures.value ∙ e))) in
-    let b = step_bound w.bytes c.args.piece.now w.within w.taken_is (c.in-Ok.ensures.steps w.offset w.bytes (stands_there c.replace-stage.ensures.value w.in_item)) in
+    let b = step_bound {U = types c.take_awaited.new.table} w.bytes c.args.piece.now w.within w.taken_is (c.in-Ok.ensures.steps w.offset w.bytes (stands_there c.replace-stage.ensures.value w.in_item)) in
     let most = c.take_awaited.ensures.limits.stream in
     omega arith
 
@@ -19,12 +20,12 @@ returns-in-Ok-clause-advances g c = λ items bytes a.
 pub returns-in-Ok-clause-used : goal.returns-in-Ok-clause-used
 returns-in-Ok-clause-used g c =
     let w = usable_item c.requires.usable (λ e. not_err c.in-Ok.is (c.take_awaited.ensures.failed (c.replace-stage.ensures.value ∙ e))) in
-    (c.in-Ok.ensures.some, step_few (c.in-Ok.ensures.steps w.offset w.bytes (stands_there c.replace-stage.ensures.value w.in_item)))
+    (c.in-Ok.ensures.some, step_few {U = types c.take_awaited.new.table} (c.in-Ok.ensures.steps w.offset w.bytes (stands_there c.replace-stage.ensures.value w.in_item)))
 
 pub returns-in-Ok-clause-between : goal.returns-in-Ok-clause-between
 returns-in-Ok-clause-between g c =
     let w = usable_item c.requires.usable (λ e. not_err c.in-Ok.is (c.take_awaited.ensures.failed (c.replace-stage.ensures.value ∙ e))) in
-    step_between w.bytes c.args.piece.now w.taken_is (c.in-Ok.ensures.steps w.offset w.bytes (stands_there c.replace-stage.ensures.value w.in_item))
+    step_between {U = types c.take_awaited.new.table} w.bytes c.args.piece.now w.taken_is (c.in-Ok.ensures.steps w.offset w.bytes (stands_there c.replace-stage.ensures.value w.in_item))
 
 pub returns-in-Ok-clause-usable : goal.returns-in-Ok-clause-usable
 returns-in-Ok-clause-usable g c =
