@@ -1,5 +1,5 @@
 -- What a reader has come to, byte by byte and piece by piece, and what is refused there.
-use Rattle.std.proofs.Common.{◌≡◌, ℕ, zero, suc, ◌+◌, ◌<◌, ◌≤◌, inl, inr, Bool, true, false, List, [], ◌∷◌, ◌++◌, length, arith, refl, sym, ap, ◌∙◌, subst, append_assoc, length-append, get_or, take, drop}
+use Rattle.std.proofs.Common.{◌≡◌, ℕ, zero, suc, ◌+◌, ◌^◌, Result, Ok, Err, IfOk, OnOk, ◌<◌, ◌≤◌, inl, inr, Bool, true, false, List, [], ◌∷◌, ◌++◌, length, arith, refl, sym, ap, ◌∙◌, subst, append_assoc, length-append, get_or, take, drop}
 use Rattle.std.specs.Prelude.{Result, Ok, Err, IfErr}
 use Rattle.std.proofs.lemmas.Bool.{cases_lt}
 use Rattle.gob_num.specs.Unsigned.{IsUnsigned, IsUnsignedFront, IsBadHead, IsNotMinimal, BeginsNumber}
@@ -15,8 +15,8 @@ use Rattle.gob_read.specs.First.{IsFirst}
 use Rattle.gob_read.specs.Stood.{IsShallow, IsStood}
 use Rattle.gob_read.specs.Telling.{Telling}
 use Rattle.gob_read.specs.Within.{At}
-use Rattle.gob_read.specs.Steps.{IsPlaced, IsRead, Settled, TakesRaw}
-use Rattle.gob_read.specs.Running.{IsUnderWay, depth_of, IsReached, IsOpen, IsFinished, IsStepped, Steps, RefusesAt, TakesNumber, RefusesNumber, JudgesFor, EndsFor, StopsFor, IsOpenSomewhere}
+use Rattle.gob_read.specs.Steps.{CanTake, CanTakeRaw, IsPlaced, IsRead, Settled, TakesRaw}
+use Rattle.gob_read.specs.Running.{TakesMore, IsOpenSomewhere, IsOpenIn, IsUnderWay, depth_of, IsReached, IsOpen, IsFinished, IsStepped, Steps, RefusesAt, TakesNumber, RefusesNumber, JudgesFor, EndsFor, StopsFor}
 use Rattle.gob_read.specs.declared.awaited.Awaited.{Awaited}
 use Rattle.gob_read.specs.declared.awaited.Awaited.TheVariants.{Top, Number, Raw}
 use Rattle.gob_read.specs.declared.awaited.Item.{Item}
@@ -188,6 +188,48 @@ settled_stepped {T = T} {t = t} stands new {z = z} false d e n a m k r = record 
   shallow = k;
   judged = λ l. absurd (omega arith);
 }
+
+-- a whole number, or the end of one, may be taken
+pub number_can_take : {T : Table} {X O : Type 0} {stands : X → List Telling → Type 0} {run : Run X O} {n : ℕ} (i : Item) (c : List ℕ) → run.state.awaited ≡ Number i → IsOpenSomewhere T stands run → IsUnsigned n (run.number ++ c) → run.taken + length c < 2 ^ 64
+    → CanTake T stands run.state i n
+number_can_take {n = n} i c e o u small =
+    let h = number_open i e o.open_ in
+    let q = size h.before h.under_way h.whole in
+    let m = h.taken_is in
+    record {
+      awaited = e;
+      type = o.type;
+      ready = h.ready;
+      before = h.before;
+      so_far = h.under_way;
+      bytes = h.under_way ++ c;
+      placed = h.placed;
+      spelled = subst (λ r. IsUnsigned n (r ++ c)) h.number_is u;
+      small = omega (arith, length-append h.before (h.under_way ++ c), length-append h.under_way c);
+    }
+
+-- with its last bytes
+pub number_more : (T : Table) {X O : Type 0} (stands : X → List Telling → Type 0) (old mid new : Run X O) (n count : ℕ) (r : Result Bool Stop) → mid.taken ≡ old.taken + count → mid.length ≡ old.length → mid.depth ≡ old.depth
+    → IfOk r (λ whole. TakesNumber T stands mid new n whole) → OnOk r (TakesMore old new count)
+number_more T stands old mid new n count (Ok whole) t l d h = let m = h.more.taken in record { taken = omega arith; length_is = h.more.length_is ∙ l; depth_is = h.more.depth_is ∙ d }
+number_more T stands old mid new n count (Err e) t l d h = tt
+
+-- raw bytes may be taken
+pub raw_can_take : {X O : Type 0} {stands : X → List Telling → Type 0} {run : Run X O} {left : ℕ} (bytes : List ℕ) → run.state.awaited ≡ Raw left → IsOpenIn stands run → length bytes ≤ left → run.taken + length bytes < 2 ^ 64 → CanTakeRaw stands run.state left bytes
+raw_can_take bytes e o few small =
+    let h = o.open_.open_.reached in
+    let q = size h.before h.under_way h.whole in
+    let m = h.taken_is in
+    record {
+      awaited = e;
+      few = few;
+      table = o.table;
+      type = o.open_.type;
+      before = h.before;
+      so_far = h.under_way;
+      placed = h.placed;
+      small = omega (arith, length-append h.before (h.under_way ++ bytes), length-append h.under_way bytes);
+    }
 
 -- a whole number was taken
 pub number_stepped : {T : Table} {X O : Type 0} {stands : X → List Telling → Type 0} {run mid new : Run X O} {n : ℕ} {whole : Bool} (i : Item) (c : List ℕ) → run.state.awaited ≡ Number i → mid.state ≡ run.state → mid.number ≡ []

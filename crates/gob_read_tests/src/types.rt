@@ -12,10 +12,11 @@ enum Form {
     Slice(u64),
     Map(u64, u64),
     Opaque,
+    Every,
 }
 
 // The types of the rows. An array has two elements.
-const TYPES: [(u64, Form); 8] = [
+const TYPES: [(u64, Form); 9] = [
     // two ints
     (65, Form::Struct(2, 2)),
     // an int and another such struct
@@ -31,12 +32,12 @@ const TYPES: [(u64, Form); 8] = [
     (71, Form::Map(68, 65)),
     // of uints
     (72, Form::Slice(3)),
+    // with a field of each kind
+    (73, Form::Every),
 ];
 
-// A struct with a field of each kind, the last of its own type.
-const EVERY: u64 = 73;
-
-const KINDS: [u64; 12] = [1, 2, 3, 4, 5, 6, 7, 8, 72, 69, 70, EVERY];
+// The types of those fields. The last is the struct's own.
+const KINDS: [u64; 12] = [1, 2, 3, 4, 5, 6, 7, 8, 72, 69, 70, 73];
 
 /// The table of these types.
 pub(crate) fn table(alloc: Global) -> Result<Table, Memory> {
@@ -44,7 +45,6 @@ pub(crate) fn table(alloc: Global) -> Result<Table, Memory> {
     for (id, form) in TYPES {
         define(alloc, &mut table, id, kind_of(alloc, form)?)?;
     }
-    define(alloc, &mut table, EVERY, fields(alloc, &KINDS)?)?;
     Ok(table)
 }
 
@@ -74,6 +74,7 @@ fn kind_of(alloc: Global, form: Form) -> Result<Kind, AllocError> {
             elem: TypeId(elem),
         },
         Form::Opaque => Kind::Opaque(Marshal::Gob),
+        Form::Every => fields(alloc, &KINDS)?,
     })
 }
 

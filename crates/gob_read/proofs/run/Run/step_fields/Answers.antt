@@ -2,20 +2,50 @@ use Rattle.std.proofs.Common.{◌+◌, arith}
 use Rattle.gob_read.proofs.PlainSteps.{item_open, item_passed, same_passed, unnamed, named_as, named_on, plain_on, plain_passed, taken_some, taken_within, fewer, end_on, rest_some}
 use Rattle.gob_read.proofs.run.Run.step_fields.Goals as goal
 
+pub take_end-requires-clause-awaited : goal.take_end-requires-clause-awaited
+take_end-requires-clause-awaited g c = c.fields.invariant.at.awaited
+
+pub take_end-requires-clause-fresh : goal.take_end-requires-clause-fresh
+take_end-requires-clause-fresh g c = c.fields.invariant.at.fresh
+
 pub take_end-requires-clause-stands : goal.take_end-requires-clause-stands
 take_end-requires-clause-stands g c = record { table = g.S.Shapes.table c.args.shapes.now; open_ = item_open c.fields.invariant.at c.requires.stands (omega arith) c.requires.room c.fields.invariant.some }
 
 pub returns-then-rest-used-eq0-clause-ok : goal.returns-then-rest-used-eq0-clause-ok
 returns-then-rest-used-eq0-clause-ok g c = end_on c.fields.invariant.at c.requires.room c.fields.invariant.some c.if-rest-used-eq0.true (c.in_ok-whole.ensures.ok (g.S.Shapes.table c.args.shapes.now))
 
+pub take_name-requires-clause-awaited : goal.take_name-requires-clause-awaited
+take_name-requires-clause-awaited g c = c.fields.invariant.at.awaited
+
+pub take_name-requires-clause-inside : goal.take_name-requires-clause-inside
+take_name-requires-clause-inside g c = c.fields.invariant.at.inside
+
+pub take_name-requires-clause-fresh : goal.take_name-requires-clause-fresh
+take_name-requires-clause-fresh g c = c.fields.invariant.at.fresh
+
 pub take_name-requires-clause-stands : goal.take_name-requires-clause-stands
 take_name-requires-clause-stands g c = item_open c.fields.invariant.at c.requires.stands (omega arith) c.requires.room c.fields.invariant.some
+
+pub returns-in_default-2-clause-more : goal.returns-in_default-2-clause-more
+returns-in_default-2-clause-more g c = (same_passed (unnamed c.in_default-2.is c.in_ok-entered.ensures) (item_passed c.fields.invariant.at)).more
 
 pub returns-in_default-2-clause-ok : goal.returns-in_default-2-clause-ok
 returns-in_default-2-clause-ok g c = (same_passed (unnamed c.in_default-2.is c.in_ok-entered.ensures) (item_passed c.fields.invariant.at)).steps
 
+pub returns-then-used-rest-clause-more : goal.returns-then-used-rest-clause-more
+returns-then-used-rest-clause-more g c = (item_passed (named_on c.fields.invariant.at c.requires.room c.fields.invariant.some (named_as c.in-Some-2.is c.in_ok-entered.ensures))).more
+
 pub returns-then-used-rest-clause-ok : goal.returns-then-used-rest-clause-ok
 returns-then-used-rest-clause-ok g c = (item_passed (named_on c.fields.invariant.at c.requires.room c.fields.invariant.some (named_as c.in-Some-2.is c.in_ok-entered.ensures))).steps
+
+pub take_plain-requires-clause-awaited : goal.take_plain-requires-clause-awaited
+take_plain-requires-clause-awaited g c = (named_as c.in-Some-2.is c.in_ok-entered.ensures).awaited
+
+pub take_plain-requires-clause-inside : goal.take_plain-requires-clause-inside
+take_plain-requires-clause-inside g c = let e = named_as c.in-Some-2.is c.in_ok-entered.ensures in record { id = _; next = _; innermost = e.inside }
+
+pub take_plain-requires-clause-fresh : goal.take_plain-requires-clause-fresh
+take_plain-requires-clause-fresh g c = (named_as c.in-Some-2.is c.in_ok-entered.ensures).passes.fresh
 
 pub take_plain-requires-clause-stands : goal.take_plain-requires-clause-stands
 take_plain-requires-clause-stands g c = item_open (named_on c.fields.invariant.at c.requires.room c.fields.invariant.some (named_as c.in-Some-2.is c.in_ok-entered.ensures)) c.requires.stands (omega arith) c.requires.room (omega arith)

@@ -1,7 +1,13 @@
-use Rattle.std.proofs.Common.{refl, [], ◌∷◌}
+use Rattle.std.proofs.Common.{arith, refl, [], ◌∷◌}
 use Rattle.gob_read.proofs.Parts.{if_ok}
-use Rattle.gob_read.proofs.Runs.{number_goes_on, bad_head_refused, not_minimal_refused, not_allowed_stops, number_stepped}
+use Rattle.gob_read.proofs.Runs.{number_can_take, number_more, number_goes_on, bad_head_refused, not_minimal_refused, not_allowed_stops, number_stepped}
 use Rattle.gob_read.proofs.run.Run.take_byte.Goals as goal
+
+pub take-requires : goal.take-requires
+take-requires g c = number_can_take c.args.item (c.args.b ∷ []) c.requires.awaited c.requires.stands c.in-Done.ensures.judged (omega arith)
+
+pub returns-in-Done-clause-more : goal.returns-in-Done-clause-more
+returns-in-Done-clause-more g c = number_more _ _ _ _ _ _ _ c.take.result refl refl refl c.take.ensures.ok
 
 pub returns-in-More-clause-ok : goal.returns-in-More-clause-ok
 returns-in-More-clause-ok g c = number_goes_on c.args.item c.args.b c.requires.awaited refl c.in-More.ensures.next refl refl refl c.in-More.ensures.judged
