@@ -2,6 +2,7 @@
 pub use Rattle.gob_stream.proofs.StandLaws.{limits_stay, one_table, stands_within}
 pub use Rattle.gob_stream.proofs.UnderWayLaws.{after_gives}
 pub use Rattle.gob_stream.proofs.StayLaws.{shown_there, shown_refusal_stays}
+pub use Rattle.gob_stream.proofs.StreamReadSteps.{IsSeen, views_meant, views_behind}
 pub use Rattle.gob_stream.proofs.ReadBackLaws.{read_back}
 pub use Rattle.gob_stream.proofs.OutcomeLaws.{outcome_once}
 pub use Rattle.gob_stream.proofs.SomeOutcome.{outcome_somehow}

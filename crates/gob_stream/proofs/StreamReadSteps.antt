@@ -15,7 +15,7 @@ use Rattle.gob_stream.specs.declared.item.Item as declared
 use Rattle.gob_stream.specs.declared.reading.Reading.{Reading}
 use Rattle.gob_stream.specs.Bounds.{Bounds, AreLimits}
 use Rattle.gob_stream.specs.Devices.{counts_up}
-use Rattle.gob_stream.specs.Item.{StreamItem, ItemMeans, means_definition, means_value, item_view, item_views}
+use Rattle.gob_stream.specs.Item.{StreamItem, ItemMeans, means_definition, means_value, ItemsMean, mean_none, mean_more, item_view, item_views}
 use Rattle.gob_stream.specs.Outcome.{GivesItems, GivesButLast, Outcome, EndsSo, at_the_end, the_end, refused}
 use Rattle.gob_stream.specs.Stream.{Stream, no_more}
 use Rattle.gob_stream.specs.Standing.{Standing, StandsAfter, no_deeper}
@@ -51,6 +51,15 @@ IsSeen value v = view value ≡ v
 view_meant : {given : declared.Item Value} {i : StreamItem} → ItemMeans IsSeen given i → item_view given ≡ i
 view_meant means_definition = refl
 view_meant (means_value {v = v} e) = cc
+
+pub views_meant : {given : List (declared.Item Value)} {items : List StreamItem} → ItemsMean IsSeen given items → item_views given ≡ items
+views_meant mean_none = refl
+views_meant (mean_more {all = all} m more) = let one = view_meant m in let rest = views_meant more in cc
+
+-- behind others
+pub views_behind : (before : List (declared.Item Value)) {given : List (declared.Item Value)} {items : List StreamItem} → ItemsMean IsSeen given items → item_views (before ++ given) ≡ item_views before ++ items
+views_behind [] m = views_meant m
+views_behind (x ∷ before) m = ap (λ l. item_view x ∷ l) (views_behind before m)
 
 -- no limit allows a deeper value than a builder of trees takes
 pub tree_limits : {L : Bounds} → AreLimits L → no_deeper 1000 L ≡ L

@@ -32,6 +32,13 @@ impl<R> Input<R> {
         }
     }
 
+    /// The reader, as the reads so far left it.
+    pub fn into_inner(self) -> R
+        ensures { result ≡ self.reader }
+    {
+        self.reader
+    }
+
     /// How many bytes were read so far. It stays at 2^64-1 once there.
     pub fn taken(&self) -> u64
         ensures { result ≡ self.now.taken }

@@ -28,6 +28,13 @@ impl<W> Output<W> {
         }
     }
 
+    /// The writer, as the writes so far left it.
+    pub fn into_inner(self) -> W
+        ensures { result ≡ self.writer }
+    {
+        self.writer
+    }
+
     /// How many calls failed so far. It stays at 2^64-1 once there.
     pub fn failures(&self) -> u64
         ensures { result ≡ self.now.failures }

@@ -1,7 +1,14 @@
 //! Tests of gob_stream by its public calls: what no proof sees.
 //!
-//! They stand in a crate of their own, so that gob_stream is proved once and its edits don't wait for them.
+//! They stand in a crate of their own, so that gob_stream is proved once and its edits don't wait for them. Beside them stand
+//! two functions whose contracts are what those of gob_stream say together: [`write_and_read`] and [`read_pieces`].
 #![tactic(auto)]
+
+mod pieces;
+mod read_back;
+
+pub use pieces::read_pieces;
+pub use read_back::{Stopped, write_and_read};
 
 #[cfg(test)]
 mod devices;

@@ -17,11 +17,11 @@ use Rattle.gob_stream.specs.declared.fault.Fault.TheVariants as reading
 use Rattle.gob_stream.specs.declared.item.Item as declared
 use Rattle.gob_stream.specs.declared.reading.Reading.{Reading}
 use Rattle.gob_stream.specs.Bounds.{Bounds, greatest_depth}
-use Rattle.gob_stream.specs.Item.{StreamItem, item_views, ItemsMean, mean_none, mean_more, means_definition, means_value}
+use Rattle.gob_stream.specs.Item.{StreamItem, item_views}
 use Rattle.gob_stream.specs.Stream.{Stream, no_more}
 use Rattle.gob_stream.specs.Outcome.{BeginsWith, the_end, EndsSo, at_the_end}
 use Rattle.gob_stream.specs.Reading.{GivesOn, SomeTaken, Taken, HasTypesBehind, HasTypesBeyond, IsShown, Feeds, Finishes}
-use Rattle.gob_stream.proofs.PublicLaws.{after_gives, one_table, shown_there, shown_refusal_stays, stands_within}
+use Rattle.gob_stream.proofs.PublicLaws.{after_gives, one_table, shown_there, shown_refusal_stays, stands_within, views_meant}
 use Rattle.gob_tool.specs.declared.fault.ToolFault.{ToolFault}
 use Rattle.gob_tool.specs.declared.fault.ToolFault.TheVariants as fault
 use Rattle.gob_tool.specs.Line.{lines}
@@ -100,11 +100,6 @@ pub whole_front : (old new : Option (List ℕ)) (all : List ℕ) → Appends old
 whole_front old new all a = record { front = all; rest = []; whole = sym (append-nil all); out = a }
 
 -- ---- a piece
-views_mean : {given : List (declared.Item Value)} {items : List StreamItem} → ItemsMean tree_builder.means-value.it given items → item_views given ≡ items
-views_mean mean_none = refl
-views_mean (mean_more means_definition more) = let rest = views_mean more in cc
-views_mean (mean_more (means_value m) more) = let rest = views_mean more in let one : _ ≡ _ = m in cc
-
 -- the types behind more items are behind the first of them and the others
 fewer : {L : Bounds} {bytes : List ℕ} {T : Table} (items left : List StreamItem) → TypesBehind L bytes (items ++ left) T → TypesBehind L bytes items T
 fewer {L = L} {T = T} items left t = record {
@@ -173,10 +168,10 @@ module _ (s s' : Reading TreeBuilder Value) (bytes piece : List ℕ) (given : Li
   piece_stopped fed fault.Write f h =
       let on = fed_types fed f in
       let grown = front_grown old mid new gathered (lines (types s'.types) (item_views given)) (lines (types s'.types) b.items) (by_types_of_now on.more on.holds) h in
-      begins_at (AppendsFront old new) on.holds (subst (λ (l : List ℕ). AppendsFront old new l) (lines_given (types s'.types) b.items given on.more (views_mean on.mean)) grown)
+      begins_at (AppendsFront old new) on.holds (subst (λ (l : List ℕ). AppendsFront old new l) (lines_given (types s'.types) b.items given on.more (views_meant on.mean)) grown)
   piece_stopped fed fault.Memory f h =
       let on = fed_types fed f in
-      let first : b.items ++ on.more ≡ (b.items ++ h.first) ++ h.left = ap (λ (l : List StreamItem). b.items ++ l) (sym (views_mean on.mean) ∙ h.whole) ∙ sym (append_assoc b.items h.first h.left) in
+      let first : b.items ++ on.more ≡ (b.items ++ h.first) ++ h.left = ap (λ (l : List StreamItem). b.items ++ l) (sym (views_meant on.mean) ∙ h.whole) ∙ sym (append_assoc b.items h.first h.left) in
       let t = fewer (b.items ++ h.first) h.left (subst (λ (l : List StreamItem). TypesBehind (within_trees s.limits) (bytes ++ piece) l (types s'.types)) first on.holds) in
       let grown = gathered_grown old mid new gathered (lines (types s'.types) h.first) after (lines (types s'.types) b.items) (by_types_of_now on.more on.holds) h.passes in
       begins_at (Gathered old new after) t (subst (λ (l : List ℕ). Gathered old new after l) (sym (lines_append (types s'.types) b.items h.first)) grown)
@@ -187,7 +182,7 @@ module _ (s s' : Reading TreeBuilder Value) (bytes piece : List ℕ) (given : Li
   unfolding fed_types
   piece_taken u f p =
       let on = fed_types (Ok u) f in
-      record { items = b.items ++ f.more; gave = f.holds; out = all_gathered f.more (views_mean f.mean) on.holds p }
+      record { items = b.items ++ f.more; gave = f.holds; out = all_gathered f.more (views_meant f.mean) on.holds p }
 
   -- or it met a fault
   pub piece_refused : (e : Fault) → Feeds tree_builder.stands-value.it tree_builder.stands-value.it tree_builder.means-value.it greatest_depth s s' b.items bytes piece given (Err e)
@@ -199,12 +194,12 @@ module _ (s s' : Reading TreeBuilder Value) (bytes piece : List ℕ) (given : Li
         record {
           items = b.items ++ g.more;
           outcome = shown.outcome;
-          holds = subst (λ (l : List ℕ). Gathered old new after l) (begins_lines t shown.outcome.gives.begins) (all_gathered g.more (views_mean g.mean) t p);
+          holds = subst (λ (l : List ℕ). Gathered old new after l) (begins_lines t shown.outcome.gives.begins) (all_gathered g.more (views_meant g.mean) t p);
         },
         shown.shown,
       )
   piece_refused reading.Read f p = absurd f
-  piece_refused reading.Memory f p = let t = types_beyond f.holds.1 in begins_at (Gathered old new after) t (all_gathered f.more (views_mean f.mean) t p)
+  piece_refused reading.Memory f p = let t = types_beyond f.holds.1 in begins_at (Gathered old new after) t (all_gathered f.more (views_meant f.mean) t p)
   piece_refused reading.Failed f p = absurd f
 
 -- ---- from piece to piece
