@@ -186,7 +186,8 @@ fn accepted(rt: HostRuntime) -> Result<(), Fail> {
     let table = table(rt.alloc())?;
     assert_eq!(rt;
         first_wrong(rt.alloc(), &table, Due::Value, ACCEPTED)?,
-        None
+        None,
+        "the first wrong row"
     );
     Ok(())
 }
@@ -196,7 +197,8 @@ fn refused(rt: HostRuntime) -> Result<(), Fail> {
     let table = table(rt.alloc())?;
     assert_eq!(rt;
         first_wrong(rt.alloc(), &table, Due::Refusal, REFUSED)?,
-        None
+        None,
+        "the first wrong row"
     );
     Ok(())
 }
@@ -209,6 +211,7 @@ fn reading_wants_memory(rt: HostRuntime) {
     };
     assert_eq!(rt;
         first_wrong(rt.alloc(), &table, Due::Value, ACCEPTED).unwrap_or(None),
-        None
+        None,
+        "the first wrong row"
     );
 }

@@ -13,9 +13,9 @@ use gob_types::Table;
 use std::alloc::Global;
 use std::test::*;
 
-// Type, body, and what is held after each of its bytes by a builder of trees and by one that counts: each part from its
-// first byte on, the tag being in none, and by trees each raw byte. With the last byte the reader ends: it has the value, or
-// refuses the body.
+// Type, body, and what is held after each of its bytes by a builder of trees and by one that counts: each part from
+// its first byte on, the tag being in none, and by trees each raw byte. With the last byte the reader ends: it has the
+// value, or refuses the body.
 const ROWS: &str = "\
 7: 00 fe 31 40 fe f0 3f: 0 1 1 1 1 1 0: 0 1 1 1 1 1 0
 6: 00 05 68 65 6c 6c 6f: 0 1 2 3 4 5 0: 0 1 1 1 1 1 0
@@ -72,6 +72,10 @@ fn first_wrong<'a>(alloc: Global, table: &Table, rows: &'a str) -> Result<Option
 #[test]
 fn held_after_each_byte(rt: HostRuntime) -> Result<(), Fail> {
     let table = table(rt.alloc())?;
-    assert_eq!(rt; first_wrong(rt.alloc(), &table, ROWS)?, None);
+    assert_eq!(rt;
+        first_wrong(rt.alloc(), &table, ROWS)?,
+        None,
+        "the first wrong row"
+    );
     Ok(())
 }
