@@ -34,7 +34,8 @@ pub fn receive<S: Shapes, T: Shapes>(
     requires fits { let m = matched.now in
         FitsWithin (S.table (stream_of m)) (stream_type m) 1000 (view value.now) }
     ensures received { let m = matched.now in IfOk result (λ w.
-        Receives (S.table (stream_of m)) (T.table (wanted_of m)) (stream_type m) (wanted_type m) (view value.now) (view w)) }
+        Receives (S.table (stream_of m)) (T.table (wanted_of m)) (stream_type m) (wanted_type m)
+        (view value.now) (view w)) }
     ensures fits { let m = matched.now in IfOk result (λ w.
         FitsWithin (T.table (wanted_of m)) (wanted_type m) 1000 (view w)) }
 {

@@ -1,5 +1,5 @@
-//! Tests of matching and receiving, by their public calls alone. Each row is one of docs/FORMAT.md, or worked out by hand
-//! from it.
+//! Tests of matching and receiving, by their public calls alone. Each row is one of docs/FORMAT.md, or worked out
+//! by hand from it.
 #![tactic(auto)]
 
 #[cfg(test)]

@@ -5,8 +5,8 @@
 //! `opaque`. The name `0xff` is one byte.
 //!
 //! A value is made from its parts, which stand before it: `1 2 fields:0,1` is a struct of two ints, and `many:2` or
-//! `pairs:1` in place of the last word a list of them, or a map of one key and its element. A text is `'text`, an opaque
-//! value `~text`.
+//! `pairs:1` in place of the last word a list of them, or a map of one key and its element. A text is `'text`, an
+//! opaque value `~text`.
 use gob_match::MatchFault;
 use gob_num::Memory;
 use gob_types::{Field, Fields, Kind, Marshal, Name, NotReady, Shape, Table, TypeId};
