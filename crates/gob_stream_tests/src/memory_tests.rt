@@ -25,7 +25,7 @@ const TEXT: &[u8] = b"\x04\x0c\x00\x01\xff";
 
 const RAW: &[u8] = b"\x05\x0a\x00\x02\x00\xff";
 
-const STREAMS: [Stream; 11] = [
+static STREAMS: [Stream; 11] = [
     Stream(INT, &[4]),
     Stream(FLOAT, &[6]),
     Stream(COMPLEX, &[7]),
@@ -74,8 +74,8 @@ fn is_right(answer: Result<(), Fault>, items: usize, ends: &[u64], taken: u64) -
 
 #[test]
 fn reading_wants_memory(rt: HostRuntime) {
-    for Stream(bytes, ends) in STREAMS {
-        let mut input = Input::new(bytes);
+    for Stream(bytes, ends) in &STREAMS {
+        let mut input = Input::new(*bytes);
         let mut items = Vec::new(rt.alloc());
         let answer = read_stream(rt.alloc(), &mut input, Limits::standard(), &mut items);
         assert!(rt; is_right(answer, items.len(), ends, input.taken()));
@@ -84,7 +84,7 @@ fn reading_wants_memory(rt: HostRuntime) {
 
 #[test]
 fn sessions_want_memory(rt: HostRuntime) {
-    for Stream(bytes, ends) in STREAMS {
+    for Stream(bytes, ends) in &STREAMS {
         let mut items = Vec::new(rt.alloc());
         let (one, two) = bytes.split_at(bytes.len() / 2);
         let answer = feed_both(rt.alloc(), one, two, &mut items);
@@ -144,9 +144,9 @@ fn are_written(alloc: Global, items: &[Item<Value>], bytes: &[u8]) -> bool {
 #[test]
 fn writing_definitions_wants_memory(rt: HostRuntime) {
     let alloc = rt.alloc();
-    for Stream(bytes, _) in STREAMS {
+    for Stream(bytes, _) in &STREAMS {
         let mut items = Vec::new(alloc);
-        let mut input = Input::new(bytes);
+        let mut input = Input::new(*bytes);
         let answer = read_stream(alloc, &mut input, Limits::standard(), &mut items);
         assert!(rt; answer.is_err() || are_written(alloc, &items, bytes));
     }
