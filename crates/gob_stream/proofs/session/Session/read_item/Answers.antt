@@ -1,9 +1,10 @@
 use Rattle.std.proofs.Common.{◌<◌, ◌++◌, length, take, drop, Ok, Err, inl, inr, arith, refl, sym, ap, ◌∙◌}
 use Rattle.std.proofs.lemmas.Grind.{common_steps}
 use Rattle.gob_types.specs.Defined.{types}
+use Rattle.gob_stream.specs.Standing.{has_failed}
 use Rattle.gob_stream.specs.Reading.{ReadsNext, TakesNext}
 use Rattle.gob_stream.specs.ReadParts.{wanted_in}
-use Rattle.gob_stream.proofs.SessionSteps.{IsSound, told_trees, types_stay, on_err, consumed_nothing, all_taken, somewhere, stood_first, room_of, passed_on, IsRead, piece_length, piece_consumed, stepped, stood_before, step_stops, read_stops, end_stops, counts_none, step_unread, end_unread, nothing_more, step_gives, reads_item, gives_taken, takes_item, step_taken, item_within, no_less, some_there, none_there, stood_further, still_sound}
+use Rattle.gob_stream.proofs.SessionSteps.{IsSound, told_trees, types_stay, on_err, consumed_nothing, all_taken, somewhere, stood_first, room_of, passed_on, IsRead, piece_length, piece_consumed, stepped, stood_before, step_stops, read_stops, end_stops, counts_none, step_unread, end_unread, nothing_more, step_gives, reads_item, gives_taken, takes_item, step_taken, item_within, no_less, some_there, none_there, stood_further, sound_after, still_sound}
 use Rattle.gob_stream.proofs.session.Session.read_item.Goals as goal
 use Rattle.gob_stream.proofs.session.Session.read_item.Goals.{in-Failed, in_default}
 
@@ -201,3 +202,63 @@ returns-in_err-step-in-Ok-clause-types g c =
 
 pub returns-in-Err-clause-types : goal.returns-in-Err-clause-types
 returns-in-Err-clause-types g c = types_stay c.pieces.invariant.limits c.pieces.invariant.began c.pieces.invariant.stood
+
+pub returns-in_err-finish-in-Ok-eq0-clause-failed : goal.returns-in_err-finish-in-Ok-eq0-clause-failed
+returns-in_err-finish-in-Ok-eq0-clause-failed g c = on_err c.from_residual.result c.in_err-finish-in-Ok-eq0.ensures.failed
+
+pub returns-in_err-finish-in-Ok-eq0-clause-stays : goal.returns-in_err-finish-in-Ok-eq0-clause-stays
+returns-in_err-finish-in-Ok-eq0-clause-stays g c = λ f. absurd (sound_after c.pieces.invariant.began.after f)
+
+pub returns-in_err-finish-in-Ok-eq0-clause-usable : goal.returns-in_err-finish-in-Ok-eq0-clause-usable
+returns-in_err-finish-in-Ok-eq0-clause-usable g c = c.in_err-finish-in-Ok-eq0.ensures.usable
+
+pub returns-in_err-finish-in-Ok-eq0-clause-limits : goal.returns-in_err-finish-in-Ok-eq0-clause-limits
+returns-in_err-finish-in-Ok-eq0-clause-limits g c = c.in_err-finish-in-Ok-eq0.ensures.limits ∙ c.pieces.invariant.limits
+
+pub returns-in-Ok-eq0-clause-stays : goal.returns-in-Ok-eq0-clause-stays
+returns-in-Ok-eq0-clause-stays g c = λ f. absurd (sound_after c.pieces.invariant.began.after f)
+
+pub returns-in-Ok-eq0-clause-usable : goal.returns-in-Ok-eq0-clause-usable
+returns-in-Ok-eq0-clause-usable g c = c.in_ok-finish-in-Ok-eq0.ensures.usable
+
+pub returns-in-Ok-eq0-clause-limits : goal.returns-in-Ok-eq0-clause-limits
+returns-in-Ok-eq0-clause-limits g c = c.in_ok-finish-in-Ok-eq0.ensures.limits ∙ c.pieces.invariant.limits
+
+pub returns-in-Ok-eq0-clause-counted : goal.returns-in-Ok-eq0-clause-counted
+returns-in-Ok-eq0-clause-counted g c = c.in-Ok-eq0.ensures.counted.1 ∙ c.pieces.invariant.failures
+
+pub returns-in_err-step-in-Ok-clause-failed : goal.returns-in_err-step-in-Ok-clause-failed
+returns-in_err-step-in-Ok-clause-failed g c = on_err c.from_residual-in_err-step-in-Ok.result c.in_err-step-in-Ok.ensures.failed
+
+pub returns-in_err-step-in-Ok-clause-stays : goal.returns-in_err-step-in-Ok-clause-stays
+returns-in_err-step-in-Ok-clause-stays g c = λ f. absurd (sound_after c.pieces.invariant.began.after f)
+
+pub returns-in_err-step-in-Ok-clause-usable : goal.returns-in_err-step-in-Ok-clause-usable
+returns-in_err-step-in-Ok-clause-usable g c = c.in_err-step-in-Ok.ensures.usable
+
+pub returns-in_err-step-in-Ok-clause-limits : goal.returns-in_err-step-in-Ok-clause-limits
+returns-in_err-step-in-Ok-clause-limits g c = c.in_err-step-in-Ok.ensures.limits ∙ c.pieces.invariant.limits
+
+pub returns-then-is_some-clause-stays : goal.returns-then-is_some-clause-stays
+returns-then-is_some-clause-stays g c = λ f. absurd (sound_after c.pieces.invariant.began.after f)
+
+pub returns-then-is_some-clause-usable : goal.returns-then-is_some-clause-usable
+returns-then-is_some-clause-usable g c = c.in_ok-step-in-Ok.ensures.usable
+
+pub returns-then-is_some-clause-limits : goal.returns-then-is_some-clause-limits
+returns-then-is_some-clause-limits g c = c.in_ok-step-in-Ok.ensures.limits ∙ c.pieces.invariant.limits
+
+pub returns-then-is_some-clause-counted : goal.returns-then-is_some-clause-counted
+returns-then-is_some-clause-counted g c = c.in-Ok.ensures.counted.1 ∙ c.pieces.invariant.failures
+
+pub returns-in-Err-clause-failed : goal.returns-in-Err-clause-failed
+returns-in-Err-clause-failed g c = refl
+
+pub returns-in-Err-clause-stays : goal.returns-in-Err-clause-stays
+returns-in-Err-clause-stays g c = λ f. absurd (sound_after c.pieces.invariant.began.after f)
+
+pub returns-in-Err-clause-usable : goal.returns-in-Err-clause-usable
+returns-in-Err-clause-usable g c = has_failed refl
+
+pub returns-in-Err-clause-limits : goal.returns-in-Err-clause-limits
+returns-in-Err-clause-limits g c = c.pieces.invariant.limits
