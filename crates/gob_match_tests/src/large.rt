@@ -29,7 +29,7 @@ fn table_of(alloc: Global, fields: Fields) -> Result<Table, Wrong> {
         kind: Kind::Struct { fields },
     };
     let mut table = Table::new(alloc, 1)?;
-    define(alloc, &mut table, TypeId(65), shape);
+    define(alloc, &mut table, TypeId(65), shape)?;
     Ok(table)
 }
 

@@ -9,7 +9,7 @@
 //! opaque value `~text`.
 use gob_match::MatchFault;
 use gob_num::Memory;
-use gob_types::{Field, Fields, Kind, Marshal, Name, NotReady, Shape, Table, TypeId};
+use gob_types::{DefineFault, Field, Fields, Kind, Marshal, Name, NotReady, Shape, Table, TypeId};
 use gob_value::{Misfit, SpellFault, Value};
 use std::alloc::{AllocError, AllocFailed, Global};
 use std::process::Abort;
@@ -141,9 +141,18 @@ pub(crate) fn type_of(text: &str) -> TypeId {
 }
 
 /// Defines a type, unless the table refuses it. Then it isn't found later.
-pub(crate) fn define(alloc: Global, table: &mut Table, id: TypeId, shape: Shape) {
-    if shape.definable() {
-        let _ = table.define(alloc, id, shape);
+pub(crate) fn define(
+    alloc: Global,
+    table: &mut Table,
+    id: TypeId,
+    shape: Shape,
+) -> Result<(), Memory> {
+    if !shape.definable() {
+        return Ok(());
+    }
+    match table.define(alloc, id, shape) {
+        Err(DefineFault::Memory) => Err(Memory),
+        _ => Ok(()),
     }
 }
 
@@ -157,7 +166,7 @@ pub(crate) fn table_of(alloc: Global, text: &str) -> Result<Table, Wrong> {
             name: Name::new(Vec::new(alloc)),
             kind: kind_of(alloc, &mut words)?,
         };
-        define(alloc, &mut table, id, shape);
+        define(alloc, &mut table, id, shape)?;
     }
     Ok(table)
 }
