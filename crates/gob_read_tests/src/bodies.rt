@@ -81,32 +81,6 @@ const REFUSED: &str = "\
 // The lengths of the pieces in which each body is read.
 const PIECES: [usize; 3] = [1, 3, usize::MAX];
 
-// What is due of a row.
-#[derive(Clone, Copy)]
-enum Due {
-    Value,
-    Refusal,
-}
-
-// The first of the rows of which another thing came than what is due.
-fn first_wrong<'a>(
-    alloc: Global,
-    table: &Table,
-    due: Due,
-    rows: &'a str,
-) -> Result<Option<&'a str>, Memory> {
-    for row in rows.lines() {
-        let right = match due {
-            Due::Value => is_accepted(alloc, table, row)?,
-            Due::Refusal => is_refused(alloc, table, row)?,
-        };
-        if !right {
-            return Ok(Some(row));
-        }
-    }
-    Ok(None)
-}
-
 // Whether both builders read the body of the row, whole and in pieces.
 fn is_accepted(alloc: Global, table: &Table, row: &str) -> Result<bool, Memory> {
     let body = Body::of(alloc, row)?;
@@ -184,22 +158,18 @@ fn is_refusal(stop: Option<Stop>, due: &[u64]) -> bool {
 #[test]
 fn accepted(rt: HostRuntime) -> Result<(), Fail> {
     let table = table(rt.alloc())?;
-    assert_eq!(rt;
-        first_wrong(rt.alloc(), &table, Due::Value, ACCEPTED)?,
-        None,
-        "the first wrong row"
-    );
+    for row in ACCEPTED.lines() {
+        assert!(rt; is_accepted(rt.alloc(), &table, row) == Ok(true), "{row}");
+    }
     Ok(())
 }
 
 #[test]
 fn refused(rt: HostRuntime) -> Result<(), Fail> {
     let table = table(rt.alloc())?;
-    assert_eq!(rt;
-        first_wrong(rt.alloc(), &table, Due::Refusal, REFUSED)?,
-        None,
-        "the first wrong row"
-    );
+    for row in REFUSED.lines() {
+        assert!(rt; is_refused(rt.alloc(), &table, row) == Ok(true), "{row}");
+    }
     Ok(())
 }
 
@@ -209,9 +179,7 @@ fn reading_wants_memory(rt: HostRuntime) {
     let Ok(table) = table(rt.alloc()) else {
         return;
     };
-    assert_eq!(rt;
-        first_wrong(rt.alloc(), &table, Due::Value, ACCEPTED).unwrap_or(None),
-        None,
-        "the first wrong row"
-    );
+    for row in ACCEPTED.lines() {
+        assert!(rt; is_accepted(rt.alloc(), &table, row) != Ok(false), "{row}");
+    }
 }
