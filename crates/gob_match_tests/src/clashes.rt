@@ -100,20 +100,18 @@ fn is_judged(
     }
 }
 
+// Whether this table's type and the wanted one are answered as the row says.
+fn is_answered_for(alloc: Global, stream: &Table, row: &str) -> Result<bool, Wrong> {
+    let text = part(row, 2);
+    let wanted = table_of(alloc, text)?;
+    let id = type_of(part(row, 1));
+    is_judged(alloc, stream, id, &wanted, type_of(text), part(row, 3))
+}
+
 /// Whether the types are answered as the row says.
 pub(crate) fn is_answered(alloc: Global, row: &str) -> Result<bool, Wrong> {
-    let stream = part(row, 1);
-    let wanted = part(row, 2);
-    let table = table_of(alloc, stream)?;
-    let wanted_table = table_of(alloc, wanted)?;
-    is_judged(
-        alloc,
-        &table,
-        type_of(stream),
-        &wanted_table,
-        type_of(wanted),
-        part(row, 3),
-    )
+    let stream = table_of(alloc, part(row, 1))?;
+    is_answered_for(alloc, &stream, row)
 }
 
 #[test]

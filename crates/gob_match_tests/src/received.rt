@@ -69,26 +69,24 @@ fn is_spelled(
     Ok(out == bytes)
 }
 
-// Whether what is received of the value is spelled as the row says.
-fn is_received_by(
-    alloc: Global,
-    stream: &Table,
-    wanted: &Table,
-    value: &Value,
-    row: &str,
-) -> Result<bool, Wrong> {
+// Whether what is received of the row's value is spelled as the row says.
+fn is_received_by(alloc: Global, stream: &Table, wanted: &Table, row: &str) -> Result<bool, Wrong> {
+    let value = value_of(alloc, part(row, 3))?;
     let id = type_of(part(row, 1));
     let wanted_id = type_of(part(row, 2));
-    let made = received(alloc, stream, id, wanted, wanted_id, value)?;
+    let made = received(alloc, stream, id, wanted, wanted_id, &value)?;
     is_spelled(alloc, wanted, wanted_id, &made, part(row, 4))
+}
+
+fn is_received_from(alloc: Global, stream: &Table, row: &str) -> Result<bool, Wrong> {
+    let wanted = table_of(alloc, part(row, 2))?;
+    is_received_by(alloc, stream, &wanted, row)
 }
 
 // Whether what is received is spelled as the row says.
 fn is_received(alloc: Global, row: &str) -> Result<bool, Wrong> {
-    let table = table_of(alloc, part(row, 1))?;
-    let wanted_table = table_of(alloc, part(row, 2))?;
-    let value = value_of(alloc, part(row, 3))?;
-    is_received_by(alloc, &table, &wanted_table, &value, row)
+    let stream = table_of(alloc, part(row, 1))?;
+    is_received_from(alloc, &stream, row)
 }
 
 #[test]
