@@ -6,12 +6,25 @@ use std::test::Fail;
 
 // What is matched, the stream's type, the wanted type, and the number and path of the clash, as docs/FORMAT.md writes
 // them, or nothing where they match. Where several clashes have the fewest steps, each is listed.
-static ROWS: [(&str, &str, &str, &str); 34] = [
+static ROWS: [(&str, &str, &str, &str); 37] = [
     ("a basic type and itself", "2", "2", ""),
     ("int and uint", "2", "3", "33 top"),
     ("int and float", "2", "4", "33 top"),
     ("[]byte and string", "5", "6", "33 top"),
     ("two opaque types", "65 opaque", "66 opaque", ""),
+    (
+        "two that marshal themselves as text",
+        "65 text",
+        "66 text",
+        "",
+    ),
+    ("text and binary", "65 text", "65 binary", "33 top"),
+    (
+        "binary and a type's own way",
+        "65 binary",
+        "65 opaque",
+        "33 top",
+    ),
     ("an opaque type and int", "65 opaque", "2", "33 top"),
     (
         "structs with B in both",
