@@ -12,7 +12,6 @@ use gob_num::Memory;
 use gob_types::{DefineFault, Field, Fields, Kind, Marshal, Name, NotReady, Shape, Table, TypeId};
 use gob_value::{Misfit, SpellFault, Value};
 use std::alloc::{AllocError, AllocFailed, Global};
-use std::process::Abort;
 use std::str::SplitWhitespace;
 
 /// Why a row isn't answered as it says.
@@ -75,11 +74,9 @@ impl From<MatchFault> for Wrong {
     }
 }
 
-/// Ends the test at a row that is answered otherwise than it says.
-pub(crate) fn expect_none(rt: &impl Abort, wrong: Option<&str>) {
-    let is_right = wrong.is_none();
-    let what = wrong.unwrap_or("");
-    assert!(rt; is_right, "{what}");
+/// The part of a row with this number, counted from 0; empty where there is none.
+pub(crate) fn part(row: &str, number: usize) -> &str {
+    row.split(" | ").nth(number).unwrap_or("")
 }
 
 // The number that a word is, or 0.
@@ -101,7 +98,7 @@ fn name_of(alloc: Global, word: &str) -> Result<Name, AllocError> {
 
 fn fields_of(alloc: Global, words: &mut SplitWhitespace<'_>) -> Result<Fields, AllocError> {
     let mut fields = Vec::new(alloc);
-    for _ in 0..100u32 {
+    for _ in 0..10000u32 {
         let Some(word) = words.next() else {
             break;
         };
@@ -142,13 +139,8 @@ pub(crate) fn type_of(text: &str) -> TypeId {
     next_id(&mut text.split_whitespace())
 }
 
-/// Defines a type, unless the table refuses it. Then it isn't found later.
-pub(crate) fn define(
-    alloc: Global,
-    table: &mut Table,
-    id: TypeId,
-    shape: Shape,
-) -> Result<(), Memory> {
+// Defines a type, unless the table refuses it. Then it isn't found later.
+fn define(alloc: Global, table: &mut Table, id: TypeId, shape: Shape) -> Result<(), Memory> {
     if !shape.definable() {
         return Ok(());
     }
@@ -175,7 +167,10 @@ pub(crate) fn table_of(alloc: Global, text: &str) -> Result<Table, Wrong> {
 
 // The last value that was made, or nil.
 fn last(made: &mut Vec<Value>) -> Value {
-    made.pop().unwrap_or(Value::Nil)
+    match made.pop() {
+        Some(value) => value,
+        None => Value::Nil,
+    }
 }
 
 fn many_of(alloc: Global, made: &mut Vec<Value>, count: u64) -> Result<Value, AllocError> {

@@ -3,10 +3,8 @@
 
 use crate::devices::Small;
 use crate::sessions::feed_both;
-use gob_stream::{
-    Fault, Input, Item, Limits, Output, StreamWriter, WriteFault, read_stream, write_stream,
-};
-use gob_types::TypeId;
+use crate::values::{VALUES, is_written};
+use gob_stream::{Fault, Input, Item, Limits, Output, WriteFault, read_stream, write_stream};
 use gob_value::Value;
 use std::alloc::Global;
 use std::test::*;
@@ -72,58 +70,43 @@ fn is_right(answer: Result<(), Fault>, items: usize, ends: &[u64], taken: u64) -
     }
 }
 
+// Whether reading gives the items, or those before want of memory.
+fn is_read(alloc: Global, stream: Stream) -> bool {
+    let Stream(bytes, ends) = stream;
+    let mut input = Input::new(bytes);
+    let mut items = Vec::new(alloc);
+    let answer = read_stream(alloc, &mut input, Limits::standard(), &mut items);
+    is_right(answer, items.len(), ends, input.taken())
+}
+
 #[test]
 fn reading_wants_memory(rt: HostRuntime) {
-    for Stream(bytes, ends) in &STREAMS {
-        let mut input = Input::new(*bytes);
-        let mut items = Vec::new(rt.alloc());
-        let answer = read_stream(rt.alloc(), &mut input, Limits::standard(), &mut items);
-        assert!(rt; is_right(answer, items.len(), ends, input.taken()));
+    for stream in &STREAMS {
+        assert!(rt; is_read(rt.alloc(), *stream));
     }
+}
+
+// Whether a session that is fed the bytes in two pieces gives the items, or no more than they are before want of memory.
+fn is_fed(alloc: Global, stream: Stream) -> bool {
+    let Stream(bytes, ends) = stream;
+    let mut items = Vec::new(alloc);
+    let (one, two) = bytes.split_at(bytes.len() / 2);
+    let answer = feed_both(alloc, one, two, &mut items);
+    items.len() == ends.len() || answer == Err(Fault::Memory) && items.len() <= ends.len()
 }
 
 #[test]
 fn sessions_want_memory(rt: HostRuntime) {
-    for Stream(bytes, ends) in &STREAMS {
-        let mut items = Vec::new(rt.alloc());
-        let (one, two) = bytes.split_at(bytes.len() / 2);
-        let answer = feed_both(rt.alloc(), one, two, &mut items);
-        let whole = items.len() == ends.len();
-        assert!(rt; whole || answer == Err(Fault::Memory) && items.len() <= ends.len());
-    }
-}
-
-// Writes a stream of one value.
-fn put_one(alloc: Global, small: &mut Small, id: u64, value: &Value) -> Result<(), WriteFault> {
-    let mut output = Output::new(small);
-    let mut writer = StreamWriter::new(alloc, Limits::standard())?;
-    writer.put(alloc, &mut output, TypeId(id), value)
-}
-
-// Whether the value was written as these bytes, or not at all for want of memory.
-fn is_written(alloc: Global, id: u64, value: &Value, bytes: &[u8]) -> bool {
-    let mut small = Small::new();
-    match put_one(alloc, &mut small, id, value) {
-        Ok(()) => small.taken() == Some(bytes),
-        Err(fault) => fault == WriteFault::Memory && small.taken() == Some(&[]),
+    for stream in &STREAMS {
+        assert!(rt; is_fed(rt.alloc(), *stream));
     }
 }
 
 #[test]
 fn writing_wants_memory(rt: HostRuntime) {
-    let alloc = rt.alloc();
-    let pattern = 0x4031_0000_0000_0000;
-    assert!(rt; is_written(alloc, 2, &Value::Int(3), INT), "an int");
-    assert!(rt;
-        is_written(alloc, 4, &Value::Float(pattern), FLOAT),
-        "a float"
-    );
-    assert!(rt;
-        is_written(alloc, 7, &Value::Complex(pattern, 0), COMPLEX),
-        "a complex number"
-    );
-    if let Ok(text) = [0xff].to_vec(alloc) {
-        assert!(rt; is_written(alloc, 6, &Value::Str(text), TEXT), "text");
+    for (row, (id, bytes)) in VALUES.iter().enumerate() {
+        let is_wrong = is_written(rt.alloc(), row, *id, bytes) == Ok(false);
+        assert!(rt; !is_wrong, "row {row}");
     }
 }
 
@@ -141,13 +124,18 @@ fn are_written(alloc: Global, items: &[Item<Value>], bytes: &[u8]) -> bool {
     }
 }
 
+// Whether the items of a stream that are read are written.
+fn is_written_again(alloc: Global, stream: Stream) -> bool {
+    let Stream(bytes, _) = stream;
+    let mut items = Vec::new(alloc);
+    let mut input = Input::new(bytes);
+    let answer = read_stream(alloc, &mut input, Limits::standard(), &mut items);
+    answer.is_err() || are_written(alloc, &items, bytes)
+}
+
 #[test]
 fn writing_definitions_wants_memory(rt: HostRuntime) {
-    let alloc = rt.alloc();
-    for Stream(bytes, _) in &STREAMS {
-        let mut items = Vec::new(alloc);
-        let mut input = Input::new(*bytes);
-        let answer = read_stream(alloc, &mut input, Limits::standard(), &mut items);
-        assert!(rt; answer.is_err() || are_written(alloc, &items, bytes));
+    for stream in &STREAMS {
+        assert!(rt; is_written_again(rt.alloc(), *stream));
     }
 }

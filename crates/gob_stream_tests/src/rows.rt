@@ -1,10 +1,11 @@
-//! The rows of docs/FORMAT.md on reading, and more, in that page's notation: what, a stream, and what it gives, which is how
-//! many items it begins with and what is refused behind these.
+//! The rows of docs/FORMAT.md on reading, and more, in that page's notation: what, a stream, what it gives, which is how many
+//! items it begins with and what is refused behind these, and the limits: for an item, for the depth, for types and for the
+//! stream.
 
-use std::alloc::Global;
-use std::test::Fail;
+use gob_stream::Limits;
+use std::alloc::{AllocError, Global};
 
-/// Rows under the standard limits.
+/// The rows. Those without limits are read under the standard ones.
 pub(crate) const ROWS: &str = "
 nothing |  | 0 items
 an int | 03 04 00 06 | 1 items
@@ -60,107 +61,78 @@ type 0 | 02 00 00 | 0 items, refused 10 UndefinedType(0) at 1 seen 2
 type 24 | 02 30 00 | 0 items, refused 10 UndefinedType(24) at 1 seen 2
 a long list announced | LIST 0c ff 82 00 f8 ff ff ff ff ff ff ff ff | 1 items, refused 5 Short at 27 seen 27
 a type number cut off | 01 ff | 0 items, refused 5 Short at 2 seen 2
+depth 5 | LIST 08 ff 82 00 01 01 01 01 00 | 2 items | 100 5 10 100
+depth 6 | LIST 09 ff 82 00 01 01 01 01 01 00 | 1 items, refused 17 TooDeep at 23 seen 23 | 100 5 10 100
+depth 6, shown before the end | LIST 08 ff 82 00 01 01 01 01 01 | 1 items, refused 17 TooDeep at 23 seen 23 | 100 5 10 100
+an int of 4 bytes in 3 | 03 04 00 06 | 0 items, refused 4 StreamTooLong at 0 seen 1 | 18446744073709551615 1000 0 3
+the second of two items | 03 04 00 06 03 02 00 01 | 1 items, refused 4 StreamTooLong at 4 seen 5 | 18446744073709551615 1000 0 7
+the greatest count | f8 ff ff ff ff ff ff ff ff | 0 items, refused 4 StreamTooLong at 0 seen 9 | 18446744073709551615 1000 0 7
+two items as long as the limit | 03 04 00 06 03 02 00 01 | 2 items | 18446744073709551615 1000 0 8
+a definition too many | 04 ff 81 00 00 | 0 items, refused 9 TooManyTypes at 1 seen 3 | 18446744073709551615 1000 0 9
 ";
 
-/// Rows under a depth limit of 5.
-pub(crate) const DEEP: &str = "
-depth 5 | LIST 08 ff 82 00 01 01 01 01 00 | 2 items
-depth 6 | LIST 09 ff 82 00 01 01 01 01 01 00 | 1 items, refused 17 TooDeep at 23 seen 23
-depth 6, shown before the end | LIST 08 ff 82 00 01 01 01 01 01 | 1 items, refused 17 TooDeep at 23 seen 23
-";
-
-/// Rows under a limit of 3 for the stream, and of 0 for types.
-pub(crate) const IN_3: &str = "
-an int of 4 bytes in 3 | 03 04 00 06 | 0 items, refused 4 StreamTooLong at 0 seen 1
-";
-
-/// The same with a limit of 7 for the stream.
-pub(crate) const IN_7: &str = "
-the second of two items | 03 04 00 06 03 02 00 01 | 1 items, refused 4 StreamTooLong at 4 seen 5
-the greatest count | f8 ff ff ff ff ff ff ff ff | 0 items, refused 4 StreamTooLong at 0 seen 9
-";
-
-/// With one of 8.
-pub(crate) const IN_8: &str = "
-two items as long as the limit | 03 04 00 06 03 02 00 01 | 2 items
-";
-
-/// And with one of 9.
-pub(crate) const IN_9: &str = "
-a definition too many | 04 ff 81 00 00 | 0 items, refused 9 TooManyTypes at 1 seen 3
-";
-
-/// A row of a table.
-#[derive(Drop)]
-pub(crate) struct Row {
-    /// What it is.
-    pub(crate) what: &'static str,
-    /// The bytes of the stream.
-    pub(crate) bytes: Vec<u8>,
-    /// What it gives.
-    pub(crate) gives: &'static str,
+/// The part of a row with this number, counted from 0; empty where there is none.
+pub(crate) fn part(row: &str, number: usize) -> &str {
+    row.split(" | ").nth(number).unwrap_or("")
 }
 
-/// The row of this line.
-pub(crate) fn row_of(alloc: Global, line: &'static str) -> Result<Row, Fail> {
-    let mut parts = line.split(" | ");
-    match (parts.next(), parts.next(), parts.next()) {
-        (Some(what), Some(stream), Some(gives)) => Ok(Row {
-            what,
-            bytes: bytes_of(alloc, stream)?,
-            gives,
-        }),
-        _ => Err("a row has three parts".into()),
+/// The limits of a row; none where there can be no such limits.
+pub(crate) fn limits_of(row: &str) -> Option<Limits> {
+    let limits = part(row, 3);
+    if limits.is_empty() {
+        return Some(Limits::standard());
     }
+    Limits::new(
+        number(limits, 0),
+        number(limits, 1),
+        number(limits, 2),
+        number(limits, 3),
+    )
 }
 
-const POINT: &str =
-    "1f ff 81 03 01 01 05 50 6f 69 6e 74 01 ff 82 00 01 02 01 01 58 01 04 00 01 01 59 01 04 00 00 00";
+/// The number that is the word in this place, counted from 0; 0 where there is none.
+pub(crate) fn number(text: &str, place: usize) -> u64 {
+    let word = text.split_whitespace().nth(place).unwrap_or("");
+    word.parse().unwrap_or(0)
+}
 
-const NODE: &str =
-    "22 ff 81 03 01 01 04 4e 6f 64 65 01 ff 82 00 01 02 01 01 56 01 04 00 01 04 4e 65 78 74 01 ff 82 00 00 00";
-// A struct with a field A of type 66.
-const OUTER: &str = "16 ff 81 03 01 01 01 53 01 ff 82 00 01 01 01 01 41 01 ff 84 00 00 00";
-
-const ARRAY: &str = "0e ff 81 01 01 02 ff 82 00 01 04 01 04 00 00";
-
-const LOOP: &str = "0f ff 81 01 01 02 ff 82 00 01 ff 82 01 02 00 00";
-
-const LIST: &str = "0d ff 81 02 01 02 ff 82 00 01 ff 82 00 00";
-
-const MAP: &str = "0e ff 81 04 01 02 ff 82 00 01 0c 01 04 00 00";
-
-const TIME: &str = "10 ff 81 05 01 01 04 54 69 6d 65 01 ff 82 00 00 00";
+// The definitions by their names. OUTER is a struct with a field A of type 66.
+const DEFINITIONS: &str = "
+POINT 1f ff 81 03 01 01 05 50 6f 69 6e 74 01 ff 82 00 01 02 01 01 58 01 04 00 01 01 59 01 04 00 00 00
+NODE 22 ff 81 03 01 01 04 4e 6f 64 65 01 ff 82 00 01 02 01 01 56 01 04 00 01 04 4e 65 78 74 01 ff 82 00 00 00
+OUTER 16 ff 81 03 01 01 01 53 01 ff 82 00 01 01 01 01 41 01 ff 84 00 00 00
+ARRAY 0e ff 81 01 01 02 ff 82 00 01 04 01 04 00 00
+LOOP 0f ff 81 01 01 02 ff 82 00 01 ff 82 01 02 00 00
+LIST 0d ff 81 02 01 02 ff 82 00 01 ff 82 00 00
+MAP 0e ff 81 04 01 02 ff 82 00 01 0c 01 04 00 00
+TIME 10 ff 81 05 01 01 04 54 69 6d 65 01 ff 82 00 00 00
+";
 
 /// The bytes that are written so: in hexadecimal, or by the name of a definition.
-pub(crate) fn bytes_of(alloc: Global, text: &str) -> Result<Vec<u8>, Fail> {
+pub(crate) fn bytes_of(alloc: Global, text: &str) -> Result<Vec<u8>, AllocError> {
     let mut bytes = Vec::new(alloc);
     for word in text.split_whitespace() {
-        append(alloc, definition(word), &mut bytes)?;
+        append(definition(word), &mut bytes)?;
     }
     Ok(bytes)
 }
 
 // The definition of this name, or else the word itself.
 fn definition<'a>(word: &'a str) -> &'a str {
-    match word {
-        "POINT" => POINT,
-        "NODE" => NODE,
-        "OUTER" => OUTER,
-        "ARRAY" => ARRAY,
-        "LOOP" => LOOP,
-        "LIST" => LIST,
-        "MAP" => MAP,
-        "TIME" => TIME,
-        _ => word,
+    for line in DEFINITIONS.lines() {
+        if let Some((name, bytes)) = line.split_once(' ') {
+            if name == word {
+                return bytes;
+            }
+        }
     }
+    word
 }
 
 // Appends bytes in hexadecimal.
-fn append(alloc: Global, text: &str, bytes: &mut Vec<u8>) -> Result<(), Fail> {
+fn append(text: &str, bytes: &mut Vec<u8>) -> Result<(), AllocError> {
     for word in text.split_whitespace() {
-        let more = hex::decode(alloc, word)?;
-        bytes.extend_from_slice(&more)?;
+        bytes.push(u8::from_str_radix(word, 16).unwrap_or(u8::MAX))?;
     }
     Ok(())
 }

@@ -1,161 +1,123 @@
 //! What no proof shows of writers: the bytes of the documented rows, that each call succeeds, and writers that fail.
 
 use crate::devices::{Device, Wrong};
-use crate::rows::bytes_of;
-use gob_num::Memory;
-use gob_stream::{Item, Limits, Output, StreamWriter, WriteFault, WriteStop, write_stream};
+use crate::values::{VALUES, is_written};
+use gob_stream::{
+    Input, Item, Limits, Output, StreamWriter, WriteFault, WriteStop, read_stream, write_stream,
+};
 use gob_types::{Reason, TypeId};
 use gob_value::Value;
 use std::alloc::{AllocError, Global};
 use std::io::Write;
 use std::test::Fail;
 
-fn put(id: u64, value: Value) -> Item<Value> {
-    Item::Put {
-        id: TypeId(id),
-        value,
+#[test]
+fn values_are_the_documented_bytes(rt: HostRuntime) {
+    for (row, (id, bytes)) in VALUES.iter().enumerate() {
+        let is_right = is_written(rt.alloc(), row, *id, bytes) == Ok(true);
+        assert!(rt; is_right, "row {row}");
     }
 }
 
-fn define(id: u64, described: Value) -> Item<Value> {
-    Item::Define {
-        id: TypeId(id),
-        described,
-    }
-}
-
-// The documented items: of the basic types, and the type Point with Point { 22, 33 }.
-fn documented(alloc: Global) -> Result<Vec<Item<Value>>, Fail> {
-    let pattern = 0x4031000000000000;
-    let mut items = Vec::new(alloc);
-    items.push(put(1, Value::Bool(true)))?;
-    items.push(put(2, Value::Int(3)))?;
-    items.push(put(2, Value::Int(i64::MIN)))?;
-    items.push(put(3, Value::Uint(7)))?;
-    items.push(put(4, Value::Float(pattern)))?;
-    items.push(put(5, Value::Bytes([0x00, 0xff].to_vec(alloc)?)))?;
-    items.push(put(6, Value::Str([0xff].to_vec(alloc)?)))?;
-    items.push(put(7, Value::Complex(pattern, 0)))?;
-    items.push(define(65, described_point(alloc)?))?;
-    items.push(put(65, two_fields(alloc, Value::Int(22), Value::Int(33))?))?;
-    Ok(items)
-}
-
-// And their bytes.
-const DOCUMENTED: &str = "03 02 00 01
-    03 04 00 06
-    0b 04 00 f8 ff ff ff ff ff ff ff ff
-    03 06 00 07
-    05 08 00 fe 31 40
-    05 0a 00 02 00 ff
-    04 0c 00 01 ff
-    06 0e 00 fe 31 40 00
-    POINT
-    07 ff 82 01 2c 01 42 00";
-
-#[test]
-fn items_are_the_documented_bytes(rt: HostRuntime) -> Result<(), Fail> {
-    let items = documented(rt.alloc())?;
-    let mut device = Device::slow(rt.alloc(), 0, Wrong::Nothing);
-    let mut output = Output::new(&mut device);
-    let answer = write_stream(rt.alloc(), &mut output, &items, Limits::standard());
-    let wanted = bytes_of(rt.alloc(), DOCUMENTED)?;
-    assert!(rt; answer.is_ok() && device.taken == wanted);
-    Ok(())
-}
-
-#[test]
-fn writers_go_on_after_a_refusal_alone(rt: HostRuntime) -> Result<(), Fail> {
-    let refused = Err(WriteFault::Refused(Reason::DoesNotFit));
-    let failed = Err(WriteFault::Failed);
-    let mut device = Device::sound(rt.alloc());
-    let answers = write_four(rt.alloc(), &mut device, Value::Int(3))?;
-    assert!(rt; answers == [Ok(()), refused, refused, Ok(())], "a refusal");
-    assert!(rt;
-        device.taken.as_slice() == b"\x03\x04\x00\x06\x03\x04\x00\x06".as_slice(),
-        "a refusal"
-    );
-    let mut device = Device::slow(rt.alloc(), 3, Wrong::Broken);
-    let answers = write_four(rt.alloc(), &mut device, Value::Int(3))?;
-    assert!(rt;
-        answers == [Err(WriteFault::Write), failed, failed, failed],
-        "a failed write"
-    );
-    assert!(rt;
-        device.taken.as_slice() == b"\x03\x04".as_slice(),
-        "a failed write"
-    );
-    Ok(())
-}
-
-// Writes the int, the same as a uint, as a description, and again, and gives what each call answers.
-fn write_four(
+// Whether a writer answers so when it is given an int, then the same as a uint and as a description, and the int again.
+fn are_answers(
     alloc: Global,
     device: &mut Device,
-    int: Value,
-) -> Result<[Result<(), WriteFault>; 4], Memory> {
+    first: Result<(), WriteFault>,
+    wrong: WriteFault,
+    last: Result<(), WriteFault>,
+) -> bool {
+    let int = Value::Int(3);
     let mut output = Output::new(device);
-    let mut writer = StreamWriter::new(alloc, Limits::standard())?;
-    Ok([
-        writer.put(alloc, &mut output, TypeId(2), &int),
-        writer.put(alloc, &mut output, TypeId(3), &int),
-        writer.define(alloc, &mut output, TypeId(65), &int),
-        writer.put(alloc, &mut output, TypeId(2), &int),
-    ])
+    let Ok(mut writer) = StreamWriter::new(alloc, Limits::standard()) else {
+        return false;
+    };
+    writer.put(alloc, &mut output, TypeId(2), &int) == first
+        && writer.put(alloc, &mut output, TypeId(3), &int) == Err(wrong)
+        && writer.define(alloc, &mut output, TypeId(65), &int) == Err(wrong)
+        && writer.put(alloc, &mut output, TypeId(2), &int) == last
+}
+
+#[test]
+fn writers_go_on_after_a_refusal(rt: HostRuntime) {
+    let mut device = Device::sound(rt.alloc());
+    let refused = WriteFault::Refused(Reason::DoesNotFit);
+    let is_right = are_answers(rt.alloc(), &mut device, Ok(()), refused, Ok(()));
+    let bytes = b"\x03\x04\x00\x06\x03\x04\x00\x06";
+    assert!(rt; is_right && device.taken.as_slice() == bytes.as_slice());
+}
+
+#[test]
+fn writers_write_no_more_after_a_failed_write(rt: HostRuntime) {
+    let mut device = Device::slow(rt.alloc(), 3, Wrong::Broken);
+    let failed = WriteFault::Failed;
+    let first = Err(WriteFault::Write);
+    let is_right = are_answers(rt.alloc(), &mut device, first, failed, Err(failed));
+    assert!(rt; is_right && device.taken.as_slice() == b"\x03\x04".as_slice());
 }
 
 // Three items of 4 bytes each.
-fn three(alloc: Global) -> Result<Vec<Item<Value>>, Fail> {
+const THREE: &[u8] = b"\x03\x04\x00\x06\x03\x06\x00\x07\x03\x02\x00\x01";
+
+// Those items, where memory suffices.
+fn three(alloc: Global) -> Vec<Item<Value>> {
     let mut items = Vec::new(alloc);
-    items.push(put(2, Value::Int(3)))?;
-    items.push(put(3, Value::Uint(7)))?;
-    items.push(put(1, Value::Bool(true)))?;
-    Ok(items)
+    let mut input = Input::new(THREE);
+    let _ = read_stream(alloc, &mut input, Limits::standard(), &mut items);
+    items
 }
 
 #[test]
-fn a_failed_write_is_the_last(rt: HostRuntime) -> Result<(), Fail> {
-    let items = three(rt.alloc())?;
-    let whole = b"\x03\x04\x00\x06\x03\x06\x00\x07\x03\x02\x00\x01";
-    for wrong in [Wrong::Interrupted, Wrong::Broken, Wrong::Zero] {
-        for out in 0..12usize {
-            let mut device = Device::slow(rt.alloc(), out as u64 + 1, wrong);
-            assert!(rt;
-                is_cut_there(rt.alloc(), &mut device, &items, out),
-                "{wrong:?} behind {out}"
-            );
-            assert!(rt;
-                device.taken.as_slice() == &whole[..out],
-                "{wrong:?} behind {out}"
-            );
-        }
-    }
-    Ok(())
+fn a_slow_writer_is_given_all(rt: HostRuntime) {
+    let items = three(rt.alloc());
+    let mut device = Device::slow(rt.alloc(), 0, Wrong::Nothing);
+    let mut output = Output::new(&mut device);
+    let answer = write_stream(rt.alloc(), &mut output, &items, Limits::standard());
+    assert!(rt; answer.is_ok() && device.taken.as_slice() == THREE);
 }
 
-// Whether the writing of items of 4 bytes each ends with the call behind so many bytes, which is counted as failed.
-fn is_cut_there(alloc: Global, device: &mut Device, items: &[Item<Value>], out: usize) -> bool {
-    let mut output = Output::new(device);
+// Whether the writing of the three items ends with the call behind so many bytes, which is counted as failed.
+fn is_cut_there(alloc: Global, items: &[Item<Value>], out: usize, wrong: Wrong) -> bool {
+    let mut device = Device::slow(alloc, (out as u64).saturating_add(1), wrong);
+    let mut output = Output::new(&mut device);
     let answer = write_stream(alloc, &mut output, items, Limits::standard());
     let cut = WriteStop {
         item: out as u64 / 4,
         fault: WriteFault::Write,
     };
-    answer == Err(cut) && output.failures() == 1
+    let is_counted = output.failures() == 1;
+    answer == Err(cut) && is_counted && THREE.get(..out) == Some(device.taken.as_slice())
 }
 
 #[test]
-fn a_failed_flush_is_counted(rt: HostRuntime) -> Result<(), Fail> {
-    let alloc = rt.alloc();
-    let mut device = Device::sound(alloc);
-    let mut output = Output::new(&mut device);
-    assert!(rt; output.flush().is_ok());
-    assert_eq!(rt; output.failures(), 0);
-    let mut clogged = Device::clogged(alloc);
-    let mut output = Output::new(&mut clogged);
-    assert!(rt; output.flush().is_err());
-    assert_eq!(rt; output.failures(), 1);
-    Ok(())
+fn a_failed_write_is_the_last(rt: HostRuntime) {
+    let items = three(rt.alloc());
+    for wrong in [Wrong::Interrupted, Wrong::Broken, Wrong::Zero] {
+        for out in 0..12usize {
+            assert!(rt;
+                is_cut_there(rt.alloc(), &items, out, wrong),
+                "{wrong:?} behind {out}"
+            );
+        }
+    }
+}
+
+// How many failures an output counts when it is flushed, where its answer says as much.
+fn flush_failures(device: &mut Device) -> Option<u64> {
+    let mut output = Output::new(device);
+    let is_flushed = output.flush().is_ok();
+    let failures = output.failures();
+    if is_flushed == (failures == 0) {
+        Some(failures)
+    } else {
+        None
+    }
+}
+
+#[test]
+fn a_failed_flush_is_counted(rt: HostRuntime) {
+    assert!(rt; flush_failures(&mut Device::sound(rt.alloc())) == Some(0));
+    assert!(rt; flush_failures(&mut Device::clogged(rt.alloc())) == Some(1));
 }
 
 // The limits for items and for the stream, how many of three items of 4 bytes each go out, and why the next one doesn't.
@@ -183,19 +145,24 @@ fn stopped(item: u64, reason: Option<Reason>) -> Result<(), WriteStop> {
     }
 }
 
+// Whether the writing of the three items stops so.
+fn stops_so(alloc: Global, items: &[Item<Value>], row: Stops) -> bool {
+    let Stops(item, stream, out, reason) = row;
+    let Some(limits) = Limits::new(item, 1, 0, stream) else {
+        return false;
+    };
+    let mut device = Device::sound(alloc);
+    let mut output = Output::new(&mut device);
+    let answer = write_stream(alloc, &mut output, items, limits);
+    answer == stopped(out, reason) && device.calls == out
+}
+
 #[test]
-fn limits_are_kept(rt: HostRuntime) -> Result<(), Fail> {
-    let alloc = rt.alloc();
-    let items = three(alloc)?;
-    for (row, Stops(item, stream, out, reason)) in STOPS.iter().enumerate() {
-        let limits = Limits::new(*item, 1, 0, *stream).ok_or("no limits")?;
-        let mut device = Device::sound(alloc);
-        let mut output = Output::new(&mut device);
-        let answer = write_stream(alloc, &mut output, &items, limits);
-        let right = answer == stopped(*out, *reason) && device.calls == *out;
-        assert!(rt; right, "row {row}");
+fn limits_are_kept(rt: HostRuntime) {
+    let items = three(rt.alloc());
+    for (row, stops) in STOPS.iter().enumerate() {
+        assert!(rt; stops_so(rt.alloc(), &items, *stops), "row {row}");
     }
-    Ok(())
 }
 
 // A description or a value, in short.
@@ -222,11 +189,15 @@ fn value_of(alloc: Global, short: Short) -> Result<Value, AllocError> {
 fn lists(alloc: Global, depth: u64) -> Result<Value, AllocError> {
     let mut value = Value::Int(1);
     for _ in 0..depth {
-        let mut list = Vec::new(alloc);
-        list.push(value)?;
-        value = Value::Many(list);
+        value = list_of(alloc, value)?;
     }
     Ok(value)
+}
+
+fn list_of(alloc: Global, value: Value) -> Result<Value, AllocError> {
+    let mut list = Vec::new(alloc);
+    list.push(value)?;
+    Ok(Value::Many(list))
 }
 
 fn described_array(alloc: Global, id: i64, elem: i64, len: i64) -> Result<Value, AllocError> {
@@ -359,24 +330,49 @@ enum Told {
     Put(u64, Short),
 }
 
-fn item_of(alloc: Global, told: Told) -> Result<Item<Value>, AllocError> {
+// Writes it.
+fn tell(
+    alloc: Global,
+    writer: &mut StreamWriter,
+    output: &mut Output<&mut Device>,
+    told: Told,
+) -> Result<(), WriteFault> {
     match told {
-        Told::Define(id, described) => Ok(define(id, value_of(alloc, described)?)),
-        Told::Put(id, value) => Ok(put(id, value_of(alloc, value)?)),
+        Told::Define(id, short) => {
+            let described = value_of(alloc, short)?;
+            writer.define(alloc, output, TypeId(id), &described)
+        }
+        Told::Put(id, short) => {
+            let value = value_of(alloc, short)?;
+            writer.put(alloc, output, TypeId(id), &value)
+        }
     }
 }
 
+// What is answered to the definition, and to what comes behind it.
+fn answers(
+    alloc: Global,
+    device: &mut Device,
+    limits: Limits,
+    described: &Value,
+    told: Told,
+) -> Result<(), WriteFault> {
+    let mut output = Output::new(device);
+    let mut writer = StreamWriter::new(alloc, limits)?;
+    writer.define(alloc, &mut output, TypeId(65), described)?;
+    tell(alloc, &mut writer, &mut output, told)
+}
+
 // Whether it is refused so, and the definition before it is all that goes out.
-fn is_refused(alloc: Global, row: Refused) -> Result<bool, Fail> {
+fn is_refused(alloc: Global, row: Refused) -> Result<bool, AllocError> {
     let Refused(Bounds(item, types, stream), elem, told, reason) = row;
-    let limits = Limits::new(item, 4, types, stream).ok_or("no limits")?;
-    let mut items = Vec::new(alloc);
-    items.push(define(65, described_array(alloc, 65, elem, 1)?))?;
-    items.push(item_of(alloc, told)?)?;
+    let described = described_array(alloc, 65, elem, 1)?;
+    let Some(limits) = Limits::new(item, 4, types, stream) else {
+        return Ok(false);
+    };
     let mut device = Device::sound(alloc);
-    let mut output = Output::new(&mut device);
-    let answer = write_stream(alloc, &mut output, &items, limits);
-    Ok(answer == stopped(1, Some(reason)) && device.calls == 1)
+    let answer = answers(alloc, &mut device, limits, &described, told);
+    Ok(answer == Err(WriteFault::Refused(reason)) && device.calls == 1)
 }
 
 #[test]
@@ -387,31 +383,9 @@ fn items_are_refused_by_the_first_reason(rt: HostRuntime) -> Result<(), Fail> {
     Ok(())
 }
 
-// A struct with the fields 0 and 1.
-fn two_fields(alloc: Global, first: Value, second: Value) -> Result<Value, AllocError> {
-    let mut fields = Vec::new(alloc);
-    fields.push((0, first))?;
-    fields.push((1, second))?;
-    Ok(Value::Fields(fields))
-}
-
 // A struct with one field.
 fn one_field(alloc: Global, number: u64, value: Value) -> Result<Value, AllocError> {
     let mut fields = Vec::new(alloc);
     fields.push((number, value))?;
     Ok(Value::Fields(fields))
-}
-
-// A CommonType or a fieldType.
-fn named(alloc: Global, name: &[u8], id: i64) -> Result<Value, AllocError> {
-    two_fields(alloc, Value::Str(name.to_vec(alloc)?), Value::Int(id))
-}
-
-// The description of a struct Point of two ints, X and Y.
-fn described_point(alloc: Global) -> Result<Value, AllocError> {
-    let mut fields = Vec::new(alloc);
-    fields.push(named(alloc, b"X", 2)?)?;
-    fields.push(named(alloc, b"Y", 2)?)?;
-    let point = two_fields(alloc, named(alloc, b"Point", 65)?, Value::Many(fields))?;
-    one_field(alloc, 2, point)
 }

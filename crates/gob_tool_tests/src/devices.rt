@@ -1,5 +1,6 @@
 //! Readers and writers that pass a byte a call, and fail in one of their calls.
 
+use std::alloc::Global;
 use std::io;
 use std::io::{ErrorKind, Read, Write};
 
@@ -84,14 +85,9 @@ impl Write for SlowWriter {
 }
 
 impl SlowWriter {
-    pub fn new(
-        rt: &impl AllocGlobal,
-        fails_at: usize,
-        trouble: Trouble,
-        flush_fails: bool,
-    ) -> SlowWriter {
+    pub fn new(alloc: Global, fails_at: usize, trouble: Trouble, flush_fails: bool) -> SlowWriter {
         SlowWriter {
-            held: Vec::new(rt.alloc()),
+            held: Vec::new(alloc),
             fails_at,
             trouble,
             calls: 0,

@@ -3,6 +3,7 @@
 use gob_stream::Refusal;
 use gob_tool::{ToolFault, status};
 use gob_types::{Reason, TypeId};
+use std::alloc::Global;
 use std::test::*;
 
 const EXTRA: ToolFault = ToolFault::Refused(Refusal {
@@ -17,23 +18,21 @@ const RESERVED_TYPE: ToolFault = ToolFault::Refused(Refusal {
     reason: Reason::ReservedType(TypeId(63)),
 });
 
-#[test]
-fn lines_and_statuses(rt: HostRuntime) -> Result<(), Fail> {
-    let rows = [
-        (EXTRA, "gob: refused 6 Extra at 4 seen 4", 1),
-        (
-            RESERVED_TYPE,
-            "gob: refused 7 ReservedType(63) at 1 seen 2",
-            1,
-        ),
-        (ToolFault::Read, "gob: read fault", 2),
-        (ToolFault::Write, "gob: write fault", 2),
-        (ToolFault::Memory, "gob: out of memory", 2),
-    ];
-    for (fault, line, code) in rows {
-        let text = fault.to_string(rt.alloc())?;
-        assert_eq!(rt; text.as_str(), line);
-        assert_eq!(rt; status(&fault), code, "{line}");
+// Whether the fault has this line and this status.
+fn is_said(alloc: Global, fault: ToolFault, line: &str, code: u8) -> bool {
+    match fault.to_string(alloc) {
+        Ok(text) => text.as_str() == line && status(&fault) == code,
+        Err(_) => false,
     }
-    Ok(())
+}
+
+#[test]
+fn lines_and_statuses(rt: HostRuntime) {
+    let alloc = rt.alloc();
+    assert!(rt; is_said(alloc, EXTRA, "gob: refused 6 Extra at 4 seen 4", 1));
+    let reserved = "gob: refused 7 ReservedType(63) at 1 seen 2";
+    assert!(rt; is_said(alloc, RESERVED_TYPE, reserved, 1));
+    assert!(rt; is_said(alloc, ToolFault::Read, "gob: read fault", 2));
+    assert!(rt; is_said(alloc, ToolFault::Write, "gob: write fault", 2));
+    assert!(rt; is_said(alloc, ToolFault::Memory, "gob: out of memory", 2));
 }

@@ -1,15 +1,18 @@
 //! Runs over devices that pass a byte a call, that fail, or that hold more than a piece.
 
 use crate::devices::{SlowReader, SlowWriter, Trouble};
-use crate::streams::{EVERY, EVERY_LINES, THREE, THREE_ENDS, THREE_LINES};
+use crate::streams::{
+    EVERY, EVERY_LINES, POINT_LINE, POINT_VALUE, POINT_VALUE_LINE, THREE, THREE_LINES, TWO_LINES,
+};
 use gob_stream::{Input, Limits, Output, Refusal};
 use gob_tool::{ToolFault, run_show};
 use gob_types::Reason;
-use std::io::{ErrorKind, Read, Write};
+use std::alloc::{AllocError, Global};
+use std::io::{ErrorKind, Read};
 use std::test::*;
 
-// The definition of a slice of ints.
-const SLICE: &[u8] = b"\x0c\xff\x83\x02\x01\x02\xff\x84\x00\x01\x04\x00\x00";
+// The definition of a slice of ints, and an item of no bytes.
+const SLICE_AND_ZERO: &[u8] = b"\x0c\xff\x83\x02\x01\x02\xff\x84\x00\x01\x04\x00\x00\x00";
 
 const SLICE_LINE: &str = "{\"define\":66,\"elem\":2,\"kind\":\"slice\",\"name\":\"\"}\n";
 
@@ -21,130 +24,153 @@ fn refused(reason: Reason, place: u64, seen: u64) -> ToolFault {
     })
 }
 
-// Where the line of the last item ends that so many bytes of the three items hold whole.
-fn lines_of(bytes: usize) -> &'static [u8] {
-    let mut end = 0;
-    for (item, line) in THREE_ENDS {
-        if item <= bytes {
-            end = line;
-        }
+// The lines of those of the three items that so many bytes hold whole.
+fn lines_within(bytes: usize) -> &'static str {
+    if bytes < 32 {
+        ""
+    } else if bytes < 40 {
+        POINT_LINE
+    } else if bytes < 44 {
+        TWO_LINES
+    } else {
+        THREE_LINES
     }
-    THREE_LINES.as_bytes().get(..end).unwrap_or(&[])
 }
 
-fn show<R: Read + Drop, W: Write + Drop>(
-    rt: &impl AllocGlobal,
+// Whether a reader gives these lines, and this comes of it.
+fn is_shown<R: Read + Drop>(
+    alloc: Global,
     reader: R,
-    writer: W,
-) -> Result<(), ToolFault> {
-    show_within(rt, reader, writer, Limits::standard())
-}
-
-fn show_within<R: Read + Drop, W: Write + Drop>(
-    rt: &impl AllocGlobal,
-    reader: R,
-    writer: W,
     limits: Limits,
-) -> Result<(), ToolFault> {
+    lines: &[u8],
+    due: Result<(), ToolFault>,
+) -> bool {
+    let mut held = Vec::new(alloc);
     let mut input = Input::new(reader);
-    let mut output = Output::new(writer);
-    run_show(rt.alloc(), &mut input, &mut output, limits)
+    let mut output = Output::new(&mut held);
+    let result = run_show(alloc, &mut input, &mut output, limits);
+    result == due && held.as_slice() == lines
 }
 
 #[test]
 fn byte_by_byte(rt: HostRuntime) {
-    let mut held = Vec::new(rt.alloc());
     let reader = SlowReader::new(EVERY, usize::MAX, ErrorKind::Other);
-    assert_eq!(rt; show(&rt, reader, &mut held), Ok(()));
-    assert_eq!(rt; held.as_slice(), EVERY_LINES.as_bytes());
+    let lines = EVERY_LINES.as_bytes();
+    assert!(rt; is_shown(rt.alloc(), reader, Limits::standard(), lines, Ok(())));
 }
 
 #[test]
 fn a_limited_stream(rt: HostRuntime) -> Result<(), Fail> {
     let bytes = b"\x03\x04\x00\x06\x03\x02\x00\x01".as_slice();
     let limits = Limits::new(u64::MAX, 1000, 0, 7).ok_or("limits")?;
-    let mut held = Vec::new(rt.alloc());
-    let result = show_within(&rt, bytes, &mut held, limits);
-    assert_eq!(rt; result, Err(refused(Reason::StreamTooLong, 4, 5)));
-    assert_eq!(rt; held.as_slice(), b"{\"type\":2,\"value\":3}\n".as_slice());
+    let due = Err(refused(Reason::StreamTooLong, 4, 5));
+    let lines = b"{\"type\":2,\"value\":3}\n".as_slice();
+    assert!(rt; is_shown(rt.alloc(), bytes, limits, lines, due));
     Ok(())
+}
+
+// A head, a part 20000 times, and a tail.
+fn repeated(alloc: Global, head: &[u8], part: &[u8], tail: &[u8]) -> Result<Vec<u8>, AllocError> {
+    let mut bytes = head.to_vec(alloc)?;
+    for _ in 0..20000 {
+        bytes.extend_from_slice(part)?;
+    }
+    bytes.extend_from_slice(tail)?;
+    Ok(bytes)
 }
 
 #[test]
 fn many_lines(rt: HostRuntime) -> Result<(), Fail> {
     // More bytes than are read at a time, and more lines than are gathered before a write. Pieces end within items.
-    let value = THREE.get(32..40).ok_or("the value")?;
-    let line = THREE_LINES.as_bytes().get(72..116).ok_or("its line")?;
-    let mut bytes = THREE.to_vec(rt.alloc())?;
-    let mut lines = THREE_LINES.as_bytes().to_vec(rt.alloc())?;
-    for _ in 0..20000 {
-        bytes.extend_from_slice(value)?;
-        lines.extend_from_slice(line)?;
-    }
-    bytes.extend_from_slice(SLICE)?;
-    lines.extend_from_slice(SLICE_LINE.as_bytes())?;
-    bytes.push(0)?;
-    let mut held = Vec::new(rt.alloc());
-    let result = show(&rt, bytes.as_slice(), &mut held);
-    assert_eq!(rt; result, Err(refused(Reason::Short, 160058, 160058)));
-    assert!(rt; held == lines, "the lines differ");
+    let bytes = repeated(rt.alloc(), THREE, POINT_VALUE, SLICE_AND_ZERO)?;
+    let head = THREE_LINES.as_bytes();
+    let part = POINT_VALUE_LINE.as_bytes();
+    let lines = repeated(rt.alloc(), head, part, SLICE_LINE.as_bytes())?;
+    let due = Err(refused(Reason::Short, 160058, 160058));
+    assert!(rt;
+        is_shown(
+            rt.alloc(),
+            bytes.as_slice(),
+            Limits::standard(),
+            &lines,
+            due
+        )
+    );
     Ok(())
+}
+
+// Whether a reader that fails in this call ends the run so, and the lines of the items before are there.
+fn reader_fails_so(
+    alloc: Global,
+    fails_at: usize,
+    kind: ErrorKind,
+    due: Result<(), ToolFault>,
+) -> bool {
+    let reader = SlowReader::new(THREE, fails_at, kind);
+    let lines = lines_within(fails_at).as_bytes();
+    is_shown(alloc, reader, Limits::standard(), lines, due)
 }
 
 #[test]
 fn failing_readers(rt: HostRuntime) {
+    let alloc = rt.alloc();
     for kind in [ErrorKind::Interrupted, ErrorKind::Other] {
         // A call for each byte, one for the end of the input, and none behind it.
-        for fails_at in 0..THREE.len() + 2 {
-            let mut held = Vec::new(rt.alloc());
-            let result = show(&rt, SlowReader::new(THREE, fails_at, kind), &mut held);
-            let expected = if fails_at <= THREE.len() {
-                Err(ToolFault::Read)
-            } else {
-                Ok(())
-            };
-            assert_eq!(rt; result, expected, "fails at {fails_at}");
-            assert_eq!(rt; held.as_slice(), lines_of(fails_at), "fails at {fails_at}");
+        for fails_at in 0..45usize {
+            let is_right = reader_fails_so(alloc, fails_at, kind, Err(ToolFault::Read));
+            assert!(rt; is_right, "fails at {fails_at}");
         }
+        assert!(rt; reader_fails_so(alloc, 45, kind, Ok(())));
     }
+}
+
+// Whether a writer that makes trouble in this call ends the run so, and a byte was written in each call before.
+fn writer_fails_so(
+    alloc: Global,
+    fails_at: usize,
+    trouble: Trouble,
+    due: Result<(), ToolFault>,
+) -> bool {
+    let mut device = SlowWriter::new(alloc, fails_at, trouble, false);
+    let mut input = Input::new(THREE);
+    let mut output = Output::new(&mut device);
+    let result = run_show(alloc, &mut input, &mut output, Limits::standard());
+    let all = THREE_LINES.as_bytes();
+    let written = all.get(..fails_at).unwrap_or(all);
+    result == due && device.held.as_slice() == written
 }
 
 #[test]
 fn failing_writers(rt: HostRuntime) {
-    let all = THREE_LINES.as_bytes();
+    let alloc = rt.alloc();
     let troubles = [
         Trouble::Error(ErrorKind::Interrupted),
         Trouble::Error(ErrorKind::Other),
         Trouble::TakesNothing,
     ];
     for trouble in troubles {
-        for fails_at in 0..all.len() + 2 {
-            let mut device = SlowWriter::new(&rt, fails_at, trouble, false);
-            let result = show(&rt, THREE, &mut device);
-            let expected = if fails_at < all.len() {
-                Err(ToolFault::Write)
-            } else {
-                Ok(())
-            };
-            let written = &all[..fails_at.min(all.len())];
-            assert_eq!(rt; result, expected, "fails at {fails_at}");
-            assert_eq!(rt; device.held.as_slice(), written, "fails at {fails_at}");
+        for fails_at in 0..137usize {
+            let is_right = writer_fails_so(alloc, fails_at, trouble, Err(ToolFault::Write));
+            assert!(rt; is_right, "fails at {fails_at}");
         }
+        assert!(rt; writer_fails_so(alloc, 137, trouble, Ok(())));
+        assert!(rt; writer_fails_so(alloc, 138, trouble, Ok(())));
     }
+}
+
+// Whether a run over these bytes, whose writer fails to be flushed, ends so, and one failure is counted.
+fn flush_fails_so(alloc: Global, bytes: &[u8], fault: ToolFault) -> bool {
+    let mut device = SlowWriter::new(alloc, 1000, Trouble::TakesNothing, true);
+    let mut input = Input::new(bytes);
+    let mut output = Output::new(&mut device);
+    let result = run_show(alloc, &mut input, &mut output, Limits::standard());
+    result == Err(fault) && output.failures() == 1
 }
 
 #[test]
 fn failing_flushes(rt: HostRuntime) {
-    let rows = [
-        (&b"\x03\x04\x00\x06\x03\x02\x00\x01"[..], ToolFault::Write),
-        (&b"\x03\x04\x00\x06\x00"[..], refused(Reason::Short, 5, 5)),
-    ];
-    for (bytes, fault) in rows {
-        let mut device = SlowWriter::new(&rt, 1000, Trouble::TakesNothing, true);
-        let mut input = Input::new(bytes);
-        let mut output = Output::new(&mut device);
-        let result = run_show(rt.alloc(), &mut input, &mut output, Limits::standard());
-        assert_eq!(rt; result, Err(fault), "{bytes:?}");
-        assert_eq!(rt; output.failures(), 1, "{bytes:?}");
-    }
+    let whole = b"\x03\x04\x00\x06\x03\x02\x00\x01".as_slice();
+    assert!(rt; flush_fails_so(rt.alloc(), whole, ToolFault::Write));
+    let short = refused(Reason::Short, 5, 5);
+    assert!(rt; flush_fails_so(rt.alloc(), b"\x03\x04\x00\x06\x00", short));
 }

@@ -59,5 +59,16 @@ pub const THREE_LINES: &str = "\
     {\"type\":65,\"value\":[[0,\"X\",22],[1,\"Y\",33]]}\n\
     {\"type\":2,\"value\":3}\n";
 
-/// Where each item ends, and its line.
-pub const THREE_ENDS: [(usize, usize); 3] = [(32, 72), (40, 116), (44, 137)];
+/// The line of the first of them.
+pub const POINT_LINE: &str =
+    "{\"define\":65,\"fields\":[[\"X\",2],[\"Y\",2]],\"kind\":\"struct\",\"name\":\"Point\"}\n";
+
+/// The lines of the first two.
+pub const TWO_LINES: &str = "\
+    {\"define\":65,\"fields\":[[\"X\",2],[\"Y\",2]],\"kind\":\"struct\",\"name\":\"Point\"}\n\
+    {\"type\":65,\"value\":[[0,\"X\",22],[1,\"Y\",33]]}\n";
+
+/// The value of the struct, and its line.
+pub const POINT_VALUE: &[u8] = b"\x07\xff\x82\x01\x2c\x01\x42\x00";
+
+pub const POINT_VALUE_LINE: &str = "{\"type\":65,\"value\":[[0,\"X\",22],[1,\"Y\",33]]}\n";

@@ -16,20 +16,19 @@ fn orders(rt: HostRuntime) {
     }
 }
 
+fn is_refused(words: &[&str]) -> bool {
+    order_of(words).is_err()
+}
+
 #[test]
 fn other_words(rt: HostRuntime) -> Result<(), Fail> {
-    let rows: [&'static [&'static str]; 5] = [
-        &[],
-        &["show"],
-        &["gob"],
-        &["gob", "list"],
-        &["gob", "show", "a", "b"],
-    ];
-    for words in rows {
-        assert!(rt; order_of(words).is_err(), "{words:?}");
-    }
+    assert!(rt; is_refused(&[]));
+    assert!(rt; is_refused(&["show"]));
+    assert!(rt; is_refused(&["gob"]));
+    assert!(rt; is_refused(&["gob", "list"]));
+    assert!(rt; is_refused(&["gob", "show", "a", "b"]));
     let text = OrderFault::Words.to_string(rt.alloc())?;
-    assert_eq!(rt; text.as_str(), "gob: bad arguments");
-    assert_eq!(rt; OrderFault::Words.status(), 2);
+    assert!(rt; text.as_str() == "gob: bad arguments");
+    assert!(rt; OrderFault::Words.status() == 2);
     Ok(())
 }

@@ -114,11 +114,17 @@ static FAULTS_OF_ABSENCE: [(&[Part], ShapeFault); 4] = [
 
 // The steps that make the field of this number, where it is given.
 fn number_of(given: Option<i64>) -> Part {
-    given.map_or(Part::Nothing, |number| Part::Int(number))
+    match given {
+        Some(number) => Part::Int(number),
+        None => Part::Nothing,
+    }
 }
 
 fn field_of(given: Option<i64>, field: u64) -> Part {
-    given.map_or(Part::Nothing, |_| Part::Field(field))
+    match given {
+        Some(_) => Part::Field(field),
+        None => Part::Nothing,
+    }
 }
 
 // How many fields these are, behind so many.

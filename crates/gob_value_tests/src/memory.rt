@@ -2,9 +2,10 @@
 //! tools/refuse-memory runs this with each allocation refused in turn.
 use crate::descriptions::{described, judged};
 use crate::rows::{Made, expect, shape_of};
+use crate::values::tidied;
 use gob_num::Memory;
 use gob_types::{DefineFault, NotReady, Shape, Shapes, Table, TypeId};
-use gob_value::{ShapeFault, SpellFault, Value, fits, spell, tidy};
+use gob_value::{ShapeFault, SpellFault, Value, spell};
 use std::alloc::{AllocError, Global};
 
 // Whether the definition is taken, or memory is wanted and the table is as it was.
@@ -47,18 +48,10 @@ const DESCRIPTION: &[u8] =
 // struct P { X int }
 static SHAPE: Made = Made::Struct(&[(b"X", 2)]);
 
-// The tidy form of a value of type 16, where memory suffices.
-fn tidied(alloc: Global, table: &Table, value: Value) -> Result<Option<Value>, Memory> {
-    match fits(table, TypeId(16), &value, 1000) {
-        Ok(()) => Ok(Some(tidy(alloc, table, TypeId(16), value)?)),
-        Err(_) => Ok(None),
-    }
-}
-
 // The tidy form of the shape's description.
 fn tidily_described(alloc: Global, table: &Table, shape: &Shape) -> Result<Option<Value>, Memory> {
     match described(alloc, shape)? {
-        Some(value) => tidied(alloc, table, value),
+        Some(value) => tidied(alloc, table, 16, value),
         None => Ok(None),
     }
 }

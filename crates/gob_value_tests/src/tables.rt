@@ -225,16 +225,30 @@ fn has_field(table: &Table, id: u64, count: usize, number: usize, name: &[u8], o
         && field.id == TypeId(of)
 }
 
+// (Each list of rows has a function of its own, since a proof reads all that its function names.)
+fn has_names(table: &Table) -> bool {
+    for (id, name) in &BASE {
+        if !has_name(table, *id, *name) {
+            return false;
+        }
+    }
+    true
+}
+
+fn has_fields(table: &Table) -> bool {
+    for (i, (name, of)) in WIRE_TYPE.iter().enumerate() {
+        if !has_field(table, 16, WIRE_TYPE.len(), i, name, *of) {
+            return false;
+        }
+    }
+    true
+}
+
 #[test]
 fn the_base_table_is_there(rt: HostRuntime) -> Result<(), Fail> {
     let table = Table::new(rt.alloc(), 3)?;
-    for (i, (id, name)) in BASE.iter().enumerate() {
-        expect(&rt, has_name(&table, *id, *name), "BASE", i);
-    }
-    for (i, (name, of)) in WIRE_TYPE.iter().enumerate() {
-        let is_right = has_field(&table, 16, WIRE_TYPE.len(), i, name, *of);
-        expect(&rt, is_right, "WIRE_TYPE", i);
-    }
+    assert!(rt; has_names(&table));
+    assert!(rt; has_fields(&table));
     Ok(())
 }
 
@@ -281,15 +295,26 @@ fn are_definable(alloc: Global, id: u64, wanted: bool) -> Result<bool, AllocErro
     Ok(true)
 }
 
+fn are_references_definable(alloc: Global) -> Result<bool, AllocError> {
+    for (id, wanted) in &REFERENCES {
+        if !are_definable(alloc, *id, *wanted)? {
+            return Ok(false);
+        }
+    }
+    Ok(true)
+}
+
+fn are_shapes_definable(alloc: Global) -> Result<bool, AllocError> {
+    for (made, wanted) in &SHAPES {
+        if is_definable(alloc, *made)? != *wanted {
+            return Ok(false);
+        }
+    }
+    Ok(true)
+}
+
 #[test]
-fn some_shapes_are_definable(rt: HostRuntime) -> Result<(), Fail> {
-    for (i, (id, wanted)) in REFERENCES.iter().enumerate() {
-        let is_right = are_definable(rt.alloc(), *id, *wanted)?;
-        expect(&rt, is_right, "REFERENCES", i);
-    }
-    for (i, (made, wanted)) in SHAPES.iter().enumerate() {
-        let is_right = is_definable(rt.alloc(), *made)? == *wanted;
-        expect(&rt, is_right, "SHAPES", i);
-    }
-    Ok(())
+fn some_shapes_are_definable(rt: HostRuntime) {
+    assert!(rt; are_references_definable(rt.alloc()) == Ok(true));
+    assert!(rt; are_shapes_definable(rt.alloc()) == Ok(true));
 }

@@ -3,7 +3,7 @@ use crate::rows::expect;
 use gob_num::Memory;
 use gob_types::{Reason, TypeId};
 use std::alloc::{AllocError, Global};
-use std::test::Fail;
+use std::test::*;
 
 // The reasons in the order of their numbers, the first of which is 1.
 static REASONS: [(Reason, &str); 23] = [
@@ -38,21 +38,27 @@ fn is_printed(alloc: Global, reason: Reason, text: &str) -> Result<bool, AllocEr
 }
 
 #[test]
-fn reasons_have_numbers_and_names(rt: HostRuntime) -> Result<(), Fail> {
+fn reasons_have_numbers_and_names(rt: HostRuntime) {
     for (i, (reason, text)) in REASONS.iter().enumerate() {
-        let is_right = is_printed(rt.alloc(), *reason, text)?
-            && usize::from(reason.number()) == i + 1;
-        expect(&rt, is_right, "REASONS", i);
+        let is_right = is_printed(rt.alloc(), *reason, text) == Ok(true);
+        expect(&rt, is_right, "REASONS, the name", i);
+        expect(&rt, usize::from(reason.number()) == i + 1, "REASONS", i);
     }
-    Ok(())
+}
+
+fn is_id_printed(alloc: Global) -> Result<bool, AllocError> {
+    let id = TypeId(65);
+    let printed = format!(in alloc; "{id}")?;
+    Ok(printed.as_str() == "65")
+}
+
+fn is_want_of_memory_printed(alloc: Global) -> Result<bool, AllocError> {
+    let printed = format!(in alloc; "{Memory}")?;
+    Ok(printed.as_str() == "out of memory")
 }
 
 #[test]
-fn others_are_printed(rt: HostRuntime) -> Result<(), Fail> {
-    let id = TypeId(65);
-    let id = format!(in rt.alloc(); "{id}")?;
-    expect(&rt, id.as_str() == "65", "a type id", 0);
-    let memory = format!(in rt.alloc(); "{Memory}")?;
-    expect(&rt, memory.as_str() == "out of memory", "want of memory", 0);
-    Ok(())
+fn others_are_printed(rt: HostRuntime) {
+    assert!(rt; is_id_printed(rt.alloc()) == Ok(true));
+    assert!(rt; is_want_of_memory_printed(rt.alloc()) == Ok(true));
 }

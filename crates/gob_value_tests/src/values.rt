@@ -1,7 +1,7 @@
 //! The examples of docs/FORMAT.md: values of each shape with their bytes, their tidy forms, and values that are refused.
 ghost use Rattle.std.specs.Prelude.{◌≤◌};
 
-use crate::rows::{Made, Part, expect, expect_all, table_of, value_of};
+use crate::rows::{Made, Part, table_of, value_of};
 use gob_num::Memory;
 use gob_types::{Table, TypeId};
 use gob_value::{Misfit, SpellFault, Value, fits, spell, tidy};
@@ -416,6 +416,19 @@ fn is_refused(
         && spell(alloc, table, TypeId(id), value, depth, &mut out) == Err(SpellFault::from(misfit))
 }
 
+/// The tidy form of the value, where it is one of the type.
+pub(crate) fn tidied(
+    alloc: Global,
+    table: &Table,
+    id: u64,
+    value: Value,
+) -> Result<Option<Value>, Memory> {
+    match fits(table, TypeId(id), &value, 1000) {
+        Ok(()) => Ok(Some(tidy(alloc, table, TypeId(id), value)?)),
+        Err(_) => Ok(None),
+    }
+}
+
 // Whether the value fits, and its tidy form is spelled so.
 fn is_tidied(
     alloc: Global,
@@ -424,11 +437,10 @@ fn is_tidied(
     value: Value,
     bytes: &[u8],
 ) -> Result<bool, Memory> {
-    if fits(table, TypeId(id), &value, 1000) != Ok(()) {
-        return Ok(false);
+    match tidied(alloc, table, id, value)? {
+        Some(tidied) => Ok(is_spelled(alloc, table, id, &tidied, 1000, bytes)),
+        None => Ok(false),
     }
-    let tidied = tidy(alloc, table, TypeId(id), value)?;
-    Ok(is_spelled(alloc, table, id, &tidied, 1000, bytes))
 }
 
 fn is_judged(
@@ -463,14 +475,23 @@ fn judged(alloc: Global, table: &Table, rows: &[Row]) -> Result<usize, Memory> {
 fn nested(alloc: Global, depth: u64) -> Result<Value, AllocError> {
     let mut value = Value::Many(Vec::new(alloc));
     for _ in 1..depth {
-        value = Value::Many(vec![in alloc; value]?);
+        value = list_of(alloc, value)?;
     }
     Ok(value)
 }
 
+fn list_of(alloc: Global, value: Value) -> Result<Value, AllocError> {
+    let mut list = Vec::new(alloc);
+    list.push(value)?;
+    Ok(Value::Many(list))
+}
+
 // Its bytes at depth 1000.
 fn nested_bytes(alloc: Global) -> Result<Vec<u8>, AllocError> {
-    let mut bytes = vec![in alloc; 1u8; 999]?;
+    let mut bytes = Vec::new(alloc);
+    for _ in 0..999 {
+        bytes.push(1)?;
+    }
     bytes.push(0)?;
     Ok(bytes)
 }
@@ -504,30 +525,29 @@ fn are_deepest_judged(alloc: Global, table: &Table) -> Result<bool, Memory> {
 }
 
 // (Each list of rows has a function of its own, since a proof reads all that its function names.)
-fn spelled(alloc: Global, table: &Table) -> Result<usize, Memory> {
-    judged(alloc, table, &SPELLED)
+fn are_spelled(alloc: Global, table: &Table) -> bool {
+    judged(alloc, table, &SPELLED) == Ok(18)
 }
 
-fn refused(alloc: Global, table: &Table) -> Result<usize, Memory> {
-    judged(alloc, table, &REFUSED)
+fn are_refused(alloc: Global, table: &Table) -> bool {
+    judged(alloc, table, &REFUSED) == Ok(9)
 }
 
-fn tidied_fields(alloc: Global, table: &Table) -> Result<usize, Memory> {
-    judged(alloc, table, &TIDY_FIELDS)
+fn are_fields_tidied(alloc: Global, table: &Table) -> bool {
+    judged(alloc, table, &TIDY_FIELDS) == Ok(17)
 }
 
-fn tidied_parts(alloc: Global, table: &Table) -> Result<usize, Memory> {
-    judged(alloc, table, &TIDY_PARTS)
+fn are_parts_tidied(alloc: Global, table: &Table) -> bool {
+    judged(alloc, table, &TIDY_PARTS) == Ok(6)
 }
 
 #[test]
 fn values_are_judged(rt: HostRuntime) -> Result<(), Fail> {
     let table = table_of(rt.alloc(), &TYPES)?;
-    expect_all(&rt, spelled(rt.alloc(), &table), 18, "SPELLED");
-    expect_all(&rt, refused(rt.alloc(), &table), 9, "REFUSED");
-    expect_all(&rt, tidied_fields(rt.alloc(), &table), 17, "TIDY_FIELDS");
-    expect_all(&rt, tidied_parts(rt.alloc(), &table), 6, "TIDY_PARTS");
-    let is_right = are_deepest_judged(rt.alloc(), &table) == Ok(true);
-    expect(&rt, is_right, "values of depth", 1000);
+    assert!(rt; are_spelled(rt.alloc(), &table));
+    assert!(rt; are_refused(rt.alloc(), &table));
+    assert!(rt; are_fields_tidied(rt.alloc(), &table));
+    assert!(rt; are_parts_tidied(rt.alloc(), &table));
+    assert!(rt; are_deepest_judged(rt.alloc(), &table) == Ok(true));
     Ok(())
 }

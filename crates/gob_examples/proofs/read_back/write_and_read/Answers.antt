@@ -1,8 +1,8 @@
 use Rattle.std.proofs.Common.{◌≡◌, ◌++◌, Some, Ok, Err, ap, ◌∙◌}
 use Rattle.gob_stream.specs.Item.{item_views}
 use Rattle.gob_stream.specs.declared.fault.Fault.TheVariants.{Refused}
-use Rattle.gob_stream_tests.proofs.Outcomes.{written_so, never_refused}
-use Rattle.gob_stream_tests.proofs.read_back.write_and_read.Goals as goal
+use Rattle.gob_examples.proofs.Outcomes.{written_so, never_refused}
+use Rattle.gob_examples.proofs.read_back.write_and_read.Goals as goal
 
 pub returns-in-Ok-clause-same : goal.returns-in-Ok-clause-same
 returns-in-Ok-clause-same c =

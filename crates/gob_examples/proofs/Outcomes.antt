@@ -21,7 +21,7 @@ use Rattle.gob_stream.specs.Standing.{StandsAfter, no_deeper}
 use Rattle.gob_stream.specs.Stream.{no_more}
 use Rattle.gob_stream.specs.Writing.{WritesStream}
 use Rattle.gob_stream.proofs.PublicLaws.{views_behind}
-use Rattle.gob_stream_tests.specs.Pieces.{joined, HasOutcome}
+use Rattle.gob_examples.specs.Pieces.{joined, HasOutcome}
 
 -- ---- written and read back
 -- what was written to memory that was empty

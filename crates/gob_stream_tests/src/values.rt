@@ -1,0 +1,54 @@
+//! The documented values of basic types, and their bytes.
+
+use crate::devices::Small;
+use gob_num::Memory;
+use gob_stream::{Limits, Output, StreamWriter, WriteFault};
+use gob_types::TypeId;
+use gob_value::Value;
+use std::alloc::{AllocError, Global};
+
+/// The types of the values, and the bytes of a stream of each.
+pub(crate) static VALUES: [(u64, &[u8]); 8] = [
+    (1, b"\x03\x02\x00\x01"),
+    (2, b"\x03\x04\x00\x06"),
+    (2, b"\x0b\x04\x00\xf8\xff\xff\xff\xff\xff\xff\xff\xff"),
+    (3, b"\x03\x06\x00\x07"),
+    (4, b"\x05\x08\x00\xfe\x31\x40"),
+    (5, b"\x05\x0a\x00\x02\x00\xff"),
+    (6, b"\x04\x0c\x00\x01\xff"),
+    (7, b"\x06\x0e\x00\xfe\x31\x40\x00"),
+];
+
+const SEVENTEEN: u64 = 0x4031_0000_0000_0000;
+
+// The value of this row.
+fn value_of(alloc: Global, row: usize) -> Result<Value, AllocError> {
+    match row {
+        0 => Ok(Value::Bool(true)),
+        1 => Ok(Value::Int(3)),
+        2 => Ok(Value::Int(i64::MIN)),
+        3 => Ok(Value::Uint(7)),
+        4 => Ok(Value::Float(SEVENTEEN)),
+        5 => Ok(Value::Bytes([0x00, 0xff].to_vec(alloc)?)),
+        6 => Ok(Value::Str([0xff].to_vec(alloc)?)),
+        _ => Ok(Value::Complex(SEVENTEEN, 0)),
+    }
+}
+
+// Writes a stream of one value.
+fn put_one(alloc: Global, small: &mut Small, id: u64, value: &Value) -> Result<(), WriteFault> {
+    let mut output = Output::new(small);
+    let mut writer = StreamWriter::new(alloc, Limits::standard())?;
+    writer.put(alloc, &mut output, TypeId(id), value)
+}
+
+/// Whether the value of this row is written as these bytes. Nothing is written for want of memory.
+pub(crate) fn is_written(alloc: Global, row: usize, id: u64, bytes: &[u8]) -> Result<bool, Memory> {
+    let value = value_of(alloc, row)?;
+    let mut small = Small::new();
+    match put_one(alloc, &mut small, id, &value) {
+        Ok(()) => Ok(small.taken() == Some(bytes)),
+        Err(WriteFault::Memory) if small.taken() == Some(&[]) => Err(Memory),
+        Err(_) => Ok(false),
+    }
+}
