@@ -8,6 +8,8 @@ import (
 	"log"
 	"math"
 	"math/big"
+	"net/netip"
+	"net/url"
 	"os"
 	"time"
 )
@@ -82,6 +84,21 @@ type Event struct {
 	Note string
 }
 
+// Color encodes itself by MarshalBinary.
+type Color struct {
+	red, green, blue byte
+}
+
+func (c Color) MarshalBinary() ([]byte, error) {
+	return []byte{c.red, c.green, c.blue}, nil
+}
+
+// Page holds a type whose MarshalBinary has a pointer receiver: Go encodes it only where it has an address.
+type Page struct {
+	Address url.URL
+	Hits    int
+}
+
 type Holder struct {
 	Any interface{}
 	N   int
@@ -140,6 +157,19 @@ var streams = map[string]func(){
 	"time": func() {
 		at := time.Unix(1, 5).UTC()
 		encode(os.Stdout, at, Event{at, "now"}, Event{})
+	},
+	"colors": func() {
+		encode(os.Stdout, Color{1, 2, 255}, []Color{{1, 2, 3}, {}}, map[string]Color{"red": {255, 0, 0}})
+	},
+	"addresses": func() {
+		encode(os.Stdout, netip.MustParseAddr("192.0.2.1"), netip.MustParseAddr("::1"), netip.Addr{})
+	},
+	"page": func() {
+		address, err := url.Parse("http://a.b/c?d=e")
+		if err != nil {
+			log.Fatal(err)
+		}
+		encode(os.Stdout, &Page{*address, 3}, &Page{})
 	},
 	"nothing": func() {
 		encode(os.Stdout, Holder{N: 1}, []interface{}{nil, nil})

@@ -71,6 +71,16 @@ type Mark struct{ text string }
 func (s Mark) GobEncode() ([]byte, error) { return []byte(s.text), nil }
 func (s *Mark) GobDecode(b []byte) error  { s.text = string(b); return nil }
 
+type Packed struct{ text string }
+
+func (p Packed) MarshalBinary() ([]byte, error)  { return []byte(p.text), nil }
+func (p *Packed) UnmarshalBinary(b []byte) error { p.text = string(b); return nil }
+
+type Sealed struct{ text string }
+
+func (s Sealed) MarshalBinary() ([]byte, error)  { return []byte(s.text), nil }
+func (s *Sealed) UnmarshalBinary(b []byte) error { s.text = string(b); return nil }
+
 // Sends a value, decodes it into a new value of the type of `wanted`, and prints what comes of it.
 func try(what string, sent, wanted any) {
 	var stream bytes.Buffer
@@ -116,4 +126,6 @@ func main() {
 	try("{A, I nil} into itself", Held{1, nil}, Held{})
 	try("Stamp into Mark, both GobEncoder", Stamp{"a"}, Mark{})
 	try("Stamp, a GobEncoder, into {A, B}", Stamp{"a"}, AB{})
+	try("Packed into Sealed, both BinaryMarshaler", Packed{"a"}, Sealed{})
+	try("Packed, a BinaryMarshaler, into Mark, a GobEncoder", Packed{"a"}, Mark{})
 }

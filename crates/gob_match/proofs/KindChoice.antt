@@ -87,8 +87,11 @@ same_basic basic.Complex basic.Complex = inl refl
 same_basic basic.Interface basic.Interface = inl refl
 same_basic _ _ = inr (λ e. cc)
 
-same_marshal : (m n : Marshal) → m ≡ n
-same_marshal marshal.Gob marshal.Gob = refl
+same_marshal : (m n : Marshal) → (m ≡ n) ⊎ (m ≢ n)
+same_marshal marshal.Gob marshal.Gob = inl refl
+same_marshal marshal.Binary marshal.Binary = inl refl
+same_marshal marshal.Text marshal.Text = inl refl
+same_marshal _ _ = inr (λ e. cc)
 
 -- two kinds clash for some reason
 pub record Clash (k l : Kind) : Type 0 where
@@ -120,7 +123,10 @@ kinds_choice (kind.Basic b) (kind.Basic c) = elim (same_basic b c) as (λ _. Kin
   | inl e ↦ inl (subst (λ c. KindsMatch (kind.Basic b) (kind.Basic c)) e basics)
   | inr d ↦ inr (record { reason = clash.DifferentKind; clash = basics_differ d })
 ]
-kinds_choice (kind.Opaque m) (kind.Opaque n) = inl (subst (λ n. KindsMatch (kind.Opaque m) (kind.Opaque n)) (same_marshal m n) opaques)
+kinds_choice (kind.Opaque m) (kind.Opaque n) = elim (same_marshal m n) as (λ _. KindsMatch (kind.Opaque m) (kind.Opaque n) ⊎ Clash (kind.Opaque m) (kind.Opaque n)) [
+  | inl e ↦ inl (subst (λ n. KindsMatch (kind.Opaque m) (kind.Opaque n)) e opaques)
+  | inr d ↦ inr (record { reason = clash.DifferentKind; clash = opaques_differ d })
+]
 kinds_choice (kind.Array e m) (kind.Array f n) = elim (three_ways m n) as (λ _. KindsMatch (kind.Array e m) (kind.Array f n) ⊎ Clash (kind.Array e m) (kind.Array f n)) [
   | inl below ↦ inr (record { reason = clash.DifferentLength; clash = lengths_differ (λ e. omega arith) })
   | inr (inl same) ↦ inl (subst (λ n. KindsMatch (kind.Array e m) (kind.Array f n)) same arrays)

@@ -15,7 +15,7 @@ use Rattle.gob_match.specs.declared.reason.ClashReason.TheVariants as clash
 use Rattle.gob_match.specs.Machine.Conversions.{of_basics, of_opaques, of_arrays, of_slices, of_maps, of_structs}
 use Rattle.gob_match.specs.Machine.Exploring.{Converts}
 use Rattle.gob_match.specs.Machine.Struct.{AreCommonFields}
-use Rattle.gob_match.specs.Matching.{basics, opaques, arrays, slices, maps, structs, KindsClash, basics_differ, lengths_differ, nothing_in_common, unlike, AreAlike, HaveDistinctNames, HaveInCommon}
+use Rattle.gob_match.specs.Matching.{basics, opaques, arrays, slices, maps, structs, KindsClash, basics_differ, opaques_differ, lengths_differ, nothing_in_common, unlike, AreAlike, HaveDistinctNames, HaveInCommon}
 use Rattle.gob_match.specs.Pairs.{of_types, RepeatsName, ShareName}
 use Rattle.gob_match.proofs.ConversionLaws.{common_sound, common_whole}
 
@@ -108,6 +108,9 @@ maps_convert is at and = rw (at, and, is) (record { match = maps; conversion = o
 
 pub basics_clash : {b c : Basic} {l : Kind} → l ≡ kind.Basic c → b ≢ c → KindsClash (kind.Basic b) l clash.DifferentKind
 basics_clash is n = rw is (basics_differ n)
+
+pub opaques_clash : {b c : Marshal} {l : Kind} → l ≡ kind.Opaque c → b ≢ c → KindsClash (kind.Opaque b) l clash.DifferentKind
+opaques_clash is n = rw is (opaques_differ n)
 
 pub lengths_clash : {e f : TypeId} {m n : ℕ} {l : Kind} → l ≡ kind.Array f n → m ≢ n → KindsClash (kind.Array e m) l clash.DifferentLength
 lengths_clash is n = rw is (lengths_differ n)

@@ -13,6 +13,9 @@ int and uint | 2 | 3 | 33
 int and float | 2 | 4 | 33
 []byte and string | 5 | 6 | 33
 two opaque types | 65 opaque | 66 opaque
+two that marshal themselves as text | 65 text | 66 text
+text and binary | 65 text | 65 binary | 33
+binary and a type's own way | 65 binary | 65 opaque | 33
 an opaque type and int | 65 opaque | 2 | 33
 structs with B in both | 65 struct A 2 B 2 | 65 struct B 2 C 2
 fields in another order, under another id | 65 struct A 2 B 2 | 70 struct B 2 A 2

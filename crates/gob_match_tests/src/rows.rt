@@ -128,6 +128,8 @@ fn kind_of(alloc: Global, words: &mut SplitWhitespace<'_>) -> Result<Kind, Alloc
         Some("slice") => Ok(Kind::Slice {
             elem: next_id(words),
         }),
+        Some("binary") => Ok(Kind::Opaque(Marshal::Binary)),
+        Some("text") => Ok(Kind::Opaque(Marshal::Text)),
         _ => Ok(Kind::Opaque(Marshal::Gob)),
     }
 }

@@ -1,5 +1,5 @@
 -- What a value of a table describes, a definition can give: its array length is a signed number.
-use Rattle.std.proofs.Common.{◌≡◌, ℕ, ℤ, pos, ◌≤◌, inl, inr, Bool, true, false, cond, List, [], Some, None, refl, sym, ap, subst, ◌∙◌, arith}
+use Rattle.std.proofs.Common.{◌≡◌, ℕ, ℤ, pos, ◌≤◌, inl, inr, Bool, true, false, cond, List, [], Option, Some, None, refl, sym, ap, subst, ◌∙◌, arith}
 use Rattle.std.specs.Prelude.{zero, suc, ◌==◌, slice_get}
 use Rattle.gob_num.specs.Signed.{IsSigned}
 use Rattle.gob_types.specs.declared.id.TypeId.{TypeId}
@@ -71,19 +71,28 @@ number_small {T = T} {fs = fs} {n = n} f all is = by (present f fs) is (all.each
 
 -- ---- the length of an array
 
-array_chosen : (x y m n p e l : ℤ) (gs : List SaidField) (a b c d g : Bool)
-    → cond a (Some (said_array x y)) (cond b (Some (said_slice m)) (cond c (Some (said_struct gs)) (cond d (Some (said_map n p)) (cond g (Some (said_opaque marshal.Gob)) None)))) ≡ Some (said_array e l) → l ≡ y
-array_chosen x y m n p e l gs true b c d g says = cc
-array_chosen x y m n p e l gs false true c d g says = absurd (cc)
-array_chosen x y m n p e l gs false false true d g says = absurd (cc)
-array_chosen x y m n p e l gs false false false true g says = absurd (cc)
-array_chosen x y m n p e l gs false false false false true says = absurd (cc)
-array_chosen x y m n p e l gs false false false false false says = absurd (cc)
+-- what the last fields of wireType say, by which of them is there
+abbrev opaque_chosen : Bool → Bool → Bool → Option SaidKind
+opaque_chosen a b c = cond a (Some (said_opaque marshal.Gob)) (cond b (Some (said_opaque marshal.Binary)) (cond c (Some (said_opaque marshal.Text)) None))
+
+no_array_chosen : (a b c : Bool) {e l : ℤ} → opaque_chosen a b c ≡ Some (said_array e l) → ⊥
+no_array_chosen true b c says = cc
+no_array_chosen false true c says = cc
+no_array_chosen false false true says = cc
+no_array_chosen false false false says = cc
+
+array_chosen : (x y m n p e l : ℤ) (gs : List SaidField) (a b c d : Bool) (o : Option SaidKind) → (o ≡ Some (said_array e l) → ⊥)
+    → cond a (Some (said_array x y)) (cond b (Some (said_slice m)) (cond c (Some (said_struct gs)) (cond d (Some (said_map n p)) o))) ≡ Some (said_array e l) → l ≡ y
+array_chosen x y m n p e l gs true b c d o none says = cc
+array_chosen x y m n p e l gs false true c d o none says = absurd (cc)
+array_chosen x y m n p e l gs false false true d o none says = absurd (cc)
+array_chosen x y m n p e l gs false false false true o none says = absurd (cc)
+array_chosen x y m n p e l gs false false false false o none says = absurd (none says)
 
 array_said : (f : ℕ) (fs : Fields) {e l : ℤ} → said_kind f fs ≡ Some (said_array e l) → l ≡ number_in (present 2 fs)
 array_said f fs {e = e} {l = l} says =
     array_chosen (number_in (present 1 fs)) (number_in (present 2 fs)) (number_in (present 1 fs)) (number_in (present 1 fs)) (number_in (present 2 fs)) e l (said_fields (elements_in (present 1 fs)))
-    (f == 0) (f == 1) (f == 2) (f == 3) (f == 4) says
+    (f == 0) (f == 1) (f == 2) (f == 3) (opaque_chosen (f == 4) (f == 5) (f == 6)) (no_array_chosen (f == 4) (f == 5) (f == 6)) says
 
 has_length : {T : Table} (f : ℕ) (fs : Fields) {k : SaidKind} {kk : Kind} → ArePresent T fs → said_kind f fs ≡ Some k → GivesKind k kk → HasLength kk
 has_length f fs all says (gives_array refers len) = number_small 2 all (sym (array_said f fs says) ∙ len)

@@ -228,7 +228,7 @@ count_once (stream_too_long r e u l k) (item_too_long x f v n) = absurd (let p =
 count_once {offset = offset} (stream_too_long r e u l k) (stream_too_long x f v n o) = ap (λ c. refuses offset (offset + length c) reason.StreamTooLong) (unsigned_prefix r x u v (sym e ∙ f)).bytes
 
 -- ---- the next item
-take_front : (d y : List ℕ) → take (length d) (d ++ y) ≡ d
+pub take_front : (d y : List ℕ) → take (length d) (d ++ y) ≡ d
 take_front d y = take-append-le (length d) d y (omega arith) ∙ take_whole d (length d) (omega arith)
 
 pub next_not : {base : Table} {L : Bounds} {T U : Table} {offset : ℕ} {z b : List ℕ} {i : StreamItem} {R : Refusal} (y : List ℕ) → HasWireStruct T → RefusesNext base L T offset z R → Counted base L T offset i b U → z ≡ b ++ y → ⊥

@@ -100,7 +100,7 @@ base_in = (
               (
                 tt,
                 (
-                  ((_, refl), ((_, refl), ((_, refl), ((_, refl), ((_, refl), tt))))),
+                  ((_, refl), ((_, refl), ((_, refl), ((_, refl), ((_, refl), ((_, refl), ((_, refl), tt))))))),
                   (
                     (common, (two, (two, tt))),
                     (

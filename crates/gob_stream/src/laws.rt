@@ -5,6 +5,7 @@ ghost use Rattle.gob_stream.specs.Laws.{StayStreams, HaveOneOutcome, HaveAnOutco
 ghost use Rattle.gob_stream.specs.Laws.{GivesWhatStands, HaveOneTable, StayLimits};
 ghost use Rattle.gob_stream.specs.Laws.{AreReadBack, ShowNoRefusal, AreReadBackInPieces};
 ghost use Rattle.gob_stream.specs.WriterRefusal.{HaveOneReason, AreNotCounted};
+ghost use Rattle.gob_stream.specs.Earlier.{HadAnOutcome, StayOutcomes};
 
 use gob_read::{Builder, TreeBuilder};
 
@@ -76,4 +77,11 @@ pub fn refused_bytes_are_no_item()
 /// items before it.
 pub fn shown_refusals_stay()
     ensures { StayShown }
+{}
+
+/// The outcome of bytes is what it was while wireType had no fields for types that marshal themselves as binary or as
+/// text, unless the bytes were refused then for a delta of a wireType that leads to one of these two fields.
+pub fn outcomes_stay_by_the_later_base_table()
+    ensures some { HadAnOutcome }
+    ensures stay { StayOutcomes }
 {}

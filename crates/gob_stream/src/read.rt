@@ -1,7 +1,9 @@
 //! Reading all items of a stream.
 
-ghost use Rattle.std.specs.Prelude.{◌≡◌, ℕ, ◌+◌, ◌≤◌, List, Some};
+ghost use Rattle.std.specs.Prelude.{◌≡◌, ℕ, ◌+◌, ◌≤◌, List, [], Some};
+ghost use Rattle.gob_stream.specs.Bounds.{AreLimits};
 ghost use Rattle.gob_stream.specs.Item.{item_views};
+ghost use Rattle.gob_stream.specs.Standing.{StandsAfter, IsUsable};
 ghost use Rattle.gob_stream.specs.Reading.{ReadsStream, Given, CountsReads};
 
 use crate::fault::Fault;
@@ -10,7 +12,7 @@ use crate::item::Item;
 use crate::limits::Limits;
 use crate::session::Session;
 use gob_num::Memory;
-use gob_read::TreeBuilder;
+use gob_read::{Builder, TreeBuilder};
 use gob_value::Value;
 use std::alloc::Global;
 use std::io::Read;
@@ -30,6 +32,26 @@ pub fn read_stream<R: Read>(
     ensures taken { input.new.taken ≤ input.old.taken + limits.stream + 9 }
 {
     let mut session = Session::<TreeBuilder>::new(alloc, limits)?;
+    read_items(alloc, input, &mut session, out)
+}
+
+/// The same, over a session that has read nothing.
+fn read_items<R: Read>(
+    alloc: Global,
+    input: &mut Input<R>,
+    session: &mut Session<TreeBuilder>,
+    out: &mut Vec<Item<Value>>,
+) -> Result<(), Fault>
+    requires stands { StandsAfter ⟦<TreeBuilder as Builder>⟧.stands ⟦<TreeBuilder as Builder>⟧.stands 1000 session.old.reading [] [] }
+    requires usable { IsUsable ⟦<TreeBuilder as Builder>⟧.stands ⟦<TreeBuilder as Builder>⟧.stands 1000 session.old.reading }
+    requires new { session.old.reading.taken ≡ 0 }
+    requires allowed { AreLimits session.old.reading.limits }
+    ensures items { Given out.old.items out.new.items (λ given. (bytes : List ℕ)
+        → R.remaining input.old.reader ≡ Some bytes
+        → ReadsStream session.old.reading.limits bytes (R.remaining input.new.reader) (item_views given) result) }
+    ensures counted { CountsReads input.old.failures input.new.failures result }
+    ensures taken { input.new.taken ≤ input.old.taken + session.old.reading.limits.stream + 9 }
+{
     while let Some(item) = session.read_item(alloc, input)? {
         out.push(item).map_err(Memory::from)?;
     }

@@ -146,10 +146,20 @@ impl<B: Builder> Reading<B> {
         ensures limits { self.new.limits ≡ self.old.limits }
     {
         if out.push(item).is_err() {
-            self.stage = Stage::Failed;
+            self.fail();
             return Err(Fault::Memory);
         }
         Ok(())
+    }
+
+    /// From now on nothing more is read.
+    pub(crate) fn fail(&mut self)
+        ensures failed { self.new.stage ≡ Stage.Failed }
+        ensures types { self.new.types ≡ self.old.types }
+        ensures taken { self.new.taken ≡ self.old.taken }
+        ensures limits { self.new.limits ≡ self.old.limits }
+    {
+        self.stage = Stage::Failed;
     }
 
     /// At the end of the input: whether it is the end of the stream. After a fault nothing more is read.
@@ -169,8 +179,9 @@ impl<B: Builder> Reading<B> {
             Stage::Failed => Err(Fault::Failed),
             Stage::Count { begin, number: _ } if begin == self.taken => Ok(()),
             _ => {
-                self.stage = Stage::Failed;
-                Err(Fault::Refused(refusal(self.taken, self.taken, Reason::Ended)))
+                let ended = refusal(self.taken, self.taken, Reason::Ended);
+                self.fail();
+                Err(Fault::Refused(ended))
             }
         }
     }

@@ -126,12 +126,12 @@ impl<B: Builder> Session<B> {
                 }
                 Ok(n) => {
                     let step = self.reading.step(alloc, &chunk[..n])?;
-                    if step.item.is_some() {
-                        return Ok(step.item);
+                    if let Some(item) = step.item {
+                        return Ok(Some(item));
                     }
                 }
                 Err(_) => {
-                    self.reading.stage = Stage::Failed;
+                    self.reading.fail();
                     return Err(Fault::Read);
                 }
             }

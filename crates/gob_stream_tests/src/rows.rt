@@ -29,7 +29,10 @@ defined twice | POINT POINT | 1 items, refused 8 DefinedTwice(65) at 33 seen 35
 no such field | POINT 07 ff 82 01 2c 02 42 00 | 1 items, refused 15 FieldNumber at 37 seen 38
 an array of itself | LOOP 05 ff 82 00 01 01 | 1 items, refused 11 Bottomless(65) at 17 seen 19
 an opaque type | TIME 06 ff 82 00 02 0a 0b | 2 items
-another kind of opaque type | 10 ff 81 07 01 01 04 54 69 6d 65 01 ff 82 00 00 00 06 ff 82 00 02 0a 0b | 0 items, refused 15 FieldNumber at 3 seen 4
+a type marshalled as binary | 10 ff 81 06 01 01 04 54 69 6d 65 01 ff 82 00 00 00 06 ff 82 00 02 0a 0b | 2 items
+one marshalled as text | 10 ff 81 07 01 01 04 54 69 6d 65 01 ff 82 00 00 00 06 ff 82 00 02 0a 0b | 2 items
+a kind that isn't there | 10 ff 81 08 01 01 04 54 69 6d 65 01 ff 82 00 00 00 | 0 items, refused 15 FieldNumber at 3 seen 4
+two kinds | 11 ff 81 05 01 02 ff 82 00 00 01 01 02 ff 82 00 00 00 | 0 items, refused 18 KindCount at 3 seen 18
 the least own id | 0b 7f 02 01 02 ff 80 00 01 04 00 00 | 1 items
 a reserved id | 02 7d 00 | 0 items, refused 7 ReservedType(63) at 1 seen 2
 a bool of 2 | 03 02 00 02 | 0 items, refused 13 Bool at 3 seen 4

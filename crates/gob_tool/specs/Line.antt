@@ -6,6 +6,8 @@ use Rattle.gob_types.specs.declared.id.TypeId.{TypeId}
 use Rattle.gob_types.specs.declared.kind.Field.{Field}
 use Rattle.gob_types.specs.declared.kind.Kind.{Kind}
 use Rattle.gob_types.specs.declared.kind.Kind.TheVariants as kind
+use Rattle.gob_types.specs.declared.kind.Marshal.{Marshal}
+use Rattle.gob_types.specs.declared.kind.Marshal.TheVariants as marshal
 use Rattle.gob_types.specs.declared.kind.Shape.{Shape}
 use Rattle.gob_types.specs.Table.{Table, shape_of}
 use Rattle.gob_value.specs.Tree.{Tree}
@@ -24,6 +26,12 @@ name_member name = member (codes "name") (text_json name) no_members
 abbrev pub kind_member : List ℕ → Members → Members
 kind_member kind members = member (codes "kind") (string kind) members
 
+-- the kind of an opaque type, by its way of marshalling
+abbrev pub marshal_name : Marshal → List ℕ
+marshal_name marshal.Gob = codes "gob"
+marshal_name marshal.Binary = codes "binary"
+marshal_name marshal.Text = codes "text"
+
 -- what stands behind the id, by the kind: nothing for a basic type, which no definition gives
 abbrev pub shape_members : Kind → List ℕ → Members
 shape_members (kind.Array e n) name =
@@ -32,7 +40,7 @@ shape_members (kind.Slice e) name = member (codes "elem") (id_json e) (kind_memb
 shape_members (kind.Struct fs) name = member (codes "fields") (array (field_types_json fs)) (kind_member (codes "struct") (name_member name))
 shape_members (kind.Map k e) name =
     member (codes "elem") (id_json e) (member (codes "key") (id_json k) (kind_member (codes "map") (name_member name)))
-shape_members (kind.Opaque m) name = kind_member (codes "gob") (name_member name)
+shape_members (kind.Opaque m) name = kind_member (marshal_name m) (name_member name)
 shape_members (kind.Basic b) name = no_members
 
 -- what the table says of a type: nothing where it has none

@@ -7,10 +7,10 @@ ghost use Rattle.json.specs.Tree.{json_tokens, members_tokens};
 ghost use Rattle.serde_json.specs.Data.{array};
 ghost use Rattle.serde_json.specs.Written.{outline, members_outline};
 ghost use Rattle.gob_tool.specs.Json.{pair_json, text_json, id_json};
-ghost use Rattle.gob_tool.specs.Line.{field_types_json, name_member, shape_members, definition_json};
+ghost use Rattle.gob_tool.specs.Line.{field_types_json, marshal_name, name_member, shape_members, definition_json};
 
 use crate::leaf::write_text;
-use gob_types::{Field, Kind, Shape, TypeId};
+use gob_types::{Field, Kind, Marshal, Shape, TypeId};
 use json::Writer;
 use std::alloc::{AllocError, Global};
 
@@ -61,9 +61,20 @@ fn write_shape(alloc: Global, kind: &Kind, name: &[u8], out: &mut Writer) -> Res
             write_id("key", *key, out)?;
             write_kind("map", out)?;
         }
-        Kind::Opaque(_) => write_kind("gob", out)?,
+        Kind::Opaque(marshal) => write_kind(marshal_name(*marshal), out)?,
     }
     write_name(alloc, name, out)
+}
+
+/// The kind of an opaque type, by its way of marshalling.
+fn marshal_name(marshal: Marshal) -> &'static str
+    ensures { result.now ≡ marshal_name marshal }
+{
+    match marshal {
+        Marshal::Gob => "gob",
+        Marshal::Binary => "binary",
+        Marshal::Text => "text",
+    }
 }
 
 /// Writes an array of the fields, each its name and its type.

@@ -1,6 +1,6 @@
 -- The types that each stream has before its first definition: the basic types, and the types of descriptions.
--- The ids 1 to 8 and 16 to 23 and their fields are those of Go's encoding/gob documentation, Encoding Details; 24 and
--- the last field of wireType are this project's own reading. (docs/FORMAT.md, Types and the base table.)
+-- The ids 1 to 8 and 16 to 23 and all fields are those of Go's encoding/gob documentation, Encoding Details; it gives
+-- gobEncoderType no number, and 24 is this project's own. (docs/FORMAT.md, Types and the base table.)
 use Rattle.std.specs.Prelude.{ℕ, List, [], ◌∷◌, codes}
 use Rattle.gob_types.specs.declared.id.TypeId.{TypeId}
 use Rattle.gob_types.specs.declared.basic.Basic.TheVariants as basic
@@ -29,7 +29,7 @@ gob_encoder_type = id 24
 
 -- the fields of wireType: the one that is present tells the kind
 abbrev pub wire_type_fields : List Field
-wire_type_fields = field (codes "ArrayT") 17 ∷ field (codes "SliceT") 19 ∷ field (codes "StructT") 20 ∷ field (codes "MapT") 23 ∷ field (codes "GobEncoderT") 24 ∷ []
+wire_type_fields = field (codes "ArrayT") 17 ∷ field (codes "SliceT") 19 ∷ field (codes "StructT") 20 ∷ field (codes "MapT") 23 ∷ field (codes "GobEncoderT") 24 ∷ field (codes "BinaryMarshalerT") 24 ∷ field (codes "TextMarshalerT") 24 ∷ []
 
 abbrev pub base_table : Table
 base_table =

@@ -1,6 +1,7 @@
 pub mod Reasons
 pub mod Table
 pub mod Base
+pub mod Earlier
 pub mod Ready
 pub mod Definable
 pub mod Defined

@@ -13,12 +13,14 @@ use indexmap::IndexMap;
 use std::alloc::Global;
 
 // The fields of the types of descriptions: their names, and the types of their values.
-const WIRE_TYPE: [(&str, u64); 5] = [
+const WIRE_TYPE: [(&str, u64); 7] = [
     ("ArrayT", 17),
     ("SliceT", 19),
     ("StructT", 20),
     ("MapT", 23),
     ("GobEncoderT", 24),
+    ("BinaryMarshalerT", 24),
+    ("TextMarshalerT", 24),
 ];
 
 const ARRAY_TYPE: [(&str, u64); 3] = [("CommonType", 18), ("Elem", 2), ("Len", 2)];

@@ -71,6 +71,10 @@ impl Fields {
 pub enum Marshal {
     /// The type's own `GobEncode`.
     Gob,
+    /// The type's own `MarshalBinary`.
+    Binary,
+    /// The type's own `MarshalText`.
+    Text,
 }
 
 /// What the values of a type are.

@@ -1,5 +1,5 @@
 -- A shape that a value of wireType describes may be defined.
-use Rattle.std.proofs.Common.{◌≡◌, ◌⊎◌, inl, inr, ◌≢◌, ℕ, zero, suc, ℤ, Bool, true, false, eqb, List, Option, Some, None, arith, refl, sym, ap, ◌∙◌, subst, FitsSigned, w64}
+use Rattle.std.proofs.Common.{◌≡◌, ◌⊎◌, inl, inr, ◌≢◌, ℕ, zero, suc, ℤ, Bool, true, false, cond, eqb, List, Option, Some, None, arith, refl, sym, ap, ◌∙◌, subst, FitsSigned, w64}
 use Rattle.std.specs.Prelude.{slice_get}
 use Rattle.std.proofs.lemmas.Bool.{eqb-true, eq-eqb}
 use Rattle.std.proofs.lemmas.Bool.Decides.{eqb_tells}
@@ -10,6 +10,7 @@ use Rattle.gob_types.specs.declared.basic.Basic.TheVariants as basic
 use Rattle.gob_types.specs.declared.kind.Field.{Field}
 use Rattle.gob_types.specs.declared.kind.Kind.{Kind}
 use Rattle.gob_types.specs.declared.kind.Kind.TheVariants as kind
+use Rattle.gob_types.specs.declared.kind.Marshal.TheVariants as marshal
 use Rattle.gob_types.specs.declared.kind.Shape.{Shape}
 use Rattle.gob_types.specs.Base.{base_table, wire_type, wire_type_fields, id}
 use Rattle.gob_types.specs.Definable.{IsReference, IsDefinable, HasLength}
@@ -19,7 +20,7 @@ use Rattle.gob_types.proofs.GrowthLaws.{some_injective}
 use Rattle.gob_value.specs.Tree.{Tree, Fields, no_field, field}
 use Rattle.gob_value.specs.Spelling.{Spells, of_type, SpellsAs, of_int, of_struct, SpellsFields, end_of_fields, next_field}
 use Rattle.gob_value.specs.Fits.{Fits}
-use Rattle.gob_value.specs.Description.{present, number_in, fields_in, said, said_kind, said_with, Said, SaidField, SaidKind, said_array, GivesFields, no_more, and_field, GivesKind, gives_array, gives_slice, gives_struct, gives_map, gives_opaque, Describes}
+use Rattle.gob_value.specs.Description.{present, number_in, fields_in, said, said_kind, said_with, Said, SaidField, SaidKind, said_array, said_opaque, GivesFields, no_more, and_field, GivesKind, gives_array, gives_slice, gives_struct, gives_map, gives_opaque, Describes}
 
 -- ---- references
 
@@ -77,14 +78,20 @@ number_back {fs = fs} p n e there type = by (present n fs) refl
         let fit = present_back p n e v there is in
         int_back (type_back _ (subst (λ (t : TypeId). Spells base_table t v fit.bytes) type fit.spelled) refl)
 
+-- the last fields of wireType say no array
+opaque_said : {elem len : ℤ} (a b c : Bool) → cond a (Some (said_opaque marshal.Gob)) (cond b (Some (said_opaque marshal.Binary)) (cond c (Some (said_opaque marshal.Text)) None)) ≡ Some (said_array elem len) → ⊥
+opaque_said true b c h = cc
+opaque_said false true c h = cc
+opaque_said false false true h = cc
+opaque_said false false false h = cc
+
 -- an array is what field 0 says
-array_said : (a b c d e : Bool) (f : ℕ) (fs : Fields) (elem len : ℤ) → eqb f 0 ≡ a → eqb f 1 ≡ b → eqb f 2 ≡ c → eqb f 3 ≡ d → eqb f 4 ≡ e → said_kind f fs ≡ Some (said_array elem len) → (f ≡ 0) × (number_in (present 2 fs) ≡ len)
-array_said true b c d e f fs elem len p q r s t h = let g = rw p at h in (eqb-true f 0 p, cc)
-array_said false true c d e f fs elem len p q r s t h = let g = rw (p, q) at h in cc
-array_said false false true d e f fs elem len p q r s t h = let g = rw (p, q, r) at h in cc
-array_said false false false true e f fs elem len p q r s t h = let g = rw (p, q, r, s) at h in cc
-array_said false false false false true f fs elem len p q r s t h = let g = rw (p, q, r, s, t) at h in cc
-array_said false false false false false f fs elem len p q r s t h = let g = rw (p, q, r, s, t) at h in cc
+array_said : (a b c d : Bool) (f : ℕ) (fs : Fields) (elem len : ℤ) → eqb f 0 ≡ a → eqb f 1 ≡ b → eqb f 2 ≡ c → eqb f 3 ≡ d → said_kind f fs ≡ Some (said_array elem len) → (f ≡ 0) × (number_in (present 2 fs) ≡ len)
+array_said true b c d f fs elem len p q r s h = let g = rw p at h in (eqb-true f 0 p, cc)
+array_said false true c d f fs elem len p q r s h = let g = rw (p, q) at h in cc
+array_said false false true d f fs elem len p q r s h = let g = rw (p, q, r) at h in cc
+array_said false false false true f fs elem len p q r s h = let g = rw (p, q, r, s) at h in cc
+array_said false false false false f fs elem len p q r s h = let g = rw (p, q, r, s) at h in absurd (opaque_said (eqb f 4) (eqb f 5) (eqb f 6) g)
 
 kind_of : (common : Fields) (o : Option SaidKind) (w : Said) → said_with common o ≡ Some w → o ≡ Some w.kind
 kind_of common None w e = cc
@@ -110,7 +117,7 @@ length_fits v w elem len fit says is =
     by (field f g (field h k fs)) p e = cc
     by (field f g no_field) p e =
         let fs = fields_in (Some g) in
-        let array = array_said (eqb f 0) (eqb f 1) (eqb f 2) (eqb f 3) (eqb f 4) f fs elem len refl refl refl refl refl (kind_of (fields_in (present 0 fs)) (said_kind f fs) w e ∙ ap (λ (k : SaidKind). Some k) is) in
+        let array = array_said (eqb f 0) (eqb f 1) (eqb f 2) (eqb f 3) f fs elem len refl refl refl refl (kind_of (fields_in (present 0 fs)) (said_kind f fs) w e ∙ ap (λ (k : SaidKind). Some k) is) in
         within f g _ p array
 
 has_length : {k : SaidKind} {g : Kind} → GivesKind k g → ((elem len : ℤ) → k ≡ said_array elem len → FitsSigned w64 len) → HasLength g

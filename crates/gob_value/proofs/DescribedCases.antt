@@ -5,10 +5,11 @@ use Rattle.gob_types.specs.declared.id.TypeId.{TypeId}
 use Rattle.gob_types.specs.declared.kind.Field.{Field}
 use Rattle.gob_types.specs.declared.kind.Kind.{Kind}
 use Rattle.gob_types.specs.declared.kind.Kind.TheVariants as kind
+use Rattle.gob_types.specs.declared.kind.Marshal.{Marshal}
 use Rattle.gob_types.specs.declared.kind.Shape.{Shape}
 use Rattle.gob_types.specs.Definable.{IsDefinable, HasLength}
 use Rattle.gob_value.specs.Tree.{Tree, Fields, no_field, field}
-use Rattle.gob_value.specs.Described.{described, described_kind, id_number, name_and_id, field_types, field_list, array_length, wire_type_of}
+use Rattle.gob_value.specs.Described.{described, described_kind, id_number, name_and_id, field_types, field_list, array_length, marshal_field, wire_type_of}
 
 -- the Id, alone or behind a name that isn't empty
 pub name_and_id-cases : (P : Fields → Type 0) → ((t : TypeId) → P (field 1 (id_number t) no_field)) → ((b : ℕ) (bs : List ℕ) (t : TypeId) → P (field 0 (Tree.text (b ∷ bs)) (field 1 (id_number t) no_field)))
@@ -35,7 +36,7 @@ pub described-cases : (P : Tree → Type 0) (t : TypeId) (s : Shape) → IsDefin
     → ((e : TypeId) → P (wire_type_of 1 (field 0 (Tree.fields (name_and_id s.name t)) (field 1 (id_number e) no_field))))
     → ((fs : List Field) → P (wire_type_of 2 (field 0 (Tree.fields (name_and_id s.name t)) (field_list fs))))
     → ((k e : TypeId) → P (wire_type_of 3 (field 0 (Tree.fields (name_and_id s.name t)) (field 1 (id_number k) (field 2 (id_number e) no_field)))))
-    → P (wire_type_of 4 (field 0 (Tree.fields (name_and_id s.name t)) no_field))
+    → ((m : Marshal) → P (wire_type_of (marshal_field m) (field 0 (Tree.fields (name_and_id s.name t)) no_field)))
     → P (described t s)
 described-cases P t s d array slice struct map opaque = by s.kind d.length
   where
@@ -45,4 +46,4 @@ described-cases P t s d array slice struct map opaque = by s.kind d.length
     by (kind.Slice e) l = slice e
     by (kind.Struct fs) l = struct fs
     by (kind.Map k e) l = map k e
-    by (kind.Opaque m) l = opaque
+    by (kind.Opaque m) l = opaque m

@@ -69,6 +69,8 @@ describes t s d = by s.name s.kind d.length d.references
 
     says : (name : List ℕ) (m : Marshal) → said (described_kind (Tree.fields (name_and_id name t)) (kind.Opaque m)) ≡ Some (said_as name (said_opaque m))
     says name marshal.Gob = refl
+    says name marshal.Binary = refl
+    says name marshal.Text = refl
 
     by : (name : List ℕ) (k : Kind) → HasLength k → ((u : TypeId) → Names k u → IsReference u) → Describes t (described_kind (Tree.fields (name_and_id name t)) k) (record { name = name; kind = k })
     by name (kind.Basic b) l each = absurd l
@@ -97,7 +99,7 @@ text_fits s limit h l = let c = unsigned_spelled (length s) h in record { bytes 
 no_fields : {types : List Field} {next limit : ℕ} → FieldsFitWithin base_table types next limit no_field
 no_fields = let s = unsigned_spelled 0 (omega arith) in record { bytes = s.bytes; spelled = end_of_fields s.spelled; within = omega arith }
 
-one_more : {types : List Field} {next f limit : ℕ} {e : Field} {v : Tree} {fs : Fields} → next ≤ f → f < 5 → slice_get types f ≡ Some e → FitsWithin base_table e.id limit v → FieldsFitWithin base_table types (f + 1) limit fs
+one_more : {types : List Field} {next f limit : ℕ} {e : Field} {v : Tree} {fs : Fields} → next ≤ f → f < 7 → slice_get types f ≡ Some e → FitsWithin base_table e.id limit v → FieldsFitWithin base_table types (f + 1) limit fs
     → FieldsFitWithin base_table types next limit (field f v fs)
 one_more {next = next} {f = f} l h m p ps =
     let s = unsigned_spelled (f + 1 - next) (omega arith) in let a = p.within in let b = ps.within in
@@ -143,7 +145,7 @@ list_fits fs h c each =
     record { bytes = s.bytes ++ p.bytes; spelled = of_type refl (of_slice s.spelled p.spelled); within = omega arith }
 
 -- a wireType with one field
-wire_fits : {f : ℕ} {e : Field} {fs : Fields} → f < 5 → slice_get wire_type_fields f ≡ Some e → FitsWithin base_table e.id 4 (Tree.fields fs) → FitsWithin base_table wire_type 5 (wire_type_of f fs)
+wire_fits : {f : ℕ} {e : Field} {fs : Fields} → f < 7 → slice_get wire_type_fields f ≡ Some e → FitsWithin base_table e.id 4 (Tree.fields fs) → FitsWithin base_table wire_type 5 (wire_type_of f fs)
 wire_fits l e p = struct_fits refl refl (one_more (omega arith) l e p no_fields)
 
 pub fits : (t : TypeId) (s : Shape) → IsDefinable s → IsCountable s → t.0 < 2 ^ 63 → FitsWithin base_table wire_type 5 (described t s)
@@ -180,7 +182,9 @@ fits t s d c h = by s.kind d.length d.references c.fields
         let elem = reference_fits e 3 (each e (inr refl)) (omega arith) in
         wire_fits (omega arith) refl
         (struct_fits refl refl (one_more (omega arith) (omega arith) refl common (one_more (omega arith) (omega arith) refl key (one_more (omega arith) (omega arith) refl elem no_fields))))
-    by (kind.Opaque m) l each n = wire_fits (omega arith) refl (struct_fits refl refl (one_more (omega arith) (omega arith) refl common no_fields))
+    by (kind.Opaque marshal.Gob) l each n = wire_fits (omega arith) refl (struct_fits refl refl (one_more (omega arith) (omega arith) refl common no_fields))
+    by (kind.Opaque marshal.Binary) l each n = wire_fits (omega arith) refl (struct_fits refl refl (one_more (omega arith) (omega arith) refl common no_fields))
+    by (kind.Opaque marshal.Text) l each n = wire_fits (omega arith) refl (struct_fits refl refl (one_more (omega arith) (omega arith) refl common no_fields))
 
 -- what is made of a shape fits, and a signed number holds its id
 pub made_fits : {E : Type 0} (t : TypeId) (s : Shape) (k : Kind) (common : Tree) (r : Result Value E) → IsDefinable s → IsCounted s.name → s.kind ≡ k → (t.0 < 2 ^ 63 → common ≡ Tree.fields (name_and_id s.name t))

@@ -7,6 +7,7 @@ use Rattle.gob_types.specs.declared.id.TypeId.{TypeId}
 use Rattle.gob_types.specs.declared.kind.Field.{Field}
 use Rattle.gob_types.specs.declared.kind.Kind.{Kind}
 use Rattle.gob_types.specs.declared.kind.Kind.TheVariants as kind
+use Rattle.gob_types.specs.declared.kind.Marshal.TheVariants as marshal
 use Rattle.gob_types.specs.declared.kind.Shape.{Shape}
 use Rattle.gob_types.specs.Base as base
 use Rattle.gob_types.specs.Base.{base_table, wire_type, wire_type_fields}
@@ -96,4 +97,6 @@ described_tidy t s d l = by s.kind d.length d.references
         let first : IsReference k = each k (inl refl) in
         let second : IsReference e = each e (inr refl) in
         in_wire_type refl refl (with_name s.name t l refl (kept refl refl (number_kept {n = k.0} (omega (arith, first.0))) int_tidy (kept refl refl (number_kept {n = e.0} (omega (arith, second.0))) int_tidy no_more)))
-    by (kind.Opaque m) h each = in_wire_type refl refl (with_name s.name t l refl no_more)
+    by (kind.Opaque marshal.Gob) h each = in_wire_type refl refl (with_name s.name t l refl no_more)
+    by (kind.Opaque marshal.Binary) h each = in_wire_type refl refl (with_name s.name t l refl no_more)
+    by (kind.Opaque marshal.Text) h each = in_wire_type refl refl (with_name s.name t l refl no_more)

@@ -181,8 +181,14 @@ map_said (of_struct {fs = fs} {gs = gs} ps) (of_fields qs) =
     let k = number_at ps qs 1 (codes "Key") refl in let e = number_at ps qs 2 (codes "Elem") refl in
     same_said (fields_in (present 0 gs)) (fields_in (present 0 fs)) _ _ (common_at ps qs refl) (rw (k, e))
 
-opaque_said : {v w : Tree} {b : List ℕ} → TidiesAs base_table (kind.Struct opaque_types) v w → Written v b → said (alone 4 w) ≡ said (alone 4 v)
-opaque_said (of_struct {fs = fs} {gs = gs} ps) (of_fields qs) = same_said (fields_in (present 0 gs)) (fields_in (present 0 fs)) _ _ (common_at ps qs refl) refl
+gob_said : {v w : Tree} {b : List ℕ} → TidiesAs base_table (kind.Struct opaque_types) v w → Written v b → said (alone 4 w) ≡ said (alone 4 v)
+gob_said (of_struct {fs = fs} {gs = gs} ps) (of_fields qs) = same_said (fields_in (present 0 gs)) (fields_in (present 0 fs)) _ _ (common_at ps qs refl) refl
+
+binary_said : {v w : Tree} {b : List ℕ} → TidiesAs base_table (kind.Struct opaque_types) v w → Written v b → said (alone 5 w) ≡ said (alone 5 v)
+binary_said (of_struct {fs = fs} {gs = gs} ps) (of_fields qs) = same_said (fields_in (present 0 gs)) (fields_in (present 0 fs)) _ _ (common_at ps qs refl) refl
+
+text_said : {v w : Tree} {b : List ℕ} → TidiesAs base_table (kind.Struct opaque_types) v w → Written v b → said (alone 6 w) ≡ said (alone 6 v)
+text_said (of_struct {fs = fs} {gs = gs} ps) (of_fields qs) = same_said (fields_in (present 0 gs)) (fields_in (present 0 fs)) _ _ (common_at ps qs refl) refl
 
 module _ {e : Field} {s : Shape} where
   -- the shape of a field of wireType
@@ -201,8 +207,14 @@ module _ {e : Field} {s : Shape} where
   map_shape : slice_get wire_type_fields 3 ≡ Some e → shape_of base_table e.id ≡ Some s → s ≡ struct_shape (codes "mapType") map_types
   map_shape = wire_shape 3 (base.field (codes "MapT") 23) (struct_shape (codes "mapType") map_types) refl refl
 
-  opaque_shape : slice_get wire_type_fields 4 ≡ Some e → shape_of base_table e.id ≡ Some s → s ≡ struct_shape (codes "gobEncoderType") opaque_types
-  opaque_shape = wire_shape 4 (base.field (codes "GobEncoderT") 24) (struct_shape (codes "gobEncoderType") opaque_types) refl refl
+  gob_shape : slice_get wire_type_fields 4 ≡ Some e → shape_of base_table e.id ≡ Some s → s ≡ struct_shape (codes "gobEncoderType") opaque_types
+  gob_shape = wire_shape 4 (base.field (codes "GobEncoderT") 24) (struct_shape (codes "gobEncoderType") opaque_types) refl refl
+
+  binary_shape : slice_get wire_type_fields 5 ≡ Some e → shape_of base_table e.id ≡ Some s → s ≡ struct_shape (codes "gobEncoderType") opaque_types
+  binary_shape = wire_shape 5 (base.field (codes "BinaryMarshalerT") 24) (struct_shape (codes "gobEncoderType") opaque_types) refl refl
+
+  text_shape : slice_get wire_type_fields 6 ≡ Some e → shape_of base_table e.id ≡ Some s → s ≡ struct_shape (codes "gobEncoderType") opaque_types
+  text_shape = wire_shape 6 (base.field (codes "TextMarshalerT") 24) (struct_shape (codes "gobEncoderType") opaque_types) refl refl
 
 never_dropped : {types : List Field} {v : Tree} {s : Shape} (name : List ℕ) → s ≡ struct_shape name types → IsDropped s.kind v → ⊥
 never_dropped {v = v} name h d = never (subst (λ (s : Shape). IsDropped s.kind v) h d)
@@ -215,8 +227,10 @@ wire_kept zero m p d = never_dropped (codes "arrayType") (array_shape m p) d
 wire_kept (suc zero) m p d = never_dropped (codes "sliceType") (slice_shape m p) d
 wire_kept (suc (suc zero)) m p d = never_dropped (codes "structType") (of_struct_shape m p) d
 wire_kept (suc (suc (suc zero))) m p d = never_dropped (codes "mapType") (map_shape m p) d
-wire_kept (suc (suc (suc (suc zero)))) m p d = never_dropped (codes "gobEncoderType") (opaque_shape m p) d
-wire_kept (suc (suc (suc (suc (suc f))))) m p d = cc
+wire_kept (suc (suc (suc (suc zero)))) m p d = never_dropped (codes "gobEncoderType") (gob_shape m p) d
+wire_kept (suc (suc (suc (suc (suc zero))))) m p d = never_dropped (codes "gobEncoderType") (binary_shape m p) d
+wire_kept (suc (suc (suc (suc (suc (suc zero)))))) m p d = never_dropped (codes "gobEncoderType") (text_shape m p) d
+wire_kept (suc (suc (suc (suc (suc (suc (suc f))))))) m p d = cc
 
 said_alone : (f : ℕ) {e : Field} {s : Shape} {v w : Tree} {b : List ℕ} → slice_get wire_type_fields f ≡ Some e → shape_of base_table e.id ≡ Some s → TidiesAs base_table s.kind v w → Written v b
     → said (alone f w) ≡ said (alone f v)
@@ -224,8 +238,10 @@ said_alone zero {v = v} {w = w} m p r q = array_said (subst (λ (s : Shape). Tid
 said_alone (suc zero) {v = v} {w = w} m p r q = slice_said (subst (λ (s : Shape). TidiesAs base_table s.kind v w) (slice_shape m p) r) q
 said_alone (suc (suc zero)) {v = v} {w = w} m p r q = struct_said (subst (λ (s : Shape). TidiesAs base_table s.kind v w) (of_struct_shape m p) r) q
 said_alone (suc (suc (suc zero))) {v = v} {w = w} m p r q = map_said (subst (λ (s : Shape). TidiesAs base_table s.kind v w) (map_shape m p) r) q
-said_alone (suc (suc (suc (suc zero)))) {v = v} {w = w} m p r q = opaque_said (subst (λ (s : Shape). TidiesAs base_table s.kind v w) (opaque_shape m p) r) q
-said_alone (suc (suc (suc (suc (suc f))))) m p r q = cc
+said_alone (suc (suc (suc (suc zero)))) {v = v} {w = w} m p r q = gob_said (subst (λ (s : Shape). TidiesAs base_table s.kind v w) (gob_shape m p) r) q
+said_alone (suc (suc (suc (suc (suc zero))))) {v = v} {w = w} m p r q = binary_said (subst (λ (s : Shape). TidiesAs base_table s.kind v w) (binary_shape m p) r) q
+said_alone (suc (suc (suc (suc (suc (suc zero)))))) {v = v} {w = w} m p r q = text_said (subst (λ (s : Shape). TidiesAs base_table s.kind v w) (text_shape m p) r) q
+said_alone (suc (suc (suc (suc (suc (suc (suc f))))))) m p r q = cc
 
 wire_said : {fs gs : Fields} {b : List ℕ} → TidiesFields base_table wire_type_fields fs gs → WrittenFields 0 fs b → said (Value.fields gs) ≡ said (Value.fields fs)
 wire_said no_more q = refl

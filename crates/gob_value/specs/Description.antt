@@ -70,7 +70,9 @@ said_kind f fs =
     else (if f == 2 then Some (said_struct (said_fields (elements_in (present 1 fs))))
     else (if f == 3 then Some (said_map (number_in (present 1 fs)) (number_in (present 2 fs)))
     else (if f == 4 then Some (said_opaque marshal.Gob)
-    else None))))
+    else (if f == 5 then Some (said_opaque marshal.Binary)
+    else (if f == 6 then Some (said_opaque marshal.Text)
+    else None))))))
 
 -- the CommonType of each kind is its field 0
 abbrev pub said_with : Fields → Option SaidKind → Option Said

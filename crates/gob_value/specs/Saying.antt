@@ -14,6 +14,8 @@ kind_said wire.SliceT fs = said_slice (number_in (present 1 fs))
 kind_said wire.StructT fs = said_struct (said_fields (elements_in (present 1 fs)))
 kind_said wire.MapT fs = said_map (number_in (present 1 fs)) (number_in (present 2 fs))
 kind_said wire.GobEncoderT fs = said_opaque marshal.Gob
+kind_said wire.BinaryMarshalerT fs = said_opaque marshal.Binary
+kind_said wire.TextMarshalerT fs = said_opaque marshal.Text
 
 -- the number of the field
 abbrev pub wire_number : WireField → ℕ
@@ -22,6 +24,8 @@ wire_number wire.SliceT = 1
 wire_number wire.StructT = 2
 wire_number wire.MapT = 3
 wire_number wire.GobEncoderT = 4
+wire_number wire.BinaryMarshalerT = 5
+wire_number wire.TextMarshalerT = 6
 
 -- all that is said: the CommonType is field 0 of each
 abbrev pub what_said : WireField → Fields → Said

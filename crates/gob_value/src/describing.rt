@@ -89,6 +89,8 @@ fn opaque_type(alloc: Global, common: Value, marshal: Marshal) -> Result<Value, 
 {
     let field = match marshal {
         Marshal::Gob => 4,
+        Marshal::Binary => 5,
+        Marshal::Text => 6,
     };
     let given = vec![in alloc; (0, common)]?;
     wire_type(alloc, field, given)

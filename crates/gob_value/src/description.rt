@@ -33,6 +33,8 @@ enum WireField {
     StructT,
     MapT,
     GobEncoderT,
+    BinaryMarshalerT,
+    TextMarshalerT,
 }
 
 /// The shape that a value of type 16 gives, as the definition of the type of this id. `KindCount`, `WrongId`,
@@ -72,7 +74,7 @@ fn wire_field(described: &Value) -> Option<(WireField, &[(u64, Value)])>
 
 // The field of wireType of this number.
 fn wire_field_of(number: u64) -> Option<WireField>
-    ensures { MatchOption result (4 < number) (λ wire. number ≡ wire_number wire) }
+    ensures { MatchOption result (6 < number) (λ wire. number ≡ wire_number wire) }
 {
     match number {
         0 => Some(WireField::ArrayT),
@@ -80,6 +82,8 @@ fn wire_field_of(number: u64) -> Option<WireField>
         2 => Some(WireField::StructT),
         3 => Some(WireField::MapT),
         4 => Some(WireField::GobEncoderT),
+        5 => Some(WireField::BinaryMarshalerT),
+        6 => Some(WireField::TextMarshalerT),
         _ => None,
     }
 }
@@ -102,6 +106,8 @@ fn kind_from(alloc: Global, wire: WireField, fields: &[(u64, Value)]) -> Result<
         WireField::StructT => struct_from(alloc, list_of(fields, 1)),
         WireField::MapT => map_from(fields),
         WireField::GobEncoderT => Ok(Kind::Opaque(Marshal::Gob)),
+        WireField::BinaryMarshalerT => Ok(Kind::Opaque(Marshal::Binary)),
+        WireField::TextMarshalerT => Ok(Kind::Opaque(Marshal::Text)),
     }
 }
 

@@ -17,7 +17,7 @@ const ID: TypeId = TypeId(65);
 struct Given(u64, Option<i64>, Option<i64>, Option<i64>);
 
 // What gives a shape, with the bytes of the shape's description.
-static SHAPES: [(Given, &[u8]); 6] = [
+static SHAPES: [(Given, &[u8]); 8] = [
     (
         Given(0, Some(65), Some(2), Some(2)),
         b"\x01\x01\x02\xff\x82\x00\x01\x04\x01\x04\x00\x00",
@@ -41,6 +41,14 @@ static SHAPES: [(Given, &[u8]); 6] = [
     (
         Given(4, Some(65), None, None),
         b"\x05\x01\x02\xff\x82\x00\x00\x00",
+    ),
+    (
+        Given(5, Some(65), None, None),
+        b"\x06\x01\x02\xff\x82\x00\x00\x00",
+    ),
+    (
+        Given(6, Some(65), None, None),
+        b"\x07\x01\x02\xff\x82\x00\x00\x00",
     ),
 ];
 

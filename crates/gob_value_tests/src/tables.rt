@@ -190,12 +190,14 @@ static BASE: [(u64, Option<&[u8]>); 15] = [
 ];
 
 // The fields of wireType.
-static WIRE_TYPE: [(&[u8], u64); 5] = [
+static WIRE_TYPE: [(&[u8], u64); 7] = [
     (b"ArrayT", 17),
     (b"SliceT", 19),
     (b"StructT", 20),
     (b"MapT", 23),
     (b"GobEncoderT", 24),
+    (b"BinaryMarshalerT", 24),
+    (b"TextMarshalerT", 24),
 ];
 
 fn has_name(table: &Table, id: u64, name: Option<&[u8]>) -> bool {

@@ -12,4 +12,4 @@ returns-in_default-clause-finishes g c = λ items bytes a.
     ended_within a (λ e. elim c.in_default.branch [
       | in_default-via-in-Count+else-begin-self w ↦ w.if-begin-self.false (let i = w.in-Count.is in cc)
       | in_default-via-in_default w ↦ w.in_default.not-Count _ _ e
-    ]) c.refusal.ensures
+    ]) c.refusal-ended.ensures

@@ -1,10 +1,10 @@
-use Rattle.std.proofs.Common.{◌<◌, ◌++◌, length, take, drop, Ok, Err, inl, inr, arith, refl, sym, ap, ◌∙◌}
+use Rattle.std.proofs.Common.{◌<◌, ◌++◌, length, take, drop, Some, Ok, Err, inl, inr, arith, refl, sym, ap, ◌∙◌}
 use Rattle.std.proofs.lemmas.Grind.{common_steps}
 use Rattle.gob_types.specs.Defined.{types}
 use Rattle.gob_stream.specs.Standing.{has_failed}
 use Rattle.gob_stream.specs.Reading.{ReadsNext, TakesNext}
 use Rattle.gob_stream.specs.ReadParts.{wanted_in}
-use Rattle.gob_stream.proofs.SessionSteps.{IsSound, told_trees, types_stay, on_err, consumed_nothing, all_taken, somewhere, stood_first, room_of, passed_on, IsRead, piece_length, piece_consumed, stepped, stood_before, step_stops, read_stops, end_stops, counts_none, step_unread, end_unread, nothing_more, step_gives, reads_item, gives_taken, takes_item, step_taken, item_within, no_less, some_there, none_there, stood_further, sound_after, still_sound}
+use Rattle.gob_stream.proofs.SessionSteps.{IsSound, told_trees, types_stay, on_err, consumed_nothing, all_taken, somewhere, stood_first, room_of, passed_on, IsRead, piece_length, piece_consumed, stepped, stood_before, step_stops, read_stops, end_stops, counts_none, step_unread, end_unread, nothing_more, step_gives, gives_taken, step_taken, item_within, no_less, stood_further, sound_after, still_sound}
 use Rattle.gob_stream.proofs.session.Session.read_item.Goals as goal
 use Rattle.gob_stream.proofs.session.Session.read_item.Goals.{in-Failed, in_default}
 
@@ -101,8 +101,8 @@ returns-in_err-step-in-Ok-clause-taken g c =
     passed_on (λ r. TakesNext c.args.self.now.reading c.step.new.self c.args.input.now.taken c.read.new.self.taken r) c.from_residual-in_err-step-in-Ok.result _ c.from_residual-in_err-step-in-Ok.ensures.1
     (omega (arith, room.some, room.within, read.within, read.few, c.in-Ok.ensures.counted.0))
 
-pub returns-then-is_some-clause-read : goal.returns-then-is_some-clause-read
-returns-then-is_some-clause-read g c = λ items bytes rest a e.
+pub returns-in-Some-clause-read : goal.returns-in-Some-clause-read
+returns-in-Some-clause-read g c = λ items bytes rest a e.
     let room = room_of c.pieces.invariant.usable c.pieces.invariant.sound in
     let read : IsRead c.in-Ok.n (wanted_in c.pieces.self.reading.stage c.pieces.self.reading.taken) c.read.new.buf =
     record { some = grind (arith, common_steps); within = grind (arith, common_steps); few = grind (arith, common_steps) } in
@@ -110,12 +110,10 @@ returns-then-is_some-clause-read g c = λ items bytes rest a e.
     let piece = take c.in-Ok.n (c.read.new.buf ++ tail) in
     let step = stepped g.B.Builder.stands told_trees g.B.Builder.means g.B.Builder.DEPTH c.pieces.self.reading c.step.new.self tail (Ok c.in_ok-step-in-Ok.step) read c.in_ok-step-in-Ok.ensures.advances in
     let used = c.in_ok-step-in-Ok.ensures.whole step.few in
-    reads_item g.B.Builder.stands told_trees g.B.Builder.means g.B.Builder.DEPTH c.args.self.now.reading c.step.new.self items bytes rest (g.R.Read.remaining c.read.new.self.reader) c.in_ok-step-in-Ok.step.item
-    (some_there c.in_ok-step-in-Ok.step.item (sym c.is_some.ensures ∙ c.if-is_some.true))
-    (λ given is. gives_taken piece c.step.new.self.taken c.in_ok-step-in-Ok.step step used c.in_ok-step-in-Ok.ensures.between is (stood_before piece e (piece_consumed (g.R.Read.remaining c.pieces.input.reader) (g.R.Read.remaining c.read.new.self.reader) tail read c.in-Ok.ensures.bytes.0) (c.pieces.invariant.stood.each items bytes a)))
+    gives_taken piece c.step.new.self.taken c.in_ok-step-in-Ok.step step used c.in_ok-step-in-Ok.ensures.between (c.in-Some.is ∙ ap Some (sym c.in-Some.item-is)) (stood_before piece e (piece_consumed (g.R.Read.remaining c.pieces.input.reader) (g.R.Read.remaining c.read.new.self.reader) tail read c.in-Ok.ensures.bytes.0) (c.pieces.invariant.stood.each items bytes a))
 
-pub returns-then-is_some-clause-taken : goal.returns-then-is_some-clause-taken
-returns-then-is_some-clause-taken g c =
+pub returns-in-Some-clause-taken : goal.returns-in-Some-clause-taken
+returns-in-Some-clause-taken g c =
     let room = room_of c.pieces.invariant.usable c.pieces.invariant.sound in
     let read : IsRead c.in-Ok.n (wanted_in c.pieces.self.reading.stage c.pieces.self.reading.taken) c.read.new.buf =
     record { some = grind (arith, common_steps); within = grind (arith, common_steps); few = grind (arith, common_steps) } in
@@ -128,11 +126,8 @@ returns-then-is_some-clause-taken g c =
     let limit = ap (λ L. L.stream) (c.in_ok-step-in-Ok.ensures.limits ∙ c.pieces.invariant.limits) in
     let size = piece_length tail read in
     let grown = step_taken piece c.in_ok-step-in-Ok.step used w step in
-    takes_item c.args.self.now.reading c.step.new.self c.args.input.now.taken c.read.new.self.taken c.in_ok-step-in-Ok.step.item
-    (some_there c.in_ok-step-in-Ok.step.item (sym c.is_some.ensures ∙ c.if-is_some.true))
-    (λ given is.
-    let within = item_within (step_gives piece c.step.new.self.taken c.in_ok-step-in-Ok.step step used c.in_ok-step-in-Ok.ensures.between is w.after) in
-    (omega (arith, c.in-Ok.ensures.counted.0, c.args.input.now.taken_fits), omega (arith, read.some), omega arith))
+    let within = item_within (step_gives piece c.step.new.self.taken c.in_ok-step-in-Ok.step step used c.in_ok-step-in-Ok.ensures.between c.in-Some.is w.after) in
+    (omega (arith, c.in-Ok.ensures.counted.0, c.args.input.now.taken_fits), omega (arith, read.some), omega arith)
 
 pub pieces-smaller : goal.pieces-smaller
 pieces-smaller g c =
@@ -164,9 +159,8 @@ pieces-preserved g c =
     let grown = step_taken piece c.in_ok-step-in-Ok.step used w step in
     let less = no_less c.pieces.invariant.grown in
     let more = read.some in
-    let none = none_there c.in_ok-step-in-Ok.step.item (sym c.is_some.ensures ∙ c.if-is_some.false) in
     let consumed = piece_consumed (g.R.Read.remaining c.pieces.input.reader) (g.R.Read.remaining c.read.new.self.reader) tail read c.in-Ok.ensures.bytes.0 in
-    let stood = stood_further piece c.in_ok-step-in-Ok.step consumed step used none c.pieces.invariant.stood in
+    let stood = stood_further piece c.in_ok-step-in-Ok.step consumed step used c.in_default-item.is c.pieces.invariant.stood in
     record {
       chunk = grind (arith, common_steps);
       began = c.pieces.invariant.began;
@@ -201,7 +195,7 @@ returns-in_err-step-in-Ok-clause-types g c =
     (ap types c.in_err-step-in-Ok.ensures.types ∙ types_stay c.pieces.invariant.limits c.pieces.invariant.began c.pieces.invariant.stood)
 
 pub returns-in-Err-clause-types : goal.returns-in-Err-clause-types
-returns-in-Err-clause-types g c = types_stay c.pieces.invariant.limits c.pieces.invariant.began c.pieces.invariant.stood
+returns-in-Err-clause-types g c = ap types c.fail.ensures.types ∙ types_stay c.pieces.invariant.limits c.pieces.invariant.began c.pieces.invariant.stood
 
 pub returns-in_err-finish-in-Ok-eq0-clause-failed : goal.returns-in_err-finish-in-Ok-eq0-clause-failed
 returns-in_err-finish-in-Ok-eq0-clause-failed g c = on_err c.from_residual.result c.in_err-finish-in-Ok-eq0.ensures.failed
@@ -239,26 +233,26 @@ returns-in_err-step-in-Ok-clause-usable g c = c.in_err-step-in-Ok.ensures.usable
 pub returns-in_err-step-in-Ok-clause-limits : goal.returns-in_err-step-in-Ok-clause-limits
 returns-in_err-step-in-Ok-clause-limits g c = c.in_err-step-in-Ok.ensures.limits ∙ c.pieces.invariant.limits
 
-pub returns-then-is_some-clause-stays : goal.returns-then-is_some-clause-stays
-returns-then-is_some-clause-stays g c = λ f. absurd (sound_after c.pieces.invariant.began.after f)
+pub returns-in-Some-clause-stays : goal.returns-in-Some-clause-stays
+returns-in-Some-clause-stays g c = λ f. absurd (sound_after c.pieces.invariant.began.after f)
 
-pub returns-then-is_some-clause-usable : goal.returns-then-is_some-clause-usable
-returns-then-is_some-clause-usable g c = c.in_ok-step-in-Ok.ensures.usable
+pub returns-in-Some-clause-usable : goal.returns-in-Some-clause-usable
+returns-in-Some-clause-usable g c = c.in_ok-step-in-Ok.ensures.usable
 
-pub returns-then-is_some-clause-limits : goal.returns-then-is_some-clause-limits
-returns-then-is_some-clause-limits g c = c.in_ok-step-in-Ok.ensures.limits ∙ c.pieces.invariant.limits
+pub returns-in-Some-clause-limits : goal.returns-in-Some-clause-limits
+returns-in-Some-clause-limits g c = c.in_ok-step-in-Ok.ensures.limits ∙ c.pieces.invariant.limits
 
-pub returns-then-is_some-clause-counted : goal.returns-then-is_some-clause-counted
-returns-then-is_some-clause-counted g c = c.in-Ok.ensures.counted.1 ∙ c.pieces.invariant.failures
+pub returns-in-Some-clause-counted : goal.returns-in-Some-clause-counted
+returns-in-Some-clause-counted g c = c.in-Ok.ensures.counted.1 ∙ c.pieces.invariant.failures
 
 pub returns-in-Err-clause-failed : goal.returns-in-Err-clause-failed
-returns-in-Err-clause-failed g c = refl
+returns-in-Err-clause-failed g c = c.fail.ensures.failed
 
 pub returns-in-Err-clause-stays : goal.returns-in-Err-clause-stays
 returns-in-Err-clause-stays g c = λ f. absurd (sound_after c.pieces.invariant.began.after f)
 
 pub returns-in-Err-clause-usable : goal.returns-in-Err-clause-usable
-returns-in-Err-clause-usable g c = has_failed refl
+returns-in-Err-clause-usable g c = has_failed c.fail.ensures.failed
 
 pub returns-in-Err-clause-limits : goal.returns-in-Err-clause-limits
-returns-in-Err-clause-limits g c = c.pieces.invariant.limits
+returns-in-Err-clause-limits g c = c.fail.ensures.limits ∙ c.pieces.invariant.limits
