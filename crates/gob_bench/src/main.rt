@@ -1,15 +1,19 @@
-//! Measures the reader of bodies.
+//! Measures the reader of bodies and the definitions of types.
 //!
 //! `gob_bench` reads each of its bodies to counts and to trees, whole and in pieces, and prints what it counted.
-//! `gob_bench time` prints how fast it was too. `gob_bench write NAME` writes a body to standard output, which the C
+//! `gob_bench time` prints how fast it was too. `gob_bench types` prints how long definitions take in several orders.
+//! `gob_bench write NAME` writes a body to standard output, which the C
 //! program `bench/walk.c` walks.
 #![tactic(auto)]
 
 mod bodies;
+mod defining;
 mod fault;
+mod orders;
 mod reading;
 
 use bodies::Body;
+use defining::time_orders;
 use fault::Fault;
 use gob_read::{Builder, CheckBuilder, Counts, TreeBuilder};
 use gob_types::Table;
@@ -42,6 +46,7 @@ fn run(rt: &HostRuntime) -> Result<(), Fault> {
     match names.as_slice() {
         [_] => count_all(rt),
         [_, "time"] => time_all(rt),
+        [_, "types"] => time_orders(rt, TIMES),
         [_, "write", name] => write_body(rt, name),
         _ => Err(Fault::Words),
     }

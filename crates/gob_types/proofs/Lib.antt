@@ -6,3 +6,6 @@ pub mod SetLaws
 pub mod LeastLaws
 pub mod WalkLaws
 pub mod GroundLaws
+pub mod GrowsLaws
+pub mod NotedLaws
+pub mod KeptLaws

@@ -9,5 +9,6 @@ pub mod Distinct
 pub mod Refused
 pub mod Readiness
 pub mod Walk
+pub mod Kept
 pub mod Entered
 pub mod Laws

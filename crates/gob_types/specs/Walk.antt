@@ -19,6 +19,15 @@ pub record AddsAll (old new : List TypeId) (P : TypeId → Type 0) : Type 0 wher
   pub has : (u : TypeId) → P u → Contains new u
   pub only : (u : TypeId) → Contains new u → Contains old u ⊎ P u
 
+-- the second list is the first with some behind it
+pub record Grows (old new : List TypeId) : Type 0 where
+  pub more : List TypeId
+  pub grown : new ≡ old ++ more
+
+-- each of the second ids is one of the first
+pub record AreAmong (first second : List TypeId) : Type 0 where
+  pub each : (u : TypeId) → Contains second u → Contains first u
+
 -- these are the types that are reached
 pub record IsReach (T : Table) (t : TypeId) (ids : List TypeId) : Type 0 where
   pub sound : (u : TypeId) → Contains ids u → Reaches T t u

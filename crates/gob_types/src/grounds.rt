@@ -10,10 +10,10 @@ ghost use Rattle.gob_types.specs.Ready.{IsGrounded, IsFilledArray};
 ghost use Rattle.gob_types.specs.Readiness.{IsComplete};
 ghost use Rattle.gob_types.specs.Walk.{IsFilledOf, KnowsGrounds, EndsWell, GoesOn};
 
+use crate::definitions::Definitions;
 use crate::id::TypeId;
 use crate::kind::Kind;
 use crate::shapes::Shapes;
-use crate::table::Table;
 use crate::type_set::TypeSet;
 use gob_num::Memory;
 use std::alloc::Global;
@@ -39,8 +39,24 @@ impl Grounds {
         }
     }
 
+    /// These have finite values.
+    pub(crate) fn of(alloc: Global, grounded: TypeSet) -> Grounds
+        ensures grounded { result.grounded ≡ grounded }
+        ensures bottomless { result.bottomless ≡ [] }
+    {
+        Grounds {
+            grounded,
+            bottomless: TypeSet::new(alloc),
+        }
+    }
+
     /// Whether the type has finite values. All that it leads to has to be defined.
-    pub(crate) fn judge(&mut self, table: &Table, alloc: Global, id: TypeId) -> Result<bool, Memory>
+    pub(crate) fn judge(
+        &mut self,
+        table: &Definitions,
+        alloc: Global,
+        id: TypeId,
+    ) -> Result<bool, Memory>
         requires complete { IsComplete (types table.now) id }
         requires known { KnowsGrounds (types table.now) self.old.grounded self.old.bottomless }
         ensures judged { let T = types table.now in
@@ -58,7 +74,12 @@ impl Grounds {
 
     // Follows the elements of arrays from this type on until the answer is known. It gives the types on the
     // way, of which nothing was known, and whether they have finite values.
-    fn follow(&self, table: &Table, alloc: Global, id: TypeId) -> Result<(TypeSet, bool), Memory>
+    fn follow(
+        &self,
+        table: &Definitions,
+        alloc: Global,
+        id: TypeId,
+    ) -> Result<(TypeSet, bool), Memory>
         requires complete { IsComplete (types table.now) id }
         requires known { KnowsGrounds (types table.now) self.now.grounded self.now.bottomless }
         ensures { let T = types table.now in
@@ -83,7 +104,7 @@ impl Grounds {
 }
 
 // The type of the elements, where this type is an array that holds some.
-fn filled_element(table: &Table, id: TypeId) -> Option<TypeId>
+fn filled_element(table: &Definitions, id: TypeId) -> Option<TypeId>
     ensures { let T = types table.now in
         MatchOption result (IsDefined T id → IsGrounded T id) (λ e. IsFilledOf T id e) }
 {

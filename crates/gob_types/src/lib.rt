@@ -23,16 +23,20 @@
 mod base;
 mod basic;
 mod definable;
+mod definitions;
 mod grounds;
+mod hints;
 mod id;
 mod kind;
 pub mod laws;
+mod learning;
 mod name;
 mod readiness;
 mod reason;
 mod shapes;
 mod table;
 mod type_set;
+mod users;
 
 pub use basic::Basic;
 pub use id::TypeId;

@@ -7,11 +7,11 @@ ghost use Rattle.gob_types.specs.Ready.{Names, HasFieldOf, IsGrounded, IsReady};
 ghost use Rattle.gob_types.specs.Readiness.{IsNotReady, IsComplete};
 ghost use Rattle.gob_types.specs.Walk.{AddsAll, IsReach, IsFilledOf, IsLeastBad};
 
+use crate::definitions::Definitions;
 use crate::grounds::Grounds;
 use crate::id::TypeId;
 use crate::kind::{Field, Kind};
 use crate::shapes::Shapes;
-use crate::table::Table;
 use crate::type_set::TypeSet;
 use gob_num::Memory;
 use std::alloc::Global;
@@ -39,13 +39,13 @@ impl From<Memory> for NotReady {
     }
 }
 
-impl Table {
+impl Definitions {
     /// Whether values of the type can be read: each type that it leads to, itself among them, is defined and
     /// has finite values. It speaks of the table alone, so type 24 is ready, though no stream may name it.
     ///
     /// What isn't defined is answered before what has no finite value, and of several ids the least. The time
     /// is linear in the types that are reached and in what their shapes name.
-    pub fn ready(&self, alloc: Global, id: TypeId) -> Result<(), NotReady>
+    pub(crate) fn ready(&self, alloc: Global, id: TypeId) -> Result<(), NotReady>
         ensures judged { let T = types self.now in
             MatchResult result (λ _. IsReady T id) (λ fault. IsNotReady T id fault) }
         ensures known { IsTable (types self.now) }
@@ -64,7 +64,7 @@ impl Table {
 
 // The types that this type leads to, itself among them. Each is looked up once: the ids that were met are the
 // work list too, and `next` is the first of them whose shape wasn't looked at.
-fn reached(table: &Table, alloc: Global, id: TypeId) -> Result<TypeSet, Memory>
+fn reached(table: &Definitions, alloc: Global, id: TypeId) -> Result<TypeSet, Memory>
     ensures { IfOk result (λ met. IsReach (types table.now) id met) }
 {
     let mut met = TypeSet::new(alloc);
@@ -82,7 +82,7 @@ fn reached(table: &Table, alloc: Global, id: TypeId) -> Result<TypeSet, Memory>
 }
 
 // Adds the types that a kind names.
-fn add_names(met: &mut TypeSet, kind: &Kind) -> Result<(), Memory>
+pub(crate) fn add_names(met: &mut TypeSet, kind: &Kind) -> Result<(), Memory>
     ensures { OnOk result (AddsAll met.old met.new (Names kind.now)) }
 {
     match kind {
@@ -105,7 +105,7 @@ fn add_field_types(met: &mut TypeSet, fields: &[Field]) -> Result<(), Memory>
 }
 
 // The least of the ids that isn't defined.
-fn least_undefined(table: &Table, met: &TypeSet) -> Option<TypeId>
+pub(crate) fn least_undefined(table: &Definitions, met: &TypeSet) -> Option<TypeId>
     ensures { let T = types table.now in
         IsLeastBad (IsDefined T) (λ u. shape_of T u ≡ None) met.now result }
 {
@@ -120,7 +120,11 @@ fn least_undefined(table: &Table, met: &TypeSet) -> Option<TypeId>
 }
 
 // The least of the ids that has no finite value.
-fn least_bottomless(table: &Table, alloc: Global, met: &TypeSet) -> Result<Option<TypeId>, Memory>
+fn least_bottomless(
+    table: &Definitions,
+    alloc: Global,
+    met: &TypeSet,
+) -> Result<Option<TypeId>, Memory>
     requires { (u : TypeId) → Contains met.now u → IsComplete (types table.now) u }
     ensures { let T = types table.now in
         IfOk result (λ least. IsLeastBad (IsGrounded T) (λ u. ¬ IsGrounded T u) met.now least) }

@@ -1,16 +1,22 @@
-//! The table of a stream.
-ghost use Rattle.std.specs.Prelude.{◌≡◌, ◌++◌, ◌∷◌, [], IfOk, OnOk, OnErr, MatchResult, IfErr};
+//! The table of a stream: its definitions, and which of its types are ready.
+ghost use Rattle.std.specs.Prelude.{◌≡◌, ◌++◌, ◌∷◌, [], IfOk, OnOk, OnErr, MatchResult, IfErr, IsTrue, ◌↔◌};
 ghost use Rattle.gob_types.specs.Base.{base_table};
 ghost use Rattle.gob_types.specs.Definable.{IsDefinable};
 ghost use Rattle.gob_types.specs.Defined.{IsTable, Admits, types, definition_count};
 ghost use Rattle.gob_types.specs.Refused.{Refuses};
+ghost use Rattle.gob_types.specs.Ready.{IsReady};
+ghost use Rattle.gob_types.specs.Readiness.{IsNotReady};
 
-use crate::base::enter_base;
+use crate::definitions::Definitions;
+use crate::hints::Hints;
 use crate::id::TypeId;
 use crate::kind::Shape;
+use crate::learning::{learn_all, note_all, settle};
+use crate::readiness::NotReady;
 use crate::shapes::Shapes;
+use crate::type_set::TypeSet;
+use crate::users::Users;
 use gob_num::Memory;
-use indexmap::IndexMap;
 use std::alloc::{AllocFailed, Global};
 use std::marker::Model;
 
@@ -39,24 +45,49 @@ impl<T: Drop> From<AllocFailed<T>> for DefineFault {
 }
 
 /// The types of one stream: the base table, and behind it what the stream has defined, in the order of
-/// arrival.
+/// arrival. It keeps which of them are ready.
 #[derive(Drop)]
 pub struct Table {
-    // The types by their ids, in that order.
-    shapes: IndexMap<TypeId, Shape>,
-    // How many definitions there may be at most.
-    max_types: u64,
+    definitions: Definitions,
+    // The types that are ready.
+    ready: TypeSet,
+    // The types that name those that aren't.
+    users: Users,
+    // What types that aren't ready are known to reach.
+    hints: Hints,
 }
 
 impl Model for Table {
-    ghost use Rattle.gob_types.specs.Defined.{Defined, IsTable};
+    ghost use Rattle.gob_types.specs.Defined.{Defined, types};
+    ghost use Rattle.gob_types.specs.Kept.{IsKept};
 
     ghost Value = { Defined };
 
-    ghost view = { λ s. record { entries = s.shapes.entries; most = s.max_types } };
+    ghost view = { λ s. s.definitions };
 
-    ghost invariant = { λ s. IsTable s.shapes.entries };
+    ghost invariant = { λ s. IsKept (types s.definitions) s.ready s.users s.hints };
 }
+
+// The ids of the base table.
+const BASE_IDS: [TypeId; 17] = [
+    TypeId(1),
+    TypeId(2),
+    TypeId(3),
+    TypeId(4),
+    TypeId(5),
+    TypeId(6),
+    TypeId(7),
+    TypeId(8),
+    TypeId(16),
+    TypeId(17),
+    TypeId(18),
+    TypeId(19),
+    TypeId(20),
+    TypeId(21),
+    TypeId(22),
+    TypeId(23),
+    TypeId(24),
+];
 
 impl Table {
     /// The table that a stream begins with: the base table alone. It takes at most `max_types` definitions.
@@ -64,9 +95,20 @@ impl Table {
         ensures base { IfOk result (λ table. types table ≡ base_table) }
         ensures most { IfOk result (λ table. table.most ≡ max_types) }
     {
-        let mut shapes = IndexMap::new(alloc);
-        enter_base(&mut shapes, alloc)?;
-        Ok(Table { shapes, max_types })
+        let definitions = Definitions::new(alloc, max_types)?;
+        let mut ids = TypeSet::new(alloc);
+        ids.add_all(&BASE_IDS)?;
+        let mut ready = TypeSet::new(alloc);
+        let mut users = Users::new(alloc);
+        let mut hints = Hints::new(alloc);
+        note_all(&definitions, alloc, &ready, &mut users, &ids)?;
+        learn_all(&definitions, alloc, &mut ready, &users, &mut hints, ids)?;
+        Ok(Table {
+            definitions,
+            ready,
+            users,
+            hints,
+        })
     }
 
     /// How many definitions there are.
@@ -74,14 +116,7 @@ impl Table {
         ensures count { result ≡ definition_count (types self.now) }
         ensures known { IsTable (types self.now) }
     {
-        self.shapes.len() as u64 - BASE_COUNT
-    }
-
-    /// What is known of every table: a caller learns it by this call, which does nothing.
-    pub(crate) fn learn(&self)
-        ensures { IsTable (types self.now) }
-    {
-        let _ = &self.shapes;
+        self.definitions.count()
     }
 
     /// Whether the table takes a definition of this id, or the first reason why it refuses one. It never
@@ -92,22 +127,12 @@ impl Table {
         ensures judged { IfErr result (λ fault. ¬ (fault ≡ DefineFault.Memory)) }
         ensures known { IsTable (types self.now) }
     {
-        self.learn();
-        if !id.is_own() {
-            return Err(DefineFault::ReservedType);
-        }
-        if self.shape_of(id).is_some() {
-            return Err(DefineFault::DefinedTwice);
-        }
-        if self.count() >= self.max_types {
-            return Err(DefineFault::TooManyTypes);
-        }
-        Ok(())
+        self.definitions.admits(id)
     }
 
     /// Defines a type, behind those that are defined already. The first of the faults that holds is answered,
     /// and after a fault the table is as it was.
-    pub fn define(&mut self, _alloc: Global, id: TypeId, shape: Shape) -> Result<(), DefineFault>
+    pub fn define(&mut self, alloc: Global, id: TypeId, shape: Shape) -> Result<(), DefineFault>
         requires { IsDefinable shape }
         ensures admitted { OnOk result (Admits self.old id) }
         ensures defined { OnOk result (types self.new ≡ types self.old ++ (id, shape) ∷ []) }
@@ -115,9 +140,51 @@ impl Table {
         ensures refused { IfErr result (λ fault. Refuses self.old id fault) }
         ensures unchanged { OnErr result (self.new ≡ self.old) }
     {
-        self.admits(id)?;
-        self.shapes.insert(id, shape)?;
-        Ok(())
+        self.definitions.learn();
+        self.definitions.define(alloc, id, shape)?;
+        let count = self.ready.count();
+        if settle(
+            &self.definitions,
+            alloc,
+            &mut self.ready,
+            &mut self.users,
+            &mut self.hints,
+            id,
+        )
+        .is_ok()
+        {
+            return Ok(());
+        }
+        self.ready.truncate(count);
+        self.hints.clear();
+        self.definitions.undo();
+        Err(DefineFault::Memory)
+    }
+
+    /// Whether the type is ready: each type that it leads to, itself among them, is defined and has finite values.
+    /// It takes no memory and no walk.
+    pub fn kept(&self, id: TypeId) -> bool
+        ensures { IsTrue result ↔ IsReady (types self.now) id }
+    {
+        self.ready.contains(id)
+    }
+
+    /// Whether values of the type can be read: each type that it leads to, itself among them, is defined and
+    /// has finite values. It speaks of the table alone, so type 24 is ready, though no stream may name it.
+    ///
+    /// What isn't defined is answered before what has no finite value, and of several ids the least. Of a type that
+    /// is ready nothing is walked or allocated; else the time is linear in the types that are reached and in what
+    /// their shapes name.
+    pub fn ready(&self, alloc: Global, id: TypeId) -> Result<(), NotReady>
+        ensures judged { let T = types self.now in
+            MatchResult result (λ _. IsReady T id) (λ fault. IsNotReady T id fault) }
+        ensures known { IsTable (types self.now) }
+    {
+        self.definitions.learn();
+        if self.kept(id) {
+            return Ok(());
+        }
+        self.definitions.ready(alloc, id)
     }
 }
 
@@ -131,24 +198,6 @@ impl Shapes for Table {
 
     #[inline]
     fn shape_of(&self, id: TypeId) -> Option<&Shape> {
-        match self.shapes.get_index(likely_place(id)) {
-            Some((there, shape)) if *there == id => Some(shape),
-            _ => self.shapes.get(&id),
-        }
-    }
-}
-
-// How many types the base table has.
-const BASE_COUNT: u64 = 17;
-
-// The place in the table where a type of this id stands, if the stream defines its types one after another
-// from 65 on, as Go's encoder does. A look-up tries it before it hashes.
-#[inline]
-fn likely_place(id: TypeId) -> usize {
-    match id.0 {
-        1..=8 => id.0 as usize - 1,
-        16..=24 => id.0 as usize - 8,
-        65..=2147483647 => id.0 as usize - 48,
-        _ => usize::MAX,
+        self.definitions.shape_of(id)
     }
 }

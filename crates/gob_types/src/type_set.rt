@@ -1,6 +1,6 @@
 //! Sets of type ids.
-ghost use Rattle.std.specs.Prelude.{◌≡◌, ◌^◌, ◌<◌, ◌↔◌, [], IsTrue, IfOk, OnOk, Contains, length};
-ghost use Rattle.gob_types.specs.Walk.{AddsAll, AddsOne};
+ghost use Rattle.std.specs.Prelude.{◌≡◌, ◌^◌, ◌<◌, ◌↔◌, [], IsTrue, IfOk, OnOk, OnErr, Contains, length, take};
+ghost use Rattle.gob_types.specs.Walk.{AddsAll, AddsOne, AreAmong, Grows};
 
 use crate::id::TypeId;
 use gob_num::Memory;
@@ -58,6 +58,7 @@ impl TypeSet {
     /// Adds an id, last, unless it is there, and says whether it is new.
     pub(crate) fn add(&mut self, id: TypeId) -> Result<bool, Memory>
         ensures added { IfOk result (λ new. AddsOne self.old self.new id new) }
+        ensures unchanged { OnErr result (self.new ≡ self.old) }
         ensures small { length self.old < 2 ^ 63 }
     {
         let count = self.ids.len();
@@ -65,13 +66,35 @@ impl TypeSet {
         Ok(count < self.ids.len())
     }
 
+    /// Takes off all ids but the first ones.
+    pub(crate) fn truncate(&mut self, count: usize)
+        ensures { self.new ≡ take count self.old }
+    {
+        self.ids.truncate(count);
+    }
+
     /// Adds ids, in order, but for those that are there.
     pub(crate) fn add_all(&mut self, ids: &[TypeId]) -> Result<(), Memory>
-        ensures { OnOk result (AddsAll self.old self.new (Contains ids.now)) }
+        ensures added { OnOk result (AddsAll self.old self.new (Contains ids.now)) }
+        ensures grown { Grows self.old self.new }
     {
         for id in ids {
             self.add(*id)?;
         }
         Ok(())
     }
+}
+
+/// Ids of the second set that are in the first.
+pub(crate) fn common(alloc: Global, first: &TypeSet, second: &TypeSet) -> Result<TypeSet, Memory>
+    ensures { IfOk result (λ both. AreAmong first.now both) }
+{
+    let mut both = TypeSet::new(alloc);
+    for id in second.as_slice() {
+        if !first.contains(*id) {
+            continue;
+        }
+        both.add(*id)?;
+    }
+    Ok(both)
 }

@@ -19,7 +19,12 @@ fn is_taken(alloc: Global, table: &mut Table) -> Result<bool, AllocError> {
         Err(DefineFault::Memory) => 0,
         Err(_) => return Ok(false),
     };
-    Ok(table.count() == wanted && table.shape_of(TypeId(65)).is_some() == (wanted == 1))
+    let is_there = wanted == 1;
+    Ok(
+        table.count() == wanted
+            && table.shape_of(TypeId(65)).is_some() == is_there
+            && table.kept(TypeId(65)) == is_there,
+    )
 }
 
 fn is_ready(alloc: Global, table: &Table, id: u64) -> Result<bool, Memory> {

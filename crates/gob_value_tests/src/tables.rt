@@ -18,7 +18,7 @@ enum Step {
 }
 
 // Each of these begins with a new table, which takes as many definitions as it says.
-static HISTORIES: [(u64, &[Step]); 6] = [
+static HISTORIES: [(u64, &[Step]); 8] = [
     (
         2,
         &[
@@ -84,6 +84,32 @@ static HISTORIES: [(u64, &[Step]); 6] = [
             Step::Ready(22),
         ],
     ),
+    // a type becomes ready with the one that it names
+    (
+        2,
+        &[
+            Step::Define(65, Made::Struct(&[(b"A", 66)]), Ok(())),
+            Step::Undefined(65, 66),
+            Step::Define(66, Made::Slice(2), Ok(())),
+            Step::Ready(65),
+            Step::Ready(66),
+        ],
+    ),
+    // two types become ready together, and one that is its own element never does
+    (
+        3,
+        &[
+            Step::Define(65, Made::Struct(&[(b"", 66)]), Ok(())),
+            Step::Define(66, Made::Struct(&[(b"", 65)]), Ok(())),
+            Step::Ready(65),
+            Step::Ready(66),
+            Step::Define(67, Made::Array(67, 1), Ok(())),
+            Step::Bottomless(67, 67),
+            Step::Ready(65),
+            Step::Ready(66),
+            Step::Undefined(68, 68),
+        ],
+    ),
     (
         0,
         &[
@@ -103,13 +129,15 @@ fn is_answered(alloc: Global, table: &mut Table, step: Step) -> Result<bool, All
         }
         Step::Undefined(id, least) => {
             let answer = Err(NotReady::UndefinedType(TypeId(least)));
-            Ok(table.ready(alloc, TypeId(id)) == answer)
+            Ok(table.ready(alloc, TypeId(id)) == answer && !table.kept(TypeId(id)))
         }
         Step::Bottomless(id, least) => {
             let answer = Err(NotReady::Bottomless(TypeId(least)));
-            Ok(table.ready(alloc, TypeId(id)) == answer)
+            Ok(table.ready(alloc, TypeId(id)) == answer && !table.kept(TypeId(id)))
         }
-        Step::Ready(id) => Ok(table.ready(alloc, TypeId(id)) == Ok(())),
+        Step::Ready(id) => {
+            Ok(table.ready(alloc, TypeId(id)) == Ok(()) && table.kept(TypeId(id)))
+        }
         Step::Count(count) => Ok(table.count() == count),
     }
 }

@@ -3,7 +3,7 @@ use borrow.Author.Tests.{eqb-true}
 use Rattle.gob_types.specs.declared.id.TypeId.{TypeId}
 use Rattle.gob_types.specs.Table.{shape_of}
 use Rattle.gob_types.proofs.TableLaws.{types_are, lookup-shape_of}
-use Rattle.gob_types.proofs.table.TableShapes.shape_of.Goals as goal
+use Rattle.gob_types.proofs.definitions.DefinitionsShapes.shape_of.Goals as goal
 
 pub returns-in-Some : goal.returns-in-Some
 returns-in-Some c =

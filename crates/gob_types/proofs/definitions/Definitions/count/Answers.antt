@@ -1,7 +1,7 @@
 use Rattle.std.proofs.Common.{◌∙◌, sym, ap, subst, ◌-◌}
 use Rattle.gob_types.specs.Defined.{IsTable, definition_count}
 use Rattle.gob_types.proofs.TableLaws.{types_are}
-use Rattle.gob_types.proofs.table.Table.count.Goals as goal
+use Rattle.gob_types.proofs.definitions.Definitions.count.Goals as goal
 
 pub returns-clause-count : goal.returns-clause-count
 returns-clause-count c = ap (λ n. n - 17) c.len.ensures.len ∙ ap definition_count (sym (types_are c.self.view_is c.self.invariant))

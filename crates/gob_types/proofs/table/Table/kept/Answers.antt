@@ -1,0 +1,9 @@
+use Rattle.std.proofs.Common.{subst, IsTrue}
+use Rattle.gob_types.specs.Defined.{Defined, types}
+use Rattle.gob_types.specs.Ready.{IsReady}
+use Rattle.gob_types.proofs.table.Table.kept.Goals as goal
+
+pub returns : goal.returns
+returns c =
+    let P : Defined → Type 0 = λ d. (IsTrue c.contains.result → IsReady (types d) c.args.id) × (IsReady (types d) c.args.id → IsTrue c.contains.result) in
+    subst P c.self.view_is (λ yes. c.self.invariant.sound c.args.id (c.contains.ensures.0 yes), λ r. c.contains.ensures.1 (c.self.invariant.whole c.args.id r))
