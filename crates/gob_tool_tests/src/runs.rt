@@ -1,10 +1,10 @@
 //! Runs over devices that pass a byte a call, that fail, or that hold more than a piece.
 
 use crate::devices::{SlowReader, SlowWriter, Trouble};
+use crate::endings::line_of;
 use crate::streams::{EVERY, EVERY_LINES, THREE, THREE_ENDS, THREE_LINES};
-use gob_stream::{Input, Limits, Output, Refusal};
+use gob_stream::{Input, Limits, Output};
 use gob_tool::{ToolFault, run_show};
-use gob_types::Reason;
 use std::io::{ErrorKind, Read, Write};
 use std::test::*;
 
@@ -12,14 +12,6 @@ use std::test::*;
 const SLICE: &[u8] = b"\x0c\xff\x83\x02\x01\x02\xff\x84\x00\x01\x04\x00\x00";
 
 const SLICE_LINE: &str = "{\"define\":66,\"elem\":2,\"kind\":\"slice\",\"name\":\"\"}\n";
-
-fn refused(reason: Reason, place: u64, seen: u64) -> ToolFault {
-    ToolFault::Refused(Refusal {
-        place,
-        seen,
-        reason,
-    })
-}
 
 // Where the line of the last item ends that so many bytes of the three items hold whole.
 fn lines_of(bytes: usize) -> &'static [u8] {
@@ -52,11 +44,13 @@ fn show_within<R: Read + Drop, W: Write + Drop>(
 }
 
 #[test]
-fn byte_by_byte(rt: HostRuntime) {
+fn byte_by_byte(rt: HostRuntime) -> Result<(), Fail> {
     let mut held = Vec::new(rt.alloc());
     let reader = SlowReader::new(EVERY, usize::MAX, ErrorKind::Other);
-    assert_eq!(rt; show(&rt, reader, &mut held), Ok(()));
+    let result = show(&rt, reader, &mut held);
+    assert_eq!(rt; line_of(&rt, &result)?.as_str(), "");
     assert_eq!(rt; held.as_slice(), EVERY_LINES.as_bytes());
+    Ok(())
 }
 
 #[test]
@@ -65,7 +59,10 @@ fn a_limited_stream(rt: HostRuntime) -> Result<(), Fail> {
     let limits = Limits::new(u64::MAX, 1000, 0, 7).ok_or("limits")?;
     let mut held = Vec::new(rt.alloc());
     let result = show_within(&rt, bytes, &mut held, limits);
-    assert_eq!(rt; result, Err(refused(Reason::StreamTooLong, 4, 5)));
+    assert_eq!(rt;
+        line_of(&rt, &result)?.as_str(),
+        "gob: refused 4 StreamTooLong at 4 seen 5"
+    );
     assert_eq!(rt; held.as_slice(), b"{\"type\":2,\"value\":3}\n".as_slice());
     Ok(())
 }
@@ -86,31 +83,39 @@ fn many_lines(rt: HostRuntime) -> Result<(), Fail> {
     bytes.push(0)?;
     let mut held = Vec::new(rt.alloc());
     let result = show(&rt, bytes.as_slice(), &mut held);
-    assert_eq!(rt; result, Err(refused(Reason::Short, 160058, 160058)));
+    assert_eq!(rt;
+        line_of(&rt, &result)?.as_str(),
+        "gob: refused 5 Short at 160058 seen 160058"
+    );
     assert!(rt; held == lines, "the lines differ");
     Ok(())
 }
 
 #[test]
-fn failing_readers(rt: HostRuntime) {
+fn failing_readers(rt: HostRuntime) -> Result<(), Fail> {
     for kind in [ErrorKind::Interrupted, ErrorKind::Other] {
         // A call for each byte, one for the end of the input, and none behind it.
         for fails_at in 0..THREE.len() + 2 {
             let mut held = Vec::new(rt.alloc());
             let result = show(&rt, SlowReader::new(THREE, fails_at, kind), &mut held);
             let expected = if fails_at <= THREE.len() {
-                Err(ToolFault::Read)
+                "gob: read fault"
             } else {
-                Ok(())
+                ""
             };
-            assert_eq!(rt; result, expected, "fails at {fails_at}");
+            assert_eq!(rt;
+                line_of(&rt, &result)?.as_str(),
+                expected,
+                "fails at {fails_at}"
+            );
             assert_eq!(rt; held.as_slice(), lines_of(fails_at), "fails at {fails_at}");
         }
     }
+    Ok(())
 }
 
 #[test]
-fn failing_writers(rt: HostRuntime) {
+fn failing_writers(rt: HostRuntime) -> Result<(), Fail> {
     let all = THREE_LINES.as_bytes();
     let troubles = [
         Trouble::Error(ErrorKind::Interrupted),
@@ -122,29 +127,38 @@ fn failing_writers(rt: HostRuntime) {
             let mut device = SlowWriter::new(&rt, fails_at, trouble, false);
             let result = show(&rt, THREE, &mut device);
             let expected = if fails_at < all.len() {
-                Err(ToolFault::Write)
+                "gob: write fault"
             } else {
-                Ok(())
+                ""
             };
             let written = &all[..fails_at.min(all.len())];
-            assert_eq!(rt; result, expected, "fails at {fails_at}");
+            assert_eq!(rt;
+                line_of(&rt, &result)?.as_str(),
+                expected,
+                "fails at {fails_at}"
+            );
             assert_eq!(rt; device.held.as_slice(), written, "fails at {fails_at}");
         }
     }
+    Ok(())
 }
 
 #[test]
-fn failing_flushes(rt: HostRuntime) {
+fn failing_flushes(rt: HostRuntime) -> Result<(), Fail> {
     let rows = [
-        (&b"\x03\x04\x00\x06\x03\x02\x00\x01"[..], ToolFault::Write),
-        (&b"\x03\x04\x00\x06\x00"[..], refused(Reason::Short, 5, 5)),
+        (&b"\x03\x04\x00\x06\x03\x02\x00\x01"[..], "gob: write fault"),
+        (
+            &b"\x03\x04\x00\x06\x00"[..],
+            "gob: refused 5 Short at 5 seen 5",
+        ),
     ];
-    for (bytes, fault) in rows {
+    for (bytes, line) in rows {
         let mut device = SlowWriter::new(&rt, 1000, Trouble::TakesNothing, true);
         let mut input = Input::new(bytes);
         let mut output = Output::new(&mut device);
         let result = run_show(rt.alloc(), &mut input, &mut output, Limits::standard());
-        assert_eq!(rt; result, Err(fault), "{bytes:?}");
+        assert_eq!(rt; line_of(&rt, &result)?.as_str(), line, "{bytes:?}");
         assert_eq!(rt; output.failures(), 1, "{bytes:?}");
     }
+    Ok(())
 }
