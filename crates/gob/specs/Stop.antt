@@ -3,7 +3,7 @@ use Rattle.std.specs.Prelude.{ℕ, List, codes, Option, Result, Ok, Err}
 use Rattle.gob_tool.specs.declared.fault.ToolFault.{ToolFault}
 use Rattle.gob_tool.specs.declared.words.Chosen.{Chosen}
 use Rattle.gob_tool.specs.Fault.{fault_status, fault_line}
-use Rattle.gob_tool.specs.Showing.{Does}
+use Rattle.gob_tool.specs.Running.{Does}
 use Rattle.gob_tool.specs.Words.{standard_limits}
 use Rattle.gob.specs.declared.Stop.{Stop}
 use Rattle.gob.specs.declared.Stop.TheVariants.{Words, Run}
@@ -23,9 +23,10 @@ abbrev pub stop_line : Stop → List ℕ
 stop_line (Words fault) = codes "gob: bad arguments"
 stop_line (Run fault) = fault_line fault
 
--- a run of the command over an input with these bytes, and an output with the old ones, ends so
-pub record EndsRun (command : Chosen) (bytes : List ℕ) (old : Option (List ℕ)) (result : Result (Unit {0}) ToolFault) : Type 0 where
-  -- what is left of the input, and what the output has then
+-- a run of the command over a wanted stream and an input with these bytes, and an output with the old ones, ends so
+pub record EndsRun (command : Chosen) (wanted bytes : List ℕ) (old : Option (List ℕ)) (result : Result (Unit {0}) ToolFault) : Type 0 where
+  -- what is left of the wanted stream and of the input, and what the output has then
+  pub wanted_now : Option (List ℕ)
   pub now : Option (List ℕ)
   pub new : Option (List ℕ)
-  pub does : Does command standard_limits bytes now old new result
+  pub does : Does command standard_limits wanted bytes wanted_now now old new result

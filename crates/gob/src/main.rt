@@ -1,8 +1,9 @@
 //! The program `gob`: prints the items of a gob stream as lines of JSON.
 //!
-//! `gob show [IN]` reads the file IN, or standard input without one. It prints a line for each item on
-//! standard output, and where it stops at a fault a line on standard error. Its exit status is 0 for a whole
-//! stream, 1 for an input that is no stream, and 2 for all else.
+//! `gob show [IN]` reads the file IN, or standard input without one, and prints a line for each item on standard
+//! output. `gob take WANTED [IN]` receives each value of IN as one of the type of the first value in the file WANTED,
+//! and prints a line for each. Where it stops at a fault, it prints a line on standard error. Its exit status is 0 for a
+//! whole stream, 1 for an input that is no stream or has values that don't match, and 2 for all else.
 #![tactic(auto)]
 
 ghost use Rattle.std.specs.Prelude.{◌≡◌, ℕ, List, Some, MatchResult};
@@ -19,7 +20,7 @@ use std::process::ExitCode;
 use std::{env, fmt, io};
 
 // What ends the program with a line on standard error.
-#[derive(Clone, Copy)]
+#[derive(Drop)]
 enum Stop {
     Words(OrderFault),
     Run(ToolFault),
@@ -80,7 +81,7 @@ fn end(rt: &HostRuntime, ending: Result<(), Stop>) -> ExitCode
     }
 }
 
-// Judges the words, then opens the input, then runs.
+// Judges the words, then opens the file that has the wanted type, if the command wants one.
 fn run(rt: &HostRuntime) -> Result<(), Stop> {
     let words = words_of(rt)?;
     let names = words
@@ -88,11 +89,22 @@ fn run(rt: &HostRuntime) -> Result<(), Stop> {
         .map(|word| word.as_str())
         .collect::<Vec<&str>>(rt.alloc())?;
     let order = order_of(&names).map_err(Stop::Words)?;
+    match order.wanted {
+        None => run_on(rt, &order, b"".as_slice()),
+        Some(path) => {
+            let wanted = opened(File::open(rt, path))?;
+            run_on(rt, &order, wanted)
+        }
+    }
+}
+
+// Opens the input, then runs.
+fn run_on<Q: Read + Drop>(rt: &HostRuntime, order: &Order, wanted: Q) -> Result<(), Stop> {
     let ending = match order.input {
-        None => carry_out(rt.alloc(), &order, rt.stdin(), rt.stdout()),
+        None => carry_out(rt.alloc(), order, wanted, rt.stdin(), rt.stdout()),
         Some(path) => {
             let file = opened(File::open(rt, path))?;
-            carry_out(rt.alloc(), &order, file, rt.stdout())
+            carry_out(rt.alloc(), order, wanted, file, rt.stdout())
         }
     };
     ending.map_err(Stop::Run)
@@ -114,17 +126,19 @@ fn opened(file: io::Result<File>) -> Result<File, Stop>
     file.map_err(|_| Stop::Run(ToolFault::Read))
 }
 
-// The run reads in large pieces, so that nothing need be kept between it and the reader.
-fn carry_out<R: Read + Drop, W: Write + Drop>(
+// The run reads in large pieces, so that nothing need be kept between it and the readers.
+fn carry_out<Q: Read + Drop, R: Read + Drop, W: Write + Drop>(
     alloc: Global,
     order: &Order,
+    wanted: Q,
     reader: R,
     writer: W,
 ) -> Result<(), ToolFault>
-    ensures { (bytes : List ℕ) → R.remaining reader ≡ Some bytes
-        → EndsRun order.now.command bytes (W.contents writer) result }
+    ensures { (wanted_bytes bytes : List ℕ) → Q.remaining wanted ≡ Some wanted_bytes → R.remaining reader ≡ Some bytes
+        → EndsRun order.now.command wanted_bytes bytes (W.contents writer) result }
 {
+    let mut wanted = Input::new(wanted);
     let mut input = Input::new(reader);
     let mut output = Output::new(writer);
-    run_order(alloc, order, &mut input, &mut output)
+    run_order(alloc, order, &mut wanted, &mut input, &mut output)
 }

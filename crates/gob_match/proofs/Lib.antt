@@ -13,3 +13,5 @@ pub mod FitLaws
 pub mod UniqueLaws
 pub mod KindChoice
 pub mod ChoiceLaws
+pub mod StayLaws
+pub mod TextLaws

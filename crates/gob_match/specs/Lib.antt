@@ -3,6 +3,7 @@ pub mod Matching
 pub mod Clashing
 pub mod Received
 pub mod Reasons
+pub mod ClashText
 pub mod Faults
 pub mod Matched
 pub mod Laws

@@ -39,4 +39,4 @@ pub use matching::match_types;
 pub use pair::TypePair;
 pub use reason::ClashReason;
 pub use receiving::receive;
-pub use step::Step;
+pub use step::{PathText, Step};

@@ -18,12 +18,12 @@ pub lines_append : (T : Table) (items others : List StreamItem) → lines T (ite
 lines_append T [] others = refl
 lines_append T (i ∷ items) others = ap (λ (l : List ℕ). line T i ++ l) (lines_append T items others) ∙ sym (append_assoc (line T i) (lines T items) (lines T others))
 
-views_append : (items others : List (declared.Item Value)) → item_views (items ++ others) ≡ item_views items ++ item_views others
+pub views_append : (items others : List (declared.Item Value)) → item_views (items ++ others) ≡ item_views items ++ item_views others
 views_append [] others = refl
 views_append (i ∷ items) others = ap (λ (l : List StreamItem). item_view i ∷ l) (views_append items others)
 
 -- the first so many, and the others
-views_in_two : (items : List (declared.Item Value)) (k : ℕ) → item_views items ≡ item_views (take k items) ++ item_views (drop k items)
+pub views_in_two : (items : List (declared.Item Value)) (k : ℕ) → item_views items ≡ item_views (take k items) ++ item_views (drop k items)
 views_in_two items k = ap (λ (l : List (declared.Item Value)). item_views l) (sym (take-append-drop k items)) ∙ views_append (take k items) (drop k items)
 
 lines_in_two : (T : Table) (items : List (declared.Item Value)) (k : ℕ) → lines T (item_views items) ≡ lines T (item_views (take k items)) ++ lines T (item_views (drop k items))
@@ -38,14 +38,14 @@ line_more T items k i e h =
     ∙ lines_append T (item_views (take k items)) (item_view i ∷ []) ∙ ap (λ (l : List ℕ). lines T (item_views (take k items)) ++ l) (append-nil (line T (item_view i)))
 
 -- ---- what passes
-passes_on : (old mid new : Option (List ℕ)) (all gathered more after : List ℕ) → PassesSome old mid all gathered → PassesSome mid new (gathered ++ more) after → PassesSome old new (all ++ more) after
+pub passes_on : (old mid new : Option (List ℕ)) (all gathered more after : List ℕ) → PassesSome old mid all gathered → PassesSome mid new (gathered ++ more) after → PassesSome old new (all ++ more) after
 passes_on old mid new all gathered more after p q = record {
   written = p.written ++ q.written;
   whole = ap (λ (l : List ℕ). l ++ more) p.whole ∙ append_assoc p.written gathered more ∙ ap (λ (l : List ℕ). p.written ++ l) q.whole ∙ sym (append_assoc p.written q.written after);
   out = Appends-trans old mid new p.written q.written p.out q.out;
 }
 
-front_on : (old mid new : Option (List ℕ)) (all gathered more : List ℕ) → PassesSome old mid all gathered → AppendsFront mid new (gathered ++ more) → AppendsFront old new (all ++ more)
+pub front_on : (old mid new : Option (List ℕ)) (all gathered more : List ℕ) → PassesSome old mid all gathered → AppendsFront mid new (gathered ++ more) → AppendsFront old new (all ++ more)
 front_on old mid new all gathered more p f = record {
   front = p.written ++ f.front;
   rest = f.rest;

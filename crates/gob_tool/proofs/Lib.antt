@@ -6,3 +6,8 @@ pub mod FrontLaws
 pub mod LinesStay
 pub mod GatherLaws
 pub mod ShowLaws
+pub mod TakeLaws
+pub mod PieceLaws
+pub mod ReceivedLaws
+pub mod TakeRuns
+pub mod WantedLaws

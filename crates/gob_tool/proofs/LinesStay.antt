@@ -99,10 +99,10 @@ line_stays keeps (is_defined {id = id} {s = s} e) = ap (λ (o : Option Shape). c
 line_stays keeps (fits_there {id = id} p) = ap (λ (d : Data). compact_text (object (member (codes "type") (id_json id) (member (codes "value") d no_members))) ++ 10 ∷ []) (value_stays keeps p)
 
 -- ---- streams
-keeps_itself : (T : Table) → Keeps T T
+pub keeps_itself : (T : Table) → Keeps T T
 keeps_itself T = record { shape = λ t s e. e }
 
-keeps_on : {T U V : Table} → Keeps T U → Keeps U V → Keeps T V
+pub keeps_on : {T U V : Table} → Keeps T U → Keeps U V → Keeps T V
 keeps_on p q = record { shape = λ t s e. q.shape t s (p.shape t s e) }
 
 -- an item keeps the types before it, and the table behind it has its own

@@ -28,6 +28,7 @@ use Rattle.gob_tool.specs.Line.{lines}
 use Rattle.gob_tool.specs.Fault.{reading_fault}
 use Rattle.gob_tool.specs.Showing.{EndsWhole, IsRefused, Gives, Begins, Runs, AppendsFront}
 use Rattle.gob_tool.specs.Gathering.{Gathered, GaveItems, StandsBehind, StandsIn, PassesSome, Gathers, TakesPiece, CountsOnlyReads, within_trees}
+use Rattle.gob_tool.specs.Pieces.{TypesBehind}
 use Rattle.gob_tool.proofs.LinesStay.{lines_stay, first_items}
 use Rattle.gob_tool.proofs.GatherLaws.{lines_append}
 
@@ -45,15 +46,7 @@ same_lines items others x y p q e =
     let t = first_items items others q in
     lines_stay t.stream t.keeps ∙ lines_once items x (t.rest ++ y) p t.stream (e ∙ ap (λ (l : List ℕ). l ++ y) t.whole ∙ append_assoc t.front t.rest y)
 
--- the bytes begin with the stream of the items and perhaps of more, and these are the types behind all of them
-record TypesBehind (L : Bounds) (bytes : List ℕ) (items : List StreamItem) (T : Table) : Type 0 where
-  more : List StreamItem
-  front : List ℕ
-  rest : List ℕ
-  stream : Stream base_table L (items ++ more) front T
-  whole : bytes ≡ front ++ rest
-
-types_behind : {L : Bounds} {bytes : List ℕ} {items : List StreamItem} {T : Table} → HasTypesBehind L bytes items T → TypesBehind L bytes items T
+pub types_behind : {L : Bounds} {bytes : List ℕ} {items : List StreamItem} {T : Table} → HasTypesBehind L bytes items T → TypesBehind L bytes items T
 types_behind {L = L} {items = items} {T = T} t = record {
   more = [];
   front = t.front;
@@ -62,7 +55,7 @@ types_behind {L = L} {items = items} {T = T} t = record {
   whole = t.whole;
 }
 
-types_beyond : {L : Bounds} {bytes : List ℕ} {items : List StreamItem} {T : Table} → HasTypesBeyond L bytes items T → TypesBehind L bytes items T
+pub types_beyond : {L : Bounds} {bytes : List ℕ} {items : List StreamItem} {T : Table} → HasTypesBeyond L bytes items T → TypesBehind L bytes items T
 types_beyond t = record { more = t.more; front = t.behind.front; rest = t.behind.rest; stream = t.behind.stream; whole = t.behind.whole }
 
 -- the lines by the types that are behind some items of a stream and more
@@ -164,6 +157,9 @@ module _ (s s' : Reading TreeBuilder Value) (bytes piece : List ℕ) (given : Li
   pub piece_stopped : (fed : Result (Unit {0}) Fault) (f : ToolFault) → Feeds tree_builder.stands-value.it tree_builder.stands-value.it tree_builder.means-value.it greatest_depth s s' b.items bytes piece given fed
       → Gathers (types s'.types) (item_views given) mid new gathered after (Err f) → TakesPiece (within_trees s.limits) s' (bytes ++ piece) old new after (Err f)
   piece_stopped fed (fault.Refused R) f h = absurd h
+  piece_stopped fed (fault.Wanted R) f h = absurd h
+  piece_stopped fed fault.NoWantedType f h = absurd h
+  piece_stopped fed (fault.Clash path reason) f h = absurd h
   piece_stopped fed fault.Read f h = absurd h
   piece_stopped fed fault.Write f h =
       let on = fed_types fed f in
@@ -219,15 +215,15 @@ taken_of : (bytes : List ℕ) (now : Option (List ℕ)) (taken : List ℕ) → C
 taken_of bytes None taken c = absurd c
 taken_of bytes (Some left) taken c = record { left = left; known = refl; whole = c }
 
-known_taken : (read now : Option (List ℕ)) (bytes taken : List ℕ) → read ≡ Some bytes → Consumes read now taken → Taken bytes now taken
+pub known_taken : (read now : Option (List ℕ)) (bytes taken : List ℕ) → read ≡ Some bytes → Consumes read now taken → Taken bytes now taken
 known_taken read now bytes taken known c = taken_of bytes now taken (subst (λ (o : Option (List ℕ)). Consumes o now taken) known c)
 
 -- nothing is left
-none_left : (now : Option (List ℕ)) (left : List ℕ) → now ≡ Some left → IsAtEnd now → left ≡ []
+pub none_left : (now : Option (List ℕ)) (left : List ℕ) → now ≡ Some left → IsAtEnd now → left ≡ []
 none_left now left e h = subst IsAtEnd e h
 
 -- all was taken
-all_taken : (read now next : Option (List ℕ)) (bytes taken : List ℕ) → read ≡ Some bytes → Consumes read now taken → Consumes now next [] → IsAtEnd next → (taken ≡ bytes) × (next ≡ Some [])
+pub all_taken : (read now next : Option (List ℕ)) (bytes taken : List ℕ) → read ≡ Some bytes → Consumes read now taken → Consumes now next [] → IsAtEnd next → (taken ≡ bytes) × (next ≡ Some [])
 all_taken read now next bytes taken known c d h =
     let t = known_taken read next bytes (taken ++ []) known (Consumes-trans read now next taken [] c d) in
     let none = none_left next t.left t.known h in
@@ -243,7 +239,7 @@ pub record HasTable (L : Bounds) (bytes : List ℕ) (items : List StreamItem) : 
   pub table : Table
   pub stream : Stream base_table L items bytes table
 
-whole_stream : {L : Bounds} {bytes : List ℕ} {items : List StreamItem} → EndsSo base_table L bytes items the_end → HasTable L bytes items
+pub whole_stream : {L : Bounds} {bytes : List ℕ} {items : List StreamItem} → EndsSo base_table L bytes items the_end → HasTable L bytes items
 whole_stream (at_the_end {T = T} p) = record { table = T; stream = p }
 
 -- the input ended between two items
@@ -309,6 +305,9 @@ refused_more {L = L} {bytes = bytes} {all = all} {R = R} {P = P} more e n b =
 stopped_there : (L : Bounds) (s : Reading TreeBuilder Value) (read next old new : Option (List ℕ)) (bytes gathered taken : List ℕ) (f : ToolFault) → read ≡ Some bytes → Consumes read next taken
     → TakesPiece L s taken old new gathered (Err f) → Runs L bytes next (Gathered old new gathered) (AppendsFront old new) (Err f)
 stopped_there L s read next old new bytes gathered taken (fault.Refused R) known c h = let t = known_taken read next bytes taken known c in refused_more t.left t.whole h.1 h.0
+stopped_there L s read next old new bytes gathered taken (fault.Wanted R) known c h = absurd h
+stopped_there L s read next old new bytes gathered taken fault.NoWantedType known c h = absurd h
+stopped_there L s read next old new bytes gathered taken (fault.Clash path reason) known c h = absurd h
 stopped_there L s read next old new bytes gathered taken fault.Read known c h = absurd h
 stopped_there L s read next old new bytes gathered taken fault.Write known c h = let t = known_taken read next bytes taken known c in begins_more t.left t.whole h
 stopped_there L s read next old new bytes gathered taken fault.Memory known c h = let t = known_taken read next bytes taken known c in begins_more t.left t.whole h
@@ -334,6 +333,9 @@ finish_counts s s' items bytes failures failures' reading.Failed f h = h
 pub piece_counts : (L : Bounds) (s : Reading TreeBuilder Value) (bytes : List ℕ) (old new : Option (List ℕ)) (gathered : List ℕ) (failures failures' : ℕ) (f : ToolFault) → TakesPiece L s bytes old new gathered (Err f) → failures' ≡ failures
     → CountsOnlyReads failures failures' (Err f)
 piece_counts L s bytes old new gathered failures failures' (fault.Refused R) h e = e
+piece_counts L s bytes old new gathered failures failures' (fault.Wanted R) h e = absurd h
+piece_counts L s bytes old new gathered failures failures' fault.NoWantedType h e = absurd h
+piece_counts L s bytes old new gathered failures failures' (fault.Clash path reason) h e = absurd h
 piece_counts L s bytes old new gathered failures failures' fault.Read h e = absurd h
 piece_counts L s bytes old new gathered failures failures' fault.Write h e = e
 piece_counts L s bytes old new gathered failures failures' fault.Memory h e = e
@@ -381,6 +383,9 @@ begun_before L bytes now P C (Ok u) e other = record {
 begun_before L bytes now P C (Err (fault.Refused R)) e other = record { items = e.items; begins = e.outcome.gives.begins; holds = e.holds }
 begun_before L bytes now P C (Err fault.Read) e other =
     begins_more e.taken.left e.taken.whole (record { items = e.holds.items; begins = e.holds.given.begins; holds = e.holds.holds })
+begun_before L bytes now P C (Err (fault.Wanted R)) e other = absurd e
+begun_before L bytes now P C (Err fault.NoWantedType) e other = absurd e
+begun_before L bytes now P C (Err (fault.Clash path reason)) e other = absurd e
 begun_before L bytes now P C (Err fault.Write) e other = absurd (other refl)
 begun_before L bytes now P C (Err fault.Memory) e other = e
 
@@ -388,5 +393,8 @@ pub runs_as : (L : Bounds) (bytes : List ℕ) (now : Option (List ℕ)) (P Q C D
 runs_as L bytes now P Q C D (Ok u) e other f = record { items = e.items; table = e.table; stream = e.stream; end = e.end; holds = f _ e.holds }
 runs_as L bytes now P Q C D (Err (fault.Refused R)) e other f = record { items = e.items; outcome = e.outcome; holds = f _ e.holds }
 runs_as L bytes now P Q C D (Err fault.Read) e other f = record { bytes = e.bytes; taken = e.taken; holds = record { items = e.holds.items; given = e.holds.given; holds = f _ e.holds.holds } }
+runs_as L bytes now P Q C D (Err (fault.Wanted R)) e other f = absurd e
+runs_as L bytes now P Q C D (Err fault.NoWantedType) e other f = absurd e
+runs_as L bytes now P Q C D (Err (fault.Clash path reason)) e other f = absurd e
 runs_as L bytes now P Q C D (Err fault.Write) e other f = absurd (other refl)
 runs_as L bytes now P Q C D (Err fault.Memory) e other f = begun_as L bytes P Q e f

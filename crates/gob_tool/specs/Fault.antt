@@ -1,5 +1,8 @@
 -- What the program says of a fault. (docs/FORMAT.md, The program: this project's own.)
 use Rattle.std.specs.Prelude.{ℕ, List, ◌++◌, codes}
+use Rattle.gob_match.specs.declared.fault.MatchFault.{MatchFault}
+use Rattle.gob_match.specs.declared.fault.MatchFault.TheVariants as matching
+use Rattle.gob_match.specs.ClashText.{clash_text}
 use Rattle.gob_stream.specs.declared.fault.Fault.{Fault}
 use Rattle.gob_stream.specs.declared.fault.Fault.TheVariants as reading
 use Rattle.gob_stream.specs.RefusalText.{refusal_text}
@@ -9,6 +12,9 @@ use Rattle.gob_tool.specs.declared.fault.ToolFault.TheVariants as fault
 -- the exit status after it
 abbrev pub fault_status : ToolFault → ℕ
 fault_status (fault.Refused r) = 1
+fault_status (fault.Wanted r) = 1
+fault_status fault.NoWantedType = 1
+fault_status (fault.Clash path reason) = 1
 fault_status fault.Read = 2
 fault_status fault.Write = 2
 fault_status fault.Memory = 2
@@ -16,6 +22,9 @@ fault_status fault.Memory = 2
 -- its line
 abbrev pub fault_line : ToolFault → List ℕ
 fault_line (fault.Refused R) = codes "gob: " ++ refusal_text R
+fault_line (fault.Wanted R) = codes "gob: wanted: " ++ refusal_text R
+fault_line fault.NoWantedType = codes "gob: refused 35 NoWantedType"
+fault_line (fault.Clash path reason) = codes "gob: " ++ clash_text path.items reason
 fault_line fault.Read = codes "gob: read fault"
 fault_line fault.Write = codes "gob: write fault"
 fault_line fault.Memory = codes "gob: out of memory"
@@ -26,3 +35,15 @@ reading_fault (reading.Refused r) = fault.Refused r
 reading_fault reading.Read = fault.Read
 reading_fault reading.Memory = fault.Memory
 reading_fault reading.Failed = fault.Memory
+
+-- the same of the reader of the wanted stream
+abbrev pub wanted_fault : Fault → ToolFault
+wanted_fault (reading.Refused r) = fault.Wanted r
+wanted_fault reading.Read = fault.Read
+wanted_fault reading.Memory = fault.Memory
+wanted_fault reading.Failed = fault.Memory
+
+-- the fault of a run in which matching met this one first
+abbrev pub matching_fault : MatchFault → ToolFault
+matching_fault (matching.Clash path reason) = fault.Clash path reason
+matching_fault matching.Memory = fault.Memory

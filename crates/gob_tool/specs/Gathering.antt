@@ -63,6 +63,9 @@ pub record GathersFirst (T : Table) (items : List StreamItem) (old new : Option 
 abbrev pub Gathers : Table → List StreamItem → (old new : Option (List ℕ)) → (before after : List ℕ) → Result (Unit {0}) ToolFault → Type 0
 Gathers T items old new before after (Ok _) = PassesSome old new (before ++ lines T items) after
 Gathers T items old new before after (Err (fault.Refused r)) = ⊥
+Gathers T items old new before after (Err (fault.Wanted r)) = ⊥
+Gathers T items old new before after (Err fault.NoWantedType) = ⊥
+Gathers T items old new before after (Err (fault.Clash path reason)) = ⊥
 Gathers T items old new before after (Err fault.Read) = ⊥
 Gathers T items old new before after (Err fault.Write) = AppendsFront old new (before ++ lines T items)
 Gathers T items old new before after (Err fault.Memory) = GathersFirst T items old new before after
@@ -71,6 +74,9 @@ Gathers T items old new before after (Err fault.Memory) = GathersFirst T items o
 abbrev pub TakesPiece : Bounds → (s : Reading TreeBuilder Value) → (bytes : List ℕ) → (old new : Option (List ℕ)) → (gathered : List ℕ) → Result (Unit {0}) ToolFault → Type 0
 TakesPiece L s bytes old new gathered (Ok _) = StandsBehind s bytes old new gathered
 TakesPiece L s bytes old new gathered (Err (fault.Refused R)) = IsRefused L bytes R (Gathered old new gathered) × (R.reason ≢ reason.Ended)
+TakesPiece L s bytes old new gathered (Err (fault.Wanted R)) = ⊥
+TakesPiece L s bytes old new gathered (Err fault.NoWantedType) = ⊥
+TakesPiece L s bytes old new gathered (Err (fault.Clash path reason)) = ⊥
 TakesPiece L s bytes old new gathered (Err fault.Read) = ⊥
 TakesPiece L s bytes old new gathered (Err fault.Write) = Begins L bytes (AppendsFront old new)
 TakesPiece L s bytes old new gathered (Err fault.Memory) = Begins L bytes (Gathered old new gathered)
@@ -92,15 +98,9 @@ CountsWrites failures failures' (Err _) = failures' ≡ counts_up failures 1
 
 -- before the end of a run, a read or a write failed exactly where the fault says so
 abbrev pub CountsOnlyReads : (failures failures' : ℕ) → Result (Unit {0}) ToolFault → Type 0
-CountsOnlyReads failures failures' (Ok _) = failures' ≡ failures
-CountsOnlyReads failures failures' (Err (fault.Refused r)) = failures' ≡ failures
 CountsOnlyReads failures failures' (Err fault.Read) = failures' ≡ counts_up failures 1
-CountsOnlyReads failures failures' (Err fault.Write) = failures' ≡ failures
-CountsOnlyReads failures failures' (Err fault.Memory) = failures' ≡ failures
+CountsOnlyReads failures failures' _ = failures' ≡ failures
 
 abbrev pub CountsOnlyWrites : (failures failures' : ℕ) → Result (Unit {0}) ToolFault → Type 0
-CountsOnlyWrites failures failures' (Ok _) = failures' ≡ failures
-CountsOnlyWrites failures failures' (Err (fault.Refused r)) = failures' ≡ failures
-CountsOnlyWrites failures failures' (Err fault.Read) = failures' ≡ failures
 CountsOnlyWrites failures failures' (Err fault.Write) = failures' ≡ counts_up failures 1
-CountsOnlyWrites failures failures' (Err fault.Memory) = failures' ≡ failures
+CountsOnlyWrites failures failures' _ = failures' ≡ failures

@@ -4,3 +4,8 @@ pub mod Fault
 pub mod Words
 pub mod Showing
 pub mod Gathering
+pub mod Taking
+pub mod Pieces
+pub mod Wanting
+pub mod Receiver
+pub mod Running

@@ -13,8 +13,6 @@ use Rattle.gob_stream.specs.Devices.{counts_up}
 use Rattle.gob_stream.specs.Reading.{SomeTaken}
 use Rattle.gob_tool.specs.declared.fault.ToolFault.{ToolFault}
 use Rattle.gob_tool.specs.declared.fault.ToolFault.TheVariants as fault
-use Rattle.gob_tool.specs.declared.words.Chosen.{Chosen}
-use Rattle.gob_tool.specs.declared.words.Chosen.TheVariants as chosen
 use Rattle.gob_tool.specs.Line.{lines}
 
 -- the bytes are the stream of some items, all of them were read, and this holds of the lines of the items by the types
@@ -52,6 +50,9 @@ Runs L bytes now Whole Cut (Err (fault.Refused R)) = IsRefused L bytes R Whole
 Runs L bytes now Whole Cut (Err fault.Read) = SomeTaken bytes now (λ taken. Gives L taken Whole)
 Runs L bytes now Whole Cut (Err fault.Write) = Begins L bytes Cut
 Runs L bytes now Whole Cut (Err fault.Memory) = Begins L bytes Whole
+Runs L bytes now Whole Cut (Err (fault.Wanted R)) = ⊥
+Runs L bytes now Whole Cut (Err fault.NoWantedType) = ⊥
+Runs L bytes now Whole Cut (Err (fault.Clash path reason)) = ⊥
 
 -- known bytes grow by a front of these
 pub record AppendsFront (old new : Option (List ℕ)) (bytes : List ℕ) : Type 0 where
@@ -65,26 +66,18 @@ pub record AppendsFront (old new : Option (List ℕ)) (bytes : List ℕ) : Type 
 abbrev pub Shows : Bounds → (bytes : List ℕ) → (now old new : Option (List ℕ)) → Result (Unit {0}) ToolFault → Type 0
 Shows L bytes now old new result = Runs L bytes now (Appends old new) (AppendsFront old new) result
 
--- how the run of a command ends
-abbrev pub Does : Chosen → Bounds → (bytes : List ℕ) → (now old new : Option (List ℕ)) → Result (Unit {0}) ToolFault → Type 0
-Does chosen.Show L bytes now old new result = Shows L bytes now old new result
-
 -- the count is the same, or one higher
 abbrev pub MayCount : (failures failures' : ℕ) → Type 0
 MayCount failures failures' = (failures' ≡ failures) ⊎ (failures' ≡ counts_up failures 1)
 
 -- a read failed where the fault is `Read`, and else only before a failed write
 abbrev pub CountsReadFaults : (failures failures' : ℕ) → Result (Unit {0}) ToolFault → Type 0
-CountsReadFaults failures failures' (Ok _) = failures' ≡ failures
-CountsReadFaults failures failures' (Err (fault.Refused r)) = failures' ≡ failures
 CountsReadFaults failures failures' (Err fault.Read) = failures' ≡ counts_up failures 1
 CountsReadFaults failures failures' (Err fault.Write) = MayCount failures failures'
-CountsReadFaults failures failures' (Err fault.Memory) = failures' ≡ failures
+CountsReadFaults failures failures' _ = failures' ≡ failures
 
 -- a write or a flush failed where the fault is `Write`, and else only the flush behind another fault
 abbrev pub CountsWriteFaults : (failures failures' : ℕ) → Result (Unit {0}) ToolFault → Type 0
 CountsWriteFaults failures failures' (Ok _) = failures' ≡ failures
-CountsWriteFaults failures failures' (Err (fault.Refused r)) = MayCount failures failures'
-CountsWriteFaults failures failures' (Err fault.Read) = MayCount failures failures'
 CountsWriteFaults failures failures' (Err fault.Write) = failures' ≡ counts_up failures 1
-CountsWriteFaults failures failures' (Err fault.Memory) = MayCount failures failures'
+CountsWriteFaults failures failures' (Err _) = MayCount failures failures'

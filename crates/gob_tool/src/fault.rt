@@ -1,17 +1,29 @@
 //! What stops a run of the program.
 
 ghost use Rattle.std.specs.Prelude.{◌≡◌};
-ghost use Rattle.gob_tool.specs.Fault.{fault_status};
+ghost use Rattle.gob_tool.specs.Fault.{fault_status, wanted_fault};
 
+use gob_match::{ClashReason, MatchFault, PathText, Step};
 use gob_num::Memory;
 use gob_stream::{Fault, Refusal};
 use std::fmt;
 
 /// What stops a run. Display writes the line that the program prints, without the line feed.
-#[derive(Clone, Copy, Debug, PartialEq, Eq)]
+#[derive(Drop)]
 pub enum ToolFault {
     /// The input is no stream.
     Refused(Refusal),
+    /// The stream that has the wanted type is none.
+    Wanted(Refusal),
+    /// The stream that should have the wanted type has no value.
+    NoWantedType,
+    /// The type of a value doesn't match the wanted type.
+    Clash {
+        /// The fewest steps from the two types to a pair of types whose shapes don't match.
+        path: Vec<Step>,
+        /// Why they don't.
+        reason: ClashReason,
+    },
     /// A read failed, or the input could not be opened.
     Read,
     /// A write or the flush at the end failed.
@@ -29,6 +41,13 @@ impl fmt::Display for ToolFault {
     fn fmt<W: fmt::Write>(&self, f: &mut fmt::Formatter<W>) -> fmt::Result {
         match self {
             ToolFault::Refused(refusal) => write!(f, "gob: {refusal}"),
+            ToolFault::Wanted(refusal) => write!(f, "gob: wanted: {refusal}"),
+            ToolFault::NoWantedType => write!(f, "gob: refused 35 NoWantedType"),
+            ToolFault::Clash { path, reason } => {
+                let number = reason.number();
+                let path = PathText(path);
+                write!(f, "gob: clash {number} {reason} at {path}")
+            }
             ToolFault::Read => write!(f, "gob: read fault"),
             ToolFault::Write => write!(f, "gob: write fault"),
             ToolFault::Memory => write!(f, "gob: out of memory"),
@@ -63,12 +82,40 @@ impl From<Fault> for ToolFault {
     }
 }
 
-/// The exit status of the program after this fault: 1 for a refused input, 2 for the others.
+impl From<MatchFault> for ToolFault {
+    ghost use Rattle.std.specs.Prelude.{◌≡◌};
+    ghost use Rattle.gob_tool.specs.Fault.{matching_fault};
+
+    ghost from_gives = { λ given fault. fault ≡ matching_fault given };
+
+    fn from(fault: MatchFault) -> ToolFault {
+        match fault {
+            MatchFault::Clash { path, reason } => ToolFault::Clash { path, reason },
+            MatchFault::Memory => ToolFault::Memory,
+        }
+    }
+}
+
+/// The fault of a run whose reader of the wanted stream met this one first.
+pub(crate) fn wanted_fault(fault: Fault) -> ToolFault
+    ensures { result ≡ wanted_fault fault }
+{
+    match fault {
+        Fault::Refused(refusal) => ToolFault::Wanted(refusal),
+        Fault::Read => ToolFault::Read,
+        Fault::Memory | Fault::Failed => ToolFault::Memory,
+    }
+}
+
+/// The exit status of the program after this fault: 1 for an input that is refused or clashes, 2 for the others.
 pub fn status(fault: &ToolFault) -> u8
     ensures { result ≡ fault_status fault.now }
 {
     match fault {
-        ToolFault::Refused(_) => 1,
+        ToolFault::Refused(_)
+        | ToolFault::Wanted(_)
+        | ToolFault::NoWantedType
+        | ToolFault::Clash { .. } => 1,
         ToolFault::Read | ToolFault::Write | ToolFault::Memory => 2,
     }
 }

@@ -12,13 +12,18 @@ mod item_json;
 mod leaf;
 mod lines;
 mod parts;
+mod pieces;
+mod receiver;
 mod run;
 mod show;
+mod take;
 mod value_json;
+mod wanted;
 mod words;
 
 pub use fault::{ToolFault, status};
 pub use item_json::json_of;
 pub use run::run_order;
 pub use show::run_show;
+pub use take::run_take;
 pub use words::{Chosen, Order, OrderFault, order_of};

@@ -37,7 +37,7 @@ pub fn run_show<R: Read, W: Write>(
 {
     let mut lines = Lines::new(alloc);
     let shown = show_items(alloc, input, output, limits, &mut lines);
-    if shown == Err(ToolFault::Write) {
+    if matches!(shown, Err(ToolFault::Write)) {
         return shown;
     }
     lines.write_to(output)?;

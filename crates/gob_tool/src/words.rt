@@ -13,6 +13,8 @@ use std::fmt;
 pub enum Chosen {
     /// Print each item as a line of JSON.
     Show,
+    /// Print each value as one of the type of another file's first value.
+    Take,
 }
 
 /// What the words ask for.
@@ -20,6 +22,8 @@ pub enum Chosen {
 pub struct Order<'a> {
     /// What to do.
     pub command: Chosen,
+    /// The name of the file that has the wanted type: for [`Chosen::Take`] alone.
+    pub wanted: Option<&'a str>,
     /// The name of the file that is read. None: standard input.
     pub input: Option<&'a str>,
 }
@@ -66,21 +70,34 @@ impl OrderFault {
     }
 }
 
-/// What the words ask for, the program's name first: `show`, and the name of a file or none.
+/// What the words ask for, the program's name first: `show`, and the name of a file or none; or `take`, the name of the
+/// file that has the wanted type, and that of another or none.
 pub fn order_of<'a>(words: &'a [&'a str]) -> Result<Order<'a>, OrderFault>
     ensures { MatchResult result
         (λ order. Asks (map (λ word. word.now) words.now) order.command
-        (option_map (λ word. word.now) order.input))
-        (λ _. (command : Chosen) (input : Option (List ℕ))
-        → ¬ Asks (map (λ word. word.now) words.now) command input) }
+        (option_map (λ word. word.now) order.wanted) (option_map (λ word. word.now) order.input))
+        (λ _. (command : Chosen) (wanted input : Option (List ℕ))
+        → ¬ Asks (map (λ word. word.now) words.now) command wanted input) }
 {
     match words {
         [_, "show"] => Ok(Order {
             command: Chosen::Show,
+            wanted: None,
             input: None,
         }),
         [_, "show", input] => Ok(Order {
             command: Chosen::Show,
+            wanted: None,
+            input: Some(input),
+        }),
+        [_, "take", wanted] => Ok(Order {
+            command: Chosen::Take,
+            wanted: Some(wanted),
+            input: None,
+        }),
+        [_, "take", wanted, input] => Ok(Order {
+            command: Chosen::Take,
+            wanted: Some(wanted),
             input: Some(input),
         }),
         _ => Err(OrderFault::Words),

@@ -5,6 +5,8 @@
 #[cfg(test)]
 mod devices;
 #[cfg(test)]
+mod endings;
+#[cfg(test)]
 mod faults;
 #[cfg(test)]
 mod lines;
@@ -12,5 +14,7 @@ mod lines;
 mod runs;
 #[cfg(test)]
 mod streams;
+#[cfg(test)]
+mod takes;
 #[cfg(test)]
 mod words;

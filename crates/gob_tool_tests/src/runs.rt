@@ -1,12 +1,12 @@
 //! Runs over devices that pass a byte a call, that fail, or that hold more than a piece.
 
 use crate::devices::{SlowReader, SlowWriter, Trouble};
+use crate::endings::ends_so;
 use crate::streams::{
     EVERY, EVERY_LINES, POINT_LINE, POINT_VALUE, POINT_VALUE_LINE, THREE, THREE_LINES, TWO_LINES,
 };
-use gob_stream::{Input, Limits, Output, Refusal};
-use gob_tool::{ToolFault, run_show};
-use gob_types::Reason;
+use gob_stream::{Input, Limits, Output};
+use gob_tool::run_show;
 use std::alloc::{AllocError, Global};
 use std::io::{ErrorKind, Read};
 use std::test::*;
@@ -15,14 +15,6 @@ use std::test::*;
 const SLICE_AND_ZERO: &[u8] = b"\x0c\xff\x83\x02\x01\x02\xff\x84\x00\x01\x04\x00\x00\x00";
 
 const SLICE_LINE: &str = "{\"define\":66,\"elem\":2,\"kind\":\"slice\",\"name\":\"\"}\n";
-
-fn refused(reason: Reason, place: u64, seen: u64) -> ToolFault {
-    ToolFault::Refused(Refusal {
-        place,
-        seen,
-        reason,
-    })
-}
 
 // The lines of those of the three items that so many bytes hold whole.
 fn lines_within(bytes: usize) -> &'static str {
@@ -37,33 +29,33 @@ fn lines_within(bytes: usize) -> &'static str {
     }
 }
 
-// Whether a reader gives these lines, and this comes of it.
+// Whether a reader gives these lines, and the run ends by a fault of this line.
 fn is_shown<R: Read + Drop>(
     alloc: Global,
     reader: R,
     limits: Limits,
     lines: &[u8],
-    due: Result<(), ToolFault>,
+    due: &str,
 ) -> bool {
     let mut held = Vec::new(alloc);
     let mut input = Input::new(reader);
     let mut output = Output::new(&mut held);
     let result = run_show(alloc, &mut input, &mut output, limits);
-    result == due && held.as_slice() == lines
+    ends_so(alloc, &result, due) && held.as_slice() == lines
 }
 
 #[test]
 fn byte_by_byte(rt: HostRuntime) {
     let reader = SlowReader::new(EVERY, usize::MAX, ErrorKind::Other);
     let lines = EVERY_LINES.as_bytes();
-    assert!(rt; is_shown(rt.alloc(), reader, Limits::standard(), lines, Ok(())));
+    assert!(rt; is_shown(rt.alloc(), reader, Limits::standard(), lines, ""));
 }
 
 #[test]
 fn a_limited_stream(rt: HostRuntime) -> Result<(), Fail> {
     let bytes = b"\x03\x04\x00\x06\x03\x02\x00\x01".as_slice();
     let limits = Limits::new(u64::MAX, 1000, 0, 7).ok_or("limits")?;
-    let due = Err(refused(Reason::StreamTooLong, 4, 5));
+    let due = "gob: refused 4 StreamTooLong at 4 seen 5";
     let lines = b"{\"type\":2,\"value\":3}\n".as_slice();
     assert!(rt; is_shown(rt.alloc(), bytes, limits, lines, due));
     Ok(())
@@ -86,7 +78,7 @@ fn many_lines(rt: HostRuntime) -> Result<(), Fail> {
     let head = THREE_LINES.as_bytes();
     let part = POINT_VALUE_LINE.as_bytes();
     let lines = repeated(rt.alloc(), head, part, SLICE_LINE.as_bytes())?;
-    let due = Err(refused(Reason::Short, 160058, 160058));
+    let due = "gob: refused 5 Short at 160058 seen 160058";
     assert!(rt;
         is_shown(
             rt.alloc(),
@@ -100,12 +92,7 @@ fn many_lines(rt: HostRuntime) -> Result<(), Fail> {
 }
 
 // Whether a reader that fails in this call ends the run so, and the lines of the items before are there.
-fn reader_fails_so(
-    alloc: Global,
-    fails_at: usize,
-    kind: ErrorKind,
-    due: Result<(), ToolFault>,
-) -> bool {
+fn reader_fails_so(alloc: Global, fails_at: usize, kind: ErrorKind, due: &str) -> bool {
     let reader = SlowReader::new(THREE, fails_at, kind);
     let lines = lines_within(fails_at).as_bytes();
     is_shown(alloc, reader, Limits::standard(), lines, due)
@@ -117,27 +104,22 @@ fn failing_readers(rt: HostRuntime) {
     for kind in [ErrorKind::Interrupted, ErrorKind::Other] {
         // A call for each byte, one for the end of the input, and none behind it.
         for fails_at in 0..45usize {
-            let is_right = reader_fails_so(alloc, fails_at, kind, Err(ToolFault::Read));
+            let is_right = reader_fails_so(alloc, fails_at, kind, "gob: read fault");
             assert!(rt; is_right, "fails at {fails_at}");
         }
-        assert!(rt; reader_fails_so(alloc, 45, kind, Ok(())));
+        assert!(rt; reader_fails_so(alloc, 45, kind, ""));
     }
 }
 
 // Whether a writer that makes trouble in this call ends the run so, and a byte was written in each call before.
-fn writer_fails_so(
-    alloc: Global,
-    fails_at: usize,
-    trouble: Trouble,
-    due: Result<(), ToolFault>,
-) -> bool {
+fn writer_fails_so(alloc: Global, fails_at: usize, trouble: Trouble, due: &str) -> bool {
     let mut device = SlowWriter::new(alloc, fails_at, trouble, false);
     let mut input = Input::new(THREE);
     let mut output = Output::new(&mut device);
     let result = run_show(alloc, &mut input, &mut output, Limits::standard());
     let all = THREE_LINES.as_bytes();
     let written = all.get(..fails_at).unwrap_or(all);
-    result == due && device.held.as_slice() == written
+    ends_so(alloc, &result, due) && device.held.as_slice() == written
 }
 
 #[test]
@@ -150,27 +132,27 @@ fn failing_writers(rt: HostRuntime) {
     ];
     for trouble in troubles {
         for fails_at in 0..137usize {
-            let is_right = writer_fails_so(alloc, fails_at, trouble, Err(ToolFault::Write));
+            let is_right = writer_fails_so(alloc, fails_at, trouble, "gob: write fault");
             assert!(rt; is_right, "fails at {fails_at}");
         }
-        assert!(rt; writer_fails_so(alloc, 137, trouble, Ok(())));
-        assert!(rt; writer_fails_so(alloc, 138, trouble, Ok(())));
+        assert!(rt; writer_fails_so(alloc, 137, trouble, ""));
+        assert!(rt; writer_fails_so(alloc, 138, trouble, ""));
     }
 }
 
 // Whether a run over these bytes, whose writer fails to be flushed, ends so, and one failure is counted.
-fn flush_fails_so(alloc: Global, bytes: &[u8], fault: ToolFault) -> bool {
+fn flush_fails_so(alloc: Global, bytes: &[u8], due: &str) -> bool {
     let mut device = SlowWriter::new(alloc, 1000, Trouble::TakesNothing, true);
     let mut input = Input::new(bytes);
     let mut output = Output::new(&mut device);
     let result = run_show(alloc, &mut input, &mut output, Limits::standard());
-    result == Err(fault) && output.failures() == 1
+    ends_so(alloc, &result, due) && output.failures() == 1
 }
 
 #[test]
 fn failing_flushes(rt: HostRuntime) {
     let whole = b"\x03\x04\x00\x06\x03\x02\x00\x01".as_slice();
-    assert!(rt; flush_fails_so(rt.alloc(), whole, ToolFault::Write));
-    let short = refused(Reason::Short, 5, 5);
+    assert!(rt; flush_fails_so(rt.alloc(), whole, "gob: write fault"));
+    let short = "gob: refused 5 Short at 5 seen 5";
     assert!(rt; flush_fails_so(rt.alloc(), b"\x03\x04\x00\x06\x00", short));
 }

@@ -7,7 +7,7 @@ use Rattle.gob_tool.specs.Gathering.{Gathered}
 use Rattle.gob_tool.specs.Showing.{AppendsFront, Shows}
 use Rattle.gob_tool.proofs.ShowLaws.{begun_before, begun_as, runs_cut, runs_as, front_out, all_out, whole_front}
 use Rattle.gob_tool.proofs.show.run_show.Goals as goal
-use Rattle.gob_tool.proofs.show.run_show.Goals.{in_default-2, in_default}
+use Rattle.gob_tool.proofs.show.run_show.Goals.{in_default-shown-2, in_default-shown}
 
 pub returns-in_err-write_to-clause-shown : goal.returns-in_err-write_to-clause-shown
 returns-in_err-write_to-clause-shown g c = λ bytes known.
@@ -46,4 +46,4 @@ returns-clause-shown g c = λ bytes known.
     let gathered = c.show_items-shown.new.lines.gathered.items in
     let whole = runs_as c.args.limits bytes next (Gathered old mid gathered) (Appends old end) (AppendsFront old mid) (AppendsFront old end) c.show_items-shown.result (c.show_items-shown.ensures.shown bytes known) other
     (λ all h. Appends-kept old new end all (all_out old mid new gathered all h c.in_ok-write_to.ensures.written) c.flush-flushed.ensures.bytes) in
-    elim c.match-shown.branch [ in_default-2 w ↦ subst (λ r. Shows c.args.limits bytes next old end r) (sym w.result-is) whole | in_default w ↦ subst (λ r. Shows c.args.limits bytes next old end r) (sym w.result-is) whole ]
+    elim c.match-shown-3.branch [ in_default-shown-2 w ↦ subst (λ r. Shows c.args.limits bytes next old end r) (sym w.result-is) whole | in_default-shown w ↦ subst (λ r. Shows c.args.limits bytes next old end r) (sym w.result-is) whole ]

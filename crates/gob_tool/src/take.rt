@@ -1,0 +1,222 @@
+//! The run that receives the values of a stream as values of a type of another.
+
+ghost use Rattle.std.specs.Prelude.{◌≡◌, ◌<◌, ℕ, List, [], ◌∷◌, Some, length};
+ghost use Rattle.std.specs.Io.KnownBytes.{Appends};
+ghost use Rattle.gob_types.specs.Defined.{types};
+ghost use Rattle.gob_types.specs.Ready.{IsReady};
+ghost use Rattle.gob_stream.specs.Item.{item_view, item_views};
+ghost use Rattle.gob_tool.specs.Gathering.{GaveItems, PassesSome, CountsOnlyReads, CountsOnlyWrites, within_trees};
+ghost use Rattle.gob_tool.specs.Pieces.{AreSent, TakesItems};
+ghost use Rattle.gob_tool.specs.Receiver.{IsReceiver, IsSameReceiver};
+ghost use Rattle.gob_tool.specs.Showing.{AppendsFront, CountsReadFaults, CountsWriteFaults};
+ghost use Rattle.gob_tool.specs.Taking.{Takes, Receiving, CountsTakeReads};
+
+use crate::fault::ToolFault;
+use crate::lines::Lines;
+use crate::pieces::next_items;
+use crate::receiver::Receiver;
+use crate::wanted::read_wanted;
+use gob_num::Memory;
+use gob_read::TreeBuilder;
+use gob_stream::{Fault, Input, Item, Limits, Output, Session};
+use gob_types::{Table, TypeId};
+use gob_value::Value;
+use std::alloc::Global;
+use std::io::{Read, Write};
+
+// How many bytes are asked of the input at a time.
+const PIECE: usize = 65536;
+
+/// Receives each value of a stream as a value of the wanted type, which is that of the first value of `wanted`, a
+/// stream of its own, and writes the JSON lines of what is received, under the wanted type. Definitions write nothing.
+/// `wanted` is read whole first: where it is refused the answer is `ToolFault::Wanted`, and without a value
+/// `ToolFault::NoWantedType`; the input isn't read then, and nothing is written. Ok exactly at the end of a whole stream
+/// of values that match; where a value doesn't, `ToolFault::Clash` says where and why. Before a fault is answered the
+/// lines of the values before it are written; at `ToolFault::Write` a front of them may be. The run ends with a flush.
+/// Of the input it holds a piece of 64 KiB, and the item under way.
+pub fn run_take<Q: Read, R: Read, W: Write>(
+    alloc: Global,
+    wanted: &mut Input<Q>,
+    input: &mut Input<R>,
+    output: &mut Output<W>,
+    limits: Limits,
+) -> Result<(), ToolFault>
+    ensures taken { (wanted_bytes bytes : List ℕ) → Q.remaining wanted.old.reader ≡ Some wanted_bytes
+        → R.remaining input.old.reader ≡ Some bytes
+        → Takes limits wanted_bytes bytes (Q.remaining wanted.new.reader) (R.remaining input.new.reader)
+        (W.contents output.old.writer) (W.contents output.new.writer) result }
+    ensures reads { CountsTakeReads wanted.old.failures wanted.new.failures input.old.failures input.new.failures result }
+    ensures writes { CountsWriteFaults output.old.failures output.new.failures result }
+{
+    match read_wanted(alloc, wanted, limits) {
+        Ok(found) => take_values(
+            alloc,
+            found.session.table(),
+            found.id,
+            input,
+            output,
+            limits,
+        ),
+        Err(fault) => {
+            let _ = output.flush();
+            Err(fault)
+        }
+    }
+}
+
+/// Does so, where the wanted type is this one of the table.
+fn take_values<R: Read, W: Write>(
+    alloc: Global,
+    wanted: &Table,
+    wanted_id: TypeId,
+    input: &mut Input<R>,
+    output: &mut Output<W>,
+    limits: Limits,
+) -> Result<(), ToolFault>
+    requires { IsReady (types wanted.now) wanted_id }
+    ensures taken { (bytes : List ℕ) → R.remaining input.old.reader ≡ Some bytes
+        → Receiving limits bytes (R.remaining input.new.reader) (types wanted.now) wanted_id
+        (λ lines. Appends (W.contents output.old.writer) (W.contents output.new.writer) lines)
+        (AppendsFront (W.contents output.old.writer) (W.contents output.new.writer)) result }
+    ensures reads { CountsReadFaults input.old.failures input.new.failures result }
+    ensures writes { CountsWriteFaults output.old.failures output.new.failures result }
+{
+    let mut lines = Lines::new(alloc);
+    let taken = take_items(alloc, wanted, wanted_id, input, output, limits, &mut lines);
+    if matches!(taken, Err(ToolFault::Write)) {
+        return taken;
+    }
+    lines.write_to(output)?;
+    let flushed = output.flush();
+    match taken {
+        Ok(()) if flushed.is_err() => Err(ToolFault::Write),
+        _ => taken,
+    }
+}
+
+/// Receives the values, and writes their lines as they become many. Those that are left over stay in `lines`.
+fn take_items<R: Read, W: Write>(
+    alloc: Global,
+    wanted: &Table,
+    wanted_id: TypeId,
+    input: &mut Input<R>,
+    output: &mut Output<W>,
+    limits: Limits,
+    lines: &mut Lines,
+) -> Result<(), ToolFault>
+    requires ready { IsReady (types wanted.now) wanted_id }
+    requires lines { lines.old.gathered.items ≡ [] }
+    ensures taken { (bytes : List ℕ) → R.remaining input.old.reader ≡ Some bytes
+        → Receiving limits bytes (R.remaining input.new.reader) (types wanted.now) wanted_id
+        (λ all. PassesSome (W.contents output.old.writer) (W.contents output.new.writer) all lines.new.gathered.items)
+        (AppendsFront (W.contents output.old.writer) (W.contents output.new.writer)) result }
+    ensures reads { CountsOnlyReads input.old.failures input.new.failures result }
+    ensures writes { CountsOnlyWrites output.old.failures output.new.failures result }
+{
+    let mut buffer = vec![in alloc; 0; PIECE].map_err(Memory::from)?;
+    let mut session = Session::<TreeBuilder>::new(alloc, limits)?;
+    take_pieces(
+        alloc,
+        wanted,
+        wanted_id,
+        input,
+        output,
+        &mut session,
+        &mut buffer,
+        lines,
+    )
+}
+
+/// The same, over a session that has read nothing, and with room for a piece.
+fn take_pieces<R: Read, W: Write>(
+    alloc: Global,
+    wanted: &Table,
+    wanted_id: TypeId,
+    input: &mut Input<R>,
+    output: &mut Output<W>,
+    session: &mut Session<TreeBuilder>,
+    buffer: &mut [u8],
+    lines: &mut Lines,
+) -> Result<(), ToolFault>
+    requires ready { IsReady (types wanted.now) wanted_id }
+    requires stands { GaveItems session.old.reading [] [] }
+    requires room { 0 < length buffer.old }
+    requires lines { lines.old.gathered.items ≡ [] }
+    ensures taken { (bytes : List ℕ) → R.remaining input.old.reader ≡ Some bytes
+        → Receiving (within_trees session.old.reading.limits) bytes (R.remaining input.new.reader) (types wanted.now) wanted_id
+        (λ all. PassesSome (W.contents output.old.writer) (W.contents output.new.writer) all lines.new.gathered.items)
+        (AppendsFront (W.contents output.old.writer) (W.contents output.new.writer)) result }
+    ensures reads { CountsOnlyReads input.old.failures input.new.failures result }
+    ensures writes { CountsOnlyWrites output.old.failures output.new.failures result }
+{
+    let mut items = Vec::new(alloc);
+    'pieces: loop {
+        let more = next_items(alloc, input, session, buffer, &mut items);
+        if matches!(more, Err(Fault::Read)) {
+            return Err(ToolFault::Read);
+        }
+        take_piece(
+            alloc,
+            &items,
+            session.table(),
+            wanted,
+            wanted_id,
+            lines,
+            output,
+        )?;
+        if !more? {
+            return Ok(());
+        }
+    }
+}
+
+/// Gathers the lines of what is received of the items, and writes lines as they become many.
+fn take_piece<W: Write>(
+    alloc: Global,
+    items: &[Item<Value>],
+    stream: &Table,
+    wanted: &Table,
+    wanted_id: TypeId,
+    lines: &mut Lines,
+    output: &mut Output<W>,
+) -> Result<(), ToolFault>
+    requires ready { IsReady (types wanted.now) wanted_id }
+    requires sent { AreSent (types stream.now) (item_views items.now) }
+    ensures taken { TakesItems (types stream.now) (types wanted.now) wanted_id (item_views items.now)
+        (W.contents output.old.writer) (W.contents output.new.writer)
+        lines.old.gathered.items lines.new.gathered.items result }
+    ensures writes { CountsOnlyWrites output.old.failures output.new.failures result }
+{
+    let mut receiver = Receiver::new(stream, wanted, wanted_id);
+    for item in items {
+        take_item(alloc, item, &mut receiver, lines, output)?;
+    }
+    Ok(())
+}
+
+/// Gathers the line of what is received of an item, if it is a value.
+fn take_item<W: Write>(
+    alloc: Global,
+    item: &Item<Value>,
+    receiver: &mut Receiver<'_>,
+    lines: &mut Lines,
+    output: &mut Output<W>,
+) -> Result<(), ToolFault>
+    requires receiver { IsReceiver receiver.old }
+    requires ready { IsReady (types receiver.old.wanted.now) receiver.old.wanted_id }
+    requires sent { AreSent (types receiver.old.stream.now) (item_view item.now ∷ []) }
+    ensures taken { TakesItems (types receiver.old.stream.now) (types receiver.old.wanted.now) receiver.old.wanted_id
+        (item_view item.now ∷ []) (W.contents output.old.writer) (W.contents output.new.writer)
+        lines.old.gathered.items lines.new.gathered.items result }
+    ensures receiver { IsReceiver receiver.new }
+    ensures same { IsSameReceiver receiver.old receiver.new }
+    ensures writes { CountsOnlyWrites output.old.failures output.new.failures result }
+{
+    let Item::Put { id, value } = item else {
+        return Ok(());
+    };
+    let value = receiver.receive(alloc, *id, value)?;
+    let id = receiver.wanted_id;
+    lines.push(alloc, &Item::Put { id, value }, receiver.wanted)?;
+    lines.write_many(output)
+}

@@ -1,0 +1,91 @@
+//! The type that the values of another stream are received as.
+
+ghost use Rattle.std.specs.Prelude.{◌≡◌, ◌<◌, ℕ, List, [], Some, IfOk, IfSome, length};
+ghost use Rattle.gob_types.specs.Defined.{types};
+ghost use Rattle.gob_types.specs.Ready.{IsReady};
+ghost use Rattle.gob_stream.specs.Item.{item_views};
+ghost use Rattle.gob_tool.specs.Gathering.{GaveItems, within_trees};
+ghost use Rattle.gob_tool.specs.Pieces.{ReadsWanted, CountsPiece, first_of};
+ghost use Rattle.gob_tool.specs.Taking.{first_type};
+ghost use Rattle.gob_tool.specs.Wanting.{FindsWanted, CountsWanted};
+
+use crate::fault::{ToolFault, wanted_fault};
+use crate::pieces::next_items;
+use gob_num::Memory;
+use gob_read::TreeBuilder;
+use gob_stream::{Fault, Input, Item, Limits, Session};
+use gob_types::TypeId;
+use gob_value::Value;
+use std::alloc::Global;
+use std::io::Read;
+
+// How many bytes are asked of the stream at a time.
+const PIECE: usize = 4096;
+
+/// A type, and the session that has read the stream in which it stands.
+#[derive(Drop)]
+pub(crate) struct Wanted {
+    pub(crate) session: Session<TreeBuilder>,
+    pub(crate) id: TypeId,
+}
+
+/// Reads a whole stream for the type of its first value. Its other values are ignored.
+pub(crate) fn read_wanted<Q: Read>(
+    alloc: Global,
+    input: &mut Input<Q>,
+    limits: Limits,
+) -> Result<Wanted, ToolFault>
+    ensures found { (bytes : List ℕ) → Q.remaining input.old.reader ≡ Some bytes
+        → FindsWanted limits bytes (Q.remaining input.new.reader) result }
+    ensures ready { IfOk result (λ wanted. IsReady (types wanted.session.reading.types) wanted.id) }
+    ensures reads { CountsWanted input.old.failures input.new.failures result }
+{
+    let mut buffer = vec![in alloc; 0; PIECE].map_err(Memory::from)?;
+    let mut session = Session::<TreeBuilder>::new(alloc, limits)?;
+    match read_type(alloc, input, &mut session, &mut buffer) {
+        Ok(Some(id)) => Ok(Wanted { session, id }),
+        Ok(None) => Err(ToolFault::NoWantedType),
+        Err(fault) => Err(wanted_fault(fault)),
+    }
+}
+
+/// Reads a whole stream, over a session that has read nothing, for the type of its first value.
+fn read_type<Q: Read>(
+    alloc: Global,
+    input: &mut Input<Q>,
+    session: &mut Session<TreeBuilder>,
+    buffer: &mut [u8],
+) -> Result<Option<TypeId>, Fault>
+    requires stands { GaveItems session.old.reading [] [] }
+    requires room { 0 < length buffer.old }
+    ensures read { (bytes : List ℕ) → Q.remaining input.old.reader ≡ Some bytes
+        → ReadsWanted (within_trees session.old.reading.limits) bytes (Q.remaining input.new.reader)
+        (types session.new.reading.types) result }
+    ensures ready { IfOk result (λ first. IfSome first (λ id. IsReady (types session.new.reading.types) id)) }
+    ensures reads { CountsPiece input.old.failures input.new.failures result }
+{
+    let mut items = Vec::new(alloc);
+    let mut first = None;
+    'pieces: loop {
+        let more = next_items(alloc, input, session, buffer, &mut items)?;
+        first = first_put(first, &items);
+        if !more {
+            return Ok(first);
+        }
+    }
+}
+
+/// The type that is known, or else that of the first value among the items.
+fn first_put(known: Option<TypeId>, items: &[Item<Value>]) -> Option<TypeId>
+    ensures { result ≡ first_of known (first_type (item_views items.now)) }
+{
+    if let Some(id) = known {
+        return Some(id);
+    }
+    for item in items {
+        if let Item::Put { id, .. } = item {
+            return Some(*id);
+        }
+    }
+    None
+}

@@ -1,0 +1,15 @@
+//! How runs end.
+
+use gob_tool::ToolFault;
+use std::alloc::Global;
+
+/// Whether a run ended by a fault with this line, or without one where the line is empty.
+pub fn ends_so(alloc: Global, ended: &Result<(), ToolFault>, line: &str) -> bool {
+    match ended {
+        Ok(()) => line.is_empty(),
+        Err(fault) => match fault.to_string(alloc) {
+            Ok(text) => text.as_str() == line,
+            Err(_) => false,
+        },
+    }
+}
