@@ -35,7 +35,7 @@ fn is_shown<R: Read + Drop>(
     reader: R,
     limits: Limits,
     lines: &[u8],
-    due: &str,
+    due: &[u8],
 ) -> bool {
     let mut held = Vec::new(alloc);
     let mut input = Input::new(reader);
@@ -48,14 +48,14 @@ fn is_shown<R: Read + Drop>(
 fn byte_by_byte(rt: HostRuntime) {
     let reader = SlowReader::new(EVERY, usize::MAX, ErrorKind::Other);
     let lines = EVERY_LINES.as_bytes();
-    assert!(rt; is_shown(rt.alloc(), reader, Limits::standard(), lines, ""));
+    assert!(rt; is_shown(rt.alloc(), reader, Limits::standard(), lines, b""));
 }
 
 #[test]
 fn a_limited_stream(rt: HostRuntime) -> Result<(), Fail> {
     let bytes = b"\x03\x04\x00\x06\x03\x02\x00\x01".as_slice();
     let limits = Limits::new(u64::MAX, 1000, 0, 7).ok_or("limits")?;
-    let due = "gob: refused 4 StreamTooLong at 4 seen 5";
+    let due = b"gob: refused 4 StreamTooLong at 4 seen 5";
     let lines = b"{\"type\":2,\"value\":3}\n".as_slice();
     assert!(rt; is_shown(rt.alloc(), bytes, limits, lines, due));
     Ok(())
@@ -78,7 +78,7 @@ fn many_lines(rt: HostRuntime) -> Result<(), Fail> {
     let head = THREE_LINES.as_bytes();
     let part = POINT_VALUE_LINE.as_bytes();
     let lines = repeated(rt.alloc(), head, part, SLICE_LINE.as_bytes())?;
-    let due = "gob: refused 5 Short at 160058 seen 160058";
+    let due = b"gob: refused 5 Short at 160058 seen 160058";
     assert!(rt;
         is_shown(
             rt.alloc(),
@@ -92,7 +92,7 @@ fn many_lines(rt: HostRuntime) -> Result<(), Fail> {
 }
 
 // Whether a reader that fails in this call ends the run so, and the lines of the items before are there.
-fn reader_fails_so(alloc: Global, fails_at: usize, kind: ErrorKind, due: &str) -> bool {
+fn reader_fails_so(alloc: Global, fails_at: usize, kind: ErrorKind, due: &[u8]) -> bool {
     let reader = SlowReader::new(THREE, fails_at, kind);
     let lines = lines_within(fails_at).as_bytes();
     is_shown(alloc, reader, Limits::standard(), lines, due)
@@ -104,15 +104,15 @@ fn failing_readers(rt: HostRuntime) {
     for kind in [ErrorKind::Interrupted, ErrorKind::Other] {
         // A call for each byte, one for the end of the input, and none behind it.
         for fails_at in 0..45usize {
-            let is_right = reader_fails_so(alloc, fails_at, kind, "gob: read fault");
+            let is_right = reader_fails_so(alloc, fails_at, kind, b"gob: read fault");
             assert!(rt; is_right, "fails at {fails_at}");
         }
-        assert!(rt; reader_fails_so(alloc, 45, kind, ""));
+        assert!(rt; reader_fails_so(alloc, 45, kind, b""));
     }
 }
 
 // Whether a writer that makes trouble in this call ends the run so, and a byte was written in each call before.
-fn writer_fails_so(alloc: Global, fails_at: usize, trouble: Trouble, due: &str) -> bool {
+fn writer_fails_so(alloc: Global, fails_at: usize, trouble: Trouble, due: &[u8]) -> bool {
     let mut device = SlowWriter::new(alloc, fails_at, trouble, false);
     let mut input = Input::new(THREE);
     let mut output = Output::new(&mut device);
@@ -132,16 +132,16 @@ fn failing_writers(rt: HostRuntime) {
     ];
     for trouble in troubles {
         for fails_at in 0..137usize {
-            let is_right = writer_fails_so(alloc, fails_at, trouble, "gob: write fault");
+            let is_right = writer_fails_so(alloc, fails_at, trouble, b"gob: write fault");
             assert!(rt; is_right, "fails at {fails_at}");
         }
-        assert!(rt; writer_fails_so(alloc, 137, trouble, ""));
-        assert!(rt; writer_fails_so(alloc, 138, trouble, ""));
+        assert!(rt; writer_fails_so(alloc, 137, trouble, b""));
+        assert!(rt; writer_fails_so(alloc, 138, trouble, b""));
     }
 }
 
 // Whether a run over these bytes, whose writer fails to be flushed, ends so, and one failure is counted.
-fn flush_fails_so(alloc: Global, bytes: &[u8], due: &str) -> bool {
+fn flush_fails_so(alloc: Global, bytes: &[u8], due: &[u8]) -> bool {
     let mut device = SlowWriter::new(alloc, 1000, Trouble::TakesNothing, true);
     let mut input = Input::new(bytes);
     let mut output = Output::new(&mut device);
@@ -152,7 +152,7 @@ fn flush_fails_so(alloc: Global, bytes: &[u8], due: &str) -> bool {
 #[test]
 fn failing_flushes(rt: HostRuntime) {
     let whole = b"\x03\x04\x00\x06\x03\x02\x00\x01".as_slice();
-    assert!(rt; flush_fails_so(rt.alloc(), whole, "gob: write fault"));
-    let short = "gob: refused 5 Short at 5 seen 5";
+    assert!(rt; flush_fails_so(rt.alloc(), whole, b"gob: write fault"));
+    let short = b"gob: refused 5 Short at 5 seen 5";
     assert!(rt; flush_fails_so(rt.alloc(), b"\x03\x04\x00\x06\x00", short));
 }

@@ -18,7 +18,7 @@ const B_AND_C: &[u8] = b"\
     \x1b\xff\x81\x03\x01\x01\x01W\x01\xff\x82\x00\x01\x02\x01\x01B\x01\x04\x00\x01\x01C\x01\x04\x00\x00\x00\
     \x03\xff\x82\x00";
 
-const B_LINE: &str = "{\"type\":65,\"value\":[[0,\"B\",2]]}\n";
+const B_LINE: &[u8] = b"{\"type\":65,\"value\":[[0,\"B\",2]]}\n";
 
 // A struct of two ints, both X, and its empty value.
 const X_TWICE: &[u8] = b"\
@@ -49,37 +49,39 @@ fn is_taken<Q: Read + Drop, R: Read + Drop>(
     alloc: Global,
     wanted: Q,
     reader: R,
-    lines: &str,
-    due: &str,
+    lines: &[u8],
+    due: &[u8],
 ) -> bool {
     let mut held = Vec::new(alloc);
     let result = take(alloc, wanted, reader, &mut held);
-    ends_so(alloc, &result, due) && held.as_slice() == lines.as_bytes()
+    ends_so(alloc, &result, due) && held.as_slice() == lines
 }
 
 // A wanted stream, an input, the lines, and the line of the fault.
-static ROWS: [(&[u8], &[u8], &str, &str); 15] = [
-    (B_AND_C, A_AND_B, B_LINE, ""),
-    (B_AND_C, b"", "", ""),
+static ROWS: [(&[u8], &[u8], &[u8], &[u8]); 15] = [
+    (B_AND_C, A_AND_B, B_LINE, b""),
+    (B_AND_C, b"", b"", b""),
     (
         b"\x03\x04\x00\x06\x03\x02\x00\x01",
         b"\x03\x04\x00\x08\x03\x04\x00\x0a",
-        "{\"type\":2,\"value\":4}\n{\"type\":2,\"value\":5}\n",
-        "",
+        b"{\"type\":2,\"value\":4}\n{\"type\":2,\"value\":5}\n",
+        b"",
     ),
     // A int, B uint
     (
-        b"\x1b\xff\x81\x03\x01\x01\x01W\x01\xff\x82\x00\x01\x02\x01\x01A\x01\x04\x00\x01\x01B\x01\x06\x00\x00\x00\x03\xff\x82\x00",
+        b"\x1b\xff\x81\x03\x01\x01\x01W\x01\xff\x82\x00\x01\x02\x01\x01A\x01\x04\x00\x01\x01B\x01\x06\x00\x00\x00\
+        \x03\xff\x82\x00",
         A_AND_B,
-        "",
-        "gob: clash 33 DifferentKind at .B",
+        b"",
+        b"gob: clash 33 DifferentKind at .B",
     ),
     // C int, D int
     (
-        b"\x1b\xff\x81\x03\x01\x01\x01W\x01\xff\x82\x00\x01\x02\x01\x01C\x01\x04\x00\x01\x01D\x01\x04\x00\x00\x00\x03\xff\x82\x00",
+        b"\x1b\xff\x81\x03\x01\x01\x01W\x01\xff\x82\x00\x01\x02\x01\x01C\x01\x04\x00\x01\x01D\x01\x04\x00\x00\x00\
+        \x03\xff\x82\x00",
         A_AND_B,
-        "",
-        "gob: clash 32 NoCommonField at top",
+        b"",
+        b"gob: clash 32 NoCommonField at top",
     ),
     // A of Next B, B of V uint, Next A; Node of V int, Next Node
     (
@@ -88,77 +90,84 @@ static ROWS: [(&[u8], &[u8], &str, &str); 15] = [
         \x03\xff\x82\x00",
         b"\x22\xff\x81\x03\x01\x01\x04Node\x01\xff\x82\x00\x01\x02\x01\x01V\x01\x04\x00\x01\x04Next\x01\xff\x82\x00\x00\x00\
         \x09\xff\x82\x01\x02\x01\x01\x04\x00\x00",
-        "",
-        "gob: clash 33 DifferentKind at .Next.V",
+        b"",
+        b"gob: clash 33 DifferentKind at .Next.V",
     ),
     // an array of three ints, an array of two
     (
         b"\x0e\xff\x81\x01\x01\x02\xff\x82\x00\x01\x04\x01\x06\x00\x00\x07\xff\x82\x00\x03\x02\x04\x06",
         b"\x0e\xff\x81\x01\x01\x02\xff\x82\x00\x01\x04\x01\x04\x00\x00\x06\xff\x82\x00\x02\x02\x04",
-        "",
-        "gob: clash 34 DifferentLength at top",
+        b"",
+        b"gob: clash 34 DifferentLength at top",
     ),
     // maps from string to uint, and from int to int
     (
         b"\x0e\xff\x81\x04\x01\x02\xff\x82\x00\x01\x0c\x01\x06\x00\x00\x04\xff\x82\x00\x00",
         STRING_TO_INT,
-        "",
-        "gob: clash 33 DifferentKind at []",
+        b"",
+        b"gob: clash 33 DifferentKind at []",
     ),
     (
         b"\x0e\xff\x81\x04\x01\x02\xff\x82\x00\x01\x04\x01\x04\x00\x00\x04\xff\x82\x00\x00",
         STRING_TO_INT,
-        "",
-        "gob: clash 33 DifferentKind at {}",
+        b"",
+        b"gob: clash 33 DifferentKind at {}",
     ),
-    (X_TWICE, X_TWICE, "", "gob: clash 31 RepeatedName at top"),
+    (X_TWICE, X_TWICE, b"", b"gob: clash 31 RepeatedName at top"),
     // slices of themselves, 70 and 65
     (
         b"\x0d\xff\x8b\x02\x01\x02\xff\x8c\x00\x01\xff\x8c\x00\x00\x04\xff\x8c\x00\x00",
         b"\x0d\xff\x81\x02\x01\x02\xff\x82\x00\x01\xff\x82\x00\x00\x05\xff\x82\x00\x01\x00",
-        "{\"type\":70,\"value\":[[]]}\n",
-        "",
+        b"{\"type\":70,\"value\":[[]]}\n",
+        b"",
     ),
-    (b"", A_AND_B, "", "gob: refused 35 NoWantedType"),
+    (b"", A_AND_B, b"", b"gob: refused 35 NoWantedType"),
     (
         b"\x03\x04\x00",
         A_AND_B,
-        "",
-        "gob: wanted: refused 22 Ended at 3 seen 3",
+        b"",
+        b"gob: wanted: refused 22 Ended at 3 seen 3",
     ),
     // what stands before a clash or a refusal is written
     (
         b"\x03\x04\x00\x06",
         b"\x03\x04\x00\x08\x00",
-        "{\"type\":2,\"value\":4}\n",
-        "gob: refused 5 Short at 5 seen 5",
+        b"{\"type\":2,\"value\":4}\n",
+        b"gob: refused 5 Short at 5 seen 5",
     ),
     (
         b"\x03\x04\x00\x06",
         b"\x03\x04\x00\x08\x03\x02\x00\x01\x00",
-        "{\"type\":2,\"value\":4}\n",
-        "gob: clash 33 DifferentKind at top",
+        b"{\"type\":2,\"value\":4}\n",
+        b"gob: clash 33 DifferentKind at top",
     ),
 ];
 
 #[test]
 fn received_and_refused(rt: HostRuntime) {
     for (wanted, bytes, lines, line) in ROWS {
-        assert!(rt; is_taken(rt.alloc(), wanted, bytes, lines, line), "{line}");
+        assert!(rt;
+            is_taken(rt.alloc(), wanted, bytes, lines, line),
+            "{line:?}"
+        );
     }
 }
 
 // Whether a reader of the wanted stream that fails in this call ends the run, and nothing is written.
 fn wanted_fails_so(alloc: Global, fails_at: usize, kind: ErrorKind) -> bool {
     let wanted = SlowReader::new(B_AND_C, fails_at, kind);
-    is_taken(alloc, wanted, A_AND_B, "", "gob: read fault")
+    is_taken(alloc, wanted, A_AND_B, b"", b"gob: read fault")
 }
 
 // Whether a reader of the input that fails in this call ends the run, and the line of a value before is there.
 fn input_fails_so(alloc: Global, fails_at: usize, kind: ErrorKind) -> bool {
     let reader = SlowReader::new(A_AND_B, fails_at, kind);
-    let lines = if fails_at < 36 { "" } else { B_LINE };
-    is_taken(alloc, B_AND_C, reader, lines, "gob: read fault")
+    let lines = if fails_at < 36 {
+        b"".as_slice()
+    } else {
+        B_LINE
+    };
+    is_taken(alloc, B_AND_C, reader, lines, b"gob: read fault")
 }
 
 #[test]
@@ -184,8 +193,8 @@ fn failing_readers(rt: HostRuntime) {
 fn writer_fails_so(alloc: Global, fails_at: usize, trouble: Trouble) -> bool {
     let mut device = SlowWriter::new(alloc, fails_at, trouble, false);
     let result = take(alloc, B_AND_C, A_AND_B, &mut device);
-    let written = B_LINE.as_bytes().get(..fails_at);
-    ends_so(alloc, &result, "gob: write fault") && written == Some(device.held.as_slice())
+    let written = B_LINE.get(..fails_at);
+    ends_so(alloc, &result, b"gob: write fault") && written == Some(device.held.as_slice())
 }
 
 #[test]
@@ -201,7 +210,7 @@ fn failing_writers(rt: HostRuntime) {
 }
 
 // Whether a run whose writer fails to be flushed ends by a fault of this line.
-fn flush_fails_so(alloc: Global, wanted: &[u8], due: &str) -> bool {
+fn flush_fails_so(alloc: Global, wanted: &[u8], due: &[u8]) -> bool {
     let mut device = SlowWriter::new(alloc, 1000, Trouble::TakesNothing, true);
     let result = take(alloc, wanted, A_AND_B, &mut device);
     ends_so(alloc, &result, due)
@@ -210,15 +219,15 @@ fn flush_fails_so(alloc: Global, wanted: &[u8], due: &str) -> bool {
 #[test]
 fn failing_flushes(rt: HostRuntime) {
     let alloc = rt.alloc();
-    assert!(rt; flush_fails_so(alloc, B_AND_C, "gob: write fault"));
-    assert!(rt; flush_fails_so(alloc, b"", "gob: refused 35 NoWantedType"));
-    assert!(rt; flush_fails_so(alloc, X_TWICE, "gob: clash 31 RepeatedName at top"));
+    assert!(rt; flush_fails_so(alloc, B_AND_C, b"gob: write fault"));
+    assert!(rt; flush_fails_so(alloc, b"", b"gob: refused 35 NoWantedType"));
+    assert!(rt; flush_fails_so(alloc, X_TWICE, b"gob: clash 31 RepeatedName at top"));
 }
 
 // Whether the run's result and what was written go together where each call may lack memory. The device takes memory too.
 fn is_right_without_memory(ended: &Result<(), ToolFault>, written: &[u8]) -> bool {
     match ended {
-        Ok(()) => written == B_LINE.as_bytes(),
+        Ok(()) => written == B_LINE,
         Err(ToolFault::Memory) => written.is_empty(),
         Err(ToolFault::Write) => true,
         Err(_) => false,
