@@ -1,8 +1,7 @@
 -- What the pieces of a stream give, one after another.
-use Rattle.std.proofs.Common.{◌≡◌, ◌≢◌, ℕ, ◌<◌, inl, inr, Bool, true, false, List, [], ◌++◌, length, take, Option, Result, Ok, Err, ◌∙◌, ap, sym, subst, refl, append_assoc, append-nil}
+use Rattle.std.proofs.Common.{◌≡◌, ℕ, ◌<◌, inl, inr, Bool, true, false, List, [], ◌++◌, length, Option, Result, Ok, Err, ◌∙◌, ap, sym, subst, append-nil}
 use Rattle.std.specs.Result.{IsErrAnd}
 use Rattle.std.specs.Io.KnownBytes.{Consumes, IsAtEnd}
-use Rattle.gob_types.specs.declared.reason.Reason.TheVariants as reason
 use Rattle.gob_types.specs.Base.{base_table}
 use Rattle.gob_types.specs.Defined.{Defined, types}
 use Rattle.gob_value.specs.declared.value.Value.{Value}
@@ -16,7 +15,7 @@ use Rattle.gob_stream.specs.Bounds.{Bounds, greatest_depth}
 use Rattle.gob_stream.specs.Item.{StreamItem, item_views}
 use Rattle.gob_stream.specs.Stream.{Stream}
 use Rattle.gob_stream.specs.Reading.{Feeds, Finishes}
-use Rattle.gob_stream.proofs.PublicLaws.{after_gives, views_meant}
+use Rattle.gob_stream.proofs.PublicLaws.{views_meant}
 use Rattle.gob_tool.specs.Gathering.{GaveItems, within_trees}
 use Rattle.gob_tool.specs.Pieces.{TypesBehind, EndsPiece, GivesPiece, CountsPiece}
 use Rattle.gob_tool.proofs.ShowLaws.{types_behind, types_beyond, falls}

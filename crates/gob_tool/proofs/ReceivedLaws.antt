@@ -1,5 +1,5 @@
 -- What is received of the items of a stream stays the same when the table of the stream grows.
-use Rattle.std.proofs.Common.{◌≡◌, ℕ, ◌+◌, ◌≤◌, List, [], ◌∷◌, ◌++◌, arith, refl, sym, ap, ◌∙◌, subst, append_assoc, append-nil}
+use Rattle.std.proofs.Common.{◌≡◌, ℕ, ◌≤◌, List, [], ◌∷◌, ◌++◌, arith, sym, ap, ◌∙◌, subst, append_assoc, append-nil}
 use Rattle.gob_types.specs.declared.id.TypeId.{TypeId}
 use Rattle.gob_types.specs.Base.{base_table}
 use Rattle.gob_types.specs.Ready.{IsReady}
@@ -13,11 +13,10 @@ use Rattle.gob_value.proofs.StayLaws.{spells_on}
 use Rattle.gob_match.specs.declared.reason.ClashReason.{ClashReason}
 use Rattle.gob_match.specs.declared.step.Step.{Step}
 use Rattle.gob_match.specs.Clashing.{IsLeastClash}
-use Rattle.gob_match.specs.Matching.{Match}
 use Rattle.gob_match.proofs.StayLaws.{match_on, match_back, receives_on, receives_back, least_back}
 use Rattle.gob_stream.specs.Bounds.{Bounds}
-use Rattle.gob_stream.specs.Item.{StreamItem, defines, puts}
-use Rattle.gob_stream.specs.Body.{Body, definition as of_definition, value as of_value}
+use Rattle.gob_stream.specs.Item.{StreamItem, puts}
+use Rattle.gob_stream.specs.Body.{definition as of_definition, value as of_value}
 use Rattle.gob_stream.specs.Outcome.{BeginsWith}
 use Rattle.gob_stream.specs.Stream.{counted, Continues, no_more, and_then, Stream}
 use Rattle.gob_stream.proofs.PublicLaws.{one_table}

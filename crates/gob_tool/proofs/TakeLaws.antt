@@ -1,9 +1,8 @@
 -- How the lines of what is received of items are gathered, item by item.
 use Rattle.std.proofs.Common.{◌≡◌, ℕ, ◌+◌, ◌<◌, suc, zero, List, [], ◌∷◌, ◌++◌, length, get_or, take, drop, Option, Result, Ok, Err, ◌∙◌, ap, sym, subst, refl, arith, append_assoc, append-nil}
-use Rattle.std.proofs.lemmas.List.{take_more, take-append-drop}
+use Rattle.std.proofs.lemmas.List.{take_more}
 use Rattle.std.specs.Result.{IsErrAnd}
-use Rattle.std.specs.Io.KnownBytes.{Appends}
-use Rattle.std.proofs.KnownBytes.{Appends-nil, Appends-trans}
+use Rattle.std.proofs.KnownBytes.{Appends-nil}
 use Rattle.gob_types.specs.declared.id.TypeId.{TypeId}
 use Rattle.gob_types.specs.Ready.{IsReady}
 use Rattle.gob_types.specs.Table.{Table}
@@ -12,7 +11,6 @@ use Rattle.gob_value.specs.Tree.{Tree}
 use Rattle.gob_value.specs.Within.{FitsWithin}
 use Rattle.gob_match.specs.declared.fault.MatchFault.{MatchFault}
 use Rattle.gob_match.specs.declared.fault.MatchFault.TheVariants as matching
-use Rattle.gob_match.specs.Clashing.{IsLeastClash}
 use Rattle.gob_match.specs.Faults.{IsMatchFault}
 use Rattle.gob_match.specs.Matching.{Match}
 use Rattle.gob_match.specs.Received.{Receives}
@@ -23,7 +21,7 @@ use Rattle.gob_tool.specs.declared.fault.ToolFault.TheVariants as fault
 use Rattle.gob_tool.specs.Fault.{matching_fault}
 use Rattle.gob_tool.specs.Gathering.{PassesSome, Passes}
 use Rattle.gob_tool.specs.Line.{line}
-use Rattle.gob_tool.specs.Pieces.{AreSent, none_sent, defined, sent, ReceivesFirst, ClashesNext, TakesItems}
+use Rattle.gob_tool.specs.Pieces.{AreSent, none_sent, defined, sent, TakesItems}
 use Rattle.gob_tool.specs.Showing.{AppendsFront}
 use Rattle.gob_tool.specs.Taking.{AreReceived, no_item, definition, value, HasReceived}
 use Rattle.gob_tool.proofs.GatherLaws.{passes_on, front_on, views_append, views_in_two}

@@ -1,8 +1,8 @@
 -- How a run that receives values goes on from piece to piece, and how it ends.
-use Rattle.std.proofs.Common.{◌≡◌, ◌≢◌, ℕ, ◌≤◌, ◌<◌, min, inl, inr, ◌⊎◌, arith, Bool, true, false, List, [], ◌∷◌, ◌++◌, length, take, Option, Some, None, Result, Ok, Err, ◌∙◌, ap, sym, subst, refl, append_assoc, append-nil}
+use Rattle.std.proofs.Common.{◌≡◌, ◌≢◌, ℕ, ◌≤◌, ◌<◌, inl, inr, ◌⊎◌, arith, Bool, true, false, List, [], ◌∷◌, ◌++◌, take, Option, Some, Result, Ok, Err, ◌∙◌, ap, sym, subst, refl, append_assoc, append-nil}
 use Rattle.std.proofs.lemmas.List.{take-append-le}
 use Rattle.std.specs.Result.{IsErrAnd}
-use Rattle.std.specs.Io.KnownBytes.{Appends, Consumes, IsAtEnd}
+use Rattle.std.specs.Io.KnownBytes.{Appends, IsAtEnd}
 use Rattle.std.proofs.KnownBytes.{Appends-nil, Appends-trans, Consumes-nil, Consumes-trans}
 use Rattle.gob_types.specs.declared.id.TypeId.{TypeId}
 use Rattle.gob_types.specs.declared.reason.Reason.TheVariants as reason
@@ -19,17 +19,17 @@ use Rattle.gob_stream.specs.declared.fault.Fault.TheVariants as reading
 use Rattle.gob_stream.specs.declared.reading.Reading.{Reading}
 use Rattle.gob_stream.specs.Bounds.{Bounds}
 use Rattle.gob_stream.specs.Item.{StreamItem, puts}
-use Rattle.gob_stream.specs.Outcome.{Outcome, BeginsWith, GivesItems, refused}
-use Rattle.gob_stream.specs.Reading.{IsShown, SomeTaken, Taken}
+use Rattle.gob_stream.specs.Outcome.{Outcome, BeginsWith, refused}
+use Rattle.gob_stream.specs.Reading.{IsShown, Taken}
 use Rattle.gob_stream.specs.Stream.{Stream, no_more}
 use Rattle.gob_stream.proofs.PublicLaws.{shown_there, shown_refusal_stays}
 use Rattle.gob_tool.specs.declared.fault.ToolFault.{ToolFault}
 use Rattle.gob_tool.specs.declared.fault.ToolFault.TheVariants as fault
 use Rattle.gob_tool.specs.Fault.{reading_fault}
-use Rattle.gob_tool.specs.Gathering.{GaveItems, PassesSome, CountsOnlyReads, within_trees}
-use Rattle.gob_tool.specs.Pieces.{HasGiven, TypesBehind, EndsPiece, GivesPiece, CountsPiece, StandsAt, AreSent, TakesItems, unread}
+use Rattle.gob_tool.specs.Gathering.{GaveItems, PassesSome, within_trees}
+use Rattle.gob_tool.specs.Pieces.{TypesBehind, EndsPiece, GivesPiece, StandsAt, AreSent, TakesItems, unread}
 use Rattle.gob_tool.specs.Showing.{AppendsFront}
-use Rattle.gob_tool.specs.Taking.{AreReceived, no_item, HasReceived, ReceivesWhole, ReceivesFront, Receiving}
+use Rattle.gob_tool.specs.Taking.{no_item, HasReceived, ReceivesWhole, ReceivesFront, Receiving}
 use Rattle.gob_tool.proofs.LinesStay.{keeps_itself}
 use Rattle.gob_tool.proofs.ShowLaws.{known_taken, none_left, whole_stream}
 use Rattle.gob_tool.proofs.TakeLaws.{takes_then, passed_more}

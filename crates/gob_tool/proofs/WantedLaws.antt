@@ -1,8 +1,7 @@
 -- How a stream is read for the type of its first value.
-use Rattle.std.proofs.Common.{◌≡◌, ℕ, ◌+◌, ◌<◌, ◌≤◌, suc, zero, inl, inr, arith, Bool, true, false, List, [], ◌∷◌, ◌++◌, length, get_or, drop, Option, Some, None, Result, Ok, Err, ◌∙◌, ap, sym, subst, refl, append-nil, length-append}
+use Rattle.std.proofs.Common.{◌≡◌, ℕ, ◌≤◌, inl, inr, arith, Bool, true, false, List, [], ◌∷◌, ◌++◌, length, Option, Some, None, Result, Ok, Err, ◌∙◌, ap, sym, subst, refl, append-nil, length-append}
 use Rattle.std.specs.Prelude.{IfSome}
 use Rattle.std.specs.Result.{IsErrAnd}
-use Rattle.std.specs.Io.KnownBytes.{Consumes}
 use Rattle.std.proofs.KnownBytes.{Consumes-nil, Consumes-trans}
 use Rattle.gob_types.specs.declared.id.TypeId.{TypeId}
 use Rattle.gob_types.specs.Base.{base_table}
@@ -10,17 +9,14 @@ use Rattle.gob_types.specs.Defined.{types}
 use Rattle.gob_types.specs.Ready.{IsReady}
 use Rattle.gob_types.specs.Table.{Table}
 use Rattle.gob_value.specs.declared.value.Value.{Value}
-use Rattle.gob_value.specs.Tree.{Tree}
 use Rattle.gob_read.specs.declared.tree_builder.TreeBuilder.{TreeBuilder}
 use Rattle.gob_stream.specs.declared.fault.Fault.{Fault}
 use Rattle.gob_stream.specs.declared.fault.Fault.TheVariants as reading
-use Rattle.gob_stream.specs.declared.item.Item as declared
-use Rattle.gob_stream.specs.declared.item.Item.TheVariants as variant
 use Rattle.gob_stream.specs.declared.reading.Reading.{Reading}
 use Rattle.gob_stream.specs.Bounds.{Bounds}
 use Rattle.gob_stream.specs.Devices.{FlushCounted}
-use Rattle.gob_stream.specs.Item.{StreamItem, defines, puts, item_view, item_views}
-use Rattle.gob_stream.specs.Outcome.{BeginsWith, GivesItems}
+use Rattle.gob_stream.specs.Item.{StreamItem, defines, puts}
+use Rattle.gob_stream.specs.Outcome.{GivesItems}
 use Rattle.gob_stream.specs.Stream.{Stream}
 use Rattle.gob_stream.specs.Reading.{Taken, HasTypesBehind}
 use Rattle.gob_stream.proofs.PublicLaws.{one_table}

@@ -15,7 +15,7 @@ use Rattle.gob_read.specs.declared.tree_builder.TreeBuilder.{TreeBuilder}
 use Rattle.gob_stream.specs.declared.fault.Fault.{Fault}
 use Rattle.gob_stream.specs.declared.fault.Fault.TheVariants as reading
 use Rattle.gob_stream.specs.declared.reading.Reading.{Reading}
-use Rattle.gob_stream.specs.Bounds.{Bounds, greatest_depth}
+use Rattle.gob_stream.specs.Bounds.{Bounds}
 use Rattle.gob_stream.specs.Devices.{counts_up}
 use Rattle.gob_stream.specs.Item.{StreamItem, defines, puts}
 use Rattle.gob_stream.specs.Outcome.{GivesItems, Outcome, the_end, refused}

@@ -1,6 +1,6 @@
 -- What a receiver of values keeps. For private clauses.
 use Rattle.std.specs.Prelude.{◌≡◌, IfSome}
-use Rattle.gob_types.specs.Defined.{Defined, types}
+use Rattle.gob_types.specs.Defined.{types}
 use Rattle.gob_match.specs.Matching.{Match}
 use Rattle.gob_match.specs.Matched.{IsMatchOf, IsSound}
 use Rattle.gob_tool.specs.declared.receiver.Known.{Known}
