@@ -8,8 +8,7 @@ use Rattle.gob_types.specs.declared.id.TypeId.{TypeId}
 use Rattle.gob_types.specs.declared.kind.Shape.{Shape}
 use Rattle.gob_types.specs.Ready.{IsReady}
 use Rattle.gob_types.specs.Table.{Table, shape_of}
-use Rattle.gob_types.proofs.FirstLaws.{contains_read, contains_at, slice_get-append_left}
-use Rattle.gob_types.proofs.GrowthLaws.{some_injective, reaches_itself}
+use Rattle.gob_types.proofs.PublicLaws.{contains_read, contains_at, slice_get-append_left, some_injective, reaches_itself}
 use Rattle.gob_match.specs.declared.pair.TypePair.{TypePair}
 use Rattle.gob_match.specs.declared.reason.ClashReason.{ClashReason}
 use Rattle.gob_match.specs.declared.step.Step.{Step}

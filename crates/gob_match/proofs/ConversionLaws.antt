@@ -10,8 +10,7 @@ use Rattle.gob_types.specs.declared.kind.Kind.TheVariants as kind
 use Rattle.gob_types.specs.declared.kind.Shape.{Shape}
 use Rattle.gob_types.specs.Ready.{IsReady}
 use Rattle.gob_types.specs.Table.{Table, shape_of}
-use Rattle.gob_types.proofs.FirstLaws.{slice_get-append_left}
-use Rattle.gob_types.proofs.GrowthLaws.{some_injective, reaches_itself}
+use Rattle.gob_types.proofs.PublicLaws.{slice_get-append_left, some_injective, reaches_itself}
 use Rattle.gob_match.specs.declared.common.CommonField.{CommonField}
 use Rattle.gob_match.specs.declared.conversion.Conversion.{Conversion}
 use Rattle.gob_match.specs.declared.conversion.Conversion.TheVariants as conversion

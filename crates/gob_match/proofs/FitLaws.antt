@@ -3,13 +3,13 @@ use Rattle.std.proofs.Common.{◌≡◌, ℕ, suc, ◌+◌, ◌-◌, ◌≤◌, 
 use Rattle.std.specs.Prelude.{slice_get, Result, Ok, Err, IfOk}
 use Rattle.gob_num.specs.declared.memory.Memory.{Memory}
 use Rattle.gob_num.specs.Unsigned.{IsUnsigned}
-use Rattle.gob_num.proofs.UnsignedLaws.{unsigned_spelled}
+use Rattle.gob_num.proofs.PublicLaws.{unsigned_spelled}
 use Rattle.gob_types.specs.declared.id.TypeId.{TypeId}
 use Rattle.gob_types.specs.declared.kind.Field.{Field}
 use Rattle.gob_types.specs.declared.kind.Kind.{Kind}
 use Rattle.gob_types.specs.declared.kind.Shape.{Shape}
 use Rattle.gob_types.specs.Table.{Table}
-use Rattle.gob_types.proofs.GrowthLaws.{some_injective}
+use Rattle.gob_types.proofs.PublicLaws.{some_injective}
 use Rattle.gob_value.specs.declared.value.Value.{Value}
 use Rattle.gob_value.specs.Fits.{Fits, FitsKind}
 use Rattle.gob_value.specs.Spelling.{Spells, SpellsAs, SpellsEach, SpellsPairs, SpellsFields}

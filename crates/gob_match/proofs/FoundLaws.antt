@@ -6,7 +6,7 @@ use Rattle.std.proofs.lemmas.Option.{slice_get_within, slice_get-get_or}
 use Rattle.std.specs.Map.{keys_of}
 use Rattle.std.specs.Prelude.{slice_get, ◌&&◌, ◌==◌, position}
 use borrow.Author.Tests.{eqb-true}
-use Rattle.gob_types.proofs.GrowthLaws.{some_injective}
+use Rattle.gob_types.proofs.PublicLaws.{some_injective}
 use Rattle.gob_match.specs.declared.found.Origin.{Origin}
 use Rattle.gob_match.specs.declared.pair.TypePair.{TypePair}
 use Rattle.gob_match.specs.declared.step.Step.{Step}

@@ -1,3 +1,4 @@
+pub mod PublicLaws
 pub mod FoundLaws
 pub mod ClashLaws
 pub mod SearchLaws

@@ -7,8 +7,7 @@ use Rattle.std.specs.Cmp.Lexicographic.{pointwise, bytes_decides}
 use Rattle.std.specs.List.{list_any}
 use Rattle.std.specs.Prelude.{slice_get, position, if◌then◌else◌, ◌||◌}
 use Rattle.gob_types.specs.declared.kind.Field.{Field}
-use Rattle.gob_types.proofs.FirstLaws.{contains_read, contains_at, slice_get-append_left}
-use Rattle.gob_types.proofs.GrowthLaws.{some_injective}
+use Rattle.gob_types.proofs.PublicLaws.{contains_read, contains_at, slice_get-append_left, some_injective}
 use Rattle.gob_match.specs.declared.common.CommonField.{CommonField}
 use Rattle.gob_match.specs.Machine.Struct.{AddsName, AreNames, AreCommonFields, no_more, missing, common}
 use Rattle.gob_match.specs.Pairs.{RepeatsName, of_types}

@@ -8,7 +8,7 @@ use Rattle.gob_types.specs.declared.kind.Field.{Field}
 use Rattle.gob_types.specs.declared.kind.Kind.{Kind}
 use Rattle.gob_types.specs.declared.kind.Shape.{Shape}
 use Rattle.gob_types.specs.Table.{Table}
-use Rattle.gob_types.proofs.GrowthLaws.{some_injective}
+use Rattle.gob_types.proofs.PublicLaws.{some_injective}
 use Rattle.gob_value.specs.declared.value.Value.{Value, Many, Pairs as ValuePairs, Fields as ValueFields}
 use Rattle.gob_value.specs.Fits.{Fits, FitsKind}
 use Rattle.gob_value.specs.Spelling.{Spells, of_type, SpellsAs, of_bool, of_int, of_uint, of_float, of_complex, of_nil, of_bytes, of_text, of_opaque, of_slice, of_array, of_map, of_struct, SpellsEach, SpellsPairs, SpellsFields, next_field}
@@ -18,8 +18,7 @@ use Rattle.gob_value.specs.Tree.{Tree, Trees, tree, Pairs, pair, Fields, field, 
 use Rattle.gob_value.specs.Tree as Value
 use Rattle.gob_value.specs.View.{view, views, pair_views, field_views}
 use Rattle.gob_value.specs.Written.{HasParts}
-use Rattle.gob_value.proofs.TidySteps.{IsNoList, IsNoMap, IsNoStruct}
-use Rattle.gob_value.proofs.ViewLaws.{view-Many, view-Pairs, view-Fields}
+use Rattle.gob_value.proofs.PublicLaws.{IsNoList, IsNoMap, IsNoStruct, view-Many, view-Pairs, view-Fields}
 use Rattle.gob_match.specs.declared.common.CommonField.{CommonField}
 use Rattle.gob_match.specs.declared.conversion.Conversion.{Conversion}
 use Rattle.gob_match.specs.declared.conversion.Conversion.TheVariants as conversion

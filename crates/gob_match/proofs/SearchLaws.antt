@@ -12,9 +12,8 @@ use Rattle.gob_types.specs.declared.kind.Kind.{Kind}
 use Rattle.gob_types.specs.Ready.{IsReady}
 use Rattle.gob_types.specs.Ready as types
 use Rattle.gob_types.specs.Table.{Table}
-use Rattle.gob_types.proofs.FirstLaws.{slice_get-append_left, contains_read, contains_at}
-use Rattle.gob_types.proofs.GrowthLaws.{some_injective}
-use Rattle.gob_types.proofs.GrowthLaws as growth
+use Rattle.gob_types.proofs.PublicLaws.{slice_get-append_left, contains_read, contains_at, some_injective}
+use Rattle.gob_types.proofs.PublicLaws as growth
 use Rattle.gob_match.specs.declared.found.Origin.{Origin}
 use Rattle.gob_match.specs.declared.pair.TypePair.{TypePair}
 use Rattle.gob_match.specs.declared.reason.ClashReason.{ClashReason}

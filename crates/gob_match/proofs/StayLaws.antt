@@ -6,10 +6,10 @@ use Rattle.gob_types.specs.declared.kind.Kind.{Kind}
 use Rattle.gob_types.specs.declared.kind.Shape.{Shape}
 use Rattle.gob_types.specs.Ready.{IsReady}
 use Rattle.gob_types.specs.Table.{Table}
-use Rattle.gob_types.proofs.GrowthLaws.{Keeps, shape_back, ready_on}
+use Rattle.gob_types.proofs.PublicLaws.{Keeps, shape_back, ready_on}
 use Rattle.gob_value.specs.Fits.{Fits}
 use Rattle.gob_value.specs.Tree.{Tree, Trees, Pairs, Fields}
-use Rattle.gob_value.proofs.StayLaws.{spells_on}
+use Rattle.gob_value.proofs.PublicLaws.{spells_on}
 use Rattle.gob_match.specs.declared.pair.TypePair.{TypePair}
 use Rattle.gob_match.specs.declared.reason.ClashReason.{ClashReason}
 use Rattle.gob_match.specs.declared.step.Step.{Step}

@@ -4,7 +4,7 @@ use Rattle.std.proofs.lemmas.Bool.{cases_lt}
 use Rattle.gob_types.specs.declared.id.TypeId.{TypeId}
 use Rattle.gob_types.specs.Table.{Table}
 use Rattle.gob_types.specs.Ready.{IsReady}
-use Rattle.gob_types.proofs.GrowthLaws.{ready_defined}
+use Rattle.gob_types.proofs.PublicLaws.{ready_defined}
 use Rattle.gob_value.specs.Tree.{Tree}
 use Rattle.gob_value.specs.Top.{SpellsTop}
 use Rattle.gob_read.specs.Stood.{IsShallow, IsStood}

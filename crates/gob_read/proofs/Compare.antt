@@ -8,7 +8,7 @@ use Rattle.gob_types.specs.declared.id.TypeId.{TypeId}
 use Rattle.gob_types.specs.declared.kind.Kind.{Kind}
 use Rattle.gob_types.specs.declared.kind.Shape.{Shape}
 use Rattle.gob_types.specs.Table.{Table}
-use Rattle.gob_types.proofs.GrowthLaws.{some_injective}
+use Rattle.gob_types.proofs.PublicLaws.{some_injective}
 use Rattle.gob_value.specs.Tree.{Tree}
 use Rattle.gob_value.specs.Top.{IsStruct, SpellsTop, at_once, tagged}
 use Rattle.gob_read.specs.Awaited.{Awaited, a_number, raw, tag}

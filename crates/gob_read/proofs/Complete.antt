@@ -12,12 +12,12 @@ use Rattle.gob_types.specs.declared.kind.Kind.TheVariants as kind
 use Rattle.gob_types.specs.declared.kind.Shape.{Shape}
 use Rattle.gob_types.specs.Table.{Table, shape_of}
 use Rattle.gob_types.specs.Ready.{IsFilledArray, HasRank, plain, filled, IsReady}
-use Rattle.gob_types.proofs.GrowthLaws.{some_injective, names_ready, ready_grounded}
+use Rattle.gob_types.proofs.PublicLaws.{some_injective, names_ready, ready_grounded}
 use Rattle.gob_value.specs.Tree.{Tree, Trees, no_tree, tree, tree_count, Pairs, no_pair, pair, pair_count, Fields, no_field, field}
 use Rattle.gob_value.specs.Tree as Value
 use Rattle.gob_value.specs.Spelling.{Spells, of_type, SpellsAs, of_bool, of_int, of_uint, of_float, of_complex, of_nil, of_bytes, of_text, of_opaque, of_slice, of_array, of_map, of_struct, SpellsEach, no_element, element, SpellsPairs, no_entry, entry, SpellsFields, end_of_fields, next_field}
 use Rattle.gob_value.specs.Top.{SpellsTop, at_once, tagged}
-use Rattle.gob_value.proofs.StayLaws.{AllReady}
+use Rattle.gob_value.proofs.PublicLaws.{AllReady}
 use Rattle.gob_read.specs.Awaited.{Awaited}
 use Rattle.gob_read.specs.Awaits.{FieldsRun, no_fields, field_then, Enters, slice_element, array_element, next_key, next_value, next_field as enters_field, AwaitsAt, first, second, byte_content, text_content, opaque_content, next_delta, Awaits, in_itself, in_part, AwaitsTop, in_struct, at_tag, behind_tag}
 use Rattle.gob_read.specs.Begins.{BeginsValue, IsProperFront}

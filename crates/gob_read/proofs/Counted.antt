@@ -9,7 +9,7 @@ use Rattle.gob_types.specs.Table.{Table, shape_of}
 use Rattle.gob_types.specs.Base.{base_table}
 use Rattle.gob_types.specs.Definable.{HasLength}
 use Rattle.gob_types.specs.Defined.{IsTable, AreDefinitions}
-use Rattle.gob_types.proofs.GrowthLaws.{some_injective}
+use Rattle.gob_types.proofs.PublicLaws.{some_injective}
 use Rattle.gob_read.specs.Laws.{HasCountedArrays}
 
 -- what an array has in its shape

@@ -8,12 +8,12 @@ use Rattle.gob_types.specs.declared.kind.Field.{Field}
 use Rattle.gob_types.specs.declared.kind.Kind.{Kind}
 use Rattle.gob_types.specs.declared.kind.Shape.{Shape}
 use Rattle.gob_types.specs.Table.{Table}
-use Rattle.gob_types.proofs.GrowthLaws.{some_injective}
+use Rattle.gob_types.proofs.PublicLaws.{some_injective}
 use Rattle.gob_value.specs.Tree.{Tree, Trees, Pairs, Fields, tree_count, pair_count, depth, trees_depth, pairs_depth, fields_depth}
 use Rattle.gob_value.specs.Tree as Value
 use Rattle.gob_value.specs.Spelling.{Spells, of_type, SpellsAs, of_slice, of_array, of_map, of_struct, SpellsEach, no_element, element, SpellsPairs, no_entry, entry, SpellsFields, end_of_fields, next_field}
 use Rattle.gob_value.specs.Top.{SpellsTop, at_once, tagged}
-use Rattle.gob_value.proofs.PrefixLaws.{same_spelling}
+use Rattle.gob_value.proofs.PublicLaws.{same_spelling}
 use Rattle.gob_read.specs.Awaited.{Awaited}
 use Rattle.gob_read.specs.Awaits.{FieldsRun, no_fields, field_then, Enters, slice_element, array_element, next_key, next_value, next_field as enters_field, Awaits, in_itself, in_part, AwaitsTop, in_struct, at_tag, behind_tag}
 use Rattle.gob_read.specs.Stood.{IsShallow}

@@ -8,7 +8,7 @@ use Rattle.gob_types.specs.declared.reason.Reason.TheVariants as reason
 use Rattle.gob_types.specs.Table.{Table}
 use Rattle.gob_value.specs.Tree.{Tree}
 use Rattle.gob_value.specs.Top.{SpellsTop}
-use Rattle.gob_value.proofs.PrefixLaws.{same_top}
+use Rattle.gob_value.proofs.PublicLaws.{same_top}
 use Rattle.gob_read.specs.Awaited.{Awaited, a_number, Allowed, Allows, reason_of, EndsWithin, within_number, within_raw}
 use Rattle.gob_read.specs.Awaits.{AwaitsTop}
 use Rattle.gob_read.specs.Refusal.{Refusal, Refused, extra, too_deep, short_of, bad_head_at, not_minimal_at, not_allowed}

@@ -4,9 +4,9 @@ use Rattle.gob_types.specs.declared.id.TypeId.{TypeId}
 use Rattle.gob_types.specs.declared.kind.Field.{Field}
 use Rattle.gob_types.specs.declared.kind.Kind.{Kind}
 use Rattle.gob_types.specs.Table.{Table, Extends}
-use Rattle.gob_types.proofs.GrowthLaws.{Keeps, extends_keeps, ready_on}
+use Rattle.gob_types.proofs.PublicLaws.{Keeps, extends_keeps, ready_on}
 use Rattle.gob_value.specs.Tree.{Trees, Pairs, Fields}
-use Rattle.gob_value.proofs.StayLaws.{spells_on}
+use Rattle.gob_value.proofs.PublicLaws.{spells_on}
 use Rattle.gob_read.specs.Telling.{Telling}
 use Rattle.gob_read.specs.Kinds.{HasKind}
 use Rattle.gob_read.specs.Within.{EachTold, none_told, one_told, PairsTold, no_pair_told, pair_told, FieldsTold, no_field_told, field_told, Within, at_once, behind_tag, in_list, at_key, at_value, in_field, OpenStruct, open_struct, At, at_tag, at_part, at_second, at_delta, at_raw}

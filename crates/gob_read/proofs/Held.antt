@@ -9,7 +9,7 @@ use Rattle.gob_types.specs.declared.kind.Kind.{Kind}
 use Rattle.gob_types.specs.declared.kind.Kind.TheVariants as kind
 use Rattle.gob_types.specs.Table.{Table, IsDefined}
 use Rattle.gob_types.specs.Ready.{IsReady}
-use Rattle.gob_types.proofs.GrowthLaws.{ready_defined}
+use Rattle.gob_types.proofs.PublicLaws.{ready_defined}
 use Rattle.gob_value.specs.Tree.{Trees, Fields, tree_count}
 use Rattle.gob_value.specs.Top.{IsStruct}
 use Rattle.gob_read.specs.declared.telling.GroupKind.TheVariants as group

@@ -10,11 +10,11 @@ use Rattle.gob_types.specs.declared.kind.Kind.{Kind}
 use Rattle.gob_types.specs.declared.kind.Kind.TheVariants as kind
 use Rattle.gob_types.specs.declared.kind.Shape.{Shape}
 use Rattle.gob_types.specs.Table.{Table}
-use Rattle.gob_types.proofs.GrowthLaws.{some_injective}
+use Rattle.gob_types.proofs.PublicLaws.{some_injective}
 use Rattle.gob_value.specs.Tree.{Tree, Trees, Pairs, Fields, no_field}
 use Rattle.gob_value.specs.Tree as Value
 use Rattle.gob_value.specs.Spelling.{Spells}
-use Rattle.gob_value.proofs.PrefixLaws.{same_spelling}
+use Rattle.gob_value.proofs.PublicLaws.{same_spelling}
 use Rattle.gob_read.specs.Awaited.{Awaited, a_number, raw, any, delta, EndsWithin, within_number, within_raw, first_of}
 use Rattle.gob_read.specs.Awaits.{FieldsRun, no_fields, field_then, Enters, slice_element, array_element, next_key, next_value, next_field, AwaitsAt, first, second, byte_content, text_content, opaque_content, next_delta, Awaits, AwaitsTop}
 use Rattle.gob_read.specs.Awaits as awaits

@@ -33,7 +33,7 @@ use Rattle.gob_read.specs.Building.{CanTell, IsTold}
 use Rattle.gob_read.specs.Kinds.{HasKind, IsRawKind, is_bytes, is_text, is_opaque, IsList, is_array, IsStructType, BeginsAs, as_struct, as_tagged, number_stays, raw_stays}
 use Rattle.gob_read.specs.Within.{Within, behind_tag, At, at_tag, at_part, at_second, at_raw, Completed}
 use Rattle.gob_read.specs.Steps.{IsBegun, IsPlaced, IsEnded, Blames, CanEnd, CanBegin, Begins, CanBeginStruct, BeginsStruct, IsNoFirst, CanTakeFirst, TakesFirst, RefusesFirst, CanTake, Takes, Refuses, CanTakeTag, IsWrongTag, CanTakeSecond, TakesHere, CanTakeRaw}
-use Rattle.gob_value.proofs.TestSteps.{not_true}
+use Rattle.gob_value.proofs.PublicLaws.{not_true}
 use Rattle.gob_read.proofs.KindLaws.{spelled_as}
 use Rattle.gob_read.proofs.Moves.{part_whole}
 use Rattle.gob_read.proofs.ToldLaws.{begins_in, within_follows, within_weighs, raw_follows, raw_open_weighs, some, can_tell}

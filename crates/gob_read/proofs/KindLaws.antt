@@ -6,7 +6,7 @@ use Rattle.gob_types.specs.declared.kind.Kind.{Kind}
 use Rattle.gob_types.specs.declared.kind.Kind.TheVariants as kind
 use Rattle.gob_types.specs.declared.kind.Shape.{Shape}
 use Rattle.gob_types.specs.Table.{Table, shape_of}
-use Rattle.gob_types.proofs.GrowthLaws.{some_injective}
+use Rattle.gob_types.proofs.PublicLaws.{some_injective}
 use Rattle.gob_value.specs.Tree.{Tree}
 use Rattle.gob_value.specs.Spelling.{Spells, of_type, SpellsAs}
 use Rattle.gob_value.specs.Top.{IsStruct}

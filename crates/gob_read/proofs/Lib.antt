@@ -1,3 +1,4 @@
+pub mod PublicLaws
 pub mod Whole
 pub mod Once
 pub mod Fronts

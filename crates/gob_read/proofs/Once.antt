@@ -9,10 +9,10 @@ use Rattle.gob_types.specs.declared.id.TypeId.{TypeId}
 use Rattle.gob_types.specs.declared.kind.Field.{Field}
 use Rattle.gob_types.specs.declared.kind.Kind.{Kind}
 use Rattle.gob_types.specs.Table.{Table}
-use Rattle.gob_types.proofs.GrowthLaws.{some_injective}
+use Rattle.gob_types.proofs.PublicLaws.{some_injective}
 use Rattle.gob_value.specs.Tree.{Tree, Trees, Pairs}
 use Rattle.gob_value.specs.Spelling.{Spells, SpellsEach, no_element, element, SpellsPairs, no_entry, entry}
-use Rattle.gob_value.proofs.PrefixLaws.{same_spelling}
+use Rattle.gob_value.proofs.PublicLaws.{same_spelling}
 use Rattle.gob_read.specs.Awaited.{Awaited, a_number, raw, delta}
 use Rattle.gob_read.specs.Awaits.{FieldsRun, no_fields, field_then, Enters, slice_element, array_element, next_key, next_value, next_field as enters_field, AwaitsAt, first, second, byte_content, text_content, opaque_content, next_delta}
 use Rattle.gob_read.proofs.Whole.{StandsFirst, PairStandsFirst, key_then, Meets, met, pattern_met}

@@ -6,7 +6,7 @@ use Rattle.gob_types.specs.declared.kind.Field.{Field}
 use Rattle.gob_types.specs.declared.kind.Kind.{Kind}
 use Rattle.gob_types.specs.Table.{Table, IsDefined}
 use Rattle.gob_types.specs.Ready.{IsReady}
-use Rattle.gob_types.proofs.GrowthLaws.{names_ready, ready_defined}
+use Rattle.gob_types.proofs.PublicLaws.{names_ready, ready_defined}
 use Rattle.gob_value.specs.Tree.{Trees, tree_count, Fields}
 use Rattle.gob_read.specs.Awaited.{Allowed, Awaited as NextItem, a_number, raw, any, tag, delta, first_of}
 use Rattle.gob_read.specs.Awaits.{FieldsRun, no_fields, field_then, Enters, slice_element, array_element, next_key, next_value, next_field as enters_field, AwaitsAt, second, byte_content, text_content, opaque_content, next_delta, AwaitsTop}

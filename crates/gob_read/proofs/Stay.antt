@@ -6,8 +6,8 @@ use Rattle.gob_types.specs.declared.kind.Kind.{Kind}
 use Rattle.gob_types.specs.declared.kind.Kind.TheVariants as kind
 use Rattle.gob_types.specs.Table.{Table}
 use Rattle.gob_types.specs.Ready.{Names, IsReady}
-use Rattle.gob_types.proofs.GrowthLaws.{Keeps, shape_back, names_ready}
-use Rattle.gob_value.proofs.StayLaws.{AllReady, spells_on, each_on, pairs_on, top_on, spells_back, each_back, pairs_back, top_back}
+use Rattle.gob_types.proofs.PublicLaws.{Keeps, shape_back, names_ready}
+use Rattle.gob_value.proofs.PublicLaws.{AllReady, spells_on, each_on, pairs_on, top_on, spells_back, each_back, pairs_back, top_back}
 use Rattle.gob_read.specs.Awaited.{Awaited}
 use Rattle.gob_read.specs.Awaits.{FieldsRun, no_fields, field_then, Enters, slice_element, array_element, next_key, next_value, next_field as enters_field, AwaitsAt, first, second, byte_content, text_content, opaque_content, next_delta, Awaits, in_itself, in_part, AwaitsTop, in_struct, at_tag, behind_tag}
 use Rattle.gob_read.specs.Refusal.{Refusal, Refused, extra, too_deep, short_of, bad_head_at, not_minimal_at, not_allowed}

@@ -6,9 +6,7 @@ use Rattle.gob_num.specs.Unsigned.{IsUnsigned, big_endian}
 use Rattle.gob_num.specs.Signed.{IsSigned, not_negative, negative}
 use Rattle.gob_num.specs.Pattern.{IsPattern}
 use Rattle.gob_num.specs.Pushed.{digits}
-use Rattle.gob_num.proofs.DigitLaws.{length-digits, digits-bytes, big_endian-digits}
-use Rattle.gob_num.proofs.PatternLaws.{reverse-bytes}
-use Rattle.gob_num.proofs.PublicLaws.{unsigned_unique, unsigned_fits, pattern_spelled}
+use Rattle.gob_num.proofs.PublicLaws.{length-digits, digits-bytes, big_endian-digits, reverse-bytes, unsigned_unique, unsigned_fits, pattern_spelled}
 use Rattle.gob_types.specs.declared.id.TypeId.{TypeId}
 use Rattle.gob_types.specs.declared.basic.Basic.TheVariants as basic
 use Rattle.gob_types.specs.declared.kind.Field.{Field}
@@ -16,12 +14,12 @@ use Rattle.gob_types.specs.declared.kind.Kind.{Kind}
 use Rattle.gob_types.specs.declared.kind.Kind.TheVariants as kind
 use Rattle.gob_types.specs.Table.{Table}
 use Rattle.gob_types.specs.Ready.{IsReady}
-use Rattle.gob_types.proofs.GrowthLaws.{names_ready}
+use Rattle.gob_types.proofs.PublicLaws.{names_ready}
 use Rattle.gob_value.specs.Tree as Value
 use Rattle.gob_value.specs.Tree.{no_field, field}
 use Rattle.gob_value.specs.Spelling.{Spells, of_type, SpellsAs, of_bool, of_int, of_uint, of_float, of_complex, of_nil, of_bytes, of_text, of_opaque, of_slice, of_array, of_map, of_struct, end_of_fields, next_field}
 use Rattle.gob_value.specs.Top.{SpellsTop, at_once, tagged}
-use Rattle.gob_value.proofs.StayLaws.{AllReady}
+use Rattle.gob_value.proofs.PublicLaws.{AllReady}
 use Rattle.gob_read.specs.Awaited.{Awaited, Allows, first_of}
 use Rattle.gob_read.specs.Awaits.{FieldsRun, no_fields, AwaitsAt, first, second, byte_content, text_content, opaque_content, next_delta, Awaits, in_itself, in_part, AwaitsTop, in_struct, at_tag, behind_tag}
 use Rattle.gob_read.specs.Begins.{BeginsValue, IsProperFront}

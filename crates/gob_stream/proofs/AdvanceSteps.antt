@@ -2,8 +2,7 @@
 use Rattle.std.proofs.Common.{◌≡◌, ◌≢◌, ℕ, ◌+◌, ◌<◌, ◌≤◌, List, [], ◌++◌, length, take, Option, IfSome, Result, Ok, Err, arith, refl, sym, ap, ◌∙◌, subst, append_assoc, length-append}
 use Rattle.std.proofs.lemmas.List.{append-nil, length-take}
 use Rattle.gob_num.specs.Unsigned.{IsUnsignedFront}
-use Rattle.gob_num.proofs.FrontLaws.{begins_front}
-use Rattle.gob_num.proofs.UnsignedLaws.{unsigned_length}
+use Rattle.gob_num.proofs.PublicLaws.{begins_front, unsigned_length}
 use Rattle.gob_types.specs.Base.{base_table}
 use Rattle.gob_types.specs.Defined.{Defined, types}
 use Rattle.gob_types.specs.Table.{Table}

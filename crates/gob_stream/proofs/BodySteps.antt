@@ -10,7 +10,7 @@ use Rattle.gob_read.specs.Reader.{Stands, RefusesBody, Stops}
 use Rattle.gob_read.specs.declared.run.Run.{Run}
 use Rattle.gob_read.specs.declared.stop.Stop.{Stop}
 use Rattle.gob_read.specs.declared.stop.Stop.TheVariants as stop
-use Rattle.gob_read.proofs.Seen.{seen_within}
+use Rattle.gob_read.proofs.PublicLaws.{seen_within}
 use Rattle.gob_read.specs.Reader.{Gives}
 use Rattle.gob_read.specs.declared.reader.BodyReader.{BodyReader}
 use Rattle.gob_read.specs.declared.reader.Progress.{Progress}

@@ -10,14 +10,14 @@ use Rattle.gob_types.specs.declared.kind.Shape.{Shape}
 use Rattle.gob_types.specs.Table.{Table}
 use Rattle.gob_types.specs.Ready.{Names}
 use Rattle.gob_types.specs.Definable.{IsReference, IsDefinable, HasLength}
-use Rattle.gob_types.proofs.GrowthLaws.{some_injective}
+use Rattle.gob_types.proofs.PublicLaws.{some_injective}
 use Rattle.gob_value.specs.Tree.{Tree, Fields, no_field, field}
 use Rattle.gob_value.specs.Tree as Value
 use Rattle.gob_value.specs.Spelling.{Spells, of_type, of_int, of_struct, SpellsFields, next_field}
 use Rattle.gob_value.specs.Fits.{Fits}
 use Rattle.gob_value.specs.Description.{Said, SaidField, SaidKind, said_array, said_slice, said_struct, said_map, said_opaque, said_kind, said_with, present, number_in, fields_in, elements_in, said_fields, GivesFields, and_field, GivesKind, gives_array, gives_slice, gives_struct, gives_map, gives_opaque, Describes}
 use Rattle.gob_num.specs.Signed.{not_negative}
-use Rattle.gob_num.proofs.UnsignedLaws.{unsigned_fits}
+use Rattle.gob_num.proofs.PublicLaws.{unsigned_fits}
 
 -- ---- what stands in a spelled value is spelled
 

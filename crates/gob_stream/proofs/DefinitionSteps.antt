@@ -16,7 +16,7 @@ use Rattle.gob_value.specs.declared.value.Value.{Value}
 use Rattle.gob_read.specs.First.{IsFirst}
 use Rattle.gob_read.specs.Reader.{IsMade}
 use Rattle.gob_read.specs.declared.tree_builder.TreeBuilder.{TreeBuilder}
-use Rattle.gob_read.proofs.Seen.{take_whole}
+use Rattle.gob_read.proofs.PublicLaws.{take_whole}
 use Rattle.gob_stream.specs.declared.fault.Refusal.{Refusal}
 use Rattle.gob_stream.specs.declared.fault.Fault.{Fault}
 use Rattle.gob_stream.specs.declared.fault.Fault.TheVariants as fault

@@ -3,14 +3,14 @@ use Rattle.std.proofs.Common.{◌≡◌, ℕ, List, [], length, Option, Some, No
 use Rattle.gob_types.specs.Base.{base_table, wire_type}
 use Rattle.gob_types.specs.Table.{shape_of}
 use Rattle.gob_types.specs.declared.kind.Shape.{Shape}
-use Rattle.gob_types.proofs.GrowthLaws.{Keeps, some_injective, shape_of-append, ready_on}
+use Rattle.gob_types.proofs.PublicLaws.{Keeps, some_injective, shape_of-append, ready_on}
 use Rattle.gob_types.specs.Ready.{IsReady}
 use Rattle.gob_value.specs.Spelling.{Spells}
 use Rattle.gob_value.specs.Top.{SpellsTop, at_once, tagged, IsStruct}
 use Rattle.gob_value.specs.Fits.{Fits}
 use Rattle.gob_value.specs.View.{view}
 use Rattle.gob_value.specs.declared.value.Value.{Value}
-use Rattle.gob_value.proofs.StayLaws.{spells_back}
+use Rattle.gob_value.proofs.PublicLaws.{spells_back}
 use Rattle.gob_read.specs.Reader.{Stands, RefusesBody, Stops, IsMade, Gives}
 use Rattle.gob_read.specs.declared.run.Run.{Run}
 use Rattle.gob_read.specs.declared.stop.Stop.{Stop}

@@ -2,14 +2,13 @@
 use Rattle.std.proofs.Common.{◌≡◌, ◌≢◌, ℕ, zero, suc, ◌+◌, ◌-◌, ◌<◌, ◌≤◌, min, List, [], ◌∷◌, ◌++◌, length, take, drop, Result, Ok, Err, IfOk, arith, refl, sym, ap, ◌∙◌, subst, append_assoc, length-append, length-drop}
 use Rattle.std.proofs.lemmas.List.{append-nil, take_min, length-take}
 use Rattle.gob_num.specs.Unsigned.{IsUnsigned, IsUnsignedFront}
-use Rattle.gob_num.proofs.FrontLaws.{front_not_whole}
+use Rattle.gob_num.proofs.PublicLaws.{front_not_whole}
 use Rattle.gob_types.specs.declared.reason.Reason.TheVariants as reason
 use Rattle.gob_types.specs.Base.{base_table}
 use Rattle.gob_types.specs.Table.{Table}
 use Rattle.gob_value.specs.Tree.{Tree}
 use Rattle.gob_read.specs.declared.tree_builder.TreeBuilder.{TreeBuilder}
-use Rattle.gob_read.proofs.Runs.{take_and_drop}
-use Rattle.gob_read.proofs.Seen.{take_fewer, take_whole}
+use Rattle.gob_read.proofs.PublicLaws.{take_and_drop, take_fewer, take_whole}
 use Rattle.gob_stream.specs.declared.fault.Refusal.{Refusal}
 use Rattle.gob_stream.specs.declared.fault.Fault.{Fault}
 use Rattle.gob_stream.specs.declared.fault.Fault.TheVariants as fault

@@ -1,7 +1,6 @@
 -- An item isn't written for one reason, and what isn't written has no bytes.
 use Rattle.std.proofs.Common.{◌≡◌, ℕ, pos, negsuc, ◌+◌, ◌≤◌, inl, inr, List, ◌++◌, length, Some, None, refl, sym, ap, subst, ◌∙◌, arith}
-use Rattle.gob_num.proofs.UnsignedLaws.{unsigned_unique}
-use Rattle.gob_num.proofs.SignedLaws.{signed_unique}
+use Rattle.gob_num.proofs.PublicLaws.{unsigned_unique, signed_unique}
 use Rattle.gob_num.specs.Unsigned.{IsUnsigned}
 use Rattle.gob_types.specs.declared.id.TypeId.{TypeId}
 use Rattle.gob_types.specs.declared.kind.Field.{Field}
@@ -14,7 +13,7 @@ use Rattle.gob_value.specs.Tree.{Tree, depth}
 use Rattle.gob_value.specs.Top.{SpellsTop, at_once, tagged}
 use Rattle.gob_value.specs.Fits.{Fits}
 use Rattle.gob_value.specs.Description.{Said, SaidKind, SaidField, said, GivesKind, gives_array, gives_slice, gives_struct, gives_map, gives_opaque, GivesFields, no_more, and_field, HasBadField, this_field, later_field, HasBadReference, HasBadLength, Describes, Misdescribes, kind_count, wrong_id, bad_reference, bad_length}
-use Rattle.gob_value.proofs.UniqueLaws.{one_spelling, one_top}
+use Rattle.gob_value.proofs.PublicLaws.{one_spelling, one_top}
 use Rattle.gob_stream.specs.Bounds.{Bounds}
 use Rattle.gob_stream.specs.Item.{StreamItem, defines, puts}
 use Rattle.gob_stream.specs.Body.{Body, definition, value, MayDefine, MayPut}

@@ -3,9 +3,7 @@ use Rattle.std.proofs.Common.{◌≡◌, ℕ, ℤ, pos, negsuc, ◌+◌, ◌-◌
 use Rattle.std.proofs.lemmas.List.{append-nil, take-append-le}
 use Rattle.gob_num.specs.Unsigned.{IsUnsigned, IsUnsignedFront, IsBadHead, IsNotMinimal}
 use Rattle.gob_num.specs.Signed.{IsSigned}
-use Rattle.gob_num.proofs.UnsignedLaws.{unsigned_prefix}
-use Rattle.gob_num.proofs.SignedLaws.{signed_prefix, signed_unsigned}
-use Rattle.gob_num.proofs.FrontLaws.{bad_head_none, not_minimal_none, front_not_bad_head, front_not_padded, bad_head_not_padded}
+use Rattle.gob_num.proofs.PublicLaws.{unsigned_prefix, signed_prefix, signed_unsigned, bad_head_none, not_minimal_none, front_not_bad_head, front_not_padded, bad_head_not_padded}
 use Rattle.gob_types.specs.declared.id.TypeId.{TypeId}
 use Rattle.gob_types.specs.declared.kind.Shape.{Shape}
 use Rattle.gob_types.specs.declared.reason.Reason.{Reason}
@@ -16,11 +14,10 @@ use Rattle.gob_value.specs.Tree.{Tree, depth}
 use Rattle.gob_value.specs.Spelling.{Spells}
 use Rattle.gob_value.specs.Top.{SpellsTop, at_once, IsStruct}
 use Rattle.gob_value.specs.Description.{Describes, Misdescribes}
-use Rattle.gob_value.proofs.PrefixLaws.{same_spelling}
+use Rattle.gob_value.proofs.PublicLaws.{same_spelling}
 use Rattle.gob_read.specs.Refusal as body
 use Rattle.gob_read.specs.First.{IsFirst}
-use Rattle.gob_read.proofs.Firsts.{front_not_number}
-use Rattle.gob_read.proofs.Seen.{given_once, only_extra, take_whole}
+use Rattle.gob_read.proofs.PublicLaws.{front_not_number, given_once, only_extra, take_whole}
 use Rattle.gob_stream.specs.declared.fault.Refusal.{Refusal}
 use Rattle.gob_stream.specs.Bounds.{Bounds}
 use Rattle.gob_stream.specs.Item.{StreamItem}

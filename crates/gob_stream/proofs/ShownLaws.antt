@@ -4,13 +4,12 @@ use Rattle.std.proofs.Math.Seq.{take-append-add}
 use Rattle.std.proofs.lemmas.Bool.{cases_lt}
 use Rattle.std.proofs.lemmas.List.{append-nil, take-append-le, length-take}
 use Rattle.gob_num.specs.Unsigned.{IsBadHead, IsNotMinimal}
-use Rattle.gob_num.proofs.UnsignedLaws.{unsigned_length}
+use Rattle.gob_num.proofs.PublicLaws.{unsigned_length}
 use Rattle.gob_types.specs.declared.id.TypeId.{TypeId}
 use Rattle.gob_types.specs.Table.{Table}
 use Rattle.gob_read.specs.Refusal as body
 use Rattle.gob_read.specs.First.{IsFirst}
-use Rattle.gob_read.proofs.Fronts.{front_of, rest_behind}
-use Rattle.gob_read.proofs.Seen.{seen_within, shown_stays}
+use Rattle.gob_read.proofs.PublicLaws.{front_of, rest_behind, seen_within, shown_stays}
 use Rattle.gob_stream.specs.declared.fault.Refusal.{Refusal}
 use Rattle.gob_stream.specs.Bounds.{Bounds}
 use Rattle.gob_stream.specs.Refusing.{RefusesCount, item_too_long, stream_too_long, RefusesBody, short, refused_id, refused_type, refused_value, refused_description, described_wrongly}

@@ -3,7 +3,7 @@ use Rattle.std.proofs.Common.{◌≡◌, ◌≢◌, ℕ, pos, negsuc, ◌+◌, �
 use Rattle.std.proofs.lemmas.List.{append-nil, length-take}
 use Rattle.gob_num.specs.Unsigned.{IsUnsignedFront}
 use Rattle.gob_num.specs.Signed.{IsSigned}
-use Rattle.gob_num.proofs.FrontLaws.{begins_front}
+use Rattle.gob_num.proofs.PublicLaws.{begins_front}
 use Rattle.gob_types.specs.declared.id.TypeId.{TypeId}
 use Rattle.gob_types.specs.declared.reason.Reason.TheVariants as reason
 use Rattle.gob_types.specs.Base.{base_table, wire_type}
@@ -14,7 +14,7 @@ use Rattle.gob_read.specs.Stood.{IsStood}
 use Rattle.gob_read.specs.Reader.{Stands, IsMade}
 use Rattle.gob_read.specs.declared.reader.BodyReader.{BodyReader}
 use Rattle.gob_read.specs.declared.tree_builder.TreeBuilder.{TreeBuilder}
-use Rattle.gob_read.proofs.Seen.{take_whole}
+use Rattle.gob_read.proofs.PublicLaws.{take_whole}
 use Rattle.gob_stream.specs.declared.fault.Refusal.{Refusal}
 use Rattle.gob_stream.specs.declared.fault.Fault.{Fault}
 use Rattle.gob_stream.specs.declared.fault.Fault.TheVariants as fault

@@ -1,9 +1,7 @@
 -- What follows from the definition of a stream: its bytes tell its items.
 use Rattle.std.proofs.Common.{◌≡◌, ◌≢◌, ℕ, ℤ, pos, ◌+◌, ◌<◌, ◌≤◌, List, [], ◌∷◌, ◌++◌, length, arith, refl, sym, ap, ◌∙◌, subst, append_assoc, length-append}
 use Rattle.std.proofs.lemmas.List.{append-nil}
-use Rattle.gob_num.proofs.DigitLaws.{append_split}
-use Rattle.gob_num.proofs.UnsignedLaws.{unsigned_prefix, unsigned_length}
-use Rattle.gob_num.proofs.SignedLaws.{signed_prefix}
+use Rattle.gob_num.proofs.PublicLaws.{append_split, unsigned_prefix, unsigned_length, signed_prefix}
 use Rattle.gob_types.specs.declared.id.TypeId.{TypeId}
 use Rattle.gob_types.specs.declared.kind.Field.{Field}
 use Rattle.gob_types.specs.declared.kind.Kind.{Kind}
@@ -18,8 +16,8 @@ use Rattle.gob_stream.specs.Item.{StreamItem, defines}
 use Rattle.gob_stream.specs.Body.{Body, definition, value}
 use Rattle.gob_stream.specs.Stream.{Counted, counted, Continues, no_more, and_then, Stream}
 use Rattle.gob_stream.specs.Outcome.{BeginsWith, GivesItems, GivesButLast}
-use Rattle.gob_types.proofs.GrowthLaws.{some_injective}
-use Rattle.gob_value.proofs.PrefixLaws.{same_spelling, same_top}
+use Rattle.gob_types.proofs.PublicLaws.{some_injective}
+use Rattle.gob_value.proofs.PublicLaws.{same_spelling, same_top}
 
 -- ---- a description gives one shape
 pub same_id : {t u : TypeId} → t.0 ≡ u.0 → t ≡ u

@@ -4,9 +4,7 @@ use Rattle.std.proofs.lemmas.Bool.{cases_lt}
 use Rattle.std.proofs.lemmas.List.{append-nil}
 use Rattle.gob_num.specs.Unsigned.{IsUnsigned, IsUnsignedFront, IsBadHead, IsNotMinimal}
 use Rattle.gob_num.specs.Signed.{IsSigned}
-use Rattle.gob_num.proofs.UnsignedLaws.{unsigned_prefix, unsigned_length}
-use Rattle.gob_num.proofs.SignedLaws.{signed_unsigned}
-use Rattle.gob_num.proofs.FrontLaws.{front_not_bad_head, front_not_padded}
+use Rattle.gob_num.proofs.PublicLaws.{unsigned_prefix, unsigned_length, signed_unsigned, front_not_bad_head, front_not_padded}
 use Rattle.gob_types.specs.declared.id.TypeId.{TypeId}
 use Rattle.gob_types.specs.declared.reason.Reason.TheVariants as reason
 use Rattle.gob_types.specs.Table.{Table}
@@ -14,8 +12,7 @@ use Rattle.gob_types.specs.Base.{base_table, wire_type}
 use Rattle.gob_types.specs.Defined.{types}
 use Rattle.gob_read.specs.Stood.{IsStood}
 use Rattle.gob_read.specs.declared.tree_builder.TreeBuilder.{TreeBuilder}
-use Rattle.gob_read.proofs.Firsts.{front_not_number}
-use Rattle.gob_read.proofs.Onward.{nothing_yet}
+use Rattle.gob_read.proofs.PublicLaws.{front_not_number, nothing_yet}
 use Rattle.gob_stream.specs.declared.fault.Refusal.{Refusal}
 use Rattle.gob_stream.specs.declared.stage.Stage.{Stage}
 use Rattle.gob_stream.specs.declared.stage.Stage.TheVariants as stage

@@ -15,7 +15,7 @@ use Rattle.gob_read.specs.Refusal.{Refused, extra, too_deep, short_of, bad_head_
 use Rattle.gob_read.specs.Awaited.{Allowed, any, tag, truth_value, array_count, delta, nil, reason_of}
 use Rattle.gob_read.specs.First.{IsFirst}
 use Rattle.gob_read.specs.declared.tree_builder.TreeBuilder.{TreeBuilder}
-use Rattle.gob_read.proofs.Seen.{take_whole}
+use Rattle.gob_read.proofs.PublicLaws.{take_whole}
 use Rattle.gob_stream.specs.declared.fault.Fault.{Fault}
 use Rattle.gob_stream.specs.declared.fault.Fault.TheVariants as fault
 use Rattle.gob_stream.specs.declared.stage.Extent.{Extent}

@@ -15,8 +15,7 @@ use Rattle.gob_value.specs.Top.{SpellsTop, at_once, tagged, IsStruct}
 use Rattle.gob_read.specs.Awaited.{Awaited, a_number, delta}
 use Rattle.gob_read.specs.Awaits.{FieldsRun, no_fields, field_then, Enters, slice_element, array_element, next_key, next_value, next_field, AwaitsAt, first, second, byte_content, text_content, opaque_content, next_delta, Awaits, in_itself, in_part, AwaitsTop, at_tag}
 use Rattle.gob_read.specs.Awaits as awaits
-use Rattle.gob_read.proofs.Fronts.{append_nil}
-use Rattle.gob_read.proofs.Whole.{next_below}
+use Rattle.gob_read.proofs.PublicLaws.{append_nil, next_below}
 use Rattle.gob_stream.specs.Earlier.{BeginsPart, itself, one_in, BeginsPartTop, in_struct, behind_tag, LeadsOn}
 use Rattle.gob_stream.proofs.WiderLaws.{IsWider, Later, same_shape, wire_shape, later, Earlier, same_before, wire_before, earlier, earlier_wire, later_wire, field_later}
 use Rattle.gob_stream.proofs.WiderSpelled.{spells_later, each_later, pairs_later, LeadsIn, leads_longer, leads_around, PartLeads, part_leads, FieldLeads, field_first, field_behind, field_part, RunLeads, run_leads, run_fewer, enters_fewer, part_fewer, spells_earlier, each_earlier, pairs_earlier, EachLeads, PairsLead, in_key, in_value}

@@ -10,7 +10,7 @@ use Rattle.gob_types.specs.Base.{base_table, wire_type, wire_type_fields, id}
 use Rattle.gob_types.specs.Earlier.{earlier_base_table, earlier_wire_type_fields}
 use Rattle.gob_types.specs.Table.{Table, shape_of, IsDefined}
 use Rattle.gob_types.specs.Ready.{Names, HasFieldOf, Leads, here, onward, Reaches, HasRank, plain, filled, IsGrounded, IsReady}
-use Rattle.gob_types.proofs.GrowthLaws.{some_injective, shape_of-append, shape_of-append_new}
+use Rattle.gob_types.proofs.PublicLaws.{some_injective, shape_of-append, shape_of-append_new}
 use Rattle.gob_stream.proofs.StreamLaws.{same_id}
 
 abbrev pub earlier_wire : Shape

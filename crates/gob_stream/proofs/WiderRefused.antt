@@ -2,8 +2,7 @@
 -- they lead to a later field.
 use Rattle.std.proofs.Common.{◌≡◌, ◌≢◌, ℕ, zero, suc, ◌+◌, ◌-◌, ◌<◌, ◌≤◌, ◌⊎◌, inl, inr, List, [], ◌∷◌, ◌++◌, length, arith, refl, sym, ap, ◌∙◌, subst, append_assoc, length-append}
 use Rattle.std.proofs.lemmas.Bool.{cases_lt}
-use Rattle.gob_num.proofs.UnsignedLaws.{unsigned_prefix}
-use Rattle.gob_num.proofs.DigitLaws.{append_split}
+use Rattle.gob_num.proofs.PublicLaws.{unsigned_prefix, append_split}
 use Rattle.gob_types.specs.declared.id.TypeId.{TypeId}
 use Rattle.gob_types.specs.declared.reason.Reason.{Reason}
 use Rattle.gob_types.specs.declared.reason.Reason.TheVariants as reason
@@ -14,9 +13,7 @@ use Rattle.gob_read.specs.Awaits.{AwaitsTop}
 use Rattle.gob_read.specs.Refusal.{Refusal, Refused, extra, too_deep, short_of, bad_head_at, not_minimal_at, not_allowed}
 use Rattle.gob_read.specs.First.{NotAfter, fewer, same, end_last, IsFirst}
 use Rattle.gob_read.specs.Stood.{IsShallow}
-use Rattle.gob_read.proofs.Compare.{awaits_once}
-use Rattle.gob_read.proofs.Firsts.{ends_number, not_allowed_first, bad_head_first, not_minimal_first, short_first, too_deep_first, extra_first}
-use Rattle.gob_read.proofs.Whole.{next_below}
+use Rattle.gob_read.proofs.PublicLaws.{awaits_once, ends_number, not_allowed_first, bad_head_first, not_minimal_first, short_first, too_deep_first, extra_first, next_below}
 use Rattle.gob_stream.specs.Earlier.{BeginsPartTop, refused_delta, IsLaterField}
 use Rattle.gob_stream.proofs.WiderLaws.{IsWider}
 use Rattle.gob_stream.proofs.WiderSpelled.{longer}

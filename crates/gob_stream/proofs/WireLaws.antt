@@ -10,10 +10,10 @@ use Rattle.gob_types.specs.Base.{base_table, wire_type}
 use Rattle.gob_types.specs.Table.{Table, shape_of, IsDefined, Extends}
 use Rattle.gob_types.specs.Ready.{Names, Leads, here, onward, IsFilledArray, plain, IsReady}
 use Rattle.gob_types.specs.Defined.{IsTable}
-use Rattle.gob_types.proofs.GrowthLaws.{extends_keeps, some_injective}
+use Rattle.gob_types.proofs.PublicLaws.{extends_keeps, some_injective}
 use Rattle.gob_value.specs.Tree.{Tree}
 use Rattle.gob_value.specs.Fits.{Fits}
-use Rattle.gob_value.proofs.StayLaws.{spells_back}
+use Rattle.gob_value.proofs.PublicLaws.{spells_back}
 
 -- ---- a table in which each shape names only types of it, and no array
 

@@ -16,8 +16,7 @@ use Rattle.gob_types.specs.Defined.{Defined, types, IsTable, Admits}
 use Rattle.gob_types.specs.Refused.{Refuses}
 use Rattle.gob_types.specs.Ready.{IsReady}
 use Rattle.gob_types.specs.Readiness.{IsNotReady}
-use Rattle.gob_types.proofs.GrowthLaws.{ready_defined}
-use Rattle.gob_types.proofs.TableLaws.{shape_of-table}
+use Rattle.gob_types.proofs.PublicLaws.{ready_defined, shape_of-table}
 use Rattle.gob_value.specs.declared.fault.SpellFault.{SpellFault}
 use Rattle.gob_value.specs.declared.fault.SpellFault.TheVariants as spelling
 use Rattle.gob_value.specs.declared.fault.ShapeFault.{ShapeFault}

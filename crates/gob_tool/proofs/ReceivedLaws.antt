@@ -4,16 +4,16 @@ use Rattle.gob_types.specs.declared.id.TypeId.{TypeId}
 use Rattle.gob_types.specs.Base.{base_table}
 use Rattle.gob_types.specs.Ready.{IsReady}
 use Rattle.gob_types.specs.Table.{Table}
-use Rattle.gob_types.proofs.GrowthLaws.{Keeps, ready_on}
+use Rattle.gob_types.proofs.PublicLaws.{Keeps, ready_on}
 use Rattle.gob_value.specs.Fits.{Fits}
 use Rattle.gob_value.specs.Top.{SpellsTop, at_once, tagged}
 use Rattle.gob_value.specs.Tree.{Tree, depth}
 use Rattle.gob_value.specs.Within.{FitsWithin}
-use Rattle.gob_value.proofs.StayLaws.{spells_on}
+use Rattle.gob_value.proofs.PublicLaws.{spells_on}
 use Rattle.gob_match.specs.declared.reason.ClashReason.{ClashReason}
 use Rattle.gob_match.specs.declared.step.Step.{Step}
 use Rattle.gob_match.specs.Clashing.{IsLeastClash}
-use Rattle.gob_match.proofs.StayLaws.{match_on, match_back, receives_on, receives_back, least_back}
+use Rattle.gob_match.proofs.PublicLaws.{match_on, match_back, receives_on, receives_back, least_back}
 use Rattle.gob_stream.specs.Bounds.{Bounds}
 use Rattle.gob_stream.specs.Item.{StreamItem, puts}
 use Rattle.gob_stream.specs.Body.{definition as of_definition, value as of_value}

@@ -1,3 +1,4 @@
+pub mod PublicLaws
 pub mod GrowthLaws
 pub mod RankLaws
 pub mod FirstLaws

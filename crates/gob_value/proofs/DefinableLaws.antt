@@ -4,7 +4,7 @@ use Rattle.std.specs.Prelude.{slice_get}
 use Rattle.std.proofs.lemmas.Bool.{eqb-true, eq-eqb}
 use Rattle.std.proofs.lemmas.Bool.Decides.{eqb_tells}
 use Rattle.std.proofs.lemmas.Int.{ints}
-use Rattle.gob_num.proofs.SignedLaws.{signed_fits}
+use Rattle.gob_num.proofs.PublicLaws.{signed_fits}
 use Rattle.gob_types.specs.declared.id.TypeId.{TypeId}
 use Rattle.gob_types.specs.declared.basic.Basic.TheVariants as basic
 use Rattle.gob_types.specs.declared.kind.Field.{Field}
@@ -16,7 +16,7 @@ use Rattle.gob_types.specs.Base.{base_table, wire_type, wire_type_fields, id}
 use Rattle.gob_types.specs.Definable.{IsReference, IsDefinable, HasLength}
 use Rattle.gob_types.specs.Ready.{Names}
 use Rattle.gob_types.specs.Table.{Table, shape_of}
-use Rattle.gob_types.proofs.GrowthLaws.{some_injective}
+use Rattle.gob_types.proofs.PublicLaws.{some_injective}
 use Rattle.gob_value.specs.Tree.{Tree, Fields, no_field, field}
 use Rattle.gob_value.specs.Spelling.{Spells, of_type, SpellsAs, of_int, of_struct, SpellsFields, end_of_fields, next_field}
 use Rattle.gob_value.specs.Fits.{Fits}

@@ -3,8 +3,7 @@ use Rattle.std.proofs.Common.{◌≡◌, ℕ, suc, pos, ◌+◌, ◌-◌, ◌^�
 use Rattle.std.specs.Prelude.{slice_get, OnOk, IfOk}
 use Rattle.std.proofs.lemmas.Bool.{eqb-true}
 use Rattle.std.proofs.lemmas.Int.{ints}
-use Rattle.gob_num.proofs.UnsignedLaws.{unsigned_spelled}
-use Rattle.gob_num.proofs.SignedLaws.{signed_spelled}
+use Rattle.gob_num.proofs.PublicLaws.{unsigned_spelled, signed_spelled}
 use Rattle.gob_types.specs.declared.id.TypeId.{TypeId}
 use Rattle.gob_types.specs.declared.kind.Field.{Field}
 use Rattle.gob_types.specs.declared.kind.Marshal.{Marshal}

@@ -2,14 +2,14 @@
 use Rattle.std.proofs.Common.{◌≡◌, ◌↔◌, ℕ, ◌+◌, ◌-◌, ◌^◌, ◌<◌, ◌≤◌, Bool, true, false, cond, List, [], ◌++◌, length, get_or, drop, Some, None, arith, refl, sym, ◌∙◌, subst, eqb}
 use Rattle.std.specs.Prelude.{slice_get}
 use Rattle.std.proofs.lemmas.Bool.{eqb-true, eq-eqb}
-use Rattle.gob_num.proofs.UnsignedLaws.{unsigned_spelled}
+use Rattle.gob_num.proofs.PublicLaws.{unsigned_spelled}
 use Rattle.gob_types.specs.declared.id.TypeId.{TypeId}
 use Rattle.gob_types.specs.declared.kind.Field.{Field}
 use Rattle.gob_types.specs.declared.kind.Kind.{Kind}
 use Rattle.gob_types.specs.declared.kind.Kind.TheVariants as kind
 use Rattle.gob_types.specs.declared.kind.Shape.{Shape}
 use Rattle.gob_types.specs.Table.{Table, shape_of}
-use Rattle.gob_types.proofs.GrowthLaws.{some_injective}
+use Rattle.gob_types.proofs.PublicLaws.{some_injective}
 use Rattle.gob_value.specs.Tree.{Tree, Trees, tree, Pairs, pair, Fields, field, tree_count, pair_count}
 use Rattle.gob_value.specs.View.{view, views, pair_views, field_views}
 use Rattle.gob_value.specs.Elements.{element_type}

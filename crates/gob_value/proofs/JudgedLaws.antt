@@ -11,7 +11,7 @@ use Rattle.gob_types.specs.declared.kind.Shape.{Shape}
 use Rattle.gob_types.specs.declared.reason.Reason.{Reason}
 use Rattle.gob_types.specs.declared.reason.Reason.TheVariants as reason
 use Rattle.gob_types.specs.Base.{gob_encoder_type}
-use Rattle.gob_types.proofs.GrowthLaws.{some_injective}
+use Rattle.gob_types.proofs.PublicLaws.{some_injective}
 use Rattle.gob_value.specs.Tree.{Tree}
 use Rattle.gob_value.specs.Description.{SaidField, SaidKind, said_array, said_slice, said_struct, said_map, said_opaque, Said, said, RefersTo, GivesFields, no_more, and_field, GivesKind, gives_array, gives_slice, gives_struct, gives_map, gives_opaque, Describes, IsBadReference, HasBadField, this_field, later_field, HasBadReference, HasBadLength, Misdescribes, kind_count, wrong_id, bad_reference, bad_length}
 use Rattle.gob_value.specs.DescriptionLaws.{IsRefused}

@@ -2,9 +2,7 @@
 use Rattle.std.proofs.Common.{◌≡◌, ◌↔◌, IsTrue, ℕ, ℤ, ◌^◌, ◌<◌, Bool, true, false, List, ◌++◌, length, arith, refl, sym, subst}
 use Rattle.std.specs.Prelude.{FitsSigned}
 use Rattle.std.specs.Int.{w64}
-use Rattle.gob_num.proofs.UnsignedLaws.{unsigned_spelled}
-use Rattle.gob_num.proofs.SignedLaws.{signed_spelled}
-use Rattle.gob_num.proofs.PatternLaws.{pattern_spelled}
+use Rattle.gob_num.proofs.PublicLaws.{unsigned_spelled, signed_spelled, pattern_spelled}
 use Rattle.gob_types.specs.declared.basic.Basic.TheVariants as basic
 use Rattle.gob_types.specs.declared.kind.Kind.{Kind}
 use Rattle.gob_types.specs.declared.kind.Kind.TheVariants as kind

@@ -3,8 +3,7 @@ use Rattle.std.proofs.Common.{◌≡◌, ℕ, suc, ◌+◌, ◌-◌, ◌^◌, �
 use Rattle.std.proofs.Math.Nat.{pow-succ'}
 use Rattle.std.proofs.lemmas.Bool.{cases_lt}
 use Rattle.gob_num.specs.Unsigned.{IsCounted, IsUnsigned, short, long}
-use Rattle.gob_num.proofs.DigitLaws.{pow256_mono, big_endian_below}
-use Rattle.gob_num.proofs.UnsignedLaws.{unsigned_unique, unsigned_spelled, unsigned_fits, unsigned_length}
+use Rattle.gob_num.proofs.PublicLaws.{pow256_mono, big_endian_below, unsigned_unique, unsigned_spelled, unsigned_fits, unsigned_length}
 use Rattle.gob_types.specs.declared.id.TypeId.{TypeId}
 use Rattle.gob_types.specs.declared.kind.Field.{Field}
 use Rattle.gob_types.specs.declared.kind.Kind.{Kind}

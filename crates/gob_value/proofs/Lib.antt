@@ -1,3 +1,4 @@
+pub mod PublicLaws
 pub mod ViewLaws
 pub mod TestSteps
 pub mod LeafLaws

@@ -1,12 +1,10 @@
 -- A value has one spelling at a type.
 use Rattle.std.proofs.Common.{◌≡◌, ℕ, List, ◌∷◌, ◌++◌, refl, sym, ap, ◌∙◌, subst}
-use Rattle.gob_num.proofs.UnsignedLaws.{unsigned_unique}
-use Rattle.gob_num.proofs.SignedLaws.{signed_unique}
-use Rattle.gob_num.proofs.PatternLaws.{pattern_unique}
+use Rattle.gob_num.proofs.PublicLaws.{unsigned_unique, signed_unique, pattern_unique}
 use Rattle.gob_types.specs.declared.id.TypeId.{TypeId}
 use Rattle.gob_types.specs.declared.kind.Shape.{Shape}
 use Rattle.gob_types.specs.Table.{Table}
-use Rattle.gob_types.proofs.GrowthLaws.{some_injective}
+use Rattle.gob_types.proofs.PublicLaws.{some_injective}
 use Rattle.gob_value.specs.Tree.{Tree, Trees, Pairs, Fields}
 use Rattle.gob_value.specs.Spelling.{Spells}
 use Rattle.gob_value.specs.Top.{IsStruct, SpellsTop, at_once, tagged}

@@ -1,7 +1,7 @@
 -- One step of writing the parts of a value.
 use Rattle.std.proofs.Common.{◌≡◌, ℕ, ◌+◌, ◌-◌, ◌^◌, ◌<◌, ◌≤◌, List, [], ◌++◌, length, get_or, drop, arith}
 use Rattle.gob_num.specs.Unsigned.{IsUnsigned}
-use Rattle.gob_num.proofs.UnsignedLaws.{unsigned_fits}
+use Rattle.gob_num.proofs.PublicLaws.{unsigned_fits}
 use Rattle.gob_value.specs.Tree.{Tree, Trees, tree, Pairs, pair, Fields, field, fields_depth}
 use Rattle.gob_value.specs.View.{view, views, pair_views, field_views}
 use Rattle.gob_value.specs.Written.{Written, of_many, of_pairs, of_fields, WrittenEach, no_element, element, WrittenPairs, no_entry, entry, WrittenFields, end_of_fields, next_field, IsWritable, AreWritable, PairsWritable, FieldsWritable}

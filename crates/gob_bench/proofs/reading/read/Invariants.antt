@@ -1,5 +1,5 @@
 use Rattle.gob_types.specs.Defined.{types}
-use Rattle.gob_read.proofs.Pushed.{IsPushed}
+use Rattle.gob_read.proofs.PublicLaws.{IsPushed}
 use Rattle.gob_bench.proofs.reading.read.Given as goal
 
 abbrev pub invariant-loop-piece : goal.invariant-loop-piece

@@ -3,7 +3,7 @@ use Rattle.std.proofs.lemmas.Option.{slice_get_read}
 use Rattle.gob_value.specs.declared.value.Value.{the_lemmas}
 use Rattle.gob_value.specs.Fits.{Fits}
 use Rattle.gob_value.specs.View.{view}
-use Rattle.gob_value.proofs.TidySteps.{IsNoList, IsNoMap, IsNoStruct}
+use Rattle.gob_value.proofs.PublicLaws.{IsNoList, IsNoMap, IsNoStruct}
 use Rattle.gob_match.specs.Machine.Receiving.{no_more, absent, present}
 use Rattle.gob_match.specs.Received.{no_element, element, no_entry, entry}
 use Rattle.gob_match.proofs.Loops.{completes_start, completes_on, completes_end}

@@ -1,4 +1,4 @@
-use Rattle.gob_types.proofs.GrowthLaws.{extends_keeps}
+use Rattle.gob_types.proofs.PublicLaws.{extends_keeps}
 use Rattle.gob_read.proofs.Stay.{awaits_top_on, awaits_top_back, stood_on, first_on, first_back}
 use Rattle.gob_read.proofs.laws.bodies_stay.Goals as goal
 

@@ -3,7 +3,7 @@ use Rattle.std.proofs.lemmas.Int.{to_z-of_z}
 use Rattle.gob_value.specs.Tree.{Tree}
 use Rattle.gob_value.specs.View.{view}
 use Rattle.gob_value.specs.declared.value.Value.{Int}
-use Rattle.gob_value.proofs.ViewLaws.{view-Int}
+use Rattle.gob_value.proofs.PublicLaws.{view-Int}
 use Rattle.gob_read.specs.Built.{number_tree}
 use Rattle.gob_read.proofs.BuiltLaws.{signed_is}
 use Rattle.gob_read.proofs.tree_builder.basic_value.Goals as goal

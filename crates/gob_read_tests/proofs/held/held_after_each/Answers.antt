@@ -1,5 +1,5 @@
 use Rattle.gob_types.specs.Defined.{types}
-use Rattle.gob_read.proofs.Pushed.{usable_pushed}
+use Rattle.gob_read.proofs.PublicLaws.{usable_pushed}
 use Rattle.gob_read_tests.proofs.held.held_after_each.Goals as goal
 
 pub bytes-preserved : goal.bytes-preserved

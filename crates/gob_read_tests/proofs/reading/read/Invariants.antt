@@ -1,6 +1,6 @@
 use Rattle.std.proofs.Common.{◌≤◌, length}
 use Rattle.gob_types.specs.Defined.{types}
-use Rattle.gob_read.proofs.Pushed.{IsPushed}
+use Rattle.gob_read.proofs.PublicLaws.{IsPushed}
 use Rattle.gob_read_tests.proofs.reading.read.Given as goal
 
 abbrev pub invariant-pieces : goal.invariant-pieces

@@ -1,7 +1,7 @@
 use Rattle.std.proofs.Common.{ap}
 use Rattle.gob_types.specs.Defined.{types}
 use Rattle.gob_value.specs.View.{view}
-use Rattle.gob_value.proofs.DefinableLaws.{definable}
+use Rattle.gob_value.proofs.PublicLaws.{definable}
 use Rattle.gob_stream.specs.ReadParts.{defined, no_memory_to_define}
 use Rattle.gob_stream.proofs.DescriptionSteps.{shape_stopped}
 use Rattle.gob_stream.proofs.body.define.Goals as goal

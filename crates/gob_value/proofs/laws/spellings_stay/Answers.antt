@@ -1,4 +1,4 @@
-use Rattle.gob_types.proofs.GrowthLaws.{extends_keeps}
+use Rattle.gob_types.proofs.PublicLaws.{extends_keeps}
 use Rattle.gob_value.proofs.StayLaws.{spells_on, spells_back, top_on, top_back}
 use Rattle.gob_value.proofs.laws.spellings_stay.Goals as goal
 
