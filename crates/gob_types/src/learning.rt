@@ -4,7 +4,7 @@
 //! from one of them goes on through none that is known. It ends early where a hint says that the type reaches an id
 //! that isn't defined. A definition can make ready its own type alone, and from it, step by step, types that name
 //! one that became ready: so each becomes ready once, and a type is looked at once for each name that becomes ready.
-ghost use Rattle.std.specs.Prelude.{◌≡◌, ◌⊎◌, Some, None, IsTrue, IfOk, IfSome, OnOk, Contains, MatchBool, MatchOption};
+ghost use Rattle.std.specs.Prelude.{◌≡◌, ◌≤◌, ◌⊎◌, length, Some, None, IsTrue, IfOk, IfSome, OnOk, Contains, MatchBool, MatchOption};
 ghost use Rattle.gob_types.specs.declared.id.TypeId.{TypeId};
 ghost use Rattle.gob_types.specs.Table.{shape_of};
 ghost use Rattle.gob_types.specs.Defined.{types};
@@ -195,8 +195,8 @@ fn reached_past(
         if known.contains(at) {
             continue;
         }
-        if let Some(missing) = missing_for(table, alloc, known, hints, at)? {
-            hints.note(id, missing)?;
+        if let Some(_) = missing_for(table, alloc, known, hints, at)? {
+            renew_hints(table, alloc, known, hints, &met, next)?;
             return Ok(None);
         }
         let Some(shape) = table.shape_of(at) else {
@@ -205,6 +205,31 @@ fn reached_past(
         add_names(&mut met, &shape.kind)?;
     }
     Ok(Some(met))
+}
+
+// Notes hints of the first of these types, the last of them first, but for what is known: so of each that leads through
+// them to one with a hint, and the next walk that comes to it ends there.
+fn renew_hints(
+    table: &Definitions,
+    alloc: Global,
+    known: &TypeSet,
+    hints: &mut Hints,
+    met: &TypeSet,
+    count: usize,
+) -> Result<(), Memory>
+    requires hints { AreHints (types table.now) hints.old }
+    requires count { count ≤ length met.now }
+    ensures { AreHints (types table.now) hints.new }
+{
+    let mut left = count;
+    while left > 0 {
+        left -= 1;
+        let at = met.as_slice()[left];
+        if !known.contains(at) {
+            missing_for(table, alloc, known, hints, at)?;
+        }
+    }
+    Ok(())
 }
 
 // An id that isn't defined or is hopeless, and that the type reaches, where the hints of the type or of one that it

@@ -3,7 +3,6 @@ use Rattle.gob_types.specs.Defined.{types}
 use Rattle.gob_types.specs.Walk.{AddsAll}
 use Rattle.gob_types.proofs.FirstLaws.{contains_read, read_at}
 use Rattle.gob_types.proofs.SetLaws.{adds_one}
-use Rattle.gob_types.proofs.WalkLaws.{reaches_joined}
 use Rattle.gob_types.proofs.KeptLaws.{past_start, past_known, past_names, past_all, lacks_some, lacks_joined, lacks_not}
 use Rattle.gob_types.proofs.learning.reached_past.Goals as goal
 
@@ -19,23 +18,11 @@ loop-next-preserved-then-contains c =
     let at = read_at c.loop-next.next _ c.as_slice.ensures (omega (arith, c.loop-next-test.true, c.count.ensures.count)) in
     record { hints = c.loop-next.invariant.hints; met = past_known c.loop-next.invariant.met at (c.contains.ensures.0 c.if-contains.true) }
 
-pub returns-in_err-note-clause-hints : goal.returns-in_err-note-clause-hints
-returns-in_err-note-clause-hints c =
-    let at = read_at c.loop-next.next _ c.as_slice.ensures (omega (arith, c.loop-next-test.true, c.count.ensures.count)) in
-    let reached = c.loop-next.invariant.met.sound _ (contains_read c.loop-next.met c.loop-next.next _ at) in
-    c.note.ensures (types c.args.table.now) c.missing_for.ensures.hints (reaches_joined reached (lacks_some c.in_ok-missing.field-0 c.in_ok-missing.ensures.lacks c.in-Some.is).0)
-
-pub returns-in-Some-clause-hints : goal.returns-in-Some-clause-hints
-returns-in-Some-clause-hints c =
-    let at = read_at c.loop-next.next _ c.as_slice.ensures (omega (arith, c.loop-next-test.true, c.count.ensures.count)) in
-    let reached = c.loop-next.invariant.met.sound _ (contains_read c.loop-next.met c.loop-next.next _ at) in
-    c.note.ensures (types c.args.table.now) c.missing_for.ensures.hints (reaches_joined reached (lacks_some c.in_ok-missing.field-0 c.in_ok-missing.ensures.lacks c.in-Some.is).0)
-
 pub returns-in-Some-clause-judged : goal.returns-in-Some-clause-judged
 returns-in-Some-clause-judged c =
     let at = read_at c.loop-next.next _ c.as_slice.ensures (omega (arith, c.loop-next-test.true, c.count.ensures.count)) in
     let reached = c.loop-next.invariant.met.sound _ (contains_read c.loop-next.met c.loop-next.next _ at) in
-    lacks_not (lacks_joined reached (lacks_some c.in_ok-missing.field-0 c.in_ok-missing.ensures.lacks c.in-Some.is))
+    lacks_not (lacks_joined reached (lacks_some c.in_ok-missing_for.field-0 c.in_ok-missing_for.ensures.lacks c.in-Some.is))
 
 pub returns-in_default-shape_of-clause-judged : goal.returns-in_default-shape_of-clause-judged
 returns-in_default-shape_of-clause-judged c =
