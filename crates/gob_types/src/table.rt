@@ -5,6 +5,7 @@ ghost use Rattle.gob_types.specs.Definable.{IsDefinable};
 ghost use Rattle.gob_types.specs.Defined.{IsTable, Admits, types, definition_count};
 ghost use Rattle.gob_types.specs.Refused.{Refuses};
 ghost use Rattle.gob_types.specs.Ready.{IsReady};
+ghost use Rattle.gob_types.specs.Kept.{IsKept};
 ghost use Rattle.gob_types.specs.Readiness.{IsNotReady};
 
 use crate::definitions::Definitions;
@@ -89,6 +90,26 @@ const BASE_IDS: [TypeId; 17] = [
     TypeId(24),
 ];
 
+// Finds which types of the base table are ready, where nothing is known of them yet.
+fn learn_base(
+    table: &Definitions,
+    alloc: Global,
+    ready: &mut TypeSet,
+    users: &mut Users,
+    hints: &mut Hints,
+) -> Result<(), Memory>
+    requires base { types table.now ≡ base_table }
+    requires ready { ready.old ≡ [] }
+    requires hints { hints.old ≡ [] }
+    ensures { OnOk result (IsKept (types table.now) ready.new users.new hints.new) }
+{
+    let mut ids = TypeSet::new(alloc);
+    ids.add_all(&BASE_IDS)?;
+    note_all(table, alloc, ready, users, &ids)?;
+    learn_all(table, alloc, ready, users, hints, ids)?;
+    Ok(())
+}
+
 impl Table {
     /// The table that a stream begins with: the base table alone. It takes at most `max_types` definitions.
     pub fn new(alloc: Global, max_types: u64) -> Result<Table, Memory>
@@ -96,13 +117,10 @@ impl Table {
         ensures most { IfOk result (λ table. table.most ≡ max_types) }
     {
         let definitions = Definitions::new(alloc, max_types)?;
-        let mut ids = TypeSet::new(alloc);
-        ids.add_all(&BASE_IDS)?;
         let mut ready = TypeSet::new(alloc);
         let mut users = Users::new(alloc);
         let mut hints = Hints::new(alloc);
-        note_all(&definitions, alloc, &ready, &mut users, &ids)?;
-        learn_all(&definitions, alloc, &mut ready, &users, &mut hints, ids)?;
+        learn_base(&definitions, alloc, &mut ready, &mut users, &mut hints)?;
         Ok(Table {
             definitions,
             ready,

@@ -1,25 +1,4 @@
-use Rattle.std.proofs.Common.{[], Contains, List, sym, subst}
-use Rattle.gob_types.specs.declared.id.TypeId.{TypeId}
-use Rattle.gob_types.specs.Table.{Table}
-use Rattle.gob_types.specs.Base.{base_table}
-use Rattle.gob_types.specs.Defined.{types}
-use Rattle.gob_types.specs.Walk.{AddsAll}
-use Rattle.gob_types.specs.Kept.{NamesNoted, AreReady, Hints, AreHints}
-use Rattle.gob_types.proofs.KeptLaws.{ids_of, kept_new, no_ready, no_hints}
 use Rattle.gob_types.proofs.table.Table.new.Goals as goal
 
-pub learn_all-requires-clause-sound : goal.learn_all-requires-clause-sound
-learn_all-requires-clause-sound c = subst (λ (l : List TypeId). AreReady (types c.in_ok-definitions.definitions) l) (sym c.new-ready.ensures) no_ready
-
-pub learn_all-requires-clause-hints : goal.learn_all-requires-clause-hints
-learn_all-requires-clause-hints c = subst (λ (h : Hints). AreHints (types c.in_ok-definitions.definitions) h) (sym c.new-hints.ensures) no_hints
-
 pub invariant_of-result : goal.invariant_of-result
-invariant_of-result c =
-    let ids = c.add_all.new.self in
-    let T = types c.in_ok-definitions.definitions in
-    let a : AddsAll [] ids (Contains (ids_of base_table)) = subst (λ l. AddsAll l ids (Contains (ids_of base_table))) c.new-ids.ensures c.in_ok-add_all.ensures.added in
-    let b : AddsAll [] ids (Contains (ids_of T)) = subst (λ (T : Table). AddsAll [] ids (Contains (ids_of T))) (sym c.in_ok-definitions.ensures.base) a in
-    kept_new b c.in_ok-learn_all.ensures.sound c.in_ok-learn_all.ensures.judged
-    (λ u there. subst (λ (l : List TypeId). NamesNoted T l c.note_all.new.users u) c.new-ready.ensures (c.in_ok-note_all.ensures.named u there))
-    c.learn_all.ensures.hints
+invariant_of-result c = c.in_ok-learn_base.ensures
