@@ -12,6 +12,12 @@ returns-in_err-session c = record {
   holds = passed_on (λ r. HasOutcome c.args.limits (joined c.args.pieces.now) [] r) c.from_residual.result fault.Memory c.from_residual.ensures.1 (begins_with_none c.args.limits (joined c.args.pieces.now));
 }
 
+pub loop-piece-init : goal.loop-piece-init
+loop-piece-init c = record {
+  limits = c.in_ok-session.ensures.limits;
+  given = record { given = []; appended = sym (append-nil c.args.out.now.items); holds = c.in_ok-session.ensures.stands };
+}
+
 pub feed-requires : goal.feed-requires
 feed-requires c = stands_after c.loop-piece.invariant.given.holds
 
