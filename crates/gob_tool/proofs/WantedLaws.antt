@@ -23,9 +23,10 @@ use Rattle.gob_stream.proofs.PublicLaws.{one_table}
 use Rattle.gob_tool.specs.declared.fault.ToolFault.{ToolFault}
 use Rattle.gob_tool.specs.declared.fault.ToolFault.TheVariants as fault
 use Rattle.gob_tool.specs.Gathering.{GaveItems, within_trees}
-use Rattle.gob_tool.specs.Pieces.{EndsPiece, GivesPiece, StandsAt, AreSent, sent, defined, ReadsWanted, TypesBehind, first_of}
+use Rattle.gob_tool.specs.Fault.{wanted_fault}
+use Rattle.gob_tool.specs.Pieces.{EndsPiece, GivesPiece, StandsAt, AreSent, sent, defined, ReadsWanted, CountsPiece, TypesBehind, first_of}
 use Rattle.gob_tool.specs.Showing.{CountsWriteFaults, MayCount}
-use Rattle.gob_tool.specs.Taking.{first_type, HasWanted, Receiving}
+use Rattle.gob_tool.specs.Taking.{first_type, HasWanted, LacksWanted, Receiving}
 use Rattle.gob_tool.specs.Wanting.{CountsWanted}
 use Rattle.gob_tool.proofs.LinesStay.{keeps_itself}
 use Rattle.gob_tool.proofs.ShowLaws.{known_taken, whole_stream}
@@ -108,6 +109,26 @@ module _ (M : Bounds) (s s' : Reading TreeBuilder Value) (start now next : Optio
 pub wanted_at : (L : Bounds) (bytes : List ℕ) (now : Option (List ℕ)) (T : Table) (r : Result (Option TypeId) Fault) (e : Fault) → IsErrAnd r (λ x. x ≡ e) → ReadsWanted L bytes now T (Err e) → ReadsWanted L bytes now T r
 wanted_at L bytes now T (Ok b) e x h = absurd x
 wanted_at L bytes now T (Err f) e x h = subst (λ e. ReadsWanted L bytes now T (Err e)) (sym x) h
+
+-- ---- what stopped it
+pub lacks_as : (M L : Bounds) (bytes : List ℕ) (now : Option (List ℕ)) (T : Table) (e : Fault) (f : ToolFault) → M ≡ L → f ≡ wanted_fault e → ReadsWanted M bytes now T (Err e) → LacksWanted L bytes now f
+lacks_as M L bytes now T e f same is read =
+    subst (λ (f : ToolFault). LacksWanted L bytes now f) (sym is) (at e (subst (λ (M : Bounds). ReadsWanted M bytes now T (Err e)) same read))
+  where
+    at : (e : Fault) → ReadsWanted L bytes now T (Err e) → LacksWanted L bytes now (wanted_fault e)
+    at (reading.Refused R) h = h
+    at reading.Read h = h
+    at reading.Memory h = tt
+    at reading.Failed h = absurd h
+
+pub counts_as : (failures failures' : ℕ) (e : Fault) (f : ToolFault) → f ≡ wanted_fault e → CountsPiece {A = Option TypeId} failures failures' (Err e) → CountsWanted failures failures' (Err f)
+counts_as failures failures' e f is counts = subst (λ (f : ToolFault). CountsWanted failures failures' (Err f)) (sym is) (at e counts)
+  where
+    at : (e : Fault) → CountsPiece {A = Option TypeId} failures failures' (Err e) → CountsWanted failures failures' (Err (wanted_fault e))
+    at (reading.Refused R) h = h
+    at reading.Read h = h
+    at reading.Memory h = h
+    at reading.Failed h = h
 
 -- ---- the run
 pub found_taken : {L : Bounds} {wanted : List ℕ} {wanted_now : Option (List ℕ)} {V : Table} {t : TypeId} (bytes : List ℕ) (now : Option (List ℕ)) (W : Table) (P C : List ℕ → Type 0) (r : Result (Unit {0}) ToolFault)
