@@ -9,7 +9,6 @@ ghost use Rattle.gob_read.specs.Held.{IsHeld};
 
 use crate::builder::Builder;
 use crate::run::Run;
-use crate::state::State;
 use crate::stop::Stop;
 use gob_num::Memory;
 use gob_types::{Shapes, TypeId};
@@ -30,9 +29,14 @@ pub enum Progress<O: Drop> {
 }
 
 /// A reader of one body, from behind its type number on, in pieces of any lengths.
-#[derive(Drop)]
 pub struct BodyReader<B: Builder> {
     run: Option<Run<B>>,
+}
+
+impl<B: Builder> Drop for BodyReader<B> {
+    fn drop(self) {
+        let BodyReader { run: _ } = self;
+    }
 }
 
 impl<B: Builder> BodyReader<B> {
@@ -72,8 +76,7 @@ impl<B: Builder> BodyReader<B> {
                 Ok(Progress::More)
             }
             Ok(Some(used)) => {
-                let Run { state, .. } = run;
-                let State { builder, .. } = state;
+                let builder = run.into_builder();
                 Ok(Progress::Done {
                     out: builder.take(),
                     used,

@@ -22,7 +22,6 @@ use gob_types::{Reason, Shapes, TypeId};
 use std::alloc::Global;
 
 /// A reader that has not ended. Offsets count from the first byte that it was given.
-#[derive(Drop)]
 pub(crate) struct Run<B: Builder> {
     /// What it knows between two items.
     pub(crate) state: State<B>,
@@ -36,6 +35,19 @@ pub(crate) struct Run<B: Builder> {
     pub(crate) length: u64,
     /// The greatest depth of a part.
     pub(crate) depth: u64,
+}
+
+impl<B: Builder> Drop for Run<B> {
+    fn drop(self) {
+        let Run {
+            state: _,
+            number: _,
+            start: _,
+            taken: _,
+            length: _,
+            depth: _,
+        } = self;
+    }
 }
 
 /// What became of the front of a piece.
@@ -56,6 +68,21 @@ impl Stepped {
 }
 
 impl<B: Builder> Run<B> {
+    /// The builder, which was told of the parts so far.
+    pub(crate) fn into_builder(self) -> B
+        ensures { result ≡ self.state.builder }
+    {
+        let Run {
+            state,
+            number: _,
+            start: _,
+            taken: _,
+            length: _,
+            depth: _,
+        } = self;
+        state.into_builder()
+    }
+
     /// A reader of a value of the type that has taken nothing.
     pub(crate) fn new(alloc: Global, id: TypeId, length: u64, depth: u64) -> Result<Run<B>, Memory>
         ensures new { IfOk result (λ run. (T : Table) → IsReady T id → IsNew T id B.stands run) }
