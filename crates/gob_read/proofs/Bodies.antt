@@ -161,12 +161,12 @@ push_more {T = T} {t = t} {limit = limit} {announced = announced} {stands = stan
       stood = there;
     }
 
-pub push_complete : {T : Table} {X O : Type 0} {stands : X → List Telling → Type 0} {mid new : Run X O} {piece : List ℕ} {used : ℕ} → IsReachedSomewhere T stands mid → Finishes T stands mid new piece used → IsComplete stands new.state.builder
-push_complete s f = let r = (f.finished s.type s.bytes s.reached).read in record { told = r.us; value = r.value; stood = r.told; tells = r.tells }
+pub push_complete : {T : Table} {X O : Type 0} {stands : X → List Telling → Type 0} {mid new : Run X O} {piece : List ℕ} {used : ℕ} {builder : X} → IsReachedSomewhere T stands mid → Finishes T stands mid new piece used → builder ≡ new.state.builder → IsComplete stands builder
+push_complete {stands = stands} s f one = let r = (f.finished s.type s.bytes s.reached).read in record { told = r.us; value = r.value; stood = subst (λ b. stands b r.us) (sym one) r.told; tells = r.tells }
 
-pub push_done : {T : Table} {t : TypeId} (limit : ℕ) {announced : ℕ} {X O : Type 0} {stands : X → List Telling → Type 0} {means : O → Tree → Type 0} {run mid new : Run X O} {o ended : Option (Run X O)} {z piece : List ℕ} {count used : ℕ} {out : O} → ReadsOn T run mid o piece count
-    → Finishes T stands mid new (take count piece) used → new.depth ≡ mid.depth → ((us : List Telling) (v : Tree) → stands new.state.builder us → Tells v us → means out v) → ended ≡ None → Stands T t limit announced stands o z → EndsBody T t limit announced means ended z piece out used
-push_done {T = T} {t = t} limit {announced = announced} {stands = stands} {run = run} {new = new} {z = z} {piece = piece} {count = count} {used = used} p f d m e s =
+pub push_done : {T : Table} {t : TypeId} (limit : ℕ) {announced : ℕ} {X O : Type 0} {stands : X → List Telling → Type 0} {means : O → Tree → Type 0} {run mid new : Run X O} {o ended : Option (Run X O)} {z piece : List ℕ} {count used : ℕ} {builder : X} {out : O} → ReadsOn T run mid o piece count
+    → Finishes T stands mid new (take count piece) used → new.depth ≡ mid.depth → builder ≡ new.state.builder → ((us : List Telling) (v : Tree) → stands builder us → Tells v us → means out v) → ended ≡ None → Stands T t limit announced stands o z → EndsBody T t limit announced means ended z piece out used
+push_done {T = T} {t = t} limit {announced = announced} {stands = stands} {run = run} {new = new} {z = z} {piece = piece} {count = count} {used = used} p f d same m e s =
     let a : IsAfter T t limit announced stands run z = after_is p.was s in
     let h = begun_reached p.begun a.so_far in
     let r = (f.finished t z h).read in
@@ -180,7 +180,7 @@ push_done {T = T} {t = t} limit {announced = announced} {stands = stands} {run =
         spelled = subst (λ l. SpellsTop T t r.value (z ++ l)) one r.spelled;
         not_deep = shallow_within r.spelled shallow;
         all = ap (λ l. length (z ++ l)) (sym one) ∙ f.all t z h ∙ p.begun.length_is ∙ a.length_is;
-        meant = m r.us r.value r.told r.tells;
+        meant = m r.us r.value (subst (λ b. stands b r.us) (sym same) r.told) r.tells;
       };
     }
 

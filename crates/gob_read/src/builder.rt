@@ -73,7 +73,8 @@ pub trait Builder: Drop {
 
     /// The parts told, and the raw bytes that are stored.
     fn held(&self) -> u64
-        ensures { (us : List Telling) → stands self.now us → result ≡ held_of stores_raw (parts_told us) (raw_told us) };
+        ensures { (us : List Telling) → stands self.now us
+            → result ≡ held_of stores_raw (parts_told us) (raw_told us) };
 
     /// What was made of the whole value that was told.
     fn take(self) -> Self::Out

@@ -4,7 +4,8 @@ ghost use Rattle.std.specs.Prelude.{◌≡◌, ◌+◌, ◌^◌, ◌<◌, ◌≤
 ghost use Rattle.gob_read.specs.Telling as telling;
 ghost use Rattle.gob_read.specs.Building.{CanTell};
 ghost use Rattle.gob_read.specs.Plain.{NamesField, CanEndFields, EndsFields};
-ghost use Rattle.gob_read.specs.Steps.{CanBeginStruct, BeginsStruct, CanGoOn, GoesOn, LeadsNowhere, CanTake, Takes, Refuses, Blames};
+ghost use Rattle.gob_read.specs.Steps.{CanBeginStruct, BeginsStruct, CanGoOn, GoesOn, LeadsNowhere, CanTake, Takes};
+ghost use Rattle.gob_read.specs.Steps.{Refuses, Blames};
 
 use crate::awaited::{Awaited, Item};
 use crate::builder::Builder;
@@ -74,7 +75,8 @@ impl<B: Builder> State<B> {
         Ok(false)
     }
 
-    /// Takes the number of the next field of the innermost open struct, which is of this type, and the type of its part.
+    /// Takes the number of the next field of the innermost open struct, which is of this type, and the type of its
+    /// part.
     #[inline(always)]
     pub(crate) fn name_field(&mut self, id: TypeId, number: u64, part: TypeId) -> Result<(), Memory>
         requires named { CanTell B.stands self.old.builder (telling.field number) }

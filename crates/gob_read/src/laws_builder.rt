@@ -7,7 +7,8 @@ ghost use Rattle.gob_value.specs.Top.{SpellsTop};
 ghost use Rattle.gob_read.specs.declared.check_builder.Counts.{Counts};
 ghost use Rattle.gob_read.specs.Weight.{weight};
 ghost use Rattle.gob_read.specs.Counted.{AreCountsOf};
-ghost use Rattle.gob_read.specs.BuilderLaws.{TellOneValue, TellWellFormed, HaveWellFormedFronts, TellTheWeight, WeighAtMostTheirLength};
+ghost use Rattle.gob_read.specs.BuilderLaws.{TellOneValue, TellWellFormed, HaveWellFormedFronts, TellTheWeight};
+ghost use Rattle.gob_read.specs.BuilderLaws.{WeighAtMostTheirLength};
 
 /// A list of tellings tells one value at most, so what a builder makes of them is the value's.
 pub fn tellings_tell_one_value()

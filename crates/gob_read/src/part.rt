@@ -25,7 +25,8 @@ impl<B: Builder> State<B> {
     ) -> Result<bool, Fault>
         requires { CanTakeFirst (S.table shapes.now) B.stands self.old id n }
         ensures ok { IfOk result (λ whole. TakesFirst (S.table shapes.now) B.stands self.old self.new id n whole) }
-        ensures refused { IfErr result (Blames (λ reason. RefusesFirst (S.table shapes.now) B.stands self.old id n reason)) }
+        ensures refused { IfErr result (Blames (λ reason. RefusesFirst (S.table shapes.now) B.stands
+            self.old id n reason)) }
     {
         let Some(shape) = shapes.shape_of(id) else {
             unreachable!()

@@ -1,12 +1,13 @@
-//! Parts of basic types that stand whole in a piece. Those of a struct are taken one behind another, without a look at what
-//! is awaited in between.
+//! Parts of basic types that stand whole in a piece. Those of a struct are taken one behind another, without a look
+//! at what is awaited in between.
 
 ghost use Rattle.std.specs.Prelude.{◌≡◌, ◌+◌, ◌<◌, ◌≤◌, IfOk, IfErr, IfSome, OnOk, [], ◌∷◌, length, take};
 ghost use Rattle.gob_types.specs.Table.{Table};
 ghost use Rattle.gob_types.specs.declared.kind.Kind.TheVariants as kind;
 ghost use Rattle.gob_read.specs.Kinds.{HasKind, IsScalar, IsRawKind};
 ghost use Rattle.gob_read.specs.Running.{IsOpenSomewhere, IsOpenIn, TakesMore, Steps, StopsFor, RefusesAt};
-ghost use Rattle.gob_read.specs.Plain.{CanTellPlain, TellsPlain, IsInFields, IsInStructFrame, TakesPlain, TakesName, StepsPlain};
+ghost use Rattle.gob_read.specs.Plain.{CanTellPlain, TellsPlain, IsInFields, IsInStructFrame, TakesPlain, TakesName};
+ghost use Rattle.gob_read.specs.Plain.{StepsPlain};
 
 use crate::awaited::{Awaited, Item};
 use crate::builder::Builder;
@@ -28,9 +29,9 @@ pub(crate) struct Entered {
 }
 
 impl<B: Builder> State<B> {
-    /// Tells a part of the basic type whose first number is `n`, if it stands whole with what is behind the number, `more`.
-    /// It answers how many bytes of `more` are in the part, and nothing where it isn't told: where it has two numbers,
-    /// isn't allowed or goes on behind the piece.
+    /// Tells a part of the basic type whose first number is `n`, if it stands whole with what is behind the number,
+    /// `more`. It answers how many bytes of `more` are in the part, and nothing where it isn't told: where it has two
+    /// numbers, isn't allowed or goes on behind the piece.
     #[inline(always)]
     fn tell_plain(&mut self, basic: Basic, n: u64, more: &[u8]) -> Result<Option<usize>, Memory>
         requires { CanTellPlain B.stands self.old basic n more.now }
@@ -88,7 +89,8 @@ impl<B: Builder> State<B> {
 }
 
 impl<B: Builder> Run<B> {
-    /// Takes the awaited part, or the next byte of its first number. In a struct it takes what stands whole behind it too.
+    /// Takes the awaited part, or the next byte of its first number. In a struct it takes what stands whole behind it
+    /// too.
     #[inline(always)]
     pub(crate) fn step_part<S: Shapes>(
         &mut self,
@@ -102,8 +104,10 @@ impl<B: Builder> Run<B> {
         requires room { self.old.taken + length rest.now ≤ self.old.length }
         ensures used { IfOk result (λ stepped. (0 < stepped.used) × (stepped.used ≤ length rest.now)) }
         ensures more { IfOk result (λ stepped. TakesMore self.old self.new stepped.used) }
-        ensures ok { IfOk result (λ stepped. Steps (S.table shapes.now) B.stands self.old self.new (take stepped.used rest.now) stepped.whole) }
-        ensures refused { IfErr result (StopsFor (λ refusal. RefusesAt (S.table shapes.now) B.stands self.old rest.now refusal)) }
+        ensures ok { IfOk result (λ stepped. Steps (S.table shapes.now) B.stands self.old self.new
+            (take stepped.used rest.now) stepped.whole) }
+        ensures refused { IfErr result (StopsFor (λ refusal. RefusesAt (S.table shapes.now) B.stands
+            self.old rest.now refusal)) }
     {
         let stepped = self.step_plain(shapes, id, rest)?;
         if stepped.used > 0 {
@@ -112,8 +116,8 @@ impl<B: Builder> Run<B> {
         self.step_number(shapes, Item::Part { id }, rest)
     }
 
-    /// Takes the awaited part and what stands whole behind it in its struct, if it is in a struct and no byte of it was taken
-    /// before. Where it isn't taken, nothing is done.
+    /// Takes the awaited part and what stands whole behind it in its struct, if it is in a struct and no byte of it
+    /// was taken before. Where it isn't taken, nothing is done.
     #[inline(always)]
     fn step_plain<S: Shapes>(
         &mut self,
@@ -163,7 +167,8 @@ impl<B: Builder> Run<B> {
         })
     }
 
-    /// Takes the deltas of the innermost open struct, and the parts behind them, as long as they stand whole in the piece.
+    /// Takes the deltas of the innermost open struct, and the parts behind them, as long as they stand whole in the
+    /// piece.
     #[inline(always)]
     fn step_fields<S: Shapes>(
         &mut self,
@@ -181,7 +186,8 @@ impl<B: Builder> Run<B> {
         requires room { self.old.taken + length rest.now ≤ self.old.length }
         ensures used { IfOk result (λ stepped. stepped.used ≤ length rest.now) }
         ensures more { IfOk result (λ stepped. TakesMore self.old self.new stepped.used) }
-        ensures ok { IfOk result (λ stepped. Steps (S.table shapes.now) B.stands self.old self.new (take stepped.used rest.now) stepped.whole) }
+        ensures ok { IfOk result (λ stepped. Steps (S.table shapes.now) B.stands self.old self.new
+            (take stepped.used rest.now) stepped.whole) }
     {
         let mut next = next;
         let mut used = 0;
@@ -213,8 +219,8 @@ impl<B: Builder> Run<B> {
         Ok(Stepped { used, whole: false })
     }
 
-    /// Takes the awaited part, if it is of a basic type and stands whole in the piece. It answers how many bytes it has, and 0
-    /// where it isn't taken.
+    /// Takes the awaited part, if it is of a basic type and stands whole in the piece. It answers how many bytes it
+    /// has, and 0 where it isn't taken.
     #[inline(always)]
     fn take_plain<S: Shapes>(
         &mut self,

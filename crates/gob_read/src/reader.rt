@@ -9,7 +9,6 @@ ghost use Rattle.gob_read.specs.Held.{IsHeld};
 
 use crate::builder::Builder;
 use crate::run::Run;
-use crate::state::State;
 use crate::stop::Stop;
 use gob_num::Memory;
 use gob_types::{Shapes, TypeId};
@@ -30,16 +29,22 @@ pub enum Progress<O: Drop> {
 }
 
 /// A reader of one body, from behind its type number on, in pieces of any lengths.
-#[derive(Drop)]
 pub struct BodyReader<B: Builder> {
     run: Option<Run<B>>,
+}
+
+impl<B: Builder> Drop for BodyReader<B> {
+    fn drop(self) {
+        let BodyReader { run: _ } = self;
+    }
 }
 
 impl<B: Builder> BodyReader<B> {
     /// A reader of a value of the type. `length` bytes are announced for it and its tag, and none of its parts may
     /// be deeper than `depth`, or than the builder takes.
     pub fn new(alloc: Global, id: TypeId, length: u64, depth: u64) -> Result<BodyReader<B>, Memory>
-        ensures { IfOk result (λ reader. (T : Table) → IsReady T id → Stands T id (min depth B.DEPTH) length B.stands reader.run []) }
+        ensures { IfOk result (λ reader. (T : Table) → IsReady T id
+            → Stands T id (min depth B.DEPTH) length B.stands reader.run []) }
     {
         let run = Run::new(alloc, id, length, depth.min(B::DEPTH))?;
         Ok(BodyReader { run: Some(run) })
@@ -54,9 +59,11 @@ impl<B: Builder> BodyReader<B> {
         piece: &[u8],
     ) -> Result<Progress<B::Out>, Stop>
         requires { IsUsable (S.table shapes.now) B.stands self.old.run }
-        ensures given { IfOk result (λ progress. (t : TypeId) (limit announced : ℕ) (z : List ℕ) → Stands (S.table shapes.now) t limit announced B.stands self.old.run z
+        ensures given { IfOk result (λ progress. (t : TypeId) (limit announced : ℕ) (z : List ℕ)
+            → Stands (S.table shapes.now) t limit announced B.stands self.old.run z
             → Gives (S.table shapes.now) t limit announced B.stands B.means self.new.run z piece.now progress) }
-        ensures refused { IfErr result (Stops self.old.run (λ refusal. RefusesBody (S.table shapes.now) B.stands self.old.run piece.now refusal)) }
+        ensures refused { IfErr result (Stops self.old.run (λ refusal. RefusesBody (S.table shapes.now)
+            B.stands self.old.run piece.now refusal)) }
         ensures failed { self.old.run ≡ None → result ≡ Err Stop.Failed }
         ensures ended { OnErr result (self.new.run ≡ None) }
     {
@@ -72,8 +79,7 @@ impl<B: Builder> BodyReader<B> {
                 Ok(Progress::More)
             }
             Ok(Some(used)) => {
-                let Run { state, .. } = run;
-                let State { builder, .. } = state;
+                let builder = run.into_builder();
                 Ok(Progress::Done {
                     out: builder.take(),
                     used,
@@ -86,7 +92,8 @@ impl<B: Builder> BodyReader<B> {
     /// How much is held of the value: each part from its first byte on, and the raw bytes that the builder stores.
     /// It is at most the number of bytes taken, and 0 once the reader has ended.
     pub fn held(&self) -> u64
-        ensures held { (T : Table) (t : TypeId) (limit announced : ℕ) (z : List ℕ) → Stands T t limit announced B.stands self.now.run z → IsHeld T t B.stores_raw z result }
+        ensures held { (T : Table) (t : TypeId) (limit announced : ℕ) (z : List ℕ)
+            → Stands T t limit announced B.stands self.now.run z → IsHeld T t B.stores_raw z result }
         ensures ended { self.now.run ≡ None → result ≡ 0 }
     {
         match &self.run {

@@ -1,13 +1,16 @@
 //! A reader under way.
 
-ghost use Rattle.std.specs.Prelude.{◌≡◌, ℕ, ◌+◌, ◌<◌, ◌≤◌, List, [], ◌∷◌, OnOk, IfOk, IfErr, IfNone, IfSome, length, take};
+ghost use Rattle.std.specs.Prelude.{◌≡◌, ℕ, ◌+◌, ◌<◌, ◌≤◌, List, [], ◌∷◌, OnOk, IfOk, IfErr, IfNone, IfSome, length};
+ghost use Rattle.std.specs.Prelude.{take};
 ghost use Rattle.gob_num.specs.Unsigned.{IsUnsigned};
 ghost use Rattle.gob_types.specs.declared.id.TypeId.{TypeId};
 ghost use Rattle.gob_types.specs.Table.{Table};
 ghost use Rattle.gob_types.specs.Ready.{IsReady};
 ghost use Rattle.gob_read.specs.Steps.{CanTake};
-ghost use Rattle.gob_read.specs.Running.{IsReachedSomewhere, IsOpenSomewhere, TakesMore, Steps, StopsFor, Opens as MayGoOn};
-ghost use Rattle.gob_read.specs.Running.{TakesNumber, RefusesNumber, RefusesAt, JudgesFor, EndsFor, GoesOn, Finishes, RefusesPiece};
+ghost use Rattle.gob_read.specs.Running.{IsReachedSomewhere, IsOpenSomewhere, TakesMore, Steps, StopsFor};
+ghost use Rattle.gob_read.specs.Running.{Opens as MayGoOn};
+ghost use Rattle.gob_read.specs.Running.{TakesNumber, RefusesNumber, RefusesAt, JudgesFor, EndsFor, GoesOn, Finishes};
+ghost use Rattle.gob_read.specs.Running.{RefusesPiece};
 ghost use Rattle.gob_read.specs.Running.{IsNew, IsOpenIn, depth_of, begun_parts};
 ghost use Rattle.gob_read.specs.Reader.{HasTaken};
 ghost use Rattle.gob_read.specs.Held.{IsHeld};
@@ -22,7 +25,6 @@ use gob_types::{Reason, Shapes, TypeId};
 use std::alloc::Global;
 
 /// A reader that has not ended. Offsets count from the first byte that it was given.
-#[derive(Drop)]
 pub(crate) struct Run<B: Builder> {
     /// What it knows between two items.
     pub(crate) state: State<B>,
@@ -36,6 +38,19 @@ pub(crate) struct Run<B: Builder> {
     pub(crate) length: u64,
     /// The greatest depth of a part.
     pub(crate) depth: u64,
+}
+
+impl<B: Builder> Drop for Run<B> {
+    fn drop(self) {
+        let Run {
+            state: _,
+            number: _,
+            start: _,
+            taken: _,
+            length: _,
+            depth: _,
+        } = self;
+    }
 }
 
 /// What became of the front of a piece.
@@ -56,6 +71,21 @@ impl Stepped {
 }
 
 impl<B: Builder> Run<B> {
+    /// The builder, which was told of the parts so far.
+    pub(crate) fn into_builder(self) -> B
+        ensures { result ≡ self.state.builder }
+    {
+        let Run {
+            state,
+            number: _,
+            start: _,
+            taken: _,
+            length: _,
+            depth: _,
+        } = self;
+        state.into_builder()
+    }
+
     /// A reader of a value of the type that has taken nothing.
     pub(crate) fn new(alloc: Global, id: TypeId, length: u64, depth: u64) -> Result<Run<B>, Memory>
         ensures new { IfOk result (λ run. (T : Table) → IsReady T id → IsNew T id B.stands run) }
@@ -85,9 +115,12 @@ impl<B: Builder> Run<B> {
     ) -> Result<Option<usize>, Stop>
         requires stands { IsReachedSomewhere (S.table shapes.now) B.stands self.old }
         requires room { self.old.taken + length piece.now ≤ self.old.length }
-        ensures more { IfOk result (λ done. IfNone done (GoesOn (S.table shapes.now) B.stands self.old self.new piece.now)) }
-        ensures done { IfOk result (λ done. IfSome done (λ used. Finishes (S.table shapes.now) B.stands self.old self.new piece.now used)) }
-        ensures refused { IfErr result (StopsFor (λ refusal. RefusesPiece (S.table shapes.now) B.stands self.old piece.now refusal)) }
+        ensures more { IfOk result (λ done. IfNone done (GoesOn (S.table shapes.now) B.stands self.old
+            self.new piece.now)) }
+        ensures done { IfOk result (λ done. IfSome done (λ used. Finishes (S.table shapes.now) B.stands
+            self.old self.new piece.now used)) }
+        ensures refused { IfErr result (StopsFor (λ refusal. RefusesPiece (S.table shapes.now) B.stands
+            self.old piece.now refusal)) }
         ensures length_kept { OnOk result (self.new.length ≡ self.old.length) }
         ensures depth_kept { OnOk result (self.new.depth ≡ self.old.depth) }
     {
@@ -120,7 +153,8 @@ impl<B: Builder> Run<B> {
 
     /// The parts that have begun, and the raw bytes that are stored.
     pub(crate) fn held(&self) -> u64
-        ensures { (T : Table) (t : TypeId) (z : List ℕ) → HasTaken T t B.stands self.now z → IsHeld T t B.stores_raw z result }
+        ensures { (T : Table) (t : TypeId) (z : List ℕ) → HasTaken T t B.stands self.now z
+            → IsHeld T t B.stores_raw z result }
     {
         let _taken = self.taken;
         self.state.builder.held().saturating_add(self.begun())
@@ -128,7 +162,8 @@ impl<B: Builder> Run<B> {
 
     /// The parts that have begun, and that the builder isn't told of yet.
     fn begun(&self) -> u64
-        ensures { (r : List ℕ) → self.now.taken ≡ self.now.start + length r → result ≡ begun_parts self.now.state.awaited r }
+        ensures { (r : List ℕ) → self.now.taken ≡ self.now.start + length r
+            → result ≡ begun_parts self.now.state.awaited r }
     {
         match self.state.awaited {
             Awaited::Top { id: _ } => 0,
@@ -203,8 +238,10 @@ impl<B: Builder> Run<B> {
         requires room { self.old.taken + length rest.now ≤ self.old.length }
         ensures used { IfOk result (λ stepped. (0 < stepped.used) × (stepped.used ≤ length rest.now)) }
         ensures more { IfOk result (λ stepped. TakesMore self.old self.new stepped.used) }
-        ensures ok { IfOk result (λ stepped. Steps (S.table shapes.now) B.stands self.old self.new (take stepped.used rest.now) stepped.whole) }
-        ensures refused { IfErr result (StopsFor (λ refusal. RefusesAt (S.table shapes.now) B.stands self.old rest.now refusal)) }
+        ensures ok { IfOk result (λ stepped. Steps (S.table shapes.now) B.stands self.old self.new
+            (take stepped.used rest.now) stepped.whole) }
+        ensures refused { IfErr result (StopsFor (λ refusal. RefusesAt (S.table shapes.now) B.stands
+            self.old rest.now refusal)) }
     {
         match self.state.awaited {
             Awaited::Top { id: _ } => unreachable!(),
@@ -228,8 +265,10 @@ impl<B: Builder> Run<B> {
         requires room { self.old.taken + length rest.now ≤ self.old.length }
         ensures used { IfOk result (λ stepped. (0 < stepped.used) × (stepped.used ≤ length rest.now)) }
         ensures more { IfOk result (λ stepped. TakesMore self.old self.new stepped.used) }
-        ensures ok { IfOk result (λ stepped. Steps (S.table shapes.now) B.stands self.old self.new (take stepped.used rest.now) stepped.whole) }
-        ensures refused { IfErr result (StopsFor (λ refusal. RefusesAt (S.table shapes.now) B.stands self.old rest.now refusal)) }
+        ensures ok { IfOk result (λ stepped. Steps (S.table shapes.now) B.stands self.old self.new
+            (take stepped.used rest.now) stepped.whole) }
+        ensures refused { IfErr result (StopsFor (λ refusal. RefusesAt (S.table shapes.now) B.stands
+            self.old rest.now refusal)) }
     {
         if self.start == self.taken {
             if let Taken::Whole { number, used } = take_uint(rest) {
@@ -253,7 +292,8 @@ impl<B: Builder> Run<B> {
         requires room { self.old.taken + length rest.now ≤ self.old.length }
         ensures used { IfOk result (λ stepped. (0 < stepped.used) × (stepped.used ≤ length rest.now)) }
         ensures more { IfOk result (λ stepped. TakesMore self.old self.new stepped.used) }
-        ensures ok { IfOk result (λ stepped. (T : Table) → Steps T B.stands self.old self.new (take stepped.used rest.now) stepped.whole) }
+        ensures ok { IfOk result (λ stepped. (T : Table)
+            → Steps T B.stands self.old self.new (take stepped.used rest.now) stepped.whole) }
     {
         let used = left.min(rest.len() as u64) as usize;
         let whole = self.take_chunk(left, &rest[..used])?;
@@ -293,7 +333,8 @@ impl<B: Builder> Run<B> {
         requires room { self.old.taken + length front.now ≤ self.old.length }
         ensures more { OnOk result (TakesMore self.old self.new (length front.now)) }
         ensures ok { IfOk result (λ whole. Steps (S.table shapes.now) B.stands self.old self.new front.now whole) }
-        ensures refused { IfErr result (StopsFor (λ refusal. RefusesAt (S.table shapes.now) B.stands self.old front.now refusal)) }
+        ensures refused { IfErr result (StopsFor (λ refusal. RefusesAt (S.table shapes.now) B.stands
+            self.old front.now refusal)) }
     {
         self.taken += front.len() as u64;
         self.take(shapes, item, n)
@@ -307,7 +348,8 @@ impl<B: Builder> Run<B> {
         requires room { self.old.taken + 1 ≤ self.old.length }
         ensures more { OnOk result (TakesMore self.old self.new 1) }
         ensures ok { IfOk result (λ whole. Steps (S.table shapes.now) B.stands self.old self.new (b ∷ []) whole) }
-        ensures refused { IfErr result (StopsFor (λ refusal. RefusesAt (S.table shapes.now) B.stands self.old (b ∷ []) refusal)) }
+        ensures refused { IfErr result (StopsFor (λ refusal. RefusesAt (S.table shapes.now) B.stands
+            self.old (b ∷ []) refusal)) }
     {
         self.taken += 1;
         match self.number.push(b) {
@@ -323,7 +365,8 @@ impl<B: Builder> Run<B> {
     fn take<S: Shapes>(&mut self, shapes: &S, item: Item, n: u64) -> Result<bool, Stop>
         requires { CanTake (S.table shapes.now) B.stands self.old.state item n }
         ensures ok { IfOk result (λ whole. TakesNumber (S.table shapes.now) B.stands self.old self.new n whole) }
-        ensures refused { IfErr result (StopsFor (λ refusal. RefusesNumber (S.table shapes.now) B.stands self.old n refusal)) }
+        ensures refused { IfErr result (StopsFor (λ refusal. RefusesNumber (S.table shapes.now) B.stands
+            self.old n refusal)) }
     {
         match self.state.take(shapes, item, n) {
             Ok(whole) => {

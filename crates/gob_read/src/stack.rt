@@ -8,10 +8,15 @@ use std::alloc::Global;
 use std::marker::Model;
 
 /// The open parts, which contracts see as a list with the innermost one first.
-#[derive(Drop)]
 pub(crate) struct Opens {
     // The innermost one last.
     frames: Vec<Frame>,
+}
+
+impl Drop for Opens {
+    fn drop(self) {
+        let Opens { frames: _ } = self;
+    }
 }
 
 impl Model for Opens {

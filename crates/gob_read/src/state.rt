@@ -14,7 +14,6 @@ use gob_types::{Basic, Kind, Reason, Shapes, TypeId};
 
 /// What a reader knows between two items: what is made of the parts so far, which parts are open, and what is
 /// awaited. After a fault it is of no more use.
-#[derive(Drop)]
 pub(crate) struct State<B: Builder> {
     /// What was told of each part so far.
     pub(crate) builder: B,
@@ -24,7 +23,29 @@ pub(crate) struct State<B: Builder> {
     pub(crate) awaited: Awaited,
 }
 
+impl<B: Builder> Drop for State<B> {
+    fn drop(self) {
+        let State {
+            builder: _,
+            stack: _,
+            awaited: _,
+        } = self;
+    }
+}
+
 impl<B: Builder> State<B> {
+    /// The builder, which was told of the parts so far.
+    pub(crate) fn into_builder(self) -> B
+        ensures { result ≡ self.builder }
+    {
+        let State {
+            builder,
+            stack: _,
+            awaited: _,
+        } = self;
+        builder
+    }
+
     /// Before the first byte: finds what a body of the type begins with.
     pub(crate) fn begin<S: Shapes>(&mut self, shapes: &S)
         ensures begun { BeginsAs (S.table shapes.now) self.old.awaited self.new.awaited }

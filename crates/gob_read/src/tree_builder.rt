@@ -15,11 +15,20 @@ use std::alloc::Global;
 
 /// A [`Builder`] that makes a [`Value`]. It keeps the open parts on a stack of its own, so that a deep value
 /// takes no more of the machine's stack than a flat one.
-#[derive(Drop)]
 pub struct TreeBuilder {
     alloc: Global,
     work: Work,
     held: u64,
+}
+
+impl Drop for TreeBuilder {
+    fn drop(self) {
+        let TreeBuilder {
+            alloc: _,
+            work: _,
+            held: _,
+        } = self;
+    }
 }
 
 /// The value of a part of a basic type, by its numbers.
@@ -102,6 +111,11 @@ impl Builder for TreeBuilder {
     }
 
     fn take(self) -> Value {
-        self.work.into_value()
+        let TreeBuilder {
+            alloc: _,
+            work,
+            held: _,
+        } = self;
+        work.into_value()
     }
 }

@@ -12,10 +12,15 @@ use gob_value::Value;
 use std::alloc::Global;
 
 /// The open parts, innermost last, and the whole value once it is there.
-#[derive(Drop)]
 pub(crate) struct Work {
     parts: Vec<Open>,
     whole: Option<Value>,
+}
+
+impl Drop for Work {
+    fn drop(self) {
+        let Work { parts: _, whole: _ } = self;
+    }
 }
 
 impl Work {
@@ -81,6 +86,7 @@ impl Work {
     pub(crate) fn into_value(self) -> Value
         ensures { (v : Tree) → (work_of self).whole ≡ Some v → view result ≡ v }
     {
-        self.whole.unwrap_or(Value::Nil)
+        let Work { parts: _, whole } = self;
+        whole.unwrap_or(Value::Nil)
     }
 }

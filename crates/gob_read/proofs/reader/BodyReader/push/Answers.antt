@@ -9,7 +9,7 @@ advance-requires-clause-stands g c =
 pub take-requires-in-Ok-Some : goal.take-requires-in-Ok-Some
 take-requires-in-Ok-Some g c =
     let p = reads_on c.in-Some.run' c.begin.new.self c.in-Some.ensures.value c.begin.ensures.begun c.begin.ensures.builder c.begin.ensures.stack c.min-count.ensures in
-    push_complete (reached_somewhere p.begun (usable_somewhere p.was c.requires)) (rw c.in-Ok-Some.field-0-is at c.in-Ok-Some.ensures.done)
+    push_complete (reached_somewhere p.begun (usable_somewhere p.was c.requires)) (rw c.in-Ok-Some.field-0-is at c.in-Ok-Some.ensures.done) c.into_builder-builder.ensures
 
 pub returns-in-Ok-None-clause-given : goal.returns-in-Ok-None-clause-given
 returns-in-Ok-None-clause-given g c = λ t limit announced z h.
@@ -19,7 +19,7 @@ returns-in-Ok-None-clause-given g c = λ t limit announced z h.
 pub returns-in-Ok-Some-clause-given : goal.returns-in-Ok-Some-clause-given
 returns-in-Ok-Some-clause-given g c = λ t limit announced z h.
     push_done limit (reads_on c.in-Some.run' c.begin.new.self c.in-Some.ensures.value c.begin.ensures.begun c.begin.ensures.builder c.begin.ensures.stack c.min-count.ensures)
-    (rw c.in-Ok-Some.field-0-is at c.in-Ok-Some.ensures.done) c.in-Ok-Some.ensures.depth_kept c.take-in-Ok-Some.ensures c.take.ensures.after h
+    (rw c.in-Ok-Some.field-0-is at c.in-Ok-Some.ensures.done) c.in-Ok-Some.ensures.depth_kept c.into_builder-builder.ensures c.take-in-Ok-Some.ensures c.take.ensures.after h
 
 pub returns-in-Err-clause-refused : goal.returns-in-Err-clause-refused
 returns-in-Err-clause-refused g c =
