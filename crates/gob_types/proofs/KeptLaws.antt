@@ -1,6 +1,6 @@
 -- What is known of ready types: what a walk past them shows, and what a definition changes.
 use Rattle.std.proofs.Common.{◌≡◌, ◌≢◌, ℕ, zero, suc, ◌+◌, ◌≤◌, ◌⊎◌, inl, inr, Bool, true, false, cond, List, [], ◌∷◌, ◌++◌, length, Contains, Option, Some, None, true≢false, arith, refl, sym, ap, ◌∙◌, subst, ◌-◌, take, length-append}
-use Rattle.std.specs.Prelude.{◌==◌, slice_get, IfSome, Result, Ok, Err, OnOk}
+use Rattle.std.specs.Prelude.{◌==◌, slice_get, IfSome}
 use Rattle.std.specs.List.{list_any}
 use Rattle.std.proofs.lemmas.Map.Views.{Contains-from_any, list_any-from_Contains}
 use Rattle.std.proofs.Math.Seq.{take-append_seam}
@@ -15,11 +15,12 @@ use Rattle.gob_types.specs.Ready.{Names, Leads, here, onward, Reaches, HasRank, 
 use Rattle.gob_types.specs.Entered.{same_id}
 use Rattle.gob_types.specs.Readiness.{IsComplete}
 use Rattle.gob_types.specs.Walk.{AddsAll, AddsOne, KnowsGrounds, Grows, AreAmong}
-use Rattle.gob_types.specs.Kept.{AreNames, Users, IsUser, KeepsUsers, NamesNoted, Hints, IsHopeless, AreHints, AreReady, IsKept, WasKept, Judged, Lacks, NamesAmong, MetPast, HandsOn, front}
+use Rattle.gob_types.specs.Kept.{AreNames, Users, IsUser, KeepsUsers, NamesNoted, Hints, IsHopeless, AreHints, AreReady, IsKept, WasKept, Judged, Lacks, NamesAmong, MetPast, HandsOn, AreReadyWith, AreAdded, IsLearnt, AreLearnt, front}
 use Rattle.gob_types.proofs.GrowthLaws.{Keeps, some_injective, reaches_itself, reaches_onward, reaches_on, names_ready, ready_defined, ready_grounded, ready_on, shape_of-append}
 use Rattle.gob_types.proofs.FirstLaws.{slice_get-append_left, FirstAre, none_first, more_first, first_grown, first_as, all_first, contains_read}
 use Rattle.gob_types.proofs.SetLaws.{same_laws, same_exact, adds_keeps, adds_one}
 use Rattle.gob_types.proofs.WalkLaws.{reaches_further, reaches_joined}
+use Rattle.gob_types.proofs.GrowsLaws.{grows_not}
 
 -- ---- the walk past known types
 
@@ -236,6 +237,27 @@ hands_then {old = old} {now = now} {after = after} {users = users} f g h = recor
     by w (inl there) = (hands_as f (contains_grown g)).each w there
     by w (inr each) = inr each
 
+-- all that was met is ready
+pub ready_with : {T : Table} {known ids : List TypeId} {t : TypeId} → MetPast T known t ids → AreReady T ids → AreReadyWith T t ids
+ready_with m ready = record { sound = ready; start = m.start }
+
+-- the type isn't ready, and nothing is changed
+pub learnt_not : {T : Table} {users : Users} {t : TypeId} {ids queue : List TypeId} → AreReady T ids → ¬ IsReady T t → IsLearnt T users t ids ids queue queue
+learnt_not sound apart = record { sound = sound; judged = inr apart; queued = grows_not; handed = hands_none }
+
+-- it is, and what was met with it came to what is ready
+pub learnt_all : {T : Table} {users : Users} {t : TypeId} {met old new queue after : List TypeId} → AreReady T old → AreReadyWith T t met → AreAdded users met old new queue after → IsLearnt T users t old new queue after
+learnt_all {t = t} sound w a = record { sound = added_ready sound w.sound a.added; judged = inl (a.added.has t w.start); queued = a.queued; handed = a.handed }
+
+-- all that came to the queue was looked at
+pub learnt_each : {T : Table} {users : Users} {ids old new queue : List TypeId} {n : ℕ} → AreReady T new → Grows ids queue → HandsOn old new users (Contains queue)
+    → FirstAre (Judged T new) queue n → length queue ≤ n → AreLearnt T users ids old new
+learnt_each sound grown handed judged whole = record {
+  sound = sound;
+  judged = λ u there. all_first judged whole (contains_grown grown u there);
+  handed = hands_as handed (λ u there. all_first judged whole there);
+}
+
 -- ---- what is ready, or isn't
 
 contains_or : (ids : List TypeId) (u : TypeId) → Contains ids u ⊎ ¬ Contains ids u
@@ -433,11 +455,6 @@ front_entries {E = E} x e f = f ∙ ap front e ∙ front_push E x
 
 pub cut_back : {old after cut : List TypeId} {n : ℕ} → Grows old after → n ≡ length old → cut ≡ take n after → cut ≡ old
 cut_back {old = old} {after = after} g e f = f ∙ ap (λ k. take k after) e ∙ ap (take (length old)) g.grown ∙ take-append_seam old g.more
-
--- three facts of one answer
-pub ok_three : {E A B C D : Type 0} (r : Result (Unit {0}) E) → OnOk r A → OnOk r B → OnOk r C → (A → B → C → D) → OnOk r D
-ok_three (Ok x) a b c f = f a b c
-ok_three (Err x) a b c f = tt
 
 -- ---- the base table
 

@@ -17,12 +17,17 @@ use std::alloc::Global;
 use std::marker::Model;
 
 /// The base table, and behind it what the stream has defined, in the order of arrival.
-#[derive(Drop)]
 pub(crate) struct Definitions {
     // The types by their ids, in that order.
     shapes: IndexMap<TypeId, Shape>,
     // How many definitions there may be at most.
     max_types: u64,
+}
+
+impl Drop for Definitions {
+    fn drop(self) {
+        let Definitions { shapes: _, max_types: _ } = self;
+    }
 }
 
 impl Model for Definitions {

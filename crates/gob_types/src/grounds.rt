@@ -19,12 +19,17 @@ use gob_num::Memory;
 use std::alloc::Global;
 
 /// What has been found of the types of one table.
-#[derive(Drop)]
 pub(crate) struct Grounds {
     // These have finite values.
     grounded: TypeSet,
     // These have none.
     bottomless: TypeSet,
+}
+
+impl Drop for Grounds {
+    fn drop(self) {
+        let Grounds { grounded: _, bottomless: _ } = self;
+    }
 }
 
 impl Grounds {

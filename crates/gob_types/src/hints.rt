@@ -13,9 +13,14 @@ use std::alloc::Global;
 use std::marker::Model;
 
 /// For some types another one each, which they reach; or itself, where no definition can make it ready.
-#[derive(Drop)]
 pub(crate) struct Hints {
     reached: IndexMap<TypeId, TypeId>,
+}
+
+impl Drop for Hints {
+    fn drop(self) {
+        let Hints { reached: _ } = self;
+    }
 }
 
 impl Model for Hints {

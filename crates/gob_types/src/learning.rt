@@ -9,9 +9,10 @@ ghost use Rattle.gob_types.specs.declared.id.TypeId.{TypeId};
 ghost use Rattle.gob_types.specs.Table.{shape_of};
 ghost use Rattle.gob_types.specs.Defined.{types};
 ghost use Rattle.gob_types.specs.Ready.{IsReady, Reaches};
-ghost use Rattle.gob_types.specs.Walk.{AddsAll, Grows};
-ghost use Rattle.gob_types.specs.Kept.{AreReady, Judged, HandsOn, IsKept, WasKept, AreNames, KeepsUsers, NamesNoted};
+ghost use Rattle.gob_types.specs.Walk.{Grows};
+ghost use Rattle.gob_types.specs.Kept.{AreReady, IsKept, WasKept, AreNames, KeepsUsers, NamesNoted};
 ghost use Rattle.gob_types.specs.Kept.{AreHints, IsHopeless, Lacks, MetPast};
+ghost use Rattle.gob_types.specs.Kept.{AreReadyWith, AreAdded, IsLearnt, AreLearnt};
 
 use crate::definitions::Definitions;
 use crate::grounds::Grounds;
@@ -106,11 +107,9 @@ pub(crate) fn learn_all(
 ) -> Result<(), Memory>
     requires sound { AreReady (types table.now) ready.old }
     requires hints { AreHints (types table.now) hints.old }
-    ensures sound { OnOk result (AreReady (types table.now) ready.new) }
     ensures hints { AreHints (types table.now) hints.new }
     ensures grown { Grows ready.old ready.new }
-    ensures judged { OnOk result ((u : TypeId) → Contains ids u → Judged (types table.now) ready.new u) }
-    ensures handed { OnOk result (HandsOn ready.old ready.new users.now (Judged (types table.now) ready.new)) }
+    ensures learnt { OnOk result (AreLearnt (types table.now) users.now ids ready.old ready.new) }
 {
     let mut queue = ids;
     let mut next = 0;
@@ -135,20 +134,39 @@ fn learn_one(
 ) -> Result<(), Memory>
     requires sound { AreReady (types table.now) ready.old }
     requires hints { AreHints (types table.now) hints.old }
-    ensures sound { OnOk result (AreReady (types table.now) ready.new) }
     ensures hints { AreHints (types table.now) hints.new }
     ensures grown { Grows ready.old ready.new }
-    ensures judged { OnOk result (Judged (types table.now) ready.new id) }
-    ensures queue { OnOk result (Grows queue.old queue.new) }
-    ensures handed { OnOk result (HandsOn ready.old ready.new users.now (Contains queue.new)) }
+    ensures learnt { OnOk result (IsLearnt (types table.now) users.now id ready.old ready.new queue.old queue.new) }
 {
-    let Some(met) = reached_past(table, alloc, ready, hints, id)? else {
+    let Some(met) = ready_past(table, alloc, ready, hints, id)? else {
         return Ok(());
     };
-    if !are_grounded(table, alloc, ready, id, &met)? {
-        return hints.note_hopeless(id);
-    }
     add_ready(ready, users, queue, &met)
+}
+
+// The types that this type leads to, itself among them, where no step leads on from a known one, and all of them are
+// ready; or nothing, where the type isn't ready.
+fn ready_past(
+    table: &Definitions,
+    alloc: Global,
+    known: &TypeSet,
+    hints: &mut Hints,
+    id: TypeId,
+) -> Result<Option<TypeSet>, Memory>
+    requires sound { AreReady (types table.now) known.now }
+    requires hints { AreHints (types table.now) hints.old }
+    ensures hints { AreHints (types table.now) hints.new }
+    ensures judged { let T = types table.now in
+        IfOk result (λ found. MatchOption found (¬ IsReady T id) (λ met. AreReadyWith T id met)) }
+{
+    let Some(met) = reached_past(table, alloc, known, hints, id)? else {
+        return Ok(None);
+    };
+    if are_grounded(table, alloc, known, id, &met)? {
+        return Ok(Some(met));
+    }
+    hints.note_hopeless(id)?;
+    Ok(None)
 }
 
 // Adds these types to those that are ready, and the types that name a new one of them to the queue.
@@ -158,10 +176,8 @@ fn add_ready(
     queue: &mut TypeSet,
     met: &TypeSet,
 ) -> Result<(), Memory>
-    ensures added { OnOk result (AddsAll ready.old ready.new (Contains met.now)) }
     ensures grown { Grows ready.old ready.new }
-    ensures queue { OnOk result (Grows queue.old queue.new) }
-    ensures handed { OnOk result (HandsOn ready.old ready.new users.now (Contains queue.new)) }
+    ensures added { OnOk result (AreAdded users.now met.now ready.old ready.new queue.old queue.new) }
 {
     for id in met.as_slice() {
         if !ready.add(*id)? {

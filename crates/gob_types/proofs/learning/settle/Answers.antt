@@ -1,6 +1,7 @@
 use Rattle.std.proofs.Common.{refl}
 use Rattle.gob_types.proofs.SetLaws.{adds_one}
-use Rattle.gob_types.proofs.KeptLaws.{was_ready, was_hinted, kept_then, ok_three}
+use Rattle.std.proofs.lemmas.Result.{on_ok_weaker}
+use Rattle.gob_types.proofs.KeptLaws.{was_ready, was_hinted, kept_then}
 use Rattle.gob_types.proofs.learning.settle.Goals as goal
 
 pub learn_all-requires-clause-sound : goal.learn_all-requires-clause-sound
@@ -13,12 +14,11 @@ pub returns-clause-kept : goal.returns-clause-kept
 returns-clause-kept c =
     let there = (adds_one _ c.in_ok-add.ensures.added).has c.args.id refl in
     let e = c.learn_all.ensures in
-    ok_three c.learn_all.result e.sound e.judged e.handed
-    (λ sound judged handed. kept_then c.requires c.note_all.ensures.kept (record {
+    on_ok_weaker c.learn_all.result (λ a. kept_then c.requires c.note_all.ensures.kept (record {
       named = c.in_ok-note_all.ensures.named c.args.id there;
-      sound = sound;
+      sound = a.sound;
       grown = e.grown;
-      judged = judged c.args.id there;
-      handed = handed;
+      judged = a.judged c.args.id there;
+      handed = a.handed;
       hinted = e.hints;
-    }))
+    })) e.learnt
