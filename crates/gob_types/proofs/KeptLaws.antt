@@ -172,9 +172,6 @@ pub trusted : {T : Table} {known both : List TypeId} → AreReady T known → Ar
 trusted ready a = record { have = λ u there. ready_grounded (ready.each u (a.each u there)); closed = λ u there. absurd (omega (arith, there.1)) }
 
 -- an id that is missing for what the type reaches is missing for the type
-pub lacks_joined : {T : Table} {t u h : TypeId} → Reaches T t u → Lacks T u h → Lacks T t h
-lacks_joined g l = (reaches_joined g l.0, l.1)
-
 pub lacks_some : {T : Table} {t h : TypeId} (found : Option TypeId) → IfSome found (λ g. Lacks T t g) → found ≡ Some h → Lacks T t h
 lacks_some None l e = absurd (none-some _ e)
 lacks_some {T = T} {t = t} (Some g) l e = subst (Lacks T t) (some_injective e) l
