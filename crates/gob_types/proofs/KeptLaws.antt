@@ -4,7 +4,7 @@ use Rattle.std.specs.Prelude.{◌==◌, slice_get, IfSome}
 use Rattle.std.specs.List.{list_any}
 use Rattle.std.proofs.lemmas.Map.Views.{Contains-from_any, list_any-from_Contains}
 use Rattle.std.proofs.Math.Seq.{take-append_seam}
-use Rattle.gob_types.specs.Defined.{IsTable}
+use Rattle.gob_types.specs.Defined.{Defined, IsTable}
 use Rattle.std.proofs.lemmas.Option.{slice_get_within, none-some}
 use Rattle.std.proofs.lemmas.Bool.Decides.{eqb_tells}
 use Rattle.std.proofs.lemmas.List.Elements.{Contains-append_left}
@@ -449,6 +449,10 @@ front_table {E = E} x table e = subst IsTable (sym (ap front e ∙ front_push E 
 
 pub front_entries : {E F G : Table} (x : TypeId × Shape) → F ≡ E ++ x ∷ [] → G ≡ front F → G ≡ E
 front_entries {E = E} x e f = f ∙ ap front e ∙ front_push E x
+
+pub same_defined : {d e : Defined} → d.entries ≡ e.entries → d.most ≡ e.most → d ≡ e
+same_defined {d = d} {e = e} f g =
+    ap (λ (T : Table). let x : Defined = record { entries = T; most = d.most } in x) f ∙ ap (λ (n : ℕ). let x : Defined = record { entries = e.entries; most = n } in x) g
 
 pub cut_back : {old after cut : List TypeId} {n : ℕ} → Grows old after → n ≡ length old → cut ≡ take n after → cut ≡ old
 cut_back {old = old} {after = after} g e f = f ∙ ap (λ k. take k after) e ∙ ap (take (length old)) g.grown ∙ take-append_seam old g.more

@@ -24,6 +24,7 @@ mod base;
 mod basic;
 mod definable;
 mod definitions;
+mod entries;
 mod grounds;
 mod hints;
 mod id;

@@ -1,6 +1,7 @@
 use Rattle.std.proofs.Common.{sym, subst}
 use Rattle.gob_types.specs.Defined.{types}
 use Rattle.gob_types.specs.Walk.{AddsOne, GoesOn, EndsWell}
+use Rattle.gob_types.proofs.SetLaws.{added_less}
 use Rattle.gob_types.proofs.GroundLaws.{Following, follow_start, follow_known, follow_bottomless, follow_round, follow_end, follow_on}
 use Rattle.gob_types.proofs.grounds.Grounds.follow.Goals as goal
 
@@ -30,3 +31,6 @@ loop-at-preserved c =
 
 pub returns : goal.returns
 returns c = follow_known c.loop-at.invariant (c.requires.known.have _ (c.contains.ensures.0 c.loop-at-test.false))
+
+pub loop-at-smaller : goal.loop-at-smaller
+loop-at-smaller c = added_less c.loop-at.way c.add.new.self c.loop-at.at (subst (AddsOne c.loop-at.way c.add.new.self c.loop-at.at) c.if-not-branch.false c.in_ok-add.ensures.added) c.add.ensures.small
