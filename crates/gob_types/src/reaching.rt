@@ -78,8 +78,8 @@ fn renew_hints(
     Ok(())
 }
 
-// Whether the hints of the type, or of one that it names, lead to an id that isn't defined or is hopeless. It is then
-// the hint of the type.
+// Whether the hints of the type, or of one that it names, lead to an id that isn't defined or is hopeless: the type has
+// then one that does.
 fn is_missing_one(
     table: &Definitions,
     alloc: Global,

@@ -1,7 +1,8 @@
 use Rattle.std.proofs.Common.{refl}
 use Rattle.gob_types.proofs.SetLaws.{adds_one}
+use Rattle.gob_types.proofs.GrowsLaws.{grows_not}
 use Rattle.std.proofs.lemmas.Result.{on_ok_weaker}
-use Rattle.gob_types.proofs.KeptLaws.{was_ready, was_hinted, kept_then}
+use Rattle.gob_types.proofs.KeptLaws.{users_kept_all, was_ready, was_hinted, kept_then}
 use Rattle.gob_types.proofs.learning.settle.Goals as goal
 
 pub learn_all-requires-clause-sound : goal.learn_all-requires-clause-sound
@@ -22,3 +23,21 @@ returns-clause-kept c =
       handed = a.handed;
       hinted = e.hints;
     })) e.learnt
+
+pub returns-in_err-add-clause-grown : goal.returns-in_err-add-clause-grown
+returns-in_err-add-clause-grown c = grows_not
+
+pub returns-in_err-add-clause-users : goal.returns-in_err-add-clause-users
+returns-in_err-add-clause-users c = users_kept_all
+
+pub returns-in_err-note_all-clause-grown : goal.returns-in_err-note_all-clause-grown
+returns-in_err-note_all-clause-grown c = grows_not
+
+pub returns-in_err-note_all-clause-users : goal.returns-in_err-note_all-clause-users
+returns-in_err-note_all-clause-users c = c.note_all.ensures.kept
+
+pub returns-clause-grown : goal.returns-clause-grown
+returns-clause-grown c = c.learn_all.ensures.grown
+
+pub returns-clause-users : goal.returns-clause-users
+returns-clause-users c = c.note_all.ensures.kept

@@ -15,3 +15,18 @@ returns-clause-hints c = c.note.ensures (types c.args.table.now) c.missing_among
 
 pub returns-clause-judged : goal.returns-clause-judged
 returns-clause-judged c told = lacks_not (lacks_some c.in_ok-missing.field-0 c.in_ok-missing.ensures.lacks c.in-Some.is)
+
+pub returns-in_err-end-clause-hints : goal.returns-in_err-end-clause-hints
+returns-in_err-end-clause-hints c = c.follow.ensures.kept (types c.args.table.now) c.requires
+
+pub is_lost-requires : goal.is_lost-requires
+is_lost-requires c = c.follow.ensures.kept (types c.args.table.now) c.requires
+
+pub returns-then-is_lost-clause-hints : goal.returns-then-is_lost-clause-hints
+returns-then-is_lost-clause-hints c = c.follow.ensures.kept (types c.args.table.now) c.requires
+
+pub returns-in_err-names-clause-hints : goal.returns-in_err-names-clause-hints
+returns-in_err-names-clause-hints c = c.follow.ensures.kept (types c.args.table.now) c.requires
+
+pub missing_among-requires-clause-hints : goal.missing_among-requires-clause-hints
+missing_among-requires-clause-hints c = c.follow.ensures.kept (types c.args.table.now) c.requires

@@ -1,7 +1,7 @@
-use Rattle.std.proofs.Common.{◌≡◌, inl, sym, subst, arith}
+use Rattle.std.proofs.Common.{◌≡◌, inl, length, ap, sym, subst, arith}
 use Rattle.gob_types.specs.Defined.{types}
 use Rattle.gob_types.specs.Walk.{AddsAll}
-use Rattle.gob_types.proofs.FirstLaws.{contains_read, read_at}
+use Rattle.gob_types.proofs.FirstLaws.{contains_read, read_at, next_less}
 use Rattle.gob_types.proofs.SetLaws.{adds_one}
 use Rattle.gob_types.proofs.KeptLaws.{past_start, past_known, past_names, past_all, lacks_not, ready_reached}
 use Rattle.gob_types.proofs.reaching.reached_past.Goals as goal
@@ -37,3 +37,15 @@ loop-next-preserved c =
 
 pub returns-clause-judged : goal.returns-clause-judged
 returns-clause-judged c = past_all c.loop-next.invariant.met (omega (arith, c.loop-next-test.false, c.count.ensures.count))
+
+pub bounds-as_slice-next : goal.bounds-as_slice-next
+bounds-as_slice-next c = omega (arith, c.loop-next-test.true, c.count.ensures.count, ap length c.as_slice.ensures)
+
+pub renew_hints-requires-clause-count : goal.renew_hints-requires-clause-count
+renew_hints-requires-clause-count c = omega (arith, c.loop-next-test.true, c.count.ensures.count)
+
+pub loop-next-smaller-then-contains : goal.loop-next-smaller-then-contains
+loop-next-smaller-then-contains c = next_less c.loop-next-test.true c.count.ensures.small
+
+pub loop-next-smaller : goal.loop-next-smaller
+loop-next-smaller c = next_less c.loop-next-test.true c.count.ensures.small
