@@ -24,9 +24,13 @@ pub(crate) struct Definitions {
     max_types: u64,
 }
 
+// Not derived, so that a drop is one call in the proofs of what owns one.
 impl Drop for Definitions {
     fn drop(self) {
-        let Definitions { entries: _, max_types: _ } = self;
+        let Definitions {
+            entries: _,
+            max_types: _,
+        } = self;
     }
 }
 

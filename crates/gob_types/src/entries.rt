@@ -15,6 +15,7 @@ pub(crate) struct Entries {
     shapes: IndexMap<TypeId, Shape>,
 }
 
+// Not derived, so that a drop is one call in the proofs of what owns one.
 impl Drop for Entries {
     fn drop(self) {
         let Entries { shapes: _ } = self;

@@ -26,9 +26,13 @@ pub(crate) struct Grounds {
     bottomless: TypeSet,
 }
 
+// Not derived, so that a drop is one call in the proofs of what owns one.
 impl Drop for Grounds {
     fn drop(self) {
-        let Grounds { grounded: _, bottomless: _ } = self;
+        let Grounds {
+            grounded: _,
+            bottomless: _,
+        } = self;
     }
 }
 
@@ -79,12 +83,7 @@ impl Grounds {
 
     // Follows the elements of arrays from this type on until the answer is known. It gives the types on the
     // way, of which nothing was known, and whether they have finite values.
-    fn follow(
-        &self,
-        table: &Definitions,
-        id: TypeId,
-        way: &mut TypeSet,
-    ) -> Result<bool, Memory>
+    fn follow(&self, table: &Definitions, id: TypeId, way: &mut TypeSet) -> Result<bool, Memory>
         requires complete { IsComplete (types table.now) id }
         requires known { KnowsGrounds (types table.now) self.now.grounded self.now.bottomless }
         requires new { way.old ≡ [] }

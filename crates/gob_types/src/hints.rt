@@ -17,6 +17,7 @@ pub(crate) struct Hints {
     reached: IndexMap<TypeId, TypeId>,
 }
 
+// Not derived, so that a drop is one call in the proofs of what owns one.
 impl Drop for Hints {
     fn drop(self) {
         let Hints { reached: _ } = self;

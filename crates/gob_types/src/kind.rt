@@ -118,6 +118,7 @@ pub struct Shape {
     pub kind: Kind,
 }
 
+// Not derived, so that a drop is one call in the proofs of what owns one.
 impl Drop for Shape {
     fn drop(self) {
         let Shape { name: _, kind: _ } = self;

@@ -13,6 +13,7 @@ pub(crate) struct TypeSet {
     ids: IndexSet<TypeId>,
 }
 
+// Not derived, so that a drop is one call in the proofs of what owns one.
 impl Drop for TypeSet {
     fn drop(self) {
         let TypeSet { ids: _ } = self;

@@ -15,6 +15,7 @@ pub(crate) struct Users {
     noted: IndexMap<TypeId, TypeSet>,
 }
 
+// Not derived, so that a drop is one call in the proofs of what owns one.
 impl Drop for Users {
     fn drop(self) {
         let Users { noted: _ } = self;
