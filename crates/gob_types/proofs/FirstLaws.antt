@@ -1,5 +1,5 @@
 -- What holds of the first elements of a list, as a loop over the list comes on.
-use Rattle.std.proofs.Common.{◌≡◌, ℕ, zero, suc, ◌+◌, ◌<◌, ◌≤◌, ◌⊎◌, inl, inr, List, [], ◌∷◌, ◌++◌, length, get_or, Contains, Some, arith, refl, sym, ap, ◌∙◌, subst}
+use Rattle.std.proofs.Common.{◌≡◌, ℕ, zero, suc, ◌+◌, ◌-◌, ◌<◌, ◌≤◌, ◌⊎◌, inl, inr, List, [], ◌∷◌, ◌++◌, length, get_or, Contains, Some, arith, refl, sym, ap, ◌∙◌, subst}
 use Rattle.std.specs.Prelude.{slice_get}
 use Rattle.std.proofs.Math.Nat.{eq-or-lt_of_le}
 use Rattle.std.proofs.lemmas.Option.{slice_get_within, get_or_from_slice_get, slice_get-get_or, slice_get_read}
@@ -46,3 +46,7 @@ contains_at xs x there = (there.0, x, slice_get_read xs (length xs) there.0 x re
 -- what is read from an equal list
 pub read_at : {X : Type 0} {items xs : List X} (n : ℕ) (d : X) → items ≡ xs → n < length xs → slice_get xs n ≡ Some (get_or items n d)
 read_at {items = items} {xs = xs} n d e within = subst (λ (ys : List _). slice_get ys n ≡ Some (get_or items n d)) e (slice_get-get_or items n d (omega (arith, within, ap length e)))
+
+-- the room that is left falls with each place of a list
+pub next_less : {next count room : ℕ} → next < count → count < room → room - (next + 1) < room - next
+next_less below within = omega (arith, below, within)

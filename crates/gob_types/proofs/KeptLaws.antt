@@ -1,10 +1,10 @@
 -- What is known of ready types: what a walk past them shows, and what a definition changes.
 use Rattle.std.proofs.Common.{◌≡◌, ◌≢◌, ℕ, zero, suc, ◌+◌, ◌≤◌, ◌⊎◌, inl, inr, Bool, true, false, cond, List, [], ◌∷◌, ◌++◌, length, Contains, Option, Some, None, true≢false, arith, refl, sym, ap, ◌∙◌, subst, ◌-◌, take, length-append}
-use Rattle.std.specs.Prelude.{◌==◌, slice_get, IfSome, Result, Ok, Err, OnOk}
+use Rattle.std.specs.Prelude.{◌==◌, slice_get, IfSome}
 use Rattle.std.specs.List.{list_any}
 use Rattle.std.proofs.lemmas.Map.Views.{Contains-from_any, list_any-from_Contains}
 use Rattle.std.proofs.Math.Seq.{take-append_seam}
-use Rattle.gob_types.specs.Defined.{IsTable}
+use Rattle.gob_types.specs.Defined.{Defined, IsTable}
 use Rattle.std.proofs.lemmas.Option.{slice_get_within, none-some}
 use Rattle.std.proofs.lemmas.Bool.Decides.{eqb_tells}
 use Rattle.std.proofs.lemmas.List.Elements.{Contains-append_left}
@@ -15,11 +15,12 @@ use Rattle.gob_types.specs.Ready.{Names, Leads, here, onward, Reaches, HasRank, 
 use Rattle.gob_types.specs.Entered.{same_id}
 use Rattle.gob_types.specs.Readiness.{IsComplete}
 use Rattle.gob_types.specs.Walk.{AddsAll, AddsOne, KnowsGrounds, Grows, AreAmong}
-use Rattle.gob_types.specs.Kept.{AreNames, Users, IsUser, KeepsUsers, NamesNoted, Hints, IsHopeless, AreHints, AreReady, IsKept, WasKept, Judged, Lacks, NamesAmong, MetPast, HandsOn, front}
+use Rattle.gob_types.specs.Kept.{AreNames, Users, IsUser, KeepsUsers, NamesNoted, Hints, IsHopeless, AreHints, AreReady, IsKept, WasKept, Judged, Lacks, NamesAmong, MetPast, HandsOn, AreReadyWith, AreAdded, IsLearnt, AreLearnt, front}
 use Rattle.gob_types.proofs.GrowthLaws.{Keeps, some_injective, reaches_itself, reaches_onward, reaches_on, names_ready, ready_defined, ready_grounded, ready_on, shape_of-append}
 use Rattle.gob_types.proofs.FirstLaws.{slice_get-append_left, FirstAre, none_first, more_first, first_grown, first_as, all_first, contains_read}
 use Rattle.gob_types.proofs.SetLaws.{same_laws, same_exact, adds_keeps, adds_one}
 use Rattle.gob_types.proofs.WalkLaws.{reaches_further, reaches_joined}
+use Rattle.gob_types.proofs.GrowsLaws.{grows_not}
 
 -- ---- the walk past known types
 
@@ -171,9 +172,6 @@ pub trusted : {T : Table} {known both : List TypeId} → AreReady T known → Ar
 trusted ready a = record { have = λ u there. ready_grounded (ready.each u (a.each u there)); closed = λ u there. absurd (omega (arith, there.1)) }
 
 -- an id that is missing for what the type reaches is missing for the type
-pub lacks_joined : {T : Table} {t u h : TypeId} → Reaches T t u → Lacks T u h → Lacks T t h
-lacks_joined g l = (reaches_joined g l.0, l.1)
-
 pub lacks_some : {T : Table} {t h : TypeId} (found : Option TypeId) → IfSome found (λ g. Lacks T t g) → found ≡ Some h → Lacks T t h
 lacks_some None l e = absurd (none-some _ e)
 lacks_some {T = T} {t = t} (Some g) l e = subst (Lacks T t) (some_injective e) l
@@ -235,6 +233,27 @@ hands_then {old = old} {now = now} {after = after} {users = users} f g h = recor
     by : (w : TypeId) → Contains now w ⊎ ((u : TypeId) → IsUser users w u → Contains after u) → Contains old w ⊎ ((u : TypeId) → IsUser users w u → Contains after u)
     by w (inl there) = (hands_as f (contains_grown g)).each w there
     by w (inr each) = inr each
+
+-- all that was met is ready
+pub ready_with : {T : Table} {known ids : List TypeId} {t : TypeId} → MetPast T known t ids → AreReady T ids → AreReadyWith T t ids
+ready_with m ready = record { sound = ready; start = m.start }
+
+-- the type isn't ready, and nothing is changed
+pub learnt_not : {T : Table} {users : Users} {t : TypeId} {ids queue : List TypeId} → AreReady T ids → ¬ IsReady T t → IsLearnt T users t ids ids queue queue
+learnt_not sound apart = record { sound = sound; judged = inr apart; queued = grows_not; handed = hands_none }
+
+-- it is, and what was met with it came to what is ready
+pub learnt_all : {T : Table} {users : Users} {t : TypeId} {met old new queue after : List TypeId} → AreReady T old → AreReadyWith T t met → AreAdded users met old new queue after → IsLearnt T users t old new queue after
+learnt_all {t = t} sound w a = record { sound = added_ready sound w.sound a.added; judged = inl (a.added.has t w.start); queued = a.queued; handed = a.handed }
+
+-- all that came to the queue was looked at
+pub learnt_each : {T : Table} {users : Users} {ids old new queue : List TypeId} {n : ℕ} → AreReady T new → Grows ids queue → HandsOn old new users (Contains queue)
+    → FirstAre (Judged T new) queue n → length queue ≤ n → AreLearnt T users ids old new
+learnt_each sound grown handed judged whole = record {
+  sound = sound;
+  judged = λ u there. all_first judged whole (contains_grown grown u there);
+  handed = hands_as handed (λ u there. all_first judged whole there);
+}
 
 -- ---- what is ready, or isn't
 
@@ -431,13 +450,12 @@ front_table {E = E} x table e = subst IsTable (sym (ap front e ∙ front_push E 
 pub front_entries : {E F G : Table} (x : TypeId × Shape) → F ≡ E ++ x ∷ [] → G ≡ front F → G ≡ E
 front_entries {E = E} x e f = f ∙ ap front e ∙ front_push E x
 
+pub same_defined : {d e : Defined} → d.entries ≡ e.entries → d.most ≡ e.most → d ≡ e
+same_defined {d = d} {e = e} f g =
+    ap (λ (T : Table). let x : Defined = record { entries = T; most = d.most } in x) f ∙ ap (λ (n : ℕ). let x : Defined = record { entries = e.entries; most = n } in x) g
+
 pub cut_back : {old after cut : List TypeId} {n : ℕ} → Grows old after → n ≡ length old → cut ≡ take n after → cut ≡ old
 cut_back {old = old} {after = after} g e f = f ∙ ap (λ k. take k after) e ∙ ap (take (length old)) g.grown ∙ take-append_seam old g.more
-
--- three facts of one answer
-pub ok_three : {E A B C D : Type 0} (r : Result (Unit {0}) E) → OnOk r A → OnOk r B → OnOk r C → (A → B → C → D) → OnOk r D
-ok_three (Ok x) a b c f = f a b c
-ok_three (Err x) a b c f = tt
 
 -- ---- the base table
 

@@ -1,5 +1,5 @@
 -- Lists of ids to which ids are added, but for those that are there.
-use Rattle.std.proofs.Common.{◌≡◌, ℕ, suc, ◌+◌, ◌<◌, ◌≤◌, ◌⊎◌, inl, inr, Bool, true, false, List, [], ◌∷◌, ◌++◌, length, Contains, Some, arith, refl, sym, ap, ◌∙◌, subst}
+use Rattle.std.proofs.Common.{◌≡◌, ℕ, suc, ◌+◌, ◌-◌, ◌<◌, ◌≤◌, ◌⊎◌, inl, inr, Bool, true, false, List, [], ◌∷◌, ◌++◌, length, Contains, Some, arith, refl, sym, ap, ◌∙◌, subst}
 use Rattle.std.specs.Prelude.{slice_get}
 use Rattle.std.specs.Cmp.{IsEquivalence, nat_eq_equiv}
 use Rattle.std.proofs.lemmas.Option.{slice_get_within}
@@ -54,6 +54,10 @@ adds_one {xs = xs} {ys = ys} {t = t} false h = record {
   has = λ u e. subst (λ zs. Contains zs u) (sym h.1) (subst (Contains xs) e h.0);
   only = λ u there. inl (subst (λ zs. Contains zs u) h.1 there);
 }
+
+-- the room that is left falls with each new id
+pub added_less : (xs ys : List TypeId) (t : TypeId) {m : ℕ} → AddsOne xs ys t true → length xs < m → m - length ys < m - length xs
+added_less xs ys t h within = omega (arith, within, ap length h.1 ∙ length-append xs (t ∷ []))
 
 -- one of the first n of these has this id
 pub record IsAmongFirst {X : Type 0} (id_of : X → TypeId) (xs : List X) (n : ℕ) (u : TypeId) : Type 0 where

@@ -6,7 +6,7 @@ use Rattle.std.proofs.lemmas.Option.{slice_get_within}
 use Rattle.gob_types.specs.declared.id.TypeId.{TypeId}
 use Rattle.gob_types.specs.declared.kind.Shape.{Shape}
 use Rattle.gob_types.specs.Table.{Table, shape_of, IsDefined}
-use Rattle.gob_types.specs.Ready.{Names, Leads, here, onward, Reaches}
+use Rattle.gob_types.specs.Ready.{Names, Leads, here, onward, Reaches, IsGrounded, IsReady}
 use Rattle.gob_types.specs.Readiness.{IsLeast, IsComplete}
 use Rattle.gob_types.specs.Walk.{AddsAll, IsReach}
 use Rattle.gob_types.proofs.GrowthLaws.{some_injective, reaches_itself, reaches_onward}
@@ -94,6 +94,10 @@ reaches_joined g h = leads_joined g.leads h
 -- where all that are reached are defined, so are all that one of them reaches
 pub complete_within : {T : Table} {t : TypeId} {ids : List TypeId} → IsReach T t ids → ((u : TypeId) → Contains ids u → IsDefined T u) → (u : TypeId) → Contains ids u → IsComplete T u
 complete_within reach defined u there w h = defined w (reach.whole w (reaches_joined (reach.sound u there) h))
+
+-- and where they have finite values too, the type is ready
+pub ready_within : {T : Table} {t : TypeId} {ids : List TypeId} → IsReach T t ids → ((u : TypeId) → Contains ids u → IsDefined T u) → ((u : TypeId) → Contains ids u → IsGrounded T u) → IsReady T t
+ready_within reach defined grounded u h = (defined u (reach.whole u h), grounded u (reach.whole u h))
 
 -- the least of the ids is the least that is reached
 pub least_reached : {T : Table} {t l : TypeId} {ids : List TypeId} {Bad : TypeId → Type 0} → IsReach T t ids → IsLeast (λ u. Contains ids u × Bad u) l → IsLeast (λ u. Reaches T t u × Bad u) l

@@ -7,6 +7,7 @@ use Rattle.gob_types.specs.Entered.{same_id}
 use Rattle.gob_types.specs.Table.{Table, shape_of, IsDefined}
 use Rattle.gob_types.specs.Ready.{Names, Reaches, IsGrounded, IsReady}
 use Rattle.gob_types.specs.Readiness.{IsComplete}
+use Rattle.gob_types.specs.Walk.{AddsAll, Grows}
 
 -- these are ready
 pub record AreReady (T : Table) (ids : List TypeId) : Type 0 where
@@ -91,3 +92,27 @@ pub record MetPast (T : Table) (known : List TypeId) (t : TypeId) (ids : List Ty
 -- of each id that came to the first ones, the types that are noted to name it have the property
 pub record HandsOn (old new : List TypeId) (users : Users) (P : TypeId → Type 0) : Type 0 where
   pub each : (w : TypeId) → Contains new w → Contains old w ⊎ ((u : TypeId) → IsUser users w u → P u)
+
+-- these are ready, the type among them
+pub record AreReadyWith (T : Table) (t : TypeId) (ids : List TypeId) : Type 0 where
+  pub sound : AreReady T ids
+  pub start : Contains ids t
+
+-- the ids came to the first ones, and the types that are noted to name a new one of them to the queue
+pub record AreAdded (users : Users) (ids old new queue after : List TypeId) : Type 0 where
+  pub added : AddsAll old new (Contains ids)
+  pub queued : Grows queue after
+  pub handed : HandsOn old new users (Contains after)
+
+-- it is known whether the type is ready, and the types that are noted to name what became ready came to the queue
+pub record IsLearnt (T : Table) (users : Users) (t : TypeId) (old new queue after : List TypeId) : Type 0 where
+  pub sound : AreReady T new
+  pub judged : Judged T new t
+  pub queued : Grows queue after
+  pub handed : HandsOn old new users (Contains after)
+
+-- it is known whether these are ready, and whether the types are that are noted to name what became ready
+pub record AreLearnt (T : Table) (users : Users) (ids old new : List TypeId) : Type 0 where
+  pub sound : AreReady T new
+  pub judged : (u : TypeId) → Contains ids u → Judged T new u
+  pub handed : HandsOn old new users (Judged T new)

@@ -5,11 +5,11 @@ ghost use Rattle.gob_types.specs.Base.{base_table, field, entry, id};
 ghost use Rattle.gob_types.specs.Entered.{with_entry};
 
 use crate::basic::Basic;
+use crate::entries::Entries;
 use crate::id::TypeId;
 use crate::kind::{Field, Fields, Kind, Shape};
 use crate::name::Name;
 use gob_num::Memory;
-use indexmap::IndexMap;
 use std::alloc::Global;
 
 // The fields of the types of descriptions: their names, and the types of their values.
@@ -36,19 +36,19 @@ const OPAQUE_TYPE: [(&str, u64); 1] = [("CommonType", 18)];
 // Those of CommonType and of fieldType.
 const NAME_AND_ID: [(&str, u64); 2] = [("Name", 6), ("Id", 2)];
 
-/// Enters the types of the base table into an empty map, in the order of their ids.
-pub(crate) fn enter_base(types: &mut IndexMap<TypeId, Shape>, alloc: Global) -> Result<(), Memory>
-    requires { types.old.entries ≡ [] }
-    ensures { OnOk result (types.new.entries ≡ base_table) }
+/// Enters the types of the base table where none is entered yet, in the order of their ids.
+pub(crate) fn enter_base(types: &mut Entries, alloc: Global) -> Result<(), Memory>
+    requires { types.old ≡ [] }
+    ensures { OnOk result (types.new ≡ base_table) }
 {
     enter_basic(types, alloc)?;
     enter_descriptions(types, alloc)
 }
 
 // The basic types.
-fn enter_basic(types: &mut IndexMap<TypeId, Shape>, alloc: Global) -> Result<(), Memory>
-    requires { types.old.entries ≡ [] }
-    ensures { OnOk result (types.new.entries ≡ take 8 base_table) }
+fn enter_basic(types: &mut Entries, alloc: Global) -> Result<(), Memory>
+    requires { types.old ≡ [] }
+    ensures { OnOk result (types.new ≡ take 8 base_table) }
 {
     enter(types, alloc, 1, "bool", Kind::Basic(Basic::Bool))?;
     enter(types, alloc, 2, "int", Kind::Basic(Basic::Int))?;
@@ -61,9 +61,9 @@ fn enter_basic(types: &mut IndexMap<TypeId, Shape>, alloc: Global) -> Result<(),
 }
 
 // The types of descriptions.
-fn enter_descriptions(types: &mut IndexMap<TypeId, Shape>, alloc: Global) -> Result<(), Memory>
-    requires { types.old.entries ≡ take 8 base_table }
-    ensures { OnOk result (types.new.entries ≡ base_table) }
+fn enter_descriptions(types: &mut Entries, alloc: Global) -> Result<(), Memory>
+    requires { types.old ≡ take 8 base_table }
+    ensures { OnOk result (types.new ≡ base_table) }
 {
     enter_struct(types, alloc, 16, "wireType", &WIRE_TYPE)?;
     enter_struct(types, alloc, 17, "arrayType", &ARRAY_TYPE)?;
@@ -78,13 +78,13 @@ fn enter_descriptions(types: &mut IndexMap<TypeId, Shape>, alloc: Global) -> Res
 
 // Enters a struct type with these fields, each a name and the type of its values.
 fn enter_struct(
-    types: &mut IndexMap<TypeId, Shape>,
+    types: &mut Entries,
     alloc: Global,
     number: u64,
     name: &str,
     fields: &[(&str, u64)],
 ) -> Result<(), Memory>
-    ensures { OnOk result (types.new.entries ≡ with_entry types.old.entries (id number)
+    ensures { OnOk result (types.new ≡ with_entry types.old (id number)
         (record { name = name.now; kind = Kind.Struct (map (λ f. field f.0.now f.1) fields.now) })) }
 {
     let mut items = Vec::new(alloc);
@@ -107,17 +107,17 @@ fn enter_struct(
 
 // Enters a type.
 fn enter(
-    types: &mut IndexMap<TypeId, Shape>,
+    types: &mut Entries,
     alloc: Global,
     number: u64,
     name: &str,
     kind: Kind,
 ) -> Result<(), Memory>
-    ensures { OnOk result (types.new.entries ≡ with_entry types.old.entries (id number)
+    ensures { OnOk result (types.new ≡ with_entry types.old (id number)
         (record { name = name.now; kind = kind })) }
 {
     let name = copied_name(alloc, name)?;
-    types.insert(TypeId(number), Shape { name, kind })?;
+    types.enter(TypeId(number), Shape { name, kind })?;
     Ok(())
 }
 

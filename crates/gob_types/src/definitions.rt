@@ -7,22 +7,31 @@ ghost use Rattle.gob_types.specs.Refused.{Refuses};
 ghost use Rattle.gob_types.specs.Kept.{front};
 
 use crate::base::enter_base;
+use crate::entries::Entries;
 use crate::id::TypeId;
 use crate::kind::Shape;
 use crate::shapes::Shapes;
 use crate::table::DefineFault;
 use gob_num::Memory;
-use indexmap::IndexMap;
 use std::alloc::Global;
 use std::marker::Model;
 
 /// The base table, and behind it what the stream has defined, in the order of arrival.
-#[derive(Drop)]
 pub(crate) struct Definitions {
-    // The types by their ids, in that order.
-    shapes: IndexMap<TypeId, Shape>,
+    // The types, in that order.
+    entries: Entries,
     // How many definitions there may be at most.
     max_types: u64,
+}
+
+// Not derived, so that a drop is one call in the proofs of what owns one.
+impl Drop for Definitions {
+    fn drop(self) {
+        let Definitions {
+            entries: _,
+            max_types: _,
+        } = self;
+    }
 }
 
 impl Model for Definitions {
@@ -30,9 +39,9 @@ impl Model for Definitions {
 
     ghost Value = { Defined };
 
-    ghost view = { λ s. record { entries = s.shapes.entries; most = s.max_types } };
+    ghost view = { λ s. record { entries = s.entries; most = s.max_types } };
 
-    ghost invariant = { λ s. IsTable s.shapes.entries };
+    ghost invariant = { λ s. IsTable s.entries };
 }
 
 impl Definitions {
@@ -41,9 +50,9 @@ impl Definitions {
         ensures base { IfOk result (λ made. types made ≡ base_table) }
         ensures most { IfOk result (λ made. made.most ≡ max_types) }
     {
-        let mut shapes = IndexMap::new(alloc);
-        enter_base(&mut shapes, alloc)?;
-        Ok(Definitions { shapes, max_types })
+        let mut entries = Entries::new(alloc);
+        enter_base(&mut entries, alloc)?;
+        Ok(Definitions { entries, max_types })
     }
 
     /// How many definitions there are.
@@ -51,7 +60,7 @@ impl Definitions {
         ensures count { result ≡ definition_count (types self.now) }
         ensures known { IsTable (types self.now) }
     {
-        self.shapes.len() as u64 - BASE_COUNT
+        self.entries.count() as u64 - BASE_COUNT
     }
 
     /// What is known of every table: a caller learns it by this call, which does nothing.
@@ -59,7 +68,7 @@ impl Definitions {
         ensures types { IsTable (types self.now) }
         ensures entries { IsTable self.now.entries }
     {
-        let _ = &self.shapes;
+        let _ = &self.entries;
     }
 
     /// Whether the table takes a definition of this id, or the first reason why it refuses one. It never
@@ -100,7 +109,7 @@ impl Definitions {
         ensures unchanged { OnErr result (self.new ≡ self.old) }
     {
         self.admits(id)?;
-        self.shapes.insert(id, shape)?;
+        self.entries.enter(id, shape)?;
         Ok(())
     }
 
@@ -110,8 +119,8 @@ impl Definitions {
         ensures entries { self.new.entries ≡ front self.old.entries }
         ensures most { self.new.most ≡ self.old.most }
     {
-        let count = self.shapes.len();
-        self.shapes.truncate(count.saturating_sub(1));
+        let count = self.entries.count();
+        self.entries.truncate(count.saturating_sub(1));
     }
 }
 
@@ -125,24 +134,9 @@ impl Shapes for Definitions {
 
     #[inline]
     fn shape_of(&self, id: TypeId) -> Option<&Shape> {
-        match self.shapes.get_index(likely_place(id)) {
-            Some((there, shape)) if *there == id => Some(shape),
-            _ => self.shapes.get(&id),
-        }
+        self.entries.shape_of(id)
     }
 }
 
 // How many types the base table has.
 const BASE_COUNT: u64 = 17;
-
-// The place in the table where a type of this id stands, if the stream defines its types one after another
-// from 65 on, as Go's encoder does. A look-up tries it before it hashes.
-#[inline]
-fn likely_place(id: TypeId) -> usize {
-    match id.0 {
-        1..=8 => id.0 as usize - 1,
-        16..=24 => id.0 as usize - 8,
-        65..=2147483647 => id.0 as usize - 48,
-        _ => usize::MAX,
-    }
-}

@@ -19,12 +19,21 @@ use gob_num::Memory;
 use std::alloc::Global;
 
 /// What has been found of the types of one table.
-#[derive(Drop)]
 pub(crate) struct Grounds {
     // These have finite values.
     grounded: TypeSet,
     // These have none.
     bottomless: TypeSet,
+}
+
+// Not derived, so that a drop is one call in the proofs of what owns one.
+impl Drop for Grounds {
+    fn drop(self) {
+        let Grounds {
+            grounded: _,
+            bottomless: _,
+        } = self;
+    }
 }
 
 impl Grounds {
@@ -63,8 +72,8 @@ impl Grounds {
             IfOk result (λ yes. MatchBool yes (IsGrounded T id) (¬ IsGrounded T id)) }
         ensures known { OnOk result (KnowsGrounds (types table.now) self.new.grounded self.new.bottomless) }
     {
-        let (way, ends) = self.follow(table, alloc, id)?;
-        if ends {
+        let mut way = TypeSet::new(alloc);
+        if self.follow(table, id, &mut way)? {
             self.grounded.add_all(way.as_slice())?;
             return Ok(true);
         }
@@ -74,32 +83,27 @@ impl Grounds {
 
     // Follows the elements of arrays from this type on until the answer is known. It gives the types on the
     // way, of which nothing was known, and whether they have finite values.
-    fn follow(
-        &self,
-        table: &Definitions,
-        alloc: Global,
-        id: TypeId,
-    ) -> Result<(TypeSet, bool), Memory>
+    fn follow(&self, table: &Definitions, id: TypeId, way: &mut TypeSet) -> Result<bool, Memory>
         requires complete { IsComplete (types table.now) id }
         requires known { KnowsGrounds (types table.now) self.now.grounded self.now.bottomless }
+        requires new { way.old ≡ [] }
         ensures { let T = types table.now in
-            IfOk result (λ r. MatchBool r.1 (EndsWell T id r.0) (GoesOn T id self.now.bottomless r.0)) }
+            IfOk result (λ yes. MatchBool yes (EndsWell T id way.new) (GoesOn T id self.now.bottomless way.new)) }
     {
-        let mut way = TypeSet::new(alloc);
         let mut at = id;
         while !self.grounded.contains(at) {
             if self.bottomless.contains(at) {
-                return Ok((way, false));
+                return Ok(false);
             }
             if !way.add(at)? {
-                return Ok((way, false));
+                return Ok(false);
             }
             let Some(elem) = filled_element(table, at) else {
-                return Ok((way, true));
+                return Ok(true);
             };
             at = elem;
         }
-        Ok((way, true))
+        Ok(true)
     }
 }
 

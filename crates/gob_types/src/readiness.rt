@@ -6,6 +6,7 @@ ghost use Rattle.gob_types.specs.Defined.{types, IsTable};
 ghost use Rattle.gob_types.specs.Ready.{Names, HasFieldOf, IsGrounded, IsReady};
 ghost use Rattle.gob_types.specs.Readiness.{IsNotReady, IsComplete};
 ghost use Rattle.gob_types.specs.Walk.{AddsAll, IsReach, IsFilledOf, IsLeastBad};
+ghost use Rattle.gob_types.specs.Kept.{AreNames};
 
 use crate::definitions::Definitions;
 use crate::grounds::Grounds;
@@ -79,6 +80,18 @@ fn reached(table: &Definitions, alloc: Global, id: TypeId) -> Result<TypeSet, Me
         add_names(&mut met, &shape.kind)?;
     }
     Ok(met)
+}
+
+/// The types that the type's shape names.
+pub(crate) fn names_of(table: &Definitions, alloc: Global, id: TypeId) -> Result<TypeSet, Memory>
+    ensures { IfOk result (λ names. AreNames (types table.now) id names) }
+{
+    let mut names = TypeSet::new(alloc);
+    let Some(shape) = table.shape_of(id) else {
+        return Ok(names);
+    };
+    add_names(&mut names, &shape.kind)?;
+    Ok(names)
 }
 
 // Adds the types that a kind names.

@@ -9,9 +9,15 @@ use std::alloc::Global;
 use std::marker::Model;
 
 /// A set of type ids, in the order in which they were added.
-#[derive(Drop)]
 pub(crate) struct TypeSet {
     ids: IndexSet<TypeId>,
+}
+
+// Not derived, so that a drop is one call in the proofs of what owns one.
+impl Drop for TypeSet {
+    fn drop(self) {
+        let TypeSet { ids: _ } = self;
+    }
 }
 
 impl Model for TypeSet {

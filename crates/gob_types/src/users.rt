@@ -11,9 +11,15 @@ use std::alloc::Global;
 use std::marker::Model;
 
 /// For each type id, types whose shapes name it, in the order in which they were noted.
-#[derive(Drop)]
 pub(crate) struct Users {
     noted: IndexMap<TypeId, TypeSet>,
+}
+
+// Not derived, so that a drop is one call in the proofs of what owns one.
+impl Drop for Users {
+    fn drop(self) {
+        let Users { noted: _ } = self;
+    }
 }
 
 impl Model for Users {

@@ -4,7 +4,7 @@ use Rattle.gob_types.specs.declared.id.TypeId.{TypeId}
 use Rattle.gob_types.specs.Walk.{AddsOne, AddsAll}
 use Rattle.gob_types.proofs.FirstLaws.{contains_read, contains_at}
 use Rattle.gob_types.proofs.SetLaws.{adds_next, adds_one, adds_each}
-use Rattle.gob_types.proofs.GrowsLaws.{grows_then}
+use Rattle.gob_types.proofs.GrowsLaws.{grows_then, grows_by, grows_as}
 use Rattle.gob_types.proofs.KeptLaws.{hands_same, hands_one}
 use Rattle.gob_types.proofs.learning.add_ready.Goals as goal
 
@@ -27,8 +27,18 @@ loop-id-preserved c =
       handed = hands_one c.loop-id.invariant.handed a c.add_all.ensures.grown (λ u k. more.has u (c.of.ensures u k));
     }
 
+pub returns-in_err-add-clause-grown : goal.returns-in_err-add-clause-grown
+returns-in_err-add-clause-grown c = grows_as (grows_by c.loop-id.invariant.added) c.in_err-add.ensures.unchanged
+
+pub returns-in_err-add_all-clause-grown : goal.returns-in_err-add_all-clause-grown
+returns-in_err-add_all-clause-grown c = grows_then (grows_by c.loop-id.invariant.added) (grows_by (adds_one _ c.in_ok-add.ensures.added))
+
+pub returns-clause-grown : goal.returns-clause-grown
+returns-clause-grown c = grows_by c.loop-id.invariant.added
+
 pub returns-clause-added : goal.returns-clause-added
 returns-clause-added c =
     let ids = c.as_slice-id-items.result.now in
-    let a : AddsAll c.args.ready.now c.loop-id.ready (Contains ids) = adds_each c.loop-id.invariant.added c.loop-id-test.false (contains_read ids) (contains_at ids) in
-    subst (λ (l : List TypeId). AddsAll c.args.ready.now c.loop-id.ready (Contains l)) c.as_slice-id-items.ensures a
+    let i = c.loop-id.invariant in
+    let a : AddsAll c.args.ready.now c.loop-id.ready (Contains ids) = adds_each i.added c.loop-id-test.false (contains_read ids) (contains_at ids) in
+    record { added = subst (λ (l : List TypeId). AddsAll c.args.ready.now c.loop-id.ready (Contains l)) c.as_slice-id-items.ensures a; queued = i.queue; handed = i.handed }

@@ -20,6 +20,6 @@ returns c =
     let T = types c.args.table.now in
     let a : AddsAll [] ids (Contains (ids_of base_table)) = subst (λ l. AddsAll l ids (Contains (ids_of base_table))) c.new-ids.ensures c.in_ok-add_all.ensures.added in
     let b : AddsAll [] ids (Contains (ids_of T)) = subst (λ (T : Table). AddsAll [] ids (Contains (ids_of T))) (sym c.requires.base) a in
-    kept_new b c.in_ok-learn_all.ensures.sound c.in_ok-learn_all.ensures.judged
+    kept_new b c.in_ok-learn_all.ensures.learnt.sound c.in_ok-learn_all.ensures.learnt.judged
     (λ u there. subst (λ (l : List TypeId). NamesNoted T l c.note_all.new.users u) c.requires.ready (c.in_ok-note_all.ensures.named u there))
     c.learn_all.ensures.hints

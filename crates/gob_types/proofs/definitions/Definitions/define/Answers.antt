@@ -6,23 +6,23 @@ use Rattle.gob_types.proofs.definitions.Definitions.define.Goals as goal
 
 pub invariant_of-self-2 : goal.invariant_of-self-2
 invariant_of-self-2 c =
-    let T = c.self.inside.shapes.entries in
+    let T = c.self.inside.entries in
     let same = types_are c.self.view_is c.self.invariant in
     let new : shape_of T c.args.id ≡ None = subst (λ U. shape_of U c.args.id ≡ None) same c.in_ok-admits.ensures.admitted.new in
-    subst IsTable (sym (c.in_ok-insert.ensures.entries ∙ with_entry-new T c.args.id c.args.shape new))
+    subst IsTable (sym (c.in_ok-enter.ensures.entered ∙ with_entry-new T c.args.id c.args.shape new))
     (table-push c.args.id c.args.shape c.self.invariant c.in_ok-admits.ensures.admitted.own c.requires new)
 
 pub returns-clause-defined : goal.returns-clause-defined
 returns-clause-defined c =
-    let T = c.self.inside.shapes.entries in
+    let T = c.self.inside.entries in
     let same = types_are c.self.view_is c.self.invariant in
     let new : shape_of T c.args.id ≡ None = subst (λ U. shape_of U c.args.id ≡ None) same c.in_ok-admits.ensures.admitted.new in
-    let grown = c.in_ok-insert.ensures.entries ∙ with_entry-new T c.args.id c.args.shape new in
+    let grown = c.in_ok-enter.ensures.entered ∙ with_entry-new T c.args.id c.args.shape new in
     types_are {n = c.self.inside.max_types} refl (invariant_of-self-2 c) ∙ grown ∙ ap (λ U. U ++ (c.args.id, c.args.shape) ∷ []) (sym same)
 
 pub returns-clause-entries : goal.returns-clause-entries
 returns-clause-entries c =
-    let T = c.self.inside.shapes.entries in
+    let T = c.self.inside.entries in
     let same = types_are c.self.view_is c.self.invariant in
     let new : shape_of T c.args.id ≡ None = subst (λ U. shape_of U c.args.id ≡ None) same c.in_ok-admits.ensures.admitted.new in
-    c.in_ok-insert.ensures.entries ∙ with_entry-new T c.args.id c.args.shape new ∙ ap (λ (d : Defined). d.entries ++ (c.args.id, c.args.shape) ∷ []) c.self.view_is
+    c.in_ok-enter.ensures.entered ∙ with_entry-new T c.args.id c.args.shape new ∙ ap (λ (d : Defined). d.entries ++ (c.args.id, c.args.shape) ∷ []) c.self.view_is

@@ -1,8 +1,12 @@
 use Rattle.std.proofs.Common.{sym, subst}
 use Rattle.gob_types.specs.Defined.{types}
 use Rattle.gob_types.specs.Walk.{AddsOne, GoesOn, EndsWell}
-use Rattle.gob_types.proofs.GroundLaws.{Following, follow_bottomless, follow_round, follow_end, follow_on}
+use Rattle.gob_types.proofs.SetLaws.{added_less}
+use Rattle.gob_types.proofs.GroundLaws.{Following, follow_start, follow_known, follow_bottomless, follow_round, follow_end, follow_on}
 use Rattle.gob_types.proofs.grounds.Grounds.follow.Goals as goal
+
+pub loop-at-init : goal.loop-at-init
+loop-at-init c = subst (λ way. Following (types c.args.table.now) c.args.id way c.args.id) (sym c.requires.new) (follow_start c.requires.complete)
 
 pub returns-then-contains : goal.returns-then-contains
 returns-then-contains c = follow_bottomless c.args.self.now.bottomless c.loop-at.invariant (c.contains-in-loop-at.ensures.0 c.if-contains.true)
@@ -24,3 +28,9 @@ loop-at-preserved c =
     let T = types c.args.table.now in
     let new = subst (AddsOne c.loop-at.way c.add.new.self c.loop-at.at) c.if-not-branch.false c.in_ok-add.ensures.added in
     subst (λ way. Following T c.args.id way c.in-Some.elem) (sym new.1) (follow_on c.loop-at.invariant c.in-Some.ensures)
+
+pub returns : goal.returns
+returns c = follow_known c.loop-at.invariant (c.requires.known.have _ (c.contains.ensures.0 c.loop-at-test.false))
+
+pub loop-at-smaller : goal.loop-at-smaller
+loop-at-smaller c = added_less c.loop-at.way c.add.new.self c.loop-at.at (subst (AddsOne c.loop-at.way c.add.new.self c.loop-at.at) c.if-not-branch.false c.in_ok-add.ensures.added) c.add.ensures.small

@@ -4,17 +4,17 @@ use Rattle.gob_types.specs.Walk.{AddsAll}
 use Rattle.gob_types.proofs.GroundLaws.{knows_more, knows_endless, goes_on_bottomless}
 use Rattle.gob_types.proofs.grounds.Grounds.judge.Goals as goal
 
-pub returns-then-ends-clause-known : goal.returns-then-ends-clause-known
-returns-then-ends-clause-known c =
+pub returns-then-branch-clause-known : goal.returns-then-branch-clause-known
+returns-then-branch-clause-known c =
     let added = subst (λ ids. AddsAll c.args.self.now.grounded c.add_all.new.self (Contains ids)) c.as_slice.ensures c.in_ok-add_all.ensures.added in
-    knows_more c.requires.known (when_true _ _ c.if-ends.true c.in_ok-way.ensures) added
+    knows_more c.requires.known (when_true _ _ c.if-branch.true c.in_ok-follow.ensures) added
 
 pub returns-clause-judged : goal.returns-clause-judged
 returns-clause-judged c =
     let added = subst (λ ids. AddsAll c.args.self.now.bottomless c.add_all-2.new.self (Contains ids)) c.as_slice-2.ensures c.in_ok-add_all-2.ensures.added in
-    goes_on_bottomless c.requires.known (when_false _ _ c.if-ends.false c.in_ok-way.ensures) added
+    goes_on_bottomless c.requires.known (when_false _ _ c.if-branch.false c.in_ok-follow.ensures) added
 
 pub returns-clause-known : goal.returns-clause-known
 returns-clause-known c =
     let added = subst (λ ids. AddsAll c.args.self.now.bottomless c.add_all-2.new.self (Contains ids)) c.as_slice-2.ensures c.in_ok-add_all-2.ensures.added in
-    knows_endless c.requires.known (when_false _ _ c.if-ends.false c.in_ok-way.ensures) added
+    knows_endless c.requires.known (when_false _ _ c.if-branch.false c.in_ok-follow.ensures) added

@@ -2,7 +2,7 @@ use Rattle.std.proofs.Common.{sym, subst}
 use Rattle.gob_types.specs.Walk.{AddsAll}
 use Rattle.gob_types.specs.Ready.{Names}
 use Rattle.gob_types.proofs.KeptLaws.{names_none, names_all}
-use Rattle.gob_types.proofs.learning.names_of.Goals as goal
+use Rattle.gob_types.proofs.readiness.names_of.Goals as goal
 
 pub returns-in_default : goal.returns-in_default
 returns-in_default c = names_none (sym c.in_default.ensures) c.new-names.ensures

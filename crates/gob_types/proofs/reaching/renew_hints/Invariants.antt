@@ -1,7 +1,7 @@
 use Rattle.std.proofs.Common.{◌≤◌, length}
 use Rattle.gob_types.specs.Defined.{types}
 use Rattle.gob_types.specs.Kept.{AreHints}
-use Rattle.gob_types.proofs.learning.renew_hints.Given as goal
+use Rattle.gob_types.proofs.reaching.renew_hints.Given as goal
 
 abbrev pub invariant-loop-left : goal.invariant-loop-left
 invariant-loop-left l = record {

@@ -4,7 +4,7 @@ use Rattle.gob_types.specs.Defined.{types}
 use Rattle.gob_types.proofs.FirstLaws.{contains_read, read_at}
 use Rattle.gob_types.proofs.WalkLaws.{reaches_joined}
 use Rattle.gob_types.proofs.KeptLaws.{lacks_chosen}
-use Rattle.gob_types.proofs.learning.missing_among.Goals as goal
+use Rattle.gob_types.proofs.reaching.missing_among.Goals as goal
 
 pub loop-name-preserved : goal.loop-name-preserved
 loop-name-preserved c =

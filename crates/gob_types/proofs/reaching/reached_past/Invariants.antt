@@ -2,7 +2,7 @@ use Rattle.std.proofs.Common.{◌-◌, ◌^◌}
 use Rattle.gob_types.specs.Defined.{types}
 use Rattle.gob_types.specs.Kept.{AreHints}
 use Rattle.gob_types.proofs.KeptLaws.{MetSoFar}
-use Rattle.gob_types.proofs.learning.reached_past.Given as goal
+use Rattle.gob_types.proofs.reaching.reached_past.Given as goal
 
 -- the first ids are known, or all that they name was met
 abbrev pub invariant-loop-next : goal.invariant-loop-next

@@ -1,0 +1,92 @@
+//! Types by their ids.
+ghost use Rattle.std.specs.Prelude.{◌≡◌, [], OnOk, OnErr, length, take};
+ghost use Rattle.std.specs.Option.{option_copied};
+ghost use Rattle.gob_types.specs.Table.{shape_of};
+ghost use Rattle.gob_types.specs.Entered.{with_entry};
+
+use crate::id::TypeId;
+use crate::kind::Shape;
+use indexmap::IndexMap;
+use std::alloc::{AllocFailed, Global};
+use std::marker::Model;
+
+/// Types by their ids, in the order in which they were entered.
+pub(crate) struct Entries {
+    shapes: IndexMap<TypeId, Shape>,
+}
+
+// Not derived, so that a drop is one call in the proofs of what owns one.
+impl Drop for Entries {
+    fn drop(self) {
+        let Entries { shapes: _ } = self;
+    }
+}
+
+impl Model for Entries {
+    ghost use Rattle.gob_types.specs.Table.{Table};
+
+    ghost Value = { Table };
+
+    ghost view = { λ s. s.shapes.entries };
+}
+
+impl Entries {
+    /// None is entered yet.
+    pub(crate) fn new(alloc: Global) -> Entries
+        ensures { result ≡ [] }
+    {
+        Entries {
+            shapes: IndexMap::new(alloc),
+        }
+    }
+
+    /// How many types there are.
+    pub(crate) fn count(&self) -> usize
+        ensures { result ≡ length self.now }
+    {
+        self.shapes.len()
+    }
+
+    /// The shape of a type, where there is one.
+    #[inline]
+    pub(crate) fn shape_of(&self, id: TypeId) -> Option<&Shape>
+        ensures { option_copied result ≡ shape_of self.now id }
+    {
+        match self.shapes.get_index(likely_place(id)) {
+            Some((there, shape)) if *there == id => Some(shape),
+            _ => self.shapes.get(&id),
+        }
+    }
+
+    /// Enters a type, last, unless its id is there.
+    pub(crate) fn enter(
+        &mut self,
+        id: TypeId,
+        shape: Shape,
+    ) -> Result<(), AllocFailed<(TypeId, Shape)>>
+        ensures entered { OnOk result (self.new ≡ with_entry self.old id shape) }
+        ensures unchanged { OnErr result (self.new ≡ self.old) }
+    {
+        self.shapes.insert(id, shape)?;
+        Ok(())
+    }
+
+    /// Takes off all types but the first ones.
+    pub(crate) fn truncate(&mut self, count: usize)
+        ensures { self.new ≡ take count self.old }
+    {
+        self.shapes.truncate(count);
+    }
+}
+
+// The place in the table where a type of this id stands, if the stream defines its types one after another
+// from 65 on, as Go's encoder does. A look-up tries it before it hashes.
+#[inline]
+fn likely_place(id: TypeId) -> usize {
+    match id.0 {
+        1..=8 => id.0 as usize - 1,
+        16..=24 => id.0 as usize - 8,
+        65..=2147483647 => id.0 as usize - 48,
+        _ => usize::MAX,
+    }
+}
