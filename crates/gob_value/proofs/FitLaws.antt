@@ -168,3 +168,33 @@ module _ (T : Table) where
       where
         nowhere : {next f : ℕ} {v : Tree} {fs : Fields} {b : List ℕ} → SpellsFields T types next (field f v fs) b → slice_get types f ≡ None → ⊥
         nowhere (next_field l m p q ps) n = cc
+
+-- a map fits no kind but that of a map
+pub record MapFitted (k : Kind) : Type 0 where
+  pub key : TypeId
+  pub elem : TypeId
+  pub is : k ≡ kind.Map key elem
+
+pub map_fitted : {T : Table} {k : Kind} {limit : ℕ} {ps : Pairs} → FitsKindWithin T k limit (Tree.pairs ps) → MapFitted k
+map_fitted f = inside f.spelled
+  where
+    inside : {T : Table} {k : Kind} {ps : Pairs} {b : List ℕ} → SpellsAs T k (Tree.pairs ps) b → MapFitted k
+    inside (of_map {k = x} {e = e} c p) = record { key = x; elem = e; is = refl }
+
+-- and fields fit no kind but that of a struct
+pub record StructFitted (k : Kind) : Type 0 where
+  pub types : List Field
+  pub is : k ≡ kind.Struct types
+
+pub struct_fitted : {T : Table} {k : Kind} {limit : ℕ} {fs : Fields} → FitsKindWithin T k limit (Tree.fields fs) → StructFitted k
+struct_fitted f = inside f.spelled
+  where
+    inside : {T : Table} {k : Kind} {fs : Fields} {b : List ℕ} → SpellsAs T k (Tree.fields fs) b → StructFitted k
+    inside (of_struct {types = x} p) = record { types = x; is = refl }
+
+-- no value fits a type that isn't there
+pub fits_none : (T : Table) (t : TypeId) (limit : ℕ) (v : Tree) → shape_of T t ≡ None → ¬ FitsWithin T t limit v
+fits_none T t limit v e f = nowhere f.spelled
+  where
+    nowhere : {b : List ℕ} → Spells T t v b → ⊥
+    nowhere (of_type h p) = cc

@@ -4,8 +4,9 @@ use Rattle.gob_value.specs.Elements.{element_type}
 use Rattle.gob_value.specs.Tree.{tree_count}
 use Rattle.gob_value.specs.declared.value.Value.{the_lemmas}
 use Rattle.gob_value.proofs.TestSteps.{through, never, always, keep, stop, stop_first, stop_second, keep_both, not_true}
-use Rattle.gob_value.proofs.FitLaws.{fits_at, fits_leaf, fits_many, fits_no_list, fits_map, fits_struct, all_fit_item, all_fit_end, pairs_fit_item, pairs_fit_end, field_fits_item, fields_fit_end, field_low, field_past}
+use Rattle.gob_value.proofs.FitLaws.{fits_at, fits_leaf, fits_many, fits_no_list, fits_map, fits_struct, fits_none, map_fitted, struct_fitted, all_fit_item, all_fit_end, pairs_fit_item, pairs_fit_end, field_fits_item, fields_fit_end, field_low, field_past}
 use Rattle.gob_value.proofs.ViewLaws.{view-Many, view-Pairs, view-Fields, tree_count-views, pair_count-views}
+use Rattle.gob_value.proofs.WithinLaws.{some_depth}
 use Rattle.gob_value.proofs.fitting.+fits.Goals as goal
 
 pub all_fit-returns-then-not-fits_type : goal.all_fit-returns-then-not-fits_type
@@ -95,3 +96,22 @@ fits_kind-returns-in-Struct g t c =
 pub fits_kind-returns-in_default : goal.fits_kind-returns-in_default
 fits_kind-returns-in_default g t c =
     through c.fits_leaf.ensures (fits_leaf _ c.args.kind.now c.args.depth (view c.args.value.now) (search (rules, the_lemmas)) (omega arith))
+
+pub fits_type-returns-in-None : goal.fits_type-returns-in-None
+fits_type-returns-in-None g t c = never (fits_none _ c.args.id c.args.depth (view c.args.value.now) (sym c.in-None.ensures))
+
+pub fits_kind-returns-then-depth-eq0 : goal.fits_kind-returns-then-depth-eq0
+fits_kind-returns-then-depth-eq0 g t c = never (λ f. let d = f.within in let some = some_depth (view c.args.value.now) in omega arith)
+
+pub fits_kind-returns-in_default-kind : goal.fits_kind-returns-in_default-kind
+fits_kind-returns-in_default-kind g t c =
+    let ps = c.in-Pairs.parts in
+    rw (c.in-Pairs.is, view-Pairs ps) (never (λ f. let m = map_fitted f in c.in_default-kind.not-Map m.key m.elem m.is))
+
+pub fits_kind-returns-in_default-kind-2 : goal.fits_kind-returns-in_default-kind-2
+fits_kind-returns-in_default-kind-2 g t c =
+    let fs = c.in-Fields.parts in
+    rw (c.in-Fields.is, view-Fields fs) (never (λ f. let m = struct_fitted f in c.in_default-kind-2.not-Struct m.types m.is))
+
+pub fits_kind-fits_leaf-requires : goal.fits_kind-fits_leaf-requires
+fits_kind-fits_leaf-requires g t c = search (rules, the_lemmas)
