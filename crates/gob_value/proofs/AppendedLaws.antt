@@ -1,6 +1,6 @@
 -- What stands at the end of a vector after writing one thing behind another.
 use Rattle.std.proofs.Common.{◌≡◌, ℕ, List, [], ◌++◌, refl, sym, ap, ◌∙◌, subst, append_assoc}
-use Rattle.std.specs.Prelude.{Result, Ok, Err, OnErr}
+use Rattle.std.specs.Prelude.{Result, Ok, Err, OnOk, OnErr, IsErr}
 use Rattle.std.proofs.lemmas.List.{append-nil}
 use Rattle.gob_num.specs.Spelled.{Appends}
 
@@ -16,6 +16,9 @@ keeps a = record { bytes = a.bytes; spelled = tt; appended = a.appended }
 
 pub keeps_then : {old mid new : List ℕ} → Keeps old mid → Keeps mid new → Keeps old new
 keeps_then {old = old} a b = record { bytes = a.bytes ++ b.bytes; spelled = tt; appended = b.appended ∙ ap (λ l. l ++ b.bytes) a.appended ∙ append_assoc old a.bytes b.bytes }
+
+pub keeps_same : {old mid new : List ℕ} → new ≡ mid → Keeps old mid → Keeps old new
+keeps_same {old = old} e k = subst (Keeps old) (sym e) k
 
 -- one spelling behind another
 pub then : {P Q R : List ℕ → Type 0} {old mid new : List ℕ} → ((b c : List ℕ) → P b → Q c → R (b ++ c)) → Appends P old mid → Appends Q mid new → Appends R old new
@@ -59,3 +62,7 @@ behind b c p q = record { front = b; back = c; first = p; second = q; whole = re
 pub on_err_any : {A E P : Type 0} (r : Result A E) → P → OnErr r P
 on_err_any (Ok a) p = tt
 on_err_any (Err e) p = p
+
+pub on_ok_failed : {A E : Type 0} (P : Type 0) (r : Result A E) → IsErr r → OnOk r P
+on_ok_failed P (Ok a) f = cc
+on_ok_failed P (Err e) f = tt

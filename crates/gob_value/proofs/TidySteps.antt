@@ -17,7 +17,7 @@ use Rattle.gob_value.specs.View.{view, views, pair_views, field_views}
 use Rattle.gob_value.specs.TidyLaws.{HasSmallNumbers}
 use Rattle.gob_value.specs.Tidied.{IsTidied, IsTidiedAs, AreTidied, PairsTidied, FieldsTidied}
 use Rattle.gob_value.specs.Written.{HasParts}
-use Rattle.gob_value.specs.Tidy.{IsZero, of_bool, of_int, of_uint, of_float, of_complex, of_bytes, of_text, IsDropped, zero_basic, empty_slice, of_type, TidiesAs, of_basic, of_opaque, of_slice, of_array, of_map, of_struct, TidiesEach, element, TidiesPairs, entry, TidiesFields, dropped, kept, HasTidyForm, HasTidyFormAs, HaveTidyForms, HaveTidyPairs, HaveTidyFields}
+use Rattle.gob_value.specs.Tidy.{Tidies, IsZero, of_bool, of_int, of_uint, of_float, of_complex, of_bytes, of_text, IsDropped, zero_basic, empty_slice, of_type, TidiesAs, of_basic, of_opaque, of_slice, of_array, of_map, of_struct, TidiesEach, element, TidiesPairs, entry, TidiesFields, dropped, kept, HasTidyForm, HasTidyFormAs, HaveTidyForms, HaveTidyPairs, HaveTidyFields}
 use Rattle.gob_value.specs.declared.value.Value.{Value}
 use Rattle.gob_value.proofs.TidyLaws.{same_shape}
 
@@ -39,6 +39,9 @@ module _ {A : Type 0} {Tidy : List A → List A → Type 0} {Known : List A → 
     known = k;
     shallow = let s = subst (λ l. deep l ≤ deep whole) h g.shallow in omega arith;
   }
+
+pub goes_starts : {A : Type 0} {Tidy : List A → List A → Type 0} {Known : List A → Type 0} {deep : List A → ℕ} {whole new : List A} → new ≡ [] → Known whole → Goes Tidy Known deep whole whole new
+goes_starts {Tidy = Tidy} {whole = whole} e k = record { completes = λ r p. subst (λ l. Tidy whole (l ++ r)) (sym e) p; known = k; shallow = omega arith }
 
 module _ {A : Type 0} {Tidy : List A → List A → Type 0} {Known : List A → Type 0} {deep : List A → ℕ} {whole more tidied : List A} where
   pub goes_end : Goes Tidy Known deep whole more tidied → length more ≡ 0 → Tidy [] [] → Tidy whole tidied
@@ -196,6 +199,41 @@ module _ {T : Table} where
   pub many_of_parts : {k : Kind} {e : TypeId} {vs ws : Trees} → IsListOf k e → AreTidied T e vs ws → IsTidiedAs T k (Tree.many vs) (Tree.many ws)
   many_of_parts {vs = vs} {ws = ws} (inl h) ps = record { tidies = subst (λ (k : Kind). TidiesAs T k (Tree.many vs) (Tree.many ws)) (sym h) (of_slice ps.tidies); small = ps.small }
   many_of_parts {vs = vs} {ws = ws} (inr h) ps = record { tidies = subst (λ (k : Kind). TidiesAs T k (Tree.many vs) (Tree.many ws)) (sym h.1) (of_array ps.tidies); small = ps.small }
+
+  pub parts_of_many : {k : Kind} {e : TypeId} {vs : Trees} → IsListOf k e → HasTidyFormAs T k (Tree.many vs) → HaveTidyForms T e vs
+  parts_of_many {e = e} {vs = vs} (inl h) r = inside (subst (λ (k : Kind). TidiesAs T k (Tree.many vs) r.tidy) h r.tidies)
+    where
+      inside : {w : Tree} → TidiesAs T (kind.Slice e) (Tree.many vs) w → HaveTidyForms T e vs
+      inside (of_slice {ws = ws} ps) = record { tidy = ws; tidies = ps }
+  parts_of_many {e = e} {vs = vs} (inr h) r = inside (subst (λ (k : Kind). TidiesAs T k (Tree.many vs) r.tidy) h.1 r.tidies)
+    where
+      inside : {n : ℕ} {w : Tree} → TidiesAs T (kind.Array e n) (Tree.many vs) w → HaveTidyForms T e vs
+      inside (of_array {ws = ws} ps) = record { tidy = ws; tidies = ps }
+
+  pub parts_of_pairs : {k e : TypeId} {ps : Pairs} → HasTidyFormAs T (kind.Map k e) (Tree.pairs ps) → HaveTidyPairs T k e ps
+  parts_of_pairs r = inside r.tidies
+    where
+      inside : {k e : TypeId} {ps : Pairs} {w : Tree} → TidiesAs T (kind.Map k e) (Tree.pairs ps) w → HaveTidyPairs T k e ps
+      inside (of_map {qs = qs} ps) = record { tidy = qs; tidies = ps }
+
+  pub parts_of_fields : {types : List Field} {fs : Fields} → HasTidyFormAs T (kind.Struct types) (Tree.fields fs) → HaveTidyFields T types fs
+  parts_of_fields r = inside r.tidies
+    where
+      inside : {types : List Field} {fs : Fields} {w : Tree} → TidiesAs T (kind.Struct types) (Tree.fields fs) w → HaveTidyFields T types fs
+      inside (of_struct {gs = gs} ps) = record { tidy = gs; tidies = ps }
+
+  pub form_at : {t : TypeId} {v : Tree} {s : Shape} → HasTidyForm T t v → shape_of T t ≡ Some s → HasTidyFormAs T s.kind v
+  form_at {v = v} r e = inside r.tidies e
+    where
+      inside : {t : TypeId} {w : Tree} {s : Shape} → Tidies T t v w → shape_of T t ≡ Some s → HasTidyFormAs T s.kind v
+      inside {w = w} {s = s} (of_type {s = r} f p) e =
+          let one : r ≡ s = some_injective (sym f ∙ e) in record { tidy = w; tidies = subst (λ (s : Shape). TidiesAs T s.kind v w) one p }
+
+  pub formless : {t : TypeId} {v : Tree} → HasTidyForm T t v → shape_of T t ≡ None → ⊥
+  formless {v = v} r e = inside r.tidies e
+    where
+      inside : {t : TypeId} {w : Tree} → Tidies T t v w → shape_of T t ≡ None → ⊥
+      inside (of_type f p) e = cc
 
   pub plain_stays : {k : Kind} {v : Tree} → IsPlain k → HasTidyFormAs T k v → IsTidiedAs T k v v
   plain_stays {v = v} (inl h) r =

@@ -1,15 +1,27 @@
-use Rattle.std.proofs.Common.{◌≤◌, ℕ, List, length, arith, rules, sym, ap, ◌∙◌, subst}
+use Rattle.std.proofs.Common.{◌≡◌, ◌≤◌, ℕ, List, length, arith, rules, sym, ap, ◌∙◌, subst}
 use Rattle.std.proofs.lemmas.Bool.{false≢true}
-use Rattle.gob_value.specs.Tree.{depth, trees_depth, pairs_depth, fields_depth}
+use Rattle.std.proofs.lemmas.Result.{IfOk-from_err}
+use Rattle.gob_types.specs.declared.kind.Kind.TheVariants as kind
+use Rattle.gob_value.specs.Tree.{Tree, depth, trees_depth, pairs_depth, fields_depth}
 use Rattle.gob_value.specs.View.{view, views, pair_views, field_views}
-use Rattle.gob_value.specs.Tidy.{of_map, of_struct, no_element, no_entry, no_more, HasTidyFormAs}
+use Rattle.gob_value.specs.Tidy.{of_map, of_struct, no_element, no_entry, no_more, HasTidyFormAs, HaveTidyForms, HaveTidyPairs, HaveTidyFields}
 use Rattle.gob_value.specs.Tidied.{AreTidied, PairsTidied, FieldsTidied}
 use Rattle.gob_value.specs.declared.value.Value.{Value, the_lemmas}
-use Rattle.gob_value.proofs.TidySteps.{goes_end, each_left, each_on, pairs_left, pairs_on, field_left, field_shallow, field_form, field_dropped, field_kept, many_of_parts, plain_stays, nowhere, typed, IsNoList, IsNoMap, IsNoStruct, has_list, has_map, has_struct}
+use Rattle.gob_value.proofs.TidySteps.{goes_starts, goes_end, each_left, each_on, pairs_left, pairs_on, field_left, field_shallow, field_form, field_dropped, field_kept, many_of_parts, parts_of_many, parts_of_pairs, parts_of_fields, form_at, formless, plain_stays, nowhere, typed, IsNoList, IsNoMap, IsNoStruct, has_list, has_map, has_struct}
 use Rattle.gob_value.proofs.ViewLaws.{view-Many, view-Pairs, view-Fields}
 use Rattle.gob_value.proofs.tidying.+tidy.Goals as goal
 
 -- ---- elements
+
+pub tidy_each-loop-part-init : goal.tidy_each-loop-part-init
+tidy_each-loop-part-init g t c =
+    (goes_starts c.new-tidied.ensures.items (subst (λ (l : List Value). HaveTidyForms (g.S.Shapes.table c.args.shapes.now) c.args.elem (views l)) (sym c.into_iter-part-iterator.ensures.into_iter_gives.0) c.requires), omega arith)
+
+pub tidy_each-returns-in_err-tidy_type : goal.tidy_each-returns-in_err-tidy_type
+tidy_each-returns-in_err-tidy_type g t c = IfOk-from_err c.from_residual.result _ c.from_residual.ensures.0
+
+pub tidy_each-returns-in_err-push : goal.tidy_each-returns-in_err-push
+tidy_each-returns-in_err-push g t c = IfOk-from_err c.from_residual-in_err-push.result _ c.from_residual-in_err-push.ensures.0
 
 pub tidy_each-tidy_type-requires : goal.tidy_each-tidy_type-requires
 tidy_each-tidy_type-requires g t c κs within =
@@ -30,6 +42,19 @@ tidy_each-returns g t c =
     (goes_end c.loop-part.invariant.0 (sym c.loop-part.invariant.1 ∙ none.0) (record { tidies = no_element; small = tt }))
 
 -- ---- keys and elements
+
+pub tidy_pairs-loop-k-init : goal.tidy_pairs-loop-k-init
+tidy_pairs-loop-k-init g t c =
+    (goes_starts c.new-tidied.ensures.items (subst (λ (l : List (Value × Value)). HaveTidyPairs (g.S.Shapes.table c.args.shapes.now) c.args.key c.args.elem (pair_views l)) (sym c.into_iter-k-iterator.ensures.into_iter_gives.0) c.requires), omega arith)
+
+pub tidy_pairs-returns-in_err-k : goal.tidy_pairs-returns-in_err-k
+tidy_pairs-returns-in_err-k g t c = IfOk-from_err c.from_residual.result _ c.from_residual.ensures.0
+
+pub tidy_pairs-returns-in_err-e : goal.tidy_pairs-returns-in_err-e
+tidy_pairs-returns-in_err-e g t c = IfOk-from_err c.from_residual-in_err-e.result _ c.from_residual-in_err-e.ensures.0
+
+pub tidy_pairs-returns-in_err-push : goal.tidy_pairs-returns-in_err-push
+tidy_pairs-returns-in_err-push g t c = IfOk-from_err c.from_residual-in_err-push.result _ c.from_residual-in_err-push.ensures.0
 
 pub tidy_pairs-tidy_type-requires : goal.tidy_pairs-tidy_type-requires
 tidy_pairs-tidy_type-requires g t c κs within =
@@ -56,6 +81,16 @@ tidy_pairs-returns g t c =
     (goes_end c.loop-k.invariant.0 (sym c.loop-k.invariant.1 ∙ none.0) (record { tidies = no_entry; small = tt }))
 
 -- ---- fields
+
+pub tidy_fields-loop-number-init : goal.tidy_fields-loop-number-init
+tidy_fields-loop-number-init g t c =
+    (goes_starts c.new-tidied.ensures.items (subst (λ (l : List (ℕ × Value)). HaveTidyFields (g.S.Shapes.table c.args.shapes.now) c.args.types.now (field_views l)) (sym c.into_iter-number-iterator.ensures.into_iter_gives.0) c.requires), omega arith)
+
+pub tidy_fields-returns-in_err-tidy_kind : goal.tidy_fields-returns-in_err-tidy_kind
+tidy_fields-returns-in_err-tidy_kind g t c = IfOk-from_err c.from_residual.result _ c.from_residual.ensures.0
+
+pub tidy_fields-returns-in_err-push : goal.tidy_fields-returns-in_err-push
+tidy_fields-returns-in_err-push g t c = IfOk-from_err c.from_residual-in_err-push.result _ c.from_residual-in_err-push.ensures.0
 
 pub tidy_fields-unreachable-requires : goal.tidy_fields-unreachable-requires
 tidy_fields-unreachable-requires g t c =
@@ -95,6 +130,41 @@ tidy_fields-returns g t c =
     (goes_end c.loop-number.invariant.0 (sym c.loop-number.invariant.1 ∙ none.0) (record { tidies = no_more; small = tt }))
 
 -- ---- values
+
+pub tidy_kind-tidy_each-requires : goal.tidy_kind-tidy_each-requires
+tidy_kind-tidy_each-requires g t c κs within =
+    let is : view c.args.value ≡ Tree.many (views c.in-Many.parts.items) = ap view c.in-Many.is ∙ view-Many c.in-Many.parts in
+    let deep = ap depth is in
+    (omega arith, (within, parts_of_many c.in-Slice.is (subst (λ (v : Tree). HasTidyFormAs (g.S.Shapes.table c.args.shapes.now) c.args.kind.now v) is c.requires)))
+
+pub tidy_kind-tidy_pairs-requires : goal.tidy_kind-tidy_pairs-requires
+tidy_kind-tidy_pairs-requires g t c κs within =
+    let is : view c.args.value ≡ Tree.pairs (pair_views c.in-Pairs.parts.items) = ap view c.in-Pairs.is ∙ view-Pairs c.in-Pairs.parts in
+    let deep = ap depth is in
+    let form = subst (λ k. HasTidyFormAs (g.S.Shapes.table c.args.shapes.now) k (view c.args.value)) c.in-Map.is c.requires in
+    (omega arith, (within, parts_of_pairs (subst (λ (v : Tree). HasTidyFormAs (g.S.Shapes.table c.args.shapes.now) (kind.Map c.in-Map.key c.in-Map.elem) v) is form)))
+
+pub tidy_kind-tidy_fields-requires : goal.tidy_kind-tidy_fields-requires
+tidy_kind-tidy_fields-requires g t c κs within =
+    let is : view c.args.value ≡ Tree.fields (field_views c.in-Fields.parts.items) = ap view c.in-Fields.is ∙ view-Fields c.in-Fields.parts in
+    let deep = ap depth is in
+    let form = subst (λ k. HasTidyFormAs (g.S.Shapes.table c.args.shapes.now) k (view c.args.value)) c.in-Struct.is c.requires in
+    (omega arith, (within, parts_of_fields (subst (λ (v : Tree). HasTidyFormAs (g.S.Shapes.table c.args.shapes.now) (kind.Struct c.in-Struct.fields) v) is form)))
+
+pub tidy_type-tidy_kind-requires : goal.tidy_type-tidy_kind-requires
+tidy_type-tidy_kind-requires g t c κs within = (omega arith, (within, form_at c.requires (sym c.in-Some.ensures)))
+
+pub tidy_type-unreachable-requires : goal.tidy_type-unreachable-requires
+tidy_type-unreachable-requires g t c = formless c.requires (sym c.in-None.ensures)
+
+pub tidy_kind-returns-in_err-tidy_each-in-Many : goal.tidy_kind-returns-in_err-tidy_each-in-Many
+tidy_kind-returns-in_err-tidy_each-in-Many g t c = IfOk-from_err c.from_residual-in_err-tidy_each-in-Many.result _ c.from_residual-in_err-tidy_each-in-Many.ensures.0
+
+pub tidy_kind-returns-in_err-tidy_pairs-in-Pairs : goal.tidy_kind-returns-in_err-tidy_pairs-in-Pairs
+tidy_kind-returns-in_err-tidy_pairs-in-Pairs g t c = IfOk-from_err c.from_residual.result _ c.from_residual.ensures.0
+
+pub tidy_kind-returns-in_err-tidy_fields-in-Fields : goal.tidy_kind-returns-in_err-tidy_fields-in-Fields
+tidy_kind-returns-in_err-tidy_fields-in-Fields g t c = IfOk-from_err c.from_residual-in_err-tidy_fields-in-Fields.result _ c.from_residual-in_err-tidy_fields-in-Fields.ensures.0
 
 pub tidy_kind-unreachable-requires : goal.tidy_kind-unreachable-requires
 tidy_kind-unreachable-requires g t c =

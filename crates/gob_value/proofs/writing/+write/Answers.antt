@@ -1,16 +1,19 @@
 use Rattle.std.proofs.Common.{arith, rules, sym, ap, ◌∙◌, subst, ◌≡◌, ◌+◌, drop}
-use Rattle.std.proofs.lemmas.Result.{on_ok_weaker}
+use Rattle.std.proofs.lemmas.Result.{on_ok_weaker, on_err_weaker}
 use Rattle.gob_num.specs.Unsigned.{IsUnsigned}
 use Rattle.gob_value.specs.View.{view, views, pair_views, field_views}
 use Rattle.gob_value.specs.Tree.{tree_count, pair_count}
 use Rattle.gob_value.specs.Written.{Written, of_many, of_pairs, of_fields, WrittenPairs, WrittenFields, next_number, IsWritable, PairsWritable, FieldsWritable}
 use Rattle.gob_value.specs.declared.value.Value.{the_lemmas}
-use Rattle.gob_value.proofs.AppendedLaws.{keeps, keeps_then, then, then_as, Goes, goes_more, goes_last, goes_ends, Behind, behind, on_err_any}
-use Rattle.gob_value.proofs.WrittenSteps.{many_writable, pairs_writable, each_left, each_from, each_end, pairs_left, pairs_from, pairs_end, field_left, field_from, fields_end}
+use Rattle.gob_value.proofs.AppendedLaws.{keeps_all, keeps, keeps_then, keeps_same, then, then_as, Goes, goes_more, goes_last, goes_ends, Behind, behind, on_err_any, on_ok_failed}
+use Rattle.gob_value.proofs.WrittenSteps.{many_writable, pairs_writable, fields_writable, each_left, each_from, each_end, pairs_left, pairs_from, pairs_end, field_left, field_from, fields_end}
 use Rattle.gob_value.proofs.ViewLaws.{view-Many, view-Pairs, view-Fields, tree_count-views, pair_count-views}
 use Rattle.gob_value.proofs.writing.+write.Goals as goal
 
 -- ---- elements
+
+pub write_each-returns-in_err-write_value-clause-ok : goal.write_each-returns-in_err-write_value-clause-ok
+write_each-returns-in_err-write_value-clause-ok t c = on_ok_failed _ c.from_residual.result c.from_residual.ensures.0
 
 pub write_each-write_value-requires : goal.write_each-write_value-requires
 write_each-write_value-requires t c =
@@ -30,6 +33,12 @@ pub write_each-returns-clause-ok : goal.write_each-returns-clause-ok
 write_each-returns-clause-ok t c = goes_last c.loop-part.invariant (each_end c.args.parts.now c.loop-part.part-index (omega arith))
 
 -- ---- keys and elements
+
+pub write_pairs-returns-in_err-write_value-clause-ok : goal.write_pairs-returns-in_err-write_value-clause-ok
+write_pairs-returns-in_err-write_value-clause-ok t c = on_ok_failed _ c.from_residual.result c.from_residual.ensures.0
+
+pub write_pairs-returns-in_err-write_value-2-clause-ok : goal.write_pairs-returns-in_err-write_value-2-clause-ok
+write_pairs-returns-in_err-write_value-2-clause-ok t c = on_ok_failed _ c.from_residual-in_err-write_value-2.result c.from_residual-in_err-write_value-2.ensures.0
 
 pub write_pairs-write_value-requires : goal.write_pairs-write_value-requires
 write_pairs-write_value-requires t c =
@@ -60,6 +69,18 @@ pub write_pairs-returns-clause-ok : goal.write_pairs-returns-clause-ok
 write_pairs-returns-clause-ok t c = goes_last c.loop-key.invariant (pairs_end c.args.parts.now c.loop-key.key-index (omega arith))
 
 -- ---- fields
+
+pub write_fields-returns-in_err-write_uint-clause-ok : goal.write_fields-returns-in_err-write_uint-clause-ok
+write_fields-returns-in_err-write_uint-clause-ok t c = on_ok_failed _ c.from_residual.result c.from_residual.ensures.0
+
+pub write_fields-returns-in_err-write_value-clause-ok : goal.write_fields-returns-in_err-write_value-clause-ok
+write_fields-returns-in_err-write_value-clause-ok t c = on_ok_failed _ c.from_residual-in_err-write_value.result c.from_residual-in_err-write_value.ensures.0
+
+pub write_fields-returns-in_err-write_uint-clause-err : goal.write_fields-returns-in_err-write_uint-clause-err
+write_fields-returns-in_err-write_uint-clause-err t c = on_err_any c.from_residual.result (keeps_same c.in_err-write_uint.ensures.err c.loop-number.invariant.kept)
+
+pub write_fields-returns-clause-err : goal.write_fields-returns-clause-err
+write_fields-returns-clause-err t c = on_err_weaker c.write_uint-2.result (λ same. keeps_same same c.loop-number.invariant.kept) c.write_uint-2.ensures.err
 
 pub write_fields-delta-requires-clause-rises : goal.write_fields-delta-requires-clause-rises
 write_fields-delta-requires-clause-rises t c =
@@ -96,6 +117,38 @@ write_fields-returns-clause-ok t c =
     c.write_uint-2.ensures.ok
 
 -- ---- values
+
+pub write_value-write_fields-requires : goal.write_value-write_fields-requires
+write_value-write_fields-requires t c =
+    let fs = c.in-Fields.parts in
+    (search (rules, the_lemmas), rw c.deref-in-Fields.ensures.value (fields_writable (field_views fs.items) (subst IsWritable (ap view c.in-Fields.is ∙ view-Fields fs) c.requires.writable)))
+
+pub write_value-write_leaf-requires : goal.write_value-write_leaf-requires
+write_value-write_leaf-requires t c = search (rules, the_lemmas)
+
+pub write_value-returns-in_err-write_uint-in-Many-clause-ok : goal.write_value-returns-in_err-write_uint-in-Many-clause-ok
+write_value-returns-in_err-write_uint-in-Many-clause-ok t c = on_ok_failed _ c.from_residual.result c.from_residual.ensures.0
+
+pub write_value-returns-in_err-write_uint-in-Pairs-clause-ok : goal.write_value-returns-in_err-write_uint-in-Pairs-clause-ok
+write_value-returns-in_err-write_uint-in-Pairs-clause-ok t c = on_ok_failed _ c.from_residual-in_err-write_uint-in-Pairs.result c.from_residual-in_err-write_uint-in-Pairs.ensures.0
+
+pub write_value-returns-in_err-write_uint-in-Many-clause-err : goal.write_value-returns-in_err-write_uint-in-Many-clause-err
+write_value-returns-in_err-write_uint-in-Many-clause-err t c = on_err_any c.from_residual.result (keeps_same c.in_err-write_uint-in-Many.ensures.err (keeps_all _))
+
+pub write_value-returns-in_err-write_uint-in-Pairs-clause-err : goal.write_value-returns-in_err-write_uint-in-Pairs-clause-err
+write_value-returns-in_err-write_uint-in-Pairs-clause-err t c = on_err_any c.from_residual-in_err-write_uint-in-Pairs.result (keeps_same c.in_err-write_uint-in-Pairs.ensures.err (keeps_all _))
+
+pub write_value-returns-in_ok-write_uint-in-Many-clause-err : goal.write_value-returns-in_ok-write_uint-in-Many-clause-err
+write_value-returns-in_ok-write_uint-in-Many-clause-err t c = on_err_weaker c.write_each.result (keeps_then (keeps c.in_ok-write_uint-in-Many.ensures.ok)) c.write_each.ensures.err
+
+pub write_value-returns-in_ok-write_uint-in-Pairs-clause-err : goal.write_value-returns-in_ok-write_uint-in-Pairs-clause-err
+write_value-returns-in_ok-write_uint-in-Pairs-clause-err t c = on_err_weaker c.write_pairs.result (keeps_then (keeps c.in_ok-write_uint-in-Pairs.ensures.ok)) c.write_pairs.ensures.err
+
+pub write_value-returns-in-Fields-clause-err : goal.write_value-returns-in-Fields-clause-err
+write_value-returns-in-Fields-clause-err t c = c.write_fields.ensures.err
+
+pub write_value-returns-in_default : goal.write_value-returns-in_default
+write_value-returns-in_default t c = record { ok = c.write_leaf.ensures.ok; err = c.write_leaf.ensures.err }
 
 pub write_value-write_each-requires : goal.write_value-write_each-requires
 write_value-write_each-requires t c =
