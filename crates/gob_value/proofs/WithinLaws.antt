@@ -38,13 +38,16 @@ leaf_within limit (Tree.fields fs) n l = absurd (n tt)
 leaf_within limit (Tree.opaque s) n l = omega arith
 
 -- the parts are one less deep than the value
-pub parts_inside : (limit : ℕ) (v : Tree) (vs : Trees) → v ≡ Tree.many vs → 0 < limit → AreWithin (limit - 1) vs ↔ IsWithin limit v
+pub parts_inside : (limit : ℕ) (v : Tree) (vs : Trees) → v ≡ Tree.many vs → 0 < limit → AreWithin (limit - 1) vs
+    ↔ IsWithin limit v
 parts_inside limit v vs e l = rw e (λ h. omega arith, λ h. omega arith)
 
-pub pairs_inside : (limit : ℕ) (v : Tree) (ps : Pairs) → v ≡ Tree.pairs ps → 0 < limit → PairsWithin (limit - 1) ps ↔ IsWithin limit v
+pub pairs_inside : (limit : ℕ) (v : Tree) (ps : Pairs) → v ≡ Tree.pairs ps → 0 < limit → PairsWithin (limit - 1) ps
+    ↔ IsWithin limit v
 pairs_inside limit v ps e l = rw e (λ h. omega arith, λ h. omega arith)
 
-pub fields_inside : (limit : ℕ) (v : Tree) (fs : Fields) → v ≡ Tree.fields fs → 0 < limit → FieldsWithin (limit - 1) fs ↔ IsWithin limit v
+pub fields_inside : (limit : ℕ) (v : Tree) (fs : Fields) → v ≡ Tree.fields fs → 0 < limit → FieldsWithin (limit - 1) fs
+    ↔ IsWithin limit v
 fields_inside limit v fs e l = rw e (λ h. omega arith, λ h. omega arith)
 
 -- what is left of a list is within the limit where its first part and what is behind that are
@@ -57,14 +60,16 @@ module _ (limit : ℕ) where
   parts_end vs i h = rw (none_left vs i h) (omega arith)
 
   pub pair_within : (ps : List (Value × Value)) (i : ℕ) (p : Value × Value) → p ≡ get_or ps i p → i < length ps
-      → (IsWithin limit (view p.0) × IsWithin limit (view p.1) × PairsWithin limit (pair_views (drop (i + 1) ps))) ↔ PairsWithin limit (pair_views (drop i ps))
+      → (IsWithin limit (view p.0) × IsWithin limit (view p.1) × PairsWithin limit (pair_views (drop (i + 1) ps)))
+      ↔ PairsWithin limit (pair_views (drop i ps))
   pair_within ps i p is h = rw (pair_item ps i p is h) (λ m. omega arith, λ m. (omega arith, omega arith, omega arith))
 
   pub pairs_end : (ps : List (Value × Value)) (i : ℕ) → length ps ≤ i → PairsWithin limit (pair_views (drop i ps))
   pairs_end ps i h = rw (none_left ps i h) (omega arith)
 
   pub field_within : (fs : List (ℕ × Value)) (i : ℕ) (f : ℕ × Value) → f ≡ get_or fs i f → i < length fs
-      → (IsWithin limit (view f.1) × FieldsWithin limit (field_views (drop (i + 1) fs))) ↔ FieldsWithin limit (field_views (drop i fs))
+      → (IsWithin limit (view f.1) × FieldsWithin limit (field_views (drop (i + 1) fs)))
+      ↔ FieldsWithin limit (field_views (drop i fs))
   field_within fs i f is h = rw (field_item fs i f is h) (λ p. omega arith, λ m. (omega arith, omega arith))
 
   pub fields_end : (fs : List (ℕ × Value)) (i : ℕ) → length fs ≤ i → FieldsWithin limit (field_views (drop i fs))
