@@ -15,7 +15,11 @@ use Rattle.gob_types.specs.Table.{Table}
 use Rattle.gob_types.proofs.PublicLaws.{slice_get-append_left, contains_read, contains_at, some_injective}
 use Rattle.gob_types.proofs.PublicLaws as growth
 use Rattle.gob_match.specs.declared.found.Origin.{Origin}
+use Rattle.gob_match.specs.declared.fault.MatchFault.{MatchFault}
+use Rattle.gob_match.specs.declared.fault.MatchFault.TheVariants as fault
 use Rattle.gob_match.specs.declared.pair.TypePair.{TypePair}
+use Rattle.gob_match.specs.Faults.{IsMatchFault}
+use Rattle.gob_match.specs.Machine.Exploring.{EndsAt}
 use Rattle.gob_match.specs.declared.reason.ClashReason.{ClashReason}
 use Rattle.gob_match.specs.declared.step.Step.{Step}
 use Rattle.gob_match.specs.Clashing.{HasClashingShapes, Leads, here, onward, IsLeastClash}
@@ -354,6 +358,11 @@ searched_least {p = p} r at clash h = record {
   clash = record { last = p; leads = leads_to r h at; clash = clash };
   least = λ other why c. let n = nearest r h r.begins (begins_path r) c.leads c.clash in omega (arith, n);
 }
+
+-- why the search ends, when it does so at this pair
+pub search_ends : {T U : Table} {t u : TypeId} {es : List Entry} {next : ℕ} → Searched T U (of_types t u) es next → (f : MatchFault) → EndsAt T U es next f → IsMatchFault T U t u f
+search_ends r (fault.Clash path reason) e = searched_least r e.at e.clash e.leads
+search_ends r fault.Memory e = tt
 
 -- ---- the place of a pair
 
