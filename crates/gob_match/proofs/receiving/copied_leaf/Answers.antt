@@ -26,20 +26,25 @@ returns-in_err-from_slice-in-Bytes c = IfOk-from_err c.from_residual.result _ c.
 pub returns-in_ok-from_slice-in-Bytes : goal.returns-in_ok-from_slice-in-Bytes
 returns-in_ok-from_slice-in-Bytes c =
     let s = c.in_ok-from_slice-in-Bytes.field-0 in
-    view-Bytes s ∙ ap Tree.bytes (c.in_ok-from_slice-in-Bytes.ensures.items ∙ c.deref.ensures.value) ∙ sym (ap view c.in-Bytes.is ∙ view-Bytes c.in-Bytes.s)
+    view-Bytes s ∙ ap Tree.bytes (c.in_ok-from_slice-in-Bytes.ensures.items ∙ c.deref.ensures.value)
+    ∙ sym (ap view c.in-Bytes.is ∙ view-Bytes c.in-Bytes.s)
 
 pub returns-in_err-from_slice-in-Str : goal.returns-in_err-from_slice-in-Str
-returns-in_err-from_slice-in-Str c = IfOk-from_err c.from_residual-in_err-from_slice-in-Str.result _ c.from_residual-in_err-from_slice-in-Str.ensures.0
+returns-in_err-from_slice-in-Str c = IfOk-from_err c.from_residual-in_err-from_slice-in-Str.result _
+    c.from_residual-in_err-from_slice-in-Str.ensures.0
 
 pub returns-in_ok-from_slice-in-Str : goal.returns-in_ok-from_slice-in-Str
 returns-in_ok-from_slice-in-Str c =
     let s = c.in_ok-from_slice-in-Str.field-0 in
-    view-Str s ∙ ap Tree.text (c.in_ok-from_slice-in-Str.ensures.items ∙ c.deref-in-Str.ensures.value) ∙ sym (ap view c.in-Str.is ∙ view-Str c.in-Str.s)
+    view-Str s ∙ ap Tree.text (c.in_ok-from_slice-in-Str.ensures.items ∙ c.deref-in-Str.ensures.value)
+    ∙ sym (ap view c.in-Str.is ∙ view-Str c.in-Str.s)
 
 pub returns-in_err-from_slice-in-Opaque : goal.returns-in_err-from_slice-in-Opaque
-returns-in_err-from_slice-in-Opaque c = IfOk-from_err c.from_residual-in_err-from_slice-in-Opaque.result _ c.from_residual-in_err-from_slice-in-Opaque.ensures.0
+returns-in_err-from_slice-in-Opaque c = IfOk-from_err c.from_residual-in_err-from_slice-in-Opaque.result _
+    c.from_residual-in_err-from_slice-in-Opaque.ensures.0
 
 pub returns-in_ok-from_slice-in-Opaque : goal.returns-in_ok-from_slice-in-Opaque
 returns-in_ok-from_slice-in-Opaque c =
     let s = c.in_ok-from_slice-in-Opaque.field-0 in
-    view-Opaque s ∙ ap Tree.opaque (c.in_ok-from_slice-in-Opaque.ensures.items ∙ c.deref-in-Opaque.ensures.value) ∙ sym (ap view c.in-Opaque.is ∙ view-Opaque c.in-Opaque.s)
+    view-Opaque s ∙ ap Tree.opaque (c.in_ok-from_slice-in-Opaque.ensures.items ∙ c.deref-in-Opaque.ensures.value)
+    ∙ sym (ap view c.in-Opaque.is ∙ view-Opaque c.in-Opaque.s)
