@@ -20,9 +20,9 @@ drop_all (suc n) [] w = refl
 drop_all (suc n) (x ∷ xs) w = drop_all n xs (omega arith)
 
 -- what is made so far, before what is made of the rest, is made of the whole
-pub record Completes {A B : Type 0} (Makes : List A → List B → Type 0) (whole rest : List A) (made : List B) : Type 0
-  where
-    pub completes : (more : List B) → Makes rest more → Makes whole (made ++ more)
+pub record Completes {A B : Type 0} (Makes : List A → List B → Type 0) (whole rest : List A) (made : List B)
+    : Type 0 where
+  pub completes : (more : List B) → Makes rest more → Makes whole (made ++ more)
 
 module _ {A B : Type 0} {Makes : List A → List B → Type 0} {whole : List A} where
   pub completes_start : {made : List B} → made ≡ [] → Completes Makes whole whole made

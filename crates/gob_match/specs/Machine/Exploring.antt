@@ -56,15 +56,15 @@ IsExploreFault T U old new place (pair_fault.Clash reason) = ClashesAt T U old n
 IsExploreFault T U old new place pair_fault.Memory = Unit {0}
 
 -- the pair at the place was explored, and its conversion is kept, last
-pub record KeepsExplored (T U : Table) (old new : List Entry) (place : ℕ) (before behind : List Conversion) : Type 0
-  where
-    pub conversion : Conversion
-    pub explores : Explores T U old new place conversion
-    pub kept : behind ≡ before ++ conversion ∷ []
+pub record KeepsExplored (T U : Table) (old new : List Entry) (place : ℕ) (before behind : List Conversion)
+    : Type 0 where
+  pub conversion : Conversion
+  pub explores : Explores T U old new place conversion
+  pub kept : behind ≡ before ++ conversion ∷ []
 
 -- the pair at the place clashes, and this is a path to it
-pub record ClashesBehind (T U : Table) (found : List Entry) (place : ℕ) (path : List Step) (reason : ClashReason) : Type
-    0 where
+pub record ClashesAlong (T U : Table) (found : List Entry) (place : ℕ) (path : List Step) (reason : ClashReason)
+    : Type 0 where
   pub pair : TypePair
   pub at : IsAt found place pair
   pub clash : HasClashingShapes T U pair reason
@@ -72,5 +72,5 @@ pub record ClashesBehind (T U : Table) (found : List Entry) (place : ℕ) (path 
 
 -- why a search ends at the pair at the place
 abbrev pub EndsAt : Table → Table → List Entry → ℕ → MatchFault → Type 0
-EndsAt T U found place (fault.Clash path reason) = ClashesBehind T U found place path.items reason
+EndsAt T U found place (fault.Clash path reason) = ClashesAlong T U found place path.items reason
 EndsAt T U found place fault.Memory = Unit {0}
