@@ -1,5 +1,7 @@
 -- The conversions of shapes that match, and the pairs that they lead to.
-use Rattle.std.proofs.Common.{◌≡◌, ℕ, zero, suc, ◌+◌, ◌^◌, ◌<◌, ◌≤◌, ◌⊎◌, inl, inr, List, [], ◌∷◌, ◌++◌, length, Some, None, arith, refl, sym, ap, ◌∙◌, subst, append_assoc, true≢false, is_some, length-append, get_or, append-nil, ◌-◌}
+use Rattle.std.proofs.Common.{◌≡◌, ℕ, zero, suc, ◌+◌, ◌^◌, ◌<◌, ◌≤◌, ◌⊎◌, inl, inr, List, [], ◌∷◌, ◌++◌, length, Some}
+use Rattle.std.proofs.Common.{None, arith, refl, sym, ap, ◌∙◌, subst, append_assoc, true≢false, is_some, length-append}
+use Rattle.std.proofs.Common.{get_or, append-nil, ◌-◌}
 use Rattle.std.proofs.Math.Nat.{eq-or-lt_of_le}
 use Rattle.std.proofs.lemmas.Option.{slice_get-get_or, slice_get_within}
 use Rattle.std.specs.Prelude.{slice_get}
@@ -17,16 +19,19 @@ use Rattle.gob_match.specs.declared.conversion.Conversion.TheVariants as convers
 use Rattle.gob_match.specs.declared.pair.TypePair.{TypePair}
 use Rattle.gob_match.specs.declared.step.Step.{Step}
 use Rattle.gob_match.specs.declared.step.Step.TheVariants as step
-use Rattle.gob_match.specs.Machine.Conversions.{IsConversion, of_basics, of_opaques, of_arrays, of_slices, of_maps, of_structs, HasCommon, ConversionNames}
+use Rattle.gob_match.specs.Machine.Conversions.{IsConversion, of_basics, of_opaques, of_arrays, of_slices, of_maps}
+use Rattle.gob_match.specs.Machine.Conversions.{of_structs, HasCommon, ConversionNames}
 use Rattle.gob_match.specs.Machine.Exploring.{Converts, ConvertsAt, Explores}
 use Rattle.gob_match.specs.Machine.Search.{Entry, came, IsAt, AddsPairs}
 use Rattle.gob_match.specs.Machine.Struct.{AreCommonFields, no_more, missing, common}
 use Rattle.gob_match.specs.Machine.Kept.{IsMatched}
 use Rattle.gob_match.specs.Matching.{KindsMatch, structs, HasShapes, HasMatchingShapes, Names}
-use Rattle.gob_match.specs.Pairs.{of_types, RepeatsName, NamesPair, element_of_arrays, element_of_slices, key_of_maps, element_of_maps, field_of_structs}
+use Rattle.gob_match.specs.Pairs.{of_types, RepeatsName, NamesPair, element_of_arrays, element_of_slices, key_of_maps}
+use Rattle.gob_match.specs.Pairs.{element_of_maps, field_of_structs}
 use Rattle.gob_match.proofs.ClashLaws.{one_stream, one_wanted}
 use Rattle.gob_match.proofs.FoundLaws.{IsStepTo}
-use Rattle.gob_match.proofs.SearchLaws.{Searched, at_within, at_back, one_at, kept_at, below_or_past, slice_get-append_right}
+use Rattle.gob_match.proofs.SearchLaws.{Searched, at_within, at_back, one_at, kept_at, below_or_past}
+use Rattle.gob_match.proofs.SearchLaws.{slice_get-append_right}
 
 -- ---- fields of one name
 
@@ -41,12 +46,31 @@ three_ways (suc i) (suc j) = elim (three_ways i j) as (λ _. (suc i < suc j) ⊎
 ]
 
 -- where no name is repeated, fields of one name have one number
-pub one_number : {fs : List Field} {i j : ℕ} {f g : Field} → ¬ RepeatsName fs → slice_get fs i ≡ Some f → slice_get fs j ≡ Some g → f.name ≡ g.name → i ≡ j
+pub one_number : {fs : List Field} {i j : ℕ} {f g : Field} → ¬ RepeatsName fs → slice_get fs i ≡ Some f
+    → slice_get fs j ≡ Some g → f.name ≡ g.name → i ≡ j
 one_number {i = i} {j = j} {f = f} {g = g} n a b e =
     elim (three_ways i j) as (λ _. i ≡ j) [
-      | inl below ↦ absurd (n (record { first = i; second = j; apart = below; one = f; other = g; one_there = a; other_there = b; same = e }))
+      | inl below ↦ absurd (n (record {
+        first = i;
+        second = j;
+        apart = below;
+        one = f;
+        other = g;
+        one_there = a;
+        other_there = b;
+        same = e;
+      }))
       | inr (inl same) ↦ same
-      | inr (inr above) ↦ absurd (n (record { first = j; second = i; apart = above; one = g; other = f; one_there = b; other_there = a; same = sym e }))
+      | inr (inr above) ↦ absurd (n (record {
+        first = j;
+        second = i;
+        apart = above;
+        one = g;
+        other = f;
+        one_there = b;
+        other_there = a;
+        same = sym e;
+      }))
     ]
 
 -- ---- common fields
@@ -64,7 +88,8 @@ pub record IsCommon (fs : List Field) (n : ℕ) (gs : List Field) (c : CommonFie
   pub typed : c.pair ≡ of_types in_stream.id in_wanted.id
   pub small : c.wanted + 1 < 2 ^ 64
 
-later_common : {fs : List Field} {n : ℕ} {g : Field} {gs : List Field} {c : CommonField} → IsCommon fs (n + 1) gs c → IsCommon fs n (g ∷ gs) c
+later_common : {fs : List Field} {n : ℕ} {g : Field} {gs : List Field} {c : CommonField} → IsCommon fs (n + 1) gs c
+    → IsCommon fs n (g ∷ gs) c
 later_common i = record {
   number = suc i.number;
   in_stream = i.in_stream;
@@ -78,21 +103,37 @@ later_common i = record {
   small = i.small;
 }
 
-pub common_sound : {fs : List Field} {n : ℕ} {gs : List Field} {cs : List CommonField} → AreCommonFields fs n gs cs → (i : ℕ) (c : CommonField) → slice_get cs i ≡ Some c → IsCommon fs n gs c
+pub common_sound : {fs : List Field} {n : ℕ} {gs : List Field} {cs : List CommonField} → AreCommonFields fs n gs cs
+    → (i : ℕ) (c : CommonField) → slice_get cs i ≡ Some c → IsCommon fs n gs c
 common_sound no_more i c there = absurd (true≢false (sym (ap is_some there)))
 common_sound (missing m rest) i c there = later_common (common_sound rest i c there)
 common_sound {fs = fs} (common {n = n} {j = j} {f = f} {g = g} {gs = gs} h e small rest) zero c there =
-    subst (IsCommon fs n (g ∷ gs)) (some_injective there) (record { number = 0; in_stream = f; in_wanted = g; at = omega arith; there = h; wanted_there = refl; same = e; named = refl; typed = refl; small = small })
+    subst (IsCommon fs n (g ∷ gs)) (some_injective there)
+    (record {
+      number = 0;
+      in_stream = f;
+      in_wanted = g;
+      at = omega arith;
+      there = h;
+      wanted_there = refl;
+      same = e;
+      named = refl;
+      typed = refl;
+      small = small;
+    })
 common_sound (common h e small rest) (suc i) c there = later_common (common_sound rest i c there)
 
-later_has : {c : CommonField} {cs : List CommonField} {s : Step} {q : TypePair} → HasCommon cs s q → HasCommon (c ∷ cs) s q
+later_has : {c : CommonField} {cs : List CommonField} {s : Step} {q : TypePair} → HasCommon cs s q
+    → HasCommon (c ∷ cs) s q
 later_has h = record { place = suc h.place; field = h.field; there = h.there; step = h.step; pair = h.pair }
 
-pub common_whole : {fs : List Field} {n : ℕ} {gs : List Field} {cs : List CommonField} → AreCommonFields fs n gs cs → ¬ RepeatsName fs → (k j : ℕ) (f g : Field) → slice_get gs k ≡ Some g → slice_get fs j ≡ Some f → f.name ≡ g.name
+pub common_whole : {fs : List Field} {n : ℕ} {gs : List Field} {cs : List CommonField} → AreCommonFields fs n gs cs
+    → ¬ RepeatsName fs → (k j : ℕ) (f g : Field) → slice_get gs k ≡ Some g → slice_get fs j ≡ Some f → f.name ≡ g.name
     → HasCommon cs (step.Named g.name) (of_types f.id g.id)
 common_whole no_more d k j f g a b e = absurd (true≢false (sym (ap is_some a)))
 common_whole (missing {g = h} m rest) d zero j f g a b e =
-    let same : h ≡ g = some_injective a in absurd (m (record { number = j; field = f; there = b; named = e ∙ ap (λ (x : Field). x.name) (sym same) }))
+    let same : h ≡ g = some_injective a in
+    absurd (m (record { number = j; field = f; there = b; named = e ∙ ap (λ (x : Field). x.name) (sym same) }))
 common_whole (missing m rest) d (suc k) j f g a b e = common_whole rest d k j f g a b e
 common_whole {fs = fs} (common {n = n} {j = i} {f = f'} {g = h} {cs = cs} there same small rest) d zero j f g a b e =
     let g_is : h ≡ g = some_injective a in
@@ -110,7 +151,8 @@ common_whole (common there same small rest) d (suc k) j f g a b e = later_has (c
 -- ---- what a conversion leads to
 
 -- what a conversion leads to is named
-pub conversion_named : {k l : Kind} {w : Conversion} {s : Step} {q : TypePair} → IsConversion k l w → ConversionNames w s q → NamesPair k l s q
+pub conversion_named : {k l : Kind} {w : Conversion} {s : Step} {q : TypePair} → IsConversion k l w
+    → ConversionNames w s q → NamesPair k l s q
 conversion_named of_basics h = absurd h
 conversion_named of_opaques h = absurd h
 conversion_named of_arrays h = rw (h.0, h.1) element_of_arrays
@@ -121,10 +163,25 @@ conversion_named {q = q} (of_structs {fs = fs} {gs = gs} cs) h =
     let c = common_sound cs h.place h.field h.there in
     subst (λ s. NamesPair (kind.Struct fs) (kind.Struct gs) s q) (sym h.step)
     (subst (NamesPair (kind.Struct fs) (kind.Struct gs) (step.Named h.field.name)) (sym (h.pair ∙ c.typed))
-    (field_of_structs (record { number = h.field.stream; field = c.in_stream; there = c.there; named = c.same ∙ sym c.named; typed = refl }) (record { number = c.number; field = c.in_wanted; there = c.wanted_there; named = sym c.named; typed = refl })))
+    (field_of_structs (record {
+      number = h.field.stream;
+      field = c.in_stream;
+      there = c.there;
+      named = c.same ∙ sym
+          c.named;
+      typed = refl;
+    }) (record {
+      number = c.number;
+      field = c.in_wanted;
+      there = c.wanted_there;
+      named = sym
+          c.named;
+      typed = refl;
+    })))
 
 -- and what is named, the conversion leads to
-pub named_conversion : {k l : Kind} {w : Conversion} {s : Step} {q : TypePair} → KindsMatch k l → IsConversion k l w → NamesPair k l s q → ConversionNames w s q
+pub named_conversion : {k l : Kind} {w : Conversion} {s : Step} {q : TypePair} → KindsMatch k l → IsConversion k l w
+    → NamesPair k l s q → ConversionNames w s q
 named_conversion m of_arrays element_of_arrays = (refl, refl)
 named_conversion m of_slices element_of_slices = (refl, refl)
 named_conversion m of_maps key_of_maps = inl (refl, refl)
@@ -143,7 +200,9 @@ named_conversion m of_opaques n = elim n [ ]
 
 -- ---- pairs that are added
 
-pub adds_as : {es new : List Entry} {place : ℕ} {P Q : Step → TypePair → Type 0} → AddsPairs es new place P → ((s : Step) (q : TypePair) → P s q → Q s q) → ((s : Step) (q : TypePair) → Q s q → P s q) → AddsPairs es new place Q
+pub adds_as : {es new : List Entry} {place : ℕ} {P Q : Step → TypePair → Type 0} → AddsPairs es new place P
+    → ((s : Step) (q : TypePair) → P s q → Q s q) → ((s : Step) (q : TypePair) → Q s q → P s q)
+    → AddsPairs es new place Q
 adds_as m on back = record {
   more = m.more;
   grown = m.grown;
@@ -151,7 +210,8 @@ adds_as m on back = record {
   only = λ k e there. let w = m.only k e there in (w.0, w.1, w.2, on w.0 w.1 w.3);
 }
 
-pub adds_none : {es : List Entry} {place : ℕ} {P : Step → TypePair → Type 0} → ((s : Step) (q : TypePair) → P s q → ⊥) → AddsPairs es es place P
+pub adds_none : {es : List Entry} {place : ℕ} {P : Step → TypePair → Type 0} → ((s : Step) (q : TypePair) → P s q → ⊥)
+    → AddsPairs es es place P
 adds_none {es = es} none = record {
   more = [];
   grown = sym (append-nil es);
@@ -159,7 +219,8 @@ adds_none {es = es} none = record {
   only = λ k e there. absurd (true≢false (sym (ap is_some there)));
 }
 
-pub adds_joined : {es mid new : List Entry} {place : ℕ} {P Q : Step → TypePair → Type 0} → AddsPairs es mid place P → AddsPairs mid new place Q → AddsPairs es new place (λ s q. P s q ⊎ Q s q)
+pub adds_joined : {es mid new : List Entry} {place : ℕ} {P Q : Step → TypePair → Type 0} → AddsPairs es mid place P
+    → AddsPairs mid new place Q → AddsPairs es new place (λ s q. P s q ⊎ Q s q)
 adds_joined {es = es} {mid = mid} {new = new} {place = place} {P = P} {Q = Q} m n = record {
   more = m.more ++ n.more;
   grown = n.grown ∙ ap (λ zs. zs ++ n.more) m.grown ∙ append_assoc es m.more n.more;
@@ -171,12 +232,17 @@ adds_joined {es = es} {mid = mid} {new = new} {place = place} {P = P} {Q = Q} m 
     has s q (inl h) = let at = m.has s q h in (at.0, subst (λ zs. IsAt zs at.0 q) (sym n.grown) (kept_at n.more at.1))
     has s q (inr h) = n.has s q h
 
-    only : (k : ℕ) (e : Entry) → slice_get (m.more ++ n.more) k ≡ Some e → (s : Step) × (q : TypePair) × (e ≡ (q, came place s)) × (P s q ⊎ Q s q)
+    only : (k : ℕ) (e : Entry) → slice_get (m.more ++ n.more) k ≡ Some e → (s : Step) × (q : TypePair)
+        × (e ≡ (q, came place s)) × (P s q ⊎ Q s q)
     only k e there = by (below_or_past k (length m.more))
       where
-        by : (k < length m.more) ⊎ (length m.more ≤ k) → (s : Step) × (q : TypePair) × (e ≡ (q, came place s)) × (P s q ⊎ Q s q)
-        by (inl within) = let w = m.only k e (sym (slice_get-append_left m.more n.more k within) ∙ there) in (w.0, w.1, w.2, inl w.3)
-        by (inr past) = let w = n.only (k - length m.more) e (sym (slice_get-append_right m.more n.more k (k - length m.more) (omega (arith, past))) ∙ there) in (w.0, w.1, w.2, inr w.3)
+        by : (k < length m.more) ⊎ (length m.more ≤ k) → (s : Step) × (q : TypePair) × (e ≡ (q, came place s))
+            × (P s q ⊎ Q s q)
+        by (inl within) = let w = m.only k e (sym (slice_get-append_left m.more n.more k within) ∙ there) in
+            (w.0, w.1, w.2, inl w.3)
+        by (inr past) = let w = n.only (k - length m.more) e
+            (sym (slice_get-append_right m.more n.more k (k - length m.more) (omega (arith, past))) ∙ there) in
+            (w.0, w.1, w.2, inr w.3)
 
 -- one of the first n common fields has this step and this pair
 pub record IsAmongFirst (cs : List CommonField) (n : ℕ) (s : Step) (q : TypePair) : Type 0 where
@@ -190,36 +256,71 @@ pub record IsAmongFirst (cs : List CommonField) (n : ℕ) (s : Step) (q : TypePa
 pub adds_none_yet : {cs : List CommonField} {es : List Entry} {place : ℕ} → AddsPairs es es place (IsAmongFirst cs 0)
 adds_none_yet = adds_none (λ s q h. let b = h.below in omega (arith, b))
 
-pub adds_next : {cs : List CommonField} {es mid new : List Entry} {place n : ℕ} {c : CommonField} → AddsPairs es mid place (IsAmongFirst cs n) → slice_get cs n ≡ Some c → AddsPairs mid new place (IsStepTo (step.Named c.name) c.pair)
+pub adds_next : {cs : List CommonField} {es mid new : List Entry} {place n : ℕ} {c : CommonField}
+    → AddsPairs es mid place (IsAmongFirst cs n) → slice_get cs n ≡ Some c
+    → AddsPairs mid new place (IsStepTo (step.Named c.name) c.pair)
     → AddsPairs es new place (IsAmongFirst cs (n + 1))
 adds_next {cs = cs} {n = n} {c = c} m there one = adds_as (adds_joined m one) on back
   where
-    on : (s : Step) (q : TypePair) → IsAmongFirst cs n s q ⊎ IsStepTo (step.Named c.name) c.pair s q → IsAmongFirst cs (n + 1) s q
-    on s q (inl h) = record { place = h.place; below = omega (arith, h.below); field = h.field; there = h.there; step = h.step; pair = h.pair }
+    on : (s : Step) (q : TypePair) → IsAmongFirst cs n s q ⊎ IsStepTo (step.Named c.name) c.pair s q
+        → IsAmongFirst cs (n + 1) s q
+    on s q (inl h) = record {
+      place = h.place;
+      below = omega (arith, h.below);
+      field = h.field;
+      there = h.there;
+      step =
+          h.step;
+      pair = h.pair;
+    }
     on s q (inr h) = record { place = n; below = omega arith; field = c; there = there; step = h.0; pair = h.1 }
 
-    back : (s : Step) (q : TypePair) → IsAmongFirst cs (n + 1) s q → IsAmongFirst cs n s q ⊎ IsStepTo (step.Named c.name) c.pair s q
+    back : (s : Step) (q : TypePair) → IsAmongFirst cs (n + 1) s q
+        → IsAmongFirst cs n s q ⊎ IsStepTo (step.Named c.name) c.pair s q
     back s q h = by (eq-or-lt_of_le (omega (arith, h.below)))
       where
         by : (h.place ≡ n) ⊎ (h.place < n) → IsAmongFirst cs n s q ⊎ IsStepTo (step.Named c.name) c.pair s q
-        by (inr below) = inl (record { place = h.place; below = below; field = h.field; there = h.there; step = h.step; pair = h.pair })
+        by (inr below) = inl (record {
+          place = h.place;
+          below = below;
+          field = h.field;
+          there = h.there;
+          step = h.step;
+          pair = h.pair;
+        })
         by (inl same) =
             let is : h.field ≡ c = some_injective (sym h.there ∙ ap (slice_get cs) same ∙ there) in
             inr (h.step ∙ ap (λ (x : CommonField). step.Named x.name) is, h.pair ∙ ap (λ (x : CommonField). x.pair) is)
 
-pub adds_all : {cs : List CommonField} {es new : List Entry} {place n : ℕ} → AddsPairs es new place (IsAmongFirst cs n) → length cs ≤ n → AddsPairs es new place (HasCommon cs)
+pub adds_all : {cs : List CommonField} {es new : List Entry} {place n : ℕ} → AddsPairs es new place (IsAmongFirst cs n)
+    → length cs ≤ n → AddsPairs es new place (HasCommon cs)
 adds_all {cs = cs} m whole = adds_as m
     (λ s q h. record { place = h.place; field = h.field; there = h.there; step = h.step; pair = h.pair })
-    (λ s q h. record { place = h.place; below = omega (arith, whole, slice_get_within cs h.place h.field h.there); field = h.field; there = h.there; step = h.step; pair = h.pair })
+    (λ s q h. record {
+      place = h.place;
+      below = omega (arith, whole, slice_get_within cs h.place h.field h.there);
+      field = h.field;
+      there = h.there;
+      step = h.step;
+      pair = h.pair;
+    })
 
 -- ---- a pair that was explored
 
-pub explored : {T U : Table} {old new : List Entry} {place : ℕ} {p : TypePair} {s t : Shape} {w : Conversion} → IsAt old place p → HasShapes T U p s t → Converts s.kind t.kind w → AddsPairs old new place (ConversionNames w) → Explores T U old new place w
+pub explored : {T U : Table} {old new : List Entry} {place : ℕ} {p : TypePair} {s t : Shape} {w : Conversion}
+    → IsAt old place p → HasShapes T U p s t → Converts s.kind t.kind w → AddsPairs old new place (ConversionNames w)
+    → Explores T U old new place w
 explored {T = T} {U = U} {p = p} {s = s} {t = t} {w = w} at shapes converts added = record {
   pair = p;
   at = at;
   converts = record { stream = s; wanted = t; shapes = shapes; converts = converts };
-  added = adds_as added (λ x q h. record { stream = s; wanted = t; shapes = shapes; named = conversion_named converts.conversion h }) back;
+  added = adds_as added (λ x q h. record {
+    stream = s;
+    wanted = t;
+    shapes = shapes;
+    named = conversion_named
+        converts.conversion h;
+  }) back;
 }
   where
     back : (x : Step) (q : TypePair) → Names T U p x q → ConversionNames w x q
@@ -236,10 +337,16 @@ converts_match g = record { stream = g.stream; wanted = g.wanted; shapes = g.sha
 -- the conversion of each of the first pairs
 pub record HaveConversions (T U : Table) (es : List Entry) (conversions : List Conversion) (n : ℕ) : Type 0 where
   pub count : length conversions ≡ n
-  pub each : (k : ℕ) (p : TypePair) (w : Conversion) → IsAt es k p → slice_get conversions k ≡ Some w → ConvertsAt T U p w
+  pub each : (k : ℕ) (p : TypePair) (w : Conversion) → IsAt es k p → slice_get conversions k ≡ Some w
+      → ConvertsAt T U p w
 
-pub conversions_none : {T U : Table} {es : List Entry} {conversions : List Conversion} → conversions ≡ [] → HaveConversions T U es conversions 0
-conversions_none {conversions = conversions} e = record { count = ap length e; each = λ k p w at there. absurd (true≢false (sym (ap is_some (sym (ap (λ zs. slice_get zs k) e) ∙ there)))) }
+pub conversions_none : {T U : Table} {es : List Entry} {conversions : List Conversion} → conversions ≡ []
+    → HaveConversions T U es conversions 0
+conversions_none {conversions = conversions} e = record {
+  count = ap length e;
+  each = λ k p w at there. absurd
+      (true≢false (sym (ap is_some (sym (ap (λ zs. slice_get zs k) e) ∙ there))));
+}
 
 last_conversion : (ws : List Conversion) (w : Conversion) (k : ℕ) → k ≡ length ws → slice_get (ws ++ w ∷ []) k ≡ Some w
 last_conversion ws w k e = ap (slice_get (ws ++ w ∷ [])) e ∙ end ws
@@ -248,17 +355,21 @@ last_conversion ws w k e = ap (slice_get (ws ++ w ∷ [])) e ∙ end ws
     end [] = refl
     end (x ∷ xs) = end xs
 
-pub conversions_on : {T U : Table} {es new : List Entry} {conversions more : List Conversion} {n : ℕ} {w : Conversion} → HaveConversions T U es conversions n → Explores T U es new n w → more ≡ conversions ++ w ∷ [] → HaveConversions T U new more (n + 1)
-conversions_on {T = T} {U = U} {es = es} {new = new} {conversions = conversions} {more = more} {n = n} {w = w} h l grown = record {
-  count = ap length grown ∙ length-append conversions (w ∷ []) ∙ ap (λ m. m + 1) h.count;
-  each = each;
-}
+pub conversions_on : {T U : Table} {es new : List Entry} {conversions more : List Conversion} {n : ℕ} {w : Conversion}
+    → HaveConversions T U es conversions n → Explores T U es new n w → more ≡ conversions ++ w ∷ []
+    → HaveConversions T U new more (n + 1)
+conversions_on {T = T} {U = U} {es = es} {new = new} {conversions = conversions} {more = more} {n = n} {w = w} h l
+    grown = record {
+      count = ap length grown ∙ length-append conversions (w ∷ []) ∙ ap (λ m. m + 1) h.count;
+      each = each;
+    }
   where
     here_in : n < length es
     here_in = at_within l.at
 
     each : (k : ℕ) (p : TypePair) (x : Conversion) → IsAt new k p → slice_get more k ≡ Some x → ConvertsAt T U p x
-    each k p x at there = by (eq-or-lt_of_le (let b = slice_get_within more k x there in let c = h.count in omega (arith, ap length grown ∙ length-append conversions (w ∷ []))))
+    each k p x at there = by (eq-or-lt_of_le (let b = slice_get_within more k x there in let c = h.count in omega
+        (arith, ap length grown ∙ length-append conversions (w ∷ []))))
       where
         at_es : IsAt (es ++ l.added.more) k p
         at_es = subst (λ zs. IsAt zs k p) l.added.grown at
@@ -266,19 +377,29 @@ conversions_on {T = T} {U = U} {es = es} {new = new} {conversions = conversions}
         by : (k ≡ n) ⊎ (k < n) → ConvertsAt T U p x
         by (inr before) =
             h.each k p x (at_back es l.added.more (omega (arith, before, here_in)) at_es)
-            (sym (slice_get-append_left conversions (w ∷ []) k (omega (arith, before, h.count))) ∙ ap (λ zs. slice_get zs k) (sym grown) ∙ there)
+            (sym (slice_get-append_left conversions (w ∷ []) k (omega (arith, before, h.count)))
+            ∙ ap (λ zs. slice_get zs k) (sym grown) ∙ there)
         by (inl same) =
-            let is : l.pair ≡ p = one_at (kept_at l.added.more l.at) (subst (λ m. IsAt (es ++ l.added.more) m p) same at_es) in
-            let conversion_is : w ≡ x = some_injective (sym (last_conversion conversions w k (same ∙ sym h.count)) ∙ ap (λ zs. slice_get zs k) (sym grown) ∙ there) in
+            let is : l.pair ≡ p = one_at (kept_at l.added.more l.at)
+            (subst (λ m. IsAt (es ++ l.added.more) m p) same at_es) in
+            let conversion_is : w ≡ x = some_injective
+            (sym (last_conversion conversions w k (same ∙ sym h.count)) ∙ ap (λ zs. slice_get zs k) (sym grown)
+            ∙ there) in
             subst (λ q. ConvertsAt T U q x) is (subst (ConvertsAt T U l.pair) conversion_is l.converts)
 
 -- at the end
-pub matched : {T U : Table} {t u : TypeId} {es : List Entry} {conversions : List Conversion} {next : ℕ} → Searched T U (of_types t u) es next → HaveConversions T U es conversions next → length es ≤ next → IsMatched T U t u es conversions
+pub matched : {T U : Table} {t u : TypeId} {es : List Entry} {conversions : List Conversion} {next : ℕ}
+    → Searched T U (of_types t u) es next → HaveConversions T U es conversions next → length es ≤ next
+    → IsMatched T U t u es conversions
 matched {conversions = conversions} r h whole = record {
   begins = r.begins;
   conversion = λ k p at.
-      let there = slice_get-get_or conversions k conversion.Unchanged (omega (arith, whole, at_within at, h.count)) in
-      (get_or conversions k conversion.Unchanged, there, h.each k p (get_or conversions k conversion.Unchanged) at there);
+      let there = slice_get-get_or conversions k conversion.Unchanged (omega (arith, whole, at_within at, h.count)) in (
+        get_or conversions k conversion.Unchanged,
+        there,
+        h.each k p (get_or conversions k conversion.Unchanged) at
+            there,
+      );
   named = λ k p q s at n. let j = (r.done k p (omega (arith, whole, at_within at)) at).named s q n in (j.0, j.1);
 }
 

@@ -1,5 +1,7 @@
 -- Pairs that were added, and the paths to them.
-use Rattle.std.proofs.Common.{◌≡◌, ℕ, zero, suc, ◌<◌, Bool, true, false, List, [], ◌∷◌, ◌++◌, length, get_or, Option, Some, None, arith, refl, sym, ap, ◌∙◌, subst, append_assoc, append-nil, true≢false, is_some, reverse}
+use Rattle.std.proofs.Common.{◌≡◌, ℕ, zero, suc, ◌<◌, Bool, true, false, List, [], ◌∷◌, ◌++◌, length, get_or, Option}
+use Rattle.std.proofs.Common.{Some, None, arith, refl, sym, ap, ◌∙◌, subst, append_assoc, append-nil, true≢false}
+use Rattle.std.proofs.Common.{is_some, reverse}
 use Rattle.std.proofs.lemmas.List.{reverse-append}
 use Rattle.std.proofs.lemmas.List.Quantifiers.{position-Some}
 use Rattle.std.proofs.lemmas.Option.{slice_get_within, slice_get-get_or}
@@ -63,17 +65,22 @@ pub has_path_within : {es : List Entry} {k : ℕ} → HasPath es k → k < lengt
 has_path_within h = path_within h.is
 
 -- where the pair has an origin, the path comes from there
-pub path_back : {es : List Entry} {k : ℕ} (o : Origin) → HasPath es k → HasOrigin es k (Some o) → (o.place < k) × HasPath es o.place
+pub path_back : {es : List Entry} {k : ℕ} (o : Origin) → HasPath es k → HasOrigin es k (Some o) → (o.place < k)
+    × HasPath es o.place
 path_back {es = es} o h there = back o h.is there
   where
-    back : {k : ℕ} {path : List Step} (o : Origin) → IsPathTo es k path → HasOrigin es k (Some o) → (o.place < k) × HasPath es o.place
-    back o (at_start e) there = let f = ap (λ (x : Entry). x.1) (some_injective (sym e ∙ there.there)) in absurd (true≢false (sym (ap is_some f)))
+    back : {k : ℕ} {path : List Step} (o : Origin) → IsPathTo es k path → HasOrigin es k (Some o) → (o.place < k)
+        × HasPath es o.place
+    back o (at_start e) there = let f = ap (λ (x : Entry). x.1) (some_injective (sym e ∙ there.there)) in absurd
+        (true≢false (sym (ap is_some f)))
     back o (from {place = k} {before = b} {p = p} {s = s} {path = path} e below h) there =
-        let same : record { place = b; step = s } ≡ o = some_injective (ap (λ (x : Entry). x.1) (some_injective (sym e ∙ there.there))) in
+        let same : record { place = b; step = s } ≡ o = some_injective
+        (ap (λ (x : Entry). x.1) (some_injective (sym e ∙ there.there))) in
         let at : b ≡ o.place = ap (λ (x : Origin). x.place) same in
         (omega (arith, below, at), record { path = path; is = subst (λ n. IsPathTo es n path) at h })
 
-pub path_on : {es : List Entry} {k : ℕ} {path : List Step} (o : Origin) → HasOrigin es k (Some o) → o.place < k → IsPathTo es o.place path → IsPathTo es k (path ++ o.step ∷ [])
+pub path_on : {es : List Entry} {k : ℕ} {path : List Step} (o : Origin) → HasOrigin es k (Some o) → o.place < k
+    → IsPathTo es o.place path → IsPathTo es k (path ++ o.step ∷ [])
 path_on o there below h = from there.there below h
 
 -- where it has none, the path is empty
@@ -82,7 +89,8 @@ path_begins {es = es} h there = begins h.is there
   where
     begins : {k : ℕ} {path : List Step} → IsPathTo es k path → HasOrigin es k None → IsPathTo es k []
     begins (at_start e) there = at_start e
-    begins (from e below h) there = let f = ap (λ (x : Entry). x.1) (some_injective (sym e ∙ there.there)) in absurd (true≢false (ap is_some f))
+    begins (from e below h) there = let f = ap (λ (x : Entry). x.1) (some_injective (sym e ∙ there.there)) in absurd
+        (true≢false (ap is_some f))
 
 -- ---- pairs that are added
 
@@ -94,7 +102,8 @@ no_lookup (Some x) e = absurd (true≢false e)
 abbrev pub IsStepTo : Step → TypePair → Step → TypePair → Type 0
 IsStepTo step pair s q = (s ≡ step) × (q ≡ pair)
 
-pub adds_known : {es : List Entry} {place k : ℕ} {step : Step} {pair : TypePair} → IsAt es k pair → AddsPairs es es place (IsStepTo step pair)
+pub adds_known : {es : List Entry} {place k : ℕ} {step : Step} {pair : TypePair} → IsAt es k pair
+    → AddsPairs es es place (IsStepTo step pair)
 adds_known {es = es} {k = k} at = record {
   more = [];
   grown = sym (append-nil es);
@@ -102,10 +111,16 @@ adds_known {es = es} {k = k} at = record {
   only = λ j e there. let f = there in cc;
 }
 
-pub at_new : (es : List Entry) {new : List Entry} (place : ℕ) (step : Step) {pair : TypePair} → new ≡ es ++ (pair, came place step) ∷ [] → IsAt new (length es) pair
-at_new es place step {pair = pair} e = record { origin = came place step; there = ap (λ zs. slice_get zs (length es)) e ∙ at_last es (pair, came place step) }
+pub at_new : (es : List Entry) {new : List Entry} (place : ℕ) (step : Step) {pair : TypePair}
+    → new ≡ es ++ (pair, came place step) ∷ [] → IsAt new (length es) pair
+at_new es place step {pair = pair} e = record {
+  origin = came place step;
+  there = ap (λ zs. slice_get zs (length es)) e
+      ∙ at_last es (pair, came place step);
+}
 
-pub adds_new : (es : List Entry) {new : List Entry} (place : ℕ) (step : Step) {pair : TypePair} → new ≡ es ++ (pair, came place step) ∷ [] → AddsPairs es new place (IsStepTo step pair)
+pub adds_new : (es : List Entry) {new : List Entry} (place : ℕ) (step : Step) {pair : TypePair}
+    → new ≡ es ++ (pair, came place step) ∷ [] → AddsPairs es new place (IsStepTo step pair)
 adds_new es {new = new} place step {pair = pair} e = record {
   more = (pair, came place step) ∷ [];
   grown = e;
@@ -113,11 +128,14 @@ adds_new es {new = new} place step {pair = pair} e = record {
   only = only;
 }
   where
-    only : (k : ℕ) (x : Entry) → slice_get ((pair, came place step) ∷ []) k ≡ Some x → (s : Step) × (q : TypePair) × (x ≡ (q, came place s)) × IsStepTo step pair s q
+    only : (k : ℕ) (x : Entry) → slice_get ((pair, came place step) ∷ []) k ≡ Some x → (s : Step) × (q : TypePair)
+        × (x ≡ (q, came place s)) × IsStepTo step pair s q
     only zero x there = (step, pair, sym (some_injective there), (refl, refl))
     only (suc k) x there = let f = there in cc
 
 -- one more step in front of those that were turned round
-pub turned : (steps : List Step) {one pushed : List Step} (s : Step) (path : List Step) → one ≡ steps ++ s ∷ [] → pushed ≡ one → (path ++ s ∷ []) ++ reverse steps ≡ path ++ reverse pushed
+pub turned : (steps : List Step) {one pushed : List Step} (s : Step) (path : List Step) → one ≡ steps ++ s ∷ []
+    → pushed ≡ one → (path ++ s ∷ []) ++ reverse steps ≡ path ++ reverse pushed
 turned steps s path e f =
-    append_assoc path (s ∷ []) (reverse steps) ∙ ap (λ zs. path ++ zs) (sym (reverse-append steps (s ∷ [])) ∙ ap reverse (sym (f ∙ e)))
+    append_assoc path (s ∷ []) (reverse steps)
+    ∙ ap (λ zs. path ++ zs) (sym (reverse-append steps (s ∷ [])) ∙ ap reverse (sym (f ∙ e)))

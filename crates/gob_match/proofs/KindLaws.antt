@@ -1,5 +1,6 @@
 -- Kinds that match, and kinds that clash.
-use Rattle.std.proofs.Common.{◌≡◌, ◌≢◌, ℕ, ◌<◌, ◌⊎◌, inl, inr, List, [], ◌∷◌, length, refl, sym, ap, ◌∙◌, subst, arith, Vec, Option, Some, None, MatchOption, true≢false, is_some}
+use Rattle.std.proofs.Common.{◌≡◌, ◌≢◌, ℕ, ◌<◌, ◌⊎◌, inl, inr, List, [], ◌∷◌, length, refl, sym, ap, ◌∙◌, subst, arith}
+use Rattle.std.proofs.Common.{Vec, Option, Some, None, MatchOption, true≢false, is_some}
 use Rattle.std.proofs.lemmas.Option.{slice_get_within}
 use Rattle.std.specs.Global.{Global}
 use Rattle.gob_types.specs.declared.basic.Basic.{Basic}
@@ -15,13 +16,16 @@ use Rattle.gob_match.specs.declared.reason.ClashReason.TheVariants as clash
 use Rattle.gob_match.specs.Machine.Conversions.{of_basics, of_opaques, of_arrays, of_slices, of_maps, of_structs}
 use Rattle.gob_match.specs.Machine.Exploring.{Converts}
 use Rattle.gob_match.specs.Machine.Struct.{AreCommonFields}
-use Rattle.gob_match.specs.Matching.{basics, opaques, arrays, slices, maps, structs, KindsClash, basics_differ, opaques_differ, lengths_differ, nothing_in_common, unlike, AreAlike, HaveDistinctNames, HaveInCommon}
+use Rattle.gob_match.specs.Matching.{basics, opaques, arrays, slices, maps, structs, KindsClash, basics_differ}
+use Rattle.gob_match.specs.Matching.{opaques_differ, lengths_differ, nothing_in_common, unlike, AreAlike}
+use Rattle.gob_match.specs.Matching.{HaveDistinctNames, HaveInCommon}
 use Rattle.gob_match.specs.Pairs.{of_types, RepeatsName, ShareName}
 use Rattle.gob_match.proofs.ConversionLaws.{common_sound, common_whole}
 
 -- ---- shapes of other kinds
 
-pub no_basic : (b : Basic) (l : Kind) → ((c : Basic) → l ≡ kind.Basic c → ⊥) → KindsClash (kind.Basic b) l clash.DifferentKind
+pub no_basic : (b : Basic) (l : Kind) → ((c : Basic) → l ≡ kind.Basic c → ⊥)
+    → KindsClash (kind.Basic b) l clash.DifferentKind
 no_basic b l n = unlike (alike l n)
   where
     alike : (l : Kind) → ((c : Basic) → l ≡ kind.Basic c → ⊥) → ¬ AreAlike (kind.Basic b) l
@@ -32,7 +36,8 @@ no_basic b l n = unlike (alike l n)
     alike (kind.Map k e) n h = h
     alike (kind.Struct fs) n h = h
 
-pub no_opaque : (b : Marshal) (l : Kind) → ((c : Marshal) → l ≡ kind.Opaque c → ⊥) → KindsClash (kind.Opaque b) l clash.DifferentKind
+pub no_opaque : (b : Marshal) (l : Kind) → ((c : Marshal) → l ≡ kind.Opaque c → ⊥)
+    → KindsClash (kind.Opaque b) l clash.DifferentKind
 no_opaque b l n = unlike (alike l n)
   where
     alike : (l : Kind) → ((c : Marshal) → l ≡ kind.Opaque c → ⊥) → ¬ AreAlike (kind.Opaque b) l
@@ -43,7 +48,8 @@ no_opaque b l n = unlike (alike l n)
     alike (kind.Map k e) n h = h
     alike (kind.Struct fs) n h = h
 
-pub no_array : (d : TypeId) (len : ℕ) (l : Kind) → ((e : TypeId) (m : ℕ) → l ≡ kind.Array e m → ⊥) → KindsClash (kind.Array d len) l clash.DifferentKind
+pub no_array : (d : TypeId) (len : ℕ) (l : Kind) → ((e : TypeId) (m : ℕ) → l ≡ kind.Array e m → ⊥)
+    → KindsClash (kind.Array d len) l clash.DifferentKind
 no_array d len l n = unlike (alike l n)
   where
     alike : (l : Kind) → ((e : TypeId) (m : ℕ) → l ≡ kind.Array e m → ⊥) → ¬ AreAlike (kind.Array d len) l
@@ -54,7 +60,8 @@ no_array d len l n = unlike (alike l n)
     alike (kind.Map k e) n h = h
     alike (kind.Struct fs) n h = h
 
-pub no_slice : (d : TypeId) (l : Kind) → ((e : TypeId) → l ≡ kind.Slice e → ⊥) → KindsClash (kind.Slice d) l clash.DifferentKind
+pub no_slice : (d : TypeId) (l : Kind) → ((e : TypeId) → l ≡ kind.Slice e → ⊥)
+    → KindsClash (kind.Slice d) l clash.DifferentKind
 no_slice d l n = unlike (alike l n)
   where
     alike : (l : Kind) → ((e : TypeId) → l ≡ kind.Slice e → ⊥) → ¬ AreAlike (kind.Slice d) l
@@ -65,7 +72,8 @@ no_slice d l n = unlike (alike l n)
     alike (kind.Map k e) n h = h
     alike (kind.Struct fs) n h = h
 
-pub no_map : (c d : TypeId) (l : Kind) → ((k e : TypeId) → l ≡ kind.Map k e → ⊥) → KindsClash (kind.Map c d) l clash.DifferentKind
+pub no_map : (c d : TypeId) (l : Kind) → ((k e : TypeId) → l ≡ kind.Map k e → ⊥)
+    → KindsClash (kind.Map c d) l clash.DifferentKind
 no_map c d l n = unlike (alike l n)
   where
     alike : (l : Kind) → ((k e : TypeId) → l ≡ kind.Map k e → ⊥) → ¬ AreAlike (kind.Map c d) l
@@ -76,7 +84,8 @@ no_map c d l n = unlike (alike l n)
     alike (kind.Map k e) n h = n k e refl
     alike (kind.Struct fs) n h = h
 
-pub no_struct : (fs : List Field) (l : Kind) → ((gs : List Field) → l ≡ kind.Struct gs → ⊥) → KindsClash (kind.Struct fs) l clash.DifferentKind
+pub no_struct : (fs : List Field) (l : Kind) → ((gs : List Field) → l ≡ kind.Struct gs → ⊥)
+    → KindsClash (kind.Struct fs) l clash.DifferentKind
 no_struct fs l n = unlike (alike l n)
   where
     alike : (l : Kind) → ((gs : List Field) → l ≡ kind.Struct gs → ⊥) → ¬ AreAlike (kind.Struct fs) l
@@ -89,19 +98,28 @@ no_struct fs l n = unlike (alike l n)
 
 -- ---- shapes that match
 
-pub basics_convert : {b c : Basic} {l : Kind} → l ≡ kind.Basic c → b ≡ c → Converts (kind.Basic b) l conversion.Unchanged
-basics_convert {b = b} e same = subst (λ (k : Kind). Converts (kind.Basic b) k conversion.Unchanged) (sym (e ∙ ap kind.Basic (sym same))) (record { match = basics; conversion = of_basics })
+pub basics_convert : {b c : Basic} {l : Kind} → l ≡ kind.Basic c → b ≡ c
+    → Converts (kind.Basic b) l conversion.Unchanged
+basics_convert {b = b} e same = subst (λ (k : Kind). Converts (kind.Basic b) k conversion.Unchanged)
+    (sym (e ∙ ap kind.Basic (sym same))) (record { match = basics; conversion = of_basics })
 
-pub opaques_convert : {b c : Marshal} {l : Kind} → l ≡ kind.Opaque c → b ≡ c → Converts (kind.Opaque b) l conversion.Unchanged
-opaques_convert {b = b} e same = subst (λ (k : Kind). Converts (kind.Opaque b) k conversion.Unchanged) (sym (e ∙ ap kind.Opaque (sym same))) (record { match = opaques; conversion = of_opaques })
+pub opaques_convert : {b c : Marshal} {l : Kind} → l ≡ kind.Opaque c → b ≡ c
+    → Converts (kind.Opaque b) l conversion.Unchanged
+opaques_convert {b = b} e same = subst (λ (k : Kind). Converts (kind.Opaque b) k conversion.Unchanged)
+    (sym (e ∙ ap kind.Opaque (sym same))) (record { match = opaques; conversion = of_opaques })
 
-pub arrays_convert : {e f : TypeId} {m n : ℕ} {l : Kind} {p : TypePair} → l ≡ kind.Array f n → m ≡ n → p ≡ of_types e f → Converts (kind.Array e m) l (conversion.Elements p)
-arrays_convert {e = e} {f = f} {m = m} is same at = rw (at, is) (subst (λ n. Converts (kind.Array e m) (kind.Array f n) (conversion.Elements (of_types e f))) same (record { match = arrays; conversion = of_arrays }))
+pub arrays_convert : {e f : TypeId} {m n : ℕ} {l : Kind} {p : TypePair} → l ≡ kind.Array f n → m ≡ n → p ≡ of_types e f
+    → Converts (kind.Array e m) l (conversion.Elements p)
+arrays_convert {e = e} {f = f} {m = m} is same at = rw (at, is)
+    (subst (λ n. Converts (kind.Array e m) (kind.Array f n) (conversion.Elements (of_types e f))) same
+    (record { match = arrays; conversion = of_arrays }))
 
-pub slices_convert : {e f : TypeId} {l : Kind} {p : TypePair} → l ≡ kind.Slice f → p ≡ of_types e f → Converts (kind.Slice e) l (conversion.Elements p)
+pub slices_convert : {e f : TypeId} {l : Kind} {p : TypePair} → l ≡ kind.Slice f → p ≡ of_types e f
+    → Converts (kind.Slice e) l (conversion.Elements p)
 slices_convert is at = rw (at, is) (record { match = slices; conversion = of_slices })
 
-pub maps_convert : {k e x f : TypeId} {l : Kind} {p q : TypePair} → l ≡ kind.Map x f → p ≡ of_types k x → q ≡ of_types e f → Converts (kind.Map k e) l (conversion.Entries p q)
+pub maps_convert : {k e x f : TypeId} {l : Kind} {p q : TypePair} → l ≡ kind.Map x f → p ≡ of_types k x
+    → q ≡ of_types e f → Converts (kind.Map k e) l (conversion.Entries p q)
 maps_convert is at and = rw (at, and, is) (record { match = maps; conversion = of_maps })
 
 -- ---- shapes that don't
@@ -109,10 +127,12 @@ maps_convert is at and = rw (at, and, is) (record { match = maps; conversion = o
 pub basics_clash : {b c : Basic} {l : Kind} → l ≡ kind.Basic c → b ≢ c → KindsClash (kind.Basic b) l clash.DifferentKind
 basics_clash is n = rw is (basics_differ n)
 
-pub opaques_clash : {b c : Marshal} {l : Kind} → l ≡ kind.Opaque c → b ≢ c → KindsClash (kind.Opaque b) l clash.DifferentKind
+pub opaques_clash : {b c : Marshal} {l : Kind} → l ≡ kind.Opaque c → b ≢ c
+    → KindsClash (kind.Opaque b) l clash.DifferentKind
 opaques_clash is n = rw is (opaques_differ n)
 
-pub lengths_clash : {e f : TypeId} {m n : ℕ} {l : Kind} → l ≡ kind.Array f n → m ≢ n → KindsClash (kind.Array e m) l clash.DifferentLength
+pub lengths_clash : {e f : TypeId} {m n : ℕ} {l : Kind} → l ≡ kind.Array f n → m ≢ n
+    → KindsClash (kind.Array e m) l clash.DifferentLength
 lengths_clash is n = rw is (lengths_differ n)
 
 -- ---- structs
@@ -131,14 +151,20 @@ something {cs = c ∷ cs} a below =
       in_wanted = record { number = i.number; field = i.in_wanted; there = i.wanted_there; named = refl };
     }
 
-pub structs_convert : {fs gs : List Field} {cs : Vec CommonField Global} → HaveDistinctNames fs gs → AreCommonFields fs 0 gs cs.items → 0 < length cs.items → Converts (kind.Struct fs) (kind.Struct gs) (conversion.Fields cs)
+pub structs_convert : {fs gs : List Field} {cs : Vec CommonField Global} → HaveDistinctNames fs gs
+    → AreCommonFields fs 0 gs cs.items → 0 < length cs.items
+    → Converts (kind.Struct fs) (kind.Struct gs) (conversion.Fields cs)
 structs_convert d a below = record { match = structs d (inl (something a below)); conversion = of_structs a }
 
-pub empty_structs_convert : {fs gs : List Field} {cs : Vec CommonField Global} → HaveDistinctNames fs gs → AreCommonFields fs 0 gs cs.items → ¬ (0 < length fs) → ¬ (0 < length gs) → Converts (kind.Struct fs) (kind.Struct gs) (conversion.Fields cs)
-empty_structs_convert {fs = fs} {gs = gs} d a m n = record { match = structs d (inr (nothing fs m, nothing gs n)); conversion = of_structs a }
+pub empty_structs_convert : {fs gs : List Field} {cs : Vec CommonField Global} → HaveDistinctNames fs gs
+    → AreCommonFields fs 0 gs cs.items → ¬ (0 < length fs) → ¬ (0 < length gs)
+    → Converts (kind.Struct fs) (kind.Struct gs) (conversion.Fields cs)
+empty_structs_convert {fs = fs} {gs = gs} d a m n = record
+    { match = structs d (inr (nothing fs m, nothing gs n)); conversion = of_structs a }
 
 -- no field is common
-unshared : {fs gs : List Field} {cs : List CommonField} → ¬ RepeatsName fs → AreCommonFields fs 0 gs cs → ¬ (0 < length cs) → ¬ ShareName fs gs
+unshared : {fs gs : List Field} {cs : List CommonField} → ¬ RepeatsName fs → AreCommonFields fs 0 gs cs
+    → ¬ (0 < length cs) → ¬ ShareName fs gs
 unshared {cs = cs} d a n s =
     let i = s.in_stream in
     let w = s.in_wanted in
@@ -146,14 +172,21 @@ unshared {cs = cs} d a n s =
     let b = slice_get_within cs h.place h.field h.there in
     n (omega (arith, b))
 
-pub structs_clash : {fs gs : List Field} {cs : List CommonField} → HaveDistinctNames fs gs → AreCommonFields fs 0 gs cs → ¬ (0 < length cs) → (0 < length fs) ⊎ (0 < length gs) → KindsClash (kind.Struct fs) (kind.Struct gs) clash.NoCommonField
+pub structs_clash : {fs gs : List Field} {cs : List CommonField} → HaveDistinctNames fs gs → AreCommonFields fs 0 gs cs
+    → ¬ (0 < length cs) → (0 < length fs) ⊎ (0 < length gs)
+    → KindsClash (kind.Struct fs) (kind.Struct gs) clash.NoCommonField
 structs_clash {fs = fs} {gs = gs} d a n some = nothing_in_common d neither
   where
     neither : ¬ HaveInCommon fs gs
     neither (inl s) = unshared d.in_stream a n s
-    neither (inr e) = elim some [ inl h ↦ absurd (omega (arith, h, ap length e.0)) | inr h ↦ absurd (omega (arith, h, ap length e.1)) ]
+    neither (inr e) = elim some [
+      | inl h ↦ absurd (omega (arith, h, ap length e.0))
+      | inr h ↦ absurd
+          (omega (arith, h, ap length e.1))
+    ]
 
 -- where the names of a struct aren't given, one is repeated
-pub repeated : {X : Type 0} (Q : X → Type 0) (o : Option X) (fs gs : List Field) → o ≡ None → MatchOption o (RepeatsName fs) Q → fs ≡ gs → RepeatsName gs
+pub repeated : {X : Type 0} (Q : X → Type 0) (o : Option X) (fs gs : List Field) → o ≡ None
+    → MatchOption o (RepeatsName fs) Q → fs ≡ gs → RepeatsName gs
 repeated Q None fs gs e m same = subst RepeatsName same m
 repeated Q (Some x) fs gs e m same = absurd (true≢false (ap is_some e))

@@ -1,5 +1,6 @@
 -- Loops over a list that make another one, item after item.
-use Rattle.std.proofs.Common.{◌≡◌, ℕ, zero, suc, ◌+◌, ◌≤◌, List, [], ◌∷◌, ◌++◌, length, drop, Some, arith, refl, sym, ap, ◌∙◌, subst, append_assoc, append-nil, true≢false, is_some}
+use Rattle.std.proofs.Common.{◌≡◌, ℕ, zero, suc, ◌+◌, ◌≤◌, List, [], ◌∷◌, ◌++◌, length, drop, Some, arith, refl, sym}
+use Rattle.std.proofs.Common.{ap, ◌∙◌, subst, append_assoc, append-nil, true≢false, is_some}
 use Rattle.std.specs.Prelude.{slice_get}
 use Rattle.gob_types.proofs.PublicLaws.{some_injective}
 
@@ -19,7 +20,8 @@ drop_all (suc n) [] w = refl
 drop_all (suc n) (x ∷ xs) w = drop_all n xs (omega arith)
 
 -- what is made so far, before what is made of the rest, is made of the whole
-pub record Completes {A B : Type 0} (Makes : List A → List B → Type 0) (whole rest : List A) (made : List B) : Type 0 where
+pub record Completes {A B : Type 0} (Makes : List A → List B → Type 0) (whole rest : List A) (made : List B)
+    : Type 0 where
   pub completes : (more : List B) → Makes rest more → Makes whole (made ++ more)
 
 module _ {A B : Type 0} {Makes : List A → List B → Type 0} {whole : List A} where
@@ -27,12 +29,18 @@ module _ {A B : Type 0} {Makes : List A → List B → Type 0} {whole : List A} 
   completes_start e = record { completes = λ more m. subst (λ l. Makes whole (l ++ more)) (sym e) m }
 
   -- of the next item these are made
-  pub completes_on : (items : List B) (n : ℕ) {x : A} {made new : List B} → Completes Makes whole (drop n whole) made → slice_get whole n ≡ Some x → new ≡ made ++ items
-      → ((more : List B) → Makes (drop (n + 1) whole) more → Makes (x ∷ drop (n + 1) whole) (items ++ more)) → Completes Makes whole (drop (n + 1) whole) new
+  pub completes_on : (items : List B) (n : ℕ) {x : A} {made new : List B} → Completes Makes whole (drop n whole) made
+      → slice_get whole n ≡ Some x → new ≡ made ++ items
+      → ((more : List B) → Makes (drop (n + 1) whole) more → Makes (x ∷ drop (n + 1) whole) (items ++ more))
+      → Completes Makes whole (drop (n + 1) whole) new
   completes_on items n {x = x} {made = made} c there grown step = record {
     completes = λ more m.
-        subst (Makes whole) (sym (ap (λ l. l ++ more) grown ∙ append_assoc made items more)) (c.completes (items ++ more) (subst (λ l. Makes l (items ++ more)) (sym (drop_at whole n x there)) (step more m)));
+        subst (Makes whole) (sym (ap (λ l. l ++ more) grown ∙ append_assoc made items more))
+        (c.completes (items ++ more) (subst (λ l. Makes l (items ++ more)) (sym (drop_at whole n x there))
+        (step more m)));
   }
 
-  pub completes_end : (n : ℕ) {made : List B} → Completes Makes whole (drop n whole) made → length whole ≤ n → Makes [] [] → Makes whole made
-  completes_end n {made = made} c w none = subst (Makes whole) (append-nil made) (c.completes [] (subst (λ l. Makes l []) (sym (drop_all n whole w)) none))
+  pub completes_end : (n : ℕ) {made : List B} → Completes Makes whole (drop n whole) made → length whole ≤ n
+      → Makes [] [] → Makes whole made
+  completes_end n {made = made} c w none = subst (Makes whole) (append-nil made)
+      (c.completes [] (subst (λ l. Makes l []) (sym (drop_all n whole w)) none))

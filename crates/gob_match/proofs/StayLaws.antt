@@ -1,5 +1,5 @@
 -- What is said of a match, of a clash and of what is received stays the same when the table of the stream grows.
-use Rattle.std.proofs.Common.{◌≡◌, ◌≤◌, inl, inr, ◌⊎◌, List, length, subst, sym, Contains}
+use Rattle.std.proofs.Common.{inl, inr, List, subst}
 use Rattle.gob_types.specs.declared.id.TypeId.{TypeId}
 use Rattle.gob_types.specs.declared.kind.Field.{Field}
 use Rattle.gob_types.specs.declared.kind.Kind.{Kind}
@@ -13,10 +13,11 @@ use Rattle.gob_value.proofs.PublicLaws.{spells_on}
 use Rattle.gob_match.specs.declared.pair.TypePair.{TypePair}
 use Rattle.gob_match.specs.declared.reason.ClashReason.{ClashReason}
 use Rattle.gob_match.specs.declared.step.Step.{Step}
-use Rattle.gob_match.specs.Pairs.{of_types}
 use Rattle.gob_match.specs.Matching.{HasShapes, HasMatchingShapes, Names, Match}
-use Rattle.gob_match.specs.Clashing.{HasClashingShapes, Leads, here, onward, ClashAt, IsLeastClash}
-use Rattle.gob_match.specs.Received.{Receives, of_types as of_shapes, ReceivesAs, of_basics, of_opaques, of_arrays, of_slices, of_maps, of_structs, ReceivesEach, no_element, element, ReceivesPairs, no_entry, entry, ReceivesFields, no_more, absent, received}
+use Rattle.gob_match.specs.Clashing.{Leads, here, onward, ClashAt, IsLeastClash}
+use Rattle.gob_match.specs.Received.{Receives, of_types as of_shapes, ReceivesAs, of_basics, of_opaques, of_arrays}
+use Rattle.gob_match.specs.Received.{of_slices, of_maps, of_structs, ReceivesEach, no_element, element, ReceivesPairs}
+use Rattle.gob_match.specs.Received.{no_entry, entry, ReceivesFields, no_more, absent, received}
 use Rattle.gob_match.proofs.ClashLaws.{types_match_or_clash}
 use Rattle.gob_match.proofs.SearchLaws.{IsReadyPair, named_ready}
 use Rattle.gob_match.proofs.ChoiceLaws.{ready_match_or_clash}
@@ -43,11 +44,18 @@ module _ {T V U : Table} (keeps : Keeps T V) where
   leads_on here = here
   leads_on (onward m n l) = onward (matching_on m) (names_on n) (leads_on l)
 
-  pub clash_on : {t u : TypeId} {path : List Step} {reason : ClashReason} → ClashAt T U t u path reason → ClashAt V U t u path reason
+  pub clash_on : {t u : TypeId} {path : List Step} {reason : ClashReason} → ClashAt T U t u path reason
+      → ClashAt V U t u path reason
   clash_on c = record {
     last = c.last;
     leads = leads_on c.leads;
-    clash = record { stream = c.clash.stream; wanted = c.clash.wanted; shapes = shapes_on c.clash.shapes; clash = c.clash.clash };
+    clash = record {
+      stream = c.clash.stream;
+      wanted = c.clash.wanted;
+      shapes = shapes_on c.clash.shapes;
+      clash =
+          c.clash.clash;
+    };
   }
 
   mutual
@@ -70,7 +78,8 @@ module _ {T V U : Table} (keeps : Keeps T V) where
     pairs_on no_entry = no_entry
     pairs_on (entry x r rs) = entry (receives_on x) (receives_on r) (pairs_on rs)
 
-    fields_on : {types : List Field} {fs : Fields} {n : _} {wanted : List Field} {gs : Fields} → ReceivesFields T U types fs n wanted gs → ReceivesFields V U types fs n wanted gs
+    fields_on : {types : List Field} {fs : Fields} {n : _} {wanted : List Field} {gs : Fields}
+        → ReceivesFields T U types fs n wanted gs → ReceivesFields V U types fs n wanted gs
     fields_on no_more = no_more
     fields_on (absent a rs) = absent a (fields_on rs)
     fields_on (received h r rs) = received h (receives_on r) (fields_on rs)
@@ -80,10 +89,22 @@ module _ {T V U : Table} (keeps : Keeps T V) where
   shapes_back ready h = record { stream = shape_back keeps ready.stream h.stream; wanted = h.wanted }
 
   matching_back : {p : TypePair} → IsReadyPair T U p → HasMatchingShapes V U p → HasMatchingShapes T U p
-  matching_back ready h = record { stream = h.stream; wanted = h.wanted; shapes = shapes_back ready h.shapes; match = h.match }
+  matching_back ready h = record {
+    stream = h.stream;
+    wanted = h.wanted;
+    shapes = shapes_back ready h.shapes;
+    match =
+        h.match;
+  }
 
   names_back : {p q : TypePair} {s : Step} → IsReadyPair T U p → Names V U p s q → Names T U p s q
-  names_back ready h = record { stream = h.stream; wanted = h.wanted; shapes = shapes_back ready h.shapes; named = h.named }
+  names_back ready h = record {
+    stream = h.stream;
+    wanted = h.wanted;
+    shapes = shapes_back ready h.shapes;
+    named =
+        h.named;
+  }
 
   leads_back : {path : List Step} {p q : TypePair} → IsReadyPair T U p → Leads V U path p q → LeadsReady T U path p q
   leads_back ready here = record { leads = here; ready = ready }
@@ -92,16 +113,23 @@ module _ {T V U : Table} (keeps : Keeps T V) where
       let rest = leads_back (named_ready ready named) l in
       record { leads = onward (matching_back ready m) named rest.leads; ready = rest.ready }
 
-  pub clash_back : {t u : TypeId} {path : List Step} {reason : ClashReason} → IsReady T t → IsReady U u → ClashAt V U t u path reason → ClashAt T U t u path reason
+  pub clash_back : {t u : TypeId} {path : List Step} {reason : ClashReason} → IsReady T t → IsReady U u
+      → ClashAt V U t u path reason → ClashAt T U t u path reason
   clash_back r s c =
       let l = leads_back (record { stream = r; wanted = s }) c.leads in
       record {
         last = c.last;
         leads = l.leads;
-        clash = record { stream = c.clash.stream; wanted = c.clash.wanted; shapes = shapes_back l.ready c.clash.shapes; clash = c.clash.clash };
+        clash = record {
+          stream = c.clash.stream;
+          wanted = c.clash.wanted;
+          shapes = shapes_back l.ready c.clash.shapes;
+          clash = c.clash.clash;
+        };
       }
 
-  pub least_back : {t u : TypeId} {path : List Step} {reason : ClashReason} → IsReady T t → IsReady U u → IsLeastClash V U t u path reason → IsLeastClash T U t u path reason
+  pub least_back : {t u : TypeId} {path : List Step} {reason : ClashReason} → IsReady T t → IsReady U u
+      → IsLeastClash V U t u path reason → IsLeastClash T U t u path reason
   least_back r s c = record { clash = clash_back r s c.clash; least = λ other why h. c.least other why (clash_on h) }
 
   -- two types match by the one table where they do by the other, since where they don't they clash
@@ -118,7 +146,8 @@ module _ {T V U : Table} (keeps : Keeps T V) where
   ]
 
   -- and the value that is received is the same
-  pub receives_back : {t u : TypeId} {v w : Tree} → IsReady T t → IsReady U u → Match T U t u → Fits T t v → Receives V U t u v w → Receives T U t u v w
+  pub receives_back : {t u : TypeId} {v w : Tree} → IsReady T t → IsReady U u → Match T U t u → Fits T t v
+      → Receives V U t u v w → Receives T U t u v w
   receives_back {t = t} {u = u} {v = v} r s m f h =
       let there = match_on r s m in
       let made = have m.closed f.spelled m.holds in

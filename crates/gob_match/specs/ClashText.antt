@@ -36,4 +36,5 @@ path_text (s ∷ path) = flat_map step_text (s ∷ path)
 -- number and name of the reason, and the path
 abbrev pub clash_text : List Step → ClashReason → List ℕ
 clash_text path reason =
-    codes "clash " ++ (decimal (clash_number reason) ++ (codes " " ++ (clash_name reason ++ (codes " at " ++ path_text path))))
+    codes "clash " ++ (decimal (clash_number reason) ++
+    (codes " " ++ (clash_name reason ++ (codes " at " ++ path_text path))))

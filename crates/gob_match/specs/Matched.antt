@@ -1,4 +1,5 @@
--- What contracts see of a match: the two types that it is of, and that what is kept of it is right. (docs/FORMAT.md, Matching and receiving.)
+-- What contracts see of a match: the two types that it is of, and that what is kept of it is right. (docs/FORMAT.md,
+-- Matching and receiving.)
 use Rattle.std.specs.Prelude.{◌≡◌}
 use Rattle.gob_types.specs.declared.id.TypeId.{TypeId}
 use Rattle.gob_types.specs.Table.{Table}
@@ -28,4 +29,5 @@ pub record IsMatchOf {S W : Type 0} (stream : S) (t : TypeId) (wanted : W) (u : 
 
 -- what is kept of the match is right, where these are the tables of the two sides
 abbrev pub IsSound : {S W : Type 0} → (S → Table) → (W → Table) → Matched S W → Type 0
-IsSound stream wanted m = IsMatched (stream m.stream.now) (wanted m.wanted.now) m.id m.wanted_id m.found m.conversions.items
+IsSound stream wanted m = IsMatched (stream m.stream.now) (wanted m.wanted.now) m.id m.wanted_id m.found
+    m.conversions.items

@@ -3,13 +3,13 @@
 ghost use Rattle.std.specs.Prelude.{◌≡◌, OnOk, IfOk, IfErr};
 ghost use Rattle.gob_match.specs.Pairs.{of_types};
 ghost use Rattle.gob_match.specs.Matching.{HaveDistinctNames};
-ghost use Rattle.gob_match.specs.Machine.Struct.{AreCommonFields};
+ghost use Rattle.gob_match.specs.Machine.Struct.{AreCommonFields, AreNames};
 ghost use Rattle.gob_match.specs.Machine.Exploring.{Converts, MatchAnswers, IsPairFault};
 
 use crate::common::{CommonField, common_fields};
 use crate::conversion::Conversion;
 use crate::fault::PairFault;
-use crate::names::names_of;
+use crate::names::{NameSet, names_of, repeats_name};
 use crate::pair::TypePair;
 use crate::reason::ClashReason;
 use gob_types::{Basic, Fields, Kind, Marshal, TypeId};
@@ -118,10 +118,24 @@ fn match_fields(alloc: Global, stream: &Fields, wanted: &Fields) -> Result<Conve
     let Some(names) = names_of(alloc, stream.as_slice())? else {
         return Err(PairFault::Clash(ClashReason::RepeatedName));
     };
-    let Some(_) = names_of(alloc, wanted.as_slice())? else {
+    match_named(alloc, stream, &names, wanted)
+}
+
+// The same, where these are the names of the stream's fields.
+fn match_named(
+    alloc: Global,
+    stream: &Fields,
+    names: &NameSet<'_>,
+    wanted: &Fields,
+) -> Result<Conversion, PairFault>
+    requires { AreNames stream.now names.now }
+    ensures converts { IfOk result (Converts (Kind.Struct stream.now) (Kind.Struct wanted.now)) }
+    ensures fault { IfErr result (IsPairFault (Kind.Struct stream.now) (Kind.Struct wanted.now)) }
+{
+    if repeats_name(alloc, wanted.as_slice())? {
         return Err(PairFault::Clash(ClashReason::RepeatedName));
-    };
-    let common = common_fields(alloc, stream, &names, wanted.as_slice())?;
+    }
+    let common = common_fields(alloc, stream, names, wanted.as_slice())?;
     Ok(match_common(common, stream, wanted)?)
 }
 

@@ -6,7 +6,8 @@ ghost use Rattle.gob_match.specs.Matching.{Match};
 ghost use Rattle.gob_match.specs.Matched.{IsMatchOf, IsSound};
 ghost use Rattle.gob_match.specs.Faults.{IsMatchFault};
 ghost use Rattle.gob_match.specs.Machine.Exploring.{Explores, IsExploreFault};
-ghost use Rattle.gob_match.specs.Machine.Search.{AreReadyAt};
+ghost use Rattle.gob_match.specs.Machine.Exploring.{KeepsExplored, EndsAt};
+ghost use Rattle.gob_match.specs.Machine.Search.{AreReadyAt, HasPath};
 
 use crate::adding::add_named;
 use crate::conversion::Conversion;
@@ -41,14 +42,7 @@ pub fn match_types<'a, S: Shapes, T: Shapes>(
     let mut conversions = Vec::new(alloc);
     let mut next = 0;
     while next < found.count() {
-        match explore(alloc, &mut found, next, stream, wanted) {
-            Ok(conversion) => conversions.push(conversion)?,
-            Err(PairFault::Memory) => return Err(MatchFault::Memory),
-            Err(PairFault::Clash(reason)) => {
-                let path = found.path_to(alloc, next)?;
-                return Err(MatchFault::Clash { path, reason });
-            }
-        }
+        keep_explored(alloc, &mut found, &mut conversions, next, stream, wanted)?;
         next += 1;
     }
     Ok(Matched {
@@ -59,6 +53,32 @@ pub fn match_types<'a, S: Shapes, T: Shapes>(
         found,
         conversions,
     })
+}
+
+// Explores the pair at a place and keeps its conversion, last. Where its shapes clash, it gives the path to the pair.
+fn keep_explored<S: Shapes, T: Shapes>(
+    alloc: Global,
+    found: &mut Found,
+    conversions: &mut Vec<Conversion>,
+    place: usize,
+    stream: &S,
+    wanted: &T,
+) -> Result<(), MatchFault>
+    requires there { place < length found.old }
+    requires ready { AreReadyAt (S.table stream.now) (T.table wanted.now) found.old place }
+    requires path { HasPath found.old place }
+    ensures kept { OnOk result (KeepsExplored (S.table stream.now) (T.table wanted.now) found.old found.new place
+        conversions.old.items conversions.new.items) }
+    ensures fault { IfErr result (EndsAt (S.table stream.now) (T.table wanted.now) found.old place) }
+{
+    match explore(alloc, found, place, stream, wanted) {
+        Ok(conversion) => Ok(conversions.push(conversion)?),
+        Err(PairFault::Memory) => Err(MatchFault::Memory),
+        Err(PairFault::Clash(reason)) => {
+            let path = found.path_to(alloc, place)?;
+            Err(MatchFault::Clash { path, reason })
+        }
+    }
 }
 
 // The conversion of the pair at a place. The pairs that it leads to are added.

@@ -1,6 +1,7 @@
 //! The names of a struct's fields.
 
-ghost use Rattle.std.specs.Prelude.{◌≡◌, ◌++◌, ◌∷◌, [], ◌<◌, ◌^◌, IfOk, MatchOption, Some, slice_get, Contains};
+ghost use Rattle.std.specs.Prelude.{◌≡◌, ◌↔◌, ◌++◌, ◌∷◌, [], ◌<◌, ◌^◌};
+ghost use Rattle.std.specs.Prelude.{IsTrue, IfOk, MatchOption, Some, slice_get, Contains};
 ghost use Rattle.gob_match.specs.Machine.Struct.{AddsName, AreNames};
 ghost use Rattle.gob_match.specs.Pairs.{RepeatsName};
 
@@ -65,4 +66,11 @@ pub(crate) fn names_of<'a>(
         return Ok(None);
     }
     Ok(Some(names))
+}
+
+/// Whether two fields have one name.
+pub(crate) fn repeats_name(alloc: Global, fields: &[Field]) -> Result<bool, Memory>
+    ensures { IfOk result (λ answer. IsTrue answer ↔ RepeatsName fields.now) }
+{
+    Ok(names_of(alloc, fields)?.is_none())
 }

@@ -103,7 +103,8 @@ fn receive_pairs<S: Shapes, T: Shapes>(
     parts: &[(Value, Value)],
 ) -> Result<Vec<(Value, Value)>, Memory>
     requires { CanReceivePairs S.table T.table matched.now key elem (pair_views parts.now) }
-    ensures { IfOk result (λ ws. GivesPairs S.table T.table matched.now key elem (pair_views parts.now) (pair_views ws.items)) }
+    ensures { IfOk result (λ ws.
+        GivesPairs S.table T.table matched.now key elem (pair_views parts.now) (pair_views ws.items)) }
 {
     let mut received = Vec::new(alloc);
     for (k, e) in parts {
@@ -122,7 +123,8 @@ fn receive_fields<S: Shapes, T: Shapes>(
     parts: &[(u64, Value)],
 ) -> Result<Vec<(u64, Value)>, Memory>
     requires { CanReceiveFields S.table T.table matched.now common.now (field_views parts.now) }
-    ensures { IfOk result (λ ws. GivesFields S.table T.table matched.now common.now (field_views parts.now) (field_views ws.items)) }
+    ensures { IfOk result (λ ws.
+        GivesFields S.table T.table matched.now common.now (field_views parts.now) (field_views ws.items)) }
 {
     let mut received = Vec::new(alloc);
     for field in common {

@@ -16,9 +16,11 @@ use Rattle.gob_types.specs.Ready.{Names, HasFieldOf}
 use Rattle.gob_types.specs.Table.{shape_of}
 use Rattle.gob_value.specs.Tree.{Tree, Trees, no_tree, tree, Fields, no_field, field}
 use Rattle.gob_value.specs.Tree as Value
-use Rattle.gob_value.specs.Tidy.{IsDropped, zero_basic, Tidies, of_type, TidiesAs, of_basic, of_slice, of_struct, TidiesEach, no_element, element, TidiesFields, no_more, kept}
+use Rattle.gob_value.specs.Tidy.{IsDropped, zero_basic, Tidies, of_type, TidiesAs, of_basic, of_slice, of_struct}
+use Rattle.gob_value.specs.Tidy.{TidiesEach, no_element, element, TidiesFields, no_more, kept}
 use Rattle.gob_value.specs.Tidy as tidy
-use Rattle.gob_value.specs.Described.{described, described_kind, name_and_id, field_types, field_list, array_length, wire_type_of}
+use Rattle.gob_value.specs.Described.{described, described_kind, name_and_id, field_types, field_list, array_length}
+use Rattle.gob_value.specs.Described.{wire_type_of}
 
 -- the fields of CommonType and of fieldType
 abbrev name_and_id_fields : List Field
@@ -47,23 +49,28 @@ list_kept d = elim d [ ]
 int_tidy : {n : ℕ} → TidiesAs base_table (kind.Basic basic.Int) (Value.int (pos n)) (Value.int (pos n))
 int_tidy = of_basic (λ h. h)
 
-named : (name : List ℕ) (t : TypeId) → 0 < t.0 → TidiesFields base_table name_and_id_fields (name_and_id name t) (name_and_id name t)
+named : (name : List ℕ) (t : TypeId) → 0 < t.0
+    → TidiesFields base_table name_and_id_fields (name_and_id name t) (name_and_id name t)
 named [] t l = kept refl refl (number_kept l) int_tidy no_more
 named (b ∷ bs) t l = kept refl refl text_kept (of_basic (λ h. h)) (kept refl refl (number_kept l) int_tidy no_more)
 
 -- behind its CommonType
-with_name : {types : List Field} {fs : Fields} (name : List ℕ) (t : TypeId) → 0 < t.0 → slice_get types 0 ≡ Some (base.field (codes "CommonType") 18) → TidiesFields base_table types fs fs
-    → TidiesFields base_table types (field 0 (Value.fields (name_and_id name t)) fs) (field 0 (Value.fields (name_and_id name t)) fs)
+with_name : {types : List Field} {fs : Fields} (name : List ℕ) (t : TypeId) → 0 < t.0
+    → slice_get types 0 ≡ Some (base.field (codes "CommonType") 18) → TidiesFields base_table types fs fs
+    → TidiesFields base_table types (field 0 (Value.fields (name_and_id name t)) fs)
+    (field 0 (Value.fields (name_and_id name t)) fs)
 with_name name t l e ps = kept e refl struct_kept (of_struct (named name t l)) ps
 
-each_named : (fs : List Field) → ((u : TypeId) → HasFieldOf fs u → IsReference u) → TidiesEach base_table (base.id 21) (field_types fs) (field_types fs)
+each_named : (fs : List Field) → ((u : TypeId) → HasFieldOf fs u → IsReference u)
+    → TidiesEach base_table (base.id 21) (field_types fs) (field_types fs)
 each_named [] each = no_element
 each_named (f ∷ fs) each =
     let first : IsReference f.id = each f.id (record { number = 0; field = f; there = refl; type = refl }) in
     element (of_type refl (of_struct (named f.name f.id (omega (arith, first.0)))))
     (each_named fs (λ u h. each u (record { number = suc h.number; field = h.field; there = h.there; type = h.type })))
 
-fields_tidy : (fs : List Field) → ((u : TypeId) → HasFieldOf fs u → IsReference u) → TidiesFields base_table struct_type (field_list fs) (field_list fs)
+fields_tidy : (fs : List Field) → ((u : TypeId) → HasFieldOf fs u → IsReference u)
+    → TidiesFields base_table struct_type (field_list fs) (field_list fs)
 fields_tidy [] each = no_more
 fields_tidy (f ∷ fs) each = kept refl refl list_kept (of_slice (each_named (f ∷ fs) each)) no_more
 
@@ -74,29 +81,37 @@ length_tidy n = by (eqb n 0) refl
     by true e = rw e no_more
     by false e = rw e (kept refl refl (number_kept {n = n} (omega (arith, eqb-false n 0 e))) int_tidy no_more)
 
-in_wire_type : {f : ℕ} {g : Field} {name : List ℕ} {types : List Field} {fs : Fields} → slice_get wire_type_fields f ≡ Some g → shape_of base_table g.id ≡ Some (record { name = name; kind = kind.Struct types })
+in_wire_type : {f : ℕ} {g : Field} {name : List ℕ} {types : List Field} {fs : Fields}
+    → slice_get wire_type_fields f ≡ Some g
+    → shape_of base_table g.id ≡ Some (record { name = name; kind = kind.Struct types })
     → TidiesFields base_table types fs fs → Tidies base_table wire_type (wire_type_of f fs) (wire_type_of f fs)
 in_wire_type e h ps = of_type refl (of_struct (kept e h struct_kept (of_struct ps) no_more))
 
-pub described_tidy : (t : TypeId) (s : Shape) → IsDefinable s → 0 < t.0 → Tidies base_table wire_type (described t s) (described t s)
+pub described_tidy : (t : TypeId) (s : Shape) → IsDefinable s → 0 < t.0
+    → Tidies base_table wire_type (described t s) (described t s)
 described_tidy t s d l = by s.kind d.length d.references
   where
     common : Tree
     common = Value.fields (name_and_id s.name t)
 
-    by : (k : Kind) → HasLength k → ((u : TypeId) → Names k u → IsReference u) → Tidies base_table wire_type (described_kind common k) (described_kind common k)
+    by : (k : Kind) → HasLength k → ((u : TypeId) → Names k u → IsReference u)
+        → Tidies base_table wire_type (described_kind common k) (described_kind common k)
     by (kind.Basic b) h each = absurd h
     by (kind.Array e n) h each =
         let first : IsReference e = each e refl in
-        in_wire_type refl refl (with_name s.name t l refl (kept refl refl (number_kept {n = e.0} (omega (arith, first.0))) int_tidy (length_tidy n)))
+        in_wire_type refl refl (with_name s.name t l refl
+        (kept refl refl (number_kept {n = e.0} (omega (arith, first.0))) int_tidy (length_tidy n)))
     by (kind.Slice e) h each =
         let first : IsReference e = each e refl in
-        in_wire_type refl refl (with_name s.name t l refl (kept refl refl (number_kept {n = e.0} (omega (arith, first.0))) int_tidy no_more))
+        in_wire_type refl refl (with_name s.name t l refl
+        (kept refl refl (number_kept {n = e.0} (omega (arith, first.0))) int_tidy no_more))
     by (kind.Struct fs) h each = in_wire_type refl refl (with_name s.name t l refl (fields_tidy fs each))
     by (kind.Map k e) h each =
         let first : IsReference k = each k (inl refl) in
         let second : IsReference e = each e (inr refl) in
-        in_wire_type refl refl (with_name s.name t l refl (kept refl refl (number_kept {n = k.0} (omega (arith, first.0))) int_tidy (kept refl refl (number_kept {n = e.0} (omega (arith, second.0))) int_tidy no_more)))
+        in_wire_type refl refl (with_name s.name t l refl
+        (kept refl refl (number_kept {n = k.0} (omega (arith, first.0))) int_tidy
+        (kept refl refl (number_kept {n = e.0} (omega (arith, second.0))) int_tidy no_more)))
     by (kind.Opaque marshal.Gob) h each = in_wire_type refl refl (with_name s.name t l refl no_more)
     by (kind.Opaque marshal.Binary) h each = in_wire_type refl refl (with_name s.name t l refl no_more)
     by (kind.Opaque marshal.Text) h each = in_wire_type refl refl (with_name s.name t l refl no_more)

@@ -1,5 +1,6 @@
 -- One step of tidying the parts of a value.
-use Rattle.std.proofs.Common.{◌≡◌, ◌⊎◌, inl, inr, ℕ, ◌+◌, ◌^◌, ◌<◌, ◌≤◌, max, List, [], ◌∷◌, ◌++◌, length, Some, None, arith, refl, sym, ap, ◌∙◌, subst, append_assoc}
+use Rattle.std.proofs.Common.{◌≡◌, ◌⊎◌, inl, inr, ℕ, ◌+◌, ◌^◌, ◌<◌, ◌≤◌, max, List, [], ◌∷◌, ◌++◌, length, Some, None}
+use Rattle.std.proofs.Common.{arith, refl, sym, ap, ◌∙◌, subst, append_assoc}
 use Rattle.std.specs.Prelude.{slice_get, Result, Ok, Err, IfOk}
 use Rattle.gob_num.specs.declared.memory.Memory.{Memory}
 use Rattle.std.proofs.lemmas.List.{append-nil}
@@ -12,12 +13,17 @@ use Rattle.gob_types.specs.declared.kind.Kind.TheVariants as kind
 use Rattle.gob_types.specs.declared.kind.Shape.{Shape}
 use Rattle.gob_types.specs.Table.{Table, shape_of}
 use Rattle.gob_types.proofs.PublicLaws.{some_injective}
-use Rattle.gob_value.specs.Tree.{Tree, Trees, tree, Pairs, pair, Fields, field, depth, trees_depth, pairs_depth, fields_depth}
+use Rattle.gob_value.specs.Tree.{Tree, Trees, tree, Pairs, pair, Fields, field, depth, trees_depth, pairs_depth}
+use Rattle.gob_value.specs.Tree.{fields_depth}
 use Rattle.gob_value.specs.View.{view, views, pair_views, field_views}
 use Rattle.gob_value.specs.TidyLaws.{HasSmallNumbers}
 use Rattle.gob_value.specs.Tidied.{IsTidied, IsTidiedAs, AreTidied, PairsTidied, FieldsTidied}
 use Rattle.gob_value.specs.Written.{HasParts}
-use Rattle.gob_value.specs.Tidy.{IsZero, of_bool, of_int, of_uint, of_float, of_complex, of_bytes, of_text, IsDropped, zero_basic, empty_slice, of_type, TidiesAs, of_basic, of_opaque, of_slice, of_array, of_map, of_struct, TidiesEach, element, TidiesPairs, entry, TidiesFields, dropped, kept, HasTidyForm, HasTidyFormAs, HaveTidyForms, HaveTidyPairs, HaveTidyFields}
+use Rattle.gob_value.specs.Tidy.{Tidies, IsZero, of_bool, of_int, of_uint, of_float, of_complex, of_bytes, of_text}
+use Rattle.gob_value.specs.Tidy.{IsDropped, zero_basic, empty_slice, of_type, TidiesAs, of_basic, of_opaque, of_slice}
+use Rattle.gob_value.specs.Tidy.{of_array, of_map, of_struct, TidiesEach, element, TidiesPairs, entry, TidiesFields}
+use Rattle.gob_value.specs.Tidy.{dropped, kept, HasTidyForm, HasTidyFormAs, HaveTidyForms, HaveTidyPairs}
+use Rattle.gob_value.specs.Tidy.{HaveTidyFields}
 use Rattle.gob_value.specs.declared.value.Value.{Value}
 use Rattle.gob_value.proofs.TidyLaws.{same_shape}
 
@@ -25,37 +31,53 @@ use Rattle.gob_value.proofs.TidyLaws.{same_shape}
 
 -- what is tidied so far, before the tidy form of what is left, is the tidy form of the whole; this is known of what is
 -- left, which is no deeper than the whole
-pub record Goes {A : Type 0} (Tidy : List A → List A → Type 0) (Known : List A → Type 0) (deep : List A → ℕ) (whole more tidied : List A) : Type 0 where
+pub record Goes {A : Type 0} (Tidy : List A → List A → Type 0) (Known : List A → Type 0) (deep : List A → ℕ)
+    (whole more tidied : List A) : Type 0 where
   pub completes : (rest : List A) → Tidy more rest → Tidy whole (tidied ++ rest)
   pub known : Known more
   pub shallow : deep more ≤ deep whole
 
-module _ {A : Type 0} {Tidy : List A → List A → Type 0} {Known : List A → Type 0} {deep : List A → ℕ} {whole more tidied new rest : List A} where
+module _ {A : Type 0} {Tidy : List A → List A → Type 0} {Known : List A → Type 0} {deep : List A → ℕ}
+    {whole more tidied new rest : List A} where
   -- a part becomes those in front
-  pub goes_on : (front : List A) {part : A} → Goes Tidy Known deep whole more tidied → more ≡ part ∷ rest → new ≡ tidied ++ front
-      → ((r : List A) → Tidy rest r → Tidy (part ∷ rest) (front ++ r)) → Known rest → deep rest ≤ deep (part ∷ rest) → Goes Tidy Known deep whole rest new
+  pub goes_on : (front : List A) {part : A} → Goes Tidy Known deep whole more tidied → more ≡ part ∷ rest
+      → new ≡ tidied ++ front
+      → ((r : List A) → Tidy rest r → Tidy (part ∷ rest) (front ++ r)) → Known rest → deep rest ≤ deep (part ∷ rest)
+      → Goes Tidy Known deep whole rest new
   goes_on front {part = part} g h n step k d = record {
-    completes = λ r p. subst (Tidy whole) (sym (ap (λ l. l ++ r) n ∙ append_assoc tidied front r)) (g.completes (front ++ r) (subst (λ l. Tidy l (front ++ r)) (sym h) (step r p)));
+    completes = λ r p. subst (Tidy whole) (sym (ap (λ l. l ++ r) n ∙ append_assoc tidied front r))
+        (g.completes (front ++ r) (subst (λ l. Tidy l (front ++ r)) (sym h) (step r p)));
     known = k;
     shallow = let s = subst (λ l. deep l ≤ deep whole) h g.shallow in omega arith;
   }
 
-module _ {A : Type 0} {Tidy : List A → List A → Type 0} {Known : List A → Type 0} {deep : List A → ℕ} {whole more tidied : List A} where
+pub goes_starts : {A : Type 0} {Tidy : List A → List A → Type 0} {Known : List A → Type 0} {deep : List A → ℕ}
+    {whole new : List A} → new ≡ [] → Known whole → Goes Tidy Known deep whole whole new
+goes_starts {Tidy = Tidy} {whole = whole} e k = record
+    { completes = λ r p. subst (λ l. Tidy whole (l ++ r)) (sym e) p; known = k; shallow = omega arith }
+
+module _ {A : Type 0} {Tidy : List A → List A → Type 0} {Known : List A → Type 0} {deep : List A → ℕ}
+    {whole more tidied : List A} where
   pub goes_end : Goes Tidy Known deep whole more tidied → length more ≡ 0 → Tidy [] [] → Tidy whole tidied
-  goes_end g h e = subst (Tidy whole) (append-nil tidied) (g.completes [] (subst (λ l. Tidy l []) (sym (nothing more h)) e))
+  goes_end g h e = subst (Tidy whole) (append-nil tidied)
+      (g.completes [] (subst (λ l. Tidy l []) (sym (nothing more h)) e))
     where
       nothing : (l : List A) → length l ≡ 0 → l ≡ []
       nothing [] h = refl
       nothing (x ∷ xs) h = absurd (omega arith)
 
 abbrev pub EachGoes : Table → TypeId → List Value → List Value → List Value → Type 0
-EachGoes T e = Goes (λ vs ws. AreTidied T e (views vs) (views ws)) (λ vs. HaveTidyForms T e (views vs)) (λ vs. trees_depth (views vs))
+EachGoes T e = Goes (λ vs ws. AreTidied T e (views vs) (views ws)) (λ vs. HaveTidyForms T e (views vs))
+    (λ vs. trees_depth (views vs))
 
-abbrev pub PairsGo : Table → TypeId → TypeId → List (Value × Value) → List (Value × Value) → List (Value × Value) → Type 0
-PairsGo T k e = Goes (λ ps qs. PairsTidied T k e (pair_views ps) (pair_views qs)) (λ ps. HaveTidyPairs T k e (pair_views ps)) (λ ps. pairs_depth (pair_views ps))
+abbrev pub PairsGo : Table → TypeId → TypeId → List (Value × Value) → List (Value × Value) → List (Value × Value)
+    → Type 0
+PairsGo T k e = Goes (λ ps qs. PairsTidied T k e (pair_views ps) (pair_views qs))
+    (λ ps. HaveTidyPairs T k e (pair_views ps)) (λ ps. pairs_depth (pair_views ps))
 
 abbrev pub FieldsGo : Table → List Field → List (ℕ × Value) → List (ℕ × Value) → List (ℕ × Value) → Type 0
-FieldsGo T types = Goes (λ fs gs. FieldsTidied T types (field_views fs) (field_views gs)) (λ fs. HaveTidyFields T types (field_views fs)) (λ fs. fields_depth (field_views fs))
+FieldsGo T types = Goes (λ fs gs. FieldsTidied T types (field_views fs) (field_views gs))
+    (λ fs. HaveTidyFields T types (field_views fs)) (λ fs. fields_depth (field_views fs))
 
 -- ---- kinds and values with parts
 
@@ -131,71 +153,165 @@ pub record FieldLeft (T : Table) (types : List Field) (f : ℕ) (v : Tree) (rest
 module _ {T : Table} where
   -- ---- elements
 
-  pub each_left : {e : TypeId} {whole more tidied rest : List Value} {part : Value} → EachGoes T e whole more tidied → more ≡ part ∷ rest → PartLeft T e part rest whole
+  pub each_left : {e : TypeId} {whole more tidied rest : List Value} {part : Value} → EachGoes T e whole more tidied
+      → more ≡ part ∷ rest → PartLeft T e part rest whole
   each_left {e = e} {whole = whole} g h =
       let known = subst (λ (l : List Value). HaveTidyForms T e (views l)) h g.known in
       let r = inside known.tidies in
       let s = subst (λ (l : List Value). trees_depth (views l) ≤ trees_depth (views whole)) h g.shallow in
       record { form = r.0; forms = r.1; shallow = omega arith }
     where
-      inside : {e : TypeId} {v : Tree} {vs ws : Trees} → TidiesEach T e (tree v vs) ws → HasTidyForm T e v × HaveTidyForms T e vs
+      inside : {e : TypeId} {v : Tree} {vs ws : Trees} → TidiesEach T e (tree v vs) ws → HasTidyForm T e v
+          × HaveTidyForms T e vs
       inside (element {w = w} {ws = ws} p ps) = (record { tidy = w; tidies = p }, record { tidy = ws; tidies = ps })
 
-  pub each_on : {e : TypeId} {whole more tidied new rest : List Value} {part : Value} (made : Value) → EachGoes T e whole more tidied → more ≡ part ∷ rest → IsTidied T e (view part) (view made)
+  pub each_on : {e : TypeId} {whole more tidied new rest : List Value} {part : Value} (made : Value)
+      → EachGoes T e whole more tidied → more ≡ part ∷ rest → IsTidied T e (view part) (view made)
       → new ≡ tidied ++ made ∷ [] → EachGoes T e whole rest new
-  each_on made g h p n = let l = each_left g h in goes_on (made ∷ []) g h n (λ r q. record { tidies = element p.tidies q.tidies; small = (p.small, q.small) }) l.forms (omega arith)
+  each_on made g h p n = let l = each_left g h in goes_on (made ∷ []) g h n
+      (λ r q. record { tidies = element p.tidies q.tidies; small = (p.small, q.small) }) l.forms (omega arith)
 
   -- ---- keys and elements
 
-  pub pairs_left : {k e : TypeId} {whole more tidied rest : List (Value × Value)} {part : Value × Value} → PairsGo T k e whole more tidied → more ≡ part ∷ rest → PairLeft T k e part rest whole
+  pub pairs_left : {k e : TypeId} {whole more tidied rest : List (Value × Value)} {part : Value × Value}
+      → PairsGo T k e whole more tidied → more ≡ part ∷ rest → PairLeft T k e part rest whole
   pairs_left {k = k} {e = e} {whole = whole} g h =
       let known = subst (λ (l : List (Value × Value)). HaveTidyPairs T k e (pair_views l)) h g.known in
       let r = inside known.tidies in
-      let s = subst (λ (l : List (Value × Value)). pairs_depth (pair_views l) ≤ pairs_depth (pair_views whole)) h g.shallow in
+      let s = subst (λ (l : List (Value × Value)). pairs_depth (pair_views l) ≤ pairs_depth (pair_views whole)) h
+      g.shallow in
       record { key = r.0; form = r.1; forms = r.2; key_shallow = omega arith; shallow = omega arith }
     where
-      inside : {k e : TypeId} {x v : Tree} {ps qs : Pairs} → TidiesPairs T k e (pair x v ps) qs → HasTidyForm T k x × HasTidyForm T e v × HaveTidyPairs T k e ps
-      inside (entry {y = y} {w = w} {qs = qs} o p ps) = (record { tidy = y; tidies = o }, record { tidy = w; tidies = p }, record { tidy = qs; tidies = ps })
+      inside : {k e : TypeId} {x v : Tree} {ps qs : Pairs} → TidiesPairs T k e (pair x v ps) qs → HasTidyForm T k x
+          × HasTidyForm T e v × HaveTidyPairs T k e ps
+      inside (entry {y = y} {w = w} {qs = qs} o p ps) =
+          (record { tidy = y; tidies = o }, record { tidy = w; tidies = p }, record { tidy = qs; tidies = ps })
 
-  pub pairs_on : {k e : TypeId} {whole more tidied new rest : List (Value × Value)} {part : Value × Value} (made : Value × Value) → PairsGo T k e whole more tidied → more ≡ part ∷ rest
-      → IsTidied T k (view part.0) (view made.0) → IsTidied T e (view part.1) (view made.1) → new ≡ tidied ++ made ∷ [] → PairsGo T k e whole rest new
-  pairs_on made g h o p n = let l = pairs_left g h in goes_on (made ∷ []) g h n (λ r q. record { tidies = entry o.tidies p.tidies q.tidies; small = (o.small, p.small, q.small) }) l.forms (omega arith)
+  pub pairs_on : {k e : TypeId} {whole more tidied new rest : List (Value × Value)} {part : Value × Value}
+      (made : Value × Value) → PairsGo T k e whole more tidied → more ≡ part ∷ rest
+      → IsTidied T k (view part.0) (view made.0) → IsTidied T e (view part.1) (view made.1) → new ≡ tidied ++ made ∷ []
+      → PairsGo T k e whole rest new
+  pairs_on made g h o p n = let l = pairs_left g h in goes_on (made ∷ []) g h n
+      (λ r q. record { tidies = entry o.tidies p.tidies q.tidies; small = (o.small, p.small, q.small) }) l.forms
+      (omega arith)
 
   -- ---- fields
 
-  pub field_left : {types : List Field} {whole more tidied rest : List (ℕ × Value)} {f : ℕ} {v : Value} → FieldsGo T types whole more tidied → more ≡ (f, v) ∷ rest → FieldLeft T types f (view v) rest
+  pub field_left : {types : List Field} {whole more tidied rest : List (ℕ × Value)} {f : ℕ} {v : Value}
+      → FieldsGo T types whole more tidied → more ≡ (f, v) ∷ rest → FieldLeft T types f (view v) rest
   field_left {types = types} {rest = rest} g h =
-      let known = subst (λ (l : List (ℕ × Value)). HaveTidyFields T types (field_views l)) h g.known in inside known.tidies
+      let known = subst (λ (l : List (ℕ × Value)). HaveTidyFields T types (field_views l)) h g.known in
+      inside known.tidies
     where
-      inside : {f : ℕ} {v : Tree} {gs : Fields} → TidiesFields T types (field f v (field_views rest)) gs → FieldLeft T types f v rest
+      inside : {f : ℕ} {v : Tree} {gs : Fields} → TidiesFields T types (field f v (field_views rest)) gs
+          → FieldLeft T types f v rest
       inside (dropped {e = e} {s = s} {gs = gs} m p d ps) =
-          record { type = e; shape = s; there = m; defined = p; form = λ n. absurd (n d); forms = record { tidy = gs; tidies = ps } }
+          record {
+            type = e;
+            shape = s;
+            there = m;
+            defined = p;
+            form = λ n. absurd (n d);
+            forms = record
+                { tidy = gs; tidies = ps };
+          }
       inside (kept {e = e} {s = s} {w = w} {gs = gs} m p n q ps) =
-          record { type = e; shape = s; there = m; defined = p; form = λ _. record { tidy = w; tidies = q }; forms = record { tidy = gs; tidies = ps } }
+          record {
+            type = e;
+            shape = s;
+            there = m;
+            defined = p;
+            form = λ _. record { tidy = w; tidies = q };
+            forms =
+                record { tidy = gs; tidies = ps };
+          }
 
-  pub field_shallow : {types : List Field} {whole more tidied rest : List (ℕ × Value)} {f : ℕ} {v : Value} → FieldsGo T types whole more tidied → more ≡ (f, v) ∷ rest
+  pub field_shallow : {types : List Field} {whole more tidied rest : List (ℕ × Value)} {f : ℕ} {v : Value}
+      → FieldsGo T types whole more tidied → more ≡ (f, v) ∷ rest
       → max (depth (view v)) (fields_depth (field_views rest)) ≤ fields_depth (field_views whole)
-  field_shallow {whole = whole} g h = subst (λ (l : List (ℕ × Value)). fields_depth (field_views l) ≤ fields_depth (field_views whole)) h g.shallow
+  field_shallow {whole = whole} g h = subst (λ (l : List (ℕ × Value)). fields_depth (field_views l) ≤ fields_depth
+      (field_views whole)) h g.shallow
 
   -- at whatever shape is found for the field
-  pub field_form : {types : List Field} {f : ℕ} {v : Tree} {rest : List (ℕ × Value)} {e : Field} {s : Shape} → FieldLeft T types f v rest → slice_get types f ≡ Some e → shape_of T e.id ≡ Some s
+  pub field_form : {types : List Field} {f : ℕ} {v : Tree} {rest : List (ℕ × Value)} {e : Field} {s : Shape}
+      → FieldLeft T types f v rest → slice_get types f ≡ Some e → shape_of T e.id ≡ Some s
       → ¬ IsDropped s.kind v → HasTidyFormAs T s.kind v
   field_form {types = types} {f = f} {v = v} {s = s} l m p =
-      let same : s ≡ l.shape = same_shape T types f l.there m l.defined p in subst (λ (r : Shape). ¬ IsDropped r.kind v → HasTidyFormAs T r.kind v) (sym same) l.form
+      let same : s ≡ l.shape = same_shape T types f l.there m l.defined p in
+      subst (λ (r : Shape). ¬ IsDropped r.kind v → HasTidyFormAs T r.kind v) (sym same) l.form
 
-  module _ {types : List Field} {whole more tidied rest : List (ℕ × Value)} {f : ℕ} {v : Value} {e : Field} {s : Shape} where
-    pub field_dropped : FieldsGo T types whole more tidied → more ≡ (f, v) ∷ rest → slice_get types f ≡ Some e → shape_of T e.id ≡ Some s → IsDropped s.kind (view v) → f + 1 < 2 ^ 64 → FieldsGo T types whole rest tidied
-    field_dropped g h m p d b = let l = field_left g h in goes_on [] g h (sym (append-nil tidied)) (λ r q. record { tidies = dropped m p d q.tidies; small = (b, dropped_small d, q.small) }) l.forms (omega arith)
+  module _ {types : List Field} {whole more tidied rest : List (ℕ × Value)} {f : ℕ} {v : Value} {e : Field} {s : Shape}
+    where
+      pub field_dropped : FieldsGo T types whole more tidied → more ≡ (f, v) ∷ rest → slice_get types f ≡ Some e
+          → shape_of T e.id ≡ Some s → IsDropped s.kind (view v) → f + 1 < 2 ^ 64 → FieldsGo T types whole rest tidied
+      field_dropped g h m p d b = let l = field_left g h in goes_on [] g h (sym (append-nil tidied))
+          (λ r q. record { tidies = dropped m p d q.tidies; small = (b, dropped_small d, q.small) }) l.forms
+          (omega arith)
 
-    pub field_kept : {new : List (ℕ × Value)} (w : Value) → FieldsGo T types whole more tidied → more ≡ (f, v) ∷ rest → slice_get types f ≡ Some e → shape_of T e.id ≡ Some s → ¬ IsDropped s.kind (view v)
-        → IsTidiedAs T s.kind (view v) (view w) → f + 1 < 2 ^ 64 → new ≡ tidied ++ (f, w) ∷ [] → FieldsGo T types whole rest new
-    field_kept w g h m p n o b k = let l = field_left g h in goes_on ((f, w) ∷ []) g h k (λ r q. record { tidies = kept m p n o.tidies q.tidies; small = (b, o.small, q.small) }) l.forms (omega arith)
+      pub field_kept : {new : List (ℕ × Value)} (w : Value) → FieldsGo T types whole more tidied → more ≡ (f, v) ∷ rest
+          → slice_get types f ≡ Some e → shape_of T e.id ≡ Some s → ¬ IsDropped s.kind (view v)
+          → IsTidiedAs T s.kind (view v) (view w) → f + 1 < 2 ^ 64 → new ≡ tidied ++ (f, w) ∷ []
+          → FieldsGo T types whole rest new
+      field_kept w g h m p n o b k = let l = field_left g h in goes_on ((f, w) ∷ []) g h k
+          (λ r q. record { tidies = kept m p n o.tidies q.tidies; small = (b, o.small, q.small) }) l.forms (omega arith)
 
   -- ---- a value with parts, and its parts
 
-  pub many_of_parts : {k : Kind} {e : TypeId} {vs ws : Trees} → IsListOf k e → AreTidied T e vs ws → IsTidiedAs T k (Tree.many vs) (Tree.many ws)
-  many_of_parts {vs = vs} {ws = ws} (inl h) ps = record { tidies = subst (λ (k : Kind). TidiesAs T k (Tree.many vs) (Tree.many ws)) (sym h) (of_slice ps.tidies); small = ps.small }
-  many_of_parts {vs = vs} {ws = ws} (inr h) ps = record { tidies = subst (λ (k : Kind). TidiesAs T k (Tree.many vs) (Tree.many ws)) (sym h.1) (of_array ps.tidies); small = ps.small }
+  pub many_of_parts : {k : Kind} {e : TypeId} {vs ws : Trees} → IsListOf k e → AreTidied T e vs ws
+      → IsTidiedAs T k (Tree.many vs) (Tree.many ws)
+  many_of_parts {vs = vs} {ws = ws} (inl h) ps = record {
+    tidies = subst (λ (k : Kind). TidiesAs T k (Tree.many vs) (Tree.many ws)) (sym h) (of_slice ps.tidies);
+    small =
+        ps.small;
+  }
+  many_of_parts {vs = vs} {ws = ws} (inr h) ps = record {
+    tidies = subst (λ (k : Kind). TidiesAs T k (Tree.many vs) (Tree.many ws)) (sym h.1) (of_array ps.tidies);
+    small = ps.small;
+  }
+
+  pub parts_of_many : {k : Kind} {e : TypeId} {vs : Trees} → IsListOf k e → HasTidyFormAs T k (Tree.many vs)
+      → HaveTidyForms T e vs
+  parts_of_many {e = e} {vs = vs} (inl h) r = inside
+      (subst (λ (k : Kind). TidiesAs T k (Tree.many vs) r.tidy) h r.tidies)
+    where
+      inside : {w : Tree} → TidiesAs T (kind.Slice e) (Tree.many vs) w → HaveTidyForms T e vs
+      inside (of_slice {ws = ws} ps) = record { tidy = ws; tidies = ps }
+  parts_of_many {e = e} {vs = vs} (inr h) r = inside
+      (subst (λ (k : Kind). TidiesAs T k (Tree.many vs) r.tidy) h.1 r.tidies)
+    where
+      inside : {n : ℕ} {w : Tree} → TidiesAs T (kind.Array e n) (Tree.many vs) w → HaveTidyForms T e vs
+      inside (of_array {ws = ws} ps) = record { tidy = ws; tidies = ps }
+
+  pub parts_of_pairs : {k e : TypeId} {ps : Pairs} → HasTidyFormAs T (kind.Map k e) (Tree.pairs ps)
+      → HaveTidyPairs T k e ps
+  parts_of_pairs r = inside r.tidies
+    where
+      inside : {k e : TypeId} {ps : Pairs} {w : Tree} → TidiesAs T (kind.Map k e) (Tree.pairs ps) w
+          → HaveTidyPairs T k e ps
+      inside (of_map {qs = qs} ps) = record { tidy = qs; tidies = ps }
+
+  pub parts_of_fields : {types : List Field} {fs : Fields} → HasTidyFormAs T (kind.Struct types) (Tree.fields fs)
+      → HaveTidyFields T types fs
+  parts_of_fields r = inside r.tidies
+    where
+      inside : {types : List Field} {fs : Fields} {w : Tree} → TidiesAs T (kind.Struct types) (Tree.fields fs) w
+          → HaveTidyFields T types fs
+      inside (of_struct {gs = gs} ps) = record { tidy = gs; tidies = ps }
+
+  pub form_at : {t : TypeId} {v : Tree} {s : Shape} → HasTidyForm T t v → shape_of T t ≡ Some s
+      → HasTidyFormAs T s.kind v
+  form_at {v = v} r e = inside r.tidies e
+    where
+      inside : {t : TypeId} {w : Tree} {s : Shape} → Tidies T t v w → shape_of T t ≡ Some s → HasTidyFormAs T s.kind v
+      inside {w = w} {s = s} (of_type {s = r} f p) e =
+          let one : r ≡ s = some_injective (sym f ∙ e) in
+          record { tidy = w; tidies = subst (λ (s : Shape). TidiesAs T s.kind v w) one p }
+
+  pub formless : {t : TypeId} {v : Tree} → HasTidyForm T t v → shape_of T t ≡ None → ⊥
+  formless {v = v} r e = inside r.tidies e
+    where
+      inside : {t : TypeId} {w : Tree} → Tidies T t v w → shape_of T t ≡ None → ⊥
+      inside (of_type f p) e = cc
 
   pub plain_stays : {k : Kind} {v : Tree} → IsPlain k → HasTidyFormAs T k v → IsTidiedAs T k v v
   plain_stays {v = v} (inl h) r =
@@ -234,9 +350,12 @@ module _ {T : Table} where
       inside (of_struct ps) n = n
 
 -- a field's type has a shape
-pub nowhere : (T : Table) (types : List Field) (f : ℕ) {e g : Field} {s : Shape} → slice_get types f ≡ Some e → slice_get types f ≡ Some g → shape_of T e.id ≡ Some s → shape_of T g.id ≡ None → ⊥
-nowhere T types f {e = e} {g = g} m n p q = let one : e ≡ g = some_injective (sym m ∙ n) in let r = ap (λ (e : Field). shape_of T e.id) one in cc
+pub nowhere : (T : Table) (types : List Field) (f : ℕ) {e g : Field} {s : Shape} → slice_get types f ≡ Some e
+    → slice_get types f ≡ Some g → shape_of T e.id ≡ Some s → shape_of T g.id ≡ None → ⊥
+nowhere T types f {e = e} {g = g} m n p q = let one : e ≡ g = some_injective (sym m ∙ n) in let r = ap
+    (λ (e : Field). shape_of T e.id) one in cc
 
-pub typed : (T : Table) (t : TypeId) (v : Value) {s : Shape} → shape_of T t ≡ Some s → (r : Result Value Memory) → IfOk r (λ w. IsTidiedAs T s.kind (view v) (view w)) → IfOk r (λ w. IsTidied T t (view v) (view w))
+pub typed : (T : Table) (t : TypeId) (v : Value) {s : Shape} → shape_of T t ≡ Some s → (r : Result Value Memory)
+    → IfOk r (λ w. IsTidiedAs T s.kind (view v) (view w)) → IfOk r (λ w. IsTidied T t (view v) (view w))
 typed T t v e (Ok w) p = record { tidies = of_type e p.tidies; small = p.small }
 typed T t v e (Err m) p = tt

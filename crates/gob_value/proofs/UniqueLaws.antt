@@ -8,7 +8,10 @@ use Rattle.gob_types.proofs.PublicLaws.{some_injective}
 use Rattle.gob_value.specs.Tree.{Tree, Trees, Pairs, Fields}
 use Rattle.gob_value.specs.Spelling.{Spells}
 use Rattle.gob_value.specs.Top.{IsStruct, SpellsTop, at_once, tagged}
-use Rattle.gob_value.specs.Written.{WrittenBytes, counted, Written, of_bool, of_int, of_uint, of_float, of_complex, of_nil, of_bytes, of_text, of_opaque, of_many, of_pairs, of_fields, WrittenEach, no_element, element, WrittenPairs, no_entry, entry, WrittenFields, end_of_fields, next_field}
+use Rattle.gob_value.specs.Written.{WrittenBytes, counted, Written, of_bool, of_int, of_uint, of_float, of_complex}
+use Rattle.gob_value.specs.Written.{of_nil, of_bytes, of_text, of_opaque, of_many, of_pairs, of_fields, WrittenEach}
+use Rattle.gob_value.specs.Written.{no_element, element, WrittenPairs, no_entry, entry, WrittenFields, end_of_fields}
+use Rattle.gob_value.specs.Written.{next_field}
 use Rattle.gob_value.proofs.WrittenLaws.{spells_written}
 
 both : {a b c d : List ℕ} → a ≡ c → b ≡ d → a ++ b ≡ c ++ d
@@ -43,13 +46,16 @@ mutual
 
   fields_once : {next : ℕ} {fs : Fields} {b c : List ℕ} → WrittenFields next fs b → WrittenFields next fs c → b ≡ c
   fields_once (end_of_fields p) (end_of_fields q) = unsigned_unique p q
-  fields_once (next_field l p r ps) (next_field m q s qs) = both (unsigned_unique p q) (both (written_once r s) (fields_once ps qs))
+  fields_once (next_field l p r ps) (next_field m q s qs) = both (unsigned_unique p q)
+      (both (written_once r s) (fields_once ps qs))
 
 pub one_spelling : {T : Table} {t : TypeId} {v : Tree} {b c : List ℕ} → Spells T t v b → Spells T t v c → b ≡ c
 one_spelling p q = written_once (spells_written p) (spells_written q)
 
 pub one_top : {T : Table} {t : TypeId} {v : Tree} {b c : List ℕ} → SpellsTop T t v b → SpellsTop T t v c → b ≡ c
 one_top (at_once e i p) (at_once f j q) = one_spelling p q
-one_top (at_once e i p) (tagged f n q) = absurd (n (subst (λ (s : Shape). IsStruct s.kind) (some_injective (sym e ∙ f)) i))
-one_top (tagged e n p) (at_once f j q) = absurd (n (subst (λ (s : Shape). IsStruct s.kind) (some_injective (sym f ∙ e)) j))
+one_top (at_once e i p) (tagged f n q) = absurd (n
+    (subst (λ (s : Shape). IsStruct s.kind) (some_injective (sym e ∙ f)) i))
+one_top (tagged e n p) (at_once f j q) = absurd (n
+    (subst (λ (s : Shape). IsStruct s.kind) (some_injective (sym f ∙ e)) j))
 one_top (tagged e n p) (tagged f m q) = ap (λ (l : List ℕ). 0 ∷ l) (one_spelling p q)

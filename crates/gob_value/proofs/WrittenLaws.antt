@@ -11,9 +11,13 @@ use Rattle.gob_types.specs.declared.kind.Marshal.{Marshal}
 use Rattle.gob_types.specs.Table.{Table}
 use Rattle.gob_value.specs.Tree.{Tree, Trees, Pairs, Fields}
 use Rattle.gob_value.specs.Tree as Value
-use Rattle.gob_value.specs.Spelling.{Spells, of_type, SpellsAs, of_bool, of_int, of_uint, of_float, of_complex, of_nil, of_bytes, of_text, of_opaque, of_slice, of_array, of_map, of_struct, SpellsEach, no_element, element, SpellsPairs, no_entry, entry, SpellsFields, end_of_fields, next_field}
+use Rattle.gob_value.specs.Spelling.{Spells, of_type, SpellsAs, of_bool, of_int, of_uint, of_float, of_complex, of_nil}
+use Rattle.gob_value.specs.Spelling.{of_bytes, of_text, of_opaque, of_slice, of_array, of_map, of_struct, SpellsEach}
+use Rattle.gob_value.specs.Spelling.{no_element, element, SpellsPairs, no_entry, entry, SpellsFields, end_of_fields}
+use Rattle.gob_value.specs.Spelling.{next_field}
 use Rattle.gob_value.specs.Within.{FitsWithin}
-use Rattle.gob_value.specs.Written.{WrittenBytes, counted, Written, WrittenEach, WrittenPairs, WrittenFields, IsWritable}
+use Rattle.gob_value.specs.Written.{WrittenBytes, counted, Written, WrittenEach, WrittenPairs, WrittenFields}
+use Rattle.gob_value.specs.Written.{IsWritable}
 use Rattle.gob_value.specs.Written as written
 
 bytes_as : {T : Table} {s b : List ℕ} → WrittenBytes s b → SpellsAs T (kind.Basic basic.Bytes) (Value.bytes s) b
@@ -27,7 +31,8 @@ opaque_as (counted p) = of_opaque p
 
 mutual
   -- a value that fits is spelled by what is written for it
-  pub written_spells : {T : Table} {t : TypeId} {v : Tree} {b c : List ℕ} → Spells T t v c → Written v b → Spells T t v b
+  pub written_spells : {T : Table} {t : TypeId} {v : Tree} {b c : List ℕ} → Spells T t v c → Written v b
+      → Spells T t v b
   written_spells (of_type e q) p = of_type e (written_as q p)
 
   pub written_as : {T : Table} {k : Kind} {v : Tree} {b c : List ℕ} → SpellsAs T k v c → Written v b → SpellsAs T k v b
@@ -41,21 +46,27 @@ mutual
   written_as (of_text q) (written.of_text p) = text_as p
   written_as (of_opaque q) (written.of_opaque p) = opaque_as p
   written_as (of_slice q qs) (written.of_many p ps) = of_slice p (written_each qs ps)
-  written_as (of_array m q qs) (written.of_many {c = c} p ps) = of_array m (subst (λ n. IsUnsigned n c) m p) (written_each qs ps)
+  written_as (of_array m q qs) (written.of_many {c = c} p ps) = of_array m (subst (λ n. IsUnsigned n c) m p)
+      (written_each qs ps)
   written_as (of_map q qs) (written.of_pairs p ps) = of_map p (written_pairs qs ps)
   written_as (of_struct qs) (written.of_fields ps) = of_struct (written_fields qs ps)
 
-  written_each : {T : Table} {e : TypeId} {vs : Trees} {b c : List ℕ} → SpellsEach T e vs c → WrittenEach vs b → SpellsEach T e vs b
+  written_each : {T : Table} {e : TypeId} {vs : Trees} {b c : List ℕ} → SpellsEach T e vs c → WrittenEach vs b
+      → SpellsEach T e vs b
   written_each no_element written.no_element = no_element
   written_each (element q qs) (written.element p ps) = element (written_spells q p) (written_each qs ps)
 
-  written_pairs : {T : Table} {k e : TypeId} {es : Pairs} {b c : List ℕ} → SpellsPairs T k e es c → WrittenPairs es b → SpellsPairs T k e es b
+  written_pairs : {T : Table} {k e : TypeId} {es : Pairs} {b c : List ℕ} → SpellsPairs T k e es c → WrittenPairs es b
+      → SpellsPairs T k e es b
   written_pairs no_entry written.no_entry = no_entry
-  written_pairs (entry q r qs) (written.entry p o ps) = entry (written_spells q p) (written_spells r o) (written_pairs qs ps)
+  written_pairs (entry q r qs) (written.entry p o ps) = entry (written_spells q p) (written_spells r o)
+      (written_pairs qs ps)
 
-  written_fields : {T : Table} {types : List Field} {next : ℕ} {fs : Fields} {b c : List ℕ} → SpellsFields T types next fs c → WrittenFields next fs b → SpellsFields T types next fs b
+  written_fields : {T : Table} {types : List Field} {next : ℕ} {fs : Fields} {b c : List ℕ}
+      → SpellsFields T types next fs c → WrittenFields next fs b → SpellsFields T types next fs b
   written_fields (end_of_fields q) (written.end_of_fields p) = end_of_fields p
-  written_fields (next_field l m q r qs) (written.next_field n p o ps) = next_field l m p (written_spells r o) (written_fields qs ps)
+  written_fields (next_field l m q r qs) (written.next_field n p o ps) = next_field l m p (written_spells r o)
+      (written_fields qs ps)
 
 mutual
   -- a spelling is what is written
@@ -85,10 +96,12 @@ mutual
   pairs_written no_entry = written.no_entry
   pairs_written (entry p q ps) = written.entry (spells_written p) (spells_written q) (pairs_written ps)
 
-  fields_written : {T : Table} {types : List Field} {next : ℕ} {fs : Fields} {b : List ℕ} → SpellsFields T types next fs b → WrittenFields next fs b
+  fields_written : {T : Table} {types : List Field} {next : ℕ} {fs : Fields} {b : List ℕ}
+      → SpellsFields T types next fs b → WrittenFields next fs b
   fields_written (end_of_fields p) = written.end_of_fields p
   fields_written (next_field l m p q ps) = written.next_field l p (spells_written q) (fields_written ps)
 
 -- a value that fits some type can be written
-pub fits_writable : {T : Table} {t : TypeId} {limit : ℕ} {v : Tree} → FitsWithin T t limit v → limit ≤ 1000 → IsWritable v
+pub fits_writable : {T : Table} {t : TypeId} {limit : ℕ} {v : Tree} → FitsWithin T t limit v → limit ≤ 1000
+    → IsWritable v
 fits_writable f l = record { bytes = f.bytes; written = spells_written f.spelled; shallow = le_trans f.within l }

@@ -49,7 +49,8 @@ abbrev pub described_kind : Tree → Kind → Tree
 described_kind common (kind.Array e n) = wire_type_of 0 (field 0 common (field 1 (id_number e) (array_length n)))
 described_kind common (kind.Slice e) = wire_type_of 1 (field 0 common (field 1 (id_number e) no_field))
 described_kind common (kind.Struct fs) = wire_type_of 2 (field 0 common (field_list fs))
-described_kind common (kind.Map k e) = wire_type_of 3 (field 0 common (field 1 (id_number k) (field 2 (id_number e) no_field)))
+described_kind common (kind.Map k e) = wire_type_of 3
+    (field 0 common (field 1 (id_number k) (field 2 (id_number e) no_field)))
 described_kind common (kind.Opaque m) = wire_type_of (marshal_field m) (field 0 common no_field)
 described_kind common (kind.Basic b) = Value.fields no_field
 

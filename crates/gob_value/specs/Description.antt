@@ -77,11 +77,17 @@ said_kind f fs =
 -- the CommonType of each kind is its field 0
 abbrev pub said_with : Fields → Option SaidKind → Option Said
 said_with common None = None
-said_with common (Some k) = Some (record { name = name_in (present 0 common); id = number_in (present 1 common); kind = k })
+said_with common (Some k) = Some (record {
+  name = name_in (present 0 common);
+  id = number_in (present 1 common);
+  kind =
+      k;
+})
 
 -- what a value of wireType says, where exactly one of its fields is present
 abbrev pub said : Tree → Option Said
-said (Value.fields (field f v no_field)) = said_with (fields_in (present 0 (fields_in (Some v)))) (said_kind f (fields_in (Some v)))
+said (Value.fields (field f v no_field)) = said_with (fields_in (present 0 (fields_in (Some v))))
+    (said_kind f (fields_in (Some v)))
 said _ = None
 
 -- the number refers to this type
@@ -91,14 +97,18 @@ pub record RefersTo (i : ℤ) (t : TypeId) : Type 0 where
 
 pub data GivesFields : List SaidField → List Field → Type 0 where
   no_more : GivesFields [] []
-  and_field : {f : SaidField} {g : Field} {fs : List SaidField} {gs : List Field} → f.name ≡ g.name → RefersTo f.id g.id → GivesFields fs gs → GivesFields (f ∷ fs) (g ∷ gs)
+  and_field : {f : SaidField} {g : Field} {fs : List SaidField} {gs : List Field} → f.name ≡ g.name → RefersTo f.id g.id
+      → GivesFields fs gs → GivesFields (f ∷ fs) (g ∷ gs)
 
 -- what is said is this kind
 pub data GivesKind : SaidKind → Kind → Type 0 where
-  gives_array : {e l : ℤ} {elem : TypeId} {n : ℕ} → RefersTo e elem → l ≡ pos n → GivesKind (said_array e l) (kind.Array elem n)
+  gives_array : {e l : ℤ} {elem : TypeId} {n : ℕ} → RefersTo e elem → l ≡ pos n
+      → GivesKind (said_array e l) (kind.Array elem n)
   gives_slice : {e : ℤ} {elem : TypeId} → RefersTo e elem → GivesKind (said_slice e) (kind.Slice elem)
-  gives_struct : {fs : List SaidField} {gs : List Field} → GivesFields fs gs → GivesKind (said_struct fs) (kind.Struct gs)
-  gives_map : {k e : ℤ} {key elem : TypeId} → RefersTo k key → RefersTo e elem → GivesKind (said_map k e) (kind.Map key elem)
+  gives_struct : {fs : List SaidField} {gs : List Field} → GivesFields fs gs
+      → GivesKind (said_struct fs) (kind.Struct gs)
+  gives_map : {k e : ℤ} {key elem : TypeId} → RefersTo k key → RefersTo e elem
+      → GivesKind (said_map k e) (kind.Map key elem)
   gives_opaque : {m : Marshal} → GivesKind (said_opaque m) (kind.Opaque m)
 
 -- a value of wireType describes the shape, for the type of this id
@@ -133,5 +143,7 @@ HasBadLength _ = ⊥
 pub data Misdescribes (id : TypeId) (v : Tree) : Reason → Type 0 where
   kind_count : said v ≡ None → Misdescribes id v reason.KindCount
   wrong_id : {what : Said} → said v ≡ Some what → what.id ≢ pos id.0 → Misdescribes id v reason.WrongId
-  bad_reference : {what : Said} → said v ≡ Some what → what.id ≡ pos id.0 → HasBadReference what.kind → Misdescribes id v reason.BadReference
-  bad_length : {what : Said} → said v ≡ Some what → what.id ≡ pos id.0 → ¬ HasBadReference what.kind → HasBadLength what.kind → Misdescribes id v reason.BadLength
+  bad_reference : {what : Said} → said v ≡ Some what → what.id ≡ pos id.0 → HasBadReference what.kind
+      → Misdescribes id v reason.BadReference
+  bad_length : {what : Said} → said v ≡ Some what → what.id ≡ pos id.0 → ¬ HasBadReference what.kind
+      → HasBadLength what.kind → Misdescribes id v reason.BadLength

@@ -42,7 +42,8 @@ AreJudged = (id : TypeId) (v : Tree) → IsDescription id v ⊎ IsRefused id v
 
 -- what describes a shape describes one that may be defined
 abbrev pub DescribeDefinable : Type 0
-DescribeDefinable = (id : TypeId) (v : Tree) (s : Shape) → Fits base_table wire_type v → Describes id v s → IsDefinable s
+DescribeDefinable = (id : TypeId) (v : Tree) (s : Shape) → Fits base_table wire_type v → Describes id v s
+    → IsDefinable s
 
 -- a text that an unsigned number counts the bytes of
 abbrev pub IsCounted : List ℕ → Type 0
@@ -61,7 +62,9 @@ pub record IsCountable (s : Shape) : Type 0 where
   pub name : IsCounted s.name
   pub fields : HasCountedFields s.kind
 
--- the description that is made of such a shape, under an id that a signed number holds, is a value of wireType of depth 5
+-- the description that is made of such a shape, under an id that a signed number holds, is a value of wireType of depth
+-- 5
 -- at most
 abbrev pub AreOfWireType : Type 0
-AreOfWireType = (id : TypeId) (s : Shape) → IsDefinable s → IsCountable s → id.0 < 2 ^ 63 → FitsWithin base_table wire_type 5 (described id s)
+AreOfWireType = (id : TypeId) (s : Shape) → IsDefinable s → IsCountable s → id.0 < 2 ^ 63
+    → FitsWithin base_table wire_type 5 (described id s)

@@ -3,7 +3,9 @@ use Rattle.std.specs.Prelude.{ℕ, ℤ, List, [], ◌∷◌}
 use Rattle.gob_types.specs.declared.id.TypeId.{TypeId}
 use Rattle.gob_types.specs.declared.kind.Marshal.TheVariants as marshal
 use Rattle.gob_value.specs.Tree.{Fields}
-use Rattle.gob_value.specs.Description.{Said, SaidKind, said_array, said_slice, said_struct, said_map, said_opaque, SaidField, said_fields, present, number_in, name_in, fields_in, elements_in, RefersTo}
+use Rattle.gob_value.specs.Description.{Said, SaidKind, said_array, said_slice, said_struct, said_map, said_opaque}
+use Rattle.gob_value.specs.Description.{SaidField, said_fields, present, number_in, name_in, fields_in, elements_in}
+use Rattle.gob_value.specs.Description.{RefersTo}
 use Rattle.gob_value.specs.declared.description.WireField.{WireField}
 use Rattle.gob_value.specs.declared.description.WireField.TheVariants as wire
 

@@ -1,4 +1,5 @@
--- What tidying a value learns: its tidy form, and that the numbers of its fields are small. (docs/FORMAT.md, Tidy form.)
+-- What tidying a value learns: its tidy form, and that the numbers of its fields are small. (docs/FORMAT.md, Tidy
+-- form.)
 use Rattle.std.specs.Prelude.{List}
 use Rattle.gob_types.specs.declared.id.TypeId.{TypeId}
 use Rattle.gob_types.specs.declared.kind.Field.{Field}
@@ -6,7 +7,8 @@ use Rattle.gob_types.specs.declared.kind.Kind.{Kind}
 use Rattle.gob_types.specs.Table.{Table}
 use Rattle.gob_value.specs.Tree.{Tree, Trees, Pairs, Fields}
 use Rattle.gob_value.specs.Tidy.{Tidies, TidiesAs, TidiesEach, TidiesPairs, TidiesFields}
-use Rattle.gob_value.specs.TidyLaws.{HasSmallNumbers, AllHaveSmallNumbers, PairsHaveSmallNumbers, FieldsHaveSmallNumbers}
+use Rattle.gob_value.specs.TidyLaws.{HasSmallNumbers, AllHaveSmallNumbers, PairsHaveSmallNumbers}
+use Rattle.gob_value.specs.TidyLaws.{FieldsHaveSmallNumbers}
 
 pub record IsTidied (T : Table) (t : TypeId) (v w : Tree) : Type 0 where
   pub tidies : Tidies T t v w

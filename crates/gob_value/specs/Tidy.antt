@@ -37,28 +37,37 @@ mutual
   pub data TidiesAs (T : Table) : Kind → Tree → Tree → Type 0 where
     of_basic : {b : Basic} {v : Tree} → ¬ HasParts v → TidiesAs T (kind.Basic b) v v
     of_opaque : {m : Marshal} {v : Tree} → ¬ HasParts v → TidiesAs T (kind.Opaque m) v v
-    of_slice : {e : TypeId} {vs ws : Trees} → TidiesEach T e vs ws → TidiesAs T (kind.Slice e) (Value.many vs) (Value.many ws)
-    of_array : {e : TypeId} {n : ℕ} {vs ws : Trees} → TidiesEach T e vs ws → TidiesAs T (kind.Array e n) (Value.many vs) (Value.many ws)
-    of_map : {k e : TypeId} {ps qs : Pairs} → TidiesPairs T k e ps qs → TidiesAs T (kind.Map k e) (Value.pairs ps) (Value.pairs qs)
-    of_struct : {types : List Field} {fs gs : Fields} → TidiesFields T types fs gs → TidiesAs T (kind.Struct types) (Value.fields fs) (Value.fields gs)
+    of_slice : {e : TypeId} {vs ws : Trees} → TidiesEach T e vs ws
+        → TidiesAs T (kind.Slice e) (Value.many vs) (Value.many ws)
+    of_array : {e : TypeId} {n : ℕ} {vs ws : Trees} → TidiesEach T e vs ws
+        → TidiesAs T (kind.Array e n) (Value.many vs) (Value.many ws)
+    of_map : {k e : TypeId} {ps qs : Pairs} → TidiesPairs T k e ps qs
+        → TidiesAs T (kind.Map k e) (Value.pairs ps) (Value.pairs qs)
+    of_struct : {types : List Field} {fs gs : Fields} → TidiesFields T types fs gs
+        → TidiesAs T (kind.Struct types) (Value.fields fs) (Value.fields gs)
 
   -- no element is dropped
   pub data TidiesEach (T : Table) : TypeId → Trees → Trees → Type 0 where
     no_element : {e : TypeId} → TidiesEach T e no_tree no_tree
-    element : {e : TypeId} {v w : Tree} {vs ws : Trees} → Tidies T e v w → TidiesEach T e vs ws → TidiesEach T e (tree v vs) (tree w ws)
+    element : {e : TypeId} {v w : Tree} {vs ws : Trees} → Tidies T e v w → TidiesEach T e vs ws
+        → TidiesEach T e (tree v vs) (tree w ws)
 
   -- nor is an entry of a map
   pub data TidiesPairs (T : Table) : TypeId → TypeId → Pairs → Pairs → Type 0 where
     no_entry : {k e : TypeId} → TidiesPairs T k e no_pair no_pair
-    entry : {k e : TypeId} {x y v w : Tree} {ps qs : Pairs} → Tidies T k x y → Tidies T e v w → TidiesPairs T k e ps qs → TidiesPairs T k e (pair x v ps) (pair y w qs)
+    entry : {k e : TypeId} {x y v w : Tree} {ps qs : Pairs} → Tidies T k x y → Tidies T e v w → TidiesPairs T k e ps qs
+        → TidiesPairs T k e (pair x v ps) (pair y w qs)
 
   -- a field is dropped or kept by its type's shape and its value
   pub data TidiesFields (T : Table) : List Field → Fields → Fields → Type 0 where
     no_more : {types : List Field} → TidiesFields T types no_field no_field
-    dropped : {types : List Field} {f : ℕ} {e : Field} {s : Shape} {v : Tree} {fs gs : Fields} → slice_get types f ≡ Some e → shape_of T e.id ≡ Some s
+    dropped : {types : List Field} {f : ℕ} {e : Field} {s : Shape} {v : Tree} {fs gs : Fields}
+        → slice_get types f ≡ Some e → shape_of T e.id ≡ Some s
         → IsDropped s.kind v → TidiesFields T types fs gs → TidiesFields T types (field f v fs) gs
-    kept : {types : List Field} {f : ℕ} {e : Field} {s : Shape} {v w : Tree} {fs gs : Fields} → slice_get types f ≡ Some e → shape_of T e.id ≡ Some s
-        → ¬ IsDropped s.kind v → TidiesAs T s.kind v w → TidiesFields T types fs gs → TidiesFields T types (field f v fs) (field f w gs)
+    kept : {types : List Field} {f : ℕ} {e : Field} {s : Shape} {v w : Tree} {fs gs : Fields}
+        → slice_get types f ≡ Some e → shape_of T e.id ≡ Some s
+        → ¬ IsDropped s.kind v → TidiesAs T s.kind v w → TidiesFields T types fs gs
+        → TidiesFields T types (field f v fs) (field f w gs)
 
 -- the value has a tidy form at the type
 pub record HasTidyForm (T : Table) (t : TypeId) (v : Tree) : Type 0 where

@@ -36,9 +36,11 @@ IsNoDeeper F = (T : Table) (t : TypeId) (v w : Tree) → F T t v w → depth w �
 
 -- nor is its spelling longer
 abbrev pub IsNoLonger : Form → Type 0
-IsNoLonger F = (T : Table) (t : TypeId) (v w : Tree) (b c : List ℕ) → F T t v w → Spells T t v b → Spells T t w c → length c ≤ length b
+IsNoLonger F = (T : Table) (t : TypeId) (v w : Tree) (b c : List ℕ) → F T t v w → Spells T t v b → Spells T t w c
+    → length c ≤ length b
 
--- one more than the number of each field in the value has 64 bits: where fields before it are dropped, its delta may be so great
+-- one more than the number of each field in the value has 64 bits: where fields before it are dropped, its delta may be
+-- so great
 abbrev mutual
   pub HasSmallNumbers : Tree → Type 0
   HasSmallNumbers (Value.many vs) = AllHaveSmallNumbers vs
@@ -64,11 +66,14 @@ StaysFitting F = (T : Table) (t : TypeId) (v w : Tree) → Fits T t v → HasSma
 
 -- the form of a description describes what the description does, or fails to for the same reason
 abbrev pub KeepsTheShape : Form → Type 0
-KeepsTheShape F = (t : TypeId) (v w : Tree) (s : Shape) → Fits base_table wire_type v → F base_table wire_type v w → Describes t v s ↔ Describes t w s
+KeepsTheShape F = (t : TypeId) (v w : Tree) (s : Shape) → Fits base_table wire_type v → F base_table wire_type v w
+    → Describes t v s ↔ Describes t w s
 
 abbrev pub KeepsTheReason : Form → Type 0
-KeepsTheReason F = (t : TypeId) (v w : Tree) (r : Reason) → Fits base_table wire_type v → F base_table wire_type v w → Misdescribes t v r ↔ Misdescribes t w r
+KeepsTheReason F = (t : TypeId) (v w : Tree) (r : Reason) → Fits base_table wire_type v → F base_table wire_type v w
+    → Misdescribes t v r ↔ Misdescribes t w r
 
 -- the description that is made of a shape is its own form, under an id that a definition may give
 abbrev pub MadeTidy : Form → Type 0
-MadeTidy F = (t : TypeId) (s : Shape) → IsDefinable s → IsOwnId t → F base_table wire_type (described t s) (described t s)
+MadeTidy F = (t : TypeId) (s : Shape) → IsDefinable s → IsOwnId t
+    → F base_table wire_type (described t s) (described t s)

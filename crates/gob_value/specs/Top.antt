@@ -14,5 +14,7 @@ IsStruct (kind.Struct fields) = Unit {0}
 IsStruct _ = ⊥
 
 pub data SpellsTop (T : Table) : TypeId → Tree → List ℕ → Type 0 where
-  at_once : {t : TypeId} {s : Shape} {v : Tree} {b : List ℕ} → shape_of T t ≡ Some s → IsStruct s.kind → Spells T t v b → SpellsTop T t v b
-  tagged : {t : TypeId} {s : Shape} {v : Tree} {b : List ℕ} → shape_of T t ≡ Some s → ¬ IsStruct s.kind → Spells T t v b → SpellsTop T t v (0 ∷ b)
+  at_once : {t : TypeId} {s : Shape} {v : Tree} {b : List ℕ} → shape_of T t ≡ Some s → IsStruct s.kind → Spells T t v b
+      → SpellsTop T t v b
+  tagged : {t : TypeId} {s : Shape} {v : Tree} {b : List ℕ} → shape_of T t ≡ Some s → ¬ IsStruct s.kind → Spells T t v b
+      → SpellsTop T t v (0 ∷ b)

@@ -4,7 +4,8 @@ use Rattle.std.specs.Prelude.{ℕ, ℤ, ◌+◌, ◌-◌, ◌≤◌, Bool, List,
 use Rattle.gob_num.specs.Unsigned.{IsUnsigned}
 use Rattle.gob_num.specs.Signed.{IsSigned}
 use Rattle.gob_num.specs.Pattern.{IsPattern}
-use Rattle.gob_value.specs.Tree.{Tree, Trees, no_tree, tree, Pairs, no_pair, pair, Fields, no_field, field, tree_count, pair_count, depth, trees_depth, pairs_depth, fields_depth}
+use Rattle.gob_value.specs.Tree.{Tree, Trees, no_tree, tree, Pairs, no_pair, pair, Fields, no_field, field, tree_count}
+use Rattle.gob_value.specs.Tree.{pair_count, depth, trees_depth, pairs_depth, fields_depth}
 use Rattle.gob_value.specs.Tree as Value
 use Rattle.gob_value.specs.Spelling.{truth}
 
@@ -30,8 +31,10 @@ mutual
     of_bytes : {s b : List ℕ} → WrittenBytes s b → Written (Value.bytes s) b
     of_text : {s b : List ℕ} → WrittenBytes s b → Written (Value.text s) b
     of_opaque : {s b : List ℕ} → WrittenBytes s b → Written (Value.opaque s) b
-    of_many : {vs : Trees} {c b : List ℕ} → IsUnsigned (tree_count vs) c → WrittenEach vs b → Written (Value.many vs) (c ++ b)
-    of_pairs : {ps : Pairs} {c b : List ℕ} → IsUnsigned (pair_count ps) c → WrittenPairs ps b → Written (Value.pairs ps) (c ++ b)
+    of_many : {vs : Trees} {c b : List ℕ} → IsUnsigned (tree_count vs) c → WrittenEach vs b
+        → Written (Value.many vs) (c ++ b)
+    of_pairs : {ps : Pairs} {c b : List ℕ} → IsUnsigned (pair_count ps) c → WrittenPairs ps b
+        → Written (Value.pairs ps) (c ++ b)
     of_fields : {fs : Fields} {b : List ℕ} → WrittenFields 0 fs b → Written (Value.fields fs) b
 
   -- the elements, one after another
@@ -42,12 +45,14 @@ mutual
   -- a key, its element, and so on
   pub data WrittenPairs : Pairs → List ℕ → Type 0 where
     no_entry : WrittenPairs no_pair []
-    entry : {x v : Tree} {ps : Pairs} {a b c : List ℕ} → Written x a → Written v b → WrittenPairs ps c → WrittenPairs (pair x v ps) (a ++ (b ++ c))
+    entry : {x v : Tree} {ps : Pairs} {a b c : List ℕ} → Written x a → Written v b → WrittenPairs ps c
+        → WrittenPairs (pair x v ps) (a ++ (b ++ c))
 
   -- the present fields, of which the next has this number or a greater one
   pub data WrittenFields : ℕ → Fields → List ℕ → Type 0 where
     end_of_fields : {next : ℕ} {b : List ℕ} → IsUnsigned 0 b → WrittenFields next no_field b
-    next_field : {next f : ℕ} {v : Tree} {fs : Fields} {a b c : List ℕ} → next ≤ f → IsUnsigned (f + 1 - next) a → Written v b
+    next_field : {next f : ℕ} {v : Tree} {fs : Fields} {a b c : List ℕ} → next ≤ f → IsUnsigned (f + 1 - next) a
+        → Written v b
         → WrittenFields (f + 1) fs c → WrittenFields next (field f v fs) (a ++ (b ++ c))
 
 -- the number that the next field has at least, behind a field of this number or before the first

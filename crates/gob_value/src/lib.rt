@@ -16,8 +16,8 @@
 //! - [`shape_from`] gives the shape that a description gives, and [`describe`] a description of a shape.
 //! - [`tidy`] leaves out of each struct the fields that Go's encoder leaves out.
 //! - [`spellings_begin_no_other`], [`spellings_are_unique`], [`spellings_tell_the_value`],
-//!   [`spellings_are_bytes`] and [`spellings_stay`] are laws, which readers and writers rely on. So are those of descriptions,
-//!   [`descriptions_tell_the_shape`], [`descriptions_are_judged`], [`descriptions_fit`] and
+//!   [`spellings_are_bytes`] and [`spellings_stay`] are laws, which readers and writers rely on. So are those of
+//!   descriptions, [`descriptions_tell_the_shape`], [`descriptions_are_judged`], [`descriptions_fit`] and
 //!   [`described_shapes_are_definable`], and those of the tidy form, [`tidy_form_is_unique`],
 //!   [`tidy_form_is_tidy`], [`tidy_form_is_no_longer`], [`tidy_form_is_no_deeper`], [`tidy_form_fits`],
 //!   [`tidy_form_says_the_same`] and [`made_descriptions_are_tidy`].

@@ -20,10 +20,13 @@ use Rattle.gob_match.specs.Pairs.{of_types}
 pub data IsConversion : Kind → Kind → Conversion → Type 0 where
   of_basics : {b c : Basic} → IsConversion (kind.Basic b) (kind.Basic c) conversion.Unchanged
   of_opaques : {m n : Marshal} → IsConversion (kind.Opaque m) (kind.Opaque n) conversion.Unchanged
-  of_arrays : {e f : TypeId} {m n : ℕ} → IsConversion (kind.Array e m) (kind.Array f n) (conversion.Elements (of_types e f))
+  of_arrays : {e f : TypeId} {m n : ℕ}
+      → IsConversion (kind.Array e m) (kind.Array f n) (conversion.Elements (of_types e f))
   of_slices : {e f : TypeId} → IsConversion (kind.Slice e) (kind.Slice f) (conversion.Elements (of_types e f))
-  of_maps : {k l e f : TypeId} → IsConversion (kind.Map k e) (kind.Map l f) (conversion.Entries (of_types k l) (of_types e f))
-  of_structs : {fs gs : List Field} {cs : Vec CommonField Global} → AreCommonFields fs 0 gs cs.items → IsConversion (kind.Struct fs) (kind.Struct gs) (conversion.Fields cs)
+  of_maps : {k l e f : TypeId}
+      → IsConversion (kind.Map k e) (kind.Map l f) (conversion.Entries (of_types k l) (of_types e f))
+  of_structs : {fs gs : List Field} {cs : Vec CommonField Global} → AreCommonFields fs 0 gs cs.items
+      → IsConversion (kind.Struct fs) (kind.Struct gs) (conversion.Fields cs)
 
 -- one of these fields has this step and this pair
 pub record HasCommon (cs : List CommonField) (s : Step) (q : TypePair) : Type 0 where

@@ -13,5 +13,6 @@ use Rattle.gob_match.specs.Machine.Exploring.{ConvertsAt}
 -- the pairs are a closed list that begins with the two types, and each has its conversion
 pub record IsMatched (T U : Table) (t u : TypeId) (found : List Entry) (conversions : List Conversion) : Type 0 where
   pub begins : IsAt found 0 (of_types t u)
-  pub conversion : (k : ℕ) (p : TypePair) → IsAt found k p → (w : Conversion) × (slice_get conversions k ≡ Some w) × ConvertsAt T U p w
+  pub conversion : (k : ℕ) (p : TypePair) → IsAt found k p → (w : Conversion) × (slice_get conversions k ≡ Some w)
+      × ConvertsAt T U p w
   pub named : (k : ℕ) (p q : TypePair) (s : Step) → IsAt found k p → Names T U p s q → (j : ℕ) × IsAt found j q

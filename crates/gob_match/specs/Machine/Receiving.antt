@@ -36,8 +36,10 @@ pub record PairsReceived (T U : Table) (k e : TypePair) (ps qs : Pairs) : Type 0
 -- of each common field that is present, its value is received, in the order of the common fields
 pub data FieldsReceived (T U : Table) (fs : Fields) : List CommonField → Fields → Type 0 where
   no_more : FieldsReceived T U fs [] no_field
-  absent : {c : CommonField} {cs : List CommonField} {gs : Fields} → IsAbsent c.stream fs → FieldsReceived T U fs cs gs → FieldsReceived T U fs (c ∷ cs) gs
-  present : {c : CommonField} {cs : List CommonField} {v w : Tree} {gs : Fields} → IsPresent c.stream v fs → c.wanted + 1 < 2 ^ 64 → IsReceived T U c.pair v w
+  absent : {c : CommonField} {cs : List CommonField} {gs : Fields} → IsAbsent c.stream fs → FieldsReceived T U fs cs gs
+      → FieldsReceived T U fs (c ∷ cs) gs
+  present : {c : CommonField} {cs : List CommonField} {v w : Tree} {gs : Fields} → IsPresent c.stream v fs
+      → c.wanted + 1 < 2 ^ 64 → IsReceived T U c.pair v w
       → FieldsReceived T U fs cs gs → FieldsReceived T U fs (c ∷ cs) (field c.wanted w gs)
 
 -- ---- what is needed
@@ -51,25 +53,29 @@ pub record IsOfMatch (T U : Table) (found : List Entry) (conversions : List Conv
   pub at : IsAt found place p
 
 -- a value of its stream's type
-pub record IsReceivable (T U : Table) (found : List Entry) (conversions : List Conversion) (p : TypePair) (v : Tree) : Type 0 where
+pub record IsReceivable (T U : Table) (found : List Entry) (conversions : List Conversion) (p : TypePair) (v : Tree) :
+    Type 0 where
   pub pair : IsOfMatch T U found conversions p
   pub fits : Fits T p.stream v
 
 -- elements of it
-pub record AreReceivable (T U : Table) (found : List Entry) (conversions : List Conversion) (p : TypePair) (vs : Trees) : Type 0 where
+pub record AreReceivable (T U : Table) (found : List Entry) (conversions : List Conversion) (p : TypePair)
+    (vs : Trees) : Type 0 where
   pub pair : IsOfMatch T U found conversions p
   pub bytes : List ℕ
   pub spelled : SpellsEach T p.stream vs bytes
 
 -- keys and elements
-pub record PairsReceivable (T U : Table) (found : List Entry) (conversions : List Conversion) (k e : TypePair) (ps : Pairs) : Type 0 where
+pub record PairsReceivable (T U : Table) (found : List Entry) (conversions : List Conversion) (k e : TypePair)
+    (ps : Pairs) : Type 0 where
   pub key : IsOfMatch T U found conversions k
   pub elem : IsOfMatch T U found conversions e
   pub bytes : List ℕ
   pub spelled : SpellsPairs T k.stream e.stream ps bytes
 
 -- the common field is one of the struct's fields, and its types are a pair of the match
-pub record IsReceivableField (T U : Table) (found : List Entry) (conversions : List Conversion) (types : List Field) (c : CommonField) : Type 0 where
+pub record IsReceivableField (T U : Table) (found : List Entry) (conversions : List Conversion) (types : List Field)
+    (c : CommonField) : Type 0 where
   pub pair : IsOfMatch T U found conversions c.pair
   pub type : Field
   pub there : slice_get types c.stream ≡ Some type
@@ -77,7 +83,8 @@ pub record IsReceivableField (T U : Table) (found : List Entry) (conversions : L
   pub small : c.wanted + 1 < 2 ^ 64
 
 -- the fields of a struct
-pub record FieldsReceivable (T U : Table) (found : List Entry) (conversions : List Conversion) (common : List CommonField) (fs : Fields) : Type 0 where
+pub record FieldsReceivable (T U : Table) (found : List Entry) (conversions : List Conversion)
+    (common : List CommonField) (fs : Fields) : Type 0 where
   pub types : List Field
   pub each : (k : ℕ) (c : CommonField) → slice_get common k ≡ Some c → IsReceivableField T U found conversions types c
   pub bytes : List ℕ
@@ -85,7 +92,8 @@ pub record FieldsReceivable (T U : Table) (found : List Entry) (conversions : Li
 
 -- the numbers of the fields rise
 abbrev pub HaveRisingNumbers : List (ℕ × Value) → Type 0
-HaveRisingNumbers parts = (i j : ℕ) (p q : ℕ × Value) → i < j → slice_get parts i ≡ Some p → slice_get parts j ≡ Some q → p.0 < q.0
+HaveRisingNumbers parts = (i j : ℕ) (p q : ℕ × Value) → i < j → slice_get parts i ≡ Some p → slice_get parts j ≡ Some q
+    → p.0 < q.0
 
 -- ---- the same of a match
 

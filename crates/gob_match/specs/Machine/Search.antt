@@ -1,4 +1,5 @@
--- What a search has found so far: pairs of types in the order in which they were added, each with the pair that named it.
+-- What a search has found so far: pairs of types in the order in which they were added, each with the pair that named
+-- it.
 use Rattle.std.specs.Prelude.{◌≡◌, ℕ, ◌<◌, List, [], ◌∷◌, ◌++◌, Option, Some, None, slice_get}
 use Rattle.gob_types.specs.Ready.{IsReady}
 use Rattle.gob_types.specs.Table.{Table}
@@ -15,7 +16,9 @@ came place s = Some (record { place = place; step = s })
 -- the steps lead from the first pair to the one at this place, each as it was added
 pub data IsPathTo (found : List Entry) : ℕ → List Step → Type 0 where
   at_start : {p : TypePair} → slice_get found 0 ≡ Some (p, None) → IsPathTo found 0 []
-  from : {place before : ℕ} {p : TypePair} {s : Step} {path : List Step} → slice_get found place ≡ Some (p, came before s) → before < place → IsPathTo found before path → IsPathTo found place (path ++ s ∷ [])
+  from : {place before : ℕ} {p : TypePair} {s : Step} {path : List Step}
+      → slice_get found place ≡ Some (p, came before s) → before < place → IsPathTo found before path
+      → IsPathTo found place (path ++ s ∷ [])
 
 pub record HasPath (found : List Entry) (place : ℕ) : Type 0 where
   pub path : List Step
@@ -36,7 +39,8 @@ pub record AddsPairs (old new : List Entry) (place : ℕ) (P : Step → TypePair
   pub more : List Entry
   pub grown : new ≡ old ++ more
   pub has : (s : Step) (q : TypePair) → P s q → (k : ℕ) × IsAt new k q
-  pub only : (k : ℕ) (e : Entry) → slice_get more k ≡ Some e → (s : Step) × (q : TypePair) × (e ≡ (q, came place s)) × P s q
+  pub only : (k : ℕ) (e : Entry) → slice_get more k ≡ Some e → (s : Step) × (q : TypePair) × (e ≡ (q, came place s))
+      × P s q
 
 -- both types of the pair at the place are ready
 abbrev pub AreReadyAt : Table → Table → List Entry → ℕ → Type 0

@@ -9,9 +9,11 @@ use Rattle.gob_match.proofs.adding.add_fields.Goals as goal
 pub loop-field-preserved : goal.loop-field-preserved
 loop-field-preserved c =
     let common = c.args.common.now in
-    let there = slice_get_read common (length common) c.loop-field.field-index c.field-item.result refl c.loop-field-test.true c.field-item.is in
+    let there = slice_get_read common (length common) c.loop-field.field-index c.field-item.result refl
+    c.loop-field-test.true c.field-item.is in
     adds_next c.loop-field.invariant there
-    (subst (λ n. AddsPairs c.loop-field.found c.add.new.self c.args.place (IsStepTo (step.Named n) c.field-item.result.pair)) c.in_ok-copied_name.ensures c.in_ok-add.ensures.added)
+    (subst (λ n. AddsPairs c.loop-field.found c.add.new.self c.args.place
+    (IsStepTo (step.Named n) c.field-item.result.pair)) c.in_ok-copied_name.ensures c.in_ok-add.ensures.added)
 
 pub returns : goal.returns
 returns c = adds_all c.loop-field.invariant c.loop-field-test.false

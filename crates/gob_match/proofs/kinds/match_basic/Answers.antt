@@ -8,7 +8,9 @@ pub returns-in_default : goal.returns-in_default
 returns-in_default c = no_basic c.args.basic c.args.wanted.now c.in_default.not-Basic
 
 pub returns-then-eq : goal.returns-then-eq
-returns-then-eq c = basics_convert c.in-Basic.is (same_true the_type tt c.args.basic c.in-Basic.other (sym c.eq.ensures ∙ c.if-eq.true))
+returns-then-eq c = basics_convert c.in-Basic.is (same_true the_type tt c.args.basic c.in-Basic.other
+    (sym c.eq.ensures ∙ c.if-eq.true))
 
 pub returns-else-eq : goal.returns-else-eq
-returns-else-eq c = basics_clash c.in-Basic.is (same_false the_type c.args.basic c.in-Basic.other (sym c.eq.ensures ∙ c.if-eq.false))
+returns-else-eq c = basics_clash c.in-Basic.is (same_false the_type c.args.basic c.in-Basic.other
+    (sym c.eq.ensures ∙ c.if-eq.false))

@@ -1,11 +1,10 @@
-use Rattle.std.proofs.Common.{inl, inr}
+use Rattle.std.proofs.Common.{inl}
 use Rattle.gob_match.specs.Machine.Struct.{AreNames}
 use Rattle.gob_match.specs.Matching.{name_repeated}
 use Rattle.gob_match.proofs.KindLaws.{repeated}
 use Rattle.gob_match.proofs.kinds.match_fields.Goals as goal
 
 pub returns-in_default-clause-fault : goal.returns-in_default-clause-fault
-returns-in_default-clause-fault c = name_repeated (inl (repeated (AreNames c.as_slice.result.now) c.in_ok-names.field-0 c.as_slice.result.now c.args.stream.now c.in_default.is c.in_ok-names.ensures c.as_slice.ensures))
-
-pub returns-in_default-2-clause-fault : goal.returns-in_default-2-clause-fault
-returns-in_default-2-clause-fault c = name_repeated (inr (repeated (AreNames c.as_slice-2.result.now) c.in_ok-names_of.field-0 c.as_slice-2.result.now c.args.wanted.now c.in_default-2.is c.in_ok-names_of.ensures c.as_slice-2.ensures))
+returns-in_default-clause-fault c = name_repeated
+    (inl (repeated (AreNames c.as_slice.result.now) c.in_ok-names.field-0 c.as_slice.result.now c.args.stream.now
+    c.in_default.is c.in_ok-names.ensures c.as_slice.ensures))

@@ -8,7 +8,9 @@ pub returns-in_default : goal.returns-in_default
 returns-in_default c = no_opaque c.args.marshal c.args.wanted.now c.in_default.not-Opaque
 
 pub returns-then-eq : goal.returns-then-eq
-returns-then-eq c = opaques_convert c.in-Opaque.is (same_true the_type tt c.args.marshal c.in-Opaque.other (sym c.eq.ensures ∙ c.if-eq.true))
+returns-then-eq c = opaques_convert c.in-Opaque.is
+    (same_true the_type tt c.args.marshal c.in-Opaque.other (sym c.eq.ensures ∙ c.if-eq.true))
 
 pub returns-else-eq : goal.returns-else-eq
-returns-else-eq c = opaques_clash c.in-Opaque.is (same_false the_type c.args.marshal c.in-Opaque.other (sym c.eq.ensures ∙ c.if-eq.false))
+returns-else-eq c = opaques_clash c.in-Opaque.is (same_false the_type c.args.marshal c.in-Opaque.other
+    (sym c.eq.ensures ∙ c.if-eq.false))

@@ -2,4 +2,8 @@ use Rattle.gob_match.proofs.KindLaws.{no_struct}
 use Rattle.gob_match.proofs.kinds.match_struct.Goals as goal
 
 pub returns-in_default : goal.returns-in_default
-returns-in_default c = record { converts = tt; fault = no_struct c.args.fields.now c.args.wanted.now c.in_default.not-Struct }
+returns-in_default c = record {
+  converts = tt;
+  fault = no_struct c.args.fields.now c.args.wanted.now
+      c.in_default.not-Struct;
+}

@@ -6,7 +6,9 @@ use Rattle.gob_match.proofs.KindChoice.{kinds_choice, one_reason}
 use Rattle.gob_match.proofs.laws.shapes_match_or_clash.Goals as goal
 
 pub returns-clause-either : goal.returns-clause-either
-returns-clause-either c k l = elim (kinds_choice k l) as (λ _. KindsMatch k l ⊎ ((reason : ClashReason) × KindsClash k l reason)) [ inl m ↦ inl m | inr h ↦ inr (h.reason, h.clash) ]
+returns-clause-either c k l = elim (kinds_choice k l) as
+    (λ _. KindsMatch k l ⊎ ((reason : ClashReason) × KindsClash k l reason))
+    [ inl m ↦ inl m | inr h ↦ inr (h.reason, h.clash) ]
 
 pub returns-clause-not_both : goal.returns-clause-not_both
 returns-clause-not_both c k l reason = match_or_clash k l reason

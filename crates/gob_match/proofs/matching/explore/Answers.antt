@@ -3,10 +3,14 @@ use Rattle.gob_match.proofs.ConversionLaws.{explored, undefined}
 use Rattle.gob_match.proofs.matching.explore.Goals as goal
 
 pub unreachable-requires : goal.unreachable-requires
-unreachable-requires g c = undefined (c.requires.ready c.pair_at-pair.result c.pair_at-pair.ensures).0 c.in_default.ensures
+unreachable-requires g c = undefined (c.requires.ready c.pair_at-pair.result c.pair_at-pair.ensures).0
+    c.in_default.ensures
 
 pub unreachable-requires-in_default-shape_of : goal.unreachable-requires-in_default-shape_of
-unreachable-requires-in_default-shape_of g c = undefined (c.requires.ready c.pair_at-pair.result c.pair_at-pair.ensures).1 c.in_default-shape_of.ensures
+unreachable-requires-in_default-shape_of g c = undefined
+    (c.requires.ready c.pair_at-pair.result c.pair_at-pair.ensures).1 c.in_default-shape_of.ensures
 
 pub returns-clause-explored : goal.returns-clause-explored
-returns-clause-explored g c = explored c.pair_at-pair.ensures (record { stream = sym c.in-Some.ensures; wanted = sym c.in-Some-shape_of.ensures }) c.in_ok-conversion.ensures.converts c.in_ok-add_named.ensures
+returns-clause-explored g c = explored c.pair_at-pair.ensures
+    (record { stream = sym c.in-Some.ensures; wanted = sym c.in-Some-shape_of.ensures })
+    c.in_ok-conversion.ensures.converts c.in_ok-add_named.ensures

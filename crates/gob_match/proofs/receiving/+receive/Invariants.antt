@@ -19,12 +19,15 @@ decreases-receive_fields g l = 2 * fields_depth (field_views l.parts.now) + 1
 
 abbrev pub invariant-receive_each-loop-part : goal.invariant-receive_each-loop-part
 invariant-receive_each-loop-part g l =
-    Completes (λ vs ws. GivesEach g.S.Shapes.table g.T.Shapes.table l.matched l.pair (views vs) (views ws)) l.parts (drop l.part-index l.parts) l.received.items
+    Completes (λ vs ws. GivesEach g.S.Shapes.table g.T.Shapes.table l.matched l.pair (views vs) (views ws)) l.parts
+    (drop l.part-index l.parts) l.received.items
 
 abbrev pub invariant-receive_pairs-loop-k : goal.invariant-receive_pairs-loop-k
 invariant-receive_pairs-loop-k g l =
-    Completes (λ ps qs. GivesPairs g.S.Shapes.table g.T.Shapes.table l.matched l.key l.elem (pair_views ps) (pair_views qs)) l.parts (drop l.k-index l.parts) l.received.items
+    Completes (λ ps qs. GivesPairs g.S.Shapes.table g.T.Shapes.table l.matched l.key l.elem (pair_views ps)
+    (pair_views qs)) l.parts (drop l.k-index l.parts) l.received.items
 
 abbrev pub invariant-receive_fields-loop-field : goal.invariant-receive_fields-loop-field
 invariant-receive_fields-loop-field g l =
-    Completes (λ cs gs. GivesFields g.S.Shapes.table g.T.Shapes.table l.matched cs (field_views l.parts) (field_views gs)) l.common (drop l.field-index l.common) l.received.items
+    Completes (λ cs gs. GivesFields g.S.Shapes.table g.T.Shapes.table l.matched cs (field_views l.parts)
+    (field_views gs)) l.common (drop l.field-index l.common) l.received.items

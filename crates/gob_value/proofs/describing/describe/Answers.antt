@@ -21,25 +21,34 @@ map_type-requires-clause-elem c = c.requires.references c.in-Map.elem (rw c.in-M
 
 pub returns-in-Array-clause-fits : goal.returns-in-Array-clause-fits
 returns-in-Array-clause-fits c =
-    made_fits c.args.id c.args.shape.now (kind.Array c.in-Array.elem c.in-Array.len) (view c.in_ok-common.common) c.array_type.result
-    c.requires c.in_ok-common.ensures.counted c.in-Array.is c.in_ok-common.ensures.described (no_count c.array_type.result tt) c.array_type.ensures
+    made_fits c.args.id c.args.shape.now (kind.Array c.in-Array.elem c.in-Array.len) (view c.in_ok-common.common)
+    c.array_type.result
+    c.requires c.in_ok-common.ensures.counted c.in-Array.is c.in_ok-common.ensures.described
+    (no_count c.array_type.result tt) c.array_type.ensures
 
 pub returns-in-Slice-clause-fits : goal.returns-in-Slice-clause-fits
 returns-in-Slice-clause-fits c =
     made_fits c.args.id c.args.shape.now (kind.Slice c.in-Slice.elem) (view c.in_ok-common.common) c.slice_type.result
-    c.requires c.in_ok-common.ensures.counted c.in-Slice.is c.in_ok-common.ensures.described (no_count c.slice_type.result tt) c.slice_type.ensures
+    c.requires c.in_ok-common.ensures.counted c.in-Slice.is c.in_ok-common.ensures.described
+    (no_count c.slice_type.result tt) c.slice_type.ensures
 
 pub returns-in-Struct-clause-fits : goal.returns-in-Struct-clause-fits
 returns-in-Struct-clause-fits c =
-    made_fits c.args.id c.args.shape.now (kind.Struct c.in-Struct.fields) (view c.in_ok-common.common) c.struct_type.result
-    c.requires c.in_ok-common.ensures.counted c.in-Struct.is c.in_ok-common.ensures.described c.struct_type.ensures.counted c.struct_type.ensures.described
+    made_fits c.args.id c.args.shape.now (kind.Struct c.in-Struct.fields) (view c.in_ok-common.common)
+    c.struct_type.result
+    c.requires c.in_ok-common.ensures.counted c.in-Struct.is c.in_ok-common.ensures.described
+    c.struct_type.ensures.counted c.struct_type.ensures.described
 
 pub returns-in-Map-clause-fits : goal.returns-in-Map-clause-fits
 returns-in-Map-clause-fits c =
-    made_fits c.args.id c.args.shape.now (kind.Map c.in-Map.key c.in-Map.elem) (view c.in_ok-common.common) c.map_type.result
-    c.requires c.in_ok-common.ensures.counted c.in-Map.is c.in_ok-common.ensures.described (no_count c.map_type.result tt) c.map_type.ensures
+    made_fits c.args.id c.args.shape.now (kind.Map c.in-Map.key c.in-Map.elem) (view c.in_ok-common.common)
+    c.map_type.result
+    c.requires c.in_ok-common.ensures.counted c.in-Map.is c.in_ok-common.ensures.described
+    (no_count c.map_type.result tt) c.map_type.ensures
 
 pub returns-in-Opaque-clause-fits : goal.returns-in-Opaque-clause-fits
 returns-in-Opaque-clause-fits c =
-    made_fits c.args.id c.args.shape.now (kind.Opaque c.in-Opaque.marshal) (view c.in_ok-common.common) c.opaque_type.result
-    c.requires c.in_ok-common.ensures.counted c.in-Opaque.is c.in_ok-common.ensures.described (no_count c.opaque_type.result tt) c.opaque_type.ensures
+    made_fits c.args.id c.args.shape.now (kind.Opaque c.in-Opaque.marshal) (view c.in_ok-common.common)
+    c.opaque_type.result
+    c.requires c.in_ok-common.ensures.counted c.in-Opaque.is c.in_ok-common.ensures.described
+    (no_count c.opaque_type.result tt) c.opaque_type.ensures

@@ -11,13 +11,17 @@ loop-field-preserved c =
     let there = slice_get_read fields (length fields) i f refl c.loop-field-test.true c.field-item.is in
     let reference = c.requires f.id (record { number = i; field = f; there = there; type = refl }) in
     let f_described = c.in_ok-name_and_id.ensures.described (omega arith) in (
-      types_more c.loop-field.types.items c.push.new.self.items fields i f c.in_ok-name_and_id.field-0 c.loop-field.invariant.0 c.field-item.is c.loop-field-test.true
+      types_more c.loop-field.types.items c.push.new.self.items fields i f c.in_ok-name_and_id.field-0
+          c.loop-field.invariant.0 c.field-item.is c.loop-field-test.true
           f_described c.in_ok-push.ensures.items,
-      counted_more fields i f c.loop-field.invariant.1 c.field-item.is c.loop-field-test.true c.in_ok-name_and_id.ensures.counted,
+      counted_more fields i f c.loop-field.invariant.1 c.field-item.is c.loop-field-test.true
+          c.in_ok-name_and_id.ensures.counted,
     )
 
 pub returns-clause-described : goal.returns-clause-described
-returns-clause-described c = types_all c.loop-field.types.items c.args.fields.now c.loop-field.field-index c.loop-field.invariant.0 c.loop-field-test.false
+returns-clause-described c = types_all c.loop-field.types.items c.args.fields.now c.loop-field.field-index
+    c.loop-field.invariant.0 c.loop-field-test.false
 
 pub returns-clause-counted : goal.returns-clause-counted
-returns-clause-counted c = counted_all c.args.fields.now c.loop-field.field-index c.loop-field.invariant.1 c.loop-field-test.false
+returns-clause-counted c = counted_all c.args.fields.now c.loop-field.field-index c.loop-field.invariant.1
+    c.loop-field-test.false

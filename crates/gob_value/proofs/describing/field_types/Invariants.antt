@@ -6,4 +6,5 @@ use Rattle.gob_value.proofs.describing.field_types.Given as goal
 
 -- the fieldTypes so far are those of the first fields
 abbrev pub invariant-loop-field : goal.invariant-loop-field
-invariant-loop-field l = (map view l.types.items ≡ map field_type (take l.field-index l.fields)) × AreCounted (take l.field-index l.fields)
+invariant-loop-field l = (map view l.types.items ≡ map field_type (take l.field-index l.fields))
+    × AreCounted (take l.field-index l.fields)

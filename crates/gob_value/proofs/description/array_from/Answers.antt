@@ -10,4 +10,5 @@ returns-clause-kind c =
     let elem = c.number_of.result in
     let len = c.number_of-len.result in
     gives_array (refers_as (to_z-of_z w64 elem (search rules) ∙ c.number_of.ensures) c.in_ok-elem.ensures)
-    (sym c.number_of-len.ensures ∙ not_negative len (omega (arith, ints)) ∙ ap (λ j. pos (nat_abs j)) (sym (to_z-of_z w64 len (search rules))))
+    (sym c.number_of-len.ensures ∙ not_negative len (omega (arith, ints))
+    ∙ ap (λ j. pos (nat_abs j)) (sym (to_z-of_z w64 len (search rules))))

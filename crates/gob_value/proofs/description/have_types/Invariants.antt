@@ -6,4 +6,5 @@ use Rattle.gob_value.proofs.description.have_types.Given as goal
 
 -- it is the rest that tells
 abbrev pub invariant-loop-field_type : goal.invariant-loop-field_type
-invariant-loop-field_type l = HaveTypes (said_fields (views (drop l.field_type-index l.field_types))) ↔ HaveTypes (said_fields (views l.field_types))
+invariant-loop-field_type l = HaveTypes (said_fields (views (drop l.field_type-index l.field_types)))
+    ↔ HaveTypes (said_fields (views l.field_types))

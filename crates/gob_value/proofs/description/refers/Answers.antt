@@ -9,4 +9,5 @@ pub returns-then-number-ge0 : goal.returns-then-number-ge0
 returns-then-number-ge0 c =
     let i = c.args.number in
     through c.is_reference.ensures
-    (reference_number i _ (not_negative i (omega (arith, ints)) ∙ ap (λ j. pos (nat_abs j)) (sym (to_z-of_z w64 i (search rules)))))
+    (reference_number i _ (not_negative i (omega (arith, ints)) ∙ ap (λ j. pos (nat_abs j))
+    (sym (to_z-of_z w64 i (search rules)))))

@@ -11,9 +11,11 @@ invariant-all_fit-loop-part g l =
 abbrev pub invariant-pairs_fit-loop-k : goal.invariant-pairs_fit-loop-k
 invariant-pairs_fit-loop-k g l =
     let T = g.S.Shapes.table l.shapes in
-    PairsFitWithin T l.key l.elem l.depth (pair_views (drop l.k-index l.parts)) ↔ PairsFitWithin T l.key l.elem l.depth (pair_views l.parts)
+    PairsFitWithin T l.key l.elem l.depth (pair_views (drop l.k-index l.parts))
+    ↔ PairsFitWithin T l.key l.elem l.depth (pair_views l.parts)
 
 abbrev pub invariant-fields_fit-loop-number : goal.invariant-fields_fit-loop-number
 invariant-fields_fit-loop-number g l =
     let T = g.S.Shapes.table l.shapes in
-    FieldsFitWithin T l.types l.next l.depth (field_views (drop l.number-index l.parts)) ↔ FieldsFitWithin T l.types 0 l.depth (field_views l.parts)
+    FieldsFitWithin T l.types l.next l.depth (field_views (drop l.number-index l.parts))
+    ↔ FieldsFitWithin T l.types 0 l.depth (field_views l.parts)

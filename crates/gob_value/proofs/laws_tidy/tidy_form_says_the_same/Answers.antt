@@ -6,4 +6,5 @@ pub returns-clause-shape : goal.returns-clause-shape
 returns-clause-shape c t v w s f p = let e = said_stays f.spelled p in (described_alike e, described_alike (sym e))
 
 pub returns-clause-reason : goal.returns-clause-reason
-returns-clause-reason c t v w r f p = let e = said_stays f.spelled p in (misdescribed_alike e, misdescribed_alike (sym e))
+returns-clause-reason c t v w r f p = let e = said_stays f.spelled p in
+    (misdescribed_alike e, misdescribed_alike (sym e))

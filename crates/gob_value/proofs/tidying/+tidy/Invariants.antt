@@ -22,15 +22,18 @@ decreases-tidy_fields g l = 3 * fields_depth (field_views l.parts.items) + 2
 
 abbrev pub invariant-tidy_each-loop-part : goal.invariant-tidy_each-loop-part
 invariant-tidy_each-loop-part g l =
-    EachGoes (g.S.Shapes.table l.shapes) l.elem (into_iter_items l.initial.part-iterator) (into_iter_items l.part-iterator) l.tidied.items
+    EachGoes (g.S.Shapes.table l.shapes) l.elem (into_iter_items l.initial.part-iterator)
+    (into_iter_items l.part-iterator) l.tidied.items
     × (into_iter_len l.part-iterator ≡ length (into_iter_items l.part-iterator))
 
 abbrev pub invariant-tidy_pairs-loop-k : goal.invariant-tidy_pairs-loop-k
 invariant-tidy_pairs-loop-k g l =
-    PairsGo (g.S.Shapes.table l.shapes) l.key l.elem (into_iter_items l.initial.k-iterator) (into_iter_items l.k-iterator) l.tidied.items
+    PairsGo (g.S.Shapes.table l.shapes) l.key l.elem (into_iter_items l.initial.k-iterator)
+    (into_iter_items l.k-iterator) l.tidied.items
     × (into_iter_len l.k-iterator ≡ length (into_iter_items l.k-iterator))
 
 abbrev pub invariant-tidy_fields-loop-number : goal.invariant-tidy_fields-loop-number
 invariant-tidy_fields-loop-number g l =
-    FieldsGo (g.S.Shapes.table l.shapes) l.types (into_iter_items l.initial.number-iterator) (into_iter_items l.number-iterator) l.tidied.items
+    FieldsGo (g.S.Shapes.table l.shapes) l.types (into_iter_items l.initial.number-iterator)
+    (into_iter_items l.number-iterator) l.tidied.items
     × (into_iter_len l.number-iterator ≡ length (into_iter_items l.number-iterator))

@@ -16,14 +16,17 @@ dropped_basic b v = (λ z. zero_basic z, back)
     back : {b : Basic} {v : Tree} → IsDropped (kind.Basic b) v → IsZero v
     back (zero_basic z) = z
 
-dropped_slice : (e : TypeId) (vs : Trees) (n : ℕ) → n ≡ tree_count vs → IsTrue (nat_eq n 0) ↔ IsDropped (kind.Slice e) (Tree.many vs)
+dropped_slice : (e : TypeId) (vs : Trees) (n : ℕ) → n ≡ tree_count vs → IsTrue (nat_eq n 0)
+    ↔ IsDropped (kind.Slice e) (Tree.many vs)
 dropped_slice e no_tree n h = (λ _. empty_slice, λ d. eq-eqb n 0 h)
 dropped_slice e (tree v vs) n h = (λ t. let z = eqb-true n 0 t in absurd (omega arith), λ d. elim d [ ])
 
 pub returns-in-Basic : goal.returns-in-Basic
-returns-in-Basic c = rw c.in-Basic.is (through c.is_zero.ensures (dropped_basic c.in-Basic.field-0 (view c.args.value.now)))
+returns-in-Basic c = rw c.in-Basic.is (through c.is_zero.ensures
+    (dropped_basic c.in-Basic.field-0 (view c.args.value.now)))
 
 pub returns-in-Many : goal.returns-in-Many
 returns-in-Many c =
     let vs = c.in-Many.parts in
-    rw (c.in-Slice.is, c.in-Many.is, view-Many vs, c.is_empty.ensures) (dropped_slice c.in-Slice.elem (views vs.items) vs.len (vs.ok.0 ∙ sym (tree_count-views vs.items)))
+    rw (c.in-Slice.is, c.in-Many.is, view-Many vs, c.is_empty.ensures)
+    (dropped_slice c.in-Slice.elem (views vs.items) vs.len (vs.ok.0 ∙ sym (tree_count-views vs.items)))

@@ -1,4 +1,5 @@
-use Rattle.std.proofs.Common.{◌≡◌, ◌↔◌, IsTrue, ℕ, ℤ, pos, ◌⊎◌, inl, inr, Bool, true, false, List, [], ◌∷◌, length, Vec, Global, nat_eq, w64, arith, rules, refl, sym, ap, ◌∙◌, subst}
+use Rattle.std.proofs.Common.{◌≡◌, ◌↔◌, IsTrue, ℕ, ℤ, pos, ◌⊎◌, inl, inr, Bool, true, false, List, [], ◌∷◌, length, Vec}
+use Rattle.std.proofs.Common.{Global, nat_eq, w64, arith, rules, refl, sym, ap, ◌∙◌, subst}
 use Rattle.std.proofs.lemmas.Bool.{eqb-true, eq-eqb}
 use Rattle.std.proofs.lemmas.Int.{to_z-of_z}
 use mathlib.Core.Bool.{not}
@@ -50,7 +51,8 @@ zero_text [] n e = (λ h. of_text, λ z. eq-eqb n 0 e)
 zero_text (b ∷ s) n e = (λ h. let z = eqb-true n 0 h in absurd (omega arith), λ z. elim z [ ])
 
 -- whichever of the two variants it is
-zero_string : (v : Value) (s : Vec ℕ Global) (n : ℕ) → (v ≡ Bytes s) ⊎ (v ≡ Str s) → n ≡ length s.items → IsTrue (nat_eq n 0) ↔ IsZero (view v)
+zero_string : (v : Value) (s : Vec ℕ Global) (n : ℕ) → (v ≡ Bytes s) ⊎ (v ≡ Str s) → n ≡ length s.items
+    → IsTrue (nat_eq n 0) ↔ IsZero (view v)
 zero_string v s n (inl e) l = rw (e, view-Bytes s) (zero_bytes s.items n l)
 zero_string v s n (inr e) l = rw (e, view-Str s) (zero_text s.items n l)
 
@@ -67,7 +69,9 @@ pub returns-in-Float : goal.returns-in-Float
 returns-in-Float c = rw (c.in-Float.is, view-Float c.in-Float.p) (zero_float c.in-Float.p)
 
 pub returns-then-p-eq0 : goal.returns-then-p-eq0
-returns-then-p-eq0 c = rw (c.in-Complex.is, view-Complex c.in-Complex.p c.in-Complex.q) (zero_complex c.in-Complex.p c.in-Complex.q c.if-p-eq0.true)
+returns-then-p-eq0 c = rw (c.in-Complex.is, view-Complex c.in-Complex.p c.in-Complex.q)
+    (zero_complex c.in-Complex.p c.in-Complex.q c.if-p-eq0.true)
 
 pub returns-in-Bytes : goal.returns-in-Bytes
-returns-in-Bytes c = let s = c.in-Bytes.s in rw c.is_empty.ensures (zero_string c.args.value.now s s.len c.in-Bytes.is s.ok.0)
+returns-in-Bytes c = let s = c.in-Bytes.s in rw c.is_empty.ensures
+    (zero_string c.args.value.now s s.len c.in-Bytes.is s.ok.0)

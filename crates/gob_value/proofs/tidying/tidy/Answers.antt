@@ -12,5 +12,6 @@ returns-clause-tidy g c = IfOk-weaker c.tidy_type.result _ _ (λ w p. p.tidies) 
 pub returns-clause-fits : goal.returns-clause-fits
 returns-clause-fits g c =
     IfOk-weaker c.tidy_type.result _ _
-    (λ w p. let f = tidy_fits c.requires.spelled p.tidies p.small in record { bytes = f.bytes; spelled = f.spelled; within = no_deeper p.tidies })
+    (λ w p. let f = tidy_fits c.requires.spelled p.tidies p.small in record
+    { bytes = f.bytes; spelled = f.spelled; within = no_deeper p.tidies })
     c.tidy_type.ensures

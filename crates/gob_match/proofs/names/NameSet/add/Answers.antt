@@ -5,5 +5,7 @@ use Rattle.gob_match.proofs.names.NameSet.add.Goals as goal
 
 pub returns : goal.returns
 returns c =
-    subst (λ names. AddsName names (bytes_of c.insert_full.new.self.keys) c.args.name.now c.in_ok-new.new) c.self.view_is
-    (names_added c.self.inside.names.keys c.insert_full.new.self.keys c.args.name c.in_ok-new.new c.in_ok-new.ensures.keys c.in_ok-new.ensures.added)
+    subst (λ names. AddsName names (bytes_of c.insert_full.new.self.keys) c.args.name.now c.in_ok-new.new)
+    c.self.view_is
+    (names_added c.self.inside.names.keys c.insert_full.new.self.keys c.args.name c.in_ok-new.new
+    c.in_ok-new.ensures.keys c.in_ok-new.ensures.added)

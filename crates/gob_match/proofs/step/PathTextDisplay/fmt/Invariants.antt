@@ -7,4 +7,5 @@ use Rattle.gob_match.proofs.step.PathTextDisplay.fmt.Given as goal
 
 abbrev pub invariant-loop-step : goal.invariant-loop-step
 invariant-loop-step g l =
-    IsPlainFormatter l.initial.f → HasWritten g.W.Write.write_str_gives l.initial.f (flat_map step_text (take l.step-index l.step-items)) l.f
+    IsPlainFormatter l.initial.f
+    → HasWritten g.W.Write.write_str_gives l.initial.f (flat_map step_text (take l.step-index l.step-items)) l.f
