@@ -8,6 +8,7 @@ pub mod Earlier
 pub mod RefusalText
 pub mod WriterRefusal
 pub mod Devices
+pub mod Session
 pub mod Standing
 pub mod Reading
 pub mod ReadParts

@@ -30,6 +30,7 @@ mod input;
 mod item;
 pub mod laws;
 mod limits;
+mod next_item;
 mod output;
 mod read;
 mod reading;

@@ -3,7 +3,7 @@
 ghost use Rattle.std.specs.Prelude.{◌≡◌, ℕ, ◌+◌, ◌≤◌, List, [], Some};
 ghost use Rattle.gob_stream.specs.Bounds.{AreLimits};
 ghost use Rattle.gob_stream.specs.Item.{item_views};
-ghost use Rattle.gob_stream.specs.Standing.{StandsAfter, IsUsable};
+ghost use Rattle.gob_stream.specs.Standing.{StandsAfter};
 ghost use Rattle.gob_stream.specs.Reading.{ReadsStream, Given, CountsReads};
 
 use crate::fault::Fault;
@@ -43,7 +43,6 @@ fn read_items<R: Read>(
     out: &mut Vec<Item<Value>>,
 ) -> Result<(), Fault>
     requires stands { StandsAfter ⟦<TreeBuilder as Builder>⟧.stands ⟦<TreeBuilder as Builder>⟧.stands 1000 session.old.reading [] [] }
-    requires usable { IsUsable ⟦<TreeBuilder as Builder>⟧.stands ⟦<TreeBuilder as Builder>⟧.stands 1000 session.old.reading }
     requires new { session.old.reading.taken ≡ 0 }
     requires allowed { AreLimits session.old.reading.limits }
     ensures items { Given out.old.items out.new.items (λ given. (bytes : List ℕ)

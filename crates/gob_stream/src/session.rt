@@ -11,9 +11,7 @@ use gob_read::{Builder, TreeBuilder};
 use gob_types::Table;
 use std::alloc::Global;
 use std::io::Read;
-
-// How many bytes are read at a time, at most.
-const CHUNK: u64 = 1024;
+use std::marker::Model;
 
 /// A reader of one stream, from its first byte on, that makes of each value what `B` builds.
 #[derive(Drop)]
@@ -21,18 +19,33 @@ pub struct Session<B: Builder> {
     reading: Reading<B>,
 }
 
+impl<B: Builder> Model for Session<B> {
+    ghost use Rattle.std.specs.Coded.{codes};
+    ghost use Rattle.gob_value.specs.contracts.value.Value as value;
+    ghost use Rattle.gob_stream.specs.Session.{SessionState};
+    ghost use Rattle.gob_stream.specs.Standing.{IsUsable};
+
+    ghost Value = { SessionState B B.Out };
+
+    ghost coded = { Prim.hlevel (codes, value.the_row.coded) };
+
+    ghost view = { λ session. record { reading = session.reading } };
+
+    // It has read some bytes, or has failed.
+    ghost invariant = { λ session. IsUsable B.stands ⟦<TreeBuilder as Builder>⟧.stands B.DEPTH session.reading };
+}
+
 impl<B: Builder> Session<B> {
     ghost use Rattle.std.specs.Prelude.{◌≡◌, ℕ, List, [], Err, Some, IfOk, OnErr};
     ghost use Rattle.gob_stream.specs.Bounds.{AreLimits};
     ghost use Rattle.gob_types.specs.Defined.{types};
     ghost use Rattle.gob_stream.specs.Item.{StreamItem};
-    ghost use Rattle.gob_stream.specs.Standing.{StandsAfter, IsUsable};
+    ghost use Rattle.gob_stream.specs.Standing.{StandsAfter};
     ghost use Rattle.gob_stream.specs.Reading.{Given, Feeds, Finishes, ReadsNext, CountsReads, TakesNext};
 
     /// A reader that has taken no byte.
     pub fn new(alloc: Global, limits: Limits) -> Result<Session<B>, Memory>
         ensures stands { IfOk result (λ session. StandsAfter B.stands ⟦<TreeBuilder as Builder>⟧.stands B.DEPTH session.reading [] []) }
-        ensures usable { IfOk result (λ session. IsUsable B.stands ⟦<TreeBuilder as Builder>⟧.stands B.DEPTH session.reading) }
         ensures taken { IfOk result (λ session. session.reading.taken ≡ 0) }
         ensures limits { IfOk result (λ session. session.reading.limits ≡ limits) }
         ensures allowed { AreLimits limits }
@@ -50,7 +63,6 @@ impl<B: Builder> Session<B> {
         piece: &[u8],
         out: &mut Vec<Item<B::Out>>,
     ) -> Result<(), Fault>
-        requires { IsUsable B.stands ⟦<TreeBuilder as Builder>⟧.stands B.DEPTH self.old.reading }
         ensures fed { Given out.old.items out.new.items (λ given. (items : List StreamItem) (bytes : List ℕ)
             → StandsAfter B.stands ⟦<TreeBuilder as Builder>⟧.stands B.DEPTH self.old.reading items bytes
             → Feeds B.stands ⟦<TreeBuilder as Builder>⟧.stands B.means B.DEPTH self.old.reading self.new.reading items bytes piece.now given result) }
@@ -58,7 +70,6 @@ impl<B: Builder> Session<B> {
         ensures stays { self.old.reading.stage ≡ Stage.Failed
             → (result ≡ Err Fault.Failed) × (self.new.reading ≡ self.old.reading) × (out.new ≡ out.old) }
         ensures limits { self.new.reading.limits ≡ self.old.reading.limits }
-        ensures usable { IsUsable B.stands ⟦<TreeBuilder as Builder>⟧.stands B.DEPTH self.new.reading }
     {
         if matches!(self.reading.stage, Stage::Failed) {
             return Err(Fault::Failed);
@@ -70,7 +81,6 @@ impl<B: Builder> Session<B> {
     /// `Ended` at the end of the bytes that came. It takes no memory. After a fault each call answers
     /// [`Fault::Failed`].
     pub fn finish(&mut self) -> Result<(), Fault>
-        requires { IsUsable B.stands ⟦<TreeBuilder as Builder>⟧.stands B.DEPTH self.old.reading }
         ensures finishes { (items : List StreamItem) (bytes : List ℕ)
             → StandsAfter B.stands ⟦<TreeBuilder as Builder>⟧.stands B.DEPTH self.old.reading items bytes
             → Finishes B.DEPTH self.old.reading self.new.reading items bytes result }
@@ -78,7 +88,6 @@ impl<B: Builder> Session<B> {
         ensures stays { self.old.reading.stage ≡ Stage.Failed → (result ≡ Err Fault.Failed) × (self.new.reading ≡ self.old.reading) }
         ensures types { self.new.reading.types ≡ self.old.reading.types }
         ensures limits { self.new.reading.limits ≡ self.old.reading.limits }
-        ensures usable { IsUsable B.stands ⟦<TreeBuilder as Builder>⟧.stands B.DEPTH self.new.reading }
     {
         self.reading.finish()
     }
@@ -98,7 +107,6 @@ impl<B: Builder> Session<B> {
         alloc: Global,
         input: &mut Input<R>,
     ) -> Result<Option<Item<B::Out>>, Fault>
-        requires { IsUsable B.stands ⟦<TreeBuilder as Builder>⟧.stands B.DEPTH self.old.reading }
         ensures read { (items : List StreamItem) (bytes rest : List ℕ)
             → StandsAfter B.stands ⟦<TreeBuilder as Builder>⟧.stands B.DEPTH self.old.reading items bytes
             → R.remaining input.old.reader ≡ Some rest
@@ -107,34 +115,11 @@ impl<B: Builder> Session<B> {
         ensures failed { OnErr result (self.new.reading.stage ≡ Stage.Failed) }
         ensures stays { self.old.reading.stage ≡ Stage.Failed
             → (result ≡ Err Fault.Failed) × (self.new.reading ≡ self.old.reading) × (input.new ≡ input.old) }
-        ensures usable { IsUsable B.stands ⟦<TreeBuilder as Builder>⟧.stands B.DEPTH self.new.reading }
         ensures types { OnErr result (types self.new.reading.types ≡ types self.old.reading.types) }
         ensures limits { self.new.reading.limits ≡ self.old.reading.limits }
         ensures counted { CountsReads input.old.failures input.new.failures result }
         ensures taken { TakesNext self.old.reading self.new.reading input.old.taken input.new.taken result }
     {
-        if matches!(self.reading.stage, Stage::Failed) {
-            return Err(Fault::Failed);
-        }
-        let mut chunk = [0u8; CHUNK as usize];
-        'pieces: loop {
-            let wanted = CHUNK.min(self.reading.wanted()) as usize;
-            match input.read(&mut chunk[..wanted]) {
-                Ok(0) => {
-                    self.reading.finish()?;
-                    return Ok(None);
-                }
-                Ok(n) => {
-                    let step = self.reading.step(alloc, &chunk[..n])?;
-                    if let Some(item) = step.item {
-                        return Ok(Some(item));
-                    }
-                }
-                Err(_) => {
-                    self.reading.fail();
-                    return Err(Fault::Read);
-                }
-            }
-        }
+        self.reading.read_item(alloc, input)
     }
 }

@@ -11,7 +11,7 @@ use Rattle.gob_stream.specs.declared.reading.Reading.{Reading}
 use Rattle.gob_stream.specs.Bounds.{Bounds, greatest_depth}
 use Rattle.gob_stream.specs.Item.{StreamItem}
 use Rattle.gob_stream.specs.Devices.{counts_up}
-use Rattle.gob_stream.specs.Standing.{StandsAfter, IsUsable, no_deeper}
+use Rattle.gob_stream.specs.Standing.{StandsAfter, no_deeper}
 use Rattle.gob_tool.specs.declared.fault.ToolFault.{ToolFault}
 use Rattle.gob_tool.specs.declared.fault.ToolFault.TheVariants as fault
 use Rattle.gob_tool.specs.Line.{lines}
@@ -26,10 +26,6 @@ pub record Gathered (old new : Option (List ℕ)) (gathered : List ℕ) (all : L
 -- the reader of trees has given the items, of these bytes
 abbrev pub GaveItems : Reading TreeBuilder Value → List StreamItem → List ℕ → Type 0
 GaveItems s items bytes = StandsAfter tree_builder.stands-value.it tree_builder.stands-value.it greatest_depth s items bytes
-
--- the reader of trees stands after some bytes, or has met a fault
-abbrev pub IsReading : Reading TreeBuilder Value → Type 0
-IsReading s = IsUsable tree_builder.stands-value.it tree_builder.stands-value.it greatest_depth s
 
 -- the reader has taken these bytes, and the lines of the items that it gave went out or are gathered
 pub record StandsBehind (s : Reading TreeBuilder Value) (bytes : List ℕ) (old new : Option (List ℕ)) (gathered : List ℕ) : Type 0 where

@@ -4,7 +4,7 @@ ghost use Rattle.std.specs.Prelude.{◌≡◌, ◌≢◌, ℕ, ◌<◌, List, []
 ghost use Rattle.gob_stream.specs.declared.reading.Reading.{Reading};
 ghost use Rattle.gob_stream.specs.Item.{StreamItem};
 ghost use Rattle.gob_tool.specs.Showing.{Runs, Shows, AppendsFront, CountsReadFaults, CountsWriteFaults};
-ghost use Rattle.gob_tool.specs.Gathering.{Gathered, GaveItems, StandsBehind, TakesPiece, IsReading, within_trees};
+ghost use Rattle.gob_tool.specs.Gathering.{Gathered, GaveItems, StandsBehind, TakesPiece, within_trees};
 ghost use Rattle.gob_tool.specs.Gathering.{CountsOnlyReads, CountsOnlyWrites};
 
 use crate::fault::ToolFault;
@@ -110,7 +110,6 @@ fn show_piece<W: Write>(
     lines: &mut Lines,
     output: &mut Output<W>,
 ) -> Result<(), ToolFault>
-    requires { IsReading session.old.reading }
     ensures shown { (bytes : List ℕ) (start : Option (List ℕ))
         → StandsBehind session.old.reading bytes start (W.contents output.old.writer) lines.old.gathered.items
         → TakesPiece (within_trees session.old.reading.limits) session.new.reading (bytes ++ piece.now)

@@ -1,6 +1,6 @@
 use Rattle.std.proofs.Common.{[], append-nil, sym, ap, ◌∙◌}
 use Rattle.gob_stream.specs.declared.fault.Fault.TheVariants as fault
-use Rattle.gob_stream.specs.Standing.{no_deeper, stands_after}
+use Rattle.gob_stream.specs.Standing.{no_deeper}
 use Rattle.gob_examples.specs.Pieces.{joined, HasOutcome}
 use Rattle.gob_examples.proofs.Outcomes.{passed_on, begins_with_none, piece_stops, piece_taken, pieces_end}
 use Rattle.gob_examples.proofs.pieces.read_pieces.Goals as goal
@@ -18,9 +18,6 @@ loop-piece-init c = record {
   given = record { given = []; appended = sym (append-nil c.args.out.now.items); holds = c.in_ok-session.ensures.stands };
 }
 
-pub feed-requires : goal.feed-requires
-feed-requires c = stands_after c.loop-piece.invariant.given.holds
-
 pub returns-in_err-feed : goal.returns-in_err-feed
 returns-in_err-feed c =
     let limits = ap (λ L. no_deeper 1000 L) c.loop-piece.invariant.limits ∙ c.limits_stay.ensures 1000 c.args.limits c.in_ok-session.ensures.allowed.depth in
@@ -34,9 +31,6 @@ loop-piece-preserved c =
       limits = c.in_ok-feed.ensures.limits ∙ c.loop-piece.invariant.limits;
       given = piece_taken c.loop-piece.session.reading c.feed.new.self.reading c.args.pieces.now c.loop-piece.piece-index c.piece-item.result tt c.piece-item.is c.loop-piece-test.true c.loop-piece.invariant.given fed;
     }
-
-pub finish-requires : goal.finish-requires
-finish-requires c = stands_after c.loop-piece.invariant.given.holds
 
 pub returns : goal.returns
 returns c =

@@ -12,7 +12,6 @@ loop-item-init g c =
     let begun = c.requires.new in
     record {
       given = given_none (λ bytes e. known_taken e ((stood_first (g.R.Read.remaining c.args.input.now.reader)).each [] [] c.requires.stands));
-      usable = c.requires.usable;
       limits = refl;
       failures = refl;
       taken = omega (arith, c.args.input.now.taken_fits);
@@ -41,7 +40,6 @@ loop-item-preserved g c =
           stands_next c.loop-item.session.reading c.read_item.new.self.reading given (g.R.Read.remaining c.read_item.new.input.reader) c.in-Some.item c.in-Some.is p
           (c.in_ok-item.ensures.read (item_views given) p.bytes p.taken.left p.holds p.taken.known))
           c.loop-item.invariant.given;
-      usable = c.in_ok-item.ensures.usable;
       limits = c.in_ok-item.ensures.limits ∙ c.loop-item.invariant.limits;
       failures = c.in_ok-item.ensures.counted ∙ c.loop-item.invariant.failures;
       taken = omega (arith, c.args.input.now.taken_fits);

@@ -2,7 +2,7 @@ use Rattle.std.proofs.Common.{◌≡◌, ℕ, ◌-◌, ◌≤◌, List, Some}
 use Rattle.gob_stream.specs.Devices.{counts_up}
 use Rattle.gob_stream.specs.Item.{item_views}
 use Rattle.gob_stream.specs.Reading.{SomeTaken, Given}
-use Rattle.gob_stream.specs.Standing.{StandsAfter, IsUsable}
+use Rattle.gob_stream.specs.Standing.{StandsAfter}
 use Rattle.gob_stream.proofs.SessionSteps.{told_trees}
 use Rattle.gob_stream.proofs.read.read_items.Given as goal
 
@@ -10,7 +10,6 @@ abbrev pub invariant-loop-item : goal.invariant-loop-item
 invariant-loop-item g l = record {
   given : Given l.initial.out.items l.out.items
       (λ given. (bytes : List ℕ) → g.R.Read.remaining l.initial.input.reader ≡ Some bytes → SomeTaken bytes (g.R.Read.remaining l.input.reader) (λ taken. StandsAfter told_trees told_trees 1000 l.session.reading (item_views given) taken));
-  usable : IsUsable told_trees told_trees 1000 l.session.reading;
   limits : l.session.reading.limits ≡ l.initial.session.reading.limits;
   failures : l.input.failures ≡ l.initial.input.failures;
   taken : l.input.taken ≡ counts_up l.initial.input.taken l.session.reading.taken;

@@ -5,18 +5,11 @@ use Rattle.gob_value.specs.declared.value.Value.{Value}
 use Rattle.gob_stream.specs.declared.fault.Fault.TheVariants as reading
 use Rattle.gob_stream.specs.declared.item.Item as declared
 use Rattle.gob_stream.specs.Item.{item_views}
-use Rattle.gob_stream.specs.Standing.{stands_after}
 use Rattle.gob_stream.proofs.PublicLaws.{after_gives}
 use Rattle.gob_tool.proofs.GatherLaws.{shown_given}
 use Rattle.gob_tool.proofs.ShowLaws.{read_none}
 use Rattle.gob_tool.proofs.PieceLaws.{piece_at, counts_piece_at, gives_none, ends_whole, ends_within, finish_unread, gives_fed, gives_stopped, feed_unread}
 use Rattle.gob_tool.proofs.pieces.next_items.Goals as goal
-
-pub finish-requires : goal.finish-requires
-finish-requires g c = stands_after c.requires.stands.gave
-
-pub feed-requires : goal.feed-requires
-feed-requires g c = stands_after c.requires.stands.gave
 
 pub returns-in-Err-clause-gave : goal.returns-in-Err-clause-gave
 returns-in-Err-clause-gave g c = λ before taken gave.

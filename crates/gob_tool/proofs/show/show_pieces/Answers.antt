@@ -1,7 +1,6 @@
 -- From piece to piece the session stands behind what was read, and each end is that of the stream.
 use Rattle.std.proofs.Common.{◌≡◌, ◌<◌, ◌∙◌, ◌++◌, length, take, arith, refl, length-take}
 use Rattle.std.proofs.KnownBytes.{Consumes-trans}
-use Rattle.gob_stream.specs.Standing.{stands_after}
 use Rattle.gob_tool.specs.Fault.{reading_fault}
 use Rattle.gob_tool.specs.Gathering.{Gathered, within_trees}
 use Rattle.gob_tool.specs.Showing.{AppendsFront}
@@ -10,12 +9,6 @@ use Rattle.gob_tool.proofs.show.show_pieces.Goals as goal
 
 pub pieces-init : goal.pieces-init
 pieces-init g c = (refl, refl, refl, reads_first _ _ _ _ c.requires.stands c.requires.lines)
-
-pub finish-requires : goal.finish-requires
-finish-requires g c = stands_after c.pieces.invariant.3.behind.gave
-
-pub show_piece-requires : goal.show_piece-requires
-show_piece-requires g c = stands_after c.pieces.invariant.3.behind.gave
 
 pub returns-in_err-finish-in-Ok-eq0-clause-shown : goal.returns-in_err-finish-in-Ok-eq0-clause-shown
 returns-in_err-finish-in-Ok-eq0-clause-shown g c = λ bytes known.
