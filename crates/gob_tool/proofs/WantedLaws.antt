@@ -111,9 +111,8 @@ wanted_at L bytes now T (Ok b) e x h = absurd x
 wanted_at L bytes now T (Err f) e x h = subst (λ e. ReadsWanted L bytes now T (Err e)) (sym x) h
 
 -- ---- what stopped it
-pub lacks_as : (M L : Bounds) (bytes : List ℕ) (now : Option (List ℕ)) (T : Table) (e : Fault) (f : ToolFault) → M ≡ L → f ≡ wanted_fault e → ReadsWanted M bytes now T (Err e) → LacksWanted L bytes now f
-lacks_as M L bytes now T e f same is read =
-    subst (λ (f : ToolFault). LacksWanted L bytes now f) (sym is) (at e (subst (λ (M : Bounds). ReadsWanted M bytes now T (Err e)) same read))
+pub lacks_as : (L : Bounds) (bytes : List ℕ) (now : Option (List ℕ)) (T : Table) (e : Fault) (f : ToolFault) → f ≡ wanted_fault e → ReadsWanted L bytes now T (Err e) → LacksWanted L bytes now f
+lacks_as L bytes now T e f is read = subst (λ (f : ToolFault). LacksWanted L bytes now f) (sym is) (at e read)
   where
     at : (e : Fault) → ReadsWanted L bytes now T (Err e) → LacksWanted L bytes now (wanted_fault e)
     at (reading.Refused R) h = h

@@ -24,7 +24,7 @@ returns-in_err-session-clause-shown g c = λ bytes known.
 pub returns-clause-shown : goal.returns-clause-shown
 returns-clause-shown g c = λ bytes known.
     let old = g.W.Write.contents c.args.output.now.writer in
-    let new = g.W.Write.contents c.show_pieces.new.output.writer in
-    let next = g.R.Read.remaining c.show_pieces.new.input.reader in
+    let new = g.W.Write.contents c.show_pieces-shown.new.output.writer in
+    let next = g.R.Read.remaining c.show_pieces-shown.new.input.reader in
     let limits = ap (λ L. within_trees L) c.in_ok-session.ensures.limits ∙ limits_stay _ _ c.in_ok-session.ensures.allowed.depth in
-    subst (λ L. Runs L bytes next (Gathered old new c.show_pieces.new.lines.gathered.items) (AppendsFront old new) c.show_pieces.result) limits (c.show_pieces.ensures.shown bytes known)
+    subst (λ L. Runs L bytes next (Gathered old new c.show_pieces-shown.new.lines.gathered.items) (AppendsFront old new) c.show_pieces-shown.result) limits (c.show_pieces-shown.ensures.shown bytes known)

@@ -26,7 +26,7 @@ returns-in_err-session-clause-taken g c = λ bytes known.
 pub returns-clause-taken : goal.returns-clause-taken
 returns-clause-taken g c = λ bytes known.
     let old = g.W.Write.contents c.args.output.now.writer in
-    let new = g.W.Write.contents c.take_pieces.new.output.writer in
-    let next = g.R.Read.remaining c.take_pieces.new.input.reader in
+    let new = g.W.Write.contents c.take_pieces-taken.new.output.writer in
+    let next = g.R.Read.remaining c.take_pieces-taken.new.input.reader in
     let limits = ap (λ L. within_trees L) c.in_ok-session.ensures.limits ∙ limits_stay _ _ c.in_ok-session.ensures.allowed.depth in
-    subst (λ L. Receiving L bytes next (types c.args.wanted.now) c.args.wanted_id (λ lines. PassesSome old new lines c.take_pieces.new.lines.gathered.items) (AppendsFront old new) c.take_pieces.result) limits (c.take_pieces.ensures.taken bytes known)
+    subst (λ L. Receiving L bytes next (types c.args.wanted.now) c.args.wanted_id (λ lines. PassesSome old new lines c.take_pieces-taken.new.lines.gathered.items) (AppendsFront old new) c.take_pieces-taken.result) limits (c.take_pieces-taken.ensures.taken bytes known)
