@@ -74,8 +74,9 @@ impl<'a> Receiver<'a> {
             }
         }
         let matched = match_types(alloc, self.stream, id, self.wanted, self.wanted_id)?;
-        let received = receive(alloc, &matched, value)?;
-        self.last = Some(Known { id, matched });
-        Ok(received)
+        let received = receive(alloc, &matched, value);
+        // (By a call, as in `run_take`.)
+        drop(self.last.replace(Known { id, matched }));
+        Ok(received?)
     }
 }

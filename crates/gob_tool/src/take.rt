@@ -217,8 +217,29 @@ fn take_piece<W: Write>(
     ensures writes { CountsOnlyWrites output.old.failures output.new.failures result }
 {
     let mut receiver = Receiver::new(stream, wanted, wanted_id);
+    let taken = take_each(alloc, items, &mut receiver, lines, output);
+    drop(receiver);
+    taken
+}
+
+/// The same, by this receiver.
+fn take_each<W: Write>(
+    alloc: Global,
+    items: &[Item<Value>],
+    receiver: &mut Receiver<'_>,
+    lines: &mut Lines,
+    output: &mut Output<W>,
+) -> Result<(), ToolFault>
+    requires receiver { IsReceiver receiver.old }
+    requires ready { IsReady (types receiver.old.wanted.now) receiver.old.wanted_id }
+    requires sent { AreSent (types receiver.old.stream.now) (item_views items.now) }
+    ensures taken { TakesItems (types receiver.old.stream.now) (types receiver.old.wanted.now) receiver.old.wanted_id
+        (item_views items.now) (W.contents output.old.writer) (W.contents output.new.writer)
+        lines.old.gathered.items lines.new.gathered.items result }
+    ensures writes { CountsOnlyWrites output.old.failures output.new.failures result }
+{
     for item in items {
-        take_item(alloc, item, &mut receiver, lines, output)?;
+        take_item(alloc, item, receiver, lines, output)?;
     }
     Ok(())
 }
@@ -246,6 +267,9 @@ fn take_item<W: Write>(
     };
     let value = receiver.receive(alloc, *id, value)?;
     let id = receiver.wanted_id;
-    lines.push(alloc, &Item::Put { id, value }, receiver.wanted)?;
+    let received = Item::Put { id, value };
+    let pushed = lines.push(alloc, &received, receiver.wanted);
+    drop(received);
+    pushed?;
     lines.write_many(output)
 }
