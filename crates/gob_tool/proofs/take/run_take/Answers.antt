@@ -14,4 +14,8 @@ pub returns-in-Err-clause-taken : goal.returns-in-Err-clause-taken
 returns-in-Err-clause-taken g c = λ wanted_bytes bytes known left.
     let old = g.W.Write.contents c.args.output.now.writer in
     let new = g.W.Write.contents c.flush.new.self.writer in
-    stops_at_wanted tt (record { unread = left; unwritten = Appends-kept old old new [] (Appends-nil old) c.flush.ensures.bytes })
+    stops_at_wanted tt (record {
+      unread = left;
+      unwritten = Appends-kept old old new [] (Appends-nil old)
+          c.flush.ensures.bytes;
+    })

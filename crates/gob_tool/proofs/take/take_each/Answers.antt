@@ -1,7 +1,8 @@
 -- Item by item more is received, of which some lines go out.
 use Rattle.std.proofs.Common.{◌∙◌, refl, ap, arith, Ok, Err}
 use Rattle.gob_types.specs.Defined.{types}
-use Rattle.gob_tool.proofs.TakeLaws.{sent_at, takes_none, takes_more, takes_stopped, takes_at, ready_as, sent_as, takes_as}
+use Rattle.gob_tool.proofs.TakeLaws.{sent_at, takes_none, takes_more, takes_stopped, takes_at, ready_as, sent_as}
+use Rattle.gob_tool.proofs.TakeLaws.{takes_as}
 use Rattle.gob_tool.proofs.take.take_each.Goals as goal
 
 pub loop-item-init : goal.loop-item-init
@@ -31,7 +32,12 @@ loop-item-preserved g c =
     let same = c.in_ok-take_item.ensures.same in (
       c.in_ok-take_item.ensures.writes ∙ i.0,
       c.in_ok-take_item.ensures.receiver,
-      record { stream = same.stream ∙ was.stream; wanted = same.wanted ∙ was.wanted; wanted_id = same.wanted_id ∙ was.wanted_id },
+      record {
+        stream = same.stream ∙ was.stream;
+        wanted = same.wanted ∙ was.wanted;
+        wanted_id = same.wanted_id
+            ∙ was.wanted_id;
+      },
       takes_more _ _ _ _ _ _ _ _ _ _ _ c.item-item.result i.3
           (takes_as _ _ _ _ _ (Ok tt) (ap (λ d. types d) was.stream) (ap (λ d. types d) was.wanted) was.wanted_id
           c.in_ok-take_item.ensures.taken) c.item-item.is (omega arith),

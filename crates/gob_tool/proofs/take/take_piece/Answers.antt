@@ -15,5 +15,6 @@ take_each-taken-requires-clause-sent g c = sent_as (ap (λ d. types d) c.new-rec
 pub returns-clause-taken : goal.returns-clause-taken
 returns-clause-taken g c =
     let new = c.new-receiver.ensures in
-    takes_as _ _ _ _ _ c.take_each-taken.result (ap (λ d. types d) new.stream) (ap (λ d. types d) new.wanted) new.wanted_id
+    takes_as _ _ _ _ _ c.take_each-taken.result (ap (λ d. types d) new.stream) (ap (λ d. types d) new.wanted)
+    new.wanted_id
     c.take_each-taken.ensures.taken

@@ -10,4 +10,5 @@ returns-clause-found g c = λ bytes known.
     c.wanted_fault.result c.wanted_fault.ensures (c.in-Err.ensures.read bytes known)
 
 pub returns-clause-reads : goal.returns-clause-reads
-returns-clause-reads g c = counts_as c.args.input.now.failures c.read_type.new.input.failures _ c.wanted_fault.result c.wanted_fault.ensures c.in-Err.ensures.reads
+returns-clause-reads g c = counts_as c.args.input.now.failures c.read_type.new.input.failures _ c.wanted_fault.result
+    c.wanted_fault.ensures c.in-Err.ensures.reads
