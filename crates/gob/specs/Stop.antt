@@ -24,7 +24,8 @@ stop_line (Words fault) = codes "gob: bad arguments"
 stop_line (Run fault) = fault_line fault
 
 -- a run of the command over a wanted stream and an input with these bytes, and an output with the old ones, ends so
-pub record EndsRun (command : Chosen) (wanted bytes : List ℕ) (old : Option (List ℕ)) (result : Result (Unit {0}) ToolFault) : Type 0 where
+pub record EndsRun (command : Chosen) (wanted bytes : List ℕ) (old : Option (List ℕ))
+    (result : Result (Unit {0}) ToolFault) : Type 0 where
   -- what is left of the wanted stream and of the input, and what the output has then
   pub wanted_now : Option (List ℕ)
   pub now : Option (List ℕ)

@@ -2,8 +2,8 @@
 //!
 //! `gob show [IN]` reads the file IN, or standard input without one, and prints a line for each item on standard
 //! output. `gob take WANTED [IN]` receives each value of IN as one of the type of the first value in the file WANTED,
-//! and prints a line for each. Where it stops at a fault, it prints a line on standard error. Its exit status is 0 for a
-//! whole stream, 1 for an input that is no stream or has values that don't match, and 2 for all else.
+//! and prints a line for each. Where it stops at a fault, it prints a line on standard error. Its exit status is 0 for
+//! a whole stream, 1 for an input that is no stream or has values that don't match, and 2 for all else.
 #![tactic(auto)]
 
 ghost use Rattle.std.specs.Prelude.{◌≡◌, ℕ, List, Some, MatchResult};

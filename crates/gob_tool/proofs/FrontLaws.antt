@@ -9,6 +9,7 @@ pub front_grown : (old mid new : Option (List ℕ)) (bytes rest later : List ℕ
     → (front : List ℕ) × (bytes ≡ front ++ later) × Appends old new front
 front_grown old mid new bytes rest later n e so more = (
   so.0 ++ take n rest,
-  so.1 ∙ ap (λ (l : List ℕ). so.0 ++ l) (sym (take-append-drop n rest) ∙ ap (λ (l : List ℕ). take n rest ++ l) (sym e)) ∙ sym (append_assoc so.0 (take n rest) later),
+  so.1 ∙ ap (λ (l : List ℕ). so.0 ++ l) (sym (take-append-drop n rest) ∙ ap (λ (l : List ℕ). take n rest ++ l) (sym e))
+      ∙ sym (append_assoc so.0 (take n rest) later),
   Appends-trans old mid new so.0 (take n rest) so.2 more,
 )

@@ -33,7 +33,8 @@ fits_on : {T U : Table} {t : TypeId} {v : Tree} → Keeps T U → FitsWithin T t
 fits_on keeps f = record { bytes = f.bytes; spelled = spells_on keeps f.spelled; within = f.within }
 
 -- each value of a stream is of a type that is ready, and fits it
-pub stream_sent : {base : Table} {L : Bounds} {T V W : Table} {offset : ℕ} {items : List StreamItem} {b : List ℕ} → L.depth ≤ 1000 → Continues base L T offset items b V → Keeps V W → AreSent W items
+pub stream_sent : {base : Table} {L : Bounds} {T V W : Table} {offset : ℕ} {items : List StreamItem} {b : List ℕ}
+    → L.depth ≤ 1000 → Continues base L T offset items b V → Keeps V W → AreSent W items
 stream_sent deep no_more keeps = none_sent
 stream_sent deep (and_then (counted u l s (of_definition p d x n q k)) e r) keeps = defined (stream_sent deep r keeps)
 stream_sent deep (and_then (counted u l s (of_value p d n k)) e r) keeps =
@@ -51,7 +52,8 @@ sent_later (i ∷ items) others (defined s) = sent_later items others s
 sent_later (i ∷ items) others (sent r f s) = sent_later items others s
 
 -- the type of a stream's last value is ready
-last_ready : {base : Table} {L : Bounds} {T V : Table} {offset : ℕ} {b : List ℕ} {t : TypeId} (v : Tree) (items : List StreamItem) → Continues base L T offset (items ++ puts t v ∷ []) b V → IsReady V t
+last_ready : {base : Table} {L : Bounds} {T V : Table} {offset : ℕ} {b : List ℕ} {t : TypeId} (v : Tree)
+    (items : List StreamItem) → Continues base L T offset (items ++ puts t v ∷ []) b V → IsReady V t
 last_ready v [] (and_then (counted u l s (of_value p d n k)) e r) = ready_on (stream_keeps r) p.ready
 last_ready v (i ∷ items) (and_then q e r) = last_ready v items r
 
@@ -61,17 +63,21 @@ fits_there keeps (tagged e s p) = record { bytes = _; spelled = spells_on keeps 
 
 -- ---- what is received
 module _ {U : Table} {u : TypeId} (wanted : IsReady U u) where
-  pub received_on : {base : Table} {L : Bounds} {T V W : Table} {offset : ℕ} {items : List StreamItem} {b lines : List ℕ} → Continues base L T offset items b V → Keeps V W → AreReceived V U u items lines
+  pub received_on : {base : Table} {L : Bounds} {T V W : Table} {offset : ℕ} {items : List StreamItem}
+      {b lines : List ℕ} → Continues base L T offset items b V → Keeps V W → AreReceived V U u items lines
       → AreReceived W U u items lines
   received_on no_more keeps no_item = no_item
-  received_on (and_then (counted x l s (of_definition p d y n q k)) e r) keeps (definition h) = definition (received_on r keeps h)
+  received_on (and_then (counted x l s (of_definition p d y n q k)) e r) keeps (definition h) = definition
+      (received_on r keeps h)
   received_on (and_then (counted x l s (of_value p d n k)) e r) keeps (value m w h) =
       value (match_on keeps (ready_on (stream_keeps r) p.ready) wanted m) (receives_on keeps w) (received_on r keeps h)
 
-  pub received_back : {base : Table} {L : Bounds} {T V W : Table} {offset : ℕ} {items : List StreamItem} {b lines : List ℕ} → Continues base L T offset items b V → Keeps V W → AreReceived W U u items lines
+  pub received_back : {base : Table} {L : Bounds} {T V W : Table} {offset : ℕ} {items : List StreamItem}
+      {b lines : List ℕ} → Continues base L T offset items b V → Keeps V W → AreReceived W U u items lines
       → AreReceived V U u items lines
   received_back no_more keeps no_item = no_item
-  received_back (and_then (counted x l s (of_definition p d y n q k)) e r) keeps (definition h) = definition (received_back r keeps h)
+  received_back (and_then (counted x l s (of_definition p d y n q k)) e r) keeps (definition h) = definition
+      (received_back r keeps h)
   received_back (and_then (counted x l s (of_value p d n k)) e r) keeps (value m w h) =
       let ready = ready_on (stream_keeps r) p.ready in
       let there = match_back keeps ready wanted m in
@@ -83,34 +89,59 @@ pub record BeginsSo (L : Bounds) (bytes : List ℕ) (items : List StreamItem) (T
   pub begins : BeginsWith base_table L bytes items
   pub keeps : Keeps begins.table T
 
-pub first_begins : {L : Bounds} {bytes : List ℕ} {T : Table} {items : List StreamItem} (first left : List StreamItem) → items ≡ first ++ left → TypesBehind L bytes items T → BeginsSo L bytes first T
+pub first_begins : {L : Bounds} {bytes : List ℕ} {T : Table} {items : List StreamItem} (first left : List StreamItem)
+    → items ≡ first ++ left → TypesBehind L bytes items T → BeginsSo L bytes first T
 first_begins {L = L} {T = T} first left whole t =
-    let longer = subst (λ (l : List StreamItem). Stream base_table L l t.front T) (ap (λ (l : List StreamItem). l ++ t.more) whole ∙ append_assoc first left t.more) t.stream in
+    let longer = subst (λ (l : List StreamItem). Stream base_table L l t.front T)
+    (ap (λ (l : List StreamItem). l ++ t.more) whole ∙ append_assoc first left t.more) t.stream in
     let f = first_items first (left ++ t.more) longer in
     record {
-      begins = record { front = f.front; rest = f.rest ++ t.rest; table = f.table; stream = f.stream; whole = t.whole ∙ ap (λ (l : List ℕ). l ++ t.rest) f.whole ∙ append_assoc f.front f.rest t.rest };
+      begins = record {
+        front = f.front;
+        rest = f.rest ++ t.rest;
+        table = f.table;
+        stream = f.stream;
+        whole = t.whole
+            ∙ ap (λ (l : List ℕ). l ++ t.rest) f.whole ∙ append_assoc f.front f.rest t.rest;
+      };
       keeps = f.keeps;
     }
 
 -- all that begin so have the same types
-pub keeps_of : {L : Bounds} {bytes : List ℕ} {T : Table} {items : List StreamItem} → TypesBehind L bytes items T → (b : BeginsWith base_table L bytes items) → Keeps b.table T
+pub keeps_of : {L : Bounds} {bytes : List ℕ} {T : Table} {items : List StreamItem} → TypesBehind L bytes items T
+    → (b : BeginsWith base_table L bytes items) → Keeps b.table T
 keeps_of {L = L} {bytes = bytes} {T = T} {items = items} t b =
     let f = first_begins items [] (sym (append-nil items)) t in
     let a = f.begins in
-    let same = one_table L bytes items a.table b.table (record { front = a.front; rest = a.rest; stream = a.stream; whole = a.whole }) (record { front = b.front; rest = b.rest; stream = b.stream; whole = b.whole }) in
+    let same = one_table L bytes items a.table b.table
+    (record { front = a.front; rest = a.rest; stream = a.stream; whole = a.whole })
+    (record { front = b.front; rest = b.rest; stream = b.stream; whole = b.whole }) in
     subst (λ (V : Table). Keeps V T) same f.keeps
 
 module _ {L : Bounds} {bytes : List ℕ} {T U : Table} {u : TypeId} (wanted : IsReady U u) where
   -- the lines are the same by the types of any stream of the items
-  pub received_begins : {items : List StreamItem} {P : List ℕ → Type 0} → TypesBehind L bytes items T → (b : BeginsWith base_table L bytes items) → HasReceived T U u items P → HasReceived b.table U u items P
-  received_begins t b h = record { lines = h.lines; received = received_back wanted b.stream (keeps_of t b) h.received; holds = h.holds }
+  pub received_begins : {items : List StreamItem} {P : List ℕ → Type 0} → TypesBehind L bytes items T
+      → (b : BeginsWith base_table L bytes items) → HasReceived T U u items P → HasReceived b.table U u items P
+  received_begins t b h = record
+      { lines = h.lines; received = received_back wanted b.stream (keeps_of t b) h.received; holds = h.holds }
 
-  pub received_front : {items : List StreamItem} {P : List ℕ → Type 0} → TypesBehind L bytes items T → ReceivesFirst T U u items P → ReceivesFront L bytes U u P
+  pub received_front : {items : List StreamItem} {P : List ℕ → Type 0} → TypesBehind L bytes items T
+      → ReceivesFirst T U u items P → ReceivesFront L bytes U u P
   received_front t h =
       let b = first_begins h.first h.left h.whole t in
-      record { items = h.first; begins = b.begins; received = record { lines = h.received.lines; received = received_back wanted b.begins.stream b.keeps h.received.received; holds = h.received.holds } }
+      record {
+        items = h.first;
+        begins = b.begins;
+        received = record {
+          lines = h.received.lines;
+          received = received_back wanted b.begins.stream b.keeps h.received.received;
+          holds
+              = h.received.holds;
+        };
+      }
 
-  pub clashes_behind : {items : List StreamItem} {path : List Step} {reason : ClashReason} {P : List ℕ → Type 0} → TypesBehind L bytes items T → ClashesNext T U u items (λ t. IsLeastClash T U t u path reason) P
+  pub clashes_behind : {items : List StreamItem} {path : List Step} {reason : ClashReason} {P : List ℕ → Type 0}
+      → TypesBehind L bytes items T → ClashesNext T U u items (λ t. IsLeastClash T U t u path reason) P
       → ClashesBehind L bytes U u path reason P
   clashes_behind t h =
       let here = puts h.id h.value in
@@ -123,6 +154,11 @@ module _ {L : Bounds} {bytes : List ℕ} {T U : Table} {u : TypeId} (wanted : Is
         id = h.id;
         value = h.value;
         begins = b.begins;
-        received = record { lines = h.received.lines; received = received_on wanted f.stream f.keeps back; holds = h.received.holds };
+        received = record {
+          lines = h.received.lines;
+          received = received_on wanted f.stream f.keeps back;
+          holds =
+              h.received.holds;
+        };
         clash = least_back b.keeps ready wanted h.clash;
       }

@@ -1,5 +1,6 @@
 -- How a run that gathers lines goes on from piece to piece, and how it ends.
-use Rattle.std.proofs.Common.{◌≡◌, ◌≢◌, ℕ, ◌+◌, ◌-◌, ◌<◌, arith, length-append, List, [], ◌++◌, length, take, Option, Some, None, Result, Ok, Err, ◌∙◌, ap, sym, subst, refl, append_assoc, append-nil}
+use Rattle.std.proofs.Common.{◌≡◌, ◌≢◌, ℕ, ◌+◌, ◌-◌, ◌<◌, arith, length-append, List, [], ◌++◌, length, take, Option}
+use Rattle.std.proofs.Common.{Some, None, Result, Ok, Err, ◌∙◌, ap, sym, subst, refl, append_assoc, append-nil}
 use Rattle.std.proofs.lemmas.List.{take-append-le}
 use Rattle.std.specs.Result.{IsErrAnd}
 use Rattle.std.specs.Io.KnownBytes.{Appends, Keeps, Consumes, IsAtEnd}
@@ -20,33 +21,41 @@ use Rattle.gob_stream.specs.Bounds.{Bounds, greatest_depth}
 use Rattle.gob_stream.specs.Item.{StreamItem, item_views}
 use Rattle.gob_stream.specs.Stream.{Stream, no_more}
 use Rattle.gob_stream.specs.Outcome.{BeginsWith, the_end, EndsSo, at_the_end}
-use Rattle.gob_stream.specs.Reading.{GivesOn, SomeTaken, Taken, HasTypesBehind, HasTypesBeyond, IsShown, Feeds, Finishes}
-use Rattle.gob_stream.proofs.PublicLaws.{after_gives, one_table, shown_there, shown_refusal_stays, stands_within, views_meant}
+use Rattle.gob_stream.specs.Reading.{GivesOn, SomeTaken, Taken, HasTypesBehind, HasTypesBeyond, IsShown, Feeds}
+use Rattle.gob_stream.specs.Reading.{Finishes}
+use Rattle.gob_stream.proofs.PublicLaws.{after_gives, one_table, shown_there, shown_refusal_stays, stands_within}
+use Rattle.gob_stream.proofs.PublicLaws.{views_meant}
 use Rattle.gob_tool.specs.declared.fault.ToolFault.{ToolFault}
 use Rattle.gob_tool.specs.declared.fault.ToolFault.TheVariants as fault
 use Rattle.gob_tool.specs.Line.{lines}
 use Rattle.gob_tool.specs.Fault.{reading_fault}
 use Rattle.gob_tool.specs.Showing.{EndsWhole, IsRefused, Gives, Begins, Runs, AppendsFront}
-use Rattle.gob_tool.specs.Gathering.{Gathered, GaveItems, StandsBehind, StandsIn, PassesSome, Gathers, TakesPiece, CountsOnlyReads, within_trees}
+use Rattle.gob_tool.specs.Gathering.{Gathered, GaveItems, StandsBehind, StandsIn, PassesSome, Gathers, TakesPiece}
+use Rattle.gob_tool.specs.Gathering.{CountsOnlyReads, within_trees}
 use Rattle.gob_tool.specs.Pieces.{TypesBehind}
 use Rattle.gob_tool.proofs.LinesStay.{lines_stay, first_items}
 use Rattle.gob_tool.proofs.GatherLaws.{lines_append}
 
 -- ---- lines of the items of a stream
-pub lines_once : {L : Bounds} {U V : Table} {f g : List ℕ} (items : List StreamItem) (x y : List ℕ) → Stream base_table L items f U → Stream base_table L items g V → f ++ x ≡ g ++ y
+pub lines_once : {L : Bounds} {U V : Table} {f g : List ℕ} (items : List StreamItem) (x y : List ℕ)
+    → Stream base_table L items f U → Stream base_table L items g V → f ++ x ≡ g ++ y
     → lines V items ≡ lines U items
 lines_once {L = L} {U = U} {V = V} {f = f} {g = g} items x y p q e =
-    let one = one_table L (f ++ x) items U V (record { front = f; rest = x; stream = p; whole = refl }) (record { front = g; rest = y; stream = q; whole = e }) in
+    let one = one_table L (f ++ x) items U V (record { front = f; rest = x; stream = p; whole = refl })
+    (record { front = g; rest = y; stream = q; whole = e }) in
     ap (λ (T : Table). lines T items) (sym one)
 
 -- bytes begin with a stream and with a longer one: the lines of the first items are the same by the types behind either
-pub same_lines : {L : Bounds} {U V : Table} {f g : List ℕ} (items others : List StreamItem) (x y : List ℕ) → Stream base_table L items f U → Stream base_table L (items ++ others) g V → f ++ x ≡ g ++ y
+pub same_lines : {L : Bounds} {U V : Table} {f g : List ℕ} (items others : List StreamItem) (x y : List ℕ)
+    → Stream base_table L items f U → Stream base_table L (items ++ others) g V → f ++ x ≡ g ++ y
     → lines V items ≡ lines U items
 same_lines items others x y p q e =
     let t = first_items items others q in
-    lines_stay t.stream t.keeps ∙ lines_once items x (t.rest ++ y) p t.stream (e ∙ ap (λ (l : List ℕ). l ++ y) t.whole ∙ append_assoc t.front t.rest y)
+    lines_stay t.stream t.keeps ∙ lines_once items x (t.rest ++ y) p t.stream
+    (e ∙ ap (λ (l : List ℕ). l ++ y) t.whole ∙ append_assoc t.front t.rest y)
 
-pub types_behind : {L : Bounds} {bytes : List ℕ} {items : List StreamItem} {T : Table} → HasTypesBehind L bytes items T → TypesBehind L bytes items T
+pub types_behind : {L : Bounds} {bytes : List ℕ} {items : List StreamItem} {T : Table} → HasTypesBehind L bytes items T
+    → TypesBehind L bytes items T
 types_behind {L = L} {items = items} {T = T} t = record {
   more = [];
   front = t.front;
@@ -55,46 +64,67 @@ types_behind {L = L} {items = items} {T = T} t = record {
   whole = t.whole;
 }
 
-pub types_beyond : {L : Bounds} {bytes : List ℕ} {items : List StreamItem} {T : Table} → HasTypesBeyond L bytes items T → TypesBehind L bytes items T
-types_beyond t = record { more = t.more; front = t.behind.front; rest = t.behind.rest; stream = t.behind.stream; whole = t.behind.whole }
+pub types_beyond : {L : Bounds} {bytes : List ℕ} {items : List StreamItem} {T : Table} → HasTypesBeyond L bytes items T
+    → TypesBehind L bytes items T
+types_beyond t = record {
+  more = t.more;
+  front = t.behind.front;
+  rest = t.behind.rest;
+  stream = t.behind.stream;
+  whole =
+      t.behind.whole;
+}
 
 -- the lines by the types that are behind some items of a stream and more
-begins_lines : {L : Bounds} {bytes : List ℕ} {items : List StreamItem} {T : Table} → TypesBehind L bytes items T → (b : BeginsWith base_table L bytes items) → lines T items ≡ lines b.table items
+begins_lines : {L : Bounds} {bytes : List ℕ} {items : List StreamItem} {T : Table} → TypesBehind L bytes items T
+    → (b : BeginsWith base_table L bytes items) → lines T items ≡ lines b.table items
 begins_lines {items = items} t b = same_lines items t.more b.rest t.rest b.stream t.stream (sym b.whole ∙ t.whole)
 
 -- the lines of what was given behind the others
-lines_given : (T : Table) (items : List StreamItem) (given : List (declared.Item Value)) (more : List StreamItem) → item_views given ≡ more → lines T items ++ lines T (item_views given) ≡ lines T (items ++ more)
-lines_given T items given more e = ap (λ (l : List StreamItem). lines T items ++ lines T l) e ∙ sym (lines_append T items more)
+lines_given : (T : Table) (items : List StreamItem) (given : List (declared.Item Value)) (more : List StreamItem)
+    → item_views given ≡ more → lines T items ++ lines T (item_views given) ≡ lines T (items ++ more)
+lines_given T items given more e = ap (λ (l : List StreamItem). lines T items ++ lines T l) e
+    ∙ sym (lines_append T items more)
 
 -- ---- what goes out, and what is gathered
-gathered_grown : (old mid new : Option (List ℕ)) (gathered more after all : List ℕ) → Gathered old mid gathered all → PassesSome mid new (gathered ++ more) after → Gathered old new after (all ++ more)
+gathered_grown : (old mid new : Option (List ℕ)) (gathered more after all : List ℕ) → Gathered old mid gathered all
+    → PassesSome mid new (gathered ++ more) after → Gathered old new after (all ++ more)
 gathered_grown old mid new gathered more after all g p = record {
   written = g.written ++ p.written;
   out = Appends-trans old mid new g.written p.written g.out p.out;
-  whole = append_assoc g.written p.written after ∙ ap (λ (l : List ℕ). g.written ++ l) (sym p.whole) ∙ sym (append_assoc g.written gathered more) ∙ ap (λ (l : List ℕ). l ++ more) g.whole;
+  whole = append_assoc g.written p.written after ∙ ap (λ (l : List ℕ). g.written ++ l) (sym p.whole)
+      ∙ sym (append_assoc g.written gathered more) ∙ ap (λ (l : List ℕ). l ++ more) g.whole;
 }
 
-front_grown : (old mid new : Option (List ℕ)) (gathered more all : List ℕ) → Gathered old mid gathered all → AppendsFront mid new (gathered ++ more) → AppendsFront old new (all ++ more)
+front_grown : (old mid new : Option (List ℕ)) (gathered more all : List ℕ) → Gathered old mid gathered all
+    → AppendsFront mid new (gathered ++ more) → AppendsFront old new (all ++ more)
 front_grown old mid new gathered more all g f = record {
   front = g.written ++ f.front;
   rest = f.rest;
-  whole = ap (λ (l : List ℕ). l ++ more) (sym g.whole) ∙ append_assoc g.written gathered more ∙ ap (λ (l : List ℕ). g.written ++ l) f.whole ∙ sym (append_assoc g.written f.front f.rest);
+  whole = ap (λ (l : List ℕ). l ++ more) (sym g.whole) ∙ append_assoc g.written gathered more
+      ∙ ap (λ (l : List ℕ). g.written ++ l) f.whole ∙ sym (append_assoc g.written f.front f.rest);
   out = Appends-trans old mid new g.written f.front g.out f.out;
 }
 
-pub front_out : (old mid new : Option (List ℕ)) (gathered all : List ℕ) → Gathered old mid gathered all → AppendsFront mid new gathered → AppendsFront old new all
+pub front_out : (old mid new : Option (List ℕ)) (gathered all : List ℕ) → Gathered old mid gathered all
+    → AppendsFront mid new gathered → AppendsFront old new all
 front_out old mid new gathered all g f =
-    subst (λ (l : List ℕ). AppendsFront old new l) (append-nil all) (front_grown old mid new gathered [] all g (subst (λ (l : List ℕ). AppendsFront mid new l) (sym (append-nil gathered)) f))
+    subst (λ (l : List ℕ). AppendsFront old new l) (append-nil all)
+    (front_grown old mid new gathered [] all g
+    (subst (λ (l : List ℕ). AppendsFront mid new l) (sym (append-nil gathered)) f))
 
-pub all_out : (old mid new : Option (List ℕ)) (gathered all : List ℕ) → Gathered old mid gathered all → Appends mid new gathered → Appends old new all
-all_out old mid new gathered all g a = subst (λ (l : List ℕ). Appends old new l) g.whole (Appends-trans old mid new g.written gathered g.out a)
+pub all_out : (old mid new : Option (List ℕ)) (gathered all : List ℕ) → Gathered old mid gathered all
+    → Appends mid new gathered → Appends old new all
+all_out old mid new gathered all g a = subst (λ (l : List ℕ). Appends old new l) g.whole
+    (Appends-trans old mid new g.written gathered g.out a)
 
 pub whole_front : (old new : Option (List ℕ)) (all : List ℕ) → Appends old new all → AppendsFront old new all
 whole_front old new all a = record { front = all; rest = []; whole = sym (append-nil all); out = a }
 
 -- ---- a piece
 -- the types behind more items are behind the first of them and the others
-fewer : {L : Bounds} {bytes : List ℕ} {T : Table} (items left : List StreamItem) → TypesBehind L bytes (items ++ left) T → TypesBehind L bytes items T
+fewer : {L : Bounds} {bytes : List ℕ} {T : Table} (items left : List StreamItem) → TypesBehind L bytes (items ++ left) T
+    → TypesBehind L bytes items T
 fewer {L = L} {T = T} items left t = record {
   more = left ++ t.more;
   front = t.front;
@@ -104,32 +134,45 @@ fewer {L = L} {T = T} items left t = record {
 }
 
 -- some of the items of a stream, with what holds of their lines
-begins_at : {L : Bounds} {bytes : List ℕ} {items : List StreamItem} {T : Table} (P : List ℕ → Type 0) → TypesBehind L bytes items T → P (lines T items) → Begins L bytes P
+begins_at : {L : Bounds} {bytes : List ℕ} {items : List StreamItem} {T : Table} (P : List ℕ → Type 0)
+    → TypesBehind L bytes items T → P (lines T items) → Begins L bytes P
 begins_at {L = L} {bytes = bytes} {items = items} P t h =
     let f = first_items items t.more t.stream in
     let b : BeginsWith base_table L bytes items =
-    record { front = f.front; rest = f.rest ++ t.rest; table = f.table; stream = f.stream; whole = t.whole ∙ ap (λ (l : List ℕ). l ++ t.rest) f.whole ∙ append_assoc f.front f.rest t.rest } in
+    record {
+      front = f.front;
+      rest = f.rest ++ t.rest;
+      table = f.table;
+      stream = f.stream;
+      whole = t.whole
+          ∙ ap (λ (l : List ℕ). l ++ t.rest) f.whole ∙ append_assoc f.front f.rest t.rest;
+    } in
     record { items = items; begins = b; holds = subst P (begins_lines t b) h }
 
 -- how taking a piece ends at the error that a `?` returns
-pub piece_at : (L : Bounds) (s : Reading TreeBuilder Value) (bytes : List ℕ) (old new : Option (List ℕ)) (gathered : List ℕ) (r : Result (Unit {0}) ToolFault) (f : ToolFault) → IsErrAnd r (λ e. e ≡ f)
+pub piece_at : (L : Bounds) (s : Reading TreeBuilder Value) (bytes : List ℕ) (old new : Option (List ℕ))
+    (gathered : List ℕ) (r : Result (Unit {0}) ToolFault) (f : ToolFault) → IsErrAnd r (λ e. e ≡ f)
     → TakesPiece L s bytes old new gathered (Err f) → TakesPiece L s bytes old new gathered r
 piece_at L s bytes old new gathered (Ok u) f e h = absurd e
 piece_at L s bytes old new gathered (Err g) f e h = subst (λ f. TakesPiece L s bytes old new gathered (Err f)) (sym e) h
 
 -- a reader took a piece and gave these items, while a run stood behind the bytes before
-module _ (s s' : Reading TreeBuilder Value) (bytes piece : List ℕ) (given : List (declared.Item Value)) (old mid new : Option (List ℕ)) (gathered after : List ℕ)
+module _ (s s' : Reading TreeBuilder Value) (bytes piece : List ℕ) (given : List (declared.Item Value))
+    (old mid new : Option (List ℕ)) (gathered after : List ℕ)
     (same : s'.limits ≡ s.limits) (b : StandsBehind s bytes old mid gathered) where
   -- wherever it stops, the types are those behind what it gave, and perhaps behind more
-  fed_types : (r : Result (Unit {0}) Fault) → Feeds tree_builder.stands-value.it tree_builder.stands-value.it tree_builder.means-value.it greatest_depth s s' b.items bytes piece given r
-      → GivesOn tree_builder.means-value.it given b.items (λ all. TypesBehind (within_trees s.limits) (bytes ++ piece) all (types s'.types))
+  fed_types : (r : Result (Unit {0}) Fault) → Feeds tree_builder.stands-value.it tree_builder.stands-value.it
+      tree_builder.means-value.it greatest_depth s s' b.items bytes piece given r
+      → GivesOn tree_builder.means-value.it given b.items
+      (λ all. TypesBehind (within_trees s.limits) (bytes ++ piece) all (types s'.types))
   fed_types (Ok u) f = record {
     more = f.more;
     mean = f.mean;
     holds = types_behind (record {
       front = f.holds.front;
       rest = f.holds.under_way;
-      stream = subst (λ (L : Bounds). Stream base_table (within_trees L) (b.items ++ f.more) f.holds.front (types s'.types)) same f.holds.stream;
+      stream = subst (λ (L : Bounds). Stream base_table (within_trees L) (b.items ++ f.more) f.holds.front
+          (types s'.types)) same f.holds.stream;
       whole = f.holds.whole;
     });
   }
@@ -139,23 +182,32 @@ module _ (s s' : Reading TreeBuilder Value) (bytes piece : List ℕ) (given : Li
   fed_types (Err reading.Failed) f = absurd f
 
   -- what was gathered before, by the types of now
-  by_types_of_now : (more : List StreamItem) → TypesBehind (within_trees s.limits) (bytes ++ piece) (b.items ++ more) (types s'.types) → Gathered old mid gathered (lines (types s'.types) b.items)
+  by_types_of_now : (more : List StreamItem) → TypesBehind (within_trees s.limits) (bytes ++ piece) (b.items ++ more)
+      (types s'.types) → Gathered old mid gathered (lines (types s'.types) b.items)
   by_types_of_now more t =
-      let longer = subst (λ (l : List StreamItem). Stream base_table (within_trees s.limits) l t.front (types s'.types)) (append_assoc b.items more t.more) t.stream in
-      let whole = sym (append_assoc b.gave.front b.gave.under_way piece) ∙ ap (λ (l : List ℕ). l ++ piece) (sym b.gave.whole) ∙ t.whole in
+      let longer = subst (λ (l : List StreamItem). Stream base_table (within_trees s.limits) l t.front (types s'.types))
+      (append_assoc b.items more t.more) t.stream in
+      let whole = sym (append_assoc b.gave.front b.gave.under_way piece)
+      ∙ ap (λ (l : List ℕ). l ++ piece) (sym b.gave.whole) ∙ t.whole in
       let kept = same_lines b.items (more ++ t.more) (b.gave.under_way ++ piece) t.rest b.gave.stream longer whole in
       subst (λ (l : List ℕ). Gathered old mid gathered l) (sym kept) b.out
 
   -- all of their lines were gathered
-  all_gathered : (more : List StreamItem) → item_views given ≡ more → TypesBehind (within_trees s.limits) (bytes ++ piece) (b.items ++ more) (types s'.types)
-      → PassesSome mid new (gathered ++ lines (types s'.types) (item_views given)) after → Gathered old new after (lines (types s'.types) (b.items ++ more))
+  all_gathered : (more : List StreamItem) → item_views given ≡ more
+      → TypesBehind (within_trees s.limits) (bytes ++ piece) (b.items ++ more) (types s'.types)
+      → PassesSome mid new (gathered ++ lines (types s'.types) (item_views given)) after
+      → Gathered old new after (lines (types s'.types) (b.items ++ more))
   all_gathered more mean t p =
-      let grown = gathered_grown old mid new gathered (lines (types s'.types) (item_views given)) after (lines (types s'.types) b.items) (by_types_of_now more t) p in
+      let grown = gathered_grown old mid new gathered (lines (types s'.types) (item_views given)) after
+      (lines (types s'.types) b.items) (by_types_of_now more t) p in
       subst (λ (l : List ℕ). Gathered old new after l) (lines_given (types s'.types) b.items given more mean) grown
 
   -- memory was wanting for a line, or a write failed
-  pub piece_stopped : (fed : Result (Unit {0}) Fault) (f : ToolFault) → Feeds tree_builder.stands-value.it tree_builder.stands-value.it tree_builder.means-value.it greatest_depth s s' b.items bytes piece given fed
-      → Gathers (types s'.types) (item_views given) mid new gathered after (Err f) → TakesPiece (within_trees s.limits) s' (bytes ++ piece) old new after (Err f)
+  pub piece_stopped : (fed : Result (Unit {0}) Fault) (f : ToolFault)
+      → Feeds tree_builder.stands-value.it tree_builder.stands-value.it tree_builder.means-value.it greatest_depth s s'
+      b.items bytes piece given fed
+      → Gathers (types s'.types) (item_views given) mid new gathered after (Err f)
+      → TakesPiece (within_trees s.limits) s' (bytes ++ piece) old new after (Err f)
   piece_stopped fed (fault.Refused R) f h = absurd h
   piece_stopped fed (fault.Wanted R) f h = absurd h
   piece_stopped fed fault.NoWantedType f h = absurd h
@@ -163,26 +215,38 @@ module _ (s s' : Reading TreeBuilder Value) (bytes piece : List ℕ) (given : Li
   piece_stopped fed fault.Read f h = absurd h
   piece_stopped fed fault.Write f h =
       let on = fed_types fed f in
-      let grown = front_grown old mid new gathered (lines (types s'.types) (item_views given)) (lines (types s'.types) b.items) (by_types_of_now on.more on.holds) h in
-      begins_at (AppendsFront old new) on.holds (subst (λ (l : List ℕ). AppendsFront old new l) (lines_given (types s'.types) b.items given on.more (views_meant on.mean)) grown)
+      let grown = front_grown old mid new gathered (lines (types s'.types) (item_views given))
+      (lines (types s'.types) b.items) (by_types_of_now on.more on.holds) h in
+      begins_at (AppendsFront old new) on.holds
+      (subst (λ (l : List ℕ). AppendsFront old new l)
+      (lines_given (types s'.types) b.items given on.more (views_meant on.mean)) grown)
   piece_stopped fed fault.Memory f h =
       let on = fed_types fed f in
-      let first : b.items ++ on.more ≡ (b.items ++ h.first) ++ h.left = ap (λ (l : List StreamItem). b.items ++ l) (sym (views_meant on.mean) ∙ h.whole) ∙ sym (append_assoc b.items h.first h.left) in
-      let t = fewer (b.items ++ h.first) h.left (subst (λ (l : List StreamItem). TypesBehind (within_trees s.limits) (bytes ++ piece) l (types s'.types)) first on.holds) in
-      let grown = gathered_grown old mid new gathered (lines (types s'.types) h.first) after (lines (types s'.types) b.items) (by_types_of_now on.more on.holds) h.passes in
-      begins_at (Gathered old new after) t (subst (λ (l : List ℕ). Gathered old new after l) (sym (lines_append (types s'.types) b.items h.first)) grown)
+      let first : b.items ++ on.more ≡ (b.items ++ h.first) ++ h.left = ap (λ (l : List StreamItem). b.items ++ l)
+      (sym (views_meant on.mean) ∙ h.whole) ∙ sym (append_assoc b.items h.first h.left) in
+      let t = fewer (b.items ++ h.first) h.left
+      (subst (λ (l : List StreamItem). TypesBehind (within_trees s.limits) (bytes ++ piece) l (types s'.types))
+      first on.holds) in
+      let grown = gathered_grown old mid new gathered (lines (types s'.types) h.first) after
+      (lines (types s'.types) b.items) (by_types_of_now on.more on.holds) h.passes in
+      begins_at (Gathered old new after) t
+      (subst (λ (l : List ℕ). Gathered old new after l) (sym (lines_append (types s'.types) b.items h.first)) grown)
 
   -- all lines were gathered, and the reader goes on
-  pub piece_taken : (u : Unit {0}) → Feeds tree_builder.stands-value.it tree_builder.stands-value.it tree_builder.means-value.it greatest_depth s s' b.items bytes piece given (Ok u)
-      → PassesSome mid new (gathered ++ lines (types s'.types) (item_views given)) after → StandsBehind s' (bytes ++ piece) old new after
+  pub piece_taken : (u : Unit {0}) → Feeds tree_builder.stands-value.it tree_builder.stands-value.it
+      tree_builder.means-value.it greatest_depth s s' b.items bytes piece given (Ok u)
+      → PassesSome mid new (gathered ++ lines (types s'.types) (item_views given)) after
+      → StandsBehind s' (bytes ++ piece) old new after
   unfolding fed_types
   piece_taken u f p =
       let on = fed_types (Ok u) f in
       record { items = b.items ++ f.more; gave = f.holds; out = all_gathered f.more (views_meant f.mean) on.holds p }
 
   -- or it met a fault
-  pub piece_refused : (e : Fault) → Feeds tree_builder.stands-value.it tree_builder.stands-value.it tree_builder.means-value.it greatest_depth s s' b.items bytes piece given (Err e)
-      → PassesSome mid new (gathered ++ lines (types s'.types) (item_views given)) after → TakesPiece (within_trees s.limits) s' (bytes ++ piece) old new after (Err (reading_fault e))
+  pub piece_refused : (e : Fault) → Feeds tree_builder.stands-value.it tree_builder.stands-value.it
+      tree_builder.means-value.it greatest_depth s s' b.items bytes piece given (Err e)
+      → PassesSome mid new (gathered ++ lines (types s'.types) (item_views given)) after
+      → TakesPiece (within_trees s.limits) s' (bytes ++ piece) old new after (Err (reading_fault e))
   piece_refused (reading.Refused R) f p =
       let g = f.0 in
       let shown = g.holds.0 in
@@ -190,139 +254,209 @@ module _ (s s' : Reading TreeBuilder Value) (bytes piece : List ℕ) (given : Li
         record {
           items = b.items ++ g.more;
           outcome = shown.outcome;
-          holds = subst (λ (l : List ℕ). Gathered old new after l) (begins_lines t shown.outcome.gives.begins) (all_gathered g.more (views_meant g.mean) t p);
+          holds = subst (λ (l : List ℕ). Gathered old new after l) (begins_lines t shown.outcome.gives.begins)
+              (all_gathered g.more (views_meant g.mean) t p);
         },
         shown.shown,
       )
   piece_refused reading.Read f p = absurd f
-  piece_refused reading.Memory f p = let t = types_beyond f.holds.1 in begins_at (Gathered old new after) t (all_gathered f.more (views_meant f.mean) t p)
+  piece_refused reading.Memory f p = let t = types_beyond f.holds.1 in begins_at (Gathered old new after) t
+      (all_gathered f.more (views_meant f.mean) t p)
   piece_refused reading.Failed f p = absurd f
 
 -- ---- from piece to piece
-pub reads_first : (s : Reading TreeBuilder Value) (read out : Option (List ℕ)) (gathered : List ℕ) → GaveItems s [] [] → gathered ≡ [] → StandsIn s read read out out gathered
+pub reads_first : (s : Reading TreeBuilder Value) (read out : Option (List ℕ)) (gathered : List ℕ) → GaveItems s [] []
+    → gathered ≡ [] → StandsIn s read read out out gathered
 reads_first s read out gathered gave none = record {
   taken = [];
   input = Consumes-nil read;
   behind = record { items = []; gave = gave; out = record { written = []; out = Appends-nil out; whole = none } };
 }
 
-pub reads_on : {s s' : Reading TreeBuilder Value} (read now next old mid new : Option (List ℕ)) (gathered after piece : List ℕ) (i : StandsIn s read now old mid gathered) → Consumes now next piece
+pub reads_on : {s s' : Reading TreeBuilder Value} (read now next old mid new : Option (List ℕ))
+    (gathered after piece : List ℕ) (i : StandsIn s read now old mid gathered) → Consumes now next piece
     → StandsBehind s' (i.taken ++ piece) old new after → StandsIn s' read next old new after
-reads_on read now next old mid new gathered after piece i c b = record { taken = i.taken ++ piece; input = Consumes-trans read now next i.taken piece i.input c; behind = b }
+reads_on read now next old mid new gathered after piece i c b = record
+    { taken = i.taken ++ piece; input = Consumes-trans read now next i.taken piece i.input c; behind = b }
 
 -- what was consumed of known bytes
-taken_of : (bytes : List ℕ) (now : Option (List ℕ)) (taken : List ℕ) → Consumes (Some bytes) now taken → Taken bytes now taken
+taken_of : (bytes : List ℕ) (now : Option (List ℕ)) (taken : List ℕ) → Consumes (Some bytes) now taken
+    → Taken bytes now taken
 taken_of bytes None taken c = absurd c
 taken_of bytes (Some left) taken c = record { left = left; known = refl; whole = c }
 
-pub known_taken : (read now : Option (List ℕ)) (bytes taken : List ℕ) → read ≡ Some bytes → Consumes read now taken → Taken bytes now taken
-known_taken read now bytes taken known c = taken_of bytes now taken (subst (λ (o : Option (List ℕ)). Consumes o now taken) known c)
+pub known_taken : (read now : Option (List ℕ)) (bytes taken : List ℕ) → read ≡ Some bytes → Consumes read now taken
+    → Taken bytes now taken
+known_taken read now bytes taken known c = taken_of bytes now taken
+    (subst (λ (o : Option (List ℕ)). Consumes o now taken) known c)
 
 -- nothing is left
 pub none_left : (now : Option (List ℕ)) (left : List ℕ) → now ≡ Some left → IsAtEnd now → left ≡ []
 none_left now left e h = subst IsAtEnd e h
 
 -- all was taken
-pub all_taken : (read now next : Option (List ℕ)) (bytes taken : List ℕ) → read ≡ Some bytes → Consumes read now taken → Consumes now next [] → IsAtEnd next → (taken ≡ bytes) × (next ≡ Some [])
+pub all_taken : (read now next : Option (List ℕ)) (bytes taken : List ℕ) → read ≡ Some bytes → Consumes read now taken
+    → Consumes now next [] → IsAtEnd next → (taken ≡ bytes) × (next ≡ Some [])
 all_taken read now next bytes taken known c d h =
     let t = known_taken read next bytes (taken ++ []) known (Consumes-trans read now next taken [] c d) in
-    let none = none_left next t.left t.known h in
-    (sym (t.whole ∙ ap (λ (l : List ℕ). (taken ++ []) ++ l) none ∙ append-nil (taken ++ []) ∙ append-nil taken), t.known ∙ ap Some none)
+    let none = none_left next t.left t.known h in (
+      sym (t.whole ∙ ap (λ (l : List ℕ). (taken ++ []) ++ l) none ∙ append-nil (taken ++ []) ∙ append-nil taken),
+      t.known
+          ∙ ap Some none,
+    )
 
 -- the lines of what a session gave, by the types behind the items of any stream with which the bytes begin
-gave_lines : {s : Reading TreeBuilder Value} {items : List StreamItem} {taken bytes : List ℕ} (more : List ℕ) → bytes ≡ taken ++ more → GaveItems s items taken → (b : BeginsWith base_table (within_trees s.limits) bytes items)
+gave_lines : {s : Reading TreeBuilder Value} {items : List StreamItem} {taken bytes : List ℕ} (more : List ℕ) → bytes
+    ≡ taken ++ more → GaveItems s items taken → (b : BeginsWith base_table (within_trees s.limits) bytes items)
     → lines (types s.types) items ≡ lines b.table items
 gave_lines {items = items} more e a b =
-    lines_once items b.rest (a.under_way ++ more) b.stream a.stream (sym b.whole ∙ e ∙ ap (λ (l : List ℕ). l ++ more) a.whole ∙ append_assoc a.front a.under_way more)
+    lines_once items b.rest (a.under_way ++ more) b.stream a.stream
+    (sym b.whole ∙ e ∙ ap (λ (l : List ℕ). l ++ more) a.whole ∙ append_assoc a.front a.under_way more)
 
 pub record HasTable (L : Bounds) (bytes : List ℕ) (items : List StreamItem) : Type 0 where
   pub table : Table
   pub stream : Stream base_table L items bytes table
 
-pub whole_stream : {L : Bounds} {bytes : List ℕ} {items : List StreamItem} → EndsSo base_table L bytes items the_end → HasTable L bytes items
+pub whole_stream : {L : Bounds} {bytes : List ℕ} {items : List StreamItem} → EndsSo base_table L bytes items the_end
+    → HasTable L bytes items
 whole_stream (at_the_end {T = T} p) = record { table = T; stream = p }
 
 -- the input ended between two items
-pub ended : (M : Bounds) (s s' : Reading TreeBuilder Value) (read now next old new : Option (List ℕ)) (bytes gathered : List ℕ) (u : Unit {0}) → s.limits ≡ M → (i : StandsIn s read now old new gathered) → read ≡ Some bytes → Consumes now next [] → IsAtEnd next
-    → ((items : List StreamItem) (taken : List ℕ) → GaveItems s items taken → Finishes greatest_depth s s' items taken (Ok u)) → EndsWhole (within_trees M) bytes next (Gathered old new gathered)
+pub ended : (M : Bounds) (s s' : Reading TreeBuilder Value) (read now next old new : Option (List ℕ))
+    (bytes gathered : List ℕ) (u : Unit {0}) → s.limits ≡ M → (i : StandsIn s read now old new gathered) → read
+    ≡ Some bytes → Consumes now next [] → IsAtEnd next
+    → ((items : List StreamItem) (taken : List ℕ) → GaveItems s items taken
+    → Finishes greatest_depth s s' items taken (Ok u))
+    → EndsWhole (within_trees M) bytes next (Gathered old new gathered)
 ended M s s' read now next old new bytes gathered u same i known c h finish =
     let all = all_taken read now next bytes i.taken known i.input c h in
     let b = i.behind in
     let o = (finish b.items i.taken b.gave).0 in
     let w = whole_stream o.ends in
-    let begins : BeginsWith base_table (within_trees s.limits) i.taken b.items = record { front = i.taken; rest = []; table = w.table; stream = w.stream; whole = sym (append-nil i.taken) } in
+    let begins : BeginsWith base_table (within_trees s.limits) i.taken b.items = record
+    { front = i.taken; rest = []; table = w.table; stream = w.stream; whole = sym (append-nil i.taken) } in
     subst (λ (L : Bounds). EndsWhole (within_trees L) bytes next (Gathered old new gathered)) same (record {
       items = b.items;
       table = w.table;
       stream = subst (λ l. Stream base_table (within_trees s.limits) b.items l w.table) all.0 w.stream;
       end = all.1;
-      holds = subst (λ (l : List ℕ). Gathered old new gathered l) (gave_lines [] (sym (append-nil i.taken)) b.gave begins) b.out;
+      holds = subst (λ (l : List ℕ). Gathered old new gathered l)
+          (gave_lines [] (sym (append-nil i.taken)) b.gave begins) b.out;
     })
 
 -- or within an item
-pub ended_within : (M : Bounds) (s s' : Reading TreeBuilder Value) (read now next old new : Option (List ℕ)) (bytes gathered : List ℕ) (C : List ℕ → Type 0) (e : Fault) → s.limits ≡ M → (i : StandsIn s read now old new gathered) → read ≡ Some bytes → Consumes now next [] → IsAtEnd next
-    → ((items : List StreamItem) (taken : List ℕ) → GaveItems s items taken → Finishes greatest_depth s s' items taken (Err e)) → Runs (within_trees M) bytes next (Gathered old new gathered) C (Err (reading_fault e))
+pub ended_within : (M : Bounds) (s s' : Reading TreeBuilder Value) (read now next old new : Option (List ℕ))
+    (bytes gathered : List ℕ) (C : List ℕ → Type 0) (e : Fault) → s.limits ≡ M
+    → (i : StandsIn s read now old new gathered) → read ≡ Some bytes → Consumes now next [] → IsAtEnd next
+    → ((items : List StreamItem) (taken : List ℕ) → GaveItems s items taken
+    → Finishes greatest_depth s s' items taken (Err e))
+    → Runs (within_trees M) bytes next (Gathered old new gathered) C (Err (reading_fault e))
 ended_within M s s' read now next old new bytes gathered C (reading.Refused R) same i known c h finish =
     let all = all_taken read now next bytes i.taken known i.input c h in
     let b = i.behind in
     let o = (finish b.items i.taken b.gave).0 in
     subst (λ (L : Bounds). IsRefused (within_trees L) bytes R (Gathered old new gathered)) same
     (subst (λ l. IsRefused (within_trees s.limits) l R (Gathered old new gathered)) all.0
-    (record { items = b.items; outcome = o; holds = subst (λ (l : List ℕ). Gathered old new gathered l) (gave_lines [] (sym (append-nil i.taken)) b.gave o.gives.begins) b.out }))
-ended_within M s s' read now next old new bytes gathered C reading.Read same i known c h finish = absurd (finish i.behind.items i.taken i.behind.gave)
-ended_within M s s' read now next old new bytes gathered C reading.Memory same i known c h finish = absurd (finish i.behind.items i.taken i.behind.gave)
-ended_within M s s' read now next old new bytes gathered C reading.Failed same i known c h finish = absurd (finish i.behind.items i.taken i.behind.gave)
+    (record {
+      items = b.items;
+      outcome = o;
+      holds = subst (λ (l : List ℕ). Gathered old new gathered l)
+          (gave_lines [] (sym (append-nil i.taken)) b.gave o.gives.begins) b.out;
+    }))
+ended_within M s s' read now next old new bytes gathered C reading.Read same i known c h finish = absurd
+    (finish i.behind.items i.taken i.behind.gave)
+ended_within M s s' read now next old new bytes gathered C reading.Memory same i known c h finish = absurd
+    (finish i.behind.items i.taken i.behind.gave)
+ended_within M s s' read now next old new bytes gathered C reading.Failed same i known c h finish = absurd
+    (finish i.behind.items i.taken i.behind.gave)
 
 -- a read failed
-pub read_failed : (M : Bounds) (s : Reading TreeBuilder Value) (read now next old new : Option (List ℕ)) (bytes gathered : List ℕ) → s.limits ≡ M → (i : StandsIn s read now old new gathered) → read ≡ Some bytes → Keeps now next
+pub read_failed : (M : Bounds) (s : Reading TreeBuilder Value) (read now next old new : Option (List ℕ))
+    (bytes gathered : List ℕ) → s.limits ≡ M → (i : StandsIn s read now old new gathered) → read ≡ Some bytes
+    → Keeps now next
     → SomeTaken bytes next (λ taken. Gives (within_trees M) taken (Gathered old new gathered))
 read_failed M s read now next old new bytes gathered same i known k =
     let b = i.behind in
     let g = after_gives b.gave in
-    subst (λ (L : Bounds). SomeTaken bytes next (λ taken. Gives (within_trees L) taken (Gathered old new gathered))) same (record {
+    subst (λ (L : Bounds). SomeTaken bytes next (λ taken. Gives (within_trees L) taken (Gathered old new gathered)))
+    same (record {
       bytes = i.taken;
       taken = known_taken read next bytes i.taken known (Consumes-kept read now next i.taken i.input k);
-      holds = record { items = b.items; given = g; holds = subst (λ (l : List ℕ). Gathered old new gathered l) (gave_lines [] (sym (append-nil i.taken)) b.gave g.begins) b.out };
+      holds = record {
+        items = b.items;
+        given = g;
+        holds = subst (λ (l : List ℕ). Gathered old new gathered l)
+            (gave_lines [] (sym (append-nil i.taken)) b.gave g.begins) b.out;
+      };
     })
 
 -- the same of more bytes
-begins_more : {L : Bounds} {bytes all : List ℕ} {P : List ℕ → Type 0} (more : List ℕ) → all ≡ bytes ++ more → Begins L bytes P → Begins L all P
+begins_more : {L : Bounds} {bytes all : List ℕ} {P : List ℕ → Type 0} (more : List ℕ) → all ≡ bytes ++ more
+    → Begins L bytes P → Begins L all P
 begins_more more e b =
-    record { items = b.items; begins = record { front = b.begins.front; rest = b.begins.rest ++ more; table = b.begins.table; stream = b.begins.stream; whole = e ∙ ap (λ (l : List ℕ). l ++ more) b.begins.whole ∙ append_assoc b.begins.front b.begins.rest more }; holds = b.holds }
+    record {
+      items = b.items;
+      begins = record {
+        front = b.begins.front;
+        rest = b.begins.rest ++ more;
+        table = b.begins.table;
+        stream = b.begins.stream;
+        whole
+            = e ∙ ap (λ (l : List ℕ). l ++ more) b.begins.whole ∙ append_assoc b.begins.front b.begins.rest more;
+      };
+      holds = b.holds;
+    }
 
-refused_more : {L : Bounds} {bytes all : List ℕ} {R : Refusal} {P : List ℕ → Type 0} (more : List ℕ) → all ≡ bytes ++ more → R.reason ≢ reason.Ended → IsRefused L bytes R P → IsRefused L all R P
+refused_more : {L : Bounds} {bytes all : List ℕ} {R : Refusal} {P : List ℕ → Type 0} (more : List ℕ) → all
+    ≡ bytes ++ more → R.reason ≢ reason.Ended → IsRefused L bytes R P → IsRefused L all R P
 refused_more {L = L} {bytes = bytes} {all = all} {R = R} {P = P} more e n b =
     let shown : IsShown L bytes b.items R = record { outcome = b.outcome; shown = n } in
     let there = shown_there shown in
-    let same : take R.seen all ≡ take R.seen bytes = ap (λ (l : List ℕ). take R.seen l) e ∙ take-append-le R.seen bytes more there in
+    let same : take R.seen all ≡ take R.seen bytes = ap (λ (l : List ℕ). take R.seen l) e
+    ∙ take-append-le R.seen bytes more there in
     let stays = (shown_refusal_stays L bytes all b.items R shown same).1 in
     let was = b.outcome.gives.begins in
     let is = stays.outcome.gives.begins in
     let begins = sym is.whole ∙ e ∙ ap (λ (l : List ℕ). l ++ more) was.whole ∙ append_assoc was.front was.rest more in
-    record { items = b.items; outcome = stays.outcome; holds = subst P (lines_once b.items is.rest (was.rest ++ more) is.stream was.stream begins) b.holds }
+    record {
+      items = b.items;
+      outcome = stays.outcome;
+      holds = subst P
+          (lines_once b.items is.rest (was.rest ++ more) is.stream was.stream begins) b.holds;
+    }
 
 -- a piece ended the run
-stopped_there : (L : Bounds) (s : Reading TreeBuilder Value) (read next old new : Option (List ℕ)) (bytes gathered taken : List ℕ) (f : ToolFault) → read ≡ Some bytes → Consumes read next taken
-    → TakesPiece L s taken old new gathered (Err f) → Runs L bytes next (Gathered old new gathered) (AppendsFront old new) (Err f)
-stopped_there L s read next old new bytes gathered taken (fault.Refused R) known c h = let t = known_taken read next bytes taken known c in refused_more t.left t.whole h.1 h.0
+stopped_there : (L : Bounds) (s : Reading TreeBuilder Value) (read next old new : Option (List ℕ))
+    (bytes gathered taken : List ℕ) (f : ToolFault) → read ≡ Some bytes → Consumes read next taken
+    → TakesPiece L s taken old new gathered (Err f)
+    → Runs L bytes next (Gathered old new gathered) (AppendsFront old new) (Err f)
+stopped_there L s read next old new bytes gathered taken (fault.Refused R) known c h = let t = known_taken read next
+    bytes taken known c in refused_more t.left t.whole h.1 h.0
 stopped_there L s read next old new bytes gathered taken (fault.Wanted R) known c h = absurd h
 stopped_there L s read next old new bytes gathered taken fault.NoWantedType known c h = absurd h
 stopped_there L s read next old new bytes gathered taken (fault.Clash path reason) known c h = absurd h
 stopped_there L s read next old new bytes gathered taken fault.Read known c h = absurd h
-stopped_there L s read next old new bytes gathered taken fault.Write known c h = let t = known_taken read next bytes taken known c in begins_more t.left t.whole h
-stopped_there L s read next old new bytes gathered taken fault.Memory known c h = let t = known_taken read next bytes taken known c in begins_more t.left t.whole h
+stopped_there L s read next old new bytes gathered taken fault.Write known c h = let t = known_taken read next bytes
+    taken known c in begins_more t.left t.whole h
+stopped_there L s read next old new bytes gathered taken fault.Memory known c h = let t = known_taken read next bytes
+    taken known c in begins_more t.left t.whole h
 
-pub stopped : (L M : Bounds) (s : Reading TreeBuilder Value) (read next old new : Option (List ℕ)) (bytes gathered taken : List ℕ) (f : ToolFault) → L ≡ M → read ≡ Some bytes → Consumes read next taken
-    → TakesPiece (within_trees L) s taken old new gathered (Err f) → Runs (within_trees M) bytes next (Gathered old new gathered) (AppendsFront old new) (Err f)
+pub stopped : (L M : Bounds) (s : Reading TreeBuilder Value) (read next old new : Option (List ℕ))
+    (bytes gathered taken : List ℕ) (f : ToolFault) → L ≡ M → read ≡ Some bytes → Consumes read next taken
+    → TakesPiece (within_trees L) s taken old new gathered (Err f)
+    → Runs (within_trees M) bytes next (Gathered old new gathered) (AppendsFront old new) (Err f)
 stopped L M s read next old new bytes gathered taken f same known c h =
-    subst (λ (L : Bounds). Runs (within_trees L) bytes next (Gathered old new gathered) (AppendsFront old new) (Err f)) same (stopped_there (within_trees L) s read next old new bytes gathered taken f known c h)
+    subst (λ (L : Bounds). Runs (within_trees L) bytes next (Gathered old new gathered) (AppendsFront old new) (Err f))
+    same (stopped_there (within_trees L) s read next old new bytes gathered taken f known c h)
 
 -- no bytes were read
-pub read_none : (now next : Option (List ℕ)) (n : ℕ) (buffer : List ℕ) → n ≡ 0 → Consumes now next (take n buffer) → Consumes now next []
+pub read_none : (now next : Option (List ℕ)) (n : ℕ) (buffer : List ℕ) → n ≡ 0 → Consumes now next (take n buffer)
+    → Consumes now next []
 read_none now next n buffer e c = subst (λ k. Consumes now next (take k buffer)) e c
 
 -- reads that failed are counted: none at the end of the input
-pub finish_counts : (s s' : Reading TreeBuilder Value) (items : List StreamItem) (bytes : List ℕ) (failures failures' : ℕ) (e : Fault) → Finishes greatest_depth s s' items bytes (Err e) → failures' ≡ failures
+pub finish_counts : (s s' : Reading TreeBuilder Value) (items : List StreamItem) (bytes : List ℕ)
+    (failures failures' : ℕ) (e : Fault) → Finishes greatest_depth s s' items bytes (Err e) → failures' ≡ failures
     → CountsOnlyReads failures failures' (Err (reading_fault e))
 finish_counts s s' items bytes failures failures' (reading.Refused R) f h = h
 finish_counts s s' items bytes failures failures' reading.Read f h = absurd f
@@ -330,7 +464,9 @@ finish_counts s s' items bytes failures failures' reading.Memory f h = h
 finish_counts s s' items bytes failures failures' reading.Failed f h = h
 
 -- nor while a piece is taken
-pub piece_counts : (L : Bounds) (s : Reading TreeBuilder Value) (bytes : List ℕ) (old new : Option (List ℕ)) (gathered : List ℕ) (failures failures' : ℕ) (f : ToolFault) → TakesPiece L s bytes old new gathered (Err f) → failures' ≡ failures
+pub piece_counts : (L : Bounds) (s : Reading TreeBuilder Value) (bytes : List ℕ) (old new : Option (List ℕ))
+    (gathered : List ℕ) (failures failures' : ℕ) (f : ToolFault) → TakesPiece L s bytes old new gathered (Err f)
+    → failures' ≡ failures
     → CountsOnlyReads failures failures' (Err f)
 piece_counts L s bytes old new gathered failures failures' (fault.Refused R) h e = e
 piece_counts L s bytes old new gathered failures failures' (fault.Wanted R) h e = absurd h
@@ -340,12 +476,14 @@ piece_counts L s bytes old new gathered failures failures' fault.Read h e = absu
 piece_counts L s bytes old new gathered failures failures' fault.Write h e = e
 piece_counts L s bytes old new gathered failures failures' fault.Memory h e = e
 
-pub reads_at : (failures failures' : ℕ) (r : Result (Unit {0}) ToolFault) (f : ToolFault) → IsErrAnd r (λ e. e ≡ f) → CountsOnlyReads failures failures' (Err f) → CountsOnlyReads failures failures' r
+pub reads_at : (failures failures' : ℕ) (r : Result (Unit {0}) ToolFault) (f : ToolFault) → IsErrAnd r (λ e. e ≡ f)
+    → CountsOnlyReads failures failures' (Err f) → CountsOnlyReads failures failures' r
 reads_at failures failures' (Ok u) f e h = absurd e
 reads_at failures failures' (Err g) f e h = subst (λ f. CountsOnlyReads failures failures' (Err f)) (sym e) h
 
 -- each piece brings the reader nearer to where it has to stop
-pub falls : (s s' : Reading TreeBuilder Value) (items others : List StreamItem) (taken piece : List ℕ) → GaveItems s items taken → GaveItems s' others (taken ++ piece) → s'.limits ≡ s.limits → 0 < length piece
+pub falls : (s s' : Reading TreeBuilder Value) (items others : List StreamItem) (taken piece : List ℕ)
+    → GaveItems s items taken → GaveItems s' others (taken ++ piece) → s'.limits ≡ s.limits → 0 < length piece
     → s'.limits.stream + 9 - s'.taken < s.limits.stream + 9 - s.taken
 falls s s' items others taken piece a b same some =
     let bound = stands_within b in
@@ -354,15 +492,21 @@ falls s s' items others taken piece a b same some =
 
 -- ---- the run
 -- how the run ends at the error that a `?` returns
-pub runs_at : (L : Bounds) (bytes : List ℕ) (now : Option (List ℕ)) (P C : List ℕ → Type 0) (r : Result (Unit {0}) ToolFault) (f : ToolFault) → IsErrAnd r (λ e. e ≡ f) → Runs L bytes now P C (Err f) → Runs L bytes now P C r
+pub runs_at : (L : Bounds) (bytes : List ℕ) (now : Option (List ℕ)) (P C : List ℕ → Type 0)
+    (r : Result (Unit {0}) ToolFault) (f : ToolFault) → IsErrAnd r (λ e. e ≡ f) → Runs L bytes now P C (Err f)
+    → Runs L bytes now P C r
 runs_at L bytes now P C (Ok u) f e h = absurd e
 runs_at L bytes now P C (Err g) f e h = subst (λ f. Runs L bytes now P C (Err f)) (sym e) h
 
-pub runs_cut : (L : Bounds) (bytes : List ℕ) (now : Option (List ℕ)) (P C : List ℕ → Type 0) (r : Result (Unit {0}) ToolFault) (f : ToolFault) → IsErrAnd r (λ e. e ≡ f) → f ≡ fault.Write → Begins L bytes C → Runs L bytes now P C r
-runs_cut L bytes now P C r f e write h = runs_at L bytes now P C r f e (subst (λ f. Runs L bytes now P C (Err f)) (sym write) h)
+pub runs_cut : (L : Bounds) (bytes : List ℕ) (now : Option (List ℕ)) (P C : List ℕ → Type 0)
+    (r : Result (Unit {0}) ToolFault) (f : ToolFault) → IsErrAnd r (λ e. e ≡ f) → f ≡ fault.Write → Begins L bytes C
+    → Runs L bytes now P C r
+runs_cut L bytes now P C r f e write h = runs_at L bytes now P C r f e
+    (subst (λ f. Runs L bytes now P C (Err f)) (sym write) h)
 
 -- no memory was had before the first item
-pub begun_first : (L : Bounds) (bytes : List ℕ) (out : Option (List ℕ)) (gathered : List ℕ) → gathered ≡ [] → Begins L bytes (Gathered out out gathered)
+pub begun_first : (L : Bounds) (bytes : List ℕ) (out : Option (List ℕ)) (gathered : List ℕ) → gathered ≡ []
+    → Begins L bytes (Gathered out out gathered)
 begun_first L bytes out gathered none = record {
   items = [];
   begins = record { front = []; rest = bytes; table = base_table; stream = no_more; whole = refl };
@@ -370,29 +514,42 @@ begun_first L bytes out gathered none = record {
 }
 
 -- what holds of the lines may be said in other words
-pub begun_as : (L : Bounds) (bytes : List ℕ) (P Q : List ℕ → Type 0) → Begins L bytes P → ((all : List ℕ) → P all → Q all) → Begins L bytes Q
+pub begun_as : (L : Bounds) (bytes : List ℕ) (P Q : List ℕ → Type 0) → Begins L bytes P
+    → ((all : List ℕ) → P all → Q all) → Begins L bytes Q
 begun_as L bytes P Q b f = record { items = b.items; begins = b.begins; holds = f _ b.holds }
 
 -- the lines before any end but a failed write
-pub begun_before : (L : Bounds) (bytes : List ℕ) (now : Option (List ℕ)) (P C : List ℕ → Type 0) (r : Result (Unit {0}) ToolFault) → Runs L bytes now P C r → (r ≡ Err fault.Write → ⊥) → Begins L bytes P
+pub begun_before : (L : Bounds) (bytes : List ℕ) (now : Option (List ℕ)) (P C : List ℕ → Type 0)
+    (r : Result (Unit {0}) ToolFault) → Runs L bytes now P C r → (r ≡ Err fault.Write → ⊥) → Begins L bytes P
 begun_before L bytes now P C (Ok u) e other = record {
   items = e.items;
   begins = record { front = bytes; rest = []; table = e.table; stream = e.stream; whole = sym (append-nil bytes) };
   holds = e.holds;
 }
-begun_before L bytes now P C (Err (fault.Refused R)) e other = record { items = e.items; begins = e.outcome.gives.begins; holds = e.holds }
+begun_before L bytes now P C (Err (fault.Refused R)) e other = record
+    { items = e.items; begins = e.outcome.gives.begins; holds = e.holds }
 begun_before L bytes now P C (Err fault.Read) e other =
-    begins_more e.taken.left e.taken.whole (record { items = e.holds.items; begins = e.holds.given.begins; holds = e.holds.holds })
+    begins_more e.taken.left e.taken.whole
+    (record { items = e.holds.items; begins = e.holds.given.begins; holds = e.holds.holds })
 begun_before L bytes now P C (Err (fault.Wanted R)) e other = absurd e
 begun_before L bytes now P C (Err fault.NoWantedType) e other = absurd e
 begun_before L bytes now P C (Err (fault.Clash path reason)) e other = absurd e
 begun_before L bytes now P C (Err fault.Write) e other = absurd (other refl)
 begun_before L bytes now P C (Err fault.Memory) e other = e
 
-pub runs_as : (L : Bounds) (bytes : List ℕ) (now : Option (List ℕ)) (P Q C D : List ℕ → Type 0) (r : Result (Unit {0}) ToolFault) → Runs L bytes now P C r → (r ≡ Err fault.Write → ⊥) → ((all : List ℕ) → P all → Q all) → Runs L bytes now Q D r
-runs_as L bytes now P Q C D (Ok u) e other f = record { items = e.items; table = e.table; stream = e.stream; end = e.end; holds = f _ e.holds }
-runs_as L bytes now P Q C D (Err (fault.Refused R)) e other f = record { items = e.items; outcome = e.outcome; holds = f _ e.holds }
-runs_as L bytes now P Q C D (Err fault.Read) e other f = record { bytes = e.bytes; taken = e.taken; holds = record { items = e.holds.items; given = e.holds.given; holds = f _ e.holds.holds } }
+pub runs_as : (L : Bounds) (bytes : List ℕ) (now : Option (List ℕ)) (P Q C D : List ℕ → Type 0)
+    (r : Result (Unit {0}) ToolFault) → Runs L bytes now P C r → (r ≡ Err fault.Write → ⊥)
+    → ((all : List ℕ) → P all → Q all) → Runs L bytes now Q D r
+runs_as L bytes now P Q C D (Ok u) e other f = record
+    { items = e.items; table = e.table; stream = e.stream; end = e.end; holds = f _ e.holds }
+runs_as L bytes now P Q C D (Err (fault.Refused R)) e other f = record
+    { items = e.items; outcome = e.outcome; holds = f _ e.holds }
+runs_as L bytes now P Q C D (Err fault.Read) e other f = record {
+  bytes = e.bytes;
+  taken = e.taken;
+  holds = record
+      { items = e.holds.items; given = e.holds.given; holds = f _ e.holds.holds };
+}
 runs_as L bytes now P Q C D (Err (fault.Wanted R)) e other f = absurd e
 runs_as L bytes now P Q C D (Err fault.NoWantedType) e other f = absurd e
 runs_as L bytes now P Q C D (Err (fault.Clash path reason)) e other f = absurd e

@@ -13,4 +13,5 @@ chosen_by true d e h = absurd (h refl)
 chosen_by false d e h = refl
 
 pub bytes_json : (b : List ℕ) → (IsUtf8 b → ⊥) → text_json b ≡ object (member (codes "hex") (hex_json b) no_members)
-bytes_json b h = chosen_by (is_utf8 b) (string b) (object (member (codes "hex") (hex_json b) no_members)) (λ e. h (IsUtf8-from_is_utf8 b e))
+bytes_json b h = chosen_by (is_utf8 b) (string b) (object (member (codes "hex") (hex_json b) no_members))
+    (λ e. h (IsUtf8-from_is_utf8 b e))

@@ -25,10 +25,12 @@ pub record Gathered (old new : Option (List ℕ)) (gathered : List ℕ) (all : L
 
 -- the reader of trees has given the items, of these bytes
 abbrev pub GaveItems : Reading TreeBuilder Value → List StreamItem → List ℕ → Type 0
-GaveItems s items bytes = StandsAfter tree_builder.stands-value.it tree_builder.stands-value.it greatest_depth s items bytes
+GaveItems s items bytes = StandsAfter tree_builder.stands-value.it tree_builder.stands-value.it greatest_depth s items
+    bytes
 
 -- the reader has taken these bytes, and the lines of the items that it gave went out or are gathered
-pub record StandsBehind (s : Reading TreeBuilder Value) (bytes : List ℕ) (old new : Option (List ℕ)) (gathered : List ℕ) : Type 0 where
+pub record StandsBehind (s : Reading TreeBuilder Value) (bytes : List ℕ) (old new : Option (List ℕ)) (gathered : List ℕ)
+    : Type 0 where
   pub items : List StreamItem
   pub gave : GaveItems s items bytes
   pub out : Gathered old new gathered (lines (types s.types) items)
@@ -49,14 +51,16 @@ Passes old new before after (Ok _) = PassesSome old new before after
 Passes old new before after (Err e) = (e ≡ fault.Write) × AppendsFront old new before
 
 -- the lines of the first ones of the items were gathered behind what was, and some of all that went out
-pub record GathersFirst (T : Table) (items : List StreamItem) (old new : Option (List ℕ)) (before after : List ℕ) : Type 0 where
+pub record GathersFirst (T : Table) (items : List StreamItem) (old new : Option (List ℕ)) (before after : List ℕ) : Type
+    0 where
   pub first : List StreamItem
   pub left : List StreamItem
   pub whole : items ≡ first ++ left
   pub passes : PassesSome old new (before ++ lines T first) after
 
 -- the lines of the items were gathered, or of the first ones where memory was wanting
-abbrev pub Gathers : Table → List StreamItem → (old new : Option (List ℕ)) → (before after : List ℕ) → Result (Unit {0}) ToolFault → Type 0
+abbrev pub Gathers : Table → List StreamItem → (old new : Option (List ℕ)) → (before after : List ℕ)
+    → Result (Unit {0}) ToolFault → Type 0
 Gathers T items old new before after (Ok _) = PassesSome old new (before ++ lines T items) after
 Gathers T items old new before after (Err (fault.Refused r)) = ⊥
 Gathers T items old new before after (Err (fault.Wanted r)) = ⊥
@@ -67,9 +71,11 @@ Gathers T items old new before after (Err fault.Write) = AppendsFront old new (b
 Gathers T items old new before after (Err fault.Memory) = GathersFirst T items old new before after
 
 -- what taking a piece answers, with which the reader took these bytes, under these limits
-abbrev pub TakesPiece : Bounds → (s : Reading TreeBuilder Value) → (bytes : List ℕ) → (old new : Option (List ℕ)) → (gathered : List ℕ) → Result (Unit {0}) ToolFault → Type 0
+abbrev pub TakesPiece : Bounds → (s : Reading TreeBuilder Value) → (bytes : List ℕ) → (old new : Option (List ℕ))
+    → (gathered : List ℕ) → Result (Unit {0}) ToolFault → Type 0
 TakesPiece L s bytes old new gathered (Ok _) = StandsBehind s bytes old new gathered
-TakesPiece L s bytes old new gathered (Err (fault.Refused R)) = IsRefused L bytes R (Gathered old new gathered) × (R.reason ≢ reason.Ended)
+TakesPiece L s bytes old new gathered (Err (fault.Refused R)) = IsRefused L bytes R (Gathered old new gathered)
+    × (R.reason ≢ reason.Ended)
 TakesPiece L s bytes old new gathered (Err (fault.Wanted R)) = ⊥
 TakesPiece L s bytes old new gathered (Err fault.NoWantedType) = ⊥
 TakesPiece L s bytes old new gathered (Err (fault.Clash path reason)) = ⊥
@@ -82,10 +88,11 @@ abbrev pub within_trees : Bounds → Bounds
 within_trees L = no_deeper greatest_depth L
 
 -- what was consumed of the input was taken
-pub record StandsIn (s : Reading TreeBuilder Value) (read now old new : Option (List ℕ)) (gathered : List ℕ) : Type 0 where
-  pub taken : List ℕ
-  pub input : Consumes read now taken
-  pub behind : StandsBehind s taken old new gathered
+pub record StandsIn (s : Reading TreeBuilder Value) (read now old new : Option (List ℕ)) (gathered : List ℕ) : Type 0
+  where
+    pub taken : List ℕ
+    pub input : Consumes read now taken
+    pub behind : StandsBehind s taken old new gathered
 
 -- the count rises where a write failed
 abbrev pub CountsWrites : (failures failures' : ℕ) → Result (Unit {0}) ToolFault → Type 0

@@ -5,7 +5,8 @@ use Rattle.std.specs.Prelude.{ℕ, ℤ, pos, negsuc, List, [], codes, Option, So
 use Rattle.std.specs.Int.{to_be_bytes, w64}
 use Rattle.std.specs.Str.{is_utf8}
 use Rattle.hex.specs.Hex.{encode_lower}
-use Rattle.serde_json.specs.Data.{unsigned, negative, Data, null, boolean, number, string, array, object, Items, no_items, item, no_members, member}
+use Rattle.serde_json.specs.Data.{unsigned, negative, Data, null, boolean, number, string, array, object, Items}
+use Rattle.serde_json.specs.Data.{no_items, item, no_members, member}
 use Rattle.gob_types.specs.declared.id.TypeId.{TypeId}
 use Rattle.gob_types.specs.declared.kind.Field.{Field}
 use Rattle.gob_types.specs.declared.kind.Kind.TheVariants as kind
@@ -103,4 +104,6 @@ abbrev mutual
   -- [number,name,value] for each field that is present
   pub fields_json : Table → List Field → Fields → Items
   fields_json T types no_field = no_items
-  fields_json T types (field f v fs) = item (triple_json (natural_json f) (text_json (field_name (slice_get types f))) (value_json T (field_type (slice_get types f)) v)) (fields_json T types fs)
+  fields_json T types (field f v fs) = item
+      (triple_json (natural_json f) (text_json (field_name (slice_get types f)))
+      (value_json T (field_type (slice_get types f)) v)) (fields_json T types fs)

@@ -35,9 +35,11 @@ marshal_name marshal.Text = codes "text"
 -- what stands behind the id, by the kind: nothing for a basic type, which no definition gives
 abbrev pub shape_members : Kind → List ℕ → Members
 shape_members (kind.Array e n) name =
-    member (codes "elem") (id_json e) (kind_member (codes "array") (member (codes "len") (natural_json n) (name_member name)))
+    member (codes "elem") (id_json e)
+    (kind_member (codes "array") (member (codes "len") (natural_json n) (name_member name)))
 shape_members (kind.Slice e) name = member (codes "elem") (id_json e) (kind_member (codes "slice") (name_member name))
-shape_members (kind.Struct fs) name = member (codes "fields") (array (field_types_json fs)) (kind_member (codes "struct") (name_member name))
+shape_members (kind.Struct fs) name = member (codes "fields") (array (field_types_json fs))
+    (kind_member (codes "struct") (name_member name))
 shape_members (kind.Map k e) name =
     member (codes "elem") (id_json e) (member (codes "key") (id_json k) (kind_member (codes "map") (name_member name)))
 shape_members (kind.Opaque m) name = kind_member (marshal_name m) (name_member name)
@@ -54,7 +56,8 @@ definition_json id shape = object (member (codes "define") (id_json id) (definit
 
 -- the JSON of a value of this type
 abbrev pub put_json : Table → TypeId → Tree → Data
-put_json T id value = object (member (codes "type") (id_json id) (member (codes "value") (value_json T id value) no_members))
+put_json T id value = object (member (codes "type") (id_json id)
+    (member (codes "value") (value_json T id value) no_members))
 
 -- the JSON of an item where the types are those of the table
 abbrev pub item_json : Table → StreamItem → Data

@@ -1,5 +1,6 @@
 -- What a piece of a stream gives, and where a run stands that takes a stream piece by piece. For private clauses.
-use Rattle.std.specs.Prelude.{◌≡◌, ◌≢◌, ℕ, ◌+◌, ◌-◌, ◌<◌, ◌⊎◌, Bool, true, false, List, [], ◌∷◌, ◌++◌, Option, Some, None, Result, Ok, Err}
+use Rattle.std.specs.Prelude.{◌≡◌, ◌≢◌, ℕ, ◌+◌, ◌-◌, ◌<◌, ◌⊎◌, Bool, true, false, List, [], ◌∷◌, ◌++◌, Option, Some}
+use Rattle.std.specs.Prelude.{None, Result, Ok, Err}
 use Rattle.std.specs.Io.KnownBytes.{Consumes, IsAtEnd}
 use Rattle.gob_types.specs.declared.id.TypeId.{TypeId}
 use Rattle.gob_types.specs.declared.reason.Reason.TheVariants as reason
@@ -46,16 +47,19 @@ abbrev pub unread : Reading TreeBuilder Value → ℕ
 unread s = s.limits.stream + 9 - s.taken
 
 -- how reading a piece ended, where these are all items so far and all bytes that were taken: whether the stream goes on
-abbrev pub EndsPiece : Bounds → (s s' : Reading TreeBuilder Value) → List StreamItem → (taken : List ℕ) → (now : Option (List ℕ)) → Result Bool Fault → Type 0
+abbrev pub EndsPiece : Bounds → (s s' : Reading TreeBuilder Value) → List StreamItem → (taken : List ℕ)
+    → (now : Option (List ℕ)) → Result Bool Fault → Type 0
 EndsPiece L s s' items taken now (Ok true) = GaveItems s' items taken × (unread s' < unread s)
 EndsPiece L s s' items taken now (Ok false) = Outcome base_table L taken items the_end × IsAtEnd now
-EndsPiece L s s' items taken now (Err (reading.Refused R)) = Outcome base_table L taken items (refused R) × ((R.reason ≢ reason.Ended) ⊎ IsAtEnd now)
+EndsPiece L s s' items taken now (Err (reading.Refused R)) = Outcome base_table L taken items (refused R)
+    × ((R.reason ≢ reason.Ended) ⊎ IsAtEnd now)
 EndsPiece L s s' items taken now (Err reading.Read) = GivesItems base_table L taken items
 EndsPiece L s s' items taken now (Err reading.Memory) = Unit {0}
 EndsPiece L s s' items taken now (Err reading.Failed) = ⊥
 
 -- a reader that had given the items, of the bytes taken before, gave these with a piece
-pub record GivesPiece (s s' : Reading TreeBuilder Value) (items : List StreamItem) (taken : List ℕ) (given : List StreamItem) (read now : Option (List ℕ)) (result : Result Bool Fault) : Type 0 where
+pub record GivesPiece (s s' : Reading TreeBuilder Value) (items : List StreamItem) (taken : List ℕ)
+    (given : List StreamItem) (read now : Option (List ℕ)) (result : Result Bool Fault) : Type 0 where
   pub piece : List ℕ
   pub input : Consumes read now piece
   pub types_behind : TypesBehind (within_trees s.limits) (taken ++ piece) (items ++ given) (types s'.types)
@@ -68,18 +72,21 @@ CountsPiece failures failures' (Err reading.Read) = failures' ≡ counts_up fail
 CountsPiece failures failures' _ = failures' ≡ failures
 
 -- what was consumed of the input was taken, and the items given
-pub record StandsAt (s : Reading TreeBuilder Value) (read now : Option (List ℕ)) (P : List StreamItem → Type 0) : Type 0 where
-  pub taken : List ℕ
-  pub items : List StreamItem
-  pub input : Consumes read now taken
-  pub gave : GaveItems s items taken
-  pub holds : P items
+pub record StandsAt (s : Reading TreeBuilder Value) (read now : Option (List ℕ)) (P : List StreamItem → Type 0) : Type 0
+  where
+    pub taken : List ℕ
+    pub items : List StreamItem
+    pub input : Consumes read now taken
+    pub gave : GaveItems s items taken
+    pub holds : P items
 
 -- each value among the items is of a type that is ready, and fits it
 pub data AreSent (T : Table) : List StreamItem → Type 0 where
   none_sent : AreSent T []
-  defined : {id : TypeId} {described : Tree} {items : List StreamItem} → AreSent T items → AreSent T (defines id described ∷ items)
-  sent : {t : TypeId} {v : Tree} {items : List StreamItem} → IsReady T t → FitsWithin T t 1000 v → AreSent T items → AreSent T (puts t v ∷ items)
+  defined : {id : TypeId} {described : Tree} {items : List StreamItem} → AreSent T items
+      → AreSent T (defines id described ∷ items)
+  sent : {t : TypeId} {v : Tree} {items : List StreamItem} → IsReady T t → FitsWithin T t 1000 v → AreSent T items
+      → AreSent T (puts t v ∷ items)
 
 -- the first ones of the items were received, and this holds of their lines
 pub record ReceivesFirst (T U : Table) (u : TypeId) (items : List StreamItem) (P : List ℕ → Type 0) : Type 0 where
@@ -89,7 +96,8 @@ pub record ReceivesFirst (T U : Table) (u : TypeId) (items : List StreamItem) (P
   pub received : HasReceived T U u first P
 
 -- the next one clashes with the wanted type
-pub record ClashesNext (T U : Table) (u : TypeId) (items : List StreamItem) (Clash : TypeId → Type 0) (P : List ℕ → Type 0) : Type 0 where
+pub record ClashesNext (T U : Table) (u : TypeId) (items : List StreamItem) (Clash : TypeId → Type 0)
+    (P : List ℕ → Type 0) : Type 0 where
   pub first : List StreamItem
   pub left : List StreamItem
   pub id : TypeId
@@ -98,14 +106,20 @@ pub record ClashesNext (T U : Table) (u : TypeId) (items : List StreamItem) (Cla
   pub received : HasReceived T U u first P
   pub clash : Clash id
 
--- the lines of what is received of the items were gathered behind what was, and some of all that went out; or those of the
+-- the lines of what is received of the items were gathered behind what was, and some of all that went out; or those of
+-- the
 -- first items, up to the fault
-abbrev pub TakesItems : (T U : Table) → TypeId → List StreamItem → (old new : Option (List ℕ)) → (before after : List ℕ) → Result (Unit {0}) ToolFault → Type 0
-TakesItems T U u items old new before after (Ok _) = HasReceived T U u items (λ lines. PassesSome old new (before ++ lines) after)
-TakesItems T U u items old new before after (Err fault.Write) = ReceivesFirst T U u items (λ lines. AppendsFront old new (before ++ lines))
-TakesItems T U u items old new before after (Err fault.Memory) = ReceivesFirst T U u items (λ lines. PassesSome old new (before ++ lines) after)
+abbrev pub TakesItems : (T U : Table) → TypeId → List StreamItem → (old new : Option (List ℕ)) → (before after : List ℕ)
+    → Result (Unit {0}) ToolFault → Type 0
+TakesItems T U u items old new before after (Ok _) = HasReceived T U u items
+    (λ lines. PassesSome old new (before ++ lines) after)
+TakesItems T U u items old new before after (Err fault.Write) = ReceivesFirst T U u items
+    (λ lines. AppendsFront old new (before ++ lines))
+TakesItems T U u items old new before after (Err fault.Memory) = ReceivesFirst T U u items
+    (λ lines. PassesSome old new (before ++ lines) after)
 TakesItems T U u items old new before after (Err (fault.Clash path reason)) =
-    ClashesNext T U u items (λ t. IsLeastClash T U t u path.items reason) (λ lines. PassesSome old new (before ++ lines) after)
+    ClashesNext T U u items (λ t. IsLeastClash T U t u path.items reason)
+    (λ lines. PassesSome old new (before ++ lines) after)
 TakesItems T U u items old new before after (Err (fault.Refused R)) = ⊥
 TakesItems T U u items old new before after (Err (fault.Wanted R)) = ⊥
 TakesItems T U u items old new before after (Err fault.NoWantedType) = ⊥
@@ -117,9 +131,13 @@ first_of None other = other
 first_of (Some id) other = Some id
 
 -- what reading a wanted stream gives: the type of its first value
-abbrev pub ReadsWanted : Bounds → (bytes : List ℕ) → (now : Option (List ℕ)) → Table → Result (Option TypeId) Fault → Type 0
-ReadsWanted L bytes now T (Ok first) = (items : List StreamItem) × Stream base_table L items bytes T × (now ≡ Some []) × (first_type items ≡ first)
-ReadsWanted L bytes now T (Err (reading.Refused R)) = (items : List StreamItem) × Outcome base_table L bytes items (refused R)
-ReadsWanted L bytes now T (Err reading.Read) = SomeTaken bytes now (λ taken. (items : List StreamItem) × GivesItems base_table L taken items)
+abbrev pub ReadsWanted : Bounds → (bytes : List ℕ) → (now : Option (List ℕ)) → Table → Result (Option TypeId) Fault
+    → Type 0
+ReadsWanted L bytes now T (Ok first) = (items : List StreamItem) × Stream base_table L items bytes T × (now ≡ Some [])
+    × (first_type items ≡ first)
+ReadsWanted L bytes now T (Err (reading.Refused R)) = (items : List StreamItem)
+    × Outcome base_table L bytes items (refused R)
+ReadsWanted L bytes now T (Err reading.Read) = SomeTaken bytes now
+    (λ taken. (items : List StreamItem) × GivesItems base_table L taken items)
 ReadsWanted L bytes now T (Err reading.Memory) = Unit {0}
 ReadsWanted L bytes now T (Err reading.Failed) = ⊥

@@ -8,6 +8,7 @@ use Rattle.gob_tool.specs.Showing.{Shows}
 use Rattle.gob_tool.specs.Taking.{Takes}
 
 -- how it ends, over a wanted stream and an input with these bytes left, and an output with the old bytes
-abbrev pub Does : Chosen → Bounds → (wanted bytes : List ℕ) → (wanted_now now old new : Option (List ℕ)) → Result (Unit {0}) ToolFault → Type 0
+abbrev pub Does : Chosen → Bounds → (wanted bytes : List ℕ) → (wanted_now now old new : Option (List ℕ))
+    → Result (Unit {0}) ToolFault → Type 0
 Does chosen.Show L wanted bytes wanted_now now old new result = Shows L bytes now old new result
 Does chosen.Take L wanted bytes wanted_now now old new result = Takes L wanted bytes wanted_now now old new result

@@ -44,7 +44,8 @@ pub record Begins (L : Bounds) (bytes : List ℕ) (P : List ℕ → Type 0) : Ty
 
 -- how a run over an input with these bytes left ends, where `Whole` holds of the lines that were to go out, or `Cut`
 -- after a failed write
-abbrev pub Runs : Bounds → (bytes : List ℕ) → (now : Option (List ℕ)) → (Whole Cut : List ℕ → Type 0) → Result (Unit {0}) ToolFault → Type 0
+abbrev pub Runs : Bounds → (bytes : List ℕ) → (now : Option (List ℕ)) → (Whole Cut : List ℕ → Type 0)
+    → Result (Unit {0}) ToolFault → Type 0
 Runs L bytes now Whole Cut (Ok _) = EndsWhole L bytes now Whole
 Runs L bytes now Whole Cut (Err (fault.Refused R)) = IsRefused L bytes R Whole
 Runs L bytes now Whole Cut (Err fault.Read) = SomeTaken bytes now (λ taken. Gives L taken Whole)

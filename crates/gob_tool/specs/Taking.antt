@@ -29,7 +29,8 @@ first_type [] = None
 first_type (defines id described ∷ items) = first_type items
 first_type (puts id value ∷ items) = Some id
 
--- the bytes are a stream, all of them were read, and this holds of the types behind it and of the type of its first value
+-- the bytes are a stream, all of them were read, and this holds of the types behind it and of the type of its first
+-- value
 pub record HasWanted (L : Bounds) (bytes : List ℕ) (now : Option (List ℕ)) (P : Table → TypeId → Type 0) : Type 0 where
   pub items : List StreamItem
   pub table : Table
@@ -39,12 +40,15 @@ pub record HasWanted (L : Bounds) (bytes : List ℕ) (now : Option (List ℕ)) (
   pub first : first_type items ≡ Some id
   pub holds : P table id
 
--- T has the types of the stream, and u is the wanted type, one of U: each value among the items is of a type that matches
+-- T has the types of the stream, and u is the wanted type, one of U: each value among the items is of a type that
+-- matches
 -- it, and these are the lines of what is received of them
 pub data AreReceived (T U : Table) (u : TypeId) : List StreamItem → List ℕ → Type 0 where
   no_item : AreReceived T U u [] []
-  definition : {id : TypeId} {described : Tree} {items : List StreamItem} {lines : List ℕ} → AreReceived T U u items lines → AreReceived T U u (defines id described ∷ items) lines
-  value : {t : TypeId} {v w : Tree} {items : List StreamItem} {lines : List ℕ} → Match T U t u → Receives T U t u v w → AreReceived T U u items lines
+  definition : {id : TypeId} {described : Tree} {items : List StreamItem} {lines : List ℕ}
+      → AreReceived T U u items lines → AreReceived T U u (defines id described ∷ items) lines
+  value : {t : TypeId} {v w : Tree} {items : List StreamItem} {lines : List ℕ} → Match T U t u → Receives T U t u v w
+      → AreReceived T U u items lines
       → AreReceived T U u (puts t v ∷ items) (line U (puts u w) ++ lines)
 
 -- they are, and this holds of the lines
@@ -54,7 +58,8 @@ pub record HasReceived (T U : Table) (u : TypeId) (items : List StreamItem) (P :
   pub holds : P lines
 
 -- the bytes are the stream of some items, all of them were read, and this holds of the lines
-pub record ReceivesWhole (L : Bounds) (bytes : List ℕ) (now : Option (List ℕ)) (U : Table) (u : TypeId) (P : List ℕ → Type 0) : Type 0 where
+pub record ReceivesWhole (L : Bounds) (bytes : List ℕ) (now : Option (List ℕ)) (U : Table) (u : TypeId)
+    (P : List ℕ → Type 0) : Type 0 where
   pub items : List StreamItem
   pub table : Table
   pub stream : Stream base_table L items bytes table
@@ -62,14 +67,17 @@ pub record ReceivesWhole (L : Bounds) (bytes : List ℕ) (now : Option (List ℕ
   pub received : HasReceived table U u items P
 
 -- the bytes are refused so, and this holds of the lines of the items before the refusal
-pub record IsRefusedBehind (L : Bounds) (bytes : List ℕ) (R : Refusal) (U : Table) (u : TypeId) (P : List ℕ → Type 0) : Type 0 where
+pub record IsRefusedBehind (L : Bounds) (bytes : List ℕ) (R : Refusal) (U : Table) (u : TypeId) (P : List ℕ → Type 0) :
+    Type 0 where
   pub items : List StreamItem
   pub outcome : Outcome base_table L bytes items (refused R)
   pub received : HasReceived outcome.gives.begins.table U u items P
 
--- the bytes begin with the stream of some items and of a value whose type clashes with the wanted one, on this path of the
+-- the bytes begin with the stream of some items and of a value whose type clashes with the wanted one, on this path of
+-- the
 -- fewest steps and for this reason, and this holds of the lines of the items before it
-pub record ClashesBehind (L : Bounds) (bytes : List ℕ) (U : Table) (u : TypeId) (path : List Step) (reason : ClashReason) (P : List ℕ → Type 0) : Type 0 where
+pub record ClashesBehind (L : Bounds) (bytes : List ℕ) (U : Table) (u : TypeId) (path : List Step)
+    (reason : ClashReason) (P : List ℕ → Type 0) : Type 0 where
   pub items : List StreamItem
   pub id : TypeId
   pub value : Tree
@@ -89,9 +97,11 @@ pub record ReceivesFront (L : Bounds) (bytes : List ℕ) (U : Table) (u : TypeId
   pub begins : BeginsWith base_table L bytes items
   pub received : HasReceived begins.table U u items P
 
--- how the part of the run behind the wanted stream ends, over an input with these bytes left, where `Whole` holds of the
+-- how the part of the run behind the wanted stream ends, over an input with these bytes left, where `Whole` holds of
+-- the
 -- lines that were to go out, or `Cut` after a failed write
-abbrev pub Receiving : Bounds → (bytes : List ℕ) → (now : Option (List ℕ)) → Table → TypeId → (Whole Cut : List ℕ → Type 0) → Result (Unit {0}) ToolFault → Type 0
+abbrev pub Receiving : Bounds → (bytes : List ℕ) → (now : Option (List ℕ)) → Table → TypeId
+    → (Whole Cut : List ℕ → Type 0) → Result (Unit {0}) ToolFault → Type 0
 Receiving L bytes now U u Whole Cut (Ok _) = ReceivesWhole L bytes now U u Whole
 Receiving L bytes now U u Whole Cut (Err (fault.Refused R)) = IsRefusedBehind L bytes R U u Whole
 Receiving L bytes now U u Whole Cut (Err (fault.Clash path reason)) = ClashesBehind L bytes U u path.items reason Whole
@@ -109,24 +119,31 @@ pub record Untouched (bytes : List ℕ) (now old new : Option (List ℕ)) : Type
 -- why there is no wanted type, where these bytes were left of the wanted stream
 abbrev pub LacksWanted : Bounds → (bytes : List ℕ) → (now : Option (List ℕ)) → ToolFault → Type 0
 LacksWanted L bytes now (fault.Wanted R) = (items : List StreamItem) × Outcome base_table L bytes items (refused R)
-LacksWanted L bytes now fault.NoWantedType = (items : List StreamItem) × (T : Table) × Stream base_table L items bytes T × (now ≡ Some []) × (first_type items ≡ None)
-LacksWanted L bytes now fault.Read = SomeTaken bytes now (λ taken. (items : List StreamItem) × GivesItems base_table L taken items)
+LacksWanted L bytes now fault.NoWantedType = (items : List StreamItem) × (T : Table) × Stream base_table L items bytes T
+    × (now ≡ Some []) × (first_type items ≡ None)
+LacksWanted L bytes now fault.Read = SomeTaken bytes now
+    (λ taken. (items : List StreamItem) × GivesItems base_table L taken items)
 LacksWanted L bytes now fault.Memory = Unit {0}
 LacksWanted L bytes now (fault.Refused R) = ⊥
 LacksWanted L bytes now (fault.Clash path reason) = ⊥
 LacksWanted L bytes now fault.Write = ⊥
 
--- how the run ends, over a wanted stream and an input with these bytes left, and an output with the old bytes: the wanted
+-- how the run ends, over a wanted stream and an input with these bytes left, and an output with the old bytes: the
+-- wanted
 -- stream has no wanted type, and nothing else is done; or the lines of what is received went out, and nothing else, or
 -- after a failed write a front of them
-pub data Takes (L : Bounds) (wanted bytes : List ℕ) (wanted_now now old new : Option (List ℕ)) : Result (Unit {0}) ToolFault → Type 0 where
-  stops_at_wanted : {f : ToolFault} → LacksWanted L wanted wanted_now f → Untouched bytes now old new → Takes L wanted bytes wanted_now now old new (Err f)
-  takes_behind : {r : Result (Unit {0}) ToolFault} → HasWanted L wanted wanted_now (λ U u. Receiving L bytes now U u (Appends old new) (AppendsFront old new) r)
+pub data Takes (L : Bounds) (wanted bytes : List ℕ) (wanted_now now old new : Option (List ℕ)) : Result (Unit {0})
+    ToolFault → Type 0 where
+  stops_at_wanted : {f : ToolFault} → LacksWanted L wanted wanted_now f → Untouched bytes now old new
+      → Takes L wanted bytes wanted_now now old new (Err f)
+  takes_behind : {r : Result (Unit {0}) ToolFault}
+      → HasWanted L wanted wanted_now (λ U u. Receiving L bytes now U u (Appends old new) (AppendsFront old new) r)
       → Takes L wanted bytes wanted_now now old new r
 
 -- a read of the one input or of the other failed where the fault is `Read`, and else only before a failed write
 abbrev pub CountsTakeReads : (wanted wanted' failures failures' : ℕ) → Result (Unit {0}) ToolFault → Type 0
 CountsTakeReads wanted wanted' failures failures' (Err fault.Read) =
-    ((wanted' ≡ counts_up wanted 1) × (failures' ≡ failures)) ⊎ ((wanted' ≡ wanted) × (failures' ≡ counts_up failures 1))
+    ((wanted' ≡ counts_up wanted 1) × (failures' ≡ failures)) ⊎
+    ((wanted' ≡ wanted) × (failures' ≡ counts_up failures 1))
 CountsTakeReads wanted wanted' failures failures' (Err fault.Write) = (wanted' ≡ wanted) × MayCount failures failures'
 CountsTakeReads wanted wanted' failures failures' _ = (wanted' ≡ wanted) × (failures' ≡ failures)

@@ -61,7 +61,8 @@ impl<'a> Receiver<'a> {
         requires fits { FitsWithin (types self.old.stream.now) id 1000 (view value.now) }
         ensures receiver { IsReceiver self.new }
         ensures same { IsSameReceiver self.old self.new }
-        ensures matched { IfOk result (λ _. Match (types self.old.stream.now) (types self.old.wanted.now) id self.old.wanted_id) }
+        ensures matched { IfOk result (λ _. Match (types self.old.stream.now) (types self.old.wanted.now) id
+            self.old.wanted_id) }
         ensures received { IfOk result (λ w. Receives (types self.old.stream.now) (types self.old.wanted.now) id
             self.old.wanted_id (view value.now) (view w)) }
         ensures fault { IfErr result (IsMatchFault (types self.old.stream.now) (types self.old.wanted.now) id
@@ -73,8 +74,9 @@ impl<'a> Receiver<'a> {
             }
         }
         let matched = match_types(alloc, self.stream, id, self.wanted, self.wanted_id)?;
-        let received = receive(alloc, &matched, value)?;
-        self.last = Some(Known { id, matched });
-        Ok(received)
+        let received = receive(alloc, &matched, value);
+        // (By a call, as in `run_take`.)
+        drop(self.last.replace(Known { id, matched }));
+        Ok(received?)
     }
 }

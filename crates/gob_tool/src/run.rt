@@ -1,6 +1,7 @@
 //! The run that the words ask for.
 
 ghost use Rattle.std.specs.Prelude.{◌≡◌, ℕ, List, Some};
+ghost use Rattle.gob_tool.specs.declared.words.Chosen.TheVariants as chosen;
 ghost use Rattle.gob_tool.specs.Words.{standard_limits};
 ghost use Rattle.gob_tool.specs.Running.{Does};
 ghost use Rattle.gob_tool.specs.Showing.{CountsWriteFaults};
@@ -27,7 +28,9 @@ pub fn run_order<Q: Read, R: Read, W: Write>(
         → R.remaining input.old.reader ≡ Some bytes
         → Does order.now.command standard_limits wanted_bytes bytes (Q.remaining wanted.new.reader)
         (R.remaining input.new.reader) (W.contents output.old.writer) (W.contents output.new.writer) result }
-    ensures reads { CountsTakeReads wanted.old.failures wanted.new.failures input.old.failures input.new.failures result }
+    ensures unread { order.now.command ≡ chosen.Show → wanted.new ≡ wanted.old }
+    ensures reads { CountsTakeReads wanted.old.failures wanted.new.failures input.old.failures input.new.failures
+        result }
     ensures writes { CountsWriteFaults output.old.failures output.new.failures result }
 {
     match order.command {

@@ -66,7 +66,9 @@ fn show_items<R: Read, W: Write>(
 {
     let mut buffer = vec![in alloc; 0; PIECE].map_err(Memory::from)?;
     let mut session = Session::<TreeBuilder>::new(alloc, limits)?;
-    show_pieces(alloc, input, output, &mut session, &mut buffer, lines)
+    let shown = show_pieces(alloc, input, output, &mut session, &mut buffer, lines);
+    drop(session);
+    shown
 }
 
 /// The same, over a session that has read nothing, and with room for a piece.

@@ -30,10 +30,10 @@ const PIECE: usize = 65536;
 /// Receives each value of a stream as a value of the wanted type, which is that of the first value of `wanted`, a
 /// stream of its own, and writes the JSON lines of what is received, under the wanted type. Definitions write nothing.
 /// `wanted` is read whole first: where it is refused the answer is `ToolFault::Wanted`, and without a value
-/// `ToolFault::NoWantedType`; the input isn't read then, and nothing is written. Ok exactly at the end of a whole stream
-/// of values that match; where a value doesn't, `ToolFault::Clash` says where and why. Before a fault is answered the
-/// lines of the values before it are written; at `ToolFault::Write` a front of them may be. The run ends with a flush.
-/// Of the input it holds a piece of 64 KiB, and the item under way.
+/// `ToolFault::NoWantedType`; the input isn't read then, and nothing is written. Ok exactly at the end of a whole
+/// stream of values that match; where a value doesn't, `ToolFault::Clash` says where and why. Before a fault is
+/// answered the lines of the values before it are written; at `ToolFault::Write` a front of them may be. The run ends
+/// with a flush. Of the input it holds a piece of 64 KiB, and the item under way.
 pub fn run_take<Q: Read, R: Read, W: Write>(
     alloc: Global,
     wanted: &mut Input<Q>,
@@ -45,18 +45,44 @@ pub fn run_take<Q: Read, R: Read, W: Write>(
         → R.remaining input.old.reader ≡ Some bytes
         → Takes limits wanted_bytes bytes (Q.remaining wanted.new.reader) (R.remaining input.new.reader)
         (W.contents output.old.writer) (W.contents output.new.writer) result }
-    ensures reads { CountsTakeReads wanted.old.failures wanted.new.failures input.old.failures input.new.failures result }
+    ensures reads { CountsTakeReads wanted.old.failures wanted.new.failures input.old.failures input.new.failures
+        result }
     ensures writes { CountsWriteFaults output.old.failures output.new.failures result }
 {
-    match read_wanted(alloc, wanted, limits) {
-        Ok(found) => take_values(
-            alloc,
-            found.session.table(),
-            found.id,
-            input,
-            output,
-            limits,
-        ),
+    let mut session = match Session::<TreeBuilder>::new(alloc, limits) {
+        Ok(session) => session,
+        Err(_) => {
+            let _ = output.flush();
+            return Err(ToolFault::Memory);
+        }
+    };
+    let taken = take_as_wanted(alloc, wanted, &mut session, input, output, limits);
+    // (A call, and at one end: how a session's many parts are let go of is proved once then, and not in each owner.)
+    drop(session);
+    taken
+}
+
+/// Does so, where this session is the one that reads the wanted stream, and has read nothing.
+fn take_as_wanted<Q: Read, R: Read, W: Write>(
+    alloc: Global,
+    wanted: &mut Input<Q>,
+    session: &mut Session<TreeBuilder>,
+    input: &mut Input<R>,
+    output: &mut Output<W>,
+    limits: Limits,
+) -> Result<(), ToolFault>
+    requires stands { GaveItems session.old.reading [] [] }
+    requires within { within_trees session.old.reading.limits ≡ limits }
+    ensures taken { (wanted_bytes bytes : List ℕ) → Q.remaining wanted.old.reader ≡ Some wanted_bytes
+        → R.remaining input.old.reader ≡ Some bytes
+        → Takes limits wanted_bytes bytes (Q.remaining wanted.new.reader) (R.remaining input.new.reader)
+        (W.contents output.old.writer) (W.contents output.new.writer) result }
+    ensures reads { CountsTakeReads wanted.old.failures wanted.new.failures input.old.failures input.new.failures
+        result }
+    ensures writes { CountsWriteFaults output.old.failures output.new.failures result }
+{
+    match read_wanted(alloc, wanted, session) {
+        Ok(id) => take_values(alloc, session.table(), id, input, output, limits),
         Err(fault) => {
             let _ = output.flush();
             Err(fault)
@@ -64,7 +90,7 @@ pub fn run_take<Q: Read, R: Read, W: Write>(
     }
 }
 
-/// Does so, where the wanted type is this one of the table.
+/// Receives the values and ends the run, where the wanted type is this one of the table.
 fn take_values<R: Read, W: Write>(
     alloc: Global,
     wanted: &Table,
@@ -115,7 +141,7 @@ fn take_items<R: Read, W: Write>(
 {
     let mut buffer = vec![in alloc; 0; PIECE].map_err(Memory::from)?;
     let mut session = Session::<TreeBuilder>::new(alloc, limits)?;
-    take_pieces(
+    let taken = take_pieces(
         alloc,
         wanted,
         wanted_id,
@@ -124,7 +150,9 @@ fn take_items<R: Read, W: Write>(
         &mut session,
         &mut buffer,
         lines,
-    )
+    );
+    drop(session);
+    taken
 }
 
 /// The same, over a session that has read nothing, and with room for a piece.
@@ -143,7 +171,8 @@ fn take_pieces<R: Read, W: Write>(
     requires room { 0 < length buffer.old }
     requires lines { lines.old.gathered.items ≡ [] }
     ensures taken { (bytes : List ℕ) → R.remaining input.old.reader ≡ Some bytes
-        → Receiving (within_trees session.old.reading.limits) bytes (R.remaining input.new.reader) (types wanted.now) wanted_id
+        → Receiving (within_trees session.old.reading.limits) bytes (R.remaining input.new.reader)
+        (types wanted.now) wanted_id
         (λ all. PassesSome (W.contents output.old.writer) (W.contents output.new.writer) all lines.new.gathered.items)
         (AppendsFront (W.contents output.old.writer) (W.contents output.new.writer)) result }
     ensures reads { CountsOnlyReads input.old.failures input.new.failures result }
@@ -188,8 +217,29 @@ fn take_piece<W: Write>(
     ensures writes { CountsOnlyWrites output.old.failures output.new.failures result }
 {
     let mut receiver = Receiver::new(stream, wanted, wanted_id);
+    let taken = take_each(alloc, items, &mut receiver, lines, output);
+    drop(receiver);
+    taken
+}
+
+/// The same, by this receiver.
+fn take_each<W: Write>(
+    alloc: Global,
+    items: &[Item<Value>],
+    receiver: &mut Receiver<'_>,
+    lines: &mut Lines,
+    output: &mut Output<W>,
+) -> Result<(), ToolFault>
+    requires receiver { IsReceiver receiver.old }
+    requires ready { IsReady (types receiver.old.wanted.now) receiver.old.wanted_id }
+    requires sent { AreSent (types receiver.old.stream.now) (item_views items.now) }
+    ensures taken { TakesItems (types receiver.old.stream.now) (types receiver.old.wanted.now) receiver.old.wanted_id
+        (item_views items.now) (W.contents output.old.writer) (W.contents output.new.writer)
+        lines.old.gathered.items lines.new.gathered.items result }
+    ensures writes { CountsOnlyWrites output.old.failures output.new.failures result }
+{
     for item in items {
-        take_item(alloc, item, &mut receiver, lines, output)?;
+        take_item(alloc, item, receiver, lines, output)?;
     }
     Ok(())
 }
@@ -217,6 +267,9 @@ fn take_item<W: Write>(
     };
     let value = receiver.receive(alloc, *id, value)?;
     let id = receiver.wanted_id;
-    lines.push(alloc, &Item::Put { id, value }, receiver.wanted)?;
+    let received = Item::Put { id, value };
+    let pushed = lines.push(alloc, &received, receiver.wanted);
+    drop(received);
+    pushed?;
     lines.write_many(output)
 }

@@ -13,7 +13,7 @@ use crate::fault::{ToolFault, wanted_fault};
 use crate::pieces::next_items;
 use gob_num::Memory;
 use gob_read::TreeBuilder;
-use gob_stream::{Fault, Input, Item, Limits, Session};
+use gob_stream::{Fault, Input, Item, Session};
 use gob_types::TypeId;
 use gob_value::Value;
 use std::alloc::Global;
@@ -22,34 +22,29 @@ use std::io::Read;
 // How many bytes are asked of the stream at a time.
 const PIECE: usize = 4096;
 
-/// A type, and the session that has read the stream in which it stands.
-#[derive(Drop)]
-pub(crate) struct Wanted {
-    pub(crate) session: Session<TreeBuilder>,
-    pub(crate) id: TypeId,
-}
-
-/// Reads a whole stream for the type of its first value. Its other values are ignored.
+/// Reads a whole stream, over a session that has read nothing, for the type of its first value. Its other values are
+/// ignored. The type stands in the session's table.
 pub(crate) fn read_wanted<Q: Read>(
     alloc: Global,
     input: &mut Input<Q>,
-    limits: Limits,
-) -> Result<Wanted, ToolFault>
+    session: &mut Session<TreeBuilder>,
+) -> Result<TypeId, ToolFault>
+    requires stands { GaveItems session.old.reading [] [] }
     ensures found { (bytes : List ℕ) → Q.remaining input.old.reader ≡ Some bytes
-        → FindsWanted limits bytes (Q.remaining input.new.reader) result }
-    ensures ready { IfOk result (λ wanted. IsReady (types wanted.session.reading.types) wanted.id) }
+        → FindsWanted (within_trees session.old.reading.limits) bytes (Q.remaining input.new.reader)
+        (types session.new.reading.types) result }
+    ensures ready { IfOk result (λ id. IsReady (types session.new.reading.types) id) }
     ensures reads { CountsWanted input.old.failures input.new.failures result }
 {
     let mut buffer = vec![in alloc; 0; PIECE].map_err(Memory::from)?;
-    let mut session = Session::<TreeBuilder>::new(alloc, limits)?;
-    match read_type(alloc, input, &mut session, &mut buffer) {
-        Ok(Some(id)) => Ok(Wanted { session, id }),
+    match read_type(alloc, input, session, &mut buffer) {
+        Ok(Some(id)) => Ok(id),
         Ok(None) => Err(ToolFault::NoWantedType),
         Err(fault) => Err(wanted_fault(fault)),
     }
 }
 
-/// Reads a whole stream, over a session that has read nothing, for the type of its first value.
+/// The same, with room for a piece. None: the stream has no value.
 fn read_type<Q: Read>(
     alloc: Global,
     input: &mut Input<Q>,

@@ -14,6 +14,7 @@ returns c =
     let shown = item_json (types c.args.table.now) (item_view c.args.item.now) in
     let tokens : c.write_item.new.out.tokens ≡ json_tokens (outline shown) = search rules in
     let before : c.write_item.new.out.before ≡ [] = search rules in
-    let whole : c.into_inner.result.items ≡ c.write_item.new.out.before ++ print c.write_item.new.out.tokens = search rules in
+    let whole : c.into_inner.result.items ≡ c.write_item.new.out.before ++ print c.write_item.new.out.tokens = search
+    rules in
     let text : string_bytes c.in-Ok.text ≡ c.into_inner.result.items = search rules in
     text ∙ printed shown _ _ _ whole before tokens

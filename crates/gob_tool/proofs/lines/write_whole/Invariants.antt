@@ -6,7 +6,8 @@ use Rattle.gob_tool.proofs.lines.write_whole.Given as goal
 abbrev pub invariant-loop-rest : goal.invariant-loop-rest
 invariant-loop-rest g l =
     (l.output.failures ≡ l.fn.output.failures)
-    × ((front : List ℕ) × (l.bytes ≡ front ++ l.rest) × Appends (g.W.Write.contents l.fn.output.writer) (g.W.Write.contents l.output.writer) front)
+    × ((front : List ℕ) × (l.bytes ≡ front ++ l.rest)
+    × Appends (g.W.Write.contents l.fn.output.writer) (g.W.Write.contents l.output.writer) front)
 
 abbrev pub decreases-loop-rest : goal.decreases-loop-rest
 decreases-loop-rest g l = length l.rest

@@ -4,7 +4,8 @@ use Rattle.std.proofs.KnownBytes.{Consumes-trans}
 use Rattle.gob_tool.specs.Fault.{reading_fault}
 use Rattle.gob_tool.specs.Gathering.{Gathered, within_trees}
 use Rattle.gob_tool.specs.Showing.{AppendsFront}
-use Rattle.gob_tool.proofs.ShowLaws.{reads_first, reads_on, ended, ended_within, read_failed, stopped, runs_at, read_none, finish_counts, piece_counts, reads_at, falls}
+use Rattle.gob_tool.proofs.ShowLaws.{reads_first, reads_on, ended, ended_within, read_failed, stopped, runs_at}
+use Rattle.gob_tool.proofs.ShowLaws.{read_none, finish_counts, piece_counts, reads_at, falls}
 use Rattle.gob_tool.proofs.show.show_pieces.Goals as goal
 
 pub pieces-init : goal.pieces-init
@@ -23,16 +24,20 @@ returns-in_err-finish-in-Ok-eq0-clause-shown g c = λ bytes known.
     let none : c.in-Ok-eq0.field-0 ≡ 0 = omega arith in
     let room : 0 < length c.read.new.buf = omega (arith, c.requires.room, c.pieces.auto.buffer, c.read.auto.buf) in
     let e = c.in_err-finish-in-Ok-eq0.field-0.0 in
-    runs_at (within_trees M) bytes next (Gathered old out gathered) (AppendsFront old out) c.from_residual.result (reading_fault e) c.from_residual.ensures.1
-    (ended_within M c.pieces.session.reading c.finish.new.self.reading read now next old out bytes gathered (AppendsFront old out) e c.pieces.invariant.0 i known
-    (read_none now next c.in-Ok-eq0.field-0 c.read.new.buf none c.in-Ok-eq0.ensures.bytes.0) (c.in-Ok-eq0.ensures.bytes.1 none room) c.in_err-finish-in-Ok-eq0.ensures.finishes)
+    runs_at (within_trees M) bytes next (Gathered old out gathered) (AppendsFront old out) c.from_residual.result
+    (reading_fault e) c.from_residual.ensures.1
+    (ended_within M c.pieces.session.reading c.finish.new.self.reading read now next old out bytes gathered
+    (AppendsFront old out) e c.pieces.invariant.0 i known
+    (read_none now next c.in-Ok-eq0.field-0 c.read.new.buf none c.in-Ok-eq0.ensures.bytes.0)
+    (c.in-Ok-eq0.ensures.bytes.1 none room) c.in_err-finish-in-Ok-eq0.ensures.finishes)
 
 pub returns-in_err-finish-in-Ok-eq0-clause-reads : goal.returns-in_err-finish-in-Ok-eq0-clause-reads
 returns-in_err-finish-in-Ok-eq0-clause-reads g c =
     let i = c.pieces.invariant.3 in
     let e = c.in_err-finish-in-Ok-eq0.field-0.0 in
     reads_at _ _ c.from_residual.result (reading_fault e) c.from_residual.ensures.1
-    (finish_counts c.pieces.session.reading c.finish.new.self.reading i.behind.items i.taken _ _ e (c.in_err-finish-in-Ok-eq0.ensures.finishes i.behind.items i.taken i.behind.gave)
+    (finish_counts c.pieces.session.reading c.finish.new.self.reading i.behind.items i.taken _ _ e
+    (c.in_err-finish-in-Ok-eq0.ensures.finishes i.behind.items i.taken i.behind.gave)
     (c.in-Ok-eq0.ensures.counted.1 ∙ c.pieces.invariant.1))
 
 pub returns-in-Ok-eq0-clause-shown : goal.returns-in-Ok-eq0-clause-shown
@@ -44,8 +49,11 @@ returns-in-Ok-eq0-clause-shown g c = λ bytes known.
     let i = c.pieces.invariant.3 in
     let none : c.in-Ok-eq0.field-0 ≡ 0 = omega arith in
     let room : 0 < length c.read.new.buf = omega (arith, c.requires.room, c.pieces.auto.buffer, c.read.auto.buf) in
-    ended c.args.session.now.reading.limits c.pieces.session.reading c.finish.new.self.reading (g.R.Read.remaining c.args.input.now.reader) now next old out bytes c.pieces.lines.gathered.items tt c.pieces.invariant.0 i known
-    (read_none now next c.in-Ok-eq0.field-0 c.read.new.buf none c.in-Ok-eq0.ensures.bytes.0) (c.in-Ok-eq0.ensures.bytes.1 none room) c.in_ok-finish-in-Ok-eq0.ensures.finishes
+    ended c.args.session.now.reading.limits c.pieces.session.reading c.finish.new.self.reading
+    (g.R.Read.remaining c.args.input.now.reader) now next old out bytes c.pieces.lines.gathered.items tt
+    c.pieces.invariant.0 i known
+    (read_none now next c.in-Ok-eq0.field-0 c.read.new.buf none c.in-Ok-eq0.ensures.bytes.0)
+    (c.in-Ok-eq0.ensures.bytes.1 none room) c.in_ok-finish-in-Ok-eq0.ensures.finishes
 
 pub pieces-smaller : goal.pieces-smaller
 pieces-smaller g c =
@@ -53,7 +61,8 @@ pieces-smaller g c =
     let piece = take c.in-Ok.count c.read.new.buf in
     let after = c.in_ok-show_piece-in-Ok.ensures.shown i.taken (g.W.Write.contents c.args.output.now.writer) i.behind in
     let some : 0 < length piece = omega (arith, length-take c.in-Ok.count c.read.new.buf, c.in-Ok.ensures.bound) in
-    falls c.pieces.session.reading c.show_piece.new.session.reading i.behind.items after.items i.taken piece i.behind.gave after.gave c.in_ok-show_piece-in-Ok.ensures.limits some
+    falls c.pieces.session.reading c.show_piece.new.session.reading i.behind.items after.items i.taken piece
+    i.behind.gave after.gave c.in_ok-show_piece-in-Ok.ensures.limits some
 
 pub pieces-preserved : goal.pieces-preserved
 pieces-preserved g c =
@@ -66,7 +75,8 @@ pieces-preserved g c =
       c.in_ok-show_piece-in-Ok.ensures.limits ∙ c.pieces.invariant.0,
       c.in-Ok.ensures.counted.1 ∙ c.pieces.invariant.1,
       c.in_ok-show_piece-in-Ok.ensures.writes ∙ c.pieces.invariant.2,
-      reads_on read now next old out (g.W.Write.contents c.show_piece.new.output.writer) c.pieces.lines.gathered.items c.show_piece.new.lines.gathered.items (take c.in-Ok.count c.read.new.buf) i
+      reads_on read now next old out (g.W.Write.contents c.show_piece.new.output.writer) c.pieces.lines.gathered.items
+          c.show_piece.new.lines.gathered.items (take c.in-Ok.count c.read.new.buf) i
           c.in-Ok.ensures.bytes.0 (c.in_ok-show_piece-in-Ok.ensures.shown i.taken old i.behind),
     )
 
@@ -82,9 +92,12 @@ returns-in_err-show_piece-in-Ok-clause-shown g c = λ bytes known.
     let M = c.args.session.now.reading.limits in
     let i = c.pieces.invariant.3 in
     let f = c.in_err-show_piece-in-Ok.field-0.0 in
-    runs_at (within_trees M) bytes next (Gathered old new gathered) (AppendsFront old new) c.from_residual-in_err-show_piece-in-Ok.result f c.from_residual-in_err-show_piece-in-Ok.ensures.1
-    (stopped c.pieces.session.reading.limits M c.show_piece.new.session.reading read next old new bytes gathered (i.taken ++ piece) f c.pieces.invariant.0 known
-    (Consumes-trans read now next i.taken piece i.input c.in-Ok.ensures.bytes.0) (c.in_err-show_piece-in-Ok.ensures.shown i.taken old i.behind))
+    runs_at (within_trees M) bytes next (Gathered old new gathered) (AppendsFront old new)
+    c.from_residual-in_err-show_piece-in-Ok.result f c.from_residual-in_err-show_piece-in-Ok.ensures.1
+    (stopped c.pieces.session.reading.limits M c.show_piece.new.session.reading read next old new bytes gathered
+    (i.taken ++ piece) f c.pieces.invariant.0 known
+    (Consumes-trans read now next i.taken piece i.input c.in-Ok.ensures.bytes.0)
+    (c.in_err-show_piece-in-Ok.ensures.shown i.taken old i.behind))
 
 pub returns-in_err-show_piece-in-Ok-clause-reads : goal.returns-in_err-show_piece-in-Ok-clause-reads
 returns-in_err-show_piece-in-Ok-clause-reads g c =
@@ -93,10 +106,13 @@ returns-in_err-show_piece-in-Ok-clause-reads g c =
     let i = c.pieces.invariant.3 in
     let f = c.in_err-show_piece-in-Ok.field-0.0 in
     reads_at _ _ c.from_residual-in_err-show_piece-in-Ok.result f c.from_residual-in_err-show_piece-in-Ok.ensures.1
-    (piece_counts (within_trees c.pieces.session.reading.limits) c.show_piece.new.session.reading (i.taken ++ take c.in-Ok.count c.read.new.buf) old new c.show_piece.new.lines.gathered.items _ _ f
+    (piece_counts (within_trees c.pieces.session.reading.limits) c.show_piece.new.session.reading
+    (i.taken ++ take c.in-Ok.count c.read.new.buf) old new c.show_piece.new.lines.gathered.items _ _ f
     (c.in_err-show_piece-in-Ok.ensures.shown i.taken old i.behind) (c.in-Ok.ensures.counted.1 ∙ c.pieces.invariant.1))
 
 pub returns-in-Err-clause-shown : goal.returns-in-Err-clause-shown
 returns-in-Err-clause-shown g c = λ bytes known.
-    read_failed c.args.session.now.reading.limits c.pieces.session.reading (g.R.Read.remaining c.args.input.now.reader) (g.R.Read.remaining c.pieces.input.reader) (g.R.Read.remaining c.read.new.self.reader)
-    (g.W.Write.contents c.args.output.now.writer) (g.W.Write.contents c.pieces.output.writer) bytes c.pieces.lines.gathered.items c.pieces.invariant.0 c.pieces.invariant.3 known c.in-Err.ensures.bytes
+    read_failed c.args.session.now.reading.limits c.pieces.session.reading (g.R.Read.remaining c.args.input.now.reader)
+    (g.R.Read.remaining c.pieces.input.reader) (g.R.Read.remaining c.read.new.self.reader)
+    (g.W.Write.contents c.args.output.now.writer) (g.W.Write.contents c.pieces.output.writer) bytes
+    c.pieces.lines.gathered.items c.pieces.invariant.0 c.pieces.invariant.3 known c.in-Err.ensures.bytes

@@ -1,29 +1,21 @@
--- The wanted stream is read first; where it has no wanted type, nothing else is done.
-use Rattle.std.proofs.Common.{[], ap, refl}
-use Rattle.std.specs.Io.KnownBytes.{Appends}
+-- Where no session is had nothing is done. No limits allow deeper values than a reader of trees takes.
+use Rattle.std.proofs.Common.{[], ◌∙◌, ap}
 use Rattle.std.proofs.KnownBytes.{Appends-nil, Appends-kept}
-use Rattle.gob_types.specs.Defined.{types}
-use Rattle.gob_tool.specs.Showing.{AppendsFront}
-use Rattle.gob_tool.specs.Taking.{stops_at_wanted, takes_behind}
-use Rattle.gob_tool.proofs.TakeLaws.{ready_as}
-use Rattle.gob_tool.proofs.WantedLaws.{found_taken, flushed_behind}
+use Rattle.gob_stream.proofs.PublicLaws.{limits_stay}
+use Rattle.gob_tool.specs.Gathering.{within_trees}
+use Rattle.gob_tool.specs.Taking.{stops_at_wanted}
 use Rattle.gob_tool.proofs.take.run_take.Goals as goal
 
-pub take_values-requires : goal.take_values-requires
-take_values-requires g c = ready_as (ap (λ d. types d) c.table.ensures) refl c.in-Ok.ensures.ready
-
-pub returns-in-Ok-clause-taken : goal.returns-in-Ok-clause-taken
-returns-in-Ok-clause-taken g c = λ wanted_bytes bytes known left.
-    let old = g.W.Write.contents c.args.output.now.writer in
-    let new = g.W.Write.contents c.take_values.new.output.writer in
-    let now = g.R.Read.remaining c.take_values.new.input.reader in
-    takes_behind (found_taken bytes now (types c.table.result.now) (Appends old new) (AppendsFront old new) c.take_values.result (c.in-Ok.ensures.found wanted_bytes known) (ap (λ d. types d) c.table.ensures) (c.take_values.ensures.taken bytes left))
+pub take_as_wanted-taken-requires-clause-within : goal.take_as_wanted-taken-requires-clause-within
+take_as_wanted-taken-requires-clause-within g c =
+    ap (λ L. within_trees L) c.in-Ok.ensures.limits ∙ limits_stay _ _ c.in-Ok.ensures.allowed.depth
 
 pub returns-in-Err-clause-taken : goal.returns-in-Err-clause-taken
 returns-in-Err-clause-taken g c = λ wanted_bytes bytes known left.
     let old = g.W.Write.contents c.args.output.now.writer in
     let new = g.W.Write.contents c.flush.new.self.writer in
-    stops_at_wanted (c.in-Err.ensures.found wanted_bytes known) (record { unread = left; unwritten = Appends-kept old old new [] (Appends-nil old) c.flush.ensures.bytes })
-
-pub returns-in-Err-clause-writes : goal.returns-in-Err-clause-writes
-returns-in-Err-clause-writes g c = flushed_behind _ _ _ _ c.in-Err.fault c.flush.result c.in-Err.ensures.reads c.flush.ensures.counted
+    stops_at_wanted tt (record {
+      unread = left;
+      unwritten = Appends-kept old old new [] (Appends-nil old)
+          c.flush.ensures.bytes;
+    })

@@ -4,7 +4,8 @@ use Rattle.gob_types.specs.Defined.{types}
 use Rattle.gob_value.specs.View.{view}
 use Rattle.gob_stream.specs.Item.{item_view}
 use Rattle.gob_tool.specs.declared.fault.ToolFault.TheVariants as fault
-use Rattle.gob_tool.proofs.TakeLaws.{line_as, sent_ready, definition_taken, value_stopped, line_lost, value_taken, takes_at}
+use Rattle.gob_tool.proofs.TakeLaws.{line_as, sent_ready, definition_taken, value_stopped, line_lost, value_taken}
+use Rattle.gob_tool.proofs.TakeLaws.{takes_at}
 use Rattle.gob_tool.proofs.take.take_item.Goals as goal
 
 pub returns-in_default-clause-taken : goal.returns-in_default-clause-taken
@@ -16,16 +17,19 @@ receive-requires-clause-ready g c = sent_ready (ap item_view c.in-Put.is) c.requ
 pub returns-in_err-value-clause-taken : goal.returns-in_err-value-clause-taken
 returns-in_err-value-clause-taken g c =
     takes_at _ _ _ _ _ _ _ _ c.from_residual.result _ c.from_residual.ensures.1
-    (value_stopped _ _ _ _ c.in-Put.id _ _ _ c.in_err-value.field-0.0 (ap item_view c.in-Put.is) c.in_err-value.ensures.fault)
+    (value_stopped _ _ _ _ c.in-Put.id _ _ _ c.in_err-value.field-0.0 (ap item_view c.in-Put.is)
+    c.in_err-value.ensures.fault)
 
-pub returns-in_err-push-clause-taken : goal.returns-in_err-push-clause-taken
-returns-in_err-push-clause-taken g c =
-    takes_at _ _ _ _ _ _ _ _ c.from_residual-in_err-push.result fault.Memory c.from_residual-in_err-push.ensures.1 (line_lost _ _ _ _ _ _ _ c.in_err-push.ensures.err)
+pub returns-in_err-pushed-clause-taken : goal.returns-in_err-pushed-clause-taken
+returns-in_err-pushed-clause-taken g c =
+    takes_at _ _ _ _ _ _ _ _ c.from_residual-in_err-pushed.result fault.Memory c.from_residual-in_err-pushed.ensures.1
+    (line_lost _ _ _ _ _ _ _ c.in_err-pushed.ensures.err)
 
 pub returns-clause-taken : goal.returns-clause-taken
 returns-clause-taken g c =
     let before = c.args.lines.now.gathered.items in
     let same = c.receive.ensures.same in
     let as_wanted = line_as (view c.in_ok-value.value) (ap (λ d. types d) same.wanted) same.wanted_id in
-    value_taken _ _ _ _ c.in-Put.id _ (view c.in_ok-value.value) _ _ _ _ _ c.write_many.result (ap item_view c.in-Put.is) c.in_ok-value.ensures.matched c.in_ok-value.ensures.received
-    (c.in_ok-push.ensures.ok ∙ ap (λ (l : List ℕ). before ++ l) as_wanted) c.write_many.ensures.passed
+    value_taken _ _ _ _ c.in-Put.id _ (view c.in_ok-value.value) _ _ _ _ _ c.write_many.result
+    (ap item_view c.in-Put.is) c.in_ok-value.ensures.matched c.in_ok-value.ensures.received
+    (c.in_ok-pushed.ensures.ok ∙ ap (λ (l : List ℕ). before ++ l) as_wanted) c.write_many.ensures.passed

@@ -8,16 +8,25 @@ use Rattle.gob_stream.specs.Item.{item_views}
 use Rattle.gob_tool.specs.Fault.{reading_fault}
 use Rattle.gob_tool.specs.Gathering.{PassesSome, within_trees}
 use Rattle.gob_tool.specs.Showing.{AppendsFront}
-use Rattle.gob_tool.proofs.TakeRuns.{piece_sent, takes_first, takes_on, nearer, takes_of, sent_of, receiving_at, stopped_at_items, stopped_at_read, stopped_at_reader, ended_whole}
+use Rattle.gob_tool.proofs.TakeRuns.{piece_sent, takes_first, takes_on, nearer, takes_of, sent_of, receiving_at}
+use Rattle.gob_tool.proofs.TakeRuns.{stopped_at_items, stopped_at_read, stopped_at_reader, ended_whole}
 use Rattle.gob_tool.proofs.take.take_pieces.Goals as goal
 
 pub pieces-init : goal.pieces-init
-pieces-init g c = (refl, refl, refl, takes_first _ _ (types c.args.wanted.now) c.args.wanted_id _ _ c.requires.stands c.requires.lines)
+pieces-init g c = (
+  refl,
+  refl,
+  refl,
+  takes_first _ _ (types c.args.wanted.now) c.args.wanted_id _ _ c.requires.stands
+      c.requires.lines,
+)
 
 pub take_piece-requires-clause-sent : goal.take_piece-requires-clause-sent
 take_piece-requires-clause-sent g c =
     let i = c.pieces.invariant.3 in
-    sent_of (ap (λ d. types d) c.table.ensures) (ap (λ (l : List (declared.Item Value)). item_views l) c.deref.ensures.value) (piece_sent (c.next_items-more.ensures.gave i.items i.taken i.gave))
+    sent_of (ap (λ d. types d) c.table.ensures)
+    (ap (λ (l : List (declared.Item Value)). item_views l) c.deref.ensures.value)
+    (piece_sent (c.next_items-more.ensures.gave i.items i.taken i.gave))
 
 pub pieces-smaller : goal.pieces-smaller
 pieces-smaller g c =
@@ -31,11 +40,15 @@ pieces-preserved g c =
     let out = g.W.Write.contents c.pieces.output.writer in
     let before = c.pieces.lines.gathered.items in
     let after = c.take_piece.new.lines.gathered.items in
-    let taken = takes_of (types c.args.wanted.now) c.args.wanted_id out new before after (Ok tt) (ap (λ d. types d) c.table.ensures) (ap (λ (l : List (declared.Item Value)). item_views l) c.deref.ensures.value) c.in_ok-take_piece.ensures.taken in (
+    let taken = takes_of (types c.args.wanted.now) c.args.wanted_id out new before after (Ok tt)
+    (ap (λ d. types d) c.table.ensures)
+    (ap (λ (l : List (declared.Item Value)). item_views l) c.deref.ensures.value)
+    c.in_ok-take_piece.ensures.taken in (
       c.next_items-more.ensures.limits ∙ c.pieces.invariant.0,
       c.in_ok-more.ensures.reads ∙ c.pieces.invariant.1,
       c.in_ok-take_piece.ensures.writes ∙ c.pieces.invariant.2,
-      takes_on c.args.session.now.reading.limits c.pieces.session.reading c.next_items-more.new.session.reading _ _ _ _ out (types c.args.wanted.now) c.args.wanted_id before _ c.requires.ready c.pieces.invariant.0 i
+      takes_on c.args.session.now.reading.limits c.pieces.session.reading c.next_items-more.new.session.reading _ _ _ _
+          out (types c.args.wanted.now) c.args.wanted_id before _ c.requires.ready c.pieces.invariant.0 i
           new after c.in_ok-more.field-0 c.if-not-branch.false (c.in_ok-more.ensures.gave i.items i.taken i.gave) taken,
     )
 
@@ -45,8 +58,11 @@ returns-then-matches-clause-taken g c = λ bytes known.
     let failed : c.next_items-more.result ≡ Err reading.Read = search rules in
     let old = g.W.Write.contents c.args.output.now.writer in
     let out = g.W.Write.contents c.pieces.output.writer in
-    stopped_at_read c.args.session.now.reading.limits c.pieces.session.reading c.next_items-more.new.session.reading _ _ _ old out (types c.args.wanted.now) c.args.wanted_id c.pieces.lines.gathered.items _ c.requires.ready c.pieces.invariant.0 i
-    bytes c.next_items-more.result (AppendsFront old out) failed known (c.next_items-more.ensures.gave i.items i.taken i.gave)
+    stopped_at_read c.args.session.now.reading.limits c.pieces.session.reading c.next_items-more.new.session.reading _ _
+    _ old out (types c.args.wanted.now) c.args.wanted_id c.pieces.lines.gathered.items _ c.requires.ready
+    c.pieces.invariant.0 i
+    bytes c.next_items-more.result (AppendsFront old out) failed known
+    (c.next_items-more.ensures.gave i.items i.taken i.gave)
 
 pub returns-in_err-take_piece-clause-taken : goal.returns-in_err-take_piece-clause-taken
 returns-in_err-take_piece-clause-taken g c = λ bytes known.
@@ -59,9 +75,15 @@ returns-in_err-take_piece-clause-taken g c = λ bytes known.
     let after = c.take_piece.new.lines.gathered.items in
     let M = c.args.session.now.reading.limits in
     let next = g.R.Read.remaining c.next_items-more.new.input.reader in
-    let taken = takes_of (types c.args.wanted.now) c.args.wanted_id out new before after (Err f) (ap (λ d. types d) c.table.ensures) (ap (λ (l : List (declared.Item Value)). item_views l) c.deref.ensures.value) c.in_err-take_piece.ensures.taken in
-    receiving_at (within_trees M) bytes next (types c.args.wanted.now) c.args.wanted_id (λ lines. PassesSome old new lines after) (AppendsFront old new) c.from_residual.result f c.from_residual.ensures.1
-    (stopped_at_items M c.pieces.session.reading c.next_items-more.new.session.reading _ _ next old out (types c.args.wanted.now) c.args.wanted_id before _ c.requires.ready c.pieces.invariant.0 i
+    let taken = takes_of (types c.args.wanted.now) c.args.wanted_id out new before after (Err f)
+    (ap (λ d. types d) c.table.ensures)
+    (ap (λ (l : List (declared.Item Value)). item_views l) c.deref.ensures.value)
+    c.in_err-take_piece.ensures.taken in
+    receiving_at (within_trees M) bytes next (types c.args.wanted.now) c.args.wanted_id
+    (λ lines. PassesSome old new lines after) (AppendsFront old new) c.from_residual.result f
+    c.from_residual.ensures.1
+    (stopped_at_items M c.pieces.session.reading c.next_items-more.new.session.reading _ _ next old out
+    (types c.args.wanted.now) c.args.wanted_id before _ c.requires.ready c.pieces.invariant.0 i
     (c.next_items-more.ensures.gave i.items i.taken i.gave) bytes new after f known taken)
 
 pub returns-in_err-more-clause-taken : goal.returns-in_err-more-clause-taken
@@ -75,9 +97,15 @@ returns-in_err-more-clause-taken g c = λ bytes known.
     let after = c.take_piece.new.lines.gathered.items in
     let M = c.args.session.now.reading.limits in
     let next = g.R.Read.remaining c.next_items-more.new.input.reader in
-    let taken = takes_of (types c.args.wanted.now) c.args.wanted_id out new before after (Ok tt) (ap (λ d. types d) c.table.ensures) (ap (λ (l : List (declared.Item Value)). item_views l) c.deref.ensures.value) c.in_ok-take_piece.ensures.taken in
-    receiving_at (within_trees M) bytes next (types c.args.wanted.now) c.args.wanted_id (λ lines. PassesSome old new lines after) (AppendsFront old new) c.from_residual-in_err-more.result (reading_fault e) c.from_residual-in_err-more.ensures.1
-    (stopped_at_reader M c.pieces.session.reading c.next_items-more.new.session.reading _ _ next old out (types c.args.wanted.now) c.args.wanted_id before _ c.requires.ready c.pieces.invariant.0 i
+    let taken = takes_of (types c.args.wanted.now) c.args.wanted_id out new before after (Ok tt)
+    (ap (λ d. types d) c.table.ensures)
+    (ap (λ (l : List (declared.Item Value)). item_views l) c.deref.ensures.value)
+    c.in_ok-take_piece.ensures.taken in
+    receiving_at (within_trees M) bytes next (types c.args.wanted.now) c.args.wanted_id
+    (λ lines. PassesSome old new lines after) (AppendsFront old new) c.from_residual-in_err-more.result
+    (reading_fault e) c.from_residual-in_err-more.ensures.1
+    (stopped_at_reader M c.pieces.session.reading c.next_items-more.new.session.reading _ _ next old out
+    (types c.args.wanted.now) c.args.wanted_id before _ c.requires.ready c.pieces.invariant.0 i
     bytes new after (AppendsFront old new) e known (c.in_err-more.ensures.gave i.items i.taken i.gave) taken)
 
 pub returns-then-not-branch-clause-taken : goal.returns-then-not-branch-clause-taken
@@ -90,6 +118,11 @@ returns-then-not-branch-clause-taken g c = λ bytes known.
     let after = c.take_piece.new.lines.gathered.items in
     let M = c.args.session.now.reading.limits in
     let next = g.R.Read.remaining c.next_items-more.new.input.reader in
-    let taken = takes_of (types c.args.wanted.now) c.args.wanted_id out new before after (Ok tt) (ap (λ d. types d) c.table.ensures) (ap (λ (l : List (declared.Item Value)). item_views l) c.deref.ensures.value) c.in_ok-take_piece.ensures.taken in
-    ended_whole M c.pieces.session.reading c.next_items-more.new.session.reading _ _ next old out (types c.args.wanted.now) c.args.wanted_id before _ c.requires.ready c.pieces.invariant.0 i
-    bytes new after c.in_ok-more.field-0 c.if-not-branch.true known (c.in_ok-more.ensures.gave i.items i.taken i.gave) taken
+    let taken = takes_of (types c.args.wanted.now) c.args.wanted_id out new before after (Ok tt)
+    (ap (λ d. types d) c.table.ensures)
+    (ap (λ (l : List (declared.Item Value)). item_views l) c.deref.ensures.value)
+    c.in_ok-take_piece.ensures.taken in
+    ended_whole M c.pieces.session.reading c.next_items-more.new.session.reading _ _ next old out
+    (types c.args.wanted.now) c.args.wanted_id before _ c.requires.ready c.pieces.invariant.0 i
+    bytes new after c.in_ok-more.field-0 c.if-not-branch.true known (c.in_ok-more.ensures.gave i.items i.taken i.gave)
+    taken

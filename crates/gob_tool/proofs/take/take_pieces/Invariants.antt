@@ -13,7 +13,8 @@ invariant-pieces g l =
     × (l.output.failures ≡ l.fn.output.failures)
     × StandsAt l.session.reading (g.R.Read.remaining l.fn.input.reader) (g.R.Read.remaining l.input.reader)
     (λ items. HasReceived (types l.session.reading.types) (types l.wanted) l.fn.wanted_id items
-    (λ lines. PassesSome (g.W.Write.contents l.fn.output.writer) (g.W.Write.contents l.output.writer) lines l.lines.gathered.items))
+    (λ lines. PassesSome (g.W.Write.contents l.fn.output.writer) (g.W.Write.contents l.output.writer) lines
+    l.lines.gathered.items))
 
 abbrev pub decreases-pieces : goal.decreases-pieces
 decreases-pieces g l = unread l.session.reading

@@ -8,7 +8,8 @@ abbrev pub invariant-pieces : goal.invariant-pieces
 invariant-pieces g l =
     (l.session.reading.limits ≡ l.fn.session.reading.limits)
     × (l.input.failures ≡ l.fn.input.failures)
-    × StandsAt l.session.reading (g.Q.Read.remaining l.fn.input.reader) (g.Q.Read.remaining l.input.reader) (λ items. l.first ≡ first_type items)
+    × StandsAt l.session.reading (g.Q.Read.remaining l.fn.input.reader) (g.Q.Read.remaining l.input.reader)
+    (λ items. l.first ≡ first_type items)
 
 abbrev pub decreases-pieces : goal.decreases-pieces
 decreases-pieces g l = unread l.session.reading

@@ -1,14 +1,14 @@
-use Rattle.std.proofs.Common.{◌∙◌, ap}
 use Rattle.gob_types.specs.Defined.{types}
-use Rattle.gob_stream.proofs.PublicLaws.{limits_stay}
 use Rattle.gob_tool.specs.Gathering.{within_trees}
 use Rattle.gob_tool.proofs.WantedLaws.{lacks_as, counts_as}
 use Rattle.gob_tool.proofs.wanted.read_wanted.Goals as goal
 
 pub returns-clause-found : goal.returns-clause-found
 returns-clause-found g c = λ bytes known.
-    let limits = ap (λ L. within_trees L) c.in_ok-session.ensures.limits ∙ limits_stay _ _ c.in_ok-session.ensures.allowed.depth in
-    lacks_as _ c.args.limits bytes (g.Q.Read.remaining c.read_type.new.input.reader) (types c.read_type.new.session.reading.types) _ c.wanted_fault.result limits c.wanted_fault.ensures (c.in-Err.ensures.read bytes known)
+    let L = within_trees c.args.session.now.reading.limits in
+    lacks_as L bytes (g.Q.Read.remaining c.read_type.new.input.reader) (types c.read_type.new.session.reading.types) _
+    c.wanted_fault.result c.wanted_fault.ensures (c.in-Err.ensures.read bytes known)
 
 pub returns-clause-reads : goal.returns-clause-reads
-returns-clause-reads g c = counts_as c.args.input.now.failures c.read_type.new.input.failures _ c.wanted_fault.result c.wanted_fault.ensures c.in-Err.ensures.reads
+returns-clause-reads g c = counts_as c.args.input.now.failures c.read_type.new.input.failures _ c.wanted_fault.result
+    c.wanted_fault.ensures c.in-Err.ensures.reads

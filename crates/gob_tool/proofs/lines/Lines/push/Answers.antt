@@ -13,8 +13,10 @@ returns-clause-ok g c =
     let shown = item_json (g.S.Shapes.table c.args.table.now) (item_view c.args.item.now) in
     let tokens : c.write_item-written.new.out.tokens ≡ json_tokens (outline shown) = search rules in
     let before : c.write_item-written.new.out.before ≡ [] = search rules in
-    let whole : c.into_inner.result.items ≡ c.write_item-written.new.out.before ++ print c.write_item-written.new.out.tokens = search rules in
+    let whole : c.into_inner.result.items ≡ c.write_item-written.new.out.before ++ print
+    c.write_item-written.new.out.tokens = search rules in
     let ended : c.push.new.self.items ≡ c.into_inner.result.items ++ 10 ∷ [] = search rules in
-    let joined : c.extend_from_slice.new.self.items ≡ c.args.self.now.gathered.items ++ c.push.new.self.items = search rules in
+    let joined : c.extend_from_slice.new.self.items
+    ≡ c.args.self.now.gathered.items ++ c.push.new.self.items = search rules in
     let text = printed shown _ _ _ whole before tokens in
     joined ∙ ap (λ (l : List ℕ). c.args.self.now.gathered.items ++ l) (ended ∙ ap (λ (l : List ℕ). l ++ 10 ∷ []) text)

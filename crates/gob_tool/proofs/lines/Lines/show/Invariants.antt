@@ -9,4 +9,5 @@ abbrev pub invariant-loop-item : goal.invariant-loop-item
 invariant-loop-item g l =
     (l.output.failures ≡ l.fn.output.failures)
     × PassesSome (g.W.Write.contents l.fn.output.writer) (g.W.Write.contents l.output.writer)
-    (l.fn.self.gathered.items ++ lines (g.S.Shapes.table l.table) (item_views (take l.item-index l.items))) l.self.gathered.items
+    (l.fn.self.gathered.items ++ lines (g.S.Shapes.table l.table) (item_views (take l.item-index l.items)))
+    l.self.gathered.items
