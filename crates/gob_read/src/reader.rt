@@ -33,6 +33,7 @@ pub struct BodyReader<B: Builder> {
     run: Option<Run<B>>,
 }
 
+// Not derived, so that a drop is one call in the proofs of what owns one.
 impl<B: Builder> Drop for BodyReader<B> {
     fn drop(self) {
         let BodyReader { run: _ } = self;

@@ -40,6 +40,7 @@ pub(crate) struct Run<B: Builder> {
     pub(crate) depth: u64,
 }
 
+// Not derived, so that a drop is one call in the proofs of what owns one.
 impl<B: Builder> Drop for Run<B> {
     fn drop(self) {
         let Run {

@@ -13,6 +13,7 @@ pub(crate) struct Opens {
     frames: Vec<Frame>,
 }
 
+// Not derived, so that a drop is one call in the proofs of what owns one.
 impl Drop for Opens {
     fn drop(self) {
         let Opens { frames: _ } = self;

@@ -23,6 +23,7 @@ pub(crate) struct State<B: Builder> {
     pub(crate) awaited: Awaited,
 }
 
+// Not derived, so that a drop is one call in the proofs of what owns one.
 impl<B: Builder> Drop for State<B> {
     fn drop(self) {
         let State {

@@ -21,6 +21,7 @@ pub struct TreeBuilder {
     held: u64,
 }
 
+// Not derived, so that a drop is one call in the proofs of what owns one.
 impl Drop for TreeBuilder {
     fn drop(self) {
         let TreeBuilder {

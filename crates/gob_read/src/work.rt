@@ -17,6 +17,7 @@ pub(crate) struct Work {
     whole: Option<Value>,
 }
 
+// Not derived, so that a drop is one call in the proofs of what owns one.
 impl Drop for Work {
     fn drop(self) {
         let Work { parts: _, whole: _ } = self;

@@ -1,6 +1,7 @@
 //! What follows the type number of a body: a value, or the description of a type.
 
-ghost use Rattle.std.specs.Prelude.{◌≡◌, ℕ, ◌+◌, ◌<◌, ◌≤◌, ◌^◌, ◌++◌, ◌∷◌, [], List, OnOk, OnErr, IfOk, IfErr, MatchResult};
+ghost use Rattle.std.specs.Prelude.{◌≡◌, ℕ, ◌+◌, ◌<◌, ◌≤◌, ◌^◌, ◌++◌, ◌∷◌, [], List, OnOk, OnErr, IfOk, IfErr};
+ghost use Rattle.std.specs.Prelude.{MatchResult};
 ghost use Rattle.gob_types.specs.Base.{base_table, wire_type};
 ghost use Rattle.gob_types.specs.Defined.{types, Admits};
 ghost use Rattle.gob_types.specs.Definable.{IsDefinable};
@@ -65,8 +66,10 @@ pub(crate) fn take_description<B: Builder>(
     requires order { rest.begin ≤ rest.end }
     requires admitted { Admits table.old id }
     requires keeps { HasWireType (types table.old) }
-    ensures read { (limit : ℕ) (z : List ℕ) → Stands (types table.old) wire_type limit (size rest) ⟦<TreeBuilder as Builder>⟧.stands reader.run z
-        → ReadsDescription ⟦<TreeBuilder as Builder>⟧.stands (types table.old) id limit rest z piece.now (types table.new) result }
+    ensures read { (limit : ℕ) (z : List ℕ)
+        → Stands (types table.old) wire_type limit (size rest) ⟦<TreeBuilder as Builder>⟧.stands reader.run z
+        → ReadsDescription ⟦<TreeBuilder as Builder>⟧.stands (types table.old) id limit rest z piece.now
+        (types table.new) result }
     ensures most { table.new.most ≡ table.old.most }
     ensures unchanged { OnErr result (table.new ≡ table.old) }
 {

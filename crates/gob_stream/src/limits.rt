@@ -21,7 +21,8 @@ impl Model for Limits {
 
     ghost view = { λ s. record { item = s.item; depth = s.depth; types = s.types; stream = s.stream } };
 
-    ghost invariant = { λ s. AreLimits (record { item = s.item; depth = s.depth; types = s.types; stream = s.stream }) };
+    ghost invariant = { λ s.
+        AreLimits (record { item = s.item; depth = s.depth; types = s.types; stream = s.stream }) };
 
     ghost inverse = { λ s. record { item = s.item; depth = s.depth; types = s.types; stream = s.stream } };
 }
@@ -36,8 +37,10 @@ impl Limits {
     /// definitions, and `stream` bytes for the whole stream. None exactly where `depth` is 0 or above 1000, or
     /// `stream` is above 9223372036854775807.
     pub fn new(item: u64, depth: u64, types: u64, stream: u64) -> Option<Limits>
-        ensures some { IsSome result ↔ AreLimits (record { item = item; depth = depth; types = types; stream = stream }) }
-        ensures given { IfSome result (λ limits. limits ≡ record { item = item; depth = depth; types = types; stream = stream }) }
+        ensures some { IsSome result
+            ↔ AreLimits (record { item = item; depth = depth; types = types; stream = stream }) }
+        ensures given { IfSome result (λ limits. limits
+            ≡ record { item = item; depth = depth; types = types; stream = stream }) }
     {
         if depth == 0 || depth > Limits::GREATEST_DEPTH || stream > Limits::GREATEST_STREAM {
             return None;

@@ -42,7 +42,8 @@ fn read_items<R: Read>(
     session: &mut Session<TreeBuilder>,
     out: &mut Vec<Item<Value>>,
 ) -> Result<(), Fault>
-    requires stands { StandsAfter ⟦<TreeBuilder as Builder>⟧.stands ⟦<TreeBuilder as Builder>⟧.stands 1000 session.old.reading [] [] }
+    requires stands { StandsAfter ⟦<TreeBuilder as Builder>⟧.stands ⟦<TreeBuilder as Builder>⟧.stands 1000
+        session.old.reading [] [] }
     requires new { session.old.reading.taken ≡ 0 }
     requires allowed { AreLimits session.old.reading.limits }
     ensures items { Given out.old.items out.new.items (λ given. (bytes : List ℕ)

@@ -1,6 +1,7 @@
 //! A stream under way.
 
-ghost use Rattle.std.specs.Prelude.{◌≡◌, ℕ, ◌-◌, ◌<◌, ◌≤◌, [], ◌∷◌, ◌++◌, List, length, Err, IfOk, IfErr, IfSome, OnOk, OnErr};
+ghost use Rattle.std.specs.Prelude.{◌≡◌, ℕ, ◌-◌, ◌<◌, ◌≤◌, [], ◌∷◌, ◌++◌, List, length, Err, IfOk, IfErr, IfSome};
+ghost use Rattle.std.specs.Prelude.{OnOk, OnErr};
 ghost use Rattle.gob_types.specs.Defined.{types};
 ghost use Rattle.gob_stream.specs.Bounds.{AreLimits};
 ghost use Rattle.gob_stream.specs.Item.{StreamItem};
@@ -22,7 +23,6 @@ use std::alloc::Global;
 use std::mem;
 
 /// What a reader of items knows of the stream so far.
-#[derive(Drop)]
 pub(crate) struct Reading<B: Builder> {
     /// The limits of the stream.
     pub(crate) limits: Limits,
@@ -32,6 +32,18 @@ pub(crate) struct Reading<B: Builder> {
     pub(crate) taken: u64,
     /// What is awaited.
     pub(crate) stage: Stage<B>,
+}
+
+// Not derived, so that a drop is one call in the proofs of what owns one.
+impl<B: Builder> Drop for Reading<B> {
+    fn drop(self) {
+        let Reading {
+            limits: _,
+            types: _,
+            taken: _,
+            stage: _,
+        } = self;
+    }
 }
 
 /// What became of the front of a piece.
@@ -46,7 +58,8 @@ pub(crate) struct Step<O: Drop> {
 impl<B: Builder> Reading<B> {
     /// Before the first byte.
     pub(crate) fn new(alloc: Global, limits: Limits) -> Result<Reading<B>, Memory>
-        ensures stands { IfOk result (λ reading. StandsAfter B.stands ⟦<TreeBuilder as Builder>⟧.stands B.DEPTH reading [] []) }
+        ensures stands { IfOk result (λ reading.
+            StandsAfter B.stands ⟦<TreeBuilder as Builder>⟧.stands B.DEPTH reading [] []) }
         ensures limits { IfOk result (λ reading. reading.limits ≡ limits) }
         ensures allowed { AreLimits limits }
     {
@@ -72,7 +85,8 @@ impl<B: Builder> Reading<B> {
         requires { IsUsable B.stands ⟦<TreeBuilder as Builder>⟧.stands B.DEPTH self.old }
         ensures fed { Given out.old.items out.new.items (λ given. (items : List StreamItem) (bytes : List ℕ)
             → StandsAfter B.stands ⟦<TreeBuilder as Builder>⟧.stands B.DEPTH self.old items bytes
-            → Feeds B.stands ⟦<TreeBuilder as Builder>⟧.stands B.means B.DEPTH self.old self.new items bytes piece.now given result) }
+            → Feeds B.stands ⟦<TreeBuilder as Builder>⟧.stands B.means B.DEPTH
+            self.old self.new items bytes piece.now given result) }
         ensures usable { IsUsable B.stands ⟦<TreeBuilder as Builder>⟧.stands B.DEPTH self.new }
         ensures failed { OnErr result (self.new.stage ≡ Stage.Failed) }
         ensures limits { self.new.limits ≡ self.old.limits }
@@ -103,9 +117,11 @@ impl<B: Builder> Reading<B> {
         requires some { 0 < length piece.now }
         ensures advances { (items : List StreamItem) (bytes : List ℕ)
             → StandsAfter B.stands ⟦<TreeBuilder as Builder>⟧.stands B.DEPTH self.old items bytes
-            → Advances B.stands ⟦<TreeBuilder as Builder>⟧.stands B.means B.DEPTH self.old self.new items bytes piece.now result }
+            → Advances B.stands ⟦<TreeBuilder as Builder>⟧.stands B.means B.DEPTH
+            self.old self.new items bytes piece.now result }
         ensures used { IfOk result (λ step. (0 < step.used) × (step.used ≤ length piece.now)) }
-        ensures whole { length piece.now ≤ wanted_in self.old.stage self.old.taken → IfOk result (λ step. step.used ≡ length piece.now) }
+        ensures whole { length piece.now ≤ wanted_in self.old.stage self.old.taken
+            → IfOk result (λ step. step.used ≡ length piece.now) }
         ensures between { IfOk result (λ step. IfSome step.item (λ _. self.new.stage ≡ Stage.Count self.new.taken [])) }
         ensures usable { IsUsable B.stands ⟦<TreeBuilder as Builder>⟧.stands B.DEPTH self.new }
         ensures failed { OnErr result (self.new.stage ≡ Stage.Failed) }
@@ -217,12 +233,17 @@ fn take_awaited<B: Builder>(
     stage: Stage<B>,
     piece: &[u8],
 ) -> Result<Stepped<B>, Fault>
-    requires stands { ¬ (stage ≡ Stage.Failed) → IsWithinItem B.stands ⟦<TreeBuilder as Builder>⟧.stands (no_deeper B.DEPTH limits) table.old taken stage }
+    requires stands { ¬ (stage ≡ Stage.Failed)
+        → IsWithinItem B.stands ⟦<TreeBuilder as Builder>⟧.stands (no_deeper B.DEPTH limits) table.old taken stage }
     requires some { 0 < length piece.now }
-    ensures steps { (offset : ℕ) (z : List ℕ) → StandsIn B.stands ⟦<TreeBuilder as Builder>⟧.stands (no_deeper B.DEPTH limits) (types table.old) offset stage z
-        → StepsOn B.stands ⟦<TreeBuilder as Builder>⟧.stands B.means (no_deeper B.DEPTH limits) (types table.old) offset z piece.now (types table.new) result }
+    ensures steps { (offset : ℕ) (z : List ℕ)
+        → StandsIn B.stands ⟦<TreeBuilder as Builder>⟧.stands (no_deeper B.DEPTH limits)
+        (types table.old) offset stage z
+        → StepsOn B.stands ⟦<TreeBuilder as Builder>⟧.stands B.means (no_deeper B.DEPTH limits)
+        (types table.old) offset z piece.now (types table.new) result }
     ensures some { IfOk result (λ stepped. 0 < stepped.used) }
-    ensures whole { length piece.now ≤ wanted_in stage taken → IfOk result (λ stepped. stepped.used ≡ length piece.now) }
+    ensures whole { length piece.now ≤ wanted_in stage taken
+        → IfOk result (λ stepped. stepped.used ≡ length piece.now) }
     ensures failed { stage ≡ Stage.Failed → result ≡ Err Fault.Failed }
     ensures most { table.new.most ≡ table.old.most }
     ensures unchanged { OnErr result (table.new ≡ table.old) }

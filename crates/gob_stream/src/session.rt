@@ -14,9 +14,15 @@ use std::io::Read;
 use std::marker::Model;
 
 /// A reader of one stream, from its first byte on, that makes of each value what `B` builds.
-#[derive(Drop)]
 pub struct Session<B: Builder> {
     reading: Reading<B>,
+}
+
+// Not derived, so that a drop is one call in the proofs of what owns one.
+impl<B: Builder> Drop for Session<B> {
+    fn drop(self) {
+        let Session { reading: _ } = self;
+    }
 }
 
 impl<B: Builder> Model for Session<B> {
@@ -45,7 +51,8 @@ impl<B: Builder> Session<B> {
 
     /// A reader that has taken no byte.
     pub fn new(alloc: Global, limits: Limits) -> Result<Session<B>, Memory>
-        ensures stands { IfOk result (λ session. StandsAfter B.stands ⟦<TreeBuilder as Builder>⟧.stands B.DEPTH session.reading [] []) }
+        ensures stands { IfOk result (λ session.
+            StandsAfter B.stands ⟦<TreeBuilder as Builder>⟧.stands B.DEPTH session.reading [] []) }
         ensures taken { IfOk result (λ session. session.reading.taken ≡ 0) }
         ensures limits { IfOk result (λ session. session.reading.limits ≡ limits) }
         ensures allowed { AreLimits limits }
@@ -65,7 +72,8 @@ impl<B: Builder> Session<B> {
     ) -> Result<(), Fault>
         ensures fed { Given out.old.items out.new.items (λ given. (items : List StreamItem) (bytes : List ℕ)
             → StandsAfter B.stands ⟦<TreeBuilder as Builder>⟧.stands B.DEPTH self.old.reading items bytes
-            → Feeds B.stands ⟦<TreeBuilder as Builder>⟧.stands B.means B.DEPTH self.old.reading self.new.reading items bytes piece.now given result) }
+            → Feeds B.stands ⟦<TreeBuilder as Builder>⟧.stands B.means B.DEPTH
+            self.old.reading self.new.reading items bytes piece.now given result) }
         ensures failed { OnErr result (self.new.reading.stage ≡ Stage.Failed) }
         ensures stays { self.old.reading.stage ≡ Stage.Failed
             → (result ≡ Err Fault.Failed) × (self.new.reading ≡ self.old.reading) × (out.new ≡ out.old) }
@@ -85,7 +93,8 @@ impl<B: Builder> Session<B> {
             → StandsAfter B.stands ⟦<TreeBuilder as Builder>⟧.stands B.DEPTH self.old.reading items bytes
             → Finishes B.DEPTH self.old.reading self.new.reading items bytes result }
         ensures failed { OnErr result (self.new.reading.stage ≡ Stage.Failed) }
-        ensures stays { self.old.reading.stage ≡ Stage.Failed → (result ≡ Err Fault.Failed) × (self.new.reading ≡ self.old.reading) }
+        ensures stays { self.old.reading.stage ≡ Stage.Failed → (result ≡ Err Fault.Failed)
+            × (self.new.reading ≡ self.old.reading) }
         ensures types { self.new.reading.types ≡ self.old.reading.types }
         ensures limits { self.new.reading.limits ≡ self.old.reading.limits }
     {

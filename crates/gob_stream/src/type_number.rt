@@ -8,7 +8,8 @@ ghost use Rattle.gob_types.specs.Defined.{types, Admits};
 ghost use Rattle.gob_stream.specs.Bounds.{Bounds, greatest_stream};
 ghost use Rattle.gob_stream.specs.Standing.{no_deeper, IsCount, IsRest};
 ghost use Rattle.gob_stream.specs.declared.stage.Extent.{Extent};
-ghost use Rattle.gob_stream.specs.ReadParts.{AreTypes, HasCount, HasWireType, MaybeDefines, MaybePuts, StepsOn, GoesOnIn};
+ghost use Rattle.gob_stream.specs.ReadParts.{AreTypes, HasCount, HasWireType, MaybeDefines, MaybePuts, StepsOn};
+ghost use Rattle.gob_stream.specs.ReadParts.{GoesOnIn};
 ghost use Rattle.gob_stream.specs.ReadParts.{define_reason, ready_fault};
 
 use crate::body::{take_description, take_value};
@@ -46,7 +47,8 @@ pub(crate) fn take_type_number<B: Builder>(
     requires front { IsUnsignedFront number }
     requires some { 0 < length piece.now }
     ensures read { (offset m : ℕ) (c : List ℕ) → IsCount (no_deeper B.DEPTH limits) offset m c body
-        → StepsOn B.stands ⟦<TreeBuilder as Builder>⟧.stands B.means (no_deeper B.DEPTH limits) (types table.old) offset (c ++ number) piece.now (types table.new) result }
+        → StepsOn B.stands ⟦<TreeBuilder as Builder>⟧.stands B.means (no_deeper B.DEPTH limits)
+        (types table.old) offset (c ++ number) piece.now (types table.new) result }
     ensures some { IfOk result (λ stepped. 0 < stepped.used) }
     ensures most { table.new.most ≡ table.old.most }
     ensures unchanged { OnErr result (table.new ≡ table.old) }
@@ -119,8 +121,11 @@ fn begin_rest<B: Builder>(
     requires known { AreTypes limits table.old }
     requires order { rest.begin ≤ rest.end }
     requires end { rest.end ≤ greatest_stream }
-    ensures read { (offset m : ℕ) (c a : List ℕ) (body : Extent) → IsCount (no_deeper B.DEPTH limits) offset m c body → body.begin ≡ place → IsUnsigned number a → IsRest body a rest
-        → StepsOn B.stands ⟦<TreeBuilder as Builder>⟧.stands B.means (no_deeper B.DEPTH limits) (types table.old) offset (c ++ a) piece.now (types table.new) result }
+    ensures read { (offset m : ℕ) (c a : List ℕ) (body : Extent)
+        → IsCount (no_deeper B.DEPTH limits) offset m c body → body.begin ≡ place → IsUnsigned number a
+        → IsRest body a rest
+        → StepsOn B.stands ⟦<TreeBuilder as Builder>⟧.stands B.means (no_deeper B.DEPTH limits)
+        (types table.old) offset (c ++ a) piece.now (types table.new) result }
     ensures most { table.new.most ≡ table.old.most }
     ensures unchanged { OnErr result (table.new ≡ table.old) }
 {
@@ -147,9 +152,11 @@ fn begin_description<B: Builder>(
     requires order { rest.begin ≤ rest.end }
     requires depth { depth ≤ 1000 }
     requires base { HasWireType (types table.old) }
-    ensures read { (L : Bounds) (offset m n : ℕ) (c a : List ℕ) (body : Extent) → L.depth ≡ depth → AreTypes L table.old → IsCount L offset m c body → body.begin ≡ place
+    ensures read { (L : Bounds) (offset m n : ℕ) (c a : List ℕ) (body : Extent) → L.depth ≡ depth
+        → AreTypes L table.old → IsCount L offset m c body → body.begin ≡ place
         → id.0 ≡ n + 1 → IsSigned (negsuc n) a → IsRest body a rest
-        → StepsOn B.stands ⟦<TreeBuilder as Builder>⟧.stands B.means L (types table.old) offset (c ++ a) piece.now (types table.new) result }
+        → StepsOn B.stands ⟦<TreeBuilder as Builder>⟧.stands B.means L
+        (types table.old) offset (c ++ a) piece.now (types table.new) result }
     ensures most { table.new.most ≡ table.old.most }
     ensures unchanged { OnErr result (table.new ≡ table.old) }
 {
@@ -174,9 +181,11 @@ fn begin_value<B: Builder>(
     piece: &[u8],
 ) -> Result<Stepped<B>, Fault>
     requires { rest.begin ≤ rest.end }
-    ensures { (L : Bounds) (offset m : ℕ) (c a : List ℕ) (body : Extent) → L.depth ≡ min depth B.DEPTH → IsCount L offset m c body → body.begin ≡ place
+    ensures { (L : Bounds) (offset m : ℕ) (c a : List ℕ) (body : Extent) → L.depth ≡ min depth B.DEPTH
+        → IsCount L offset m c body → body.begin ≡ place
         → IsSigned (pos id.0) a → IsRest body a rest
-        → StepsOn B.stands ⟦<TreeBuilder as Builder>⟧.stands B.means L (types table.now) offset (c ++ a) piece.now (types table.now) result }
+        → StepsOn B.stands ⟦<TreeBuilder as Builder>⟧.stands B.means L
+        (types table.now) offset (c ++ a) piece.now (types table.now) result }
 {
     match make_ready(alloc, table, id, place, rest.begin) {
         Ok(()) => {}
