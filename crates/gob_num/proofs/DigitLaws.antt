@@ -1,5 +1,6 @@
 -- Digits to base 256, and the number that they stand for.
-use Rattle.std.proofs.Common.{◌≡◌, ℕ, zero, suc, ◌+◌, ◌-◌, ◌*◌, ◌/◌, ◌%◌, ◌^◌, ◌<◌, ◌≤◌, List, [], ◌∷◌, ◌++◌, length, get_or, take, drop, w64, arith, refl, sym, ap, ◌∙◌, subst, length-append}
+use Rattle.std.proofs.Common.{◌≡◌, ℕ, zero, suc, ◌+◌, ◌-◌, ◌*◌, ◌/◌, ◌%◌, ◌^◌, ◌<◌, ◌≤◌, List, [], ◌∷◌, ◌++◌, length}
+use Rattle.std.proofs.Common.{get_or, take, drop, w64, arith, refl, sym, ap, ◌∙◌, subst, length-append}
 use Rattle.std.specs.Int.{from_be_bytes}
 use Rattle.std.proofs.lemmas.List.{take-append-drop, length-drop}
 use Rattle.std.proofs.Math.Nat.{pow-suc, pow-succ', pow-le-pow_right, div-add-mod}
@@ -53,10 +54,15 @@ bytes_each (b ∷ bytes) p = (p 0, bytes_each bytes (λ i. p (suc i)))
 pub big_endian_below : (ds : List ℕ) → AreBytes ds → big_endian ds < 256 ^ length ds
 big_endian_below [] h = omega arith
 big_endian_below (d ∷ ds) h =
-    rw (pow-succ' 256 (length ds)) (omega (arith, mul-add-lt d (256 ^ length ds) (big_endian ds) 256 h.0 (big_endian_below ds h.1)))
+    rw (pow-succ' 256 (length ds)) (omega (
+      arith,
+      mul-add-lt d (256 ^ length ds) (big_endian ds) 256 h.0
+          (big_endian_below ds h.1),
+    ))
 
 -- digits of one length and value are the same
-pub digits_injective : (a b : List ℕ) → AreBytes a → AreBytes b → length a ≡ length b → big_endian a ≡ big_endian b → a ≡ b
+pub digits_injective : (a b : List ℕ) → AreBytes a → AreBytes b → length a ≡ length b → big_endian a ≡ big_endian b
+    → a ≡ b
 digits_injective [] [] p q l e = refl
 digits_injective [] (d ∷ b) p q l e = cc
 digits_injective (c ∷ a) [] p q l e = cc
@@ -64,7 +70,8 @@ digits_injective (c ∷ a) (d ∷ b) p q l e =
     let n : length a ≡ length b = omega arith in
     let low : big_endian a < 256 ^ length a = big_endian_below a p.1 in
     let below : big_endian b < 256 ^ length a = rw n (big_endian_below b q.1) in
-    let whole : c * 256 ^ length a + big_endian a ≡ d * 256 ^ length a + big_endian b = e ∙ ap (λ k. d * 256 ^ k + big_endian b) (sym n) in
+    let whole : c * 256 ^ length a + big_endian a ≡ d * 256 ^ length a + big_endian b = e
+    ∙ ap (λ k. d * 256 ^ k + big_endian b) (sym n) in
     let parts = same_from_place c (big_endian a) d (big_endian b) (256 ^ length a) low below whole in
     let rest = digits_injective a b p.1 q.1 n parts.1 in
     let first : c ≡ d = parts.0 in cc
@@ -74,7 +81,8 @@ pub big_endian-snoc : (ds : List ℕ) (d : ℕ) → big_endian (ds ++ d ∷ []) 
 big_endian-snoc [] d = omega arith
 big_endian-snoc (c ∷ ds) d =
     snoc_arith c (256 ^ length ds) (256 ^ length (ds ++ d ∷ [])) (big_endian ds) (big_endian (ds ++ d ∷ [])) d
-    (let e : length (ds ++ d ∷ []) ≡ suc (length ds) = omega (arith, length-append ds (d ∷ [])) in ap (λ k. 256 ^ k) e ∙ pow-succ' 256 (length ds))
+    (let e : length (ds ++ d ∷ []) ≡ suc (length ds) = omega (arith, length-append ds (d ∷ [])) in ap (λ k. 256 ^ k) e
+    ∙ pow-succ' 256 (length ds))
     (big_endian-snoc ds d)
   where
     snoc_arith : (c w x v u d : ℕ) → x ≡ 256 * w → u ≡ v * 256 + d → c * x + u ≡ (c * w + v) * 256 + d
@@ -86,14 +94,19 @@ big_endian-append (d ∷ a) b =
     rw (length-append a b, pow-add 256 (length a) (length b)) (omega (arith, big_endian-append a b))
 
 -- the first digits of a number are what is left of it behind the others
-pub big_endian-take : (k : ℕ) (ds : List ℕ) → AreBytes ds → big_endian ds / 256 ^ (length ds - k) ≡ big_endian (take k ds)
+pub big_endian-take : (k : ℕ) (ds : List ℕ) → AreBytes ds
+    → big_endian ds / 256 ^ (length ds - k) ≡ big_endian (take k ds)
 big_endian-take k ds b =
     let whole = take-append-drop k ds in
-    let low : big_endian (drop k ds) < 256 ^ length (drop k ds) = big_endian_below (drop k ds) (bytes_rest (take k ds) (drop k ds) (subst AreBytes (sym whole) b)) in
+    let low : big_endian (drop k ds) < 256 ^ length (drop k ds) = big_endian_below (drop k ds)
+    (bytes_rest (take k ds) (drop k ds) (subst AreBytes (sym whole) b)) in
     let size : length (drop k ds) ≡ length ds - k = length-drop k ds in
     let e : big_endian ds ≡ big_endian (take k ds) * 256 ^ (length ds - k) + big_endian (drop k ds) =
-    ap big_endian (sym whole) ∙ big_endian-append (take k ds) (drop k ds) ∙ ap (λ n. big_endian (take k ds) * 256 ^ n + big_endian (drop k ds)) size in
-    ap (λ n. n / 256 ^ (length ds - k)) e ∙ div-mul-add (big_endian (take k ds)) (256 ^ (length ds - k)) (big_endian (drop k ds)) (subst (λ n. big_endian (drop k ds) < 256 ^ n) size low)
+    ap big_endian (sym whole) ∙ big_endian-append (take k ds) (drop k ds)
+    ∙ ap (λ n. big_endian (take k ds) * 256 ^ n + big_endian (drop k ds)) size in
+    ap (λ n. n / 256 ^ (length ds - k)) e
+    ∙ div-mul-add (big_endian (take k ds)) (256 ^ (length ds - k)) (big_endian (drop k ds))
+    (subst (λ n. big_endian (drop k ds) < 256 ^ n) size low)
 
 -- the same number as std's word for it
 pub from_be_bytes-big_endian : (ds : List ℕ) → length ds ≡ 8 → from_be_bytes w64 ds ≡ big_endian ds
@@ -120,14 +133,19 @@ length-digits (suc k) v = omega (arith, length-append (digits k (v / 256)) ((v %
 pub digits-bytes : (k v : ℕ) → AreBytes (digits k v)
 unfolding digits
 digits-bytes zero v = tt
-digits-bytes (suc k) v = bytes-append (digits k (v / 256)) ((v % 256) ∷ []) (digits-bytes k (v / 256)) (mod_below v 256 (omega arith), tt)
+digits-bytes (suc k) v = bytes-append (digits k (v / 256)) ((v % 256) ∷ []) (digits-bytes k (v / 256))
+    (mod_below v 256 (omega arith), tt)
 
 pub big_endian-digits : (k v : ℕ) → v < 256 ^ k → big_endian (digits k v) ≡ v
 unfolding digits
 big_endian-digits zero v h = omega arith
 big_endian-digits (suc k) v h =
     let low : v < 256 ^ k * 256 = rw pow-suc at h in
-    rw (big_endian-snoc (digits k (v / 256)) (v % 256), big_endian-digits k (v / 256) (div_below v 256 (256 ^ k) (omega arith) low))
+    rw (
+      big_endian-snoc (digits k (v / 256)) (v % 256),
+      big_endian-digits k (v / 256)
+          (div_below v 256 (256 ^ k) (omega arith) low),
+    )
     (omega (arith, div-add-mod v 256))
 
 pub digits-step : (k v r : ℕ) → r < 256 → digits (suc k) (v * 256 + r) ≡ digits k v ++ r ∷ []

@@ -1,14 +1,17 @@
 -- What bytes are to the spellings of unsigned numbers: a front, a whole one, more than one, or the beginning of none.
-use Rattle.std.proofs.Common.{◌≡◌, ◌≢◌, ℕ, zero, suc, ◌+◌, ◌-◌, ◌*◌, ◌^◌, ◌<◌, ◌≤◌, ◌⊎◌, inl, inr, List, [], ◌∷◌, ◌++◌, length, arith, refl, sym, ap, ◌∙◌, subst, length-append, append_assoc, replicate}
+use Rattle.std.proofs.Common.{◌≡◌, ◌≢◌, ℕ, zero, suc, ◌+◌, ◌-◌, ◌*◌, ◌^◌, ◌<◌, ◌≤◌, ◌⊎◌, inl, inr, List, [], ◌∷◌, ◌++◌}
+use Rattle.std.proofs.Common.{length, arith, refl, sym, ap, ◌∙◌, subst, length-append, append_assoc, replicate}
 use Rattle.std.proofs.lemmas.Bool.{cases_lt}
 use Rattle.std.proofs.lemmas.List.{length-replicate, append-nil}
-use Rattle.gob_num.specs.Unsigned.{big_endian, AreBytes, IsCounted, IsUnsigned, short, long, IsUnsignedFront, BeginsNumber, GoesPastNumber, IsBadHead, IsNotMinimal}
+use Rattle.gob_num.specs.Unsigned.{big_endian, AreBytes, IsCounted, IsUnsigned, short, long, IsUnsignedFront}
+use Rattle.gob_num.specs.Unsigned.{BeginsNumber, GoesPastNumber, IsBadHead, IsNotMinimal}
 use Rattle.gob_num.specs.Laws.{Beginning, front, whole, past, bad_head, not_minimal, Begins}
 use Rattle.gob_num.proofs.DigitLaws.{pow256_mono, bytes_front, bytes-append, high_digit, two_digits}
 use Rattle.gob_num.proofs.UnsignedLaws.{unsigned_prefix}
 
 -- digits of which the first is not 0, and as many as the head says, are a spelling
-pub counted : (h d : ℕ) (ds : List ℕ) → 248 ≤ h → h + length (d ∷ ds) ≡ 256 → 0 < d → AreBytes (d ∷ ds) → 128 ≤ big_endian (d ∷ ds) → IsUnsigned (big_endian (d ∷ ds)) (h ∷ d ∷ ds)
+pub counted : (h d : ℕ) (ds : List ℕ) → 248 ≤ h → h + length (d ∷ ds) ≡ 256 → 0 < d → AreBytes (d ∷ ds)
+    → 128 ≤ big_endian (d ∷ ds) → IsUnsigned (big_endian (d ∷ ds)) (h ∷ d ∷ ds)
 counted h d ds low e p b large = long (record {
   large = large;
   head_counts = e;
@@ -37,7 +40,8 @@ front_begins {bytes = bytes} f = begins bytes (bytes ++ f.rest) f.rest f.number 
         let z : [] ≡ bytes ++ r = cc in
         absurd (omega (arith, ap length z, length-append bytes r, some_length r m))
 
-    counted_begins : (bytes r : List ℕ) (n h : ℕ) (ds : List ℕ) → r ≢ [] → IsCounted n h ds → h ∷ ds ≡ bytes ++ r → BeginsNumber bytes
+    counted_begins : (bytes r : List ℕ) (n h : ℕ) (ds : List ℕ) → r ≢ [] → IsCounted n h ds → h ∷ ds ≡ bytes ++ r
+        → BeginsNumber bytes
     counted_begins [] r n h ds m c e = tt
     counted_begins (g ∷ []) r n h ds m c e =
         let heads : h ≡ g = cc in
@@ -89,7 +93,8 @@ begins_front {bytes = bytes} b = goes_on bytes b
                 number = big_endian (1 ∷ zeros (255 - h));
                 rest = 1 ∷ zeros (255 - h);
                 more = λ e. cc;
-                spelled = counted h 1 (zeros (255 - h)) b.0 (omega arith) (omega arith) (omega arith, bytes_zeros (255 - h))
+                spelled = counted h 1 (zeros (255 - h)) b.0 (omega arith) (omega arith)
+                    (omega arith, bytes_zeros (255 - h))
                     (two_digits 1 (zeros (255 - h)) (omega arith) (omega arith));
               }
           | inr l ↦
@@ -114,7 +119,8 @@ begins_front {bytes = bytes} b = goes_on bytes b
         }
 
 -- ---- bytes with which no spelling begins, nor with what follows them
-pub bad_head_none : (bytes : List ℕ) → IsBadHead bytes → {n : ℕ} {b : List ℕ} (x y : List ℕ) → IsUnsigned n b → bytes ++ x ≡ b ++ y → ⊥
+pub bad_head_none : (bytes : List ℕ) → IsBadHead bytes → {n : ℕ} {b : List ℕ} (x y : List ℕ) → IsUnsigned n b
+    → bytes ++ x ≡ b ++ y → ⊥
 bad_head_none [] h x y s e = h
 bad_head_none (c ∷ bytes) h {n = n} x y (short p) e = let heads : c ≡ n = cc in omega arith
 bad_head_none (c ∷ bytes) h x y (long {head = g} p) e = let heads : c ≡ g = cc in omega arith
@@ -123,7 +129,8 @@ one_low : (f : ℕ) (b : List ℕ) (n : ℕ) → length b ≡ 0 → big_endian (
 one_low f [] n l v g h = omega arith
 one_low f (x ∷ b) n l v g h = omega arith
 
-pub not_minimal_none : (bytes : List ℕ) → IsNotMinimal bytes → {n : ℕ} {b : List ℕ} (x y : List ℕ) → IsUnsigned n b → bytes ++ x ≡ b ++ y → ⊥
+pub not_minimal_none : (bytes : List ℕ) → IsNotMinimal bytes → {n : ℕ} {b : List ℕ} (x y : List ℕ) → IsUnsigned n b
+    → bytes ++ x ≡ b ++ y → ⊥
 not_minimal_none [] h x y s e = h
 not_minimal_none (c ∷ []) h x y s e = h
 not_minimal_none (c ∷ d ∷ bytes) h {n = n} x y (short p) e =
@@ -135,7 +142,11 @@ not_minimal_none (c ∷ d ∷ bytes) h {n = n} x y (long {head = g} {digits = f 
     let seconds : d ≡ f = cc in
     elim h [
       | inl k ↦ one_low f ds n (omega arith) p.value p.large (omega arith)
-      | inr k ↦ omega (arith, high_digit f ds p.bytes.1 (let v = p.value in let l = p.least (length ds) (omega arith) in omega arith))
+      | inr k ↦ omega (
+        arith,
+        high_digit f ds p.bytes.1
+            (let v = p.value in let l = p.least (length ds) (omega arith) in omega arith),
+      )
     ]
 
 -- ---- bytes begin in one of five ways
@@ -161,7 +172,11 @@ BeginSo bytes = (k : Beginning) × Begins k bytes
 -- a spelling, and what follows it
 spelled_before : (n : ℕ) (b y bytes : List ℕ) → IsUnsigned n b → bytes ≡ b ++ y → BeginSo bytes
 spelled_before n b [] bytes s e = (whole, (n, subst (IsUnsigned n) (sym (e ∙ append-nil b)) s))
-spelled_before n b (c ∷ y) bytes s e = (past, record { number = n; front = b; rest = c ∷ y; more = λ z. cc; spelled = s; whole = e })
+spelled_before n b (c ∷ y) bytes s e = (
+  past,
+  record
+      { number = n; front = b; rest = c ∷ y; more = λ z. cc; spelled = s; whole = e },
+)
 
 with_digits : (h d : ℕ) (ds : List ℕ) → 248 ≤ h → AreBytes (h ∷ d ∷ ds) → BeginSo (h ∷ d ∷ ds)
 with_digits h d ds k p =
@@ -173,7 +188,8 @@ with_digits h d ds k p =
       | inl z ↦ elim (cases_lt h 255) [
         | inr j ↦ elim (cases_lt d 128) [
           | inl low ↦ (not_minimal, inl (omega arith, low))
-          | inr low ↦ spelled_before (d * 1 + 0) (h ∷ d ∷ []) ds (h ∷ d ∷ ds) (counted h d [] k (omega arith) z (p.1.0, tt) (omega arith)) refl
+          | inr low ↦ spelled_before (d * 1 + 0) (h ∷ d ∷ []) ds (h ∷ d ∷ ds)
+              (counted h d [] k (omega arith) z (p.1.0, tt) (omega arith)) refl
         ]
         | inl j ↦ elim (cut (255 - h) ds) [
           | inl few ↦ (front, begins_front (k, omega arith, z, p.1))
@@ -181,7 +197,8 @@ with_digits h d ds k p =
               let size : length c.front ≡ 255 - h = c.size in
               let b : AreBytes (c.front ++ c.rest) = subst AreBytes c.all p.1.1 in
               spelled_before (big_endian (d ∷ c.front)) (h ∷ d ∷ c.front) c.rest (h ∷ d ∷ ds)
-              (counted h d c.front k (omega arith) z (p.1.0, bytes_front c.front c.rest b) (two_digits d c.front z (omega arith)))
+              (counted h d c.front k (omega arith) z (p.1.0, bytes_front c.front c.rest b)
+              (two_digits d c.front z (omega arith)))
               (ap (λ l. h ∷ d ∷ l) c.all)
         ]
       ]
@@ -208,7 +225,8 @@ no_more [] b m e = m refl
 no_more (c ∷ a) b m e = cc
 
 pub front_not_whole : {bytes : List ℕ} → IsUnsignedFront bytes → {n : ℕ} → IsUnsigned n bytes → ⊥
-front_not_whole {bytes = bytes} f s = f.more (sym (unsigned_prefix [] f.rest f.spelled s (append-nil (bytes ++ f.rest))).rest)
+front_not_whole {bytes = bytes} f s = f.more (sym
+    (unsigned_prefix [] f.rest f.spelled s (append-nil (bytes ++ f.rest))).rest)
 
 pub front_not_past : {bytes : List ℕ} → IsUnsignedFront bytes → GoesPastNumber bytes → ⊥
 front_not_past {bytes = bytes} f g =
@@ -217,7 +235,8 @@ front_not_past {bytes = bytes} f g =
     no_more g.rest f.rest g.more (unsigned_prefix [] (g.rest ++ f.rest) f.spelled g.spelled e).rest
 
 pub whole_not_past : {bytes : List ℕ} {n : ℕ} → IsUnsigned n bytes → GoesPastNumber bytes → ⊥
-whole_not_past {bytes = bytes} s g = g.more (sym (unsigned_prefix [] g.rest s g.spelled (append-nil bytes ∙ g.whole)).rest)
+whole_not_past {bytes = bytes} s g = g.more (sym (unsigned_prefix [] g.rest s g.spelled
+    (append-nil bytes ∙ g.whole)).rest)
 
 pub front_not_bad_head : {bytes : List ℕ} → IsUnsignedFront bytes → IsBadHead bytes → ⊥
 front_not_bad_head {bytes = bytes} f h = bad_head_none bytes h f.rest [] f.spelled (sym (append-nil (bytes ++ f.rest)))

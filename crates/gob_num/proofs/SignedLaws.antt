@@ -7,7 +7,8 @@ use Rattle.gob_num.specs.Spelled.{IsSpelled, Same}
 use Rattle.gob_num.proofs.UnsignedLaws.{unsigned_prefix, unsigned_unique, unsigned_spelled, unsigned_fits}
 
 -- no spelling begins another
-pub signed_prefix : {i j : ℤ} {b c : List ℕ} (x y : List ℕ) → IsSigned i b → IsSigned j c → b ++ x ≡ c ++ y → Same i j b c x y
+pub signed_prefix : {i j : ℤ} {b c : List ℕ} (x y : List ℕ) → IsSigned i b → IsSigned j c → b ++ x ≡ c ++ y
+    → Same i j b c x y
 signed_prefix x y (not_negative {n = m} p) (not_negative {n = n} q) e =
     let r = unsigned_prefix x y p q e in
     let s : m ≡ n = let v = r.value in omega arith in record { value = ap pos s; bytes = r.bytes; rest = r.rest }
@@ -38,5 +39,7 @@ signed_fits (negative p) = let u = unsigned_fits p in omega (arith, ints)
 
 -- each number of 64 bits has a spelling
 pub signed_spelled : (i : ℤ) → FitsSigned w64 i → IsSpelled (IsSigned i)
-signed_spelled (pos n) l = let s = unsigned_spelled (2 * n) (omega (arith, ints)) in record { bytes = s.bytes; spelled = not_negative s.spelled }
-signed_spelled (negsuc n) l = let s = unsigned_spelled (2 * n + 1) (omega (arith, ints)) in record { bytes = s.bytes; spelled = negative s.spelled }
+signed_spelled (pos n) l = let s = unsigned_spelled (2 * n) (omega (arith, ints)) in record
+    { bytes = s.bytes; spelled = not_negative s.spelled }
+signed_spelled (negsuc n) l = let s = unsigned_spelled (2 * n + 1) (omega (arith, ints)) in record
+    { bytes = s.bytes; spelled = negative s.spelled }

@@ -11,7 +11,8 @@ pub regroup : (b p x c q y : List ℕ) → (b ++ p) ++ x ≡ (c ++ q) ++ y → b
 regroup b p x c q y e = sym (append_assoc b p x) ∙ e ∙ append_assoc c q y
 
 -- one part after another
-pub joined : {A B C : Type 0} {v w : A} {v' w' : B} {b c p q x y : List ℕ} (f : A → B → C) → Same v w b c (p ++ x) (q ++ y) → Same v' w' p q x y → Same (f v v') (f w w') (b ++ p) (c ++ q) x y
+pub joined : {A B C : Type 0} {v w : A} {v' w' : B} {b c p q x y : List ℕ} (f : A → B → C)
+    → Same v w b c (p ++ x) (q ++ y) → Same v' w' p q x y → Same (f v v') (f w w') (b ++ p) (c ++ q) x y
 joined {v = v} {w = w} {v' = v'} {w' = w'} {b = b} {c = c} {p = p} {q = q} f r s =
     let ev : v ≡ w = r.value in
     let ew : v' ≡ w' = s.value in
@@ -21,11 +22,13 @@ joined {v = v} {w = w} {v' = v'} {w' = w'} {b = b} {c = c} {p = p} {q = q} f r s
 
 -- ---- `Appends`
 -- what spells one value spells another too
-pub appends_as : {P Q : List ℕ → Type 0} {old new : List ℕ} → ((bytes : List ℕ) → P bytes → Q bytes) → Appends P old new → Appends Q old new
+pub appends_as : {P Q : List ℕ → Type 0} {old new : List ℕ} → ((bytes : List ℕ) → P bytes → Q bytes) → Appends P old new
+    → Appends Q old new
 appends_as f a = record { bytes = a.bytes; spelled = f a.bytes a.spelled; appended = a.appended }
 
 -- one part after another
-pub appends_then : {P Q R : List ℕ → Type 0} {old mid new : List ℕ} → ((b c : List ℕ) → P b → Q c → R (b ++ c)) → Appends P old mid → Appends Q mid new → Appends R old new
+pub appends_then : {P Q R : List ℕ → Type 0} {old mid new : List ℕ} → ((b c : List ℕ) → P b → Q c → R (b ++ c))
+    → Appends P old mid → Appends Q mid new → Appends R old new
 appends_then {old = old} f a b = record {
   bytes = a.bytes ++ b.bytes;
   spelled = f a.bytes b.bytes a.spelled b.spelled;

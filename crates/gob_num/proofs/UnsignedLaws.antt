@@ -1,13 +1,16 @@
 -- No spelling of an unsigned number begins another, a number has one, and each number of 64 bits has one.
-use Rattle.std.proofs.Common.{◌≡◌, ℕ, zero, suc, ◌-◌, ◌^◌, ◌<◌, ◌≤◌, inl, inr, List, [], ◌∷◌, ◌++◌, length, arith, refl, sym, ap, ◌∙◌}
+use Rattle.std.proofs.Common.{◌≡◌, ℕ, zero, suc, ◌-◌, ◌^◌, ◌<◌, ◌≤◌, inl, inr, List, [], ◌∷◌, ◌++◌, length, arith, refl}
+use Rattle.std.proofs.Common.{sym, ap, ◌∙◌}
 use Rattle.std.proofs.lemmas.Bool.{cases_lt}
 use Rattle.gob_num.specs.Unsigned.{big_endian, AreBytes, IsUnsigned, short, long}
 use Rattle.gob_num.specs.Spelled.{IsSpelled, Same}
 use Rattle.gob_num.specs.Pushed.{digits}
-use Rattle.gob_num.proofs.DigitLaws.{pow256_mono, append_split, big_endian_below, digits_injective, length-digits, digits-bytes, big_endian-digits}
+use Rattle.gob_num.proofs.DigitLaws.{pow256_mono, append_split, big_endian_below, digits_injective, length-digits}
+use Rattle.gob_num.proofs.DigitLaws.{digits-bytes, big_endian-digits}
 
 -- no spelling begins another
-pub unsigned_prefix : {m n : ℕ} {b c : List ℕ} (x y : List ℕ) → IsUnsigned m b → IsUnsigned n c → b ++ x ≡ c ++ y → Same m n b c x y
+pub unsigned_prefix : {m n : ℕ} {b c : List ℕ} (x y : List ℕ) → IsUnsigned m b → IsUnsigned n c → b ++ x ≡ c ++ y
+    → Same m n b c x y
 unsigned_prefix {m = m} {n = n} x y (short p) (short q) e =
     let h : m ≡ n = cc in let r : x ≡ y = cc in record { value = h; bytes = cc; rest = r }
 unsigned_prefix {m = m} x y (short p) (long {head = g} q) e = let h : m ≡ g = cc in absurd (omega arith)
@@ -56,7 +59,8 @@ unsigned_length (short p) = (omega arith, omega arith)
 unsigned_length (long p) = (omega arith, omega arith)
 
 -- as many digits as hold the number, and no fewer, spell it
-pub counted_digits : (k n : ℕ) → k < 8 → 128 ≤ n → n < 256 ^ suc k → 256 ^ k ≤ n → IsUnsigned n ((255 - k) ∷ digits (suc k) n)
+pub counted_digits : (k n : ℕ) → k < 8 → 128 ≤ n → n < 256 ^ suc k → 256 ^ k ≤ n
+    → IsUnsigned n ((255 - k) ∷ digits (suc k) n)
 counted_digits k n few large high low =
     let count = length-digits (suc k) n in
     long {head = 255 - k} {digits = digits (suc k) n} (record {

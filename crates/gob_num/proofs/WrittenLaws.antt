@@ -1,5 +1,6 @@
 -- What the writers append.
-use Rattle.std.proofs.Common.{◌≡◌, ℕ, zero, suc, ◌+◌, ◌-◌, ◌*◌, ◌/◌, ◌%◌, ◌^◌, ◌<◌, ◌≤◌, List, [], ◌∷◌, ◌++◌, length, take, drop, arith, sym, ap, ◌∙◌, append_assoc}
+use Rattle.std.proofs.Common.{◌≡◌, ℕ, zero, suc, ◌+◌, ◌-◌, ◌*◌, ◌/◌, ◌%◌, ◌^◌, ◌<◌, ◌≤◌, List, [], ◌∷◌, ◌++◌, length}
+use Rattle.std.proofs.Common.{take, drop, arith, sym, ap, ◌∙◌, append_assoc}
 use Rattle.std.proofs.Math.Nat.{add-zero, div-div-eq-div-mul, pow-le-pow_right, pow-succ'}
 use Rattle.std.proofs.lemmas.Nat.{leading_length}
 use Rattle.std.specs.Int.Count.{count_leading_zeros}
@@ -19,28 +20,35 @@ digits-add j (suc k) n =
     let e : j + suc k ≡ suc (j + k) = omega arith in
     (r.0, r.1, rw (e, r.2) (append_assoc r.0 (digits k (n / 256)) ((n % 256) ∷ [])))
 
-pub digits_8 : (n : ℕ) → digits 8 n ≡ n / 72057594037927936 % 256 ∷ n / 281474976710656 % 256 ∷ n / 1099511627776 % 256 ∷ n / 4294967296 % 256 ∷ n / 16777216 % 256 ∷ n / 65536 % 256 ∷ n / 256 % 256 ∷ n % 256 ∷ []
+pub digits_8 : (n : ℕ)
+    → digits 8 n ≡ n / 72057594037927936 % 256 ∷ n / 281474976710656 % 256 ∷ n / 1099511627776 % 256 ∷ n / 4294967296 %
+    256 ∷ n / 16777216 % 256 ∷ n / 65536 % 256 ∷ n / 256 % 256 ∷ n % 256 ∷ []
 unfolding digits
 digits_8 n = simp div-div-eq-div-mul
 
 -- the last of the eight bytes
-pub last_digits : (count n : ℕ) (bytes : List ℕ) → count ≤ 8 → bytes ≡ digits 8 n → take (8 - (8 - count)) (drop (8 - count) bytes) ≡ digits count n
+pub last_digits : (count n : ℕ) (bytes : List ℕ) → count ≤ 8 → bytes ≡ digits 8 n
+    → take (8 - (8 - count)) (drop (8 - count) bytes) ≡ digits count n
 last_digits count n bytes l e =
     let r = digits-add (8 - count) count n in
     let s : (8 - count) + count ≡ 8 = omega arith in
     let t : 8 - (8 - count) ≡ count = omega arith in
     let whole : bytes ≡ r.0 ++ digits count n = e ∙ ap (λ k. digits k n) (sym s) ∙ r.2 in
-    let behind : drop (8 - count) bytes ≡ digits count n = after_front r.0 (digits count n) (8 - count) bytes r.1 whole in
+    let behind : drop (8 - count) bytes ≡ digits count n = after_front r.0 (digits count n) (8 - count) bytes r.1 whole
+    in
     rw (t, behind) (take_whole count (digits count n) (length-digits count n))
   where
-    after_front : (front xs : List ℕ) (k : ℕ) (bytes : List ℕ) → length front ≡ k → bytes ≡ front ++ xs → drop k bytes ≡ xs
+    after_front : (front xs : List ℕ) (k : ℕ) (bytes : List ℕ) → length front ≡ k → bytes ≡ front ++ xs
+        → drop k bytes ≡ xs
     after_front front xs k bytes e w = rw (w, ← e) (drop-append_seam front xs)
 
     take_whole : (k : ℕ) (xs : List ℕ) → length xs ≡ k → take k xs ≡ xs
     take_whole k xs e = rw (← e) (take-length xs)
 
 -- the bytes that a writer appends
-pub written : (count n : ℕ) (copied rest : List ℕ) → 128 ≤ n → (0 < count) × (count ≤ 8) → n < 256 ^ count → 256 ^ (count - 1) ≤ n → copied ≡ digits count n → IsUnsigned n (take (count + 1) ((256 - count) ∷ (copied ++ rest)))
+pub written : (count n : ℕ) (copied rest : List ℕ) → 128 ≤ n → (0 < count) × (count ≤ 8) → n < 256 ^ count
+    → 256 ^ (count - 1) ≤ n → copied ≡ digits count n
+    → IsUnsigned n (take (count + 1) ((256 - count) ∷ (copied ++ rest)))
 written zero n copied rest large range high low e = absurd (omega arith)
 written (suc k) n copied rest large range high low e =
     let l : length copied ≡ suc k = ap length e ∙ length-digits (suc k) n in
@@ -54,7 +62,8 @@ written (suc k) n copied rest large range high low e =
 pub enough_digits : (n : ℕ) → n < 2 ^ 64 → n < 256 ^ (8 - count_leading_zeros 64 n / 8)
 enough_digits n fits =
     let l = leading_length 64 n fits in
-    let room : 2 ^ l.0 ≤ 2 ^ (8 * (8 - count_leading_zeros 64 n / 8)) = pow-le-pow_right (omega arith) (let s = l.1 in omega arith) in
+    let room : 2 ^ l.0 ≤ 2 ^ (8 * (8 - count_leading_zeros 64 n / 8)) = pow-le-pow_right (omega arith)
+    (let s = l.1 in omega arith) in
     rw (bits_of_digits (8 - count_leading_zeros 64 n / 8)) (let b = l.2 in omega arith)
 
 pub least_digits : (n : ℕ) → n < 2 ^ 64 → 0 < n → 256 ^ (8 - count_leading_zeros 64 n / 8 - 1) ≤ n

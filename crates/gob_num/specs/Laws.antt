@@ -1,10 +1,12 @@
 -- The laws of numbers' spellings, each for any relation `Spells` of a value with bytes.
 -- Source: they follow from Go's encoding/gob documentation, Encoding Details; docs/FORMAT.md, Numbers.
 use Rattle.std.specs.Prelude.{◌≡◌, ◌↔◌, ℕ, List, ◌++◌}
-use Rattle.gob_num.specs.Unsigned.{AreBytes, IsUnsigned, IsUnsignedFront, BeginsNumber, GoesPastNumber, IsBadHead, IsNotMinimal}
+use Rattle.gob_num.specs.Unsigned.{AreBytes, IsUnsigned, IsUnsignedFront, BeginsNumber, GoesPastNumber, IsBadHead}
+use Rattle.gob_num.specs.Unsigned.{IsNotMinimal}
 use Rattle.gob_num.specs.Spelled.{IsSpelled, Same}
 
--- no spelling begins another: where two stand at the front of one list, their values, their bytes and what follows are equal
+-- no spelling begins another: where two stand at the front of one list, their values, their bytes and what follows
+-- are equal
 abbrev pub BeginNoOther : (A : Type 0) → (A → List ℕ → Type 0) → Type 0
 BeginNoOther A Spells = (v w : A) (b c x y : List ℕ) → Spells v b → Spells w c → b ++ x ≡ c ++ y → Same v w b c x y
 

@@ -6,4 +6,5 @@ use Rattle.gob_num.proofs.pattern.write_pattern.Goals as goal
 
 pub returns-clause-ok : goal.returns-clause-ok
 returns-clause-ok c =
-    on_ok_weaker c.write_uint.result (appends_as (swapped_spells c.args.p c.swap_bytes.result (omega arith) c.swap_bytes.ensures)) c.write_uint.ensures.ok
+    on_ok_weaker c.write_uint.result (appends_as (swapped_spells c.args.p c.swap_bytes.result (omega arith)
+    c.swap_bytes.ensures)) c.write_uint.ensures.ok
