@@ -7,4 +7,5 @@ pub use Rattle.gob_value.proofs.StayLaws.{top_back, top_on}
 pub use Rattle.gob_value.proofs.TestSteps.{not_true}
 pub use Rattle.gob_value.proofs.TidySteps.{IsNoList, IsNoMap, IsNoStruct}
 pub use Rattle.gob_value.proofs.UniqueLaws.{one_spelling, one_top}
-pub use Rattle.gob_value.proofs.ViewLaws.{view-Bytes, view-Fields, view-Int, view-Many, view-Opaque, view-Pairs, view-Str}
+pub use Rattle.gob_value.proofs.ViewLaws.{view-Bytes, view-Fields, view-Int, view-Many, view-Opaque, view-Pairs}
+pub use Rattle.gob_value.proofs.ViewLaws.{view-Str}
