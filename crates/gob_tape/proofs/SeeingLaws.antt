@@ -86,7 +86,7 @@ field_parts : {nodes : List Node} {pool : List ℕ} {i j : ℕ} {fs : Fields} �
 field_parts end_of_fields = no_more
 field_parts (next_field m ms) = one_more m (field_parts ms)
 
-number_parts : (k : Basic) (a b : ℕ) → parts_of (number_tree k a b) ≡ []
+pub number_parts : (k : Basic) (a b : ℕ) → parts_of (number_tree k a b) ≡ []
 number_parts basic.Bool a b = refl
 number_parts basic.Int a b = refl
 number_parts basic.Uint a b = refl
@@ -96,7 +96,7 @@ number_parts basic.Bytes a b = refl
 number_parts basic.Str a b = refl
 number_parts basic.Interface a b = refl
 
-raw_parts : (k : RawKind) (s : List ℕ) → parts_of (raw_tree k s) ≡ []
+pub raw_parts : (k : RawKind) (s : List ℕ) → parts_of (raw_tree k s) ≡ []
 raw_parts raw.Bytes s = refl
 raw_parts raw.Str s = refl
 raw_parts raw.Opaque s = refl
@@ -134,7 +134,7 @@ seen_parts view children {v = v} d l n e g p q s =
 
 -- ---- the next part
 
-parts_rise : {nodes : List Node} {pool : List ℕ} {i j : ℕ} {xs : List (Option ℕ × Tree)} → AreParts nodes pool i j xs → i ≤ j
+pub parts_rise : {nodes : List Node} {pool : List ℕ} {i j : ℕ} {xs : List (Option ℕ × Tree)} → AreParts nodes pool i j xs → i ≤ j
 parts_rise no_more = omega arith
 parts_rise (one_more m ms) = omega (arith, at_rises m, parts_rise ms)
 

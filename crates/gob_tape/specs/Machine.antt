@@ -5,3 +5,4 @@ pub mod State
 pub mod Standing
 pub mod View
 pub mod Writing
+pub mod Values

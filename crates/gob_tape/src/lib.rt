@@ -15,7 +15,7 @@
 //!
 //! - [`TapeBuilder`] makes a [`Tape`] while a body is read.
 //! - [`Tape::root`] is a [`View`] of the whole value, and [`View::children`] goes over the views of its parts.
-//! - [`Tape::spell_tape`] appends the spelling, in one pass over the nodes.
+//! - [`Tape::spell_tape`] appends the spelling, in one pass over the nodes, and [`Tape::to_value`] makes the value.
 //! - [`laws`] has what the definitions in `specs/` entail: a tape means one value.
 #![tactic(auto)]
 
@@ -26,6 +26,7 @@ mod raw;
 mod spelling;
 mod tape;
 mod tape_builder;
+mod values;
 mod view;
 
 pub use kind::ValueKind;

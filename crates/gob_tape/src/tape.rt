@@ -1,6 +1,6 @@
 //! Tapes: their views, and their spelling.
 
-ghost use Rattle.std.specs.Prelude.{◌≡◌, ℕ, ◌<◌, List, ◌++◌, None, OnOk, OnErr, length};
+ghost use Rattle.std.specs.Prelude.{◌≡◌, ℕ, ◌<◌, ◌≤◌, List, ◌++◌, None, OnOk, OnErr, IfOk, length};
 ghost use Rattle.gob_types.specs.declared.id.TypeId.{TypeId};
 ghost use Rattle.gob_types.specs.Table.{Table};
 ghost use Rattle.gob_value.specs.Tree.{Tree, depth as depth_of};
@@ -8,8 +8,10 @@ ghost use Rattle.gob_value.specs.Spelling.{Spells};
 
 use crate::node::Node;
 use crate::spelling::write_nodes;
+use crate::values::{take_part, values_of};
 use crate::view::View;
 use gob_num::Memory;
+use gob_value::Value;
 use std::alloc::Global;
 
 /// A value, kept flat. It means the value of which a [`TapeBuilder`](crate::TapeBuilder) was told.
@@ -27,6 +29,7 @@ pub struct Tape {
 }
 
 impl Tape {
+    ghost use Rattle.gob_value.specs.View.{view};
     ghost use Rattle.gob_tape.specs.Meaning.{Means};
     ghost use Rattle.gob_tape.specs.Seeing.{Sees};
 
@@ -64,5 +67,15 @@ impl Tape {
                 Err(Memory)
             }
         }
+    }
+
+    /// The value, as a tree. It is at most 1000 deep, since a tree is let go of by recursion; making it doesn't recurse.
+    pub fn to_value(&self, alloc: Global) -> Result<Value, Memory>
+        requires { (v : Tree) → Means self.now v → depth_of v ≤ 1000 }
+        ensures { IfOk result (λ value. (v : Tree) → Means self.now v → view value ≡ v) }
+    {
+        let mut parts = values_of(alloc, &self.nodes, &self.pool)?;
+        let (_, value) = take_part(&mut parts);
+        Ok(value)
     }
 }
