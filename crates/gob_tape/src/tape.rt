@@ -69,7 +69,8 @@ impl Tape {
         }
     }
 
-    /// The value, as a tree. It is at most 1000 deep, since a tree is let go of by recursion; making it doesn't recurse.
+    /// The value, as a tree. It is at most 1000 deep, since a tree is let go of by recursion. Making it doesn't
+    /// recurse.
     pub fn to_value(&self, alloc: Global) -> Result<Value, Memory>
         requires { (v : Tree) → Means self.now v → depth_of v ≤ 1000 }
         ensures { IfOk result (λ value. (v : Tree) → Means self.now v → view value ≡ v) }
