@@ -1,0 +1,4 @@
+pub mod Meaning
+pub mod Seeing
+pub mod Laws
+pub mod Machine

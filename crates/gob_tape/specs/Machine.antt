@@ -1,0 +1,8 @@
+-- What a tape stands for while it is built or written. No clause of a public call names these, but that of a builder.
+pub mod Coming
+pub mod Opened
+pub mod State
+pub mod Standing
+pub mod View
+pub mod Writing
+pub mod Values

@@ -1,0 +1,22 @@
+//! Tests of `gob_tape` by its public calls: tapes of bodies of each shape, read in pieces, their views, their spelling
+//! and their values, and the same where memory may be refused.
+//!
+//! Rows are lines of text, one for each body:
+//!
+//! ```text
+//! 69: 00 01 01 61 02: 2: Pairs - 1 0 -  Str - 1 0 a  Int - 2 0 -
+//!
+//! the type, the body, the depth, and its parts level by level: each part's kind, field number, two numbers and bytes
+//! ```
+#![tactic(auto)]
+
+#[cfg(test)]
+mod reading;
+#[cfg(test)]
+mod row;
+#[cfg(test)]
+mod tapes;
+#[cfg(test)]
+mod types;
+#[cfg(test)]
+mod views;

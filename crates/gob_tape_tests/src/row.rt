@@ -1,0 +1,49 @@
+//! A row: a body, and what is due of its tape.
+
+use gob_num::Memory;
+use std::alloc::Global;
+
+/// The field of a row, which ends with a colon.
+pub(crate) fn field_of(row: &str, field: usize) -> &str {
+    row.split(':').nth(field).unwrap_or("")
+}
+
+/// A number of a row.
+pub(crate) fn number(word: &str) -> u64 {
+    word.trim().parse().unwrap_or(u64::MAX)
+}
+
+/// A body.
+#[derive(Drop)]
+pub(crate) struct Body {
+    /// The type of its value.
+    pub(crate) id: u64,
+    /// How many bytes are announced.
+    pub(crate) length: u64,
+    /// The greatest depth of a part.
+    pub(crate) depth: u64,
+    /// Its bytes.
+    pub(crate) bytes: Vec<u8>,
+}
+
+impl Body {
+    /// The body of a row: its type, and its bytes in hexadecimal.
+    pub(crate) fn of(alloc: Global, row: &str) -> Result<Body, Memory> {
+        let bytes = bytes(alloc, row)?;
+        Ok(Body {
+            id: number(field_of(row, 0)),
+            length: bytes.len() as u64,
+            depth: 1000,
+            bytes,
+        })
+    }
+}
+
+// The bytes of a row, in hexadecimal.
+fn bytes(alloc: Global, row: &str) -> Result<Vec<u8>, Memory> {
+    let mut bytes = Vec::new(alloc);
+    for word in field_of(row, 1).split_whitespace() {
+        bytes.push(u8::from_str_radix(word, 16).unwrap_or(u8::MAX))?;
+    }
+    Ok(bytes)
+}
