@@ -5,8 +5,9 @@ use gob_types::{Table, TypeId};
 use std::alloc::Global;
 use std::test::*;
 
-// What is matched, the stream's type, the wanted type, and the number and the steps of the clash, written as in docs/FORMAT.md
-// (none at the top), or nothing where they match. Where several clashes have the fewest steps, each is listed.
+// What is matched, the stream's type, the wanted type, and the number and the steps of the clash, written as in
+// docs/FORMAT.md (none at the top), or nothing where they match. Where several clashes have the fewest steps, each is
+// listed.
 const ROWS: &str = "
 a basic type and itself | 2 | 2
 int and uint | 2 | 3 | 33

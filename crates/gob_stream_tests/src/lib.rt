@@ -1,5 +1,5 @@
-//! Tests of gob_stream by its public calls: what no proof sees. They stand in a crate of their own, so that gob_stream is
-//! proved once and its edits don't wait for them.
+//! Tests of gob_stream by its public calls: what no proof sees. They stand in a crate of their own, so that
+//! gob_stream is proved once and its edits don't wait for them.
 #![tactic(auto)]
 
 #[cfg(test)]

@@ -61,7 +61,8 @@ static STREAMS: [Stream; 11] = [
     ),
 ];
 
-// Whether all of the items are there; or, for want of memory, those of the bytes that were taken, all but the last at most.
+// Whether all of the items are there; or, for want of memory, those of the bytes that were taken, all but the last at
+// most.
 fn is_right(answer: Result<(), Fault>, items: usize, ends: &[u64], taken: u64) -> bool {
     let whole = ends.iter().filter(|end| **end <= taken).count();
     match answer {
@@ -86,7 +87,8 @@ fn reading_wants_memory(rt: HostRuntime) {
     }
 }
 
-// Whether a session that is fed the bytes in two pieces gives the items, or no more than they are before want of memory.
+// Whether a session that is fed the bytes in two pieces gives the items, or no more than they are before want of
+// memory.
 fn is_fed(alloc: Global, stream: Stream) -> bool {
     let Stream(bytes, ends) = stream;
     let mut items = Vec::new(alloc);

@@ -130,8 +130,8 @@ fn pieces_cut_at_each_place(rt: HostRuntime) -> Result<(), Fail> {
     Ok(())
 }
 
-// Whether a stream without end, which these bytes are over and over, gives this under a limit for the stream, and no more
-// than so many bytes are taken.
+// Whether a stream without end, which these bytes are over and over, gives this under a limit for the stream, and no
+// more than so many bytes are taken.
 fn ends_so(alloc: Global, bytes: &'static [u8], stream: u64, gives: &str, most: u64) -> bool {
     let Some(limits) = Limits::new(u64::MAX, 1000, 1, stream) else {
         return false;
@@ -153,8 +153,8 @@ fn streams_without_end(rt: HostRuntime) {
     assert!(rt; ends_so(alloc, b"\x00", 1000, is_short, 1));
 }
 
-// Whether a reader that gives a byte a call, and fails in this one, ends two items of four bytes each with a fault, counted
-// once and read no further.
+// Whether a reader that gives a byte a call, and fails in this one, ends two items of four bytes each with a fault,
+// counted once and read no further.
 fn fails_there(alloc: Global, fails_at: usize, kind: ErrorKind) -> bool {
     let bytes = b"\x03\x04\x00\x06\x03\x02\x00\x01";
     let mut input = Input::new(Failing::new(bytes, fails_at, kind));

@@ -1,6 +1,6 @@
-//! The rows of docs/FORMAT.md on reading, and more, in that page's notation: what, a stream, what it gives, which is how many
-//! items it begins with and what is refused behind these, and the limits: for an item, for the depth, for types and for the
-//! stream.
+//! The rows of docs/FORMAT.md on reading, and more, in that page's notation: what, a stream, what it gives, which is
+//! how many items it begins with and what is refused behind these, and the limits: for an item, for the depth, for
+//! types and for the stream.
 
 use gob_stream::Limits;
 use std::alloc::{AllocError, Global};

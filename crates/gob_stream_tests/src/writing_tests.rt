@@ -120,7 +120,8 @@ fn a_failed_flush_is_counted(rt: HostRuntime) {
     assert!(rt; flush_failures(&mut Device::clogged(rt.alloc())) == Some(1));
 }
 
-// The limits for items and for the stream, how many of three items of 4 bytes each go out, and why the next one doesn't.
+// The limits for items and for the stream, how many of three items of 4 bytes each go out, and why the next one
+// doesn't.
 #[derive(Clone, Copy)]
 struct Stops(u64, u64, u64, Option<Reason>);
 
@@ -208,9 +209,9 @@ fn described_array(alloc: Global, id: i64, elem: i64, len: i64) -> Result<Value,
     one_field(alloc, 0, Value::Fields(array))
 }
 
-// What is refused behind the definition of type 65 as an array of one element of some type, under a depth of 4: the limits
-// for items, for types and for the stream; the type of the element; what is written and why it is refused. Where several
-// reasons hold, the first is given.
+// What is refused behind the definition of type 65 as an array of one element of some type, under a depth of 4: the
+// limits for items, for types and for the stream; the type of the element; what is written and why it is refused.
+// Where several reasons hold, the first is given.
 #[derive(Clone, Copy)]
 struct Refused(Bounds, i64, Told, Reason);
 

@@ -224,7 +224,8 @@ fn failing_flushes(rt: HostRuntime) {
     assert!(rt; flush_fails_so(alloc, X_TWICE, b"gob: clash 31 RepeatedName at top"));
 }
 
-// Whether the run's result and what was written go together where each call may lack memory. The device takes memory too.
+// Whether the run's result and what was written go together where each call may lack memory. The device takes memory
+// too.
 fn is_right_without_memory(ended: &Result<(), ToolFault>, written: &[u8]) -> bool {
     match ended {
         Ok(()) => written == B_LINE,

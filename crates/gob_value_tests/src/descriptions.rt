@@ -1,5 +1,5 @@
-//! The examples of docs/FORMAT.md, Descriptions: shapes with the bytes of their descriptions, and values of type 16 that
-//! give no shape.
+//! The examples of docs/FORMAT.md, Descriptions: shapes with the bytes of their descriptions, and values of type 16
+//! that give no shape.
 ghost use Rattle.std.specs.Prelude.{◌+◌, ◌<◌, ◌≤◌};
 
 use crate::rows::{Made, Part, expect, shape_of, value_of};

@@ -1,5 +1,5 @@
-//! Tests of numbers, types and values, by their public calls alone. Each row is one of docs/FORMAT.md, or worked out by hand
-//! from it.
+//! Tests of numbers, types and values, by their public calls alone. Each row is one of docs/FORMAT.md, or worked out
+//! by hand from it.
 #![tactic(auto)]
 
 #[cfg(test)]

@@ -70,7 +70,8 @@ fn shape_again(alloc: Global, value: &Value) -> Result<Option<Shape>, Memory> {
     }
 }
 
-// Whether the value is spelled as the description, behind what the vector held; it holds no more where memory is refused.
+// Whether the value is spelled as the description, behind what the vector held; it holds no more where memory is
+// refused.
 fn is_appended(alloc: Global, table: &Table, value: &Value) -> Result<bool, Memory> {
     let mut out = vec![in alloc; 7u8]?;
     match spell(alloc, table, TypeId(16), value, 1000, &mut out) {

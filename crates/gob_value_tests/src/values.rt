@@ -1,4 +1,5 @@
-//! The examples of docs/FORMAT.md: values of each shape with their bytes, their tidy forms, and values that are refused.
+//! The examples of docs/FORMAT.md: values of each shape with their bytes, their tidy forms, and values that are
+//! refused.
 ghost use Rattle.std.specs.Prelude.{◌≤◌};
 
 use crate::rows::{Made, Part, table_of, value_of};
