@@ -12,12 +12,12 @@ use Rattle.gob_stream.specs.declared.fault.Fault.{Fault}
 use Rattle.gob_stream.specs.declared.fault.Fault.TheVariants as fault
 use Rattle.gob_stream.specs.declared.item.Item as declared
 use Rattle.gob_stream.specs.declared.reading.Reading.{Reading}
-use Rattle.gob_stream.specs.Bounds.{Bounds}
+use Rattle.gob_stream.specs.Bounds.{Bounds, no_deeper}
 use Rattle.gob_stream.specs.Item.{StreamItem, item_views}
 use Rattle.gob_stream.specs.Laws.{WrittenWithin, ReadsThese, StayShown}
 use Rattle.gob_stream.specs.Outcome.{BeginsWith, Outcome, refused}
 use Rattle.gob_stream.specs.Reading.{Given, IsShown, Feeds, Finishes}
-use Rattle.gob_stream.specs.Standing.{StandsAfter, no_deeper}
+use Rattle.gob_stream.specs.Standing.{StandsAfter}
 use Rattle.gob_stream.specs.Stream.{no_more}
 use Rattle.gob_stream.specs.Writing.{WritesStream}
 use Rattle.gob_stream.proofs.PublicLaws.{views_behind}

@@ -40,9 +40,9 @@ impl Builder for CheckBuilder {
     ghost use Rattle.std.specs.Prelude.{false};
     ghost use Rattle.gob_read.specs.Counted.{AreTold, AreCountsOf};
 
-    ghost DEPTH = { 1000 };
+    ghost DEPTH = { 65536 };
 
-    const DEPTH: u64 = 1000;
+    const DEPTH: u64 = 65536;
 
     ghost stands = { λ builder us. AreTold builder.counts us };
 

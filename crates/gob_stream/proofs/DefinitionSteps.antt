@@ -1,5 +1,5 @@
 -- What becomes of an item where a piece of its description is taken.
-use Rattle.std.proofs.Common.{◌≡◌, ◌≢◌, ℕ, negsuc, ◌+◌, ◌-◌, ◌≤◌, List, [], ◌∷◌, ◌++◌, length, take, Result, Ok, Err, arith, sym, ap, ◌∙◌, subst, append_assoc, length-append}
+use Rattle.std.proofs.Common.{◌≡◌, ◌≢◌, ℕ, negsuc, ◌+◌, ◌-◌, ◌≤◌, min, List, [], ◌∷◌, ◌++◌, length, take, Result, Ok, Err, arith, sym, ap, ◌∙◌, subst, append_assoc, length-append}
 use Rattle.std.proofs.lemmas.List.{length-take, append-nil}
 use Rattle.gob_num.specs.Unsigned.{IsUnsigned}
 use Rattle.gob_num.specs.Signed.{IsSigned}
@@ -22,7 +22,7 @@ use Rattle.gob_stream.specs.declared.fault.Fault.{Fault}
 use Rattle.gob_stream.specs.declared.fault.Fault.TheVariants as fault
 use Rattle.gob_stream.specs.declared.stage.Extent.{Extent}
 use Rattle.gob_stream.specs.declared.stage.Stepped.{Stepped}
-use Rattle.gob_stream.specs.Bounds.{Bounds}
+use Rattle.gob_stream.specs.Bounds.{Bounds, greatest_depth}
 use Rattle.gob_stream.specs.Item.{defines, means_definition}
 use Rattle.gob_stream.specs.Body.{definition, MayDefine}
 use Rattle.gob_stream.specs.Stream.{Counted, counted}
@@ -33,6 +33,7 @@ use Rattle.gob_stream.specs.Standing.{Standing, in_description, IsCount, IsRest,
 use Rattle.gob_stream.specs.ReadParts.{HasWireType, IsView, MaybeDefines, may_define, may_not, ReadsDescription, description_goes_on, description_ends, description_refused, describes_nothing, no_memory_for_description, StepsOn, goes_on, gives, refuses_it, no_memory}
 use Rattle.gob_stream.proofs.ValueSteps.{three, take_over, body_there, refused_shown, lies, stands_as, counted_as}
 use Rattle.gob_stream.proofs.DescriptionSteps.{wire_spelled}
+use Rattle.gob_stream.proofs.DescriptionDepth.{description_first}
 
 description_shown : {id : TypeId} {v : Tree} {r : Reason} → Misdescribes id v r → r ≢ reason.Ended
 description_shown (kind_count p) e = cc
@@ -44,11 +45,12 @@ description_shown (bad_length p q n b) e = cc
 made_spelled : {T : Table} {limit announced : ℕ} {d : Value} {z : List ℕ} → HasWireType T → IsMade T wire_type limit announced IsView d z → Spells T wire_type (view d) z
 made_spelled w made = subst (λ v. Spells _ wire_type v _) (sym made.meant) (wire_spelled w made.spelled)
 
-made_depth : {T : Table} {limit announced : ℕ} {d : Value} {z : List ℕ} → IsMade T wire_type limit announced IsView d z → depth (view d) ≤ limit
-made_depth {limit = limit} made = subst (λ v. depth v ≤ limit) (sym made.meant) made.not_deep
+made_depth : {T : Table} {limit announced : ℕ} {d : Value} {z : List ℕ} → IsMade T wire_type (min limit greatest_depth) announced IsView d z → depth (view d) ≤ limit
+made_depth {limit = limit} {d = d} made =
+    let deep : depth (view d) ≤ min limit greatest_depth = subst (λ v. depth v ≤ min limit greatest_depth) (sym made.meant) made.not_deep in omega (arith, deep)
 
 pub description_steps : {X O : Type 0} {stands : Standing X} {trees : Standing TreeBuilder} {means : O → Tree → Type 0} {L : Bounds} {T U : Table} {offset m n : ℕ} {id : TypeId} {body rest : Extent} {result : Result (Stepped X O) Fault} (c a y piece : List ℕ)
-    → IsCount L offset m c body → id.0 ≡ n + 1 → IsSigned (negsuc n) a → IsRest body a rest → MayDefine base_table L T id → HasWireType T → length y ≤ size rest → ReadsDescription trees T id L.depth rest y piece U result
+    → IsCount L offset m c body → id.0 ≡ n + 1 → IsSigned (negsuc n) a → IsRest body a rest → MayDefine base_table L T id → HasWireType T → length y ≤ size rest → ReadsDescription trees T id (min L.depth greatest_depth) rest y piece U result
     → StepsOn stands trees means L T offset (c ++ (a ++ y)) piece U result
 description_steps {X = X} {O = O} {stands = stands} {trees = trees} {L = L} {T = T} {offset = offset} c a y piece k n s r p h w (description_goes_on e b) =
     let there : (c ++ (a ++ y)) ++ take (length piece) piece ≡ c ++ (a ++ (y ++ piece)) = ap (λ l. (c ++ (a ++ y)) ++ l) (take_whole piece (length piece) (omega arith)) ∙ three c a y piece in
@@ -69,7 +71,7 @@ description_steps {L = L} {T = T} {U = U} {offset = offset} {m = m} {id = id} {r
 description_steps {L = L} {T = T} {offset = offset} {m = m} {rest = rest} c a y piece k n s r p h w (description_refused {R = R} e f) =
     let lie = lies k r in
     let there = body_there a y piece m (size rest) lie.within lie.size_is w in
-    let first = subst (λ n. IsFirst T wire_type L.depth n (y ++ take (size rest - length y) piece) R) lie.size_is f in
+    let first = subst (λ n. IsFirst T wire_type L.depth n (y ++ take (size rest - length y) piece) R) lie.size_is (description_first L.depth h f) in
     let refused : RefusesBody base_table L T (offset + length c) m (take m (a ++ (y ++ piece))) (behind (offset + length c + length a) R) = refused_description (y ++ take (size rest - length y) piece) there n s p first in
     refuses_it
     (subst (λ n. RefusesNext base_table L T offset ((c ++ (a ++ y)) ++ piece) (behind n R)) (sym lie.begins)
@@ -117,7 +119,7 @@ define_refused {X = X} {O = O} {stands = stands} {trees = trees} {means = means}
     subst (λ R. StepsOn {X = X} {O = O} stands trees means L T offset (c ++ a) piece U (Err (fault.Refused R))) (err_injective e) (refuses_it seen (id_shown q))
 
 pub description_begins : {X O : Type 0} {stands : Standing X} {trees : Standing TreeBuilder} {means : O → Tree → Type 0} {L : Bounds} {T U : Table} {offset m n limit : ℕ} {id : TypeId} {body rest : Extent} {result : Result (Stepped X O) Fault} (c a piece : List ℕ)
-    → IsCount L offset m c body → id.0 ≡ n + 1 → IsSigned (negsuc n) a → IsRest body a rest → MayDefine base_table L T id → HasWireType T → limit ≡ L.depth → ReadsDescription trees T id limit rest [] piece U result
+    → IsCount L offset m c body → id.0 ≡ n + 1 → IsSigned (negsuc n) a → IsRest body a rest → MayDefine base_table L T id → HasWireType T → limit ≡ min L.depth greatest_depth → ReadsDescription trees T id limit rest [] piece U result
     → StepsOn stands trees means L T offset (c ++ a) piece U result
 description_begins {stands = stands} {trees = trees} {means = means} {L = L} {T = T} {U = U} {offset = offset} {id = id} {rest = rest} {result = result} c a piece k n s r p h e q =
     let q' = subst (λ limit. ReadsDescription trees T id limit rest [] piece U result) e q in

@@ -12,10 +12,10 @@ use Rattle.gob_stream.specs.declared.fault.Fault.{Fault}
 use Rattle.gob_stream.specs.declared.fault.Fault.TheVariants as fault
 use Rattle.gob_stream.specs.declared.item.Item as declared
 use Rattle.gob_stream.specs.declared.reading.Reading.{Reading}
-use Rattle.gob_stream.specs.Bounds.{Bounds}
+use Rattle.gob_stream.specs.Bounds.{Bounds, no_deeper}
 use Rattle.gob_stream.specs.Item.{StreamItem, ItemMeans, ItemsMean, mean_none, mean_more}
 use Rattle.gob_stream.specs.Stream.{Stream}
-use Rattle.gob_stream.specs.Standing.{Standing, StandsAfter, IsUsable, no_deeper}
+use Rattle.gob_stream.specs.Standing.{Standing, StandsAfter, IsUsable}
 use Rattle.gob_stream.specs.Outcome.{BeginsWith, GivesItems, GivesButLast}
 use Rattle.gob_stream.specs.Reading.{Given, GivesOn, IsShown, HasTypesBehind, HasTypesBeyond, GivesOfTaken, Feeds}
 use Rattle.gob_stream.specs.ReadParts.{AdvancesOver, over_some, over_item, Advances}

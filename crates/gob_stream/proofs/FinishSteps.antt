@@ -9,7 +9,8 @@ use Rattle.gob_stream.specs.declared.stage.Stage.TheVariants as stage
 use Rattle.gob_stream.specs.Item.{StreamItem}
 use Rattle.gob_stream.specs.Refusing.{refuses}
 use Rattle.gob_stream.specs.Outcome.{Outcome, refused}
-use Rattle.gob_stream.specs.Standing.{Standing, StandsAfter, no_deeper}
+use Rattle.gob_stream.specs.Standing.{Standing, StandsAfter}
+use Rattle.gob_stream.specs.Bounds.{no_deeper}
 use Rattle.gob_stream.proofs.UnderWayLaws.{after_some, none_awaits_count}
 
 -- where the count of the next item is not awaited from there on, the bytes end within an item

@@ -5,7 +5,7 @@ use Rattle.gob_types.specs.Table.{Table}
 use Rattle.gob_stream.specs.Bounds.{Bounds}
 use Rattle.gob_stream.specs.Item.{StreamItem}
 use Rattle.gob_stream.specs.Body.{Body, definition, value}
-use Rattle.gob_stream.specs.Stream.{counted, Continues, no_more, and_then}
+use Rattle.gob_stream.specs.Stream.{Counted, counted, Continues, no_more, and_then}
 use Rattle.gob_stream.specs.Outcome.{BeginsWith, GivesItems}
 use Rattle.gob_stream.specs.Laws.{GoesOn, AtLeast}
 use Rattle.gob_stream.proofs.StreamLaws.{counted_prefix, counted_some}
@@ -67,6 +67,9 @@ wider_body : {base : Table} {L M : Bounds} {T U : Table} {i : StreamItem} {d : L
 wider_body w (definition p l s n x q) = definition (record { own = p.own; new = p.new; room = let r = p.room in let t = w.types in omega arith }) (let t = w.depth in omega arith) s n x q
 wider_body w (value p l x q) = value p (let t = w.depth in omega arith) x q
 
+pub wider_counted : {base : Table} {L M : Bounds} {T U : Table} {offset : ℕ} {i : StreamItem} {b : List ℕ} → AtLeast L M → Counted base L T offset i b U → Counted base M T offset i b U
+wider_counted w (counted p l s q) = counted p (let t = w.item in omega arith) (let t = w.stream in omega arith) (wider_body w q)
+
 pub wider : {base : Table} {L M : Bounds} {T U : Table} {offset : ℕ} {items : List StreamItem} {b : List ℕ} → AtLeast L M → Continues base L T offset items b U → Continues base M T offset items b U
 wider w no_more = no_more
-wider w (and_then (counted p l s q) e r) = and_then (counted p (let t = w.item in omega arith) (let t = w.stream in omega arith) (wider_body w q)) e (wider w r)
+wider w (and_then q e r) = and_then (wider_counted w q) e (wider w r)

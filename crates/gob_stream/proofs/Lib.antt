@@ -23,7 +23,8 @@ pub mod StandLaws
 pub mod CountSteps
 pub mod TypeNumberSteps
 pub mod BodySteps
-pub mod DescriptionSteps
+pub mod DescriptionDepth
+mod DescriptionSteps
 pub mod ValueSteps
 pub mod DefinitionSteps
 pub mod StandingSteps

@@ -10,11 +10,11 @@ use Rattle.gob_stream.specs.declared.fault.Fault.{Fault}
 use Rattle.gob_stream.specs.declared.fault.Fault.TheVariants as fault
 use Rattle.gob_stream.specs.declared.item.Item as declared
 use Rattle.gob_stream.specs.declared.reading.Reading.{Reading}
-use Rattle.gob_stream.specs.Bounds.{Bounds}
+use Rattle.gob_stream.specs.Bounds.{Bounds, no_deeper}
 use Rattle.gob_stream.specs.Item.{StreamItem}
 use Rattle.gob_stream.specs.Stream.{Stream}
 use Rattle.gob_stream.specs.Outcome.{BeginsWith, GivesItems, the_end, refused, at_the_end, Outcome}
-use Rattle.gob_stream.specs.Standing.{Standing, no_deeper}
+use Rattle.gob_stream.specs.Standing.{Standing}
 use Rattle.gob_stream.specs.Reading.{IsShown, ReadsStream, Feeds, Finishes}
 use Rattle.gob_stream.specs.Laws.{GoesOn, WrittenWithin, ReadsThese, AreReadBackInPieces}
 use Rattle.gob_stream.proofs.StreamLaws.{counted_some, more_items, NoNext, gives_items}

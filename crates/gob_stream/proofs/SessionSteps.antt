@@ -24,12 +24,12 @@ use Rattle.gob_stream.specs.declared.reading.Step.{Step}
 use Rattle.gob_stream.specs.declared.stage.Extent.{Extent}
 use Rattle.gob_stream.specs.declared.stage.Stage.{Stage}
 use Rattle.gob_stream.specs.declared.stage.Stage.TheVariants as stage
-use Rattle.gob_stream.specs.Bounds.{Bounds}
+use Rattle.gob_stream.specs.Bounds.{Bounds, no_deeper}
 use Rattle.gob_stream.specs.Devices.{counts_up}
 use Rattle.gob_stream.specs.Item.{StreamItem, ItemMeans}
 use Rattle.gob_stream.specs.Stream.{Counted, counted, Continues, no_more, and_then, Stream}
 use Rattle.gob_stream.specs.Outcome.{GivesItems, GivesButLast, RefusesNext, EndsSo, at_the_end, Outcome, the_end, refused}
-use Rattle.gob_stream.specs.Standing.{Standing, StandsIn, in_count, in_type_number, in_value, in_description, IsCount, StandsAfter, IsUsable, has_failed, stands_after, no_deeper}
+use Rattle.gob_stream.specs.Standing.{Standing, StandsIn, in_count, in_type_number, in_value, in_description, IsCount, StandsAfter, IsUsable, has_failed, stands_after}
 use Rattle.gob_stream.specs.Reading.{Taken, SomeTaken, IsShown, IsNoFurther, up_to_the_last_shown, within_the_item, EndsInItem, GivesNext, shown, ended, StopsNext, ReadsNext, TakesNext, Finishes, CountsReads}
 use Rattle.gob_stream.specs.ReadParts.{Advances, AdvancesOver, over_some, over_item, wanted_in}
 use Rattle.gob_stream.proofs.OutcomeLaws.{one_front}

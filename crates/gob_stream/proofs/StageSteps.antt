@@ -1,5 +1,5 @@
 -- What is known of a reader by what it awaits, and what becomes of it where a piece is taken.
-use Rattle.std.proofs.Common.{◌≡◌, ◌≢◌, ℕ, pos, negsuc, ◌+◌, ◌-◌, ◌<◌, ◌≤◌, List, [], ◌++◌, length, take, Result, Ok, Err, IfOk, arith, refl, sym, ap, ◌∙◌, subst, length-append}
+use Rattle.std.proofs.Common.{◌≡◌, ◌≢◌, ℕ, pos, negsuc, ◌+◌, ◌-◌, ◌<◌, ◌≤◌, min, List, [], ◌++◌, length, take, Result, Ok, Err, IfOk, arith, refl, sym, ap, ◌∙◌, subst, length-append}
 use Rattle.std.proofs.lemmas.List.{append-nil, length-take}
 use Rattle.gob_num.specs.Unsigned.{IsUnsignedFront}
 use Rattle.gob_num.specs.Signed.{IsSigned}
@@ -22,7 +22,7 @@ use Rattle.gob_stream.specs.declared.stage.Stage.{Stage}
 use Rattle.gob_stream.specs.declared.stage.Stage.TheVariants as stage
 use Rattle.gob_stream.specs.declared.stage.Extent.{Extent}
 use Rattle.gob_stream.specs.declared.stage.Stepped.{Stepped}
-use Rattle.gob_stream.specs.Bounds.{Bounds}
+use Rattle.gob_stream.specs.Bounds.{Bounds, greatest_depth}
 use Rattle.gob_stream.specs.Body.{MayDefine, MayPut}
 use Rattle.gob_stream.specs.Refusing.{refuses, RefusesCount, item_too_long, stream_too_long, short}
 use Rattle.gob_stream.specs.Refusing as refusing
@@ -72,7 +72,7 @@ pub record DescriptionParts (trees : Standing TreeBuilder) (L : Bounds) (T : Tab
   pub number : IsSigned (negsuc n) a
   pub rest_is : IsRest body a rest
   pub may : MayDefine base_table L T id
-  pub behind : IsBehind T wire_type L.depth rest trees reader y
+  pub behind : IsBehind T wire_type (min L.depth greatest_depth) rest trees reader y
   pub whole : z ≡ c ++ (a ++ y)
 
 abbrev pub PartsOf : {X O : Type 0} → (stands : Standing X) (trees : Standing TreeBuilder) (L : Bounds) (T : Table) (offset : ℕ) → Stage X O → List ℕ → Type 0
@@ -162,7 +162,7 @@ pub description_taken : {X O : Type 0} {stands : Standing X} {trees : Standing T
     → StepsOn stands trees means L T offset z piece U result
 description_taken {stands = stands} {trees = trees} {means = means} {L = L} {T = T} {U = U} {offset = offset} {piece = piece} {result = result} h p r =
     subst (λ z. StepsOn stands trees means L T offset z piece U result) (sym p.whole)
-    (description_steps p.c p.a p.y piece p.count p.below p.number p.rest_is p.may h (let room = p.behind.stood.room in omega arith) (r L.depth p.y p.behind.after))
+    (description_steps p.c p.a p.y piece p.count p.below p.number p.rest_is p.may h (let room = p.behind.stood.room in omega arith) (r (min L.depth greatest_depth) p.y p.behind.after))
 
 -- bytes that stand don't end the body, so more of them are taken, and all of a piece that isn't longer than the rest
 ended_some : {T : Table} {t : TypeId} {limit announced : ℕ} {O : Type 0} {means : O → Tree → Type 0} {out : O} {y : List ℕ} {used : ℕ} (piece : List ℕ) → IsStood T t limit announced y → used ≤ length piece

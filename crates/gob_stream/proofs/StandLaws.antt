@@ -7,12 +7,12 @@ use Rattle.gob_types.specs.Table.{Table}
 use Rattle.gob_read.specs.declared.tree_builder.TreeBuilder.{TreeBuilder}
 use Rattle.gob_stream.specs.declared.fault.Refusal.{Refusal}
 use Rattle.gob_stream.specs.declared.reading.Reading.{Reading}
-use Rattle.gob_stream.specs.Bounds.{Bounds}
+use Rattle.gob_stream.specs.Bounds.{Bounds, no_deeper}
 use Rattle.gob_stream.specs.Item.{StreamItem}
 use Rattle.gob_stream.specs.Laws.{GivesWhatStands}
 use Rattle.gob_stream.specs.Outcome.{RefusesNext}
 use Rattle.gob_stream.specs.Reading.{IsShown, HasTypesBehind}
-use Rattle.gob_stream.specs.Standing.{Standing, StandsAfter, no_deeper}
+use Rattle.gob_stream.specs.Standing.{Standing, StandsAfter}
 use Rattle.gob_stream.proofs.AdvanceSteps.{in_bound, ends_within}
 use Rattle.gob_stream.proofs.LawsOfStreams.{give_one_list}
 use Rattle.gob_stream.proofs.OutcomeLaws.{one_front}

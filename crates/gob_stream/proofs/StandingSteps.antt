@@ -7,9 +7,9 @@ use Rattle.gob_types.specs.Defined.{Defined, types}
 use Rattle.gob_types.specs.Table.{Table}
 use Rattle.gob_read.specs.declared.tree_builder.TreeBuilder.{TreeBuilder}
 use Rattle.gob_stream.specs.declared.stage.Stage.TheVariants as stage
-use Rattle.gob_stream.specs.Bounds.{Bounds}
+use Rattle.gob_stream.specs.Bounds.{Bounds, no_deeper}
 use Rattle.gob_stream.specs.Stream.{Stream, no_more}
-use Rattle.gob_stream.specs.Standing.{Standing, StandsIn, in_count, StandsAfter, no_deeper}
+use Rattle.gob_stream.specs.Standing.{Standing, StandsIn, in_count, StandsAfter}
 
 no_bytes : IsUnsignedFront []
 no_bytes = begins_front {bytes = []} tt

@@ -13,14 +13,13 @@ use Rattle.gob_stream.specs.declared.fault.Fault.{Fault}
 use Rattle.gob_stream.specs.declared.fault.Fault.TheVariants as fault
 use Rattle.gob_stream.specs.declared.item.Item as declared
 use Rattle.gob_stream.specs.declared.reading.Reading.{Reading}
-use Rattle.gob_stream.specs.Bounds.{Bounds, AreLimits}
+use Rattle.gob_stream.specs.Bounds.{Bounds, no_deeper}
 use Rattle.gob_stream.specs.Devices.{counts_up}
 use Rattle.gob_stream.specs.Item.{StreamItem, ItemMeans, means_definition, means_value, ItemsMean, mean_none, mean_more, item_view, item_views}
 use Rattle.gob_stream.specs.Outcome.{GivesItems, GivesButLast, Outcome, EndsSo, at_the_end, the_end, refused}
 use Rattle.gob_stream.specs.Stream.{Stream, no_more}
-use Rattle.gob_stream.specs.Standing.{Standing, StandsAfter, no_deeper}
+use Rattle.gob_stream.specs.Standing.{Standing, StandsAfter}
 use Rattle.gob_stream.specs.Reading.{SomeTaken, Given, IsShown, GivesNext, RefusesNextItem, shown, ended, StopsNext, ReadsNext, TakesNext, ReadsStream}
-use Rattle.gob_stream.proofs.StandLaws.{limits_stay}
 use Rattle.gob_stream.proofs.StayLaws.{shown_there, shown_refusal_stays}
 use Rattle.gob_stream.proofs.StreamLaws.{NoNext, counted_some, gives_items, but_none, before_last}
 use Rattle.gob_stream.proofs.UnderWayLaws.{after_gives}
@@ -60,10 +59,6 @@ views_meant (mean_more {all = all} m more) = let one = view_meant m in let rest 
 pub views_behind : (before : List (declared.Item Value)) {given : List (declared.Item Value)} {items : List StreamItem} → ItemsMean IsSeen given items → item_views (before ++ given) ≡ item_views before ++ items
 views_behind [] m = views_meant m
 views_behind (x ∷ before) m = ap (λ l. item_view x ∷ l) (views_behind before m)
-
--- no limit allows a deeper value than a builder of trees takes
-pub tree_limits : {L : Bounds} → AreLimits L → no_deeper 1000 L ≡ L
-tree_limits {L = L} a = limits_stay 1000 L a.depth
 
 -- ---- bytes that were taken before, and some more
 taken_again : {bytes : List ℕ} {mid now : Option (List ℕ)} {P Q R : List ℕ → Type 0} (p : SomeTaken bytes mid P) → ((more : List ℕ) → Q more → R (p.bytes ++ more)) → SomeTaken p.taken.left now Q → SomeTaken bytes now R

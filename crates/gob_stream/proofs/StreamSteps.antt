@@ -38,9 +38,9 @@ one_longer items n i at = take_more items n i (slice_get_within items n i at) �
 pub wrote_none : (L : Bounds) (items : List StreamItem) (w : StreamWriter) (old : Option (List ℕ)) → IsNew w L → WroteSome L items 0 w old old
 wrote_none L items w old new = record { bytes = []; table = base_table; written = new.nothing; limits = new.limits; out = Appends-nil old }
 
-pub wrote_more : (L : Bounds) (items : List StreamItem) (n : ℕ) (w w' : StreamWriter) (old mid new : Option (List ℕ)) (i : StreamItem) (u : Unit {0})
-    → WroteSome L items n w old mid → slice_get items n ≡ Some i → WritesNext w w' i mid new (Ok u) → WroteSome L items (n + 1) w' old new
-wrote_more L items n w w' old mid new i u wrote at writes =
+pub wrote_more : (L M : Bounds) (items : List StreamItem) (n : ℕ) (w w' : StreamWriter) (old mid new : Option (List ℕ)) (i : StreamItem) (u : Unit {0})
+    → WroteSome L items n w old mid → slice_get items n ≡ Some i → WritesNext M w w' i mid new (Ok u) → WroteSome L items (n + 1) w' old new
+wrote_more L M items n w w' old mid new i u wrote at writes =
     let next = writes (take n items) wrote.bytes wrote.table wrote.written in
     record {
       bytes = wrote.bytes ++ next.more;
@@ -60,9 +60,9 @@ no_stream : {M : Bounds} (items : List StreamItem) (n : ℕ) (i : StreamItem) {b
 no_stream {M = M} items n i at before refused has =
     refused_ends (drop (suc n) items) before (omega arith) refused (subst (λ l. Stream base_table M l has.bytes has.table) (split_at items n i at) has.stream)
 
-pub stopped : (L : Bounds) (items : List StreamItem) (n : ℕ) (w w' : StreamWriter) (old mid new : Option (List ℕ)) (i : StreamItem) (f : WriteFault)
-    → WroteSome L items n w old mid → slice_get items n ≡ Some i → WritesNext w w' i mid new (Err f) → Leaves w w' mid new (Err f) → StoppedAt L items n old new f
-stopped L items n w w' old mid new i (fault.Refused r) wrote at writes leaves =
+pub stopped : (L M : Bounds) (items : List StreamItem) (n : ℕ) (w w' : StreamWriter) (old mid new : Option (List ℕ)) (i : StreamItem) (f : WriteFault)
+    → M ≡ L → WroteSome L items n w old mid → slice_get items n ≡ Some i → WritesNext M w w' i mid new (Err f) → Leaves w w' mid new (Err f) → StoppedAt L items n old new f
+stopped L M items n w w' old mid new i (fault.Refused r) same wrote at writes leaves =
     let next = writes (take n items) wrote.bytes wrote.table wrote.written in
     record {
       bytes = wrote.bytes;
@@ -71,10 +71,10 @@ stopped L items n w w' old mid new i (fault.Refused r) wrote at writes leaves =
       before = rw wrote.limits at wrote.written.stream;
       out = Appends-kept old mid new wrote.bytes wrote.out leaves.1;
       at = at;
-      refused = rw wrote.limits at next;
-      none = no_stream items n i at (rw wrote.limits at wrote.written.stream) (rw wrote.limits at next);
+      refused = rw same at next;
+      none = no_stream items n i at (rw wrote.limits at wrote.written.stream) (rw same at next);
     }
-stopped L items n w w' old mid new i fault.Write wrote at writes leaves =
+stopped L M items n w w' old mid new i fault.Write same wrote at writes leaves =
     let next = writes (take n items) wrote.bytes wrote.table wrote.written in
     record {
       bytes = wrote.bytes;
@@ -86,12 +86,12 @@ stopped L items n w w' old mid new i fault.Write wrote at writes leaves =
       before = rw wrote.limits at wrote.written.stream;
       out = Appends-trans old mid new wrote.bytes next.front wrote.out next.out;
       at = at;
-      counted = rw wrote.limits at next.item;
+      counted = rw same at next.item;
     }
-stopped L items n w w' old mid new i fault.Memory wrote at writes leaves =
+stopped L M items n w w' old mid new i fault.Memory same wrote at writes leaves =
     let within : n ≤ length items = omega (arith, slice_get_within items n i at) in
     record { within = within; bytes = wrote.bytes; table = wrote.table; before = rw wrote.limits at wrote.written.stream; out = Appends-kept old mid new wrote.bytes wrote.out leaves.1 }
-stopped L items n w w' old mid new i fault.Failed wrote at writes leaves = absurd (writes (take n items) wrote.bytes wrote.table wrote.written)
+stopped L M items n w w' old mid new i fault.Failed same wrote at writes leaves = absurd (writes (take n items) wrote.bytes wrote.table wrote.written)
 
 pub wrote_all : (L : Bounds) (items : List (declared.Item Value)) (n : ℕ) (w : StreamWriter) (old new : Option (List ℕ)) (u : Unit {0})
     → WroteSome L (item_views items) n w old new → length items ≤ n → WritesStream L (item_views items) old new (Ok u)

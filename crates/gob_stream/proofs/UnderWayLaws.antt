@@ -18,14 +18,15 @@ use Rattle.gob_stream.specs.declared.stage.Stage.{Stage}
 use Rattle.gob_stream.specs.declared.stage.Stage.TheVariants as stage
 use Rattle.gob_stream.specs.declared.stage.Extent.{Extent}
 use Rattle.gob_stream.specs.declared.reading.Reading.{Reading}
-use Rattle.gob_stream.specs.Bounds.{Bounds}
+use Rattle.gob_stream.specs.Bounds.{Bounds, no_deeper}
 use Rattle.gob_stream.specs.Item.{StreamItem}
 use Rattle.gob_stream.specs.Body.{MayDefine, MayPut}
 use Rattle.gob_stream.specs.Stream.{Counted, counted, Stream}
 use Rattle.gob_stream.specs.Refusing.{refuses, RefusesCount, item_too_long, stream_too_long, RefusesBody, short, refused_id, refused_type, refused_value, refused_description, described_wrongly}
 use Rattle.gob_stream.specs.Refusing as refusing
 use Rattle.gob_stream.specs.Outcome.{RefusesNext, refused_count, refused_body, GivesItems, the_end, refused, at_the_end, Outcome}
-use Rattle.gob_stream.specs.Standing.{Standing, IsCount, IsRest, size, StandsIn, in_count, in_type_number, in_value, in_description, StandsAfter, no_deeper}
+use Rattle.gob_stream.specs.Standing.{Standing, IsCount, IsRest, size, StandsIn, in_count, in_type_number, in_value, in_description, StandsAfter}
+use Rattle.gob_stream.proofs.DescriptionDepth.{description_stood}
 use Rattle.gob_stream.proofs.StreamLaws.{NoNext, gives_items, same_id}
 use Rattle.gob_stream.proofs.RefusalLaws.{id_met, type_met}
 use Rattle.gob_stream.proofs.RefusingLaws.{is_whole, whole, one_start, RefusesDefinition, by_id, by_first, by_description, RefusesPut, by_type, by_value, RefusesFrom, from_definition, from_value, started, count_not}
@@ -158,9 +159,9 @@ refused_later x (in_value {m = m} {c = c} {a = a} {z = z} k s r p w) q =
     let left = rest_size m r k.end in let room = w.stood.room in let split = length-append a z in
     let n = value_later (take (m - length (a ++ z)) x) (grouped a z (take (m - length (a ++ z)) x) (behind_count (a ++ z) x k q (omega arith))) s p (stood_there left w.stood) in
     omega (arith, length-append c (a ++ z))
-refused_later x (in_description {m = m} {c = c} {a = a} {z = z} k e s r p w) q =
+refused_later {L = L} x (in_description {m = m} {c = c} {a = a} {z = z} k e s r p w) q =
     let left = rest_size m r k.end in let room = w.stood.room in let split = length-append a z in
-    let n = description_later (take (m - length (a ++ z)) x) (grouped a z (take (m - length (a ++ z)) x) (behind_count (a ++ z) x k q (omega arith))) e s p (stood_there left w.stood) in
+    let n = description_later (take (m - length (a ++ z)) x) (grouped a z (take (m - length (a ++ z)) x) (behind_count (a ++ z) x k q (omega arith))) e s p (stood_there left (description_stood L.depth w.stood)) in
     omega (arith, length-append c (a ++ z))
 
 -- so nothing is refused there yet

@@ -8,6 +8,8 @@ use Rattle.gob_types.specs.Defined.{types}
 use Rattle.gob_stream.specs.declared.fault.WriteFault.{WriteFault}
 use Rattle.gob_stream.specs.declared.fault.WriteFault.TheVariants as fault
 use Rattle.gob_stream.specs.declared.writer.StreamWriter.{StreamWriter}
+use Rattle.gob_stream.specs.Bounds.{Bounds, within_trees}
+use Rattle.gob_stream.specs.Laws.{AtLeast}
 use Rattle.gob_stream.specs.Item.{StreamItem}
 use Rattle.gob_stream.specs.Stream.{Stream, Counted}
 use Rattle.gob_stream.specs.WriterRefusal.{RefusesItem}
@@ -16,14 +18,15 @@ use Rattle.gob_types.specs.declared.table.DefineFault.{DefineFault}
 use Rattle.gob_types.specs.declared.table.DefineFault.TheVariants as defining
 use Rattle.gob_stream.specs.Writing.{HasWritten, WritesItem, Leaves, IsUnchanged, IsRefusal, SentFront, CountsFault, definition_fault}
 use Rattle.gob_stream.proofs.StreamLaws.{one_more}
+use Rattle.gob_stream.proofs.LawsOfStreams.{wider_counted}
 
 -- a fault before any byte went out is a refusal of the item, or want of memory
-pub refused_writes : (w w' : StreamWriter) (items : List StreamItem) (bytes : List ℕ) (T : Table) (i : StreamItem) (out : Option (List ℕ)) (f : WriteFault)
-    → HasWritten w items bytes T → IsRefusal (RefusesItem base_table w.limits (types w.types) w.offset i) f → WritesItem w w' items bytes T i out out (Err f)
-refused_writes w w' items bytes T i out (fault.Refused r) written refused = rw (← written.table, ← written.offset) refused
-refused_writes w w' items bytes T i out fault.Write written refused = absurd refused
-refused_writes w w' items bytes T i out fault.Memory written refused = tt
-refused_writes w w' items bytes T i out fault.Failed written refused = absurd refused
+pub refused_writes : (L : Bounds) (w w' : StreamWriter) (items : List StreamItem) (bytes : List ℕ) (T : Table) (i : StreamItem) (out : Option (List ℕ)) (f : WriteFault)
+    → HasWritten w items bytes T → IsRefusal (RefusesItem base_table L (types w.types) w.offset i) f → WritesItem L w w' items bytes T i out out (Err f)
+refused_writes L w w' items bytes T i out (fault.Refused r) written refused = rw (← written.table, ← written.offset) refused
+refused_writes L w w' items bytes T i out fault.Write written refused = absurd refused
+refused_writes L w w' items bytes T i out fault.Memory written refused = tt
+refused_writes L w w' items bytes T i out fault.Failed written refused = absurd refused
 
 -- and leaves all as it was
 pub refused_leaves : (w w' : StreamWriter) (out : Option (List ℕ)) (f : WriteFault) → IsUnchanged w w' → IsRefusal (λ _. Unit {0}) f → Leaves w w' out out (Err f)
@@ -45,22 +48,31 @@ early_counts count fault.Write early = absurd early
 early_counts count fault.Memory early = refl
 early_counts count fault.Failed early = absurd early
 
--- the writer has the bytes of this item, and the types behind it
-pub record HasItem (w ready : StreamWriter) (i : StreamItem) (U : Table) : Type 0 where
+-- what trees may be written under is no more than the limits
+pub trees_within : (L : Bounds) → AtLeast (within_trees L) L
+trees_within L = record { item = omega arith; depth = omega arith; types = omega arith; stream = omega arith }
+
+-- nor are the limits more than themselves
+pub all_within : (L : Bounds) → AtLeast L L
+all_within L = record { item = omega arith; depth = omega arith; types = omega arith; stream = omega arith }
+
+-- the writer has the bytes of this item, as these limits admit it, and the types behind it
+pub record HasItem (L : Bounds) (w ready : StreamWriter) (i : StreamItem) (U : Table) : Type 0 where
   pub limits : ready.limits ≡ w.limits
   pub offset : ready.offset ≡ w.offset
   pub most : ready.types.most ≡ w.types.most
   pub table : types ready.types ≡ U
-  pub item : Counted base_table w.limits (types w.types) w.offset i ready.item.items U
+  pub within : AtLeast L w.limits
+  pub item : Counted base_table L (types w.types) w.offset i ready.item.items U
 
 -- the item's bytes went out, or a front of them
-pub sent_writes : (w ready w' : StreamWriter) (items : List StreamItem) (bytes : List ℕ) (T U : Table) (i : StreamItem) (old new : Option (List ℕ))
-    (r : Result (Unit {0}) WriteFault) → HasWritten w items bytes T → HasItem w ready i U
+pub sent_writes : (L : Bounds) (w ready w' : StreamWriter) (items : List StreamItem) (bytes : List ℕ) (T U : Table) (i : StreamItem) (old new : Option (List ℕ))
+    (r : Result (Unit {0}) WriteFault) → HasWritten w items bytes T → HasItem L w ready i U
     → OnOk r (Appends old new ready.item.items) → OnOk r (w' ≡ record ready { offset = ready.offset + length ready.item.items; failed = false })
     → OnErr r (SentFront ready.item.items old new) → IfErr r (λ f. f ≡ fault.Write)
-    → WritesItem w w' items bytes T i old new r
-sent_writes w ready w' items bytes T U i old new (Ok u) written has out behind front is =
-    let here : Counted base_table w.limits T (length bytes) i ready.item.items U = rw (← written.table, ← written.offset) has.item in
+    → WritesItem L w w' items bytes T i old new r
+sent_writes L w ready w' items bytes T U i old new (Ok u) written has out behind front is =
+    let here : Counted base_table L T (length bytes) i ready.item.items U = rw (← written.table, ← written.offset) has.item in
     let limits : w'.limits ≡ w.limits = ap (λ x. x.limits) behind ∙ has.limits in
     record {
       more = ready.item.items;
@@ -69,17 +81,17 @@ sent_writes w ready w' items bytes T U i old new (Ok u) written has out behind f
       out = out;
       limits = limits;
       written = record {
-        stream = subst (λ L. Stream base_table L (items ++ i ∷ []) (bytes ++ ready.item.items) U) (sym limits) (one_more written.stream (omega arith) here);
+        stream = subst (λ M. Stream base_table M (items ++ i ∷ []) (bytes ++ ready.item.items) U) (sym limits) (one_more written.stream (omega arith) (wider_counted has.within here));
         table = ap (λ x. types x.types) behind ∙ has.table;
         room = ap (λ x. x.types.most) behind ∙ has.most ∙ written.room ∙ ap (λ L. L.types) (sym limits);
         offset = ap (λ x. x.offset) behind ∙ ap (λ o. o + length ready.item.items) (has.offset ∙ written.offset) ∙ sym (length-append bytes ready.item.items);
         sound = ap (λ x. x.failed) behind;
       };
     }
-sent_writes w ready w' items bytes T U i old new (Err f) written has out behind front is =
-    let here : Counted base_table w.limits T (length bytes) i ready.item.items U = rw (← written.table, ← written.offset) has.item in
-    subst (λ g. WritesItem w w' items bytes T i old new (Err g)) (sym is)
-    (record { front = front.front; rest = front.rest; table = U; item = subst (λ b. Counted base_table w.limits T (length bytes) i b U) front.whole here; out = front.out })
+sent_writes L w ready w' items bytes T U i old new (Err f) written has out behind front is =
+    let here : Counted base_table L T (length bytes) i ready.item.items U = rw (← written.table, ← written.offset) has.item in
+    subst (λ g. WritesItem L w w' items bytes T i old new (Err g)) (sym is)
+    (record { front = front.front; rest = front.rest; table = U; item = subst (λ b. Counted base_table L T (length bytes) i b U) front.whole here; out = front.out })
 
 -- a writer whose send failed writes no more
 pub sent_leaves : (w ready w' : StreamWriter) (old new : Option (List ℕ)) (offset : ℕ) (r : Result (Unit {0}) WriteFault)

@@ -11,11 +11,11 @@ use Rattle.gob_stream.specs.declared.fault.Fault.{Fault}
 use Rattle.gob_stream.specs.declared.fault.Fault.TheVariants as fault
 use Rattle.gob_stream.specs.declared.item.Item as declared
 use Rattle.gob_stream.specs.declared.reading.Reading.{Reading}
-use Rattle.gob_stream.specs.Bounds.{Bounds}
+use Rattle.gob_stream.specs.Bounds.{Bounds, no_deeper}
 use Rattle.gob_stream.specs.Item.{StreamItem}
 use Rattle.gob_stream.specs.Stream.{Counted, Stream}
 use Rattle.gob_stream.specs.Outcome.{BeginsWith, GivesItems, RefusesNext, Ending, Outcome}
-use Rattle.gob_stream.specs.Standing.{Standing, StandsAfter, no_deeper}
+use Rattle.gob_stream.specs.Standing.{Standing, StandsAfter}
 use Rattle.gob_stream.specs.Reading.{IsShown, HasTypesBehind, ReadsStream, Feeds, Finishes}
 use Rattle.gob_stream.specs.Writing.{WritesStream}
 

@@ -37,14 +37,14 @@ use Rattle.gob_stream.specs.declared.stage.Stepped.{Stepped}
 use Rattle.gob_stream.specs.declared.stage.Extent.{Extent}
 use Rattle.gob_stream.specs.declared.reading.Reading.{Reading}
 use Rattle.gob_stream.specs.declared.reading.Step.{Step}
-use Rattle.gob_stream.specs.Bounds.{Bounds}
+use Rattle.gob_stream.specs.Bounds.{Bounds, no_deeper}
 use Rattle.gob_stream.specs.Item.{StreamItem, ItemMeans}
 use Rattle.gob_stream.specs.Body.{MayDefine, MayPut}
 use Rattle.gob_stream.specs.WriterRefusal.{RefusesId, RefusesType}
 use Rattle.gob_stream.specs.Stream.{Counted}
 use Rattle.gob_stream.specs.Refusing.{RefusesCount, behind, refuses}
 use Rattle.gob_stream.specs.Outcome.{RefusesNext}
-use Rattle.gob_stream.specs.Standing.{Standing, StandsIn, StandsAfter, IsCount, IsBehind, size, no_deeper}
+use Rattle.gob_stream.specs.Standing.{Standing, StandsIn, StandsAfter, IsCount, IsBehind, size}
 use Rattle.gob_stream.specs.Reading.{IsShown}
 
 -- more of the count was taken, or all of it

@@ -17,7 +17,7 @@ use Rattle.gob_stream.specs.declared.stage.Stage.{Stage}
 use Rattle.gob_stream.specs.declared.stage.Stage.TheVariants as stage
 use Rattle.gob_stream.specs.declared.stage.Extent.{Extent}
 use Rattle.gob_stream.specs.declared.reading.Reading.{Reading}
-use Rattle.gob_stream.specs.Bounds.{Bounds}
+use Rattle.gob_stream.specs.Bounds.{Bounds, greatest_depth, no_deeper}
 use Rattle.gob_stream.specs.Item.{StreamItem}
 use Rattle.gob_stream.specs.Body.{MayDefine, MayPut}
 use Rattle.gob_stream.specs.Stream.{Stream}
@@ -25,10 +25,6 @@ use Rattle.gob_stream.specs.Stream.{Stream}
 -- which tellings a builder stands for
 abbrev pub Standing : Type 0 → Type 1
 Standing X = X → List Telling → Type 0
-
--- the limits of a reader whose builder takes no deeper value than this
-abbrev pub no_deeper : ℕ → Bounds → Bounds
-no_deeper most L = record L { depth = min L.depth most }
 
 -- these bytes are the count of an item that begins at the offset, and this is its body, which has so many bytes
 pub record IsCount (L : Bounds) (offset m : ℕ) (c : List ℕ) (body : Extent) : Type 0 where
@@ -60,8 +56,9 @@ pub data StandsIn {X O : Type 0} (stands : Standing X) (trees : Standing TreeBui
       → StandsIn stands trees L T offset (stage.TypeNumber body number) (c ++ number)
   in_value : {m : ℕ} {c a z : List ℕ} {body rest : Extent} {t : TypeId} {reader : BodyReader X O} → IsCount L offset m c body → IsSigned (pos t.0) a → IsRest body a rest
       → MayPut T t → IsBehind T t L.depth rest stands reader z → StandsIn stands trees L T offset (stage.Value t rest reader) (c ++ (a ++ z))
+  -- a description is read as a tree
   in_description : {m n : ℕ} {c a z : List ℕ} {body rest : Extent} {id : TypeId} {reader : BodyReader TreeBuilder Value} → IsCount L offset m c body
-      → id.0 ≡ n + 1 → IsSigned (negsuc n) a → IsRest body a rest → MayDefine base_table L T id → IsBehind T wire_type L.depth rest trees reader z
+      → id.0 ≡ n + 1 → IsSigned (negsuc n) a → IsRest body a rest → MayDefine base_table L T id → IsBehind T wire_type (min L.depth greatest_depth) rest trees reader z
       → StandsIn stands trees L T offset (stage.Description id rest reader) (c ++ (a ++ z))
 
 -- the reader has given the items, and taken these bytes

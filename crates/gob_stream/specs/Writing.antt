@@ -14,6 +14,9 @@ use Rattle.gob_types.specs.declared.readiness.NotReady.TheVariants as unready
 use Rattle.gob_types.specs.declared.reason.Reason.{Reason}
 use Rattle.gob_types.specs.declared.reason.Reason.TheVariants as reason
 use Rattle.gob_types.specs.declared.kind.Shape.{Shape}
+use Rattle.gob_types.specs.Ready.{IsReady}
+use Rattle.gob_value.specs.Tree.{Tree, depth}
+use Rattle.gob_value.specs.Spelling.{Spells}
 use Rattle.gob_value.specs.Top.{IsStruct}
 use Rattle.gob_value.specs.declared.fault.SpellFault.{SpellFault}
 use Rattle.gob_value.specs.declared.fault.SpellFault.TheVariants as spelling
@@ -46,10 +49,10 @@ pub record WroteFront (L : Bounds) (T : Table) (offset : ℕ) (i : StreamItem) (
   pub out : Appends old new front
 
 -- the bytes of this item went out, and the writer stands behind them
-pub record WroteItem (w w' : StreamWriter) (items : List StreamItem) (bytes : List ℕ) (T : Table) (i : StreamItem) (old new : Option (List ℕ)) : Type 0 where
+pub record WroteItem (L : Bounds) (w w' : StreamWriter) (items : List StreamItem) (bytes : List ℕ) (T : Table) (i : StreamItem) (old new : Option (List ℕ)) : Type 0 where
   pub more : List ℕ
   pub table : Table
-  pub item : Counted base_table w.limits T (length bytes) i more table
+  pub item : Counted base_table L T (length bytes) i more table
   pub out : Appends old new more
   pub limits : w'.limits ≡ w.limits
   pub written : HasWritten w' (items ++ i ∷ []) (bytes ++ more) table
@@ -62,17 +65,18 @@ IsUnchanged w w' = w' ≡ record w { body = w'.body; item = w'.item }
 abbrev pub WroteNothing : (w w' : StreamWriter) → (old new : Option (List ℕ)) → Type 0
 WroteNothing w w' old new = IsUnchanged w w' × Keeps old new
 
--- what writing an item answers, for a writer that has written the items, over an output with the old bytes
-abbrev pub WritesItem : (w w' : StreamWriter) → List StreamItem → List ℕ → Table → StreamItem → (old new : Option (List ℕ)) → Result (Unit {0}) WriteFault → Type 0
-WritesItem w w' items bytes T i old new (Ok _) = WroteItem w w' items bytes T i old new
-WritesItem w w' items bytes T i old new (Err (fault.Refused r)) = RefusesItem base_table w.limits T (length bytes) i r
-WritesItem w w' items bytes T i old new (Err fault.Write) = WroteFront w.limits T (length bytes) i old new
-WritesItem w w' items bytes T i old new (Err fault.Memory) = Unit {0}
-WritesItem w w' items bytes T i old new (Err fault.Failed) = ⊥
+-- what writing an item that these limits admit answers, for a writer that has written the items, over an output with
+-- the old bytes
+abbrev pub WritesItem : Bounds → (w w' : StreamWriter) → List StreamItem → List ℕ → Table → StreamItem → (old new : Option (List ℕ)) → Result (Unit {0}) WriteFault → Type 0
+WritesItem L w w' items bytes T i old new (Ok _) = WroteItem L w w' items bytes T i old new
+WritesItem L w w' items bytes T i old new (Err (fault.Refused r)) = RefusesItem base_table L T (length bytes) i r
+WritesItem L w w' items bytes T i old new (Err fault.Write) = WroteFront L T (length bytes) i old new
+WritesItem L w w' items bytes T i old new (Err fault.Memory) = Unit {0}
+WritesItem L w w' items bytes T i old new (Err fault.Failed) = ⊥
 
 -- the same, whatever it has written
-abbrev pub WritesNext : (w w' : StreamWriter) → StreamItem → (old new : Option (List ℕ)) → Result (Unit {0}) WriteFault → Type 0
-WritesNext w w' i old new result = (items : List StreamItem) (bytes : List ℕ) (T : Table) → HasWritten w items bytes T → WritesItem w w' items bytes T i old new result
+abbrev pub WritesNext : Bounds → (w w' : StreamWriter) → StreamItem → (old new : Option (List ℕ)) → Result (Unit {0}) WriteFault → Type 0
+WritesNext L w w' i old new result = (items : List StreamItem) (bytes : List ℕ) (T : Table) → HasWritten w items bytes T → WritesItem L w w' items bytes T i old new result
 
 -- what an answer leaves of any writer: after a refusal, or without memory, nothing went out and it is as before; after a
 -- failed write it writes no more
@@ -136,6 +140,15 @@ pub record HasStructs (T : Table) (t : TypeId) : Type 0 where
 pub data IsHead (T : Table) (t : TypeId) : List ℕ → Type 0 where
   head_of_struct : {a : List ℕ} → HasStructs T t → IsSigned (pos t.0) a → IsHead T t a
   head_with_tag : {a z : List ℕ} → ¬ HasStructs T t → IsSigned (pos t.0) a → IsUnsigned 0 z → IsHead T t (a ++ z)
+
+-- where values of the type can come, the bytes spell this one, and it is no deeper than the limit
+abbrev pub IsSpelledAs : Bounds → Table → TypeId → List ℕ → Tree → Type 0
+IsSpelledAs L T t spelling v = IsReady T t → Spells T t v spelling × (depth v ≤ L.depth)
+
+-- they spell some such value
+pub record IsSpelling (L : Bounds) (T : Table) (t : TypeId) (spelling : List ℕ) : Type 0 where
+  pub value : Tree
+  pub spelled : IsSpelledAs L T t spelling value
 
 -- what stops an item before any of its bytes goes out: such a reason, or no memory
 abbrev pub IsRefusal : (Reason → Type 0) → WriteFault → Type 0

@@ -1,7 +1,7 @@
 //! Reading all items of a stream.
 
 ghost use Rattle.std.specs.Prelude.{◌≡◌, ℕ, ◌+◌, ◌≤◌, List, [], Some};
-ghost use Rattle.gob_stream.specs.Bounds.{AreLimits};
+ghost use Rattle.gob_stream.specs.Bounds.{within_trees};
 ghost use Rattle.gob_stream.specs.Item.{item_views};
 ghost use Rattle.gob_stream.specs.Standing.{StandsAfter};
 ghost use Rattle.gob_stream.specs.Reading.{ReadsStream, Given, CountsReads};
@@ -18,7 +18,8 @@ use std::alloc::Global;
 use std::io::Read;
 
 /// Reads every item of a stream, and appends it to `out`. Ok at the end of the input behind a whole item, or
-/// before the first. The items before a fault are in `out`. It takes at most `limits.stream() + 9` bytes.
+/// before the first. The items before a fault are in `out`. No value may be deeper than the lesser of
+/// `limits.depth()` and 1000. It takes at most `limits.stream() + 9` bytes.
 pub fn read_stream<R: Read>(
     alloc: Global,
     input: &mut Input<R>,
@@ -27,7 +28,7 @@ pub fn read_stream<R: Read>(
 ) -> Result<(), Fault>
     ensures items { Given out.old.items out.new.items (λ given. (bytes : List ℕ)
         → R.remaining input.old.reader ≡ Some bytes
-        → ReadsStream limits bytes (R.remaining input.new.reader) (item_views given) result) }
+        → ReadsStream (within_trees limits) bytes (R.remaining input.new.reader) (item_views given) result) }
     ensures counted { CountsReads input.old.failures input.new.failures result }
     ensures taken { input.new.taken ≤ input.old.taken + limits.stream + 9 }
 {
@@ -45,10 +46,10 @@ fn read_items<R: Read>(
     requires stands { StandsAfter ⟦<TreeBuilder as Builder>⟧.stands ⟦<TreeBuilder as Builder>⟧.stands 1000
         session.old.reading [] [] }
     requires new { session.old.reading.taken ≡ 0 }
-    requires allowed { AreLimits session.old.reading.limits }
     ensures items { Given out.old.items out.new.items (λ given. (bytes : List ℕ)
         → R.remaining input.old.reader ≡ Some bytes
-        → ReadsStream session.old.reading.limits bytes (R.remaining input.new.reader) (item_views given) result) }
+        → ReadsStream (within_trees session.old.reading.limits) bytes (R.remaining input.new.reader)
+        (item_views given) result) }
     ensures counted { CountsReads input.old.failures input.new.failures result }
     ensures taken { input.new.taken ≤ input.old.taken + session.old.reading.limits.stream + 9 }
 {

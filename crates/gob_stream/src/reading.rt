@@ -3,9 +3,9 @@
 ghost use Rattle.std.specs.Prelude.{◌≡◌, ℕ, ◌-◌, ◌<◌, ◌≤◌, [], ◌∷◌, ◌++◌, List, length, Err, IfOk, IfErr, IfSome};
 ghost use Rattle.std.specs.Prelude.{OnOk, OnErr};
 ghost use Rattle.gob_types.specs.Defined.{types};
-ghost use Rattle.gob_stream.specs.Bounds.{AreLimits};
+ghost use Rattle.gob_stream.specs.Bounds.{AreLimits, deepest, no_deeper};
 ghost use Rattle.gob_stream.specs.Item.{StreamItem};
-ghost use Rattle.gob_stream.specs.Standing.{StandsIn, StandsAfter, IsUsable, no_deeper};
+ghost use Rattle.gob_stream.specs.Standing.{StandsIn, StandsAfter, IsUsable};
 ghost use Rattle.gob_stream.specs.Reading.{Given, Feeds, Finishes};
 ghost use Rattle.gob_stream.specs.ReadParts.{Advances, StepsOn, IsWithinItem, wanted_in};
 
@@ -61,7 +61,7 @@ impl<B: Builder> Reading<B> {
         ensures stands { IfOk result (λ reading.
             StandsAfter B.stands ⟦<TreeBuilder as Builder>⟧.stands B.DEPTH reading [] []) }
         ensures limits { IfOk result (λ reading. reading.limits ≡ limits) }
-        ensures allowed { AreLimits limits }
+        ensures allowed { AreLimits deepest limits }
     {
         let types = Table::new(alloc, limits.types())?;
         Ok(Reading {
@@ -247,7 +247,7 @@ fn take_awaited<B: Builder>(
     ensures failed { stage ≡ Stage.Failed → result ≡ Err Fault.Failed }
     ensures most { table.new.most ≡ table.old.most }
     ensures unchanged { OnErr result (table.new ≡ table.old) }
-    ensures limits { AreLimits limits }
+    ensures limits { AreLimits deepest limits }
 {
     match stage {
         Stage::Count { begin, number } => match take_count(limits, begin, taken, number, piece) {

@@ -43,19 +43,19 @@ impl<B: Builder> Model for Session<B> {
 
 impl<B: Builder> Session<B> {
     ghost use Rattle.std.specs.Prelude.{◌≡◌, ℕ, List, [], Err, Some, IfOk, OnErr};
-    ghost use Rattle.gob_stream.specs.Bounds.{AreLimits};
+    ghost use Rattle.gob_stream.specs.Bounds.{AreLimits, deepest};
     ghost use Rattle.gob_types.specs.Defined.{types};
     ghost use Rattle.gob_stream.specs.Item.{StreamItem};
     ghost use Rattle.gob_stream.specs.Standing.{StandsAfter};
     ghost use Rattle.gob_stream.specs.Reading.{Given, Feeds, Finishes, ReadsNext, CountsReads, TakesNext};
 
-    /// A reader that has taken no byte.
+    /// A reader that has taken no byte. No value may be deeper than these limits allow, or than the builder takes.
     pub fn new(alloc: Global, limits: Limits) -> Result<Session<B>, Memory>
         ensures stands { IfOk result (λ session.
             StandsAfter B.stands ⟦<TreeBuilder as Builder>⟧.stands B.DEPTH session.reading [] []) }
         ensures taken { IfOk result (λ session. session.reading.taken ≡ 0) }
         ensures limits { IfOk result (λ session. session.reading.limits ≡ limits) }
-        ensures allowed { AreLimits limits }
+        ensures allowed { AreLimits deepest limits }
     {
         let reading = Reading::new(alloc, limits)?;
         Ok(Session { reading })

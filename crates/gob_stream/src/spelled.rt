@@ -1,16 +1,19 @@
 //! The bytes of an item.
 
-ghost use Rattle.std.specs.Prelude.{◌≡◌, ◌+◌, ◌^◌, ◌<◌, ◌↔◌, ◌++◌, ◌∷◌, [], ℕ, length, IsTrue, IfOk, OnOk, IfErr};
+ghost use Rattle.std.specs.Prelude.{◌≡◌, ◌+◌, ◌^◌, ◌<◌, ◌≤◌, ◌↔◌, ◌++◌, ◌∷◌, [], ℕ, length, IsTrue, IfOk, OnOk, IfErr};
 ghost use Rattle.gob_num.specs.Unsigned.{IsUnsigned};
 ghost use Rattle.gob_num.specs.Spelled.{Appends};
 ghost use Rattle.gob_types.specs.Base.{base_table};
 ghost use Rattle.gob_types.specs.Definable.{IsDefinable};
 ghost use Rattle.gob_types.specs.Defined.{types, IsTable};
+ghost use Rattle.gob_value.specs.Tree.{Tree};
 ghost use Rattle.gob_value.specs.View.{view};
+ghost use Rattle.gob_stream.specs.Bounds.{Bounds, greatest_depth};
 ghost use Rattle.gob_stream.specs.Item.{defines, puts};
 ghost use Rattle.gob_stream.specs.Body.{Body, MayPut};
 ghost use Rattle.gob_stream.specs.WriterRefusal.{RefusesItem, RefusesType, RefusesBody};
 ghost use Rattle.gob_stream.specs.Writing.{IsRefusal, IsWhole, FitsLimits, definition_fault, HasStructs, IsHead};
+ghost use Rattle.gob_stream.specs.Writing.{IsSpelledAs};
 
 use crate::fault::WriteFault;
 use crate::limits::Limits;
@@ -105,6 +108,7 @@ pub(crate) fn spell_definition(
     described: &Value,
     body: &mut Vec<u8>,
 ) -> Result<Shape, WriteFault>
+    requires { limits.now.depth ≤ greatest_depth }
     ensures ok { table.now.most ≡ limits.now.types → IfOk result (λ shape. Body base_table limits.now (types table.now)
         (defines id (view described.now)) body.new.items (types table.now ++ (id, shape) ∷ [])) }
     ensures definable { IfOk result (λ shape. IsDefinable shape) }
@@ -133,6 +137,7 @@ pub(crate) fn spell_value(
     value: &Value,
     body: &mut Vec<u8>,
 ) -> Result<(), WriteFault>
+    requires { limits.now.depth ≤ greatest_depth }
     ensures ok { OnOk result (Body base_table limits.now (types table.now) (puts id (view value.now)) body.new.items
         (types table.now)) }
     ensures err { (offset : ℕ) → IfErr result (IsRefusal (RefusesItem base_table limits.now (types table.now) offset
@@ -143,6 +148,26 @@ pub(crate) fn spell_value(
     body.clear();
     write_head(alloc, table, id, body)?;
     spell(alloc, table, id, value, limits.depth(), body)?;
+    Ok(())
+}
+
+/// Makes the body of the item that gives the value of this spelling, in place of what the vector held.
+pub(crate) fn wrap_spelling(
+    alloc: Global,
+    table: &Table,
+    id: TypeId,
+    spelling: &[u8],
+    body: &mut Vec<u8>,
+) -> Result<(), WriteFault>
+    ensures ok { OnOk result ((L : Bounds) (v : Tree) → IsSpelledAs L (types table.now) id spelling.now v
+        → Body base_table L (types table.now) (puts id v) body.new.items (types table.now)) }
+    ensures err { IfErr result (IsRefusal (RefusesType (types table.now) id)) }
+    ensures early { IfErr result (IsRefusal (λ _. Unit {0})) }
+{
+    judge_type(alloc, table, id)?;
+    body.clear();
+    write_head(alloc, table, id, body)?;
+    body.extend_from_slice(spelling)?;
     Ok(())
 }
 

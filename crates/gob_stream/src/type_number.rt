@@ -5,8 +5,8 @@ ghost use Rattle.gob_num.specs.Signed.{IsSigned};
 ghost use Rattle.gob_num.specs.Unsigned.{IsUnsigned, IsUnsignedFront};
 ghost use Rattle.gob_types.specs.Base.{wire_type};
 ghost use Rattle.gob_types.specs.Defined.{types, Admits};
-ghost use Rattle.gob_stream.specs.Bounds.{Bounds, greatest_stream};
-ghost use Rattle.gob_stream.specs.Standing.{no_deeper, IsCount, IsRest};
+ghost use Rattle.gob_stream.specs.Bounds.{Bounds, greatest_stream, no_deeper};
+ghost use Rattle.gob_stream.specs.Standing.{IsCount, IsRest};
 ghost use Rattle.gob_stream.specs.declared.stage.Extent.{Extent};
 ghost use Rattle.gob_stream.specs.ReadParts.{AreTypes, HasCount, HasWireType, MaybeDefines, MaybePuts, StepsOn};
 ghost use Rattle.gob_stream.specs.ReadParts.{GoesOnIn};
@@ -150,7 +150,6 @@ fn begin_description<B: Builder>(
     piece: &[u8],
 ) -> Result<Stepped<B>, Fault>
     requires order { rest.begin ≤ rest.end }
-    requires depth { depth ≤ 1000 }
     requires base { HasWireType (types table.old) }
     ensures read { (L : Bounds) (offset m n : ℕ) (c a : List ℕ) (body : Extent) → L.depth ≡ depth
         → AreTypes L table.old → IsCount L offset m c body → body.begin ≡ place

@@ -2,16 +2,20 @@
 
 ghost use Rattle.std.specs.Prelude.{true, false, ◌≡◌, ◌+◌, ◌^◌, ◌<◌, length, IfOk, IfErr, OnOk, OnErr};
 ghost use Rattle.std.specs.Io.KnownBytes.{Appends};
+ghost use Rattle.gob_types.specs.Defined.{types};
+ghost use Rattle.gob_value.specs.Tree.{Tree};
 ghost use Rattle.gob_value.specs.View.{view};
+ghost use Rattle.gob_stream.specs.Bounds.{within_trees};
 ghost use Rattle.gob_stream.specs.Item.{defines, puts, item_view};
 ghost use Rattle.gob_stream.specs.Writing.{IsNew, WritesNext, Leaves, AnswersFailed, CountsWrites, SentFront};
+ghost use Rattle.gob_stream.specs.Writing.{IsSpelling, IsSpelledAs};
 
 use crate::fault::WriteFault;
 use crate::item::Item;
 use crate::limits::Limits;
 use crate::output::Output;
 use crate::send::send_all;
-use crate::spelled::{definition_fault, finish_item, spell_definition, spell_value};
+use crate::spelled::{definition_fault, finish_item, spell_definition, spell_value, wrap_spelling};
 use gob_num::Memory;
 use gob_types::{Table, TypeId};
 use gob_value::Value;
@@ -19,6 +23,7 @@ use std::alloc::Global;
 use std::io::Write;
 
 /// A writer of one stream, from its first byte on. Each item goes out whole or not at all, unless a write fails.
+/// Values as trees are no deeper than the lesser of the limit for depth and 1000.
 pub struct StreamWriter {
     limits: Limits,
     // The types of the stream so far.
@@ -75,7 +80,7 @@ impl StreamWriter {
         id: TypeId,
         described: &Value,
     ) -> Result<(), WriteFault>
-        ensures writes { WritesNext self.old self.new (defines id (view described.now))
+        ensures writes { WritesNext (within_trees self.old.limits) self.old self.new (defines id (view described.now))
             (W.contents output.old.writer) (W.contents output.new.writer) result }
         ensures leaves { Leaves self.old self.new
             (W.contents output.old.writer) (W.contents output.new.writer) result }
@@ -86,15 +91,9 @@ impl StreamWriter {
         if self.failed {
             return Err(WriteFault::Failed);
         }
-        let shape = spell_definition(
-            alloc,
-            &self.types,
-            &self.limits,
-            id,
-            described,
-            &mut self.body,
-        )?;
-        finish_item(alloc, &self.limits, self.offset, &self.body, &mut self.item)?;
+        let limits = self.limits.up_to(Limits::GREATEST_DEPTH);
+        let shape = spell_definition(alloc, &self.types, &limits, id, described, &mut self.body)?;
+        finish_item(alloc, &limits, self.offset, &self.body, &mut self.item)?;
         if let Err(fault) = self.types.define(alloc, id, shape) {
             return Err(definition_fault(id, fault));
         }
@@ -113,7 +112,7 @@ impl StreamWriter {
         id: TypeId,
         value: &Value,
     ) -> Result<(), WriteFault>
-        ensures writes { WritesNext self.old self.new (puts id (view value.now))
+        ensures writes { WritesNext (within_trees self.old.limits) self.old self.new (puts id (view value.now))
             (W.contents output.old.writer) (W.contents output.new.writer) result }
         ensures leaves { Leaves self.old self.new
             (W.contents output.old.writer) (W.contents output.new.writer) result }
@@ -124,7 +123,39 @@ impl StreamWriter {
         if self.failed {
             return Err(WriteFault::Failed);
         }
-        spell_value(alloc, &self.types, &self.limits, id, value, &mut self.body)?;
+        let limits = self.limits.up_to(Limits::GREATEST_DEPTH);
+        spell_value(alloc, &self.types, &limits, id, value, &mut self.body)?;
+        finish_item(alloc, &limits, self.offset, &self.body, &mut self.item)?;
+        self.send(output)
+    }
+
+    /// Writes a value of a type by its spelling. These are the bytes of the value alone: the tag is written before
+    /// them where the type is no struct. Where the type is ready, they must spell a value of it that is no deeper than
+    /// the limit, which may be 65536 here. Refused, in this order: a type that leads to one that isn't defined, or is
+    /// 24, as `UndefinedType`, one that leads to an array without finite values as `Bottomless`, an item whose count
+    /// is above the limit for items as `ItemTooLong`, and one that would end beyond the limit for the stream as
+    /// `StreamTooLong`. `WriteFault` says what each fault leaves. (docs/FORMAT.md, Refusals, the writer's order.)
+    pub fn put_spelled<W: Write>(
+        &mut self,
+        alloc: Global,
+        output: &mut Output<W>,
+        id: TypeId,
+        spelling: &[u8],
+    ) -> Result<(), WriteFault>
+        requires { IsSpelling self.old.limits (types self.old.types) id spelling.now }
+        ensures writes { (v : Tree) → IsSpelledAs self.old.limits (types self.old.types) id spelling.now v
+            → WritesNext self.old.limits self.old self.new (puts id v)
+            (W.contents output.old.writer) (W.contents output.new.writer) result }
+        ensures leaves { Leaves self.old self.new
+            (W.contents output.old.writer) (W.contents output.new.writer) result }
+        ensures failed { self.old.failed ≡ true →
+            AnswersFailed self.old self.new (W.contents output.old.writer) (W.contents output.new.writer) result }
+        ensures counted { CountsWrites output.old.failures output.new.failures result }
+    {
+        if self.failed {
+            return Err(WriteFault::Failed);
+        }
+        wrap_spelling(alloc, &self.types, id, spelling, &mut self.body)?;
         finish_item(alloc, &self.limits, self.offset, &self.body, &mut self.item)?;
         self.send(output)
     }
@@ -136,7 +167,7 @@ impl StreamWriter {
         output: &mut Output<W>,
         item: &Item<Value>,
     ) -> Result<(), WriteFault>
-        ensures writes { WritesNext self.old self.new (item_view item.now)
+        ensures writes { WritesNext (within_trees self.old.limits) self.old self.new (item_view item.now)
             (W.contents output.old.writer) (W.contents output.new.writer) result }
         ensures leaves { Leaves self.old self.new
             (W.contents output.old.writer) (W.contents output.new.writer) result }

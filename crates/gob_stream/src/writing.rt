@@ -1,5 +1,6 @@
 //! Writing a whole stream.
 
+ghost use Rattle.gob_stream.specs.Bounds.{within_trees};
 ghost use Rattle.gob_stream.specs.Item.{item_views};
 ghost use Rattle.gob_stream.specs.Writing.{WritesStream, CountsStop};
 
@@ -14,17 +15,18 @@ use std::alloc::Global;
 use std::io::Write;
 
 /// Writes the stream of the items. It stops at the first item that isn't written whole, and says which one and why;
-/// the items before it are out.
+/// the items before it are out. No value may be deeper than the lesser of `limits.depth()` and 1000.
 pub fn write_stream<W: Write>(
     alloc: Global,
     output: &mut Output<W>,
     items: &[Item<Value>],
     limits: Limits,
 ) -> Result<(), WriteStop>
-    ensures writes { WritesStream limits (item_views items.now)
+    ensures writes { WritesStream (within_trees limits) (item_views items.now)
         (W.contents output.old.writer) (W.contents output.new.writer) result }
     ensures counted { CountsStop output.old.failures output.new.failures result }
 {
+    let limits = limits.up_to(Limits::GREATEST_DEPTH);
     let Ok(mut writer) = StreamWriter::new(alloc, limits) else {
         return Err(WriteStop {
             item: 0,

@@ -98,9 +98,9 @@ impl Builder for TapeBuilder {
     ghost use Rattle.gob_tape.specs.Machine.View.{state_of};
     ghost use Rattle.gob_tape.specs.Machine.Standing.{AreTaped};
 
-    ghost DEPTH = { 1000 };
+    ghost DEPTH = { 65536 };
 
-    const DEPTH: u64 = 1000;
+    const DEPTH: u64 = 65536;
 
     ghost stands = { λ builder us. AreTaped (state_of builder) builder.held us };
 

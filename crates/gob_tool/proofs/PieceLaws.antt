@@ -12,12 +12,12 @@ use Rattle.gob_stream.specs.declared.fault.Fault.{Fault}
 use Rattle.gob_stream.specs.declared.fault.Fault.TheVariants as reading
 use Rattle.gob_stream.specs.declared.item.Item as declared
 use Rattle.gob_stream.specs.declared.reading.Reading.{Reading}
-use Rattle.gob_stream.specs.Bounds.{Bounds, greatest_depth}
+use Rattle.gob_stream.specs.Bounds.{Bounds, greatest_depth, within_trees}
 use Rattle.gob_stream.specs.Item.{StreamItem, item_views}
 use Rattle.gob_stream.specs.Stream.{Stream}
 use Rattle.gob_stream.specs.Reading.{Feeds, Finishes}
 use Rattle.gob_stream.proofs.PublicLaws.{views_meant}
-use Rattle.gob_tool.specs.Gathering.{GaveItems, within_trees}
+use Rattle.gob_tool.specs.Gathering.{GaveItems}
 use Rattle.gob_tool.specs.Pieces.{TypesBehind, EndsPiece, GivesPiece, CountsPiece}
 use Rattle.gob_tool.proofs.ShowLaws.{types_behind, types_beyond, falls}
 

@@ -17,7 +17,7 @@ use Rattle.gob_stream.specs.declared.fault.Fault.{Fault}
 use Rattle.gob_stream.specs.declared.fault.Fault.TheVariants as reading
 use Rattle.gob_stream.specs.declared.item.Item as declared
 use Rattle.gob_stream.specs.declared.reading.Reading.{Reading}
-use Rattle.gob_stream.specs.Bounds.{Bounds, greatest_depth}
+use Rattle.gob_stream.specs.Bounds.{Bounds, greatest_depth, within_trees}
 use Rattle.gob_stream.specs.Item.{StreamItem, item_views}
 use Rattle.gob_stream.specs.Stream.{Stream, no_more}
 use Rattle.gob_stream.specs.Outcome.{BeginsWith, the_end, EndsSo, at_the_end}
@@ -31,7 +31,7 @@ use Rattle.gob_tool.specs.Line.{lines}
 use Rattle.gob_tool.specs.Fault.{reading_fault}
 use Rattle.gob_tool.specs.Showing.{EndsWhole, IsRefused, Gives, Begins, Runs, AppendsFront}
 use Rattle.gob_tool.specs.Gathering.{Gathered, GaveItems, StandsBehind, StandsIn, PassesSome, Gathers, TakesPiece}
-use Rattle.gob_tool.specs.Gathering.{CountsOnlyReads, within_trees}
+use Rattle.gob_tool.specs.Gathering.{CountsOnlyReads}
 use Rattle.gob_tool.specs.Pieces.{TypesBehind}
 use Rattle.gob_tool.proofs.LinesStay.{lines_stay, first_items}
 use Rattle.gob_tool.proofs.GatherLaws.{lines_append}

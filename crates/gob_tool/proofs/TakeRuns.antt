@@ -18,7 +18,7 @@ use Rattle.gob_stream.specs.declared.fault.Refusal.{Refusal}
 use Rattle.gob_stream.specs.declared.fault.Fault.{Fault}
 use Rattle.gob_stream.specs.declared.fault.Fault.TheVariants as reading
 use Rattle.gob_stream.specs.declared.reading.Reading.{Reading}
-use Rattle.gob_stream.specs.Bounds.{Bounds}
+use Rattle.gob_stream.specs.Bounds.{Bounds, within_trees}
 use Rattle.gob_stream.specs.Item.{StreamItem, puts}
 use Rattle.gob_stream.specs.Outcome.{Outcome, BeginsWith, refused}
 use Rattle.gob_stream.specs.Reading.{IsShown, Taken}
@@ -27,7 +27,7 @@ use Rattle.gob_stream.proofs.PublicLaws.{shown_there, shown_refusal_stays}
 use Rattle.gob_tool.specs.declared.fault.ToolFault.{ToolFault}
 use Rattle.gob_tool.specs.declared.fault.ToolFault.TheVariants as fault
 use Rattle.gob_tool.specs.Fault.{reading_fault}
-use Rattle.gob_tool.specs.Gathering.{GaveItems, PassesSome, within_trees}
+use Rattle.gob_tool.specs.Gathering.{GaveItems, PassesSome}
 use Rattle.gob_tool.specs.Pieces.{TypesBehind, EndsPiece, GivesPiece, StandsAt, AreSent, TakesItems, unread}
 use Rattle.gob_tool.specs.Showing.{AppendsFront}
 use Rattle.gob_tool.specs.Taking.{no_item, HasReceived, ReceivesWhole, ReceivesFront, Receiving}

@@ -14,7 +14,7 @@ use Rattle.gob_read.specs.declared.tree_builder.TreeBuilder.{TreeBuilder}
 use Rattle.gob_stream.specs.declared.fault.Fault.{Fault}
 use Rattle.gob_stream.specs.declared.fault.Fault.TheVariants as reading
 use Rattle.gob_stream.specs.declared.reading.Reading.{Reading}
-use Rattle.gob_stream.specs.Bounds.{Bounds}
+use Rattle.gob_stream.specs.Bounds.{Bounds, within_trees}
 use Rattle.gob_stream.specs.Devices.{FlushCounted}
 use Rattle.gob_stream.specs.Item.{StreamItem, defines, puts}
 use Rattle.gob_stream.specs.Outcome.{GivesItems}
@@ -23,7 +23,7 @@ use Rattle.gob_stream.specs.Reading.{Taken, HasTypesBehind}
 use Rattle.gob_stream.proofs.PublicLaws.{one_table}
 use Rattle.gob_tool.specs.declared.fault.ToolFault.{ToolFault}
 use Rattle.gob_tool.specs.declared.fault.ToolFault.TheVariants as fault
-use Rattle.gob_tool.specs.Gathering.{GaveItems, within_trees}
+use Rattle.gob_tool.specs.Gathering.{GaveItems}
 use Rattle.gob_tool.specs.Fault.{wanted_fault}
 use Rattle.gob_tool.specs.Pieces.{EndsPiece, GivesPiece, StandsAt, AreSent, sent, defined, ReadsWanted, CountsPiece}
 use Rattle.gob_tool.specs.Pieces.{TypesBehind, first_of}

@@ -11,7 +11,7 @@ use Rattle.gob_stream.specs.declared.reading.Reading.{Reading}
 use Rattle.gob_stream.specs.Bounds.{Bounds, greatest_depth}
 use Rattle.gob_stream.specs.Item.{StreamItem}
 use Rattle.gob_stream.specs.Devices.{counts_up}
-use Rattle.gob_stream.specs.Standing.{StandsAfter, no_deeper}
+use Rattle.gob_stream.specs.Standing.{StandsAfter}
 use Rattle.gob_tool.specs.declared.fault.ToolFault.{ToolFault}
 use Rattle.gob_tool.specs.declared.fault.ToolFault.TheVariants as fault
 use Rattle.gob_tool.specs.Line.{lines}
@@ -82,10 +82,6 @@ TakesPiece L s bytes old new gathered (Err (fault.Clash path reason)) = ⊥
 TakesPiece L s bytes old new gathered (Err fault.Read) = ⊥
 TakesPiece L s bytes old new gathered (Err fault.Write) = Begins L bytes (AppendsFront old new)
 TakesPiece L s bytes old new gathered (Err fault.Memory) = Begins L bytes (Gathered old new gathered)
-
--- the limits of a reader of trees
-abbrev pub within_trees : Bounds → Bounds
-within_trees L = no_deeper greatest_depth L
 
 -- what was consumed of the input was taken
 pub record StandsIn (s : Reading TreeBuilder Value) (read now old new : Option (List ℕ)) (gathered : List ℕ) : Type 0

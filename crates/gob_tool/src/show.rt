@@ -4,7 +4,8 @@ ghost use Rattle.std.specs.Prelude.{◌≡◌, ◌≢◌, ℕ, ◌<◌, List, []
 ghost use Rattle.gob_stream.specs.declared.reading.Reading.{Reading};
 ghost use Rattle.gob_stream.specs.Item.{StreamItem};
 ghost use Rattle.gob_tool.specs.Showing.{Runs, Shows, AppendsFront, CountsReadFaults, CountsWriteFaults};
-ghost use Rattle.gob_tool.specs.Gathering.{Gathered, GaveItems, StandsBehind, TakesPiece, within_trees};
+ghost use Rattle.gob_stream.specs.Bounds.{within_trees};
+ghost use Rattle.gob_tool.specs.Gathering.{Gathered, GaveItems, StandsBehind, TakesPiece};
 ghost use Rattle.gob_tool.specs.Gathering.{CountsOnlyReads, CountsOnlyWrites};
 
 use crate::fault::ToolFault;
@@ -22,7 +23,8 @@ const PIECE: usize = 65536;
 /// Writes the JSON line of each item of a stream, and nothing else, and ends with a flush. Ok exactly at the
 /// end of a whole stream. Before a fault is answered the lines of the items before it are written; at
 /// `ToolFault::Write` a front of them may be. A flush that fails is that fault where no other came before it.
-/// The input is read in pieces of 64 KiB. What it takes in memory doesn't grow with the stream.
+/// The input is read in pieces of 64 KiB. What it takes in memory doesn't grow with the stream. No value may be deeper
+/// than the lesser of `limits.depth()` and 1000.
 pub fn run_show<R: Read, W: Write>(
     alloc: Global,
     input: &mut Input<R>,
@@ -30,7 +32,7 @@ pub fn run_show<R: Read, W: Write>(
     limits: Limits,
 ) -> Result<(), ToolFault>
     ensures shown { (bytes : List ℕ) → R.remaining input.old.reader ≡ Some bytes
-        → Shows limits bytes (R.remaining input.new.reader)
+        → Shows (within_trees limits) bytes (R.remaining input.new.reader)
         (W.contents output.old.writer) (W.contents output.new.writer) result }
     ensures reads { CountsReadFaults input.old.failures input.new.failures result }
     ensures writes { CountsWriteFaults output.old.failures output.new.failures result }
@@ -58,7 +60,7 @@ fn show_items<R: Read, W: Write>(
 ) -> Result<(), ToolFault>
     requires { lines.old.gathered.items ≡ [] }
     ensures shown { (bytes : List ℕ) → R.remaining input.old.reader ≡ Some bytes
-        → Runs limits bytes (R.remaining input.new.reader)
+        → Runs (within_trees limits) bytes (R.remaining input.new.reader)
         (Gathered (W.contents output.old.writer) (W.contents output.new.writer) lines.new.gathered.items)
         (AppendsFront (W.contents output.old.writer) (W.contents output.new.writer)) result }
     ensures reads { CountsOnlyReads input.old.failures input.new.failures result }

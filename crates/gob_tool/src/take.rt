@@ -5,7 +5,8 @@ ghost use Rattle.std.specs.Io.KnownBytes.{Appends};
 ghost use Rattle.gob_types.specs.Defined.{types};
 ghost use Rattle.gob_types.specs.Ready.{IsReady};
 ghost use Rattle.gob_stream.specs.Item.{item_view, item_views};
-ghost use Rattle.gob_tool.specs.Gathering.{GaveItems, PassesSome, CountsOnlyReads, CountsOnlyWrites, within_trees};
+ghost use Rattle.gob_stream.specs.Bounds.{within_trees};
+ghost use Rattle.gob_tool.specs.Gathering.{GaveItems, PassesSome, CountsOnlyReads, CountsOnlyWrites};
 ghost use Rattle.gob_tool.specs.Pieces.{AreSent, TakesItems};
 ghost use Rattle.gob_tool.specs.Receiver.{IsReceiver, IsSameReceiver};
 ghost use Rattle.gob_tool.specs.Showing.{AppendsFront, CountsReadFaults, CountsWriteFaults};
@@ -33,7 +34,8 @@ const PIECE: usize = 65536;
 /// `ToolFault::NoWantedType`; the input isn't read then, and nothing is written. Ok exactly at the end of a whole
 /// stream of values that match; where a value doesn't, `ToolFault::Clash` says where and why. Before a fault is
 /// answered the lines of the values before it are written; at `ToolFault::Write` a front of them may be. The run ends
-/// with a flush. Of the input it holds a piece of 64 KiB, and the item under way.
+/// with a flush. Of the input it holds a piece of 64 KiB, and the item under way. In both streams no value may be
+/// deeper than the lesser of `limits.depth()` and 1000.
 pub fn run_take<Q: Read, R: Read, W: Write>(
     alloc: Global,
     wanted: &mut Input<Q>,
@@ -43,7 +45,7 @@ pub fn run_take<Q: Read, R: Read, W: Write>(
 ) -> Result<(), ToolFault>
     ensures taken { (wanted_bytes bytes : List ℕ) → Q.remaining wanted.old.reader ≡ Some wanted_bytes
         → R.remaining input.old.reader ≡ Some bytes
-        → Takes limits wanted_bytes bytes (Q.remaining wanted.new.reader) (R.remaining input.new.reader)
+        → Takes (within_trees limits) wanted_bytes bytes (Q.remaining wanted.new.reader) (R.remaining input.new.reader)
         (W.contents output.old.writer) (W.contents output.new.writer) result }
     ensures reads { CountsTakeReads wanted.old.failures wanted.new.failures input.old.failures input.new.failures
         result }
@@ -72,10 +74,10 @@ fn take_as_wanted<Q: Read, R: Read, W: Write>(
     limits: Limits,
 ) -> Result<(), ToolFault>
     requires stands { GaveItems session.old.reading [] [] }
-    requires within { within_trees session.old.reading.limits ≡ limits }
+    requires within { session.old.reading.limits ≡ limits }
     ensures taken { (wanted_bytes bytes : List ℕ) → Q.remaining wanted.old.reader ≡ Some wanted_bytes
         → R.remaining input.old.reader ≡ Some bytes
-        → Takes limits wanted_bytes bytes (Q.remaining wanted.new.reader) (R.remaining input.new.reader)
+        → Takes (within_trees limits) wanted_bytes bytes (Q.remaining wanted.new.reader) (R.remaining input.new.reader)
         (W.contents output.old.writer) (W.contents output.new.writer) result }
     ensures reads { CountsTakeReads wanted.old.failures wanted.new.failures input.old.failures input.new.failures
         result }
@@ -101,7 +103,7 @@ fn take_values<R: Read, W: Write>(
 ) -> Result<(), ToolFault>
     requires { IsReady (types wanted.now) wanted_id }
     ensures taken { (bytes : List ℕ) → R.remaining input.old.reader ≡ Some bytes
-        → Receiving limits bytes (R.remaining input.new.reader) (types wanted.now) wanted_id
+        → Receiving (within_trees limits) bytes (R.remaining input.new.reader) (types wanted.now) wanted_id
         (λ lines. Appends (W.contents output.old.writer) (W.contents output.new.writer) lines)
         (AppendsFront (W.contents output.old.writer) (W.contents output.new.writer)) result }
     ensures reads { CountsReadFaults input.old.failures input.new.failures result }
@@ -133,7 +135,7 @@ fn take_items<R: Read, W: Write>(
     requires ready { IsReady (types wanted.now) wanted_id }
     requires lines { lines.old.gathered.items ≡ [] }
     ensures taken { (bytes : List ℕ) → R.remaining input.old.reader ≡ Some bytes
-        → Receiving limits bytes (R.remaining input.new.reader) (types wanted.now) wanted_id
+        → Receiving (within_trees limits) bytes (R.remaining input.new.reader) (types wanted.now) wanted_id
         (λ all. PassesSome (W.contents output.old.writer) (W.contents output.new.writer) all lines.new.gathered.items)
         (AppendsFront (W.contents output.old.writer) (W.contents output.new.writer)) result }
     ensures reads { CountsOnlyReads input.old.failures input.new.failures result }

@@ -4,7 +4,8 @@ ghost use Rattle.std.specs.Prelude.{◌≡◌, ◌<◌, ℕ, List, [], Some, IfO
 ghost use Rattle.gob_types.specs.Defined.{types};
 ghost use Rattle.gob_types.specs.Ready.{IsReady};
 ghost use Rattle.gob_stream.specs.Item.{item_views};
-ghost use Rattle.gob_tool.specs.Gathering.{GaveItems, within_trees};
+ghost use Rattle.gob_stream.specs.Bounds.{within_trees};
+ghost use Rattle.gob_tool.specs.Gathering.{GaveItems};
 ghost use Rattle.gob_tool.specs.Pieces.{ReadsWanted, CountsPiece, first_of};
 ghost use Rattle.gob_tool.specs.Taking.{first_type};
 ghost use Rattle.gob_tool.specs.Wanting.{FindsWanted, CountsWanted};

@@ -1,10 +1,10 @@
 use Rattle.std.proofs.Common.{◌≡◌, ◌++◌, ◌∷◌, [], arith, refl, ap, ◌∙◌}
 use Rattle.std.proofs.lemmas.Grind.{common_steps}
 use Rattle.gob_stream.specs.Item.{item_views}
-use Rattle.gob_stream.specs.Standing.{no_deeper}
+use Rattle.gob_stream.specs.Bounds.{no_deeper, within_trees}
 use Rattle.gob_stream.specs.Reading.{ReadsStream}
 use Rattle.gob_stream.proofs.SessionSteps.{passed_on, known_taken, stood_first}
-use Rattle.gob_stream.proofs.StreamReadSteps.{given_none, given_as, given_more, given_still, tree_limits, item_lost, stream_stops, stands_next, stream_ends, item_taken}
+use Rattle.gob_stream.proofs.StreamReadSteps.{given_none, given_as, given_more, given_still, item_lost, stream_stops, stands_next, stream_ends, item_taken}
 use Rattle.gob_stream.proofs.read.read_items.Goals as goal
 
 pub loop-item-init : goal.loop-item-init
@@ -20,10 +20,10 @@ loop-item-init g c =
 
 pub returns-in_err-item-clause-items : goal.returns-in_err-item-clause-items
 returns-in_err-item-clause-items g c =
-    let limits = ap (λ L. no_deeper 1000 L) c.loop-item.invariant.limits ∙ tree_limits c.requires.allowed in
+    let limits = ap (λ L. no_deeper 1000 L) c.loop-item.invariant.limits in
     given_as (λ given read bytes e.
     let p = read bytes e in
-    passed_on (λ r. ReadsStream c.args.session.now.reading.limits bytes (g.R.Read.remaining c.read_item.new.input.reader) (item_views given) r) c.from_residual.result _ c.from_residual.ensures.1
+    passed_on (λ r. ReadsStream (within_trees c.args.session.now.reading.limits) bytes (g.R.Read.remaining c.read_item.new.input.reader) (item_views given) r) c.from_residual.result _ c.from_residual.ensures.1
     (stream_stops (no_deeper 1000 c.loop-item.session.reading.limits) (item_views given) (g.R.Read.remaining c.read_item.new.input.reader) _ limits p
     (c.in_err-item.ensures.read (item_views given) p.bytes p.taken.left p.holds p.taken.known)))
     c.loop-item.invariant.given
@@ -49,17 +49,17 @@ loop-item-preserved g c =
 pub returns-in_err-map_err-clause-items : goal.returns-in_err-map_err-clause-items
 returns-in_err-map_err-clause-items g c =
     let kept : c.push.new.self.items ≡ c.loop-item.out.items = grind (arith, common_steps) in
-    let limits = ap (λ L. no_deeper 1000 L) c.loop-item.invariant.limits ∙ tree_limits c.requires.allowed in
+    let limits = ap (λ L. no_deeper 1000 L) c.loop-item.invariant.limits in
     given_still kept (given_as (λ given read bytes e.
     let p = read bytes e in
-    passed_on (λ r. ReadsStream c.args.session.now.reading.limits bytes (g.R.Read.remaining c.read_item.new.input.reader) (item_views given) r) c.from_residual-in_err-map_err.result _ c.from_residual-in_err-map_err.ensures.1
+    passed_on (λ r. ReadsStream (within_trees c.args.session.now.reading.limits) bytes (g.R.Read.remaining c.read_item.new.input.reader) (item_views given) r) c.from_residual-in_err-map_err.result _ c.from_residual-in_err-map_err.ensures.1
     (item_lost c.loop-item.session.reading c.read_item.new.self.reading given (g.R.Read.remaining c.read_item.new.input.reader) c.in-Some.item c.in-Some.is limits c.in_ok-item.ensures.limits p
     (c.in_ok-item.ensures.read (item_views given) p.bytes p.taken.left p.holds p.taken.known)))
     c.loop-item.invariant.given)
 
 pub returns-clause-items : goal.returns-clause-items
 returns-clause-items g c =
-    let limits = ap (λ L. no_deeper 1000 L) c.loop-item.invariant.limits ∙ tree_limits c.requires.allowed in
+    let limits = ap (λ L. no_deeper 1000 L) c.loop-item.invariant.limits in
     given_as (λ given read bytes e.
     let p = read bytes e in
     stream_ends c.loop-item.session.reading c.read_item.new.self.reading (g.R.Read.remaining c.read_item.new.input.reader) _ c.in_default.is limits p

@@ -1,4 +1,4 @@
-use Rattle.std.proofs.Common.{◌≡◌, ◌∙◌, [], refl, sym, subst, min, Err, arith}
+use Rattle.std.proofs.Common.{[], refl, sym, ap, subst, min, Err}
 use Rattle.gob_types.specs.Defined.{types}
 use Rattle.gob_stream.specs.ReadParts.{MaybeDefines, no_memory}
 use Rattle.gob_stream.proofs.DescriptionSteps.{wire_ready_in}
@@ -20,8 +20,7 @@ take_description-requires-clause-stands g c = record {
 pub returns-in-Ok-new-clause-read : goal.returns-in-Ok-new-clause-read
 returns-in-Ok-new-clause-read g c = λ L offset m n d a body e t k b i s r.
     let p = define_is (c.in-Ok.ensures.judged L t) refl in
-    let low : min c.args.depth 1000 ≡ c.args.depth = omega (arith, c.requires.depth) in
-    description_begins d a c.args.piece.now k i s r p c.requires.base (low ∙ sym e)
+    description_begins d a c.args.piece.now k i s r p c.requires.base (ap (λ d. min d 1000) (sym e))
     (c.take_description.ensures.read (min c.args.depth 1000) [] (c.in-Ok-new.ensures (types c.args.table.now) (wire_ready_in c.requires.base)))
 
 pub returns-in-Err-new-clause-read : goal.returns-in-Err-new-clause-read

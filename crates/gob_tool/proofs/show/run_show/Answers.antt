@@ -3,6 +3,7 @@ use Rattle.std.proofs.Common.{rules, ◌≡◌, Err, sym, subst}
 use Rattle.std.specs.Io.KnownBytes.{Appends}
 use Rattle.std.proofs.KnownBytes.{Appends-kept}
 use Rattle.gob_tool.specs.declared.fault.ToolFault.TheVariants as fault
+use Rattle.gob_stream.specs.Bounds.{within_trees}
 use Rattle.gob_tool.specs.Gathering.{Gathered}
 use Rattle.gob_tool.specs.Showing.{AppendsFront, Shows}
 use Rattle.gob_tool.proofs.ShowLaws.{begun_before, begun_as, runs_cut, runs_as, front_out, all_out, whole_front}
@@ -18,11 +19,11 @@ returns-in_err-write_to-clause-shown g c = λ bytes known.
     let new = g.W.Write.contents c.write_to.new.output.writer in
     let next = g.R.Read.remaining c.show_items-shown.new.input.reader in
     let gathered = c.show_items-shown.new.lines.gathered.items in
-    let before = begun_before c.args.limits bytes next (Gathered old mid gathered) (AppendsFront old mid)
+    let before = begun_before (within_trees c.args.limits) bytes next (Gathered old mid gathered) (AppendsFront old mid)
     c.show_items-shown.result (c.show_items-shown.ensures.shown bytes known) other in
-    runs_cut c.args.limits bytes next (Appends old new) (AppendsFront old new) c.from_residual.result _
+    runs_cut (within_trees c.args.limits) bytes next (Appends old new) (AppendsFront old new) c.from_residual.result _
     c.from_residual.ensures.1 failed.0
-    (begun_as c.args.limits bytes (Gathered old mid gathered) (AppendsFront old new) before
+    (begun_as (within_trees c.args.limits) bytes (Gathered old mid gathered) (AppendsFront old new) before
     (λ all h. front_out old mid new gathered all h failed.1))
 
 pub returns-in-Ok-clause-shown : goal.returns-in-Ok-clause-shown
@@ -34,9 +35,9 @@ returns-in-Ok-clause-shown g c = λ bytes known.
     let end = g.W.Write.contents c.flush-flushed.new.self.writer in
     let next = g.R.Read.remaining c.show_items-shown.new.input.reader in
     let gathered = c.show_items-shown.new.lines.gathered.items in
-    let before = begun_before c.args.limits bytes next (Gathered old mid gathered) (AppendsFront old mid)
+    let before = begun_before (within_trees c.args.limits) bytes next (Gathered old mid gathered) (AppendsFront old mid)
     c.show_items-shown.result (c.show_items-shown.ensures.shown bytes known) other in
-    begun_as c.args.limits bytes (Gathered old mid gathered) (AppendsFront old end) before
+    begun_as (within_trees c.args.limits) bytes (Gathered old mid gathered) (AppendsFront old end) before
     (λ all h. whole_front old end all
     (Appends-kept old new end all (all_out old mid new gathered all h c.in_ok-write_to.ensures.written)
     c.flush-flushed.ensures.bytes))
@@ -50,13 +51,13 @@ returns-clause-shown g c = λ bytes known.
     let end = g.W.Write.contents c.flush-flushed.new.self.writer in
     let next = g.R.Read.remaining c.show_items-shown.new.input.reader in
     let gathered = c.show_items-shown.new.lines.gathered.items in
-    let whole = runs_as c.args.limits bytes next (Gathered old mid gathered) (Appends old end) (AppendsFront old mid)
+    let whole = runs_as (within_trees c.args.limits) bytes next (Gathered old mid gathered) (Appends old end) (AppendsFront old mid)
     (AppendsFront old end) c.show_items-shown.result (c.show_items-shown.ensures.shown bytes known) other
     (λ all h. Appends-kept old new end all (all_out old mid new gathered all h c.in_ok-write_to.ensures.written)
     c.flush-flushed.ensures.bytes) in
     elim c.match-shown-3.branch [
-      | in_default-shown-2 w ↦ subst (λ r. Shows c.args.limits bytes next old end r)
+      | in_default-shown-2 w ↦ subst (λ r. Shows (within_trees c.args.limits) bytes next old end r)
           (sym w.result-is) whole
-      | in_default-shown w ↦ subst (λ r. Shows c.args.limits bytes next old end r)
+      | in_default-shown w ↦ subst (λ r. Shows (within_trees c.args.limits) bytes next old end r)
           (sym w.result-is) whole
     ]

@@ -3,7 +3,7 @@
 use Rattle.std.proofs.Common.{Ok, Err, ap}
 use Rattle.gob_types.specs.Defined.{types}
 use Rattle.gob_tool.specs.Fault.{reading_fault}
-use Rattle.gob_tool.specs.Gathering.{within_trees}
+use Rattle.gob_stream.specs.Bounds.{within_trees}
 use Rattle.gob_tool.proofs.GatherLaws.{gathers_as, shown_given}
 use Rattle.gob_tool.proofs.ShowLaws.{piece_stopped, piece_taken, piece_refused, piece_at}
 use Rattle.gob_tool.proofs.show.show_piece.Goals as goal

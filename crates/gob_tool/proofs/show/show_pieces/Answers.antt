@@ -2,7 +2,8 @@
 use Rattle.std.proofs.Common.{◌≡◌, ◌<◌, ◌∙◌, ◌++◌, length, take, arith, refl, length-take}
 use Rattle.std.proofs.KnownBytes.{Consumes-trans}
 use Rattle.gob_tool.specs.Fault.{reading_fault}
-use Rattle.gob_tool.specs.Gathering.{Gathered, within_trees}
+use Rattle.gob_stream.specs.Bounds.{within_trees}
+use Rattle.gob_tool.specs.Gathering.{Gathered}
 use Rattle.gob_tool.specs.Showing.{AppendsFront}
 use Rattle.gob_tool.proofs.ShowLaws.{reads_first, reads_on, ended, ended_within, read_failed, stopped, runs_at}
 use Rattle.gob_tool.proofs.ShowLaws.{read_none, finish_counts, piece_counts, reads_at, falls}

@@ -1,14 +1,12 @@
--- Where no session is had nothing is done. No limits allow deeper values than a reader of trees takes.
-use Rattle.std.proofs.Common.{[], ◌∙◌, ap}
+-- Where no session is had nothing is done.
+use Rattle.std.proofs.Common.{[]}
 use Rattle.std.proofs.KnownBytes.{Appends-nil, Appends-kept}
-use Rattle.gob_stream.proofs.PublicLaws.{limits_stay}
-use Rattle.gob_tool.specs.Gathering.{within_trees}
 use Rattle.gob_tool.specs.Taking.{stops_at_wanted}
 use Rattle.gob_tool.proofs.take.run_take.Goals as goal
 
 pub take_as_wanted-taken-requires-clause-within : goal.take_as_wanted-taken-requires-clause-within
 take_as_wanted-taken-requires-clause-within g c =
-    ap (λ L. within_trees L) c.in-Ok.ensures.limits ∙ limits_stay _ _ c.in-Ok.ensures.allowed.depth
+    c.in-Ok.ensures.limits
 
 pub returns-in-Err-clause-taken : goal.returns-in-Err-clause-taken
 returns-in-Err-clause-taken g c = λ wanted_bytes bytes known left.

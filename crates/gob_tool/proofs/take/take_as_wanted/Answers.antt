@@ -3,6 +3,7 @@ use Rattle.std.proofs.Common.{[], Ok, ap, refl, subst}
 use Rattle.std.specs.Io.KnownBytes.{Appends}
 use Rattle.std.proofs.KnownBytes.{Appends-nil, Appends-kept}
 use Rattle.gob_types.specs.Defined.{types}
+use Rattle.gob_stream.specs.Bounds.{within_trees}
 use Rattle.gob_tool.specs.Showing.{AppendsFront}
 use Rattle.gob_tool.specs.Taking.{LacksWanted, stops_at_wanted, takes_behind}
 use Rattle.gob_tool.specs.Wanting.{FindsWanted}
@@ -21,7 +22,7 @@ returns-in-Ok-clause-taken g c = λ wanted_bytes bytes known left.
     let wanted_now = g.Q.Read.remaining c.read_wanted.new.input.reader in
     let U = types c.read_wanted.new.session.reading.types in
     takes_behind (found_taken bytes now (types c.table.result.now) (Appends old new) (AppendsFront old new)
-    c.take_values.result (subst (λ L. FindsWanted L wanted_bytes wanted_now U (Ok c.in-Ok.id)) c.requires.within
+    c.take_values.result (subst (λ L. FindsWanted L wanted_bytes wanted_now U (Ok c.in-Ok.id)) (ap (λ L. within_trees L) c.requires.within)
     (c.in-Ok.ensures.found wanted_bytes known)) (ap (λ d. types d) c.table.ensures)
     (c.take_values.ensures.taken bytes left))
 
@@ -30,7 +31,7 @@ returns-in-Err-clause-taken g c = λ wanted_bytes bytes known left.
     let old = g.W.Write.contents c.args.output.now.writer in
     let new = g.W.Write.contents c.flush.new.self.writer in
     let wanted_now = g.Q.Read.remaining c.read_wanted.new.input.reader in
-    let lacks = subst (λ L. LacksWanted L wanted_bytes wanted_now c.in-Err.fault) c.requires.within
+    let lacks = subst (λ L. LacksWanted L wanted_bytes wanted_now c.in-Err.fault) (ap (λ L. within_trees L) c.requires.within)
     (c.in-Err.ensures.found wanted_bytes known) in
     stops_at_wanted lacks (record {
       unread = left;

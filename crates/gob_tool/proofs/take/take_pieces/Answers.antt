@@ -6,7 +6,8 @@ use Rattle.gob_stream.specs.declared.fault.Fault.TheVariants as reading
 use Rattle.gob_stream.specs.declared.item.Item as declared
 use Rattle.gob_stream.specs.Item.{item_views}
 use Rattle.gob_tool.specs.Fault.{reading_fault}
-use Rattle.gob_tool.specs.Gathering.{PassesSome, within_trees}
+use Rattle.gob_stream.specs.Bounds.{within_trees}
+use Rattle.gob_tool.specs.Gathering.{PassesSome}
 use Rattle.gob_tool.specs.Showing.{AppendsFront}
 use Rattle.gob_tool.proofs.TakeRuns.{piece_sent, takes_first, takes_on, nearer, takes_of, sent_of, receiving_at}
 use Rattle.gob_tool.proofs.TakeRuns.{stopped_at_items, stopped_at_read, stopped_at_reader, ended_whole}

@@ -3,6 +3,7 @@ use Rattle.std.proofs.Common.{rules, ◌≡◌, Err, sym, subst}
 use Rattle.std.specs.Io.KnownBytes.{Appends}
 use Rattle.std.proofs.KnownBytes.{Appends-kept}
 use Rattle.gob_types.specs.Defined.{types}
+use Rattle.gob_stream.specs.Bounds.{within_trees}
 use Rattle.gob_tool.specs.declared.fault.ToolFault.TheVariants as fault
 use Rattle.gob_tool.specs.Gathering.{PassesSome}
 use Rattle.gob_tool.specs.Showing.{AppendsFront}
@@ -23,12 +24,12 @@ returns-in_err-write_to-clause-taken g c = λ bytes known.
     let gathered = c.take_items-taken.new.lines.gathered.items in
     let U = types c.args.wanted.now in
     let u = c.args.wanted_id in
-    let before = received_before c.args.limits bytes next U u (λ lines. PassesSome old mid lines gathered)
+    let before = received_before (within_trees c.args.limits) bytes next U u (λ lines. PassesSome old mid lines gathered)
     (AppendsFront old mid) c.take_items-taken.result c.requires (c.take_items-taken.ensures.taken bytes known) other
     in
-    receiving_cut c.args.limits bytes next U u (Appends old new) (AppendsFront old new) c.from_residual.result _
+    receiving_cut (within_trees c.args.limits) bytes next U u (Appends old new) (AppendsFront old new) c.from_residual.result _
     c.from_residual.ensures.1 failed.0
-    (front_as c.args.limits bytes U u (λ lines. PassesSome old mid lines gathered) (AppendsFront old new) before
+    (front_as (within_trees c.args.limits) bytes U u (λ lines. PassesSome old mid lines gathered) (AppendsFront old new) before
     (λ all h. front_out old mid new gathered all h failed.1))
 
 pub returns-in-Ok-clause-taken : goal.returns-in-Ok-clause-taken
@@ -42,10 +43,10 @@ returns-in-Ok-clause-taken g c = λ bytes known.
     let gathered = c.take_items-taken.new.lines.gathered.items in
     let U = types c.args.wanted.now in
     let u = c.args.wanted_id in
-    let before = received_before c.args.limits bytes next U u (λ lines. PassesSome old mid lines gathered)
+    let before = received_before (within_trees c.args.limits) bytes next U u (λ lines. PassesSome old mid lines gathered)
     (AppendsFront old mid) c.take_items-taken.result c.requires (c.take_items-taken.ensures.taken bytes known) other
     in
-    front_as c.args.limits bytes U u (λ lines. PassesSome old mid lines gathered) (AppendsFront old end) before
+    front_as (within_trees c.args.limits) bytes U u (λ lines. PassesSome old mid lines gathered) (AppendsFront old end) before
     (λ all h. whole_front old end all
     (Appends-kept old new end all (rest_out old mid new gathered all h c.in_ok-write_to.ensures.written)
     c.flush-flushed.ensures.bytes))
@@ -61,15 +62,15 @@ returns-clause-taken g c = λ bytes known.
     let gathered = c.take_items-taken.new.lines.gathered.items in
     let U = types c.args.wanted.now in
     let u = c.args.wanted_id in
-    let whole = receiving_as c.args.limits bytes next U u (λ lines. PassesSome old mid lines gathered) (Appends old end)
+    let whole = receiving_as (within_trees c.args.limits) bytes next U u (λ lines. PassesSome old mid lines gathered) (Appends old end)
     (AppendsFront old mid) (AppendsFront old end) c.take_items-taken.result
     (c.take_items-taken.ensures.taken bytes known) other
     (λ all h. Appends-kept old new end all (rest_out old mid new gathered all h c.in_ok-write_to.ensures.written)
     c.flush-flushed.ensures.bytes) in
     elim c.match-taken-3.branch [
       | in_default-taken-2 w ↦ subst
-          (λ r. Receiving c.args.limits bytes next U u (Appends old end) (AppendsFront old end) r)
+          (λ r. Receiving (within_trees c.args.limits) bytes next U u (Appends old end) (AppendsFront old end) r)
           (sym w.result-is) whole
-      | in_default-taken w ↦ subst (λ r. Receiving c.args.limits bytes next U u (Appends old end)
+      | in_default-taken w ↦ subst (λ r. Receiving (within_trees c.args.limits) bytes next U u (Appends old end)
           (AppendsFront old end) r) (sym w.result-is) whole
     ]

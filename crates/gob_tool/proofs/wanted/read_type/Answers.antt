@@ -4,7 +4,7 @@ use Rattle.gob_types.specs.Defined.{types}
 use Rattle.gob_value.specs.declared.value.Value.{Value}
 use Rattle.gob_stream.specs.declared.item.Item as declared
 use Rattle.gob_stream.specs.Item.{item_views}
-use Rattle.gob_tool.specs.Gathering.{within_trees}
+use Rattle.gob_stream.specs.Bounds.{within_trees}
 use Rattle.gob_tool.specs.Pieces.{first_of}
 use Rattle.gob_tool.specs.Taking.{first_type}
 use Rattle.gob_tool.proofs.TakeRuns.{nearer}

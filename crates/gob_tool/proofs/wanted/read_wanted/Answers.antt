@@ -1,5 +1,5 @@
 use Rattle.gob_types.specs.Defined.{types}
-use Rattle.gob_tool.specs.Gathering.{within_trees}
+use Rattle.gob_stream.specs.Bounds.{within_trees}
 use Rattle.gob_tool.proofs.WantedLaws.{lacks_as, counts_as}
 use Rattle.gob_tool.proofs.wanted.read_wanted.Goals as goal
 

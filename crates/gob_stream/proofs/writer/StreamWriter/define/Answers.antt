@@ -1,42 +1,43 @@
 use Rattle.std.proofs.Common.{refl, ap}
 use Rattle.std.proofs.lemmas.Result.{err_from_is_err_and}
 use Rattle.gob_value.specs.View.{view}
+use Rattle.gob_stream.specs.Bounds.{within_trees}
 use Rattle.gob_stream.specs.Item.{defines}
 use Rattle.gob_stream.specs.WriterRefusal.{refused_body}
 use Rattle.gob_stream.proofs.FaultSteps.{refusal_weaker}
 use Rattle.gob_stream.proofs.WritingLaws.{id_refusal, whole_item}
-use Rattle.gob_stream.proofs.WriterSteps.{refused_writes, refused_leaves, definition_early, sent_writes, sent_leaves}
+use Rattle.gob_stream.proofs.WriterSteps.{refused_writes, refused_leaves, definition_early, trees_within, sent_writes, sent_leaves}
 use Rattle.gob_stream.proofs.writer.StreamWriter.define.Goals as goal
 
 pub returns-in_err-shape-clause-writes : goal.returns-in_err-shape-clause-writes
 returns-in_err-shape-clause-writes g c = λ items bytes T written.
     let p = err_from_is_err_and c.from_residual.result c.from_residual.ensures.1 in
     let w = c.args.self.now in
-    rw (p.1, p.2) (refused_writes w (record w { body = c.spell_definition.new.body }) items bytes T (defines c.args.id (view c.args.described.now)) _ c.in_err-shape.field-0.0 written
-    (c.in_err-shape.ensures.err written.room w.offset))
+    rw (p.1, p.2) (refused_writes (within_trees w.limits) w (record w { body = c.spell_definition.new.body }) items bytes T (defines c.args.id (view c.args.described.now)) _ c.in_err-shape.field-0.0 written
+    ((rw c.up_to-limits.ensures at c.in_err-shape.ensures.err) written.room w.offset))
 
 pub returns-in_err-finish_item-clause-writes : goal.returns-in_err-finish_item-clause-writes
 returns-in_err-finish_item-clause-writes g c = λ items bytes T written.
     let p = err_from_is_err_and c.from_residual-in_err-finish_item.result c.from_residual-in_err-finish_item.ensures.1 in
     let w = c.args.self.now in
-    let refused = rw c.deref.ensures.value at c.in_err-finish_item.ensures.err in
-    rw (p.1, p.2) (refused_writes w (record w { body = c.spell_definition.new.body; item = c.finish_item.new.item }) items bytes T (defines c.args.id (view c.args.described.now)) _ c.in_err-finish_item.field-0.0 written
-    (refusal_weaker _ (λ r. refused_body (c.in_ok-shape.ensures.ok written.room)) refused))
+    let refused = rw (c.deref.ensures.value, c.up_to-limits.ensures) at c.in_err-finish_item.ensures.err in
+    rw (p.1, p.2) (refused_writes (within_trees w.limits) w (record w { body = c.spell_definition.new.body; item = c.finish_item.new.item }) items bytes T (defines c.args.id (view c.args.described.now)) _ c.in_err-finish_item.field-0.0 written
+    (refusal_weaker _ (λ r. refused_body ((rw c.up_to-limits.ensures at c.in_ok-shape.ensures.ok) written.room)) refused))
 
 pub returns-in-Err-clause-writes : goal.returns-in-Err-clause-writes
 returns-in-Err-clause-writes g c = λ items bytes T written.
     let w = c.args.self.now in
     let spelled = record w { body = c.spell_definition.new.body; item = c.finish_item.new.item } in
     rw c.definition_fault.ensures
-    (refused_writes w (record spelled { types = c.define.new.self }) items bytes T (defines c.args.id (view c.args.described.now)) _ _ written
-    (id_refusal w.limits w.types c.args.id (view c.args.described.now) w.offset c.in-Err.fault c.in_ok-shape.ensures.known written.room c.in-Err.ensures.refused))
+    (refused_writes (within_trees w.limits) w (record spelled { types = c.define.new.self }) items bytes T (defines c.args.id (view c.args.described.now)) _ _ written
+    (id_refusal (within_trees w.limits) w.types c.args.id (view c.args.described.now) w.offset c.in-Err.fault c.in_ok-shape.ensures.known written.room c.in-Err.ensures.refused))
 
 pub returns-clause-writes : goal.returns-clause-writes
 returns-clause-writes g c = λ items bytes T written.
     let w = c.args.self.now in
-    let whole = rw c.deref.ensures.value at c.in_ok-finish_item.ensures.ok in
-    sent_writes w (record w { types = c.define.new.self; body = c.spell_definition.new.body; item = c.finish_item.new.item }) c.send.new.self items bytes T _ (defines c.args.id (view c.args.described.now)) _ _ c.send.result written
-    (record { limits = refl; offset = refl; most = c.in_default.ensures.most; table = c.in_default.ensures.defined; item = whole_item (c.in_ok-shape.ensures.ok written.room) whole })
+    let whole = rw (c.deref.ensures.value, c.up_to-limits.ensures) at c.in_ok-finish_item.ensures.ok in
+    sent_writes (within_trees w.limits) w (record w { types = c.define.new.self; body = c.spell_definition.new.body; item = c.finish_item.new.item }) c.send.new.self items bytes T _ (defines c.args.id (view c.args.described.now)) _ _ c.send.result written
+    (record { limits = refl; within = trees_within w.limits; offset = refl; most = c.in_default.ensures.most; table = c.in_default.ensures.defined; item = whole_item ((rw c.up_to-limits.ensures at c.in_ok-shape.ensures.ok) written.room) whole })
     c.send.ensures.ok c.send.ensures.behind c.send.ensures.front c.send.ensures.fault
 
 pub returns-in_err-shape-clause-leaves : goal.returns-in_err-shape-clause-leaves
