@@ -1,8 +1,8 @@
 -- What a builder is told of the tidy form of a tape, part after part.
-use Rattle.std.proofs.Common.{◌≡◌, ◌≢◌, ℕ, zero, suc, ◌+◌, ◌-◌, ◌<◌, ◌≤◌, ◌^◌, ℤ, pos, negsuc, List, [], ◌∷◌, ◌++◌, length, take, drop, reverse, get_or, set, Option, Some, None, Bool, true, false, arith, refl, sym, ap, ◌∙◌, subst, append_assoc}
+use Rattle.std.proofs.Common.{◌≡◌, ◌≢◌, ℕ, zero, suc, ◌+◌, ◌-◌, ◌<◌, ◌≤◌, ◌^◌, ◌⊎◌, inl, inr, ℤ, pos, negsuc, List, [], ◌∷◌, ◌++◌, length, take, drop, reverse, get_or, set, Option, Some, None, Bool, true, false, arith, refl, sym, ap, ◌∙◌, subst, append_assoc}
 use Rattle.std.specs.Prelude.{slice_get}
 use Rattle.std.proofs.lemmas.List.{length-take, length-drop, append-nil}
-use Rattle.std.proofs.lemmas.Option.{slice_get_within}
+use Rattle.std.proofs.lemmas.Option.{slice_get_within, same_Some}
 use Rattle.gob_types.specs.declared.basic.Basic.{Basic}
 use Rattle.gob_types.specs.declared.basic.Basic.TheVariants as basic
 use Rattle.gob_types.specs.declared.id.TypeId.{TypeId}
@@ -16,6 +16,7 @@ use Rattle.gob_value.specs.Tree as Value
 use Rattle.gob_value.specs.Written.{HasParts}
 use Rattle.gob_value.specs.Tidy.{IsZero, of_bool, of_int, of_uint, of_float, of_complex, of_bytes, of_text, IsDropped, zero_basic, empty_slice, Tidies, of_type, TidiesAs, of_basic, of_opaque, of_slice, of_array, of_map, of_struct, TidiesEach, no_element, TidiesPairs, TidiesFields, no_more}
 use Rattle.gob_value.specs.Tidy as tidy
+use Rattle.gob_value.specs.TidyLaws.{HasSmallNumbers, AllHaveSmallNumbers, PairsHaveSmallNumbers, FieldsHaveSmallNumbers}
 use Rattle.gob_read.specs.declared.telling.RawKind.{RawKind}
 use Rattle.gob_read.specs.declared.telling.RawKind.TheVariants as raw
 use Rattle.gob_read.specs.declared.telling.GroupKind.TheVariants as group
@@ -30,12 +31,13 @@ use Rattle.gob_tape.specs.declared.tidying.Open.{Open}
 use Rattle.gob_tape.specs.declared.tidying.Types.{Types}
 use Rattle.gob_tape.specs.declared.tidying.Types.TheVariants as types
 use Rattle.gob_tape.specs.Meaning.{MeansAt, MeansEach, no_part, part, MeansPairs, no_entry, entry, MeansFields, end_of_fields, next_field}
+use Rattle.gob_tape.specs.Meaning.{node, a_number, raw_bytes, a_list, a_map, a_struct}
 use Rattle.gob_tape.specs.Seeing.{unsigned_of}
 use Rattle.gob_tape.specs.Machine.State.{State}
 use Rattle.gob_tape.specs.Machine.Standing.{IsTapeOf, GoesOn}
-use Rattle.gob_tape.specs.Machine.Tidying.{tellings, each_told, pairs_told, fields_told, name_told, content_told, IsZeroContent, IsDroppedContent, IsPooled, open_to, innermost, has_field, IsNext, the_whole, an_element, a_key_or_element, a_field, turned, advanced, types_of, entered_as, entered, HasOpenEnd, TellsPart, Due, none_due, element, key_or_element, dropped, kept, Left, at_end, at_start, in_part, IsInside, Goes, Ends, none_ends, one_ends, Ended, Ending, UpTo, Reaches}
+use Rattle.gob_tape.specs.Machine.Tidying.{tellings, each_told, pairs_told, fields_told, name_told, content_told, IsZeroContent, IsDroppedContent, IsPooled, open_to, innermost, has_field, IsNext, the_whole, an_element, a_key_or_element, a_field, turned, advanced, types_of, entered_as, entered, HasOpenEnd, TellsPart, Due, none_due, element, key_or_element, dropped, kept, Left, at_end, at_start, in_part, IsInside, Goes, Ends, none_ends, one_ends, Ended, Ending, UpTo, Reaches, IsAllTold, HasSmallNumber}
 use Rattle.gob_tape.proofs.BegunLaws.{last_first, last_changed}
-use Rattle.gob_tape.proofs.MeaningLaws.{at_rises, at_within, Says, node_says}
+use Rattle.gob_tape.proofs.MeaningLaws.{at_rises, at_within, Says, node_says, has_node}
 use Rattle.gob_tape.proofs.SeeingLaws.{unsigned_signed, truth_number}
 use Rattle.gob_tape.proofs.StandingLaws.{IsWhole, whole_told}
 use Rattle.gob_tape.proofs.WritingLaws.{last_is, none_is}
@@ -264,6 +266,53 @@ raw_leaf raw.Bytes s h = h
 raw_leaf raw.Str s h = h
 raw_leaf raw.Opaque s h = h
 
+-- ---- the numbers of fields
+
+before_or_at : (k i : ℕ) → k < i + 1 → (k < i) ⊎ (k ≡ i)
+before_or_at zero zero l = inr refl
+before_or_at zero (suc i) l = inl (omega arith)
+before_or_at (suc k) zero l = absurd (omega arith)
+before_or_at (suc k) (suc i) l = elim (before_or_at k i (omega arith)) [ inl a ↦ inl (omega arith) | inr e ↦ inr (ap suc e) ]
+
+number_small : (k : Basic) (a b : ℕ) → HasSmallNumbers (number_tree k a b)
+number_small basic.Bool a b = tt
+number_small basic.Int a b = tt
+number_small basic.Uint a b = tt
+number_small basic.Float a b = tt
+number_small basic.Complex a b = tt
+number_small basic.Bytes a b = tt
+number_small basic.Str a b = tt
+number_small basic.Interface a b = tt
+
+raw_small : (k : RawKind) (s : List ℕ) → HasSmallNumbers (raw_tree k s)
+raw_small raw.Bytes s = tt
+raw_small raw.Str s = tt
+raw_small raw.Opaque s = tt
+
+-- the nodes of fields have small numbers
+abbrev AreSmall : List Node → Type 0
+AreSmall nodes = (k : ℕ) (x : Node) → slice_get nodes k ≡ Some x → HasSmallNumber x
+
+mutual
+  at_small : {nodes : List Node} {pool : List ℕ} {i j : ℕ} {f : Option ℕ} {v : Tree} → AreSmall nodes → MeansAt nodes pool i j f v → HasSmallNumbers v
+  at_small s (a_number {k = k} {a = a} {b = b} h n) = number_small k a b
+  at_small {pool = pool} s (raw_bytes {k = k} {start = start} {count = count} h l) = raw_small k (take count (drop start pool))
+  at_small s (a_list h e c m) = each_small s m
+  at_small s (a_map h e c m) = pairs_small s m
+  at_small s (a_struct h e c m) = fields_small s m
+
+  each_small : {nodes : List Node} {pool : List ℕ} {i j : ℕ} {vs : Trees} → AreSmall nodes → MeansEach nodes pool i j vs → AllHaveSmallNumbers vs
+  each_small s no_part = tt
+  each_small s (part m ms) = (at_small s m, each_small s ms)
+
+  pairs_small : {nodes : List Node} {pool : List ℕ} {i j : ℕ} {ps : Pairs} → AreSmall nodes → MeansPairs nodes pool i j ps → PairsHaveSmallNumbers ps
+  pairs_small s no_entry = tt
+  pairs_small s (entry m n ms) = (at_small s m, at_small s n, pairs_small s ms)
+
+  fields_small : {nodes : List Node} {pool : List ℕ} {i j : ℕ} {fs : Fields} → AreSmall nodes → MeansFields nodes pool i j fs → FieldsHaveSmallNumbers fs
+  fields_small s end_of_fields = tt
+  fields_small s (next_field {i = i} {f = f} m ms) = let h = has_node m in (s i (node (Some f) h.content) h.at f refl, at_small s m, fields_small s ms)
+
 -- ---- what is due
 
 module _ {T : Table} {nodes : List Node} {pool : List ℕ} where
@@ -402,21 +451,26 @@ module _ {T : Table} {t : TypeId} {nodes : List Node} {pool : List ℕ} where
   -- ---- a node
 
   pub node_tells : {i : ℕ} {os mid after : List Open} {old told new : State} {due : List Telling} (x : Node) → length nodes < 2 ^ 64 → slice_get nodes i ≡ Some x → IsInside i os
-      → ((e : TypeId) (s : Shape) → IsNext T t (innermost os) x.field e → shape_of T e ≡ Some s → TellsPart i x s.kind e pool (advanced os) mid old told) → Ended (i + 1) mid after told new
+      → ((e : TypeId) (s : Shape) → IsNext T t (innermost os) x.field e → shape_of T e ≡ Some s → HasSmallNumber x × TellsPart i x s.kind e pool (advanced os) mid old told) → Ended (i + 1) mid after told new
       → Left T t nodes pool i os due → Goes T t nodes pool i after old new due
   node_tells {i = i} {os = os} {mid = mid} {after = after} {old = old} {told = told} {new = new} x n h inside g z q = by inside g (next q (slice_get_within nodes i x h) inside)
     where
-      by : {os : List Open} {due : List Telling} → IsInside i os → ((e : TypeId) (s : Shape) → IsNext T t (innermost os) x.field e → shape_of T e ≡ Some s → TellsPart i x s.kind e pool (advanced os) mid old told)
+      is_small : {y : Node} → slice_get nodes i ≡ Some y → HasSmallNumber x → HasSmallNumber y
+      is_small {y = y} there = subst HasSmallNumber (same_Some x y (sym h ∙ there))
+
+      by : {os : List Open} {due : List Telling} → IsInside i os → ((e : TypeId) (s : Shape) → IsNext T t (innermost os) x.field e → shape_of T e ≡ Some s → HasSmallNumber x × TellsPart i x s.kind e pool (advanced os) mid old told)
           → Next T t nodes pool i os due → Goes T t nodes pool i after old new due
       by {os = os} {due = due} inside g (next_dropped {j = j} {f = f} {e = e} {s = s} {v = v} a b d m r) =
           let w = node_says x.content h m in
           let y = drops_says nodes pool i j v s.kind x.content w.1 d in
-          let c = (g e s (subst (λ f. IsNext T t (innermost os) f e) (sym w.0) a) b).drops f w.0 y.0 in
+          let o = g e s (subst (λ f. IsNext T t (innermost os) f e) (sym w.0) a) b in
+          let c = o.1.drops f w.0 y.0 in
           let k = all_end z.ends (subst (λ os. Left T t nodes pool (i + 1) os due) (sym c.0) (subst (λ j. Left T t nodes pool j (advanced os) due) y.1 r)) in
-          record { told = z.told; left = k.left; splits = k.splits; stands = subst (λ s. GoesOn s new z.told) c.1 z.stands; inside = k.inside; more = k.more }
+          record { told = z.told; left = k.left; splits = k.splits; stands = subst (λ s. GoesOn s new z.told) c.1 z.stands; inside = k.inside; more = k.more; small = λ y there. is_small there o.0 }
       by {os = os} inside g (next_kept {j = j} {f = f} {e = e} {s = s} {v = v} {w = u} {us = us} a b d p m r) =
           let w = node_says x.content h m in
-          let c = (g e s (subst (λ f. IsNext T t (innermost os) f e) (sym w.0) a) b).keeps (λ k e o. d k (sym w.0 ∙ e) (says_drops nodes pool i j v s.kind x.content w.1 o)) (says_pooled nodes pool i j v x.content w.1) in
+          let o = g e s (subst (λ f. IsNext T t (innermost os) f e) (sym w.0) a) b in
+          let c = o.1.keeps (λ k e o. d k (sym w.0 ∙ e) (says_drops nodes pool i j v s.kind x.content w.1 o)) (says_pooled nodes pool i j v x.content w.1) in
           let y = part_goes i e s x.content w.1 b p r in
           let k = all_end z.ends (subst (λ os. Left T t nodes pool (i + 1) os y.left) (sym (c.opens (ends_open nodes pool i j v x.content w.1 (at_within m) n))) y.more) in
           let front = name_told x.field ++ content_told pool x.content in
@@ -429,6 +483,7 @@ module _ {T : Table} {t : TypeId} {nodes : List Node} {pool : List ℕ} where
             stands = goes_then c.stands z.stands;
             inside = k.inside;
             more = k.more;
+            small = λ y there. is_small there o.0;
           }
 
   -- ---- the whole tape
@@ -439,7 +494,7 @@ module _ {T : Table} {t : TypeId} {nodes : List Node} {pool : List ℕ} where
   left_none (in_part d q) l h = absurd (omega (arith, left_within q))
 
   pub nothing_told : {os : List Open} {now : State} → os ≡ [] → IsTapeOf now [] → Reaches T t nodes pool 0 os now
-  nothing_told e s v w m p = rw e (record { told = []; left = tellings w; splits = refl; stands = s; inside = tt; more = at_start m p })
+  nothing_told e s v w m p = rw e (record { told = []; left = tellings w; splits = refl; stands = s; inside = tt; more = at_start m p; small = λ k x l. absurd (omega arith) })
 
   pub node_reached : {i : ℕ} {os after : List Open} {old new : State} → Reaches T t nodes pool i os old
       → ((due : List Telling) → IsInside i os → Left T t nodes pool i os due → Goes T t nodes pool i after old new due) → Reaches T t nodes pool (i + 1) after new
@@ -455,14 +510,18 @@ module _ {T : Table} {t : TypeId} {nodes : List Node} {pool : List ℕ} where
             stands = d.stands u.told u.stands;
             inside = d.inside;
             more = d.more;
+            small = λ k x l h. elim (before_or_at k i l) [ inl a ↦ u.small k x a h | inr e ↦ d.small x (subst (λ k. slice_get nodes k ≡ Some x) e h) ];
           }
 
-  pub all_told_of : {i : ℕ} {os : List Open} {now : State} → length nodes ≤ i → Reaches T t nodes pool i os now → (v w : Tree) → MeansAt nodes pool 0 (length nodes) None v → Tidies T t v w → IsTapeOf now (tellings w)
+  pub all_told_of : {i : ℕ} {os : List Open} {now : State} → length nodes ≤ i → Reaches T t nodes pool i os now → (v w : Tree) → MeansAt nodes pool 0 (length nodes) None v → Tidies T t v w → IsAllTold v w now
   all_told_of {now = now} l r v w m p =
       let u = r v w m p in
       let within = left_within u.more in
       let none = left_none u.more (omega arith) u.inside in
-      subst (IsTapeOf now) (sym (u.splits ∙ ap (λ l. u.told ++ l) none ∙ append-nil u.told)) u.stands
+      record {
+        stands = subst (IsTapeOf now) (sym (u.splits ∙ ap (λ l. u.told ++ l) none ∙ append-nil u.told)) u.stands;
+        small = at_small (λ k x h. u.small k x (let there = slice_get_within nodes k x h in omega arith) h) m;
+      }
 
 -- a tape of all tellings of a value means it
 pub tape_whole : {s : State} (v : Tree) → IsTapeOf s (tellings v) → IsWhole s v

@@ -107,19 +107,19 @@ impl TapeBuilder {
     pub(crate) fn name(&mut self, field: Option<u64>)
         ensures { GoesOn (state_of self.old) (state_of self.new) (name_told field) }
     {
-        if let Some(number) = field {
-            self.field = Some(number);
+        if let Some(next) = field {
+            self.field = Some(next);
         }
     }
 
     /// A part of these raw bytes comes.
-    fn copy_raw(&mut self, kind: RawKind, bytes: &[u8]) -> Result<(), Memory>
+    fn copy_raw(&mut self, kind: RawKind, copied: &[u8]) -> Result<(), Memory>
         ensures { OnOk result (GoesOn (state_of self.old) (state_of self.new)
-            (raw_start kind ∷ (raw_more bytes.now ∷ (leave ∷ [])))) }
+            (raw_start kind ∷ (raw_more copied.now ∷ (leave ∷ [])))) }
     {
-        let start = self.pool.len();
-        self.open(Content::Raw(kind, start, 0))?;
-        self.pool.extend_from_slice(bytes)?;
+        let first = self.pool.len();
+        self.open(Content::Raw(kind, first, 0))?;
+        self.pool.extend_from_slice(copied)?;
         self.close();
         Ok(())
     }

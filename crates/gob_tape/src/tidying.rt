@@ -9,13 +9,13 @@ ghost use Rattle.std.specs.Prelude.{length, reverse, slice_get};
 ghost use Rattle.gob_types.specs.declared.id.TypeId.{TypeId};
 ghost use Rattle.gob_types.specs.declared.kind.Shape.{Shape};
 ghost use Rattle.gob_types.specs.Table.{shape_of};
-ghost use Rattle.gob_value.specs.Tree.{Tree};
+ghost use Rattle.gob_value.specs.Tree.{Tree, depth};
+ghost use Rattle.gob_value.specs.Within.{FitsWithin};
 ghost use Rattle.gob_value.specs.Tidy.{Tidies};
 ghost use Rattle.gob_read.specs.Telling.{Telling};
 ghost use Rattle.gob_tape.specs.declared.node.Node.{Node};
 ghost use Rattle.gob_tape.specs.Meaning.{MeansAt, Means, MeansFitting};
-ghost use Rattle.gob_tape.specs.Machine.Standing.{IsTapeOf};
-ghost use Rattle.gob_tape.specs.Machine.Tidying.{tellings, IsZeroContent, IsDroppedContent, IsKept, IsPooled};
+ghost use Rattle.gob_tape.specs.Machine.Tidying.{IsAllTold, HasSmallNumber, IsZeroContent, IsDroppedContent, IsKept, IsPooled};
 ghost use Rattle.gob_tape.specs.Machine.Tidying.{HasField, IsNext, advanced, HasOpenEnd, entered, Entered};
 ghost use Rattle.gob_tape.specs.Machine.Tidying.{innermost, TellsPart};
 ghost use Rattle.gob_tape.specs.Machine.Tidying.{Left, IsInside, Goes, Ended};
@@ -83,7 +83,8 @@ fn is_dropped(kind: &Kind, content: Content) -> bool
 
 /// The type of a field of the struct of this type.
 fn field_type<S: Shapes>(shapes: &S, id: TypeId, number: u64) -> Option<TypeId>
-    ensures { (e : TypeId) → HasField (S.table shapes.now) id number e → result ≡ Some e }
+    ensures found { (e : TypeId) → HasField (S.table shapes.now) id number e → result ≡ Some e }
+    ensures small { (e : TypeId) → HasField (S.table shapes.now) id number e → number + 1 < 2 ^ 64 }
 {
     match &shapes.shape_of(id)?.kind {
         Kind::Struct { fields } => Some(fields.get(number)?.id),
@@ -98,7 +99,9 @@ fn next_type<S: Shapes>(
     last: Option<Open>,
     field: Option<u64>,
 ) -> Option<TypeId>
-    ensures { (e : TypeId) → IsNext (S.table shapes.now) id last field e → result ≡ Some e }
+    ensures found { (e : TypeId) → IsNext (S.table shapes.now) id last field e → result ≡ Some e }
+    ensures small { (e : TypeId) (f : ℕ) → IsNext (S.table shapes.now) id last field e → field ≡ Some f
+        → f + 1 < 2 ^ 64 }
 {
     match last {
         None => Some(id),
@@ -201,7 +204,7 @@ fn tell_node<S: Shapes>(
     ensures { OnOk result ((e : TypeId) (s : Shape)
         → IsNext (S.table shapes.now) id (innermost (reverse stack.old.items)) node.field e
         → shape_of (S.table shapes.now) e ≡ Some s
-        → TellsPart place node s.kind e pool.now (advanced (reverse stack.old.items))
+        → HasSmallNumber node × TellsPart place node s.kind e pool.now (advanced (reverse stack.old.items))
         (reverse stack.new.items) (state_of builder.old) (state_of builder.new)) }
 {
     let Some(id) = next_type(shapes, id, stack.last().copied(), node.field) else {
@@ -245,7 +248,7 @@ fn tidy_nodes<S: Shapes>(
     pool: &[u8],
 ) -> Result<TapeBuilder, Memory>
     ensures { IfOk result (λ builder. (v w : Tree) → MeansAt nodes.now pool.now 0 (length nodes.now) None v
-        → Tidies (S.table shapes.now) id v w → IsTapeOf (state_of builder) (tellings w)) }
+        → Tidies (S.table shapes.now) id v w → IsAllTold v w (state_of builder)) }
 {
     let mut builder = TapeBuilder::fresh(alloc)?;
     let mut stack = Vec::new(alloc);
@@ -267,8 +270,9 @@ fn tidy_nodes<S: Shapes>(
 /// int, uint, float, complex, []byte, string and slice that are 0, false or empty. All else is kept: fields of other
 /// types, whatever they hold, and each element of a list or a map. (docs/FORMAT.md, Tidy form.)
 ///
-/// The tape means a value that fits the type, however deep it is, and stays as it is. The nodes are gone over once, and
-/// nothing recurses. Beside the new tape it takes memory for the parts that are open at a time.
+/// The tape means a value that fits the type, however deep it is, and stays as it is. What the new one means fits the
+/// type too, and is no deeper. The nodes are gone over once, and nothing recurses. Beside the new tape it takes memory
+/// for the parts that are open at a time.
 pub fn tidy_tape<S: Shapes>(
     alloc: Global,
     shapes: &S,
@@ -276,8 +280,10 @@ pub fn tidy_tape<S: Shapes>(
     tape: &Tape,
 ) -> Result<Tape, Memory>
     requires { MeansFitting (S.table shapes.now) id tape.now }
-    ensures { IfOk result (λ tidied. (v w : Tree) → Means tape.now v → Tidies (S.table shapes.now) id v w
+    ensures tidy { IfOk result (λ tidied. (v w : Tree) → Means tape.now v → Tidies (S.table shapes.now) id v w
         → Means tidied w) }
+    ensures fits { IfOk result (λ tidied. (v w : Tree) → Means tape.now v → Means tidied w
+        → FitsWithin (S.table shapes.now) id (depth v) w) }
 {
     let builder = tidy_nodes(alloc, shapes, id, &tape.nodes, &tape.pool)?;
     Ok(builder.into_tape())

@@ -12,6 +12,7 @@ use Rattle.gob_value.specs.Tree.{Tree, Trees, no_tree, tree, Pairs, no_pair, pai
 use Rattle.gob_value.specs.Tree as Value
 use Rattle.gob_value.specs.Spelling.{truth}
 use Rattle.gob_value.specs.Tidy.{IsDropped, Tidies, TidiesAs}
+use Rattle.gob_value.specs.TidyLaws.{HasSmallNumbers}
 use Rattle.gob_read.specs.declared.telling.RawKind.TheVariants as raw
 use Rattle.gob_read.specs.declared.telling.GroupKind.TheVariants as group
 use Rattle.gob_read.specs.Telling.{Telling, number, raw_start, raw_more, enter, field, leave}
@@ -112,6 +113,10 @@ pub data IsNext (T : Table) (t : TypeId) : Option Open → Option ℕ → TypeId
   a_key_or_element : {end : ℕ} {a b : TypeId} → IsNext T t (Some (open_to end (types.Alternating a b))) None a
   a_field : {end f : ℕ} {r e : TypeId} → HasField T r f e → IsNext T t (Some (open_to end (types.Fields r))) (Some f) e
 
+-- one more than the number of the part, where it is a field, has 64 bits
+abbrev pub HasSmallNumber : Node → Type 0
+HasSmallNumber x = (f : ℕ) → x.field ≡ Some f → f + 1 < 2 ^ 64
+
 -- a part has begun in the innermost
 abbrev pub turned : Types → Types
 turned (types.Alternating a b) = types.Alternating b a
@@ -187,6 +192,7 @@ pub record Goes (T : Table) (t : TypeId) (nodes : List Node) (pool : List ℕ) (
   pub stands : GoesOn old new told
   pub inside : IsInside (i + 1) after
   pub more : Left T t nodes pool (i + 1) after left
+  pub small : (x : Node) → slice_get nodes i ≡ Some x → HasSmallNumber x
 
 -- the ends of the parts whose nodes end at this place
 pub data Ends (i : ℕ) : List Open → List Telling → List Open → Type 0 where
@@ -212,6 +218,12 @@ pub record UpTo (T : Table) (t : TypeId) (nodes : List Node) (pool : List ℕ) (
   pub stands : IsTapeOf now told
   pub inside : IsInside i os
   pub more : Left T t nodes pool i os left
+  pub small : (k : ℕ) (x : Node) → k < i → slice_get nodes k ≡ Some x → HasSmallNumber x
 
 abbrev pub Reaches : Table → TypeId → List Node → List ℕ → ℕ → List Open → State → Type 0
 Reaches T t nodes pool i os now = (v w : Tree) → MeansAt nodes pool 0 (length nodes) None v → Tidies T t v w → UpTo T t nodes pool i os now (tellings w)
+
+-- all of the tidy form was told, and the numbers of all fields are small
+pub record IsAllTold (v w : Tree) (now : State) : Type 0 where
+  pub stands : IsTapeOf now (tellings w)
+  pub small : HasSmallNumbers v

@@ -8,9 +8,9 @@ use Rattle.gob_tape.proofs.tape_builder.TapeBuilder.copy_raw.Goals as goal
 
 pub returns : goal.returns
 returns c = λ us t.
-    let bytes = c.args.bytes.now in
+    let bytes = c.args.copied.now in
     let k = c.args.kind in
-    let first = start_told k (c.len-start.ensures ∙ c.args.self.now.pool.ok.0) c.in_ok-open.ensures.state refl t.taped in
+    let first = start_told k (c.len-first.ensures ∙ c.args.self.now.pool.ok.0) c.in_ok-open.ensures.state refl t.taped in
     let second = more_told bytes (ap (with_pool (state_of c.open.new.self)) c.in_ok-extend_from_slice.ensures.items) refl first in
     let third = c.close.ensures.told _ _ second in
     let all : ((us ++ raw_start k ∷ []) ++ raw_more bytes ∷ []) ++ leave ∷ [] ≡ us ++ (raw_start k ∷ (raw_more bytes ∷ (leave ∷ []))) =
