@@ -32,7 +32,7 @@ seen_says {view = view} c d l e s =
 
 -- ---- numbers
 
-unsigned_signed : (a : ℕ) → unsigned_of (signed_of a) ≡ a
+pub unsigned_signed : (a : ℕ) → unsigned_of (signed_of a) ≡ a
 unsigned_signed a = by (a % 2) refl
   where
     by : (r : ℕ) → a % 2 ≡ r → unsigned_of (signed_of a) ≡ a
@@ -40,7 +40,7 @@ unsigned_signed a = by (a % 2) refl
     by (suc zero) e = let half : 2 * (a / 2) + 1 ≡ a = omega arith in ap (λ r. unsigned_of (if r == 0 then pos (a / 2) else negsuc (a / 2))) e ∙ half
     by (suc (suc r)) e = absurd (omega arith)
 
-truth_number : (a : ℕ) → a ≤ 1 → truth (a == 1) ≡ a
+pub truth_number : (a : ℕ) → a ≤ 1 → truth (a == 1) ≡ a
 truth_number zero l = refl
 truth_number (suc zero) l = refl
 truth_number (suc (suc a)) l = absurd (omega arith)

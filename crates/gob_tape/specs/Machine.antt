@@ -6,3 +6,4 @@ pub mod Standing
 pub mod View
 pub mod Writing
 pub mod Values
+pub mod Tidying

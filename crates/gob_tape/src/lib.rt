@@ -26,10 +26,12 @@ mod raw;
 mod spelling;
 mod tape;
 mod tape_builder;
+mod tidying;
 mod values;
 mod view;
 
 pub use kind::ValueKind;
 pub use tape::Tape;
 pub use tape_builder::TapeBuilder;
+pub use tidying::tidy_tape;
 pub use view::{Children, View};

@@ -1,11 +1,15 @@
 //! Building the tape of a value.
 
-ghost use Rattle.std.specs.Prelude.{◌≡◌, ◌+◌, ◌<◌, ◌^◌, OnOk, Some, length, reverse, slice_get};
+ghost use Rattle.std.specs.Prelude.{◌≡◌, ℕ, ◌+◌, ◌<◌, ◌^◌, List, [], ◌∷◌, ◌++◌, OnOk, Some, length, reverse, slice_get};
+ghost use Rattle.gob_read.specs.Telling.{Telling, raw_start, raw_more, leave};
+ghost use Rattle.gob_tape.specs.Machine.Standing.{AreTaped, GoesOn};
+ghost use Rattle.gob_tape.specs.Machine.Tidying.{name_told, content_told, IsPooled};
 ghost use Rattle.gob_tape.specs.Machine.State.{pushed, opened, added, with_begun, counted, ended_in};
 ghost use Rattle.gob_tape.specs.declared.node.Node.{Node};
 ghost use Rattle.gob_tape.specs.Machine.View.{state_of};
 
 use crate::node::{Begun, Content, Node};
+use crate::raw::raw_bytes;
 use crate::tape::Tape;
 use gob_num::Memory;
 use gob_read::{Builder, GroupKind, RawKind};
@@ -86,6 +90,65 @@ impl TapeBuilder {
             node.content = node.content.ended(begun, nodes, pool);
         }
     }
+
+    /// The innermost open part ends.
+    pub(crate) fn close(&mut self)
+        ensures told { (us : List Telling) (held : ℕ) → AreTaped (state_of self.old) held us
+            → AreTaped (state_of self.new) held (us ++ leave ∷ []) }
+        ensures held { self.new.held ≡ self.old.held }
+    {
+        if let Some(begun) = self.begun.pop() {
+            self.end(begun);
+            self.count();
+        }
+    }
+
+    /// The number of the next part, where it is a field of a struct.
+    pub(crate) fn name(&mut self, field: Option<u64>)
+        ensures { GoesOn (state_of self.old) (state_of self.new) (name_told field) }
+    {
+        if let Some(next) = field {
+            self.field = Some(next);
+        }
+    }
+
+    /// A part of these raw bytes comes.
+    fn copy_raw(&mut self, kind: RawKind, copied: &[u8]) -> Result<(), Memory>
+        ensures { OnOk result (GoesOn (state_of self.old) (state_of self.new)
+            (raw_start kind ∷ (raw_more copied.now ∷ (leave ∷ [])))) }
+    {
+        let first = self.pool.len();
+        self.open(Content::Raw(kind, first, 0))?;
+        self.pool.extend_from_slice(copied)?;
+        self.close();
+        Ok(())
+    }
+
+    /// A part comes that has this content in a tape with this pool. It stays open where it has parts.
+    pub(crate) fn begin(&mut self, content: Content, pool: &[u8]) -> Result<(), Memory>
+        ensures { OnOk result (IsPooled pool.now content
+            → GoesOn (state_of self.old) (state_of self.new) (content_told pool.now content)) }
+    {
+        match content {
+            Content::Number(kind, first, second) => self.add(Content::Number(kind, first, second)),
+            Content::Raw(kind, start, count) => self.copy_raw(kind, raw_bytes(pool, start, count)),
+            Content::Group(kind, _, _) => self.open(Content::Group(kind, 0, 0)),
+        }
+    }
+
+    /// The tape of what was told.
+    pub(crate) fn into_tape(self) -> Tape
+        requires { 0 < length self.nodes.items }
+        ensures nodes { result.nodes ≡ self.nodes }
+        ensures pool { result.pool ≡ self.pool }
+        ensures deep { result.depth ≡ self.deepest }
+    {
+        Tape {
+            nodes: self.nodes,
+            pool: self.pool,
+            depth: self.deepest,
+        }
+    }
 }
 
 #[tactic(auto, using(gob_read::proofs::CountLaws::counting))]
@@ -151,10 +214,7 @@ impl Builder for TapeBuilder {
     }
 
     fn leave(&mut self) -> Result<(), Memory> {
-        if let Some(begun) = self.begun.pop() {
-            self.end(begun);
-            self.count();
-        }
+        self.close();
         Ok(())
     }
 
@@ -163,10 +223,6 @@ impl Builder for TapeBuilder {
     }
 
     fn take(self) -> Tape {
-        Tape {
-            nodes: self.nodes,
-            pool: self.pool,
-            depth: self.deepest,
-        }
+        self.into_tape()
     }
 }

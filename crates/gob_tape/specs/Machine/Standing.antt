@@ -1,6 +1,6 @@
 -- Which lists of tellings a builder of tapes stands for.
 -- (docs/FORMAT.md, Tapes.)
-use Rattle.std.specs.Prelude.{◌≡◌, ℕ, ◌+◌, max, List, [], ◌∷◌, Option, Some, None, length}
+use Rattle.std.specs.Prelude.{◌≡◌, ℕ, ◌+◌, max, List, [], ◌∷◌, ◌++◌, Option, Some, None, length}
 use Rattle.gob_value.specs.Tree.{Tree, depth, trees_depth, pairs_depth, fields_depth}
 use Rattle.gob_value.specs.View.{trees_of, pairs_of, fields_of}
 use Rattle.gob_read.specs.Telling.{Telling}
@@ -41,3 +41,12 @@ pub data Shows (s : State) : List Part → Option Tree → Type 0 where
 pub record AreTaped (s : State) (held : ℕ) (us : List Telling) : Type 0 where
   pub shown : MayAllCome no_work us → Shows s (all_told no_work us).parts (all_told no_work us).whole
   pub count : held ≡ parts_told us + raw_told us
+
+-- the state is what the tellings make
+pub record IsTapeOf (s : State) (us : List Telling) : Type 0 where
+  pub held : ℕ
+  pub taped : AreTaped s held us
+
+-- the second state is what the first is with these tellings behind its own
+abbrev pub GoesOn : State → State → List Telling → Type 0
+GoesOn old new ws = (us : List Telling) → IsTapeOf old us → IsTapeOf new (us ++ ws)

@@ -1,0 +1,18 @@
+use Rattle.std.proofs.Common.{◌≡◌, ◌∙◌, ◌+◌, ◌∷◌, [], ◌++◌, length, ap, refl, subst, append_assoc}
+use Rattle.gob_read.specs.Telling.{raw_start, raw_more, leave}
+use Rattle.gob_tape.specs.Machine.View.{state_of}
+use Rattle.gob_tape.specs.Machine.State.{with_pool}
+use Rattle.gob_tape.specs.Machine.Standing.{IsTapeOf}
+use Rattle.gob_tape.proofs.StandingLaws.{start_told, more_told}
+use Rattle.gob_tape.proofs.tape_builder.TapeBuilder.copy_raw.Goals as goal
+
+pub returns : goal.returns
+returns c = λ us t.
+    let bytes = c.args.copied.now in
+    let k = c.args.kind in
+    let first = start_told k (c.len-first.ensures ∙ c.args.self.now.pool.ok.0) c.in_ok-open.ensures.state refl t.taped in
+    let second = more_told bytes (ap (with_pool (state_of c.open.new.self)) c.in_ok-extend_from_slice.ensures.items) refl first in
+    let third = c.close.ensures.told _ _ second in
+    let all : ((us ++ raw_start k ∷ []) ++ raw_more bytes ∷ []) ++ leave ∷ [] ≡ us ++ (raw_start k ∷ (raw_more bytes ∷ (leave ∷ []))) =
+    append_assoc (us ++ raw_start k ∷ []) (raw_more bytes ∷ []) (leave ∷ []) ∙ append_assoc us (raw_start k ∷ []) (raw_more bytes ∷ (leave ∷ [])) in
+    subst (IsTapeOf (state_of c.close.new.self)) all (record { held = t.held + 1 + length bytes; taped = third })
