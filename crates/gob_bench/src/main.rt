@@ -1,9 +1,8 @@
 //! Measures the reader of bodies and the definitions of types.
 //!
-//! `gob_bench` reads each of its bodies to counts and to trees, whole and in pieces, and prints what it counted.
-//! `gob_bench time` prints how fast it was too. `gob_bench types` prints how long definitions take in several orders.
-//! `gob_bench write NAME` writes a body to standard output, which the C
-//! program `bench/walk.c` walks.
+//! `gob_bench` reads each of its bodies to counts, whole and in pieces, and prints what it counted. `gob_bench time` prints
+//! how fast they are read to counts, to tapes and to trees, and `gob_bench types` how long definitions take in several orders.
+//! `gob_bench write NAME` writes a body to standard output, which the C program `bench/walk.c` walks.
 #![tactic(auto)]
 
 mod bodies;
@@ -16,6 +15,7 @@ use bodies::Body;
 use defining::time_orders;
 use fault::Fault;
 use gob_read::{Builder, CheckBuilder, Counts, TreeBuilder};
+use gob_tape::TapeBuilder;
 use gob_types::Table;
 use reading::{read, table};
 use std::env;
@@ -105,9 +105,12 @@ fn time_all(rt: &HostRuntime) -> Result<(), Fault> {
             ("byte by byte", 1),
         ] {
             let counts = speed::<CheckBuilder>(rt, &types, body, bytes, length)?;
+            let tape = speed::<TapeBuilder>(rt, &types, body, bytes, length)?;
             let tree = speed::<TreeBuilder>(rt, &types, body, bytes, length)?;
             let name = body.name();
-            println!(rt; "{name}, {pieces}: counts {counts} MB/s, tree {tree} MB/s")?;
+            println!(rt;
+                "{name}, {pieces}: counts {counts} MB/s, tape {tape} MB/s, tree {tree} MB/s"
+            )?;
         }
     }
     Ok(())
