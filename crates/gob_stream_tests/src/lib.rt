@@ -3,6 +3,8 @@
 #![tactic(auto)]
 
 #[cfg(test)]
+mod deep_tests;
+#[cfg(test)]
 mod devices;
 #[cfg(test)]
 mod memory_tests;
