@@ -1,5 +1,5 @@
-//! Tests of `gob_tape` by its public calls: tapes of bodies of each shape, read in pieces, their views, their spelling
-//! and their values, and the same where memory may be refused.
+//! Tests of `gob_tape` by its public calls: tapes of bodies of each shape, read in pieces, their views, their spelling,
+//! their values and their tidy forms, and the same where memory may be refused.
 //!
 //! Rows are lines of text, one for each body:
 //!
@@ -16,6 +16,8 @@ mod reading;
 mod row;
 #[cfg(test)]
 mod tapes;
+#[cfg(test)]
+mod tidied;
 #[cfg(test)]
 mod types;
 #[cfg(test)]

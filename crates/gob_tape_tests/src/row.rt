@@ -29,7 +29,7 @@ pub(crate) struct Body {
 impl Body {
     /// The body of a row: its type, and its bytes in hexadecimal.
     pub(crate) fn of(alloc: Global, row: &str) -> Result<Body, Memory> {
-        let bytes = bytes(alloc, row)?;
+        let bytes = bytes(alloc, field_of(row, 1))?;
         Ok(Body {
             id: number(field_of(row, 0)),
             length: bytes.len() as u64,
@@ -39,11 +39,16 @@ impl Body {
     }
 }
 
-// The bytes of a row, in hexadecimal.
-fn bytes(alloc: Global, row: &str) -> Result<Vec<u8>, Memory> {
+/// The bytes that the words give, each in hexadecimal.
+pub(crate) fn bytes(alloc: Global, words: &str) -> Result<Vec<u8>, Memory> {
     let mut bytes = Vec::new(alloc);
-    for word in field_of(row, 1).split_whitespace() {
+    for word in words.split_whitespace() {
         bytes.push(u8::from_str_radix(word, 16).unwrap_or(u8::MAX))?;
     }
     Ok(bytes)
+}
+
+/// Whether this is the body but for its tag.
+pub(crate) fn is_behind_tag(body: &[u8], spelling: &[u8]) -> bool {
+    body.ends_with(spelling) && spelling.len() + 1 >= body.len()
 }

@@ -1,7 +1,7 @@
 //! Tapes of bodies of each shape, in pieces.
 
 use crate::reading::read;
-use crate::row::{Body, field_of, number};
+use crate::row::{Body, field_of, is_behind_tag, number};
 use crate::types::table;
 use crate::views::are_parts;
 use gob_num::Memory;
@@ -92,12 +92,7 @@ fn is_spelled(alloc: Global, body: &Body, tape: &Tape) -> Result<bool, Memory> {
             Ok(false)
         };
     }
-    Ok(is_behind_tag(body, out.get(1..).unwrap_or(&[])))
-}
-
-// Whether these are the body's bytes, but for the tag.
-fn is_behind_tag(body: &Body, spelling: &[u8]) -> bool {
-    body.bytes.ends_with(spelling) && spelling.len() + 1 >= body.bytes.len()
+    Ok(is_behind_tag(&body.bytes, out.get(1..).unwrap_or(&[])))
 }
 
 // Whether the tape's value has this spelling.
@@ -112,7 +107,7 @@ fn is_value(alloc: Global, table: &Table, body: &Body, tape: &Tape) -> Result<bo
 fn is_respelled(alloc: Global, table: &Table, body: &Body, value: &Value) -> Result<bool, Memory> {
     let mut out = Vec::new(alloc);
     match spell(alloc, table, TypeId(body.id), value, 1000, &mut out) {
-        Ok(()) => Ok(is_behind_tag(body, &out)),
+        Ok(()) => Ok(is_behind_tag(&body.bytes, &out)),
         Err(SpellFault::Memory) => Err(Memory),
         Err(_) => Ok(false),
     }

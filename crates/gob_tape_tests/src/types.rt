@@ -10,13 +10,14 @@ enum Form {
     Empty,
     Struct(u64, u64),
     Slice(u64),
+    Array(u64, u64),
     Map(u64, u64),
     Opaque,
     Every,
 }
 
 // The types of the rows.
-const TYPES: [(u64, Form); 10] = [
+const TYPES: [(u64, Form); 19] = [
     // two ints
     (65, Form::Struct(2, 2)),
     // an int and another such struct
@@ -35,6 +36,20 @@ const TYPES: [(u64, Form); 10] = [
     (73, Form::Opaque),
     // with a field of each kind
     (74, Form::Every),
+    // two ints, and a list of them
+    (75, Form::Array(2, 2)),
+    (76, Form::Struct(75, 77)),
+    (77, Form::Slice(2)),
+    // no ints
+    (78, Form::Array(2, 0)),
+    (79, Form::Struct(78, 2)),
+    // from ints to structs
+    (80, Form::Map(2, 65)),
+    (81, Form::Slice(65)),
+    // two strings
+    (82, Form::Struct(6, 6)),
+    // a complex number and a float
+    (83, Form::Struct(7, 4)),
 ];
 
 // The types of those fields. The last is the struct's own.
@@ -72,6 +87,10 @@ fn kind_of(alloc: Global, form: Form) -> Result<Kind, AllocError> {
         Form::Empty => fields(alloc, &[])?,
         Form::Struct(first, second) => fields(alloc, &[first, second])?,
         Form::Slice(elem) => Kind::Slice { elem: TypeId(elem) },
+        Form::Array(elem, len) => Kind::Array {
+            elem: TypeId(elem),
+            len,
+        },
         Form::Map(key, elem) => Kind::Map {
             key: TypeId(key),
             elem: TypeId(elem),
