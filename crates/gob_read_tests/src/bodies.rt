@@ -95,8 +95,8 @@ fn is_accepted(alloc: Global, table: &Table, row: &str) -> Result<bool, Memory> 
     Ok(true)
 }
 
-// Whether these parts and raw bytes are counted.
-fn is_counted(
+/// Whether these parts and raw bytes are counted.
+pub(crate) fn is_counted(
     alloc: Global,
     table: &Table,
     body: &Body,
@@ -110,8 +110,13 @@ fn is_counted(
     }
 }
 
-// Whether a value is built whose spelling is the body's, behind its tag.
-fn is_built(alloc: Global, table: &Table, body: &Body, piece: usize) -> Result<bool, Memory> {
+/// Whether a value is built whose spelling is the body's, behind its tag.
+pub(crate) fn is_built(
+    alloc: Global,
+    table: &Table,
+    body: &Body,
+    piece: usize,
+) -> Result<bool, Memory> {
     match read::<TreeBuilder>(alloc, table, body, piece) {
         Ok(Some(value)) => is_respelled(alloc, table, body, &value),
         Err(Stop::Memory) => Err(Memory),
@@ -133,8 +138,8 @@ fn is_refused(alloc: Global, table: &Table, row: &str) -> Result<bool, Memory> {
     let body = Body::of(alloc, row)?;
     let due = numbers(alloc, row, 2)?;
     for piece in PIECES {
-        if !is_refusal(read::<CheckBuilder>(alloc, table, &body, piece).err(), &due)
-            || !is_refusal(read::<TreeBuilder>(alloc, table, &body, piece).err(), &due)
+        if !is_refusal(read::<CheckBuilder>(alloc, table, &body, piece).err(), &due)?
+            || !is_refusal(read::<TreeBuilder>(alloc, table, &body, piece).err(), &due)?
         {
             return Ok(false);
         }
@@ -142,7 +147,8 @@ fn is_refused(alloc: Global, table: &Table, row: &str) -> Result<bool, Memory> {
     Ok(true)
 }
 
-fn is_refusal(stop: Option<Stop>, due: &[u64]) -> bool {
+/// Whether it is the refusal with this number, place and seen.
+pub(crate) fn is_refusal(stop: Option<Stop>, due: &[u64]) -> Result<bool, Memory> {
     match stop {
         Some(
             Stop::Refused {
@@ -150,8 +156,9 @@ fn is_refusal(stop: Option<Stop>, due: &[u64]) -> bool {
                 seen,
                 reason,
             },
-        ) => due == [u64::from(reason.number()), place, seen].as_slice(),
-        _ => false,
+        ) => Ok(due == [u64::from(reason.number()), place, seen].as_slice()),
+        Some(Stop::Memory) => Err(Memory),
+        _ => Ok(false),
     }
 }
 

@@ -1,5 +1,5 @@
-//! Tests of `gob_read` by its public calls: bodies of each shape, whole and in pieces, bodies that are refused, how
-//! much is held of a body under way, and reading where memory may be refused.
+//! Tests of `gob_read` by its public calls: bodies of each shape, whole and in pieces, bodies that are refused, values as
+//! deep as builders take them, how much is held of a body under way, and reading where memory may be refused.
 //!
 //! Rows are lines of text, one for each body:
 //!
@@ -10,6 +10,8 @@
 
 #[cfg(test)]
 mod bodies;
+#[cfg(test)]
+mod deep;
 #[cfg(test)]
 mod held;
 #[cfg(test)]

@@ -3,7 +3,7 @@
 
 use crate::devices::Small;
 use crate::sessions::feed_both;
-use crate::values::{VALUES, is_written};
+use crate::values::{VALUES, is_written, is_written_spelled};
 use gob_stream::{Fault, Input, Item, Limits, Output, WriteFault, read_stream, write_stream};
 use gob_value::Value;
 use std::alloc::Global;
@@ -109,6 +109,17 @@ fn writing_wants_memory(rt: HostRuntime) {
     for (row, (id, bytes)) in VALUES.iter().enumerate() {
         let is_wrong = is_written(rt.alloc(), row, *id, bytes) == Ok(false);
         assert!(rt; !is_wrong, "row {row}");
+    }
+}
+
+// One with the tag and one without it.
+#[test]
+fn writing_spelled_values_wants_memory(rt: HostRuntime) {
+    for (row, (id, bytes)) in VALUES.iter().enumerate() {
+        if row > 6 {
+            let is_wrong = is_written_spelled(rt.alloc(), row, *id, bytes) == Ok(false);
+            assert!(rt; !is_wrong, "row {row}");
+        }
     }
 }
 

@@ -62,15 +62,25 @@ fn put_spelled(alloc: Global, small: &mut Small, id: u64, value: &Value) -> Resu
     writer.put_spelled(alloc, &mut output, TypeId(id), &spelling)
 }
 
-/// Whether the value of this row is written as these bytes, as it is and by its spelling. Nothing is written for want
-/// of memory.
+/// Whether the value of this row is written as these bytes. Nothing is written for want of memory.
 pub(crate) fn is_written(alloc: Global, row: usize, id: u64, bytes: &[u8]) -> Result<bool, Memory> {
     let value = value_of(alloc, row)?;
-    let mut put = Small::new();
-    let mut spelled = Small::new();
-    let is_put = put_one(alloc, &mut put, id, &value);
-    let is_spelled = put_spelled(alloc, &mut spelled, id, &value);
-    Ok(is_right(is_put, &put, bytes)? && is_right(is_spelled, &spelled, bytes)?)
+    let mut small = Small::new();
+    let answer = put_one(alloc, &mut small, id, &value);
+    is_right(answer, &small, bytes)
+}
+
+/// Whether it is so by its spelling.
+pub(crate) fn is_written_spelled(
+    alloc: Global,
+    row: usize,
+    id: u64,
+    bytes: &[u8],
+) -> Result<bool, Memory> {
+    let value = value_of(alloc, row)?;
+    let mut small = Small::new();
+    let answer = put_spelled(alloc, &mut small, id, &value);
+    is_right(answer, &small, bytes)
 }
 
 // Whether these bytes were written, or none for want of memory.

@@ -1,7 +1,7 @@
 //! What no proof shows of writers: the bytes of the documented rows, that each call succeeds, and writers that fail.
 
 use crate::devices::{Device, Wrong};
-use crate::values::{VALUES, is_written};
+use crate::values::{VALUES, is_written, is_written_spelled};
 use gob_stream::{
     Input, Item, Limits, Output, StreamWriter, WriteFault, WriteStop, read_stream, write_stream,
 };
@@ -16,6 +16,8 @@ fn values_are_the_documented_bytes(rt: HostRuntime) {
     for (row, (id, bytes)) in VALUES.iter().enumerate() {
         let is_right = is_written(rt.alloc(), row, *id, bytes) == Ok(true);
         assert!(rt; is_right, "row {row}");
+        let is_right = is_written_spelled(rt.alloc(), row, *id, bytes) == Ok(true);
+        assert!(rt; is_right, "row {row} by its spelling");
     }
 }
 

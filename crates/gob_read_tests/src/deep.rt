@@ -1,0 +1,120 @@
+//! Slices in slices, as deep as a builder takes them, and one deeper.
+
+use crate::bodies::{is_built, is_counted, is_refusal};
+use crate::reading::read;
+use crate::row::Body;
+use crate::types::table;
+use gob_num::Memory;
+use gob_read::{Builder, CheckBuilder, TreeBuilder};
+use gob_types::Table;
+use std::alloc::Global;
+use std::test::*;
+
+// The type of the slices, a slice of itself.
+const NEST: u64 = 68;
+
+// How deep the slices go, what the limit is, and where they are refused, if they are. The tag is one byte, and each
+// slice but the last begins with one byte more.
+#[derive(Clone, Copy)]
+struct Row(u64, u64, Option<u64>);
+
+static COUNTED: [Row; 8] = [
+    Row(2000, 65536, None),
+    Row(65536, 65536, None),
+    Row(65536, u64::MAX, None),
+    Row(65537, 65536, Some(65537)),
+    Row(65537, u64::MAX, Some(65537)),
+    Row(65536, 65535, Some(65536)),
+    Row(2000, 1000, Some(1001)),
+    Row(2000, 1, Some(2)),
+];
+
+static BUILT: [Row; 5] = [
+    Row(1000, 1000, None),
+    Row(1000, 65536, None),
+    Row(1001, 65536, Some(1001)),
+    Row(65536, u64::MAX, Some(1001)),
+    Row(1000, 999, Some(1000)),
+];
+
+// The body of so many slices, each but the innermost with the next one as its element.
+fn nested(alloc: Global, depth: u64, limit: u64) -> Result<Body, Memory> {
+    let mut bytes = Vec::new(alloc);
+    bytes.push(0)?;
+    for _ in 1..depth {
+        bytes.push(1)?;
+    }
+    bytes.push(0)?;
+    Ok(Body {
+        id: NEST,
+        length: bytes.len() as u64,
+        depth: limit,
+        bytes,
+    })
+}
+
+// Whether such a builder is refused the body there as too deep.
+fn is_too_deep<B: Builder>(
+    alloc: Global,
+    table: &Table,
+    body: &Body,
+    place: u64,
+) -> Result<bool, Memory> {
+    let stop = read::<B>(alloc, table, body, usize::MAX).err();
+    is_refusal(stop, &[17, place, place])
+}
+
+// Whether a builder of counts takes the slices of the row, or is refused them there.
+fn are_counted(alloc: Global, table: &Table, row: Row) -> Result<bool, Memory> {
+    let Row(depth, limit, refused) = row;
+    let body = nested(alloc, depth, limit)?;
+    let Some(place) = refused else {
+        return is_counted(alloc, table, &body, &[depth, 0], usize::MAX);
+    };
+    is_too_deep::<CheckBuilder>(alloc, table, &body, place)
+}
+
+// Whether a builder of trees does.
+fn are_built(alloc: Global, table: &Table, row: Row) -> Result<bool, Memory> {
+    let Row(depth, limit, refused) = row;
+    let body = nested(alloc, depth, limit)?;
+    let Some(place) = refused else {
+        return is_built(alloc, table, &body, usize::MAX);
+    };
+    is_too_deep::<TreeBuilder>(alloc, table, &body, place)
+}
+
+#[test]
+fn counts_are_made_down_to_65536(rt: HostRuntime) -> Result<(), Fail> {
+    let table = table(rt.alloc())?;
+    for (i, row) in COUNTED.iter().enumerate() {
+        assert!(rt;
+            are_counted(rt.alloc(), &table, *row) == Ok(true),
+            "row {i}"
+        );
+    }
+    Ok(())
+}
+
+#[test]
+fn trees_are_made_down_to_1000(rt: HostRuntime) -> Result<(), Fail> {
+    let table = table(rt.alloc())?;
+    for (i, row) in BUILT.iter().enumerate() {
+        assert!(rt; are_built(rt.alloc(), &table, *row) == Ok(true), "row {i}");
+    }
+    Ok(())
+}
+
+// Run by tools/refuse-memory with each allocation refused in turn: the right answer, or want of memory.
+#[test]
+fn deep_reading_wants_memory(rt: HostRuntime) {
+    let Ok(table) = table(rt.alloc()) else {
+        return;
+    };
+    for (i, row) in COUNTED.iter().enumerate() {
+        assert!(rt;
+            are_counted(rt.alloc(), &table, *row) != Ok(false),
+            "row {i}"
+        );
+    }
+}
