@@ -21,7 +21,7 @@ use Rattle.gob_tape.specs.Meaning.{node, MeansAt, MeansEach, no_part, part, Mean
 use Rattle.gob_tape.specs.Seeing.{kind_of, bytes_of, numbers_of, unsigned_of, elements, alternating, present, parts_of, Sees, AreParts, no_more, one_more, Gives, GivesNext, gives_none, gives_one}
 use Rattle.gob_tape.specs.Machine.State.{extent_of}
 use Rattle.gob_tape.specs.declared.view.Children.{Children}
-use Rattle.gob_tape.proofs.MeaningLaws.{Says, node_says, at_rises, at_within}
+use Rattle.gob_tape.proofs.MeaningLaws.{Says, node_says, at_rises, at_within, at_one}
 
 -- the node in its place says what the part is
 pub seen_says : {view : View} {f : Option ℕ} {v : Tree} (c : Content) (d : Node) → view.place < length view.nodes.now → (get_or view.nodes.now view.place d).content ≡ c → (s : Sees view f v)
@@ -140,6 +140,16 @@ parts_rise (one_more m ms) = omega (arith, at_rises m, parts_rise ms)
 
 parts_within : {nodes : List Node} {pool : List ℕ} {i j : ℕ} {f : Option ℕ} {v : Tree} {xs : List (Option ℕ × Tree)} → AreParts nodes pool i j ((f, v) ∷ xs) → (i < j) × (i < length nodes)
 parts_within (one_more m ms) = (omega (arith, at_rises m, parts_rise ms), omega (arith, at_rises m, at_within m))
+
+-- two lists of parts between two places are one
+pub parts_one : {nodes : List Node} {pool : List ℕ} {i j k : ℕ} {xs ys : List (Option ℕ × Tree)} → AreParts nodes pool i j xs → AreParts nodes pool i k ys → j ≡ k → xs ≡ ys
+parts_one no_more no_more e = refl
+parts_one no_more (one_more n ns) e = absurd (omega (arith, at_rises n, parts_rise ns))
+parts_one (one_more m ms) no_more e = absurd (omega (arith, at_rises m, parts_rise ms))
+parts_one {nodes = nodes} {pool = pool} {k = k} (one_more {f = f} {v = v} {xs = xs} m ms) (one_more {f = g} {v = w} {xs = ys} n ns) e =
+    let x = at_one m n in
+    let rest = parts_one ms (subst (λ i. AreParts nodes pool i k ys) (sym x.end) ns) e in
+    ap (λ f. (f, v) ∷ xs) x.field ∙ ap (λ v. (g, v) ∷ xs) x.value ∙ ap (λ l. (g, w) ∷ l) rest
 
 -- no part is left at the end
 pub none_gives : (old : Children) (xs : List (Option ℕ × Tree)) → (old.end ≤ old.place) ⊎ (length old.nodes.now ≤ old.place) → Gives old xs → GivesNext old old None

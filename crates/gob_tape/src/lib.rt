@@ -16,6 +16,7 @@
 //! - [`TapeBuilder`] makes a [`Tape`] while a body is read.
 //! - [`Tape::root`] is a [`View`] of the whole value, and [`View::children`] goes over the views of its parts.
 //! - [`Tape::spell_tape`] appends the spelling, in one pass over the nodes, and [`Tape::to_value`] makes the value.
+//! - [`tidy_tape`] makes a tape of the tidy form of a value of a type.
 //! - [`laws`] has what the definitions in `specs/` entail: a tape means one value.
 #![tactic(auto)]
 

@@ -15,7 +15,7 @@ ghost use Rattle.gob_value.specs.Tidy.{Tidies};
 ghost use Rattle.gob_read.specs.Telling.{Telling};
 ghost use Rattle.gob_tape.specs.declared.node.Node.{Node};
 ghost use Rattle.gob_tape.specs.Meaning.{MeansAt, Means, MeansFitting};
-ghost use Rattle.gob_tape.specs.Machine.Tidying.{IsAllTold, HasSmallNumber, IsZeroContent, IsDroppedContent, IsKept, IsPooled};
+ghost use Rattle.gob_tape.specs.Machine.Tidying.{IsAllTold, HasSmallNumber, IsZeroContent, IsDroppedContent};
 ghost use Rattle.gob_tape.specs.Machine.Tidying.{HasField, IsNext, advanced, HasOpenEnd, entered, Entered};
 ghost use Rattle.gob_tape.specs.Machine.Tidying.{innermost, TellsPart};
 ghost use Rattle.gob_tape.specs.Machine.Tidying.{Left, IsInside, Goes, Ended};

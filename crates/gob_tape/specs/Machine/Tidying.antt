@@ -1,6 +1,7 @@
 -- A tape that is tidied: what a builder is told of the tidy form, as the nodes are gone over one after another.
 -- (docs/FORMAT.md, Tapes; Tidy form.)
-use Rattle.std.specs.Prelude.{◌≡◌, ◌≢◌, ℕ, ◌+◌, ◌<◌, ◌≤◌, ◌^◌, List, [], ◌∷◌, ◌++◌, Option, Some, None, length, take, drop, slice_get}
+use Rattle.std.specs.Prelude.{◌≡◌, ◌≢◌, ℕ, ◌+◌, ◌<◌, ◌≤◌, ◌^◌, List, [], ◌∷◌, ◌++◌, Option, Some, None, length, take}
+use Rattle.std.specs.Prelude.{drop, slice_get}
 use Rattle.gob_types.specs.declared.basic.Basic.TheVariants as basic
 use Rattle.gob_types.specs.declared.id.TypeId.{TypeId}
 use Rattle.gob_types.specs.declared.kind.Field.{Field}
@@ -103,7 +104,8 @@ innermost (o ∷ os) = Some o
 
 -- the field of this number in the struct of the type has this type
 pub data HasField (T : Table) : TypeId → ℕ → TypeId → Type 0 where
-  has_field : {t : TypeId} {f : ℕ} {s : Shape} {fields : List Field} {e : Field} → shape_of T t ≡ Some s → s.kind ≡ kind.Struct fields
+  has_field : {t : TypeId} {f : ℕ} {s : Shape} {fields : List Field} {e : Field} → shape_of T t ≡ Some s
+      → s.kind ≡ kind.Struct fields
       → slice_get fields f ≡ Some e → HasField T t f e.id
 
 -- the next part has this type, where the whole value has the first
@@ -149,12 +151,14 @@ HasOpenEnd i (content.Group k count extent) = i + extent < 2 ^ 64
 HasOpenEnd i c = Unit {0}
 
 -- the beginning of a part that stays was told
-pub record Entered (i : ℕ) (x : Node) (k : Kind) (t : TypeId) (pool : List ℕ) (before after : List Open) (old new : State) : Type 0 where
+pub record Entered (i : ℕ) (x : Node) (k : Kind) (t : TypeId) (pool : List ℕ) (before after : List Open)
+    (old new : State) : Type 0 where
   pub opens : HasOpenEnd i x.content → after ≡ entered i x.content k t before
   pub stands : GoesOn old new (name_told x.field ++ content_told pool x.content)
 
 -- the part was told as far as its beginning, unless a struct drops it
-pub record TellsPart (i : ℕ) (x : Node) (k : Kind) (t : TypeId) (pool : List ℕ) (before after : List Open) (old new : State) : Type 0 where
+pub record TellsPart (i : ℕ) (x : Node) (k : Kind) (t : TypeId) (pool : List ℕ) (before after : List Open)
+    (old new : State) : Type 0 where
   pub drops : (f : ℕ) → x.field ≡ Some f → IsDroppedContent k x.content → (after ≡ before) × (new ≡ old)
   pub keeps : IsKept x.field k x.content → IsPooled pool x.content → Entered i x k t pool before after old new
 
@@ -165,18 +169,25 @@ pub data Due (T : Table) (nodes : List Node) (pool : List ℕ) : ℕ → ℕ →
   none_due : {i : ℕ} {ts : Types} → Due T nodes pool i i ts []
   element : {i j k : ℕ} {e : TypeId} {v w : Tree} {us : List Telling} → MeansAt nodes pool i j None v → Tidies T e v w
       → Due T nodes pool j k (types.Elements e) us → Due T nodes pool i k (types.Elements e) (tellings w ++ us)
-  key_or_element : {i j k : ℕ} {a b : TypeId} {v w : Tree} {us : List Telling} → MeansAt nodes pool i j None v → Tidies T a v w
-      → Due T nodes pool j k (types.Alternating b a) us → Due T nodes pool i k (types.Alternating a b) (tellings w ++ us)
-  dropped : {i j k f : ℕ} {r e : TypeId} {s : Shape} {v : Tree} {us : List Telling} → MeansAt nodes pool i j (Some f) v → HasField T r f e → shape_of T e ≡ Some s
+  key_or_element : {i j k : ℕ} {a b : TypeId} {v w : Tree} {us : List Telling} → MeansAt nodes pool i j None v
+      → Tidies T a v w
+      → Due T nodes pool j k (types.Alternating b a) us → Due T nodes pool i k (types.Alternating a b)
+      (tellings w ++ us)
+  dropped : {i j k f : ℕ} {r e : TypeId} {s : Shape} {v : Tree} {us : List Telling}
+      → MeansAt nodes pool i j (Some f) v → HasField T r f e → shape_of T e ≡ Some s
       → IsDropped s.kind v → Due T nodes pool j k (types.Fields r) us → Due T nodes pool i k (types.Fields r) us
-  kept : {i j k f : ℕ} {r e : TypeId} {s : Shape} {v w : Tree} {us : List Telling} → MeansAt nodes pool i j (Some f) v → HasField T r f e → shape_of T e ≡ Some s
-      → ¬ IsDropped s.kind v → TidiesAs T s.kind v w → Due T nodes pool j k (types.Fields r) us → Due T nodes pool i k (types.Fields r) (field f ∷ (tellings w ++ us))
+  kept : {i j k f : ℕ} {r e : TypeId} {s : Shape} {v w : Tree} {us : List Telling}
+      → MeansAt nodes pool i j (Some f) v → HasField T r f e → shape_of T e ≡ Some s
+      → ¬ IsDropped s.kind v → TidiesAs T s.kind v w → Due T nodes pool j k (types.Fields r) us
+      → Due T nodes pool i k (types.Fields r) (field f ∷ (tellings w ++ us))
 
 -- from a place on, in these open parts; the whole value has this type
 pub data Left (T : Table) (t : TypeId) (nodes : List Node) (pool : List ℕ) : ℕ → List Open → List Telling → Type 0 where
   at_end : {i : ℕ} → i ≡ length nodes → Left T t nodes pool i [] []
-  at_start : {i : ℕ} {v w : Tree} → MeansAt nodes pool i (length nodes) None v → Tidies T t v w → Left T t nodes pool i [] (tellings w)
-  in_part : {i j : ℕ} {ts : Types} {os : List Open} {us ws : List Telling} → Due T nodes pool i j ts us → Left T t nodes pool j os ws
+  at_start : {i : ℕ} {v w : Tree} → MeansAt nodes pool i (length nodes) None v → Tidies T t v w
+      → Left T t nodes pool i [] (tellings w)
+  in_part : {i j : ℕ} {ts : Types} {os : List Open} {us ws : List Telling} → Due T nodes pool i j ts us
+      → Left T t nodes pool j os ws
       → Left T t nodes pool i (open_to j ts ∷ os) (us ++ leave ∷ ws)
 
 -- some node of the innermost part is still to come
@@ -185,7 +196,8 @@ IsInside i [] = Unit {0}
 IsInside i (o ∷ os) = i < o.end
 
 -- from one place to the next, this was told
-pub record Goes (T : Table) (t : TypeId) (nodes : List Node) (pool : List ℕ) (i : ℕ) (after : List Open) (old new : State) (due : List Telling) : Type 0 where
+pub record Goes (T : Table) (t : TypeId) (nodes : List Node) (pool : List ℕ) (i : ℕ) (after : List Open)
+    (old new : State) (due : List Telling) : Type 0 where
   pub told : List Telling
   pub left : List Telling
   pub splits : due ≡ told ++ left
@@ -197,7 +209,8 @@ pub record Goes (T : Table) (t : TypeId) (nodes : List Node) (pool : List ℕ) (
 -- the ends of the parts whose nodes end at this place
 pub data Ends (i : ℕ) : List Open → List Telling → List Open → Type 0 where
   none_ends : {os : List Open} → ((o : Open) (rest : List Open) → os ≡ o ∷ rest → o.end ≢ i) → Ends i os [] os
-  one_ends : {o : Open} {os after : List Open} {us : List Telling} → o.end ≡ i → Ends i os us after → Ends i (o ∷ os) (leave ∷ us) after
+  one_ends : {o : Open} {os after : List Open} {us : List Telling} → o.end ≡ i → Ends i os us after
+      → Ends i (o ∷ os) (leave ∷ us) after
 
 pub record Ended (i : ℕ) (before after : List Open) (old new : State) : Type 0 where
   pub told : List Telling
@@ -211,7 +224,8 @@ pub record Ending (i : ℕ) (before now : List Open) (old new : State) : Type 0 
   pub stands : GoesOn old new told
 
 -- the nodes before this place are told of: of each value that they all mean, with its tidy form
-pub record UpTo (T : Table) (t : TypeId) (nodes : List Node) (pool : List ℕ) (i : ℕ) (os : List Open) (now : State) (due : List Telling) : Type 0 where
+pub record UpTo (T : Table) (t : TypeId) (nodes : List Node) (pool : List ℕ) (i : ℕ) (os : List Open) (now : State)
+    (due : List Telling) : Type 0 where
   pub told : List Telling
   pub left : List Telling
   pub splits : due ≡ told ++ left
@@ -221,7 +235,8 @@ pub record UpTo (T : Table) (t : TypeId) (nodes : List Node) (pool : List ℕ) (
   pub small : (k : ℕ) (x : Node) → k < i → slice_get nodes k ≡ Some x → HasSmallNumber x
 
 abbrev pub Reaches : Table → TypeId → List Node → List ℕ → ℕ → List Open → State → Type 0
-Reaches T t nodes pool i os now = (v w : Tree) → MeansAt nodes pool 0 (length nodes) None v → Tidies T t v w → UpTo T t nodes pool i os now (tellings w)
+Reaches T t nodes pool i os now = (v w : Tree) → MeansAt nodes pool 0 (length nodes) None v → Tidies T t v w
+    → UpTo T t nodes pool i os now (tellings w)
 
 -- all of the tidy form was told, and the numbers of all fields are small
 pub record IsAllTold (v w : Tree) (now : State) : Type 0 where

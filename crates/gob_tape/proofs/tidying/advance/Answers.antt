@@ -9,4 +9,5 @@ returns-in-Alternating c =
     let xs = c.args.stack.now in
     let w = c.in-Alternating in
     let some : 0 < vec_len xs = search rules in
-    last_advanced xs.items (vec_len xs - 1) c.in-Some.innermost.now (types.Alternating w.behind w.next) (omega (arith, xs.ok.0)) c.in-Some.ensures.value (sym (ap turned w.is))
+    last_advanced xs.items (vec_len xs - 1) c.in-Some.innermost.now (types.Alternating w.behind w.next) (omega
+    (arith, xs.ok.0)) c.in-Some.ensures.value (sym (ap turned w.is))

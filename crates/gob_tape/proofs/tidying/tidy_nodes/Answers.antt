@@ -4,13 +4,17 @@ use Rattle.gob_tape.proofs.TidyingLaws.{nothing_told, node_reached, all_told_of}
 use Rattle.gob_tape.proofs.tidying.tidy_nodes.Goals as goal
 
 pub nodes-init : goal.nodes-init
-nodes-init g c = nothing_told (ap reverse c.new-stack.ensures.items) (record { held = _; taped = c.in_ok-builder.ensures })
+nodes-init g c = nothing_told (ap reverse c.new-stack.ensures.items) (record {
+  held = _;
+  taped = c.in_ok-builder.ensures;
+})
 
 pub nodes-preserved : goal.nodes-preserved
 nodes-preserved g c =
     let nodes = c.args.nodes.now in
     let n : length nodes < 2 ^ 64 = omega (arith) in
-    node_reached c.nodes.invariant (λ due. c.in_ok-tidy_node.ensures nodes due n (slice_get-get_or nodes c.nodes.place _ (omega arith)))
+    node_reached c.nodes.invariant (λ due. c.in_ok-tidy_node.ensures nodes due n
+    (slice_get-get_or nodes c.nodes.place _ (omega arith)))
 
 pub returns : goal.returns
 returns g c = all_told_of (omega arith) c.nodes.invariant

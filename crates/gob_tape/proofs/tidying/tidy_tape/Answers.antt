@@ -12,14 +12,18 @@ pub into_tape-requires : goal.into_tape-requires
 into_tape-requires g c =
     let r = c.requires in
     let f = tidy_form r.fits.spelled in
-    let told = c.in_ok-builder.ensures r.value f.tidy (rw (c.deref.ensures.value, c.deref-2.ensures.value) r.means.parts) f.tidies in
+    let told = c.in_ok-builder.ensures r.value f.tidy (rw
+    (c.deref.ensures.value, c.deref-2.ensures.value) r.means.parts) f.tidies in
     at_rises (tape_whole f.tidy told.stands).parts
 
 pub returns-clause-tidy : goal.returns-clause-tidy
 returns-clause-tidy g c = λ v w m t.
     let told = c.in_ok-builder.ensures v w (rw (c.deref.ensures.value, c.deref-2.ensures.value) m.parts) t in
     let whole = tape_whole w told.stands in
-    record { parts = rw (c.into_tape.ensures.nodes, c.into_tape.ensures.pool) whole.parts; deep = c.into_tape.ensures.deep ∙ whole.deep }
+    record {
+      parts = rw (c.into_tape.ensures.nodes, c.into_tape.ensures.pool) whole.parts;
+      deep = c.into_tape.ensures.deep ∙ whole.deep;
+    }
 
 pub returns-clause-fits : goal.returns-clause-fits
 returns-clause-fits g c = λ v w m n.
@@ -27,11 +31,17 @@ returns-clause-fits g c = λ v w m n.
     let t = c.args.id in
     let r = c.requires in
     let f = tidy_form r.fits.spelled in
-    let told = c.in_ok-builder.ensures r.value f.tidy (rw (c.deref.ensures.value, c.deref-2.ensures.value) r.means.parts) f.tidies in
-    let made : MeansAt c.into_tape.result.nodes.items c.into_tape.result.pool.items 0 (length c.into_tape.result.nodes.items) None f.tidy =
+    let told = c.in_ok-builder.ensures r.value f.tidy (rw
+    (c.deref.ensures.value, c.deref-2.ensures.value) r.means.parts) f.tidies in
+    let made : MeansAt c.into_tape.result.nodes.items c.into_tape.result.pool.items 0
+    (length c.into_tape.result.nodes.items) None f.tidy =
     rw (c.into_tape.ensures.nodes, c.into_tape.ensures.pool) (tape_whole f.tidy told.stands).parts in
     let fits = tidy_fits r.fits.spelled f.tidies told.small in
     let tidied : f.tidy ≡ w = (at_one made n.parts).value in
     let value : r.value ≡ v = (at_one r.means.parts m.parts).value in
     subst (λ (w : Tree). FitsWithin T t (depth v) w) tidied
-    (subst (λ (v : Tree). FitsWithin T t (depth v) f.tidy) value (record { bytes = fits.bytes; spelled = fits.spelled; within = no_deeper f.tidies }))
+    (subst (λ (v : Tree). FitsWithin T t (depth v) f.tidy) value (record {
+      bytes = fits.bytes;
+      spelled = fits.spelled;
+      within = no_deeper f.tidies;
+    }))

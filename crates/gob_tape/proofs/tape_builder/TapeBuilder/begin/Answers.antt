@@ -7,9 +7,15 @@ pub returns-in-Number : goal.returns-in-Number
 returns-in-Number c =
     let w = c.in-Number in
     on_ok_weaker c.add.result
-    (λ e p. rw w.is (λ us t. record { held = t.held + 1; taped = number_told w.kind w.first w.second e c.add.ensures.small refl t.taped })) c.add.ensures.state
+    (λ e p. rw w.is (λ us t. record {
+      held = t.held + 1;
+      taped = number_told w.kind w.first w.second e c.add.ensures.small refl t.taped;
+    })) c.add.ensures.state
 
 pub returns-in-Group : goal.returns-in-Group
 returns-in-Group c =
     let w = c.in-Group in
-    on_ok_weaker c.open.result (λ e p. rw w.is (λ us t. record { held = t.held + 1; taped = group_told w.kind e refl t.taped })) c.open.ensures.state
+    on_ok_weaker c.open.result (λ e p. rw w.is (λ us t. record {
+      held = t.held + 1;
+      taped = group_told w.kind e refl t.taped;
+    })) c.open.ensures.state

@@ -10,7 +10,8 @@ returns-in-Some-clause-told c = λ us held a.
     let s = c.args.self.now in
     let o = c.in-Some.begun in
     let rest = c.pop.new.self.items in
-    leave_told o (reverse rest) (ap reverse c.in-Some.ensures.items ∙ reverse-append rest (o ∷ [])) (omega (arith, s.nodes.ok.0, s.nodes.small))
+    leave_told o (reverse rest) (ap reverse c.in-Some.ensures.items
+    ∙ reverse-append rest (o ∷ [])) (omega (arith, s.nodes.ok.0, s.nodes.small))
     (λ x h. c.count.ensures.state ∙ ap (λ t. with_begun t (counted t.begun)) (c.end.ensures.state x h)) refl a
 
 pub returns-in_default-clause-told : goal.returns-in_default-clause-told

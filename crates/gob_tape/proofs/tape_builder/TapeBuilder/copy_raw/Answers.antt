@@ -10,9 +10,13 @@ pub returns : goal.returns
 returns c = λ us t.
     let bytes = c.args.copied.now in
     let k = c.args.kind in
-    let first = start_told k (c.len-first.ensures ∙ c.args.self.now.pool.ok.0) c.in_ok-open.ensures.state refl t.taped in
-    let second = more_told bytes (ap (with_pool (state_of c.open.new.self)) c.in_ok-extend_from_slice.ensures.items) refl first in
+    let first = start_told k (c.len-first.ensures
+    ∙ c.args.self.now.pool.ok.0) c.in_ok-open.ensures.state refl t.taped in
+    let second = more_told bytes (ap (with_pool
+    (state_of c.open.new.self)) c.in_ok-extend_from_slice.ensures.items) refl first in
     let third = c.close.ensures.told _ _ second in
-    let all : ((us ++ raw_start k ∷ []) ++ raw_more bytes ∷ []) ++ leave ∷ [] ≡ us ++ (raw_start k ∷ (raw_more bytes ∷ (leave ∷ []))) =
-    append_assoc (us ++ raw_start k ∷ []) (raw_more bytes ∷ []) (leave ∷ []) ∙ append_assoc us (raw_start k ∷ []) (raw_more bytes ∷ (leave ∷ [])) in
+    let all : ((us ++ raw_start k ∷ []) ++ raw_more bytes ∷ []) ++ leave ∷ [] ≡ us ++ (raw_start k ∷ (raw_more bytes ∷
+    (leave ∷ []))) =
+    append_assoc (us ++ raw_start k ∷ []) (raw_more bytes ∷ []) (leave ∷ [])
+    ∙ append_assoc us (raw_start k ∷ []) (raw_more bytes ∷ (leave ∷ [])) in
     subst (IsTapeOf (state_of c.close.new.self)) all (record { held = t.held + 1 + length bytes; taped = third })
