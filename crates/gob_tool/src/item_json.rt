@@ -1,10 +1,13 @@
 //! The JSON of an item.
 
-ghost use Rattle.std.specs.Prelude.{◌≡◌, ◌++◌, OnOk, IfOk, string_bytes};
+ghost use Rattle.std.specs.Prelude.{◌≡◌, ◌≤◌, ◌++◌, [], OnOk, IfOk, string_bytes};
 ghost use Rattle.json.specs.Tree.{json_tokens};
-ghost use Rattle.serde_json.specs.Written.{outline};
+ghost use Rattle.serde_json.specs.Data.{Data};
+ghost use Rattle.serde_json.specs.Written.{outline, compact_text};
 ghost use Rattle.gob_types.specs.Defined.{types};
-ghost use Rattle.gob_stream.specs.Item.{item_view};
+ghost use Rattle.gob_value.specs.Tree.{Tree, depth};
+ghost use Rattle.gob_stream.specs.Item.{StreamItem, item_view, puts, ItemMeans};
+ghost use Rattle.gob_tape.specs.Meaning.{Means};
 ghost use Rattle.gob_tool.specs.Line.{item_json, item_text, put_json};
 ghost use Rattle.gob_value.specs.View.{view};
 
@@ -12,6 +15,7 @@ use crate::definition_json::write_definition;
 use crate::value_json::write_value;
 use gob_num::Memory;
 use gob_stream::Item;
+use gob_tape::Tape;
 use gob_types::{Shapes, Table, TypeId};
 use gob_value::Value;
 use json::Writer;
@@ -26,8 +30,65 @@ pub fn json_of(alloc: Global, item: &Item<Value>, table: &Table) -> Result<Strin
 {
     let mut out = Writer::new(Vec::new(alloc));
     write_item(alloc, item, table, &mut out)?;
+    Ok(text_of(out))
+}
+
+/// The JSON of an item whose value is a tape, as [`json_of`] gives it of the value that the tape means, which is at
+/// most 1000 deep. The value is made on the way.
+pub fn json_of_tape(alloc: Global, item: &Item<Tape>, table: &Table) -> Result<String, Memory>
+    requires { (id : TypeId) (v : Tree) → ItemMeans Means item.now (puts id v) → depth v ≤ 1000 }
+    ensures { IfOk result (λ text. (i : StreamItem) → ItemMeans Means item.now i
+        → string_bytes text ≡ item_text (types table.now) i) }
+{
+    let mut out = Writer::new(Vec::new(alloc));
+    write_item_of_tape(alloc, item, table, &mut out)?;
+    Ok(text_of(out))
+}
+
+/// Writes the JSON of an item whose value is a tape.
+fn write_item_of_tape(
+    alloc: Global,
+    item: &Item<Tape>,
+    table: &Table,
+    out: &mut Writer,
+) -> Result<(), Memory>
+    requires { (id : TypeId) (v : Tree) → ItemMeans Means item.now (puts id v) → depth v ≤ 1000 }
+    ensures tokens { OnOk result ((i : StreamItem) → ItemMeans Means item.now i
+        → out.new.tokens ≡ out.old.tokens ++ json_tokens (outline (item_json (types table.now) i))) }
+    ensures before { out.new.before ≡ out.old.before }
+{
+    match item {
+        Item::Define { id, .. } => Ok(write_definition(alloc, *id, table.shape_of(*id), out)?),
+        Item::Put { id, value } => write_tape(alloc, *id, value, table, out),
+    }
+}
+
+/// Writes the value that a tape means as one of this type, with the type.
+fn write_tape(
+    alloc: Global,
+    id: TypeId,
+    tape: &Tape,
+    table: &Table,
+    out: &mut Writer,
+) -> Result<(), Memory>
+    requires { (v : Tree) → Means tape.now v → depth v ≤ 1000 }
+    ensures tokens { OnOk result ((v : Tree) → Means tape.now v
+        → out.new.tokens ≡ out.old.tokens ++ json_tokens (outline (put_json (types table.now) id v))) }
+    ensures before { out.new.before ≡ out.old.before }
+{
+    let value = tape.to_value(alloc)?;
+    let written = write_put(alloc, id, &value, table, out);
+    drop(value);
+    Ok(written?)
+}
+
+/// The text that the writer holds.
+fn text_of(out: Writer) -> String
+    requires { out.before ≡ [] }
+    ensures { (d : Data) → out.tokens ≡ json_tokens (outline d) → string_bytes result ≡ compact_text d }
+{
     match String::from_utf8(out.into_inner()) {
-        Ok(text) => Ok(text),
+        Ok(text) => text,
         Err(_) => unreachable!(),
     }
 }

@@ -22,7 +22,7 @@ mod wanted;
 mod words;
 
 pub use fault::{ToolFault, status};
-pub use item_json::json_of;
+pub use item_json::{json_of, json_of_tape};
 pub use run::run_order;
 pub use show::run_show;
 pub use take::run_take;

@@ -1,20 +1,14 @@
 -- What the writer holds is the compact text of the item's JSON.
-use Rattle.std.proofs.Common.{rules, ◌≡◌, ◌++◌, ◌∙◌, [], string_bytes}
+use Rattle.std.proofs.Common.{rules, ◌≡◌}
 use Rattle.json.specs.Tree.{json_tokens}
-use Rattle.json.specs.Print.{print}
 use Rattle.serde_json.specs.Written.{outline}
 use Rattle.gob_types.specs.Defined.{types}
 use Rattle.gob_stream.specs.Item.{item_view}
 use Rattle.gob_tool.specs.Line.{item_json}
-use Rattle.gob_tool.proofs.PrintLaws.{printed}
 use Rattle.gob_tool.proofs.item_json.json_of.Goals as goal
 
 pub returns : goal.returns
 returns c =
     let shown = item_json (types c.args.table.now) (item_view c.args.item.now) in
     let tokens : c.write_item.new.out.tokens ≡ json_tokens (outline shown) = search rules in
-    let before : c.write_item.new.out.before ≡ [] = search rules in
-    let whole : c.into_inner.result.items ≡ c.write_item.new.out.before ++ print c.write_item.new.out.tokens = search
-    rules in
-    let text : string_bytes c.in-Ok.text ≡ c.into_inner.result.items = search rules in
-    text ∙ printed shown _ _ _ whole before tokens
+    c.text_of.ensures shown tokens
