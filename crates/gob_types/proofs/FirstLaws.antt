@@ -1,8 +1,8 @@
 -- What holds of the first elements of a list, as a loop over the list comes on.
-use Rattle.std.proofs.Common.{◌≡◌, ℕ, zero, suc, ◌+◌, ◌-◌, ◌<◌, ◌≤◌, ◌⊎◌, inl, inr, List, [], ◌∷◌, ◌++◌, length, get_or, Contains, Some, arith, refl, sym, ap, ◌∙◌, subst}
+use Rattle.std.proofs.Common.{◌≡◌, ℕ, zero, suc, ◌+◌, ◌-◌, ◌<◌, ◌≤◌, ◌⊎◌, inl, inr, List, [], ◌∷◌, ◌++◌, length, get_or, Contains, Some, None, arith, refl, sym, ap, ◌∙◌, subst}
 use Rattle.std.specs.Prelude.{slice_get}
 use Rattle.std.proofs.Math.Nat.{eq-or-lt_of_le}
-use Rattle.std.proofs.lemmas.Option.{slice_get_within, get_or_from_slice_get, slice_get-get_or, slice_get_read}
+use Rattle.std.proofs.lemmas.Option.{none-some, slice_get_within, get_or_from_slice_get, slice_get-get_or, slice_get_read}
 use Rattle.gob_types.proofs.GrowthLaws.{some_injective}
 
 -- what stands in the first list stands there in both together
@@ -25,6 +25,14 @@ more_first {X = X} {P = P} {xs = xs} {n = n} {x = x} first here holds = record {
     by : (k : ℕ) (y : X) → slice_get xs k ≡ Some y → (k ≡ n) ⊎ (k < n) → P y
     by k y there (inr below) = first.each k y below there
     by k y there (inl same) = subst P (some_injective (sym here ∙ sym (ap (slice_get xs) same) ∙ there)) holds
+
+-- none stands at n
+pub none_more : {X : Type 0} {P : X → Type 0} {xs : List X} {n : ℕ} → FirstAre P xs n → slice_get xs n ≡ None → FirstAre P xs (n + 1)
+none_more {X = X} {P = P} {xs = xs} {n = n} first none = record { each = λ k y below there. by k y there (eq-or-lt_of_le (omega arith)) }
+  where
+    by : (k : ℕ) (y : X) → slice_get xs k ≡ Some y → (k ≡ n) ⊎ (k < n) → P y
+    by k y there (inr below) = first.each k y below there
+    by k y there (inl same) = absurd (none-some _ (sym none ∙ sym (ap (slice_get xs) same) ∙ there))
 
 -- of the first n, whatever comes behind them
 pub first_grown : {X : Type 0} {P : X → Type 0} {xs : List X} {n : ℕ} (more : List X) → FirstAre P xs n → n ≤ length xs → FirstAre P (xs ++ more) n

@@ -8,5 +8,5 @@ pub mod LeastLaws
 pub mod WalkLaws
 pub mod GroundLaws
 pub mod GrowsLaws
-pub mod NotedLaws
 pub mod KeptLaws
+pub mod WaitLaws

@@ -1,19 +1,20 @@
 -- Tables whose ids are distinct, and how a map's look-ups and insertions read them.
-use Rattle.std.proofs.Common.{◌≡◌, ℕ, ◌≢◌, ◌⊎◌, inl, inr, Bool, true, false, cond, [], ◌∷◌, ◌++◌, length, length-append, append_assoc, Some, None, arith, refl, sym, ap, ◌∙◌, subst}
-use Rattle.std.specs.Prelude.{◌==◌}
+use Rattle.std.proofs.Common.{◌≡◌, ℕ, suc, ◌≢◌, ◌⊎◌, inl, inr, Bool, true, false, cond, List, [], ◌∷◌, ◌++◌, ◌≤◌, Contains, length, length-append, append_assoc, Some, None, arith, refl, sym, ap, ◌∙◌, subst}
+use Rattle.std.specs.Prelude.{◌==◌, slice_get}
 use Rattle.std.specs.Map.{lookup}
 use Rattle.std.specs.Cmp.{nat_eq_equiv}
 use Rattle.std.proofs.lemmas.Bool.Decides.{eqb_tells}
 use Rattle.std.proofs.lemmas.Option.{none-some}
 use Rattle.gob_types.specs.declared.id.TypeId.{TypeId}
 use Rattle.gob_types.specs.declared.kind.Shape.{Shape}
-use Rattle.gob_types.specs.Table.{Table, shape_of, HasDistinctIds, Extends}
+use Rattle.gob_types.specs.Table.{Table, shape_of, IsDefined, HasDistinctIds, Extends}
 use Rattle.gob_types.specs.Base.{base_table}
 use Rattle.gob_types.specs.Definable.{IsOwnId, IsDefinable}
 use Rattle.gob_types.specs.Defined.{Defined, types, without, first_entries, IsTable, AreDefinitions, definition_count}
 use Rattle.gob_types.specs.Distinct.{distinct-types}
 use Rattle.gob_types.specs.Entered.{same_id, with_entry}
 use Rattle.gob_types.proofs.GrowthLaws.{some_injective, shape_of-append_new}
+use Rattle.gob_types.proofs.FirstLaws.{FirstAre, all_first, contains_read}
 
 -- an id that isn't there is not missed
 without-same : (t : TypeId) (T : Table) → shape_of T t ≡ None → without t T ≡ T
@@ -110,3 +111,21 @@ shape_of-table table t s e = by (shape_of-append_cases base_table table.definiti
 -- a table with one more definition extends the table
 pub define_extends : (d e : Defined) (t : TypeId) (s : Shape) → types e ≡ types d ++ (t, s) ∷ [] → Extends (types d) (types e)
 define_extends d e t s grown = record { more = (t, s) ∷ []; grown = grown; distinct = distinct-types e }
+
+-- a type that is defined has an entry
+pub defined_read : (T : Table) (t : TypeId) (s : Shape) → shape_of T t ≡ Some s → (k : ℕ) × (entry : TypeId × Shape) × (slice_get T k ≡ Some entry) × (entry.0 ≡ t)
+defined_read [] t s e = absurd (none-some _ e)
+defined_read (entry ∷ T) t s e = by (eqb_tells entry.0.0 t.0) (defined_read T t s)
+  where
+    by : ((entry.0.0 == t.0) ≡ true) × (entry.0.0 ≡ t.0) ⊎ ((entry.0.0 == t.0) ≡ false) × (entry.0.0 ≢ t.0) → (shape_of T t ≡ Some s → (k : ℕ) × (other : TypeId × Shape) × (slice_get T k ≡ Some other) × (other.0 ≡ t))
+        → (k : ℕ) × (other : TypeId × Shape) × (slice_get (entry ∷ T) k ≡ Some other) × (other.0 ≡ t)
+    by (inl h) rest = (0, entry, refl, ap (λ (n : ℕ). let u : TypeId = record { 0 = n } in u) h.1)
+    by (inr h) rest =
+        let r = rest (sym (ap (λ b. cond b (Some entry.1) (shape_of T t)) h.0) ∙ e) in
+        (suc r.0, r.1, r.2, r.3)
+
+-- where the ids of the entries are there, the defined ones are
+pub ids_read : {T : Table} {n : ℕ} (ids : List TypeId) → FirstAre (λ (entry : TypeId × Shape). Contains ids entry.0) T n → length T ≤ n → (t : TypeId) → IsDefined T t → Contains ids t
+ids_read {T = T} ids first whole t d =
+    let r = defined_read T t d.0 d.1 in
+    subst (Contains ids) r.3 (all_first first whole (contains_read T r.0 r.1 r.2))

@@ -1,5 +1,6 @@
--- What is known of the types of a table without a walk: which of them are ready. (docs/FORMAT.md, Readiness.)
-use Rattle.std.specs.Prelude.{◌≡◌, ◌⊎◌, ◌-◌, List, [], ◌∷◌, ◌++◌, length, take, Some, None, Contains}
+-- What is known of the types of a table without a walk: which of them are ready, and what the others wait for.
+-- (docs/FORMAT.md, Readiness.)
+use Rattle.std.specs.Prelude.{◌≡◌, ◌⊎◌, ◌-◌, List, [], ◌∷◌, ◌++◌, length, take, Option, Some, None, Contains, MatchOption, if◌then◌else◌}
 use Rattle.std.specs.Map.{lookup}
 use Rattle.gob_types.specs.declared.id.TypeId.{TypeId}
 use Rattle.gob_types.specs.declared.kind.Shape.{Shape}
@@ -13,27 +14,54 @@ use Rattle.gob_types.specs.Walk.{AddsAll, Grows}
 pub record AreReady (T : Table) (ids : List TypeId) : Type 0 where
   pub each : (u : TypeId) → Contains ids u → IsReady T u
 
--- for each type id, types that name it
-abbrev pub Users : Type 0
-Users = List (TypeId × List TypeId)
+-- ---- sets of ids
 
--- the second type is noted as one that names the first
-pub record IsUser (users : Users) (w u : TypeId) : Type 0 where
-  pub noted : List TypeId
-  pub there : lookup (same_id w) users ≡ Some noted
-  pub among : Contains noted u
+-- for each type id a set of ids
+abbrev pub Sets : Type 0
+Sets = List (TypeId × List TypeId)
 
--- whatever is noted in the first is noted in the second
-pub record KeepsUsers (old new : Users) : Type 0 where
-  pub each : (w u : TypeId) → IsUser old w u → IsUser new w u
+-- the second id is in the set of the first
+pub record IsIn (sets : Sets) (t u : TypeId) : Type 0 where
+  pub set : List TypeId
+  pub there : lookup (same_id t) sets ≡ Some set
+  pub among : Contains set u
 
--- each type that this one names is among the first ids, or this one is noted as one that names it
-pub record NamesNoted (T : Table) (ids : List TypeId) (users : Users) (u : TypeId) : Type 0 where
-  pub each : (s : Shape) (w : TypeId) → shape_of T u ≡ Some s → Names s.kind w → Contains ids w ⊎ IsUser users w u
+-- whatever is in a set of the first is in that of the second
+pub record KeepsIn (old new : Sets) : Type 0 where
+  pub each : (t u : TypeId) → IsIn old t u → IsIn new t u
 
--- for some types, another one
-abbrev pub Hints : Type 0
-Hints = List (TypeId × TypeId)
+-- the second map has this value at the id, and else what the first has
+pub record IsSet {X : Type 0} (old new : List (TypeId × X)) (t : TypeId) (x : X) : Type 0 where
+  pub each : (u : TypeId) → lookup (same_id u) new ≡ (if same_id t u then Some x else lookup (same_id u) old)
+
+-- ---- waiting
+
+-- for some types the one each that they wait for
+abbrev pub Awaited : Type 0
+Awaited = List (TypeId × TypeId)
+
+-- what types wait for, and what each has still to look at
+pub record Waiting : Type 0 where
+  pub awaited : Awaited
+  pub left : Sets
+
+-- who waits for a type is in its set
+pub record KnowsUsers (A : Awaited) (users : Sets) : Type 0 where
+  pub each : (u w : TypeId) → lookup (same_id u) A ≡ Some w → IsIn users w u
+
+-- the one type is the other, or waits for one that waits for it
+pub data WaitsFor (A : Awaited) : TypeId → TypeId → Type 0 where
+  here : {u : TypeId} → WaitsFor A u u
+  onward : {u w v : TypeId} → lookup (same_id u) A ≡ Some w → WaitsFor A w v → WaitsFor A u v
+
+-- each type waits for what it did, or for this one
+pub record Redirects (A B : Awaited) (t : TypeId) : Type 0 where
+  pub each : (u : TypeId) → (lookup (same_id u) B ≡ lookup (same_id u) A) ⊎ (lookup (same_id u) B ≡ Some t)
+
+-- each type leads to what it waits for, and to what it has still to look at
+pub record AreLed (T : Table) (W : Waiting) : Type 0 where
+  pub awaited : (u w : TypeId) → lookup (same_id u) W.awaited ≡ Some w → Reaches T u w
+  pub left : (u w : TypeId) → IsIn W.left u w → Reaches T u w
 
 -- the type reaches one that has no finite value and leads to nothing undefined, so no definition makes it ready
 pub record IsHopeless (T : Table) (u : TypeId) : Type 0 where
@@ -42,36 +70,60 @@ pub record IsHopeless (T : Table) (u : TypeId) : Type 0 where
   pub complete : IsComplete T end
   pub bottomless : ¬ IsGrounded T end
 
--- each type reaches the one that stands with it, and where that is the type itself, it is hopeless
-pub record AreHints (T : Table) (hints : Hints) : Type 0 where
-  pub each : (u h : TypeId) → lookup (same_id u) hints ≡ Some h → Reaches T u h
-  pub hopeless : (u : TypeId) → lookup (same_id u) hints ≡ Some u → IsHopeless T u
+-- the type isn't defined, or no definition makes it ready
+abbrev pub IsLost : Table → TypeId → Type 0
+IsLost T u = (shape_of T u ≡ None) ⊎ IsHopeless T u
 
--- these are the ready types; and of each type it is noted what it names, but for what is ready, and for some what they reach
-pub record IsKept (T : Table) (ready : List TypeId) (users : Users) (hints : Hints) : Type 0 where
-  pub sound : (u : TypeId) → Contains ready u → IsReady T u
+-- the way of waiting goes on from the type, past those that are ready, to one with the property
+pub data LeadsAway (A : Awaited) (ready : List TypeId) (P : TypeId → Type 0) : TypeId → Type 0 where
+  ends : {u : TypeId} → P u → LeadsAway A ready P u
+  further : {u w : TypeId} → lookup (same_id u) A ≡ Some w → ¬ Contains ready w → LeadsAway A ready P w → LeadsAway A ready P u
+
+-- these are ready, and each other type waits for one with the property
+pub record AreSorted (T : Table) (ready : List TypeId) (W : Waiting) (P : TypeId → Type 0) : Type 0 where
+  pub sound : AreReady T ready
+  pub led : AreLed T W
+  pub whole : (u : TypeId) → Contains ready u ⊎ LeadsAway W.awaited ready P u
+
+-- each other type waits for one that isn't defined, or that no definition makes ready
+abbrev pub AreSettled : Table → List TypeId → Waiting → Type 0
+AreSettled T ready W = AreSorted T ready W (IsLost T)
+
+-- the type is to be looked at: it is in the queue, and waits for none that isn't ready
+abbrev pub IsOpen : Awaited → (ready queue : List TypeId) → TypeId → Type 0
+IsOpen A ready queue u = Contains queue u × ((w : TypeId) → lookup (same_id u) A ≡ Some w → Contains ready w)
+
+-- or for one that is to be looked at
+abbrev pub IsLearning : Table → List TypeId → Waiting → List TypeId → Type 0
+IsLearning T ready W queue = AreSorted T ready W (λ u. IsLost T u ⊎ IsOpen W.awaited ready queue u)
+
+-- or for this one, which is looked at
+abbrev pub IsLooking : Table → List TypeId → Waiting → List TypeId → TypeId → Type 0
+IsLooking T ready W queue t = AreSorted T ready W (λ u. (IsLost T u ⊎ IsOpen W.awaited ready queue u) ⊎ (t ≡ u))
+
+-- the type is ready, or waits for one that isn't
+abbrev pub IsJudged : Awaited → List TypeId → TypeId → Type 0
+IsJudged A ready u = Contains ready u ⊎ ((w : TypeId) × (lookup (same_id u) A ≡ Some w) × ¬ Contains ready w)
+
+-- these are the ready types; and it is known what the others wait for, or nothing of it
+pub record IsKept (T : Table) (ready : List TypeId) (waits : Option Waiting) : Type 0 where
+  pub sound : AreReady T ready
   pub whole : (u : TypeId) → IsReady T u → Contains ready u
-  pub named : (u : TypeId) → IsDefined T u → NamesNoted T ready users u
-  pub hinted : AreHints T hints
+  pub settled : MatchOption waits (Unit {0}) (AreSettled T ready)
 
 -- it was so before the last definition, which is of this id
-pub record WasKept (U : Table) (t : TypeId) (ready : List TypeId) (users : Users) (hints : Hints) : Type 0 where
+pub record WasKept (U : Table) (t : TypeId) (ready : List TypeId) (waits : Option Waiting) : Type 0 where
   pub before : Table
   pub shape : Shape
+  pub new : shape_of before t ≡ None
   pub grown : U ≡ before ++ (t, shape) ∷ []
-  pub kept : IsKept before ready users hints
+  pub kept : IsKept before ready waits
 
 -- all entries but the last
 abbrev pub front : Table → Table
 front T = take (length T - 1) T
 
--- the type is among them, or isn't ready
-abbrev pub Judged : Table → List TypeId → TypeId → Type 0
-Judged T ids u = Contains ids u ⊎ ¬ IsReady T u
-
--- the type reaches this one, which isn't defined or is hopeless
-abbrev pub Lacks : Table → TypeId → TypeId → Type 0
-Lacks T u h = Reaches T u h × ((shape_of T h ≡ None) ⊎ IsHopeless T h)
+-- ---- looks
 
 -- the ids hold what the type's shape names, and it reaches them
 pub record AreNames (T : Table) (u : TypeId) (ids : List TypeId) : Type 0 where
@@ -89,30 +141,18 @@ pub record MetPast (T : Table) (known : List TypeId) (t : TypeId) (ids : List Ty
   pub start : Contains ids t
   pub closed : (u : TypeId) → Contains ids u → Contains known u ⊎ NamesAmong T ids u
 
--- of each id that came to the first ones, the types that are noted to name it have the property
-pub record HandsOn (old new : List TypeId) (users : Users) (P : TypeId → Type 0) : Type 0 where
-  pub each : (w : TypeId) → Contains new w → Contains old w ⊎ ((u : TypeId) → IsUser users w u → P u)
+-- who waits for an id that came to the first ones has the property
+pub record HandsOn (A : Awaited) (old new : List TypeId) (P : TypeId → Type 0) : Type 0 where
+  pub each : (w : TypeId) → Contains new w → Contains old w ⊎ ((u : TypeId) → lookup (same_id u) A ≡ Some w → P u)
 
--- these are ready, the type among them
-pub record AreReadyWith (T : Table) (t : TypeId) (ids : List TypeId) : Type 0 where
-  pub sound : AreReady T ids
-  pub start : Contains ids t
-
--- the ids came to the first ones, and the types that are noted to name a new one of them to the queue
-pub record AreAdded (users : Users) (ids old new queue after : List TypeId) : Type 0 where
+-- the ids came to the first ones, and the types that wait for a new one of them to the queue
+pub record AreAdded (A : Awaited) (ids old new queue after : List TypeId) : Type 0 where
   pub added : AddsAll old new (Contains ids)
   pub queued : Grows queue after
-  pub handed : HandsOn old new users (Contains after)
+  pub handed : HandsOn A old new (Contains after)
 
--- it is known whether the type is ready, and the types that are noted to name what became ready came to the queue
-pub record IsLearnt (T : Table) (users : Users) (t : TypeId) (old new queue after : List TypeId) : Type 0 where
-  pub sound : AreReady T new
-  pub judged : Judged T new t
-  pub queued : Grows queue after
-  pub handed : HandsOn old new users (Contains after)
-
--- it is known whether these are ready, and whether the types are that are noted to name what became ready
-pub record AreLearnt (T : Table) (users : Users) (ids old new : List TypeId) : Type 0 where
-  pub sound : AreReady T new
-  pub judged : (u : TypeId) → Contains ids u → Judged T new u
-  pub handed : HandsOn old new users (Judged T new)
+-- the users that wait for the type came to the ids
+pub record AddsWaiting (A : Awaited) (users : List TypeId) (t : TypeId) (old new : List TypeId) : Type 0 where
+  pub grown : Grows old new
+  pub has : (u : TypeId) → Contains users u → lookup (same_id u) A ≡ Some t → Contains new u
+  pub only : (u : TypeId) → Contains new u → Contains old u ⊎ (lookup (same_id u) A ≡ Some t)

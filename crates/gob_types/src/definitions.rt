@@ -1,5 +1,7 @@
 //! The definitions of a stream, behind the base table.
-ghost use Rattle.std.specs.Prelude.{◌≡◌, ◌++◌, ◌∷◌, [], IfOk, OnOk, OnErr, MatchResult, IfErr};
+ghost use Rattle.std.specs.Prelude.{◌≡◌, ◌++◌, ◌∷◌, [], IfOk, OnOk, OnErr, MatchResult, IfErr, Contains};
+ghost use Rattle.gob_types.specs.declared.id.TypeId.{TypeId};
+ghost use Rattle.gob_types.specs.Table.{IsDefined};
 ghost use Rattle.gob_types.specs.Base.{base_table};
 ghost use Rattle.gob_types.specs.Definable.{IsDefinable};
 ghost use Rattle.gob_types.specs.Defined.{IsTable, Admits, types, definition_count};
@@ -12,6 +14,7 @@ use crate::id::TypeId;
 use crate::kind::Shape;
 use crate::shapes::Shapes;
 use crate::table::DefineFault;
+use crate::type_set::TypeSet;
 use gob_num::Memory;
 use std::alloc::Global;
 use std::marker::Model;
@@ -61,6 +64,13 @@ impl Definitions {
         ensures known { IsTable (types self.now) }
     {
         self.entries.count() as u64 - BASE_COUNT
+    }
+
+    /// The ids of the types.
+    pub(crate) fn ids(&self, alloc: Global) -> Result<TypeSet, Memory>
+        ensures { IfOk result (λ ids. (u : TypeId) → IsDefined (types self.now) u → Contains ids u) }
+    {
+        self.entries.ids(alloc)
     }
 
     /// What is known of every table: a caller learns it by this call, which does nothing.

@@ -1,11 +1,14 @@
 //! Types by their ids.
-ghost use Rattle.std.specs.Prelude.{◌≡◌, [], OnOk, OnErr, length, take};
+ghost use Rattle.std.specs.Prelude.{◌≡◌, [], OnOk, OnErr, IfOk, Contains, length, take};
+ghost use Rattle.gob_types.specs.declared.id.TypeId.{TypeId};
 ghost use Rattle.std.specs.Option.{option_copied};
-ghost use Rattle.gob_types.specs.Table.{shape_of};
+ghost use Rattle.gob_types.specs.Table.{shape_of, IsDefined};
 ghost use Rattle.gob_types.specs.Entered.{with_entry};
 
 use crate::id::TypeId;
 use crate::kind::Shape;
+use crate::type_set::TypeSet;
+use gob_num::Memory;
 use indexmap::IndexMap;
 use std::alloc::{AllocFailed, Global};
 use std::marker::Model;
@@ -56,6 +59,20 @@ impl Entries {
             Some((there, shape)) if *there == id => Some(shape),
             _ => self.shapes.get(&id),
         }
+    }
+
+    /// The ids of the types, in order.
+    pub(crate) fn ids(&self, alloc: Global) -> Result<TypeSet, Memory>
+        ensures { IfOk result (λ ids. (u : TypeId) → IsDefined self.now u → Contains ids u) }
+    {
+        let mut ids = TypeSet::new(alloc);
+        for place in 0..self.shapes.len() {
+            let Some((id, _)) = self.shapes.get_index(place) else {
+                continue;
+            };
+            ids.add(*id)?;
+        }
+        Ok(ids)
     }
 
     /// Enters a type, last, unless its id is there.

@@ -9,17 +9,17 @@ ghost use Rattle.gob_types.specs.Kept.{IsKept};
 ghost use Rattle.gob_types.specs.Readiness.{IsNotReady};
 
 use crate::definitions::Definitions;
-use crate::hints::Hints;
 use crate::id::TypeId;
 use crate::kind::Shape;
-use crate::learning::{learn_all, note_all, settle};
+use crate::learning::{learn_anew, settle};
 use crate::readiness::NotReady;
 use crate::shapes::Shapes;
 use crate::type_set::TypeSet;
-use crate::users::Users;
+use crate::waits::Waits;
 use gob_num::Memory;
 use std::alloc::{AllocFailed, Global};
 use std::marker::Model;
+use std::mem;
 
 /// Why a definition is refused. The table is then as it was before.
 #[derive(Clone, Copy, Debug, PartialEq, Eq)]
@@ -51,10 +51,8 @@ pub struct Table {
     definitions: Definitions,
     // The types that are ready.
     ready: TypeSet,
-    // The types that name those that aren't.
-    users: Users,
-    // What types that aren't ready are known to reach.
-    hints: Hints,
+    // What the others wait for, where that is known: not behind a definition for which there was no memory.
+    waits: Option<Waits>,
 }
 
 // Not derived, so that a drop is one call in the proofs of what owns one.
@@ -63,8 +61,7 @@ impl Drop for Table {
         let Table {
             definitions: _,
             ready: _,
-            users: _,
-            hints: _,
+            waits: _,
         } = self;
     }
 }
@@ -77,48 +74,7 @@ impl Model for Table {
 
     ghost view = { λ s. s.definitions };
 
-    ghost invariant = { λ s. IsKept (types s.definitions) s.ready s.users s.hints };
-}
-
-// The ids of the base table.
-const BASE_IDS: [TypeId; 17] = [
-    TypeId(1),
-    TypeId(2),
-    TypeId(3),
-    TypeId(4),
-    TypeId(5),
-    TypeId(6),
-    TypeId(7),
-    TypeId(8),
-    TypeId(16),
-    TypeId(17),
-    TypeId(18),
-    TypeId(19),
-    TypeId(20),
-    TypeId(21),
-    TypeId(22),
-    TypeId(23),
-    TypeId(24),
-];
-
-// Finds which types of the base table are ready, where nothing is known of them yet.
-fn learn_base(
-    table: &Definitions,
-    alloc: Global,
-    ready: &mut TypeSet,
-    users: &mut Users,
-    hints: &mut Hints,
-) -> Result<(), Memory>
-    requires base { types table.now ≡ base_table }
-    requires ready { ready.old ≡ [] }
-    requires hints { hints.old ≡ [] }
-    ensures { OnOk result (IsKept (types table.now) ready.new users.new hints.new) }
-{
-    let mut ids = TypeSet::new(alloc);
-    ids.add_all(&BASE_IDS)?;
-    note_all(table, alloc, ready, users, &ids)?;
-    learn_all(table, alloc, ready, users, hints, ids)?;
-    Ok(())
+    ghost invariant = { λ s. IsKept (types s.definitions) s.ready s.waits };
 }
 
 impl Table {
@@ -129,14 +85,11 @@ impl Table {
     {
         let definitions = Definitions::new(alloc, max_types)?;
         let mut ready = TypeSet::new(alloc);
-        let mut users = Users::new(alloc);
-        let mut hints = Hints::new(alloc);
-        learn_base(&definitions, alloc, &mut ready, &mut users, &mut hints)?;
+        let waits = learn_anew(&definitions, alloc, &mut ready)?;
         Ok(Table {
             definitions,
             ready,
-            users,
-            hints,
+            waits: Some(waits),
         })
     }
 
@@ -172,20 +125,12 @@ impl Table {
         self.definitions.learn();
         self.definitions.define(alloc, id, shape)?;
         let count = self.ready.count();
-        if settle(
-            &self.definitions,
-            alloc,
-            &mut self.ready,
-            &mut self.users,
-            &mut self.hints,
-            id,
-        )
-        .is_ok()
-        {
+        let waits = mem::replace(&mut self.waits, None);
+        if let Ok(settled) = settle(&self.definitions, alloc, &mut self.ready, waits, id) {
+            self.waits = Some(settled);
             return Ok(());
         }
         self.ready.truncate(count);
-        self.hints.clear();
         self.definitions.undo();
         Err(DefineFault::Memory)
     }

@@ -1,5 +1,6 @@
 //! Sets of type ids.
-ghost use Rattle.std.specs.Prelude.{◌≡◌, ◌^◌, ◌<◌, ◌↔◌, [], IsTrue, IfOk, OnOk, OnErr, Contains, length, take};
+ghost use Rattle.std.specs.Prelude.{◌≡◌, ◌^◌, ◌<◌, ◌↔◌, [], IsTrue, IfOk, OnOk, OnErr, Contains, length, take, ◌++◌, ◌∷◌, ◌⊎◌, MatchOption};
+ghost use Rattle.gob_types.specs.declared.id.TypeId.{TypeId};
 ghost use Rattle.gob_types.specs.Walk.{AddsAll, AddsOne, AreAmong, Grows};
 
 use crate::id::TypeId;
@@ -79,6 +80,13 @@ impl TypeSet {
         self.ids.truncate(count);
     }
 
+    /// Takes the last id off, where there is one.
+    pub(crate) fn pop(&mut self) -> Option<TypeId>
+        ensures { MatchOption result ((self.old ≡ []) × (self.new ≡ [])) (λ id. self.old ≡ self.new ++ id ∷ []) }
+    {
+        self.ids.pop()
+    }
+
     /// Adds ids, in order, but for those that are there.
     pub(crate) fn add_all(&mut self, ids: &[TypeId]) -> Result<(), Memory>
         ensures added { OnOk result (AddsAll self.old self.new (Contains ids.now)) }
@@ -89,6 +97,25 @@ impl TypeSet {
         }
         Ok(())
     }
+}
+
+/// The ids of both sets. The smaller is added to the larger.
+pub(crate) fn merged(first: TypeSet, second: TypeSet) -> Result<TypeSet, Memory>
+    ensures { IfOk result (λ both. (u : TypeId) → Contains both u → Contains first u ⊎ Contains second u) }
+{
+    if first.count() < second.count() {
+        return with_ids(second, &first);
+    }
+    with_ids(first, &second)
+}
+
+// The first set with the ids of the second behind its own.
+fn with_ids(first: TypeSet, second: &TypeSet) -> Result<TypeSet, Memory>
+    ensures { IfOk result (λ both. AddsAll first both (Contains second.now)) }
+{
+    let mut both = first;
+    both.add_all(second.as_slice())?;
+    Ok(both)
 }
 
 /// Ids of the second set that are in the first.

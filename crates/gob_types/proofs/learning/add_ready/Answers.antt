@@ -5,7 +5,7 @@ use Rattle.gob_types.specs.Walk.{AddsOne, AddsAll}
 use Rattle.gob_types.proofs.FirstLaws.{contains_read, contains_at}
 use Rattle.gob_types.proofs.SetLaws.{adds_next, adds_one, adds_each}
 use Rattle.gob_types.proofs.GrowsLaws.{grows_then, grows_by, grows_as}
-use Rattle.gob_types.proofs.KeptLaws.{hands_same, hands_one}
+use Rattle.gob_types.proofs.WaitLaws.{hands_same, hands_one}
 use Rattle.gob_types.proofs.learning.add_ready.Goals as goal
 
 pub loop-id-preserved-then-not-branch : goal.loop-id-preserved-then-not-branch
@@ -24,7 +24,7 @@ loop-id-preserved c =
     record {
       added = adds_next c.loop-id.invariant.added (slice_get-get_or c.as_slice-id-items.result.now c.loop-id.id-index _ c.loop-id-test.true) (adds_one _ c.in_ok-add.ensures.added);
       queue = grows_then c.loop-id.invariant.queue c.add_all.ensures.grown;
-      handed = hands_one c.loop-id.invariant.handed a c.add_all.ensures.grown (λ u k. more.has u (c.of.ensures u k));
+      handed = hands_one c.loop-id.invariant.handed a c.add_all.ensures.grown (λ u k. more.has u (c.users.ensures u k));
     }
 
 pub returns-in_err-add-clause-grown : goal.returns-in_err-add-clause-grown

@@ -10,5 +10,5 @@ abbrev pub invariant-loop-id : goal.invariant-loop-id
 invariant-loop-id l = record {
   added : AddsAll l.initial.ready l.ready (IsAmongFirst (λ (u : TypeId). u) l.id-items l.id-index);
   queue : Grows l.initial.queue l.queue;
-  handed : HandsOn l.initial.ready l.ready l.users (Contains l.queue);
+  handed : HandsOn l.waits.awaited l.initial.ready l.ready (Contains l.queue);
 }

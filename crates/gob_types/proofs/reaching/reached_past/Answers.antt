@@ -1,48 +1,36 @@
-use Rattle.std.proofs.Common.{◌≡◌, inl, length, ap, sym, subst, arith}
+use Rattle.std.proofs.Common.{◌≡◌, length, ap, sym, subst, arith}
 use Rattle.gob_types.specs.Defined.{types}
 use Rattle.gob_types.specs.Walk.{AddsAll}
 use Rattle.gob_types.proofs.FirstLaws.{contains_read, read_at, next_less}
 use Rattle.gob_types.proofs.SetLaws.{adds_one}
-use Rattle.gob_types.proofs.KeptLaws.{past_start, past_known, past_names, past_all, lacks_not, ready_reached}
+use Rattle.gob_types.proofs.KeptLaws.{past_start, past_known, past_names, past_all}
 use Rattle.gob_types.proofs.reaching.reached_past.Goals as goal
 
 pub loop-next-init : goal.loop-next-init
-loop-next-init c = record {
-  hints = c.requires.hints;
-  met = past_start (types c.args.table.now) c.args.known.now c.args.id _
-      (subst (λ ids. AddsAll ids c.add.new.self (λ u. c.args.id ≡ u)) c.requires.new (adds_one _ c.in_ok-add.ensures.added));
-}
+loop-next-init c =
+    past_start (types c.args.table.now) c.args.known.now c.args.id _
+    (subst (λ ids. AddsAll ids c.add.new.self (λ u. c.args.id ≡ u)) c.requires (adds_one _ c.in_ok-add.ensures.added))
 
 pub loop-next-preserved-then-contains : goal.loop-next-preserved-then-contains
 loop-next-preserved-then-contains c =
     let at = read_at c.loop-next.next _ c.as_slice.ensures (omega (arith, c.loop-next-test.true, c.count.ensures.count)) in
-    record { hints = c.loop-next.invariant.hints; met = past_known c.loop-next.invariant.met at (c.contains.ensures.0 c.if-contains.true) }
+    past_known c.loop-next.invariant at (c.contains.ensures.0 c.if-contains.true)
 
-pub returns-then-branch-clause-judged : goal.returns-then-branch-clause-judged
-returns-then-branch-clause-judged c =
+pub returns-in_default : goal.returns-in_default
+returns-in_default c =
     let at = read_at c.loop-next.next _ c.as_slice.ensures (omega (arith, c.loop-next-test.true, c.count.ensures.count)) in
-    let reached = c.loop-next.invariant.met.sound _ (contains_read c.loop-next.met c.loop-next.next _ at) in
-    λ r. c.in_ok-is_missing_one.ensures.judged c.if-branch.true (ready_reached r reached)
-
-pub returns-in_default-clause-judged : goal.returns-in_default-clause-judged
-returns-in_default-clause-judged c =
-    let at = read_at c.loop-next.next _ c.as_slice.ensures (omega (arith, c.loop-next-test.true, c.count.ensures.count)) in
-    let reached = c.loop-next.invariant.met.sound _ (contains_read c.loop-next.met c.loop-next.next _ at) in
-    lacks_not (reached, inl (sym c.in_default.ensures))
+    (c.loop-next.invariant.sound _ (contains_read c.loop-next.met c.loop-next.next _ at), sym c.in_default.ensures)
 
 pub loop-next-preserved : goal.loop-next-preserved
 loop-next-preserved c =
     let at = read_at c.loop-next.next _ c.as_slice.ensures (omega (arith, c.loop-next-test.true, c.count.ensures.count)) in
-    record { hints = c.is_missing_one.ensures.hints; met = past_names c.loop-next.invariant.met at (sym c.in-Some.ensures) c.in_ok-add_names.ensures }
+    past_names c.loop-next.invariant at (sym c.in-Some.ensures) c.in_ok-add_names.ensures
 
-pub returns-clause-judged : goal.returns-clause-judged
-returns-clause-judged c = past_all c.loop-next.invariant.met (omega (arith, c.loop-next-test.false, c.count.ensures.count))
+pub returns : goal.returns
+returns c = past_all c.loop-next.invariant (omega (arith, c.loop-next-test.false, c.count.ensures.count))
 
 pub bounds-as_slice-next : goal.bounds-as_slice-next
 bounds-as_slice-next c = omega (arith, c.loop-next-test.true, c.count.ensures.count, ap length c.as_slice.ensures)
-
-pub renew_hints-requires-clause-count : goal.renew_hints-requires-clause-count
-renew_hints-requires-clause-count c = omega (arith, c.loop-next-test.true, c.count.ensures.count)
 
 pub loop-next-smaller-then-contains : goal.loop-next-smaller-then-contains
 loop-next-smaller-then-contains c = next_less c.loop-next-test.true c.count.ensures.small
