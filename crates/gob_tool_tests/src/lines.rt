@@ -1,8 +1,15 @@
 //! The JSON of items by the base table alone.
 
+ghost use Rattle.std.specs.Prelude.{◌≤◌, IsTrue};
+ghost use Rattle.gob_types.specs.declared.id.TypeId.{TypeId};
+ghost use Rattle.gob_value.specs.Tree.{Tree, depth};
+ghost use Rattle.gob_stream.specs.Item.{puts, ItemMeans};
+ghost use Rattle.gob_tape.specs.Meaning.{Means};
+
 use crate::streams::EVERY;
-use gob_stream::{Input, Item, Limits, read_stream};
-use gob_tool::json_of;
+use gob_stream::{Input, Item, Limits, Session, read_stream};
+use gob_tape::{Tape, TapeBuilder};
+use gob_tool::{json_of, json_of_tape};
 use gob_types::{Table, TypeId};
 use gob_value::Value;
 use std::alloc::Global;
@@ -94,5 +101,47 @@ fn definitions_of_base_types(rt: HostRuntime) -> Result<(), Fail> {
     let table = Table::new(rt.alloc(), 0)?;
     assert!(rt; is_definition(rt.alloc(), &table, 18, COMMON_TYPE));
     assert!(rt; is_definition(rt.alloc(), &table, 22, FIELD_TYPES));
+    Ok(())
+}
+
+// The items of `EVERY` with tapes for values, where memory suffices.
+fn every_on_tapes(alloc: Global) -> Vec<Item<Tape>> {
+    let mut items = Vec::new(alloc);
+    if let Ok(mut session) = Session::<TapeBuilder>::new(alloc, Limits::standard()) {
+        let _ = session.feed(alloc, EVERY, &mut items);
+        drop(session);
+    }
+    items
+}
+
+// Whether a value of at most the depth that JSON is made of is given.
+fn is_shallow_value(item: &Item<Tape>) -> bool
+    ensures { IsTrue result → (id : TypeId) (v : Tree) → ItemMeans Means item.now (puts id v) → depth v ≤ 1000 }
+{
+    match item {
+        Item::Define { .. } => false,
+        Item::Put { value, .. } => value.depth() <= 1000,
+    }
+}
+
+// Whether the item is written as this line, or is a definition.
+fn is_line_of_tape(alloc: Global, item: &Item<Tape>, table: &Table, line: &str) -> bool {
+    if !is_shallow_value(item) {
+        return line.starts_with("{\"define\":");
+    }
+    match json_of_tape(alloc, item, table) {
+        Ok(text) => text.as_str() == line,
+        Err(_) => false,
+    }
+}
+
+#[test]
+fn tapes_of_each_shape(rt: HostRuntime) -> Result<(), Fail> {
+    let table = Table::new(rt.alloc(), 0)?;
+    let items = every_on_tapes(rt.alloc());
+    assert!(rt; items.len() == 20);
+    for (item, line) in items.iter().zip(BASE_LINES.lines()) {
+        assert!(rt; is_line_of_tape(rt.alloc(), item, &table, line));
+    }
     Ok(())
 }
