@@ -1,8 +1,8 @@
 //! How long definitions take.
 
 use crate::fault::Fault;
-use crate::orders::Order;
-use gob_types::{Shape, Table, TypeId};
+use crate::orders::{Definition, Order};
+use gob_types::{Table, TypeId};
 use gob_value::{describe, spell};
 use std::alloc::Global;
 use std::time::Instant;
@@ -35,7 +35,7 @@ fn length(alloc: Global, order: Order) -> Result<u128, Fault> {
     let table = Table::new(alloc, 0)?;
     let mut out = Vec::new(alloc);
     let mut bytes = 0usize;
-    for (id, shape) in order.definitions(alloc)?.as_slice() {
+    for Definition { id, shape } in order.definitions(alloc)?.as_slice() {
         out.clear();
         if !shape.definable() {
             return Err(Fault::Refused);
@@ -57,15 +57,16 @@ fn best_time(rt: &HostRuntime, order: Order, times: usize) -> Result<u128, Fault
         let count = definitions.len() as u64;
         let start = Instant::now(rt)?;
         let mut table = Table::new(rt.alloc(), count)?;
-        for (id, shape) in definitions {
-            define(rt.alloc(), &mut table, id, shape)?;
+        for definition in definitions {
+            define(rt.alloc(), &mut table, definition)?;
         }
         best = best.min(start.elapsed(rt)?.as_nanos());
     }
     Ok(best)
 }
 
-fn define(alloc: Global, table: &mut Table, id: TypeId, shape: Shape) -> Result<(), Fault> {
+fn define(alloc: Global, table: &mut Table, definition: Definition) -> Result<(), Fault> {
+    let (id, shape) = definition.into_parts();
     if !shape.definable() {
         return Err(Fault::Refused);
     }
