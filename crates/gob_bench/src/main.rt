@@ -1,7 +1,8 @@
 //! Measures the reader of bodies and the definitions of types.
 //!
-//! `gob_bench` reads each of its bodies to counts, whole and in pieces, and prints what it counted. `gob_bench time` prints
-//! how fast they are read to counts, to tapes and to trees, and `gob_bench types` how long definitions take in several orders.
+//! `gob_bench` reads each of its bodies to counts, whole and in pieces, and prints what it counted.
+//! `gob_bench time` prints how fast they are read to counts, to tapes and to trees.
+//! `gob_bench types` prints how long definitions take in several orders.
 //! `gob_bench write NAME` writes a body to standard output, which the C program `bench/walk.c` walks.
 #![tactic(auto)]
 
