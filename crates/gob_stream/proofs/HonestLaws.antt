@@ -1,8 +1,7 @@
 -- The place of a refusal is honest in a stream.
-use Rattle.std.proofs.Common.{◌≡◌, ℕ, pos, negsuc, ◌+◌, ◌-◌, ◌<◌, ◌≤◌, List, [], ◌++◌, length, take, drop, Option, Some, None, Result, Ok, Err, arith, refl, sym, ap, ◌∙◌, subst, append_assoc}
+use Rattle.std.proofs.Common.{◌≡◌, ℕ, ◌+◌, ◌-◌, ◌<◌, ◌≤◌, List, [], ◌++◌, length, take, drop, Option, Result, Ok, Err, arith, refl, sym, ap, ◌∙◌, subst, append_assoc}
 use Rattle.std.proofs.lemmas.List.{append-nil, take-append-le}
 use Rattle.gob_num.specs.Unsigned.{IsUnsigned}
-use Rattle.gob_num.specs.Signed.{IsSigned}
 use Rattle.gob_num.proofs.PublicLaws.{unsigned_prefix, unsigned_length, signed_prefix, signed_unsigned}
 use Rattle.gob_types.specs.declared.id.TypeId.{TypeId}
 use Rattle.gob_types.specs.declared.reason.Reason.{Reason}
@@ -18,7 +17,7 @@ use Rattle.gob_value.specs.Tree.{Tree}
 use Rattle.gob_read.specs.Begins.{BeginsValue, BeginsNone, BeginsOnlyDeep}
 use Rattle.gob_read.specs.First.{IsFirst}
 use Rattle.gob_read.specs.Honest as body_honest
-use Rattle.gob_read.specs.Laws.{IsOfNumber, HasCountedArrays}
+use Rattle.gob_read.specs.Laws.{IsOfNumber}
 use Rattle.gob_read.specs.Refusal as body
 use Rattle.gob_read.proofs.Counted.{table_counted}
 use Rattle.gob_read.proofs.PublicLaws.{first_honest, place_within, seen_within, take_and_drop}
@@ -30,14 +29,14 @@ use Rattle.gob_stream.specs.declared.item.Item as declared
 use Rattle.gob_stream.specs.declared.reading.Reading.{Reading}
 use Rattle.gob_stream.specs.Body.{Body, definition, value}
 use Rattle.gob_stream.specs.Bounds.{Bounds, no_deeper}
-use Rattle.gob_stream.specs.Honest.{IsTypeNumber, of_value, of_definition, HasTypeNumber, from, value_at, IsHonest, OfRefusal, FeedsHonestly, ReadsHonestly}
+use Rattle.gob_stream.specs.Honest.{IsTypeNumber, of_value, of_definition, from, IsHonest, OfRefusal, FeedsHonestly, ReadsHonestly}
 use Rattle.gob_stream.specs.Item.{StreamItem}
 use Rattle.gob_stream.specs.Outcome.{RefusesNext, refused_count, refused_body, refused, EndsSo, next_refused, within_an_item, Outcome}
-use Rattle.gob_stream.specs.Reading.{Given, Feeds, ReadsNext, ReadsStream, RefusesNextItem, shown, ended}
+use Rattle.gob_stream.specs.Reading.{Given, Feeds, ReadsNext, ReadsStream, shown, ended}
 use Rattle.gob_stream.specs.Refusing.{behind, RefusesCount, item_too_long, stream_too_long, RefusesBody, short, refused_id, refused_type, refused_value, refused_description, described_wrongly}
 use Rattle.gob_stream.specs.Refusing as refusing
 use Rattle.gob_stream.specs.Standing.{Standing, StandsAfter}
-use Rattle.gob_stream.specs.Stream.{Continues, no_more, and_then, counted, Stream}
+use Rattle.gob_stream.specs.Stream.{Continues, no_more, and_then, counted}
 use Rattle.gob_stream.proofs.DefinableLaws.{definable}
 use Rattle.gob_stream.proofs.OutcomeLaws.{moved, one_front}
 use Rattle.gob_stream.proofs.StreamLaws.{same_id}
