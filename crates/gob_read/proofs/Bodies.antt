@@ -14,6 +14,7 @@ use Rattle.gob_read.specs.Kinds.{IsStructType, BeginsAs, as_struct, as_tagged, n
 use Rattle.gob_read.specs.Within.{At, at_tag, at_part, at_once}
 use Rattle.gob_read.specs.Running.{IsReached, IsReachedSomewhere, StopsFor, GoesOn, Finishes, RefusesPiece}
 use Rattle.gob_read.specs.Reader.{HasTaken, nothing_taken, taken_so_far, IsAfter, Stands, IsUsable, StandsSomewhere, TakesPiece, EndsBody, RefusesBody, Stops}
+use Rattle.gob_read.specs.Honest.{RefusesHonestly}
 use Rattle.gob_read.specs.declared.frame.Frame.{Frame}
 use Rattle.gob_read.specs.declared.awaited.Awaited.{Awaited}
 use Rattle.gob_read.specs.declared.awaited.Awaited.TheVariants.{Top, Number}
@@ -23,6 +24,7 @@ use Rattle.gob_read.specs.declared.stop.Stop.{Stop}
 use Rattle.gob_read.specs.declared.stop.Stop.TheVariants as stops
 use Rattle.gob_read.specs.declared.run.Run.{Run}
 use Rattle.gob_read.proofs.Deepest.{shallow_within}
+use Rattle.gob_read.proofs.Honest.{first_honest}
 use Rattle.gob_read.proofs.KindLaws.{struct_type}
 use Rattle.gob_read.proofs.Onward.{shallow_start}
 use Rattle.gob_read.proofs.Places.{no_top}
@@ -195,3 +197,18 @@ push_stops T stands run mid o piece count (stops.Refused q s r) p k = record {
 }
 push_stops T stands run mid o piece count stops.Memory p k = k
 push_stops T stands run mid o piece count stops.Failed p k = absurd k
+
+ready_taken : {T : Table} {t : TypeId} {X O : Type 0} {stands : X → List Telling → Type 0} {run : Run X O} {z : List ℕ} → HasTaken T t stands run z → IsReady T t
+ready_taken (nothing_taken n) = n.ready
+ready_taken (taken_so_far r) = r.ready
+
+stands_ready : {T : Table} {t : TypeId} (limit announced : ℕ) {X O : Type 0} (stands : X → List Telling → Type 0) (run : Option (Run X O)) (z : List ℕ) → Stands T t limit announced stands run z → IsReady T t
+stands_ready limit announced stands None z h = absurd h
+stands_ready limit announced stands (Some run) z h = ready_taken h.so_far
+
+-- what a push refuses is refused honestly
+pub stops_honestly : (T : Table) {X O : Type 0} (stands : X → List Telling → Type 0) (o : Option (Run X O)) (piece : List ℕ) (stop : Stop)
+    → Stops o (λ refusal. RefusesBody T stands o piece refusal) stop → Stops o (λ refusal. RefusesHonestly T stands o piece refusal) stop
+stops_honestly T stands o piece (stops.Refused q s r) k = record { each = λ t limit announced z l h. first_honest l (stands_ready limit announced stands o z h) (k.each t limit announced z h) }
+stops_honestly T stands o piece stops.Memory k = k
+stops_honestly T stands o piece stops.Failed k = k

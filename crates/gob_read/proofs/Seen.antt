@@ -80,6 +80,17 @@ seen_within (bad_head_at {p = p} r a e h) = let n = ap length e in let s = bad_s
 seen_within (not_minimal_at {p = p} r a e h) = let n = ap length e in let s = minimal_some r h in omega (arith, length-append p r)
 seen_within (not_allowed {p = p} {c = c} r a e u h) = let n = ap length e in omega (arith, length-append p (c ++ r), length-append c r)
 
+place_shown : {T : Table} {t : TypeId} {limit announced : ℕ} {z : List ℕ} {R : Refusal} → Refused T t limit announced z R → R.place ≤ R.seen
+place_shown (extra r v e l) = omega arith
+place_shown (too_deep r a e l) = omega arith
+place_shown (short_of r a e n h) = omega arith
+place_shown (bad_head_at r a e h) = omega arith
+place_shown (not_minimal_at r a e h) = omega arith
+place_shown (not_allowed r a e u h) = omega arith
+
+pub place_within : {T : Table} {t : TypeId} {limit announced : ℕ} {z : List ℕ} {R : Refusal} → Refused T t limit announced z R → R.place ≤ length z
+place_within r = let s = seen_within r in let p = place_shown r in omega arith
+
 -- the bytes that show a refusal show it again before other bytes
 refused_before : {T : Table} {t : TypeId} {limit announced : ℕ} {z : List ℕ} {R : Refusal} (x : List ℕ) → Refused T t limit announced z R → length (take R.seen z ++ x) ≤ announced → Refused T t limit announced (take R.seen z ++ x) R
 refused_before {z = z} x (extra {f = f} r v e l) m = extra x v (shared_front z f r x e) l

@@ -23,3 +23,4 @@ pub mod Stack
 pub mod Standing
 pub mod BuilderLaws
 pub mod Laws
+pub mod Honest

@@ -7,6 +7,7 @@ ghost use Rattle.gob_read.specs.Laws.{GiveOne, StayShown, StandPromptly, StandBe
 ghost use Rattle.gob_read.specs.Laws.{StayAwaited, AwaitNoMore, StayStanding, StayRefused, RefuseNoMore};
 ghost use Rattle.gob_read.specs.Laws.{SeenBeginNone, DeepBeginDeep, PlacesBegin, AwaitedGoOn, TablesCountArrays};
 ghost use Rattle.gob_read.specs.Laws.{FrontsStand, StandingAreFronts};
+ghost use Rattle.gob_read.specs.Honest.{FirstIsHonest};
 ghost use Rattle.gob_read.specs.Held.{StandingArePartial, HoldOnce, HoldAtMostTheirLength};
 
 /// After the same bytes one thing comes next, in a part of one depth.
@@ -57,6 +58,7 @@ pub fn places_begin_values()
     ensures place { PlacesBegin }
     ensures number { SeenBeginNone }
     ensures deep { DeepBeginDeep }
+    ensures honest { FirstIsHonest }
 {}
 
 /// Where something is awaited, the bytes before it are a proper front of a spelling.

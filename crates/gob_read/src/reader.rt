@@ -6,6 +6,7 @@ ghost use Rattle.gob_types.specs.Table.{Table};
 ghost use Rattle.gob_types.specs.Ready.{IsReady};
 ghost use Rattle.gob_read.specs.Reader.{Stands, IsUsable, Gives, RefusesBody, Stops};
 ghost use Rattle.gob_read.specs.Held.{IsHeld};
+ghost use Rattle.gob_read.specs.Honest.{RefusesHonestly};
 
 use crate::builder::Builder;
 use crate::run::Run;
@@ -52,7 +53,9 @@ impl<B: Builder> BodyReader<B> {
     }
 
     /// Reads the next piece. `Memory` and refusals end the reader, as the end of the body does; a refusal comes in
-    /// the call that brings the last of the bytes that show it.
+    /// the call that brings the last of the bytes that show it. Its place is honest: where a number is refused, the
+    /// bytes before it begin a value of the type, in the grammar without limits, and those up to its end begin none;
+    /// where a part is too deep, those before it begin only values that are too deep.
     pub fn push<S: Shapes>(
         &mut self,
         _alloc: Global,
@@ -64,6 +67,8 @@ impl<B: Builder> BodyReader<B> {
             → Stands (S.table shapes.now) t limit announced B.stands self.old.run z
             → Gives (S.table shapes.now) t limit announced B.stands B.means self.new.run z piece.now progress) }
         ensures refused { IfErr result (Stops self.old.run (λ refusal. RefusesBody (S.table shapes.now)
+            B.stands self.old.run piece.now refusal)) }
+        ensures honest { IfErr result (Stops self.old.run (λ refusal. RefusesHonestly (S.table shapes.now)
             B.stands self.old.run piece.now refusal)) }
         ensures failed { self.old.run ≡ None → result ≡ Err Stop.Failed }
         ensures ended { OnErr result (self.new.run ≡ None) }

@@ -20,6 +20,7 @@ pub mod StayLaws
 pub mod ReadBackLaws
 pub mod SomeOutcome
 pub mod StandLaws
+pub mod HonestLaws
 pub mod CountSteps
 pub mod TypeNumberSteps
 pub mod BodySteps

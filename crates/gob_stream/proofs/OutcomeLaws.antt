@@ -81,7 +81,7 @@ one_front {base = base} {L = L} {V = V} x y (and_then {U = U} {next = m} {items 
     record { table = rest.table; front = cc; rest = rest.rest }
 
 -- ---- one ending
-moved : {L : Bounds} {T U : Table} {f g x y : List ℕ} {R : Refusal} → OneFront T U f g x y → RefusesNext base_table L T (length f) x R → RefusesNext base_table L U (length g) y R
+pub moved : {L : Bounds} {T U : Table} {f g x y : List ℕ} {R : Refusal} → OneFront T U f g x y → RefusesNext base_table L T (length f) x R → RefusesNext base_table L U (length g) y R
 moved {L = L} {T = T} {U = U} {f = f} {g = g} {x = x} {R = R} o p =
     let p' = subst (λ (T : Table). RefusesNext base_table L T (length f) x R) o.table p in
     let p'' = subst (λ g. RefusesNext base_table L U (length g) x R) o.front p' in

@@ -4,6 +4,7 @@ ghost use Rattle.gob_stream.specs.Laws.{HaveOneReading, BeginOneAnother, GiveOne
 ghost use Rattle.gob_stream.specs.Laws.{StayStreams, HaveOneOutcome, HaveAnOutcome, RefuseNoItem, StayShown};
 ghost use Rattle.gob_stream.specs.Laws.{GivesWhatStands, HaveOneTable, StayLimits};
 ghost use Rattle.gob_stream.specs.Laws.{AreReadBack, ShowNoRefusal, AreReadBackInPieces};
+ghost use Rattle.gob_stream.specs.Honest.{OutcomesAreHonest};
 ghost use Rattle.gob_stream.specs.WriterRefusal.{HaveOneReason, AreNotCounted};
 ghost use Rattle.gob_stream.specs.Earlier.{HadAnOutcome, StayOutcomes};
 
@@ -77,6 +78,13 @@ pub fn refused_bytes_are_no_item()
 /// items before it.
 pub fn shown_refusals_stay()
     ensures { StayShown }
+{}
+
+/// The place of a refusal is honest. Where what stands behind a type number is refused for a number, the bytes between
+/// the two begin a value of the type, or a description, in the grammar without limits, and those up to the number's
+/// end begin none; where a part is too deep, those before it begin one, and only such as are too deep.
+pub fn places_are_honest()
+    ensures { OutcomesAreHonest }
 {}
 
 /// The outcome of bytes is what it was while wireType had no fields for types that marshal themselves as binary or as

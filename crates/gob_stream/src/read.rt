@@ -4,6 +4,7 @@ ghost use Rattle.std.specs.Prelude.{◌≡◌, ℕ, ◌+◌, ◌≤◌, List, []
 ghost use Rattle.gob_stream.specs.Bounds.{within_trees};
 ghost use Rattle.gob_stream.specs.Item.{item_views};
 ghost use Rattle.gob_stream.specs.Standing.{StandsAfter};
+ghost use Rattle.gob_stream.specs.Honest.{IsHonest, OfRefusal};
 ghost use Rattle.gob_stream.specs.Reading.{ReadsStream, Given, CountsReads};
 
 use crate::fault::Fault;
@@ -29,6 +30,9 @@ pub fn read_stream<R: Read>(
     ensures items { Given out.old.items out.new.items (λ given. (bytes : List ℕ)
         → R.remaining input.old.reader ≡ Some bytes
         → ReadsStream (within_trees limits) bytes (R.remaining input.new.reader) (item_views given) result) }
+    ensures honest { Given out.old.items out.new.items (λ given. (bytes : List ℕ)
+        → R.remaining input.old.reader ≡ Some bytes
+        → OfRefusal (λ refusal. IsHonest (within_trees limits) bytes (item_views given) refusal) result) }
     ensures counted { CountsReads input.old.failures input.new.failures result }
     ensures taken { input.new.taken ≤ input.old.taken + limits.stream + 9 }
 {

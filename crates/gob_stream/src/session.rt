@@ -42,11 +42,12 @@ impl<B: Builder> Model for Session<B> {
 }
 
 impl<B: Builder> Session<B> {
-    ghost use Rattle.std.specs.Prelude.{◌≡◌, ℕ, List, [], Err, Some, IfOk, OnErr};
-    ghost use Rattle.gob_stream.specs.Bounds.{AreLimits, deepest};
+    ghost use Rattle.std.specs.Prelude.{◌≡◌, ◌++◌, ℕ, List, [], Err, Some, IfOk, OnErr};
+    ghost use Rattle.gob_stream.specs.Bounds.{AreLimits, deepest, no_deeper};
     ghost use Rattle.gob_types.specs.Defined.{types};
     ghost use Rattle.gob_stream.specs.Item.{StreamItem};
     ghost use Rattle.gob_stream.specs.Standing.{StandsAfter};
+    ghost use Rattle.gob_stream.specs.Honest.{FeedsHonestly, ReadsHonestly};
     ghost use Rattle.gob_stream.specs.Reading.{Given, Feeds, Finishes, ReadsNext, CountsReads, TakesNext};
 
     /// A reader that has taken no byte. No value may be deeper than these limits allow, or than the builder takes.
@@ -63,6 +64,7 @@ impl<B: Builder> Session<B> {
 
     /// Takes the next piece of the stream, and appends the items that are whole with it to `out`, also those before
     /// a fault. A refusal comes in the call that brings the last of the bytes that show it, and never says `Ended`.
+    /// Its place is honest, as [`crate::laws::places_are_honest`] has it.
     /// After a fault each call answers [`Fault::Failed`].
     pub fn feed(
         &mut self,
@@ -74,6 +76,10 @@ impl<B: Builder> Session<B> {
             → StandsAfter B.stands ⟦<TreeBuilder as Builder>⟧.stands B.DEPTH self.old.reading items bytes
             → Feeds B.stands ⟦<TreeBuilder as Builder>⟧.stands B.means B.DEPTH
             self.old.reading self.new.reading items bytes piece.now given result) }
+        ensures honest { Given out.old.items out.new.items (λ given. (items : List StreamItem) (bytes : List ℕ)
+            → StandsAfter B.stands ⟦<TreeBuilder as Builder>⟧.stands B.DEPTH self.old.reading items bytes
+            → FeedsHonestly B.means (no_deeper B.DEPTH self.old.reading.limits)
+            items (bytes ++ piece.now) given result) }
         ensures failed { OnErr result (self.new.reading.stage ≡ Stage.Failed) }
         ensures stays { self.old.reading.stage ≡ Stage.Failed
             → (result ≡ Err Fault.Failed) × (self.new.reading ≡ self.old.reading) × (out.new ≡ out.old) }
@@ -120,6 +126,11 @@ impl<B: Builder> Session<B> {
             → StandsAfter B.stands ⟦<TreeBuilder as Builder>⟧.stands B.DEPTH self.old.reading items bytes
             → R.remaining input.old.reader ≡ Some rest
             → ReadsNext B.stands ⟦<TreeBuilder as Builder>⟧.stands B.means B.DEPTH self.old.reading self.new.reading
+            items bytes rest (R.remaining input.new.reader) result }
+        ensures honest { (items : List StreamItem) (bytes rest : List ℕ)
+            → StandsAfter B.stands ⟦<TreeBuilder as Builder>⟧.stands B.DEPTH self.old.reading items bytes
+            → R.remaining input.old.reader ≡ Some rest
+            → ReadsHonestly (no_deeper B.DEPTH self.old.reading.limits)
             items bytes rest (R.remaining input.new.reader) result }
         ensures failed { OnErr result (self.new.reading.stage ≡ Stage.Failed) }
         ensures stays { self.old.reading.stage ≡ Stage.Failed

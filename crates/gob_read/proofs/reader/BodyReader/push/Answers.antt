@@ -1,4 +1,4 @@
-use Rattle.gob_read.proofs.Bodies.{reads_on, usable_somewhere, reached_somewhere, push_more, push_complete, push_done, push_stops}
+use Rattle.gob_read.proofs.Bodies.{reads_on, usable_somewhere, reached_somewhere, push_more, push_complete, push_done, push_stops, stops_honestly}
 use Rattle.gob_read.proofs.reader.BodyReader.push.Goals as goal
 
 pub advance-requires-clause-stands : goal.advance-requires-clause-stands
@@ -24,3 +24,7 @@ returns-in-Ok-Some-clause-given g c = λ t limit announced z h.
 pub returns-in-Err-clause-refused : goal.returns-in-Err-clause-refused
 returns-in-Err-clause-refused g c =
     push_stops _ _ _ _ _ c.args.piece.now c.min-count.result c.in-Err.stop (reads_on c.in-Some.run' c.begin.new.self c.in-Some.ensures.value c.begin.ensures.begun c.begin.ensures.builder c.begin.ensures.stack c.min-count.ensures) c.in-Err.ensures.refused
+
+pub returns-in-Err-clause-honest : goal.returns-in-Err-clause-honest
+returns-in-Err-clause-honest g c =
+    stops_honestly _ _ _ c.args.piece.now c.in-Err.stop (push_stops _ _ _ _ _ c.args.piece.now c.min-count.result c.in-Err.stop (reads_on c.in-Some.run' c.begin.new.self c.in-Some.ensures.value c.begin.ensures.begun c.begin.ensures.builder c.begin.ensures.stack c.min-count.ensures) c.in-Err.ensures.refused)

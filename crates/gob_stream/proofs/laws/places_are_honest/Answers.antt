@@ -1,0 +1,5 @@
+use Rattle.gob_stream.proofs.HonestLaws.{outcome_honest}
+use Rattle.gob_stream.proofs.laws.places_are_honest.Goals as goal
+
+pub returns : goal.returns
+returns c = outcome_honest
