@@ -34,8 +34,3 @@ pub mod StreamReadSteps
 pub mod NumberSteps
 pub mod StageSteps
 pub mod AdvanceSteps
-pub mod WiderLaws
-pub mod WiderSpelled
-pub mod WiderAwaits
-pub mod WiderRefused
-pub mod WiderStreams

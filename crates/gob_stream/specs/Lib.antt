@@ -4,7 +4,6 @@ pub mod Body
 pub mod Stream
 pub mod Refusing
 pub mod Outcome
-pub mod Earlier
 pub mod RefusalText
 pub mod WriterRefusal
 pub mod Devices

@@ -6,7 +6,6 @@ ghost use Rattle.gob_stream.specs.Laws.{GivesWhatStands, HaveOneTable, StayLimit
 ghost use Rattle.gob_stream.specs.Laws.{AreReadBack, ShowNoRefusal, AreReadBackInPieces};
 ghost use Rattle.gob_stream.specs.Honest.{OutcomesAreHonest};
 ghost use Rattle.gob_stream.specs.WriterRefusal.{HaveOneReason, AreNotCounted};
-ghost use Rattle.gob_stream.specs.Earlier.{HadAnOutcome, StayOutcomes};
 
 use gob_read::{Builder, TreeBuilder};
 
@@ -85,11 +84,4 @@ pub fn shown_refusals_stay()
 /// end begin none; where a part is too deep, those before it begin one, and only such as are too deep.
 pub fn places_are_honest()
     ensures { OutcomesAreHonest }
-{}
-
-/// The outcome of bytes is what it was while wireType had no fields for types that marshal themselves as binary or as
-/// text, unless the bytes were refused then for a delta of a wireType that leads to one of these two fields.
-pub fn outcomes_stay_by_the_later_base_table()
-    ensures some { HadAnOutcome }
-    ensures stay { StayOutcomes }
 {}

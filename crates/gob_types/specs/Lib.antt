@@ -1,7 +1,6 @@
 pub mod Reasons
 pub mod Table
 pub mod Base
-pub mod Earlier
 pub mod Ready
 pub mod Definable
 pub mod Defined

@@ -6,7 +6,7 @@ use Rattle.gob_num.specs.Signed.{IsSigned}
 use Rattle.gob_types.specs.declared.id.TypeId.{TypeId}
 use Rattle.gob_types.specs.declared.reason.Reason.{Reason}
 use Rattle.gob_types.specs.Base.{base_table, wire_type}
-use Rattle.gob_types.specs.Earlier.{earlier_base_table}
+use Rattle.gob_earlier.specs.BaseTable.{earlier_base_table}
 use Rattle.gob_types.specs.Table.{Table}
 use Rattle.gob_value.specs.Spelling.{Spells}
 use Rattle.gob_value.specs.Top.{SpellsTop}
@@ -20,14 +20,14 @@ use Rattle.gob_stream.specs.WriterRefusal.{RefusesId, reserved, defined_twice, t
 use Rattle.gob_stream.specs.Refusing.{behind, refuses, RefusesBody, short, refused_id, refused_type, refused_value, refused_description, described_wrongly}
 use Rattle.gob_stream.specs.Refusing as refusing
 use Rattle.gob_stream.specs.Outcome.{BeginsWith, GivesItems, RefusesNext, refused_count, refused_body, Ending, the_end, refused, EndsSo, at_the_end, next_refused, within_an_item, Outcome}
-use Rattle.gob_stream.specs.Earlier.{IsLaterField, RefusesLater, in_value, in_description, EndsAtLater, at_later}
-use Rattle.gob_stream.proofs.StreamLaws.{NoNext, gives_items, one_more, counted_some}
-use Rattle.gob_stream.proofs.RefusingLaws.{take_front}
-use Rattle.gob_stream.proofs.OutcomeLaws.{outcome_refused, outcome_within}
-use Rattle.gob_stream.proofs.WiderLaws.{IsWider, base_wider, more_wider, none_later, none_earlier, defined_later, defined_earlier, reaches_later, reaches_earlier, grounded_later, grounded_earlier, ready_later, ready_earlier}
-use Rattle.gob_stream.proofs.WiderSpelled.{spells_later, spells_earlier, LeadsIn}
-use Rattle.gob_stream.proofs.WiderAwaits.{top_later, top_earlier, LeadsTop, leads_struct}
-use Rattle.gob_stream.proofs.WiderRefused.{leads_refused, refused_earlier, first_later, first_somehow}
+use Rattle.gob_earlier.specs.Earlier.{IsLaterField, RefusesLater, in_value, in_description, EndsAtLater, at_later}
+use Rattle.gob_stream.proofs.PublicLaws.{NoNext, gives_items, one_more, counted_some}
+use Rattle.gob_stream.proofs.PublicLaws.{take_front}
+use Rattle.gob_stream.proofs.PublicLaws.{outcome_refused, outcome_within}
+use Rattle.gob_earlier.proofs.WiderLaws.{IsWider, base_wider, more_wider, none_later, none_earlier, defined_later, defined_earlier, reaches_later, reaches_earlier, grounded_later, grounded_earlier, ready_later, ready_earlier}
+use Rattle.gob_earlier.proofs.WiderSpelled.{spells_later, spells_earlier, LeadsIn}
+use Rattle.gob_earlier.proofs.WiderAwaits.{top_later, top_earlier, LeadsTop, leads_struct}
+use Rattle.gob_earlier.proofs.WiderRefused.{leads_refused, refused_earlier, first_later, first_somehow}
 
 -- ---- items on to the later fields
 

@@ -9,14 +9,14 @@ use Rattle.gob_types.specs.declared.kind.Kind.{Kind}
 use Rattle.gob_types.specs.declared.kind.Kind.TheVariants as kind
 use Rattle.gob_types.specs.declared.kind.Shape.{Shape}
 use Rattle.gob_types.specs.Base.{wire_type, wire_type_fields}
-use Rattle.gob_types.specs.Earlier.{earlier_wire_type_fields}
+use Rattle.gob_earlier.specs.BaseTable.{earlier_wire_type_fields}
 use Rattle.gob_types.specs.Table.{Table, shape_of}
 use Rattle.gob_value.specs.Tree.{Tree, Trees, no_tree, tree, Pairs, pair, Fields, tree_count, pair_count}
 use Rattle.gob_value.specs.Spelling.{Spells, of_type, SpellsAs, of_bool, of_int, of_uint, of_float, of_complex, of_nil, of_bytes, of_text, of_opaque, of_slice, of_array, of_map, of_struct, SpellsEach, no_element, element, SpellsPairs, no_entry, entry, SpellsFields, end_of_fields, next_field}
 use Rattle.gob_read.specs.Awaits.{FieldsRun, no_fields, field_then, Enters, slice_element, array_element, next_key, next_value}
 use Rattle.gob_read.specs.Awaits as awaits
-use Rattle.gob_stream.specs.Earlier.{BeginsPart, itself, one_in, LeadsOn}
-use Rattle.gob_stream.proofs.WiderLaws.{IsWider, Later, same_shape, wire_shape, later, Earlier, same_before, wire_before, earlier, earlier_wire, later_wire, field_later, field_earlier}
+use Rattle.gob_earlier.specs.Earlier.{BeginsPart, itself, one_in, LeadsOn}
+use Rattle.gob_earlier.proofs.WiderLaws.{IsWider, Later, same_shape, wire_shape, later, Earlier, same_before, wire_before, earlier, earlier_wire, later_wire, field_later, field_earlier}
 
 -- ---- on to the later fields
 

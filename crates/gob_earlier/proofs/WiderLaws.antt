@@ -7,11 +7,11 @@ use Rattle.gob_types.specs.declared.kind.Field.{Field}
 use Rattle.gob_types.specs.declared.kind.Kind.TheVariants as kind
 use Rattle.gob_types.specs.declared.kind.Shape.{Shape}
 use Rattle.gob_types.specs.Base.{base_table, wire_type, wire_type_fields, id}
-use Rattle.gob_types.specs.Earlier.{earlier_base_table, earlier_wire_type_fields}
+use Rattle.gob_earlier.specs.BaseTable.{earlier_base_table, earlier_wire_type_fields}
 use Rattle.gob_types.specs.Table.{Table, shape_of, IsDefined}
 use Rattle.gob_types.specs.Ready.{Names, HasFieldOf, Leads, here, onward, Reaches, HasRank, plain, filled, IsGrounded, IsReady}
 use Rattle.gob_types.proofs.PublicLaws.{some_injective, shape_of-append, shape_of-append_new}
-use Rattle.gob_stream.proofs.StreamLaws.{same_id}
+use Rattle.gob_stream.proofs.PublicLaws.{same_id}
 
 abbrev pub earlier_wire : Shape
 earlier_wire = record { name = codes "wireType"; kind = kind.Struct earlier_wire_type_fields }

@@ -7,7 +7,7 @@ use Rattle.gob_types.specs.declared.kind.Kind.{Kind}
 use Rattle.gob_types.specs.declared.kind.Kind.TheVariants as kind
 use Rattle.gob_types.specs.declared.kind.Shape.{Shape}
 use Rattle.gob_types.specs.Base.{wire_type, wire_type_fields}
-use Rattle.gob_types.specs.Earlier.{earlier_wire_type_fields}
+use Rattle.gob_earlier.specs.BaseTable.{earlier_wire_type_fields}
 use Rattle.gob_types.specs.Table.{Table, shape_of}
 use Rattle.gob_value.specs.Tree.{Tree, Pairs, pair_count}
 use Rattle.gob_value.specs.Spelling.{Spells, SpellsEach, SpellsPairs}
@@ -16,9 +16,9 @@ use Rattle.gob_read.specs.Awaited.{Awaited, a_number, delta}
 use Rattle.gob_read.specs.Awaits.{FieldsRun, no_fields, field_then, Enters, slice_element, array_element, next_key, next_value, next_field, AwaitsAt, first, second, byte_content, text_content, opaque_content, next_delta, Awaits, in_itself, in_part, AwaitsTop, at_tag}
 use Rattle.gob_read.specs.Awaits as awaits
 use Rattle.gob_read.proofs.PublicLaws.{append_nil, next_below}
-use Rattle.gob_stream.specs.Earlier.{BeginsPart, itself, one_in, BeginsPartTop, in_struct, behind_tag, LeadsOn}
-use Rattle.gob_stream.proofs.WiderLaws.{IsWider, Later, same_shape, wire_shape, later, Earlier, same_before, wire_before, earlier, earlier_wire, later_wire, field_later}
-use Rattle.gob_stream.proofs.WiderSpelled.{spells_later, each_later, pairs_later, LeadsIn, leads_longer, leads_around, PartLeads, part_leads, FieldLeads, field_first, field_behind, field_part, RunLeads, run_leads, run_fewer, enters_fewer, part_fewer, spells_earlier, each_earlier, pairs_earlier, EachLeads, PairsLead, in_key, in_value}
+use Rattle.gob_earlier.specs.Earlier.{BeginsPart, itself, one_in, BeginsPartTop, in_struct, behind_tag, LeadsOn}
+use Rattle.gob_earlier.proofs.WiderLaws.{IsWider, Later, same_shape, wire_shape, later, Earlier, same_before, wire_before, earlier, earlier_wire, later_wire, field_later}
+use Rattle.gob_earlier.proofs.WiderSpelled.{spells_later, each_later, pairs_later, LeadsIn, leads_longer, leads_around, PartLeads, part_leads, FieldLeads, field_first, field_behind, field_part, RunLeads, run_leads, run_fewer, enters_fewer, part_fewer, spells_earlier, each_earlier, pairs_earlier, EachLeads, PairsLead, in_key, in_value}
 
 -- ---- on to the later fields
 

@@ -14,10 +14,10 @@ use Rattle.gob_read.specs.Refusal.{Refusal, Refused, extra, too_deep, short_of, 
 use Rattle.gob_read.specs.First.{NotAfter, fewer, same, end_last, IsFirst}
 use Rattle.gob_read.specs.Stood.{IsShallow}
 use Rattle.gob_read.proofs.PublicLaws.{awaits_once, ends_number, not_allowed_first, bad_head_first, not_minimal_first, short_first, too_deep_first, extra_first, next_below}
-use Rattle.gob_stream.specs.Earlier.{BeginsPartTop, refused_delta, IsLaterField}
-use Rattle.gob_stream.proofs.WiderLaws.{IsWider}
-use Rattle.gob_stream.proofs.WiderSpelled.{longer}
-use Rattle.gob_stream.proofs.WiderAwaits.{run_awaits, run_more, run_later, top_awaits, begins_top_later, NextDelta, awaits_top_later, top_later, Before, just_this, fewer_deltas, LeadsTop, awaits_top_earlier, top_earlier}
+use Rattle.gob_earlier.specs.Earlier.{BeginsPartTop, refused_delta, IsLaterField}
+use Rattle.gob_earlier.proofs.WiderLaws.{IsWider}
+use Rattle.gob_earlier.proofs.WiderSpelled.{longer}
+use Rattle.gob_earlier.proofs.WiderAwaits.{run_awaits, run_more, run_later, top_awaits, begins_top_later, NextDelta, awaits_top_later, top_later, Before, just_this, fewer_deltas, LeadsTop, awaits_top_earlier, top_earlier}
 
 -- ---- the refusal of a delta that leads to a later field
 

@@ -1,0 +1,5 @@
+mod WiderLaws
+mod WiderSpelled
+mod WiderAwaits
+mod WiderRefused
+mod WiderStreams

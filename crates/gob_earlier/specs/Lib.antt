@@ -1,0 +1,2 @@
+pub mod BaseTable
+pub mod Earlier
