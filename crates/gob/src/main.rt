@@ -9,8 +9,11 @@
 ghost use Rattle.std.specs.Prelude.{◌≡◌, ℕ, List, Some, MatchResult};
 ghost use Rattle.std.specs.Process.{exit_status};
 ghost use Rattle.gob_tool.specs.declared.fault.ToolFault.TheVariants as fault;
-ghost use Rattle.gob.specs.Stop.{stop_status, ending_status, EndsRun};
+ghost use Rattle.gob.specs.Stop.{stop_status, ending_status, HasAnswered, EndsRun};
 
+mod pipe;
+
+use crate::pipe::Pipe;
 use gob_stream::{Input, Output};
 use gob_tool::{Order, OrderFault, ToolFault, order_of, run_order, status};
 use std::alloc::{AllocError, Global};
@@ -24,6 +27,8 @@ use std::{env, fmt, io};
 enum Stop {
     Words(OrderFault),
     Run(ToolFault),
+    // Nobody reads what is written any more.
+    Unread,
 }
 
 impl Stop {
@@ -33,6 +38,7 @@ impl Stop {
         match self {
             Stop::Words(fault) => fault.status(),
             Stop::Run(fault) => status(fault),
+            Stop::Unread => 2,
         }
     }
 }
@@ -47,6 +53,7 @@ impl fmt::Display for Stop {
         match self {
             Stop::Words(fault) => write!(f, "{fault}"),
             Stop::Run(fault) => write!(f, "{fault}"),
+            Stop::Unread => write!(f, "gob: write fault"),
         }
     }
 }
@@ -73,6 +80,8 @@ fn end(rt: &HostRuntime, ending: Result<(), Stop>) -> ExitCode
 {
     match ending {
         Ok(()) => ExitCode::SUCCESS,
+        // Whoever closed the pipe has what they wanted, so nothing is said.
+        Err(Stop::Unread) => ExitCode::from(Stop::Unread.status()),
         Err(stop) => {
             // Where standard error takes no line, the status still tells.
             let _ = eprintln!(rt; "{stop}");
@@ -100,14 +109,13 @@ fn run(rt: &HostRuntime) -> Result<(), Stop> {
 
 // Opens the input, then runs.
 fn run_on<Q: Read + Drop>(rt: &HostRuntime, order: &Order, wanted: Q) -> Result<(), Stop> {
-    let ending = match order.input {
+    match order.input {
         None => carry_out(rt.alloc(), order, wanted, rt.stdin(), rt.stdout()),
         Some(path) => {
             let file = opened(File::open(rt, path))?;
             carry_out(rt.alloc(), order, wanted, file, rt.stdout())
         }
-    };
-    ending.map_err(Stop::Run)
+    }
 }
 
 // The words of the command line. One that isn't UTF-8 is none that the program knows.
@@ -133,12 +141,25 @@ fn carry_out<Q: Read + Drop, R: Read + Drop, W: Write + Drop>(
     wanted: Q,
     reader: R,
     writer: W,
-) -> Result<(), ToolFault>
+) -> Result<(), Stop>
     ensures { (wanted_bytes bytes : List ℕ) → Q.remaining wanted ≡ Some wanted_bytes → R.remaining reader ≡ Some bytes
         → EndsRun order.now.command wanted_bytes bytes (W.contents writer) result }
 {
     let mut wanted = Input::new(wanted);
     let mut input = Input::new(reader);
-    let mut output = Output::new(writer);
-    run_order(alloc, order, &mut wanted, &mut input, &mut output)
+    let mut output = Output::new(Pipe::new(writer));
+    let answer = run_order(alloc, order, &mut wanted, &mut input, &mut output);
+    let pipe = output.into_inner();
+    ended(answer, pipe.is_closed())
+}
+
+// What ends the program behind a run that answered this.
+fn ended(answer: Result<(), ToolFault>, is_unread: bool) -> Result<(), Stop>
+    ensures { HasAnswered answer result }
+{
+    match answer {
+        Ok(()) => Ok(()),
+        Err(ToolFault::Write) if is_unread => Err(Stop::Unread),
+        Err(fault) => Err(Stop::Run(fault)),
+    }
 }

@@ -2,8 +2,9 @@
 
 use crate::devices::{Endless, Failing};
 use crate::rows::{ROWS, bytes_of, limits_of, number, part};
-use crate::sessions::feed_both;
-use gob_stream::{Fault, Input, Limits, Output, Refusal, read_stream, write_stream};
+use crate::sessions::{count_items, feed_both};
+use gob_read::TreeBuilder;
+use gob_stream::{Fault, Input, Limits, Output, Refusal, Session, read_stream, write_stream};
 use gob_types::Reason;
 use std::alloc::{AllocError, Global};
 use std::io::ErrorKind;
@@ -164,6 +165,18 @@ fn fails_there(alloc: Global, fails_at: usize, kind: ErrorKind) -> bool {
     answer == Err(Fault::Read) && counted && items.len() == fails_at / 4
 }
 
+// Whether a session takes the same items one at a time, has the same fault, and takes none from then on.
+fn fails_for_good(alloc: Global, fails_at: usize, kind: ErrorKind) -> bool {
+    let bytes = b"\x03\x04\x00\x06\x03\x02\x00\x01";
+    let mut input = Input::new(Failing::new(bytes, fails_at, kind));
+    let Ok(mut session) = Session::<TreeBuilder>::new(alloc, Limits::standard()) else {
+        return false;
+    };
+    let taken = count_items(alloc, &mut session, &mut input, 3);
+    let again = count_items(alloc, &mut session, &mut input, 3);
+    taken == Err((fails_at / 4, Fault::Read)) && again == Err((0, Fault::Failed))
+}
+
 #[test]
 fn failing_readers(rt: HostRuntime) {
     for kind in [ErrorKind::Interrupted, ErrorKind::Other] {
@@ -172,6 +185,10 @@ fn failing_readers(rt: HostRuntime) {
             assert!(rt;
                 fails_there(rt.alloc(), fails_at, kind),
                 "fails at {fails_at}"
+            );
+            assert!(rt;
+                fails_for_good(rt.alloc(), fails_at, kind),
+                "a session fails at {fails_at}"
             );
         }
     }

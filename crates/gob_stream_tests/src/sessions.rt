@@ -1,9 +1,10 @@
 //! Sessions that are fed.
 
 use gob_read::TreeBuilder;
-use gob_stream::{Fault, Item, Limits, Session};
+use gob_stream::{Fault, Input, Item, Limits, Session};
 use gob_value::Value;
 use std::alloc::Global;
+use std::io::Read;
 
 /// Feeds a session the bytes in two pieces, and appends their items. After a fault each further call answers `Failed`,
 /// so the first fault is the one that counts.
@@ -18,4 +19,21 @@ pub(crate) fn feed_both(
     let second = session.feed(alloc, two, out);
     let end = session.finish();
     first.and(second).and(end)
+}
+
+/// Takes the items of an input one at a time, at most so many, and counts them up to the end or a fault.
+pub(crate) fn count_items<R: Read>(
+    alloc: Global,
+    session: &mut Session<TreeBuilder>,
+    input: &mut Input<R>,
+    most: usize,
+) -> Result<usize, (usize, Fault)> {
+    for count in 0..most {
+        match session.read_item(alloc, input) {
+            Ok(Some(_)) => {}
+            Ok(None) => return Ok(count),
+            Err(fault) => return Err((count, fault)),
+        }
+    }
+    Ok(most)
 }

@@ -7,16 +7,18 @@ use Rattle.gob.proofs.carry_out.Goals as goal
 pub returns : goal.returns
 returns g c = λ wanted_bytes bytes sought known.
     let command = c.args.order.now.command in
-    let wanted_now = g.Q.Read.remaining c.run_order.new.wanted.reader in
-    let now = g.R.Read.remaining c.run_order.new.input.reader in
-    let new = g.W.Write.contents c.run_order.new.output.writer in
-    let does = c.run_order.ensures.does wanted_bytes bytes
+    let wanted_now = g.Q.Read.remaining c.run_order-answer.new.wanted.reader in
+    let now = g.R.Read.remaining c.run_order-answer.new.input.reader in
+    let new = g.W.Write.contents c.run_order-answer.new.output.writer.writer in
+    let does = c.run_order-answer.ensures.does wanted_bytes bytes
     (ap (λ r. g.Q.Read.remaining r) c.new-wanted.ensures.reader ∙ sought)
     (ap (λ r. g.R.Read.remaining r) c.new-input.ensures.reader ∙ known) in
     record {
+      answer = c.run_order-answer.result;
+      answered = c.ended.ensures;
       wanted_now = wanted_now;
       now = now;
       new = new;
       does = subst (λ w. Does command standard_limits wanted_bytes bytes wanted_now now (g.W.Write.contents w) new
-          c.run_order.result) c.new-output.ensures.writer does;
+          c.run_order-answer.result) (ap (λ pipe. pipe.writer) c.new-output.ensures.writer ∙ c.new.ensures.writer) does;
     }
