@@ -1,7 +1,8 @@
 -- What the code's conversions give: of unsigned numbers to signed ones and to patterns, and back.
 use Rattle.std.proofs.Common.{◌≡◌, ◌≢◌, ℕ, ℤ, pos, negsuc, ◌+◌, ◌*◌, ◌/◌, ◌%◌, ◌^◌, ◌<◌, ◌+ℤ◌, ◌≤ℤ◌, ◌<ℤ◌, List, w64}
-use Rattle.std.proofs.Common.{arith, refl, sym, ◌∙◌, subst}
+use Rattle.std.proofs.Common.{arith, inl, inr, refl, sym, ◌∙◌, subst}
 use Rattle.std.specs.Int.{to_le_bytes, to_be_bytes, swap_bytes}
+use Rattle.std.proofs.lemmas.Bool.{cases_lt}
 use Rattle.std.proofs.lemmas.Int.{ints}
 use Rattle.std.proofs.lemmas.Nat.{mod_below, from_be_bytes-to_be_bytes_8}
 use Rattle.gob_num.specs.Unsigned.{AreBytes, big_endian, IsUnsigned}
@@ -9,6 +10,7 @@ use Rattle.gob_num.specs.Signed.{IsSigned, not_negative, negative}
 use Rattle.gob_num.specs.Pattern.{IsPattern}
 use Rattle.gob_num.proofs.DigitLaws.{from_be_bytes-big_endian}
 use Rattle.gob_num.proofs.PatternLaws.{reverse-bytes}
+use Rattle.gob_num.proofs.UnsignedLaws.{unsigned_fits}
 
 -- ---- signed numbers
 pub even_signed : (u : ℕ) (i : ℤ) → u % 2 ≡ 0 → i ≡ pos (u / 2) → (bytes : List ℕ) → IsUnsigned u bytes
@@ -86,3 +88,19 @@ swapped_spells p u l e bytes s = record {
   eight = record { eight = refl; bytes = high_bytes p; value = sym (big_endian-be p l) };
   spelled = subst (λ n. IsUnsigned n bytes) (e ∙ big_endian-le p) s;
 }
+
+-- each spelling of a number is that of a signed number, and of a pattern
+pub unsigned_signed : {u : ℕ} {bytes : List ℕ} → IsUnsigned u bytes → (i : ℤ) × IsSigned i bytes
+unsigned_signed {u = u} {bytes = bytes} s =
+    elim (cases_lt (u % 2) 1) [
+      | inl k ↦
+          let h : u ≡ 2 * (u / 2) = omega arith in
+          (pos (u / 2), not_negative (subst (λ n. IsUnsigned n bytes) h s))
+      | inr k ↦
+          let h : u ≡ 2 * (u / 2) + 1 = omega arith in
+          (negsuc (u / 2), negative (subst (λ n. IsUnsigned n bytes) h s))
+    ]
+
+pub unsigned_pattern : {u : ℕ} {bytes : List ℕ} → IsUnsigned u bytes → (p : ℕ) × IsPattern p bytes
+unsigned_pattern {u = u} {bytes = bytes} s =
+    (swap_bytes w64 u, spells_swapped u (swap_bytes w64 u) (unsigned_fits s) refl bytes s)

@@ -5,6 +5,7 @@ pub use Rattle.gob_num.proofs.SignedLaws.{signed_prefix, signed_unique, signed_v
 pub use Rattle.gob_num.proofs.SignedLaws.{signed_unsigned}
 pub use Rattle.gob_num.proofs.PatternLaws.{pattern_prefix, pattern_unique, pattern_value, pattern_spelled, pattern_fits}
 pub use Rattle.gob_num.proofs.PatternLaws.{pattern_unsigned, reverse-bytes}
+pub use Rattle.gob_num.proofs.ConversionLaws.{unsigned_signed, unsigned_pattern}
 pub use Rattle.gob_num.proofs.FrontLaws.{front_begins, begins_front, bad_head_none, not_minimal_none, begin_somehow}
 pub use Rattle.gob_num.proofs.FrontLaws.{begin_one_way, front_not_whole, front_not_past, front_not_bad_head}
 pub use Rattle.gob_num.proofs.FrontLaws.{front_not_padded, whole_not_past, whole_not_bad_head, whole_not_padded}

@@ -30,6 +30,7 @@ pub mod ValueSteps
 pub mod DefinitionSteps
 pub mod StandingSteps
 pub mod SessionSteps
+pub mod WholeSteps
 pub mod StreamReadSteps
 pub mod NumberSteps
 pub mod StageSteps

@@ -10,6 +10,7 @@ pub mod Devices
 pub mod Session
 pub mod Standing
 pub mod Reading
+pub mod Whole
 pub mod Honest
 pub mod ReadParts
 pub mod Writing

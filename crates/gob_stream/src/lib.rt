@@ -40,6 +40,7 @@ mod session;
 mod spelled;
 mod stage;
 mod type_number;
+mod whole;
 mod writer;
 mod writing;
 
@@ -49,6 +50,8 @@ pub use item::Item;
 pub use limits::Limits;
 pub use output::Output;
 pub use read::read_stream;
+pub use reading::Step;
 pub use session::Session;
+pub use whole::{Passed, Whole};
 pub use writer::StreamWriter;
 pub use writing::write_stream;

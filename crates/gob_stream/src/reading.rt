@@ -48,11 +48,11 @@ impl<B: Builder> Drop for Reading<B> {
 
 /// What became of the front of a piece.
 #[derive(Drop)]
-pub(crate) struct Step<O: Drop> {
-    /// How many bytes of the piece were taken.
-    pub(crate) used: usize,
+pub struct Step<O: Drop> {
+    /// How many bytes of the piece were taken, one at least.
+    pub used: usize,
     /// The item that is whole with them.
-    pub(crate) item: Option<Item<O>>,
+    pub item: Option<Item<O>>,
 }
 
 impl<B: Builder> Reading<B> {

@@ -4,8 +4,9 @@ use crate::fault::Fault;
 use crate::input::Input;
 use crate::item::Item;
 use crate::limits::Limits;
-use crate::reading::Reading;
+use crate::reading::{Reading, Step};
 use crate::stage::Stage;
+use crate::whole::{Passed, Whole};
 use gob_num::Memory;
 use gob_read::{Builder, TreeBuilder};
 use gob_types::Table;
@@ -42,11 +43,16 @@ impl<B: Builder> Model for Session<B> {
 }
 
 impl<B: Builder> Session<B> {
-    ghost use Rattle.std.specs.Prelude.{◌≡◌, ◌++◌, ℕ, List, [], Err, Some, IfOk, OnErr};
+    ghost use Rattle.std.specs.Prelude.{◌≡◌, ◌+◌, ◌<◌, ◌≤◌, ◌++◌, ◌∷◌, ℕ, List, [], length, Err, Some, None};
+    ghost use Rattle.std.specs.Prelude.{IfOk, IfSome, OnErr};
+    ghost use Rattle.gob_types.specs.Base.{base_table};
     ghost use Rattle.gob_stream.specs.Bounds.{AreLimits, deepest, no_deeper};
     ghost use Rattle.gob_types.specs.Defined.{types};
     ghost use Rattle.gob_stream.specs.Item.{StreamItem};
     ghost use Rattle.gob_stream.specs.Standing.{StandsAfter};
+    ghost use Rattle.gob_stream.specs.Stream.{Counted};
+    ghost use Rattle.gob_stream.specs.ReadParts.{Advances};
+    ghost use Rattle.gob_stream.specs.Whole.{IsBetween, HasBody, HasItem, PassesItem};
     ghost use Rattle.gob_stream.specs.Honest.{FeedsHonestly, ReadsHonestly};
     ghost use Rattle.gob_stream.specs.Reading.{Given, Feeds, Finishes, ReadsNext, CountsReads, TakesNext};
 
@@ -112,6 +118,76 @@ impl<B: Builder> Session<B> {
         ensures { result.now ≡ self.now.reading.types }
     {
         &self.reading.types
+    }
+
+    /// The item of a value that stands whole at the front of the piece, where no byte of an item is under way: its type
+    /// is ready and the limits allow its length. It takes no memory, and looks at no byte of the value. None says
+    /// nothing of the piece.
+    pub fn whole_value<'a>(&self, piece: &'a [u8]) -> Option<Whole<'a>>
+        ensures between { IfSome result (λ whole. IsBetween self.now.reading) }
+        ensures body { IfSome result (λ whole.
+            HasBody self.now.reading.limits (types self.now.reading.types) self.now.reading.taken
+            whole.id whole.body.now whole.used piece.now) }
+    {
+        self.reading.whole_value(piece)
+    }
+
+    /// Goes past so many bytes, which the caller has found to be an item that defines nothing.
+    pub fn pass(&mut self, used: usize)
+        requires between { IsBetween self.old.reading }
+        requires item { HasItem (no_deeper B.DEPTH self.old.reading.limits)
+            (types self.old.reading.types) self.old.reading.taken used }
+        ensures passed { (items : List StreamItem) (bytes : List ℕ) (item : StreamItem) (z : List ℕ)
+            → StandsAfter B.stands ⟦<TreeBuilder as Builder>⟧.stands B.DEPTH self.old.reading items bytes
+            → Counted base_table (no_deeper B.DEPTH self.old.reading.limits) (types self.old.reading.types)
+            self.old.reading.taken item z (types self.old.reading.types)
+            → length z ≡ used
+            → StandsAfter B.stands ⟦<TreeBuilder as Builder>⟧.stands B.DEPTH self.new.reading
+            (items ++ item ∷ []) (bytes ++ z) }
+        ensures between { IsBetween self.new.reading }
+        ensures taken { self.new.reading.taken ≡ self.old.reading.taken + used }
+        ensures types { self.new.reading.types ≡ self.old.reading.types }
+        ensures limits { self.new.reading.limits ≡ self.old.reading.limits }
+    {
+        self.reading.pass(used);
+    }
+
+    /// Goes past the item of a value that stands whole at the front of the piece, and keeps nothing of the value. It
+    /// takes no memory. None says nothing of the piece, and then nothing has changed: [`Session::step`] reads on, and
+    /// refuses what is to be refused.
+    pub fn pass_whole(&mut self, piece: &[u8]) -> Option<Passed>
+        ensures passed { IfSome result (λ item. PassesItem B.stands ⟦<TreeBuilder as Builder>⟧.stands B.DEPTH
+            self.old.reading self.new.reading item.id item.used piece.now) }
+        ensures same { result ≡ None → self.new ≡ self.old }
+        ensures between { IfSome result (λ item. IsBetween self.new.reading) }
+        ensures taken { IfSome result (λ item. self.new.reading.taken ≡ self.old.reading.taken + item.used) }
+        ensures types { self.new.reading.types ≡ self.old.reading.types }
+        ensures limits { self.new.reading.limits ≡ self.old.reading.limits }
+    {
+        self.reading.pass_whole(piece)
+    }
+
+    /// Takes some bytes from the front of the piece, one at least, and none behind the end of an item.
+    /// A refusal comes in the call that is given the last of the bytes that show it, and never says `Ended`.
+    /// After a fault each call answers [`Fault::Failed`].
+    pub fn step(&mut self, alloc: Global, piece: &[u8]) -> Result<Step<B::Out>, Fault>
+        requires { 0 < length piece.now }
+        ensures advances { (items : List StreamItem) (bytes : List ℕ)
+            → StandsAfter B.stands ⟦<TreeBuilder as Builder>⟧.stands B.DEPTH self.old.reading items bytes
+            → Advances B.stands ⟦<TreeBuilder as Builder>⟧.stands B.means B.DEPTH
+            self.old.reading self.new.reading items bytes piece.now result }
+        ensures used { IfOk result (λ step. (0 < step.used) × (step.used ≤ length piece.now)) }
+        ensures failed { OnErr result (self.new.reading.stage ≡ Stage.Failed) }
+        ensures stays { self.old.reading.stage ≡ Stage.Failed
+            → (result ≡ Err Fault.Failed) × (self.new.reading ≡ self.old.reading) }
+        ensures types { OnErr result (self.new.reading.types ≡ self.old.reading.types) }
+        ensures taken { OnErr result (self.new.reading.taken ≡ self.old.reading.taken) }
+        ensures limits { self.new.reading.limits ≡ self.old.reading.limits }
+    {
+        if matches!(self.reading.stage, Stage::Failed) {
+            return Err(Fault::Failed);
+        }
+        self.reading.step(alloc, piece)
     }
 
     /// Reads up to the end of the next item, and no byte behind it. None at the end of the input between two items.

@@ -25,8 +25,8 @@ use std::alloc::Global;
 // The type of descriptions.
 const WIRE_TYPE: TypeId = TypeId(16);
 
-// The type of this project's own for the descriptions of opaque types, which no value item may name.
-const GOB_ENCODER_TYPE: u64 = 24;
+/// The type of this project's own for the descriptions of opaque types, which no value item may name.
+pub(crate) const GOB_ENCODER_TYPE: u64 = 24;
 
 /// Takes bytes of the type number of a body, of which the number has the bytes before the offset `taken`, and where
 /// it is whole, those of what follows it.

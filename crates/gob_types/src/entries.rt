@@ -7,6 +7,7 @@ ghost use Rattle.gob_types.specs.Entered.{with_entry};
 
 use crate::id::TypeId;
 use crate::kind::Shape;
+use crate::places::Places;
 use crate::type_set::TypeSet;
 use gob_num::Memory;
 use indexmap::IndexMap;
@@ -16,12 +17,17 @@ use std::marker::Model;
 /// Types by their ids, in the order in which they were entered.
 pub(crate) struct Entries {
     shapes: IndexMap<TypeId, Shape>,
+    // Where they stand among them, as far as that is kept.
+    places: Places,
 }
 
 // Not derived, so that a drop is one call in the proofs of what owns one.
 impl Drop for Entries {
     fn drop(self) {
-        let Entries { shapes: _ } = self;
+        let Entries {
+            shapes: _,
+            places: _,
+        } = self;
     }
 }
 
@@ -40,6 +46,7 @@ impl Entries {
     {
         Entries {
             shapes: IndexMap::new(alloc),
+            places: Places::new(alloc),
         }
     }
 
@@ -55,10 +62,19 @@ impl Entries {
     pub(crate) fn shape_of(&self, id: TypeId) -> Option<&Shape>
         ensures { option_copied result ≡ shape_of self.now id }
     {
-        match self.shapes.get_index(likely_place(id)) {
+        match self.shapes.get_index(self.places.of(id)) {
             Some((there, shape)) if *there == id => Some(shape),
-            _ => self.shapes.get(&id),
+            _ => self.search(id),
         }
+    }
+
+    // The same, without a guess. It stands apart, so that the look-up that hashes is no part of the loops that look up.
+    #[cold]
+    #[inline(never)]
+    fn search(&self, id: TypeId) -> Option<&Shape>
+        ensures { option_copied result ≡ shape_of self.now id }
+    {
+        self.shapes.get(&id)
     }
 
     /// The ids of the types, in order.
@@ -84,7 +100,9 @@ impl Entries {
         ensures entered { OnOk result (self.new ≡ with_entry self.old id shape) }
         ensures unchanged { OnErr result (self.new ≡ self.old) }
     {
+        let place = self.shapes.len();
         self.shapes.insert(id, shape)?;
+        self.places.keep(id, place);
         Ok(())
     }
 
@@ -93,17 +111,5 @@ impl Entries {
         ensures { self.new ≡ take count self.old }
     {
         self.shapes.truncate(count);
-    }
-}
-
-// The place in the table where a type of this id stands, if the stream defines its types one after another
-// from 65 on, as Go's encoder does. A look-up tries it before it hashes.
-#[inline]
-fn likely_place(id: TypeId) -> usize {
-    match id.0 {
-        1..=8 => id.0 as usize - 1,
-        16..=24 => id.0 as usize - 8,
-        65..=2147483647 => id.0 as usize - 48,
-        _ => usize::MAX,
     }
 }

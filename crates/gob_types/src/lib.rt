@@ -31,6 +31,7 @@ mod kind;
 pub mod laws;
 mod learning;
 mod name;
+mod places;
 mod reaching;
 mod readiness;
 mod reason;

@@ -3,6 +3,8 @@ pub mod ViewLaws
 pub mod TestSteps
 pub mod LeafLaws
 pub mod WithinLaws
+pub mod WholeSteps
+pub mod WholeLaws
 pub mod FitLaws
 pub mod AppendedLaws
 pub mod WrittenLaws

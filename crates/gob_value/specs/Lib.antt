@@ -4,6 +4,7 @@ pub mod Spelling
 pub mod Top
 pub mod Fits
 pub mod Within
+pub mod Whole
 pub mod Elements
 pub mod Written
 pub mod Faults

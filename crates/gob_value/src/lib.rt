@@ -14,6 +14,7 @@
 //! - [`fits`] says whether a value is one of a type, and shallow enough.
 //! - [`spell`] appends the one spelling of a value that is.
 //! - [`shape_from`] gives the shape that a description gives, and [`describe`] a description of a shape.
+//! - [`is_whole`] says whether bytes are a value of a type, and keeps nothing of it.
 //! - [`tidy`] leaves out of each struct the fields that Go's encoder leaves out.
 //! - [`spellings_begin_no_other`], [`spellings_are_unique`], [`spellings_tell_the_value`],
 //!   [`spellings_are_bytes`] and [`spellings_stay`] are laws, which readers and writers rely on. So are those of
@@ -36,6 +37,7 @@ mod parts;
 mod spelling;
 mod tidying;
 mod value;
+mod whole;
 mod writing;
 
 pub use describing::describe;
@@ -57,3 +59,4 @@ pub use laws_tidy::{
 pub use spelling::spell;
 pub use tidying::tidy;
 pub use value::Value;
+pub use whole::is_whole;

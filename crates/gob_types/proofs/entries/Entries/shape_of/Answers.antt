@@ -11,7 +11,3 @@ returns-in-Some c =
     let same : c.in-Some.there.now ≡ c.args.id = ap (λ (n : ℕ). let t : TypeId = record { 0 = n } in t) (eqb-true _ _ (sym c.eq.ensures ∙ c.if-eq.true)) in
     let found : Some c.in-Some.shape.now ≡ shape_of T c.in-Some.there.now = sym c.in-Some.ensures.value ∙ lookup-shape_of T c.in-Some.there.now in
     found ∙ ap (shape_of T) same ∙ ap (λ U. shape_of U c.args.id) c.self.view_is
-
-pub returns-in_default : goal.returns-in_default
-returns-in_default c =
-    c.get.ensures.value ∙ lookup-shape_of c.self.inside.shapes.entries c.args.id ∙ ap (λ T. shape_of T c.args.id) c.self.view_is

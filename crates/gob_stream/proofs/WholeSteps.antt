@@ -1,0 +1,151 @@
+-- Items of values that stand whole at the front of a piece.
+use Rattle.std.proofs.Common.{◌≡◌, ℕ, pos, ◌+◌, ◌-◌, ◌≤◌, List, [], ◌∷◌, ◌++◌, length, take, drop, min, arith, refl}
+use Rattle.std.proofs.Common.{sym, ap, ◌∙◌, subst, length-append, length-drop}
+use Rattle.std.proofs.Math.Seq.{take-add, take_all}
+use Rattle.std.proofs.lemmas.List.{length-take-le, take-append-drop, append-nil}
+use Rattle.gob_num.specs.Unsigned.{IsUnsigned}
+use Rattle.gob_num.specs.Signed.{IsSigned}
+use Rattle.gob_num.proofs.FrontLaws.{begins_front}
+use Rattle.gob_num.proofs.PublicLaws.{unsigned_length}
+use Rattle.gob_types.specs.declared.id.TypeId.{TypeId}
+use Rattle.gob_types.specs.Table.{Table}
+use Rattle.gob_types.specs.Base.{base_table}
+use Rattle.gob_types.specs.Defined.{types}
+use Rattle.gob_read.specs.declared.tree_builder.TreeBuilder.{TreeBuilder}
+use Rattle.gob_stream.specs.declared.stage.Stage.TheVariants as stage
+use Rattle.gob_stream.specs.declared.reading.Reading.{Reading}
+use Rattle.gob_stream.specs.Bounds.{Bounds, no_deeper}
+use Rattle.gob_stream.specs.Item.{StreamItem, puts}
+use Rattle.gob_stream.specs.Body.{MayPut, value}
+use Rattle.gob_stream.specs.Stream.{Counted, counted}
+use Rattle.gob_stream.specs.Standing.{Standing, StandsIn, in_count, StandsAfter, IsUsable, has_failed, stands_after}
+use Rattle.gob_value.specs.Whole.{IsWhole}
+use Rattle.gob_stream.specs.Whole.{IsBetween, HasBody, HasItem, PassesItem}
+use Rattle.gob_stream.proofs.StreamLaws.{one_more}
+use Rattle.gob_stream.proofs.UnderWayLaws.{count_begins_here, none_awaits_count}
+
+-- the piece without its front, cut to a length
+cut : (h m : ℕ) (piece : List ℕ) → m ≤ length piece - h → length (take m (drop h piece)) ≡ m
+cut h m piece l = length-take-le m (drop h piece) (omega (arith, length-drop h piece))
+
+-- a list in two
+in_two : (n : ℕ) (z : List ℕ) → take n z ++ take (length z - n) (drop n z) ≡ z
+in_two n z =
+    ap (λ y. take n z ++ y) (take_all (length z - n) (drop n z) (omega (arith, length-drop n z))) ∙ take-append-drop n z
+
+pub has_body : (L : Bounds) (T : Table) (offset : ℕ) (id : TypeId) (piece : List ℕ) (head count behind room : ℕ)
+    → head ≤ length piece → IsUnsigned count (take head piece) → count ≤ length piece - head → count ≤ L.item
+    → room ≡ L.stream - offset → head + count ≤ room
+    → IsSigned (pos id.0) (take behind (take (head + count - head) (drop head piece))) → MayPut T id
+    → HasBody L T offset id (take (length (take (head + count - head) (drop head piece)) - behind)
+    (drop behind (take (head + count - head) (drop head piece)))) (head + count) piece
+has_body L T offset id piece head count behind room inside counts enough item is_room fits names may =
+    let m = head + count - head in
+    let same : m ≡ count = omega arith in
+    let z = take m (drop head piece) in
+    let size : length z ≡ m = cut head m piece (omega arith) in
+    let first : length (take head piece) ≡ head = length-take-le head piece inside in
+    let some = (unsigned_length counts).0 in
+    let both : take behind z ++ take (length z - behind) (drop behind z) ≡ z = in_two behind z in
+    let all : length (take head piece ++ (take behind z ++ take (length z - behind) (drop behind z))) ≡ head + count =
+    length-append (take head piece) (take behind z ++ take (length z - behind) (drop behind z)) ∙ omega
+    (arith, ap length both) in
+    let body_size : length (take behind z ++ take (length z - behind) (drop behind z)) ≡ count = ap length both ∙ size
+    ∙ same in
+    record {
+      count = take head piece;
+      number = take behind z;
+      counts = subst (λ n. IsUnsigned n (take head piece)) (sym body_size) counts;
+      item = omega arith;
+      stream = omega arith;
+      names = names;
+      may = may;
+      within = omega arith;
+      whole =
+          take-add head count piece ∙ ap (λ n. take head piece ++ take n (drop head piece)) (sym same) ∙ ap
+          (λ y. take head piece ++ y) (sym both);
+    }
+
+-- a body that is a whole value is that of an item
+pub whole_item : {L : Bounds} {T : Table} {offset : ℕ} {id : TypeId} {body : List ℕ} {used : ℕ} {piece : List ℕ}
+    {d : ℕ} (most : ℕ) → d ≡ min L.depth most → HasBody L T offset id body used piece → (w : IsWhole T id d body)
+    → Counted base_table (no_deeper most L) T offset (puts id w.value) (take used piece) T
+whole_item {L = L} {T = T} {offset = offset} {id = id} most e b w =
+    let shallow = w.within in
+    subst (λ z. Counted base_table (no_deeper most L) T offset (puts id w.value) z T) (sym b.whole)
+    (counted b.counts b.item b.stream (value b.may (omega arith) b.names w.spelled))
+
+pub has_item : {L : Bounds} {T : Table} {offset : ℕ} {id : TypeId} {body : List ℕ} {used : ℕ} {piece : List ℕ} {d : ℕ}
+    (most : ℕ) → d ≡ min L.depth most → HasBody L T offset id body used piece → IsWhole T id d body
+    → HasItem (no_deeper most L) T offset used
+has_item {id = id} {used = used} {piece = piece} most e b w =
+    record {
+      item =
+          puts id w.value;
+      bytes = take used piece;
+      counted = whole_item most e b w;
+      size = length-take-le used piece
+          b.within;
+    }
+
+-- ---- going past an item
+module _ {X O : Type 0} {stands : Standing X} {trees : Standing TreeBuilder} {most : ℕ} where
+  pub passed : {s s' : Reading X O} {begin used : ℕ} {number : List ℕ} → IsBetween s
+      → s.stage ≡ stage.Count begin number
+      → s' ≡ record s { taken = s.taken + used; stage = stage.Count (s.taken + used) number }
+      → (items : List StreamItem) (bytes : List ℕ) (item : StreamItem) (z : List ℕ)
+      → StandsAfter stands trees most s items bytes
+      → Counted base_table (no_deeper most s.limits) (types s.types) s.taken item z (types s.types)
+      → length z ≡ used → StandsAfter stands trees most s' (items ++ item ∷ []) (bytes ++ z)
+  passed {s =
+      s} {s' = s'} {begin = begin} {used = used} {number = number} between is e items bytes item z a there size =
+      let none : a.under_way ≡ [] = count_begins_here a between.stage refl in
+      let at = none_awaits_count a none in
+      let same : stage.Count begin number ≡ stage.Count s.taken [] = sym is ∙ at in
+      let empty : number ≡ [] = cc in
+      let front : bytes ≡ a.front = a.whole ∙ ap (λ y. a.front ++ y) none ∙ append-nil a.front in
+      let here : s.taken ≡ length a.front = a.taken ∙ ap length front in
+      let long : length (a.front ++ z) ≡ s.taken + used = omega (arith, length-append a.front z) in
+      rw e (record {
+        front = a.front ++ z;
+        under_way = [];
+        whole = ap (λ y. y ++ z) front ∙ sym (append-nil (a.front ++ z));
+        stream = one_more a.stream (omega arith) there;
+        stage =
+            subst (λ n. StandsIn {X = X} {O = O} stands trees (no_deeper most s.limits) (types s.types)
+            (length (a.front ++ z)) (stage.Count (s.taken + used) n) []) (sym empty)
+            (subst (λ n. StandsIn {X = X} {O = O} stands trees (no_deeper most s.limits) (types s.types)
+            (length (a.front ++ z)) (stage.Count n []) []) long (in_count (begins_front {bytes = []} tt)));
+        taken = sym (ap (λ y. length (y ++ z)) front ∙ long);
+        room = a.room;
+      })
+
+  -- past an item whose body was found to be whole
+  pub passes_item : {s s' : Reading X O} {id : TypeId} {body : List ℕ} {used : ℕ} {piece : List ℕ} {d : ℕ}
+      → d ≡ min s.limits.depth most
+      → HasBody s.limits (types s.types) s.taken id body used piece → IsWhole (types s.types) id d body
+      → ((items : List StreamItem) (bytes : List ℕ) (item : StreamItem) (z : List ℕ)
+      → StandsAfter stands trees most s items bytes
+      → Counted base_table (no_deeper most s.limits) (types s.types) s.taken item z (types s.types)
+      → length z ≡ used → StandsAfter stands trees most s' (items ++ item ∷ []) (bytes ++ z))
+      → PassesItem stands trees most s s' id used piece
+  passes_item {id = id} {used = used} {piece = piece} e b w f = record {
+    value = w.value;
+    within = b.within;
+    passed =
+        λ items bytes a. f items bytes (puts id w.value) (take used piece) a (whole_item most e b w)
+        (length-take-le used piece b.within);
+  }
+
+  -- what stood after some bytes is behind an item, so it stands after some
+  pub usable_behind : {s s' : Reading X O} {used : ℕ} → IsBetween s
+      → HasItem (no_deeper most s.limits) (types s.types) s.taken used
+      → ((items : List StreamItem) (bytes : List ℕ) (item : StreamItem) (z : List ℕ)
+      → StandsAfter stands trees most s items bytes
+      → Counted base_table (no_deeper most s.limits) (types s.types) s.taken item z (types s.types)
+      → length z ≡ used → StandsAfter stands trees most s' (items ++ item ∷ []) (bytes ++ z))
+      → IsUsable stands trees most s → IsUsable stands trees most s'
+  usable_behind {s =
+      s} b h f (has_failed e) = let n : stage.Failed ≡ stage.Count s.taken b.number = sym e ∙ b.stage in cc
+  usable_behind b h f (stands_after {items =
+      items} {bytes = bytes} a) = stands_after (f items bytes h.item h.bytes a h.counted h.size)

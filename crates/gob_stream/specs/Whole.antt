@@ -1,0 +1,50 @@
+-- Items of values that stand whole at the front of a piece, between two items.
+use Rattle.std.specs.Prelude.{◌≡◌, ℕ, pos, ◌+◌, ◌≤◌, List, [], ◌∷◌, ◌++◌, length, take}
+use Rattle.gob_num.specs.Unsigned.{IsUnsigned}
+use Rattle.gob_num.specs.Signed.{IsSigned}
+use Rattle.gob_types.specs.declared.id.TypeId.{TypeId}
+use Rattle.gob_types.specs.Base.{base_table}
+use Rattle.gob_types.specs.Table.{Table}
+use Rattle.gob_value.specs.Tree.{Tree}
+use Rattle.gob_read.specs.declared.tree_builder.TreeBuilder.{TreeBuilder}
+use Rattle.gob_stream.specs.declared.stage.Stage.TheVariants as stage
+use Rattle.gob_stream.specs.declared.reading.Reading.{Reading}
+use Rattle.gob_stream.specs.Bounds.{Bounds}
+use Rattle.gob_stream.specs.Item.{StreamItem, puts}
+use Rattle.gob_stream.specs.Body.{MayPut}
+use Rattle.gob_stream.specs.Stream.{Counted}
+use Rattle.gob_stream.specs.Standing.{Standing, StandsAfter}
+
+-- no byte of the next item was taken
+pub record IsBetween {X O : Type 0} (s : Reading X O) : Type 0 where
+  pub number : List ℕ
+  pub stage : s.stage ≡ stage.Count s.taken number
+
+-- at this offset the first bytes of the piece are the count of an item, the number of a type whose values may come, and
+-- this body
+pub record HasBody (L : Bounds) (T : Table) (offset : ℕ) (id : TypeId) (body : List ℕ) (used : ℕ) (piece : List ℕ) :
+    Type 0 where
+  pub count : List ℕ
+  pub number : List ℕ
+  pub counts : IsUnsigned (length (number ++ body)) count
+  pub item : length (number ++ body) ≤ L.item
+  pub stream : offset + length (count ++ (number ++ body)) ≤ L.stream
+  pub names : IsSigned (pos id.0) number
+  pub may : MayPut T id
+  pub within : used ≤ length piece
+  pub whole : take used piece ≡ count ++ (number ++ body)
+
+-- at this offset the first bytes of some piece are an item that defines nothing
+pub record HasItem (L : Bounds) (T : Table) (offset used : ℕ) : Type 0 where
+  pub item : StreamItem
+  pub bytes : List ℕ
+  pub counted : Counted base_table L T offset item bytes T
+  pub size : length bytes ≡ used
+
+-- behind this item, a value of the type, the first bytes of the piece
+pub record PassesItem {X O : Type 0} (stands : Standing X) (trees : Standing TreeBuilder) (most : ℕ)
+    (s s' : Reading X O) (id : TypeId) (used : ℕ) (piece : List ℕ) : Type 0 where
+  pub value : Tree
+  pub within : used ≤ length piece
+  pub passed : (items : List StreamItem) (bytes : List ℕ) → StandsAfter stands trees most s items bytes
+      → StandsAfter stands trees most s' (items ++ puts id value ∷ []) (bytes ++ take used piece)

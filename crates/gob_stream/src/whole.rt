@@ -1,0 +1,159 @@
+//! Items of values that stand whole at the front of a piece.
+
+ghost use Rattle.std.specs.Prelude.{◌≡◌, ◌+◌, ◌++◌, ◌∷◌, [], ℕ, List, pos, None, IsTrue, IfSome, length};
+ghost use Rattle.gob_num.specs.Unsigned.{IsUnsigned};
+ghost use Rattle.gob_num.specs.Signed.{IsSigned};
+ghost use Rattle.gob_types.specs.Base.{base_table};
+ghost use Rattle.gob_types.specs.Defined.{types};
+ghost use Rattle.gob_stream.specs.Body.{MayPut};
+ghost use Rattle.gob_stream.specs.Item.{StreamItem};
+ghost use Rattle.gob_stream.specs.Stream.{Counted};
+ghost use Rattle.gob_stream.specs.Bounds.{no_deeper};
+ghost use Rattle.gob_stream.specs.Standing.{StandsAfter, IsUsable};
+ghost use Rattle.gob_stream.specs.Whole.{IsBetween, HasBody, HasItem, PassesItem};
+
+use crate::reading::Reading;
+use crate::stage::Stage;
+use crate::type_number::GOB_ENCODER_TYPE;
+use gob_num::{Taken, take_uint, to_signed};
+use gob_read::{Builder, TreeBuilder};
+use gob_types::{Table, TypeId};
+use gob_value::is_whole;
+
+/// An item of a value that stands whole at the front of a piece.
+#[derive(Clone, Copy)]
+pub struct Whole<'a> {
+    /// The id of its type.
+    pub id: TypeId,
+    /// What stands behind its type number.
+    pub body: &'a [u8],
+    /// How many bytes of the piece are in it.
+    pub used: usize,
+}
+
+/// An item of a value that was found to be whole.
+#[derive(Clone, Copy, Debug, PartialEq, Eq)]
+pub struct Passed {
+    /// The id of its type.
+    pub id: TypeId,
+    /// How many bytes of the piece were in it.
+    pub used: usize,
+}
+
+impl<B: Builder> Reading<B> {
+    /// The item of a value that stands whole at the front of the piece, where no byte of it was taken before. None says
+    /// nothing of the piece.
+    pub(crate) fn whole_value<'a>(&self, piece: &'a [u8]) -> Option<Whole<'a>>
+        ensures between { IfSome result (λ whole. IsBetween self.now) }
+        ensures body { IfSome result (λ whole. HasBody self.now.limits (types self.now.types) self.now.taken
+            whole.id whole.body.now whole.used piece.now) }
+    {
+        match &self.stage {
+            Stage::Count { begin, .. } if *begin == self.taken => {}
+            _ => return None,
+        }
+        let Taken::Whole {
+            number: count,
+            used: head,
+        } = take_uint(piece)
+        else {
+            return None;
+        };
+        if count > (piece.len() - head) as u64 || count > self.limits.item() {
+            return None;
+        }
+        let used = head + count as usize;
+        if used as u64 > self.limits.stream().saturating_sub(self.taken) {
+            return None;
+        }
+        let item = &piece[head..used];
+        let Taken::Whole {
+            number,
+            used: behind,
+        } = take_uint(item)
+        else {
+            return None;
+        };
+        let id = value_type(number)?;
+        if !may_put(&self.types, id) {
+            return None;
+        }
+        Some(Whole {
+            id,
+            body: &item[behind..],
+            used,
+        })
+    }
+
+    /// Goes past the item of a value that stands whole at the front of the piece, and keeps nothing of its value. None
+    /// says nothing of the piece, and then nothing has changed.
+    pub(crate) fn pass_whole(&mut self, piece: &[u8]) -> Option<Passed>
+        ensures passed { IfSome result (λ item. PassesItem B.stands ⟦<TreeBuilder as Builder>⟧.stands B.DEPTH
+            self.old self.new item.id item.used piece.now) }
+        ensures same { result ≡ None → self.new ≡ self.old }
+        ensures usable { IsUsable B.stands ⟦<TreeBuilder as Builder>⟧.stands B.DEPTH self.old
+            → IsUsable B.stands ⟦<TreeBuilder as Builder>⟧.stands B.DEPTH self.new }
+        ensures between { IfSome result (λ item. IsBetween self.new) }
+        ensures taken { IfSome result (λ item. self.new.taken ≡ self.old.taken + item.used) }
+        ensures types { self.new.types ≡ self.old.types }
+        ensures limits { self.new.limits ≡ self.old.limits }
+    {
+        let whole = self.whole_value(piece)?;
+        let depth = self.limits.depth().min(B::DEPTH);
+        if !is_whole(&self.types, whole.id, whole.body, depth) {
+            return None;
+        }
+        self.pass(whole.used);
+        Some(Passed {
+            id: whole.id,
+            used: whole.used,
+        })
+    }
+
+    /// Goes past so many bytes, which are an item of a value.
+    pub(crate) fn pass(&mut self, used: usize)
+        requires between { IsBetween self.old }
+        requires item { HasItem (no_deeper B.DEPTH self.old.limits) (types self.old.types) self.old.taken used }
+        ensures passed { (items : List StreamItem) (bytes : List ℕ) (item : StreamItem) (z : List ℕ)
+            → StandsAfter B.stands ⟦<TreeBuilder as Builder>⟧.stands B.DEPTH self.old items bytes
+            → Counted base_table (no_deeper B.DEPTH self.old.limits) (types self.old.types) self.old.taken
+            item z (types self.old.types)
+            → length z ≡ used
+            → StandsAfter B.stands ⟦<TreeBuilder as Builder>⟧.stands B.DEPTH self.new
+            (items ++ item ∷ []) (bytes ++ z) }
+        ensures usable { IsUsable B.stands ⟦<TreeBuilder as Builder>⟧.stands B.DEPTH self.old
+            → IsUsable B.stands ⟦<TreeBuilder as Builder>⟧.stands B.DEPTH self.new }
+        ensures between { IsBetween self.new }
+        ensures taken { self.new.taken ≡ self.old.taken + used }
+        ensures types { self.new.types ≡ self.old.types }
+        ensures limits { self.new.limits ≡ self.old.limits }
+    {
+        // its contract says that no stream is so long that the sum wraps
+        let _most = self.limits.stream();
+        self.taken += used as u64;
+        if let Stage::Count { begin, .. } = &mut self.stage {
+            *begin = self.taken;
+        }
+    }
+}
+
+// The type whose number this is, where it is that of a value.
+fn value_type(number: u64) -> Option<TypeId>
+    ensures { IfSome result (λ id. (bytes : List ℕ) → IsUnsigned number bytes → IsSigned (pos id.0) bytes) }
+{
+    let number = to_signed(number);
+    if number < 0 {
+        return None;
+    }
+    Some(TypeId(number as u64))
+}
+
+// Whether values of the type may come now.
+fn may_put(table: &Table, id: TypeId) -> bool
+    ensures { IsTrue result → MayPut (types table.now) id }
+{
+    if id.0 == GOB_ENCODER_TYPE {
+        return false;
+    }
+    table.kept(id)
+}

@@ -1,0 +1,394 @@
+-- Values that stand whole at a place of a body, from their parts.
+use Rattle.std.proofs.Common.{◌≡◌, ℕ, zero, suc, ◌+◌, ◌-◌, ◌<◌, ◌≤◌, true, false, List, [], ◌++◌, length, Option}
+use Rattle.std.proofs.Common.{Some, None, IfSome, take, drop, arith, refl, sym, ap, ◌∙◌, subst, append_assoc}
+use Rattle.std.specs.Prelude.{slice_get}
+use Rattle.std.proofs.lemmas.List.{drop-drop, take-append-drop, length-drop, length-take-le}
+use Rattle.gob_num.specs.Unsigned.{IsUnsigned}
+use Rattle.gob_num.proofs.PublicLaws.{unsigned_signed, unsigned_pattern}
+use Rattle.gob_types.specs.declared.id.TypeId.{TypeId}
+use Rattle.gob_types.specs.declared.basic.Basic.TheVariants as basic
+use Rattle.gob_types.specs.declared.kind.Field.{Field}
+use Rattle.gob_types.specs.declared.kind.Marshal.{Marshal}
+use Rattle.gob_types.specs.declared.kind.Kind.{Kind}
+use Rattle.gob_types.specs.declared.kind.Kind.TheVariants as kind
+use Rattle.gob_types.specs.declared.kind.Shape.{Shape}
+use Rattle.gob_types.specs.Table.{Table, shape_of}
+use Rattle.gob_value.specs.Tree.{Tree, no_tree, tree, no_pair, pair, no_field, field}
+use Rattle.gob_value.specs.Spelling.{of_type, of_bool, of_int, of_uint, of_float, of_complex, of_nil, of_bytes}
+use Rattle.gob_value.specs.Spelling.{of_text, of_opaque, of_slice, of_array, of_map, of_struct, no_element, element}
+use Rattle.gob_value.specs.Spelling.{no_entry, entry, end_of_fields, next_field}
+use Rattle.gob_value.specs.Whole.{AreNumbers, Stands, BeginsKind, BeginsEach, BeginsPairs, BeginsFields, BeginsNumber}
+use Rattle.gob_value.specs.Whole.{BeginsRaw}
+
+-- what begins at one place and ends at the next, and what begins there
+pub both : {P Q R : List ℕ → List ℕ → Type 0} {body : List ℕ} {a b c : ℕ} → Stands P body a b → Stands Q body b c
+    → ((x y z : List ℕ) → P x y → Q y z → R x z) → Stands R body a c
+both {body = body} {a = a} {b = b} {c = c} p q f = record {
+  order = omega (arith, p.order, q.order);
+  inside = q.inside;
+  begins = f (drop a body) (drop b body) (drop c body) p.begins q.begins;
+}
+
+pub seen : {P Q : List ℕ → List ℕ → Type 0} {body : List ℕ} {a b : ℕ} → Stands P body a b
+    → ((x y : List ℕ) → P x y → Q x y) → Stands Q body a b
+seen {body = body} {a = a} {b = b} p f = record {
+  order = p.order;
+  inside = p.inside;
+  begins = f (drop a body) (drop b body) p.begins;
+}
+
+-- the same of three
+pub all_three : {P Q R S : List ℕ → List ℕ → Type 0} {body : List ℕ} {a b c d : ℕ} → Stands P body a b
+    → Stands Q body b c → Stands R body c d
+    → ((x y z w : List ℕ) → P x y → Q y z → R z w → S x w) → Stands S body a d
+all_three {body = body} {a = a} {b = b} {c = c} {d = d} p q r f = record {
+  order = omega (arith, p.order, q.order, r.order);
+  inside = r.inside;
+  begins = f (drop a body) (drop b body) (drop c body) (drop d body) p.begins q.begins r.begins;
+}
+
+-- ---- numbers and bytes
+pub number_stands : (body : List ℕ) (at used n : ℕ) → at ≤ length body → used ≤ length (drop at body)
+    → IsUnsigned n (take used (drop at body)) → Stands (BeginsNumber n) body at (at + used)
+number_stands body at used n l u s = record {
+  order = omega arith;
+  inside = omega (arith, length-drop at body);
+  begins =
+      record {
+        bytes = take used (drop at body);
+        spelled = s;
+        whole = sym (take-append-drop used (drop at body)) ∙ ap (λ r. take used (drop at body) ++ r)
+            (drop-drop used at body);
+      };
+}
+
+pub raw_stands : (body : List ℕ) (at behind count : ℕ) → Stands (BeginsNumber count) body at behind
+    → count ≤ length body - behind → Stands BeginsRaw body at (behind + count)
+raw_stands body at behind count p l =
+    let d = drop behind body in
+    let n = p.begins in
+    let inside = p.inside in
+    let size : length (take count d) ≡ count = length-take-le count d (omega (arith, length-drop behind body)) in
+    let rest : d ≡ take count d ++ drop (behind + count) body = sym (take-append-drop count d) ∙ ap
+    (λ r. take count d ++ r) (drop-drop count behind body) in
+    record {
+      order = omega (arith, p.order);
+      inside = omega (arith, p.inside);
+      begins = record {
+        raw = take count d;
+        count = n.bytes;
+        counted = subst (λ k. IsUnsigned k n.bytes) (sym size) n.spelled;
+        whole =
+            n.whole ∙ ap (λ r. n.bytes ++ r) rest ∙ sym (append_assoc n.bytes (take count d)
+            (drop (behind + count) body));
+      };
+    }
+
+-- ---- values without parts
+module _ (T : Table) where
+  pub int_begins : (n : ℕ) (x y : List ℕ) → BeginsNumber n x y → BeginsKind T (kind.Basic basic.Int) 1 x y
+  int_begins n x y p =
+      let i = unsigned_signed p.spelled in
+      record {
+        value = Tree.int i.0;
+        bytes = p.bytes;
+        spelled = of_int i.1;
+        within = omega arith;
+        whole = p.whole;
+      }
+
+  pub uint_begins : (n : ℕ) (x y : List ℕ) → BeginsNumber n x y → BeginsKind T (kind.Basic basic.Uint) 1 x y
+  uint_begins n x y p =
+      record {
+        value = Tree.uint n;
+        bytes = p.bytes;
+        spelled = of_uint p.spelled;
+        within = omega arith;
+        whole = p.whole;
+      }
+
+  pub float_begins : (n : ℕ) (x y : List ℕ) → BeginsNumber n x y → BeginsKind T (kind.Basic basic.Float) 1 x y
+  float_begins n x y p =
+      let f = unsigned_pattern p.spelled in
+      record {
+        value = Tree.float f.0;
+        bytes = p.bytes;
+        spelled = of_float f.1;
+        within = omega arith;
+        whole = p.whole;
+      }
+
+  pub complex_begins : (m n : ℕ) (x y z : List ℕ) → BeginsNumber m x y → BeginsNumber n y z
+      → BeginsKind T (kind.Basic basic.Complex) 1 x z
+  complex_begins m n x y z p q =
+      let f = unsigned_pattern p.spelled in
+      let g = unsigned_pattern q.spelled in
+      record {
+        value = Tree.complex f.0 g.0;
+        bytes = p.bytes ++ q.bytes;
+        spelled = of_complex f.1 g.1;
+        within = omega arith;
+        whole = p.whole ∙ ap (λ r. p.bytes ++ r) q.whole ∙ sym (append_assoc p.bytes q.bytes z);
+      }
+
+  pub bool_begins : (n : ℕ) → n ≤ 1 → (x y : List ℕ) → BeginsNumber n x y → BeginsKind T (kind.Basic basic.Bool) 1 x y
+  bool_begins zero l x y p =
+      record {
+        value = Tree.bool false;
+        bytes = p.bytes;
+        spelled = of_bool p.spelled;
+        within = omega arith;
+        whole = p.whole;
+      }
+  bool_begins (suc zero) l x y p =
+      record {
+        value = Tree.bool true;
+        bytes = p.bytes;
+        spelled = of_bool p.spelled;
+        within = omega arith;
+        whole = p.whole;
+      }
+  bool_begins (suc (suc n)) l x y p = absurd (omega arith)
+
+  pub nil_begins : (n : ℕ) → n ≤ 0 → (x y : List ℕ) → BeginsNumber n x y
+      → BeginsKind T (kind.Basic basic.Interface) 1 x y
+  nil_begins n l x y p =
+      let none : n ≡ 0 = omega arith in
+      record {
+        value = Tree.nil;
+        bytes = p.bytes;
+        spelled = of_nil (subst (λ k. IsUnsigned k p.bytes) none p.spelled);
+        within = omega arith;
+        whole = p.whole;
+      }
+
+  pub bytes_begin : (x y : List ℕ) → BeginsRaw x y → BeginsKind T (kind.Basic basic.Bytes) 1 x y
+  bytes_begin x y p =
+      record {
+        value = Tree.bytes p.raw;
+        bytes = p.count ++ p.raw;
+        spelled = of_bytes p.counted;
+        within = omega arith;
+        whole = p.whole;
+      }
+
+  pub text_begins : (x y : List ℕ) → BeginsRaw x y → BeginsKind T (kind.Basic basic.Str) 1 x y
+  text_begins x y p =
+      record {
+        value = Tree.text p.raw;
+        bytes = p.count ++ p.raw;
+        spelled = of_text p.counted;
+        within = omega arith;
+        whole = p.whole;
+      }
+
+  pub opaque_begins : (m : Marshal) (x y : List ℕ) → BeginsRaw x y → BeginsKind T (kind.Opaque m) 1 x y
+  opaque_begins m x y p =
+      record {
+        value = Tree.opaque p.raw;
+        bytes = p.count ++ p.raw;
+        spelled = of_opaque p.counted;
+        within = omega arith;
+        whole = p.whole;
+      }
+
+  pub deeper : {k : Kind} {a b : ℕ} → a ≤ b → (x y : List ℕ) → BeginsKind T k a x y → BeginsKind T k b x y
+  deeper l x y p =
+      let w = p.within in
+      record {
+        value = p.value;
+        bytes = p.bytes;
+        spelled = p.spelled;
+        within = omega arith;
+        whole = p.whole;
+      }
+
+  number_begins : (k : Kind) → AreNumbers k → (n : ℕ) (x y : List ℕ) → BeginsNumber n x y → BeginsKind T k 1 x y
+  number_begins (kind.Basic basic.Int) a n x y p = int_begins n x y p
+  number_begins (kind.Basic basic.Uint) a n x y p = uint_begins n x y p
+  number_begins (kind.Basic basic.Float) a n x y p = float_begins n x y p
+  number_begins (kind.Basic basic.Bool) a n x y p = absurd a
+  number_begins (kind.Basic basic.Bytes) a n x y p = absurd a
+  number_begins (kind.Basic basic.Str) a n x y p = absurd a
+  number_begins (kind.Basic basic.Complex) a n x y p = absurd a
+  number_begins (kind.Basic basic.Interface) a n x y p = absurd a
+  number_begins (kind.Array e m) a n x y p = absurd a
+  number_begins (kind.Slice e) a n x y p = absurd a
+  number_begins (kind.Struct types) a n x y p = absurd a
+  number_begins (kind.Map k e) a n x y p = absurd a
+  number_begins (kind.Opaque m) a n x y p = absurd a
+
+  -- ---- values with parts
+  pub slice_begins : (e : TypeId) (limit n : ℕ) → 0 < limit → (x y z : List ℕ) → BeginsNumber n x y
+      → BeginsEach T e (limit - 1) n y z → BeginsKind T (kind.Slice e) limit x z
+  slice_begins e limit n o x y z p q =
+      let w = q.within in
+      record {
+        value = Tree.many q.values;
+        bytes = p.bytes ++ q.bytes;
+        spelled = of_slice (subst (λ k. IsUnsigned k p.bytes) (sym q.counted) p.spelled) q.spelled;
+        within = omega arith;
+        whole = p.whole ∙ ap (λ r. p.bytes ++ r) q.whole ∙ sym (append_assoc p.bytes q.bytes z);
+      }
+
+  pub array_begins : (e : TypeId) (limit n m : ℕ) → 0 < limit → n ≡ m → (x y z : List ℕ) → BeginsNumber n x y
+      → BeginsEach T e (limit - 1) n y z → BeginsKind T (kind.Array e m) limit x z
+  array_begins e limit n m o same x y z p q =
+      let w = q.within in
+      record {
+        value = Tree.many q.values;
+        bytes = p.bytes ++ q.bytes;
+        spelled = of_array (q.counted ∙ same) (subst (λ k. IsUnsigned k p.bytes) same p.spelled) q.spelled;
+        within = omega arith;
+        whole = p.whole ∙ ap (λ r. p.bytes ++ r) q.whole ∙ sym (append_assoc p.bytes q.bytes z);
+      }
+
+  pub map_begins : (k e : TypeId) (limit n : ℕ) → 0 < limit → (x y z : List ℕ) → BeginsNumber n x y
+      → BeginsPairs T k e (limit - 1) n y z → BeginsKind T (kind.Map k e) limit x z
+  map_begins k e limit n o x y z p q =
+      let w = q.within in
+      record {
+        value = Tree.pairs q.pairs;
+        bytes = p.bytes ++ q.bytes;
+        spelled = of_map (subst (λ k. IsUnsigned k p.bytes) (sym q.counted) p.spelled) q.spelled;
+        within = omega arith;
+        whole = p.whole ∙ ap (λ r. p.bytes ++ r) q.whole ∙ sym (append_assoc p.bytes q.bytes z);
+      }
+
+  pub struct_begins : (types : List Field) (limit : ℕ) → 0 < limit → (x y : List ℕ)
+      → BeginsFields T types 0 (limit - 1) x y → BeginsKind T (kind.Struct types) limit x y
+  struct_begins types limit o x y p =
+      let w = p.within in
+      record {
+        value = Tree.fields p.fields;
+        bytes = p.bytes;
+        spelled = of_struct p.spelled;
+        within = omega arith;
+        whole = p.whole;
+      }
+
+  -- ---- parts
+  pub none_stand : (e : TypeId) (limit n : ℕ) (body : List ℕ) (at : ℕ) → n ≡ 0 → at ≤ length body
+      → Stands (BeginsEach T e limit n) body at at
+  none_stand e limit n body at none l =
+      record {
+        order = omega arith;
+        inside = l;
+        begins = record {
+          values = no_tree;
+          bytes = [];
+          spelled = no_element;
+          within = omega arith;
+          counted = sym none;
+          whole = refl;
+        };
+      }
+
+  pub element_begins : (e : TypeId) (s : Shape) (limit n m : ℕ) → shape_of T e ≡ Some s → n ≡ m + 1
+      → (x y z : List ℕ) → BeginsKind T s.kind limit x y → BeginsEach T e limit m y z → BeginsEach T e limit n x z
+  element_begins e s limit n m f more x y z p q =
+      let v = p.within in
+      let w = q.within in
+      record {
+        values = tree p.value q.values;
+        bytes = p.bytes ++ q.bytes;
+        spelled = element (of_type f p.spelled) q.spelled;
+        within = omega arith;
+        counted = ap (λ k. k + 1) q.counted ∙ sym more;
+        whole = p.whole ∙ ap (λ r. p.bytes ++ r) q.whole ∙ sym (append_assoc p.bytes q.bytes z);
+      }
+
+  pub number_element : (e : TypeId) (s : Shape) (number n m : ℕ) → shape_of T e ≡ Some s → AreNumbers s.kind
+      → n ≡ m + 1 → (x y z : List ℕ) → BeginsNumber number x y → BeginsEach T e 1 m y z → BeginsEach T e 1 n x z
+  number_element e s number n m f a more x y z p q =
+      element_begins e s 1 n m f more x y z (number_begins s.kind a number x y p) q
+
+  pub basic_element : (e : TypeId) (s : Shape) (k : Kind) (n m : ℕ) → shape_of T e ≡ Some s → s.kind ≡ k
+      → n ≡ m + 1 → (x y z : List ℕ) → BeginsKind T k 1 x y → BeginsEach T e 1 m y z → BeginsEach T e 1 n x z
+  basic_element e s k n m f is more x y z p q =
+      element_begins e s 1 n m f more x y z (subst (λ k. BeginsKind T k 1 x y) (sym is) p) q
+
+  pub all_deeper : (e : TypeId) (a b n : ℕ) → a ≤ b → (x y : List ℕ) → BeginsEach T e a n x y → BeginsEach T e b n x y
+  all_deeper e a b n l x y p =
+      let w = p.within in
+      record {
+        values = p.values;
+        bytes = p.bytes;
+        spelled = p.spelled;
+        within = omega arith;
+        counted = p.counted;
+        whole = p.whole;
+      }
+
+  pub no_pairs_stand : (k e : TypeId) (limit n : ℕ) (body : List ℕ) (at : ℕ) → n ≡ 0 → at ≤ length body
+      → Stands (BeginsPairs T k e limit n) body at at
+  no_pairs_stand k e limit n body at none l =
+      record {
+        order = omega arith;
+        inside = l;
+        begins = record {
+          pairs = no_pair;
+          bytes = [];
+          spelled = no_entry;
+          within = omega arith;
+          counted = sym none;
+          whole = refl;
+        };
+      }
+
+  pub pair_begins : (k e : TypeId) (s t : Shape) (limit n m : ℕ) → shape_of T k ≡ Some s → shape_of T e ≡ Some t
+      → n ≡ m + 1 → (x a y z : List ℕ) → BeginsKind T s.kind limit x a → BeginsKind T t.kind limit a y
+      → BeginsPairs T k e limit m y z
+      → BeginsPairs T k e limit n x z
+  pair_begins k e s t limit n m f g more x a y z p q r =
+      let u = p.within in
+      let v = q.within in
+      let w = r.within in
+      record {
+        pairs = pair p.value q.value r.pairs;
+        bytes = p.bytes ++ (q.bytes ++ r.bytes);
+        spelled = entry (of_type f p.spelled) (of_type g q.spelled) r.spelled;
+        within = omega arith;
+        counted = ap (λ k. k + 1) r.counted ∙ sym more;
+        whole =
+            p.whole ∙ ap (λ l. p.bytes ++ l) (q.whole ∙ ap (λ l. q.bytes ++ l) r.whole ∙ sym
+            (append_assoc q.bytes r.bytes z)) ∙ sym (append_assoc p.bytes (q.bytes ++ r.bytes) z);
+      }
+
+  pub fields_end : (types : List Field) (next limit n : ℕ) → n ≡ 0 → (x y : List ℕ) → BeginsNumber n x y
+      → BeginsFields T types next limit x y
+  fields_end types next limit n o x y p =
+      record {
+        fields =
+            no_field;
+        bytes = p.bytes;
+        spelled = end_of_fields (subst (λ k. IsUnsigned k p.bytes) o p.spelled);
+        within =
+            omega arith;
+        whole = p.whole;
+      }
+
+  pub field_begins : (types : List Field) (next limit delta f : ℕ) (e : Field) (s : Shape) → 0 < delta
+      → f + 1 ≡ next + delta → slice_get types f ≡ Some e → shape_of T e.id ≡ Some s
+      → (x a y z : List ℕ) → BeginsNumber delta x a → BeginsKind T s.kind limit a y
+      → BeginsFields T types (f + 1) limit y z → BeginsFields T types next limit x z
+  field_begins types next limit delta f e s o is here shape x a y z p q r =
+      let v = q.within in
+      let w = r.within in
+      let up : delta ≡ f + 1 - next = omega arith in
+      record {
+        fields = field f q.value r.fields;
+        bytes = p.bytes ++ (q.bytes ++ r.bytes);
+        spelled =
+            next_field (omega arith) here (subst (λ k. IsUnsigned k p.bytes) up p.spelled) (of_type shape q.spelled)
+            r.spelled;
+        within = omega arith;
+        whole =
+            p.whole ∙ ap (λ l. p.bytes ++ l) (q.whole ∙ ap (λ l. q.bytes ++ l) r.whole ∙ sym
+            (append_assoc q.bytes r.bytes z)) ∙ sym (append_assoc p.bytes (q.bytes ++ r.bytes) z);
+      }
+
+-- an answer of a place, if any
+pub if_some : {A : Type 0} {P Q : A → Type 0} (r : Option A) → ((x : A) → P x → Q x) → IfSome r P → IfSome r Q
+if_some None f p = tt
+if_some (Some x) f p = f x p

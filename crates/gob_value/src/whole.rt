@@ -1,0 +1,279 @@
+//! Whether bytes are a whole value. Nothing is kept of it, and no memory is taken. It recurses as deep as the value is, at
+//! most 1000.
+
+ghost use Rattle.std.specs.Prelude.{◌≡◌, ◌+◌, ◌<◌, ◌≤◌, IsTrue, IfSome, length};
+ghost use Rattle.gob_types.specs.Table.{Table, shape_of};
+ghost use Rattle.gob_types.specs.declared.kind.Kind.TheVariants as kind;
+ghost use Rattle.gob_types.specs.declared.id.TypeId.{TypeId};
+ghost use Rattle.gob_types.specs.declared.kind.Shape.{Shape};
+ghost use Rattle.gob_value.specs.Whole.{IsWhole, AreNumbers, Stands, BeginsKind, BeginsEach, BeginsPairs, BeginsFields, BeginsNumber, BeginsRaw};
+
+use gob_num::{Taken, take_uint};
+use gob_types::{Basic, Fields, Kind, Shapes, TypeId};
+
+// How deep a value may be that is looked at: each level is a call within a call.
+const MOST_DEPTH: u64 = 1000;
+
+/// Whether the bytes are a value of the type, behind its tag where it isn't a struct, no deeper than `depth`. It takes no
+/// memory, and one look at each byte. A false says nothing: the bytes may be a value all the same, of a depth above 1000.
+pub fn is_whole<S: Shapes>(shapes: &S, id: TypeId, body: &[u8], depth: u64) -> bool
+    ensures { IsTrue result → IsWhole (S.table shapes.now) id depth body.now }
+{
+    let Some(shape) = shapes.shape_of(id) else {
+        return false;
+    };
+    let begin = match &shape.kind {
+        Kind::Struct { .. } => 0,
+        _ => match body.first() {
+            Some(0) => 1,
+            _ => return false,
+        },
+    };
+    let most = depth.min(MOST_DEPTH);
+    match value_end(shapes, &shape.kind, body, begin, most) {
+        Some(end) => end == body.len(),
+        None => false,
+    }
+}
+
+// Where the value of the kind ends that stands in the body from the place on.
+#[cycle(whole)]
+fn value_end<S: Shapes>(
+    shapes: &S,
+    kind: &Kind,
+    body: &[u8],
+    at: usize,
+    depth: u64,
+) -> Option<usize>
+    requires depth { depth ≤ 1000 }
+    requires place { at ≤ length body.now }
+    ensures { IfSome result (λ end. Stands (BeginsKind (S.table shapes.now) kind.now depth) body.now at end) }
+{
+    if depth == 0 {
+        return None;
+    }
+    match kind {
+        Kind::Basic(basic) => basic_end(*basic, body, at),
+        Kind::Opaque(_) => raw_end(body, at),
+        Kind::Struct { fields } => fields_end(shapes, fields, body, at, depth - 1),
+        Kind::Slice { elem } => {
+            let (count, behind) = number_at(body, at)?;
+            elements_end(shapes, *elem, count, body, behind, depth - 1)
+        }
+        Kind::Array { elem, len } => {
+            let (count, behind) = number_at(body, at)?;
+            if count != *len {
+                return None;
+            }
+            elements_end(shapes, *elem, count, body, behind, depth - 1)
+        }
+        Kind::Map { key, elem } => {
+            let (count, behind) = number_at(body, at)?;
+            pairs_end(shapes, *key, *elem, count, body, behind, depth - 1)
+        }
+    }
+}
+
+// The same, without a call where the kind is basic.
+#[cycle(whole)]
+#[inline(always)]
+fn part_end<S: Shapes>(shapes: &S, kind: &Kind, body: &[u8], at: usize, depth: u64) -> Option<usize>
+    requires depth { depth ≤ 1000 }
+    requires place { at ≤ length body.now }
+    ensures { IfSome result (λ end. Stands (BeginsKind (S.table shapes.now) kind.now depth) body.now at end) }
+{
+    match kind {
+        Kind::Basic(basic) if depth > 0 => basic_end(*basic, body, at),
+        _ => value_end(shapes, kind, body, at, depth),
+    }
+}
+
+// Where so many elements end.
+#[cycle(whole)]
+#[inline(always)]
+fn elements_end<S: Shapes>(
+    shapes: &S,
+    elem: TypeId,
+    count: u64,
+    body: &[u8],
+    begin: usize,
+    depth: u64,
+) -> Option<usize>
+    requires depth { depth ≤ 1000 }
+    requires place { begin ≤ length body.now }
+    ensures { IfSome result (λ end. Stands (BeginsEach (S.table shapes.now) elem depth count) body.now begin end) }
+{
+    if count == 0 {
+        return Some(begin);
+    }
+    let shape = shapes.shape_of(elem)?;
+    match &shape.kind {
+        Kind::Basic(basic) if depth > 0 => {
+            if are_numbers(*basic) {
+                return numbers_end(count, body, begin);
+            }
+            return basics_end(*basic, count, body, begin);
+        }
+        _ => {}
+    }
+    let mut at = begin;
+    'elements: for _ in 0..count {
+        at = value_end(shapes, &shape.kind, body, at, depth)?;
+    }
+    Some(at)
+}
+
+// Where so many pairs of a key and an element end.
+#[cycle(whole)]
+#[inline(always)]
+fn pairs_end<S: Shapes>(
+    shapes: &S,
+    key: TypeId,
+    elem: TypeId,
+    count: u64,
+    body: &[u8],
+    begin: usize,
+    depth: u64,
+) -> Option<usize>
+    requires depth { depth ≤ 1000 }
+    requires place { begin ≤ length body.now }
+    ensures { IfSome result (λ end. Stands (BeginsPairs (S.table shapes.now) key elem depth count) body.now begin end) }
+{
+    if count == 0 {
+        return Some(begin);
+    }
+    let keys = shapes.shape_of(key)?;
+    let elems = shapes.shape_of(elem)?;
+    let mut at = begin;
+    'pairs: for _ in 0..count {
+        let behind = part_end(shapes, &keys.kind, body, at, depth)?;
+        at = part_end(shapes, &elems.kind, body, behind, depth)?;
+    }
+    Some(at)
+}
+
+// Where the fields of a struct end.
+#[cycle(whole)]
+#[inline(always)]
+fn fields_end<S: Shapes>(
+    shapes: &S,
+    types: &Fields,
+    body: &[u8],
+    begin: usize,
+    depth: u64,
+) -> Option<usize>
+    requires depth { depth ≤ 1000 }
+    requires place { begin ≤ length body.now }
+    ensures { IfSome result (λ end. Stands (BeginsFields (S.table shapes.now) types.now 0 depth) body.now begin end) }
+{
+    let mut next = 0;
+    let mut at = begin;
+    'fields: loop {
+        let (delta, behind) = number_at(body, at)?;
+        if delta == 0 {
+            return Some(behind);
+        }
+        let number = field_number(next, delta)?;
+        let field = types.get(number)?;
+        let shape = shapes.shape_of(field.id)?;
+        at = part_end(shapes, &shape.kind, body, behind, depth)?;
+        next = number + 1;
+    }
+}
+
+// The number of the field that is so much above the one before the next.
+#[inline]
+fn field_number(next: u64, delta: u64) -> Option<u64>
+    requires { 0 < delta }
+    ensures { IfSome result (λ number. number + 1 ≡ next + delta) }
+{
+    next.checked_add(delta - 1)
+}
+
+// Whether each value of the type is spelled by one number, and each number spells one.
+fn are_numbers(basic: Basic) -> bool
+    ensures { IsTrue result → AreNumbers (kind.Basic basic) }
+{
+    matches!(basic, Basic::Int | Basic::Uint | Basic::Float)
+}
+
+// Where so many values of the basic type end.
+#[inline(never)]
+fn basics_end(basic: Basic, count: u64, body: &[u8], begin: usize) -> Option<usize>
+    requires { begin ≤ length body.now }
+    ensures { IfSome result (λ end. (T : Table) (e : TypeId) (s : Shape) → shape_of T e ≡ Some s → s.kind ≡ kind.Basic basic → Stands (BeginsEach T e 1 count) body.now begin end) }
+{
+    let mut at = begin;
+    'basics: for _ in 0..count {
+        at = basic_end(basic, body, at)?;
+    }
+    Some(at)
+}
+
+// Where so many numbers end.
+#[inline(never)]
+fn numbers_end(count: u64, body: &[u8], begin: usize) -> Option<usize>
+    requires { begin ≤ length body.now }
+    ensures { IfSome result (λ end. (T : Table) (e : TypeId) (s : Shape) → shape_of T e ≡ Some s → AreNumbers s.kind → Stands (BeginsEach T e 1 count) body.now begin end) }
+{
+    let mut at = begin;
+    'numbers: for _ in 0..count {
+        let (_, end) = number_at(body, at)?;
+        at = end;
+    }
+    Some(at)
+}
+
+// Where the value of the basic type ends.
+#[inline(always)]
+fn basic_end(basic: Basic, body: &[u8], at: usize) -> Option<usize>
+    requires { at ≤ length body.now }
+    ensures { IfSome result (λ end. (T : Table) → Stands (BeginsKind T (kind.Basic basic) 1) body.now at end) }
+{
+    match basic {
+        Basic::Int | Basic::Uint | Basic::Float => {
+            let (_, end) = number_at(body, at)?;
+            Some(end)
+        }
+        Basic::Bytes | Basic::Str => raw_end(body, at),
+        Basic::Bool => {
+            let (n, end) = number_at(body, at)?;
+            if n > 1 { None } else { Some(end) }
+        }
+        Basic::Interface => {
+            let (n, end) = number_at(body, at)?;
+            if n > 0 { None } else { Some(end) }
+        }
+        Basic::Complex => {
+            let (_, behind) = number_at(body, at)?;
+            let (_, end) = number_at(body, behind)?;
+            Some(end)
+        }
+    }
+}
+
+// Where a count and so many bytes end.
+#[inline(always)]
+fn raw_end(body: &[u8], at: usize) -> Option<usize>
+    requires { at ≤ length body.now }
+    ensures { IfSome result (λ end. Stands BeginsRaw body.now at end) }
+{
+    let (count, behind) = number_at(body, at)?;
+    if count > (body.len() - behind) as u64 {
+        return None;
+    }
+    Some(behind + count as usize)
+}
+
+// The number that stands in the body from the place on, and where it ends.
+#[inline(always)]
+fn number_at(body: &[u8], at: usize) -> Option<(u64, usize)>
+    requires { at ≤ length body.now }
+    ensures stands { IfSome result (λ found. Stands (BeginsNumber found.0) body.now at found.1) }
+    ensures onward { IfSome result (λ found. at < found.1) }
+{
+    match take_uint(&body[at..]) {
+        Taken::Whole { number, used } => Some((number, at + used)),
+        _ => None,
+    }
+}
