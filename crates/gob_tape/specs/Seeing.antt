@@ -85,10 +85,11 @@ pub data AreParts (nodes : List Node) (pool : List ℕ) : ℕ → ℕ → List (
 pub record Gives (children : Children) (xs : List (Option ℕ × Tree)) : Type 0 where
   pub parts : AreParts children.nodes.now children.pool.now children.place children.end xs
 
--- the next part, if there is one, and those behind it
-pub data GivesNext (old new : Children) : Option View → Type 0 where
-  gives_none : Gives old [] → Gives new [] → GivesNext old new None
-  gives_one : {view : View} {f : Option ℕ} {v : Tree} {xs : List (Option ℕ × Tree)} → Gives old ((f, v) ∷ xs) → Sees view f v → Gives new xs → GivesNext old new (Some view)
+-- where these parts are to come, the next is the first of them, and the others are to come from then on
+pub data GivesNext (new : Children) : List (Option ℕ × Tree) → Option View → Type 0 where
+  gives_none : Gives new [] → GivesNext new [] None
+  gives_one : {view : View} {f : Option ℕ} {v : Tree} {xs : List (Option ℕ × Tree)} → Sees view f v → Gives new xs
+      → GivesNext new ((f, v) ∷ xs) (Some view)
 
 abbrev pub GivesPart : Children → Option View → Children → Type 0
-GivesPart old part new = (xs : List (Option ℕ × Tree)) → Gives old xs → GivesNext old new part
+GivesPart old part new = (xs : List (Option ℕ × Tree)) → Gives old xs → GivesNext new xs part
