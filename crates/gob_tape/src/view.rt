@@ -28,6 +28,7 @@ pub struct Children<'a> {
 
 impl<'a> View<'a> {
     ghost use Rattle.gob_tape.specs.Seeing.{Sees, Gives, kind_of, numbers_of, bytes_of, parts_of};
+    ghost use Rattle.gob_tape.specs.Seeing.{nodes_from, nodes_left};
 
     /// Its kind.
     pub fn kind(self) -> ValueKind
@@ -70,9 +71,11 @@ impl<'a> View<'a> {
         }
     }
 
-    /// Its parts, none where it has none. The keys and elements of a map alternate.
+    /// Its parts, none where it has none. The keys and elements of a map alternate. They have fewer nodes than it has,
+    /// so a recursion over the parts of parts comes to an end.
     pub fn children(self) -> Children<'a>
-        ensures { (f : Option ℕ) (v : Tree) → Sees self.entry f v → Gives result (parts_of v) }
+        ensures parts { (f : Option ℕ) (v : Tree) → Sees self.entry f v → Gives result (parts_of v) }
+        ensures fewer { nodes_left result < nodes_from self.entry }
     {
         let content = self.nodes[self.place].content();
         Children {
