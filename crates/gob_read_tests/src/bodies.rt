@@ -1,10 +1,10 @@
 //! Bodies of each shape, whole and in pieces, and bodies that are refused.
 
-use crate::reading::read;
-use crate::row::{Body, numbers};
+use crate::row::{body_of, numbers};
 use crate::types::table;
 use gob_num::Memory;
 use gob_read::{CheckBuilder, Counts, Stop, TreeBuilder};
+use gob_read_support::{Body, read};
 use gob_types::{Table, TypeId};
 use gob_value::{SpellFault, Value, spell};
 use std::alloc::Global;
@@ -83,7 +83,7 @@ const PIECES: [usize; 3] = [1, 3, usize::MAX];
 
 // Whether both builders read the body of the row, whole and in pieces.
 fn is_accepted(alloc: Global, table: &Table, row: &str) -> Result<bool, Memory> {
-    let body = Body::of(alloc, row)?;
+    let body = body_of(alloc, row)?;
     let due = numbers(alloc, row, 2)?;
     for piece in PIECES {
         if !is_counted(alloc, table, &body, &due, piece)?
@@ -135,7 +135,7 @@ fn is_respelled(alloc: Global, table: &Table, body: &Body, value: &Value) -> Res
 
 // Whether both builders are refused the body of the row so, whole and in pieces.
 fn is_refused(alloc: Global, table: &Table, row: &str) -> Result<bool, Memory> {
-    let body = Body::of(alloc, row)?;
+    let body = body_of(alloc, row)?;
     let due = numbers(alloc, row, 2)?;
     for piece in PIECES {
         if !is_refusal(read::<CheckBuilder>(alloc, table, &body, piece).err(), &due)?

@@ -1,11 +1,10 @@
 //! Slices in slices, as deep as a builder takes them, and one deeper.
 
 use crate::bodies::{is_built, is_counted, is_refusal};
-use crate::reading::read;
-use crate::row::Body;
 use crate::types::table;
 use gob_num::Memory;
 use gob_read::{Builder, CheckBuilder, TreeBuilder};
+use gob_read_support::{Body, read};
 use gob_types::Table;
 use std::alloc::Global;
 use std::test::*;
@@ -37,22 +36,6 @@ static BUILT: [Row; 5] = [
     Row(1000, 999, Some(1000)),
 ];
 
-// The body of so many slices, each but the innermost with the next one as its element.
-fn nested(alloc: Global, depth: u64, limit: u64) -> Result<Body, Memory> {
-    let mut bytes = Vec::new(alloc);
-    bytes.push(0)?;
-    for _ in 1..depth {
-        bytes.push(1)?;
-    }
-    bytes.push(0)?;
-    Ok(Body {
-        id: NEST,
-        length: bytes.len() as u64,
-        depth: limit,
-        bytes,
-    })
-}
-
 // Whether such a builder is refused the body there as too deep.
 fn is_too_deep<B: Builder>(
     alloc: Global,
@@ -67,7 +50,7 @@ fn is_too_deep<B: Builder>(
 // Whether a builder of counts takes the slices of the row, or is refused them there.
 fn are_counted(alloc: Global, table: &Table, row: Row) -> Result<bool, Memory> {
     let Row(depth, limit, refused) = row;
-    let body = nested(alloc, depth, limit)?;
+    let body = Body::nested(alloc, NEST, depth, limit)?;
     let Some(place) = refused else {
         return is_counted(alloc, table, &body, &[depth, 0], usize::MAX);
     };
@@ -77,7 +60,7 @@ fn are_counted(alloc: Global, table: &Table, row: Row) -> Result<bool, Memory> {
 // Whether a builder of trees does.
 fn are_built(alloc: Global, table: &Table, row: Row) -> Result<bool, Memory> {
     let Row(depth, limit, refused) = row;
-    let body = nested(alloc, depth, limit)?;
+    let body = Body::nested(alloc, NEST, depth, limit)?;
     let Some(place) = refused else {
         return is_built(alloc, table, &body, usize::MAX);
     };

@@ -4,11 +4,11 @@ ghost use Rattle.std.specs.Prelude.{OnOk};
 ghost use Rattle.gob_types.specs.Defined.{types};
 ghost use Rattle.gob_read.specs.Reader.{IsUsable};
 
-use crate::reading::reader;
-use crate::row::{Body, numbers};
+use crate::row::{body_of, numbers};
 use crate::types::table;
 use gob_num::Memory;
 use gob_read::{BodyReader, Builder, CheckBuilder, Stop, TreeBuilder};
+use gob_read_support::reader;
 use gob_types::Table;
 use std::alloc::Global;
 use std::test::*;
@@ -33,7 +33,7 @@ fn is_held<B: Builder>(
     row: &str,
     field: usize,
 ) -> Result<bool, Stop> {
-    let body = Body::of(alloc, row)?;
+    let body = body_of(alloc, row)?;
     let mut reader: BodyReader<B> = reader(alloc, table, &body)?;
     let held = held_after_each(alloc, table, &mut reader, &body.bytes)?;
     let ended = reader.push(alloc, table, b"\x00").err() == Some(Stop::Failed);

@@ -15,8 +15,6 @@ mod deep;
 #[cfg(test)]
 mod held;
 #[cfg(test)]
-mod reading;
-#[cfg(test)]
 mod row;
 #[cfg(test)]
 mod types;

@@ -1,6 +1,7 @@
 //! A row: a body, and what is due of it.
 
 use gob_num::Memory;
+use gob_read_support::Body;
 use std::alloc::Global;
 
 /// The numbers in the field of a row, which ends with a colon.
@@ -16,32 +17,17 @@ fn field_of(row: &str, field: usize) -> &str {
     row.split(':').nth(field).unwrap_or("")
 }
 
-/// A body, or as much of one as comes.
-#[derive(Drop)]
-pub(crate) struct Body {
-    /// The type of its value.
-    pub(crate) id: u64,
-    /// How many bytes are announced.
-    pub(crate) length: u64,
-    /// The greatest depth of a part.
-    pub(crate) depth: u64,
-    /// The bytes that come.
-    pub(crate) bytes: Vec<u8>,
-}
-
-impl Body {
-    /// The body of a row: its type, and its bytes in hexadecimal. Where the first field goes on, it says how many bytes
-    /// are announced and what the greatest depth is; else they are all, and 1000.
-    pub(crate) fn of(alloc: Global, row: &str) -> Result<Body, Memory> {
-        let first = numbers(alloc, row, 0)?;
-        let bytes = bytes(alloc, row)?;
-        Ok(Body {
-            id: first.get(0).copied().unwrap_or(0),
-            length: first.get(1).copied().unwrap_or(bytes.len() as u64),
-            depth: first.get(2).copied().unwrap_or(1000),
-            bytes,
-        })
-    }
+/// The body of a row: its type, and its bytes in hexadecimal. Where the first field goes on, it says how many bytes are
+/// announced and what the greatest depth is; else they are all, and 1000.
+pub(crate) fn body_of(alloc: Global, row: &str) -> Result<Body, Memory> {
+    let first = numbers(alloc, row, 0)?;
+    let bytes = bytes(alloc, row)?;
+    Ok(Body {
+        id: first.get(0).copied().unwrap_or(0),
+        length: first.get(1).copied().unwrap_or(bytes.len() as u64),
+        depth: first.get(2).copied().unwrap_or(1000),
+        bytes,
+    })
 }
 
 // The bytes of a row, in hexadecimal.

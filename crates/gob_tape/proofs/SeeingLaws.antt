@@ -121,13 +121,13 @@ says_end nodes pool i j v (content.Group group.Many count extent) s = s.end
 says_end nodes pool i j v (content.Group group.Pairs count extent) s = s.end
 says_end nodes pool i j v (content.Group group.Fields count extent) s = s.end
 
-pub seen_parts : (view : View) (children : Children) {f : Option ℕ} {v : Tree} (d : Node) → view.place < length view.nodes.now → length view.nodes.now < 2 ^ 64
-    → children.nodes ≡ view.nodes → children.pool ≡ view.pool → children.place ≡ view.place + 1 → children.end ≡ min (view.place + extent_of (get_or view.nodes.now view.place d).content) (2 ^ 64 - 1)
+pub seen_parts : (view : View) (children : Children) {f : Option ℕ} {v : Tree} (c : Content) (d : Node) → view.place < length view.nodes.now → length view.nodes.now < 2 ^ 64
+    → (get_or view.nodes.now view.place d).content ≡ c
+    → children.nodes ≡ view.nodes → children.pool ≡ view.pool → children.place ≡ view.place + 1 → children.end ≡ min (view.place + extent_of c) (2 ^ 64 - 1)
     → Sees view f v → Gives children (parts_of v)
-seen_parts view children {v = v} d l n e g p q s =
+seen_parts view children {v = v} c d l n h e g p q s =
     let ns = view.nodes.now in
-    let c = (get_or ns view.place d).content in
-    let w = (seen_says c d l refl s).1 in
+    let w = (seen_says c d l h s).1 in
     let due = says_end ns view.pool.now view.place s.end v c w in
     let end : children.end ≡ s.end = omega (arith, at_within s.means) in
     record { parts = rw (e, g, p, end) (says_parts ns view.pool.now view.place s.end v c w) }
@@ -152,29 +152,29 @@ parts_one {nodes = nodes} {pool = pool} {k = k} (one_more {f = f} {v = v} {xs = 
     ap (λ f. (f, v) ∷ xs) x.field ∙ ap (λ v. (g, v) ∷ xs) x.value ∙ ap (λ l. (g, w) ∷ l) rest
 
 -- no part is left at the end
-pub none_gives : (old : Children) (xs : List (Option ℕ × Tree)) → (old.end ≤ old.place) ⊎ (length old.nodes.now ≤ old.place) → Gives old xs → GivesNext old old None
-none_gives old [] h g = gives_none g g
+pub none_gives : (old : Children) (xs : List (Option ℕ × Tree)) → (old.end ≤ old.place) ⊎ (length old.nodes.now ≤ old.place) → Gives old xs → GivesNext old xs None
+none_gives old [] h g = gives_none g
 none_gives old ((f, v) ∷ xs) h g = absurd (by h (parts_within g.parts))
   where
     by : (old.end ≤ old.place) ⊎ (length old.nodes.now ≤ old.place) → (old.place < old.end) × (old.place < length old.nodes.now) → ⊥
     by (inl a) b = omega arith
     by (inr a) b = omega arith
 
-pub some_gives : (old new : Children) (view : View) (xs : List (Option ℕ × Tree)) (d : Node) → old.place < old.end → old.place < length old.nodes.now → length old.nodes.now < 2 ^ 64
-    → new.nodes ≡ old.nodes → new.pool ≡ old.pool → new.end ≡ old.end → new.place ≡ max (min (old.place + extent_of (get_or old.nodes.now old.place d).content) (2 ^ 64 - 1)) (old.place + 1)
-    → view.nodes ≡ old.nodes → view.pool ≡ old.pool → view.place ≡ old.place → Gives old xs → GivesNext old new (Some view)
-some_gives old new view xs d l m n e g h p a b k gives = by gives.parts refl refl
+pub some_gives : (old new : Children) (view : View) (xs : List (Option ℕ × Tree)) (c : Content) (d : Node) → old.place < old.end → old.place < length old.nodes.now → length old.nodes.now < 2 ^ 64
+    → (get_or old.nodes.now old.place d).content ≡ c
+    → new.nodes ≡ old.nodes → new.pool ≡ old.pool → new.end ≡ old.end → new.place ≡ max (min (old.place + extent_of c) (2 ^ 64 - 1)) (old.place + 1)
+    → view.nodes ≡ old.nodes → view.pool ≡ old.pool → view.place ≡ old.place → Gives old xs → GivesNext new xs (Some view)
+some_gives old new view xs c d l m n s e g h p a b k gives = by gives.parts refl refl
   where
-    by : {i j : ℕ} {ys : List (Option ℕ × Tree)} → AreParts old.nodes.now old.pool.now i j ys → i ≡ old.place → j ≡ old.end → GivesNext old new (Some view)
-    by no_more q r = absurd (omega arith)
-    by {i = i} {j = z} {ys = ys} (one_more {j = j} {f = f} {v = v} {xs = rest} q ms) r t =
-        let c = (get_or old.nodes.now old.place d).content in
-        let whole = subst (λ i. AreParts old.nodes.now old.pool.now i old.end ys) r (subst (λ j. AreParts old.nodes.now old.pool.now i j ys) t (one_more q ms)) in
-        let here = subst (λ i. MeansAt old.nodes.now old.pool.now i j f v) r q in
-        let there = slice_get-get_or old.nodes.now old.place d m in
+    by : {i j : ℕ} {ys : List (Option ℕ × Tree)} → AreParts old.nodes.now old.pool.now i j ys → i ≡ old.place → j ≡ old.end → GivesNext new ys (Some view)
+    by no_more q t = absurd (omega arith)
+    by {i = i} {j = z} (one_more {j = j} {f = f} {v = v} {xs = rest} q ms) o t =
+        let here = subst (λ i. MeansAt old.nodes.now old.pool.now i j f v) o q in
+        let x = get_or old.nodes.now old.place d in
+        let there = slice_get-get_or old.nodes.now old.place d m ∙ ap (λ c. Some (node x.field c)) s in
         let due = says_end old.nodes.now old.pool.now old.place j v c (node_says c there here).1 in
         let end : new.place ≡ j = omega (arith, at_within here, at_rises here) in
-        gives_one (record { parts = whole }) (record { end = j; means = rw (a, b, k) here })
+        gives_one (record { end = j; means = rw (a, b, k) here })
         (record { parts = rw (e, g, end, h) (subst (λ z. AreParts old.nodes.now old.pool.now j z rest) t ms) })
 
 -- ---- kinds and raw bytes

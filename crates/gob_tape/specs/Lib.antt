@@ -1,3 +1,5 @@
+pub mod Noted
+pub mod Packing
 pub mod Meaning
 pub mod Seeing
 pub mod Laws

@@ -1,6 +1,6 @@
 -- What the views of a tape show of the value that it means.
 -- (docs/FORMAT.md, Tapes.)
-use Rattle.std.specs.Prelude.{ℕ, ℤ, pos, negsuc, ◌+◌, ◌*◌, List, [], ◌∷◌, Option, Some, None, length}
+use Rattle.std.specs.Prelude.{ℕ, ℤ, pos, negsuc, ◌+◌, ◌-◌, ◌*◌, ◌<◌, ◌≤◌, List, [], ◌∷◌, Option, Some, None, length}
 use Rattle.gob_value.specs.Tree.{Tree, Trees, no_tree, tree, Pairs, no_pair, pair, Fields, no_field, field, tree_count, pair_count}
 use Rattle.gob_value.specs.Tree as Value
 use Rattle.gob_value.specs.Spelling.{truth}
@@ -85,10 +85,24 @@ pub data AreParts (nodes : List Node) (pool : List ℕ) : ℕ → ℕ → List (
 pub record Gives (children : Children) (xs : List (Option ℕ × Tree)) : Type 0 where
   pub parts : AreParts children.nodes.now children.pool.now children.place children.end xs
 
--- the next part, if there is one, and those behind it
-pub data GivesNext (old new : Children) : Option View → Type 0 where
-  gives_none : Gives old [] → Gives new [] → GivesNext old new None
-  gives_one : {view : View} {f : Option ℕ} {v : Tree} {xs : List (Option ℕ × Tree)} → Gives old ((f, v) ∷ xs) → Sees view f v → Gives new xs → GivesNext old new (Some view)
+-- where these parts are to come, the next is the first of them, and the others are to come from then on
+pub data GivesNext (new : Children) : List (Option ℕ × Tree) → Option View → Type 0 where
+  gives_none : Gives new [] → GivesNext new [] None
+  gives_one : {view : View} {f : Option ℕ} {v : Tree} {xs : List (Option ℕ × Tree)} → Sees view f v → Gives new xs
+      → GivesNext new ((f, v) ∷ xs) (Some view)
 
-abbrev pub GivesPart : Children → Option View → Children → Type 0
-GivesPart old part new = (xs : List (Option ℕ × Tree)) → Gives old xs → GivesNext old new part
+-- how many nodes there are from the view's own on, and how many from the next part's
+abbrev pub nodes_from : View → ℕ
+nodes_from view = length view.nodes.now - view.place
+
+abbrev pub nodes_left : Children → ℕ
+nodes_left children = length children.nodes.now - children.place
+
+-- a part has no more nodes than were left, and the others have fewer: so what goes down a view comes to an end
+pub data TakesNodes (old new : Children) : Option View → Type 0 where
+  takes_none : nodes_left new ≤ nodes_left old → TakesNodes old new None
+  takes_some : {view : View} → nodes_from view ≤ nodes_left old → nodes_left new < nodes_left old → TakesNodes old new (Some view)
+
+pub record GivesPart (old : Children) (part : Option View) (new : Children) : Type 0 where
+  pub next : (xs : List (Option ℕ × Tree)) → Gives old xs → GivesNext new xs part
+  pub nodes : TakesNodes old new part

@@ -2,6 +2,7 @@
 
 use gob_read::{GroupKind, RawKind};
 use gob_types::Basic;
+use std::marker::Model;
 
 /// What a node says of its part, beside its number in a struct.
 #[derive(Clone, Copy)]
@@ -60,12 +61,90 @@ fn count_of(kind: GroupKind, parts: usize) -> usize
     }
 }
 
-/// One part of a value.
+/// The kind of a part, by which its two numbers are understood.
+#[derive(Clone, Copy)]
+pub(crate) enum PartKind {
+    Number(Basic),
+    Raw(RawKind),
+    Group(GroupKind),
+}
+
+/// One part of a value, which contracts see as its number in a struct and its content. Kept in 32 bytes, as a tape has
+/// a node for each part.
 #[derive(Clone, Copy)]
 pub(crate) struct Node {
+    kind: PartKind,
+    /// Whether it is a field of a struct.
+    named: bool,
+    /// Its number, where it is a field; else 0.
+    number: u64,
+    first: u64,
+    second: u64,
+}
+
+impl Model for Node {
+    ghost use Rattle.gob_tape.specs.Noted.{Noted};
+
+    ghost Value = { Noted };
+
+    ghost use Rattle.gob_tape.specs.Packing.{noted, packed, IsPacked, packed_back};
+
+    ghost view = { noted };
+
+    ghost invariant = { IsPacked };
+
+    ghost inverse = { packed };
+
+    ghost inverse_ok = { packed_back };
+}
+
+impl Node {
+    ghost use Rattle.std.specs.Prelude.{◌≡◌};
+    ghost use Rattle.gob_tape.specs.Meaning.{node};
+
+    /// A node of a part with this number in a struct, or in none.
+    pub(crate) fn new(field: Option<u64>, content: Content) -> Node
+        ensures { result ≡ node field content }
+    {
+        let (kind, first, second) = match content {
+            Content::Number(kind, first, second) => (PartKind::Number(kind), first, second),
+            Content::Raw(kind, start, count) => (PartKind::Raw(kind), start as u64, count as u64),
+            Content::Group(kind, count, nodes) => (
+                PartKind::Group(kind),
+                count as u64,
+                nodes as u64,
+            ),
+        };
+        Node {
+            kind,
+            named: field.is_some(),
+            number: field.unwrap_or(0),
+            first,
+            second,
+        }
+    }
+
     /// Its number, where it is a field of a struct.
-    pub(crate) field: Option<u64>,
-    pub(crate) content: Content,
+    pub(crate) fn field(self) -> Option<u64>
+        ensures { result ≡ self.field }
+    {
+        if self.named { Some(self.number) } else { None }
+    }
+
+    /// What it says of its part.
+    pub(crate) fn content(self) -> Content
+        ensures { result ≡ self.content }
+    {
+        match self.kind {
+            PartKind::Number(kind) => Content::Number(kind, self.first, self.second),
+            PartKind::Raw(kind) => Content::Raw(kind, self.first as usize, self.second as usize),
+            PartKind::Group(kind) => Content::Group(
+                kind,
+                self.first as usize,
+                self.second as usize,
+            ),
+        }
+    }
 }
 
 /// A part that has begun and not ended.

@@ -146,9 +146,9 @@ fn write_node(
     ensures kept { OnOk result (Appends (λ _. Unit {0}) out.old.items out.new.items) }
     ensures err { OnErr result (Appends (λ _. Unit {0}) out.old.items out.new.items) }
 {
-    write_field(alloc, node.field, structs, out)?;
-    write_content(alloc, node.content, pool, out)?;
-    enter(place, node.content, structs)?;
+    write_field(alloc, node.field(), structs, out)?;
+    write_content(alloc, node.content(), pool, out)?;
+    enter(place, node.content(), structs)?;
     end_structs(alloc, place + 1, structs, out)
 }
 

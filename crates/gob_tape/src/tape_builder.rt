@@ -40,7 +40,7 @@ impl TapeBuilder {
     {
         self.deepest = self.deepest.max(self.begun.len() as u64 + 1);
         let field = self.field.take();
-        self.nodes.push(Node { field, content })?;
+        self.nodes.push(Node::new(field, content))?;
         Ok(())
     }
 
@@ -87,7 +87,7 @@ impl TapeBuilder {
         let nodes = self.nodes.len();
         let pool = self.pool.len();
         if let Some(node) = self.nodes.get_mut(begun.node) {
-            node.content = node.content.ended(begun, nodes, pool);
+            *node = Node::new(node.field(), node.content().ended(begun, nodes, pool));
         }
     }
 

@@ -183,12 +183,12 @@ fn tell_part(
     ensures { OnOk result (TellsPart place node kind.now id pool.now
         (reverse stack.old.items) (reverse stack.new.items) (state_of builder.old) (state_of builder.new)) }
 {
-    if node.field.is_some() && is_dropped(kind, node.content) {
+    if node.field().is_some() && is_dropped(kind, node.content()) {
         return Ok(());
     }
-    builder.name(node.field);
-    builder.begin(node.content, pool)?;
-    enter(place, node.content, kind, id, stack)
+    builder.name(node.field());
+    builder.begin(node.content(), pool)?;
+    enter(place, node.content(), kind, id, stack)
 }
 
 /// Tells of the part whose node stands at this place, unless it is dropped.
@@ -207,7 +207,7 @@ fn tell_node<S: Shapes>(
         → HasSmallNumber node × TellsPart place node s.kind e pool.now (advanced (reverse stack.old.items))
         (reverse stack.new.items) (state_of builder.old) (state_of builder.new)) }
 {
-    let Some(id) = next_type(shapes, id, stack.last().copied(), node.field) else {
+    let Some(id) = next_type(shapes, id, stack.last().copied(), node.field()) else {
         return Ok(());
     };
     let Some(shape) = shapes.shape_of(id) else {

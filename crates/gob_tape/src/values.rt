@@ -153,8 +153,8 @@ pub(crate) fn values_of(
     let mut parts = Vec::new(alloc);
     'nodes: for done in 0..nodes.len() {
         let node = nodes[nodes.len() - 1 - done];
-        let value = take_value(alloc, node.content, pool, &mut parts)?;
-        parts.push((node.field, value))?;
+        let value = take_value(alloc, node.content(), pool, &mut parts)?;
+        parts.push((node.field(), value))?;
     }
     Ok(parts)
 }

@@ -28,12 +28,13 @@ pub struct Children<'a> {
 
 impl<'a> View<'a> {
     ghost use Rattle.gob_tape.specs.Seeing.{Sees, Gives, kind_of, numbers_of, bytes_of, parts_of};
+    ghost use Rattle.gob_tape.specs.Seeing.{nodes_from, nodes_left};
 
     /// Its kind.
     pub fn kind(self) -> ValueKind
         ensures { (f : Option ℕ) (v : Tree) → Sees self.entry f v → result ≡ kind_of v }
     {
-        match self.nodes[self.place].content {
+        match self.nodes[self.place].content() {
             Content::Number(kind, _, _) => number_kind(kind),
             Content::Raw(kind, _, _) => raw_kind(kind),
             Content::Group(kind, _, _) => group_kind(kind),
@@ -44,7 +45,7 @@ impl<'a> View<'a> {
     pub fn field(self) -> Option<u64>
         ensures { (f : Option ℕ) (v : Tree) → Sees self.entry f v → result ≡ f }
     {
-        self.nodes[self.place].field
+        self.nodes[self.place].field()
     }
 
     /// Its numbers: of a bool, an int or an uint the unsigned number as spelled; of a float the pattern, of a complex
@@ -52,7 +53,7 @@ impl<'a> View<'a> {
     pub fn numbers(self) -> (u64, u64)
         ensures { (f : Option ℕ) (v : Tree) → Sees self.entry f v → result ≡ numbers_of v }
     {
-        match self.nodes[self.place].content {
+        match self.nodes[self.place].content() {
             Content::Number(_, first, second) => (first, second),
             Content::Raw(_, _, count) => (count as u64, 0),
             Content::Group(_, count, _) => (count as u64, 0),
@@ -63,18 +64,20 @@ impl<'a> View<'a> {
     pub fn bytes(self) -> &'a [u8]
         ensures { (f : Option ℕ) (v : Tree) → Sees self.entry f v → result.now ≡ bytes_of v }
     {
-        match self.nodes[self.place].content {
+        match self.nodes[self.place].content() {
             Content::Raw(_, start, count) => raw_bytes(self.pool, start, count),
             Content::Number(_, _, _) => &[],
             Content::Group(_, _, _) => &[],
         }
     }
 
-    /// Its parts, none where it has none. The keys and elements of a map alternate.
+    /// Its parts, none where it has none. The keys and elements of a map alternate. They have fewer nodes than it has,
+    /// so a recursion over the parts of parts comes to an end.
     pub fn children(self) -> Children<'a>
-        ensures { (f : Option ℕ) (v : Tree) → Sees self.entry f v → Gives result (parts_of v) }
+        ensures parts { (f : Option ℕ) (v : Tree) → Sees self.entry f v → Gives result (parts_of v) }
+        ensures fewer { nodes_left result < nodes_from self.entry }
     {
-        let content = self.nodes[self.place].content;
+        let content = self.nodes[self.place].content();
         Children {
             nodes: self.nodes,
             pool: self.pool,
@@ -103,7 +106,7 @@ impl<'a> Iterator for Children<'a> {
         if place >= self.nodes.len() {
             return None;
         }
-        self.place = self.nodes[place].content.end(place).max(place + 1);
+        self.place = self.nodes[place].content().end(place).max(place + 1);
         Some(View {
             nodes: self.nodes,
             pool: self.pool,

@@ -1,10 +1,9 @@
 //! Tapes of slices in slices, as deep as they are made, and one deeper.
 
-use crate::reading::read;
-use crate::row::Body;
 use crate::types::table;
 use gob_num::Memory;
 use gob_read::Stop;
+use gob_read_support::{Body, read};
 use gob_tape::TapeBuilder;
 use gob_types::Table;
 use std::alloc::Global;
@@ -17,22 +16,6 @@ const NEST: u64 = 67;
 // begins with one byte more.
 static ROWS: [(u64, Option<u64>); 3] = [(2000, None), (65536, None), (65537, Some(65537))];
 
-// The body of so many slices, each but the innermost with the next one as its element.
-fn nested(alloc: Global, depth: u64) -> Result<Body, Memory> {
-    let mut bytes = Vec::new(alloc);
-    bytes.push(0)?;
-    for _ in 1..depth {
-        bytes.push(1)?;
-    }
-    bytes.push(0)?;
-    Ok(Body {
-        id: NEST,
-        length: bytes.len() as u64,
-        depth: u64::MAX,
-        bytes,
-    })
-}
-
 // Whether a tape of the slices is made and spelled, or they are refused there.
 fn is_right(
     alloc: Global,
@@ -40,7 +23,7 @@ fn is_right(
     depth: u64,
     refused: Option<u64>,
 ) -> Result<bool, Memory> {
-    let body = nested(alloc, depth)?;
+    let body = Body::nested(alloc, NEST, depth, u64::MAX)?;
     match read::<TapeBuilder>(alloc, table, &body, usize::MAX) {
         Ok(Some(tape)) => {
             let mut out = Vec::new(alloc);

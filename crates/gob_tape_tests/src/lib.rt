@@ -13,8 +13,6 @@
 #[cfg(test)]
 mod deep;
 #[cfg(test)]
-mod reading;
-#[cfg(test)]
 mod row;
 #[cfg(test)]
 mod tapes;

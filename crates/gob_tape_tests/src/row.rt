@@ -1,6 +1,7 @@
 //! A row: a body, and what is due of its tape.
 
 use gob_num::Memory;
+use gob_read_support::Body;
 use std::alloc::Global;
 
 /// The field of a row, which ends with a colon.
@@ -13,30 +14,15 @@ pub(crate) fn number(word: &str) -> u64 {
     word.trim().parse().unwrap_or(u64::MAX)
 }
 
-/// A body.
-#[derive(Drop)]
-pub(crate) struct Body {
-    /// The type of its value.
-    pub(crate) id: u64,
-    /// How many bytes are announced.
-    pub(crate) length: u64,
-    /// The greatest depth of a part.
-    pub(crate) depth: u64,
-    /// Its bytes.
-    pub(crate) bytes: Vec<u8>,
-}
-
-impl Body {
-    /// The body of a row: its type, and its bytes in hexadecimal.
-    pub(crate) fn of(alloc: Global, row: &str) -> Result<Body, Memory> {
-        let bytes = bytes(alloc, field_of(row, 1))?;
-        Ok(Body {
-            id: number(field_of(row, 0)),
-            length: bytes.len() as u64,
-            depth: 1000,
-            bytes,
-        })
-    }
+/// The body of a row: its type, and its bytes in hexadecimal.
+pub(crate) fn body_of(alloc: Global, row: &str) -> Result<Body, Memory> {
+    let bytes = bytes(alloc, field_of(row, 1))?;
+    Ok(Body {
+        id: number(field_of(row, 0)),
+        length: bytes.len() as u64,
+        depth: 1000,
+        bytes,
+    })
 }
 
 /// The bytes that the words give, each in hexadecimal.

@@ -1,11 +1,11 @@
 //! Tapes of bodies of each shape, in pieces.
 
-use crate::reading::read;
-use crate::row::{Body, field_of, is_behind_tag, number};
+use crate::row::{body_of, field_of, is_behind_tag, number};
 use crate::types::table;
 use crate::views::are_parts;
 use gob_num::Memory;
 use gob_read::Stop;
+use gob_read_support::{Body, read};
 use gob_tape::{Tape, TapeBuilder};
 use gob_types::{Table, TypeId};
 use gob_value::{SpellFault, Value, spell};
@@ -44,7 +44,7 @@ const PIECES: [usize; 3] = [1, 3, usize::MAX];
 
 // Whether the tape of the row's body is right, however the body comes.
 fn is_right(alloc: Global, table: &Table, row: &str) -> Result<bool, Memory> {
-    let body = Body::of(alloc, row)?;
+    let body = body_of(alloc, row)?;
     for piece in PIECES {
         if !is_read(alloc, table, &body, row, piece)? {
             return Ok(false);

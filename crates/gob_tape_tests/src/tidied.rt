@@ -2,12 +2,12 @@
 
 ghost use Rattle.std.specs.Prelude.{[]};
 
-use crate::reading::reader;
-use crate::row::{Body, bytes, field_of, is_behind_tag, number};
+use crate::row::{body_of, bytes, field_of, is_behind_tag, number};
 use crate::types::table;
 use crate::views::are_parts;
 use gob_num::Memory;
 use gob_read::{BodyReader, Progress, Stop};
+use gob_read_support::{Body, reader};
 use gob_tape::{Tape, TapeBuilder, tidy_tape};
 use gob_types::{Table, TypeId};
 use std::alloc::Global;
@@ -47,7 +47,7 @@ fn tidied(alloc: Global, table: &Table, body: &Body) -> Result<Option<Tape>, Sto
 
 // Whether the tape of the row's body has the row's tidy form.
 fn is_tidied(alloc: Global, table: &Table, row: &str) -> Result<bool, Memory> {
-    let body = Body::of(alloc, row)?;
+    let body = body_of(alloc, row)?;
     match tidied(alloc, table, &body) {
         Ok(Some(tape)) => is_due(alloc, row, &tape),
         Err(Stop::Memory) => Err(Memory),

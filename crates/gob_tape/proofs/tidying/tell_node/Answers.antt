@@ -20,13 +20,14 @@ returns g c =
     (c.last.ensures.value, c.deref.ensures.value, c.copied.ensures) in
     on_ok_weaker c.tell_part.result
     (λ d e s n h.
-    let due = subst (λ l. IsNext T c.args.id l c.args.node.field e) (innermost_is xs last) n in
+    let due = subst (λ f. IsNext T c.args.id c.copied.result f e) (sym c.field.ensures)
+    (subst (λ l. IsNext T c.args.id l c.args.node.field e) (innermost_is xs last) n) in
     let found = c.next_type.ensures.found e due in
     let type : c.in-Some.id ≡ e = same_Some c.in-Some.id e (sym c.in-Some.is ∙ found) in
     let there : Some c.in-Some-shape_of.shape.now ≡ shape_of T c.in-Some.id = c.in-Some-shape_of.ensures in
     let shape : c.in-Some-shape_of.shape.now ≡ s = same_Some c.in-Some-shape_of.shape.now s (there
     ∙ ap (shape_of T) type ∙ h) in (
-      λ f. c.next_type.ensures.small e f due,
+      λ f h. c.next_type.ensures.small e f due (c.field.ensures ∙ h),
       subst (λ before. TellsPart c.args.place c.args.node s.kind e c.args.pool.now before after old new)
           c.advance.ensures
           (subst (λ (s : Shape). TellsPart c.args.place c.args.node s.kind e c.args.pool.now

@@ -1,5 +1,5 @@
-use Rattle.std.proofs.Common.{arith, reverse, ap, ◌<◌, ◌^◌, length}
-use Rattle.std.proofs.lemmas.Option.{slice_get-get_or}
+use Rattle.std.proofs.Common.{arith, refl, reverse, ap, ◌<◌, ◌^◌, length}
+use Rattle.std.proofs.lemmas.Option.{slice_get_read}
 use Rattle.gob_tape.proofs.TidyingLaws.{nothing_told, node_reached, all_told_of}
 use Rattle.gob_tape.proofs.tidying.tidy_nodes.Goals as goal
 
@@ -14,7 +14,7 @@ nodes-preserved g c =
     let nodes = c.args.nodes.now in
     let n : length nodes < 2 ^ 64 = omega (arith) in
     node_reached c.nodes.invariant (λ due. c.in_ok-tidy_node.ensures nodes due n
-    (slice_get-get_or nodes c.nodes.place _ (omega arith)))
+    (slice_get_read nodes _ c.nodes.place _ refl (omega arith) c.index-nodes-place.is))
 
 pub returns : goal.returns
 returns g c = all_told_of (omega arith) c.nodes.invariant

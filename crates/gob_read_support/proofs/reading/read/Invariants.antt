@@ -1,7 +1,7 @@
 use Rattle.std.proofs.Common.{◌≤◌, length}
 use Rattle.gob_types.specs.Defined.{types}
 use Rattle.gob_read.proofs.PublicLaws.{IsPushed}
-use Rattle.gob_tape_tests.proofs.reading.read.Given as goal
+use Rattle.gob_read_support.proofs.reading.read.Given as goal
 
 abbrev pub invariant-pieces : goal.invariant-pieces
 invariant-pieces g l = record {

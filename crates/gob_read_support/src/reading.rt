@@ -4,17 +4,13 @@ ghost use Rattle.std.specs.Prelude.{[], IfOk, min};
 ghost use Rattle.gob_types.specs.Defined.{types};
 ghost use Rattle.gob_read.specs.Reader.{Stands};
 
-use crate::row::Body;
+use crate::body::Body;
 use gob_read::{BodyReader, Builder, Progress, Stop};
 use gob_types::{NotReady, Table, TypeId};
 use std::alloc::Global;
 
 /// A reader of the body.
-pub(crate) fn reader<B: Builder>(
-    alloc: Global,
-    table: &Table,
-    body: &Body,
-) -> Result<BodyReader<B>, Stop>
+pub fn reader<B: Builder>(alloc: Global, table: &Table, body: &Body) -> Result<BodyReader<B>, Stop>
     ensures { IfOk result (λ reader. Stands (types table.now) (record { 0 = body.now.id }) (min body.now.depth B.DEPTH) body.now.length B.stands reader.run []) }
 {
     let id = TypeId(body.id);
@@ -26,7 +22,7 @@ pub(crate) fn reader<B: Builder>(
 }
 
 /// What comes of the body in pieces of this length; none where it goes on behind its bytes, or ends before them.
-pub(crate) fn read<B: Builder>(
+pub fn read<B: Builder>(
     alloc: Global,
     table: &Table,
     body: &Body,
