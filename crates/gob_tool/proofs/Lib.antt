@@ -1,4 +1,5 @@
 pub mod TextLaws
+pub mod LeafLaws
 pub mod PrintLaws
 pub mod WrittenLaws
 pub mod WordLaws

@@ -1,5 +1,6 @@
 pub mod Json
 pub mod Line
+pub mod Text
 pub mod Fault
 pub mod Words
 pub mod Showing
