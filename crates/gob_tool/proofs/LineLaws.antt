@@ -1,5 +1,6 @@
 -- The text of a body that is one whole value, and its line.
-use Rattle.std.proofs.Common.{◌≡◌, ℕ, ◌≤◌, List, [], ◌∷◌, ◌++◌, length, Some, drop, inl, inr, ◌⊎◌, arith, refl, sym, ap, ◌∙◌, subst}
+use Rattle.std.proofs.Common.{◌≡◌, ℕ, ◌≤◌, List, [], ◌∷◌, ◌++◌, length, Some}
+use Rattle.std.proofs.Common.{drop, inl, inr, ◌⊎◌, arith, refl, sym, ap, ◌∙◌, subst}
 use Rattle.std.proofs.Common.{append_assoc, append-nil}
 use Rattle.std.specs.Prelude.{slice_get}
 use Rattle.std.proofs.Math.Seq.{drop-length}
@@ -54,7 +55,12 @@ whole_text T t s limit most begin end body old new f tag last deep p =
           let behind = tag.tagged other in
           let same : body ≡ 0 ∷ b.bytes =
           first_of body 0 behind.1 ∙ ap (λ l. 0 ∷ l) (ap (λ n. drop n body) (sym behind.0) ∙ all) in
-          rw same (record { value = b.value; spelled = tagged f other (of_type f b.spelled); within = omega arith; text = own })
+          rw same (record {
+            value = b.value;
+            spelled = tagged f other (of_type f b.spelled);
+            within = omega arith;
+            text = own;
+          })
     ]
 
 line_text : (T : Table) (t : TypeId) (v : Tree)

@@ -1,6 +1,8 @@
 -- Values that stand whole at a place of a body, with their text, from their parts.
-use Rattle.std.proofs.Common.{◌≡◌, ℕ, ℤ, zero, suc, ◌+◌, ◌-◌, ◌<◌, ◌≤◌, ◌==◌, Bool, true, false, List, [], ◌∷◌, ◌++◌, length, Some}
-use Rattle.std.proofs.Common.{Result, Ok, Err, IfOk, take, drop, arith, refl, sym, ap, ◌∙◌, subst, append_assoc, nat_lt}
+use Rattle.std.proofs.Common.{◌≡◌, ℕ, ℤ, zero, suc, ◌+◌, ◌-◌, ◌<◌, ◌≤◌}
+use Rattle.std.proofs.Common.{◌==◌, Bool, true, false, List, [], ◌∷◌, ◌++◌, length, Option, Some}
+use Rattle.std.proofs.Common.{Result, Ok, Err, IfOk, take, drop, arith}
+use Rattle.std.proofs.Common.{refl, sym, ap, ◌∙◌, subst, append_assoc, nat_lt}
 use Rattle.std.specs.Prelude.{slice_get}
 use Rattle.std.specs.Fmt.{decimal}
 use Rattle.std.proofs.lemmas.Bool.{lt-ltb}
@@ -19,11 +21,14 @@ use Rattle.gob_types.specs.declared.kind.Kind.TheVariants as kind
 use Rattle.gob_types.specs.declared.kind.Shape.{Shape}
 use Rattle.gob_types.specs.Table.{Table, shape_of}
 use Rattle.gob_value.specs.Tree.{Tree, no_tree, tree, no_pair, pair, no_field, field}
-use Rattle.gob_value.specs.Spelling.{of_type, of_bool, of_int, of_uint, of_float, of_complex, of_nil, of_bytes, of_text}
+use Rattle.gob_value.specs.Spelling.{of_type, of_bool, of_int, of_uint}
+use Rattle.gob_value.specs.Spelling.{of_float, of_complex, of_nil, of_bytes, of_text}
 use Rattle.gob_value.specs.Spelling.{of_opaque, of_slice, of_array, of_map, of_struct, no_element, element, no_entry}
 use Rattle.gob_value.specs.Spelling.{entry, end_of_fields, next_field}
-use Rattle.gob_tool.specs.Json.{value_json, elements_json, pairs_json, fields_json, element_type, key_type, struct_fields}
-use Rattle.gob_tool.specs.Json.{field_name, field_type, integer_json, natural_json, pattern_json, pair_json, triple_json}
+use Rattle.gob_tool.specs.Json.{value_json, elements_json, pairs_json}
+use Rattle.gob_tool.specs.Json.{fields_json, element_type, key_type, struct_fields}
+use Rattle.gob_tool.specs.Json.{field_name, field_type, integer_json}
+use Rattle.gob_tool.specs.Json.{natural_json, pattern_json, pair_json, triple_json}
 use Rattle.gob_tool.specs.Json.{hex_json, text_json, opaque_json}
 use Rattle.gob_tool.specs.Whole.{Stands, BeginsNumber}
 use Rattle.gob_tool.specs.TextWhole.{IsOfKind, TextOfKind, TextOfEach, TextOfPairs, TextOfFields, BeginsThese}
@@ -401,8 +406,9 @@ module _ (T : Table) where
       let rest = items_text true (fields_json T types r.fields) in
       let own = q.text e.id (record { shape = s; found = shape; same = refl }) in
       let others = r.text ∙ ap (λ b. four ++ items_text b (fields_json T types r.fields)) true_after in
-      let whole : new ≡ old ++ (comma_if later
-      ++ (compact_text (triple_json (natural_json f) (text_json e.name) (value_json T e.id q.value)) ++ rest)) =
+      let shown : Option Field → Data = λ g. triple_json (natural_json f) (text_json (field_name g))
+      (value_json T (field_type g) q.value) in
+      let whole : new ≡ old ++ (comma_if later ++ (compact_text (shown (Some e)) ++ rest)) =
       others ∙ ap (λ l. l ++ rest)
       (close ∙ ap (λ l. l ++ 93 ∷ [])
       (own ∙ ap (λ l. l ++ value)
@@ -418,7 +424,5 @@ module _ (T : Table) where
             (q.whole ∙ ap (λ l. q.bytes ++ l) r.whole ∙ sym (append_assoc q.bytes r.bytes z))
             ∙ sym (append_assoc p.bytes (q.bytes ++ r.bytes) z);
         text = whole
-            ∙ ap (λ g. old ++ (comma_if later
-            ++ (compact_text (triple_json (natural_json f) (text_json (field_name g)) (value_json T (field_type g) q.value))
-            ++ rest))) (sym here);
+            ∙ ap (λ g. old ++ (comma_if later ++ (compact_text (shown g) ++ rest))) (sym here);
       }
