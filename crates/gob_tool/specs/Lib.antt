@@ -1,6 +1,7 @@
 pub mod Json
 pub mod Line
 pub mod Fault
+pub mod Depths
 pub mod Words
 pub mod Showing
 pub mod Gathering

@@ -2,7 +2,7 @@
 
 ghost use Rattle.std.specs.Prelude.{◌≡◌, ℕ, List, Some};
 ghost use Rattle.gob_tool.specs.declared.words.Chosen.TheVariants as chosen;
-ghost use Rattle.gob_tool.specs.Words.{standard_limits};
+ghost use Rattle.gob_tool.specs.Words.{limits_of};
 ghost use Rattle.gob_tool.specs.Running.{Does};
 ghost use Rattle.gob_tool.specs.Showing.{CountsWriteFaults};
 ghost use Rattle.gob_tool.specs.Taking.{CountsTakeReads};
@@ -26,7 +26,7 @@ pub fn run_order<Q: Read, R: Read, W: Write>(
 ) -> Result<(), ToolFault>
     ensures does { (wanted_bytes bytes : List ℕ) → Q.remaining wanted.old.reader ≡ Some wanted_bytes
         → R.remaining input.old.reader ≡ Some bytes
-        → Does order.now.command standard_limits wanted_bytes bytes (Q.remaining wanted.new.reader)
+        → Does order.now.command (limits_of order.now) wanted_bytes bytes (Q.remaining wanted.new.reader)
         (R.remaining input.new.reader) (W.contents output.old.writer) (W.contents output.new.writer) result }
     ensures unread { order.now.command ≡ chosen.Show → wanted.new ≡ wanted.old }
     ensures reads { CountsTakeReads wanted.old.failures wanted.new.failures input.old.failures input.new.failures
@@ -34,7 +34,12 @@ pub fn run_order<Q: Read, R: Read, W: Write>(
     ensures writes { CountsWriteFaults output.old.failures output.new.failures result }
 {
     match order.command {
-        Chosen::Show => run_show(alloc, input, output, order.limits()),
+        Chosen::Show | Chosen::Check | Chosen::Rewrite => run_show(
+            alloc,
+            input,
+            output,
+            order.limits(),
+        ),
         Chosen::Take => run_take(alloc, wanted, input, output, order.limits()),
     }
 }
