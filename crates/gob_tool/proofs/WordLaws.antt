@@ -1,5 +1,5 @@
 -- Words and what they say.
-use Rattle.std.proofs.Common.{rules, ◌≡◌, ◌∙◌, ◌<◌, ◌≤◌, ◌^◌, ap, ap₂, sym, is_some, refl, codes, ℕ, List, [], ◌∷◌, Option, Some, None, Result, Ok, Err, option_map, MatchOption, slice_index, length, subst, ◌==◌, if◌then◌else◌, arith, ok_or, MatchResult, IfOk, IsErrAnd, true, inl, inr}
+use Rattle.std.proofs.Common.{rules, ◌≡◌, ◌∙◌, ◌<◌, ◌≤◌, ◌^◌, ap, ap₂, sym, is_some, refl, codes, ℕ, List, [], Option, Some, None, Result, Ok, Err, option_map, MatchOption, slice_index, subst, ◌==◌, if◌then◌else◌, ok_or, MatchResult, IfOk, IsErrAnd, true, inl, inr}
 use Rattle.std.specs.Result.{result_ok}
 use Rattle.std.specs.List.{All}
 use Rattle.std.specs.Str.Parse.{ParsesUnsigned, digits_value}
@@ -9,7 +9,7 @@ use Rattle.clap.specs.Words.{App, Row, Text, first_of, subcommand_of, takes, fau
 use Rattle.clap.specs.Words.{kind_of, HasKind, IsAmong}
 use Rattle.clap.proofs.OnLiterals.{clap_on_literals}
 use Rattle.clap.specs.declared.error.Error.{Error}
-use Rattle.clap.specs.declared.error.kind.ErrorKind.TheVariants.{DisplayHelp, OutOfMemory}
+use Rattle.clap.specs.declared.error.kind.ErrorKind.TheVariants.{OutOfMemory}
 use Rattle.gob_tool.specs.declared.words.OrderFault.{OrderFault}
 use Rattle.gob_tool.specs.declared.words.OrderFault.TheVariants as fault
 use Rattle.std.specs.Borrow.{Bor}
@@ -18,7 +18,7 @@ use Rattle.gob_tool.specs.Words.{IsDigit, IsNumber, IsOrderOf, name_of, text_of,
 use Rattle.gob_tool.specs.Words.{Asks, IsFaultOf, Refuses, program}
 use Rattle.gob_tool.specs.declared.words.Order.{Order}
 use Rattle.gob_tool.specs.declared.words.Chosen.{Chosen}
-use Rattle.gob_tool.specs.declared.words.Chosen.TheVariants.{Show, Check, Rewrite, Take}
+use Rattle.gob_tool.specs.declared.words.Chosen.TheVariants.{Show, Check, Take}
 
 -- ---- numbers
 
@@ -55,12 +55,11 @@ one_number (Some word) usual n m h k = h.2 ∙ sym k.2
 
 -- the command whose name begins with this letter
 abbrev beginning : ℕ → Chosen
-beginning c = if c == 115 then Show else (if c == 99 then Check else (if c == 114 then Rewrite else Take))
+beginning c = if c == 115 then Show else (if c == 99 then Check else Take)
 
 begins : (a : Chosen) → beginning (slice_index (name_of a) 0) ≡ a
 begins Show = refl
 begins Check = refl
-begins Rewrite = refl
 begins Take = refl
 
 -- commands have different names

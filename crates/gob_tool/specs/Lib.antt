@@ -9,4 +9,6 @@ pub mod Taking
 pub mod Pieces
 pub mod Wanting
 pub mod Receiver
+pub mod Checking
+pub mod Counting
 pub mod Running

@@ -6,6 +6,7 @@
 //! ```
 #![tactic(auto)]
 
+mod check;
 mod command_line;
 mod decimal;
 mod definition_json;
@@ -25,6 +26,7 @@ mod value_json;
 mod wanted;
 mod words;
 
+pub use check::run_check;
 pub use fault::{ToolFault, status};
 pub use item_json::{json_of, json_of_tape};
 pub use orders::order_of;

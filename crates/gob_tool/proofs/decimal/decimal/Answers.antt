@@ -1,4 +1,4 @@
-use Rattle.std.proofs.Common.{rules, ◌≡◌}
+use Rattle.std.proofs.Common.{rules}
 use Rattle.gob_tool.proofs.WordLaws.{parsed_digits}
 use Rattle.gob_tool.proofs.decimal.decimal.Goals as goal
 

@@ -1,10 +1,8 @@
 -- The order is read off the rows of the one subcommand that was met.
-use Rattle.std.proofs.Common.{rules, ◌≡◌, ◌∙◌, ◌≤◌, is_some, ap, sym, subst, codes, ℕ, List, Option, Some, None, MatchOption, arith}
-use Rattle.clap.specs.Words.{Row, Text, found_of, rows_of, subcommand_rows_of}
+use Rattle.std.proofs.Common.{rules, ◌∙◌, is_some, ap, sym, codes, arith}
+use Rattle.clap.specs.Words.{found_of, rows_of, subcommand_rows_of}
 use Rattle.clap.proofs.WalkLemmas.{first_value-rows}
-use Rattle.gob_tool.specs.Depths.{most_depth, wants_type}
-use Rattle.gob_tool.specs.Words.{IsOrderOf, name_of}
-use Rattle.gob_tool.specs.declared.words.Order.{Order}
+use Rattle.gob_tool.specs.Depths.{wants_type}
 use Rattle.gob_tool.proofs.WordLaws.{meets, met_together, one_number, there_as_text, writes_alike}
 use Rattle.gob_tool.proofs.orders.order_in.Goals.{then-depth-lt1-via-then-depth-lt1, then-depth-lt1-via-else-depth-lt1+then-depth-most_depth, then-depth-lt1-via-else-depth-lt1+else-depth-most_depth+then-is_some-wants_type}
 use Rattle.gob_tool.proofs.orders.order_in.Goals as goal

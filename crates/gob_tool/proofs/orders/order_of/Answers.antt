@@ -1,10 +1,8 @@
 -- What clap says of the words, and what is read of its matches.
 use Rattle.std.proofs.Common.{◌≡◌, ◌∙◌, ap, sym, true, subst, map}
 use Rattle.clap.specs.declared.error.kind.ErrorKind.TheVariants.{OutOfMemory}
-use Rattle.std.proofs.lemmas.Result.{IfOk-weaker}
-use Rattle.clap.specs.Words.{app_of, subcommand_of, subcommand_rows_of, takes, fault_of, kind_of, HasKind}
-use Rattle.clap.specs.Kinds.{FailsBy}
-use Rattle.gob_tool.specs.Words.{Asks, HasNoFault, Refuses, program}
+use Rattle.clap.specs.Words.{subcommand_of, takes, fault_of, kind_of, HasKind}
+use Rattle.gob_tool.specs.Words.{HasNoFault, program}
 use Rattle.gob_tool.proofs.WordLaws.{asks_what_is_met, refuses_as_clap, refuses_without_memory, on_ok, simple, simple_and_free}
 use Rattle.gob_tool.proofs.orders.order_of.Goals as goal
 
