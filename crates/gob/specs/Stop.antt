@@ -1,17 +1,19 @@
 -- How the program ends. (docs/FORMAT.md, The program: this project's own.)
-use Rattle.std.specs.Prelude.{◌≡◌, ℕ, List, codes, Option, Result, Ok, Err}
+use Rattle.std.specs.Prelude.{◌≡◌, ◌⊎◌, ℕ, List, Option, Result, Ok, Err}
 use Rattle.gob_tool.specs.declared.fault.ToolFault.{ToolFault}
-use Rattle.gob_tool.specs.declared.fault.ToolFault.TheVariants as fault
-use Rattle.gob_tool.specs.declared.words.Chosen.{Chosen}
+use Rattle.gob_tool.specs.declared.fault.ToolFault.TheVariants as run_fault
+use Rattle.gob_tool.specs.declared.words.Order.{Order}
+use Rattle.gob_tool.specs.declared.words.OrderFault.{OrderFault}
+use Rattle.gob_tool.specs.declared.words.OrderFault.TheVariants as order_fault
 use Rattle.gob_tool.specs.Fault.{fault_status, fault_line}
 use Rattle.gob_tool.specs.Running.{Does}
-use Rattle.gob_tool.specs.Words.{standard_limits}
+use Rattle.gob_tool.specs.Words.{limits_of, order_line, order_status}
 use Rattle.gob.specs.declared.Stop.{Stop}
 use Rattle.gob.specs.declared.Stop.TheVariants.{Words, Run, Unread}
 
 -- the exit status after what ends it with a line
 abbrev pub stop_status : Stop → ℕ
-stop_status (Words fault) = 2
+stop_status (Words fault) = order_status fault
 stop_status (Run fault) = fault_status fault
 stop_status Unread = 2
 
@@ -22,19 +24,24 @@ ending_status (Err stop) = stop_status stop
 
 -- the line on standard error; none is printed where nobody reads what is written
 abbrev pub stop_line : Stop → List ℕ
-stop_line (Words fault) = codes "gob: bad arguments"
+stop_line (Words fault) = order_line fault
 stop_line (Run fault) = fault_line fault
-stop_line Unread = fault_line fault.Write
+stop_line Unread = fault_line run_fault.Write
 
 -- the run that ends the program so has answered this
 abbrev pub HasAnswered : Result (Unit {0}) ToolFault → Result (Unit {0}) Stop → Type 0
 HasAnswered answer (Ok _) = answer ≡ Ok tt
 HasAnswered answer (Err (Words fault)) = ⊥
 HasAnswered answer (Err (Run fault)) = answer ≡ Err fault
-HasAnswered answer (Err Unread) = answer ≡ Err fault.Write
+HasAnswered answer (Err Unread) = answer ≡ Err run_fault.Write
 
--- a run of the command over a wanted stream and an input with these bytes, and an output with the old ones, ends so
-pub record EndsRun (command : Chosen) (wanted bytes : List ℕ) (old : Option (List ℕ))
+-- what comes of a fault of the words: help is printed, unless that fails, and any other stops the program
+abbrev pub IsAnswered : OrderFault → Result (Unit {0}) Stop → Type 0
+IsAnswered (order_fault.Help text) result = (result ≡ Ok tt) ⊎ (result ≡ Err (Run run_fault.Write))
+IsAnswered other result = result ≡ Err (Words other)
+
+-- a run of the order over a wanted stream and an input with these bytes, and an output with the old ones, ends so
+pub record EndsRun (order : Order) (wanted bytes : List ℕ) (old : Option (List ℕ))
     (result : Result (Unit {0}) Stop) : Type 0 where
   pub answer : Result (Unit {0}) ToolFault
   pub answered : HasAnswered answer result
@@ -42,4 +49,4 @@ pub record EndsRun (command : Chosen) (wanted bytes : List ℕ) (old : Option (L
   pub wanted_now : Option (List ℕ)
   pub now : Option (List ℕ)
   pub new : Option (List ℕ)
-  pub does : Does command standard_limits wanted bytes wanted_now now old new answer
+  pub does : Does order.command (limits_of order) wanted bytes wanted_now now old new answer

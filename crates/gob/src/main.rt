@@ -1,15 +1,16 @@
-//! The program `gob`: prints the items of a gob stream as lines of JSON.
+//! The program `gob`: shows and checks gob streams.
 //!
-//! `gob show [IN]` reads the file IN, or standard input without one, and prints a line for each item on standard
-//! output. `gob take WANTED [IN]` receives each value of IN as one of the type of the first value in the file WANTED,
-//! and prints a line for each. Where it stops at a fault, it prints a line on standard error. Its exit status is 0 for
-//! a whole stream, 1 for an input that is no stream or has values that don't match, and 2 for all else.
+//! `gob show [IN]` reads the file IN, or standard input without one, and prints a line of JSON for each item on standard
+//! output. `gob check [IN]` prints one line that says how much there is in a whole stream. `gob take WANTED [IN]`
+//! receives each value of IN as one of the type of the first value in the file WANTED, and prints a line for each.
+//! `gob help` says the rest. Where the program stops at a fault, it prints a line on standard error. Its exit status is 0
+//! for a whole stream and for help, 1 for an input that is no stream or has values that don't match, and 2 for all else.
 #![tactic(auto)]
 
 ghost use Rattle.std.specs.Prelude.{◌≡◌, ℕ, List, Some, MatchResult};
 ghost use Rattle.std.specs.Process.{exit_status};
 ghost use Rattle.gob_tool.specs.declared.fault.ToolFault.TheVariants as fault;
-ghost use Rattle.gob.specs.Stop.{stop_status, ending_status, HasAnswered, EndsRun};
+ghost use Rattle.gob.specs.Stop.{stop_status, ending_status, HasAnswered, EndsRun, IsAnswered};
 
 mod pipe;
 
@@ -90,19 +91,44 @@ fn end(rt: &HostRuntime, ending: Result<(), Stop>) -> ExitCode
     }
 }
 
-// Judges the words, then opens the file that has the wanted type, if the command wants one.
+// Judges the words, and does what they ask for.
 fn run(rt: &HostRuntime) -> Result<(), Stop> {
     let words = words_of(rt)?;
     let names = words
         .iter()
         .map(|word| word.as_str())
         .collect::<Vec<&str>>(rt.alloc())?;
-    let order = order_of(&names).map_err(Stop::Words)?;
+    match order_of(rt.alloc(), &names) {
+        Ok(order) => run_for(rt, &order),
+        Err(fault) => answer(rt, fault),
+    }
+}
+
+// Prints the help that was asked for; any other fault of the words stops the program.
+fn answer(rt: &HostRuntime, fault: OrderFault) -> Result<(), Stop>
+    ensures { IsAnswered fault result }
+{
+    match fault {
+        OrderFault::Help(text) => printed(println!(rt; "{text}")),
+        OrderFault::Words => Err(Stop::Words(OrderFault::Words)),
+        OrderFault::Memory => Err(Stop::Words(OrderFault::Memory)),
+    }
+}
+
+// Help that isn't printed is a failed write.
+fn printed(written: io::Result<()>) -> Result<(), Stop>
+    ensures { MatchResult written (λ _. result ≡ Ok tt) (λ _. result ≡ Err (Stop.Run fault.Write)) }
+{
+    written.map_err(|_| Stop::Run(ToolFault::Write))
+}
+
+// Opens the file that has the wanted type, if the command wants one.
+fn run_for(rt: &HostRuntime, order: &Order) -> Result<(), Stop> {
     match order.wanted {
-        None => run_on(rt, &order, b"".as_slice()),
+        None => run_on(rt, order, b"".as_slice()),
         Some(path) => {
             let wanted = opened(File::open(rt, path))?;
-            run_on(rt, &order, wanted)
+            run_on(rt, order, wanted)
         }
     }
 }
@@ -143,7 +169,7 @@ fn carry_out<Q: Read + Drop, R: Read + Drop, W: Write + Drop>(
     writer: W,
 ) -> Result<(), Stop>
     ensures { (wanted_bytes bytes : List ℕ) → Q.remaining wanted ≡ Some wanted_bytes → R.remaining reader ≡ Some bytes
-        → EndsRun order.now.command wanted_bytes bytes (W.contents writer) result }
+        → EndsRun order.now wanted_bytes bytes (W.contents writer) result }
 {
     let mut wanted = Input::new(wanted);
     let mut input = Input::new(reader);

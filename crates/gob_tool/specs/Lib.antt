@@ -4,6 +4,7 @@ pub mod Text
 pub mod Whole
 pub mod TextWhole
 pub mod Fault
+pub mod Depths
 pub mod Words
 pub mod Showing
 pub mod Gathering
@@ -11,4 +12,6 @@ pub mod Taking
 pub mod Pieces
 pub mod Wanting
 pub mod Receiver
+pub mod Checking
+pub mod Counting
 pub mod Running

@@ -6,11 +6,16 @@
 //! ```
 #![tactic(auto)]
 
+mod check;
+mod command_line;
+mod decimal;
 mod definition_json;
 mod fault;
+mod help;
 mod item_json;
 mod leaf;
 mod lines;
+mod orders;
 mod parts;
 mod pieces;
 mod receiver;
@@ -22,9 +27,11 @@ mod value_json;
 mod wanted;
 mod words;
 
+pub use check::run_check;
 pub use fault::{ToolFault, status};
 pub use item_json::{json_of, json_of_tape};
+pub use orders::order_of;
 pub use run::run_order;
 pub use show::run_show;
 pub use take::run_take;
-pub use words::{Chosen, Order, OrderFault, order_of};
+pub use words::{Chosen, Order, OrderFault};

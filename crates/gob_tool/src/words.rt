@@ -1,20 +1,41 @@
-//! The words of the command line.
+//! What the words of the command line can ask for.
 
-ghost use Rattle.std.specs.Prelude.{◌≡◌, ℕ, List, Option, map, MatchResult};
-ghost use Rattle.std.specs.Option.{option_map};
-ghost use Rattle.gob_tool.specs.declared.words.Chosen.{Chosen};
-ghost use Rattle.gob_tool.specs.Words.{Asks};
+ghost use Rattle.std.specs.Prelude.{◌≡◌, ◌≤◌, is_some};
+ghost use Rattle.gob_tool.specs.Depths.{most_depth, wants_type};
 
 use gob_stream::Limits;
+use std::alloc::AllocError;
 use std::fmt;
+use thiserror::Error;
 
 /// What the program is to do.
 #[derive(Clone, Copy, Debug, PartialEq, Eq)]
 pub enum Chosen {
     /// Print each item as a line of JSON.
     Show,
+    /// Print how many items, types and bytes a whole stream has.
+    Check,
     /// Print each value as one of the type of another file's first value.
     Take,
+}
+
+impl Chosen {
+    // The greatest depth that it can be asked for.
+    pub(crate) fn most_depth(self) -> u64
+        ensures { result ≡ most_depth self }
+    {
+        match self {
+            Chosen::Show | Chosen::Take => Limits::GREATEST_DEPTH,
+            Chosen::Check => Limits::DEEPEST,
+        }
+    }
+
+    // Whether it has another stream, which has the wanted type.
+    pub(crate) fn wants_type(self) -> bool
+        ensures { result ≡ wants_type self }
+    {
+        self == Chosen::Take
+    }
 }
 
 /// What the words ask for.
@@ -26,80 +47,75 @@ pub struct Order<'a> {
     pub wanted: Option<&'a str>,
     /// The name of the file that is read. None: standard input.
     pub input: Option<&'a str>,
+    /// The greatest depth of a value: 1 to 65536 for [`Chosen::Check`], to 1000 for the others.
+    pub depth: u64,
+    /// The most bytes of an item's body.
+    pub item: u64,
+    pub ghost least: { 1 ≤ depth },
+    pub ghost most: { depth ≤ most_depth command },
+    pub ghost wants: { is_some wanted ≡ wants_type command },
 }
 
 impl Order<'_> {
-    ghost use Rattle.gob_tool.specs.Words.{standard_limits};
+    ghost use Rattle.gob_tool.specs.Words.{limits_of};
 
-    /// The limits under which the file is read: the standard ones, since no word names others yet.
+    /// The limits under which the streams are read: the order's depth and item, and else the standard ones.
     pub fn limits(&self) -> Limits
-        ensures { result ≡ standard_limits }
+        ensures { result ≡ limits_of self.now }
     {
-        Limits::standard()
+        let standard = Limits::standard();
+        // The depth is within what each command allows, so these are limits.
+        Limits::deep(self.item, self.depth, standard.types(), standard.stream()).unwrap()
     }
 }
 
-/// The words ask for nothing that the program does. Display writes the line that it prints, without the line
-/// feed.
-#[derive(Clone, Copy, Debug, PartialEq, Eq)]
+/// Why the words give no order. Display writes what the program prints then, without the last line feed.
+#[derive(Debug, Drop, Error)]
 pub enum OrderFault {
-    /// There are too few words, too many, or others than the program knows.
+    /// They ask for help, and this is its text.
+    Help(String),
+    /// They ask for nothing that the program does: a word is missing, unknown or too many, or is no number in its range.
     Words,
+    /// No memory was had.
+    Memory,
 }
 
 impl fmt::Display for OrderFault {
-    ghost use Rattle.std.specs.Prelude.{Some, codes};
+    ghost use Rattle.std.specs.Prelude.{Some};
+    ghost use Rattle.gob_tool.specs.Words.{order_line};
 
-    ghost output = { λ _. Some (codes "gob: bad arguments") };
+    ghost output = { λ fault. Some (order_line fault) };
 
     fn fmt<W: fmt::Write>(&self, f: &mut fmt::Formatter<W>) -> fmt::Result {
         match self {
+            OrderFault::Help(text) => write!(f, "{text}"),
             OrderFault::Words => write!(f, "gob: bad arguments"),
+            OrderFault::Memory => write!(f, "gob: out of memory"),
         }
+    }
+}
+
+impl From<AllocError> for OrderFault {
+    ghost use Rattle.std.specs.Prelude.{◌≡◌};
+    ghost use Rattle.gob_tool.specs.declared.words.OrderFault.TheVariants.{Memory};
+
+    ghost from_gives = { λ _ fault. fault ≡ Memory };
+
+    fn from(_: AllocError) -> OrderFault {
+        OrderFault::Memory
     }
 }
 
 impl OrderFault {
-    /// The exit status of the program after this fault.
+    ghost use Rattle.gob_tool.specs.Words.{order_status};
+
+    /// The exit status of the program after it: 0 where help was asked for, else 2.
     pub fn status(&self) -> u8
-        ensures { result ≡ 2 }
+        ensures { result ≡ order_status self.now }
     {
         match self {
-            OrderFault::Words => 2,
+            OrderFault::Help(_) => 0,
+            OrderFault::Words | OrderFault::Memory => 2,
         }
-    }
-}
-
-/// What the words ask for, the program's name first: `show`, and the name of a file or none; or `take`, the name of the
-/// file that has the wanted type, and that of another or none.
-pub fn order_of<'a>(words: &'a [&'a str]) -> Result<Order<'a>, OrderFault>
-    ensures { MatchResult result
-        (λ order. Asks (map (λ word. word.now) words.now) order.command
-        (option_map (λ word. word.now) order.wanted) (option_map (λ word. word.now) order.input))
-        (λ _. (command : Chosen) (wanted input : Option (List ℕ))
-        → ¬ Asks (map (λ word. word.now) words.now) command wanted input) }
-{
-    match words {
-        [_, "show"] => Ok(Order {
-            command: Chosen::Show,
-            wanted: None,
-            input: None,
-        }),
-        [_, "show", input] => Ok(Order {
-            command: Chosen::Show,
-            wanted: None,
-            input: Some(input),
-        }),
-        [_, "take", wanted] => Ok(Order {
-            command: Chosen::Take,
-            wanted: Some(wanted),
-            input: None,
-        }),
-        [_, "take", wanted, input] => Ok(Order {
-            command: Chosen::Take,
-            wanted: Some(wanted),
-            input: Some(input),
-        }),
-        _ => Err(OrderFault::Words),
     }
 }

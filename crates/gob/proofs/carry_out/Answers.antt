@@ -1,12 +1,12 @@
 -- What is left of the inputs, and what the output has, is what the run left.
 use Rattle.std.proofs.Common.{◌∙◌, ap, subst}
 use Rattle.gob_tool.specs.Running.{Does}
-use Rattle.gob_tool.specs.Words.{standard_limits}
+use Rattle.gob_tool.specs.Words.{limits_of}
 use Rattle.gob.proofs.carry_out.Goals as goal
 
 pub returns : goal.returns
 returns g c = λ wanted_bytes bytes sought known.
-    let command = c.args.order.now.command in
+    let order = c.args.order.now in
     let wanted_now = g.Q.Read.remaining c.run_order-answer.new.wanted.reader in
     let now = g.R.Read.remaining c.run_order-answer.new.input.reader in
     let new = g.W.Write.contents c.run_order-answer.new.output.writer.writer in
@@ -19,6 +19,6 @@ returns g c = λ wanted_bytes bytes sought known.
       wanted_now = wanted_now;
       now = now;
       new = new;
-      does = subst (λ w. Does command standard_limits wanted_bytes bytes wanted_now now (g.W.Write.contents w) new
+      does = subst (λ w. Does order.command (limits_of order) wanted_bytes bytes wanted_now now (g.W.Write.contents w) new
           c.run_order-answer.result) (ap (λ pipe. pipe.writer) c.new-output.ensures.writer ∙ c.new.ensures.writer) does;
     }

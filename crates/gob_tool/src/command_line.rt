@@ -1,0 +1,78 @@
+//! The commands, options and files that the words can name, for clap, which reads the words and shows help.
+
+ghost use Rattle.std.specs.Prelude.{◌≡◌, IfOk, codes, false};
+ghost use Rattle.clap.specs.Words.{app_of, rule_of};
+ghost use Rattle.clap.specs.declared.builder.Command.TheViews.{out-Command};
+ghost use Rattle.gob_tool.specs.Words.{option_rule, with_options, one_stream, two_streams, program};
+
+use crate::help;
+use clap::{Arg, Command};
+use std::alloc::{AllocError, Global};
+
+/// The program, with its commands.
+pub(crate) fn program<'a>(alloc: Global) -> Result<Command<'a>, AllocError>
+    ensures { IfOk result (λ command. app_of command ≡ program) }
+{
+    Command::new(alloc, "gob")
+        .about(help::PROGRAM)
+        .after_help(help::USE)
+        .subcommand_required(true)
+        .subcommand(one_stream(alloc, "show", help::SHOW, help::DEPTH_OF_TREES)?)?
+        .subcommand(one_stream(alloc, "check", help::CHECK, help::DEPTH)?)?
+        .subcommand(two_streams(alloc, "take", help::TAKE, help::DEPTH_OF_TREES)?)
+}
+
+// A command that reads one stream.
+fn one_stream<'a>(
+    alloc: Global,
+    name: &'a str,
+    about: &'a str,
+    depth: &'a str,
+) -> Result<Command<'a>, AllocError>
+    ensures app { IfOk result (λ command. app_of command ≡ one_stream name.now) }
+    ensures local { IfOk result (λ command. (out-Command command).has_globals ≡ false) }
+{
+    let input = Arg::new(alloc, "IN").help(help::INPUT);
+    with_options(alloc, name, about, depth)?.arg(input)
+}
+
+// A command that reads the stream that has the wanted type, and then another.
+fn two_streams<'a>(
+    alloc: Global,
+    name: &'a str,
+    about: &'a str,
+    depth: &'a str,
+) -> Result<Command<'a>, AllocError>
+    ensures app { IfOk result (λ command. app_of command ≡ two_streams name.now) }
+    ensures local { IfOk result (λ command. (out-Command command).has_globals ≡ false) }
+{
+    let wanted = Arg::new(alloc, "WANTED").required(true).help(help::WANTED);
+    let input = Arg::new(alloc, "IN").help(help::INPUT);
+    with_options(alloc, name, about, depth)?
+        .arg(wanted)?
+        .arg(input)
+}
+
+// A command with the options that each has.
+fn with_options<'a>(
+    alloc: Global,
+    name: &'a str,
+    about: &'a str,
+    depth: &'a str,
+) -> Result<Command<'a>, AllocError>
+    ensures app { IfOk result (λ command. app_of command ≡ with_options name.now) }
+    ensures local { IfOk result (λ command. (out-Command command).has_globals ≡ false) }
+{
+    Command::new(alloc, name)
+        .about(about)
+        .arg(option(alloc, "depth", depth))?
+        .arg(option(alloc, "item", help::ITEM))
+}
+
+// An option of one number.
+fn option<'a>(alloc: Global, name: &'a str, about: &'a str) -> Arg<'a>
+    ensures rule { rule_of result ≡ option_rule name.now }
+    ensures local { result.global ≡ false }
+{
+    Arg::new(alloc, name).long(name).value_name("N").help(about)
+}

@@ -1,0 +1,47 @@
+//! What help says. The version stands here alone.
+
+/// The program.
+pub(crate) const PROGRAM: &str = "gob 0.1.0: shows and checks streams of Go's encoding/gob";
+
+/// Each command.
+pub(crate) const SHOW: &str = "Print each item of a stream as a line of JSON";
+
+pub(crate) const CHECK: &str =
+    "Read a whole stream, and print how many items, types and bytes it has";
+
+pub(crate) const TAKE: &str = "Print each value as one of the type of the first value in WANTED";
+
+/// Their options and files.
+pub(crate) const DEPTH: &str = "Refuse deeper values: 1 to 65536, and 1000 without it";
+
+pub(crate) const DEPTH_OF_TREES: &str = "Refuse deeper values: 1 to 1000, and 1000 without it";
+
+pub(crate) const ITEM: &str =
+    "Refuse items of more bytes: 0 to 18446744073709551615, and 67108864 without it";
+
+pub(crate) const WANTED: &str = "The stream that has the wanted type";
+
+pub(crate) const INPUT: &str = "The stream; without it, standard input is read";
+
+/// How it is used, how it ends, and what to do about the commonest faults.
+pub(crate) const USE: &str = "\
+Example:
+  printf '\\003\\004\\000\\006' | gob show
+  {\"type\":2,\"value\":3}
+
+Exit status:
+  0  the whole input is a stream, or help was asked for
+  1  the input is refused, or a value's type doesn't match the wanted type
+  2  bad arguments, a file that isn't opened, a failed read or write, no memory
+
+A fault is told in one line on standard error: the number and the name of the
+reason, the offset of the first byte that is refused, and how many bytes show it.
+  gob: refused 22 Ended at 36 seen 36
+      The input ends within an item: the file was cut off, or isn't all written
+      yet. Get the whole file. The items before the offset are whole.
+  gob: refused 16 InterfaceValue at 3 seen 4
+      A field of an interface type isn't nil: only the Go program that sent it
+      knows its type. Send a struct with fields of other types.
+  gob: refused 19 WrongId at 3 seen 11
+      A type that encodes itself, as big.Int, was first sent by a pointer, and Go
+      described it under two ids. Send the value in place of the pointer.";
