@@ -1,6 +1,7 @@
 pub mod TextLaws
 pub mod PrintLaws
 pub mod WrittenLaws
+pub mod TapeLaws
 pub mod WordLaws
 pub mod FrontLaws
 pub mod LinesStay
