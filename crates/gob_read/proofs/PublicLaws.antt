@@ -1,5 +1,8 @@
 -- The laws that the proofs of other crates cite, in one place. Declares nothing.
+pub use Rattle.gob_read.proofs.BuiltLaws.{all_told-append, signed_is, tells_built}
 pub use Rattle.gob_read.proofs.Compare.{awaits_once}
+pub use Rattle.gob_read.proofs.CountLaws.{counting, parts_told-append, raw_told-append}
+pub use Rattle.gob_read.proofs.Counted.{table_counted}
 pub use Rattle.gob_read.proofs.Firsts.{bad_head_first, ends_number, extra_first, front_not_number, not_allowed_first, not_minimal_first, short_first, too_deep_first}
 pub use Rattle.gob_read.proofs.Fronts.{append_nil, front_of, rest_behind}
 pub use Rattle.gob_read.proofs.Honest.{first_honest}

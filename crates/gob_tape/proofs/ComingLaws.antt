@@ -6,7 +6,7 @@ use Rattle.gob_read.specs.declared.telling.RawKind.{RawKind}
 use Rattle.gob_read.specs.Telling.{Telling, raw_more, leave, TellsRaw, no_bytes, more_bytes, Tells, tell_bool, tell_not_negative, tell_negative, tell_uint, tell_float, tell_complex, tell_nil, tell_bytes, tell_text, tell_opaque, tell_many, tell_pairs, tell_fields, TellsEach, tell_none, tell_each, TellsPairs, tell_no_pair, tell_pair, TellsFields, tell_no_field, tell_field}
 use Rattle.gob_read.specs.WellFormed.{of_bool, of_int, of_uint, of_float, of_complex, of_nil}
 use Rattle.gob_read.specs.Built.{Part, raw, many, pairs, fields, Work, told, all_told}
-use Rattle.gob_read.proofs.BuiltLaws.{all_told-append, tells_built}
+use Rattle.gob_read.proofs.PublicLaws.{all_told-append, tells_built}
 use Rattle.gob_tape.specs.Machine.Coming.{IsFree, in_list, in_map, in_struct, MayEnd, of_raw, of_list, of_map, of_struct, MayCome, a_number, a_raw_part, raw_bytes, a_group, a_field, an_end, MayAllCome, none_comes, comes}
 
 abbrev work : List Part → Option Tree → Work
