@@ -1,7 +1,7 @@
 -- The laws that the proofs of other crates cite, in one place. Declares nothing.
 pub use Rattle.gob_read.proofs.BuiltLaws.{all_told-append, signed_is, tells_built}
 pub use Rattle.gob_read.proofs.Compare.{awaits_once}
-pub use Rattle.gob_read.proofs.CountLaws.{parts_told-append, raw_told-append}
+pub use Rattle.gob_read.proofs.CountLaws.{counting, parts_told-append, raw_told-append}
 pub use Rattle.gob_read.proofs.Counted.{table_counted}
 pub use Rattle.gob_read.proofs.Firsts.{bad_head_first, ends_number, extra_first, front_not_number, not_allowed_first}
 pub use Rattle.gob_read.proofs.Firsts.{not_minimal_first, short_first, too_deep_first}

@@ -10,8 +10,7 @@ use Rattle.gob_types.specs.Base.{base_table, wire_type}
 use Rattle.gob_types.specs.Defined.{IsTable}
 use Rattle.gob_types.specs.Ready.{IsReady}
 use Rattle.gob_types.specs.Table.{Table}
-use Rattle.gob_types.proofs.PublicLaws.{extends_keeps, ready_on}
-use Rattle.gob_types.proofs.PublicLaws.{base_is_table, table-push}
+use Rattle.gob_types.proofs.PublicLaws.{extends_keeps, ready_on, base_is_table, table-push}
 use Rattle.gob_value.specs.Description.{Misdescribes, kind_count, wrong_id, bad_reference, bad_length}
 use Rattle.gob_value.specs.Tree.{Tree}
 use Rattle.gob_read.specs.Begins.{BeginsValue, BeginsNone, BeginsOnlyDeep}
@@ -19,8 +18,7 @@ use Rattle.gob_read.specs.First.{IsFirst}
 use Rattle.gob_read.specs.Honest as body_honest
 use Rattle.gob_read.specs.Laws.{IsOfNumber}
 use Rattle.gob_read.specs.Refusal as body
-use Rattle.gob_read.proofs.PublicLaws.{table_counted}
-use Rattle.gob_read.proofs.PublicLaws.{first_honest, place_within, seen_within, take_and_drop}
+use Rattle.gob_read.proofs.PublicLaws.{table_counted, first_honest, place_within, seen_within, take_and_drop}
 use Rattle.gob_read.specs.declared.tree_builder.TreeBuilder.{TreeBuilder}
 use Rattle.gob_stream.specs.declared.fault.Refusal.{Refusal}
 use Rattle.gob_stream.specs.declared.fault.Fault.{Fault}

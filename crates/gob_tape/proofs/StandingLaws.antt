@@ -9,8 +9,7 @@ use Rattle.gob_read.specs.declared.telling.GroupKind.{GroupKind}
 use Rattle.gob_read.specs.Telling.{Telling, number, raw_start, raw_more, enter, field, leave, Tells}
 use Rattle.gob_read.specs.Weight.{parts_told, raw_told}
 use Rattle.gob_read.specs.Built.{Part, Work, no_work, told, all_told}
-use Rattle.gob_read.proofs.PublicLaws.{all_told-append, tells_built}
-use Rattle.gob_read.proofs.PublicLaws.{parts_told-append, raw_told-append}
+use Rattle.gob_read.proofs.PublicLaws.{all_told-append, tells_built, parts_told-append, raw_told-append}
 use Rattle.gob_tape.specs.declared.node.Content.TheVariants as content
 use Rattle.gob_tape.specs.declared.node.Node.{Node}
 use Rattle.gob_tape.specs.declared.node.Begun.{Begun}

@@ -12,8 +12,7 @@ use Rattle.gob_value.specs.Tree.{Tree, Trees, Pairs, Fields, tree_count, pair_co
 use Rattle.gob_value.specs.Tree as Value
 use Rattle.gob_value.specs.Written.{WrittenBytes, counted, Written, of_bool, of_int, of_uint, of_float, of_complex, of_nil, of_bytes, of_text, of_opaque, of_many, of_pairs, of_fields, WrittenEach, no_element, element, WrittenPairs, WrittenFields, next_number}
 use Rattle.gob_value.specs.Written as written
-use Rattle.gob_value.proofs.PublicLaws.{keeps_then}
-use Rattle.gob_value.proofs.PublicLaws.{written_once}
+use Rattle.gob_value.proofs.PublicLaws.{keeps_then, written_once}
 use Rattle.gob_read.specs.declared.telling.RawKind.{RawKind}
 use Rattle.gob_read.specs.declared.telling.RawKind.TheVariants as kind
 use Rattle.gob_read.specs.declared.telling.GroupKind.TheVariants as group

@@ -151,7 +151,7 @@ impl TapeBuilder {
     }
 }
 
-#[tactic(auto, using(gob_read::proofs::CountLaws::counting))]
+#[tactic(auto, using(gob_read::proofs::PublicLaws::counting))]
 impl Builder for TapeBuilder {
     type Out = Tape;
 

@@ -5,6 +5,7 @@ pub mod TextSteps
 pub mod LineLaws
 pub mod PrintLaws
 pub mod WrittenLaws
+pub mod TapeLaws
 pub mod WordLaws
 pub mod FrontLaws
 pub mod LinesStay

@@ -17,7 +17,7 @@ use Rattle.gob_stream.specs.Reading.{IsShown}
 use Rattle.gob_stream.specs.Standing.{Standing, StandsAfter}
 use Rattle.gob_stream.specs.Stream.{Continues, no_more, and_then}
 use Rattle.gob_stream.proofs.PublicLaws.{shown_there, shown_refusal_stays, stands_within}
-use Rattle.gob_stream.proofs.StreamLaws.{counted_some}
+use Rattle.gob_stream.proofs.PublicLaws.{counted_some}
 
 -- as many items were given as they stand for
 pub given_length : {O : Type 0} {means : O → Tree → Type 0} {given : List (declared.Item O)} {items : List StreamItem}

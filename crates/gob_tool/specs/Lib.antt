@@ -1,4 +1,5 @@
 pub mod Json
+pub mod TapeJson
 pub mod Line
 pub mod Text
 pub mod Whole

@@ -12,6 +12,7 @@ ghost use Rattle.gob_tool.specs.Line.{item_json, item_text, put_json};
 ghost use Rattle.gob_value.specs.View.{view};
 
 use crate::definition_json::write_definition;
+use crate::tape_json::write_part;
 use crate::value_json::write_value;
 use gob_num::Memory;
 use gob_stream::Item;
@@ -34,7 +35,7 @@ pub fn json_of(alloc: Global, item: &Item<Value>, table: &Table) -> Result<Strin
 }
 
 /// The JSON of an item whose value is a tape, as [`json_of`] gives it of the value that the tape means, which is at
-/// most 1000 deep. The value is made on the way.
+/// most 1000 deep, since it is written by recursion. It is written as the tape's views show it, and no value is made.
 pub fn json_of_tape(alloc: Global, item: &Item<Tape>, table: &Table) -> Result<String, Memory>
     requires { (id : TypeId) (v : Tree) → ItemMeans Means item.now (puts id v) → depth v ≤ 1000 }
     ensures { IfOk result (λ text. (i : StreamItem) → ItemMeans Means item.now i
@@ -51,14 +52,13 @@ fn write_item_of_tape(
     item: &Item<Tape>,
     table: &Table,
     out: &mut Writer,
-) -> Result<(), Memory>
-    requires { (id : TypeId) (v : Tree) → ItemMeans Means item.now (puts id v) → depth v ≤ 1000 }
+) -> Result<(), AllocError>
     ensures tokens { OnOk result ((i : StreamItem) → ItemMeans Means item.now i
         → out.new.tokens ≡ out.old.tokens ++ json_tokens (outline (item_json (types table.now) i))) }
     ensures before { out.new.before ≡ out.old.before }
 {
     match item {
-        Item::Define { id, .. } => Ok(write_definition(alloc, *id, table.shape_of(*id), out)?),
+        Item::Define { id, .. } => write_definition(alloc, *id, table.shape_of(*id), out),
         Item::Put { id, value } => write_tape(alloc, *id, value, table, out),
     }
 }
@@ -70,16 +70,17 @@ fn write_tape(
     tape: &Tape,
     table: &Table,
     out: &mut Writer,
-) -> Result<(), Memory>
-    requires { (v : Tree) → Means tape.now v → depth v ≤ 1000 }
+) -> Result<(), AllocError>
     ensures tokens { OnOk result ((v : Tree) → Means tape.now v
         → out.new.tokens ≡ out.old.tokens ++ json_tokens (outline (put_json (types table.now) id v))) }
     ensures before { out.new.before ≡ out.old.before }
 {
-    let value = tape.to_value(alloc)?;
-    let written = write_put(alloc, id, &value, table, out);
-    drop(value);
-    Ok(written?)
+    out.begin_object()?;
+    out.key("type")?;
+    out.u64(id.0)?;
+    out.key("value")?;
+    write_part(alloc, tape.root(), id, table, out)?;
+    out.end_object()
 }
 
 /// The text that the writer holds.

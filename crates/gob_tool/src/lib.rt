@@ -22,6 +22,7 @@ mod receiver;
 mod run;
 mod show;
 mod take;
+mod tape_json;
 mod text;
 mod value_json;
 mod wanted;

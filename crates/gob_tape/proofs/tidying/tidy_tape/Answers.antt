@@ -1,8 +1,7 @@
 use Rattle.std.proofs.Common.{◌≡◌, ◌∙◌, length, None, subst}
 use Rattle.gob_value.specs.Tree.{Tree, depth}
 use Rattle.gob_value.specs.Within.{FitsWithin}
-use Rattle.gob_value.proofs.PublicLaws.{tidy_fits}
-use Rattle.gob_value.proofs.PublicLaws.{tidy_form, no_deeper}
+use Rattle.gob_value.proofs.PublicLaws.{tidy_fits, tidy_form, no_deeper}
 use Rattle.gob_tape.specs.Meaning.{MeansAt}
 use Rattle.gob_tape.proofs.MeaningLaws.{at_rises, at_one}
 use Rattle.gob_tape.proofs.TidyingLaws.{tape_whole}
