@@ -1,3 +1,0 @@
-module decode
-
-go 1.19
