@@ -18,3 +18,6 @@ pub mod TakeRuns
 pub mod WantedLaws
 pub mod PieceRuns
 pub mod CheckLaws
+pub mod TidyStays
+pub mod RewriteLaws
+pub mod RewriteRuns

@@ -87,7 +87,7 @@ lines_given T items given more e = ap (λ (l : List StreamItem). lines T items +
     ∙ sym (lines_append T items more)
 
 -- ---- what goes out, and what is gathered
-gathered_grown : (old mid new : Option (List ℕ)) (gathered more after all : List ℕ) → Gathered old mid gathered all
+pub gathered_grown : (old mid new : Option (List ℕ)) (gathered more after all : List ℕ) → Gathered old mid gathered all
     → PassesSome mid new (gathered ++ more) after → Gathered old new after (all ++ more)
 gathered_grown old mid new gathered more after all g p = record {
   written = g.written ++ p.written;
@@ -96,7 +96,7 @@ gathered_grown old mid new gathered more after all g p = record {
       ∙ sym (append_assoc g.written gathered more) ∙ ap (λ (l : List ℕ). l ++ more) g.whole;
 }
 
-front_grown : (old mid new : Option (List ℕ)) (gathered more all : List ℕ) → Gathered old mid gathered all
+pub front_grown : (old mid new : Option (List ℕ)) (gathered more all : List ℕ) → Gathered old mid gathered all
     → AppendsFront mid new (gathered ++ more) → AppendsFront old new (all ++ more)
 front_grown old mid new gathered more all g f = record {
   front = g.written ++ f.front;

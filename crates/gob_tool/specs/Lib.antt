@@ -15,4 +15,6 @@ pub mod Wanting
 pub mod Receiver
 pub mod Checking
 pub mod Counting
+pub mod Rewriting
+pub mod Rewritten
 pub mod Running

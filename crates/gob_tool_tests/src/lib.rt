@@ -15,6 +15,8 @@ mod lines;
 #[cfg(test)]
 mod nested;
 #[cfg(test)]
+mod rewrites;
+#[cfg(test)]
 mod runs;
 #[cfg(test)]
 mod streams;

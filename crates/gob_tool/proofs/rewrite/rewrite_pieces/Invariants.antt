@@ -1,0 +1,16 @@
+-- The session stands behind what was read, and the tidy stream of it went out or is gathered.
+use Rattle.std.proofs.Common.{◌≡◌, ◌+◌, ◌-◌}
+use Rattle.gob_tool.specs.Rewritten.{RewritesIn}
+use Rattle.gob_tool.proofs.rewrite.rewrite_pieces.Given as goal
+
+abbrev pub invariant-pieces : goal.invariant-pieces
+invariant-pieces g l =
+    (l.session.reading.limits ≡ l.fn.session.reading.limits)
+    × (l.input.failures ≡ l.fn.input.failures)
+    × (l.output.failures ≡ l.fn.output.failures)
+    × RewritesIn l.session.reading l.rewriter.writer (g.R.Read.remaining l.fn.input.reader)
+    (g.R.Read.remaining l.input.reader) (g.W.Write.contents l.fn.output.writer) (g.W.Write.contents l.output.writer)
+    l.rewriter.gathered.items
+
+abbrev pub decreases-pieces : goal.decreases-pieces
+decreases-pieces g l = l.session.reading.limits.stream + 9 - l.session.reading.taken

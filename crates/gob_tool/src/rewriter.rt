@@ -1,0 +1,230 @@
+//! Items that are written again in their tidy form.
+
+ghost use Rattle.std.specs.Prelude.{◌≡◌, ◌≢◌, ◌⊎◌, List, [], ◌∷◌, Err, IfOk, OnOk};
+ghost use Rattle.gob_types.specs.Defined.{types};
+ghost use Rattle.gob_value.specs.Tree.{Tree};
+ghost use Rattle.gob_value.specs.View.{view};
+ghost use Rattle.gob_stream.specs.declared.item.Item as declared;
+ghost use Rattle.gob_stream.specs.Bounds.{Bounds, deepest, no_deeper};
+ghost use Rattle.gob_stream.specs.Item.{StreamItem, ItemMeans, defines, puts};
+ghost use Rattle.gob_stream.specs.Writing.{IsNew, Leaves};
+ghost use Rattle.gob_tool.specs.Gathering.{Passes, Writes, CountsWrites, CountsOnlyWrites};
+ghost use Rattle.gob_tool.specs.Rewritten.{IsTape, StandsThere, IsOfStream, WritesForm, AreNext, Pushes, PushesAll};
+
+use crate::fault::ToolFault;
+use crate::lines::write_whole;
+use gob_num::Memory;
+use gob_stream::{Item, Limits, Output, StreamWriter, WriteFault};
+use gob_tape::{Tape, tidy_tape};
+use gob_types::{Table, TypeId};
+use gob_value::{Value, tidy};
+use std::alloc::Global;
+use std::io::Write;
+use std::mem;
+
+// The type of descriptions, wireType.
+const WIRE_TYPE: TypeId = TypeId(16);
+
+// How many bytes are gathered before they are written.
+const MANY: usize = 65536;
+
+/// A writer of items in their tidy form, which gathers them so that each write is large.
+pub(crate) struct Rewriter {
+    writer: StreamWriter,
+    // What is not written yet.
+    gathered: Vec<u8>,
+    // Room for the spelling of a value, kept from one to the next.
+    spelling: Vec<u8>,
+}
+
+// Not derived, so that a drop is one call in the proofs of what owns one.
+impl Drop for Rewriter {
+    fn drop(self) {
+        let Rewriter {
+            writer: _,
+            gathered: _,
+            spelling: _,
+        } = self;
+    }
+}
+
+impl Rewriter {
+    /// A writer that has written nothing.
+    pub(crate) fn new(alloc: Global, limits: Limits) -> Result<Rewriter, Memory>
+        ensures new { IfOk result (λ rewriter. IsNew rewriter.writer limits) }
+        ensures empty { IfOk result (λ rewriter. rewriter.gathered.items ≡ []) }
+    {
+        let writer = StreamWriter::new(alloc, limits)?;
+        Ok(Rewriter {
+            writer,
+            gathered: Vec::new(alloc),
+            spelling: Vec::new(alloc),
+        })
+    }
+
+    /// Gathers the items, which follow in a stream with the types of the table at its end, and writes some as they
+    /// become many. After an error the first items are written or gathered, or a front of them is written.
+    pub(crate) fn push_all<W: Write>(
+        &mut self,
+        alloc: Global,
+        items: Vec<Item<Tape>>,
+        table: &Table,
+        output: &mut Output<W>,
+    ) -> Result<(), ToolFault>
+        requires { (L : Bounds) × AreNext L self.old.writer (types table.now) items.items }
+        ensures pushed { (L : Bounds) (n : AreNext L self.old.writer (types table.now) items.items)
+            → PushesAll n self.new.writer (W.contents output.old.writer) (W.contents output.new.writer)
+            self.old.gathered.items self.new.gathered.items result }
+        ensures counted { CountsOnlyWrites output.old.failures output.new.failures result }
+    {
+        for item in items {
+            self.push(alloc, item, table)?;
+            self.write_many(output)?;
+        }
+        Ok(())
+    }
+
+    /// Gathers an item. After an error nothing of it is gathered.
+    fn push(&mut self, alloc: Global, item: Item<Tape>, table: &Table) -> Result<(), Memory>
+        requires { (L : Bounds) × (left : List (declared.Item Tape))
+            × AreNext L self.old.writer (types table.now) (item ∷ left) }
+        ensures { (L : Bounds) (left : List (declared.Item Tape))
+            (n : AreNext L self.old.writer (types table.now) (item ∷ left))
+            → Pushes n self.new.writer left self.old.gathered.items self.new.gathered.items result }
+    {
+        let whole = self.gathered.len();
+        let mut sink = Output::new(mem::replace(&mut self.gathered, Vec::new(alloc)));
+        let written = write_tidy(
+            alloc,
+            item,
+            table,
+            &mut self.writer,
+            &mut self.spelling,
+            &mut sink,
+        );
+        self.gathered = sink.into_inner();
+        match written {
+            Ok(()) => Ok(()),
+            Err(fault) => {
+                self.gathered.truncate(whole);
+                Err(want_of_memory(fault))
+            }
+        }
+    }
+
+    /// Writes what is gathered if it is enough to be worth a write. After an error a front of it is written.
+    pub(crate) fn write_many<W: Write>(&mut self, output: &mut Output<W>) -> Result<(), ToolFault>
+        ensures passed { Passes (W.contents output.old.writer) (W.contents output.new.writer)
+            self.old.gathered.items self.new.gathered.items result }
+        ensures writer { self.new.writer ≡ self.old.writer }
+        ensures counted { CountsWrites output.old.failures output.new.failures result }
+    {
+        if self.gathered.len() < MANY {
+            return Ok(());
+        }
+        self.write_to(output)
+    }
+
+    /// Writes what is gathered, of which nothing is left then. After an error a front of it is written.
+    pub(crate) fn write_to<W: Write>(&mut self, output: &mut Output<W>) -> Result<(), ToolFault>
+        ensures written { Writes (W.contents output.old.writer) (W.contents output.new.writer)
+            self.old.gathered.items result }
+        ensures empty { OnOk result (self.new.gathered.items ≡ []) }
+        ensures writer { self.new.writer ≡ self.old.writer }
+        ensures counted { CountsWrites output.old.failures output.new.failures result }
+    {
+        write_whole(&self.gathered, output)?;
+        self.gathered.clear();
+        Ok(())
+    }
+}
+
+/// What stops the gathering of what was read: it can be written, and a write into memory fails where none is had.
+fn want_of_memory(fault: WriteFault) -> Memory
+    requires { (fault ≡ WriteFault.Write) ⊎ (fault ≡ WriteFault.Memory) }
+{
+    match fault {
+        WriteFault::Write | WriteFault::Memory => Memory,
+        WriteFault::Refused(_) => unreachable!(),
+        WriteFault::Failed => unreachable!(),
+    }
+}
+
+/// Writes an item of a stream in its tidy form.
+fn write_tidy<W: Write>(
+    alloc: Global,
+    item: Item<Tape>,
+    table: &Table,
+    writer: &mut StreamWriter,
+    spelling: &mut Vec<u8>,
+    output: &mut Output<W>,
+) -> Result<(), WriteFault>
+    requires { IsOfStream (no_deeper deepest writer.old.limits) (types writer.old.types) (types table.now) item }
+    ensures written { (i : StreamItem) → ItemMeans IsTape item i
+        → StandsThere (no_deeper deepest writer.old.limits) (types writer.old.types) (types table.now) i
+        → result ≢ Err WriteFault.Memory → WritesForm writer.old.limits (types writer.old.types) writer.old writer.new i
+        (W.contents output.old.writer) (W.contents output.new.writer) result }
+    ensures leaves { Leaves writer.old writer.new
+        (W.contents output.old.writer) (W.contents output.new.writer) result }
+{
+    match item {
+        Item::Define { id, described } => {
+            write_tidy_definition(alloc, id, described, table, writer, output)
+        }
+        Item::Put { id, value } => {
+            let put = write_tidy_value(alloc, id, &value, table, writer, spelling, output);
+            drop(value);
+            put
+        }
+    }
+}
+
+/// Writes the definition of a type in its tidy form.
+fn write_tidy_definition<W: Write>(
+    alloc: Global,
+    id: TypeId,
+    described: Value,
+    table: &Table,
+    writer: &mut StreamWriter,
+    output: &mut Output<W>,
+) -> Result<(), WriteFault>
+    requires { StandsThere (no_deeper deepest writer.old.limits) (types writer.old.types) (types table.now)
+        (defines id (view described)) }
+    ensures written { result ≢ Err WriteFault.Memory → WritesForm writer.old.limits (types writer.old.types)
+        writer.old writer.new (defines id (view described)) (W.contents output.old.writer) (W.contents output.new.writer) result }
+    ensures leaves { Leaves writer.old writer.new
+        (W.contents output.old.writer) (W.contents output.new.writer) result }
+{
+    let tidied = tidy(alloc, table, WIRE_TYPE, described)?;
+    let defined = writer.define(alloc, output, id, &tidied);
+    drop(tidied);
+    defined
+}
+
+/// Writes a value in its tidy form.
+fn write_tidy_value<W: Write>(
+    alloc: Global,
+    id: TypeId,
+    tape: &Tape,
+    table: &Table,
+    writer: &mut StreamWriter,
+    spelling: &mut Vec<u8>,
+    output: &mut Output<W>,
+) -> Result<(), WriteFault>
+    requires { (v : Tree) × IsTape tape.now v
+        × StandsThere (no_deeper deepest writer.old.limits) (types writer.old.types) (types table.now) (puts id v) }
+    ensures written { (v : Tree) → IsTape tape.now v
+        → StandsThere (no_deeper deepest writer.old.limits) (types writer.old.types) (types table.now) (puts id v)
+        → result ≢ Err WriteFault.Memory
+        → WritesForm writer.old.limits (types writer.old.types) writer.old writer.new (puts id v)
+        (W.contents output.old.writer) (W.contents output.new.writer) result }
+    ensures leaves { Leaves writer.old writer.new
+        (W.contents output.old.writer) (W.contents output.new.writer) result }
+{
+    let tidied = tidy_tape(alloc, table, id, tape)?;
+    spelling.clear();
+    let spelled = tidied.spell_tape(alloc, spelling);
+    drop(tidied);
+    spelled?;
+    writer.put_spelled(alloc, output, id, spelling)
+}
