@@ -1,5 +1,6 @@
 -- What the words of the command line ask for. (docs/FORMAT.md, The program: this project's own.)
-use Rattle.std.specs.Prelude.{◌≡◌, ◌≢◌, ⊤, ◌<◌, ◌≤◌, ◌^◌, ℕ, length, List, [], codes, Option, Some, None, option_map, true}
+use Rattle.std.specs.Prelude.{◌≡◌, ◌≢◌, ⊤, ◌<◌, ◌≤◌, ◌^◌, ℕ}
+use Rattle.std.specs.Prelude.{length, List, [], codes, Option, Some, None, option_map, true}
 use Rattle.std.specs.Borrow.{Bor}
 use Rattle.std.specs.Int.{IsInRange}
 use Rattle.std.specs.List.{All}
@@ -98,7 +99,8 @@ IsFaultOf error fault.Memory = ⊤
 -- what the words do where they give no order: they ask for help, or clap refuses them or no order is what they ask for
 unfoldable pub Refuses : List Text → OrderFault → Type 0
 Refuses words (fault.Help text) = IsAmong DisplayHelp (fault_of program words)
-Refuses words fault.Words = takes program words ≡ true → (order : Order) → ¬ IsOrderOf (subcommand_of program words) order
+Refuses words fault.Words = takes program words ≡ true
+    → (order : Order) → ¬ IsOrderOf (subcommand_of program words) order
 Refuses words fault.Memory = ⊤
 
 -- ---- what comes of them

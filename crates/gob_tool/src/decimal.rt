@@ -4,8 +4,8 @@ ghost use Rattle.std.specs.Prelude.{◌↔◌, ℕ, IsTrue, Some, None, MatchOpt
 ghost use Rattle.std.specs.List.{All};
 ghost use Rattle.gob_tool.specs.Words.{IsDigit, IsNumber, text_of};
 
-/// The number that the word writes, or without a word the usual one. None: the word is anything else than one or more of
-/// the digits 0 to 9, or its number has more than 64 bits.
+/// The number that the word writes, or without a word the usual one. None: the word is anything else than one or more
+/// of the digits 0 to 9, or its number has more than 64 bits.
 pub(crate) fn number_of(word: Option<&str>, usual: u64) -> Option<u64>
     ensures { MatchOption result
         ((n : ℕ) → ¬ IsNumber (text_of word.entry) usual n)

@@ -76,7 +76,8 @@ fn order_in<'a>(matches: &ArgMatches<'a>) -> Option<Order<'a>>
 
 // The command of this name.
 fn command_of(name: &str) -> Option<Chosen>
-    ensures { MatchOption result ((command : Chosen) → name_of command ≢ name.now) (λ command. name_of command ≡ name.now) }
+    ensures { MatchOption result ((command : Chosen) → name_of command ≢ name.now)
+        (λ command. name_of command ≡ name.now) }
 {
     match name {
         "show" => Some(Chosen::Show),

@@ -74,7 +74,8 @@ impl Order<'_> {
 pub enum OrderFault {
     /// They ask for help, and this is its text.
     Help(String),
-    /// They ask for nothing that the program does: a word is missing, unknown or too many, or is no number in its range.
+    /// They ask for nothing that the program does: a word is missing, unknown or one too many, or is no number in its
+    /// range.
     Words,
     /// No memory was had.
     Memory,

@@ -38,7 +38,13 @@ fn commands(rt: HostRuntime) {
         depth: 65536,
         item: 0,
     };
-    assert!(rt; gives(alloc, &["gob", "check", "f", "--item=0", "--depth=65536"], checked_deep));
+    assert!(rt;
+        gives(
+            alloc,
+            &["gob", "check", "f", "--item=0", "--depth=65536"],
+            checked_deep
+        )
+    );
     let taken = Order {
         command: Chosen::Take,
         wanted: Some("w"),
@@ -46,7 +52,13 @@ fn commands(rt: HostRuntime) {
         depth: 1000,
         item: 18446744073709551615,
     };
-    assert!(rt; gives(alloc, &["gob", "take", "w", "--item", "18446744073709551615", "a"], taken));
+    assert!(rt;
+        gives(
+            alloc,
+            &["gob", "take", "w", "--item", "18446744073709551615", "a"],
+            taken
+        )
+    );
     let named_as_an_option = Order {
         command: Chosen::Show,
         wanted: None,
@@ -54,7 +66,13 @@ fn commands(rt: HostRuntime) {
         depth: 7,
         item: 67108864,
     };
-    assert!(rt; gives(alloc, &["gob", "show", "--depth", "007", "--", "--depth"], named_as_an_option));
+    assert!(rt;
+        gives(
+            alloc,
+            &["gob", "show", "--depth", "007", "--", "--depth"],
+            named_as_an_option
+        )
+    );
 }
 
 // Each line is the words of a command line behind the program's name.
