@@ -6,8 +6,8 @@ use std::alloc::Global;
 // Where an id is greater, its place isn't kept: so they take 256 KiB at most, whatever ids a stream defines.
 const MOST_IDS: u64 = 65536;
 
-/// The places at which types were entered, by their ids. They are guesses, which whoever uses them checks: a place may be
-/// missing, for want of memory or since the id is too great, and what stood there may be gone.
+/// The places at which types were entered, by their ids. They are guesses, which whoever uses them checks: a place may
+/// be missing, for want of memory or since the id is too great, and what stood there may be gone.
 pub(crate) struct Places {
     by_id: Vec<u32>,
 }

@@ -1,12 +1,13 @@
-//! Whether bytes are a whole value. Nothing is kept of it, and no memory is taken. It recurses as deep as the value is, at
-//! most 1000.
+//! Whether bytes are a whole value. Nothing is kept of it, and no memory is taken. It recurses as deep as the value is,
+//! at most 1000.
 
 ghost use Rattle.std.specs.Prelude.{◌≡◌, ◌+◌, ◌<◌, ◌≤◌, IsTrue, IfSome, length};
 ghost use Rattle.gob_types.specs.Table.{Table, shape_of};
 ghost use Rattle.gob_types.specs.declared.kind.Kind.TheVariants as kind;
 ghost use Rattle.gob_types.specs.declared.id.TypeId.{TypeId};
 ghost use Rattle.gob_types.specs.declared.kind.Shape.{Shape};
-ghost use Rattle.gob_value.specs.Whole.{IsWhole, AreNumbers, Stands, BeginsKind, BeginsEach, BeginsPairs, BeginsFields, BeginsNumber, BeginsRaw};
+ghost use Rattle.gob_value.specs.Whole.{IsWhole, AreNumbers, Stands, BeginsKind, BeginsEach, BeginsPairs};
+ghost use Rattle.gob_value.specs.Whole.{BeginsFields, BeginsNumber, BeginsRaw};
 
 use gob_num::{Taken, take_uint};
 use gob_types::{Basic, Fields, Kind, Shapes, TypeId};
@@ -14,8 +15,8 @@ use gob_types::{Basic, Fields, Kind, Shapes, TypeId};
 // How deep a value may be that is looked at: each level is a call within a call.
 const MOST_DEPTH: u64 = 1000;
 
-/// Whether the bytes are a value of the type, behind its tag where it isn't a struct, no deeper than `depth`. It takes no
-/// memory, and one look at each byte. A false says nothing: the bytes may be a value all the same, of a depth above 1000.
+/// Whether the bytes are a value of the type, behind its tag where it isn't a struct, no deeper than `depth`. It takes
+/// no memory. A false says nothing: what is deeper than 1000 may be a value all the same.
 pub fn is_whole<S: Shapes>(shapes: &S, id: TypeId, body: &[u8], depth: u64) -> bool
     ensures { IsTrue result → IsWhole (S.table shapes.now) id depth body.now }
 {
@@ -201,7 +202,8 @@ fn are_numbers(basic: Basic) -> bool
 #[inline(never)]
 fn basics_end(basic: Basic, count: u64, body: &[u8], begin: usize) -> Option<usize>
     requires { begin ≤ length body.now }
-    ensures { IfSome result (λ end. (T : Table) (e : TypeId) (s : Shape) → shape_of T e ≡ Some s → s.kind ≡ kind.Basic basic → Stands (BeginsEach T e 1 count) body.now begin end) }
+    ensures { IfSome result (λ end. (T : Table) (e : TypeId) (s : Shape) → shape_of T e ≡ Some s
+        → s.kind ≡ kind.Basic basic → Stands (BeginsEach T e 1 count) body.now begin end) }
 {
     let mut at = begin;
     'basics: for _ in 0..count {
@@ -214,7 +216,8 @@ fn basics_end(basic: Basic, count: u64, body: &[u8], begin: usize) -> Option<usi
 #[inline(never)]
 fn numbers_end(count: u64, body: &[u8], begin: usize) -> Option<usize>
     requires { begin ≤ length body.now }
-    ensures { IfSome result (λ end. (T : Table) (e : TypeId) (s : Shape) → shape_of T e ≡ Some s → AreNumbers s.kind → Stands (BeginsEach T e 1 count) body.now begin end) }
+    ensures { IfSome result (λ end. (T : Table) (e : TypeId) (s : Shape) → shape_of T e ≡ Some s
+        → AreNumbers s.kind → Stands (BeginsEach T e 1 count) body.now begin end) }
 {
     let mut at = begin;
     'numbers: for _ in 0..count {
