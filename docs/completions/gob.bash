@@ -1,7 +1,7 @@
 # Completion of the command gob for bash: source this file, or put it as `gob` into a folder of bash-completion.
 _gob() {
     local current=${COMP_WORDS[COMP_CWORD]} previous=${COMP_WORDS[COMP_CWORD - 1]}
-    local commands='show check take help' words=
+    local commands='show check rewrite take help' words=
     COMPREPLY=()
     case $previous in
     # (a number)

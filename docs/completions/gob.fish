@@ -2,10 +2,11 @@
 complete -c gob -f
 complete -c gob -n __fish_use_subcommand -a show -d 'Print each item of a stream as a line of JSON'
 complete -c gob -n __fish_use_subcommand -a check -d 'Read a whole stream, and print how many items, types and bytes it has'
+complete -c gob -n __fish_use_subcommand -a rewrite -d 'Write a stream anew, without the fields that are zero'
 complete -c gob -n __fish_use_subcommand -a take -d 'Print each value as one of the type of the first value in WANTED'
 complete -c gob -n __fish_use_subcommand -a help -d 'Print this message or the help of the given subcommand(s)'
-complete -c gob -n '__fish_seen_subcommand_from help' -a 'show check take help'
-complete -c gob -n '__fish_seen_subcommand_from show check take' -l depth -x -d 'Refuse deeper values'
-complete -c gob -n '__fish_seen_subcommand_from show check take' -l item -x -d 'Refuse items of more bytes'
+complete -c gob -n '__fish_seen_subcommand_from help' -a 'show check rewrite take help'
+complete -c gob -n '__fish_seen_subcommand_from show check rewrite take' -l depth -x -d 'Refuse deeper values'
+complete -c gob -n '__fish_seen_subcommand_from show check rewrite take' -l item -x -d 'Refuse items of more bytes'
 complete -c gob -s h -l help -d 'Print help'
-complete -c gob -n '__fish_seen_subcommand_from show check take' -F
+complete -c gob -n '__fish_seen_subcommand_from show check rewrite take' -F

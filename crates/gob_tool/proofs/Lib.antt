@@ -1,6 +1,5 @@
 pub mod TextLaws
 pub mod LeafLaws
-pub mod WholeSteps
 pub mod TextSteps
 pub mod LineLaws
 pub mod PrintLaws

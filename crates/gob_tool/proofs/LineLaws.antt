@@ -17,7 +17,7 @@ use Rattle.gob_value.specs.Top.{IsStruct, at_once, tagged}
 use Rattle.gob_stream.specs.Item.{puts}
 use Rattle.gob_tool.specs.Json.{value_json}
 use Rattle.gob_tool.specs.Line.{line}
-use Rattle.gob_tool.specs.Whole.{Stands}
+use Rattle.gob_value.specs.Whole.{Stands}
 use Rattle.gob_tool.specs.TextWhole.{TextOfKind, TextOfWhole, LineOfWhole, IsBehindTag, head_text}
 
 struct_or_not : (k : Kind) → IsStruct k ⊎ (¬ IsStruct k)

@@ -20,7 +20,7 @@ use Rattle.gob_value.specs.Tree.{Tree, depth}
 use Rattle.gob_value.specs.View.{view}
 use Rattle.gob_value.specs.Within.{FitsWithin}
 use Rattle.gob_value.proofs.PublicLaws.{spells_on, spells_back}
-use Rattle.gob_value.proofs.TidyLaws.{tidy_form, no_deeper as tidy_no_deeper}
+use Rattle.gob_value.proofs.PublicLaws.{tidy_form, no_deeper as tidy_no_deeper}
 use Rattle.gob_stream.specs.declared.fault.WriteFault.{WriteFault}
 use Rattle.gob_stream.specs.declared.fault.WriteFault.TheVariants as write
 use Rattle.gob_stream.specs.declared.item.Item as declared
@@ -32,9 +32,9 @@ use Rattle.gob_stream.specs.Item.{StreamItem, defines, puts, ItemMeans, means_de
 use Rattle.gob_stream.specs.Item.{mean_none, mean_more}
 use Rattle.gob_stream.specs.Stream.{Stream, Continues, no_more, and_then, Counted, counted}
 use Rattle.gob_stream.specs.Writing.{HasWritten, WritesNext, Leaves, IsSpelledAs, IsSpelling}
-use Rattle.gob_stream.proofs.RefusalLaws.{not_counted, one_counted}
-use Rattle.gob_stream.proofs.StreamLaws.{counted_prefix, one_more}
-use Rattle.gob_stream.proofs.WireLaws.{wire_ready}
+use Rattle.gob_stream.proofs.PublicLaws.{not_counted, one_counted}
+use Rattle.gob_stream.proofs.PublicLaws.{counted_prefix, one_more}
+use Rattle.gob_stream.proofs.PublicLaws.{wire_ready}
 use Rattle.gob_tape.specs.declared.tape.Tape.{Tape}
 use Rattle.gob_tape.specs.Meaning.{Means, MeansFitting}
 use Rattle.gob_tool.specs.Rewriting.{content, content_type, with_content, AreTidied, no_item, and_item}

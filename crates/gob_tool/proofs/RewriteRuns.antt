@@ -23,7 +23,7 @@ use Rattle.gob_stream.specs.Reading.{GivesOn, HasTypesBehind, HasTypesBeyond, Fe
 use Rattle.gob_stream.specs.Stream.{Stream, Continues, no_more, and_then}
 use Rattle.gob_stream.specs.Writing.{HasWritten, IsNew}
 use Rattle.gob_stream.proofs.PublicLaws.{after_gives, one_table, limits_stay}
-use Rattle.gob_stream.proofs.OutcomeLaws.{one_front}
+use Rattle.gob_stream.proofs.PublicLaws.{one_front}
 use Rattle.gob_tape.specs.contracts.tape_builder.TapeBuilderBuilder.TheImpl as tape_builder
 use Rattle.gob_tape.specs.declared.tape.Tape.{Tape}
 use Rattle.gob_tape.specs.declared.tape_builder.TapeBuilder.{TapeBuilder}

@@ -30,7 +30,7 @@ use Rattle.gob_tool.specs.Json.{fields_json, element_type, key_type, struct_fiel
 use Rattle.gob_tool.specs.Json.{field_name, field_type, integer_json}
 use Rattle.gob_tool.specs.Json.{natural_json, pattern_json, pair_json, triple_json}
 use Rattle.gob_tool.specs.Json.{hex_json, text_json, opaque_json}
-use Rattle.gob_tool.specs.Whole.{Stands, BeginsNumber}
+use Rattle.gob_value.specs.Whole.{Stands, BeginsNumber}
 use Rattle.gob_tool.specs.TextWhole.{TextOfKind, TextOfEach, TextOfPairs, TextOfFields, BeginsThese}
 
 -- an answer of a place, if any

@@ -21,15 +21,15 @@ use Rattle.gob_value.specs.Tidy.{TidiesEach, no_element, element, TidiesPairs, n
 use Rattle.gob_value.specs.Tidy.{dropped, kept}
 use Rattle.gob_value.specs.Top.{SpellsTop, at_once, tagged}
 use Rattle.gob_value.specs.Tree.{Tree, Trees, Pairs, Fields, depth, trees_depth, pairs_depth, fields_depth}
-use Rattle.gob_value.proofs.DescriptionTidy.{said_stays, described_alike}
-use Rattle.gob_value.proofs.LengthLaws.{spelled_no_longer}
+use Rattle.gob_value.proofs.PublicLaws.{said_stays, described_alike}
+use Rattle.gob_value.proofs.PublicLaws.{spelled_no_longer}
 use Rattle.gob_value.proofs.PublicLaws.{spells_back}
-use Rattle.gob_value.proofs.TidyLaws.{tidy_form, one_tidy, no_deeper as tidy_no_deeper}
+use Rattle.gob_value.proofs.PublicLaws.{tidy_form, one_tidy, no_deeper as tidy_no_deeper}
 use Rattle.gob_stream.specs.Body.{Body, definition, value}
 use Rattle.gob_stream.specs.Bounds.{Bounds, deepest, no_deeper}
 use Rattle.gob_stream.specs.Item.{StreamItem}
 use Rattle.gob_stream.specs.Stream.{Counted, counted}
-use Rattle.gob_stream.proofs.WireLaws.{wire_ready}
+use Rattle.gob_stream.proofs.PublicLaws.{wire_ready}
 use Rattle.gob_tool.specs.Rewriting.{content, content_type, with_content}
 use Rattle.gob_tool.specs.Rewritten.{bounds_for}
 

@@ -18,7 +18,7 @@ use Rattle.gob_tool.specs.Words.{IsDigit, IsNumber, IsOrderOf, name_of, text_of,
 use Rattle.gob_tool.specs.Words.{Asks, IsFaultOf, Refuses, program}
 use Rattle.gob_tool.specs.declared.words.Order.{Order}
 use Rattle.gob_tool.specs.declared.words.Chosen.{Chosen}
-use Rattle.gob_tool.specs.declared.words.Chosen.TheVariants.{Show, Check, Take}
+use Rattle.gob_tool.specs.declared.words.Chosen.TheVariants.{Show, Check, Rewrite, Take}
 
 -- ---- numbers
 
@@ -55,11 +55,12 @@ one_number (Some word) usual n m h k = h.2 ∙ sym k.2
 
 -- the command whose name begins with this letter
 abbrev beginning : ℕ → Chosen
-beginning c = if c == 115 then Show else (if c == 99 then Check else Take)
+beginning c = if c == 115 then Show else (if c == 99 then Check else (if c == 114 then Rewrite else Take))
 
 begins : (a : Chosen) → beginning (slice_index (name_of a) 0) ≡ a
 begins Show = refl
 begins Check = refl
+begins Rewrite = refl
 begins Take = refl
 
 -- commands have different names

@@ -2,7 +2,6 @@ pub mod Json
 pub mod TapeJson
 pub mod Line
 pub mod Text
-pub mod Whole
 pub mod TextWhole
 pub mod Fault
 pub mod Depths

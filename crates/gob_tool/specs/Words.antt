@@ -43,14 +43,15 @@ abbrev pub program : App
 program =
     let top = (new_app (codes "gob")).top in
     let bare : App = record { top = record top { subcommand_required = true }; subs = [] } in
-    with_subcommand (with_subcommand (with_subcommand bare (one_stream (codes "show")).top)
-    (one_stream (codes "check")).top) (two_streams (codes "take")).top
+    with_subcommand (with_subcommand (with_subcommand (with_subcommand bare (one_stream (codes "show")).top)
+    (one_stream (codes "check")).top) (one_stream (codes "rewrite")).top) (two_streams (codes "take")).top
 
 -- ---- what they say
 
 abbrev pub name_of : Chosen → Text
 name_of chosen.Show = codes "show"
 name_of chosen.Check = codes "check"
+name_of chosen.Rewrite = codes "rewrite"
 name_of chosen.Take = codes "take"
 
 -- one of the characters 0 to 9

@@ -19,6 +19,7 @@ pub(crate) fn program<'a>(alloc: Global) -> Result<Command<'a>, AllocError>
         .subcommand_required(true)
         .subcommand(one_stream(alloc, "show", help::SHOW, help::DEPTH_OF_TREES)?)?
         .subcommand(one_stream(alloc, "check", help::CHECK, help::DEPTH)?)?
+        .subcommand(one_stream(alloc, "rewrite", help::REWRITE, help::DEPTH)?)?
         .subcommand(two_streams(alloc, "take", help::TAKE, help::DEPTH_OF_TREES)?)
 }
 

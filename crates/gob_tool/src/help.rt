@@ -1,13 +1,16 @@
 //! What help says. The version stands here alone.
 
 /// The program.
-pub(crate) const PROGRAM: &str = "gob 0.1.0: shows and checks streams of Go's encoding/gob";
+pub(crate) const PROGRAM: &str =
+    "gob 0.1.0: shows, checks and rewrites streams of Go's encoding/gob";
 
 /// Each command.
 pub(crate) const SHOW: &str = "Print each item of a stream as a line of JSON";
 
 pub(crate) const CHECK: &str =
     "Read a whole stream, and print how many items, types and bytes it has";
+
+pub(crate) const REWRITE: &str = "Write a stream anew, without the fields that are zero";
 
 pub(crate) const TAKE: &str = "Print each value as one of the type of the first value in WANTED";
 

@@ -82,6 +82,7 @@ fn command_of(name: &str) -> Option<Chosen>
     match name {
         "show" => Some(Chosen::Show),
         "check" => Some(Chosen::Check),
+        "rewrite" => Some(Chosen::Rewrite),
         "take" => Some(Chosen::Take),
         _ => None,
     }
@@ -92,7 +93,7 @@ fn wanted_in<'a>(command: Chosen, matches: &ArgMatches<'a>) -> Option<&'a str>
     ensures { text_of result ≡ wanted_in command (rows_of (found_of matches.now)) }
 {
     match command {
-        Chosen::Show | Chosen::Check => None,
+        Chosen::Show | Chosen::Check | Chosen::Rewrite => None,
         Chosen::Take => matches.get_str("WANTED"),
     }
 }

@@ -9,6 +9,7 @@ ghost use Rattle.gob_tool.specs.Taking.{CountsTakeReads};
 
 use crate::check::run_check;
 use crate::fault::ToolFault;
+use crate::rewrite::run_rewrite;
 use crate::show::run_show;
 use crate::take::run_take;
 use crate::words::{Chosen, Order};
@@ -38,6 +39,7 @@ pub fn run_order<Q: Read, R: Read, W: Write>(
     match order.command {
         Chosen::Show => run_show(alloc, input, output, limits),
         Chosen::Check => run_check(alloc, input, output, limits),
+        Chosen::Rewrite => run_rewrite(alloc, input, output, limits),
         Chosen::Take => run_take(alloc, wanted, input, output, limits),
     }
 }

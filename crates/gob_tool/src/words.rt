@@ -15,6 +15,8 @@ pub enum Chosen {
     Show,
     /// Print how many items, types and bytes a whole stream has.
     Check,
+    /// Write the stream of the items in their tidy form.
+    Rewrite,
     /// Print each value as one of the type of another file's first value.
     Take,
 }
@@ -26,7 +28,7 @@ impl Chosen {
     {
         match self {
             Chosen::Show | Chosen::Take => Limits::GREATEST_DEPTH,
-            Chosen::Check => Limits::DEEPEST,
+            Chosen::Check | Chosen::Rewrite => Limits::DEEPEST,
         }
     }
 
@@ -47,7 +49,7 @@ pub struct Order<'a> {
     pub wanted: Option<&'a str>,
     /// The name of the file that is read. None: standard input.
     pub input: Option<&'a str>,
-    /// The greatest depth of a value: 1 to 65536 for [`Chosen::Check`], to 1000 for the others.
+    /// The greatest depth of a value: 1 to 65536 for [`Chosen::Check`] and [`Chosen::Rewrite`], to 1000 for the others.
     pub depth: u64,
     /// The most bytes of an item's body.
     pub item: u64,

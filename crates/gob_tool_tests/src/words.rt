@@ -45,6 +45,17 @@ fn commands(rt: HostRuntime) {
             checked_deep
         )
     );
+    let rewritten_deep = Order {
+        command: Chosen::Rewrite,
+        ..checked_deep
+    };
+    assert!(rt;
+        gives(
+            alloc,
+            &["gob", "rewrite", "f", "--item=0", "--depth=65536"],
+            rewritten_deep
+        )
+    );
     let taken = Order {
         command: Chosen::Take,
         wanted: Some("w"),
@@ -86,6 +97,8 @@ show --depth 2000
 take --depth 1001 w
 check --depth 0
 check --depth 65537
+rewrite --depth 0
+rewrite --depth 65537
 show --item 18446744073709551616
 show --item +5
 show --item -5
@@ -115,6 +128,7 @@ show --depth 0001000
 take --depth 1000 w
 check --depth 1001
 check --depth 65536
+rewrite --depth 65536
 show --item 0
 show --item 18446744073709551615
 show --depth 5 --item 6
@@ -196,6 +210,7 @@ gob 0.1.0
 Usage: gob <COMMAND>
   show 
   check 
+  rewrite 
   take 
   help 
 Example:

@@ -4,7 +4,7 @@ ghost use Rattle.std.specs.Prelude.{◌≤◌, IfOk, length};
 ghost use Rattle.gob_types.specs.Table.{Table};
 ghost use Rattle.gob_types.specs.declared.basic.Basic.TheVariants as basic;
 ghost use Rattle.gob_types.specs.declared.kind.Kind.TheVariants as kind;
-ghost use Rattle.gob_tool.specs.Whole.{Stands};
+ghost use Rattle.gob_value.specs.Whole.{Stands};
 ghost use Rattle.gob_tool.specs.TextWhole.{TextOfKind};
 
 use super::leaf::{

@@ -1,7 +1,7 @@
 //! Numbers and bytes that stand at a place of a body.
 
 ghost use Rattle.std.specs.Prelude.{◌≡◌, ◌+◌, ◌<◌, ◌≤◌, IfOk, length};
-ghost use Rattle.gob_tool.specs.Whole.{Stands, BeginsNumber};
+ghost use Rattle.gob_value.specs.Whole.{Stands, BeginsNumber};
 ghost use Rattle.gob_tool.specs.TextWhole.{BeginsThese};
 
 use super::stop::Stop;

@@ -6,7 +6,7 @@ ghost use Rattle.serde_json.specs.Written.{comma_if, compact_text};
 ghost use Rattle.gob_types.specs.declared.kind.Kind.TheVariants as kind;
 ghost use Rattle.gob_value.specs.Tree.{Tree};
 ghost use Rattle.gob_tool.specs.Json.{text_json};
-ghost use Rattle.gob_tool.specs.Whole.{Stands};
+ghost use Rattle.gob_value.specs.Whole.{Stands};
 ghost use Rattle.gob_tool.specs.TextWhole.{TextOfKind, TextOfEach, TextOfPairs, TextOfFields};
 ghost use Rattle.gob_types.specs.declared.kind.Marshal.{Marshal};
 ghost use Rattle.gob_types.specs.Table.{Table};

@@ -16,5 +16,7 @@ returns c =
     ∙ ap₂ with_subcommand bare (top _ _ c.in_ok-one_stream.ensures.app) in
     let check = c.in_ok-subcommand-2.ensures.shape c.in_ok-one_stream-2.ensures.local
     ∙ ap₂ with_subcommand show (top _ _ c.in_ok-one_stream-2.ensures.app) in
-    IfOk-weaker c.subcommand-3.result _ _ (λ r added. added.shape c.in_ok-two_streams.ensures.local
-    ∙ ap₂ with_subcommand check (top _ _ c.in_ok-two_streams.ensures.app)) c.subcommand-3.ensures
+    let rewrite = c.in_ok-subcommand-3.ensures.shape c.in_ok-one_stream-3.ensures.local
+    ∙ ap₂ with_subcommand check (top _ _ c.in_ok-one_stream-3.ensures.app) in
+    IfOk-weaker c.subcommand-4.result _ _ (λ r added. added.shape c.in_ok-two_streams.ensures.local
+    ∙ ap₂ with_subcommand rewrite (top _ _ c.in_ok-two_streams.ensures.app)) c.subcommand-4.ensures

@@ -38,6 +38,17 @@ returns-in-Check-clause-does g c = λ wanted_bytes bytes known left.
     subst (λ x. Does x (limits_of order) wanted_bytes bytes kept next old new c.run_check.result) (sym c.in-Check.is)
     (checked bytes left)
 
+pub returns-in-Rewrite-clause-does : goal.returns-in-Rewrite-clause-does
+returns-in-Rewrite-clause-does g c = λ wanted_bytes bytes known left.
+    let old = g.W.Write.contents c.args.output.now.writer in
+    let new = g.W.Write.contents c.run_rewrite.new.output.writer in
+    let next = g.R.Read.remaining c.run_rewrite.new.input.reader in
+    let kept = g.Q.Read.remaining c.args.wanted.now.reader in
+    let order = c.args.order.now in
+    let rewritten = rw (c.limits-limits.ensures, within_order order _ c.in-Rewrite.is) at c.run_rewrite.ensures.rewritten in
+    subst (λ x. Does x (limits_of order) wanted_bytes bytes kept next old new c.run_rewrite.result) (sym c.in-Rewrite.is)
+    (rewritten bytes left)
+
 pub returns-in-Take-clause-does : goal.returns-in-Take-clause-does
 returns-in-Take-clause-does g c = λ wanted_bytes bytes known left.
     let old = g.W.Write.contents c.args.output.now.writer in

@@ -1,4 +1,4 @@
-use Rattle.gob_tool.proofs.WholeSteps.{seen}
+use Rattle.gob_value.proofs.PublicLaws.{seen}
 use Rattle.gob_tool.proofs.TextSteps.{bytes_text}
 use Rattle.gob_tool.proofs.text.basic.put_bytes_at.Goals as goal
 

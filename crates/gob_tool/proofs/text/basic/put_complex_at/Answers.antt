@@ -1,4 +1,4 @@
-use Rattle.gob_tool.proofs.WholeSteps.{both}
+use Rattle.gob_value.proofs.PublicLaws.{both}
 use Rattle.gob_tool.proofs.TextSteps.{complex_text}
 use Rattle.gob_tool.proofs.text.basic.put_complex_at.Goals as goal
 

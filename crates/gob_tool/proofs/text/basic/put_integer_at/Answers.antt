@@ -1,7 +1,7 @@
 use Rattle.std.proofs.Common.{◌≡◌, ◌++◌, rules}
 use Rattle.serde_json.specs.Written.{compact_text}
 use Rattle.gob_tool.specs.Json.{integer_json}
-use Rattle.gob_tool.proofs.WholeSteps.{seen}
+use Rattle.gob_value.proofs.PublicLaws.{seen}
 use Rattle.gob_tool.proofs.TextSteps.{int_text}
 use Rattle.gob_tool.proofs.text.basic.put_integer_at.Goals as goal
 

@@ -1,4 +1,4 @@
-use Rattle.gob_tool.proofs.WholeSteps.{seen}
+use Rattle.gob_value.proofs.PublicLaws.{seen}
 use Rattle.gob_tool.proofs.TextSteps.{uint_text}
 use Rattle.gob_tool.proofs.text.basic.put_natural_at.Goals as goal
 

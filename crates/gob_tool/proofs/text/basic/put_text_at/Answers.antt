@@ -1,4 +1,4 @@
-use Rattle.gob_tool.proofs.WholeSteps.{seen}
+use Rattle.gob_value.proofs.PublicLaws.{seen}
 use Rattle.gob_tool.proofs.TextSteps.{string_text}
 use Rattle.gob_tool.proofs.text.basic.put_text_at.Goals as goal
 

@@ -1,5 +1,5 @@
 use Rattle.std.proofs.Common.{arith}
-use Rattle.gob_tool.proofs.WholeSteps.{seen}
+use Rattle.gob_value.proofs.PublicLaws.{seen}
 use Rattle.gob_tool.proofs.TextSteps.{bool_text}
 use Rattle.gob_tool.proofs.text.basic.put_truth_at.Goals as goal
 

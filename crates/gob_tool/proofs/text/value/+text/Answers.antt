@@ -3,7 +3,7 @@ use Rattle.std.proofs.Common.{[], ◌∷◌, ◌++◌, ◌∙◌, ap, arith, sym
 use Rattle.std.specs.Fmt.{decimal}
 use Rattle.serde_json.specs.Written.{compact_text}
 use Rattle.gob_tool.specs.Json.{text_json}
-use Rattle.gob_tool.proofs.WholeSteps.{seen, both, all_three}
+use Rattle.gob_value.proofs.PublicLaws.{seen, both, all_three}
 use Rattle.gob_tool.proofs.TextSteps.{if_ok, deeper_text, slice_text, array_text, map_text, struct_text, later_on, no_element_text}
 use Rattle.gob_tool.proofs.TextSteps.{element_text, no_pair_text, pair_text, fields_end_text, field_text}
 use Rattle.gob_tool.proofs.text.value.+text.Goals as goal

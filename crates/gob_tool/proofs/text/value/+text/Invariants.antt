@@ -1,6 +1,6 @@
 -- What the parts behind the place are with those before it, and their text with that of those before it.
 use Rattle.std.proofs.Common.{ℕ, List, ◌+◌, ◌-◌, ◌*◌, ◌≤◌, false, length, nat_lt}
-use Rattle.gob_tool.specs.Whole.{Stands}
+use Rattle.gob_value.specs.Whole.{Stands}
 use Rattle.gob_tool.specs.TextWhole.{TextOfEach, TextOfPairs, TextOfFields}
 use Rattle.gob_tool.proofs.text.value.+text.Given as goal
 

@@ -1,4 +1,4 @@
-use Rattle.gob_tool.proofs.WholeSteps.{seen}
+use Rattle.gob_value.proofs.PublicLaws.{seen}
 use Rattle.gob_tool.proofs.TextSteps.{opaque_text}
 use Rattle.gob_tool.proofs.text.value.put_opaque_at.Goals as goal
 
