@@ -4,7 +4,6 @@ use Rattle.std.proofs.Common.{◌∙◌, ap, sym, subst, refl, append_assoc, app
 use Rattle.std.proofs.lemmas.List.{take-append-le}
 use Rattle.std.proofs.Math.Seq.{take-length}
 use Rattle.std.specs.Result.{IsErrAnd}
-use Rattle.gob_num.specs.declared.memory.Memory.{Memory}
 use Rattle.gob_types.specs.declared.id.TypeId.{TypeId}
 use Rattle.gob_types.specs.Base.{base_table, wire_type}
 use Rattle.gob_types.specs.Defined.{types}
@@ -26,11 +25,11 @@ use Rattle.gob_stream.specs.declared.fault.WriteFault.TheVariants as write
 use Rattle.gob_stream.specs.declared.item.Item as declared
 use Rattle.gob_stream.specs.declared.item.Item.TheVariants as variant
 use Rattle.gob_stream.specs.declared.writer.StreamWriter.{StreamWriter}
-use Rattle.gob_stream.specs.Body.{MayPut, definition, value}
+use Rattle.gob_stream.specs.Body.{definition, value}
 use Rattle.gob_stream.specs.Bounds.{Bounds, deepest, no_deeper, within_trees}
 use Rattle.gob_stream.specs.Item.{StreamItem, defines, puts, ItemMeans, means_definition, means_value, ItemsMean}
-use Rattle.gob_stream.specs.Item.{mean_none, mean_more}
-use Rattle.gob_stream.specs.Stream.{Stream, Continues, no_more, and_then, Counted, counted}
+use Rattle.gob_stream.specs.Item.{mean_more}
+use Rattle.gob_stream.specs.Stream.{Continues, no_more, and_then, Counted, counted}
 use Rattle.gob_stream.specs.Writing.{HasWritten, WritesNext, Leaves, IsSpelledAs, IsSpelling}
 use Rattle.gob_stream.proofs.PublicLaws.{not_counted, one_counted}
 use Rattle.gob_stream.proofs.PublicLaws.{counted_prefix, one_more}
@@ -40,13 +39,11 @@ use Rattle.gob_tape.specs.Meaning.{Means, MeansFitting}
 use Rattle.gob_tool.specs.Rewriting.{content, content_type, with_content, AreTidied, no_item, and_item}
 use Rattle.gob_tool.specs.Rewritten.{IsTape, bounds_for, StandsThere, IsOfStream, WritesForm, AreNext, GoesOn, Pushes}
 use Rattle.gob_tool.specs.Rewritten.{PushesAll, WentOn}
-use Rattle.gob_tool.specs.Gathering.{PassesSome, CountsOnlyWrites}
+use Rattle.gob_tool.specs.Gathering.{PassesSome}
 use Rattle.gob_tool.specs.Showing.{AppendsFront}
 use Rattle.gob_tool.specs.declared.fault.ToolFault.{ToolFault}
-use Rattle.gob_tool.specs.declared.fault.ToolFault.TheVariants as fault
-use Rattle.std.specs.Io.KnownBytes.{Appends}
 use Rattle.std.proofs.KnownBytes.{Appends-nil, Appends-trans}
-use Rattle.gob_tool.proofs.LinesStay.{stream_keeps, keeps_on, keeps_itself}
+use Rattle.gob_tool.proofs.LinesStay.{stream_keeps, keeps_on}
 use Rattle.gob_tool.proofs.TidyStays.{tidies_on, tidies_back, CountedShort, form_counted}
 
 -- ---- where an item stands

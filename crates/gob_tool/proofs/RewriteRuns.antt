@@ -1,14 +1,13 @@
 -- How a run that rewrites goes on from piece to piece, and how it ends.
-use Rattle.std.proofs.Common.{◌≡◌, ◌≢◌, ℕ, ◌+◌, ◌-◌, ◌<◌, ◌≤◌, arith, List, [], ◌∷◌, ◌++◌, length, Option, Some, Result, Ok, Err}
+use Rattle.std.proofs.Common.{◌≡◌, ◌≢◌, ℕ, ◌+◌, ◌-◌, ◌<◌, arith, List, [], ◌∷◌, ◌++◌, length, Option, Some, Result, Ok, Err}
 use Rattle.std.proofs.Common.{◌∙◌, ap, sym, subst, refl, append_assoc, append-nil, length-append}
 use Rattle.std.specs.Result.{IsErrAnd}
-use Rattle.std.specs.Io.KnownBytes.{Appends, Consumes, Keeps, IsAtEnd}
-use Rattle.std.proofs.KnownBytes.{Appends-nil, Appends-trans, Consumes-nil, Consumes-trans, Consumes-kept}
+use Rattle.std.specs.Io.KnownBytes.{Consumes, Keeps, IsAtEnd}
+use Rattle.std.proofs.KnownBytes.{Appends-nil, Consumes-nil, Consumes-trans, Consumes-kept}
 use Rattle.gob_types.specs.declared.reason.Reason.TheVariants as reason
 use Rattle.gob_types.specs.Base.{base_table}
-use Rattle.gob_types.specs.Defined.{Defined, types}
+use Rattle.gob_types.specs.Defined.{types}
 use Rattle.gob_types.specs.Table.{Table}
-use Rattle.gob_types.proofs.PublicLaws.{Keeps as KeepsTypes}
 use Rattle.gob_read.specs.contracts.tree_builder.TreeBuilderBuilder.TheImpl as tree_builder
 use Rattle.gob_stream.specs.declared.fault.Fault.{Fault}
 use Rattle.gob_stream.specs.declared.fault.Fault.TheVariants as reading
@@ -19,7 +18,7 @@ use Rattle.gob_stream.specs.declared.writer.StreamWriter.{StreamWriter}
 use Rattle.gob_stream.specs.Bounds.{Bounds, AreLimits, deepest, no_deeper}
 use Rattle.gob_stream.specs.Item.{StreamItem, ItemsMean, mean_none}
 use Rattle.gob_stream.specs.Outcome.{BeginsWith, Outcome, refused}
-use Rattle.gob_stream.specs.Reading.{GivesOn, HasTypesBehind, HasTypesBeyond, Feeds, Finishes, SomeTaken, Taken}
+use Rattle.gob_stream.specs.Reading.{GivesOn, Feeds, Finishes, SomeTaken}
 use Rattle.gob_stream.specs.Stream.{Stream, Continues, no_more, and_then}
 use Rattle.gob_stream.specs.Writing.{HasWritten, IsNew}
 use Rattle.gob_stream.proofs.PublicLaws.{after_gives, one_table, limits_stay}
@@ -35,9 +34,8 @@ use Rattle.gob_tool.specs.Pieces.{TypesBehind}
 use Rattle.gob_tool.specs.Showing.{AppendsFront}
 use Rattle.gob_tool.specs.Rewriting.{AreTidied, no_item, HasTidyStream, RewritesWhole, RewritesToRefusal, RewritesGiven}
 use Rattle.gob_tool.specs.Rewriting.{RewritesFront, RewritesSo}
-use Rattle.gob_tool.specs.Rewritten.{GaveTapes, IsTape, AreNext, GoesOn, WentOn, PushesAll, HasRewritten, Adds, RewritesOn}
+use Rattle.gob_tool.specs.Rewritten.{GaveTapes, IsTape, AreNext, GoesOn, PushesAll, HasRewritten, Adds, RewritesOn}
 use Rattle.gob_tool.specs.Rewritten.{RewritesPiece, RewritesIn}
-use Rattle.gob_tool.proofs.LinesStay.{stream_keeps, first_items}
 use Rattle.gob_tool.proofs.PieceRuns.{shown_more, nearer}
 use Rattle.gob_tool.proofs.ShowLaws.{gathered_grown, front_grown, types_behind, types_beyond, known_taken, all_taken, whole_stream}
 

@@ -1,10 +1,10 @@
 -- The tidy form of what a stream says stays the same when the table grows, and can be written where it stood.
-use Rattle.std.proofs.Common.{◌≡◌, ℕ, zero, suc, ◌+◌, ◌-◌, ◌^◌, ◌<◌, ◌≤◌, inl, inr, List, [], ◌∷◌, ◌++◌, length, Option, Some}
-use Rattle.std.proofs.Common.{None, arith, refl, sym, ap, ◌∙◌, subst, length-append}
+use Rattle.std.proofs.Common.{◌≡◌, ℕ, zero, suc, ◌+◌, ◌≤◌, inl, inr, List, [], ◌∷◌, ◌++◌, length, Option, Some}
+use Rattle.std.proofs.Common.{None, arith, refl, subst, length-append}
 use Rattle.std.specs.Prelude.{slice_get}
 use Rattle.std.proofs.lemmas.Bool.{cases_lt}
-use Rattle.gob_num.specs.Unsigned.{IsCounted, IsUnsigned, short, long}
-use Rattle.gob_num.proofs.PublicLaws.{pow256_mono, big_endian_below, unsigned_spelled, unsigned_fits, unsigned_length}
+use Rattle.gob_num.specs.Unsigned.{IsUnsigned, short, long}
+use Rattle.gob_num.proofs.PublicLaws.{big_endian_below, unsigned_spelled, unsigned_fits, unsigned_length}
 use Rattle.gob_types.specs.declared.id.TypeId.{TypeId}
 use Rattle.gob_types.specs.declared.kind.Field.{Field}
 use Rattle.gob_types.specs.declared.kind.Kind.{Kind}

@@ -65,7 +65,8 @@ fn check_stream<R: Read>(
     limits: Limits,
 ) -> Result<String, ToolFault>
     ensures checked { (bytes : List ℕ) → R.remaining input.old.reader ≡ Some bytes
-        → EndsCounting (λ line. string_bytes line) (no_deeper deepest limits) bytes (R.remaining input.new.reader) result }
+        → EndsCounting (λ line. string_bytes line) (no_deeper deepest limits) bytes
+        (R.remaining input.new.reader) result }
     ensures reads { CountsCounting input.old.failures input.new.failures result }
 {
     let tally = count_stream(alloc, input, limits)?;
@@ -111,7 +112,8 @@ fn count_pieces<R: Read>(
     requires limits { AreLimits deepest session.old.reading.limits }
     requires room { 0 < length buffer.old }
     ensures counted { (bytes : List ℕ) → R.remaining input.old.reader ≡ Some bytes
-        → EndsCounting tally_line (no_deeper deepest session.old.reading.limits) bytes (R.remaining input.new.reader) result }
+        → EndsCounting tally_line (no_deeper deepest session.old.reading.limits) bytes
+        (R.remaining input.new.reader) result }
     ensures reads { CountsCounting input.old.failures input.new.failures result }
 {
     let mut given = Vec::new(alloc);

@@ -140,7 +140,8 @@ fn rewrite_piece<W: Write>(
 ) -> Result<(), ToolFault>
     requires { HasRewritten session.old.reading rewriter.old.writer }
     ensures rewritten { (h : HasRewritten session.old.reading rewriter.old.writer)
-        → RewritesPiece (no_deeper deepest session.old.reading.limits) h session.new.reading rewriter.new.writer piece.now
+        → RewritesPiece (no_deeper deepest session.old.reading.limits) h session.new.reading rewriter.new.writer
+        piece.now
         (W.contents output.old.writer) (W.contents output.new.writer)
         rewriter.old.gathered.items rewriter.new.gathered.items result }
     ensures limits { session.new.reading.limits ≡ session.old.reading.limits }

@@ -162,7 +162,8 @@ fn write_tidy<W: Write>(
     requires { IsOfStream (no_deeper deepest writer.old.limits) (types writer.old.types) (types table.now) item }
     ensures written { (i : StreamItem) → ItemMeans IsTape item i
         → StandsThere (no_deeper deepest writer.old.limits) (types writer.old.types) (types table.now) i
-        → result ≢ Err WriteFault.Memory → WritesForm writer.old.limits (types writer.old.types) writer.old writer.new i
+        → result ≢ Err WriteFault.Memory
+        → WritesForm writer.old.limits (types writer.old.types) writer.old writer.new i
         (W.contents output.old.writer) (W.contents output.new.writer) result }
     ensures leaves { Leaves writer.old writer.new
         (W.contents output.old.writer) (W.contents output.new.writer) result }
@@ -191,7 +192,8 @@ fn write_tidy_definition<W: Write>(
     requires { StandsThere (no_deeper deepest writer.old.limits) (types writer.old.types) (types table.now)
         (defines id (view described)) }
     ensures written { result ≢ Err WriteFault.Memory → WritesForm writer.old.limits (types writer.old.types)
-        writer.old writer.new (defines id (view described)) (W.contents output.old.writer) (W.contents output.new.writer) result }
+        writer.old writer.new (defines id (view described))
+        (W.contents output.old.writer) (W.contents output.new.writer) result }
     ensures leaves { Leaves writer.old writer.new
         (W.contents output.old.writer) (W.contents output.new.writer) result }
 {

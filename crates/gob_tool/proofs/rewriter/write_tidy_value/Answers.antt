@@ -1,5 +1,5 @@
 -- What is spelled is the tidy form by the types that stand there.
-use Rattle.std.proofs.Common.{◌≡◌, ◌++◌, ◌∙◌, List, ℕ, ap, refl}
+use Rattle.std.proofs.Common.{◌++◌, ◌∙◌, List, ℕ, ap, refl}
 use Rattle.gob_tool.proofs.RewriteLaws.{value_later, form_spelled, form_spelling, value_written, not_memory}
 use Rattle.gob_tool.proofs.rewriter.write_tidy_value.Goals as goal
 

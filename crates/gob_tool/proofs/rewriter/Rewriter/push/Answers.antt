@@ -1,5 +1,5 @@
 -- What was read can be written; what was gathered of an item that isn't is taken back.
-use Rattle.std.proofs.Common.{◌≡◌, ◌∙◌, List, ℕ, ap, sym, length, take}
+use Rattle.std.proofs.Common.{◌∙◌, List, ℕ, ap, sym, length, take}
 use Rattle.gob_tool.proofs.RewriteLaws.{of_stream, only_wanting, pushed, taken_back, pushes_as}
 use Rattle.gob_tool.proofs.rewriter.Rewriter.push.Goals as goal
 

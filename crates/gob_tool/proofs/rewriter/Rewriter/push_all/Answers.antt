@@ -1,5 +1,5 @@
 -- Item by item the tidy stream goes on.
-use Rattle.std.proofs.Common.{◌≡◌, ◌∙◌, refl, ap, sym, length, arith}
+use Rattle.std.proofs.Common.{◌∙◌, refl, ap, sym, length, arith}
 use Rattle.gob_tool.specs.declared.fault.ToolFault.TheVariants as fault
 use Rattle.gob_tool.proofs.RewriteLaws.{goes_first, goes_more, went_unpushed, went_unwritten, goes_all, pushes_at}
 use Rattle.gob_tool.proofs.RewriteLaws.{next_there, err_as}
