@@ -1,5 +1,5 @@
-//! The JSON of a value that a tape means, written part by part as the views show it: the functions call one another down
-//! the parts, and no value is made on the way.
+//! The JSON of a value that a tape means, written part by part as the views show it: the functions call one another
+//! down the parts, and no value is made on the way.
 
 ghost use Rattle.std.specs.Prelude.{◌≡◌, ℕ, ◌++◌, Option, OnOk};
 ghost use Rattle.json.specs.Tree.{json_tokens};
