@@ -17,4 +17,6 @@ mod sessions;
 #[cfg(test)]
 mod values;
 #[cfg(test)]
+mod whole_tests;
+#[cfg(test)]
 mod writing_tests;
