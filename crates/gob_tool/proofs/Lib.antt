@@ -1,4 +1,8 @@
 pub mod TextLaws
+pub mod LeafLaws
+pub mod WholeSteps
+pub mod TextSteps
+pub mod LineLaws
 pub mod PrintLaws
 pub mod WrittenLaws
 pub mod WordLaws

@@ -1,5 +1,8 @@
 pub mod Json
 pub mod Line
+pub mod Text
+pub mod Whole
+pub mod TextWhole
 pub mod Fault
 pub mod Words
 pub mod Showing

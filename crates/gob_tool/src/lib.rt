@@ -17,6 +17,7 @@ mod receiver;
 mod run;
 mod show;
 mod take;
+mod text;
 mod value_json;
 mod wanted;
 mod words;

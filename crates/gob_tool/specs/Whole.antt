@@ -1,0 +1,80 @@
+-- Values that stand whole at the front of a piece of a stream, no deeper than a limit, and what stands behind them.
+-- (docs/FORMAT.md, Values; Depth.)
+use Rattle.std.specs.Prelude.{◌≡◌, ℕ, ◌≤◌, List, ◌++◌, length, drop}
+use Rattle.gob_num.specs.Unsigned.{IsUnsigned}
+use Rattle.gob_types.specs.declared.id.TypeId.{TypeId}
+use Rattle.gob_types.specs.declared.basic.Basic.TheVariants as basic
+use Rattle.gob_types.specs.declared.kind.Field.{Field}
+use Rattle.gob_types.specs.declared.kind.Kind.{Kind}
+use Rattle.gob_types.specs.declared.kind.Kind.TheVariants as kind
+use Rattle.gob_types.specs.Table.{Table}
+use Rattle.gob_value.specs.Tree.{Tree, Trees, Pairs, Fields, depth, trees_depth, pairs_depth, fields_depth}
+use Rattle.gob_value.specs.Tree.{tree_count, pair_count}
+use Rattle.gob_value.specs.Spelling.{SpellsAs, SpellsEach, SpellsPairs, SpellsFields}
+use Rattle.gob_value.specs.Top.{SpellsTop}
+
+-- the bytes are a value of the type behind its tag
+pub record IsWhole (T : Table) (t : TypeId) (limit : ℕ) (bytes : List ℕ) : Type 0 where
+  pub value : Tree
+  pub spelled : SpellsTop T t value bytes
+  pub within : depth value ≤ limit
+
+-- each value of the kind is spelled by one number, and each number spells one
+abbrev pub AreNumbers : Kind → Type 0
+AreNumbers (kind.Basic basic.Int) = Unit {0}
+AreNumbers (kind.Basic basic.Uint) = Unit {0}
+AreNumbers (kind.Basic basic.Float) = Unit {0}
+AreNumbers _ = ⊥
+
+-- the piece begins with a value of the kind, and this is the rest
+pub record BeginsKind (T : Table) (k : Kind) (limit : ℕ) (piece rest : List ℕ) : Type 0 where
+  pub value : Tree
+  pub bytes : List ℕ
+  pub spelled : SpellsAs T k value bytes
+  pub within : depth value ≤ limit
+  pub whole : piece ≡ bytes ++ rest
+
+-- with so many elements
+pub record BeginsEach (T : Table) (e : TypeId) (limit count : ℕ) (piece rest : List ℕ) : Type 0 where
+  pub values : Trees
+  pub bytes : List ℕ
+  pub spelled : SpellsEach T e values bytes
+  pub within : trees_depth values ≤ limit
+  pub counted : tree_count values ≡ count
+  pub whole : piece ≡ bytes ++ rest
+
+-- with so many keys and their elements
+pub record BeginsPairs (T : Table) (k e : TypeId) (limit count : ℕ) (piece rest : List ℕ) : Type 0 where
+  pub pairs : Pairs
+  pub bytes : List ℕ
+  pub spelled : SpellsPairs T k e pairs bytes
+  pub within : pairs_depth pairs ≤ limit
+  pub counted : pair_count pairs ≡ count
+  pub whole : piece ≡ bytes ++ rest
+
+-- with the present fields, of which the next has this number or a greater one
+pub record BeginsFields (T : Table) (types : List Field) (next limit : ℕ) (piece rest : List ℕ) : Type 0 where
+  pub fields : Fields
+  pub bytes : List ℕ
+  pub spelled : SpellsFields T types next fields bytes
+  pub within : fields_depth fields ≤ limit
+  pub whole : piece ≡ bytes ++ rest
+
+-- with this number
+pub record BeginsNumber (n : ℕ) (piece rest : List ℕ) : Type 0 where
+  pub bytes : List ℕ
+  pub spelled : IsUnsigned n bytes
+  pub whole : piece ≡ bytes ++ rest
+
+-- the relation holds of what stands in the body from one place on and what stands behind the other
+pub record Stands (Begins : List ℕ → List ℕ → Type 0) (body : List ℕ) (at end : ℕ) : Type 0 where
+  pub order : at ≤ end
+  pub inside : end ≤ length body
+  pub begins : Begins (drop at body) (drop end body)
+
+-- with a count and so many bytes
+pub record BeginsRaw (piece rest : List ℕ) : Type 0 where
+  pub raw : List ℕ
+  pub count : List ℕ
+  pub counted : IsUnsigned (length raw) count
+  pub whole : piece ≡ (count ++ raw) ++ rest

@@ -1,0 +1,90 @@
+//! The text of a whole item's value, and its line.
+
+ghost use Rattle.std.specs.Prelude.{◌≡◌, ◌≤◌, ◌++◌, ◌∷◌, [], IsTrue, IfOk, IfSome, OnErr, OnOk, false, length};
+ghost use Rattle.gob_tool.specs.TextWhole.{TextOfWhole, LineOfWhole, IsBehindTag, head_text};
+
+use super::leaf::put_natural;
+use super::stop::Stop;
+use super::value::put_value;
+use gob_num::Memory;
+use gob_types::{Kind, Shapes, TypeId};
+
+// How deep a value may be whose text is written: each level is a call within a call.
+const MOST_DEPTH: u64 = 1000;
+
+/// Appends the text of the JSON of the value of the type that the body spells behind its tag, if it has one. True says
+/// that the body is such a value, no deeper than `depth`, and that its text stands. False says nothing: the body may
+/// be a value all the same, of a depth above 1000. After false or [`Memory`] a front of some text is appended.
+pub(crate) fn text_of_whole<S: Shapes>(
+    shapes: &S,
+    id: TypeId,
+    body: &[u8],
+    depth: u64,
+    out: &mut Vec<u8>,
+) -> Result<bool, Memory>
+    ensures { IfOk result (λ done. IsTrue done
+        → TextOfWhole (S.table shapes.now) id depth body.now out.old.items out.new.items) }
+{
+    let Some(shape) = shapes.shape_of(id) else {
+        return Ok(false);
+    };
+    let Some(begin) = behind_tag(&shape.kind, body) else {
+        return Ok(false);
+    };
+    let most = depth.min(MOST_DEPTH);
+    match put_value(shapes, &shape.kind, body, begin, most, out) {
+        Ok(end) => Ok(end == body.len()),
+        Err(Stop::NotWhole) => Ok(false),
+        Err(Stop::Memory) => Err(Memory),
+    }
+}
+
+// Where the value begins: behind the tag, which a struct doesn't have.
+fn behind_tag(kind: &Kind, body: &[u8]) -> Option<usize>
+    ensures begins { IfSome result (λ begin. IsBehindTag kind.now body.now begin) }
+    ensures inside { IfSome result (λ begin. begin ≤ length body.now) }
+{
+    match kind {
+        Kind::Struct { .. } => Some(0),
+        _ => match body.first() {
+            Some(0) => Some(1),
+            _ => None,
+        },
+    }
+}
+
+/// Appends the line of the item that puts the value of the type that the body spells. True says that the body is such
+/// a value, no deeper than `depth`, and that its line stands. False says nothing, and the lines are as before; so they
+/// are after [`Memory`]. The line is made in `room` first.
+pub(crate) fn line_of_whole<S: Shapes>(
+    shapes: &S,
+    id: TypeId,
+    body: &[u8],
+    depth: u64,
+    room: &mut Vec<u8>,
+    out: &mut Vec<u8>,
+) -> Result<bool, Memory>
+    ensures line { IfOk result (λ done. IsTrue done
+        → LineOfWhole (S.table shapes.now) id depth body.now out.old.items out.new.items) }
+    ensures same { IfOk result (λ done. done ≡ false → out.new.items ≡ out.old.items) }
+    ensures err { OnErr result (out.new.items ≡ out.old.items) }
+{
+    room.clear();
+    put_head(id, room)?;
+    if !text_of_whole(shapes, id, body, depth, room)? {
+        return Ok(false);
+    }
+    room.extend_from_slice(b"}\n")?;
+    out.extend_from_slice(room)?;
+    Ok(true)
+}
+
+// Appends what stands before the value.
+fn put_head(id: TypeId, out: &mut Vec<u8>) -> Result<(), Memory>
+    ensures { OnOk result (out.new.items ≡ out.old.items ++ head_text id) }
+{
+    out.extend_from_slice(b"{\"type\":")?;
+    put_natural(id.0, out)?;
+    out.extend_from_slice(b",\"value\":")?;
+    Ok(())
+}
