@@ -15,3 +15,5 @@ pub mod PieceLaws
 pub mod ReceivedLaws
 pub mod TakeRuns
 pub mod WantedLaws
+pub mod PieceRuns
+pub mod CheckLaws

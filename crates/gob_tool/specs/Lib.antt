@@ -11,4 +11,6 @@ pub mod Taking
 pub mod Pieces
 pub mod Wanting
 pub mod Receiver
+pub mod Checking
+pub mod Counting
 pub mod Running

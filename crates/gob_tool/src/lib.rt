@@ -6,6 +6,7 @@
 //! ```
 #![tactic(auto)]
 
+mod check;
 mod definition_json;
 mod fault;
 mod item_json;
@@ -22,6 +23,7 @@ mod value_json;
 mod wanted;
 mod words;
 
+pub use check::run_check;
 pub use fault::{ToolFault, status};
 pub use item_json::{json_of, json_of_tape};
 pub use run::run_order;

@@ -108,7 +108,7 @@ impl Lines {
 }
 
 /// Writes all of the bytes, or a front of them before an error.
-fn write_whole<W: Write>(bytes: &[u8], output: &mut Output<W>) -> Result<(), ToolFault>
+pub(crate) fn write_whole<W: Write>(bytes: &[u8], output: &mut Output<W>) -> Result<(), ToolFault>
     ensures written { Writes (W.contents output.old.writer) (W.contents output.new.writer) bytes.now result }
     ensures counted { CountsWrites output.old.failures output.new.failures result }
 {

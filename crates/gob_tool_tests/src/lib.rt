@@ -3,6 +3,8 @@
 #![tactic(auto)]
 
 #[cfg(test)]
+mod checks;
+#[cfg(test)]
 mod devices;
 #[cfg(test)]
 mod endings;
@@ -10,6 +12,8 @@ mod endings;
 mod faults;
 #[cfg(test)]
 mod lines;
+#[cfg(test)]
+mod nested;
 #[cfg(test)]
 mod runs;
 #[cfg(test)]

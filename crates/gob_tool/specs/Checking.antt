@@ -1,0 +1,54 @@
+-- What the run that checks a stream answers, and what it has written then.
+-- (docs/FORMAT.md, The program: this project's own.)
+use Rattle.std.specs.Prelude.{◌≡◌, ℕ, ◌+◌, List, [], ◌∷◌, ◌++◌, length, codes, Option, Some, Result, Ok, Err}
+use Rattle.std.specs.Fmt.{decimal}
+use Rattle.std.specs.Io.KnownBytes.{Appends}
+use Rattle.gob_types.specs.Base.{base_table}
+use Rattle.gob_types.specs.Table.{Table}
+use Rattle.gob_stream.specs.Bounds.{Bounds}
+use Rattle.gob_stream.specs.Item.{StreamItem, defines, puts}
+use Rattle.gob_stream.specs.Outcome.{GivesItems, Outcome, refused}
+use Rattle.gob_stream.specs.Reading.{SomeTaken}
+use Rattle.gob_stream.specs.Stream.{Stream}
+use Rattle.gob_tool.specs.declared.fault.ToolFault.{ToolFault}
+use Rattle.gob_tool.specs.declared.fault.ToolFault.TheVariants as fault
+use Rattle.gob_tool.specs.Showing.{AppendsFront}
+
+-- how many of the items define a type
+abbrev pub definitions_in : List StreamItem → ℕ
+definitions_in [] = 0
+definitions_in (defines id described ∷ items) = definitions_in items + 1
+definitions_in (puts id value ∷ items) = definitions_in items
+
+-- the line that says of an accepted stream how many items it has, how many types it defines, and how many bytes it is
+abbrev pub counts_line : (items types bytes : ℕ) → List ℕ
+counts_line items types bytes =
+    codes "ok: " ++ (decimal items ++ (codes " items, " ++ (decimal types ++ (codes " types, " ++ (decimal bytes
+    ++ (codes " bytes" ++ 10 ∷ []))))))
+
+-- the bytes are the stream of some items, all of them were read, and this holds of the line that says so
+pub record IsCounted (L : Bounds) (bytes : List ℕ) (now : Option (List ℕ)) (P : List ℕ → Type 0) : Type 0 where
+  pub items : List StreamItem
+  pub table : Table
+  pub stream : Stream base_table L items bytes table
+  pub end : now ≡ Some []
+  pub holds : P (counts_line (length items) (definitions_in items) (length bytes))
+
+-- why the bytes aren't known to be a stream, where these are left
+abbrev pub IsNoStream : Bounds → (bytes : List ℕ) → (now : Option (List ℕ)) → ToolFault → Type 0
+IsNoStream L bytes now (fault.Refused R) = (items : List StreamItem) × Outcome base_table L bytes items (refused R)
+IsNoStream L bytes now fault.Read = SomeTaken bytes now
+    (λ taken. (items : List StreamItem) × GivesItems base_table L taken items)
+IsNoStream L bytes now fault.Memory = Unit {0}
+IsNoStream L bytes now fault.Write = ⊥
+IsNoStream L bytes now (fault.Wanted R) = ⊥
+IsNoStream L bytes now fault.NoWantedType = ⊥
+IsNoStream L bytes now (fault.Clash path reason) = ⊥
+
+-- how the run ends, over an input with these bytes left and an output with the old bytes: the line of the whole stream
+-- went out, or a front of it where the output failed; or nothing was written
+pub data Checks (L : Bounds) (bytes : List ℕ) (now old new : Option (List ℕ)) : Result (Unit {0}) ToolFault → Type 0
+  where
+    is_accepted : {u : Unit {0}} → IsCounted L bytes now (Appends old new) → Checks L bytes now old new (Ok u)
+    is_cut : IsCounted L bytes now (AppendsFront old new) → Checks L bytes now old new (Err fault.Write)
+    is_stopped : {f : ToolFault} → IsNoStream L bytes now f → Appends old new [] → Checks L bytes now old new (Err f)

@@ -1,0 +1,140 @@
+//! The run that says whether bytes are a stream, and how much there is in it.
+
+ghost use Rattle.std.specs.Prelude.{◌≡◌, ◌<◌, ℕ, List, [], Some, IfOk, length, string_bytes};
+ghost use Rattle.gob_stream.specs.Bounds.{AreLimits, deepest, no_deeper};
+ghost use Rattle.gob_tool.specs.Checking.{Checks};
+ghost use Rattle.gob_tool.specs.Counting.{GaveCounts, EndsCounting, CountsCounting, tally_line};
+ghost use Rattle.gob_tool.specs.Showing.{CountsReadFaults, CountsWriteFaults};
+
+use crate::fault::ToolFault;
+use crate::lines::write_whole;
+use gob_num::Memory;
+use gob_read::CheckBuilder;
+use gob_stream::{Input, Limits, Output, Session};
+use std::alloc::{AllocError, Global};
+use std::io::{Read, Write};
+
+// How many bytes are asked of the input at a time.
+const PIECE: usize = 65536;
+
+/// How much there is in a stream.
+#[derive(Clone, Copy)]
+pub(crate) struct Tally {
+    items: u64,
+    // How many of the items define a type.
+    types: u64,
+    bytes: u64,
+}
+
+/// Reads a stream to its end, and writes one line of it: `ok: I items, T types, B bytes`, of which T counts the
+/// definitions. Ok exactly at the end of a whole stream; before any other answer but `ToolFault::Write` nothing is
+/// written, and at that one a front of the line may be. The run ends with a flush. The input is read in pieces of
+/// 64 KiB. Values aren't kept, so that it takes no more memory for a large one; none may be deeper than
+/// `limits.depth()`.
+pub fn run_check<R: Read, W: Write>(
+    alloc: Global,
+    input: &mut Input<R>,
+    output: &mut Output<W>,
+    limits: Limits,
+) -> Result<(), ToolFault>
+    ensures checked { (bytes : List ℕ) → R.remaining input.old.reader ≡ Some bytes
+        → Checks (no_deeper deepest limits) bytes (R.remaining input.new.reader)
+        (W.contents output.old.writer) (W.contents output.new.writer) result }
+    ensures reads { CountsReadFaults input.old.failures input.new.failures result }
+    ensures writes { CountsWriteFaults output.old.failures output.new.failures result }
+{
+    match check_stream(alloc, input, limits) {
+        Ok(line) => {
+            write_whole(line.as_bytes(), output)?;
+            match output.flush() {
+                Ok(()) => Ok(()),
+                Err(_) => Err(ToolFault::Write),
+            }
+        }
+        Err(fault) => {
+            let _ = output.flush();
+            Err(fault)
+        }
+    }
+}
+
+/// The line of the stream.
+fn check_stream<R: Read>(
+    alloc: Global,
+    input: &mut Input<R>,
+    limits: Limits,
+) -> Result<String, ToolFault>
+    ensures checked { (bytes : List ℕ) → R.remaining input.old.reader ≡ Some bytes
+        → EndsCounting (λ line. string_bytes line) (no_deeper deepest limits) bytes (R.remaining input.new.reader) result }
+    ensures reads { CountsCounting input.old.failures input.new.failures result }
+{
+    let tally = count_stream(alloc, input, limits)?;
+    let line = counts_line(alloc, tally).map_err(Memory::from)?;
+    Ok(line)
+}
+
+/// The line of what was counted.
+fn counts_line(alloc: Global, tally: Tally) -> Result<String, AllocError>
+    ensures { IfOk result (λ line. string_bytes line ≡ tally_line tally) }
+{
+    let items = tally.items;
+    let types = tally.types;
+    let bytes = tally.bytes;
+    format!(in alloc; "ok: {items} items, {types} types, {bytes} bytes\n")
+}
+
+/// Counts what there is in the stream.
+fn count_stream<R: Read>(
+    alloc: Global,
+    input: &mut Input<R>,
+    limits: Limits,
+) -> Result<Tally, ToolFault>
+    ensures counted { (bytes : List ℕ) → R.remaining input.old.reader ≡ Some bytes
+        → EndsCounting tally_line (no_deeper deepest limits) bytes (R.remaining input.new.reader) result }
+    ensures reads { CountsCounting input.old.failures input.new.failures result }
+{
+    let mut buffer = vec![in alloc; 0; PIECE].map_err(Memory::from)?;
+    let mut session = Session::<CheckBuilder>::new(alloc, limits)?;
+    let counted = count_pieces(alloc, input, &mut session, &mut buffer);
+    drop(session);
+    counted
+}
+
+/// The same, over a session that has read nothing, and with room for a piece.
+fn count_pieces<R: Read>(
+    alloc: Global,
+    input: &mut Input<R>,
+    session: &mut Session<CheckBuilder>,
+    buffer: &mut [u8],
+) -> Result<Tally, ToolFault>
+    requires stands { GaveCounts session.old.reading [] [] }
+    requires limits { AreLimits deepest session.old.reading.limits }
+    requires room { 0 < length buffer.old }
+    ensures counted { (bytes : List ℕ) → R.remaining input.old.reader ≡ Some bytes
+        → EndsCounting tally_line (no_deeper deepest session.old.reading.limits) bytes (R.remaining input.new.reader) result }
+    ensures reads { CountsCounting input.old.failures input.new.failures result }
+{
+    let mut given = Vec::new(alloc);
+    let mut items = 0;
+    let mut bytes = 0;
+    'pieces: loop {
+        match input.read(buffer) {
+            Ok(0) => {
+                session.finish()?;
+                let types = session.table().count();
+                return Ok(Tally {
+                    items,
+                    types,
+                    bytes,
+                });
+            }
+            Ok(count) => {
+                given.clear();
+                session.feed(alloc, &buffer[..count], &mut given)?;
+                items += given.len() as u64;
+                bytes += count as u64;
+            }
+            Err(_) => return Err(ToolFault::Read),
+        }
+    }
+}
