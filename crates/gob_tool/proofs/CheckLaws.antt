@@ -1,12 +1,14 @@
 -- How a run that counts goes on from piece to piece, and how it ends.
-use Rattle.std.proofs.Common.{◌≡◌, ℕ, ◌+◌, ◌<◌, ◌^◌, arith, List, [], ◌∷◌, ◌++◌, length, Option, Some}
-use Rattle.std.proofs.Common.{Result, Ok, Err, ◌∙◌, ap, sym, subst, refl, length-append}
+use Rattle.std.proofs.Common.{◌≡◌, ℕ, ◌+◌, ◌-◌, ◌<◌, ◌≤◌, ◌^◌, arith, List, [], ◌∷◌, ◌++◌, length, take, drop}
+use Rattle.std.proofs.Common.{Option, Some, None, Result, Ok, Err, ◌∙◌, ap, sym, subst, refl, length-append}
+use Rattle.std.proofs.Common.{append_assoc, append-nil, take-append-drop}
 use Rattle.std.specs.Result.{IsErrAnd}
 use Rattle.std.specs.Io.KnownBytes.{Consumes, Keeps, IsAtEnd}
 use Rattle.std.proofs.KnownBytes.{Consumes-nil, Consumes-trans, Consumes-kept}
 use Rattle.gob_types.specs.Base.{base_table}
 use Rattle.gob_types.specs.Defined.{types, definition_count}
 use Rattle.gob_types.specs.Table.{Table}
+use Rattle.gob_types.specs.declared.id.TypeId.{TypeId}
 use Rattle.gob_read.specs.contracts.check_builder.CheckBuilderBuilder.TheImpl as check_builder
 use Rattle.gob_read.specs.contracts.tree_builder.TreeBuilderBuilder.TheImpl as tree_builder
 use Rattle.gob_read.specs.declared.check_builder.CheckBuilder.{CheckBuilder}
@@ -15,21 +17,25 @@ use Rattle.gob_stream.specs.declared.fault.Fault.{Fault}
 use Rattle.gob_stream.specs.declared.fault.Fault.TheVariants as reading
 use Rattle.gob_stream.specs.declared.item.Item as declared
 use Rattle.gob_stream.specs.declared.reading.Reading.{Reading}
+use Rattle.gob_stream.specs.declared.session.Session.{Session}
 use Rattle.gob_stream.specs.Body.{Body, definition, value}
 use Rattle.gob_stream.specs.Bounds.{Bounds, AreLimits, deepest, no_deeper}
-use Rattle.gob_stream.specs.Item.{StreamItem}
+use Rattle.gob_stream.specs.Item.{StreamItem, puts}
 use Rattle.gob_stream.specs.Outcome.{Outcome, refused}
-use Rattle.gob_stream.specs.Reading.{Taken, GivesOn, Feeds, Finishes}
+use Rattle.gob_stream.specs.ReadParts.{Advances, AdvancesOver, over_some, over_item}
+use Rattle.gob_stream.specs.Reading.{Taken, Finishes}
 use Rattle.gob_stream.specs.Stream.{Stream, Continues, no_more, and_then, counted}
+use Rattle.gob_stream.specs.Whole.{PassesItem}
 use Rattle.gob_stream.proofs.PublicLaws.{after_gives, stands_within}
 use Rattle.gob_tool.specs.declared.check.Tally.{Tally}
 use Rattle.gob_tool.specs.declared.fault.ToolFault.{ToolFault}
 use Rattle.gob_tool.specs.declared.fault.ToolFault.TheVariants as fault
 use Rattle.gob_tool.specs.Checking.{definitions_in, counts_line, IsCounted, IsNoStream, Checks, is_cut}
 use Rattle.gob_tool.specs.Showing.{AppendsFront}
-use Rattle.gob_tool.specs.Counting.{GaveCounts, CountsIn, EndsCounting, CountsCounting, tally_line}
+use Rattle.gob_tool.specs.Counting.{GaveCounts, CountsIn, EndsCounting, CountsCounting, tally_line, HasCounted}
+use Rattle.gob_tool.specs.Counting.{CountsOn, CountsUpTo, StopsCounting, CountsFront, CountsAll}
 use Rattle.gob_tool.specs.Fault.{reading_fault}
-use Rattle.gob_tool.proofs.PieceRuns.{given_length, shown_more, items_within}
+use Rattle.gob_tool.proofs.PieceRuns.{shown_more, items_within}
 use Rattle.gob_tool.proofs.ShowLaws.{known_taken, all_taken, whole_stream}
 
 -- ---- definitions
@@ -56,36 +62,25 @@ stream_defines (and_then {i = i} {items = items} (counted u l s p) e r) =
 pub limits_as : {L M : Bounds} → L ≡ M → AreLimits deepest M → AreLimits deepest L
 limits_as same l = subst (λ (L : Bounds). AreLimits deepest L) (sym same) l
 
--- what was appended to nothing is all that there is
-pub only_given : {A : Type 0} {old new given : List A} → new ≡ old ++ given → old ≡ [] → new ≡ given
-only_given {A = A} {given = given} appended none = appended ∙ ap (λ (l : List A). l ++ given) none
-
 pub counts_first : (s : Reading CheckBuilder Counts) (read : Option (List ℕ)) → GaveCounts s [] []
     → CountsIn s read read 0 0
 counts_first s read gave = record
     { given = []; taken = []; input = Consumes-nil read; gave = gave; items_are = refl; bytes_are = refl }
 
 module _ {s : Reading CheckBuilder Counts} {read now : Option (List ℕ)} {n m : ℕ} (i : CountsIn s read now n m) where
-  pub counts_on : {s' : Reading CheckBuilder Counts} (next : Option (List ℕ)) (piece : List ℕ)
-      (given new : List (declared.Item Counts)) (k j : ℕ) → Consumes now next piece → new ≡ given → k ≡ length new
-      → j ≡ length piece → GivesOn check_builder.means-value.it given i.given (λ all. GaveCounts s' all (i.taken ++ piece))
-      → CountsIn s' read next (n + k) (m + j)
-  counts_on next piece given new k j c same many long f = record {
-    given = i.given ++ f.more;
+  pub counts_on : {s' : Reading CheckBuilder Counts} {k : ℕ} (next : Option (List ℕ)) (piece : List ℕ) (j : ℕ)
+      → Consumes now next piece → j ≡ length piece → HasCounted s' k (i.taken ++ piece)
+      → CountsIn s' read next k (m + j)
+  counts_on next piece j c long h = record {
+    given = h.given;
     taken = i.taken ++ piece;
     input = Consumes-trans read now next i.taken piece i.input c;
-    gave = f.holds;
-    items_are = omega (arith, i.items_are, many, ap length same, given_length f.mean, length-append i.given f.more);
+    gave = h.gave;
+    items_are = h.items_are;
     bytes_are = omega (arith, i.bytes_are, long, length-append i.taken piece);
   }
 
-  -- the counts have 64 bits
-  pub items_fit : AreLimits deepest s.limits → n < 2 ^ 64
-  items_fit l =
-      let bound = stands_within i.gave in
-      let few = items_within i.gave in
-      omega (arith, l.stream, i.items_are)
-
+  -- the count has 64 bits
   pub bytes_fit : AreLimits deepest s.limits → m < 2 ^ 64
   bytes_fit l = let bound = stands_within i.gave in omega (arith, l.stream, i.bytes_are)
 
@@ -141,21 +136,157 @@ module _ {s : Reading CheckBuilder Counts} {read now : Option (List ℕ)} {n m :
         holds = (i.given, after_gives i.gave);
       })
 
+  -- what counting the items of a piece needs to know
+  pub counted_so : HasCounted s n i.taken
+  counted_so = record { given = i.given; gave = i.gave; items_are = i.items_are }
+
   -- a piece was refused
-  pub count_stopped : (M : Bounds) (s' : Reading CheckBuilder Counts) (next : Option (List ℕ)) (piece : List ℕ)
-      (given : List (declared.Item Counts)) (bytes : List ℕ) (e : Fault) → s.limits ≡ M → read ≡ Some bytes
-      → Consumes now next piece
-      → Feeds check_builder.stands-value.it tree_builder.stands-value.it check_builder.means-value.it deepest s s' i.given
-      i.taken piece given (Err e)
+  pub count_stopped : (M : Bounds) (next : Option (List ℕ)) (piece bytes : List ℕ) (e : Fault) → s.limits ≡ M
+      → read ≡ Some bytes → Consumes now next piece
+      → StopsCounting (no_deeper deepest s.limits) (i.taken ++ piece) e
       → IsNoStream (no_deeper deepest M) bytes next (reading_fault e)
-  count_stopped M s' next piece given bytes (reading.Refused R) same known c f =
+  count_stopped M next piece bytes (reading.Refused R) same known c f =
       let t = known_so piece bytes known c in
-      let g = f.0 in
       subst (λ (L : Bounds). IsNoStream (no_deeper deepest L) bytes next (fault.Refused R)) same
-      (i.given ++ g.more, (shown_more t.left t.whole g.holds.0).outcome)
-  count_stopped M s' next piece given bytes reading.Read same known c f = absurd f
-  count_stopped M s' next piece given bytes reading.Memory same known c f = tt
-  count_stopped M s' next piece given bytes reading.Failed same known c f = absurd f
+      (f.0, (shown_more t.left t.whole f.1).outcome)
+  count_stopped M next piece bytes reading.Read same known c f = absurd f
+  count_stopped M next piece bytes reading.Memory same known c f = tt
+  count_stopped M next piece bytes reading.Failed same known c f = absurd f
+
+-- ---- within a piece
+pub items_fit : {s : Reading CheckBuilder Counts} {n : ℕ} {bytes : List ℕ} → HasCounted s n bytes
+    → AreLimits deepest s.limits → n < 2 ^ 64
+items_fit h l =
+    let bound = stands_within h.gave in
+    let few = items_within h.gave in
+    omega (arith, l.stream, h.items_are)
+
+-- so many bytes and items, and no more, can be counted
+pub items_end : {s : Reading CheckBuilder Counts} {n : ℕ} {bytes : List ℕ} → HasCounted s n bytes
+    → n ≤ s.limits.stream + 9
+items_end h = let bound = stands_within h.gave in let few = items_within h.gave in omega (arith, h.items_are)
+
+-- the item of a value that stands whole
+pub counts_whole : {s s' : Reading CheckBuilder Counts} {id : TypeId} {used n n' : ℕ} {piece : List ℕ}
+    → PassesItem check_builder.stands-value.it tree_builder.stands-value.it deepest s s' id used piece → n' ≡ n + 1
+    → (bytes : List ℕ) → HasCounted s n bytes → CountsOn s' n n' bytes piece used
+counts_whole {id = id} p e bytes h = record {
+  within = p.within;
+  nearer = omega (arith, e);
+  counted = record {
+    given = h.given ++ puts id p.value ∷ [];
+    gave = p.passed h.given bytes h.gave;
+    items_are = omega (arith, e, h.items_are, length-append h.given (puts id p.value ∷ []));
+  };
+}
+
+-- an item that is whole with the bytes of a step
+pub counts_item : {s s' : Reading CheckBuilder Counts} {used n n' : ℕ} {bytes piece : List ℕ}
+    {o : Option (declared.Item Counts)} {given : declared.Item Counts} → o ≡ Some given → n' ≡ n + 1
+    → (h : HasCounted s n bytes)
+    → AdvancesOver check_builder.stands-value.it tree_builder.stands-value.it check_builder.means-value.it deepest s'
+    h.given bytes piece used o → CountsOn s' n n' bytes piece used
+counts_item f e h (over_some l w a) = cc
+counts_item f e h (over_item {i = i} l w m a) = record {
+  within = w;
+  nearer = omega (arith, e);
+  counted = record {
+    given = h.given ++ i ∷ [];
+    gave = a;
+    items_are = omega (arith, e, h.items_are, length-append h.given (i ∷ []));
+  };
+}
+
+-- or none is
+pub counts_none : {s s' : Reading CheckBuilder Counts} {used n : ℕ} {bytes piece : List ℕ}
+    {o : Option (declared.Item Counts)} → o ≡ None → (h : HasCounted s n bytes)
+    → AdvancesOver check_builder.stands-value.it tree_builder.stands-value.it check_builder.means-value.it deepest s'
+    h.given bytes piece used o → CountsOn s' n n bytes piece used
+counts_none f h (over_some l w a) = record {
+  within = w;
+  nearer = omega arith;
+  counted = record { given = h.given; gave = a; items_are = h.items_are };
+}
+counts_none f h (over_item l w m a) = cc
+
+-- a step was refused
+pub step_stops : (s s' : Reading CheckBuilder Counts) (items : List StreamItem) (bytes piece : List ℕ) (e : Fault)
+    → Advances check_builder.stands-value.it tree_builder.stands-value.it check_builder.means-value.it deepest s s'
+    items bytes piece (Err e) → StopsCounting (no_deeper deepest s.limits) (bytes ++ piece) e
+step_stops s s' items bytes piece (reading.Refused R) f = (items, f.0)
+step_stops s s' items bytes piece reading.Read f = absurd f
+step_stops s s' items bytes piece reading.Memory f = tt
+step_stops s s' items bytes piece reading.Failed f = absurd f
+
+-- a session in which nothing has changed
+pub counted_still : {s s' : Session CheckBuilder Counts} {n : ℕ} {bytes : List ℕ} → s' ≡ s
+    → HasCounted s.reading n bytes → HasCounted s'.reading n bytes
+counted_still {n = n} {bytes = bytes} e h = subst (λ (s : Session CheckBuilder Counts). HasCounted s.reading n bytes)
+    (sym e) h
+
+-- from item to item
+pub counts_none_yet : {s : Reading CheckBuilder Counts} {n : ℕ} (piece bytes : List ℕ) → HasCounted s n bytes
+    → CountsUpTo s n bytes piece piece
+counts_none_yet {s = s} {n = n} piece bytes h = record {
+  front = [];
+  whole = refl;
+  counted = subst (λ (l : List ℕ). HasCounted s n l) (sym (append-nil bytes)) h;
+}
+
+pub counts_up_to : {s s' : Reading CheckBuilder Counts} {n n' used : ℕ} {bytes piece rest later : List ℕ}
+    → later ≡ drop used rest → (u : CountsUpTo s n bytes piece rest) → CountsOn s' n n' (bytes ++ u.front) rest used
+    → CountsUpTo s' n' bytes piece later
+counts_up_to {s' = s'} {n' = n'} {used = used} {bytes = bytes} {rest = rest} so u on = record {
+  front = u.front ++ take used rest;
+  whole = u.whole
+      ∙ ap (λ (l : List ℕ). u.front ++ l)
+      (sym (take-append-drop used rest) ∙ ap (λ (l : List ℕ). take used rest ++ l) (sym so))
+      ∙ sym (append_assoc u.front (take used rest) _);
+  counted = subst (λ (l : List ℕ). HasCounted s' n' l) (append_assoc bytes u.front (take used rest)) on.counted;
+}
+
+pub counts_falls : {s s' : Reading CheckBuilder Counts} {n n' used : ℕ} {bytes rest : List ℕ} → s'.limits ≡ s.limits
+    → HasCounted s n bytes → CountsOn s' n n' bytes rest used
+    → length rest - used + (s'.limits.stream + 9 - n') < length rest + (s.limits.stream + 9 - n)
+counts_falls same h on =
+    let stream = ap (λ (L : Bounds). L.stream) same in
+    let now = items_end h in
+    let then = items_end on.counted in
+    omega (arith, on.within, on.nearer)
+
+-- all of the piece was taken
+pub counts_piece : {s : Reading CheckBuilder Counts} {n : ℕ} {bytes piece rest : List ℕ} → length rest ≡ 0
+    → CountsUpTo s n bytes piece rest → HasCounted s n (bytes ++ piece)
+counts_piece {s = s} {n = n} {bytes = bytes} {rest = []} none u =
+    subst (λ (l : List ℕ). HasCounted s n (bytes ++ l)) (sym (u.whole ∙ append-nil u.front)) u.counted
+counts_piece {rest = b ∷ rest} none u = absurd (omega (arith, none))
+
+-- the same under limits that are these
+pub stops_under : (L M : Bounds) (bytes : List ℕ) (e : Fault) → L ≡ M → StopsCounting (no_deeper deepest L) bytes e
+    → StopsCounting (no_deeper deepest M) bytes e
+stops_under L M bytes e same f = subst (λ (L : Bounds). StopsCounting (no_deeper deepest L) bytes e) same f
+
+-- or the rest of it is refused
+pub stops_piece : {s : Reading CheckBuilder Counts} {n : ℕ} {bytes piece rest : List ℕ} (L M : Bounds) (e : Fault)
+    → L ≡ M → (u : CountsUpTo s n bytes piece rest)
+    → StopsCounting (no_deeper deepest L) ((bytes ++ u.front) ++ rest) e
+    → StopsCounting (no_deeper deepest M) (bytes ++ piece) e
+stops_piece {bytes = bytes} {piece = piece} {rest = rest} L M e same u f =
+    stops_under L M (bytes ++ piece) e same
+    (subst (λ (l : List ℕ). StopsCounting (no_deeper deepest L) l e)
+    (append_assoc bytes u.front rest ∙ ap (λ (l : List ℕ). bytes ++ l) (sym u.whole)) f)
+
+-- at the error that a `?` returns
+pub counts_all_at : (L : Bounds) (s : Reading CheckBuilder Counts) (n : ℕ) (bytes : List ℕ) (r : Result (Unit {0}) Fault)
+    (e : Fault) → IsErrAnd r (λ x. x ≡ e) → StopsCounting L bytes e → CountsAll L s n bytes r
+counts_all_at L s n bytes (Ok u) e is h = absurd is
+counts_all_at L s n bytes (Err g) e is h = subst (λ e. StopsCounting L bytes e) (sym is) h
+
+pub counts_front_at : (L : Bounds) (s : Reading CheckBuilder Counts) (n n' : ℕ) (bytes piece : List ℕ)
+    (r : Result ℕ Fault) (e : Fault) → IsErrAnd r (λ x. x ≡ e) → StopsCounting L (bytes ++ piece) e
+    → CountsFront L s n n' bytes piece r
+counts_front_at L s n n' bytes piece (Ok u) e is h = absurd is
+counts_front_at L s n n' bytes piece (Err g) e is h = subst (λ e. StopsCounting L (bytes ++ piece) e) (sym is) h
 
 -- ---- at the error that a `?` returns
 pub counting_at : {A : Type 0} (line_of : A → List ℕ) (L : Bounds) (bytes : List ℕ) (now : Option (List ℕ))
@@ -177,14 +308,12 @@ finish_reads A s s' items bytes failures failures' reading.Read f h = absurd f
 finish_reads A s s' items bytes failures failures' reading.Memory f h = absurd f
 finish_reads A s s' items bytes failures failures' reading.Failed f h = absurd f
 
-pub feed_reads : (A : Type 0) (s s' : Reading CheckBuilder Counts) (items : List StreamItem) (bytes piece : List ℕ)
-    (given : List (declared.Item Counts)) (failures failures' : ℕ) (e : Fault)
-    → Feeds check_builder.stands-value.it tree_builder.stands-value.it check_builder.means-value.it deepest s s' items
-    bytes piece given (Err e) → failures' ≡ failures → CountsCounting {A = A} failures failures' (Err (reading_fault e))
-feed_reads A s s' items bytes piece given failures failures' (reading.Refused R) f h = h
-feed_reads A s s' items bytes piece given failures failures' reading.Read f h = absurd f
-feed_reads A s s' items bytes piece given failures failures' reading.Memory f h = h
-feed_reads A s s' items bytes piece given failures failures' reading.Failed f h = absurd f
+pub stop_reads : (A : Type 0) (L : Bounds) (bytes : List ℕ) (failures failures' : ℕ) (e : Fault)
+    → StopsCounting L bytes e → failures' ≡ failures → CountsCounting {A = A} failures failures' (Err (reading_fault e))
+stop_reads A L bytes failures failures' (reading.Refused R) f h = h
+stop_reads A L bytes failures failures' reading.Read f h = absurd f
+stop_reads A L bytes failures failures' reading.Memory f h = h
+stop_reads A L bytes failures failures' reading.Failed f h = absurd f
 
 -- ---- the run
 pub counted_as : {L : Bounds} {bytes : List ℕ} {now : Option (List ℕ)} {P Q : List ℕ → Type 0} → IsCounted L bytes now P

@@ -1,14 +1,17 @@
 -- Where a run stands that counts what it reads. For private clauses.
-use Rattle.std.specs.Prelude.{◌≡◌, ℕ, List, length, Option, Result, Ok, Err}
+use Rattle.std.specs.Prelude.{◌≡◌, ℕ, ◌+◌, ◌<◌, ◌≤◌, List, ◌++◌, length, take, Option, Result, Ok, Err}
 use Rattle.std.specs.Io.KnownBytes.{Consumes}
 use Rattle.gob_read.specs.contracts.check_builder.CheckBuilderBuilder.TheImpl as check_builder
 use Rattle.gob_read.specs.contracts.tree_builder.TreeBuilderBuilder.TheImpl as tree_builder
 use Rattle.gob_read.specs.declared.check_builder.CheckBuilder.{CheckBuilder}
 use Rattle.gob_read.specs.declared.check_builder.Counts.{Counts}
+use Rattle.gob_stream.specs.declared.fault.Fault.{Fault}
+use Rattle.gob_stream.specs.declared.fault.Fault.TheVariants as reading
 use Rattle.gob_stream.specs.declared.reading.Reading.{Reading}
 use Rattle.gob_stream.specs.Bounds.{Bounds, deepest}
 use Rattle.gob_stream.specs.Devices.{counts_up}
 use Rattle.gob_stream.specs.Item.{StreamItem}
+use Rattle.gob_stream.specs.Reading.{IsShown}
 use Rattle.gob_stream.specs.Standing.{StandsAfter}
 use Rattle.gob_tool.specs.declared.check.Tally.{Tally}
 use Rattle.gob_tool.specs.declared.fault.ToolFault.{ToolFault}
@@ -43,3 +46,41 @@ abbrev pub CountsCounting : {A : Type 0} → (failures failures' : ℕ) → Resu
 CountsCounting failures failures' (Err fault.Read) = failures' ≡ counts_up failures 1
 CountsCounting failures failures' (Err fault.Write) = ⊥
 CountsCounting failures failures' _ = failures' ≡ failures
+
+-- the reader that counts has taken these bytes, and so many items were counted
+pub record HasCounted (s : Reading CheckBuilder Counts) (items : ℕ) (bytes : List ℕ) : Type 0 where
+  pub given : List StreamItem
+  pub gave : GaveCounts s given bytes
+  pub items_are : items ≡ length given
+
+-- so many bytes of the piece were taken, and the items that are whole with them were counted: at least one of either
+pub record CountsOn (s : Reading CheckBuilder Counts) (items items' : ℕ) (bytes piece : List ℕ) (used : ℕ) : Type 0
+  where
+    pub within : used ≤ length piece
+    pub nearer : items < items' + used
+    pub counted : HasCounted s items' (bytes ++ take used piece)
+
+-- the front of the piece was taken, up to the rest, and its items were counted
+pub record CountsUpTo (s : Reading CheckBuilder Counts) (items : ℕ) (bytes piece rest : List ℕ) : Type 0 where
+  pub front : List ℕ
+  pub whole : piece ≡ front ++ rest
+  pub counted : HasCounted s items (bytes ++ front)
+
+-- why the bytes that were given couldn't all be taken
+abbrev pub StopsCounting : Bounds → List ℕ → Fault → Type 0
+StopsCounting L bytes (reading.Refused R) = (items : List StreamItem) × IsShown L bytes items R
+StopsCounting L bytes reading.Read = ⊥
+StopsCounting L bytes reading.Memory = Unit {0}
+StopsCounting L bytes reading.Failed = ⊥
+
+-- what counting the items of the front of a piece answers, behind these bytes
+abbrev pub CountsFront : Bounds → Reading CheckBuilder Counts → (items items' : ℕ) → (bytes piece : List ℕ)
+    → Result ℕ Fault → Type 0
+CountsFront L s items items' bytes piece (Ok used) = CountsOn s items items' bytes piece used
+CountsFront L s items items' bytes piece (Err e) = StopsCounting L (bytes ++ piece) e
+
+-- what counting the items of a whole piece answers, with which these are the bytes
+abbrev pub CountsAll : Bounds → Reading CheckBuilder Counts → (items : ℕ) → (bytes : List ℕ)
+    → Result (Unit {0}) Fault → Type 0
+CountsAll L s items bytes (Ok _) = HasCounted s items bytes
+CountsAll L s items bytes (Err e) = StopsCounting L bytes e

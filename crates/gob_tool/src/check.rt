@@ -1,16 +1,17 @@
 //! The run that says whether bytes are a stream, and how much there is in it.
 
-ghost use Rattle.std.specs.Prelude.{◌≡◌, ◌<◌, ℕ, List, [], Some, IfOk, length, string_bytes};
+ghost use Rattle.std.specs.Prelude.{◌≡◌, ◌<◌, ◌≤◌, ℕ, List, [], ◌++◌, Some, IfOk, length, string_bytes};
 ghost use Rattle.gob_stream.specs.Bounds.{AreLimits, deepest, no_deeper};
 ghost use Rattle.gob_tool.specs.Checking.{Checks};
 ghost use Rattle.gob_tool.specs.Counting.{GaveCounts, EndsCounting, CountsCounting, tally_line};
+ghost use Rattle.gob_tool.specs.Counting.{HasCounted, CountsAll, CountsFront};
 ghost use Rattle.gob_tool.specs.Showing.{CountsReadFaults, CountsWriteFaults};
 
 use crate::fault::ToolFault;
 use crate::lines::write_whole;
 use gob_num::Memory;
 use gob_read::CheckBuilder;
-use gob_stream::{Input, Limits, Output, Session};
+use gob_stream::{Fault, Input, Limits, Output, Session};
 use std::alloc::{AllocError, Global};
 use std::io::{Read, Write};
 
@@ -116,7 +117,6 @@ fn count_pieces<R: Read>(
         (R.remaining input.new.reader) result }
     ensures reads { CountsCounting input.old.failures input.new.failures result }
 {
-    let mut given = Vec::new(alloc);
     let mut items = 0;
     let mut bytes = 0;
     'pieces: loop {
@@ -131,12 +131,68 @@ fn count_pieces<R: Read>(
                 });
             }
             Ok(count) => {
-                given.clear();
-                session.feed(alloc, &buffer[..count], &mut given)?;
-                items += given.len() as u64;
+                count_piece(alloc, session, &buffer[..count], &mut items)?;
                 bytes += count as u64;
             }
             Err(_) => return Err(ToolFault::Read),
+        }
+    }
+}
+
+/// Takes a piece of the stream, and counts the items that are whole with it.
+fn count_piece(
+    alloc: Global,
+    session: &mut Session<CheckBuilder>,
+    piece: &[u8],
+    items: &mut u64,
+) -> Result<(), Fault>
+    requires counted { (bytes : List ℕ) × HasCounted session.old.reading items.old bytes }
+    requires limits { AreLimits deepest session.old.reading.limits }
+    ensures counted { (bytes : List ℕ) → HasCounted session.old.reading items.old bytes
+        → CountsAll (no_deeper deepest session.old.reading.limits) session.new.reading items.new
+        (bytes ++ piece.now) result }
+    ensures limits { session.new.reading.limits ≡ session.old.reading.limits }
+{
+    let mut rest = piece;
+    while !rest.is_empty() {
+        let used = count_front(alloc, session, rest, items)?;
+        rest = &rest[used..];
+    }
+    Ok(())
+}
+
+/// Takes bytes from the front of the piece, none behind the end of an item, and counts the item that is whole with
+/// them. Answers how many it took. Nothing is built of a value that stands whole.
+fn count_front(
+    alloc: Global,
+    session: &mut Session<CheckBuilder>,
+    piece: &[u8],
+    items: &mut u64,
+) -> Result<usize, Fault>
+    requires some { 0 < length piece.now }
+    requires counted { (bytes : List ℕ) × HasCounted session.old.reading items.old bytes }
+    requires limits { AreLimits deepest session.old.reading.limits }
+    ensures counted { (bytes : List ℕ) → HasCounted session.old.reading items.old bytes
+        → CountsFront (no_deeper deepest session.old.reading.limits) session.new.reading items.old items.new bytes
+        piece.now result }
+    ensures used { IfOk result (λ used. used ≤ length piece.now) }
+    ensures limits { session.new.reading.limits ≡ session.old.reading.limits }
+{
+    match session.pass_whole(piece) {
+        Some(passed) => {
+            *items += 1;
+            Ok(passed.used)
+        }
+        None => {
+            let step = session.step(alloc, piece)?;
+            let used = step.used;
+            match &step.item {
+                Some(_) => {
+                    *items += 1;
+                    Ok(used)
+                }
+                None => Ok(used),
+            }
         }
     }
 }

@@ -1,13 +1,13 @@
 -- From piece to piece what was read is counted, and each end is that of the stream.
-use Rattle.std.proofs.Common.{◌≡◌, ◌<◌, ◌∙◌, length, take, arith, ap, refl, length-take}
+use Rattle.std.proofs.Common.{◌≡◌, ◌<◌, ◌∙◌, ◌++◌, length, take, arith, ap, refl, length-take}
 use Rattle.gob_types.specs.Defined.{types, definition_count}
 use Rattle.gob_stream.specs.Bounds.{deepest, no_deeper}
 use Rattle.gob_tool.specs.declared.check.Tally.{Tally}
 use Rattle.gob_tool.specs.Counting.{tally_line}
 use Rattle.gob_tool.specs.Fault.{reading_fault}
-use Rattle.gob_tool.proofs.CheckLaws.{counts_first, counts_on, items_fit, bytes_fit, counted_whole, counted_within}
-use Rattle.gob_tool.proofs.CheckLaws.{count_failed, count_stopped, counting_at, counting_reads_at, finish_reads, feed_reads}
-use Rattle.gob_tool.proofs.CheckLaws.{limits_as, only_given}
+use Rattle.gob_tool.proofs.CheckLaws.{counts_first, counts_on, bytes_fit, counted_whole, counted_within, counted_so}
+use Rattle.gob_tool.proofs.CheckLaws.{count_failed, count_stopped, counting_at, counting_reads_at, finish_reads}
+use Rattle.gob_tool.proofs.CheckLaws.{stop_reads, limits_as}
 use Rattle.gob_tool.proofs.PieceRuns.{nearer}
 use Rattle.gob_tool.proofs.ShowLaws.{read_none}
 use Rattle.gob_tool.proofs.check.count_pieces.Goals as goal
@@ -55,54 +55,47 @@ returns-in-Ok-eq0-clause-counted g c = λ bytes known.
     (c.count-types.ensures.count
     ∙ ap (λ d. definition_count (types d)) (c.table.ensures ∙ c.in_ok-finish-in-Ok-eq0.ensures.types)) refl
 
-pub returns-in_err-feed-in-Ok-clause-counted : goal.returns-in_err-feed-in-Ok-clause-counted
-returns-in_err-feed-in-Ok-clause-counted g c = λ bytes known.
+pub count_piece-requires-clause-counted : goal.count_piece-requires-clause-counted
+count_piece-requires-clause-counted g c =
+    let i = c.pieces.invariant.2 in
+    (i.taken, counted_so i)
+
+pub count_piece-requires-clause-limits : goal.count_piece-requires-clause-limits
+count_piece-requires-clause-limits g c = limits_as c.pieces.invariant.0 c.requires.limits
+
+pub returns-in_err-count_piece-in-Ok-clause-counted : goal.returns-in_err-count_piece-in-Ok-clause-counted
+returns-in_err-count_piece-in-Ok-clause-counted g c = λ bytes known.
     let next = g.R.Read.remaining c.read.new.self.reader in
     let i = c.pieces.invariant.2 in
     let M = c.args.session.now.reading.limits in
     let piece = take c.in-Ok.count c.read.new.buf in
-    let e = c.in_err-feed-in-Ok.field-0.0 in
-    let fed = c.in_err-feed-in-Ok.ensures.fed in
-    counting_at tally_line (no_deeper deepest M) bytes next c.from_residual-in_err-feed-in-Ok.result (reading_fault e)
-    c.from_residual-in_err-feed-in-Ok.ensures.1
-    (count_stopped i M c.feed.new.self.reading next piece fed.given bytes e c.pieces.invariant.0 known
-    c.in-Ok.ensures.bytes.0 (fed.holds i.given i.taken i.gave))
+    let e = c.in_err-count_piece-in-Ok.field-0.0 in
+    counting_at tally_line (no_deeper deepest M) bytes next c.from_residual-in_err-count_piece-in-Ok.result
+    (reading_fault e) c.from_residual-in_err-count_piece-in-Ok.ensures.1
+    (count_stopped i M next piece bytes e c.pieces.invariant.0 known c.in-Ok.ensures.bytes.0
+    (c.in_err-count_piece-in-Ok.ensures.counted i.taken (counted_so i)))
 
-pub returns-in_err-feed-in-Ok-clause-reads : goal.returns-in_err-feed-in-Ok-clause-reads
-returns-in_err-feed-in-Ok-clause-reads g c =
+pub returns-in_err-count_piece-in-Ok-clause-reads : goal.returns-in_err-count_piece-in-Ok-clause-reads
+returns-in_err-count_piece-in-Ok-clause-reads g c =
     let i = c.pieces.invariant.2 in
-    let e = c.in_err-feed-in-Ok.field-0.0 in
-    let fed = c.in_err-feed-in-Ok.ensures.fed in
-    counting_reads_at _ _ c.from_residual-in_err-feed-in-Ok.result (reading_fault e)
-    c.from_residual-in_err-feed-in-Ok.ensures.1
-    (feed_reads Tally c.pieces.session.reading c.feed.new.self.reading i.given i.taken (take c.in-Ok.count c.read.new.buf)
-    fed.given _ _ e (fed.holds i.given i.taken i.gave) (c.in-Ok.ensures.counted.1 ∙ c.pieces.invariant.1))
+    let e = c.in_err-count_piece-in-Ok.field-0.0 in
+    counting_reads_at _ _ c.from_residual-in_err-count_piece-in-Ok.result (reading_fault e)
+    c.from_residual-in_err-count_piece-in-Ok.ensures.1
+    (stop_reads Tally (no_deeper deepest c.pieces.session.reading.limits) (i.taken ++ take c.in-Ok.count c.read.new.buf)
+    _ _ e (c.in_err-count_piece-in-Ok.ensures.counted i.taken (counted_so i))
+    (c.in-Ok.ensures.counted.1 ∙ c.pieces.invariant.1))
 
 pub pieces-preserved : goal.pieces-preserved
 pieces-preserved g c =
     let i = c.pieces.invariant.2 in
     let next = g.R.Read.remaining c.read.new.self.reader in
     let piece = take c.in-Ok.count c.read.new.buf in
-    let fed = c.in_ok-feed-in-Ok.ensures.fed in
-    let long : c.in-Ok.count ≡ length piece = omega (arith, length-take c.in-Ok.count c.read.new.buf, c.in-Ok.ensures.bound) in (
-      c.feed.ensures.limits ∙ c.pieces.invariant.0,
+    let long : c.in-Ok.count ≡ length piece = omega
+    (arith, length-take c.in-Ok.count c.read.new.buf, c.in-Ok.ensures.bound) in (
+      c.in_ok-count_piece-in-Ok.ensures.limits ∙ c.pieces.invariant.0,
       c.in-Ok.ensures.counted.1 ∙ c.pieces.invariant.1,
-      counts_on i next piece fed.given c.feed.new.out.items c.len.result c.in-Ok.count c.in-Ok.ensures.bytes.0
-          (only_given fed.appended c.clear.ensures.items) (c.len.ensures ∙ c.feed.new.out.ok.0) long (fed.holds i.given i.taken i.gave),
-    )
-
-pub overflow_add-items : goal.overflow_add-items
-overflow_add-items g c =
-    let i = c.pieces.invariant.2 in
-    let next = g.R.Read.remaining c.read.new.self.reader in
-    let piece = take c.in-Ok.count c.read.new.buf in
-    let fed = c.in_ok-feed-in-Ok.ensures.fed in
-    let long : c.in-Ok.count ≡ length piece = omega (arith, length-take c.in-Ok.count c.read.new.buf, c.in-Ok.ensures.bound) in
-    omega (
-      arith,
-      items_fit (counts_on i next piece fed.given c.feed.new.out.items c.len.result c.in-Ok.count c.in-Ok.ensures.bytes.0
-          (only_given fed.appended c.clear.ensures.items) (c.len.ensures ∙ c.feed.new.out.ok.0) long (fed.holds i.given i.taken i.gave))
-          (limits_as (c.feed.ensures.limits ∙ c.pieces.invariant.0) c.requires.limits),
+      counts_on i next piece c.in-Ok.count c.in-Ok.ensures.bytes.0 long
+          (c.in_ok-count_piece-in-Ok.ensures.counted i.taken (counted_so i)),
     )
 
 pub overflow_add-bytes : goal.overflow_add-bytes
@@ -110,22 +103,22 @@ overflow_add-bytes g c =
     let i = c.pieces.invariant.2 in
     let next = g.R.Read.remaining c.read.new.self.reader in
     let piece = take c.in-Ok.count c.read.new.buf in
-    let fed = c.in_ok-feed-in-Ok.ensures.fed in
-    let long : c.in-Ok.count ≡ length piece = omega (arith, length-take c.in-Ok.count c.read.new.buf, c.in-Ok.ensures.bound) in
+    let long : c.in-Ok.count ≡ length piece = omega
+    (arith, length-take c.in-Ok.count c.read.new.buf, c.in-Ok.ensures.bound) in
     omega (
       arith,
-      bytes_fit (counts_on i next piece fed.given c.feed.new.out.items c.len.result c.in-Ok.count c.in-Ok.ensures.bytes.0
-          (only_given fed.appended c.clear.ensures.items) (c.len.ensures ∙ c.feed.new.out.ok.0) long (fed.holds i.given i.taken i.gave))
-          (limits_as (c.feed.ensures.limits ∙ c.pieces.invariant.0) c.requires.limits),
+      bytes_fit (counts_on i next piece c.in-Ok.count c.in-Ok.ensures.bytes.0 long
+          (c.in_ok-count_piece-in-Ok.ensures.counted i.taken (counted_so i)))
+          (limits_as (c.in_ok-count_piece-in-Ok.ensures.limits ∙ c.pieces.invariant.0) c.requires.limits),
     )
 
 pub pieces-smaller : goal.pieces-smaller
 pieces-smaller g c =
     let i = c.pieces.invariant.2 in
     let piece = take c.in-Ok.count c.read.new.buf in
-    let fed = c.in_ok-feed-in-Ok.ensures.fed in
     let some : 0 < length piece = omega (arith, length-take c.in-Ok.count c.read.new.buf, c.in-Ok.ensures.bound) in
-    nearer piece i.gave (fed.holds i.given i.taken i.gave).holds c.feed.ensures.limits some
+    nearer piece i.gave (c.in_ok-count_piece-in-Ok.ensures.counted i.taken (counted_so i)).gave
+    c.in_ok-count_piece-in-Ok.ensures.limits some
 
 pub returns-in-Err-clause-counted : goal.returns-in-Err-clause-counted
 returns-in-Err-clause-counted g c = λ bytes known.
