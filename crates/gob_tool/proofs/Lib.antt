@@ -10,6 +10,7 @@ pub mod FrontLaws
 pub mod LinesStay
 pub mod GatherLaws
 pub mod ShowLaws
+pub mod ShowWhole
 pub mod TakeLaws
 pub mod PieceLaws
 pub mod ReceivedLaws

@@ -1,6 +1,8 @@
 -- Where a run stands while lines are gathered. For private clauses.
-use Rattle.std.specs.Prelude.{◌≡◌, ◌≢◌, ℕ, List, ◌++◌, Option, Result, Ok, Err}
+use Rattle.std.specs.Prelude.{◌≡◌, ◌≢◌, ℕ, ◌<◌, ◌≤◌, List, [], ◌∷◌, ◌++◌, length, take, Option, Some, None}
+use Rattle.std.specs.Prelude.{Result, Ok, Err}
 use Rattle.std.specs.Io.KnownBytes.{Appends, Consumes}
+use Rattle.gob_num.specs.declared.memory.Memory.{Memory}
 use Rattle.gob_types.specs.declared.reason.Reason.TheVariants as reason
 use Rattle.gob_types.specs.Defined.{types}
 use Rattle.gob_types.specs.Table.{Table}
@@ -14,7 +16,7 @@ use Rattle.gob_stream.specs.Devices.{counts_up}
 use Rattle.gob_stream.specs.Standing.{StandsAfter}
 use Rattle.gob_tool.specs.declared.fault.ToolFault.{ToolFault}
 use Rattle.gob_tool.specs.declared.fault.ToolFault.TheVariants as fault
-use Rattle.gob_tool.specs.Line.{lines}
+use Rattle.gob_tool.specs.Line.{line, lines}
 use Rattle.gob_tool.specs.Showing.{AppendsFront, IsRefused, Begins}
 
 -- what went out, and then what is gathered, are these bytes
@@ -103,3 +105,31 @@ CountsOnlyReads failures failures' _ = failures' ≡ failures
 abbrev pub CountsOnlyWrites : (failures failures' : ℕ) → Result (Unit {0}) ToolFault → Type 0
 CountsOnlyWrites failures failures' (Err fault.Write) = failures' ≡ counts_up failures 1
 CountsOnlyWrites failures failures' _ = failures' ≡ failures
+
+-- the line of a whole item at the front of a piece was gathered, and the reader is behind the item
+pub record GathersWhole (s s' : Reading TreeBuilder Value) (piece before after : List ℕ) (used : ℕ) : Type 0 where
+  pub item : StreamItem
+  pub some : 0 < used
+  pub within : used ≤ length piece
+  pub line : after ≡ before ++ line (types s.types) item
+  pub same : s'.types ≡ s.types
+  pub passed : (items : List StreamItem) (bytes : List ℕ) → GaveItems s items bytes
+      → GaveItems s' (items ++ item ∷ []) (bytes ++ take used piece)
+
+-- or nothing has changed
+abbrev pub MayGatherWhole : (s s' : Reading TreeBuilder Value) → (piece before after : List ℕ)
+    → Result (Option ℕ) Memory → Type 0
+MayGatherWhole s s' piece before after (Ok (Some used)) = GathersWhole s s' piece before after used
+MayGatherWhole s s' piece before after (Ok None) = (s' ≡ s) × (after ≡ before)
+MayGatherWhole s s' piece before after (Err _) = (s' ≡ s) × (after ≡ before)
+
+-- what taking the front of a piece answers, behind these bytes
+abbrev pub TakesFront : Bounds → (s : Reading TreeBuilder Value) → (bytes piece : List ℕ) → (old new : Option (List ℕ))
+    → (gathered : List ℕ) → Result ℕ ToolFault → Type 0
+TakesFront L s bytes piece old new gathered (Ok used) = StandsBehind s (bytes ++ take used piece) old new gathered
+TakesFront L s bytes piece old new gathered (Err f) = TakesPiece L s (bytes ++ piece) old new gathered (Err f)
+
+-- the count rises where a write failed, whatever is answered else
+abbrev pub CountsFrontWrites : (failures failures' : ℕ) → Result ℕ ToolFault → Type 0
+CountsFrontWrites failures failures' (Err fault.Write) = failures' ≡ counts_up failures 1
+CountsFrontWrites failures failures' _ = failures' ≡ failures

@@ -1,15 +1,17 @@
 //! Lines that wait to be written.
 
-ghost use Rattle.std.specs.Prelude.{◌≡◌, ◌++◌, ◌≤◌, ◌↔◌, [], IsTrue, OnOk, OnErr};
+ghost use Rattle.std.specs.Prelude.{◌≡◌, ◌++◌, ◌≤◌, ◌↔◌, [], IsTrue, IfOk, OnOk, OnErr, false};
 ghost use Rattle.gob_stream.specs.Item.{item_view, item_views};
 ghost use Rattle.gob_tool.specs.Line.{line};
+ghost use Rattle.gob_tool.specs.TextWhole.{LineOfWhole};
 ghost use Rattle.gob_tool.specs.Gathering.{Writes, Passes, Gathers, CountsWrites, CountsOnlyWrites};
 
 use crate::fault::ToolFault;
 use crate::item_json::write_item;
+use crate::text::line_of_whole;
 use gob_num::Memory;
 use gob_stream::{Item, Output};
-use gob_types::Shapes;
+use gob_types::{Shapes, TypeId};
 use gob_value::Value;
 use json::Writer;
 use std::alloc::Global;
@@ -59,6 +61,23 @@ impl Lines {
         self.line.push(b'\n')?;
         self.gathered.extend_from_slice(&self.line)?;
         Ok(())
+    }
+
+    /// Appends the line of the item that puts the value of the type that the body spells. False says nothing of the
+    /// body, and the lines are as before; so they are after an error.
+    pub(crate) fn push_whole<S: Shapes>(
+        &mut self,
+        table: &S,
+        id: TypeId,
+        body: &[u8],
+        depth: u64,
+    ) -> Result<bool, Memory>
+        ensures line { IfOk result (λ done. IsTrue done → LineOfWhole (S.table table.now) id depth body.now
+            self.old.gathered.items self.new.gathered.items) }
+        ensures same { IfOk result (λ done. done ≡ false → self.new.gathered.items ≡ self.old.gathered.items) }
+        ensures err { OnErr result (self.new.gathered.items ≡ self.old.gathered.items) }
+    {
+        line_of_whole(table, id, body, depth, &mut self.line, &mut self.gathered)
     }
 
     /// Appends the lines of the items, and writes lines as they become many, so that few are held however long they
