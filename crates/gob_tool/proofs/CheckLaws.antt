@@ -277,8 +277,8 @@ stops_piece {bytes = bytes} {piece = piece} {rest = rest} L M e same u f =
     (append_assoc bytes u.front rest ∙ ap (λ (l : List ℕ). bytes ++ l) (sym u.whole)) f)
 
 -- at the error that a `?` returns
-pub counts_all_at : (L : Bounds) (s : Reading CheckBuilder Counts) (n : ℕ) (bytes : List ℕ) (r : Result (Unit {0}) Fault)
-    (e : Fault) → IsErrAnd r (λ x. x ≡ e) → StopsCounting L bytes e → CountsAll L s n bytes r
+pub counts_all_at : (L : Bounds) (s : Reading CheckBuilder Counts) (n : ℕ) (bytes : List ℕ)
+    (r : Result (Unit {0}) Fault) (e : Fault) → IsErrAnd r (λ x. x ≡ e) → StopsCounting L bytes e → CountsAll L s n bytes r
 counts_all_at L s n bytes (Ok u) e is h = absurd is
 counts_all_at L s n bytes (Err g) e is h = subst (λ e. StopsCounting L bytes e) (sym is) h
 
