@@ -11,6 +11,7 @@ pub mod LinesStay
 pub mod GatherLaws
 pub mod ShowLaws
 pub mod ShowWhole
+pub mod ShowFront
 pub mod TakeLaws
 pub mod PieceLaws
 pub mod ReceivedLaws

@@ -76,7 +76,7 @@ types_beyond t = record {
 }
 
 -- the lines by the types that are behind some items of a stream and more
-begins_lines : {L : Bounds} {bytes : List ℕ} {items : List StreamItem} {T : Table} → TypesBehind L bytes items T
+pub begins_lines : {L : Bounds} {bytes : List ℕ} {items : List StreamItem} {T : Table} → TypesBehind L bytes items T
     → (b : BeginsWith base_table L bytes items) → lines T items ≡ lines b.table items
 begins_lines {items = items} t b = same_lines items t.more b.rest t.rest b.stream t.stream (sym b.whole ∙ t.whole)
 
@@ -134,7 +134,7 @@ fewer {L = L} {T = T} items left t = record {
 }
 
 -- some of the items of a stream, with what holds of their lines
-begins_at : {L : Bounds} {bytes : List ℕ} {items : List StreamItem} {T : Table} (P : List ℕ → Type 0)
+pub begins_at : {L : Bounds} {bytes : List ℕ} {items : List StreamItem} {T : Table} (P : List ℕ → Type 0)
     → TypesBehind L bytes items T → P (lines T items) → Begins L bytes P
 begins_at {L = L} {bytes = bytes} {items = items} P t h =
     let f = first_items items t.more t.stream in

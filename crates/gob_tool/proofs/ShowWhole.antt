@@ -37,6 +37,7 @@ pub gathers_whole : {s s' : Reading TreeBuilder Value} {id : TypeId} {body : Lis
     → Counted base_table (no_deeper greatest_depth s.limits) (types s.types) s.taken item z (types s.types)
     → length z ≡ used → GaveItems s' (items ++ item ∷ []) (bytes ++ z))
     → GathersWhole s s' piece before after used
+unfolding whole_of
 gathers_whole {id = id} {used = used} {piece = piece} e b l same f = record {
   item = puts id l.value;
   some = body_some b;

@@ -9,9 +9,12 @@ use Rattle.gob_types.specs.Table.{Table}
 use Rattle.gob_value.specs.declared.value.Value.{Value}
 use Rattle.gob_read.specs.contracts.tree_builder.TreeBuilderBuilder.TheImpl as tree_builder
 use Rattle.gob_read.specs.declared.tree_builder.TreeBuilder.{TreeBuilder}
+use Rattle.gob_stream.specs.declared.fault.Fault.{Fault}
+use Rattle.gob_stream.specs.declared.fault.Fault.TheVariants as reading
+use Rattle.gob_stream.specs.declared.item.Item as declared
 use Rattle.gob_stream.specs.declared.reading.Reading.{Reading}
 use Rattle.gob_stream.specs.Bounds.{Bounds, greatest_depth}
-use Rattle.gob_stream.specs.Item.{StreamItem}
+use Rattle.gob_stream.specs.Item.{StreamItem, item_view}
 use Rattle.gob_stream.specs.Devices.{counts_up}
 use Rattle.gob_stream.specs.Standing.{StandsAfter}
 use Rattle.gob_tool.specs.declared.fault.ToolFault.{ToolFault}
@@ -123,13 +126,29 @@ MayGatherWhole s s' piece before after (Ok (Some used)) = GathersWhole s s' piec
 MayGatherWhole s s' piece before after (Ok None) = (s' ≡ s) × (after ≡ before)
 MayGatherWhole s s' piece before after (Err _) = (s' ≡ s) × (after ≡ before)
 
+-- the line of the item was gathered, if there is one
+abbrev pub GathersGiven : Table → Option (declared.Item Value) → (before after : List ℕ) → Type 0
+GathersGiven T None before after = after ≡ before
+GathersGiven T (Some given) before after = after ≡ before ++ line T (item_view given)
+
+-- why the bytes that were given couldn't all be taken, where the lines of the items before went out or are gathered
+abbrev pub StopsShowing : Bounds → (bytes : List ℕ) → (old new : Option (List ℕ)) → (gathered : List ℕ) → Fault
+    → Type 0
+StopsShowing L bytes old new gathered (reading.Refused R) = IsRefused L bytes R (Gathered old new gathered)
+    × (R.reason ≢ reason.Ended)
+StopsShowing L bytes old new gathered reading.Read = ⊥
+StopsShowing L bytes old new gathered reading.Memory = Begins L bytes (Gathered old new gathered)
+StopsShowing L bytes old new gathered reading.Failed = ⊥
+
 -- what taking the front of a piece answers, behind these bytes
 abbrev pub TakesFront : Bounds → (s : Reading TreeBuilder Value) → (bytes piece : List ℕ) → (old new : Option (List ℕ))
-    → (gathered : List ℕ) → Result ℕ ToolFault → Type 0
+    → (gathered : List ℕ) → Result ℕ Fault → Type 0
 TakesFront L s bytes piece old new gathered (Ok used) = StandsBehind s (bytes ++ take used piece) old new gathered
-TakesFront L s bytes piece old new gathered (Err f) = TakesPiece L s (bytes ++ piece) old new gathered (Err f)
+TakesFront L s bytes piece old new gathered (Err e) = StopsShowing L (bytes ++ piece) old new gathered e
 
--- the count rises where a write failed, whatever is answered else
-abbrev pub CountsFrontWrites : (failures failures' : ℕ) → Result ℕ ToolFault → Type 0
-CountsFrontWrites failures failures' (Err fault.Write) = failures' ≡ counts_up failures 1
-CountsFrontWrites failures failures' _ = failures' ≡ failures
+-- the front of the piece was taken, up to the rest
+pub record StandsUpTo (s : Reading TreeBuilder Value) (bytes piece rest : List ℕ) (old new : Option (List ℕ))
+    (gathered : List ℕ) : Type 0 where
+  pub front : List ℕ
+  pub whole : piece ≡ front ++ rest
+  pub behind : StandsBehind s (bytes ++ front) old new gathered

@@ -4,13 +4,13 @@ ghost use Rattle.std.specs.Prelude.{◌≡◌, ◌++◌, ◌≤◌, ◌↔◌, [
 ghost use Rattle.gob_stream.specs.Item.{item_view, item_views};
 ghost use Rattle.gob_tool.specs.Line.{line};
 ghost use Rattle.gob_tool.specs.TextWhole.{LineOfWhole};
-ghost use Rattle.gob_tool.specs.Gathering.{Writes, Passes, Gathers, CountsWrites, CountsOnlyWrites};
+ghost use Rattle.gob_tool.specs.Gathering.{Writes, Passes, Gathers, GathersGiven, CountsWrites, CountsOnlyWrites};
 
 use crate::fault::ToolFault;
 use crate::item_json::write_item;
 use crate::text::line_of_whole;
 use gob_num::Memory;
-use gob_stream::{Item, Output};
+use gob_stream::{Item, Output, Step};
 use gob_types::{Shapes, TypeId};
 use gob_value::Value;
 use json::Writer;
@@ -61,6 +61,23 @@ impl Lines {
         self.line.push(b'\n')?;
         self.gathered.extend_from_slice(&self.line)?;
         Ok(())
+    }
+
+    /// Appends the line of the item that a step gave, if it gave one. After an error the lines are as before.
+    pub(crate) fn push_given<S: Shapes>(
+        &mut self,
+        alloc: Global,
+        step: &Step<Value>,
+        table: &S,
+    ) -> Result<(), Memory>
+        ensures ok { OnOk result (GathersGiven (S.table table.now) step.now.item
+            self.old.gathered.items self.new.gathered.items) }
+        ensures err { OnErr result (self.new.gathered.items ≡ self.old.gathered.items) }
+    {
+        match &step.item {
+            Some(item) => self.push(alloc, item, table),
+            None => Ok(()),
+        }
     }
 
     /// Appends the line of the item that puts the value of the type that the body spells. False says nothing of the

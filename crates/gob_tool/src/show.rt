@@ -6,14 +6,14 @@ ghost use Rattle.gob_stream.specs.Item.{StreamItem};
 ghost use Rattle.gob_tool.specs.Showing.{Runs, Shows, AppendsFront, CountsReadFaults, CountsWriteFaults};
 ghost use Rattle.gob_stream.specs.Bounds.{within_trees};
 ghost use Rattle.gob_tool.specs.Gathering.{Gathered, GaveItems, StandsBehind, TakesPiece};
-ghost use Rattle.gob_tool.specs.Gathering.{CountsOnlyReads, CountsOnlyWrites, CountsFrontWrites};
+ghost use Rattle.gob_tool.specs.Gathering.{CountsOnlyReads, CountsOnlyWrites};
 ghost use Rattle.gob_tool.specs.Gathering.{MayGatherWhole, TakesFront};
 
 use crate::fault::ToolFault;
 use crate::lines::Lines;
 use gob_num::Memory;
 use gob_read::TreeBuilder;
-use gob_stream::{Input, Limits, Output, Session};
+use gob_stream::{Fault, Input, Limits, Output, Session};
 use std::alloc::Global;
 use std::io::{Read, Write};
 
@@ -71,7 +71,15 @@ fn show_items<R: Read, W: Write>(
 {
     let mut buffer = vec![in alloc; 0; PIECE].map_err(Memory::from)?;
     let mut session = Session::<TreeBuilder>::new(alloc, limits)?;
-    let shown = show_pieces(alloc, input, output, limits.depth(), &mut session, &mut buffer, lines);
+    let shown = show_pieces(
+        alloc,
+        input,
+        output,
+        limits.depth(),
+        &mut session,
+        &mut buffer,
+        lines,
+    );
     drop(session);
     shown
 }
@@ -100,9 +108,7 @@ fn show_pieces<R: Read, W: Write>(
     'pieces: loop {
         match input.read(buffer) {
             Ok(0) => return Ok(session.finish()?),
-            Ok(count) => {
-                show_piece(alloc, &buffer[..count], depth, session, lines, output)?
-            }
+            Ok(count) => { show_piece(alloc, &buffer[..count], depth, session, lines, output)? }
             Err(_) => return Err(ToolFault::Read),
         }
     }
@@ -128,7 +134,8 @@ fn show_piece<W: Write>(
 {
     let mut rest = piece;
     while !rest.is_empty() {
-        let used = show_front(alloc, rest, depth, session, lines, output)?;
+        let used = show_front(alloc, rest, depth, session, lines)?;
+        lines.write_many(output)?;
         rest = &rest[used..];
     }
     Ok(())
@@ -136,30 +143,25 @@ fn show_piece<W: Write>(
 
 /// Takes bytes from the front of the piece, none behind the end of an item, and gathers the line of the item that is
 /// whole with them. Answers how many it took, one at least.
-fn show_front<W: Write>(
+fn show_front(
     alloc: Global,
     piece: &[u8],
     depth: u64,
     session: &mut Session<TreeBuilder>,
     lines: &mut Lines,
-    output: &mut Output<W>,
-) -> Result<usize, ToolFault>
+) -> Result<usize, Fault>
     requires some { 0 < length piece.now }
     requires depth { depth ≡ session.old.reading.limits.depth }
-    ensures shown { (bytes : List ℕ) (start : Option (List ℕ))
-        → StandsBehind session.old.reading bytes start (W.contents output.old.writer) lines.old.gathered.items
+    ensures shown { (bytes : List ℕ) (start now : Option (List ℕ))
+        → StandsBehind session.old.reading bytes start now lines.old.gathered.items
         → TakesFront (within_trees session.old.reading.limits) session.new.reading bytes piece.now
-        start (W.contents output.new.writer) lines.new.gathered.items result }
+        start now lines.new.gathered.items result }
     ensures used { IfOk result (λ used. (0 < used) × (used ≤ length piece.now)) }
     ensures limits { session.new.reading.limits ≡ session.old.reading.limits }
-    ensures writes { CountsFrontWrites output.old.failures output.new.failures result }
 {
     match show_whole(piece, depth, session, lines)? {
-        Some(used) => {
-            lines.write_many(output)?;
-            Ok(used)
-        }
-        None => show_step(alloc, piece, session, lines, output),
+        Some(used) => Ok(used),
+        None => show_step(alloc, piece, session, lines),
     }
 }
 
@@ -188,30 +190,24 @@ fn show_whole(
 }
 
 /// The same by a step of the session, which builds the value.
-fn show_step<W: Write>(
+fn show_step(
     alloc: Global,
     piece: &[u8],
     session: &mut Session<TreeBuilder>,
     lines: &mut Lines,
-    output: &mut Output<W>,
-) -> Result<usize, ToolFault>
+) -> Result<usize, Fault>
     requires some { 0 < length piece.now }
-    ensures shown { (bytes : List ℕ) (start : Option (List ℕ))
-        → StandsBehind session.old.reading bytes start (W.contents output.old.writer) lines.old.gathered.items
+    ensures shown { (bytes : List ℕ) (start now : Option (List ℕ))
+        → StandsBehind session.old.reading bytes start now lines.old.gathered.items
         → TakesFront (within_trees session.old.reading.limits) session.new.reading bytes piece.now
-        start (W.contents output.new.writer) lines.new.gathered.items result }
+        start now lines.new.gathered.items result }
     ensures used { IfOk result (λ used. (0 < used) × (used ≤ length piece.now)) }
     ensures limits { session.new.reading.limits ≡ session.old.reading.limits }
-    ensures writes { CountsFrontWrites output.old.failures output.new.failures result }
 {
     let step = session.step(alloc, piece)?;
     let used = step.used;
-    match &step.item {
-        Some(item) => {
-            lines.push(alloc, item, session.table())?;
-            lines.write_many(output)?;
-            Ok(used)
-        }
-        None => Ok(used),
-    }
+    let pushed = lines.push_given(alloc, &step, session.table());
+    drop(step);
+    pushed?;
+    Ok(used)
 }
