@@ -1,25 +1,20 @@
 -- How a run that gathers lines goes on from item to item of a piece.
-use Rattle.std.proofs.Common.{◌≡◌, ℕ, arith, List, [], ◌∷◌, ◌++◌, length, take, drop, Option, Some, None, Result}
+use Rattle.std.proofs.Common.{◌≡◌, ℕ, arith, List, [], ◌∷◌, ◌++◌, length, take, drop, Option, Result}
 use Rattle.std.proofs.Common.{Ok, Err, ◌∙◌, ap, sym, subst, append_assoc, append-nil, take-append-drop, refl}
 use Rattle.std.specs.Result.{IsErrAnd}
-use Rattle.std.specs.Io.KnownBytes.{Appends}
 use Rattle.std.proofs.KnownBytes.{Appends-trans}
-use Rattle.gob_num.specs.declared.memory.Memory.{Memory}
 use Rattle.gob_types.specs.Base.{base_table}
 use Rattle.gob_types.specs.Defined.{types}
-use Rattle.gob_types.specs.Table.{Table}
 use Rattle.gob_value.specs.declared.value.Value.{Value}
 use Rattle.gob_read.specs.contracts.tree_builder.TreeBuilderBuilder.TheImpl as tree_builder
 use Rattle.gob_read.specs.declared.tree_builder.TreeBuilder.{TreeBuilder}
 use Rattle.gob_stream.specs.declared.fault.Fault.{Fault}
 use Rattle.gob_stream.specs.declared.fault.Fault.TheVariants as reading
-use Rattle.gob_stream.specs.declared.fault.Refusal.{Refusal}
 use Rattle.gob_stream.specs.declared.item.Item as declared
 use Rattle.gob_stream.specs.declared.reading.Reading.{Reading}
 use Rattle.gob_stream.specs.Bounds.{Bounds, greatest_depth, within_trees}
 use Rattle.gob_stream.specs.Item.{StreamItem, item_view, mean_none, mean_more}
 use Rattle.gob_stream.specs.ReadParts.{Advances, AdvancesOver, over_some, over_item}
-use Rattle.gob_stream.specs.Reading.{IsShown}
 use Rattle.gob_stream.specs.Stream.{Stream}
 use Rattle.gob_stream.proofs.PublicLaws.{views_meant}
 use Rattle.gob_tool.specs.declared.fault.ToolFault.{ToolFault}
@@ -90,7 +85,8 @@ module _ {s s' : Reading TreeBuilder Value} {bytes : List ℕ} {old new : Option
   -- no item is whole with the bytes
   none_more : (z : List ℕ) → GaveItems s' b.items (bytes ++ z) → StandsBehind s' (bytes ++ z) old new gathered
   none_more z a =
-      let kept = lines_once b.items (b.gave.under_way ++ z) a.under_way b.gave.stream (stream_so a) (in_two_ways z a) in
+      let kept = lines_once b.items (b.gave.under_way ++ z) a.under_way b.gave.stream (stream_so a)
+      (in_two_ways z a) in
       record {
         items = b.items;
         gave = a;
@@ -201,15 +197,16 @@ pub up_to_more : {s s' : Reading TreeBuilder Value} {bytes piece rest later : Li
     → (u : StandsUpTo s bytes piece rest old mid gathered)
     → StandsBehind s' ((bytes ++ u.front) ++ take used rest) old mid pushed → PassesSome mid new pushed after
     → StandsUpTo s' bytes piece later old new after
-up_to_more {s' = s'} {bytes = bytes} {rest = rest} {later = later} {old = old} {new = new} {after = after} used so u b p = record {
-  front = u.front ++ take used rest;
-  whole = u.whole
-      ∙ ap (λ (l : List ℕ). u.front ++ l)
-      (sym (take-append-drop used rest) ∙ ap (λ (l : List ℕ). take used rest ++ l) (sym so))
-      ∙ sym (append_assoc u.front (take used rest) later);
-  behind = subst (λ (l : List ℕ). StandsBehind s' l old new after) (append_assoc bytes u.front (take used rest))
-      (stands_on b p);
-}
+up_to_more {s' = s'} {bytes = bytes} {rest = rest} {later = later} {old = old} {new = new} {after = after} used so u b
+    p = record {
+      front = u.front ++ take used rest;
+      whole = u.whole
+          ∙ ap (λ (l : List ℕ). u.front ++ l)
+          (sym (take-append-drop used rest) ∙ ap (λ (l : List ℕ). take used rest ++ l) (sym so))
+          ∙ sym (append_assoc u.front (take used rest) later);
+      behind = subst (λ (l : List ℕ). StandsBehind s' l old new after) (append_assoc bytes u.front (take used rest))
+          (stands_on b p);
+    }
 
 -- all of the piece was taken
 pub up_to_all : {s : Reading TreeBuilder Value} {bytes piece rest : List ℕ} {old new : Option (List ℕ)}
@@ -251,7 +248,8 @@ pub rest_cut : {s s' : Reading TreeBuilder Value} {bytes piece rest : List ℕ} 
     → (u : StandsUpTo s bytes piece rest old mid gathered)
     → StandsBehind s' ((bytes ++ u.front) ++ take used rest) old mid pushed → f ≡ fault.Write
     → AppendsFront mid new pushed → TakesPiece (within_trees M) s' (bytes ++ piece) old new after (Err f)
-rest_cut {s' = s'} {bytes = bytes} {piece = piece} {rest = rest} {old = old} {new = new} used after M f same u b write cut =
+rest_cut {s' = s'} {bytes = bytes} {piece = piece} {rest = rest} {old = old} {new = new} used after M f same u b write
+    cut =
     let all : ((bytes ++ u.front) ++ take used rest) ++ drop used rest ≡ bytes ++ piece =
     append_assoc (bytes ++ u.front) (take used rest) (drop used rest)
     ∙ ap (λ (l : List ℕ). (bytes ++ u.front) ++ l) (take-append-drop used rest) ∙ whole_again u in

@@ -1,5 +1,5 @@
 -- The line of a whole item at the front of a piece is gathered, and the reader goes past the item.
-use Rattle.std.proofs.Common.{◌≡◌, ℕ, ◌+◌, ◌<◌, ◌≤◌, List, [], ◌∷◌, ◌++◌, length, take, min, arith, ap, length-append}
+use Rattle.std.proofs.Common.{◌≡◌, ℕ, ◌<◌, List, [], ◌∷◌, ◌++◌, length, take, min, arith, ap, length-append}
 use Rattle.std.proofs.lemmas.List.{length-take-le}
 use Rattle.gob_num.proofs.PublicLaws.{unsigned_length}
 use Rattle.gob_types.specs.declared.id.TypeId.{TypeId}
@@ -13,8 +13,8 @@ use Rattle.gob_stream.specs.declared.reading.Reading.{Reading}
 use Rattle.gob_stream.specs.Bounds.{Bounds, no_deeper, greatest_depth}
 use Rattle.gob_stream.specs.Item.{StreamItem, puts}
 use Rattle.gob_stream.specs.Stream.{Counted}
-use Rattle.gob_stream.specs.Whole.{HasBody, HasItem}
-use Rattle.gob_stream.proofs.WholeSteps.{whole_item, has_item}
+use Rattle.gob_stream.specs.Whole.{HasBody}
+use Rattle.gob_stream.proofs.WholeSteps.{whole_item}
 use Rattle.gob_tool.specs.TextWhole.{LineOfWhole}
 use Rattle.gob_tool.specs.Gathering.{GaveItems, GathersWhole}
 

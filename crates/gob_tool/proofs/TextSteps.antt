@@ -7,7 +7,7 @@ use Rattle.std.specs.Prelude.{slice_get}
 use Rattle.std.specs.Fmt.{decimal}
 use Rattle.std.proofs.lemmas.Bool.{lt-ltb}
 use Rattle.std.proofs.lemmas.List.{drop-drop, take-append-drop, length-drop, length-take-le}
-use Rattle.serde_json.specs.Data.{Data, boolean, null, array, Items, item}
+use Rattle.serde_json.specs.Data.{Data, boolean, null, array}
 use Rattle.serde_json.specs.Written.{comma_if, compact_text, items_text}
 use Rattle.gob_num.specs.Unsigned.{IsUnsigned}
 use Rattle.gob_num.specs.Signed.{IsSigned}
@@ -31,7 +31,7 @@ use Rattle.gob_tool.specs.Json.{field_name, field_type, integer_json}
 use Rattle.gob_tool.specs.Json.{natural_json, pattern_json, pair_json, triple_json}
 use Rattle.gob_tool.specs.Json.{hex_json, text_json, opaque_json}
 use Rattle.gob_tool.specs.Whole.{Stands, BeginsNumber}
-use Rattle.gob_tool.specs.TextWhole.{IsOfKind, TextOfKind, TextOfEach, TextOfPairs, TextOfFields, BeginsThese}
+use Rattle.gob_tool.specs.TextWhole.{TextOfKind, TextOfEach, TextOfPairs, TextOfFields, BeginsThese}
 
 -- an answer of a place, if any
 pub if_ok : {A E : Type 0} {P Q : A → Type 0} (r : Result A E) → ((x : A) → P x → Q x) → IfOk r P → IfOk r Q

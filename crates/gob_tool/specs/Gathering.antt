@@ -55,26 +55,6 @@ abbrev pub Passes : (old new : Option (List ℕ)) → (before after : List ℕ) 
 Passes old new before after (Ok _) = PassesSome old new before after
 Passes old new before after (Err e) = (e ≡ fault.Write) × AppendsFront old new before
 
--- the lines of the first ones of the items were gathered behind what was, and some of all that went out
-pub record GathersFirst (T : Table) (items : List StreamItem) (old new : Option (List ℕ)) (before after : List ℕ) : Type
-    0 where
-  pub first : List StreamItem
-  pub left : List StreamItem
-  pub whole : items ≡ first ++ left
-  pub passes : PassesSome old new (before ++ lines T first) after
-
--- the lines of the items were gathered, or of the first ones where memory was wanting
-abbrev pub Gathers : Table → List StreamItem → (old new : Option (List ℕ)) → (before after : List ℕ)
-    → Result (Unit {0}) ToolFault → Type 0
-Gathers T items old new before after (Ok _) = PassesSome old new (before ++ lines T items) after
-Gathers T items old new before after (Err (fault.Refused r)) = ⊥
-Gathers T items old new before after (Err (fault.Wanted r)) = ⊥
-Gathers T items old new before after (Err fault.NoWantedType) = ⊥
-Gathers T items old new before after (Err (fault.Clash path reason)) = ⊥
-Gathers T items old new before after (Err fault.Read) = ⊥
-Gathers T items old new before after (Err fault.Write) = AppendsFront old new (before ++ lines T items)
-Gathers T items old new before after (Err fault.Memory) = GathersFirst T items old new before after
-
 -- what taking a piece answers, with which the reader took these bytes, under these limits
 abbrev pub TakesPiece : Bounds → (s : Reading TreeBuilder Value) → (bytes : List ℕ) → (old new : Option (List ℕ))
     → (gathered : List ℕ) → Result (Unit {0}) ToolFault → Type 0

@@ -1,6 +1,6 @@
 -- A value that stands whole at the front of a piece of a stream, no deeper than a limit, what stands behind it, and its
 -- text: what was appended is the compact text of the value's JSON. (docs/FORMAT.md, Values; Depth; The JSON lines.)
-use Rattle.std.specs.Prelude.{◌≡◌, ℕ, ◌+◌, ◌≤◌, List, ◌∷◌, [], ◌++◌, Bool, Some, codes, length, slice_get}
+use Rattle.std.specs.Prelude.{◌≡◌, ℕ, ◌≤◌, List, ◌++◌, Bool, Some, codes, length, slice_get}
 use Rattle.std.specs.Fmt.{decimal}
 use Rattle.serde_json.specs.Written.{compact_text, items_text}
 use Rattle.gob_num.specs.Unsigned.{IsUnsigned}

@@ -1,10 +1,10 @@
 //! Lines that wait to be written.
 
 ghost use Rattle.std.specs.Prelude.{◌≡◌, ◌++◌, ◌≤◌, ◌↔◌, [], IsTrue, IfOk, OnOk, OnErr, false};
-ghost use Rattle.gob_stream.specs.Item.{item_view, item_views};
+ghost use Rattle.gob_stream.specs.Item.{item_view};
 ghost use Rattle.gob_tool.specs.Line.{line};
 ghost use Rattle.gob_tool.specs.TextWhole.{LineOfWhole};
-ghost use Rattle.gob_tool.specs.Gathering.{Writes, Passes, Gathers, GathersGiven, CountsWrites, CountsOnlyWrites};
+ghost use Rattle.gob_tool.specs.Gathering.{Writes, Passes, GathersGiven, CountsWrites};
 
 use crate::fault::ToolFault;
 use crate::item_json::write_item;
@@ -95,26 +95,6 @@ impl Lines {
         ensures err { OnErr result (self.new.gathered.items ≡ self.old.gathered.items) }
     {
         line_of_whole(table, id, body, depth, &mut self.line, &mut self.gathered)
-    }
-
-    /// Appends the lines of the items, and writes lines as they become many, so that few are held however long they
-    /// are. After an error the lines of the first items are written or appended, or a front of them is written.
-    pub(crate) fn show<S: Shapes, W: Write>(
-        &mut self,
-        alloc: Global,
-        items: &[Item<Value>],
-        table: &S,
-        output: &mut Output<W>,
-    ) -> Result<(), ToolFault>
-        ensures gathered { Gathers (S.table table.now) (item_views items.now) (W.contents output.old.writer)
-            (W.contents output.new.writer) self.old.gathered.items self.new.gathered.items result }
-        ensures counted { CountsOnlyWrites output.old.failures output.new.failures result }
-    {
-        for item in items {
-            self.push(alloc, item, table)?;
-            self.write_many(output)?;
-        }
-        Ok(())
     }
 
     /// Writes the lines if there are enough of them to be worth a write. After an error a front of them is

@@ -108,7 +108,7 @@ fn show_pieces<R: Read, W: Write>(
     'pieces: loop {
         match input.read(buffer) {
             Ok(0) => return Ok(session.finish()?),
-            Ok(count) => { show_piece(alloc, &buffer[..count], depth, session, lines, output)? }
+            Ok(count) => show_piece(alloc, &buffer[..count], depth, session, lines, output)?,
             Err(_) => return Err(ToolFault::Read),
         }
     }

@@ -1,5 +1,5 @@
 -- What a step gave is gathered behind the lines before, and a refusal leaves them as they are.
-use Rattle.std.proofs.Common.{◌≡◌, List, ℕ, Option, ap, subst, refl}
+use Rattle.std.proofs.Common.{ap, subst}
 use Rattle.gob_types.specs.Defined.{types}
 use Rattle.gob_types.specs.Table.{Table}
 use Rattle.gob_stream.specs.declared.fault.Fault.TheVariants as reading

@@ -1,5 +1,5 @@
 -- The room held nothing, and holds the line then.
-use Rattle.std.proofs.Common.{◌++◌, ◌∙◌, ap, rules}
+use Rattle.std.proofs.Common.{◌++◌, ◌∙◌, ap}
 use Rattle.gob_tool.proofs.LineLaws.{whole_line}
 use Rattle.gob_tool.proofs.text.whole.line_of_whole.Goals as goal
 
