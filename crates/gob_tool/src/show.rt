@@ -12,16 +12,13 @@ ghost use Rattle.gob_tool.specs.Gathering.{MayGatherWhole, TakesFront};
 use crate::fault::ToolFault;
 use crate::lines::Lines;
 use gob_num::Memory;
-use gob_read::TreeBuilder;
+use gob_read::{Builder, TreeBuilder};
 use gob_stream::{Fault, Input, Limits, Output, Session};
 use std::alloc::Global;
 use std::io::{Read, Write};
 
 // How many bytes are asked of the input at a time.
 const PIECE: usize = 65536;
-
-// No value is shown that is deeper, whatever the limits allow.
-const MOST_DEPTH: u64 = 1000;
 
 /// Writes the JSON line of each item of a stream, and nothing else, and ends with a flush. Ok exactly at the
 /// end of a whole stream. Before a fault is answered the lines of the items before it are written; at
@@ -181,7 +178,7 @@ fn show_whole(
     let Some(whole) = session.whole_value(piece) else {
         return Ok(None);
     };
-    let most = depth.min(MOST_DEPTH);
+    let most = depth.min(TreeBuilder::DEPTH);
     if !lines.push_whole(session.table(), whole.id, whole.body, most)? {
         return Ok(None);
     }
