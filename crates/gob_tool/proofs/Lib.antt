@@ -10,6 +10,8 @@ pub mod FrontLaws
 pub mod LinesStay
 pub mod GatherLaws
 pub mod ShowLaws
+pub mod ShowWhole
+pub mod ShowFront
 pub mod TakeLaws
 pub mod PieceLaws
 pub mod ReceivedLaws

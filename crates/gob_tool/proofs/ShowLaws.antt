@@ -10,31 +10,27 @@ use Rattle.gob_types.specs.Table.{Table}
 use Rattle.gob_types.specs.Base.{base_table}
 use Rattle.gob_types.specs.Defined.{types}
 use Rattle.gob_value.specs.declared.value.Value.{Value}
-use Rattle.gob_read.specs.contracts.tree_builder.TreeBuilderBuilder.TheImpl as tree_builder
 use Rattle.gob_read.specs.declared.tree_builder.TreeBuilder.{TreeBuilder}
 use Rattle.gob_stream.specs.declared.fault.Refusal.{Refusal}
 use Rattle.gob_stream.specs.declared.fault.Fault.{Fault}
 use Rattle.gob_stream.specs.declared.fault.Fault.TheVariants as reading
-use Rattle.gob_stream.specs.declared.item.Item as declared
 use Rattle.gob_stream.specs.declared.reading.Reading.{Reading}
 use Rattle.gob_stream.specs.Bounds.{Bounds, greatest_depth, within_trees}
-use Rattle.gob_stream.specs.Item.{StreamItem, item_views}
+use Rattle.gob_stream.specs.Item.{StreamItem}
 use Rattle.gob_stream.specs.Stream.{Stream, no_more}
 use Rattle.gob_stream.specs.Outcome.{BeginsWith, the_end, EndsSo, at_the_end}
-use Rattle.gob_stream.specs.Reading.{GivesOn, SomeTaken, Taken, HasTypesBehind, HasTypesBeyond, IsShown, Feeds}
+use Rattle.gob_stream.specs.Reading.{SomeTaken, Taken, HasTypesBehind, HasTypesBeyond, IsShown}
 use Rattle.gob_stream.specs.Reading.{Finishes}
 use Rattle.gob_stream.proofs.PublicLaws.{after_gives, one_table, shown_there, shown_refusal_stays, stands_within}
-use Rattle.gob_stream.proofs.PublicLaws.{views_meant}
 use Rattle.gob_tool.specs.declared.fault.ToolFault.{ToolFault}
 use Rattle.gob_tool.specs.declared.fault.ToolFault.TheVariants as fault
 use Rattle.gob_tool.specs.Line.{lines}
 use Rattle.gob_tool.specs.Fault.{reading_fault}
 use Rattle.gob_tool.specs.Showing.{EndsWhole, IsRefused, Gives, Begins, Runs, AppendsFront}
-use Rattle.gob_tool.specs.Gathering.{Gathered, GaveItems, StandsBehind, StandsIn, PassesSome, Gathers, TakesPiece}
+use Rattle.gob_tool.specs.Gathering.{Gathered, GaveItems, StandsBehind, StandsIn, TakesPiece}
 use Rattle.gob_tool.specs.Gathering.{CountsOnlyReads}
 use Rattle.gob_tool.specs.Pieces.{TypesBehind}
 use Rattle.gob_tool.proofs.LinesStay.{lines_stay, first_items}
-use Rattle.gob_tool.proofs.GatherLaws.{lines_append}
 
 -- ---- lines of the items of a stream
 pub lines_once : {L : Bounds} {U V : Table} {f g : List ℕ} (items : List StreamItem) (x y : List ℕ)
@@ -76,15 +72,9 @@ types_beyond t = record {
 }
 
 -- the lines by the types that are behind some items of a stream and more
-begins_lines : {L : Bounds} {bytes : List ℕ} {items : List StreamItem} {T : Table} → TypesBehind L bytes items T
+pub begins_lines : {L : Bounds} {bytes : List ℕ} {items : List StreamItem} {T : Table} → TypesBehind L bytes items T
     → (b : BeginsWith base_table L bytes items) → lines T items ≡ lines b.table items
 begins_lines {items = items} t b = same_lines items t.more b.rest t.rest b.stream t.stream (sym b.whole ∙ t.whole)
-
--- the lines of what was given behind the others
-lines_given : (T : Table) (items : List StreamItem) (given : List (declared.Item Value)) (more : List StreamItem)
-    → item_views given ≡ more → lines T items ++ lines T (item_views given) ≡ lines T (items ++ more)
-lines_given T items given more e = ap (λ (l : List StreamItem). lines T items ++ lines T l) e
-    ∙ sym (lines_append T items more)
 
 -- ---- what goes out, and what is gathered
 pub gathered_grown : (old mid new : Option (List ℕ)) (gathered more after all : List ℕ) → Gathered old mid gathered all
@@ -108,10 +98,12 @@ front_grown old mid new gathered more all g f = record {
 
 pub front_out : (old mid new : Option (List ℕ)) (gathered all : List ℕ) → Gathered old mid gathered all
     → AppendsFront mid new gathered → AppendsFront old new all
-front_out old mid new gathered all g f =
-    subst (λ (l : List ℕ). AppendsFront old new l) (append-nil all)
-    (front_grown old mid new gathered [] all g
-    (subst (λ (l : List ℕ). AppendsFront mid new l) (sym (append-nil gathered)) f))
+front_out old mid new gathered all g f = record {
+  front = g.written ++ f.front;
+  rest = f.rest;
+  whole = sym g.whole ∙ ap (λ (l : List ℕ). g.written ++ l) f.whole ∙ sym (append_assoc g.written f.front f.rest);
+  out = Appends-trans old mid new g.written f.front g.out f.out;
+}
 
 pub all_out : (old mid new : Option (List ℕ)) (gathered all : List ℕ) → Gathered old mid gathered all
     → Appends mid new gathered → Appends old new all
@@ -122,19 +114,8 @@ pub whole_front : (old new : Option (List ℕ)) (all : List ℕ) → Appends old
 whole_front old new all a = record { front = all; rest = []; whole = sym (append-nil all); out = a }
 
 -- ---- a piece
--- the types behind more items are behind the first of them and the others
-fewer : {L : Bounds} {bytes : List ℕ} {T : Table} (items left : List StreamItem) → TypesBehind L bytes (items ++ left) T
-    → TypesBehind L bytes items T
-fewer {L = L} {T = T} items left t = record {
-  more = left ++ t.more;
-  front = t.front;
-  rest = t.rest;
-  stream = subst (λ (l : List StreamItem). Stream base_table L l t.front T) (append_assoc items left t.more) t.stream;
-  whole = t.whole;
-}
-
 -- some of the items of a stream, with what holds of their lines
-begins_at : {L : Bounds} {bytes : List ℕ} {items : List StreamItem} {T : Table} (P : List ℕ → Type 0)
+pub begins_at : {L : Bounds} {bytes : List ℕ} {items : List StreamItem} {T : Table} (P : List ℕ → Type 0)
     → TypesBehind L bytes items T → P (lines T items) → Begins L bytes P
 begins_at {L = L} {bytes = bytes} {items = items} P t h =
     let f = first_items items t.more t.stream in
@@ -155,114 +136,6 @@ pub piece_at : (L : Bounds) (s : Reading TreeBuilder Value) (bytes : List ℕ) (
     → TakesPiece L s bytes old new gathered (Err f) → TakesPiece L s bytes old new gathered r
 piece_at L s bytes old new gathered (Ok u) f e h = absurd e
 piece_at L s bytes old new gathered (Err g) f e h = subst (λ f. TakesPiece L s bytes old new gathered (Err f)) (sym e) h
-
--- a reader took a piece and gave these items, while a run stood behind the bytes before
-module _ (s s' : Reading TreeBuilder Value) (bytes piece : List ℕ) (given : List (declared.Item Value))
-    (old mid new : Option (List ℕ)) (gathered after : List ℕ)
-    (same : s'.limits ≡ s.limits) (b : StandsBehind s bytes old mid gathered) where
-  -- wherever it stops, the types are those behind what it gave, and perhaps behind more
-  fed_types : (r : Result (Unit {0}) Fault) → Feeds tree_builder.stands-value.it tree_builder.stands-value.it
-      tree_builder.means-value.it greatest_depth s s' b.items bytes piece given r
-      → GivesOn tree_builder.means-value.it given b.items
-      (λ all. TypesBehind (within_trees s.limits) (bytes ++ piece) all (types s'.types))
-  fed_types (Ok u) f = record {
-    more = f.more;
-    mean = f.mean;
-    holds = types_behind (record {
-      front = f.holds.front;
-      rest = f.holds.under_way;
-      stream = subst (λ (L : Bounds). Stream base_table (within_trees L) (b.items ++ f.more) f.holds.front
-          (types s'.types)) same f.holds.stream;
-      whole = f.holds.whole;
-    });
-  }
-  fed_types (Err (reading.Refused R)) f = record { more = f.0.more; mean = f.0.mean; holds = types_behind f.0.holds.1 }
-  fed_types (Err reading.Read) f = absurd f
-  fed_types (Err reading.Memory) f = record { more = f.more; mean = f.mean; holds = types_beyond f.holds.1 }
-  fed_types (Err reading.Failed) f = absurd f
-
-  -- what was gathered before, by the types of now
-  by_types_of_now : (more : List StreamItem) → TypesBehind (within_trees s.limits) (bytes ++ piece) (b.items ++ more)
-      (types s'.types) → Gathered old mid gathered (lines (types s'.types) b.items)
-  by_types_of_now more t =
-      let longer = subst (λ (l : List StreamItem). Stream base_table (within_trees s.limits) l t.front (types s'.types))
-      (append_assoc b.items more t.more) t.stream in
-      let whole = sym (append_assoc b.gave.front b.gave.under_way piece)
-      ∙ ap (λ (l : List ℕ). l ++ piece) (sym b.gave.whole) ∙ t.whole in
-      let kept = same_lines b.items (more ++ t.more) (b.gave.under_way ++ piece) t.rest b.gave.stream longer whole in
-      subst (λ (l : List ℕ). Gathered old mid gathered l) (sym kept) b.out
-
-  -- all of their lines were gathered
-  all_gathered : (more : List StreamItem) → item_views given ≡ more
-      → TypesBehind (within_trees s.limits) (bytes ++ piece) (b.items ++ more) (types s'.types)
-      → PassesSome mid new (gathered ++ lines (types s'.types) (item_views given)) after
-      → Gathered old new after (lines (types s'.types) (b.items ++ more))
-  all_gathered more mean t p =
-      let grown = gathered_grown old mid new gathered (lines (types s'.types) (item_views given)) after
-      (lines (types s'.types) b.items) (by_types_of_now more t) p in
-      subst (λ (l : List ℕ). Gathered old new after l) (lines_given (types s'.types) b.items given more mean) grown
-
-  -- memory was wanting for a line, or a write failed
-  pub piece_stopped : (fed : Result (Unit {0}) Fault) (f : ToolFault)
-      → Feeds tree_builder.stands-value.it tree_builder.stands-value.it tree_builder.means-value.it greatest_depth s s'
-      b.items bytes piece given fed
-      → Gathers (types s'.types) (item_views given) mid new gathered after (Err f)
-      → TakesPiece (within_trees s.limits) s' (bytes ++ piece) old new after (Err f)
-  piece_stopped fed (fault.Refused R) f h = absurd h
-  piece_stopped fed (fault.Wanted R) f h = absurd h
-  piece_stopped fed fault.NoWantedType f h = absurd h
-  piece_stopped fed (fault.Clash path reason) f h = absurd h
-  piece_stopped fed fault.Read f h = absurd h
-  piece_stopped fed fault.Write f h =
-      let on = fed_types fed f in
-      let grown = front_grown old mid new gathered (lines (types s'.types) (item_views given))
-      (lines (types s'.types) b.items) (by_types_of_now on.more on.holds) h in
-      begins_at (AppendsFront old new) on.holds
-      (subst (λ (l : List ℕ). AppendsFront old new l)
-      (lines_given (types s'.types) b.items given on.more (views_meant on.mean)) grown)
-  piece_stopped fed fault.Memory f h =
-      let on = fed_types fed f in
-      let first : b.items ++ on.more ≡ (b.items ++ h.first) ++ h.left = ap (λ (l : List StreamItem). b.items ++ l)
-      (sym (views_meant on.mean) ∙ h.whole) ∙ sym (append_assoc b.items h.first h.left) in
-      let t = fewer (b.items ++ h.first) h.left
-      (subst (λ (l : List StreamItem). TypesBehind (within_trees s.limits) (bytes ++ piece) l (types s'.types))
-      first on.holds) in
-      let grown = gathered_grown old mid new gathered (lines (types s'.types) h.first) after
-      (lines (types s'.types) b.items) (by_types_of_now on.more on.holds) h.passes in
-      begins_at (Gathered old new after) t
-      (subst (λ (l : List ℕ). Gathered old new after l) (sym (lines_append (types s'.types) b.items h.first)) grown)
-
-  -- all lines were gathered, and the reader goes on
-  pub piece_taken : (u : Unit {0}) → Feeds tree_builder.stands-value.it tree_builder.stands-value.it
-      tree_builder.means-value.it greatest_depth s s' b.items bytes piece given (Ok u)
-      → PassesSome mid new (gathered ++ lines (types s'.types) (item_views given)) after
-      → StandsBehind s' (bytes ++ piece) old new after
-  unfolding fed_types
-  piece_taken u f p =
-      let on = fed_types (Ok u) f in
-      record { items = b.items ++ f.more; gave = f.holds; out = all_gathered f.more (views_meant f.mean) on.holds p }
-
-  -- or it met a fault
-  pub piece_refused : (e : Fault) → Feeds tree_builder.stands-value.it tree_builder.stands-value.it
-      tree_builder.means-value.it greatest_depth s s' b.items bytes piece given (Err e)
-      → PassesSome mid new (gathered ++ lines (types s'.types) (item_views given)) after
-      → TakesPiece (within_trees s.limits) s' (bytes ++ piece) old new after (Err (reading_fault e))
-  piece_refused (reading.Refused R) f p =
-      let g = f.0 in
-      let shown = g.holds.0 in
-      let t = types_behind g.holds.1 in (
-        record {
-          items = b.items ++ g.more;
-          outcome = shown.outcome;
-          holds = subst (λ (l : List ℕ). Gathered old new after l) (begins_lines t shown.outcome.gives.begins)
-              (all_gathered g.more (views_meant g.mean) t p);
-        },
-        shown.shown,
-      )
-  piece_refused reading.Read f p = absurd f
-  piece_refused reading.Memory f p = let t = types_beyond f.holds.1 in begins_at (Gathered old new after) t
-      (all_gathered f.more (views_meant f.mean) t p)
-  piece_refused reading.Failed f p = absurd f
 
 -- ---- from piece to piece
 pub reads_first : (s : Reading TreeBuilder Value) (read out : Option (List ℕ)) (gathered : List ℕ) → GaveItems s [] []

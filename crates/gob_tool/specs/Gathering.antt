@@ -1,20 +1,25 @@
 -- Where a run stands while lines are gathered. For private clauses.
-use Rattle.std.specs.Prelude.{◌≡◌, ◌≢◌, ℕ, List, ◌++◌, Option, Result, Ok, Err}
+use Rattle.std.specs.Prelude.{◌≡◌, ◌≢◌, ℕ, ◌<◌, ◌≤◌, List, [], ◌∷◌, ◌++◌, length, take, Option, Some, None}
+use Rattle.std.specs.Prelude.{Result, Ok, Err}
 use Rattle.std.specs.Io.KnownBytes.{Appends, Consumes}
+use Rattle.gob_num.specs.declared.memory.Memory.{Memory}
 use Rattle.gob_types.specs.declared.reason.Reason.TheVariants as reason
 use Rattle.gob_types.specs.Defined.{types}
 use Rattle.gob_types.specs.Table.{Table}
 use Rattle.gob_value.specs.declared.value.Value.{Value}
 use Rattle.gob_read.specs.contracts.tree_builder.TreeBuilderBuilder.TheImpl as tree_builder
 use Rattle.gob_read.specs.declared.tree_builder.TreeBuilder.{TreeBuilder}
+use Rattle.gob_stream.specs.declared.fault.Fault.{Fault}
+use Rattle.gob_stream.specs.declared.fault.Fault.TheVariants as reading
+use Rattle.gob_stream.specs.declared.item.Item as declared
 use Rattle.gob_stream.specs.declared.reading.Reading.{Reading}
 use Rattle.gob_stream.specs.Bounds.{Bounds, greatest_depth}
-use Rattle.gob_stream.specs.Item.{StreamItem}
+use Rattle.gob_stream.specs.Item.{StreamItem, item_view}
 use Rattle.gob_stream.specs.Devices.{counts_up}
 use Rattle.gob_stream.specs.Standing.{StandsAfter}
 use Rattle.gob_tool.specs.declared.fault.ToolFault.{ToolFault}
 use Rattle.gob_tool.specs.declared.fault.ToolFault.TheVariants as fault
-use Rattle.gob_tool.specs.Line.{lines}
+use Rattle.gob_tool.specs.Line.{line, lines}
 use Rattle.gob_tool.specs.Showing.{AppendsFront, IsRefused, Begins}
 
 -- what went out, and then what is gathered, are these bytes
@@ -50,26 +55,6 @@ abbrev pub Passes : (old new : Option (List ℕ)) → (before after : List ℕ) 
 Passes old new before after (Ok _) = PassesSome old new before after
 Passes old new before after (Err e) = (e ≡ fault.Write) × AppendsFront old new before
 
--- the lines of the first ones of the items were gathered behind what was, and some of all that went out
-pub record GathersFirst (T : Table) (items : List StreamItem) (old new : Option (List ℕ)) (before after : List ℕ) : Type
-    0 where
-  pub first : List StreamItem
-  pub left : List StreamItem
-  pub whole : items ≡ first ++ left
-  pub passes : PassesSome old new (before ++ lines T first) after
-
--- the lines of the items were gathered, or of the first ones where memory was wanting
-abbrev pub Gathers : Table → List StreamItem → (old new : Option (List ℕ)) → (before after : List ℕ)
-    → Result (Unit {0}) ToolFault → Type 0
-Gathers T items old new before after (Ok _) = PassesSome old new (before ++ lines T items) after
-Gathers T items old new before after (Err (fault.Refused r)) = ⊥
-Gathers T items old new before after (Err (fault.Wanted r)) = ⊥
-Gathers T items old new before after (Err fault.NoWantedType) = ⊥
-Gathers T items old new before after (Err (fault.Clash path reason)) = ⊥
-Gathers T items old new before after (Err fault.Read) = ⊥
-Gathers T items old new before after (Err fault.Write) = AppendsFront old new (before ++ lines T items)
-Gathers T items old new before after (Err fault.Memory) = GathersFirst T items old new before after
-
 -- what taking a piece answers, with which the reader took these bytes, under these limits
 abbrev pub TakesPiece : Bounds → (s : Reading TreeBuilder Value) → (bytes : List ℕ) → (old new : Option (List ℕ))
     → (gathered : List ℕ) → Result (Unit {0}) ToolFault → Type 0
@@ -103,3 +88,47 @@ CountsOnlyReads failures failures' _ = failures' ≡ failures
 abbrev pub CountsOnlyWrites : (failures failures' : ℕ) → Result (Unit {0}) ToolFault → Type 0
 CountsOnlyWrites failures failures' (Err fault.Write) = failures' ≡ counts_up failures 1
 CountsOnlyWrites failures failures' _ = failures' ≡ failures
+
+-- the line of a whole item at the front of a piece was gathered, and the reader is behind the item
+pub record GathersWhole (s s' : Reading TreeBuilder Value) (piece before after : List ℕ) (used : ℕ) : Type 0 where
+  pub item : StreamItem
+  pub some : 0 < used
+  pub within : used ≤ length piece
+  pub line : after ≡ before ++ line (types s.types) item
+  pub same : s'.types ≡ s.types
+  pub passed : (items : List StreamItem) (bytes : List ℕ) → GaveItems s items bytes
+      → GaveItems s' (items ++ item ∷ []) (bytes ++ take used piece)
+
+-- or nothing has changed
+abbrev pub MayGatherWhole : (s s' : Reading TreeBuilder Value) → (piece before after : List ℕ)
+    → Result (Option ℕ) Memory → Type 0
+MayGatherWhole s s' piece before after (Ok (Some used)) = GathersWhole s s' piece before after used
+MayGatherWhole s s' piece before after (Ok None) = (s' ≡ s) × (after ≡ before)
+MayGatherWhole s s' piece before after (Err _) = (s' ≡ s) × (after ≡ before)
+
+-- the line of the item was gathered, if there is one
+abbrev pub GathersGiven : Table → Option (declared.Item Value) → (before after : List ℕ) → Type 0
+GathersGiven T None before after = after ≡ before
+GathersGiven T (Some given) before after = after ≡ before ++ line T (item_view given)
+
+-- why the bytes that were given couldn't all be taken, where the lines of the items before went out or are gathered
+abbrev pub StopsShowing : Bounds → (bytes : List ℕ) → (old new : Option (List ℕ)) → (gathered : List ℕ) → Fault
+    → Type 0
+StopsShowing L bytes old new gathered (reading.Refused R) = IsRefused L bytes R (Gathered old new gathered)
+    × (R.reason ≢ reason.Ended)
+StopsShowing L bytes old new gathered reading.Read = ⊥
+StopsShowing L bytes old new gathered reading.Memory = Begins L bytes (Gathered old new gathered)
+StopsShowing L bytes old new gathered reading.Failed = ⊥
+
+-- what taking the front of a piece answers, behind these bytes
+abbrev pub TakesFront : Bounds → (s : Reading TreeBuilder Value) → (bytes piece : List ℕ) → (old new : Option (List ℕ))
+    → (gathered : List ℕ) → Result ℕ Fault → Type 0
+TakesFront L s bytes piece old new gathered (Ok used) = StandsBehind s (bytes ++ take used piece) old new gathered
+TakesFront L s bytes piece old new gathered (Err e) = StopsShowing L (bytes ++ piece) old new gathered e
+
+-- the front of the piece was taken, up to the rest
+pub record StandsUpTo (s : Reading TreeBuilder Value) (bytes piece rest : List ℕ) (old new : Option (List ℕ))
+    (gathered : List ℕ) : Type 0 where
+  pub front : List ℕ
+  pub whole : piece ≡ front ++ rest
+  pub behind : StandsBehind s (bytes ++ front) old new gathered

@@ -1,15 +1,17 @@
 //! Lines that wait to be written.
 
-ghost use Rattle.std.specs.Prelude.{◌≡◌, ◌++◌, ◌≤◌, ◌↔◌, [], IsTrue, OnOk, OnErr};
-ghost use Rattle.gob_stream.specs.Item.{item_view, item_views};
+ghost use Rattle.std.specs.Prelude.{◌≡◌, ◌++◌, ◌≤◌, ◌↔◌, [], IsTrue, IfOk, OnOk, OnErr, false};
+ghost use Rattle.gob_stream.specs.Item.{item_view};
 ghost use Rattle.gob_tool.specs.Line.{line};
-ghost use Rattle.gob_tool.specs.Gathering.{Writes, Passes, Gathers, CountsWrites, CountsOnlyWrites};
+ghost use Rattle.gob_tool.specs.TextWhole.{LineOfWhole};
+ghost use Rattle.gob_tool.specs.Gathering.{Writes, Passes, GathersGiven, CountsWrites};
 
 use crate::fault::ToolFault;
 use crate::item_json::write_item;
+use crate::text::line_of_whole;
 use gob_num::Memory;
-use gob_stream::{Item, Output};
-use gob_types::Shapes;
+use gob_stream::{Item, Output, Step};
+use gob_types::{Shapes, TypeId};
 use gob_value::Value;
 use json::Writer;
 use std::alloc::Global;
@@ -61,24 +63,38 @@ impl Lines {
         Ok(())
     }
 
-    /// Appends the lines of the items, and writes lines as they become many, so that few are held however long they
-    /// are. After an error the lines of the first items are written or appended, or a front of them is written.
-    pub(crate) fn show<S: Shapes, W: Write>(
+    /// Appends the line of the item that a step gave, if it gave one. After an error the lines are as before.
+    pub(crate) fn push_given<S: Shapes>(
         &mut self,
         alloc: Global,
-        items: &[Item<Value>],
+        step: &Step<Value>,
         table: &S,
-        output: &mut Output<W>,
-    ) -> Result<(), ToolFault>
-        ensures gathered { Gathers (S.table table.now) (item_views items.now) (W.contents output.old.writer)
-            (W.contents output.new.writer) self.old.gathered.items self.new.gathered.items result }
-        ensures counted { CountsOnlyWrites output.old.failures output.new.failures result }
+    ) -> Result<(), Memory>
+        ensures ok { OnOk result (GathersGiven (S.table table.now) step.now.item
+            self.old.gathered.items self.new.gathered.items) }
+        ensures err { OnErr result (self.new.gathered.items ≡ self.old.gathered.items) }
     {
-        for item in items {
-            self.push(alloc, item, table)?;
-            self.write_many(output)?;
+        match &step.item {
+            Some(item) => self.push(alloc, item, table),
+            None => Ok(()),
         }
-        Ok(())
+    }
+
+    /// Appends the line of the item that puts the value of the type that the body spells. False says nothing of the
+    /// body, and the lines are as before; so they are after an error.
+    pub(crate) fn push_whole<S: Shapes>(
+        &mut self,
+        table: &S,
+        id: TypeId,
+        body: &[u8],
+        depth: u64,
+    ) -> Result<bool, Memory>
+        ensures line { IfOk result (λ done. IsTrue done → LineOfWhole (S.table table.now) id depth body.now
+            self.old.gathered.items self.new.gathered.items) }
+        ensures same { IfOk result (λ done. done ≡ false → self.new.gathered.items ≡ self.old.gathered.items) }
+        ensures err { OnErr result (self.new.gathered.items ≡ self.old.gathered.items) }
+    {
+        line_of_whole(table, id, body, depth, &mut self.line, &mut self.gathered)
     }
 
     /// Writes the lines if there are enough of them to be worth a write. After an error a front of them is

@@ -1,19 +1,19 @@
 //! The run that prints a stream.
 
-ghost use Rattle.std.specs.Prelude.{◌≡◌, ◌≢◌, ℕ, ◌<◌, List, [], ◌++◌, length, Option, Some};
+ghost use Rattle.std.specs.Prelude.{◌≡◌, ◌≢◌, ℕ, ◌<◌, ◌≤◌, List, [], ◌++◌, length, Option, Some, IfOk};
 ghost use Rattle.gob_stream.specs.declared.reading.Reading.{Reading};
 ghost use Rattle.gob_stream.specs.Item.{StreamItem};
 ghost use Rattle.gob_tool.specs.Showing.{Runs, Shows, AppendsFront, CountsReadFaults, CountsWriteFaults};
 ghost use Rattle.gob_stream.specs.Bounds.{within_trees};
 ghost use Rattle.gob_tool.specs.Gathering.{Gathered, GaveItems, StandsBehind, TakesPiece};
 ghost use Rattle.gob_tool.specs.Gathering.{CountsOnlyReads, CountsOnlyWrites};
+ghost use Rattle.gob_tool.specs.Gathering.{MayGatherWhole, TakesFront};
 
 use crate::fault::ToolFault;
 use crate::lines::Lines;
 use gob_num::Memory;
-use gob_read::TreeBuilder;
-use gob_stream::{Input, Item, Limits, Output, Session};
-use gob_value::Value;
+use gob_read::{Builder, TreeBuilder};
+use gob_stream::{Fault, Input, Limits, Output, Session};
 use std::alloc::Global;
 use std::io::{Read, Write};
 
@@ -68,7 +68,15 @@ fn show_items<R: Read, W: Write>(
 {
     let mut buffer = vec![in alloc; 0; PIECE].map_err(Memory::from)?;
     let mut session = Session::<TreeBuilder>::new(alloc, limits)?;
-    let shown = show_pieces(alloc, input, output, &mut session, &mut buffer, lines);
+    let shown = show_pieces(
+        alloc,
+        input,
+        output,
+        limits.depth(),
+        &mut session,
+        &mut buffer,
+        lines,
+    );
     drop(session);
     shown
 }
@@ -78,11 +86,13 @@ fn show_pieces<R: Read, W: Write>(
     alloc: Global,
     input: &mut Input<R>,
     output: &mut Output<W>,
+    depth: u64,
     session: &mut Session<TreeBuilder>,
     buffer: &mut [u8],
     lines: &mut Lines,
 ) -> Result<(), ToolFault>
     requires stands { GaveItems session.old.reading [] [] }
+    requires depth { depth ≡ session.old.reading.limits.depth }
     requires room { 0 < length buffer.old }
     requires lines { lines.old.gathered.items ≡ [] }
     ensures shown { (bytes : List ℕ) → R.remaining input.old.reader ≡ Some bytes
@@ -92,28 +102,26 @@ fn show_pieces<R: Read, W: Write>(
     ensures reads { CountsOnlyReads input.old.failures input.new.failures result }
     ensures writes { CountsOnlyWrites output.old.failures output.new.failures result }
 {
-    let mut items = Vec::new(alloc);
     'pieces: loop {
         match input.read(buffer) {
             Ok(0) => return Ok(session.finish()?),
-            Ok(count) => {
-                show_piece(alloc, &buffer[..count], session, &mut items, lines, output)?
-            }
+            Ok(count) => show_piece(alloc, &buffer[..count], depth, session, lines, output)?,
             Err(_) => return Err(ToolFault::Read),
         }
     }
 }
 
 /// Takes a piece of the stream, and gathers the lines of the items that are whole with it, also of those before a
-/// refusal. The room for the items is kept from one piece to the next.
+/// refusal.
 fn show_piece<W: Write>(
     alloc: Global,
     piece: &[u8],
+    depth: u64,
     session: &mut Session<TreeBuilder>,
-    items: &mut Vec<Item<Value>>,
     lines: &mut Lines,
     output: &mut Output<W>,
 ) -> Result<(), ToolFault>
+    requires depth { depth ≡ session.old.reading.limits.depth }
     ensures shown { (bytes : List ℕ) (start : Option (List ℕ))
         → StandsBehind session.old.reading bytes start (W.contents output.old.writer) lines.old.gathered.items
         → TakesPiece (within_trees session.old.reading.limits) session.new.reading (bytes ++ piece.now)
@@ -121,8 +129,82 @@ fn show_piece<W: Write>(
     ensures limits { session.new.reading.limits ≡ session.old.reading.limits }
     ensures writes { CountsOnlyWrites output.old.failures output.new.failures result }
 {
-    items.clear();
-    let fed = session.feed(alloc, piece, items);
-    lines.show(alloc, items.as_slice(), session.table(), output)?;
-    Ok(fed?)
+    let mut rest = piece;
+    while !rest.is_empty() {
+        let used = show_front(alloc, rest, depth, session, lines)?;
+        lines.write_many(output)?;
+        rest = &rest[used..];
+    }
+    Ok(())
+}
+
+/// Takes bytes from the front of the piece, none behind the end of an item, and gathers the line of the item that is
+/// whole with them. Answers how many it took, one at least.
+fn show_front(
+    alloc: Global,
+    piece: &[u8],
+    depth: u64,
+    session: &mut Session<TreeBuilder>,
+    lines: &mut Lines,
+) -> Result<usize, Fault>
+    requires some { 0 < length piece.now }
+    requires depth { depth ≡ session.old.reading.limits.depth }
+    ensures shown { (bytes : List ℕ) (start now : Option (List ℕ))
+        → StandsBehind session.old.reading bytes start now lines.old.gathered.items
+        → TakesFront (within_trees session.old.reading.limits) session.new.reading bytes piece.now
+        start now lines.new.gathered.items result }
+    ensures used { IfOk result (λ used. (0 < used) × (used ≤ length piece.now)) }
+    ensures limits { session.new.reading.limits ≡ session.old.reading.limits }
+{
+    match show_whole(piece, depth, session, lines)? {
+        Some(used) => Ok(used),
+        None => show_step(alloc, piece, session, lines),
+    }
+}
+
+/// The same of an item that stands whole at the front of the piece, of which nothing is built. None where there is
+/// none, and then, as after an error, nothing has changed.
+fn show_whole(
+    piece: &[u8],
+    depth: u64,
+    session: &mut Session<TreeBuilder>,
+    lines: &mut Lines,
+) -> Result<Option<usize>, Memory>
+    requires depth { depth ≡ session.old.reading.limits.depth }
+    ensures shown { MayGatherWhole session.old.reading session.new.reading piece.now lines.old.gathered.items
+        lines.new.gathered.items result }
+    ensures limits { session.new.reading.limits ≡ session.old.reading.limits }
+{
+    let Some(whole) = session.whole_value(piece) else {
+        return Ok(None);
+    };
+    let most = depth.min(TreeBuilder::DEPTH);
+    if !lines.push_whole(session.table(), whole.id, whole.body, most)? {
+        return Ok(None);
+    }
+    session.pass(whole.used);
+    Ok(Some(whole.used))
+}
+
+/// The same by a step of the session, which builds the value.
+fn show_step(
+    alloc: Global,
+    piece: &[u8],
+    session: &mut Session<TreeBuilder>,
+    lines: &mut Lines,
+) -> Result<usize, Fault>
+    requires some { 0 < length piece.now }
+    ensures shown { (bytes : List ℕ) (start now : Option (List ℕ))
+        → StandsBehind session.old.reading bytes start now lines.old.gathered.items
+        → TakesFront (within_trees session.old.reading.limits) session.new.reading bytes piece.now
+        start now lines.new.gathered.items result }
+    ensures used { IfOk result (λ used. (0 < used) × (used ≤ length piece.now)) }
+    ensures limits { session.new.reading.limits ≡ session.old.reading.limits }
+{
+    let step = session.step(alloc, piece)?;
+    let used = step.used;
+    let pushed = lines.push_given(alloc, &step, session.table());
+    drop(step);
+    pushed?;
+    Ok(used)
 }

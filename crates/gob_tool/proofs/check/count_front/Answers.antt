@@ -1,6 +1,5 @@
 -- What stands whole is passed, and anything else is read on with a step.
-use Rattle.std.proofs.Common.{◌≡◌, ◌+◌, ◌∙◌, refl, arith}
-use Rattle.gob_stream.specs.Bounds.{deepest, no_deeper}
+use Rattle.std.proofs.Common.{◌∙◌, refl, arith}
 use Rattle.gob_tool.proofs.CheckLaws.{items_fit, counts_whole, counts_item, counts_none, counted_still, step_stops}
 use Rattle.gob_tool.proofs.CheckLaws.{counts_front_at, stops_under, limits_as}
 use Rattle.gob_tool.proofs.check.count_front.Goals as goal

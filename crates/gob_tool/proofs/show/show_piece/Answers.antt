@@ -1,59 +1,51 @@
--- The lines of the items that a piece gives are by the types behind them, and go behind those that were gathered
--- before.
-use Rattle.std.proofs.Common.{Ok, Err, ap}
-use Rattle.gob_types.specs.Defined.{types}
+-- From item to item the lines go behind those before, and some of all go out.
+use Rattle.std.proofs.Common.{◌≡◌, ◌-◌, ◌∙◌, ◌++◌, ℕ, ap, sym, drop, take, length, length-drop}
+use Rattle.std.proofs.Math.Seq.{take-length}
 use Rattle.gob_tool.specs.Fault.{reading_fault}
 use Rattle.gob_stream.specs.Bounds.{within_trees}
-use Rattle.gob_tool.proofs.GatherLaws.{gathers_as, shown_given}
-use Rattle.gob_tool.proofs.ShowLaws.{piece_stopped, piece_taken, piece_refused, piece_at}
+use Rattle.gob_tool.proofs.ShowLaws.{piece_at}
+use Rattle.gob_tool.proofs.ShowFront.{up_to_more, rest_stops, rest_cut}
 use Rattle.gob_tool.proofs.show.show_piece.Goals as goal
 
-pub returns-in_err-show-clause-shown : goal.returns-in_err-show-clause-shown
-returns-in_err-show-clause-shown g c = λ bytes start b.
-    let f = c.in_err-show.field-0.0 in
-    let mid = g.W.Write.contents c.args.output.now.writer in
-    let new = g.W.Write.contents c.show.new.output.writer in
-    let before = c.args.lines.now.gathered.items in
-    let after = c.show.new.self.gathered.items in
-    let fed = c.feed-fed.ensures.fed in
-    let shown = shown_given c.clear.new.self.items c.feed-fed.new.out.items c.as_slice.result.now fed.given
-    c.as_slice.ensures.value fed.appended c.clear.ensures.items in
-    let gathers = gathers_as mid new before after (Err f) (ap (λ d. types d) c.table.ensures) shown
-    c.in_err-show.ensures.gathered in
-    piece_at (within_trees c.args.session.now.reading.limits) c.feed-fed.new.self.reading _ start new after
-    c.from_residual.result f c.from_residual.ensures.1
-    (piece_stopped c.args.session.now.reading c.feed-fed.new.self.reading bytes c.args.piece.now fed.given start mid new
-    before after c.feed-fed.ensures.limits b c.feed-fed.result f
-    (fed.holds b.items bytes b.gave) gathers)
+pub returns-in_err-used-clause-shown : goal.returns-in_err-used-clause-shown
+returns-in_err-used-clause-shown g c = λ bytes start b.
+    let e = c.in_err-used.field-0.0 in
+    let s = c.show_front.new.session.reading in
+    let M = c.args.session.now.reading.limits in
+    let now = g.W.Write.contents c.loop-rest.output.writer in
+    let after = c.show_front.new.lines.gathered.items in
+    let u = c.loop-rest.invariant.2 bytes start b in
+    piece_at (within_trees M) s (bytes ++ c.args.piece.now) start now after c.from_residual.result (reading_fault e)
+    c.from_residual.ensures.1
+    (rest_stops after c.loop-rest.session.reading.limits M s e c.loop-rest.invariant.0 u
+    (c.in_err-used.ensures.shown (bytes ++ u.front) start now u.behind))
 
-pub returns-in_err-fed-clause-shown : goal.returns-in_err-fed-clause-shown
-returns-in_err-fed-clause-shown g c = λ bytes start b.
-    let e = c.in_err-fed.field-0.0 in
-    let mid = g.W.Write.contents c.args.output.now.writer in
-    let new = g.W.Write.contents c.show.new.output.writer in
-    let before = c.args.lines.now.gathered.items in
-    let after = c.show.new.self.gathered.items in
-    let fed = c.in_err-fed.ensures.fed in
-    let shown = shown_given c.clear.new.self.items c.feed-fed.new.out.items c.as_slice.result.now fed.given
-    c.as_slice.ensures.value fed.appended c.clear.ensures.items in
-    let gathers = gathers_as mid new before after (Ok tt) (ap (λ d. types d) c.table.ensures) shown
-    c.in_ok-show.ensures.gathered in
-    piece_at (within_trees c.args.session.now.reading.limits) c.feed-fed.new.self.reading _ start new after
-    c.from_residual-in_err-fed.result (reading_fault e) c.from_residual-in_err-fed.ensures.1
-    (piece_refused c.args.session.now.reading c.feed-fed.new.self.reading bytes c.args.piece.now fed.given start mid new
-    before after c.feed-fed.ensures.limits b e
-    (fed.holds b.items bytes b.gave) gathers)
+pub returns-in_err-write_many-clause-shown : goal.returns-in_err-write_many-clause-shown
+returns-in_err-write_many-clause-shown g c = λ bytes start b.
+    let f = c.in_err-write_many.field-0.0 in
+    let s = c.show_front.new.session.reading in
+    let M = c.args.session.now.reading.limits in
+    let now = g.W.Write.contents c.loop-rest.output.writer in
+    let new = g.W.Write.contents c.write_many.new.output.writer in
+    let after = c.write_many.new.self.gathered.items in
+    let failed = c.in_err-write_many.ensures.passed in
+    let u = c.loop-rest.invariant.2 bytes start b in
+    piece_at (within_trees M) s (bytes ++ c.args.piece.now) start new after c.from_residual-in_err-write_many.result f
+    c.from_residual-in_err-write_many.ensures.1
+    (rest_cut c.in_ok-used.used after M f (c.in_ok-used.ensures.limits ∙ c.loop-rest.invariant.0) u
+    (c.in_ok-used.ensures.shown (bytes ++ u.front) start now u.behind) failed.0 failed.1)
 
-pub returns-clause-shown : goal.returns-clause-shown
-returns-clause-shown g c = λ bytes start b.
-    let mid = g.W.Write.contents c.args.output.now.writer in
-    let new = g.W.Write.contents c.show.new.output.writer in
-    let before = c.args.lines.now.gathered.items in
-    let after = c.show.new.self.gathered.items in
-    let fed = c.in_ok-fed.ensures.fed in
-    let shown = shown_given c.clear.new.self.items c.feed-fed.new.out.items c.as_slice.result.now fed.given
-    c.as_slice.ensures.value fed.appended c.clear.ensures.items in
-    let gathers = gathers_as mid new before after (Ok tt) (ap (λ d. types d) c.table.ensures) shown
-    c.in_ok-show.ensures.gathered in
-    piece_taken c.args.session.now.reading c.feed-fed.new.self.reading bytes c.args.piece.now fed.given start mid new
-    before after c.feed-fed.ensures.limits b tt (fed.holds b.items bytes b.gave) gathers
+pub loop-rest-preserved : goal.loop-rest-preserved
+loop-rest-preserved g c =
+    let n = c.in_ok-used.used in
+    let rest = c.loop-rest.rest.now in
+    let later : take (length rest - n) (drop n rest)
+    ≡ drop n rest = ap (λ (k : ℕ). take k (drop n rest)) (sym (length-drop n rest)) ∙ take-length (drop n rest) in (
+      c.in_ok-used.ensures.limits ∙ c.loop-rest.invariant.0,
+      c.in_ok-write_many.ensures.counted ∙ c.loop-rest.invariant.1,
+      λ bytes start b.
+          let now = g.W.Write.contents c.loop-rest.output.writer in
+          let u = c.loop-rest.invariant.2 bytes start b in
+          up_to_more n later u (c.in_ok-used.ensures.shown (bytes ++ u.front) start now u.behind)
+          c.in_ok-write_many.ensures.passed,
+    )
