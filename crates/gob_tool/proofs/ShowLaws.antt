@@ -27,7 +27,7 @@ use Rattle.gob_tool.specs.declared.fault.ToolFault.TheVariants as fault
 use Rattle.gob_tool.specs.Line.{lines}
 use Rattle.gob_tool.specs.Fault.{reading_fault}
 use Rattle.gob_tool.specs.Showing.{EndsWhole, IsRefused, Gives, Begins, Runs, AppendsFront}
-use Rattle.gob_tool.specs.Gathering.{Gathered, GaveItems, StandsBehind, StandsIn, TakesPiece}
+use Rattle.gob_tool.specs.Gathering.{Gathered, GaveItems, PassesSome, StandsBehind, StandsIn, TakesPiece}
 use Rattle.gob_tool.specs.Gathering.{CountsOnlyReads}
 use Rattle.gob_tool.specs.Pieces.{TypesBehind}
 use Rattle.gob_tool.proofs.LinesStay.{lines_stay, first_items}
