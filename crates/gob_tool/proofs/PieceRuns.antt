@@ -1,5 +1,5 @@
 -- How a reader over any builder goes on from piece to piece, and what is known of the input's bytes where it stops.
-use Rattle.std.proofs.Common.{◌≡◌, ℕ, ◌+◌, ◌-◌, ◌<◌, ◌≤◌, arith, List, ◌++◌, length, take}
+use Rattle.std.proofs.Common.{◌≡◌, ℕ, ◌+◌, ◌-◌, ◌<◌, ◌≤◌, arith, List, [], ◌++◌, length, take}
 use Rattle.std.proofs.Common.{◌∙◌, ap, refl, length-append}
 use Rattle.std.proofs.lemmas.List.{take-append-le}
 use Rattle.gob_types.specs.Base.{base_table}
@@ -18,6 +18,10 @@ use Rattle.gob_stream.specs.Standing.{Standing, StandsAfter}
 use Rattle.gob_stream.specs.Stream.{Continues, no_more, and_then}
 use Rattle.gob_stream.proofs.PublicLaws.{shown_there, shown_refusal_stays, stands_within}
 use Rattle.gob_stream.proofs.PublicLaws.{counted_some}
+
+-- what was appended to nothing is all that there is
+pub only_given : {A : Type 0} {old new given : List A} → new ≡ old ++ given → old ≡ [] → new ≡ given
+only_given {A = A} {given = given} appended none = appended ∙ ap (λ (l : List A). l ++ given) none
 
 -- as many items were given as they stand for
 pub given_length : {O : Type 0} {means : O → Tree → Type 0} {given : List (declared.Item O)} {items : List StreamItem}

@@ -3,7 +3,7 @@ use Rattle.std.proofs.Common.{Ok, Err, ap, sym}
 use Rattle.gob_types.specs.Defined.{types}
 use Rattle.gob_stream.specs.Bounds.{deepest, no_deeper}
 use Rattle.gob_tool.specs.Fault.{reading_fault}
-use Rattle.gob_tool.proofs.CheckLaws.{only_given}
+use Rattle.gob_tool.proofs.PieceRuns.{only_given}
 use Rattle.gob_tool.proofs.RewriteRuns.{some_next, piece_unpushed, piece_unfed, piece_done, piece_at, next_as, pushes_by}
 use Rattle.gob_tool.proofs.rewrite.rewrite_piece.Goals as goal
 
