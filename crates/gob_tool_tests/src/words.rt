@@ -47,7 +47,10 @@ fn commands(rt: HostRuntime) {
     );
     let rewritten_deep = Order {
         command: Chosen::Rewrite,
-        ..checked_deep
+        wanted: None,
+        input: Some("f"),
+        depth: 65536,
+        item: 0,
     };
     assert!(rt;
         gives(
