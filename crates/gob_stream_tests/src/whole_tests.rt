@@ -29,6 +29,9 @@ fn further(
     front: Front,
     rest: &[u8],
 ) -> Option<Front> {
+    if rest.is_empty() {
+        return None;
+    }
     if let Some(passed) = session.pass_whole(rest) {
         return Some(beyond(front, passed.used, true));
     }
