@@ -9,6 +9,7 @@ use Rattle.gob_types.specs.declared.kind.Kind.TheVariants as kind
 use Rattle.gob_types.specs.Table.{Table}
 use Rattle.gob_read.specs.declared.telling.RawKind.{RawKind}
 use Rattle.gob_read.specs.declared.frame.Frame.{Frame}
+use Rattle.gob_read.specs.declared.frame.Frame.TheVariants as frame
 use Rattle.gob_read.specs.declared.awaited.Awaited.TheVariants.{Number, Raw}
 use Rattle.gob_read.specs.declared.awaited.Item.{Item}
 use Rattle.gob_read.specs.declared.awaited.Item.TheVariants.{Part, Delta}
@@ -18,11 +19,13 @@ use Rattle.gob_read.specs.declared.run.Stepped.{Stepped}
 use Rattle.gob_read.specs.declared.plain.Entered.{Entered}
 use Rattle.gob_read.specs.Telling.{Telling, number, raw_start, raw_more, leave}
 use Rattle.gob_read.specs.Building.{IsTold}
-use Rattle.gob_read.specs.Frames.{to_delta}
+use Rattle.gob_read.specs.Frames as Frames
+use Rattle.gob_read.specs.Frames.{to_delta, to_element, item_of}
 use Rattle.gob_read.specs.Kinds.{HasKind, IsScalar, IsRawKind}
+use Rattle.gob_read.specs.Within.{Within, at_once, behind_tag, in_list, at_key, at_value, in_field}
 use Rattle.gob_read.specs.Steps.{Ends, CanGoOn, GoesOn, CanTakeRaw}
 use Rattle.gob_read.specs.Running.{IsOpenSomewhere, IsOpenIn, IsStepped, TakesMore, Steps, Opens, depth_of, item_depth}
-use Rattle.gob_read.specs.Plain.{CanTellPlain, TellsPlain, told_nothing, told_number, told_bytes, IsInFields, IsInStructFrame, StepsPlain, not_stepped, stepped_over, Passes, TakesPlain, not_taken, plain_taken, EntersField, NamesField, TakesName, not_named, named, CanEndFields, EndsFields}
+use Rattle.gob_read.specs.Plain.{CanTellPlain, TellsPlain, told_nothing, told_number, told_bytes, IsInFields, IsInList, IsFollowedBy, StepsPlain, not_stepped, stepped_over, Passes, TakesPlain, not_taken, plain_taken, EntersField, NamesField, TakesName, not_named, named, CanEndFields, EndsFields}
 use Rattle.gob_read.proofs.Fronts.{append_nil}
 use Rattle.gob_read.proofs.Parts.{ended_on, begins_ended}
 use Rattle.gob_read.proofs.FirstSteps.{number_ended, length_placed}
@@ -57,30 +60,33 @@ moves_more m = record { taken = m.taken; length_is = m.length_is; depth_is = m.d
 abbrev behind : {X O : Type 0} → Run X O → ℕ → Run X O
 behind run count = record { state = run.state; number = run.number; start = run.start; taken = run.taken + count; length = run.length; depth = run.depth }
 
--- behind a whole part of a struct its next delta is awaited
-delta_behind : {X O : Type 0} {stands : X → List Telling → Type 0} {new : State X O} {u : TypeId} {next : ℕ} → IsInFields u next new.stack → new.awaited ≡ Number Delta → Ends stands new new false
-delta_behind {new = new} f w = record { each = λ T t z e. ended_on f to_delta (head_is new.stack f) w refl e }
+-- behind a whole part the innermost open part goes on
+goes_behind : {X O : Type 0} {stands : X → List Telling → Type 0} {mid new : State X O} {f g : Frame} → slice_get mid.stack 0 ≡ Some f → Frames.GoesOn f g → new.stack ≡ g ∷ drop 1 mid.stack → new.awaited ≡ Number (item_of g) → new.builder ≡ mid.builder → Ends stands mid new false
+goes_behind f on s w b = record { each = λ T t z e. ended_on f on s w b e }
+
+-- a part is whole with what the builder was told, inside the open parts that it began in
+abbrev ended_with : {X O : Type 0} → State X O → X → State X O
+ended_with state builder = record { builder = builder; stack = state.stack; awaited = state.awaited }
 
 -- a part that one number spells
-pub scalar_stepped : {T : Table} {X O : Type 0} {stands : X → List Telling → Type 0} {run new : Run X O} {id u : TypeId} {next n a : ℕ} {b : Basic} (c : List ℕ) → run.state.awaited ≡ Number (Part id) → IsInFields u next run.state.stack → run.number ≡ []
-    → HasKind T id (kind.Basic b) → IsScalar (kind.Basic b) n b a → IsTold stands run.state.builder new.state.builder (number b a 0) → new.state.stack ≡ run.state.stack → new.state.awaited ≡ Number Delta → Moves run new (length c) → IsUnsigned n c → Steps T stands run new c false
-scalar_stepped {T = T} {stands = stands} {run = run} {new = new} {id = id} {u = u} {next = next} {n = n} {a = a} {b = b} c e f none h i told s w m spelled =
-    let inside : IsInFields u next new.state.stack = ap (λ (l : List Frame). slice_get l 0) s ∙ f in
-    let begins = begins_ended {P = λ k. IsScalar k n b a} (number_ended s told) (delta_behind inside w) in
+pub scalar_stepped : {T : Table} {X O : Type 0} {stands : X → List Telling → Type 0} {run new : Run X O} {id : TypeId} {g : Frame} {n a : ℕ} {b : Basic} (c : List ℕ) → run.state.awaited ≡ Number (Part id) → IsFollowedBy g run.state.stack → run.number ≡ []
+    → HasKind T id (kind.Basic b) → IsScalar (kind.Basic b) n b a → IsTold stands run.state.builder new.state.builder (number b a 0) → new.state.stack ≡ g ∷ drop 1 run.state.stack → new.state.awaited ≡ Number (item_of g) → Moves run new (length c) → IsUnsigned n c → Steps T stands run new c false
+scalar_stepped {T = T} {stands = stands} {run = run} {new = new} {id = id} {g = g} {n = n} {a = a} {b = b} c e f none h i told s w m spelled =
+    let begins = begins_ended {mid = ended_with run.state new.state.builder} {P = λ k. IsScalar k n b a} (number_ended refl told) (goes_behind {mid = ended_with run.state new.state.builder} f.innermost f.goes_on s w refl) in
     number_stepped {mid = behind run (length c)} (Part id) c e refl none refl refl (subst (λ (r : List ℕ). IsUnsigned n (r ++ c)) (sym none) spelled)
     (record { takes = part_takes e (first_takes h i begins); start_is = m.start ∙ m.taken; number_is = m.number; more = record { taken = (let t = m.taken in omega arith); length_is = m.length_is; depth_is = m.depth_is } })
 
 -- a part that a count of bytes and the bytes spell
-pub bytes_stepped : {T : Table} {X O : Type 0} {stands : X → List Telling → Type 0} {run new : Run X O} {id u : TypeId} {next : ℕ} {b : Basic} {x : RawKind} {one two : X} (c bytes : List ℕ) → run.state.awaited ≡ Number (Part id) → IsInFields u next run.state.stack → run.number ≡ []
-    → HasKind T id (kind.Basic b) → IsRawKind (kind.Basic b) x → IsTold stands run.state.builder one (raw_start x) → IsTold stands one two (raw_more bytes) → IsTold stands two new.state.builder leave → new.state.stack ≡ run.state.stack → new.state.awaited ≡ Number Delta
+pub bytes_stepped : {T : Table} {X O : Type 0} {stands : X → List Telling → Type 0} {run new : Run X O} {id : TypeId} {g : Frame} {b : Basic} {x : RawKind} {one two : X} (c bytes : List ℕ) → run.state.awaited ≡ Number (Part id) → IsFollowedBy g run.state.stack → run.number ≡ []
+    → HasKind T id (kind.Basic b) → IsRawKind (kind.Basic b) x → IsTold stands run.state.builder one (raw_start x) → IsTold stands one two (raw_more bytes) → IsTold stands two new.state.builder leave → new.state.stack ≡ g ∷ drop 1 run.state.stack → new.state.awaited ≡ Number (item_of g)
     → Moves run new (length c + length bytes) → IsUnsigned (length bytes) c → 0 < length bytes → length run.state.stack + 1 ≤ run.depth → run.taken + length c < run.length → Steps T stands run new (c ++ bytes) false
-bytes_stepped {T = T} {X = X} {O = O} {stands = stands} {run = run} {new = new} {id = id} {u = u} {next = next} {b = b} {x = x} {one = one} {two = two} c bytes e f none h i begun more ended s w m spelled some deep room = steps_then {mid = mid} first (opens_here deep room) second
+bytes_stepped {T = T} {X = X} {O = O} {stands = stands} {run = run} {new = new} {id = id} {g = g} {b = b} {x = x} {one = one} {two = two} c bytes e f none h i begun more ended s w m spelled some deep room = steps_then {mid = mid} first (opens_here deep room) second
   where
     mid : Run X O
     mid = record { state = record { builder = one; stack = run.state.stack; awaited = Raw (length bytes) }; number = run.number; start = run.taken + length c; taken = run.taken + length c; length = run.length; depth = run.depth }
 
-    inside : IsInFields u next new.state.stack
-    inside = ap (λ (l : List Frame). slice_get l 0) s ∙ f
+    whole : State X O
+    whole = ended_with mid.state new.state.builder
 
     first : Steps T stands run mid c false
     first =
@@ -90,7 +96,7 @@ bytes_stepped {T = T} {X = X} {O = O} {stands = stands} {run = run} {new = new} 
     second : Steps T stands mid new bytes false
     second =
         raw_stepped (length bytes) bytes refl (omega arith) m.number (let t = m.taken in omega arith) m.depth_is (λ _. (let t = m.taken in let k = m.start in omega arith)) (λ l. absurd (omega arith))
-        (record { last = λ T t p r b z. (delta_behind inside w).each T t (p ++ (r ++ bytes)) (raw_ended bytes refl s more ended refl b); other = λ T t p r b l. absurd (omega arith) })
+        (record { last = λ T t p r b z. (goes_behind {mid = whole} f.innermost f.goes_on s w refl).each T t (p ++ (r ++ bytes)) (raw_ended {mid = whole} bytes refl refl more ended refl b); other = λ T t p r b l. absurd (omega arith) })
 
 -- the part can be told
 pub can_tell_plain : {T : Table} {X O : Type 0} {stands : X → List Telling → Type 0} {run : Run X O} {id : TypeId} {n used : ℕ} {b : Basic} (rest : List ℕ) → run.state.awaited ≡ Number (Part id) → IsOpenSomewhere T stands run → run.start ≡ run.taken → run.taken + length rest < 2 ^ 64
@@ -119,10 +125,10 @@ can_take_told {stands = stands} {state = state} {x = x} {n = n} {one = one} {mor
     }
 
 -- the part was told, and taken so
-pub plain_takes : {T : Table} {X O : Type 0} {stands : X → List Telling → Type 0} {old new : Run X O} {mid : State X O} {id : TypeId} {b : Basic} {n used more : ℕ} (rest : List ℕ) → old.state.awaited ≡ Number (Part id) → IsInStructFrame old.state.stack → IsOpenSomewhere T stands old
+pub plain_takes : {T : Table} {X O : Type 0} {stands : X → List Telling → Type 0} {old new : Run X O} {mid : State X O} {id : TypeId} {g : Frame} {b : Basic} {n used more : ℕ} (rest : List ℕ) → old.state.awaited ≡ Number (Part id) → IsFollowedBy g old.state.stack → IsOpenSomewhere T stands old
     → old.start ≡ old.taken → old.taken + length rest ≤ old.length → HasKind T id (kind.Basic b) → used ≤ length rest → 0 < used → IsUnsigned n (take used rest) → TellsPlain stands old.state mid b n (take (length rest - used) (drop used rest)) (Some more)
-    → new.state.builder ≡ mid.builder → new.state.stack ≡ mid.stack → new.state.awaited ≡ Number Delta → Moves old new (used + more) → TakesPlain T stands old new rest (used + more)
-plain_takes {T = T} {X = X} {O = O} {stands = stands} {old = old} {new = new} {mid = mid} {id = id} {b = b} {n = n} {used = used} {more = more} rest e f o fresh room h w some spelled tells s k a m = from tells
+    → new.state.builder ≡ mid.builder → new.state.stack ≡ g ∷ drop 1 mid.stack → new.state.awaited ≡ Number (item_of g) → Moves old new (used + more) → TakesPlain T stands old new g rest (used + more)
+plain_takes {T = T} {X = X} {O = O} {stands = stands} {old = old} {new = new} {mid = mid} {id = id} {g = g} {b = b} {n = n} {used = used} {more = more} rest e f o fresh room h w some spelled tells s k a m = from tells
   where
     next : List ℕ
     next = take (length rest - used) (drop used rest)
@@ -139,12 +145,12 @@ plain_takes {T = T} {X = X} {O = O} {stands = stands} {old = old} {new = new} {m
     deep : length old.state.stack + 1 ≤ old.depth
     deep = subst (λ a. depth_of a old.state.stack ≤ old.depth) e o.open_.not_deep
 
-    passed : more ≤ length next → Steps T stands old new (take used rest ++ take more next) false → new.state.stack ≡ old.state.stack → TakesPlain T stands old new rest (used + more)
+    passed : more ≤ length next → Steps T stands old new (take used rest ++ take more next) false → new.state.stack ≡ g ∷ drop 1 old.state.stack → TakesPlain T stands old new g rest (used + more)
     passed l steps stack = plain_taken (omega arith) (omega (arith, size)) (record {
       more = record { taken = (let t = m.taken in omega (arith, size, length-take (used + more) rest)); length_is = m.length_is; depth_is = m.depth_is };
       steps = subst (λ c. Steps T stands old new c false) (sym cut) steps;
       fresh = m.start;
-    }) a stack
+    }) a stack (ap length stack ∙ sym (ap length (head_is old.state.stack f.innermost)))
 
     moved : {count : ℕ} → count ≡ used + more → Moves old new count
     moved c = record { taken = (let t = m.taken in omega arith); start = m.start; number = m.number; length_is = m.length_is; depth_is = m.depth_is }
@@ -152,20 +158,23 @@ plain_takes {T = T} {X = X} {O = O} {stands = stands} {old = old} {new = new} {m
     builder_is : {mid' : X} {t : Telling} → IsTold stands mid' mid.builder t → IsTold stands mid' new.state.builder t
     builder_is {mid' = mid'} {t = t} h = subst (λ x. IsTold stands mid' x t) (sym s) h
 
-    from : TellsPlain stands old.state mid b n next (Some more) → TakesPlain T stands old new rest (used + more)
+    stack_is : mid.stack ≡ old.state.stack → new.state.stack ≡ g ∷ drop 1 old.state.stack
+    stack_is same = k ∙ ap (λ (l : List Frame). g ∷ drop 1 l) same
+
+    from : TellsPlain stands old.state mid b n next (Some more) → TakesPlain T stands old new g rest (used + more)
     from (told_number z i told kept) =
         let nothing : take more next ≡ [] = subst (λ j. take j next ≡ []) (sym z) refl in
         passed (omega arith)
         (subst (λ c. Steps T stands old new c false) (sym (ap (λ l. take used rest ++ l) nothing ∙ append_nil (take used rest)))
-        (scalar_stepped (take used rest) e f.innermost none h i (builder_is told) (k ∙ kept.stack) a (moved (omega (arith, length-take used rest))) spelled))
-        (k ∙ kept.stack)
+        (scalar_stepped (take used rest) e f none h i (builder_is told) (stack_is kept.stack) a (moved (omega (arith, length-take used rest))) spelled))
+        (stack_is kept.stack)
     from (told_bytes z i l few begun told ended kept) =
         let count : length (take n next) ≡ n = omega (arith, length-take n next) in
         passed (omega arith)
         (subst (λ j. Steps T stands old new (take used rest ++ take j next) false) (sym z)
-        (bytes_stepped (take used rest) (take n next) e f.innermost none h i begun told (builder_is ended) (k ∙ kept.stack) a (moved (omega (arith, length-take used rest, count)))
+        (bytes_stepped (take used rest) (take n next) e f none h i begun told (builder_is ended) (stack_is kept.stack) a (moved (omega (arith, length-take used rest, count)))
         (subst (λ j. IsUnsigned j (take used rest)) (sym count) spelled) (omega arith) deep (omega (arith, length-take used rest, size))))
-        (k ∙ kept.stack)
+        (stack_is kept.stack)
 
 -- the delta leads to a field
 pub can_go_on : {T : Table} {X O : Type 0} {stands : X → List Telling → Type 0} {run : Run X O} {u : TypeId} {types : List Field} {next n : ℕ} → run.state.awaited ≡ Number Delta → IsInFields u next run.state.stack → HasKind T u (kind.Struct types) → IsOpenSomewhere T stands run
@@ -225,6 +234,14 @@ pub told_within : {X O : Type 0} {stands : X → List Telling → Type 0} {old n
 told_within (told_number z i t k) = omega arith
 told_within (told_bytes z i l few a b c k) = omega arith
 
+pub told_stack : {X O : Type 0} {stands : X → List Telling → Type 0} {old new : State X O} {b : Basic} {n used : ℕ} {more : List ℕ} → TellsPlain stands old new b n more (Some used) → new.stack ≡ old.stack
+told_stack (told_number z i t k) = k.stack
+told_stack (told_bytes z i l few a b c k) = k.stack
+
+pub frame_some : (fs : List Frame) {f : Frame} → slice_get fs 0 ≡ Some f → 0 < length fs
+frame_some [] h = cc
+frame_some (g ∷ fs) h = omega arith
+
 -- no delta was taken, or one was
 pub unnamed : {T : Table} {X O : Type 0} {stands : X → List Telling → Type 0} {old new : Run X O} {n : ℕ} {u : TypeId} {r : Option Entered} → r ≡ None → TakesName T stands old new n u r → new ≡ old
 unnamed z (not_named e) = e
@@ -236,25 +253,25 @@ named_as {T = T} {stands = stands} {old = old} {new = new} {n = n} {u = u} z h =
     entered : {e : Entered} → TakesName T stands old new n u (Some e) → EntersField T stands old new n u e.next e.part
     entered (named e) = e
 
--- within a struct so much of the piece was taken, and this is awaited
-pub record AtItem (T : Table) {X O : Type 0} (stands : X → List Telling → Type 0) (old run : Run X O) (rest : List ℕ) (used count : ℕ) (i : Item) (u : TypeId) (next : ℕ) : Type 0 where
+-- within an open part so much of the piece was taken, and this is awaited
+pub record AtItem (T : Table) {X O : Type 0} (stands : X → List Telling → Type 0) (old run : Run X O) (rest : List ℕ) (used count : ℕ) (i : Item) (f : Frame) : Type 0 where
   pub come : HasCome T stands old run rest used count
   pub awaited : run.state.awaited ≡ Number i
-  pub inside : IsInFields u next run.state.stack
+  pub inside : slice_get run.state.stack 0 ≡ Some f
   pub fresh : run.start ≡ run.taken
   pub deep : length run.state.stack < run.depth
 
-pub item_start : {T : Table} {X O : Type 0} {stands : X → List Telling → Type 0} {run : Run X O} {i : Item} {u : TypeId} {next : ℕ} (rest : List ℕ) → run.state.awaited ≡ Number i → IsInFields u next run.state.stack → run.start ≡ run.taken → length run.state.stack < run.depth → AtItem T stands run run rest 0 0 i u next
+pub item_start : {T : Table} {X O : Type 0} {stands : X → List Telling → Type 0} {run : Run X O} {i : Item} {f : Frame} (rest : List ℕ) → run.state.awaited ≡ Number i → slice_get run.state.stack 0 ≡ Some f → run.start ≡ run.taken → length run.state.stack < run.depth → AtItem T stands run run rest 0 0 i f
 item_start rest a i f d = record { come = come_start rest; awaited = a; inside = i; fresh = f; deep = d }
 
 -- it may be taken where more of the piece is there
-pub item_opens : {T : Table} {X O : Type 0} {stands : X → List Telling → Type 0} {old run : Run X O} {rest : List ℕ} {used count : ℕ} {i : Item} {u : TypeId} {next : ℕ} → AtItem T stands old run rest used count i u next → item_depth i (length run.state.stack) ≤ length run.state.stack + 1 → old.taken + length rest ≤ old.length → used < length rest → Opens T stands run
+pub item_opens : {T : Table} {X O : Type 0} {stands : X → List Telling → Type 0} {old run : Run X O} {rest : List ℕ} {used count : ℕ} {i : Item} {f : Frame} → AtItem T stands old run rest used count i f → item_depth i (length run.state.stack) ≤ length run.state.stack + 1 → old.taken + length rest ≤ old.length → used < length rest → Opens T stands run
 item_opens {run = run} h l room some =
     let d : depth_of run.state.awaited run.state.stack ≤ run.depth = subst (λ a. depth_of a run.state.stack ≤ run.depth) (sym h.awaited) (let k = h.deep in omega arith) in
     let t = h.come.more.taken in let n = h.come.more.length_is in
     opens_here d (omega arith)
 
-pub item_open : {T : Table} {X O : Type 0} {stands : X → List Telling → Type 0} {old run : Run X O} {rest : List ℕ} {used count : ℕ} {i : Item} {u : TypeId} {next : ℕ} → AtItem T stands old run rest used count i u next → IsOpenSomewhere T stands old → item_depth i (length run.state.stack) ≤ length run.state.stack + 1 → old.taken + length rest ≤ old.length → used < length rest → IsOpenSomewhere T stands run
+pub item_open : {T : Table} {X O : Type 0} {stands : X → List Telling → Type 0} {old run : Run X O} {rest : List ℕ} {used count : ℕ} {i : Item} {f : Frame} → AtItem T stands old run rest used count i f → IsOpenSomewhere T stands old → item_depth i (length run.state.stack) ≤ length run.state.stack + 1 → old.taken + length rest ≤ old.length → used < length rest → IsOpenSomewhere T stands run
 item_open h o l room some = come_open (record { type = o.type; bytes = o.bytes; reached = o.open_.reached }) h.come (item_opens h l room some)
 
 pub come_steps : {T : Table} {X O : Type 0} {stands : X → List Telling → Type 0} {old new : Run X O} {rest : List ℕ} {used count : ℕ} → HasCome T stands old new rest used count → Steps T stands old new (take used rest) false
@@ -269,8 +286,8 @@ pub rest_some : (rest : List ℕ) (used : ℕ) → length (take (length rest - u
 rest_some rest used = ap length (slice_rest rest used) ∙ length-drop used rest
 
 -- the delta was taken
-pub named_on : {T : Table} {X O : Type 0} {stands : X → List Telling → Type 0} {old run new : Run X O} {rest : List ℕ} {used count next next' : ℕ} {u part : TypeId} → AtItem T stands old run rest used count Delta u next → old.taken + length rest ≤ old.length → used < length rest
-    → EntersField T stands run new (get_or rest used 0) u next' part → AtItem T stands old new rest (used + 1) (count + 1) (Part part) u next'
+pub named_on : {T : Table} {X O : Type 0} {stands : X → List Telling → Type 0} {old run new : Run X O} {rest : List ℕ} {used count next next' : ℕ} {u part : TypeId} → AtItem T stands old run rest used count Delta (frame.Fields u next) → old.taken + length rest ≤ old.length → used < length rest
+    → EntersField T stands run new (get_or rest used 0) u next' part → AtItem T stands old new rest (used + 1) (count + 1) (Part part) (frame.Fields u next')
 named_on {T = T} {stands = stands} {run = run} {new = new} {rest = rest} {used = used} h room some e =
     let one : take 1 (take (length rest - used) (drop used rest)) ≡ get_or rest used 0 ∷ [] = ap (λ (l : List ℕ). take 1 l) (slice_rest rest used) ∙ one_at rest used some in
     let n = e.passes.more.depth_is in let m = e.as_deep in let d = h.deep in
@@ -283,30 +300,31 @@ named_on {T = T} {stands = stands} {run = run} {new = new} {rest = rest} {used =
     }
 
 -- what a taken part was taken so
-pub record IsPlainTaken (T : Table) {X O : Type 0} (stands : X → List Telling → Type 0) (old new : Run X O) (rest : List ℕ) (used : ℕ) : Type 0 where
+pub record IsPlainTaken (T : Table) {X O : Type 0} (stands : X → List Telling → Type 0) (old new : Run X O) (next : Frame) (rest : List ℕ) (used : ℕ) : Type 0 where
   pub within : used ≤ length rest
   pub passes : Passes T stands old new (take used rest)
-  pub awaited : new.state.awaited ≡ Number Delta
-  pub stack : new.state.stack ≡ old.state.stack
+  pub awaited : new.state.awaited ≡ Number (item_of next)
+  pub stack : new.state.stack ≡ next ∷ drop 1 old.state.stack
+  pub as_deep : length new.state.stack ≡ length old.state.stack
 
-pub taken_some : {T : Table} {X O : Type 0} {stands : X → List Telling → Type 0} {old new : Run X O} {rest : List ℕ} {used : ℕ} → TakesPlain T stands old new rest used → 0 < used → IsPlainTaken T stands old new rest used
+pub taken_some : {T : Table} {X O : Type 0} {stands : X → List Telling → Type 0} {old new : Run X O} {g : Frame} {rest : List ℕ} {used : ℕ} → TakesPlain T stands old new g rest used → 0 < used → IsPlainTaken T stands old new g rest used
 taken_some (not_taken e) l = absurd (omega arith)
-taken_some (plain_taken s w p a k) l = record { within = w; passes = p; awaited = a; stack = k }
+taken_some (plain_taken s w p a k d) l = record { within = w; passes = p; awaited = a; stack = k; as_deep = d }
 
-pub taken_none : {T : Table} {X O : Type 0} {stands : X → List Telling → Type 0} {old new : Run X O} {rest : List ℕ} {used : ℕ} → TakesPlain T stands old new rest used → used ≡ 0 → new ≡ old
+pub taken_none : {T : Table} {X O : Type 0} {stands : X → List Telling → Type 0} {old new : Run X O} {g : Frame} {rest : List ℕ} {used : ℕ} → TakesPlain T stands old new g rest used → used ≡ 0 → new ≡ old
 taken_none (not_taken e) z = e
-taken_none (plain_taken s w p a k) z = absurd (omega arith)
+taken_none (plain_taken s w p a k d) z = absurd (omega arith)
 
-pub taken_within : {T : Table} {X O : Type 0} {stands : X → List Telling → Type 0} {old new : Run X O} {rest : List ℕ} {used : ℕ} → TakesPlain T stands old new rest used → used ≤ length rest
+pub taken_within : {T : Table} {X O : Type 0} {stands : X → List Telling → Type 0} {old new : Run X O} {g : Frame} {rest : List ℕ} {used : ℕ} → TakesPlain T stands old new g rest used → used ≤ length rest
 taken_within (not_taken e) = omega arith
-taken_within (plain_taken s w p a k) = w
+taken_within (plain_taken s w p a k d) = w
 
 -- the part was taken
-pub plain_on : {T : Table} {X O : Type 0} {stands : X → List Telling → Type 0} {old run new : Run X O} {rest : List ℕ} {used count taken next : ℕ} {u part : TypeId} → AtItem T stands old run rest used count (Part part) u next → old.taken + length rest ≤ old.length → used < length rest
-    → 0 < taken → IsPlainTaken T stands run new (take (length rest - used) (drop used rest)) taken → AtItem T stands old new rest (used + taken) (count + 1) Delta u next
+pub plain_on : {T : Table} {X O : Type 0} {stands : X → List Telling → Type 0} {old run new : Run X O} {rest : List ℕ} {used count taken : ℕ} {f g : Frame} {part : TypeId} → AtItem T stands old run rest used count (Part part) f → old.taken + length rest ≤ old.length → used < length rest
+    → 0 < taken → IsPlainTaken T stands run new g (take (length rest - used) (drop used rest)) taken → AtItem T stands old new rest (used + taken) (count + 1) (item_of g) g
 plain_on {new = new} {rest = rest} {used = used} {taken = taken} h room some l p =
     let w = p.within in
-    let n = p.passes.more.depth_is in let m = ap length p.stack in let d = h.deep in
+    let n = p.passes.more.depth_is in let m = p.as_deep in let d = h.deep in
     let t = p.passes.more.taken in
     record {
       come = come_on h.come (item_opens h (omega arith) room some) (record {
@@ -316,16 +334,16 @@ plain_on {new = new} {rest = rest} {used = used} {taken = taken} h room some l p
         steps = p.passes.steps;
       });
       awaited = p.awaited;
-      inside = ap (λ (l : List Frame). slice_get l 0) p.stack ∙ h.inside;
+      inside = ap (λ (l : List Frame). slice_get l 0) p.stack;
       fresh = p.passes.fresh;
       deep = omega arith;
     }
 
-pub fewer : {T : Table} {X O : Type 0} {stands : X → List Telling → Type 0} {old run : Run X O} {rest : List ℕ} {used count : ℕ} {i : Item} {u : TypeId} {next : ℕ} (less : ℕ) → AtItem T stands old run rest used count i u next → less ≤ count → AtItem T stands old run rest used less i u next
+pub fewer : {T : Table} {X O : Type 0} {stands : X → List Telling → Type 0} {old run : Run X O} {rest : List ℕ} {used count : ℕ} {i : Item} {f : Frame} (less : ℕ) → AtItem T stands old run rest used count i f → less ≤ count → AtItem T stands old run rest used less i f
 fewer less h l = record { come = record { within = h.come.within; more = h.come.more; onward = (let k = h.come.onward in omega arith); reached = h.come.reached }; awaited = h.awaited; inside = h.inside; fresh = h.fresh; deep = h.deep }
 
 -- the struct has ended
-pub end_on : {T : Table} {X O : Type 0} {stands : X → List Telling → Type 0} {old run new : Run X O} {rest : List ℕ} {used count next : ℕ} {u : TypeId} {whole : Bool} → AtItem T stands old run rest used count Delta u next → old.taken + length rest ≤ old.length → used < length rest → get_or rest used 0 ≡ 0
+pub end_on : {T : Table} {X O : Type 0} {stands : X → List Telling → Type 0} {old run new : Run X O} {rest : List ℕ} {used count next : ℕ} {u : TypeId} {whole : Bool} → AtItem T stands old run rest used count Delta (frame.Fields u next) → old.taken + length rest ≤ old.length → used < length rest → get_or rest used 0 ≡ 0
     → Steps T stands run new (0 ∷ []) whole → Steps T stands old new (take (used + 1) rest) whole
 end_on {T = T} {stands = stands} {old = old} {new = new} {rest = rest} {used = used} {whole = whole} h room some z s =
     let cut : take (used + 1) rest ≡ take used rest ++ 0 ∷ [] = take_further rest used 1 ∙ ap (λ l. take used rest ++ l) (one_at rest used some ∙ ap (λ n. n ∷ []) z) in
@@ -352,30 +370,66 @@ pub record HasPassed (T : Table) {X O : Type 0} (stands : X → List Telling →
   pub more : TakesMore old new used
   pub steps : Steps T stands old new (take used rest) false
 
-pub item_passed : {T : Table} {X O : Type 0} {stands : X → List Telling → Type 0} {old run : Run X O} {rest : List ℕ} {used count : ℕ} {i : Item} {u : TypeId} {next : ℕ} → AtItem T stands old run rest used count i u next → HasPassed T stands old run rest used
+pub item_passed : {T : Table} {X O : Type 0} {stands : X → List Telling → Type 0} {old run : Run X O} {rest : List ℕ} {used count : ℕ} {i : Item} {f : Frame} → AtItem T stands old run rest used count i f → HasPassed T stands old run rest used
 item_passed h = record { more = h.come.more; steps = come_steps h.come }
 
 pub same_passed : {T : Table} {X O : Type 0} {stands : X → List Telling → Type 0} {old run new : Run X O} {rest : List ℕ} {used : ℕ} → new ≡ run → HasPassed T stands old run rest used → HasPassed T stands old new rest used
 same_passed {T = T} {stands = stands} {old = old} {rest = rest} {used = used} e h = subst (λ r. HasPassed T stands old r rest used) (sym e) h
 
-pub plain_passed : {T : Table} {X O : Type 0} {stands : X → List Telling → Type 0} {old run new : Run X O} {rest : List ℕ} {used count taken next : ℕ} {u part : TypeId} → AtItem T stands old run rest used count (Part part) u next → old.taken + length rest ≤ old.length → used < length rest
-    → TakesPlain T stands run new (take (length rest - used) (drop used rest)) taken → HasPassed T stands old new rest (used + taken)
+pub plain_passed : {T : Table} {X O : Type 0} {stands : X → List Telling → Type 0} {old run new : Run X O} {rest : List ℕ} {used count taken : ℕ} {f g : Frame} {part : TypeId} → AtItem T stands old run rest used count (Part part) f → old.taken + length rest ≤ old.length → used < length rest
+    → TakesPlain T stands run new g (take (length rest - used) (drop used rest)) taken → HasPassed T stands old new rest (used + taken)
 plain_passed {T = T} {stands = stands} {old = old} {new = new} {rest = rest} {used = used} h room some (not_taken e) = same_passed e (subst (HasPassed T stands old _ rest) (omega arith) (item_passed h))
-plain_passed h room some (plain_taken s w p a k) = item_passed (plain_on h room some s (record { within = w; passes = p; awaited = a; stack = k }))
+plain_passed h room some (plain_taken s w p a k d) = item_passed (plain_on h room some s (record { within = w; passes = p; awaited = a; stack = k; as_deep = d }))
+
+-- what was taken within a list, or nothing
+pub item_stepped : {T : Table} {X O : Type 0} {stands : X → List Telling → Type 0} {old run : Run X O} {rest : List ℕ} {used count : ℕ} {i : Item} {f : Frame} → AtItem T stands old run rest used count i f → (used ≡ 0 → run ≡ old) → StepsPlain T stands old run rest (record { used = used; whole = false })
+item_stepped {used = zero} h same = not_stepped refl (same refl)
+item_stepped {used = suc used} h same = stepped_over (omega arith) h.come.within h.come.more (come_steps h.come)
+
+pub taken_stepped : {T : Table} {X O : Type 0} {stands : X → List Telling → Type 0} {old run new : Run X O} {rest : List ℕ} {used count taken : ℕ} {f g : Frame} {part : TypeId} → AtItem T stands old run rest used count (Part part) f → (used ≡ 0 → run ≡ old) → old.taken + length rest ≤ old.length → used < length rest
+    → TakesPlain T stands run new g (take (length rest - used) (drop used rest)) taken → StepsPlain T stands old new rest (record { used = used + taken; whole = false })
+taken_stepped {T = T} {stands = stands} {old = old} {new = new} {rest = rest} {used = used} h same room some (not_taken e) =
+    subst (λ n. StepsPlain T stands old new rest (record { used = n; whole = false })) (omega arith) (subst (λ r. StepsPlain T stands old r rest (record { used = used; whole = false })) (sym e) (item_stepped h same))
+taken_stepped h same room some (plain_taken s w p a k d) =
+    let on = plain_on h room some s (record { within = w; passes = p; awaited = a; stack = k; as_deep = d }) in
+    stepped_over (omega arith) on.come.within on.come.more (come_steps on.come)
+
+-- in a list an element is awaited
+element_within : {T : Table} {t : TypeId} {fs : List Frame} {z : List ℕ} {us : List Telling} {u e : TypeId} {left : ℕ} → Within T t fs z us u → IsInList e left fs → u ≡ e
+element_within (at_once s i) h = cc
+element_within (behind_tag s i) h = cc
+element_within (in_list w k i n b c) h = cc
+element_within (at_key w k n b c) h = cc
+element_within (at_value w k n b c x y) h = cc
+element_within (in_field w k b l m g n) h = cc
+
+pub element_is : {T : Table} {X O : Type 0} {stands : X → List Telling → Type 0} {run : Run X O} {id e : TypeId} {left : ℕ} → run.state.awaited ≡ Number (Part id) → IsOpenSomewhere T stands run → IsInList e left run.state.stack → run.state.awaited ≡ Number (Part e)
+element_is a o h = a ∙ ap (λ u. Number (Part u)) (element_within (placed_begun a o.open_.reached.placed).within h)
+
+pub goes_to_element : {e : TypeId} (left less : ℕ) → left ≡ less + 1 → Frames.GoesOn (frame.Many e left) (frame.Many e less)
+goes_to_element zero less h = absurd (omega arith)
+goes_to_element {e = e} (suc left) less h = subst (λ n. Frames.GoesOn (frame.Many e (suc left)) (frame.Many e n)) (omega arith) to_element
 
 -- behind the first part
 pub part_deep : {T : Table} {X O : Type 0} {stands : X → List Telling → Type 0} {run : Run X O} {id : TypeId} → run.state.awaited ≡ Number (Part id) → IsOpenSomewhere T stands run → length run.state.stack + 1 ≤ run.depth
 part_deep {run = run} e o = subst (λ a. depth_of a run.state.stack ≤ run.depth) e o.open_.not_deep
 
-pub plain_opens : {T : Table} {X O : Type 0} {stands : X → List Telling → Type 0} {old new : Run X O} {rest : List ℕ} {used : ℕ} → IsPlainTaken T stands old new rest used → length old.state.stack + 1 ≤ old.depth → old.taken + length rest ≤ old.length → used < length rest → Opens T stands new
-plain_opens {new = new} {rest = rest} {used = used} p deep room some =
-    let n = p.passes.more.depth_is in let m = ap length p.stack in let t = p.passes.more.taken in let l = p.passes.more.length_is in
-    opens_here (subst (λ a. depth_of a new.state.stack ≤ new.depth) (sym p.awaited) (omega arith)) (omega (arith, length-take used rest))
+-- what is awaited in an open part is at most one deeper
+pub item_shallow : (g : Frame) (count : ℕ) → item_depth (item_of g) count ≤ count + 1
+item_shallow (frame.Many e left) count = omega arith
+item_shallow (frame.Key k e left) count = omega arith
+item_shallow (frame.Elem k e left) count = omega arith
+item_shallow (frame.Fields u next) count = omega arith
 
-pub plain_open : {T : Table} {X O : Type 0} {stands : X → List Telling → Type 0} {old new : Run X O} {rest : List ℕ} {used : ℕ} → IsPlainTaken T stands old new rest used → IsOpenSomewhere T stands old → length old.state.stack + 1 ≤ old.depth → old.taken + length rest ≤ old.length → used < length rest → IsOpenSomewhere T stands new
+pub plain_opens : {T : Table} {X O : Type 0} {stands : X → List Telling → Type 0} {old new : Run X O} {g : Frame} {rest : List ℕ} {used : ℕ} → IsPlainTaken T stands old new g rest used → length old.state.stack + 1 ≤ old.depth → old.taken + length rest ≤ old.length → used < length rest → Opens T stands new
+plain_opens {new = new} {g = g} {rest = rest} {used = used} p deep room some =
+    let n = p.passes.more.depth_is in let m = p.as_deep in let t = p.passes.more.taken in let l = p.passes.more.length_is in
+    opens_here (subst (λ a. depth_of a new.state.stack ≤ new.depth) (sym p.awaited) (let i = item_shallow g (length new.state.stack) in omega arith)) (omega (arith, length-take used rest))
+
+pub plain_open : {T : Table} {X O : Type 0} {stands : X → List Telling → Type 0} {old new : Run X O} {g : Frame} {rest : List ℕ} {used : ℕ} → IsPlainTaken T stands old new g rest used → IsOpenSomewhere T stands old → length old.state.stack + 1 ≤ old.depth → old.taken + length rest ≤ old.length → used < length rest → IsOpenSomewhere T stands new
 plain_open {rest = rest} {used = used} p o deep room some = record { type = o.type; bytes = o.bytes ++ take used rest; open_ = (plain_opens p deep room some).each o.type (o.bytes ++ take used rest) (p.passes.steps.each o.type o.bytes o.open_) }
 
-pub plain_more : {T : Table} {X O : Type 0} {stands : X → List Telling → Type 0} {old new : Run X O} {rest : List ℕ} {used : ℕ} → IsPlainTaken T stands old new rest used → TakesMore old new used
+pub plain_more : {T : Table} {X O : Type 0} {stands : X → List Telling → Type 0} {old new : Run X O} {g : Frame} {rest : List ℕ} {used : ℕ} → IsPlainTaken T stands old new g rest used → TakesMore old new used
 plain_more {rest = rest} {used = used} p = record { taken = (let t = p.passes.more.taken in let w = p.within in omega (arith, length-take used rest)); length_is = p.passes.more.length_is; depth_is = p.passes.more.depth_is }
 
 -- what was stepped over, or not
@@ -392,6 +446,6 @@ pub stepped_none : {T : Table} {X O : Type 0} {stands : X → List Telling → T
 stepped_none (not_stepped z e) l = e
 stepped_none (stepped_over p w m s) l = absurd (omega arith)
 
-pub plain_stepped : {T : Table} {X O : Type 0} {stands : X → List Telling → Type 0} {old new : Run X O} {rest : List ℕ} {used : ℕ} → TakesPlain T stands old new rest used → StepsPlain T stands old new rest (record { used = used; whole = false })
+pub plain_stepped : {T : Table} {X O : Type 0} {stands : X → List Telling → Type 0} {old new : Run X O} {g : Frame} {rest : List ℕ} {used : ℕ} → TakesPlain T stands old new g rest used → StepsPlain T stands old new rest (record { used = used; whole = false })
 plain_stepped (not_taken e) = not_stepped refl e
-plain_stepped (plain_taken s w p a k) = stepped_over s w (plain_more (record { within = w; passes = p; awaited = a; stack = k })) p.steps
+plain_stepped (plain_taken s w p a k d) = stepped_over s w (plain_more (record { within = w; passes = p; awaited = a; stack = k; as_deep = d })) p.steps

@@ -9,6 +9,8 @@ use Rattle.gob_types.specs.Table.{Table}
 use Rattle.gob_read.specs.Telling.{Telling, number, raw_start, raw_more, leave, field}
 use Rattle.gob_read.specs.Building.{IsTold}
 use Rattle.gob_read.specs.Kinds.{IsScalar, IsRawKind}
+use Rattle.gob_read.specs.Frames as Frames
+use Rattle.gob_read.specs.Frames.{item_of}
 use Rattle.gob_read.specs.Steps.{CanBegin, CanGoOn, GoesOn}
 use Rattle.gob_read.specs.Running.{TakesMore, Steps}
 use Rattle.gob_read.specs.declared.frame.Frame.{Frame}
@@ -42,11 +44,15 @@ pub data TellsPlain {X O : Type 0} (stands : X → List Telling → Type 0) (old
 abbrev pub IsInFields : TypeId → ℕ → List Frame → Type 0
 IsInFields u next fs = slice_get fs 0 ≡ Some (frame.Fields u next)
 
--- it is a struct
-pub record IsInStructFrame (fs : List Frame) : Type 0 where
-  pub id : TypeId
-  pub next : ℕ
-  pub innermost : IsInFields id next fs
+-- the innermost open part is a list of elements of the type, of which so many are to come behind the one that is read
+abbrev pub IsInList : TypeId → ℕ → List Frame → Type 0
+IsInList e left fs = slice_get fs 0 ≡ Some (frame.Many e left)
+
+-- behind the part that is read, the innermost open part is this one
+pub record IsFollowedBy (next : Frame) (fs : List Frame) : Type 0 where
+  pub frame : Frame
+  pub innermost : slice_get fs 0 ≡ Some frame
+  pub goes_on : Frames.GoesOn frame next
 
 -- the reader has stepped over the bytes, and the next item begins behind them
 pub record Passes (T : Table) {X O : Type 0} (stands : X → List Telling → Type 0) (old new : Run X O) (bytes : List ℕ) : Type 0 where
@@ -54,10 +60,10 @@ pub record Passes (T : Table) {X O : Type 0} (stands : X → List Telling → Ty
   pub steps : Steps T stands old new bytes false
   pub fresh : new.start ≡ new.taken
 
--- the part was taken with so many bytes, and a delta is awaited behind it in the same struct, or nothing was done
-pub data TakesPlain (T : Table) {X O : Type 0} (stands : X → List Telling → Type 0) (old new : Run X O) (rest : List ℕ) : ℕ → Type 0 where
-  not_taken : new ≡ old → TakesPlain T stands old new rest 0
-  plain_taken : {used : ℕ} → 0 < used → used ≤ length rest → Passes T stands old new (take used rest) → new.state.awaited ≡ Number Delta → new.state.stack ≡ old.state.stack → TakesPlain T stands old new rest used
+-- the part was taken with so many bytes, and behind it the innermost open part is this one, or nothing was done
+pub data TakesPlain (T : Table) {X O : Type 0} (stands : X → List Telling → Type 0) (old new : Run X O) (next : Frame) (rest : List ℕ) : ℕ → Type 0 where
+  not_taken : new ≡ old → TakesPlain T stands old new next rest 0
+  plain_taken : {used : ℕ} → 0 < used → used ≤ length rest → Passes T stands old new (take used rest) → new.state.awaited ≡ Number (item_of next) → new.state.stack ≡ next ∷ drop 1 old.state.stack → length new.state.stack ≡ length old.state.stack → TakesPlain T stands old new next rest used
 
 -- so much of the piece was stepped over, or nothing was done
 pub data StepsPlain (T : Table) {X O : Type 0} (stands : X → List Telling → Type 0) (old new : Run X O) (rest : List ℕ) (s : Stepped) : Type 0 where

@@ -1,12 +1,12 @@
-//! Parts of basic types that stand whole in a piece. Those of a struct are taken one behind another, without a look
-//! at what is awaited in between.
+//! Parts of basic types that stand whole in a piece. Those of a struct or of a list are taken one behind another,
+//! without a look at what is awaited in between.
 
 ghost use Rattle.std.specs.Prelude.{◌≡◌, ◌+◌, ◌<◌, ◌≤◌, IfOk, IfErr, IfSome, OnOk, [], ◌∷◌, length, take};
 ghost use Rattle.gob_types.specs.Table.{Table};
 ghost use Rattle.gob_types.specs.declared.kind.Kind.TheVariants as kind;
 ghost use Rattle.gob_read.specs.Kinds.{HasKind, IsScalar, IsRawKind};
 ghost use Rattle.gob_read.specs.Running.{IsOpenSomewhere, IsOpenIn, TakesMore, Steps, StopsFor, RefusesAt};
-ghost use Rattle.gob_read.specs.Plain.{CanTellPlain, TellsPlain, IsInFields, IsInStructFrame, TakesPlain, TakesName};
+ghost use Rattle.gob_read.specs.Plain.{CanTellPlain, TellsPlain, IsInFields, IsInList, IsFollowedBy, TakesPlain, TakesName};
 ghost use Rattle.gob_read.specs.Plain.{StepsPlain};
 
 use crate::awaited::{Awaited, Item};
@@ -116,7 +116,7 @@ impl<B: Builder> Run<B> {
         self.step_number(shapes, Item::Part { id }, rest)
     }
 
-    /// Takes the awaited part and what stands whole behind it in its struct, if it is in a struct and no byte of it
+    /// Takes the awaited part and what stands whole behind it in its struct or list, if it is in one and no byte of it
     /// was taken before. Where it isn't taken, nothing is done.
     #[inline(always)]
     fn step_plain<S: Shapes>(
@@ -127,16 +127,18 @@ impl<B: Builder> Run<B> {
     ) -> Result<Stepped, Memory>
         requires awaited { self.old.state.awaited ≡ Awaited.Number (Item.Part id) }
         requires stands { IsOpenSomewhere (S.table shapes.now) B.stands self.old }
+        requires some { 0 < length rest.now }
         requires room { self.old.taken + length rest.now ≤ self.old.length }
         ensures { IfOk result (λ stepped. StepsPlain (S.table shapes.now) B.stands self.old self.new rest.now stepped) }
     {
         if self.start != self.taken {
             return Ok(Stepped::NONE);
         }
-        let Some(Frame::Fields { id: of, next }) = self.state.stack.innermost() else {
-            return Ok(Stepped::NONE);
-        };
-        self.step_parts(shapes, of, next, id, rest)
+        match self.state.stack.innermost() {
+            Some(Frame::Fields { id: of, next }) => self.step_parts(shapes, of, next, id, rest),
+            Some(Frame::Many { elem, left }) => self.step_elements(shapes, elem, left, rest),
+            _ => Ok(Stepped::NONE),
+        }
     }
 
     /// Takes the awaited part of the innermost open struct, and what stands whole behind it there.
@@ -156,7 +158,7 @@ impl<B: Builder> Run<B> {
         requires room { self.old.taken + length rest.now ≤ self.old.length }
         ensures { IfOk result (λ stepped. StepsPlain (S.table shapes.now) B.stands self.old self.new rest.now stepped) }
     {
-        let used = self.take_plain(shapes, id, rest)?;
+        let used = self.take_plain_field(shapes, id, of, next, rest)?;
         if used == 0 || used == rest.len() {
             return Ok(Stepped { used, whole: false });
         }
@@ -209,7 +211,13 @@ impl<B: Builder> Run<B> {
             if used == rest.len() {
                 return Ok(Stepped { used, whole: false });
             }
-            let taken = self.take_plain(shapes, entered.part, &rest[used..])?;
+            let taken = self.take_plain_field(
+                shapes,
+                entered.part,
+                of,
+                entered.next,
+                &rest[used..],
+            )?;
             used += taken;
             if taken == 0 || used == rest.len() {
                 return Ok(Stepped { used, whole: false });
@@ -219,32 +227,95 @@ impl<B: Builder> Run<B> {
         Ok(Stepped { used, whole: false })
     }
 
-    /// Takes the awaited part, if it is of a basic type and stands whole in the piece. It answers how many bytes it
-    /// has, and 0 where it isn't taken.
+    /// Takes the awaited element of the innermost open list, and those behind it, as long as they are of a basic type
+    /// and stand whole in the piece. The last one of the list isn't taken, since the list ends with it.
+    #[inline(never)]
+    fn step_elements<S: Shapes>(
+        &mut self,
+        shapes: &S,
+        elem: TypeId,
+        left: u64,
+        rest: &[u8],
+    ) -> Result<Stepped, Memory>
+        requires awaited { self.old.state.awaited ≡ Awaited.Number (Item.Part elem) }
+        requires inside { IsInList elem left self.old.state.stack }
+        requires stands { IsOpenSomewhere (S.table shapes.now) B.stands self.old }
+        requires fresh { self.old.start ≡ self.old.taken }
+        requires some { 0 < length rest.now }
+        requires room { self.old.taken + length rest.now ≤ self.old.length }
+        ensures { IfOk result (λ stepped. StepsPlain (S.table shapes.now) B.stands self.old self.new rest.now stepped) }
+    {
+        let Some(basic) = basic_of(shapes, elem) else {
+            return Ok(Stepped::NONE);
+        };
+        let mut used = 0;
+        'elements: for index in 0..left {
+            let next = Frame::Many {
+                elem,
+                left: left - 1 - index,
+            };
+            let taken = self.take_plain(shapes, elem, basic, next, &rest[used..])?;
+            used += taken;
+            if taken == 0 || used == rest.len() {
+                return Ok(Stepped { used, whole: false });
+            }
+        }
+        Ok(Stepped { used, whole: false })
+    }
+
+    /// Takes the awaited part of a struct, if it is of a basic type and stands whole in the piece. It answers how many
+    /// bytes it has, and 0 where it isn't taken.
     #[inline(always)]
-    fn take_plain<S: Shapes>(
+    fn take_plain_field<S: Shapes>(
         &mut self,
         shapes: &S,
         id: TypeId,
+        of: TypeId,
+        next: u64,
         rest: &[u8],
     ) -> Result<usize, Memory>
         requires awaited { self.old.state.awaited ≡ Awaited.Number (Item.Part id) }
-        requires inside { IsInStructFrame self.old.state.stack }
+        requires inside { IsInFields of next self.old.state.stack }
         requires stands { IsOpenSomewhere (S.table shapes.now) B.stands self.old }
         requires fresh { self.old.start ≡ self.old.taken }
         requires room { self.old.taken + length rest.now ≤ self.old.length }
-        ensures { IfOk result (λ used. TakesPlain (S.table shapes.now) B.stands self.old self.new rest.now used) }
+        ensures { IfOk result (λ used. TakesPlain (S.table shapes.now) B.stands self.old self.new
+            (Frame.Fields of next) rest.now used) }
     {
-        let Taken::Whole { number, used } = take_uint(rest) else {
+        let Some(basic) = basic_of(shapes, id) else {
             return Ok(0);
         };
-        let Some(basic) = basic_of(shapes, id) else {
+        self.take_plain(shapes, id, basic, Frame::Fields { id: of, next }, rest)
+    }
+
+    /// Takes the awaited part, which is of the basic type, if it stands whole in the piece. Behind it `next` is the
+    /// innermost open part. It answers how many bytes the part has, and 0 where it isn't taken.
+    #[inline(always)]
+    fn take_plain<S: Shapes>(
+        &mut self,
+        _shapes: &S,
+        id: TypeId,
+        basic: Basic,
+        next: Frame,
+        rest: &[u8],
+    ) -> Result<usize, Memory>
+        requires awaited { self.old.state.awaited ≡ Awaited.Number (Item.Part id) }
+        requires kind_ { HasKind (S.table _shapes.now) id (kind.Basic basic) }
+        requires inside { IsFollowedBy next self.old.state.stack }
+        requires stands { IsOpenSomewhere (S.table _shapes.now) B.stands self.old }
+        requires fresh { self.old.start ≡ self.old.taken }
+        requires room { self.old.taken + length rest.now ≤ self.old.length }
+        ensures { IfOk result (λ used. TakesPlain (S.table _shapes.now) B.stands self.old self.new
+            next rest.now used) }
+    {
+        let Taken::Whole { number, used } = take_uint(rest) else {
             return Ok(0);
         };
         let Some(more) = self.state.tell_plain(basic, number, &rest[used..])? else {
             return Ok(0);
         };
-        self.state.awaited = Awaited::Number(Item::Delta);
+        self.state.stack.replace(next);
+        self.state.awaited = Awaited::Number(next.item());
         self.taken += (used + more) as u64;
         self.start = self.taken;
         Ok(used + more)

@@ -38,17 +38,17 @@ returns-then-used-rest-clause-more g c = (item_passed (named_on c.fields.invaria
 pub returns-then-used-rest-clause-ok : goal.returns-then-used-rest-clause-ok
 returns-then-used-rest-clause-ok g c = (item_passed (named_on c.fields.invariant.at c.requires.room c.fields.invariant.some (named_as c.in-Some-2.is c.in_ok-entered.ensures))).steps
 
-pub take_plain-requires-clause-awaited : goal.take_plain-requires-clause-awaited
-take_plain-requires-clause-awaited g c = (named_as c.in-Some-2.is c.in_ok-entered.ensures).awaited
+pub take_plain_field-requires-clause-awaited : goal.take_plain_field-requires-clause-awaited
+take_plain_field-requires-clause-awaited g c = (named_as c.in-Some-2.is c.in_ok-entered.ensures).awaited
 
-pub take_plain-requires-clause-inside : goal.take_plain-requires-clause-inside
-take_plain-requires-clause-inside g c = let e = named_as c.in-Some-2.is c.in_ok-entered.ensures in record { id = _; next = _; innermost = e.inside }
+pub take_plain_field-requires-clause-inside : goal.take_plain_field-requires-clause-inside
+take_plain_field-requires-clause-inside g c = (named_as c.in-Some-2.is c.in_ok-entered.ensures).inside
 
-pub take_plain-requires-clause-fresh : goal.take_plain-requires-clause-fresh
-take_plain-requires-clause-fresh g c = (named_as c.in-Some-2.is c.in_ok-entered.ensures).passes.fresh
+pub take_plain_field-requires-clause-fresh : goal.take_plain_field-requires-clause-fresh
+take_plain_field-requires-clause-fresh g c = (named_as c.in-Some-2.is c.in_ok-entered.ensures).passes.fresh
 
-pub take_plain-requires-clause-stands : goal.take_plain-requires-clause-stands
-take_plain-requires-clause-stands g c = item_open (named_on c.fields.invariant.at c.requires.room c.fields.invariant.some (named_as c.in-Some-2.is c.in_ok-entered.ensures)) c.requires.stands (omega arith) c.requires.room (omega arith)
+pub take_plain_field-requires-clause-stands : goal.take_plain_field-requires-clause-stands
+take_plain_field-requires-clause-stands g c = item_open (named_on c.fields.invariant.at c.requires.room c.fields.invariant.some (named_as c.in-Some-2.is c.in_ok-entered.ensures)) c.requires.stands (omega arith) c.requires.room (omega arith)
 
 pub overflow_add-used-in-fields : goal.overflow_add-used-in-fields
 overflow_add-used-in-fields g c = let w = taken_within c.in_ok-taken.ensures in omega (arith, rest_some c.args.rest.now (c.fields.used + 1))

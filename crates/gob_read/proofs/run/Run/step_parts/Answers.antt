@@ -14,7 +14,7 @@ step_fields-requires-clause-stands g c =
     plain_open p c.requires.stands (part_deep c.requires.awaited c.requires.stands) c.requires.room (omega arith)
 
 pub step_fields-requires-clause-inside : goal.step_fields-requires-clause-inside
-step_fields-requires-clause-inside g c = ap (λ fs. slice_get fs 0) (taken_some c.in_ok-used.ensures (omega arith)).stack ∙ c.requires.inside
+step_fields-requires-clause-inside g c = ap (λ fs. slice_get fs 0) (taken_some c.in_ok-used.ensures (omega arith)).stack
 
 pub step_fields-requires-clause-fresh : goal.step_fields-requires-clause-fresh
 step_fields-requires-clause-fresh g c = (taken_some c.in_ok-used.ensures (omega arith)).passes.fresh

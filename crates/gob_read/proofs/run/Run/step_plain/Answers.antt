@@ -1,5 +1,6 @@
-use Rattle.std.proofs.Common.{refl}
+use Rattle.std.proofs.Common.{Some, refl, sym, ap, ◌∙◌}
 use Rattle.gob_read.specs.Plain.{not_stepped}
+use Rattle.gob_read.proofs.PlainSteps.{element_is}
 use Rattle.gob_read.proofs.run.Run.step_plain.Goals as goal
 
 pub returns-then-self : goal.returns-then-self
@@ -8,5 +9,5 @@ returns-then-self g c = not_stepped refl refl
 pub returns-in_default : goal.returns-in_default
 returns-in_default g c = not_stepped refl refl
 
-pub returns-in_default-2 : goal.returns-in_default-2
-returns-in_default-2 g c = not_stepped refl refl
+pub step_elements-requires-clause-awaited : goal.step_elements-requires-clause-awaited
+step_elements-requires-clause-awaited g c = element_is c.requires.awaited c.requires.stands (sym c.innermost.ensures ∙ (c.in-Some-Many.is ∙ ap Some c.in-Some-Many.field-0-is))
