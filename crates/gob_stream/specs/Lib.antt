@@ -7,11 +7,11 @@ pub mod Outcome
 pub mod RefusalText
 pub mod WriterRefusal
 pub mod Devices
-pub mod Session
 pub mod Standing
 pub mod Reading
 pub mod Whole
 pub mod Honest
 pub mod ReadParts
+pub mod Session
 pub mod Writing
 pub mod Laws

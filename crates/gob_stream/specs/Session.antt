@@ -1,5 +1,110 @@
--- What contracts see of a session.
+-- What contracts see of a session: the items that it has read of the bytes so far, its types and its limits. Each word takes
+-- what a builder stands for and how deep it goes, where it speaks of items.
+use Rattle.std.specs.Prelude.{◌≡◌, ℕ, ◌++◌, ◌∷◌, [], List, Option, Result, length}
+use Rattle.gob_types.specs.Base.{base_table}
+use Rattle.gob_types.specs.Defined.{Defined, types}
+use Rattle.gob_types.specs.Table.{Table}
+use Rattle.gob_types.specs.declared.id.TypeId.{TypeId}
+use Rattle.gob_value.specs.Tree.{Tree}
+use Rattle.gob_read.specs.contracts.tree_builder.TreeBuilderBuilder.TheImpl as tree_builder
+use Rattle.gob_stream.specs.declared.fault.Fault.{Fault}
+use Rattle.gob_stream.specs.declared.item.Item as declared
 use Rattle.gob_stream.specs.declared.reading.Reading.{Reading}
+use Rattle.gob_stream.specs.declared.reading.Step.{Step}
+use Rattle.gob_stream.specs.declared.stage.Stage.TheVariants as stage
+use Rattle.gob_stream.specs.Bounds.{Bounds, no_deeper}
+use Rattle.gob_stream.specs.Honest.{FeedsHonestly, ReadsHonestly}
+use Rattle.gob_stream.specs.Item.{StreamItem}
+use Rattle.gob_stream.specs.ReadParts.{Advances}
+use Rattle.gob_stream.specs.Reading.{Feeds, Finishes, ReadsNext, TakesNext}
+use Rattle.gob_stream.specs.Standing.{Standing, StandsAfter}
+use Rattle.gob_stream.specs.Stream.{Counted}
+use Rattle.gob_stream.specs.Whole.{IsBetween, HasBody, HasItem, PassesItem}
 
 pub record SessionState (X O : Type 0) : Type 0 where
   pub reading : Reading X O
+
+-- the session has given these items, and taken these bytes
+abbrev pub HasRead : {X O : Type 0} → Standing X → (most : ℕ) → SessionState X O → List StreamItem → List ℕ → Type 0
+HasRead stands most s items bytes = StandsAfter stands tree_builder.stands-value.it most s.reading items bytes
+
+-- it has met a fault, behind which it reads no more
+abbrev pub HasFailed : {X O : Type 0} → SessionState X O → Type 0
+HasFailed s = s.reading.stage ≡ stage.Failed
+
+-- no byte of an item is under way
+abbrev pub IsBetweenItems : {X O : Type 0} → SessionState X O → Type 0
+IsBetweenItems s = IsBetween s.reading
+
+-- the types that the items so far have defined, how many bytes were taken, and what it keeps to
+abbrev pub table_of : {X O : Type 0} → SessionState X O → Defined
+table_of s = s.reading.types
+
+abbrev pub types_of : {X O : Type 0} → SessionState X O → Table
+types_of s = types (table_of s)
+
+abbrev pub taken_of : {X O : Type 0} → SessionState X O → ℕ
+taken_of s = s.reading.taken
+
+abbrev pub limits_of : {X O : Type 0} → SessionState X O → Bounds
+limits_of s = s.reading.limits
+
+-- nothing in it has changed
+abbrev pub StaysAsItWas : {X O : Type 0} → (s s' : SessionState X O) → Type 0
+StaysAsItWas s s' = s'.reading ≡ s.reading
+
+-- what the calls answer, to a session that had given the items, of these bytes
+abbrev pub FeedAnswers : {X O : Type 0} → Standing X → (means : O → Tree → Type 0) → (most : ℕ) → (s s' : SessionState X O)
+    → List StreamItem → (bytes piece : List ℕ) → List (declared.Item O) → Result (Unit {0}) Fault → Type 0
+FeedAnswers stands means most s s' items bytes piece given result =
+    Feeds stands tree_builder.stands-value.it means most s.reading s'.reading items bytes piece given result
+
+abbrev pub FinishAnswers : {X O : Type 0} → (most : ℕ) → (s s' : SessionState X O) → List StreamItem → List ℕ
+    → Result (Unit {0}) Fault → Type 0
+FinishAnswers most s s' items bytes result = Finishes most s.reading s'.reading items bytes result
+
+abbrev pub StepAnswers : {X O : Type 0} → Standing X → (means : O → Tree → Type 0) → (most : ℕ) → (s s' : SessionState X O)
+    → List StreamItem → (bytes piece : List ℕ) → Result (Step O) Fault → Type 0
+StepAnswers stands means most s s' items bytes piece result =
+    Advances stands tree_builder.stands-value.it means most s.reading s'.reading items bytes piece result
+
+abbrev pub ReadItemAnswers : {X O : Type 0} → Standing X → (means : O → Tree → Type 0) → (most : ℕ)
+    → (s s' : SessionState X O) → List StreamItem → (bytes rest : List ℕ) → Option (List ℕ)
+    → Result (Option (declared.Item O)) Fault → Type 0
+ReadItemAnswers stands means most s s' items bytes rest now result =
+    ReadsNext stands tree_builder.stands-value.it means most s.reading s'.reading items bytes rest now result
+
+-- how many bytes of its input the reading of an item takes
+abbrev pub ReadItemTakes : {X O : Type 0} → (s s' : SessionState X O) → (taken taken' : ℕ)
+    → Result (Option (declared.Item O)) Fault → Type 0
+ReadItemTakes s s' taken taken' result = TakesNext s.reading s'.reading taken taken' result
+
+-- the place of a refusal is honest
+abbrev pub FeedsHonestlyFrom : {X O : Type 0} → (means : O → Tree → Type 0) → (most : ℕ) → SessionState X O
+    → List StreamItem → (bytes : List ℕ) → List (declared.Item O) → Result (Unit {0}) Fault → Type 0
+FeedsHonestlyFrom means most s items bytes given result = FeedsHonestly means (no_deeper most (limits_of s)) items bytes given result
+
+abbrev pub ReadsHonestlyFrom : {X O A : Type 0} → (most : ℕ) → SessionState X O → List StreamItem → (bytes rest : List ℕ)
+    → Option (List ℕ) → Result A Fault → Type 0
+ReadsHonestlyFrom most s items bytes rest now result = ReadsHonestly (no_deeper most (limits_of s)) items bytes rest now result
+
+-- the first bytes of the piece are the next item, of a value of the type with this body
+abbrev pub HasBodyNext : {X O : Type 0} → SessionState X O → TypeId → (body : List ℕ) → (used : ℕ) → (piece : List ℕ) → Type 0
+HasBodyNext s id body used piece = HasBody (limits_of s) (types_of s) (taken_of s) id body used piece
+
+-- so many bytes may be the next item, which defines nothing
+abbrev pub HasItemNext : {X O : Type 0} → (most : ℕ) → SessionState X O → (used : ℕ) → Type 0
+HasItemNext most s used = HasItem (no_deeper most (limits_of s)) (types_of s) (taken_of s) used
+
+-- it has read such an item
+abbrev pub ReadsOn : {X O : Type 0} → Standing X → (most : ℕ) → (s s' : SessionState X O) → (used : ℕ) → Type 0
+ReadsOn stands most s s' used = (items : List StreamItem) (bytes : List ℕ) (item : StreamItem) (z : List ℕ)
+    → HasRead stands most s items bytes
+    → Counted base_table (no_deeper most (limits_of s)) (types_of s) (taken_of s) item z (types_of s)
+    → length z ≡ used
+    → HasRead stands most s' (items ++ item ∷ []) (bytes ++ z)
+
+-- it has read the item of a value of the type, the first bytes of the piece
+abbrev pub ReadsValue : {X O : Type 0} → Standing X → (most : ℕ) → (s s' : SessionState X O) → TypeId → (used : ℕ)
+    → (piece : List ℕ) → Type 0
+ReadsValue stands most s s' id used piece = PassesItem stands tree_builder.stands-value.it most s.reading s'.reading id used piece

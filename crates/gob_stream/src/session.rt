@@ -43,25 +43,23 @@ impl<B: Builder> Model for Session<B> {
 }
 
 impl<B: Builder> Session<B> {
-    ghost use Rattle.std.specs.Prelude.{◌≡◌, ◌+◌, ◌<◌, ◌≤◌, ◌++◌, ◌∷◌, ℕ, List, [], length, Err, Some, None};
+    ghost use Rattle.std.specs.Prelude.{◌≡◌, ◌+◌, ◌<◌, ◌≤◌, ◌++◌, ℕ, List, [], length, Err, Some, None};
     ghost use Rattle.std.specs.Prelude.{IfOk, IfSome, OnErr};
-    ghost use Rattle.gob_types.specs.Base.{base_table};
-    ghost use Rattle.gob_stream.specs.Bounds.{AreLimits, deepest, no_deeper};
-    ghost use Rattle.gob_types.specs.Defined.{types};
+    ghost use Rattle.gob_stream.specs.Bounds.{AreLimits, deepest};
     ghost use Rattle.gob_stream.specs.Item.{StreamItem};
-    ghost use Rattle.gob_stream.specs.Standing.{StandsAfter};
-    ghost use Rattle.gob_stream.specs.Stream.{Counted};
-    ghost use Rattle.gob_stream.specs.ReadParts.{Advances};
-    ghost use Rattle.gob_stream.specs.Whole.{IsBetween, HasBody, HasItem, PassesItem};
-    ghost use Rattle.gob_stream.specs.Honest.{FeedsHonestly, ReadsHonestly};
-    ghost use Rattle.gob_stream.specs.Reading.{Given, Feeds, Finishes, ReadsNext, CountsReads, TakesNext};
+    ghost use Rattle.gob_stream.specs.Reading.{Given, CountsReads};
+    ghost use Rattle.gob_stream.specs.Session.{HasRead, HasFailed, IsBetweenItems, StaysAsItWas};
+    ghost use Rattle.gob_stream.specs.Session.{table_of, types_of, taken_of, limits_of};
+    ghost use Rattle.gob_stream.specs.Session.{FeedAnswers, FeedsHonestlyFrom, FinishAnswers, StepAnswers};
+    ghost use Rattle.gob_stream.specs.Session.{ReadItemAnswers, ReadsHonestlyFrom, ReadItemTakes};
+    ghost use Rattle.gob_stream.specs.Session.{HasBodyNext, HasItemNext, ReadsOn, ReadsValue};
 
     /// A reader that has taken no byte. No value may be deeper than these limits allow, or than the builder takes.
     pub fn new(alloc: Global, limits: Limits) -> Result<Session<B>, Memory>
         ensures stands { IfOk result (λ session.
-            StandsAfter B.stands ⟦<TreeBuilder as Builder>⟧.stands B.DEPTH session.reading [] []) }
-        ensures taken { IfOk result (λ session. session.reading.taken ≡ 0) }
-        ensures limits { IfOk result (λ session. session.reading.limits ≡ limits) }
+            HasRead B.stands B.DEPTH session [] []) }
+        ensures taken { IfOk result (λ session. taken_of session ≡ 0) }
+        ensures limits { IfOk result (λ session. limits_of session ≡ limits) }
         ensures allowed { AreLimits deepest limits }
     {
         let reading = Reading::new(alloc, limits)?;
@@ -79,17 +77,15 @@ impl<B: Builder> Session<B> {
         out: &mut Vec<Item<B::Out>>,
     ) -> Result<(), Fault>
         ensures fed { Given out.old.items out.new.items (λ given. (items : List StreamItem) (bytes : List ℕ)
-            → StandsAfter B.stands ⟦<TreeBuilder as Builder>⟧.stands B.DEPTH self.old.reading items bytes
-            → Feeds B.stands ⟦<TreeBuilder as Builder>⟧.stands B.means B.DEPTH
-            self.old.reading self.new.reading items bytes piece.now given result) }
+            → HasRead B.stands B.DEPTH self.old items bytes
+            → FeedAnswers B.stands B.means B.DEPTH self.old self.new items bytes piece.now given result) }
         ensures honest { Given out.old.items out.new.items (λ given. (items : List StreamItem) (bytes : List ℕ)
-            → StandsAfter B.stands ⟦<TreeBuilder as Builder>⟧.stands B.DEPTH self.old.reading items bytes
-            → FeedsHonestly B.means (no_deeper B.DEPTH self.old.reading.limits)
-            items (bytes ++ piece.now) given result) }
-        ensures failed { OnErr result (self.new.reading.stage ≡ Stage.Failed) }
-        ensures stays { self.old.reading.stage ≡ Stage.Failed
-            → (result ≡ Err Fault.Failed) × (self.new.reading ≡ self.old.reading) × (out.new ≡ out.old) }
-        ensures limits { self.new.reading.limits ≡ self.old.reading.limits }
+            → HasRead B.stands B.DEPTH self.old items bytes
+            → FeedsHonestlyFrom B.means B.DEPTH self.old items (bytes ++ piece.now) given result) }
+        ensures failed { OnErr result (HasFailed self.new) }
+        ensures stays { HasFailed self.old
+            → (result ≡ Err Fault.Failed) × StaysAsItWas self.old self.new × (out.new ≡ out.old) }
+        ensures limits { limits_of self.new ≡ limits_of self.old }
     {
         if matches!(self.reading.stage, Stage::Failed) {
             return Err(Fault::Failed);
@@ -102,20 +98,20 @@ impl<B: Builder> Session<B> {
     /// [`Fault::Failed`].
     pub fn finish(&mut self) -> Result<(), Fault>
         ensures finishes { (items : List StreamItem) (bytes : List ℕ)
-            → StandsAfter B.stands ⟦<TreeBuilder as Builder>⟧.stands B.DEPTH self.old.reading items bytes
-            → Finishes B.DEPTH self.old.reading self.new.reading items bytes result }
-        ensures failed { OnErr result (self.new.reading.stage ≡ Stage.Failed) }
-        ensures stays { self.old.reading.stage ≡ Stage.Failed → (result ≡ Err Fault.Failed)
-            × (self.new.reading ≡ self.old.reading) }
-        ensures types { self.new.reading.types ≡ self.old.reading.types }
-        ensures limits { self.new.reading.limits ≡ self.old.reading.limits }
+            → HasRead B.stands B.DEPTH self.old items bytes
+            → FinishAnswers B.DEPTH self.old self.new items bytes result }
+        ensures failed { OnErr result (HasFailed self.new) }
+        ensures stays { HasFailed self.old → (result ≡ Err Fault.Failed)
+            × StaysAsItWas self.old self.new }
+        ensures types { table_of self.new ≡ table_of self.old }
+        ensures limits { limits_of self.new ≡ limits_of self.old }
     {
         self.reading.finish()
     }
 
     /// The types of the stream so far.
     pub fn table(&self) -> &Table
-        ensures { result.now ≡ self.now.reading.types }
+        ensures { result.now ≡ table_of self.now }
     {
         &self.reading.types
     }
@@ -124,30 +120,22 @@ impl<B: Builder> Session<B> {
     /// is ready and the limits allow its length. It takes no memory, and looks at no byte of the value. None says
     /// nothing of the piece.
     pub fn whole_value<'a>(&self, piece: &'a [u8]) -> Option<Whole<'a>>
-        ensures between { IfSome result (λ whole. IsBetween self.now.reading) }
+        ensures between { IfSome result (λ whole. IsBetweenItems self.now) }
         ensures body { IfSome result (λ whole.
-            HasBody self.now.reading.limits (types self.now.reading.types) self.now.reading.taken
-            whole.id whole.body.now whole.used piece.now) }
+            HasBodyNext self.now whole.id whole.body.now whole.used piece.now) }
     {
         self.reading.whole_value(piece)
     }
 
     /// Goes past so many bytes, which the caller has found to be an item that defines nothing.
     pub fn pass(&mut self, used: usize)
-        requires between { IsBetween self.old.reading }
-        requires item { HasItem (no_deeper B.DEPTH self.old.reading.limits)
-            (types self.old.reading.types) self.old.reading.taken used }
-        ensures passed { (items : List StreamItem) (bytes : List ℕ) (item : StreamItem) (z : List ℕ)
-            → StandsAfter B.stands ⟦<TreeBuilder as Builder>⟧.stands B.DEPTH self.old.reading items bytes
-            → Counted base_table (no_deeper B.DEPTH self.old.reading.limits) (types self.old.reading.types)
-            self.old.reading.taken item z (types self.old.reading.types)
-            → length z ≡ used
-            → StandsAfter B.stands ⟦<TreeBuilder as Builder>⟧.stands B.DEPTH self.new.reading
-            (items ++ item ∷ []) (bytes ++ z) }
-        ensures between { IsBetween self.new.reading }
-        ensures taken { self.new.reading.taken ≡ self.old.reading.taken + used }
-        ensures types { self.new.reading.types ≡ self.old.reading.types }
-        ensures limits { self.new.reading.limits ≡ self.old.reading.limits }
+        requires between { IsBetweenItems self.old }
+        requires item { HasItemNext B.DEPTH self.old used }
+        ensures passed { ReadsOn B.stands B.DEPTH self.old self.new used }
+        ensures between { IsBetweenItems self.new }
+        ensures taken { taken_of self.new ≡ taken_of self.old + used }
+        ensures types { table_of self.new ≡ table_of self.old }
+        ensures limits { limits_of self.new ≡ limits_of self.old }
     {
         self.reading.pass(used);
     }
@@ -156,13 +144,13 @@ impl<B: Builder> Session<B> {
     /// takes no memory. None says nothing of the piece, and then nothing has changed: [`Session::step`] reads on, and
     /// refuses what is to be refused.
     pub fn pass_whole(&mut self, piece: &[u8]) -> Option<Passed>
-        ensures passed { IfSome result (λ item. PassesItem B.stands ⟦<TreeBuilder as Builder>⟧.stands B.DEPTH
-            self.old.reading self.new.reading item.id item.used piece.now) }
+        ensures passed { IfSome result (λ item. ReadsValue B.stands B.DEPTH self.old self.new
+            item.id item.used piece.now) }
         ensures same { result ≡ None → self.new ≡ self.old }
-        ensures between { IfSome result (λ item. IsBetween self.new.reading) }
-        ensures taken { IfSome result (λ item. self.new.reading.taken ≡ self.old.reading.taken + item.used) }
-        ensures types { self.new.reading.types ≡ self.old.reading.types }
-        ensures limits { self.new.reading.limits ≡ self.old.reading.limits }
+        ensures between { IfSome result (λ item. IsBetweenItems self.new) }
+        ensures taken { IfSome result (λ item. taken_of self.new ≡ taken_of self.old + item.used) }
+        ensures types { table_of self.new ≡ table_of self.old }
+        ensures limits { limits_of self.new ≡ limits_of self.old }
     {
         self.reading.pass_whole(piece)
     }
@@ -173,16 +161,15 @@ impl<B: Builder> Session<B> {
     pub fn step(&mut self, alloc: Global, piece: &[u8]) -> Result<Step<B::Out>, Fault>
         requires { 0 < length piece.now }
         ensures advances { (items : List StreamItem) (bytes : List ℕ)
-            → StandsAfter B.stands ⟦<TreeBuilder as Builder>⟧.stands B.DEPTH self.old.reading items bytes
-            → Advances B.stands ⟦<TreeBuilder as Builder>⟧.stands B.means B.DEPTH
-            self.old.reading self.new.reading items bytes piece.now result }
+            → HasRead B.stands B.DEPTH self.old items bytes
+            → StepAnswers B.stands B.means B.DEPTH self.old self.new items bytes piece.now result }
         ensures used { IfOk result (λ step. (0 < step.used) × (step.used ≤ length piece.now)) }
-        ensures failed { OnErr result (self.new.reading.stage ≡ Stage.Failed) }
-        ensures stays { self.old.reading.stage ≡ Stage.Failed
-            → (result ≡ Err Fault.Failed) × (self.new.reading ≡ self.old.reading) }
-        ensures types { OnErr result (self.new.reading.types ≡ self.old.reading.types) }
-        ensures taken { OnErr result (self.new.reading.taken ≡ self.old.reading.taken) }
-        ensures limits { self.new.reading.limits ≡ self.old.reading.limits }
+        ensures failed { OnErr result (HasFailed self.new) }
+        ensures stays { HasFailed self.old
+            → (result ≡ Err Fault.Failed) × StaysAsItWas self.old self.new }
+        ensures types { OnErr result (table_of self.new ≡ table_of self.old) }
+        ensures taken { OnErr result (taken_of self.new ≡ taken_of self.old) }
+        ensures limits { limits_of self.new ≡ limits_of self.old }
     {
         if matches!(self.reading.stage, Stage::Failed) {
             return Err(Fault::Failed);
@@ -199,22 +186,21 @@ impl<B: Builder> Session<B> {
         input: &mut Input<R>,
     ) -> Result<Option<Item<B::Out>>, Fault>
         ensures read { (items : List StreamItem) (bytes rest : List ℕ)
-            → StandsAfter B.stands ⟦<TreeBuilder as Builder>⟧.stands B.DEPTH self.old.reading items bytes
+            → HasRead B.stands B.DEPTH self.old items bytes
             → R.remaining input.old.reader ≡ Some rest
-            → ReadsNext B.stands ⟦<TreeBuilder as Builder>⟧.stands B.means B.DEPTH self.old.reading self.new.reading
+            → ReadItemAnswers B.stands B.means B.DEPTH self.old self.new
             items bytes rest (R.remaining input.new.reader) result }
         ensures honest { (items : List StreamItem) (bytes rest : List ℕ)
-            → StandsAfter B.stands ⟦<TreeBuilder as Builder>⟧.stands B.DEPTH self.old.reading items bytes
+            → HasRead B.stands B.DEPTH self.old items bytes
             → R.remaining input.old.reader ≡ Some rest
-            → ReadsHonestly (no_deeper B.DEPTH self.old.reading.limits)
-            items bytes rest (R.remaining input.new.reader) result }
-        ensures failed { OnErr result (self.new.reading.stage ≡ Stage.Failed) }
-        ensures stays { self.old.reading.stage ≡ Stage.Failed
-            → (result ≡ Err Fault.Failed) × (self.new.reading ≡ self.old.reading) × (input.new ≡ input.old) }
-        ensures types { OnErr result (types self.new.reading.types ≡ types self.old.reading.types) }
-        ensures limits { self.new.reading.limits ≡ self.old.reading.limits }
+            → ReadsHonestlyFrom B.DEPTH self.old items bytes rest (R.remaining input.new.reader) result }
+        ensures failed { OnErr result (HasFailed self.new) }
+        ensures stays { HasFailed self.old
+            → (result ≡ Err Fault.Failed) × StaysAsItWas self.old self.new × (input.new ≡ input.old) }
+        ensures types { OnErr result (types_of self.new ≡ types_of self.old) }
+        ensures limits { limits_of self.new ≡ limits_of self.old }
         ensures counted { CountsReads input.old.failures input.new.failures result }
-        ensures taken { TakesNext self.old.reading self.new.reading input.old.taken input.new.taken result }
+        ensures taken { ReadItemTakes self.old self.new input.old.taken input.new.taken result }
     {
         self.reading.read_item(alloc, input)
     }

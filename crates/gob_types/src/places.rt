@@ -1,4 +1,4 @@
-//! Where types are likely to stand.
+//! Where types are likely to stand in what keeps them in an order.
 
 use crate::id::TypeId;
 use std::alloc::Global;

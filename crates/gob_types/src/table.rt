@@ -12,6 +12,7 @@ use crate::definitions::Definitions;
 use crate::id::TypeId;
 use crate::kind::Shape;
 use crate::learning::{learn_anew, settle};
+use crate::places::Places;
 use crate::readiness::NotReady;
 use crate::shapes::Shapes;
 use crate::type_set::TypeSet;
@@ -51,6 +52,8 @@ pub struct Table {
     definitions: Definitions,
     // The types that are ready.
     ready: TypeSet,
+    // Where they stand among them, as far as that is kept.
+    ready_places: Places,
     // What the others wait for, where that is known: not behind a definition for which there was no memory.
     waits: Option<Waits>,
 }
@@ -61,6 +64,7 @@ impl Drop for Table {
         let Table {
             definitions: _,
             ready: _,
+            ready_places: _,
             waits: _,
         } = self;
     }
@@ -86,9 +90,12 @@ impl Table {
         let definitions = Definitions::new(alloc, max_types)?;
         let mut ready = TypeSet::new(alloc);
         let waits = learn_anew(&definitions, alloc, &mut ready)?;
+        let mut ready_places = Places::new(alloc);
+        keep_places(&mut ready_places, &ready, 0);
         Ok(Table {
             definitions,
             ready,
+            ready_places,
             waits: Some(waits),
         })
     }
@@ -128,6 +135,7 @@ impl Table {
         let waits = mem::replace(&mut self.waits, None);
         if let Ok(settled) = settle(&self.definitions, alloc, &mut self.ready, waits, id) {
             self.waits = Some(settled);
+            keep_places(&mut self.ready_places, &self.ready, count);
             return Ok(());
         }
         self.ready.truncate(count);
@@ -137,10 +145,11 @@ impl Table {
 
     /// Whether the type is ready: each type that it leads to, itself among them, is defined and has finite values.
     /// It takes no memory and no walk.
+    #[inline]
     pub fn kept(&self, id: TypeId) -> bool
         ensures { IsTrue result ↔ IsReady (types self.now) id }
     {
-        self.ready.contains(id)
+        self.ready.contains_at(id, self.ready_places.of(id))
     }
 
     /// Whether values of the type can be read: each type that it leads to, itself among them, is defined and
@@ -159,6 +168,15 @@ impl Table {
             return Ok(());
         }
         self.definitions.ready(alloc, id)
+    }
+}
+
+// Keeps the places of the ids of a set from this one on.
+fn keep_places(places: &mut Places, ids: &TypeSet, from: usize) {
+    'ids: for place in from..ids.count() {
+        if let Some(id) = ids.at(place) {
+            places.keep(id, place);
+        }
     }
 }
 

@@ -1,5 +1,5 @@
 //! Sets of type ids.
-ghost use Rattle.std.specs.Prelude.{◌≡◌, ◌^◌, ◌<◌, ◌↔◌, [], IsTrue, IfOk, OnOk, OnErr, Contains, length, take, ◌++◌, ◌∷◌, ◌⊎◌, MatchOption};
+ghost use Rattle.std.specs.Prelude.{◌≡◌, ◌^◌, ◌<◌, ◌↔◌, [], IsTrue, IfOk, IfSome, OnOk, OnErr, Contains, length, take, ◌++◌, ◌∷◌, ◌⊎◌, MatchOption};
 ghost use Rattle.gob_types.specs.declared.id.TypeId.{TypeId};
 ghost use Rattle.gob_types.specs.Walk.{AddsAll, AddsOne, AreAmong, Grows};
 
@@ -53,6 +53,25 @@ impl TypeSet {
         ensures small { result < 2 ^ 63 }
     {
         self.ids.len()
+    }
+
+    /// The id at this place of the order.
+    #[inline]
+    pub(crate) fn at(&self, place: usize) -> Option<TypeId>
+        ensures { IfSome result (λ id. Contains self.now id) }
+    {
+        self.ids.get_index(place).copied()
+    }
+
+    /// Whether the id is in the set, which is likely to have it at this place.
+    #[inline]
+    pub(crate) fn contains_at(&self, id: TypeId, place: usize) -> bool
+        ensures { IsTrue result ↔ Contains self.now id }
+    {
+        match self.at(place) {
+            Some(there) if there == id => true,
+            _ => self.contains(id),
+        }
     }
 
     /// Whether the id is in the set.
