@@ -5,6 +5,7 @@ pub mod LeafLaws
 pub mod WithinLaws
 pub mod WholeSteps
 pub mod WholeLaws
+pub mod KeptLaws
 pub mod FitLaws
 pub mod AppendedLaws
 pub mod WrittenLaws

@@ -1,6 +1,6 @@
 -- Values that stand whole at a place of a body, from their parts.
 use Rattle.std.proofs.Common.{◌≡◌, ℕ, zero, suc, ◌+◌, ◌-◌, ◌<◌, ◌≤◌, true, false, List, [], ◌++◌, length, Option}
-use Rattle.std.proofs.Common.{Some, None, IfSome, take, drop, arith, refl, sym, ap, ◌∙◌, subst, append_assoc}
+use Rattle.std.proofs.Common.{Some, None, IfSome, Bool, IsTrue, take, drop, arith, refl, sym, ap, ◌∙◌, subst, append_assoc}
 use Rattle.std.specs.Prelude.{slice_get}
 use Rattle.std.proofs.lemmas.List.{drop-drop, take-append-drop, length-drop, length-take-le}
 use Rattle.gob_num.specs.Unsigned.{IsUnsigned}
@@ -17,8 +17,12 @@ use Rattle.gob_value.specs.Tree.{Tree, no_tree, tree, no_pair, pair, no_field, f
 use Rattle.gob_value.specs.Spelling.{of_type, of_bool, of_int, of_uint, of_float, of_complex, of_nil, of_bytes}
 use Rattle.gob_value.specs.Spelling.{of_text, of_opaque, of_slice, of_array, of_map, of_struct, no_element, element}
 use Rattle.gob_value.specs.Spelling.{no_entry, entry, end_of_fields, next_field}
+use Rattle.gob_value.specs.Tidy.{of_basic, of_opaque, of_slice as slice_tidy, of_array as array_tidy}
+use Rattle.gob_value.specs.Tidy.{of_map as map_tidy, of_struct as struct_tidy, of_type as type_tidy}
+use Rattle.gob_value.specs.Tidy.{no_element as no_element_tidy, element as element_tidy, no_entry as no_entry_tidy}
+use Rattle.gob_value.specs.Tidy.{entry as entry_tidy, no_more as no_field_tidy, kept as field_tidy}
 use Rattle.gob_value.specs.Whole.{AreNumbers, Stands, BeginsKind, BeginsEach, BeginsPairs, BeginsFields, BeginsNumber}
-use Rattle.gob_value.specs.Whole.{BeginsRaw}
+use Rattle.gob_value.specs.Whole.{BeginsRaw, BeginsKept}
 
 -- what begins at one place and ends at the next, and what begins there
 pub both : {P Q R : List ℕ → List ℕ → Type 0} {body : List ℕ} {a b c : ℕ} → Stands P body a b → Stands Q body b c
@@ -85,8 +89,8 @@ raw_stands body at behind count p l =
     }
 
 -- ---- values without parts
-module _ (T : Table) where
-  pub int_begins : (n : ℕ) (x y : List ℕ) → BeginsNumber n x y → BeginsKind T (kind.Basic basic.Int) 1 x y
+module _ (T : Table) (tidy : Bool) where
+  pub int_begins : (n : ℕ) (x y : List ℕ) → BeginsNumber n x y → BeginsKind T tidy (kind.Basic basic.Int) 1 x y
   int_begins n x y p =
       let i = unsigned_signed p.spelled in
       record {
@@ -94,20 +98,22 @@ module _ (T : Table) where
         bytes = p.bytes;
         spelled = of_int i.1;
         within = omega arith;
+        tidied = λ t. of_basic (λ h. h);
         whole = p.whole;
       }
 
-  pub uint_begins : (n : ℕ) (x y : List ℕ) → BeginsNumber n x y → BeginsKind T (kind.Basic basic.Uint) 1 x y
+  pub uint_begins : (n : ℕ) (x y : List ℕ) → BeginsNumber n x y → BeginsKind T tidy (kind.Basic basic.Uint) 1 x y
   uint_begins n x y p =
       record {
         value = Tree.uint n;
         bytes = p.bytes;
         spelled = of_uint p.spelled;
         within = omega arith;
+        tidied = λ t. of_basic (λ h. h);
         whole = p.whole;
       }
 
-  pub float_begins : (n : ℕ) (x y : List ℕ) → BeginsNumber n x y → BeginsKind T (kind.Basic basic.Float) 1 x y
+  pub float_begins : (n : ℕ) (x y : List ℕ) → BeginsNumber n x y → BeginsKind T tidy (kind.Basic basic.Float) 1 x y
   float_begins n x y p =
       let f = unsigned_pattern p.spelled in
       record {
@@ -115,11 +121,12 @@ module _ (T : Table) where
         bytes = p.bytes;
         spelled = of_float f.1;
         within = omega arith;
+        tidied = λ t. of_basic (λ h. h);
         whole = p.whole;
       }
 
   pub complex_begins : (m n : ℕ) (x y z : List ℕ) → BeginsNumber m x y → BeginsNumber n y z
-      → BeginsKind T (kind.Basic basic.Complex) 1 x z
+      → BeginsKind T tidy (kind.Basic basic.Complex) 1 x z
   complex_begins m n x y z p q =
       let f = unsigned_pattern p.spelled in
       let g = unsigned_pattern q.spelled in
@@ -128,16 +135,18 @@ module _ (T : Table) where
         bytes = p.bytes ++ q.bytes;
         spelled = of_complex f.1 g.1;
         within = omega arith;
+        tidied = λ t. of_basic (λ h. h);
         whole = p.whole ∙ ap (λ r. p.bytes ++ r) q.whole ∙ sym (append_assoc p.bytes q.bytes z);
       }
 
-  pub bool_begins : (n : ℕ) → n ≤ 1 → (x y : List ℕ) → BeginsNumber n x y → BeginsKind T (kind.Basic basic.Bool) 1 x y
+  pub bool_begins : (n : ℕ) → n ≤ 1 → (x y : List ℕ) → BeginsNumber n x y → BeginsKind T tidy (kind.Basic basic.Bool) 1 x y
   bool_begins zero l x y p =
       record {
         value = Tree.bool false;
         bytes = p.bytes;
         spelled = of_bool p.spelled;
         within = omega arith;
+        tidied = λ t. of_basic (λ h. h);
         whole = p.whole;
       }
   bool_begins (suc zero) l x y p =
@@ -146,12 +155,13 @@ module _ (T : Table) where
         bytes = p.bytes;
         spelled = of_bool p.spelled;
         within = omega arith;
+        tidied = λ t. of_basic (λ h. h);
         whole = p.whole;
       }
   bool_begins (suc (suc n)) l x y p = absurd (omega arith)
 
   pub nil_begins : (n : ℕ) → n ≤ 0 → (x y : List ℕ) → BeginsNumber n x y
-      → BeginsKind T (kind.Basic basic.Interface) 1 x y
+      → BeginsKind T tidy (kind.Basic basic.Interface) 1 x y
   nil_begins n l x y p =
       let none : n ≡ 0 = omega arith in
       record {
@@ -159,40 +169,44 @@ module _ (T : Table) where
         bytes = p.bytes;
         spelled = of_nil (subst (λ k. IsUnsigned k p.bytes) none p.spelled);
         within = omega arith;
+        tidied = λ t. of_basic (λ h. h);
         whole = p.whole;
       }
 
-  pub bytes_begin : (x y : List ℕ) → BeginsRaw x y → BeginsKind T (kind.Basic basic.Bytes) 1 x y
+  pub bytes_begin : (x y : List ℕ) → BeginsRaw x y → BeginsKind T tidy (kind.Basic basic.Bytes) 1 x y
   bytes_begin x y p =
       record {
         value = Tree.bytes p.raw;
         bytes = p.count ++ p.raw;
         spelled = of_bytes p.counted;
         within = omega arith;
+        tidied = λ t. of_basic (λ h. h);
         whole = p.whole;
       }
 
-  pub text_begins : (x y : List ℕ) → BeginsRaw x y → BeginsKind T (kind.Basic basic.Str) 1 x y
+  pub text_begins : (x y : List ℕ) → BeginsRaw x y → BeginsKind T tidy (kind.Basic basic.Str) 1 x y
   text_begins x y p =
       record {
         value = Tree.text p.raw;
         bytes = p.count ++ p.raw;
         spelled = of_text p.counted;
         within = omega arith;
+        tidied = λ t. of_basic (λ h. h);
         whole = p.whole;
       }
 
-  pub opaque_begins : (m : Marshal) (x y : List ℕ) → BeginsRaw x y → BeginsKind T (kind.Opaque m) 1 x y
+  pub opaque_begins : (m : Marshal) (x y : List ℕ) → BeginsRaw x y → BeginsKind T tidy (kind.Opaque m) 1 x y
   opaque_begins m x y p =
       record {
         value = Tree.opaque p.raw;
         bytes = p.count ++ p.raw;
         spelled = of_opaque p.counted;
         within = omega arith;
+        tidied = λ t. of_opaque (λ h. h);
         whole = p.whole;
       }
 
-  pub deeper : {k : Kind} {a b : ℕ} → a ≤ b → (x y : List ℕ) → BeginsKind T k a x y → BeginsKind T k b x y
+  pub deeper : {k : Kind} {a b : ℕ} → a ≤ b → (x y : List ℕ) → BeginsKind T tidy k a x y → BeginsKind T tidy k b x y
   deeper l x y p =
       let w = p.within in
       record {
@@ -200,10 +214,11 @@ module _ (T : Table) where
         bytes = p.bytes;
         spelled = p.spelled;
         within = omega arith;
+        tidied = p.tidied;
         whole = p.whole;
       }
 
-  number_begins : (k : Kind) → AreNumbers k → (n : ℕ) (x y : List ℕ) → BeginsNumber n x y → BeginsKind T k 1 x y
+  number_begins : (k : Kind) → AreNumbers k → (n : ℕ) (x y : List ℕ) → BeginsNumber n x y → BeginsKind T tidy k 1 x y
   number_begins (kind.Basic basic.Int) a n x y p = int_begins n x y p
   number_begins (kind.Basic basic.Uint) a n x y p = uint_begins n x y p
   number_begins (kind.Basic basic.Float) a n x y p = float_begins n x y p
@@ -220,7 +235,7 @@ module _ (T : Table) where
 
   -- ---- values with parts
   pub slice_begins : (e : TypeId) (limit n : ℕ) → 0 < limit → (x y z : List ℕ) → BeginsNumber n x y
-      → BeginsEach T e (limit - 1) n y z → BeginsKind T (kind.Slice e) limit x z
+      → BeginsEach T tidy e (limit - 1) n y z → BeginsKind T tidy (kind.Slice e) limit x z
   slice_begins e limit n o x y z p q =
       let w = q.within in
       record {
@@ -228,11 +243,12 @@ module _ (T : Table) where
         bytes = p.bytes ++ q.bytes;
         spelled = of_slice (subst (λ k. IsUnsigned k p.bytes) (sym q.counted) p.spelled) q.spelled;
         within = omega arith;
+        tidied = λ t. slice_tidy (q.tidied t);
         whole = p.whole ∙ ap (λ r. p.bytes ++ r) q.whole ∙ sym (append_assoc p.bytes q.bytes z);
       }
 
   pub array_begins : (e : TypeId) (limit n m : ℕ) → 0 < limit → n ≡ m → (x y z : List ℕ) → BeginsNumber n x y
-      → BeginsEach T e (limit - 1) n y z → BeginsKind T (kind.Array e m) limit x z
+      → BeginsEach T tidy e (limit - 1) n y z → BeginsKind T tidy (kind.Array e m) limit x z
   array_begins e limit n m o same x y z p q =
       let w = q.within in
       record {
@@ -240,11 +256,12 @@ module _ (T : Table) where
         bytes = p.bytes ++ q.bytes;
         spelled = of_array (q.counted ∙ same) (subst (λ k. IsUnsigned k p.bytes) same p.spelled) q.spelled;
         within = omega arith;
+        tidied = λ t. array_tidy (q.tidied t);
         whole = p.whole ∙ ap (λ r. p.bytes ++ r) q.whole ∙ sym (append_assoc p.bytes q.bytes z);
       }
 
   pub map_begins : (k e : TypeId) (limit n : ℕ) → 0 < limit → (x y z : List ℕ) → BeginsNumber n x y
-      → BeginsPairs T k e (limit - 1) n y z → BeginsKind T (kind.Map k e) limit x z
+      → BeginsPairs T tidy k e (limit - 1) n y z → BeginsKind T tidy (kind.Map k e) limit x z
   map_begins k e limit n o x y z p q =
       let w = q.within in
       record {
@@ -252,11 +269,12 @@ module _ (T : Table) where
         bytes = p.bytes ++ q.bytes;
         spelled = of_map (subst (λ k. IsUnsigned k p.bytes) (sym q.counted) p.spelled) q.spelled;
         within = omega arith;
+        tidied = λ t. map_tidy (q.tidied t);
         whole = p.whole ∙ ap (λ r. p.bytes ++ r) q.whole ∙ sym (append_assoc p.bytes q.bytes z);
       }
 
   pub struct_begins : (types : List Field) (limit : ℕ) → 0 < limit → (x y : List ℕ)
-      → BeginsFields T types 0 (limit - 1) x y → BeginsKind T (kind.Struct types) limit x y
+      → BeginsFields T tidy types 0 (limit - 1) x y → BeginsKind T tidy (kind.Struct types) limit x y
   struct_begins types limit o x y p =
       let w = p.within in
       record {
@@ -264,12 +282,13 @@ module _ (T : Table) where
         bytes = p.bytes;
         spelled = of_struct p.spelled;
         within = omega arith;
+        tidied = λ t. struct_tidy (p.tidied t);
         whole = p.whole;
       }
 
   -- ---- parts
   pub none_stand : (e : TypeId) (limit n : ℕ) (body : List ℕ) (at : ℕ) → n ≡ 0 → at ≤ length body
-      → Stands (BeginsEach T e limit n) body at at
+      → Stands (BeginsEach T tidy e limit n) body at at
   none_stand e limit n body at none l =
       record {
         order = omega arith;
@@ -279,13 +298,14 @@ module _ (T : Table) where
           bytes = [];
           spelled = no_element;
           within = omega arith;
+          tidied = λ t. no_element_tidy;
           counted = sym none;
           whole = refl;
         };
       }
 
   pub element_begins : (e : TypeId) (s : Shape) (limit n m : ℕ) → shape_of T e ≡ Some s → n ≡ m + 1
-      → (x y z : List ℕ) → BeginsKind T s.kind limit x y → BeginsEach T e limit m y z → BeginsEach T e limit n x z
+      → (x y z : List ℕ) → BeginsKind T tidy s.kind limit x y → BeginsEach T tidy e limit m y z → BeginsEach T tidy e limit n x z
   element_begins e s limit n m f more x y z p q =
       let v = p.within in
       let w = q.within in
@@ -294,21 +314,22 @@ module _ (T : Table) where
         bytes = p.bytes ++ q.bytes;
         spelled = element (of_type f p.spelled) q.spelled;
         within = omega arith;
+        tidied = λ t. element_tidy (type_tidy f (p.tidied t)) (q.tidied t);
         counted = ap (λ k. k + 1) q.counted ∙ sym more;
         whole = p.whole ∙ ap (λ r. p.bytes ++ r) q.whole ∙ sym (append_assoc p.bytes q.bytes z);
       }
 
   pub number_element : (e : TypeId) (s : Shape) (number n m : ℕ) → shape_of T e ≡ Some s → AreNumbers s.kind
-      → n ≡ m + 1 → (x y z : List ℕ) → BeginsNumber number x y → BeginsEach T e 1 m y z → BeginsEach T e 1 n x z
+      → n ≡ m + 1 → (x y z : List ℕ) → BeginsNumber number x y → BeginsEach T tidy e 1 m y z → BeginsEach T tidy e 1 n x z
   number_element e s number n m f a more x y z p q =
       element_begins e s 1 n m f more x y z (number_begins s.kind a number x y p) q
 
   pub basic_element : (e : TypeId) (s : Shape) (k : Kind) (n m : ℕ) → shape_of T e ≡ Some s → s.kind ≡ k
-      → n ≡ m + 1 → (x y z : List ℕ) → BeginsKind T k 1 x y → BeginsEach T e 1 m y z → BeginsEach T e 1 n x z
+      → n ≡ m + 1 → (x y z : List ℕ) → BeginsKind T tidy k 1 x y → BeginsEach T tidy e 1 m y z → BeginsEach T tidy e 1 n x z
   basic_element e s k n m f is more x y z p q =
-      element_begins e s 1 n m f more x y z (subst (λ k. BeginsKind T k 1 x y) (sym is) p) q
+      element_begins e s 1 n m f more x y z (subst (λ k. BeginsKind T tidy k 1 x y) (sym is) p) q
 
-  pub all_deeper : (e : TypeId) (a b n : ℕ) → a ≤ b → (x y : List ℕ) → BeginsEach T e a n x y → BeginsEach T e b n x y
+  pub all_deeper : (e : TypeId) (a b n : ℕ) → a ≤ b → (x y : List ℕ) → BeginsEach T tidy e a n x y → BeginsEach T tidy e b n x y
   all_deeper e a b n l x y p =
       let w = p.within in
       record {
@@ -316,12 +337,13 @@ module _ (T : Table) where
         bytes = p.bytes;
         spelled = p.spelled;
         within = omega arith;
+        tidied = p.tidied;
         counted = p.counted;
         whole = p.whole;
       }
 
   pub no_pairs_stand : (k e : TypeId) (limit n : ℕ) (body : List ℕ) (at : ℕ) → n ≡ 0 → at ≤ length body
-      → Stands (BeginsPairs T k e limit n) body at at
+      → Stands (BeginsPairs T tidy k e limit n) body at at
   no_pairs_stand k e limit n body at none l =
       record {
         order = omega arith;
@@ -331,15 +353,16 @@ module _ (T : Table) where
           bytes = [];
           spelled = no_entry;
           within = omega arith;
+          tidied = λ t. no_entry_tidy;
           counted = sym none;
           whole = refl;
         };
       }
 
   pub pair_begins : (k e : TypeId) (s t : Shape) (limit n m : ℕ) → shape_of T k ≡ Some s → shape_of T e ≡ Some t
-      → n ≡ m + 1 → (x a y z : List ℕ) → BeginsKind T s.kind limit x a → BeginsKind T t.kind limit a y
-      → BeginsPairs T k e limit m y z
-      → BeginsPairs T k e limit n x z
+      → n ≡ m + 1 → (x a y z : List ℕ) → BeginsKind T tidy s.kind limit x a → BeginsKind T tidy t.kind limit a y
+      → BeginsPairs T tidy k e limit m y z
+      → BeginsPairs T tidy k e limit n x z
   pair_begins k e s t limit n m f g more x a y z p q r =
       let u = p.within in
       let v = q.within in
@@ -349,14 +372,25 @@ module _ (T : Table) where
         bytes = p.bytes ++ (q.bytes ++ r.bytes);
         spelled = entry (of_type f p.spelled) (of_type g q.spelled) r.spelled;
         within = omega arith;
+        tidied = λ t. entry_tidy (type_tidy f (p.tidied t)) (type_tidy g (q.tidied t)) (r.tidied t);
         counted = ap (λ k. k + 1) r.counted ∙ sym more;
         whole =
             p.whole ∙ ap (λ l. p.bytes ++ l) (q.whole ∙ ap (λ l. q.bytes ++ l) r.whole ∙ sym
             (append_assoc q.bytes r.bytes z)) ∙ sym (append_assoc p.bytes (q.bytes ++ r.bytes) z);
       }
 
+  -- a part that a tidy struct keeps
+  pub record KeptPart (k : Kind) (limit : ℕ) (piece rest : List ℕ) : Type 0 where
+    pub part : BeginsKind T tidy k limit piece rest
+    pub kept : IsTrue tidy → BeginsKept k piece
+
+  pub kept_part : {k : Kind} {limit : ℕ} {body : List ℕ} {a b : ℕ} → Stands (BeginsKind T tidy k limit) body a b
+      → (IsTrue tidy → BeginsKept k (drop a body)) → Stands (KeptPart k limit) body a b
+  kept_part p kept =
+      record { order = p.order; inside = p.inside; begins = record { part = p.begins; kept = kept } }
+
   pub fields_end : (types : List Field) (next limit n : ℕ) → n ≡ 0 → (x y : List ℕ) → BeginsNumber n x y
-      → BeginsFields T types next limit x y
+      → BeginsFields T tidy types next limit x y
   fields_end types next limit n o x y p =
       record {
         fields =
@@ -365,14 +399,16 @@ module _ (T : Table) where
         spelled = end_of_fields (subst (λ k. IsUnsigned k p.bytes) o p.spelled);
         within =
             omega arith;
+        tidied = λ t. no_field_tidy;
         whole = p.whole;
       }
 
   pub field_begins : (types : List Field) (next limit delta f : ℕ) (e : Field) (s : Shape) → 0 < delta
       → f + 1 ≡ next + delta → slice_get types f ≡ Some e → shape_of T e.id ≡ Some s
-      → (x a y z : List ℕ) → BeginsNumber delta x a → BeginsKind T s.kind limit a y
-      → BeginsFields T types (f + 1) limit y z → BeginsFields T types next limit x z
-  field_begins types next limit delta f e s o is here shape x a y z p q r =
+      → (x a y z : List ℕ) → BeginsNumber delta x a → KeptPart s.kind limit a y
+      → BeginsFields T tidy types (f + 1) limit y z → BeginsFields T tidy types next limit x z
+  field_begins types next limit delta f e s o is here shape x a y z p kept r =
+      let q = kept.part in
       let v = q.within in
       let w = r.within in
       let up : delta ≡ f + 1 - next = omega arith in
@@ -383,6 +419,7 @@ module _ (T : Table) where
             next_field (omega arith) here (subst (λ k. IsUnsigned k p.bytes) up p.spelled) (of_type shape q.spelled)
             r.spelled;
         within = omega arith;
+        tidied = λ t. field_tidy here shape (kept.kept t T q.value q.bytes y q.spelled q.whole) (q.tidied t) (r.tidied t);
         whole =
             p.whole ∙ ap (λ l. p.bytes ++ l) (q.whole ∙ ap (λ l. q.bytes ++ l) r.whole ∙ sym
             (append_assoc q.bytes r.bytes z)) ∙ sym (append_assoc p.bytes (q.bytes ++ r.bytes) z);

@@ -1,6 +1,6 @@
 -- Values that stand whole at the front of a piece of a stream, no deeper than a limit, and what stands behind them.
 -- (docs/FORMAT.md, Values; Depth.)
-use Rattle.std.specs.Prelude.{◌≡◌, ℕ, ◌≤◌, List, ◌++◌, length, drop}
+use Rattle.std.specs.Prelude.{◌≡◌, ℕ, ◌≤◌, Bool, IsTrue, List, ◌++◌, length, drop}
 use Rattle.gob_num.specs.Unsigned.{IsUnsigned}
 use Rattle.gob_types.specs.declared.id.TypeId.{TypeId}
 use Rattle.gob_types.specs.declared.basic.Basic.TheVariants as basic
@@ -11,6 +11,7 @@ use Rattle.gob_types.specs.Table.{Table}
 use Rattle.gob_value.specs.Tree.{Tree, Trees, Pairs, Fields, depth, trees_depth, pairs_depth, fields_depth}
 use Rattle.gob_value.specs.Tree.{tree_count, pair_count}
 use Rattle.gob_value.specs.Spelling.{SpellsAs, SpellsEach, SpellsPairs, SpellsFields}
+use Rattle.gob_value.specs.Tidy.{Tidies, TidiesAs, TidiesEach, TidiesPairs, TidiesFields, IsDropped}
 use Rattle.gob_value.specs.Top.{SpellsTop}
 
 -- the bytes are a value of the type behind its tag
@@ -19,6 +20,20 @@ pub record IsWhole (T : Table) (t : TypeId) (limit : ℕ) (bytes : List ℕ) : T
   pub spelled : SpellsTop T t value bytes
   pub within : depth value ≤ limit
 
+-- a value that is its own tidy form
+pub record IsTidyWhole (T : Table) (t : TypeId) (limit : ℕ) (bytes : List ℕ) : Type 0 where
+  pub value : Tree
+  pub spelled : SpellsTop T t value bytes
+  pub within : depth value ≤ limit
+  pub tidied : Tidies T t value value
+
+-- the one or the other
+pub record IsWholeSo (T : Table) (tidy : Bool) (t : TypeId) (limit : ℕ) (bytes : List ℕ) : Type 0 where
+  pub value : Tree
+  pub spelled : SpellsTop T t value bytes
+  pub within : depth value ≤ limit
+  pub tidied : IsTrue tidy → Tidies T t value value
+
 -- each value of the kind is spelled by one number, and each number spells one
 abbrev pub AreNumbers : Kind → Type 0
 AreNumbers (kind.Basic basic.Int) = Unit {0}
@@ -26,39 +41,48 @@ AreNumbers (kind.Basic basic.Uint) = Unit {0}
 AreNumbers (kind.Basic basic.Float) = Unit {0}
 AreNumbers _ = ⊥
 
--- the piece begins with a value of the kind, and this is the rest
-pub record BeginsKind (T : Table) (k : Kind) (limit : ℕ) (piece rest : List ℕ) : Type 0 where
+-- the piece begins with a value of the kind, its own tidy form where that is asked for, and this is the rest
+pub record BeginsKind (T : Table) (tidy : Bool) (k : Kind) (limit : ℕ) (piece rest : List ℕ) : Type 0 where
   pub value : Tree
   pub bytes : List ℕ
   pub spelled : SpellsAs T k value bytes
   pub within : depth value ≤ limit
+  pub tidied : IsTrue tidy → TidiesAs T k value value
   pub whole : piece ≡ bytes ++ rest
 
 -- with so many elements
-pub record BeginsEach (T : Table) (e : TypeId) (limit count : ℕ) (piece rest : List ℕ) : Type 0 where
+pub record BeginsEach (T : Table) (tidy : Bool) (e : TypeId) (limit count : ℕ) (piece rest : List ℕ) : Type 0 where
   pub values : Trees
   pub bytes : List ℕ
   pub spelled : SpellsEach T e values bytes
   pub within : trees_depth values ≤ limit
+  pub tidied : IsTrue tidy → TidiesEach T e values values
   pub counted : tree_count values ≡ count
   pub whole : piece ≡ bytes ++ rest
 
 -- with so many keys and their elements
-pub record BeginsPairs (T : Table) (k e : TypeId) (limit count : ℕ) (piece rest : List ℕ) : Type 0 where
+pub record BeginsPairs (T : Table) (tidy : Bool) (k e : TypeId) (limit count : ℕ) (piece rest : List ℕ) : Type 0 where
   pub pairs : Pairs
   pub bytes : List ℕ
   pub spelled : SpellsPairs T k e pairs bytes
   pub within : pairs_depth pairs ≤ limit
+  pub tidied : IsTrue tidy → TidiesPairs T k e pairs pairs
   pub counted : pair_count pairs ≡ count
   pub whole : piece ≡ bytes ++ rest
 
 -- with the present fields, of which the next has this number or a greater one
-pub record BeginsFields (T : Table) (types : List Field) (next limit : ℕ) (piece rest : List ℕ) : Type 0 where
+pub record BeginsFields (T : Table) (tidy : Bool) (types : List Field) (next limit : ℕ) (piece rest : List ℕ) : Type 0 where
   pub fields : Fields
   pub bytes : List ℕ
   pub spelled : SpellsFields T types next fields bytes
   pub within : fields_depth fields ≤ limit
+  pub tidied : IsTrue tidy → TidiesFields T types fields fields
   pub whole : piece ≡ bytes ++ rest
+
+-- a struct keeps whatever value of the kind the piece begins with
+abbrev pub BeginsKept : Kind → List ℕ → Type 0
+BeginsKept k piece = (T : Table) (v : Tree) (bytes rest : List ℕ) → SpellsAs T k v bytes → piece ≡ bytes ++ rest
+    → ¬ IsDropped k v
 
 -- with this number
 pub record BeginsNumber (n : ℕ) (piece rest : List ℕ) : Type 0 where

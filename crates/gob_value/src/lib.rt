@@ -14,7 +14,8 @@
 //! - [`fits`] says whether a value is one of a type, and shallow enough.
 //! - [`spell`] appends the one spelling of a value that is.
 //! - [`shape_from`] gives the shape that a description gives, and [`describe`] a description of a shape.
-//! - [`is_whole`] says whether bytes are a value of a type, and keeps nothing of it.
+//! - [`is_whole`] says whether bytes are a value of a type, and keeps nothing of it. [`is_tidy_whole`] says so of one that
+//!   is its own tidy form.
 //! - [`tidy`] leaves out of each struct the fields that Go's encoder leaves out.
 //! - [`spellings_begin_no_other`], [`spellings_are_unique`], [`spellings_tell_the_value`],
 //!   [`spellings_are_bytes`] and [`spellings_stay`] are laws, which readers and writers rely on. So are those of
@@ -59,4 +60,4 @@ pub use laws_tidy::{
 pub use spelling::spell;
 pub use tidying::tidy;
 pub use value::Value;
-pub use whole::is_whole;
+pub use whole::{is_tidy_whole, is_whole};

@@ -1,13 +1,14 @@
-//! Whether bytes are a whole value. Nothing is kept of it, and no memory is taken. It recurses as deep as the value is,
-//! at most 1000.
+//! Whether bytes are a whole value, or one that is its own tidy form. Nothing is kept of it, and no memory is taken. It
+//! recurses as deep as the value is, at most 1000.
 
-ghost use Rattle.std.specs.Prelude.{◌≡◌, ◌+◌, ◌<◌, ◌≤◌, IsTrue, IfSome, length};
+ghost use Rattle.std.specs.Prelude.{◌≡◌, ◌+◌, ◌<◌, ◌≤◌, ◌≢◌, Bool, false, IsTrue, IfSome, length};
+ghost use Rattle.std.specs.Prelude.{drop, slice_get};
 ghost use Rattle.gob_types.specs.Table.{Table, shape_of};
 ghost use Rattle.gob_types.specs.declared.kind.Kind.TheVariants as kind;
 ghost use Rattle.gob_types.specs.declared.id.TypeId.{TypeId};
 ghost use Rattle.gob_types.specs.declared.kind.Shape.{Shape};
-ghost use Rattle.gob_value.specs.Whole.{IsWhole, AreNumbers, Stands, BeginsKind, BeginsEach, BeginsPairs};
-ghost use Rattle.gob_value.specs.Whole.{BeginsFields, BeginsNumber, BeginsRaw};
+ghost use Rattle.gob_value.specs.Whole.{IsWhole, IsTidyWhole, IsWholeSo, AreNumbers, Stands, BeginsKind, BeginsEach};
+ghost use Rattle.gob_value.specs.Whole.{BeginsPairs, BeginsFields, BeginsNumber, BeginsRaw, BeginsKept};
 
 use gob_num::{Taken, take_uint};
 use gob_types::{Basic, Fields, Kind, Shapes, TypeId};
@@ -20,6 +21,20 @@ const MOST_DEPTH: u64 = 1000;
 pub fn is_whole<S: Shapes>(shapes: &S, id: TypeId, body: &[u8], depth: u64) -> bool
     ensures { IsTrue result → IsWhole (S.table shapes.now) id depth body.now }
 {
+    is_whole_so::<S, false>(shapes, id, body, depth)
+}
+
+/// The same, and whether the value is its own tidy form: no struct in it has a field that [`tidy`](crate::tidy) drops.
+pub fn is_tidy_whole<S: Shapes>(shapes: &S, id: TypeId, body: &[u8], depth: u64) -> bool
+    ensures { IsTrue result → IsTidyWhole (S.table shapes.now) id depth body.now }
+{
+    is_whole_so::<S, true>(shapes, id, body, depth)
+}
+
+// Whether the bytes are a value of the type, which is its own tidy form where `TIDY` asks for one.
+fn is_whole_so<S: Shapes, const TIDY: bool>(shapes: &S, id: TypeId, body: &[u8], depth: u64) -> bool
+    ensures { IsTrue result → IsWholeSo (S.table shapes.now) TIDY id depth body.now }
+{
     let Some(shape) = shapes.shape_of(id) else {
         return false;
     };
@@ -31,7 +46,7 @@ pub fn is_whole<S: Shapes>(shapes: &S, id: TypeId, body: &[u8], depth: u64) -> b
         },
     };
     let most = depth.min(MOST_DEPTH);
-    match value_end(shapes, &shape.kind, body, begin, most) {
+    match value_end::<S, TIDY>(shapes, &shape.kind, body, begin, most) {
         Some(end) => end == body.len(),
         None => false,
     }
@@ -39,7 +54,7 @@ pub fn is_whole<S: Shapes>(shapes: &S, id: TypeId, body: &[u8], depth: u64) -> b
 
 // Where the value of the kind ends that stands in the body from the place on.
 #[cycle(whole)]
-fn value_end<S: Shapes>(
+fn value_end<S: Shapes, const TIDY: bool>(
     shapes: &S,
     kind: &Kind,
     body: &[u8],
@@ -48,7 +63,7 @@ fn value_end<S: Shapes>(
 ) -> Option<usize>
     requires depth { depth ≤ 1000 }
     requires place { at ≤ length body.now }
-    ensures { IfSome result (λ end. Stands (BeginsKind (S.table shapes.now) kind.now depth) body.now at end) }
+    ensures { IfSome result (λ end. Stands (BeginsKind (S.table shapes.now) TIDY kind.now depth) body.now at end) }
 {
     if depth == 0 {
         return None;
@@ -56,21 +71,21 @@ fn value_end<S: Shapes>(
     match kind {
         Kind::Basic(basic) => basic_end(*basic, body, at),
         Kind::Opaque(_) => raw_end(body, at),
-        Kind::Struct { fields } => fields_end(shapes, fields, body, at, depth - 1),
+        Kind::Struct { fields } => fields_end::<S, TIDY>(shapes, fields, body, at, depth - 1),
         Kind::Slice { elem } => {
             let (count, behind) = number_at(body, at)?;
-            elements_end(shapes, *elem, count, body, behind, depth - 1)
+            elements_end::<S, TIDY>(shapes, *elem, count, body, behind, depth - 1)
         }
         Kind::Array { elem, len } => {
             let (count, behind) = number_at(body, at)?;
             if count != *len {
                 return None;
             }
-            elements_end(shapes, *elem, count, body, behind, depth - 1)
+            elements_end::<S, TIDY>(shapes, *elem, count, body, behind, depth - 1)
         }
         Kind::Map { key, elem } => {
             let (count, behind) = number_at(body, at)?;
-            pairs_end(shapes, *key, *elem, count, body, behind, depth - 1)
+            pairs_end::<S, TIDY>(shapes, *key, *elem, count, body, behind, depth - 1)
         }
     }
 }
@@ -78,21 +93,27 @@ fn value_end<S: Shapes>(
 // The same, without a call where the kind is basic.
 #[cycle(whole)]
 #[inline(always)]
-fn part_end<S: Shapes>(shapes: &S, kind: &Kind, body: &[u8], at: usize, depth: u64) -> Option<usize>
+fn part_end<S: Shapes, const TIDY: bool>(
+    shapes: &S,
+    kind: &Kind,
+    body: &[u8],
+    at: usize,
+    depth: u64,
+) -> Option<usize>
     requires depth { depth ≤ 1000 }
     requires place { at ≤ length body.now }
-    ensures { IfSome result (λ end. Stands (BeginsKind (S.table shapes.now) kind.now depth) body.now at end) }
+    ensures { IfSome result (λ end. Stands (BeginsKind (S.table shapes.now) TIDY kind.now depth) body.now at end) }
 {
     match kind {
         Kind::Basic(basic) if depth > 0 => basic_end(*basic, body, at),
-        _ => value_end(shapes, kind, body, at, depth),
+        _ => value_end::<S, TIDY>(shapes, kind, body, at, depth),
     }
 }
 
 // Where so many elements end.
 #[cycle(whole)]
 #[inline(always)]
-fn elements_end<S: Shapes>(
+fn elements_end<S: Shapes, const TIDY: bool>(
     shapes: &S,
     elem: TypeId,
     count: u64,
@@ -102,7 +123,7 @@ fn elements_end<S: Shapes>(
 ) -> Option<usize>
     requires depth { depth ≤ 1000 }
     requires place { begin ≤ length body.now }
-    ensures { IfSome result (λ end. Stands (BeginsEach (S.table shapes.now) elem depth count) body.now begin end) }
+    ensures { IfSome result (λ end. Stands (BeginsEach (S.table shapes.now) TIDY elem depth count) body.now begin end) }
 {
     if count == 0 {
         return Some(begin);
@@ -119,7 +140,7 @@ fn elements_end<S: Shapes>(
     }
     let mut at = begin;
     'elements: for _ in 0..count {
-        at = value_end(shapes, &shape.kind, body, at, depth)?;
+        at = value_end::<S, TIDY>(shapes, &shape.kind, body, at, depth)?;
     }
     Some(at)
 }
@@ -127,7 +148,7 @@ fn elements_end<S: Shapes>(
 // Where so many pairs of a key and an element end.
 #[cycle(whole)]
 #[inline(always)]
-fn pairs_end<S: Shapes>(
+fn pairs_end<S: Shapes, const TIDY: bool>(
     shapes: &S,
     key: TypeId,
     elem: TypeId,
@@ -138,7 +159,7 @@ fn pairs_end<S: Shapes>(
 ) -> Option<usize>
     requires depth { depth ≤ 1000 }
     requires place { begin ≤ length body.now }
-    ensures { IfSome result (λ end. Stands (BeginsPairs (S.table shapes.now) key elem depth count) body.now begin end) }
+    ensures { IfSome result (λ end. Stands (BeginsPairs (S.table shapes.now) TIDY key elem depth count) body.now begin end) }
 {
     if count == 0 {
         return Some(begin);
@@ -147,8 +168,8 @@ fn pairs_end<S: Shapes>(
     let elems = shapes.shape_of(elem)?;
     let mut at = begin;
     'pairs: for _ in 0..count {
-        let behind = part_end(shapes, &keys.kind, body, at, depth)?;
-        at = part_end(shapes, &elems.kind, body, behind, depth)?;
+        let behind = part_end::<S, TIDY>(shapes, &keys.kind, body, at, depth)?;
+        at = part_end::<S, TIDY>(shapes, &elems.kind, body, behind, depth)?;
     }
     Some(at)
 }
@@ -156,7 +177,7 @@ fn pairs_end<S: Shapes>(
 // Where the fields of a struct end.
 #[cycle(whole)]
 #[inline(always)]
-fn fields_end<S: Shapes>(
+fn fields_end<S: Shapes, const TIDY: bool>(
     shapes: &S,
     types: &Fields,
     body: &[u8],
@@ -165,7 +186,7 @@ fn fields_end<S: Shapes>(
 ) -> Option<usize>
     requires depth { depth ≤ 1000 }
     requires place { begin ≤ length body.now }
-    ensures { IfSome result (λ end. Stands (BeginsFields (S.table shapes.now) types.now 0 depth) body.now begin end) }
+    ensures { IfSome result (λ end. Stands (BeginsFields (S.table shapes.now) TIDY types.now 0 depth) body.now begin end) }
 {
     let mut next = 0;
     let mut at = begin;
@@ -177,9 +198,46 @@ fn fields_end<S: Shapes>(
         let number = field_number(next, delta)?;
         let field = types.get(number)?;
         let shape = shapes.shape_of(field.id)?;
-        at = part_end(shapes, &shape.kind, body, behind, depth)?;
+        if TIDY && is_dropped_at(&shape.kind, body, behind) {
+            return None;
+        }
+        at = part_end::<S, TIDY>(shapes, &shape.kind, body, behind, depth)?;
         next = number + 1;
     }
+}
+
+// Whether a tidy struct drops the value of the kind that stands in the body from the place on.
+#[inline(always)]
+fn is_dropped_at(kind: &Kind, body: &[u8], at: usize) -> bool
+    requires { at ≤ length body.now }
+    ensures { result ≡ false → BeginsKept kind.now (drop at body.now) }
+{
+    match kind {
+        Kind::Basic(basic) => is_basic_dropped_at(*basic, body, at),
+        Kind::Slice { .. } => is_zero_at(body, at),
+        _ => false,
+    }
+}
+
+// The same of a basic type. The spellings of 0, false and nothing begin with a byte 0, and no others do.
+#[inline(always)]
+fn is_basic_dropped_at(basic: Basic, body: &[u8], at: usize) -> bool
+    requires { at ≤ length body.now }
+    ensures { result ≡ false → BeginsKept (kind.Basic basic) (drop at body.now) }
+{
+    match basic {
+        Basic::Interface => false,
+        Basic::Complex => is_zero_at(body, at) && is_zero_at(body, at + 1),
+        _ => is_zero_at(body, at),
+    }
+}
+
+// Whether a byte 0 stands at the place.
+#[inline(always)]
+fn is_zero_at(body: &[u8], at: usize) -> bool
+    ensures { result ≡ false → slice_get body.now at ≢ Some 0 }
+{
+    matches!(body.get(at), Some(0))
 }
 
 // The number of the field that is so much above the one before the next.
@@ -202,8 +260,8 @@ fn are_numbers(basic: Basic) -> bool
 #[inline(never)]
 fn basics_end(basic: Basic, count: u64, body: &[u8], begin: usize) -> Option<usize>
     requires { begin ≤ length body.now }
-    ensures { IfSome result (λ end. (T : Table) (e : TypeId) (s : Shape) → shape_of T e ≡ Some s
-        → s.kind ≡ kind.Basic basic → Stands (BeginsEach T e 1 count) body.now begin end) }
+    ensures { IfSome result (λ end. (T : Table) (tidy : Bool) (e : TypeId) (s : Shape) → shape_of T e ≡ Some s
+        → s.kind ≡ kind.Basic basic → Stands (BeginsEach T tidy e 1 count) body.now begin end) }
 {
     let mut at = begin;
     'basics: for _ in 0..count {
@@ -216,8 +274,8 @@ fn basics_end(basic: Basic, count: u64, body: &[u8], begin: usize) -> Option<usi
 #[inline(never)]
 fn numbers_end(count: u64, body: &[u8], begin: usize) -> Option<usize>
     requires { begin ≤ length body.now }
-    ensures { IfSome result (λ end. (T : Table) (e : TypeId) (s : Shape) → shape_of T e ≡ Some s
-        → AreNumbers s.kind → Stands (BeginsEach T e 1 count) body.now begin end) }
+    ensures { IfSome result (λ end. (T : Table) (tidy : Bool) (e : TypeId) (s : Shape) → shape_of T e ≡ Some s
+        → AreNumbers s.kind → Stands (BeginsEach T tidy e 1 count) body.now begin end) }
 {
     let mut at = begin;
     'numbers: for _ in 0..count {
@@ -231,7 +289,7 @@ fn numbers_end(count: u64, body: &[u8], begin: usize) -> Option<usize>
 #[inline(always)]
 fn basic_end(basic: Basic, body: &[u8], at: usize) -> Option<usize>
     requires { at ≤ length body.now }
-    ensures { IfSome result (λ end. (T : Table) → Stands (BeginsKind T (kind.Basic basic) 1) body.now at end) }
+    ensures { IfSome result (λ end. (T : Table) (tidy : Bool) → Stands (BeginsKind T tidy (kind.Basic basic) 1) body.now at end) }
 {
     match basic {
         Basic::Int | Basic::Uint | Basic::Float => {

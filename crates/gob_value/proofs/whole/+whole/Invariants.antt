@@ -1,6 +1,10 @@
-use Rattle.std.proofs.Common.{ℕ, ◌+◌, ◌-◌, ◌*◌, ◌≤◌, length}
+use Rattle.std.proofs.Common.{ℕ, nat_eq, Bool, not, ◌+◌, ◌-◌, ◌*◌, ◌≤◌, length}
 use Rattle.gob_value.specs.Whole.{Stands, BeginsEach, BeginsPairs, BeginsFields}
 use Rattle.gob_value.proofs.whole.+whole.Given as goal
+
+-- whether tidy values alone are asked for
+abbrev pub is_tidy : ℕ → Bool
+is_tidy n = not (nat_eq n 0)
 
 abbrev pub decreases-value_end : goal.decreases-value_end
 decreases-value_end g l = 3 * l.depth
@@ -22,24 +26,24 @@ abbrev pub invariant-elements_end-elements : goal.invariant-elements_end-element
 invariant-elements_end-elements g l = record {
   inside : l.at ≤ length l.body;
   parts : (end : ℕ)
-      → Stands (BeginsEach (g.S.Shapes.table l.shapes) l.fn.elem l.depth (l.count - l.counter)) l.body l.at end
-      → Stands (BeginsEach (g.S.Shapes.table l.shapes) l.fn.elem l.depth l.count) l.body l.begin end;
+      → Stands (BeginsEach (g.S.Shapes.table l.shapes) (is_tidy g.row.TIDY) l.fn.elem l.depth (l.count - l.counter)) l.body l.at end
+      → Stands (BeginsEach (g.S.Shapes.table l.shapes) (is_tidy g.row.TIDY) l.fn.elem l.depth l.count) l.body l.begin end;
 }
 
 abbrev pub invariant-pairs_end-pairs : goal.invariant-pairs_end-pairs
 invariant-pairs_end-pairs g l = record {
   inside : l.at ≤ length l.body;
   parts : (end : ℕ)
-      → Stands (BeginsPairs (g.S.Shapes.table l.shapes) l.fn.key l.fn.elem l.depth (l.count - l.counter)) l.body l.at
+      → Stands (BeginsPairs (g.S.Shapes.table l.shapes) (is_tidy g.row.TIDY) l.fn.key l.fn.elem l.depth (l.count - l.counter)) l.body l.at
       end
-      → Stands (BeginsPairs (g.S.Shapes.table l.shapes) l.fn.key l.fn.elem l.depth l.count) l.body l.begin end;
+      → Stands (BeginsPairs (g.S.Shapes.table l.shapes) (is_tidy g.row.TIDY) l.fn.key l.fn.elem l.depth l.count) l.body l.begin end;
 }
 
 abbrev pub invariant-fields_end-fields : goal.invariant-fields_end-fields
 invariant-fields_end-fields g l = record {
   inside : l.at ≤ length l.body;
-  parts : (end : ℕ) → Stands (BeginsFields (g.S.Shapes.table l.shapes) l.types l.next l.depth) l.body l.at end
-      → Stands (BeginsFields (g.S.Shapes.table l.shapes) l.types 0 l.depth) l.body l.begin end;
+  parts : (end : ℕ) → Stands (BeginsFields (g.S.Shapes.table l.shapes) (is_tidy g.row.TIDY) l.types l.next l.depth) l.body l.at end
+      → Stands (BeginsFields (g.S.Shapes.table l.shapes) (is_tidy g.row.TIDY) l.types 0 l.depth) l.body l.begin end;
 }
 
 abbrev pub decreases-fields_end-fields : goal.decreases-fields_end-fields
