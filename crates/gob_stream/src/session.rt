@@ -6,7 +6,7 @@ use crate::item::Item;
 use crate::limits::Limits;
 use crate::reading::{Reading, Step};
 use crate::stage::Stage;
-use crate::whole::{Passed, Whole};
+use crate::whole::{Awaited, Passed, Whole};
 use gob_num::Memory;
 use gob_read::{Builder, TreeBuilder};
 use gob_types::Table;
@@ -52,7 +52,7 @@ impl<B: Builder> Session<B> {
     ghost use Rattle.gob_stream.specs.Standing.{StandsAfter};
     ghost use Rattle.gob_stream.specs.Stream.{Counted};
     ghost use Rattle.gob_stream.specs.ReadParts.{Advances};
-    ghost use Rattle.gob_stream.specs.Whole.{IsBetween, HasBody, HasItem, PassesItem};
+    ghost use Rattle.gob_stream.specs.Whole.{IsBetween, HasBody, HasBegun, HasItem, PassesItem};
     ghost use Rattle.gob_stream.specs.Honest.{FeedsHonestly, ReadsHonestly};
     ghost use Rattle.gob_stream.specs.Reading.{Given, Feeds, Finishes, ReadsNext, CountsReads, TakesNext};
 
@@ -130,6 +130,18 @@ impl<B: Builder> Session<B> {
             whole.id whole.body.now whole.used piece.now) }
     {
         self.reading.whole_value(piece)
+    }
+
+    /// The item of a value at the front of the piece, where no byte of an item is under way and more bytes of it are to
+    /// come: its type is ready and the limits allow its length. It takes no memory, and looks at no byte of the value.
+    /// None says nothing of the piece.
+    pub fn awaited(&self, piece: &[u8]) -> Option<Awaited>
+        ensures between { IfSome result (λ awaited. IsBetween self.now.reading) }
+        ensures begun { IfSome result (λ awaited.
+            HasBegun self.now.reading.limits (types self.now.reading.types) self.now.reading.taken
+            awaited.id awaited.head awaited.size piece.now) }
+    {
+        self.reading.awaited(piece)
     }
 
     /// Goes past so many bytes, which the caller has found to be an item that defines nothing.
