@@ -1,12 +1,12 @@
 -- Items of values that stand whole at the front of a piece.
-use Rattle.std.proofs.Common.{◌≡◌, ℕ, pos, ◌+◌, ◌-◌, ◌≤◌, List, [], ◌∷◌, ◌++◌, length, take, drop, min, arith, refl}
-use Rattle.std.proofs.Common.{sym, ap, ◌∙◌, subst, length-append, length-drop}
+use Rattle.std.proofs.Common.{◌≡◌, ℕ, pos, ◌+◌, ◌-◌, ◌<◌, ◌≤◌, List, [], ◌∷◌, ◌++◌, length, take, drop, min, arith, refl}
+use Rattle.std.proofs.Common.{sym, ap, ◌∙◌, subst, append_assoc, length-append, length-drop}
 use Rattle.std.proofs.Math.Seq.{take-add, take_all}
 use Rattle.std.proofs.lemmas.List.{length-take-le, take-append-drop, append-nil}
 use Rattle.gob_num.specs.Unsigned.{IsUnsigned}
 use Rattle.gob_num.specs.Signed.{IsSigned}
 use Rattle.gob_num.proofs.PublicLaws.{begins_front}
-use Rattle.gob_num.proofs.PublicLaws.{unsigned_length}
+use Rattle.gob_num.proofs.PublicLaws.{unsigned_length, unsigned_prefix}
 use Rattle.gob_types.specs.declared.id.TypeId.{TypeId}
 use Rattle.gob_types.specs.Table.{Table}
 use Rattle.gob_types.specs.Base.{base_table}
@@ -20,8 +20,9 @@ use Rattle.gob_stream.specs.Body.{MayPut, value}
 use Rattle.gob_stream.specs.Stream.{Counted, counted}
 use Rattle.gob_stream.specs.Standing.{Standing, StandsIn, in_count, StandsAfter, IsUsable, has_failed, stands_after}
 use Rattle.gob_value.specs.Whole.{IsWhole}
-use Rattle.gob_stream.specs.Whole.{IsBetween, HasBody, HasItem, PassesItem}
-use Rattle.gob_stream.proofs.StreamLaws.{one_more}
+use Rattle.gob_stream.specs.Whole.{IsBetween, HasBody, HasBegun, HasCount, HasItem, PassesItem}
+use Rattle.gob_stream.specs.Outcome.{GivesItems}
+use Rattle.gob_stream.proofs.StreamLaws.{NoNext, gives_items, one_more}
 use Rattle.gob_stream.proofs.UnderWayLaws.{count_begins_here, none_awaits_count}
 
 -- the piece without its front, cut to a length
@@ -33,19 +34,19 @@ in_two : (n : ℕ) (z : List ℕ) → take n z ++ take (length z - n) (drop n z)
 in_two n z =
     ap (λ y. take n z ++ y) (take_all (length z - n) (drop n z) (omega (arith, length-drop n z))) ∙ take-append-drop n z
 
-pub has_body : (L : Bounds) (T : Table) (offset : ℕ) (id : TypeId) (piece : List ℕ) (head count behind room : ℕ)
-    → head ≤ length piece → IsUnsigned count (take head piece) → count ≤ length piece - head → count ≤ L.item
-    → room ≡ L.stream - offset → head + count ≤ room
+pub has_body : (L : Bounds) (T : Table) (offset : ℕ) (id : TypeId) (piece : List ℕ) (head count behind : ℕ)
+    → HasCount L offset count head piece → count ≤ length piece - head
     → IsSigned (pos id.0) (take behind (take (head + count - head) (drop head piece))) → MayPut T id
     → HasBody L T offset id (take (length (take (head + count - head) (drop head piece)) - behind)
     (drop behind (take (head + count - head) (drop head piece)))) (head + count) piece
-has_body L T offset id piece head count behind room inside counts enough item is_room fits names may =
+has_body L T offset id piece head count behind a enough names may =
+    let counts = a.counts in
+    let inside = a.within in
     let m = head + count - head in
     let same : m ≡ count = omega arith in
     let z = take m (drop head piece) in
     let size : length z ≡ m = cut head m piece (omega arith) in
     let first : length (take head piece) ≡ head = length-take-le head piece inside in
-    let some = (unsigned_length counts).0 in
     let both : take behind z ++ take (length z - behind) (drop behind z) ≡ z = in_two behind z in
     let all : length (take head piece ++ (take behind z ++ take (length z - behind) (drop behind z))) ≡ head + count =
     length-append (take head piece) (take behind z ++ take (length z - behind) (drop behind z)) ∙ omega
@@ -56,14 +57,52 @@ has_body L T offset id piece head count behind room inside counts enough item is
       count = take head piece;
       number = take behind z;
       counts = subst (λ n. IsUnsigned n (take head piece)) (sym body_size) counts;
-      item = omega arith;
-      stream = omega arith;
+      item = omega (arith, a.item);
+      stream = omega (arith, a.stream);
       names = names;
       may = may;
       within = omega arith;
       whole =
           take-add head count piece ∙ ap (λ n. take head piece ++ take n (drop head piece)) (sym same) ∙ ap
           (λ y. take head piece ++ y) (sym both);
+    }
+
+-- the count that stands at the front
+pub has_count : (L : Bounds) (offset count used room : ℕ) (piece : List ℕ) → used ≤ length piece
+    → IsUnsigned count (take used piece) → count ≤ L.item → room ≡ L.stream - offset → used + count ≤ room
+    → HasCount L offset count used piece
+has_count L offset count used room piece inside counts item is_room fits =
+    let some = (unsigned_length counts).0 in
+    let first : length (take used piece) ≡ used = length-take-le used piece inside in
+    record { counts = counts; within = inside; item = item; stream = omega arith }
+
+-- an item has begun where its count and its type number are there and a byte is missing
+pub has_begun : (L : Bounds) (T : Table) (offset : ℕ) (id : TypeId) (piece : List ℕ) (used count behind : ℕ)
+    → HasCount L offset count used piece → length piece - used < count
+    → behind ≤ length (take (length piece - used) (drop used piece))
+    → IsSigned (pos id.0) (take behind (take (length piece - used) (drop used piece))) → MayPut T id
+    → HasBegun L T offset id (used + behind) (used + count) piece
+has_begun L T offset id piece used count behind a few inside names may =
+    let z = take (length piece - used) (drop used piece) in
+    let inner = a.within in
+    let first : length (take used piece) ≡ used = length-take-le used piece inner in
+    let second : length (take behind z) ≡ behind = length-take-le behind z inside in
+    let same : z ≡ drop used piece = take_all (length piece - used) (drop used piece)
+    (omega (arith, length-drop used piece)) in
+    record {
+      announced = count;
+      count = take used piece;
+      number = take behind z;
+      rest = drop behind z;
+      counts = a.counts;
+      names = names;
+      whole = sym (take-append-drop used piece)
+          ∙ ap (λ y. take used piece ++ y) (sym same ∙ sym (take-append-drop behind z));
+      before = omega arith;
+      all = omega arith;
+      stream = omega (arith, a.stream);
+      may = may;
+      short = omega arith;
     }
 
 -- a body that is a whole value is that of an item
@@ -149,3 +188,26 @@ module _ {X O : Type 0} {stands : Standing X} {trees : Standing TreeBuilder} {mo
       s} b h f (has_failed e) = let n : stage.Failed ≡ stage.Count s.taken b.number = sym e ∙ b.stage in cc
   usable_behind b h f (stands_after {items =
       items} {bytes = bytes} a) = stands_after (f items bytes h.item h.bytes a h.counted h.size)
+
+-- ---- an item that has begun
+-- it isn't whole there
+begun_no_next : {L M : Bounds} {T U : Table} {offset begin head size : ℕ} {id : TypeId} {piece : List ℕ}
+    → HasBegun L T begin id head size piece → NoNext base_table M U offset piece
+begun_no_next h i V b y (counted {c = c} {d = d} counts item stream body) e =
+    let same = unsigned_prefix (h.number ++ h.rest) (d ++ y) h.counts counts (sym h.whole ∙ e ∙ append_assoc c d y) in
+    let value = same.value in
+    let few = h.short in
+    let all = h.all in
+    omega (arith, ap length h.whole, length-append h.count (h.number ++ h.rest), ap length same.rest, length-append d y)
+
+-- so bytes that end with it give the items before it
+pub begun_gives : {X O : Type 0} {stands : Standing X} {trees : Standing TreeBuilder} {most head size : ℕ}
+    {s : Reading X O} {id : TypeId} {items : List StreamItem} {bytes piece : List ℕ}
+    → StandsAfter stands trees most s items bytes → IsBetween s
+    → HasBegun s.limits (types s.types) s.taken id head size piece
+    → GivesItems base_table (no_deeper most s.limits) (bytes ++ piece) items
+begun_gives {most = most} {s = s} {items = items} {piece = piece} a between h =
+    let none : a.under_way ≡ [] = count_begins_here a between.stage refl in
+    let front = a.whole ∙ ap (λ y. a.front ++ y) none ∙ append-nil a.front in
+    subst (λ b. GivesItems base_table (no_deeper most s.limits) (b ++ piece) items) (sym front)
+    (gives_items piece a.stream (begun_no_next h))

@@ -19,7 +19,7 @@ use Rattle.gob_stream.specs.ReadParts.{Advances}
 use Rattle.gob_stream.specs.Reading.{Feeds, Finishes, ReadsNext, TakesNext}
 use Rattle.gob_stream.specs.Standing.{Standing, StandsAfter}
 use Rattle.gob_stream.specs.Stream.{Counted}
-use Rattle.gob_stream.specs.Whole.{IsBetween, HasBody, HasItem, PassesItem}
+use Rattle.gob_stream.specs.Whole.{IsBetween, HasBody, HasBegun, HasItem, PassesItem}
 
 pub record SessionState (X O : Type 0) : Type 0 where
   pub reading : Reading X O
@@ -91,6 +91,10 @@ ReadsHonestlyFrom most s items bytes rest now result = ReadsHonestly (no_deeper 
 -- the first bytes of the piece are the next item, of a value of the type with this body
 abbrev pub HasBodyNext : {X O : Type 0} → SessionState X O → TypeId → (body : List ℕ) → (used : ℕ) → (piece : List ℕ) → Type 0
 HasBodyNext s id body used piece = HasBody (limits_of s) (types_of s) (taken_of s) id body used piece
+
+-- the piece is the first bytes of the next item, which has so many, of a value of the type
+abbrev pub HasBegunNext : {X O : Type 0} → SessionState X O → TypeId → (head size : ℕ) → (piece : List ℕ) → Type 0
+HasBegunNext s id head size piece = HasBegun (limits_of s) (types_of s) (taken_of s) id head size piece
 
 -- so many bytes may be the next item, which defines nothing
 abbrev pub HasItemNext : {X O : Type 0} → (most : ℕ) → SessionState X O → (used : ℕ) → Type 0

@@ -1,5 +1,5 @@
 -- Items of values that stand whole at the front of a piece, between two items.
-use Rattle.std.specs.Prelude.{◌≡◌, ℕ, pos, ◌+◌, ◌≤◌, List, [], ◌∷◌, ◌++◌, length, take}
+use Rattle.std.specs.Prelude.{◌≡◌, ℕ, pos, ◌+◌, ◌<◌, ◌≤◌, List, [], ◌∷◌, ◌++◌, length, take}
 use Rattle.gob_num.specs.Unsigned.{IsUnsigned}
 use Rattle.gob_num.specs.Signed.{IsSigned}
 use Rattle.gob_types.specs.declared.id.TypeId.{TypeId}
@@ -33,6 +33,29 @@ pub record HasBody (L : Bounds) (T : Table) (offset : ℕ) (id : TypeId) (body :
   pub may : MayPut T id
   pub within : used ≤ length piece
   pub whole : take used piece ≡ count ++ (number ++ body)
+
+-- at this offset the first bytes of the piece are the count of an item that the limits allow
+pub record HasCount (L : Bounds) (offset count used : ℕ) (piece : List ℕ) : Type 0 where
+  pub counts : IsUnsigned count (take used piece)
+  pub within : used ≤ length piece
+  pub item : count ≤ L.item
+  pub stream : offset + (used + count) ≤ L.stream
+
+-- at this offset the piece is the first bytes of an item of so many bytes, and not all of them: its count, and in its head
+-- the number of a type whose values may come
+pub record HasBegun (L : Bounds) (T : Table) (offset : ℕ) (id : TypeId) (head size : ℕ) (piece : List ℕ) : Type 0 where
+  pub announced : ℕ
+  pub count : List ℕ
+  pub number : List ℕ
+  pub rest : List ℕ
+  pub counts : IsUnsigned announced count
+  pub names : IsSigned (pos id.0) number
+  pub whole : piece ≡ count ++ (number ++ rest)
+  pub before : head ≡ length count + length number
+  pub all : size ≡ length count + announced
+  pub stream : offset + size ≤ L.stream
+  pub may : MayPut T id
+  pub short : length piece < size
 
 -- at this offset the first bytes of some piece are an item that defines nothing
 pub record HasItem (L : Bounds) (T : Table) (offset used : ℕ) : Type 0 where

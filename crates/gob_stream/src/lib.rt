@@ -52,6 +52,6 @@ pub use output::Output;
 pub use read::read_stream;
 pub use reading::Step;
 pub use session::Session;
-pub use whole::{Passed, Whole};
+pub use whole::{Awaited, Passed, Whole};
 pub use writer::StreamWriter;
 pub use writing::write_stream;

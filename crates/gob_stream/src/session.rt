@@ -6,7 +6,7 @@ use crate::item::Item;
 use crate::limits::Limits;
 use crate::reading::{Reading, Step};
 use crate::stage::Stage;
-use crate::whole::{Passed, Whole};
+use crate::whole::{Awaited, Passed, Whole};
 use gob_num::Memory;
 use gob_read::{Builder, TreeBuilder};
 use gob_types::Table;
@@ -52,7 +52,7 @@ impl<B: Builder> Session<B> {
     ghost use Rattle.gob_stream.specs.Session.{table_of, types_of, taken_of, limits_of};
     ghost use Rattle.gob_stream.specs.Session.{FeedAnswers, FeedsHonestlyFrom, FinishAnswers, StepAnswers};
     ghost use Rattle.gob_stream.specs.Session.{ReadItemAnswers, ReadsHonestlyFrom, ReadItemTakes};
-    ghost use Rattle.gob_stream.specs.Session.{HasBodyNext, HasItemNext, ReadsOn, ReadsValue};
+    ghost use Rattle.gob_stream.specs.Session.{HasBodyNext, HasBegunNext, HasItemNext, ReadsOn, ReadsValue};
 
     /// A reader that has taken no byte. No value may be deeper than these limits allow, or than the builder takes.
     pub fn new(alloc: Global, limits: Limits) -> Result<Session<B>, Memory>
@@ -125,6 +125,17 @@ impl<B: Builder> Session<B> {
             HasBodyNext self.now whole.id whole.body.now whole.used piece.now) }
     {
         self.reading.whole_value(piece)
+    }
+
+    /// The item of a value at the front of the piece, where no byte of an item is under way and more bytes of it are to
+    /// come: its type is ready and the limits allow its length. It takes no memory, and looks at no byte of the value.
+    /// None says nothing of the piece.
+    pub fn awaited(&self, piece: &[u8]) -> Option<Awaited>
+        ensures between { IfSome result (λ awaited. IsBetweenItems self.now) }
+        ensures begun { IfSome result (λ awaited.
+            HasBegunNext self.now awaited.id awaited.head awaited.size piece.now) }
+    {
+        self.reading.awaited(piece)
     }
 
     /// Goes past so many bytes, which the caller has found to be an item that defines nothing.

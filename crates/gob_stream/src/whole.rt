@@ -1,6 +1,6 @@
 //! Items of values that stand whole at the front of a piece.
 
-ghost use Rattle.std.specs.Prelude.{◌≡◌, ◌+◌, ◌++◌, ◌∷◌, [], ℕ, List, pos, None, IsTrue, IfSome, length};
+ghost use Rattle.std.specs.Prelude.{◌≡◌, ◌+◌, ◌^◌, ◌<◌, ◌≤◌, ◌++◌, ◌∷◌, [], ℕ, List, pos, None, IsTrue, IfSome, length, take};
 ghost use Rattle.gob_num.specs.Unsigned.{IsUnsigned};
 ghost use Rattle.gob_num.specs.Signed.{IsSigned};
 ghost use Rattle.gob_types.specs.Base.{base_table};
@@ -10,7 +10,7 @@ ghost use Rattle.gob_stream.specs.Item.{StreamItem};
 ghost use Rattle.gob_stream.specs.Stream.{Counted};
 ghost use Rattle.gob_stream.specs.Bounds.{no_deeper};
 ghost use Rattle.gob_stream.specs.Standing.{StandsAfter, IsUsable};
-ghost use Rattle.gob_stream.specs.Whole.{IsBetween, HasBody, HasItem, PassesItem};
+ghost use Rattle.gob_stream.specs.Whole.{IsBetween, HasBody, HasBegun, HasCount, HasItem, PassesItem};
 
 use crate::reading::Reading;
 use crate::stage::Stage;
@@ -40,6 +40,31 @@ pub struct Passed {
     pub used: usize,
 }
 
+/// An item of a value of which the first bytes stand in a piece, and not yet all.
+#[derive(Clone, Copy, Debug, PartialEq, Eq)]
+pub struct Awaited {
+    /// The id of its type.
+    pub id: TypeId,
+    /// How many bytes stand before its body: its count and its type number.
+    pub head: usize,
+    /// How many bytes are in it, more than the piece has.
+    pub size: u64,
+}
+
+// The count of an item.
+#[derive(Clone, Copy)]
+struct Announced {
+    count: u64,
+    used: usize,
+}
+
+// The type of an item's value.
+#[derive(Clone, Copy)]
+struct Named {
+    id: TypeId,
+    used: usize,
+}
+
 impl<B: Builder> Reading<B> {
     /// The item of a value that stands whole at the front of the piece, where no byte of it was taken before. None says
     /// nothing of the piece.
@@ -48,41 +73,64 @@ impl<B: Builder> Reading<B> {
         ensures body { IfSome result (λ whole. HasBody self.now.limits (types self.now.types) self.now.taken
             whole.id whole.body.now whole.used piece.now) }
     {
+        let announced = self.announced(piece)?;
+        let head = announced.used;
+        if announced.count > (piece.len() - head) as u64 {
+            return None;
+        }
+        let used = head + announced.count as usize;
+        let item = &piece[head..used];
+        let named = type_of(&self.types, item)?;
+        Some(Whole {
+            id: named.id,
+            body: &item[named.used..],
+            used,
+        })
+    }
+
+    /// The item of a value at the front of the piece, where no byte of it was taken before and more bytes of it are to
+    /// come. None says nothing of the piece.
+    pub(crate) fn awaited(&self, piece: &[u8]) -> Option<Awaited>
+        ensures between { IfSome result (λ awaited. IsBetween self.now) }
+        ensures begun { IfSome result (λ awaited. HasBegun self.now.limits (types self.now.types) self.now.taken
+            awaited.id awaited.head awaited.size piece.now) }
+    {
+        let announced = self.announced(piece)?;
+        let count_end = announced.used;
+        if announced.count <= (piece.len() - count_end) as u64 {
+            return None;
+        }
+        let named = type_of(&self.types, &piece[count_end..])?;
+        Some(Awaited {
+            id: named.id,
+            head: count_end + named.used,
+            size: count_end as u64 + announced.count,
+        })
+    }
+
+    /// The count at the front of the piece, where no byte of the item was taken before and the limits allow its length.
+    fn announced(&self, piece: &[u8]) -> Option<Announced>
+        ensures between { IfSome result (λ announced. IsBetween self.now) }
+        ensures count { IfSome result (λ announced. HasCount self.now.limits self.now.taken announced.count
+            announced.used piece.now) }
+        ensures fits { IfSome result (λ announced. announced.used + announced.count < 2 ^ 64) }
+    {
         match &self.stage {
             Stage::Count { begin, .. } if *begin == self.taken => {}
             _ => return None,
         }
         let Taken::Whole {
             number: count,
-            used: head,
+            used,
         } = take_uint(piece)
         else {
             return None;
         };
-        if count > (piece.len() - head) as u64 || count > self.limits.item() {
+        let room = self.limits.stream().saturating_sub(self.taken);
+        if count > self.limits.item() || count > room || used as u64 > room - count {
             return None;
         }
-        let used = head + count as usize;
-        if used as u64 > self.limits.stream().saturating_sub(self.taken) {
-            return None;
-        }
-        let item = &piece[head..used];
-        let Taken::Whole {
-            number,
-            used: behind,
-        } = take_uint(item)
-        else {
-            return None;
-        };
-        let id = value_type(number)?;
-        if !may_put(&self.types, id) {
-            return None;
-        }
-        Some(Whole {
-            id,
-            body: &item[behind..],
-            used,
-        })
+        Some(Announced { count, used })
     }
 
     /// Goes past the item of a value that stands whole at the front of the piece, and keeps nothing of its value. None
@@ -135,6 +183,22 @@ impl<B: Builder> Reading<B> {
             *begin = self.taken;
         }
     }
+}
+
+// The type number at the front of what stands behind a count, where values of the type may come now.
+fn type_of(table: &Table, item: &[u8]) -> Option<Named>
+    ensures within { IfSome result (λ named. named.used ≤ length item.now) }
+    ensures names { IfSome result (λ named. IsSigned (pos named.id.0) (take named.used item.now)) }
+    ensures may { IfSome result (λ named. MayPut (types table.now) named.id) }
+{
+    let Taken::Whole { number, used } = take_uint(item) else {
+        return None;
+    };
+    let id = value_type(number)?;
+    if !may_put(table, id) {
+        return None;
+    }
+    Some(Named { id, used })
 }
 
 // The type whose number this is, where it is that of a value.
