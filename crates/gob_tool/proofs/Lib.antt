@@ -22,3 +22,4 @@ pub mod CheckLaws
 pub mod TidyStays
 pub mod RewriteLaws
 pub mod RewriteRuns
+pub mod RewriteWhole

@@ -24,6 +24,7 @@ use Rattle.gob_stream.specs.declared.fault.WriteFault.{WriteFault}
 use Rattle.gob_stream.specs.declared.fault.WriteFault.TheVariants as write
 use Rattle.gob_stream.specs.declared.item.Item as declared
 use Rattle.gob_stream.specs.declared.item.Item.TheVariants as variant
+use Rattle.gob_stream.specs.declared.reading.Reading.{Reading}
 use Rattle.gob_stream.specs.declared.writer.StreamWriter.{StreamWriter}
 use Rattle.gob_stream.specs.Body.{definition, value}
 use Rattle.gob_stream.specs.Bounds.{Bounds, deepest, no_deeper, within_trees}
@@ -35,14 +36,11 @@ use Rattle.gob_stream.proofs.PublicLaws.{not_counted, one_counted}
 use Rattle.gob_stream.proofs.PublicLaws.{counted_prefix, one_more}
 use Rattle.gob_stream.proofs.PublicLaws.{wire_ready}
 use Rattle.gob_tape.specs.declared.tape.Tape.{Tape}
+use Rattle.gob_tape.specs.declared.tape_builder.TapeBuilder.{TapeBuilder}
 use Rattle.gob_tape.specs.Meaning.{Means, MeansFitting}
 use Rattle.gob_tool.specs.Rewriting.{content, content_type, with_content, AreTidied, no_item, and_item}
-use Rattle.gob_tool.specs.Rewritten.{IsTape, bounds_for, StandsThere, IsOfStream, WritesForm, AreNext, GoesOn, Pushes}
-use Rattle.gob_tool.specs.Rewritten.{PushesAll, WentOn}
-use Rattle.gob_tool.specs.Gathering.{PassesSome}
-use Rattle.gob_tool.specs.Showing.{AppendsFront}
-use Rattle.gob_tool.specs.declared.fault.ToolFault.{ToolFault}
-use Rattle.std.proofs.KnownBytes.{Appends-nil, Appends-trans}
+use Rattle.gob_tool.specs.Rewritten.{IsTape, bounds_for, StandsThere, IsOfStream, WritesForm, HasRewritten, ComesNext}
+use Rattle.gob_tool.specs.Rewritten.{IsNext, SpellsTidy, Pushes}
 use Rattle.gob_tool.proofs.LinesStay.{stream_keeps, keeps_on}
 use Rattle.gob_tool.proofs.TidyStays.{tidies_on, tidies_back, CountedShort, form_counted}
 
@@ -186,91 +184,41 @@ tidied_more : {T : Table} {items others : List StreamItem} {v : Tree} (i : Strea
 tidied_more i no_item p = and_item p no_item
 tidied_more i (and_item q qs) p = and_item q (tidied_more i qs p)
 
--- the item that follows, and what follows behind it
-record Following (L : Bounds) (U : Table) (g : declared.Item Tape) (left : List (declared.Item Tape)) (T : Table)
-    (front : List ℕ) (others beyond : List StreamItem) (rest : List ℕ) : Type 0 where
-  item : StreamItem
-  meant : ItemMeans IsTape g item
-  more : List StreamItem
-  mean : ItemsMean IsTape left more
-  all : others ≡ item ∷ more
-  bytes : List ℕ
-  next : Table
-  counted : Counted base_table L T (length front) item bytes next
-  behind : List ℕ
-  later : Continues base_table L next (length (front ++ bytes)) (more ++ beyond) behind U
-  whole : rest ≡ bytes ++ behind
+module _ {s : Reading TapeBuilder Tape} {w : StreamWriter} {h : HasRewritten s w} {i : StreamItem} {U : Table}
+    (n : ComesNext h i U) where
+  there : StandsThere (no_deeper deepest s.limits) (types s.types) U i
+  there = record {
+    items = h.items;
+    front = h.gave.front;
+    earlier = h.gave.stream;
+    bytes = n.bytes;
+    next = U;
+    counted = n.counted;
+    others = [];
+    offset = 0;
+    rest = [];
+    later = no_more;
+  }
 
-following : {L : Bounds} {U : Table} {g : declared.Item Tape} {left : List (declared.Item Tape)} {T : Table}
-    {others : List StreamItem} {rest : List ℕ} (front : List ℕ) (beyond : List StreamItem)
-    → ItemsMean IsTape (g ∷ left) others
-    → Continues base_table L T (length front) (others ++ beyond) rest U → Following L U g left T front others beyond rest
-following {L = L} {U = U} front beyond (mean_more {i = i} {items = more} m ms) (and_then {U = V} {next = next} {b = b} {c = c} q e r) =
-    let at : next ≡ length (front ++ b) = e ∙ sym (length-append front b) in
-    record {
-      item = i;
-      meant = m;
-      more = more;
-      mean = ms;
-      all = refl;
-      bytes = b;
-      next = V;
-      counted = q;
-      behind = c;
-      later = subst (λ (n : ℕ). Continues base_table L V n (more ++ beyond) c U) at r;
-      whole = refl;
-    }
-
-module _ {L : Bounds} {w : StreamWriter} {U : Table} {g : declared.Item Tape} {left : List (declared.Item Tape)}
-    (n : AreNext L w U (g ∷ left)) where
-  there : StandsThere (no_deeper deepest L) n.table U (following n.front n.beyond n.mean n.later).item
-  there =
-      let f = following n.front n.beyond n.mean n.later in
-      record {
-        items = n.items;
-        front = n.front;
-        earlier = n.earlier;
-        bytes = f.bytes;
-        next = f.next;
-        counted = f.counted;
-        others = f.more ++ n.beyond;
-        offset = length (n.front ++ f.bytes);
-        rest = f.behind;
-        later = f.later;
-      }
-
-  pub of_stream : IsOfStream (no_deeper deepest w.limits) (types w.types) U g
-  of_stream =
-      let f = following n.front n.beyond n.mean n.later in
-      subst (λ (L : Bounds). IsOfStream (no_deeper deepest L) (types w.types) U g) (sym n.limits)
-      (subst (λ (T : Table). IsOfStream (no_deeper deepest L) T U g) (sym n.has.table)
-      (record { item = f.item; meant = f.meant; there = there }))
+  pub stands_there : StandsThere (no_deeper deepest w.limits) (types w.types) U i
+  stands_there = subst (λ (L : Bounds). StandsThere (no_deeper deepest L) (types w.types) U i) (sym h.limits)
+      (subst (λ (T : Table). StandsThere (no_deeper deepest s.limits) T U i) (sym h.has.table) there)
 
   -- what was written of the item
-  abbrev WritesIt : StreamWriter → (old new : Option (List ℕ)) → Result (Unit {0}) WriteFault → Type 0
-  WritesIt w' old new r = (i : StreamItem) → ItemMeans IsTape g i
-      → StandsThere (no_deeper deepest w.limits) (types w.types) U i → r ≢ Err write.Memory
-      → WritesForm w.limits (types w.types) w w' i old new r
+  abbrev pub WritesIt : StreamWriter → (old new : Option (List ℕ)) → Result (Unit {0}) WriteFault → Type 0
+  WritesIt w' old new r = r ≢ Err write.Memory → WritesForm w.limits (types w.types) w w' i old new r
 
   wrote : {w' : StreamWriter} {old new : Option (List ℕ)} {r : Result (Unit {0}) WriteFault} → WritesIt w' old new r
-      → r ≢ Err write.Memory → WritesForm L n.table w w' (following n.front n.beyond n.mean n.later).item old new r
+      → r ≢ Err write.Memory → WritesForm s.limits (types s.types) w w' i old new r
   wrote {w' = w'} {old = old} {new = new} {r = r} writes other =
-      let f = following n.front n.beyond n.mean n.later in
-      let stands = subst (λ (L : Bounds). StandsThere (no_deeper deepest L) (types w.types) U f.item) (sym n.limits)
-      (subst (λ (T : Table). StandsThere (no_deeper deepest L) T U f.item) (sym n.has.table) there) in
-      subst (λ (L : Bounds). WritesForm L n.table w w' f.item old new r) n.limits
-      (subst (λ (T : Table). WritesForm w.limits T w w' f.item old new r) n.has.table
-      (writes f.item f.meant stands other))
+      subst (λ (L : Bounds). WritesForm L (types s.types) w w' i old new r) h.limits
+      (subst (λ (T : Table). WritesForm w.limits T w w' i old new r) h.has.table (writes other))
 
-  can_stand : (form : Tree) → Tidies n.table (content_type (following n.front n.beyond n.mean n.later).item)
-      (content (following n.front n.beyond n.mean n.later).item) form
-      → Fits n.table (content_type (following n.front n.beyond n.mean n.later).item) form
-      → CountedShort (bounds_for L (following n.front n.beyond n.mean n.later).item) n.table (length n.written)
-      (with_content (following n.front n.beyond n.mean n.later).item form) (following n.front n.beyond n.mean n.later).next
-      (length (following n.front n.beyond n.mean n.later).bytes)
+  can_stand : (form : Tree) → Tidies (types s.types) (content_type i) (content i) form
+      → Fits (types s.types) (content_type i) form
+      → CountedShort (bounds_for s.limits i) (types s.types) (length h.written) (with_content i form) U (length n.bytes)
   can_stand form p fit =
-      let f = following n.front n.beyond n.mean n.later in
-      form_counted L (length n.written) form f.counted (stream_keeps n.earlier) p fit n.no_longer
+      form_counted s.limits (length h.written) form n.counted (stream_keeps h.gave.stream) p fit h.no_longer
 
   -- it isn't refused, nor was the writer at fault before
   pub only_wanting : {w' : StreamWriter} {old new : Option (List ℕ)} {r : Result (Unit {0}) WriteFault} (e : WriteFault)
@@ -278,60 +226,40 @@ module _ {L : Bounds} {w : StreamWriter} {U : Table} {g : declared.Item Tape} {l
   only_wanting write.Write writes same = inl refl
   only_wanting write.Memory writes same = inr refl
   only_wanting {w' = w'} {old = old} {new = new} (write.Refused reason) writes same =
-      let f = following n.front n.beyond n.mean n.later in
       let x = wrote writes (λ (memory : _ ≡ Err write.Memory). cc) in
       let c = can_stand x.form x.tidies x.fits in
-      let why = subst (λ r. WritesNext (bounds_for L f.item) w w' (with_content f.item x.form) old new r) same x.writes in
-      absurd (not_counted (why n.tidy n.written n.table n.has) c.counted)
+      let why = subst (λ r. WritesNext (bounds_for s.limits i) w w' (with_content i x.form) old new r) same x.writes in
+      absurd (not_counted (why h.tidy h.written (types s.types) h.has) c.counted)
   only_wanting {w' = w'} {old = old} {new = new} write.Failed writes same =
-      let f = following n.front n.beyond n.mean n.later in
       let x = wrote writes (λ (memory : _ ≡ Err write.Memory). cc) in
-      let why = subst (λ r. WritesNext (bounds_for L f.item) w w' (with_content f.item x.form) old new r) same x.writes in
-      absurd (why n.tidy n.written n.table n.has)
+      let why = subst (λ r. WritesNext (bounds_for s.limits i) w w' (with_content i x.form) old new r) same x.writes in
+      absurd (why h.tidy h.written (types s.types) h.has)
 
   -- it was gathered
   pub pushed : {w' : StreamWriter} {before after : List ℕ} {r : Result (Unit {0}) WriteFault} (u : Unit {0})
-      → WritesIt w' (Some before) (Some after) r → r ≡ Ok u → Pushes n w' left before after (Ok u)
+      → WritesIt w' (Some before) (Some after) r → r ≡ Ok u → Pushes n w' before after (Ok u)
   pushed {w' = w'} {before = before} {after = after} u writes same =
-      let f = following n.front n.beyond n.mean n.later in
       let x = wrote writes (λ (memory : _ ≡ Err write.Memory). cc) in
       let c = can_stand x.form x.tidies x.fits in
-      let j = with_content f.item x.form in
-      let done = subst (λ r. WritesNext (bounds_for L f.item) w w' j (Some before) (Some after) r) same x.writes in
-      let o = done n.tidy n.written n.table n.has in
+      let j = with_content i x.form in
+      let done = subst (λ r. WritesNext (bounds_for s.limits i) w w' j (Some before) (Some after) r) same x.writes in
+      let o = done h.tidy h.written (types s.types) h.has in
       let bytes : o.more ≡ c.bytes = one_counted o.item c.counted in
-      let one = counted_prefix [] [] o.item c.counted (ap (λ (l : List ℕ). l ++ []) bytes) in
-      let at : length n.front ≡ 0 + length n.front = omega arith in (
+      let one = counted_prefix [] [] o.item c.counted (ap (λ (l : List ℕ). l ++ []) bytes) in (
         record {
-          next = record {
-            items = n.items ++ f.item ∷ [];
-            front = n.front ++ f.bytes;
-            table = f.next;
-            limits = o.limits ∙ n.limits;
-            earlier = one_more n.earlier at f.counted;
-            tidy = n.tidy ++ j ∷ [];
-            tidied = tidied_more f.item (keeps_to f.counted n.tidied) (tidies_on (item_keeps f.counted) x.tidies);
-            written = n.written ++ o.more;
-            has = subst (λ (T : Table). HasWritten w' (n.tidy ++ j ∷ []) (n.written ++ o.more) T) one.table o.written;
-            no_longer = omega (
-              arith,
-              n.no_longer,
-              c.no_longer,
-              ap length bytes,
-              length-append n.written o.more,
-              length-append n.front f.bytes,
-            );
-            others = f.more;
-            mean = f.mean;
-            beyond = n.beyond;
-            rest = f.behind;
-            later = f.later;
-          };
-          beyond = refl;
-          all = ap (λ (l : List StreamItem). n.items ++ l) f.all ∙ sym (append_assoc n.items (f.item ∷ []) f.more);
-          whole = ap (λ (l : List ℕ). n.front ++ l) f.whole ∙ sym (append_assoc n.front f.bytes f.behind);
+          limits = o.limits ∙ h.limits;
+          tidy = h.tidy ++ j ∷ [];
+          tidied = tidied_more i (keeps_to n.counted h.tidied) (tidies_on (item_keeps n.counted) x.tidies);
           more = o.more;
-          written = refl;
+          has = subst (λ (T : Table). HasWritten w' (h.tidy ++ j ∷ []) (h.written ++ o.more) T) one.table o.written;
+          no_longer = omega (
+            arith,
+            h.no_longer,
+            c.no_longer,
+            ap length bytes,
+            length-append h.written o.more,
+            length-append h.gave.front n.bytes,
+          );
         },
         o.out,
       )
@@ -350,135 +278,32 @@ module _ {L : Bounds} {w : StreamWriter} {U : Table} {g : declared.Item Tape} {l
       let l = subst (λ r. Leaves w w' (Some before) (Some some) r) same leaves in
       ap (λ (l : List ℕ). take (length before) l) l.1.1 ∙ take-length before
   taken_back {w' = w'} {before = before} {some = some} write.Write writes leaves same =
-      let f = following n.front n.beyond n.mean n.later in
       let x = wrote writes (λ (memory : _ ≡ Err write.Memory). cc) in
-      let cut = subst (λ r. WritesNext (bounds_for L f.item) w w' (with_content f.item x.form) (Some before) (Some some) r)
+      let cut = subst (λ r. WritesNext (bounds_for s.limits i) w w' (with_content i x.form) (Some before) (Some some) r)
       same x.writes in
-      let o = cut n.tidy n.written n.table n.has in
+      let o = cut h.tidy h.written (types s.types) h.has in
       ap (λ (l : List ℕ). take (length before) l) o.out
       ∙ take-append-le (length before) before o.front (omega arith) ∙ take-length before
 
-pub pushes_as : {L : Bounds} {w w' : StreamWriter} {U : Table} {given left : List (declared.Item Tape)}
-    (n : AreNext L w U given) {before before' after after' : List ℕ} (u : Unit {0}) → before ≡ before' → after ≡ after'
-    → Pushes n w' left before after (Ok u) → Pushes n w' left before' after' (Ok u)
-pushes_as n u e f p = (p.0, sym f ∙ p.1 ∙ ap (λ (l : List ℕ). l ++ p.0.more) e)
+  pub pushes_as : {w' : StreamWriter} {before before' after after' : List ℕ} (u : Unit {0}) → before ≡ before'
+      → after ≡ after' → Pushes n w' before after (Ok u) → Pushes n w' before' after' (Ok u)
+  pushes_as u e f p = (p.0, sym f ∙ p.1 ∙ ap (λ (l : List ℕ). l ++ p.0.more) e)
 
--- ---- all that came
--- some of the items were written, and some of the bytes went out
-abbrev pub GoesSome : {L : Bounds} {w : StreamWriter} {U : Table} {given : List (declared.Item Tape)} (n : AreNext L w U given)
-    (w' : StreamWriter) (left : List (declared.Item Tape)) (old new : Option (List ℕ)) (before after : List ℕ) → Type 0
-GoesSome n w' left old new before after = (x : GoesOn n w' left) × PassesSome old new (before ++ x.more) after
+pub of_stream : {s : Reading TapeBuilder Tape} {w : StreamWriter} {h : HasRewritten s w} {U : Table}
+    {g : declared.Item Tape} → IsNext h U g → IsOfStream (no_deeper deepest w.limits) (types w.types) U g
+of_stream n = record { item = n.item; meant = n.meant; there = stands_there n.next }
 
-module _ {L : Bounds} {w : StreamWriter} {U : Table} {given : List (declared.Item Tape)} (n : AreNext L w U given)
-    (before : List ℕ) where
-  pub goes_first : {left : List (declared.Item Tape)} (out : Option (List ℕ)) → left ≡ given
-      → GoesSome n w left out out before before
-  goes_first out e = subst (λ left. GoesSome n w left out out before before) (sym e) (
-    record { next = n; all = refl; beyond = refl; whole = refl; more = []; written = sym (append-nil n.written) },
-    record { written = []; whole = append-nil before; out = Appends-nil out },
-  )
-
-  -- one item more was pushed
-  goes_pushed : {w1 w2 : StreamWriter} {more left : List (declared.Item Tape)} {g : declared.Item Tape}
-      {old mid : Option (List ℕ)} {g1 g2 : List ℕ} (u : Unit {0}) → GoesSome n w1 more old mid before g1
-      → more ≡ g ∷ left
-      → ((L : Bounds) (left : List (declared.Item Tape)) (m : AreNext L w1 U (g ∷ left)) → Pushes m w2 left g1 g2 (Ok u))
-      → (y : GoesOn n w2 left) × ((b : List ℕ) × (g2 ≡ g1 ++ b) × PassesSome old mid (before ++ y.more) (g1 ++ b))
-  goes_pushed {w1 = w1} {left = left} {g = g} {old = old} {mid = mid} {g1 = g1} u some e push =
-      let now = subst (λ more. GoesSome n w1 more old mid before g1) e some in
-      let x = now.0 in
-      let p = push L left x.next in
-      let y = p.0 in (
-        record {
-          next = y.next;
-          all = x.all ∙ y.all;
-          beyond = y.beyond ∙ x.beyond;
-          whole = x.whole ∙ y.whole;
-          more = x.more ++ y.more;
-          written = y.written ∙ ap (λ (l : List ℕ). l ++ y.more) x.written ∙ append_assoc n.written x.more y.more;
-        },
-        (
-          y.more,
-          p.1,
-          record {
-            written = now.1.written;
-            whole = sym (append_assoc before x.more y.more) ∙ ap (λ (l : List ℕ). l ++ y.more) now.1.whole
-                ∙ append_assoc now.1.written g1 y.more;
-            out = now.1.out;
-          },
-        ),
-      )
-
-  pub goes_more : {w1 w2 w3 : StreamWriter} {more left : List (declared.Item Tape)} {g : declared.Item Tape}
-      {old mid new : Option (List ℕ)} {g1 g2 g3 : List ℕ} (u : Unit {0}) → GoesSome n w1 more old mid before g1
-      → more ≡ g ∷ left
-      → ((L : Bounds) (left : List (declared.Item Tape)) (m : AreNext L w1 U (g ∷ left)) → Pushes m w2 left g1 g2 (Ok u))
-      → PassesSome mid new g2 g3 → w3 ≡ w2 → GoesSome n w3 left old new before g3
-  goes_more {left = left} {old = old} {mid = mid} {new = new} {g3 = g3} u some e push passes same =
-      let p = goes_pushed u some e push in
-      let h = p.1.2 in
-      subst (λ w. GoesSome n w left old new before g3) (sym same) (
-        p.0,
-        record {
-          written = h.written ++ passes.written;
-          whole = h.whole ∙ ap (λ (l : List ℕ). h.written ++ l) (sym p.1.1 ∙ passes.whole)
-              ∙ sym (append_assoc h.written passes.written g3);
-          out = Appends-trans old mid new h.written passes.written h.out passes.out;
-        },
-      )
-
-  -- no memory was had for an item
-  pub went_unpushed : {w1 : StreamWriter} {more : List (declared.Item Tape)} {old mid : Option (List ℕ)}
-      {g1 g2 : List ℕ} → GoesSome n w1 more old mid before g1 → g2 ≡ g1
-      → WentOn n (λ all. PassesSome old mid (before ++ all) g2)
-  went_unpushed {w1 = w1} {more = more} {old = old} {mid = mid} some same = record {
-    writer = w1;
-    left = more;
-    goes = some.0;
-    holds = subst (λ g. PassesSome old mid (before ++ some.0.more) g) (sym same) some.1;
-  }
-
-  -- or a write failed
-  pub went_unwritten : {w1 w2 : StreamWriter} {more left : List (declared.Item Tape)} {g : declared.Item Tape}
-      {old mid new : Option (List ℕ)} {g1 g2 : List ℕ} (u : Unit {0}) → GoesSome n w1 more old mid before g1
-      → more ≡ g ∷ left
-      → ((L : Bounds) (left : List (declared.Item Tape)) (m : AreNext L w1 U (g ∷ left)) → Pushes m w2 left g1 g2 (Ok u))
-      → AppendsFront mid new g2 → WentOn n (λ all. AppendsFront old new (before ++ all))
-  went_unwritten {w2 = w2} {left = left} {old = old} {mid = mid} {new = new} u some e push cut =
-      let p = goes_pushed u some e push in
-      let h = p.1.2 in
-      record {
-        writer = w2;
-        left = left;
-        goes = p.0;
-        holds = record {
-          front = h.written ++ cut.front;
-          rest = cut.rest;
-          whole = h.whole ∙ ap (λ (l : List ℕ). h.written ++ l) (sym p.1.1 ∙ cut.whole)
-              ∙ sym (append_assoc h.written cut.front cut.rest);
-          out = Appends-trans old mid new h.written cut.front h.out cut.out;
-        };
-      }
-
-  pub goes_all : {w1 : StreamWriter} {more : List (declared.Item Tape)} {old new : Option (List ℕ)} {after : List ℕ}
-      → GoesSome n w1 more old new before after → length more ≡ 0 → GoesSome n w1 [] old new before after
-  goes_all {w1 = w1} {old = old} {new = new} {after = after} some none =
-      subst (λ more. GoesSome n w1 more old new before after) (nothing _ none) some
-    where
-      nothing : (l : List (declared.Item Tape)) → length l ≡ 0 → l ≡ []
-      nothing [] h = refl
-      nothing (x ∷ xs) h = absurd (omega arith)
-
-  pub pushes_at : (w' : StreamWriter) (old new : Option (List ℕ)) (after : List ℕ) (r : Result (Unit {0}) ToolFault)
-      (f : ToolFault) → IsErrAnd r (λ e. e ≡ f) → PushesAll n w' old new before after (Err f)
-      → PushesAll n w' old new before after r
-  pushes_at w' old new after (Ok u) f e h = absurd e
-  pushes_at w' old new after (Err g) f e h = subst (λ f. PushesAll n w' old new before after (Err f)) (sym e) h
-
-pub next_there : {L : Bounds} {w : StreamWriter} {U : Table} {more left : List (declared.Item Tape)} {g : declared.Item Tape}
-    → more ≡ g ∷ left → AreNext L w U more → AreNext L w U (g ∷ left)
-next_there {L = L} {w = w} {U = U} e n = subst (λ more. AreNext L w U more) e n
-
-pub err_as : (r : Result (Unit {0}) ToolFault) {f h : ToolFault} → IsErrAnd r (λ e. e ≡ f) → f ≡ h → IsErrAnd r (λ e. e ≡ h)
-err_as (Ok u) e same = e
-err_as (Err g) e same = e ∙ same
+-- ---- a value that is its own tidy form
+pub itself_spelled : {L : Bounds} {T U : Table} {t : TypeId} {v : Tree} {body spelling : List ℕ}
+    → StandsThere (no_deeper deepest L) T U (puts t v) → SpellsTidy U t v body → Spells U t v spelling
+    → IsFormSpelled L T t v spelling
+itself_spelled {v = v} {spelling = spelling} s tidy spells =
+    let sent = value_sent s.counted in
+    let keeps = there_keeps s in
+    let here = spells_back keeps sent.ready spells in
+    record {
+      form = v;
+      tidies = tidies_back keeps sent.fits.spelled tidy.tidied;
+      fits = sent.fits;
+      spelled = λ ready. (here, omega (arith, sent.deep));
+    }

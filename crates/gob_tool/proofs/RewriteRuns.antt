@@ -1,9 +1,11 @@
 -- How a run that rewrites goes on from piece to piece, and how it ends.
-use Rattle.std.proofs.Common.{◌≡◌, ◌≢◌, ℕ, ◌+◌, ◌-◌, ◌<◌, arith, List, [], ◌∷◌, ◌++◌, length, Option, Some, Result, Ok, Err}
+use Rattle.std.proofs.Common.{◌≡◌, ◌≢◌, ℕ, ◌+◌, ◌-◌, ◌<◌, arith, List, [], ◌∷◌, ◌++◌, length, take, drop, Option, Some}
+use Rattle.std.proofs.Common.{None, Result, Ok, Err, take-append-drop}
 use Rattle.std.proofs.Common.{◌∙◌, ap, sym, subst, refl, append_assoc, append-nil, length-append}
 use Rattle.std.specs.Result.{IsErrAnd}
+use Rattle.gob_num.specs.declared.memory.Memory.{Memory}
 use Rattle.std.specs.Io.KnownBytes.{Consumes, Keeps, IsAtEnd}
-use Rattle.std.proofs.KnownBytes.{Appends-nil, Consumes-nil, Consumes-trans, Consumes-kept}
+use Rattle.std.proofs.KnownBytes.{Appends-nil, Appends-trans, Consumes-nil, Consumes-trans, Consumes-kept}
 use Rattle.gob_types.specs.declared.reason.Reason.TheVariants as reason
 use Rattle.gob_types.specs.Base.{base_table}
 use Rattle.gob_types.specs.Defined.{types}
@@ -16,10 +18,11 @@ use Rattle.gob_stream.specs.declared.item.Item as declared
 use Rattle.gob_stream.specs.declared.reading.Reading.{Reading}
 use Rattle.gob_stream.specs.declared.writer.StreamWriter.{StreamWriter}
 use Rattle.gob_stream.specs.Bounds.{Bounds, AreLimits, deepest, no_deeper}
-use Rattle.gob_stream.specs.Item.{StreamItem, ItemsMean, mean_none}
+use Rattle.gob_stream.specs.Item.{StreamItem, ItemMeans}
 use Rattle.gob_stream.specs.Outcome.{BeginsWith, Outcome, refused}
-use Rattle.gob_stream.specs.Reading.{GivesOn, Feeds, Finishes, SomeTaken}
-use Rattle.gob_stream.specs.Stream.{Stream, Continues, no_more, and_then}
+use Rattle.gob_stream.specs.ReadParts.{Advances, AdvancesOver, over_some, over_item}
+use Rattle.gob_stream.specs.Reading.{Finishes, SomeTaken}
+use Rattle.gob_stream.specs.Stream.{Stream, Continues, no_more, and_then, Counted}
 use Rattle.gob_stream.specs.Writing.{HasWritten, IsNew}
 use Rattle.gob_stream.proofs.PublicLaws.{after_gives, one_table, limits_stay}
 use Rattle.gob_stream.proofs.PublicLaws.{one_front}
@@ -30,14 +33,13 @@ use Rattle.gob_tool.specs.declared.fault.ToolFault.{ToolFault}
 use Rattle.gob_tool.specs.declared.fault.ToolFault.TheVariants as fault
 use Rattle.gob_tool.specs.Fault.{reading_fault}
 use Rattle.gob_tool.specs.Gathering.{Gathered, PassesSome, CountsOnlyReads}
-use Rattle.gob_tool.specs.Pieces.{TypesBehind}
 use Rattle.gob_tool.specs.Showing.{AppendsFront}
 use Rattle.gob_tool.specs.Rewriting.{AreTidied, no_item, HasTidyStream, RewritesWhole, RewritesToRefusal, RewritesGiven}
 use Rattle.gob_tool.specs.Rewriting.{RewritesFront, RewritesSo}
-use Rattle.gob_tool.specs.Rewritten.{GaveTapes, IsTape, AreNext, GoesOn, PushesAll, HasRewritten, Adds, RewritesOn}
-use Rattle.gob_tool.specs.Rewritten.{RewritesPiece, RewritesIn}
+use Rattle.gob_tool.specs.Rewritten.{GaveTapes, IsTape, HasRewritten, ComesNext, IsNext, GoesOn, Pushes, Adds, RewritesOn}
+use Rattle.gob_tool.specs.Rewritten.{RewritesSome, RewritesUpTo, RewritesPiece, RewritesIn}
 use Rattle.gob_tool.proofs.PieceRuns.{shown_more, nearer}
-use Rattle.gob_tool.proofs.ShowLaws.{gathered_grown, front_grown, types_behind, types_beyond, known_taken, all_taken, whole_stream}
+use Rattle.gob_tool.proofs.ShowLaws.{gathered_grown, front_grown, known_taken, all_taken, whole_stream}
 
 -- ---- a stream and what follows it
 record Splits (L : Bounds) (T : Table) (offset : ℕ) (items others : List StreamItem) (b : List ℕ) (V : Table) : Type 0 where
@@ -76,225 +78,377 @@ split {L = L} {V = V} {offset = offset} (i ∷ items) others (and_then {next = n
 same_bounds : {L : Bounds} → AreLimits deepest L → no_deeper deepest L ≡ L
 same_bounds {L = L} a = limits_stay deepest L a.depth
 
-none_meant : {others : List StreamItem} → ItemsMean IsTape [] others → others ≡ []
-none_meant mean_none = refl
-
 ends_there : {L : Bounds} {T U : Table} {o : ℕ} {items : List StreamItem} {rest : List ℕ}
     → Continues base_table L T o items rest U → items ≡ [] → T ≡ U
 ends_there no_more e = refl
 ends_there (and_then q f r) e = absurd (cc e)
 
-module _ {s : Reading TapeBuilder Tape} {w : StreamWriter} (s' : Reading TapeBuilder Tape) (h : HasRewritten s w)
-    (piece : List ℕ) (given new : List (declared.Item Tape)) (same : s'.limits ≡ s.limits) (appended : new ≡ given) where
-  -- what was given can be written next
-  pub record GivenNext (more beyond : List StreamItem) (rest : List ℕ) : Type 0 where
-    pub next : AreNext s.limits w (types s'.types) new
-    pub items : next.items ≡ h.items
-    pub others : next.others ≡ more
-    pub beyond_are : next.beyond ≡ beyond
-    pub written : next.written ≡ h.written
-    pub whole : h.taken ++ piece ≡ (next.front ++ next.rest) ++ rest
+-- one item that follows
+record Follows (L : Bounds) (T : Table) (o : ℕ) (i : StreamItem) (rest : List ℕ) (U : Table) : Type 0 where
+  bytes : List ℕ
+  counted : Counted base_table L T o i bytes U
+  whole : rest ≡ bytes
 
-  given_next : (more : List StreamItem) → ItemsMean IsTape given more
-      → (t : TypesBehind (no_deeper deepest s.limits) (h.taken ++ piece) (h.items ++ more) (types s'.types))
-      → GivenNext more t.more t.rest
-  given_next more mean t =
+follows : {L : Bounds} {T U : Table} {o : ℕ} {i : StreamItem} {items : List StreamItem} {rest : List ℕ}
+    → Continues base_table L T o (i ∷ items) rest U → items ≡ [] → Follows L T o i rest U
+follows {L = L} {T = T} {o = o} {i = i} (and_then {b = b} q f r) e =
+    let done = nothing_more r e in
+    record { bytes = b; counted = subst (λ (U : Table). Counted base_table L T o i b U) done.0 q; whole = ap (λ (l : List ℕ). b ++ l) done.1 ∙ append-nil b }
+  where
+    nothing_more : {V W : Table} {next : ℕ} {items : List StreamItem} {c : List ℕ} → Continues base_table L V next items c W
+        → items ≡ [] → (V ≡ W) × (c ≡ [])
+    nothing_more no_more e = (refl, refl)
+    nothing_more (and_then q f r) e = absurd (cc e)
+
+-- ---- from item to item
+module _ {s : Reading TapeBuilder Tape} {w : StreamWriter} (h : HasRewritten s w) where
+  tidy_there : (P : List ℕ → Type 0) → P h.written
+      → HasTidyStream (no_deeper deepest s.limits) (types s.types) h.items P
+  tidy_there P holds = record {
+    tidy = h.tidy;
+    tidied = h.tidied;
+    bytes = h.written;
+    stream = subst (λ (L : Bounds). Stream base_table L h.tidy h.written (types s.types))
+        (h.limits ∙ sym (same_bounds h.allowed)) h.has.stream;
+    holds = holds;
+  }
+
+  begins_there : (more : List ℕ) → BeginsWith base_table (no_deeper deepest s.limits) (h.taken ++ more) h.items
+  begins_there more = record {
+    front = h.gave.front;
+    rest = h.gave.under_way ++ more;
+    table = types s.types;
+    stream = h.gave.stream;
+    whole = ap (λ (l : List ℕ). l ++ more) h.gave.whole ∙ append_assoc h.gave.front h.gave.under_way more;
+  }
+
+  -- what was written so far, whatever follows
+  pub front_there : (more : List ℕ) (P : List ℕ → Type 0) → P h.written
+      → RewritesFront (no_deeper deepest s.limits) (h.taken ++ more) P
+  unfolding begins_there
+  front_there more P holds = record { items = h.items; begins = begins_there more; tidy = tidy_there P holds }
+
+  -- what follows is refused
+  pub refused_there : (more : List ℕ) (P : List ℕ → Type 0) {R : Refusal} → P h.written
+      → Outcome base_table (no_deeper deepest s.limits) (h.taken ++ more) h.items (refused R)
+      → RewritesToRefusal (no_deeper deepest s.limits) (h.taken ++ more) R P
+  unfolding begins_there
+  refused_there more P holds o =
       let L = no_deeper deepest s.limits in
-      let stream = subst (λ (l : List StreamItem). Stream base_table L l t.front (types s'.types))
-      (append_assoc h.items more t.more) t.stream in
-      let p = split h.items (more ++ t.more) stream in
-      let all : h.taken ++ piece ≡ (p.front ++ p.rest) ++ t.rest = t.whole ∙ ap (λ (l : List ℕ). l ++ t.rest) p.whole in
-      let whole = sym (append_assoc h.gave.front h.gave.under_way piece)
-      ∙ ap (λ (l : List ℕ). l ++ piece) (sym h.gave.whole) ∙ all ∙ append_assoc p.front p.rest t.rest in
-      let o = one_front (h.gave.under_way ++ piece) (p.rest ++ t.rest) h.gave.stream p.first whole in
-      let at : 0 + length p.front ≡ length p.front = omega arith in
+      let was = begins_there more in
+      let is = o.gives.begins in
+      let table = one_table L (h.taken ++ more) h.items (types s.types) is.table
+      (record { front = was.front; rest = was.rest; stream = h.gave.stream; whole = was.whole })
+      (record { front = is.front; rest = is.rest; stream = is.stream; whole = is.whole }) in
+      record {
+        items = h.items;
+        outcome = o;
+        tidy = subst (λ (T : Table). HasTidyStream L T h.items P) table (tidy_there P holds);
+      }
+
+module _ {s : Reading TapeBuilder Tape} {w : StreamWriter} (s' : Reading TapeBuilder Tape) (h : HasRewritten s w)
+    (z : List ℕ) (same : s'.limits ≡ s.limits) where
+  -- the bytes before and these, in two ways
+  in_two_ways : {items : List StreamItem} (a : GaveTapes s' items (h.taken ++ z))
+      → h.gave.front ++ (h.gave.under_way ++ z) ≡ a.front ++ a.under_way
+  in_two_ways a = sym (append_assoc h.gave.front h.gave.under_way z) ∙ ap (λ (l : List ℕ). l ++ z) (sym h.gave.whole)
+      ∙ a.whole
+
+  stream_so : {items : List StreamItem} (a : GaveTapes s' items (h.taken ++ z))
+      → Stream base_table (no_deeper deepest s.limits) items a.front (types s'.types)
+  stream_so {items = items} a =
+      subst (λ (L : Bounds). Stream base_table (no_deeper deepest L) items a.front (types s'.types)) same a.stream
+
+  -- no item was whole with the bytes
+  pub none_rewritten : (P : List ℕ → Type 0) → P [] → GaveTapes s' h.items (h.taken ++ z) → RewritesOn h s' w z P
+  none_rewritten P holds a =
+      let o = one_front (h.gave.under_way ++ z) a.under_way h.gave.stream (stream_so a) (in_two_ways a) in
       record {
         next = record {
           items = h.items;
-          front = p.front;
-          table = p.table;
-          limits = h.limits;
-          earlier = p.first;
+          taken = h.taken ++ z;
+          gave = a;
           tidy = h.tidy;
           tidied = subst (λ (T : Table). AreTidied T h.items h.tidy) o.table h.tidied;
           written = h.written;
           has = subst (λ (T : Table). HasWritten w h.tidy h.written T) o.table h.has;
+          limits = h.limits ∙ sym same;
+          allowed = subst (λ (L : Bounds). AreLimits deepest L) (sym same) h.allowed;
           no_longer = omega (arith, h.no_longer, ap length o.front);
-          others = more;
-          mean = subst (λ (l : List (declared.Item Tape)). ItemsMean IsTape l more) (sym appended) mean;
-          beyond = t.more;
-          rest = p.rest;
-          later = subst (λ (n : ℕ). Continues base_table L p.table n (more ++ t.more) p.rest (types s'.types)) at p.later;
         };
-        items = refl;
-        others = refl;
-        beyond_are = refl;
-        written = refl;
-        whole = all;
+        taken = refl;
+        adds = ([], sym (append-nil h.written), holds);
       }
 
-  fed_next : (u : Unit {0}) → (f : GivesOn IsTape given h.items (λ all. GaveTapes s' all (h.taken ++ piece)))
-      → GivenNext f.more [] f.holds.under_way
-  fed_next u f = given_next f.more f.mean (record {
-    more = [];
-    front = f.holds.front;
-    rest = f.holds.under_way;
-    stream = subst (λ (l : List StreamItem). Stream base_table (no_deeper deepest s.limits) l f.holds.front (types s'.types))
-        (sym (append-nil (h.items ++ f.more)))
-        (subst (λ (L : Bounds). Stream base_table (no_deeper deepest L) (h.items ++ f.more) f.holds.front (types s'.types))
-        same f.holds.stream);
-    whole = f.holds.whole;
-  })
+  -- one was, which comes next
+  pub record ComesWith (i : StreamItem) : Type 0 where
+    pub gave : GaveTapes s' (h.items ++ i ∷ []) (h.taken ++ z)
+    pub next : ComesNext h i (types s'.types)
+    pub front : gave.front ≡ h.gave.front ++ next.bytes
 
-  -- wherever the reader stops
-  pub some_next : (r : Result (Unit {0}) Fault) → Feeds tape_builder.stands-value.it tree_builder.stands-value.it
-      tape_builder.means-value.it deepest s s' h.items h.taken piece given r
-      → (more : List StreamItem) × (beyond : List StreamItem) × (rest : List ℕ) × GivenNext more beyond rest
-  some_next (Ok u) f = (f.more, [], f.holds.under_way, fed_next u f)
-  some_next (Err (reading.Refused R)) f =
-      let t = types_behind f.0.holds.1 in (f.0.more, t.more, t.rest, given_next f.0.more f.0.mean t)
-  some_next (Err reading.Read) f = absurd f
-  some_next (Err reading.Memory) f =
-      let t = types_beyond f.holds.1 in (f.more, t.more, t.rest, given_next f.more f.mean t)
-  some_next (Err reading.Failed) f = absurd f
+  pub comes_with : (i : StreamItem) → GaveTapes s' (h.items ++ i ∷ []) (h.taken ++ z) → ComesWith i
+  comes_with i a =
+      let L = no_deeper deepest s.limits in
+      let p = split h.items (i ∷ []) (stream_so a) in
+      let whole = in_two_ways a ∙ ap (λ (l : List ℕ). l ++ a.under_way) p.whole ∙ append_assoc p.front p.rest a.under_way in
+      let o = one_front (h.gave.under_way ++ z) (p.rest ++ a.under_way) h.gave.stream p.first whole in
+      let f = follows p.later refl in
+      let at : 0 + length p.front ≡ length h.gave.front = omega (arith, ap length o.front) in
+      record {
+        gave = a;
+        next = record {
+          bytes = f.bytes;
+          counted = subst (λ (T : Table). Counted base_table L T (length h.gave.front) i f.bytes (types s'.types)) (sym o.table)
+              (subst (λ (n : ℕ). Counted base_table L p.table n i f.bytes (types s'.types)) at f.counted);
+        };
+        front = p.whole ∙ ap (λ (l : List ℕ). l ++ p.rest) (sym o.front) ∙ ap (λ (l : List ℕ). h.gave.front ++ l) f.whole;
+      }
 
-  module _ {more beyond : List StreamItem} {rest : List ℕ} (gn : GivenNext more beyond rest) {w' : StreamWriter}
-      {left : List (declared.Item Tape)} (g : GoesOn gn.next w' left) (P : List ℕ → Type 0) (holds : P g.more) where
-    here : h.taken ++ piece ≡ g.next.front ++ (g.next.rest ++ rest)
-    here = gn.whole ∙ ap (λ (l : List ℕ). l ++ rest) g.whole ∙ append_assoc g.next.front g.next.rest rest
+  -- and it was written
+  pub one_rewritten : {i : StreamItem} {w' : StreamWriter} (P : List ℕ → Type 0) (c : ComesWith i) (g : GoesOn c.next w')
+      → P g.more → RewritesOn h s' w' z P
+  one_rewritten {i = i} P c g holds = record {
+    next = record {
+      items = h.items ++ i ∷ [];
+      taken = h.taken ++ z;
+      gave = c.gave;
+      tidy = g.tidy;
+      tidied = g.tidied;
+      written = h.written ++ g.more;
+      has = g.has;
+      limits = g.limits ∙ sym same;
+      allowed = subst (λ (L : Bounds). AreLimits deepest L) (sym same) h.allowed;
+      no_longer = omega (arith, g.no_longer, ap length c.front);
+    };
+    taken = refl;
+    adds = (g.more, refl, holds);
+  }
 
-    adds : Adds h.written P g.next.written
-    adds = (g.more, g.written ∙ ap (λ (l : List ℕ). l ++ g.more) gn.written, holds)
+tidy_as : {L : Bounds} {T : Table} {items : List StreamItem} {P Q : List ℕ → Type 0} → HasTidyStream L T items P
+    → ((b : List ℕ) → P b → Q b) → HasTidyStream L T items Q
+tidy_as t f = record { tidy = t.tidy; tidied = t.tidied; bytes = t.bytes; stream = t.stream; holds = f _ t.holds }
 
-    -- the tidy stream of what was written
-    tidy_stream : {T : Table} {items : List StreamItem} → g.next.table ≡ T → g.next.items ≡ items
-        → HasTidyStream (no_deeper deepest s.limits) T items (Adds h.written P)
-    tidy_stream {T = T} {items = items} table all = record {
-      tidy = g.next.tidy;
-      tidied = subst (λ (T : Table). AreTidied T items g.next.tidy) table
-          (subst (λ (l : List StreamItem). AreTidied g.next.table l g.next.tidy) all g.next.tidied);
-      bytes = g.next.written;
-      stream = subst (λ (T : Table). Stream base_table (no_deeper deepest s.limits) g.next.tidy g.next.written T) table
-          (subst (λ (L : Bounds). Stream base_table L g.next.tidy g.next.written g.next.table)
-          (g.next.limits ∙ sym (same_bounds h.allowed)) g.next.has.stream);
-      holds = adds;
-    }
+-- ---- what taking the front of a piece answers
+pub some_at : {s : Reading TapeBuilder Tape} {w : StreamWriter} (h : HasRewritten s w) (s' : Reading TapeBuilder Tape)
+    (w' : StreamWriter) (piece before after : List ℕ) (r : Result ℕ Fault) (e : Fault) → IsErrAnd r (λ x. x ≡ e)
+    → RewritesSome h s' w' piece before after (Err e) → RewritesSome h s' w' piece before after r
+some_at h s' w' piece before after (Ok used) e is x = absurd is
+some_at h s' w' piece before after (Err f) e is x =
+    subst (λ e. RewritesSome h s' w' piece before after (Err e)) (sym is) x
 
-    pub written_front : RewritesFront (no_deeper deepest s.limits) (h.taken ++ piece) (Adds h.written P)
-    written_front = record {
-      items = g.next.items;
-      begins = record {
-        front = g.next.front;
-        rest = g.next.rest ++ rest;
-        table = g.next.table;
-        stream = g.next.earlier;
-        whole = here;
-      };
-      tidy = tidy_stream refl refl;
-    }
+module _ {s : Reading TapeBuilder Tape} {w : StreamWriter} (h : HasRewritten s w) where
+  nothing_more : {before after : List ℕ} → after ≡ before → Adds h.written (λ more. after ≡ before ++ more) h.written
+  nothing_more {before = before} e = ([], sym (append-nil h.written), e ∙ sym (append-nil before))
 
-    -- where all of it was
-    all_items : left ≡ [] → g.next.items ≡ h.items ++ more
-    all_items none =
-        let empty : g.next.others ≡ [] = none_meant (subst (λ l. ItemsMean IsTape l g.next.others) none g.next.mean) in
-        sym (sym (ap (λ (l : List StreamItem). l ++ more) gn.items)
-        ∙ ap (λ (l : List StreamItem). gn.next.items ++ l) (sym gn.others) ∙ g.all
-        ∙ ap (λ (l : List StreamItem). g.next.items ++ l) empty ∙ append-nil g.next.items)
+  -- no memory was had, and nothing more was gathered
+  pub memory_stops : (s' : Reading TapeBuilder Tape) (w' : StreamWriter) (piece : List ℕ) {before after : List ℕ}
+      → after ≡ before → RewritesSome h s' w' piece before after (Err reading.Memory)
+  memory_stops s' w' piece {before = before} {after = after} e =
+      front_there h piece (Adds h.written (λ more. after ≡ before ++ more)) (nothing_more e)
 
-    pub written_refused : {R : Refusal} → left ≡ [] → Outcome base_table (no_deeper deepest s.limits) (h.taken ++ piece) (h.items ++ more) (refused R)
-        → RewritesToRefusal (no_deeper deepest s.limits) (h.taken ++ piece) R (Adds h.written P)
-    written_refused none o =
-        let b = o.gives.begins in
-        let all = all_items none in
-        let table = one_table (no_deeper deepest s.limits) (h.taken ++ piece) (h.items ++ more) g.next.table b.table
-        (record {
-          front = g.next.front;
-          rest = g.next.rest ++ rest;
-          stream = subst (λ (l : List StreamItem). Stream base_table (no_deeper deepest s.limits) l g.next.front g.next.table) all
-              g.next.earlier;
-          whole = here;
-        }) (record { front = b.front; rest = b.rest; stream = b.stream; whole = b.whole }) in
-        record { items = h.items ++ more; outcome = o; tidy = tidy_stream table all }
-
-    pub written_on : left ≡ [] → beyond ≡ [] → GaveTapes s' (h.items ++ more) (h.taken ++ piece)
-        → RewritesOn h s' w' piece P
-    written_on none nothing gave =
-        let all = all_items none in
-        let empty : g.next.others ≡ [] = none_meant (subst (λ l. ItemsMean IsTape l g.next.others) none g.next.mean) in
-        let last : g.next.others ++ g.next.beyond ≡ [] = ap (λ (l : List StreamItem). l ++ g.next.beyond) empty
-        ∙ g.beyond ∙ gn.beyond_are ∙ nothing in
-        let table = ends_there g.next.later last in
-        let stream = subst (λ (l : List StreamItem). Stream base_table (no_deeper deepest s.limits) l g.next.front g.next.table)
-        all g.next.earlier in
-        let read = subst (λ (L : Bounds). Stream base_table (no_deeper deepest L) (h.items ++ more) gave.front (types s'.types))
-        same gave.stream in
-        let o = one_front (g.next.rest ++ rest) gave.under_way stream read (sym here ∙ gave.whole) in
-        record {
-          next = record {
-            items = h.items ++ more;
-            taken = h.taken ++ piece;
-            gave = gave;
-            tidy = g.next.tidy;
-            tidied = subst (λ (T : Table). AreTidied T (h.items ++ more) g.next.tidy) table
-                (subst (λ (l : List StreamItem). AreTidied g.next.table l g.next.tidy) all g.next.tidied);
-            written = g.next.written;
-            has = subst (λ (T : Table). HasWritten w' g.next.tidy g.next.written T) table g.next.has;
-            limits = g.next.limits ∙ sym same;
-            allowed = subst (λ (L : Bounds). AreLimits deepest L) (sym same) h.allowed;
-            no_longer = omega (arith, g.next.no_longer, ap length o.front);
-          };
-          taken = refl;
-          adds = adds;
-        }
-
-  -- ---- what taking a piece answers
-  pub piece_unpushed : (r : Result (Unit {0}) Fault) (f : Feeds tape_builder.stands-value.it tree_builder.stands-value.it
-      tape_builder.means-value.it deepest s s' h.items h.taken piece given r) (w' : StreamWriter) (old out : Option (List ℕ))
-      (before after : List ℕ) (e : ToolFault)
-      → ((L : Bounds) (n : AreNext L w (types s'.types) new) → PushesAll n w' old out before after (Err e))
-      → RewritesPiece (no_deeper deepest s.limits) h s' w' piece old out before after (Err e)
-  piece_unpushed r f w' old out before after fault.Write push =
-      let n = some_next r f in
-      let x = push s.limits n.3.next in
-      written_front n.3 x.goes (λ more. AppendsFront old out (before ++ more)) x.holds
-  piece_unpushed r f w' old out before after fault.Memory push =
-      let n = some_next r f in
-      let x = push s.limits n.3.next in
-      written_front n.3 x.goes (λ more. PassesSome old out (before ++ more) after) x.holds
-  piece_unpushed r f w' old out before after (fault.Refused R) push = absurd (push s.limits (some_next r f).3.next)
-  piece_unpushed r f w' old out before after (fault.Wanted R) push = absurd (push s.limits (some_next r f).3.next)
-  piece_unpushed r f w' old out before after fault.NoWantedType push = absurd (push s.limits (some_next r f).3.next)
-  piece_unpushed r f w' old out before after (fault.Clash path why) push = absurd (push s.limits (some_next r f).3.next)
-  piece_unpushed r f w' old out before after fault.Read push = absurd (push s.limits (some_next r f).3.next)
-
-  pub piece_unfed : (e : Fault) (f : Feeds tape_builder.stands-value.it tree_builder.stands-value.it
-      tape_builder.means-value.it deepest s s' h.items h.taken piece given (Err e)) (w' : StreamWriter)
-      (old out : Option (List ℕ)) (before after : List ℕ) (u : Unit {0})
-      → ((L : Bounds) (n : AreNext L w (types s'.types) new) → PushesAll n w' old out before after (Ok u))
-      → RewritesPiece (no_deeper deepest s.limits) h s' w' piece old out before after (Err (reading_fault e))
-  piece_unfed (reading.Refused R) f w' old out before after u push =
-      let t = types_behind f.0.holds.1 in
-      let n = given_next f.0.more f.0.mean t in
-      let x = push s.limits n.next in (
-        written_refused n x.0 (λ more. PassesSome old out (before ++ more) after) x.1 refl f.0.holds.0.outcome,
-        f.0.holds.0.shown,
+  -- a step was refused
+  pub step_stops : (s' : Reading TapeBuilder Tape) (w' : StreamWriter) (piece : List ℕ) {before after : List ℕ} (e : Fault)
+      → after ≡ before
+      → Advances tape_builder.stands-value.it tree_builder.stands-value.it tape_builder.means-value.it deepest s s' h.items
+      h.taken piece (Err e) → RewritesSome h s' w' piece before after (Err e)
+  step_stops s' w' piece {before = before} {after = after} (reading.Refused R) e f =
+      let shown = f.0 in (
+        refused_there h piece (Adds h.written (λ more. after ≡ before ++ more)) (nothing_more e) shown.outcome,
+        shown.shown,
       )
-  piece_unfed reading.Read f w' old out before after u push = absurd f
-  piece_unfed reading.Memory f w' old out before after u push =
-      let t = types_beyond f.holds.1 in
-      let n = given_next f.more f.mean t in
-      let x = push s.limits n.next in
-      written_front n x.0 (λ more. PassesSome old out (before ++ more) after) x.1
-  piece_unfed reading.Failed f w' old out before after u push = absurd f
+  step_stops s' w' piece reading.Read e f = absurd f
+  step_stops s' w' piece reading.Memory e f = memory_stops s' w' piece e
+  step_stops s' w' piece reading.Failed e f = absurd f
 
-  pub piece_done : (f : GivesOn IsTape given h.items (λ all. GaveTapes s' all (h.taken ++ piece))) (w' : StreamWriter)
-      (old out : Option (List ℕ)) (before after : List ℕ) (u : Unit {0})
-      → ((L : Bounds) (n : AreNext L w (types s'.types) new) → PushesAll n w' old out before after (Ok u))
-      → RewritesOn h s' w' piece (λ more. PassesSome old out (before ++ more) after)
-  piece_done f w' old out before after u push =
-      let n = fed_next u f in
-      let x = push s.limits n.next in
-      written_on n x.0 (λ more. PassesSome old out (before ++ more) after) x.1 refl refl f.holds
+-- a step gave nothing
+module _ {s : Reading TapeBuilder Tape} {w : StreamWriter} (h : HasRewritten s w) (s' : Reading TapeBuilder Tape)
+    (same : s'.limits ≡ s.limits) (piece : List ℕ) (used : ℕ) where
+  pub step_without : {o : Option (declared.Item Tape)} {before after : List ℕ}
+      → AdvancesOver tape_builder.stands-value.it tree_builder.stands-value.it tape_builder.means-value.it deepest s'
+      h.items h.taken piece used o → ((given : declared.Item Tape) → ¬ (o ≡ Some given)) → after ≡ before
+      → RewritesOn h s' w (take used piece) (λ more. after ≡ before ++ more)
+  step_without {before = before} {after = after} (over_some l k a) none e =
+      none_rewritten s' h (take used piece) same (λ more. after ≡ before ++ more) (e ∙ sym (append-nil before)) a
+  step_without (over_item {given = given} l k m a) none e = absurd (none given refl)
+
+  -- or an item, which comes next
+  pub record StepGives (given : declared.Item Tape) : Type 0 where
+    pub item : StreamItem
+    pub meant : ItemMeans IsTape given item
+    pub comes : ComesWith s' h (take used piece) same item
+
+  pub step_gives : {o : Option (declared.Item Tape)} {given : declared.Item Tape}
+      → AdvancesOver tape_builder.stands-value.it tree_builder.stands-value.it tape_builder.means-value.it deepest s'
+      h.items h.taken piece used o → o ≡ Some given → StepGives given
+  step_gives (over_some l k a) is = absurd (cc is)
+  step_gives {given = given} (over_item {given = g} {i = i} l k m a) is =
+      let same_item : g ≡ given = cc in
+      record {
+        item = i;
+        meant = subst (λ (g : declared.Item Tape). ItemMeans IsTape g i) same_item m;
+        comes = comes_with s' h (take used piece) same i a;
+      }
+
+  pub given_next : {given : declared.Item Tape} → StepGives given → IsNext h (types s'.types) given
+  given_next g = record { item = g.item; meant = g.meant; next = g.comes.next }
+
+  pub step_pushed : {given : declared.Item Tape} {w' : StreamWriter} (before after : List ℕ) (u : Unit {0}) (g : StepGives given)
+      → ((r : Reading TapeBuilder Tape) (k : HasRewritten r w) (n : IsNext k (types s'.types) given)
+      → Pushes n.next w' before after (Ok u))
+      → RewritesOn h s' w' (take used piece) (λ more. after ≡ before ++ more)
+  step_pushed before after u g push =
+      let p = push s h (record { item = g.item; meant = g.meant; next = g.comes.next }) in
+      one_rewritten s' h (take used piece) same (λ more. after ≡ before ++ more) g.comes p.0 p.1
+
+-- by the types of a table that are these
+pub pushes_by : {w : StreamWriter} {U V : Table} {given : declared.Item Tape} (w' : StreamWriter) (before after : List ℕ)
+    (r : Result (Unit {0}) Memory) → U ≡ V
+    → ((s : Reading TapeBuilder Tape) (h : HasRewritten s w) (n : IsNext h U given) → Pushes n.next w' before after r)
+    → (s : Reading TapeBuilder Tape) (h : HasRewritten s w) (n : IsNext h V given) → Pushes n.next w' before after r
+pushes_by {w = w} {given = given} w' before after r e p =
+    subst (λ V. (s : Reading TapeBuilder Tape) (h : HasRewritten s w) (n : IsNext h V given) → Pushes n.next w' before after r)
+    e p
+
+-- where nothing has changed
+pub stands_still : {s s' : Reading TapeBuilder Tape} {w w' : StreamWriter} → s' ≡ s → w' ≡ w → HasRewritten s w
+    → HasRewritten s' w'
+stands_still {s = s} {w' = w'} e f h = subst (λ (s : Reading TapeBuilder Tape). HasRewritten s w') (sym e)
+    (subst (λ (w : StreamWriter). HasRewritten s w) (sym f) h)
+
+pub still_rewrites : {s s' : Reading TapeBuilder Tape} {w w' : StreamWriter} {before g1 : List ℕ}
+    (s2 : Reading TapeBuilder Tape) (w2 : StreamWriter) (piece after : List ℕ) (r : Result ℕ Fault) → s' ≡ s → w' ≡ w → g1 ≡ before
+    → ((h : HasRewritten s' w') → RewritesSome h s2 w2 piece g1 after r)
+    → (h : HasRewritten s w) → RewritesSome h s2 w2 piece before after r
+still_rewrites {s = s} {w = w} {w' = w'} {g1 = g1} s2 w2 piece after r e f same x =
+    subst (λ (b : List ℕ). (h : HasRewritten s w) → RewritesSome h s2 w2 piece b after r) same
+    (subst (λ (w : StreamWriter). (h : HasRewritten s w) → RewritesSome h s2 w2 piece g1 after r) f
+    (subst (λ (s : Reading TapeBuilder Tape). (h : HasRewritten s w') → RewritesSome h s2 w2 piece g1 after r) e x))
+
+-- ---- from item to item of a piece
+module _ {s : Reading TapeBuilder Tape} {w : StreamWriter} (h : HasRewritten s w) where
+  pub up_to_none : (piece : List ℕ) (out : Option (List ℕ)) (before : List ℕ) → RewritesUpTo h s w piece piece out out before before
+  up_to_none piece out before = record {
+    front = [];
+    whole = refl;
+    on = record {
+      next = h;
+      taken = sym (append-nil h.taken);
+      adds = ([], sym (append-nil h.written), record { written = []; whole = append-nil before; out = Appends-nil out });
+    };
+  }
+
+  module _ {s1 : Reading TapeBuilder Tape} {w1 : StreamWriter} {piece rest : List ℕ} {old mid : Option (List ℕ)}
+      {before g1 : List ℕ} (u : RewritesUpTo h s1 w1 piece rest old mid before g1) where
+    -- what was gathered of the rest, and what was before
+    passes_more : {g2 b : List ℕ} → Adds u.on.next.written (λ more. g2 ≡ g1 ++ more) b
+        → Adds h.written (λ more. PassesSome old mid (before ++ more) g2) b
+    passes_more {g2 = g2} a =
+        let was = u.on.adds in
+        let passed = was.2 in (
+          was.0 ++ a.0,
+          a.1 ∙ ap (λ (l : List ℕ). l ++ a.0) was.1 ∙ append_assoc h.written was.0 a.0,
+          record {
+            written = passed.written;
+            whole = sym (append_assoc before was.0 a.0) ∙ ap (λ (l : List ℕ). l ++ a.0) passed.whole
+                ∙ append_assoc passed.written g1 a.0 ∙ ap (λ (l : List ℕ). passed.written ++ l) (sym a.2);
+            out = passed.out;
+          },
+        )
+
+    rest_there : u.on.next.taken ++ rest ≡ h.taken ++ piece
+    rest_there = ap (λ (l : List ℕ). l ++ rest) u.on.taken ∙ append_assoc h.taken u.front rest
+        ∙ ap (λ (l : List ℕ). h.taken ++ l) (sym u.whole)
+
+    pub up_to_more : {s2 : Reading TapeBuilder Tape} {w2 w3 : StreamWriter} {later g2 g3 : List ℕ} {new : Option (List ℕ)}
+        (used : ℕ) → later ≡ drop used rest
+        → RewritesOn u.on.next s2 w2 (take used rest) (λ more. g2 ≡ g1 ++ more) → PassesSome mid new g2 g3 → w3 ≡ w2
+        → RewritesUpTo h s2 w3 piece later old new before g3
+    up_to_more {s2 = s2} {later = later} {g2 = g2} {g3 = g3} {new = new} used so x passes same =
+        subst (λ (w : StreamWriter). RewritesUpTo h s2 w piece later old new before g3) (sym same) (record {
+          front = u.front ++ take used rest;
+          whole = u.whole
+              ∙ ap (λ (l : List ℕ). u.front ++ l)
+              (sym (take-append-drop used rest) ∙ ap (λ (l : List ℕ). take used rest ++ l) (sym so))
+              ∙ sym (append_assoc u.front (take used rest) later);
+          on = record {
+            next = x.next;
+            taken = x.taken ∙ ap (λ (l : List ℕ). l ++ take used rest) u.on.taken
+                ∙ append_assoc h.taken u.front (take used rest);
+            adds = let a = passes_more x.adds in (
+              a.0,
+              a.1,
+              record {
+                written = a.2.written ++ passes.written;
+                whole = a.2.whole ∙ ap (λ (l : List ℕ). a.2.written ++ l) passes.whole
+                    ∙ sym (append_assoc a.2.written passes.written g3);
+                out = Appends-trans old mid new a.2.written passes.written a.2.out passes.out;
+              },
+            );
+          };
+        })
+
+    -- the rest of it was refused, or no memory was had for it
+    pub rest_stops : (M : Bounds) (s2 : Reading TapeBuilder Tape) (w2 : StreamWriter) (g2 : List ℕ) (e : Fault)
+        → s1.limits ≡ M → RewritesSome u.on.next s2 w2 rest g1 g2 (Err e)
+        → RewritesPiece (no_deeper deepest M) h s2 w2 piece old mid before g2 (Err (reading_fault e))
+    rest_stops M s2 w2 g2 (reading.Refused R) same f = (
+      subst (λ (L : Bounds). RewritesToRefusal (no_deeper deepest L) (h.taken ++ piece) R
+          (Adds h.written (λ more. PassesSome old mid (before ++ more) g2))) same
+          (subst (λ (l : List ℕ). RewritesToRefusal (no_deeper deepest s1.limits) l R
+          (Adds h.written (λ more. PassesSome old mid (before ++ more) g2))) rest_there
+          (record { items = f.0.items; outcome = f.0.outcome; tidy = tidy_as f.0.tidy (λ b a. passes_more a) })),
+      f.1,
+    )
+    rest_stops M s2 w2 g2 reading.Memory same f =
+        subst (λ (L : Bounds). RewritesFront (no_deeper deepest L) (h.taken ++ piece)
+        (Adds h.written (λ more. PassesSome old mid (before ++ more) g2))) same
+        (subst (λ (l : List ℕ). RewritesFront (no_deeper deepest s1.limits) l
+        (Adds h.written (λ more. PassesSome old mid (before ++ more) g2))) rest_there
+        (record { items = f.items; begins = f.begins; tidy = tidy_as f.tidy (λ b a. passes_more a) }))
+    rest_stops M s2 w2 g2 reading.Read same f = absurd f
+    rest_stops M s2 w2 g2 reading.Failed same f = absurd f
+
+    -- a write failed
+    pub rest_cut : {s2 : Reading TapeBuilder Tape} {w2 : StreamWriter} {g2 : List ℕ} {new : Option (List ℕ)} (used : ℕ)
+        (M : Bounds) (w3 : StreamWriter) (g3 : List ℕ) (f : ToolFault) → s2.limits ≡ M → f ≡ fault.Write
+        → RewritesOn u.on.next s2 w2 (take used rest) (λ more. g2 ≡ g1 ++ more) → AppendsFront mid new g2
+        → RewritesPiece (no_deeper deepest M) h s2 w3 piece old new before g3 (Err f)
+    rest_cut {s2 = s2} {new = new} used M w3 g3 f same write x cut =
+        let P = Adds h.written (λ more. AppendsFront old new (before ++ more)) in
+        let a = passes_more x.adds in
+        let holds : P x.next.written = (
+          a.0,
+          a.1,
+          record {
+            front = a.2.written ++ cut.front;
+            rest = cut.rest;
+            whole = a.2.whole ∙ ap (λ (l : List ℕ). a.2.written ++ l) cut.whole
+                ∙ sym (append_assoc a.2.written cut.front cut.rest);
+            out = Appends-trans old mid new a.2.written cut.front a.2.out cut.out;
+          },
+        ) in
+        let all : x.next.taken ++ drop used rest ≡ h.taken ++ piece =
+        ap (λ (l : List ℕ). l ++ drop used rest) x.taken
+        ∙ append_assoc u.on.next.taken (take used rest) (drop used rest)
+        ∙ ap (λ (l : List ℕ). u.on.next.taken ++ l) (take-append-drop used rest) ∙ rest_there in
+        subst (λ f. RewritesPiece (no_deeper deepest M) h s2 w3 piece old new before g3 (Err f)) (sym write)
+        (subst (λ (L : Bounds). RewritesFront (no_deeper deepest L) (h.taken ++ piece) P) same
+        (subst (λ (l : List ℕ). RewritesFront (no_deeper deepest s2.limits) l P) all
+        (front_there x.next (drop used rest) P holds)))
+
+    -- all of the piece was taken
+    pub up_to_all : length rest ≡ 0 → RewritesOn h s1 w1 piece (λ more. PassesSome old mid (before ++ more) g1)
+    up_to_all none = record {
+      next = u.on.next;
+      taken = u.on.taken
+          ∙ ap (λ (l : List ℕ). h.taken ++ l)
+          (sym (u.whole ∙ ap (λ (l : List ℕ). u.front ++ l) (nothing rest none) ∙ append-nil u.front));
+      adds = u.on.adds;
+    }
+      where
+        nothing : (l : List ℕ) → length l ≡ 0 → l ≡ []
+        nothing [] h = refl
+        nothing (x ∷ xs) h = absurd (omega arith)
 
 pub piece_at : (L : Bounds) {s : Reading TapeBuilder Tape} {w : StreamWriter} (h : HasRewritten s w)
     (s' : Reading TapeBuilder Tape) (w' : StreamWriter) (piece : List ℕ) (old new : Option (List ℕ))
@@ -304,22 +458,7 @@ piece_at L h s' w' piece old new before after (Ok u) f e x = absurd e
 piece_at L h s' w' piece old new before after (Err g) f e x = subst
     (λ f. RewritesPiece L h s' w' piece old new before after (Err f)) (sym e) x
 
-pub next_as : {w : StreamWriter} {U V : Table} {items : List (declared.Item Tape)} → U ≡ V
-    → ((L : Bounds) × AreNext L w U items) → (L : Bounds) × AreNext L w V items
-next_as {w = w} {items = items} e n = subst (λ V. (L : Bounds) × AreNext L w V items) e n
-
-pub pushes_by : {w : StreamWriter} {U V : Table} {items : List (declared.Item Tape)} (w' : StreamWriter)
-    (old new : Option (List ℕ)) (before after : List ℕ) (r : Result (Unit {0}) ToolFault) → U ≡ V
-    → ((L : Bounds) (n : AreNext L w U items) → PushesAll n w' old new before after r)
-    → (L : Bounds) (n : AreNext L w V items) → PushesAll n w' old new before after r
-pushes_by {w = w} {items = items} w' old new before after r e p =
-    subst (λ V. (L : Bounds) (n : AreNext L w V items) → PushesAll n w' old new before after r) e p
-
 -- ---- from piece to piece
-tidy_as : {L : Bounds} {T : Table} {items : List StreamItem} {P Q : List ℕ → Type 0} → HasTidyStream L T items P
-    → ((b : List ℕ) → P b → Q b) → HasTidyStream L T items Q
-tidy_as t f = record { tidy = t.tidy; tidied = t.tidied; bytes = t.bytes; stream = t.stream; holds = f _ t.holds }
-
 adds_out : {old mid new : Option (List ℕ)} (gathered after written : List ℕ) → Gathered old mid gathered written
     → (b : List ℕ) → Adds written (λ more. PassesSome mid new (gathered ++ more) after) b → Gathered old new after b
 adds_out {old = old} {mid = mid} {new = new} gathered after written g b a =

@@ -1,21 +1,26 @@
 -- Where a run stands that rewrites what it reads. For private clauses.
-use Rattle.std.specs.Prelude.{◌≡◌, ◌≢◌, ℕ, ◌≤◌, List, [], ◌++◌, length, Option, Result, Ok, Err}
+use Rattle.std.specs.Prelude.{◌≡◌, ◌≢◌, ℕ, ◌<◌, ◌≤◌, List, [], ◌∷◌, ◌++◌, length, take, Option, Some, None, Result}
+use Rattle.std.specs.Prelude.{Ok, Err}
 use Rattle.std.specs.Io.KnownBytes.{Consumes}
 use Rattle.gob_num.specs.declared.memory.Memory.{Memory}
+use Rattle.gob_types.specs.declared.id.TypeId.{TypeId}
 use Rattle.gob_types.specs.declared.reason.Reason.TheVariants as reason
 use Rattle.gob_types.specs.Base.{base_table}
 use Rattle.gob_types.specs.Defined.{types}
 use Rattle.gob_types.specs.Table.{Table}
 use Rattle.gob_value.specs.Fits.{Fits}
 use Rattle.gob_value.specs.Tidy.{Tidies}
+use Rattle.gob_value.specs.Top.{SpellsTop}
 use Rattle.gob_value.specs.Tree.{Tree}
 use Rattle.gob_read.specs.contracts.tree_builder.TreeBuilderBuilder.TheImpl as tree_builder
 use Rattle.gob_stream.specs.declared.fault.WriteFault.{WriteFault}
+use Rattle.gob_stream.specs.declared.fault.Fault.{Fault}
+use Rattle.gob_stream.specs.declared.fault.Fault.TheVariants as reading
 use Rattle.gob_stream.specs.declared.item.Item as declared
 use Rattle.gob_stream.specs.declared.reading.Reading.{Reading}
 use Rattle.gob_stream.specs.declared.writer.StreamWriter.{StreamWriter}
 use Rattle.gob_stream.specs.Bounds.{Bounds, AreLimits, deepest, no_deeper, within_trees}
-use Rattle.gob_stream.specs.Item.{StreamItem, defines, puts, ItemMeans, ItemsMean}
+use Rattle.gob_stream.specs.Item.{StreamItem, defines, puts, ItemMeans}
 use Rattle.gob_stream.specs.Standing.{StandsAfter}
 use Rattle.gob_stream.specs.Stream.{Counted, Continues, Stream}
 use Rattle.gob_stream.specs.Writing.{HasWritten, WritesNext}
@@ -69,62 +74,6 @@ pub record WritesForm (L : Bounds) (T : Table) (w w' : StreamWriter) (i : Stream
   pub fits : Fits T (content_type i) form
   pub writes : WritesNext (bounds_for L i) w w' (with_content i form) old new result
 
--- a writer under these limits has written the tidy form of the first items of a stream whose types are U at its end, and
--- what was made of the others is here
-pub record AreNext (L : Bounds) (w : StreamWriter) (U : Table) (given : List (declared.Item Tape)) : Type 0 where
-  pub items : List StreamItem
-  pub front : List ℕ
-  pub table : Table
-  pub limits : w.limits ≡ L
-  pub earlier : Stream base_table (no_deeper deepest L) items front table
-  pub tidy : List StreamItem
-  pub tidied : AreTidied table items tidy
-  pub written : List ℕ
-  pub has : HasWritten w tidy written table
-  pub no_longer : length written ≤ length front
-  pub others : List StreamItem
-  pub mean : ItemsMean IsTape given others
-  -- what the stream has besides
-  pub beyond : List StreamItem
-  pub rest : List ℕ
-  pub later : Continues base_table (no_deeper deepest L) table (length front) (others ++ beyond) rest U
-
--- it has written more of the same stream
-pub record GoesOn {L : Bounds} {w : StreamWriter} {U : Table} {given : List (declared.Item Tape)} (n : AreNext L w U given)
-    (w' : StreamWriter) (left : List (declared.Item Tape)) : Type 0 where
-  pub next : AreNext L w' U left
-  pub all : n.items ++ n.others ≡ next.items ++ next.others
-  pub beyond : next.beyond ≡ n.beyond
-  pub whole : n.front ++ n.rest ≡ next.front ++ next.rest
-  pub more : List ℕ
-  pub written : next.written ≡ n.written ++ more
-
--- one item was gathered in its tidy form, or nothing of it
-abbrev pub Pushes : {L : Bounds} {w : StreamWriter} {U : Table} {given : List (declared.Item Tape)} (n : AreNext L w U given)
-    (w' : StreamWriter) (left : List (declared.Item Tape)) (before after : List ℕ) → Result (Unit {0}) Memory → Type 0
-Pushes n w' left before after (Ok _) = (g : GoesOn n w' left) × (after ≡ before ++ g.more)
-Pushes n w' left before after (Err e) = after ≡ before
-
--- some of the others were written, and this holds of their bytes
-pub record WentOn {L : Bounds} {w : StreamWriter} {U : Table} {given : List (declared.Item Tape)} (n : AreNext L w U given)
-    (P : List ℕ → Type 0) : Type 0 where
-  pub writer : StreamWriter
-  pub left : List (declared.Item Tape)
-  pub goes : GoesOn n writer left
-  pub holds : P goes.more
-
--- the items were gathered in their tidy form behind what was, and some of all that went out
-abbrev pub PushesAll : {L : Bounds} {w : StreamWriter} {U : Table} {given : List (declared.Item Tape)} (n : AreNext L w U given)
-    (w' : StreamWriter) (old new : Option (List ℕ)) (before after : List ℕ) → Result (Unit {0}) ToolFault → Type 0
-PushesAll n w' old new before after (Ok _) = (g : GoesOn n w' []) × PassesSome old new (before ++ g.more) after
-PushesAll n w' old new before after (Err fault.Write) = WentOn n (λ more. AppendsFront old new (before ++ more))
-PushesAll n w' old new before after (Err fault.Memory) = WentOn n (λ more. PassesSome old new (before ++ more) after)
-PushesAll n w' old new before after (Err (fault.Refused R)) = ⊥
-PushesAll n w' old new before after (Err (fault.Wanted R)) = ⊥
-PushesAll n w' old new before after (Err fault.NoWantedType) = ⊥
-PushesAll n w' old new before after (Err (fault.Clash path reason)) = ⊥
-PushesAll n w' old new before after (Err fault.Read) = ⊥
-
 -- the writer has written the tidy form of what the reader gave
 pub record HasRewritten (s : Reading TapeBuilder Tape) (w : StreamWriter) : Type 0 where
   pub items : List StreamItem
@@ -138,6 +87,47 @@ pub record HasRewritten (s : Reading TapeBuilder Tape) (w : StreamWriter) : Type
   pub allowed : AreLimits deepest s.limits
   pub no_longer : length written ≤ length gave.front
 
+-- this item comes next in its stream, and the types behind it are U
+pub record ComesNext {s : Reading TapeBuilder Tape} {w : StreamWriter} (h : HasRewritten s w) (i : StreamItem) (U : Table)
+    : Type 0 where
+  pub bytes : List ℕ
+  pub counted : Counted base_table (no_deeper deepest s.limits) (types s.types) (length h.gave.front) i bytes U
+
+-- and what was made of it is here
+pub record IsNext {s : Reading TapeBuilder Tape} {w : StreamWriter} (h : HasRewritten s w) (U : Table)
+    (given : declared.Item Tape) : Type 0 where
+  pub item : StreamItem
+  pub meant : ItemMeans IsTape given item
+  pub next : ComesNext h item U
+
+-- the body is the value, its own tidy form
+pub record SpellsTidy (T : Table) (t : TypeId) (v : Tree) (body : List ℕ) : Type 0 where
+  pub spelled : SpellsTop T t v body
+  pub tidied : Tidies T t v v
+
+-- such a value comes next
+pub record IsTidyNext {s : Reading TapeBuilder Tape} {w : StreamWriter} (h : HasRewritten s w) (U : Table) (t : TypeId)
+    (body : List ℕ) : Type 0 where
+  pub value : Tree
+  pub spells : SpellsTidy U t value body
+  pub next : ComesNext h (puts t value) U
+
+-- its tidy form is written too
+pub record GoesOn {s : Reading TapeBuilder Tape} {w : StreamWriter} {h : HasRewritten s w} {i : StreamItem} {U : Table}
+    (n : ComesNext h i U) (w' : StreamWriter) : Type 0 where
+  pub limits : w'.limits ≡ s.limits
+  pub tidy : List StreamItem
+  pub tidied : AreTidied U (h.items ++ i ∷ []) tidy
+  pub more : List ℕ
+  pub has : HasWritten w' tidy (h.written ++ more) U
+  pub no_longer : length (h.written ++ more) ≤ length (h.gave.front ++ n.bytes)
+
+-- it was gathered in its tidy form, or nothing of it
+abbrev pub Pushes : {s : Reading TapeBuilder Tape} {w : StreamWriter} {h : HasRewritten s w} {i : StreamItem} {U : Table}
+    (n : ComesNext h i U) (w' : StreamWriter) (before after : List ℕ) → Result (Unit {0}) Memory → Type 0
+Pushes n w' before after (Ok _) = (g : GoesOn n w') × (after ≡ before ++ g.more)
+Pushes n w' before after (Err e) = after ≡ before
+
 -- so many more bytes were written, and this holds of them
 abbrev pub Adds : List ℕ → (List ℕ → Type 0) → List ℕ → Type 0
 Adds written P bytes = (more : List ℕ) × (bytes ≡ written ++ more) × P more
@@ -148,6 +138,33 @@ pub record RewritesOn {s : Reading TapeBuilder Tape} {w : StreamWriter} (h : Has
   pub next : HasRewritten s' w'
   pub taken : next.taken ≡ h.taken ++ piece
   pub adds : Adds h.written P next.written
+
+-- bytes of the front of a piece were rewritten too, and what was written of them is gathered
+abbrev pub RewritesSome : {s : Reading TapeBuilder Tape} {w : StreamWriter} (h : HasRewritten s w)
+    (s' : Reading TapeBuilder Tape) (w' : StreamWriter) (piece before after : List ℕ) → Result ℕ Fault → Type 0
+RewritesSome h s' w' piece before after (Ok used) = RewritesOn h s' w' (take used piece)
+    (λ more. after ≡ before ++ more)
+RewritesSome {s = s} h s' w' piece before after (Err (reading.Refused R)) =
+    RewritesToRefusal (no_deeper deepest s.limits) (h.taken ++ piece) R (Adds h.written (λ more. after ≡ before ++ more))
+    × (R.reason ≢ reason.Ended)
+RewritesSome {s = s} h s' w' piece before after (Err reading.Memory) =
+    RewritesFront (no_deeper deepest s.limits) (h.taken ++ piece) (Adds h.written (λ more. after ≡ before ++ more))
+RewritesSome h s' w' piece before after (Err reading.Read) = ⊥
+RewritesSome h s' w' piece before after (Err reading.Failed) = ⊥
+
+-- a whole item of its front was
+pub record RewritesItem {s : Reading TapeBuilder Tape} {w : StreamWriter} (h : HasRewritten s w)
+    (s' : Reading TapeBuilder Tape) (w' : StreamWriter) (piece before after : List ℕ) (used : ℕ) : Type 0 where
+  pub some : 0 < used
+  pub within : used ≤ length piece
+  pub rewrites : RewritesOn h s' w' (take used piece) (λ more. after ≡ before ++ more)
+
+-- or nothing has changed
+abbrev pub MayRewriteWhole : {s : Reading TapeBuilder Tape} {w : StreamWriter} (h : HasRewritten s w)
+    (s' : Reading TapeBuilder Tape) (w' : StreamWriter) (piece before after : List ℕ) → Result (Option ℕ) Memory → Type 0
+MayRewriteWhole h s' w' piece before after (Ok (Some used)) = RewritesItem h s' w' piece before after used
+MayRewriteWhole {s = s} {w = w} h s' w' piece before after (Ok None) = (s' ≡ s) × (w' ≡ w) × (after ≡ before)
+MayRewriteWhole h s' w' piece before after (Err e) = after ≡ before
 
 abbrev pub RewritesPiece : Bounds → {s : Reading TapeBuilder Tape} {w : StreamWriter} (h : HasRewritten s w)
     (s' : Reading TapeBuilder Tape) (w' : StreamWriter) (piece : List ℕ) (old new : Option (List ℕ))
@@ -164,6 +181,13 @@ RewritesPiece L h s' w' piece old new before after (Err (fault.Wanted R)) = ⊥
 RewritesPiece L h s' w' piece old new before after (Err fault.NoWantedType) = ⊥
 RewritesPiece L h s' w' piece old new before after (Err (fault.Clash path reason)) = ⊥
 RewritesPiece L h s' w' piece old new before after (Err fault.Read) = ⊥
+
+-- the front of a piece was rewritten, up to the rest
+pub record RewritesUpTo {s : Reading TapeBuilder Tape} {w : StreamWriter} (h : HasRewritten s w) (s' : Reading TapeBuilder Tape)
+    (w' : StreamWriter) (piece rest : List ℕ) (old new : Option (List ℕ)) (before after : List ℕ) : Type 0 where
+  pub front : List ℕ
+  pub whole : piece ≡ front ++ rest
+  pub on : RewritesOn h s' w' front (λ more. PassesSome old new (before ++ more) after)
 
 -- what was consumed of the input was taken, and what was written of it went out or is gathered
 pub record RewritesIn (s : Reading TapeBuilder Tape) (w : StreamWriter) (read now old new : Option (List ℕ))

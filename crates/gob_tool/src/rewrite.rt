@@ -1,18 +1,20 @@
 //! The run that writes a stream again, in its tidy form.
 
-ghost use Rattle.std.specs.Prelude.{◌≡◌, ◌<◌, ℕ, List, [], Some, length};
+ghost use Rattle.std.specs.Prelude.{◌≡◌, ◌<◌, ◌≤◌, ℕ, List, [], Some, length, IfOk};
 ghost use Rattle.gob_stream.specs.Bounds.{AreLimits, deepest, no_deeper};
 ghost use Rattle.gob_stream.specs.Writing.{IsNew};
 ghost use Rattle.gob_tool.specs.Gathering.{Gathered, CountsOnlyReads, CountsOnlyWrites};
 ghost use Rattle.gob_tool.specs.Rewriting.{Rewrites, RewritesSo};
-ghost use Rattle.gob_tool.specs.Rewritten.{GaveTapes, HasRewritten, RewritesPiece};
+ghost use Rattle.gob_tool.specs.Rewritten.{GaveTapes, HasRewritten, RewritesPiece, RewritesSome, MayRewriteWhole};
 ghost use Rattle.gob_tool.specs.Showing.{AppendsFront, CountsReadFaults, CountsWriteFaults};
 
 use crate::fault::ToolFault;
 use crate::rewriter::Rewriter;
 use gob_num::Memory;
-use gob_stream::{Input, Limits, Output, Session};
+use gob_read::Builder;
+use gob_stream::{Fault, Input, Limits, Output, Session, Step};
 use gob_tape::TapeBuilder;
+use gob_value::is_tidy_whole;
 use std::alloc::Global;
 use std::io::{Read, Write};
 
@@ -95,7 +97,15 @@ fn rewrite_items<R: Read, W: Write>(
 {
     let mut buffer = vec![in alloc; 0; PIECE].map_err(Memory::from)?;
     let mut session = Session::<TapeBuilder>::new(alloc, limits)?;
-    let rewritten = rewrite_pieces(alloc, input, output, &mut session, &mut buffer, rewriter);
+    let rewritten = rewrite_pieces(
+        alloc,
+        input,
+        output,
+        limits.depth(),
+        &mut session,
+        &mut buffer,
+        rewriter,
+    );
     drop(session);
     rewritten
 }
@@ -105,11 +115,13 @@ fn rewrite_pieces<R: Read, W: Write>(
     alloc: Global,
     input: &mut Input<R>,
     output: &mut Output<W>,
+    depth: u64,
     session: &mut Session<TapeBuilder>,
     buffer: &mut [u8],
     rewriter: &mut Rewriter,
 ) -> Result<(), ToolFault>
     requires stands { GaveTapes session.old.reading [] [] }
+    requires depth { depth ≡ session.old.reading.limits.depth }
     requires limits { AreLimits deepest session.old.reading.limits }
     requires new { IsNew rewriter.old.writer session.old.reading.limits }
     requires empty { rewriter.old.gathered.items ≡ [] }
@@ -124,7 +136,7 @@ fn rewrite_pieces<R: Read, W: Write>(
     'pieces: loop {
         match input.read(buffer) {
             Ok(0) => return Ok(session.finish()?),
-            Ok(count) => rewrite_piece(alloc, &buffer[..count], session, rewriter, output)?,
+            Ok(count) => rewrite_piece(alloc, &buffer[..count], depth, session, rewriter, output)?,
             Err(_) => return Err(ToolFault::Read),
         }
     }
@@ -134,11 +146,13 @@ fn rewrite_pieces<R: Read, W: Write>(
 fn rewrite_piece<W: Write>(
     alloc: Global,
     piece: &[u8],
+    depth: u64,
     session: &mut Session<TapeBuilder>,
     rewriter: &mut Rewriter,
     output: &mut Output<W>,
 ) -> Result<(), ToolFault>
-    requires { HasRewritten session.old.reading rewriter.old.writer }
+    requires so_far { HasRewritten session.old.reading rewriter.old.writer }
+    requires depth { depth ≡ session.old.reading.limits.depth }
     ensures rewritten { (h : HasRewritten session.old.reading rewriter.old.writer)
         → RewritesPiece (no_deeper deepest session.old.reading.limits) h session.new.reading rewriter.new.writer
         piece.now
@@ -147,8 +161,85 @@ fn rewrite_piece<W: Write>(
     ensures limits { session.new.reading.limits ≡ session.old.reading.limits }
     ensures writes { CountsOnlyWrites output.old.failures output.new.failures result }
 {
-    let mut items = Vec::new(alloc);
-    let fed = session.feed(alloc, piece, &mut items);
-    rewriter.push_all(alloc, items, session.table(), output)?;
-    Ok(fed?)
+    let mut rest = piece;
+    while !rest.is_empty() {
+        let used = rewrite_front(alloc, rest, depth, session, rewriter)?;
+        rewriter.write_many(output)?;
+        rest = &rest[used..];
+    }
+    Ok(())
+}
+
+/// Takes bytes from the front of the piece, none behind the end of an item, and rewrites the item that is whole with
+/// them. Answers how many it took, one at least.
+fn rewrite_front(
+    alloc: Global,
+    piece: &[u8],
+    depth: u64,
+    session: &mut Session<TapeBuilder>,
+    rewriter: &mut Rewriter,
+) -> Result<usize, Fault>
+    requires some { 0 < length piece.now }
+    requires so_far { HasRewritten session.old.reading rewriter.old.writer }
+    requires depth { depth ≡ session.old.reading.limits.depth }
+    ensures rewritten { (h : HasRewritten session.old.reading rewriter.old.writer)
+        → RewritesSome h session.new.reading rewriter.new.writer piece.now
+        rewriter.old.gathered.items rewriter.new.gathered.items result }
+    ensures used { IfOk result (λ used. (0 < used) × (used ≤ length piece.now)) }
+    ensures limits { session.new.reading.limits ≡ session.old.reading.limits }
+{
+    match rewrite_whole(alloc, piece, depth, session, rewriter)? {
+        Some(used) => Ok(used),
+        None => rewrite_step(alloc, piece, session, rewriter),
+    }
+}
+
+/// The same of an item of a value that stands whole at the front of the piece and is tidy already, of which nothing is
+/// built. None where there is none, and then nothing has changed.
+fn rewrite_whole(
+    alloc: Global,
+    piece: &[u8],
+    depth: u64,
+    session: &mut Session<TapeBuilder>,
+    rewriter: &mut Rewriter,
+) -> Result<Option<usize>, Memory>
+    requires so_far { HasRewritten session.old.reading rewriter.old.writer }
+    requires depth { depth ≡ session.old.reading.limits.depth }
+    ensures rewritten { (h : HasRewritten session.old.reading rewriter.old.writer)
+        → MayRewriteWhole h session.new.reading rewriter.new.writer piece.now
+        rewriter.old.gathered.items rewriter.new.gathered.items result }
+    ensures limits { session.new.reading.limits ≡ session.old.reading.limits }
+{
+    let Some(whole) = session.whole_value(piece) else {
+        return Ok(None);
+    };
+    let table = session.table();
+    if !is_tidy_whole(table, whole.id, whole.body, depth.min(TapeBuilder::DEPTH)) {
+        return Ok(None);
+    }
+    rewriter.push_whole(alloc, table, whole.id, whole.body)?;
+    session.pass(whole.used);
+    Ok(Some(whole.used))
+}
+
+/// The same by a step of the session, which makes a tape of the value.
+fn rewrite_step(
+    alloc: Global,
+    piece: &[u8],
+    session: &mut Session<TapeBuilder>,
+    rewriter: &mut Rewriter,
+) -> Result<usize, Fault>
+    requires some { 0 < length piece.now }
+    requires so_far { HasRewritten session.old.reading rewriter.old.writer }
+    ensures rewritten { (h : HasRewritten session.old.reading rewriter.old.writer)
+        → RewritesSome h session.new.reading rewriter.new.writer piece.now
+        rewriter.old.gathered.items rewriter.new.gathered.items result }
+    ensures used { IfOk result (λ used. (0 < used) × (used ≤ length piece.now)) }
+    ensures limits { session.new.reading.limits ≡ session.old.reading.limits }
+{
+    let Step { used, item } = session.step(alloc, piece)?;
+    if let Some(item) = item {
+        rewriter.push(alloc, item, session.table())?;
+    }
+    Ok(used)
 }

@@ -1,22 +1,26 @@
 //! Items that are written again in their tidy form.
 
-ghost use Rattle.std.specs.Prelude.{◌≡◌, ◌≢◌, ◌⊎◌, List, [], ◌∷◌, Err, IfOk, OnOk};
+ghost use Rattle.std.specs.Prelude.{◌≡◌, ◌≢◌, ◌⊎◌, [], Err, IfOk, OnOk};
 ghost use Rattle.gob_types.specs.Defined.{types};
+ghost use Rattle.gob_value.specs.Spelling.{Spells};
+ghost use Rattle.gob_value.specs.Top.{SpellsTop};
 ghost use Rattle.gob_value.specs.Tree.{Tree};
 ghost use Rattle.gob_value.specs.View.{view};
-ghost use Rattle.gob_stream.specs.declared.item.Item as declared;
-ghost use Rattle.gob_stream.specs.Bounds.{Bounds, deepest, no_deeper};
+ghost use Rattle.gob_stream.specs.declared.reading.Reading.{Reading};
+ghost use Rattle.gob_stream.specs.Bounds.{deepest, no_deeper};
+ghost use Rattle.gob_tape.specs.declared.tape_builder.TapeBuilder.{TapeBuilder};
 ghost use Rattle.gob_stream.specs.Item.{StreamItem, ItemMeans, defines, puts};
 ghost use Rattle.gob_stream.specs.Writing.{IsNew, Leaves};
-ghost use Rattle.gob_tool.specs.Gathering.{Passes, Writes, CountsWrites, CountsOnlyWrites};
-ghost use Rattle.gob_tool.specs.Rewritten.{IsTape, StandsThere, IsOfStream, WritesForm, AreNext, Pushes, PushesAll};
+ghost use Rattle.gob_tool.specs.Gathering.{Passes, Writes, CountsWrites};
+ghost use Rattle.gob_tool.specs.Rewritten.{IsTape, StandsThere, IsOfStream, WritesForm, HasRewritten, IsNext};
+ghost use Rattle.gob_tool.specs.Rewritten.{SpellsTidy, IsTidyNext, Pushes};
 
 use crate::fault::ToolFault;
 use crate::lines::write_whole;
 use gob_num::Memory;
 use gob_stream::{Item, Limits, Output, StreamWriter, WriteFault};
 use gob_tape::{Tape, tidy_tape};
-use gob_types::{Table, TypeId};
+use gob_types::{Kind, Shapes, Table, TypeId};
 use gob_value::{Value, tidy};
 use std::alloc::Global;
 use std::io::Write;
@@ -62,35 +66,19 @@ impl Rewriter {
         })
     }
 
-    /// Gathers the items, which follow in a stream with the types of the table at its end, and writes some as they
-    /// become many. After an error the first items are written or gathered, or a front of them is written.
-    pub(crate) fn push_all<W: Write>(
+    /// Gathers an item, behind which the types of its stream are those of the table. After an error nothing of it is
+    /// gathered.
+    pub(crate) fn push(
         &mut self,
         alloc: Global,
-        items: Vec<Item<Tape>>,
+        item: Item<Tape>,
         table: &Table,
-        output: &mut Output<W>,
-    ) -> Result<(), ToolFault>
-        requires { (L : Bounds) × AreNext L self.old.writer (types table.now) items.items }
-        ensures pushed { (L : Bounds) (n : AreNext L self.old.writer (types table.now) items.items)
-            → PushesAll n self.new.writer (W.contents output.old.writer) (W.contents output.new.writer)
-            self.old.gathered.items self.new.gathered.items result }
-        ensures counted { CountsOnlyWrites output.old.failures output.new.failures result }
-    {
-        for item in items {
-            self.push(alloc, item, table)?;
-            self.write_many(output)?;
-        }
-        Ok(())
-    }
-
-    /// Gathers an item. After an error nothing of it is gathered.
-    fn push(&mut self, alloc: Global, item: Item<Tape>, table: &Table) -> Result<(), Memory>
-        requires { (L : Bounds) × (left : List (declared.Item Tape))
-            × AreNext L self.old.writer (types table.now) (item ∷ left) }
-        ensures { (L : Bounds) (left : List (declared.Item Tape))
-            (n : AreNext L self.old.writer (types table.now) (item ∷ left))
-            → Pushes n self.new.writer left self.old.gathered.items self.new.gathered.items result }
+    ) -> Result<(), Memory>
+        requires { (s : Reading TapeBuilder Tape) × (h : HasRewritten s self.old.writer)
+            × IsNext h (types table.now) item }
+        ensures { (s : Reading TapeBuilder Tape) (h : HasRewritten s self.old.writer)
+            (n : IsNext h (types table.now) item)
+            → Pushes n.next self.new.writer self.old.gathered.items self.new.gathered.items result }
     {
         let whole = self.gathered.len();
         let mut sink = Output::new(mem::replace(&mut self.gathered, Vec::new(alloc)));
@@ -102,6 +90,34 @@ impl Rewriter {
             &mut self.spelling,
             &mut sink,
         );
+        self.gathered = sink.into_inner();
+        match written {
+            Ok(()) => Ok(()),
+            Err(fault) => {
+                self.gathered.truncate(whole);
+                Err(want_of_memory(fault))
+            }
+        }
+    }
+
+    /// The same of the item that puts the value which the body spells and which is its own tidy form: its bytes are
+    /// written as they stand.
+    pub(crate) fn push_whole(
+        &mut self,
+        alloc: Global,
+        table: &Table,
+        id: TypeId,
+        body: &[u8],
+    ) -> Result<(), Memory>
+        requires { (s : Reading TapeBuilder Tape) × (h : HasRewritten s self.old.writer)
+            × IsTidyNext h (types table.now) id body.now }
+        ensures { (s : Reading TapeBuilder Tape) (h : HasRewritten s self.old.writer)
+            (n : IsTidyNext h (types table.now) id body.now)
+            → Pushes n.next self.new.writer self.old.gathered.items self.new.gathered.items result }
+    {
+        let whole = self.gathered.len();
+        let mut sink = Output::new(mem::replace(&mut self.gathered, Vec::new(alloc)));
+        let written = write_as_spelled(alloc, table, id, body, &mut self.writer, &mut sink);
         self.gathered = sink.into_inner();
         match written {
             Ok(()) => Ok(()),
@@ -147,6 +163,42 @@ fn want_of_memory(fault: WriteFault) -> Memory
         WriteFault::Write | WriteFault::Memory => Memory,
         WriteFault::Refused(_) => unreachable!(),
         WriteFault::Failed => unreachable!(),
+    }
+}
+
+/// Writes the value that the body spells and that is its own tidy form.
+fn write_as_spelled<W: Write>(
+    alloc: Global,
+    table: &Table,
+    id: TypeId,
+    body: &[u8],
+    writer: &mut StreamWriter,
+    output: &mut Output<W>,
+) -> Result<(), WriteFault>
+    requires { (v : Tree) × SpellsTidy (types table.now) id v body.now
+        × StandsThere (no_deeper deepest writer.old.limits) (types writer.old.types) (types table.now) (puts id v) }
+    ensures written { (v : Tree) → SpellsTidy (types table.now) id v body.now
+        → StandsThere (no_deeper deepest writer.old.limits) (types writer.old.types) (types table.now) (puts id v)
+        → WritesForm writer.old.limits (types writer.old.types) writer.old writer.new (puts id v)
+        (W.contents output.old.writer) (W.contents output.new.writer) result }
+    ensures leaves { Leaves writer.old writer.new
+        (W.contents output.old.writer) (W.contents output.new.writer) result }
+{
+    let spelling = spelling_of(table, id, body);
+    writer.put_spelled(alloc, output, id, spelling)
+}
+
+/// The spelling of the value, behind the tag that stands before all but a struct.
+fn spelling_of<'a>(table: &Table, id: TypeId, body: &'a [u8]) -> &'a [u8]
+    requires { (v : Tree) × SpellsTop (types table.now) id v body.now }
+    ensures { (v : Tree) → SpellsTop (types table.now) id v body.now → Spells (types table.now) id v result.now }
+{
+    let Some(shape) = table.shape_of(id) else {
+        return body;
+    };
+    match &shape.kind {
+        Kind::Struct { .. } => body,
+        _ => &body[1..],
     }
 }
 

@@ -16,3 +16,5 @@ mod tables;
 mod texts;
 #[cfg(test)]
 mod values;
+#[cfg(test)]
+mod whole;

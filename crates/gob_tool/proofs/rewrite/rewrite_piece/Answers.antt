@@ -1,61 +1,54 @@
--- What a piece gives is written behind what was.
-use Rattle.std.proofs.Common.{Ok, Err, ap, sym}
-use Rattle.gob_types.specs.Defined.{types}
+-- From item to item the tidy stream goes on, and some of all goes out.
+use Rattle.std.proofs.Common.{rules, ◌≡◌, ◌-◌, ◌∙◌, ◌++◌, ℕ, ap, sym, drop, take, length, length-drop, refl}
+use Rattle.std.proofs.Math.Seq.{take-length}
 use Rattle.gob_stream.specs.Bounds.{deepest, no_deeper}
 use Rattle.gob_tool.specs.Fault.{reading_fault}
-use Rattle.gob_tool.proofs.PieceRuns.{only_given}
-use Rattle.gob_tool.proofs.RewriteRuns.{some_next, piece_unpushed, piece_unfed, piece_done, piece_at, next_as, pushes_by}
+use Rattle.gob_tool.proofs.RewriteRuns.{piece_at, up_to_none, up_to_more, up_to_all, rest_stops, rest_cut}
 use Rattle.gob_tool.proofs.rewrite.rewrite_piece.Goals as goal
 
-pub push_all-requires : goal.push_all-requires
-push_all-requires g c =
-    let h = c.requires in
-    let fed = c.feed-fed.ensures.fed in
-    let given = only_given fed.appended c.new-items.ensures.items in
-    next_as (ap (λ d. types d) (sym c.table.ensures)) (
-      c.args.session.now.reading.limits,
-      (some_next c.feed-fed.new.self.reading h c.args.piece.now fed.given
-          c.feed-fed.new.out.items c.feed-fed.ensures.limits given c.feed-fed.result
-          (fed.holds h.items h.taken h.gave)).3.next,
+pub loop-rest-init : goal.loop-rest-init
+loop-rest-init g c = (refl, refl, λ h. up_to_none h _ _ _)
+
+pub rewrite_front-requires-clause-so_far : goal.rewrite_front-requires-clause-so_far
+rewrite_front-requires-clause-so_far g c =
+    let u = c.loop-rest.invariant.2 c.requires.so_far in u.on.next
+
+pub returns-in_err-used-clause-rewritten : goal.returns-in_err-used-clause-rewritten
+returns-in_err-used-clause-rewritten g c = λ h.
+    let e = c.in_err-used.field-0.0 in
+    let M = c.args.session.now.reading.limits in
+    let u = c.loop-rest.invariant.2 h in
+    piece_at (no_deeper deepest M) h c.rewrite_front.new.session.reading c.rewrite_front.new.rewriter.writer
+    c.args.piece.now _ _ _ _ c.from_residual.result (reading_fault e) c.from_residual.ensures.1
+    (rest_stops h u M c.rewrite_front.new.session.reading c.rewrite_front.new.rewriter.writer _ e
+    c.loop-rest.invariant.0 (c.in_err-used.ensures.rewritten u.on.next))
+
+pub returns-in_err-write_many-clause-rewritten : goal.returns-in_err-write_many-clause-rewritten
+returns-in_err-write_many-clause-rewritten g c = λ h.
+    let f = c.in_err-write_many.field-0.0 in
+    let M = c.args.session.now.reading.limits in
+    let failed = c.in_err-write_many.ensures.passed in
+    let u = c.loop-rest.invariant.2 h in
+    piece_at (no_deeper deepest M) h c.rewrite_front.new.session.reading c.write_many.new.self.writer
+    c.args.piece.now _ _ _ _ c.from_residual-in_err-write_many.result f c.from_residual-in_err-write_many.ensures.1
+    (rest_cut h u c.in_ok-used.used M c.write_many.new.self.writer _ f
+    (c.in_ok-used.ensures.limits ∙ c.loop-rest.invariant.0) failed.0 (c.in_ok-used.ensures.rewritten u.on.next)
+    failed.1)
+
+pub loop-rest-preserved : goal.loop-rest-preserved
+loop-rest-preserved g c =
+    let n = c.in_ok-used.used in
+    let rest = c.loop-rest.rest.now in
+    let later : take (length rest - n) (drop n rest)
+    ≡ drop n rest = ap (λ (k : ℕ). take k (drop n rest)) (sym (length-drop n rest)) ∙ take-length (drop n rest) in (
+      c.in_ok-used.ensures.limits ∙ c.loop-rest.invariant.0,
+      c.in_ok-write_many.ensures.counted ∙ c.loop-rest.invariant.1,
+      λ h.
+          let u = c.loop-rest.invariant.2 h in
+          up_to_more h u n later (c.in_ok-used.ensures.rewritten u.on.next) c.in_ok-write_many.ensures.passed
+          c.in_ok-write_many.ensures.writer,
     )
-
-pub returns-in_err-push_all-clause-rewritten : goal.returns-in_err-push_all-clause-rewritten
-returns-in_err-push_all-clause-rewritten g c = λ h.
-    let fed = c.feed-fed.ensures.fed in
-    let given = only_given fed.appended c.new-items.ensures.items in
-    let f = c.in_err-push_all.field-0.0 in
-    piece_at (no_deeper deepest c.args.session.now.reading.limits) h c.feed-fed.new.self.reading
-    c.push_all.new.self.writer c.args.piece.now _ _ _ _ c.from_residual.result f c.from_residual.ensures.1
-    (piece_unpushed c.feed-fed.new.self.reading h c.args.piece.now fed.given c.feed-fed.new.out.items
-    c.feed-fed.ensures.limits given
-    c.feed-fed.result (fed.holds h.items h.taken h.gave) c.push_all.new.self.writer _ _ _ _ f
-    (pushes_by c.push_all.new.self.writer (g.W.Write.contents c.args.output.now.writer)
-    (g.W.Write.contents c.push_all.new.output.writer) c.args.rewriter.now.gathered.items
-    c.push_all.new.self.gathered.items (Err f) (ap (λ d. types d) c.table.ensures)
-    c.in_err-push_all.ensures.pushed))
-
-pub returns-in_err-fed-clause-rewritten : goal.returns-in_err-fed-clause-rewritten
-returns-in_err-fed-clause-rewritten g c = λ h.
-    let fed = c.in_err-fed.ensures.fed in
-    let given = only_given fed.appended c.new-items.ensures.items in
-    let e = c.in_err-fed.field-0.0 in
-    piece_at (no_deeper deepest c.args.session.now.reading.limits) h c.feed-fed.new.self.reading
-    c.push_all.new.self.writer c.args.piece.now _ _ _ _ c.from_residual-in_err-fed.result (reading_fault e)
-    c.from_residual-in_err-fed.ensures.1
-    (piece_unfed c.feed-fed.new.self.reading h c.args.piece.now fed.given c.feed-fed.new.out.items
-    c.feed-fed.ensures.limits given e (fed.holds h.items h.taken h.gave) c.push_all.new.self.writer _ _ _ _ tt
-    (pushes_by c.push_all.new.self.writer (g.W.Write.contents c.args.output.now.writer)
-    (g.W.Write.contents c.push_all.new.output.writer) c.args.rewriter.now.gathered.items
-    c.push_all.new.self.gathered.items (Ok tt) (ap (λ d. types d) c.table.ensures)
-    c.in_ok-push_all.ensures.pushed))
 
 pub returns-clause-rewritten : goal.returns-clause-rewritten
 returns-clause-rewritten g c = λ h.
-    let fed = c.in_ok-fed.ensures.fed in
-    let given = only_given fed.appended c.new-items.ensures.items in
-    piece_done c.feed-fed.new.self.reading h c.args.piece.now fed.given c.feed-fed.new.out.items
-    c.feed-fed.ensures.limits given (fed.holds h.items h.taken h.gave) c.push_all.new.self.writer _ _ _ _ tt
-    (pushes_by c.push_all.new.self.writer (g.W.Write.contents c.args.output.now.writer)
-    (g.W.Write.contents c.push_all.new.output.writer) c.args.rewriter.now.gathered.items
-    c.push_all.new.self.gathered.items (Ok tt) (ap (λ d. types d) c.table.ensures)
-    c.in_ok-push_all.ensures.pushed)
+    let none : length c.loop-rest.rest.now ≡ 0 = search rules in up_to_all h (c.loop-rest.invariant.2 h) none

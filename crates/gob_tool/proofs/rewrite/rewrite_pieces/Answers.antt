@@ -12,8 +12,8 @@ use Rattle.gob_tool.proofs.rewrite.rewrite_pieces.Goals as goal
 pub pieces-init : goal.pieces-init
 pieces-init g c = (refl, refl, refl, rewrites_first _ _ _ _ _ c.requires.stands c.requires.limits c.requires.new c.requires.empty)
 
-pub rewrite_piece-requires : goal.rewrite_piece-requires
-rewrite_piece-requires g c = c.pieces.invariant.3.so_far
+pub rewrite_piece-requires-clause-so_far : goal.rewrite_piece-requires-clause-so_far
+rewrite_piece-requires-clause-so_far g c = c.pieces.invariant.3.so_far
 
 pub returns-in_err-finish-in-Ok-eq0-clause-rewritten : goal.returns-in_err-finish-in-Ok-eq0-clause-rewritten
 returns-in_err-finish-in-Ok-eq0-clause-rewritten g c = λ bytes known.
