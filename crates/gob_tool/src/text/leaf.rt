@@ -115,16 +115,16 @@ pub(crate) fn put_text(bytes: &[u8], out: &mut Vec<u8>) -> Result<(), Memory>
     }
 }
 
-// Whether each byte is an ASCII character that stands for itself in a string.
+// Whether each byte is an ASCII character that stands for itself in a string. It looks at all of them: a loop that
+// doesn't end early takes many bytes at once.
 fn is_plain_ascii(bytes: &[u8]) -> bool
     ensures { IsTrue result → IsPlainAscii bytes.now }
 {
+    let mut plain = true;
     'bytes: for byte in bytes {
-        if *byte < 0x20 || *byte >= 0x80 || *byte == b'"' || *byte == b'\\' {
-            return false;
-        }
+        plain &= (*byte >= 0x20) & (*byte < 0x80) & (*byte != b'"') & (*byte != b'\\');
     }
-    true
+    plain
 }
 
 // Appends the bytes as they are, in quotes.
