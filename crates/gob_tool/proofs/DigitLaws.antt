@@ -48,6 +48,22 @@ decimal_three n lo hi = rw (decimal_pair n lo (omega arith), decimal_digit (n / 
 pub decimal_all_four : (n : ℕ) → 1000 ≤ n → n < 10000 → decimal n ≡ pair (n / 100) ++ pair (n % 100)
 decimal_all_four n lo hi = rw (decimal_pair n (omega arith) (omega arith), decimal_two (n / 100) (omega arith) (omega arith))
 
+-- the last of four digits, as many as the number has
+pub last_three : (n : ℕ) → 100 ≤ n → n < 1000 → (48 + n / 100 % 10) ∷ pair (n % 100) ≡ decimal n
+last_three n lo hi =
+    let e : n / 100 % 10 ≡ n / 100 = omega arith in
+    rw (decimal_three n lo hi, e)
+
+pub last_two : (n : ℕ) → 10 ≤ n → n < 100 → pair (n % 100) ≡ decimal n
+last_two n lo hi =
+    let e : n % 100 ≡ n = omega arith in
+    rw (decimal_two n lo hi, e)
+
+pub last_one : (n : ℕ) → n < 10 → (48 + n % 100 % 10) ∷ [] ≡ decimal n
+last_one n h =
+    let e : n % 100 % 10 ≡ n = omega arith in
+    rw (decimal_digit n h, e)
+
 pub decimal_four : (n : ℕ) → 10000 ≤ n → n < 2 ^ 64
     → decimal n ≡ decimal (n / 10000) ++ (pair (n % 10000 / 100) ++ pair (n % 10000 % 100))
 decimal_four n lo hi =

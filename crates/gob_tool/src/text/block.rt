@@ -5,8 +5,8 @@ ghost use Rattle.std.specs.Fmt.{decimal};
 ghost use Rattle.serde_json.specs.Written.{comma_if, compact_text};
 ghost use Rattle.gob_tool.specs.Json.{integer_json};
 
-// As many digits as a number of 64 bits has.
-const DIGITS: usize = 20;
+/// As many digits as a number of 64 bits has.
+pub(crate) const DIGITS: usize = 20;
 
 // The two digits of each number below 100.
 static PAIRS: [u8; 200] =
@@ -106,9 +106,9 @@ fn pair_at(number: u64, block: &mut [u8], at: usize) -> usize
     ensures text { take result block.new ≡ take at block.old ++ (48 + number / 10) ∷ (48 + number % 10) ∷ [] }
     ensures end { result ≡ at + 2 }
 {
-    let place = number as usize * 2;
-    block[at] = PAIRS[place];
-    block[at + 1] = PAIRS[place + 1];
+    let [tens, ones] = two_digits(number);
+    block[at] = tens;
+    block[at + 1] = ones;
     at + 2
 }
 
@@ -121,4 +121,26 @@ fn digit_at(digit: u64, block: &mut [u8], at: usize) -> usize
 {
     block[at] = b'0' + digit as u8;
     at + 1
+}
+
+/// The four digits of the number, of which the first may be 0.
+#[inline(always)]
+pub(crate) fn four_digits(number: u64) -> [u8; 4]
+    requires { number < 10000 }
+    ensures { result
+        ≡ (48 + number / 100 / 10) ∷ (48 + number / 100 % 10) ∷ (48 + number % 100 / 10) ∷ (48 + number % 100 % 10) ∷ [] }
+{
+    let [first, second] = two_digits(number / 100);
+    let [third, last] = two_digits(number % 100);
+    [first, second, third, last]
+}
+
+// The two digits of the number, of which the first may be 0.
+#[inline(always)]
+fn two_digits(number: u64) -> [u8; 2]
+    requires { number < 100 }
+    ensures { result ≡ (48 + number / 10) ∷ (48 + number % 10) ∷ [] }
+{
+    let place = number as usize * 2;
+    [PAIRS[place], PAIRS[place + 1]]
 }

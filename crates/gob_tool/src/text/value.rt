@@ -215,12 +215,23 @@ fn put_name(number: u64, name: &[u8], out: &mut Vec<u8>) -> Result<(), Memory>
     ensures { OnOk result (out.new.items ≡ out.old.items
         ++ 91 ∷ (decimal number ++ 44 ∷ (compact_text (text_json name.now) ++ 44 ∷ []))) }
 {
-    out.push(b'[')?;
-    put_natural(number, out)?;
-    out.push(b',')?;
+    put_place(number, out)?;
     put_text(name, out)?;
     out.push(b',')?;
     Ok(())
+}
+
+// Appends the bracket, the field's number and a comma, at once where the number has one digit.
+#[inline(always)]
+fn put_place(number: u64, out: &mut Vec<u8>) -> Result<(), Memory>
+    ensures { OnOk result (out.new.items ≡ out.old.items ++ 91 ∷ (decimal number ++ 44 ∷ [])) }
+{
+    if number < 10 {
+        return Ok(out.extend_from_slice(&[b'[', b'0' + number as u8, b','])?);
+    }
+    out.push(b'[')?;
+    put_natural(number, out)?;
+    Ok(out.push(b',')?)
 }
 
 // Appends the text of the opaque value that stands in the body from the place on.
