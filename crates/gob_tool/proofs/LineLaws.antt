@@ -68,16 +68,17 @@ line_text : (T : Table) (t : TypeId) (v : Tree)
 unfolding escape_byte
 line_text T t v = simp append_assoc
 
--- a line that was made in a room of its own
-pub whole_line : {T : Table} {t : TypeId} {limit : ℕ} {body : List ℕ} (empty head value room old new : List ℕ)
-    → empty ≡ [] → head ≡ empty ++ head_text t → TextOfWhole T t limit body head value
-    → room ≡ value ++ 125 ∷ 10 ∷ [] → new ≡ old ++ room → LineOfWhole T t limit body old new
-whole_line {T = T} {t = t} empty head value room old new none begun p closed joined = record {
-  value = p.value;
-  spelled = p.spelled;
-  within = p.within;
-  text = joined ∙ ap (λ l. old ++ l)
-      (closed ∙ ap (λ l. l ++ 125 ∷ 10 ∷ [])
-      (p.text ∙ ap (λ l. l ++ compact_text (value_json T t p.value)) (begun ∙ ap (λ l. l ++ head_text t) none))
-      ∙ line_text T t p.value);
-}
+-- a line that stands behind others
+pub whole_line : {T : Table} {t : TypeId} {limit : ℕ} {body : List ℕ} (head value old new : List ℕ)
+    → head ≡ old ++ head_text t → TextOfWhole T t limit body head value → new ≡ value ++ 125 ∷ 10 ∷ []
+    → LineOfWhole T t limit body old new
+whole_line {T = T} {t = t} head value old new begun p closed =
+    let text = compact_text (value_json T t p.value) in
+    record {
+      value = p.value;
+      spelled = p.spelled;
+      within = p.within;
+      text = closed
+          ∙ ap (λ l. l ++ 125 ∷ 10 ∷ []) (p.text ∙ ap (λ l. l ++ text) begun ∙ append_assoc old (head_text t) text)
+          ∙ append_assoc old (head_text t ++ text) (125 ∷ 10 ∷ []) ∙ ap (λ l. old ++ l) (line_text T t p.value);
+    }

@@ -2,7 +2,9 @@
 //! part once its text stands.
 
 mod basic;
+mod block;
 mod escape;
+mod integers;
 mod leaf;
 mod number;
 mod stop;

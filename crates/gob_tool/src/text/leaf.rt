@@ -1,18 +1,17 @@
 //! The text of what has no parts: numbers, truth values, bytes and text.
 
-ghost use Rattle.std.specs.Prelude.{◌≡◌, ◌++◌, ◌∷◌, [], OnOk, IsTrue};
+ghost use Rattle.std.specs.Prelude.{◌≡◌, ◌<◌, ◌++◌, ◌∷◌, [], OnOk, IsTrue};
+ghost use Rattle.std.specs.Fmt.{decimal};
 ghost use Rattle.hex.specs.Hex.{encode_lower};
 ghost use Rattle.serde_json.specs.Data.{boolean, null, string};
 ghost use Rattle.serde_json.specs.Written.{compact_text};
 ghost use Rattle.gob_tool.specs.Text.{IsPlainAscii};
 ghost use Rattle.gob_tool.specs.Json.{hex_json, integer_json, natural_json, opaque_json, pair_json, pattern_json, text_json};
 
+use super::block::{DIGITS, four_digits};
 use super::escape::put_escaped;
 use gob_num::Memory;
 use std::str;
-
-// As many digits as a number of 64 bits has.
-const DIGITS: usize = 20;
 
 const HEX: &[u8; 16] = b"0123456789abcdef";
 
@@ -20,9 +19,39 @@ const HEX: &[u8; 16] = b"0123456789abcdef";
 pub(crate) fn put_natural(number: u64, out: &mut Vec<u8>) -> Result<(), Memory>
     ensures { OnOk result (out.new.items ≡ out.old.items ++ compact_text (natural_json number)) }
 {
-    if number < 10 {
-        return Ok(out.push(b'0' + number as u8)?);
+    if number < 10_000 {
+        return put_short(number, out);
     }
+    if number < 100_000_000 {
+        put_short(number / 10_000, out)?;
+        return Ok(out.extend_from_slice(&four_digits(number % 10_000))?);
+    }
+    put_long(number, out)
+}
+
+// Appends the number of at most four digits in decimal. Each append is of a fixed number of bytes.
+#[inline(always)]
+fn put_short(number: u64, out: &mut Vec<u8>) -> Result<(), Memory>
+    requires { number < 10000 }
+    ensures { OnOk result (out.new.items ≡ out.old.items ++ decimal number) }
+{
+    let [first, second, third, last] = four_digits(number);
+    if number >= 1000 {
+        return Ok(out.extend_from_slice(&[first, second, third, last])?);
+    }
+    if number >= 100 {
+        return Ok(out.extend_from_slice(&[second, third, last])?);
+    }
+    if number >= 10 {
+        return Ok(out.extend_from_slice(&[third, last])?);
+    }
+    Ok(out.push(last)?)
+}
+
+// Appends the number of any size in decimal.
+fn put_long(number: u64, out: &mut Vec<u8>) -> Result<(), Memory>
+    ensures { OnOk result (out.new.items ≡ out.old.items ++ decimal number) }
+{
     let mut digits = [0; DIGITS];
     let start = itoa::write_digits(number, &mut digits, DIGITS);
     Ok(out.extend_from_slice(&digits[start..])?)
@@ -115,16 +144,16 @@ pub(crate) fn put_text(bytes: &[u8], out: &mut Vec<u8>) -> Result<(), Memory>
     }
 }
 
-// Whether each byte is an ASCII character that stands for itself in a string.
+// Whether each byte is an ASCII character that stands for itself in a string. It looks at all of them: a loop that
+// doesn't end early takes many bytes at once.
 fn is_plain_ascii(bytes: &[u8]) -> bool
     ensures { IsTrue result → IsPlainAscii bytes.now }
 {
+    let mut plain = true;
     'bytes: for byte in bytes {
-        if *byte < 0x20 || *byte >= 0x80 || *byte == b'"' || *byte == b'\\' {
-            return false;
-        }
+        plain &= (*byte >= 0x20) & (*byte < 0x80) & (*byte != b'"') & (*byte != b'\\');
     }
-    true
+    plain
 }
 
 // Appends the bytes as they are, in quotes.

@@ -12,11 +12,12 @@ ghost use Rattle.gob_types.specs.declared.kind.Marshal.{Marshal};
 ghost use Rattle.gob_types.specs.Table.{Table};
 
 use super::basic::put_basic;
+use super::integers::put_integers;
 use super::leaf::{put_natural, put_opaque, put_text};
 use super::number::{bytes_at, field_number, number_at};
 use super::stop::Stop;
 use gob_num::Memory;
-use gob_types::{Fields, Kind, Shapes, TypeId};
+use gob_types::{Basic, Fields, Kind, Shapes, TypeId};
 
 /// Appends the text of the value of the kind that stands in the body from the place on, and tells where it ends. It
 /// calls itself as deep as the value is.
@@ -107,6 +108,10 @@ fn put_elements<S: Shapes>(
     let Some(shape) = shapes.shape_of(elem) else {
         return Err(Stop::NotWhole);
     };
+    match &shape.kind {
+        Kind::Basic(Basic::Int) if depth > 0 => return put_integers(count, body, begin, out),
+        _ => {}
+    }
     let mut at = begin;
     'elements: for index in 0..count {
         put_comma(index > 0, out)?;
@@ -210,12 +215,23 @@ fn put_name(number: u64, name: &[u8], out: &mut Vec<u8>) -> Result<(), Memory>
     ensures { OnOk result (out.new.items ≡ out.old.items
         ++ 91 ∷ (decimal number ++ 44 ∷ (compact_text (text_json name.now) ++ 44 ∷ []))) }
 {
-    out.push(b'[')?;
-    put_natural(number, out)?;
-    out.push(b',')?;
+    put_place(number, out)?;
     put_text(name, out)?;
     out.push(b',')?;
     Ok(())
+}
+
+// Appends the bracket, the field's number and a comma, at once where the number has one digit.
+#[inline(always)]
+fn put_place(number: u64, out: &mut Vec<u8>) -> Result<(), Memory>
+    ensures { OnOk result (out.new.items ≡ out.old.items ++ 91 ∷ (decimal number ++ 44 ∷ [])) }
+{
+    if number < 10 {
+        return Ok(out.extend_from_slice(&[b'[', b'0' + number as u8, b','])?);
+    }
+    out.push(b'[')?;
+    put_natural(number, out)?;
+    Ok(out.push(b',')?)
 }
 
 // Appends the text of the opaque value that stands in the body from the place on.

@@ -8,6 +8,7 @@ use super::stop::Stop;
 use super::value::put_value;
 use gob_num::Memory;
 use gob_types::{Kind, Shapes, TypeId};
+use std::mem;
 
 // How deep a value may be whose text is written: each level is a call within a call.
 const MOST_DEPTH: u64 = 1000;
@@ -55,7 +56,7 @@ fn behind_tag(kind: &Kind, body: &[u8]) -> Option<usize>
 
 /// Appends the line of the item that puts the value of the type that the body spells. True says that the body is such
 /// a value, no deeper than `depth`, and that its line stands. False says nothing, and the lines are as before; so they
-/// are after [`Memory`]. The line is made in `room` first.
+/// are after [`Memory`]. Either the line is made in `room` first, or what waits is kept there: what is shorter.
 pub(crate) fn line_of_whole<S: Shapes>(
     shapes: &S,
     id: TypeId,
@@ -70,12 +71,37 @@ pub(crate) fn line_of_whole<S: Shapes>(
     ensures err { OnErr result (out.new.items ≡ out.old.items) }
 {
     room.clear();
-    put_head(id, room)?;
-    if !text_of_whole(shapes, id, body, depth, room)? {
+    if body.len() > out.len() {
+        room.extend_from_slice(out)?;
+        let made = put_line(shapes, id, body, depth, out);
+        if made != Ok(true) {
+            mem::swap(room, out);
+        }
+        return made;
+    }
+    if !put_line(shapes, id, body, depth, room)? {
         return Ok(false);
     }
-    room.extend_from_slice(b"}\n")?;
     out.extend_from_slice(room)?;
+    Ok(true)
+}
+
+// Appends the line. After false or [`Memory`] a front of some text is appended.
+fn put_line<S: Shapes>(
+    shapes: &S,
+    id: TypeId,
+    body: &[u8],
+    depth: u64,
+    out: &mut Vec<u8>,
+) -> Result<bool, Memory>
+    ensures { IfOk result (λ done. IsTrue done
+        → LineOfWhole (S.table shapes.now) id depth body.now out.old.items out.new.items) }
+{
+    put_head(id, out)?;
+    if !text_of_whole(shapes, id, body, depth, out)? {
+        return Ok(false);
+    }
+    out.extend_from_slice(b"}\n")?;
     Ok(true)
 }
 
