@@ -1,6 +1,6 @@
 -- What a writer of tidy forms does with an item.
-use Rattle.std.proofs.Common.{◌≡◌, ◌≢◌, ℕ, ◌+◌, ◌≤◌, ◌⊎◌, inl, inr, arith, List, [], ◌∷◌, ◌++◌, length, take, Option, Some, Result, Ok, Err}
-use Rattle.std.proofs.Common.{◌∙◌, ap, sym, subst, refl, append_assoc, append-nil, length-append}
+use Rattle.std.proofs.Common.{◌≡◌, ◌≢◌, ℕ, ◌≤◌, ◌⊎◌, inl, inr, arith, List, [], ◌∷◌, ◌++◌, length, take, Option, Some, Result, Ok, Err}
+use Rattle.std.proofs.Common.{◌∙◌, ap, sym, subst, refl, length-append}
 use Rattle.std.proofs.lemmas.List.{take-append-le}
 use Rattle.std.proofs.Math.Seq.{take-length}
 use Rattle.std.specs.Result.{IsErrAnd}
@@ -28,12 +28,11 @@ use Rattle.gob_stream.specs.declared.reading.Reading.{Reading}
 use Rattle.gob_stream.specs.declared.writer.StreamWriter.{StreamWriter}
 use Rattle.gob_stream.specs.Body.{definition, value}
 use Rattle.gob_stream.specs.Bounds.{Bounds, deepest, no_deeper, within_trees}
-use Rattle.gob_stream.specs.Item.{StreamItem, defines, puts, ItemMeans, means_definition, means_value, ItemsMean}
-use Rattle.gob_stream.specs.Item.{mean_more}
-use Rattle.gob_stream.specs.Stream.{Continues, no_more, and_then, Counted, counted}
+use Rattle.gob_stream.specs.Item.{StreamItem, defines, puts, ItemMeans, means_definition, means_value}
+use Rattle.gob_stream.specs.Stream.{no_more, and_then, Counted, counted}
 use Rattle.gob_stream.specs.Writing.{HasWritten, WritesNext, Leaves, IsSpelledAs, IsSpelling}
 use Rattle.gob_stream.proofs.PublicLaws.{not_counted, one_counted}
-use Rattle.gob_stream.proofs.PublicLaws.{counted_prefix, one_more}
+use Rattle.gob_stream.proofs.PublicLaws.{counted_prefix}
 use Rattle.gob_stream.proofs.PublicLaws.{wire_ready}
 use Rattle.gob_tape.specs.declared.tape.Tape.{Tape}
 use Rattle.gob_tape.specs.declared.tape_builder.TapeBuilder.{TapeBuilder}

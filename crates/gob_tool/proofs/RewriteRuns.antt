@@ -1,6 +1,6 @@
 -- How a run that rewrites goes on from piece to piece, and how it ends.
 use Rattle.std.proofs.Common.{◌≡◌, ◌≢◌, ℕ, ◌+◌, ◌-◌, ◌<◌, arith, List, [], ◌∷◌, ◌++◌, length, take, drop, Option, Some}
-use Rattle.std.proofs.Common.{None, Result, Ok, Err, take-append-drop}
+use Rattle.std.proofs.Common.{Result, Ok, Err, take-append-drop}
 use Rattle.std.proofs.Common.{◌∙◌, ap, sym, subst, refl, append_assoc, append-nil, length-append}
 use Rattle.std.specs.Result.{IsErrAnd}
 use Rattle.gob_num.specs.declared.memory.Memory.{Memory}

@@ -115,14 +115,14 @@ impl Rewriter {
             (n : IsTidyNext h (types table.now) id body.now)
             → Pushes n.next self.new.writer self.old.gathered.items self.new.gathered.items result }
     {
-        let whole = self.gathered.len();
+        let before = self.gathered.len();
         let mut sink = Output::new(mem::replace(&mut self.gathered, Vec::new(alloc)));
         let written = write_as_spelled(alloc, table, id, body, &mut self.writer, &mut sink);
         self.gathered = sink.into_inner();
         match written {
             Ok(()) => Ok(()),
             Err(fault) => {
-                self.gathered.truncate(whole);
+                self.gathered.truncate(before);
                 Err(want_of_memory(fault))
             }
         }

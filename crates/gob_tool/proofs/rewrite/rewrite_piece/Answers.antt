@@ -1,5 +1,5 @@
 -- From item to item the tidy stream goes on, and some of all goes out.
-use Rattle.std.proofs.Common.{rules, ◌≡◌, ◌-◌, ◌∙◌, ◌++◌, ℕ, ap, sym, drop, take, length, length-drop, refl}
+use Rattle.std.proofs.Common.{rules, ◌≡◌, ◌-◌, ◌∙◌, ℕ, ap, sym, drop, take, length, length-drop, refl}
 use Rattle.std.proofs.Math.Seq.{take-length}
 use Rattle.gob_stream.specs.Bounds.{deepest, no_deeper}
 use Rattle.gob_tool.specs.Fault.{reading_fault}

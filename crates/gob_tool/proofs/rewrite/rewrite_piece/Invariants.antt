@@ -1,5 +1,5 @@
 -- The front of the piece was rewritten, and what was written of it went out or is gathered.
-use Rattle.std.proofs.Common.{◌≡◌, ℕ, length}
+use Rattle.std.proofs.Common.{◌≡◌, length}
 use Rattle.gob_tool.specs.Rewritten.{HasRewritten, RewritesUpTo}
 use Rattle.gob_tool.proofs.rewrite.rewrite_piece.Given as goal
 

@@ -20,8 +20,7 @@ pub push-requires : goal.push-requires
 push-requires c =
     let h = c.requires.so_far in
     let g = step_gives h c.step.new.self.reading c.step.ensures.limits c.args.piece.now _
-    (c.in_ok-used.ensures.advances h.items h.taken h.gave) c.in-Some.is in
-    (
+    (c.in_ok-used.ensures.advances h.items h.taken h.gave) c.in-Some.is in (
       c.args.session.now.reading,
       h,
       subst (λ (T : Table). IsNext h T c.in-Some.item) (ap (λ d. types d) (sym c.table.ensures))

@@ -15,8 +15,7 @@ push_whole-requires c =
     let limits = c.args.session.now.reading.limits in
     let depth : c.min.result ≡ min limits.depth deepest = cc (c.min.ensures, c.requires.depth) in
     let tidy = subst (λ (T : Table). IsTidyWhole T c.in-Some.whole.id c.min.result c.in-Some.whole.body.now)
-    (ap (λ d. types d) c.table-table.ensures) (c.is_tidy_whole.ensures c.if-not-is_tidy_whole.false) in
-    (
+    (ap (λ d. types d) c.table-table.ensures) (c.is_tidy_whole.ensures c.if-not-is_tidy_whole.false) in (
       c.args.session.now.reading,
       h,
       subst (λ (T : Table). IsTidyNext h T c.in-Some.whole.id c.in-Some.whole.body.now)

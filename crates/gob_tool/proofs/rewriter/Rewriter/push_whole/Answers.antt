@@ -25,7 +25,7 @@ pub returns-in-Err : goal.returns-in-Err
 returns-in-Err c = λ s h n.
     let before = ap (λ v. v.items) (c.new-sink.ensures.writer ∙ c.replace.ensures.value) in
     let after = ap (λ v. v.items) c.into_inner.ensures in
-    let long = c.len-whole.ensures ∙ c.args.self.now.gathered.ok.0 ∙ ap length (sym before) in
+    let long = c.len-before.ensures ∙ c.args.self.now.gathered.ok.0 ∙ ap length (sym before) in
     c.truncate.ensures.items ∙ ap (λ (k : ℕ). take k c.into_inner.result.items) long
     ∙ ap (λ (l : List ℕ). take (length c.new-sink.result.writer.items) l) after
     ∙ taken_back n.next c.in-Err.fault (λ other. c.write_as_spelled-written.ensures.written n.value n.spells (stands_there n.next))
