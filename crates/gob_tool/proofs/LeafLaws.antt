@@ -2,6 +2,9 @@
 use Rattle.std.proofs.Common.{◌≡◌, ℕ, zero, suc, ◌/◌, ◌%◌, ◌<◌, ◌&&◌, Bool, true, T, List, [], ◌∷◌, ◌++◌}
 use Rattle.std.proofs.Common.{length, inl, inr, arith, eqb, eq-zero-or-pos, refl, sym, ap, ◌∙◌}
 use Rattle.std.proofs.Common.{append_assoc, false, ◌-◌}
+use Rattle.std.proofs.Common.{◌^◌, w64}
+use Rattle.std.proofs.Math.Nat.{mod-lt}
+use Rattle.std.specs.Int.{byte_at, bytes_high_first, to_be_bytes}
 use Rattle.std.specs.Prelude.{slice_index}
 use Rattle.std.proofs.lemmas.Bool.{or_parts, not-true, eqb-false, ltb-false}
 use Rattle.std.proofs.lemmas.Str.{IsUtf8-from_ascii}
@@ -61,6 +64,19 @@ hex_plain (x ∷ xs) h =
     let high = digit_plain (x / 16) (omega arith) in
     let low = digit_plain (x % 16) (omega arith) in
     λ i. high i ++ (low i ++ rest i)
+
+-- the bytes of a number are bytes
+one_byte : (k n : ℕ) → byte_at k n < 256
+one_byte zero n = mod-lt n (omega arith)
+one_byte (suc k) n = mod-lt (n / 256 ^ suc k) (omega arith)
+
+high_bytes : (k n : ℕ) → IsBytes (bytes_high_first k n)
+high_bytes zero n i = omega arith
+high_bytes (suc k) n zero = one_byte k n
+high_bytes (suc k) n (suc i) = high_bytes k n i
+
+pub pattern_bytes : (p : ℕ) → IsBytes (to_be_bytes w64 p)
+pattern_bytes p = high_bytes 8 p
 
 -- ---- text
 pub plain_utf8 : (b : List ℕ) → IsPlainAscii b → text_json b ≡ string b

@@ -1,4 +1,4 @@
-//! Numbers in decimal at a place of a block of bytes. Each digit is one store: that there is room is asked once for all of them.
+//! Numbers in decimal at a place of a block of bytes. Digits are stores alone: whoever calls has asked for room.
 
 ghost use Rattle.std.specs.Prelude.{◌≡◌, ◌+◌, ◌/◌, ◌%◌, ◌<◌, ◌≤◌, ◌++◌, ◌∷◌, [], length, take};
 ghost use Rattle.std.specs.Fmt.{decimal};

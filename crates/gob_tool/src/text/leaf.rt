@@ -107,7 +107,21 @@ pub(crate) fn put_hex(bytes: &[u8], out: &mut Vec<u8>) -> Result<(), Memory>
 pub(crate) fn put_pattern(pattern: u64, out: &mut Vec<u8>) -> Result<(), Memory>
     ensures { OnOk result (out.new.items ≡ out.old.items ++ compact_text (pattern_json pattern)) }
 {
-    put_hex(&pattern.to_be_bytes(), out)
+    out.push(b'"')?;
+    out.extend_from_slice(&pattern_digits(pattern.to_be_bytes()))?;
+    Ok(out.push(b'"')?)
+}
+
+// The digits of eight bytes.
+fn pattern_digits(bytes: [u8; 8]) -> [u8; 16]
+    ensures { result ≡ encode_lower bytes }
+{
+    let mut digits = [0; 16];
+    'bytes: for index in 0..8 {
+        digits[2 * index] = HEX[(bytes[index] / 16) as usize];
+        digits[2 * index + 1] = HEX[(bytes[index] % 16) as usize];
+    }
+    digits
 }
 
 /// Appends the patterns of a complex number's two parts as an array.

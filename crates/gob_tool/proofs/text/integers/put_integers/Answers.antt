@@ -18,12 +18,12 @@ integers-preserved c =
     let two = out ++ take c.integer_at-len.result c.integer_at-len.new.block in
     let comma : one ≡ (c.integers.out.items ++ take c.integers.len c.integers.block) ++ separator =
     ap (λ l. out ++ l) c.comma_at-behind.ensures.text ∙ sym (append_assoc out left separator)
-        ∙ ap (λ l. l ++ separator) room.1 in
+    ∙ ap (λ l. l ++ separator) room.1 in
     let digits : take c.integer_at-len.result c.integer_at-len.new.block
     ≡ take c.comma_at-behind.result c.comma_at-behind.new.block ++ json = search rules in
     let text : two ≡ one ++ json =
     ap (λ l. out ++ l) digits
-        ∙ sym (append_assoc out (take c.comma_at-behind.result c.comma_at-behind.new.block) json) in
+    ∙ sym (append_assoc out (take c.comma_at-behind.result c.comma_at-behind.new.block) json) in
     record {
       inside = c.in_ok-number.ensures.stands.inside;
       held = omega (arith, c.comma_at-behind.ensures.end, c.integer_at-len.ensures.end, room.0);

@@ -1,5 +1,5 @@
 -- The last four digits are behind the others.
-use Rattle.std.proofs.Common.{◌++◌, ◌/◌, ◌%◌, ◌∙◌, ap, arith, sym, append_assoc, rules}
+use Rattle.std.proofs.Common.{◌++◌, ◌/◌, ◌%◌, ◌∙◌, ap, arith, sym, append_assoc}
 use Rattle.std.specs.Fmt.{decimal}
 use Rattle.gob_tool.proofs.DigitLaws.{pair, decimal_four}
 use Rattle.gob_tool.proofs.text.leaf.put_natural.Goals as goal
