@@ -9,7 +9,7 @@ use Rattle.serde_json.specs.Data.{Data, array, Items, no_items, item}
 use Rattle.serde_json.specs.Written.{outline, items_outline}
 use Rattle.gob_types.specs.declared.id.TypeId.{TypeId}
 use Rattle.gob_types.specs.declared.kind.Field.{Field}
-use Rattle.gob_types.specs.Table.{Table}
+use Rattle.gob_types.specs.Table.{Table, shape_of}
 use Rattle.gob_value.specs.Tree.{Tree, Trees, no_tree, tree, Pairs, no_pair, pair, Fields, no_field, field}
 use Rattle.gob_value.specs.Tree as Value
 use Rattle.gob_value.specs.Spelling.{truth}
@@ -18,14 +18,15 @@ use Rattle.gob_tape.specs.declared.kind.ValueKind.{ValueKind}
 use Rattle.gob_tape.specs.declared.kind.ValueKind.TheVariants as kind
 use Rattle.gob_tape.specs.declared.view.View.{View}
 use Rattle.gob_tape.specs.declared.view.Children.{Children}
-use Rattle.gob_tape.specs.Seeing.{kind_of, numbers_of, bytes_of, unsigned_of, elements, alternating, present}
-use Rattle.gob_tape.specs.Seeing.{Sees, Gives, GivesNext, gives_one, GivesPart, TakesNodes}
+use Rattle.gob_tape.specs.Seeing.{kind_of, numbers_of, bytes_of, unsigned_of, elements, alternating, present, parts_of}
+use Rattle.gob_tape.specs.Seeing.{Sees, Gives, GivesNext, gives_none, gives_one, GivesPart, TakesNodes, takes_none}
 use Rattle.gob_tape.specs.Seeing.{takes_some, nodes_left}
-use Rattle.gob_tool.specs.Json.{value_json, elements_json, pairs_json, fields_json}
-use Rattle.gob_tool.specs.Json.{triple_json, natural_json, integer_json, id_json, text_json}
+use Rattle.gob_tool.specs.Json.{value_json, elements_json, pairs_json, fields_json, element_type, key_type}
+use Rattle.gob_tool.specs.Json.{struct_fields, pair_json, triple_json, natural_json, integer_json, id_json, text_json}
 use Rattle.gob_tool.specs.Json.{field_name, field_type}
 use Rattle.gob_tool.specs.Line.{put_json}
 use Rattle.gob_tool.specs.TapeJson.{leaf_json}
+use Rattle.gob_tool.proofs.WrittenLaws.{pair_written, triple_written}
 
 -- ---- parts without parts
 

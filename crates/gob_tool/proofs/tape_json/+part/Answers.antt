@@ -1,5 +1,5 @@
 -- Part by part more is written, and less is left.
-use Rattle.std.proofs.Common.{◌≡◌, ◌∙◌, ◌++◌, ap, sym, arith, subst, Some}
+use Rattle.std.proofs.Common.{◌≡◌, ◌∙◌, ◌++◌, ap, refl, sym, arith, subst, None, Some}
 use Rattle.std.proofs.lemmas.Result.{on_ok_weaker}
 use Rattle.std.specs.Prelude.{slice_get, unwrap_or}
 use Rattle.json.specs.Written.{Written}
@@ -7,7 +7,7 @@ use Rattle.json.specs.Tree.{json_tokens}
 use Rattle.serde_json.specs.Data.{array}
 use Rattle.serde_json.specs.Written.{outline}
 use Rattle.gob_types.specs.Table.{shape_of}
-use Rattle.gob_tape.specs.Seeing.{Gives, alternating, parts_of, nodes_left}
+use Rattle.gob_tape.specs.Seeing.{Gives, elements, alternating, present, parts_of, nodes_left}
 use Rattle.gob_tool.specs.Json.{value_json, elements_json, pairs_json, fields_json, key_type, natural_json, text_json, field_name, field_type}
 use Rattle.gob_tool.proofs.TapeLaws.{next_is, fewer_left, elements_on, elements_end, fields_on, fields_end, entries_begun, key_turn, element_turn, entries_end, leaf_seen, as_many, as_pairs, as_fields}
 use Rattle.gob_tool.proofs.WrittenLaws.{triple_written}
