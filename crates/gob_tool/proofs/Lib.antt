@@ -13,6 +13,7 @@ pub mod GatherLaws
 pub mod ShowLaws
 pub mod ShowWhole
 pub mod ShowFront
+pub mod KeepLaws
 pub mod TakeLaws
 pub mod PieceLaws
 pub mod ReceivedLaws

@@ -179,7 +179,7 @@ all_taken read now next bytes taken known c d h =
     )
 
 -- the lines of what a session gave, by the types behind the items of any stream with which the bytes begin
-gave_lines : {s : Reading TreeBuilder Value} {items : List StreamItem} {taken bytes : List ℕ} (more : List ℕ) → bytes
+pub gave_lines : {s : Reading TreeBuilder Value} {items : List StreamItem} {taken bytes : List ℕ} (more : List ℕ) → bytes
     ≡ taken ++ more → GaveItems s items taken → (b : BeginsWith base_table (within_trees s.limits) bytes items)
     → lines (types s.types) items ≡ lines b.table items
 gave_lines {items = items} more e a b =
@@ -264,7 +264,7 @@ read_failed M s read now next old new bytes gathered same i known k =
     })
 
 -- the same of more bytes
-begins_more : {L : Bounds} {bytes all : List ℕ} {P : List ℕ → Type 0} (more : List ℕ) → all ≡ bytes ++ more
+pub begins_more : {L : Bounds} {bytes all : List ℕ} {P : List ℕ → Type 0} (more : List ℕ) → all ≡ bytes ++ more
     → Begins L bytes P → Begins L all P
 begins_more more e b =
     record {
@@ -280,7 +280,7 @@ begins_more more e b =
       holds = b.holds;
     }
 
-refused_more : {L : Bounds} {bytes all : List ℕ} {R : Refusal} {P : List ℕ → Type 0} (more : List ℕ) → all
+pub refused_more : {L : Bounds} {bytes all : List ℕ} {R : Refusal} {P : List ℕ → Type 0} (more : List ℕ) → all
     ≡ bytes ++ more → R.reason ≢ reason.Ended → IsRefused L bytes R P → IsRefused L all R P
 refused_more {L = L} {bytes = bytes} {all = all} {R = R} {P = P} more e n b =
     let shown : IsShown L bytes b.items R = record { outcome = b.outcome; shown = n } in

@@ -8,6 +8,7 @@ pub mod Depths
 pub mod Words
 pub mod Showing
 pub mod Gathering
+pub mod Keeping
 pub mod Taking
 pub mod Pieces
 pub mod Wanting

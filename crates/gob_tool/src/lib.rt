@@ -17,6 +17,7 @@ mod leaf;
 mod lines;
 mod orders;
 mod parts;
+mod pending;
 mod pieces;
 mod receiver;
 mod rewrite;

@@ -1,6 +1,6 @@
 //! The run that prints a stream.
 
-ghost use Rattle.std.specs.Prelude.{◌≡◌, ◌≢◌, ℕ, ◌<◌, ◌≤◌, List, [], ◌++◌, length, Option, Some, IfOk};
+ghost use Rattle.std.specs.Prelude.{◌≡◌, ◌≢◌, ℕ, ◌<◌, ◌≤◌, List, [], ◌++◌, length, Option, Some, IfOk, IfSome, OnOk};
 ghost use Rattle.gob_stream.specs.declared.reading.Reading.{Reading};
 ghost use Rattle.gob_stream.specs.Item.{StreamItem};
 ghost use Rattle.gob_tool.specs.Showing.{Runs, Shows, AppendsFront, CountsReadFaults, CountsWriteFaults};
@@ -8,9 +8,11 @@ ghost use Rattle.gob_stream.specs.Bounds.{within_trees};
 ghost use Rattle.gob_tool.specs.Gathering.{Gathered, GaveItems, StandsBehind, TakesPiece};
 ghost use Rattle.gob_tool.specs.Gathering.{CountsOnlyReads, CountsOnlyWrites};
 ghost use Rattle.gob_tool.specs.Gathering.{MayGatherWhole, TakesFront};
+ghost use Rattle.gob_tool.specs.Keeping.{KeepsBehind, TakesKeeping, MayTakeFront};
 
 use crate::fault::ToolFault;
 use crate::lines::Lines;
+use crate::pending::{Pending, is_begun};
 use gob_num::Memory;
 use gob_read::{Builder, TreeBuilder};
 use gob_stream::{Fault, Input, Limits, Output, Session};
@@ -23,8 +25,8 @@ const PIECE: usize = 65536;
 /// Writes the JSON line of each item of a stream, and nothing else, and ends with a flush. Ok exactly at the
 /// end of a whole stream. Before a fault is answered the lines of the items before it are written; at
 /// `ToolFault::Write` a front of them may be. A flush that fails is that fault where no other came before it.
-/// The input is read in pieces of 64 KiB. What it takes in memory doesn't grow with the stream. No value may be deeper
-/// than the lesser of `limits.depth()` and 1000.
+/// The input is read in pieces of 64 KiB. What it takes in memory grows with the types and the largest item alone. No
+/// value may be deeper than the lesser of `limits.depth()` and 1000.
 pub fn run_show<R: Read, W: Write>(
     alloc: Global,
     input: &mut Input<R>,
@@ -102,17 +104,154 @@ fn show_pieces<R: Read, W: Write>(
     ensures reads { CountsOnlyReads input.old.failures input.new.failures result }
     ensures writes { CountsOnlyWrites output.old.failures output.new.failures result }
 {
+    let mut pending = Pending::new(alloc);
     'pieces: loop {
         match input.read(buffer) {
-            Ok(0) => return Ok(session.finish()?),
-            Ok(count) => show_piece(alloc, &buffer[..count], depth, session, lines, output)?,
+            Ok(0) => return show_end(alloc, pending.bytes(), depth, session, lines, output),
+            Ok(count) => {
+                let piece = &buffer[..count];
+                show_next(alloc, piece, depth, session, &mut pending, lines, output)?;
+            }
             Err(_) => return Err(ToolFault::Read),
         }
     }
 }
 
+/// Takes the kept bytes at the end of the input, and says whether the stream ends there.
+fn show_end<W: Write>(
+    alloc: Global,
+    kept: &[u8],
+    depth: u64,
+    session: &mut Session<TreeBuilder>,
+    lines: &mut Lines,
+    output: &mut Output<W>,
+) -> Result<(), ToolFault>
+    requires depth { depth ≡ session.old.reading.limits.depth }
+    ensures shown { (bytes : List ℕ) (start : Option (List ℕ))
+        → KeepsBehind session.old.reading kept.now bytes start (W.contents output.old.writer) lines.old.gathered.items
+        → Runs (within_trees session.old.reading.limits) bytes (Some [])
+        (Gathered start (W.contents output.new.writer) lines.new.gathered.items)
+        (AppendsFront start (W.contents output.new.writer)) result }
+    ensures reads { (bytes : List ℕ) (start : Option (List ℕ)) (failures : ℕ)
+        → KeepsBehind session.old.reading kept.now bytes start (W.contents output.old.writer) lines.old.gathered.items
+        → CountsOnlyReads failures failures result }
+    ensures writes { CountsOnlyWrites output.old.failures output.new.failures result }
+{
+    show_piece(alloc, kept, depth, session, lines, output)?;
+    Ok(session.finish()?)
+}
+
 /// Takes a piece of the stream, and gathers the lines of the items that are whole with it, also of those before a
-/// refusal.
+/// refusal. The first bytes of an item that isn't are kept.
+fn show_next<W: Write>(
+    alloc: Global,
+    piece: &[u8],
+    depth: u64,
+    session: &mut Session<TreeBuilder>,
+    pending: &mut Pending,
+    lines: &mut Lines,
+    output: &mut Output<W>,
+) -> Result<(), ToolFault>
+    requires depth { depth ≡ session.old.reading.limits.depth }
+    ensures shown { (bytes : List ℕ) (start : Option (List ℕ))
+        → KeepsBehind session.old.reading pending.old.bytes.items bytes start (W.contents output.old.writer)
+        lines.old.gathered.items
+        → TakesKeeping (within_trees session.old.reading.limits) session.new.reading pending.new.bytes.items
+        (bytes ++ piece.now) start (W.contents output.new.writer) lines.new.gathered.items result }
+    ensures limits { session.new.reading.limits ≡ session.old.reading.limits }
+    ensures writes { CountsOnlyWrites output.old.failures output.new.failures result }
+{
+    let missing = pending.missing(session);
+    if (piece.len() as u64) < missing {
+        return Ok(pending.keep(piece)?);
+    }
+    let (front, behind) = piece.split_at(missing as usize);
+    show_kept(alloc, front, depth, session, pending, lines, output)?;
+    show_behind(alloc, behind, depth, session, pending, lines, output)
+}
+
+/// Takes what the kept bytes lacked, and them before it. None are kept then.
+fn show_kept<W: Write>(
+    alloc: Global,
+    front: &[u8],
+    depth: u64,
+    session: &mut Session<TreeBuilder>,
+    pending: &mut Pending,
+    lines: &mut Lines,
+    output: &mut Output<W>,
+) -> Result<(), ToolFault>
+    requires depth { depth ≡ session.old.reading.limits.depth }
+    ensures shown { (bytes : List ℕ) (start : Option (List ℕ))
+        → KeepsBehind session.old.reading pending.old.bytes.items bytes start (W.contents output.old.writer)
+        lines.old.gathered.items
+        → TakesPiece (within_trees session.old.reading.limits) session.new.reading (bytes ++ front.now)
+        start (W.contents output.new.writer) lines.new.gathered.items result }
+    ensures none { OnOk result (pending.new.bytes.items ≡ []) }
+    ensures limits { session.new.reading.limits ≡ session.old.reading.limits }
+    ensures writes { CountsOnlyWrites output.old.failures output.new.failures result }
+{
+    pending.keep(front)?;
+    show_piece(alloc, pending.bytes(), depth, session, lines, output)?;
+    pending.clear();
+    Ok(())
+}
+
+/// Takes the items that are whole in the piece, and keeps what is behind them where it is the first bytes of one.
+fn show_behind<W: Write>(
+    alloc: Global,
+    piece: &[u8],
+    depth: u64,
+    session: &mut Session<TreeBuilder>,
+    pending: &mut Pending,
+    lines: &mut Lines,
+    output: &mut Output<W>,
+) -> Result<(), ToolFault>
+    requires depth { depth ≡ session.old.reading.limits.depth }
+    requires none { pending.old.bytes.items ≡ [] }
+    ensures shown { (bytes : List ℕ) (start : Option (List ℕ))
+        → StandsBehind session.old.reading bytes start (W.contents output.old.writer) lines.old.gathered.items
+        → TakesKeeping (within_trees session.old.reading.limits) session.new.reading pending.new.bytes.items
+        (bytes ++ piece.now) start (W.contents output.new.writer) lines.new.gathered.items result }
+    ensures limits { session.new.reading.limits ≡ session.old.reading.limits }
+    ensures writes { CountsOnlyWrites output.old.failures output.new.failures result }
+{
+    let mut rest = piece;
+    'items: loop {
+        match show_ready(alloc, rest, depth, session, lines)? {
+            Some(used) => {
+                lines.write_many(output)?;
+                rest = &rest[used..];
+            }
+            None => return Ok(pending.keep(rest)?),
+        }
+    }
+}
+
+/// Takes bytes from the front of the piece as [`show_front`] does. None where the piece is the first bytes of an item of
+/// a value, or empty, and then nothing has changed.
+fn show_ready(
+    alloc: Global,
+    piece: &[u8],
+    depth: u64,
+    session: &mut Session<TreeBuilder>,
+    lines: &mut Lines,
+) -> Result<Option<usize>, Fault>
+    requires depth { depth ≡ session.old.reading.limits.depth }
+    ensures shown { (bytes : List ℕ) (start now : Option (List ℕ))
+        → StandsBehind session.old.reading bytes start now lines.old.gathered.items
+        → MayTakeFront (within_trees session.old.reading.limits) session.new.reading bytes piece.now
+        start now lines.new.gathered.items result }
+    ensures used { IfOk result (λ taken. IfSome taken (λ used. (0 < used) × (used ≤ length piece.now))) }
+    ensures limits { session.new.reading.limits ≡ session.old.reading.limits }
+{
+    match show_whole(piece, depth, session, lines)? {
+        Some(used) => Ok(Some(used)),
+        None if is_begun(session, piece) => Ok(None),
+        None => Ok(Some(show_step(alloc, piece, session, lines)?)),
+    }
+}
+
+/// Takes the piece, and gathers the lines of the items that are whole with it, also of those before a refusal.
 fn show_piece<W: Write>(
     alloc: Global,
     piece: &[u8],

@@ -1,0 +1,17 @@
+-- The front of the piece was taken, and the lines of its items went out or are gathered; nothing is kept yet.
+use Rattle.std.proofs.Common.{◌≡◌, ℕ, List, [], Option, length}
+use Rattle.gob_tool.specs.Gathering.{StandsBehind, StandsUpTo}
+use Rattle.gob_tool.proofs.show.show_behind.Given as goal
+
+abbrev pub invariant-items : goal.invariant-items
+invariant-items g l =
+    (l.session.reading.limits ≡ l.fn.session.reading.limits)
+    × (l.output.failures ≡ l.fn.output.failures)
+    × (l.pending.bytes.items ≡ [])
+    × ((bytes : List ℕ) (start : Option (List ℕ))
+    → StandsBehind l.fn.session.reading bytes start (g.W.Write.contents l.fn.output.writer) l.fn.lines.gathered.items
+    → StandsUpTo l.session.reading bytes l.piece l.rest start (g.W.Write.contents l.output.writer)
+    l.lines.gathered.items)
+
+abbrev pub decreases-items : goal.decreases-items
+decreases-items g l = length l.rest
