@@ -23,7 +23,7 @@ impl fmt::Display for Fault {
         match self {
             Fault::Words => write!(
                 f,
-                "no words, `time`, `types`, or `write` and `records`, `strings` or `deep`"
+                "no words, `time`, `types`, or `write`, `tape` or `tidy` and `records`, `strings`, `deep` or `ints`"
             ),
             Fault::System => write!(f, "the system failed"),
             Fault::Refused => write!(f, "a body is refused"),

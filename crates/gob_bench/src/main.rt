@@ -3,6 +3,8 @@
 //! `gob_bench` reads each of its bodies to counts, whole and in pieces, and prints what it counted.
 //! `gob_bench time` prints how fast they are read to counts, to tapes and to trees.
 //! `gob_bench types` prints how long definitions take in several orders.
+//! `gob_bench tape NAME` makes a tape of a body once: its peak memory beside that of `write` is that of the tape.
+//! `gob_bench tidy NAME` prints how fast the tidy form of that tape is made.
 //! `gob_bench write NAME` writes a body to standard output, which the C program `bench/walk.c` walks.
 #![tactic(auto)]
 
@@ -11,6 +13,7 @@ mod defining;
 mod fault;
 mod orders;
 mod reading;
+mod tidying;
 
 use bodies::Body;
 use defining::time_orders;
@@ -23,6 +26,7 @@ use std::env;
 use std::io::Write;
 use std::process::ExitCode;
 use std::time::Instant;
+use tidying::tidy_time;
 
 // How often each speed is measured; the best is told.
 const TIMES: usize = 5;
@@ -48,21 +52,49 @@ fn run(rt: &HostRuntime) -> Result<(), Fault> {
         [_] => count_all(rt),
         [_, "time"] => time_all(rt),
         [_, "types"] => time_orders(rt, TIMES),
-        [_, "write", name] => write_body(rt, name),
+        [_, word, name] => go_over(rt, word, Body::named(name).ok_or(Fault::Words)?),
         _ => Err(Fault::Words),
     }
 }
 
-// Writes the body of this name to standard output.
-fn write_body(rt: &HostRuntime, name: &str) -> Result<(), Fault> {
-    for body in Body::ALL {
-        if body.name() == name {
-            let bytes = body.bytes(rt.alloc())?;
-            rt.stdout().write_all(bytes.as_slice())?;
-            return Ok(());
-        }
+// Does with the body what the word says.
+fn go_over(rt: &HostRuntime, word: &str, body: Body) -> Result<(), Fault> {
+    match word {
+        "tape" => tape_body(rt, body),
+        "tidy" => time_tidying(rt, body),
+        "write" => write_body(rt, body),
+        _ => Err(Fault::Words),
     }
-    Err(Fault::Words)
+}
+
+// Writes the body to standard output.
+fn write_body(rt: &HostRuntime, body: Body) -> Result<(), Fault> {
+    let bytes = body.bytes(rt.alloc())?;
+    rt.stdout().write_all(bytes.as_slice())?;
+    Ok(())
+}
+
+// Makes a tape of the body.
+fn tape_body(rt: &HostRuntime, body: Body) -> Result<(), Fault> {
+    let types = table(rt.alloc())?;
+    let bytes = body.bytes(rt.alloc())?;
+    let id = body.type_id();
+    read::<TapeBuilder>(rt.alloc(), &types, id, bytes.as_slice(), bytes.len())?;
+    Ok(())
+}
+
+// Prints how fast the tidy form of the body's tape is made, in bytes of the body a microsecond.
+fn time_tidying(rt: &HostRuntime, body: Body) -> Result<(), Fault> {
+    let types = table(rt.alloc())?;
+    let bytes = body.bytes(rt.alloc())?;
+    let mut best = 0;
+    for _ in 0..TIMES {
+        let micros = tidy_time(rt, &types, body.type_id(), bytes.as_slice())?;
+        best = best.max(bytes.len() as u128 / micros.max(1));
+    }
+    let name = body.name();
+    println!(rt; "{name}: tidy_tape {best} MB/s")?;
+    Ok(())
 }
 
 // Prints what is counted of each body.

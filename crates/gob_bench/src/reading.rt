@@ -6,9 +6,9 @@ use gob_types::{Field, Fields, Kind, Name, Shape, Table, TypeId};
 use std::alloc::Global;
 
 /// The base table, and behind it: 65 a record of an int, a string and a float, 66 a list of records, 67 a list of
-/// itself, 68 a list of strings.
+/// itself, 68 a list of strings, 69 a list of ints.
 pub(crate) fn table(alloc: Global) -> Result<Table, Fault> {
-    let mut table = Table::new(alloc, 4)?;
+    let mut table = Table::new(alloc, 5)?;
     let mut fields = Vec::new(alloc);
     for id in [2, 6, 4] {
         fields.push(Field {
@@ -23,6 +23,7 @@ pub(crate) fn table(alloc: Global) -> Result<Table, Fault> {
     define(alloc, &mut table, 66, Kind::Slice { elem: TypeId(65) })?;
     define(alloc, &mut table, 67, Kind::Slice { elem: TypeId(67) })?;
     define(alloc, &mut table, 68, Kind::Slice { elem: TypeId(6) })?;
+    define(alloc, &mut table, 69, Kind::Slice { elem: TypeId(2) })?;
     Ok(table)
 }
 

@@ -8,12 +8,17 @@
 //!
 //! the type, the body, the depth, and its parts level by level: each part's kind, field number, two numbers and bytes
 //! ```
+//!
+//! `sums` is a caller's loop over the parts of a list, with a contract of its own.
 #![tactic(auto)]
 
 #[cfg(test)]
 mod deep;
 #[cfg(test)]
 mod row;
+#[cfg(test)]
+mod summed;
+pub mod sums;
 #[cfg(test)]
 mod tapes;
 #[cfg(test)]
