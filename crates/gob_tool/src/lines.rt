@@ -26,7 +26,7 @@ const MANY: usize = 65536;
 pub(crate) struct Lines {
     // The lines that are not written yet.
     gathered: Vec<u8>,
-    // Room for one line, kept from one to the next.
+    // Room for one line, or for those that wait while one is made in their place; kept from one to the next.
     line: Vec<u8>,
 }
 
