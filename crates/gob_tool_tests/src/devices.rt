@@ -51,6 +51,45 @@ impl SlowReader {
     }
 }
 
+/// A reader that gives so many bytes a call at most, and fails in one of its calls, counted from 0.
+#[derive(Drop)]
+pub struct PieceReader {
+    pub bytes: Vec<u8>,
+    pub most: usize,
+    pub fails_at: usize,
+    pub calls: usize,
+    pub at: usize,
+}
+
+impl Read for PieceReader {
+    fn read(&mut self, buf: &mut [u8]) -> io::Result<usize> {
+        let call = self.calls;
+        self.calls = self.calls.saturating_add(1);
+        if call == self.fails_at {
+            return Err(io::Error::from(ErrorKind::Other));
+        }
+        let Some(left) = self.bytes.get(self.at..) else {
+            return Ok(0);
+        };
+        let count = left.len().min(buf.len()).min(self.most);
+        buf[..count].copy_from_slice(&left[..count]);
+        self.at = self.at.saturating_add(count);
+        Ok(count)
+    }
+}
+
+impl PieceReader {
+    pub fn new(bytes: Vec<u8>, most: usize, fails_at: usize) -> PieceReader {
+        PieceReader {
+            bytes,
+            most,
+            fails_at,
+            calls: 0,
+            at: 0,
+        }
+    }
+}
+
 /// A writer that takes a byte a call, and makes trouble in one of its calls, counted from 0.
 #[derive(Drop)]
 pub struct SlowWriter {
