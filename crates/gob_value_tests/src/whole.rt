@@ -97,7 +97,7 @@ static ROWS: [Row; 30] = [
     Row(ALL, 2, b"\x0d\x00\x00", Found::Tidy),
 ];
 
-fn found(table: &Table, id: u64, depth: u64, bytes: &[u8]) -> Found {
+fn kind_of(table: &Table, id: u64, depth: u64, bytes: &[u8]) -> Found {
     match (
         is_whole(table, TypeId(id), bytes, depth),
         is_tidy_whole(table, TypeId(id), bytes, depth),
@@ -112,7 +112,7 @@ fn found(table: &Table, id: u64, depth: u64, bytes: &[u8]) -> Found {
 fn rows_found(alloc: Global) -> Result<usize, Memory> {
     let table = table_of(alloc, &TYPES)?;
     for (i, Row(id, depth, bytes, wanted)) in ROWS.iter().enumerate() {
-        if found(&table, *id, *depth, bytes) != *wanted {
+        if kind_of(&table, *id, *depth, bytes) != *wanted {
             return Ok(i);
         }
     }
