@@ -1,7 +1,7 @@
 use Rattle.std.proofs.Common.{◌++◌, arith, subst}
 use Rattle.gob_types.specs.Defined.{types}
 use Rattle.gob_read.specs.Reader.{Gives}
-use Rattle.gob_read.proofs.PublicLaws.{IsPushed, usable}
+use Rattle.gob_read.proofs.PublicLaws.{usable}
 use Rattle.gob_bench.proofs.reading.read.Goals as goal
 
 pub loop-piece-init : goal.loop-piece-init

@@ -18,13 +18,14 @@ top_fits (at_once {b = b} h s p) = record { bytes = b; spelled = p }
 top_fits (tagged {b = b} h s p) = record { bytes = b; spelled = p }
 
 -- a tape of a whole body means a value of its type
-ends_fitting : {T : Table} {t : TypeId} {limit announced used : ℕ} {X : Type 0} {run : Option (Run X Tape)} {z piece : List ℕ} {out : Tape}
-    → EndsBody T t limit announced Means run z piece out used → MeansFitting T t out
+ends_fitting : {T : Table} {t : TypeId} {limit announced used : ℕ} {X : Type 0} {run : Option (Run X Tape)}
+    {z piece : List ℕ} {out : Tape} → EndsBody T t limit announced Means run z piece out used → MeansFitting T t out
 ends_fitting e = record { value = e.made.value; means = e.made.meant; fits = top_fits e.made.spelled }
 
 pub push-requires : goal.push-requires
 push-requires c =
-    usable (record { limit = _; announced = _; bytes = []; after = c.in_ok-reader.ensures (types c.args.types.now) c.in-Ok.ensures.judged })
+    let after = c.in_ok-reader.ensures (types c.args.types.now) c.in-Ok.ensures.judged in
+    usable (record { limit = _; announced = _; bytes = []; after = after })
 
 pub tidy_tape-requires : goal.tidy_tape-requires
 tidy_tape-requires c =
