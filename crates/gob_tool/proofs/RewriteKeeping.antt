@@ -1,5 +1,5 @@
 -- How a run that rewrites goes on where it keeps the first bytes of an item.
-use Rattle.std.proofs.Common.{◌≡◌, ℕ, ◌+◌, ◌-◌, ◌<◌, ◌≤◌, arith, List, [], ◌++◌, length, take, drop, Option, Some, None}
+use Rattle.std.proofs.Common.{◌≡◌, ℕ, ◌+◌, ◌-◌, ◌<◌, ◌≤◌, arith, List, [], ◌++◌, length, Option, Some, None}
 use Rattle.std.proofs.Common.{Result, Ok, Err, ◌∙◌, ap, sym, subst, refl, append_assoc, append-nil, length-append}
 use Rattle.std.specs.Result.{IsErrAnd}
 use Rattle.std.specs.Io.KnownBytes.{Keeps, Consumes}
@@ -8,11 +8,9 @@ use Rattle.gob_types.specs.Base.{base_table}
 use Rattle.gob_types.specs.Defined.{types}
 use Rattle.gob_types.specs.Table.{Table}
 use Rattle.gob_stream.specs.declared.fault.Fault.{Fault}
-use Rattle.gob_stream.specs.declared.fault.Fault.TheVariants as reading
 use Rattle.gob_stream.specs.declared.reading.Reading.{Reading}
 use Rattle.gob_stream.specs.declared.writer.StreamWriter.{StreamWriter}
 use Rattle.gob_stream.specs.Bounds.{Bounds, AreLimits, deepest, no_deeper}
-use Rattle.gob_stream.specs.Item.{StreamItem}
 use Rattle.gob_stream.specs.Outcome.{GivesItems}
 use Rattle.gob_stream.specs.Reading.{SomeTaken}
 use Rattle.gob_stream.specs.Writing.{IsNew}
@@ -26,7 +24,7 @@ use Rattle.gob_tool.specs.Keeping.{Lacks, IsKept, none_kept, some_kept}
 use Rattle.gob_tool.specs.Showing.{AppendsFront}
 use Rattle.gob_tool.specs.Rewriting.{RewritesToRefusal, RewritesGiven, RewritesFront, HasTidyStream}
 use Rattle.gob_tool.specs.Rewritten.{GaveTapes, HasRewritten, Adds, RewritesOn, RewritesSome, RewritesUpTo, RewritesPiece}
-use Rattle.gob_tool.specs.Rewritten.{RewritesIn, RewritesKeeping, RewritesKept, MayRewriteFront}
+use Rattle.gob_tool.specs.Rewritten.{RewritesKeeping, RewritesKept, MayRewriteFront}
 use Rattle.gob_tool.proofs.ShowLaws.{gathered_grown, front_grown, known_taken}
 use Rattle.gob_tool.proofs.KeepLaws.{lacks_still}
 use Rattle.gob_tool.proofs.RewriteRuns.{tidy_there, front_there, tidy_as, front_more, refused_more, rewrites_first}
