@@ -30,7 +30,7 @@ use Rattle.gob_tool.proofs.ShowLaws.{reads_first}
 use Rattle.gob_tool.proofs.ShowFront.{begun_so_far, front_under, stands_still}
 
 -- ---- the kept bytes
-pub lacks_some : {s : Reading TreeBuilder Value} {id : TypeId} {head size : ℕ} {piece : List ℕ} (kept : List ℕ) (n : ℕ)
+pub lacks_some : {X O : Type 0} {s : Reading X O} {id : TypeId} {head size : ℕ} {piece : List ℕ} (kept : List ℕ) (n : ℕ)
     → IsBetween s → HasBegun s.limits (types s.types) s.taken id head size piece → piece ≡ kept → n ≡ length piece
     → Lacks s (size - n) kept
 lacks_some {s = s} {id = id} {head = head} {size = size} kept n between h e is_n =
@@ -44,7 +44,7 @@ lacks_some {s = s} {id = id} {head = head} {size = size} kept n between h e is_n
     }
 
 -- more of them, and not yet all
-pub lacks_still : {s : Reading TreeBuilder Value} {missing : ℕ} {kept : List ℕ} (piece : List ℕ)
+pub lacks_still : {X O : Type 0} {s : Reading X O} {missing : ℕ} {kept : List ℕ} (piece : List ℕ)
     → Lacks s missing kept → length piece < missing → Lacks s (missing - length piece) (kept ++ piece)
 lacks_still {missing = missing} {kept = kept} piece l few =
     let h = l.begun in
@@ -97,12 +97,12 @@ keeps_begun {s = s} {kept = kept} {old = old} {new = new} {gathered = gathered} 
     (begun_so_far (kept ++ more) k.behind)
 
 -- they are to be kept where an item has begun
-pub begun_kept : {s : Reading TreeBuilder Value} {id : TypeId} {head size : ℕ} {piece : List ℕ} → IsBetween s
+pub begun_kept : {X O : Type 0} {s : Reading X O} {id : TypeId} {head size : ℕ} {piece : List ℕ} → IsBetween s
     → HasBegun s.limits (types s.types) s.taken id head size piece → IsKept s piece
 begun_kept {size = size} {piece = piece} between h = some_kept (size - length piece) (lacks_some piece (length piece)
     between h refl refl)
 
-pub empty_kept : {s : Reading TreeBuilder Value} (piece : List ℕ) → length piece ≡ 0 → IsKept s piece
+pub empty_kept : {X O : Type 0} {s : Reading X O} (piece : List ℕ) → length piece ≡ 0 → IsKept s piece
 empty_kept [] none = none_kept refl
 empty_kept (b ∷ piece) none = absurd (omega (arith, none))
 

@@ -25,3 +25,4 @@ pub mod TidyStays
 pub mod RewriteLaws
 pub mod RewriteRuns
 pub mod RewriteWhole
+pub mod RewriteKeeping

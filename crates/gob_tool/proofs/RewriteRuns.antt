@@ -102,7 +102,7 @@ follows {L = L} {T = T} {o = o} {i = i} (and_then {b = b} q f r) e =
 
 -- ---- from item to item
 module _ {s : Reading TapeBuilder Tape} {w : StreamWriter} (h : HasRewritten s w) where
-  tidy_there : (P : List ℕ → Type 0) → P h.written
+  pub tidy_there : (P : List ℕ → Type 0) → P h.written
       → HasTidyStream (no_deeper deepest s.limits) (types s.types) h.items P
   tidy_there P holds = record {
     tidy = h.tidy;
@@ -224,7 +224,7 @@ module _ {s : Reading TapeBuilder Tape} {w : StreamWriter} (s' : Reading TapeBui
     adds = (g.more, refl, holds);
   }
 
-tidy_as : {L : Bounds} {T : Table} {items : List StreamItem} {P Q : List ℕ → Type 0} → HasTidyStream L T items P
+pub tidy_as : {L : Bounds} {T : Table} {items : List StreamItem} {P Q : List ℕ → Type 0} → HasTidyStream L T items P
     → ((b : List ℕ) → P b → Q b) → HasTidyStream L T items Q
 tidy_as t f = record { tidy = t.tidy; tidied = t.tidied; bytes = t.bytes; stream = t.stream; holds = f _ t.holds }
 
@@ -458,6 +458,40 @@ piece_at L h s' w' piece old new before after (Ok u) f e x = absurd e
 piece_at L h s' w' piece old new before after (Err g) f e x = subst
     (λ f. RewritesPiece L h s' w' piece old new before after (Err f)) (sym e) x
 
+-- ---- where more bytes follow
+pub front_more : {L : Bounds} {bytes all : List ℕ} {P Q : List ℕ → Type 0} (more : List ℕ) → all ≡ bytes ++ more
+    → RewritesFront L bytes P → ((b : List ℕ) → P b → Q b) → RewritesFront L all Q
+front_more more e f turn = record {
+  items = f.items;
+  begins = record {
+    front = f.begins.front;
+    rest = f.begins.rest ++ more;
+    table = f.begins.table;
+    stream = f.begins.stream;
+    whole = e ∙ ap (λ (l : List ℕ). l ++ more) f.begins.whole ∙ append_assoc f.begins.front f.begins.rest more;
+  };
+  tidy = tidy_as f.tidy turn;
+}
+
+pub refused_more : {L : Bounds} {bytes all : List ℕ} {R : Refusal} {P Q : List ℕ → Type 0} (more : List ℕ) → all ≡ bytes ++ more
+    → RewritesToRefusal L bytes R P → R.reason ≢ reason.Ended → ((b : List ℕ) → P b → Q b) → RewritesToRefusal L all R Q
+refused_more {L = L} {all = all} {P = P} {Q = Q} more e f shown turn =
+    let o = (shown_more more e (record { outcome = f.outcome; shown = shown })).outcome in
+    let was = f.outcome.gives.begins in
+    let is = o.gives.begins in
+    let table = one_table L all f.items was.table is.table
+    (record {
+      front = was.front;
+      rest = was.rest ++ more;
+      stream = was.stream;
+      whole = e ∙ ap (λ (l : List ℕ). l ++ more) was.whole ∙ append_assoc was.front was.rest more;
+    }) (record { front = is.front; rest = is.rest; stream = is.stream; whole = is.whole }) in
+    record {
+      items = f.items;
+      outcome = o;
+      tidy = subst (λ (T : Table). HasTidyStream L T f.items Q) table (tidy_as f.tidy turn);
+    }
+
 -- ---- from piece to piece
 adds_out : {old mid new : Option (List ℕ)} (gathered after written : List ℕ) → Gathered old mid gathered written
     → (b : List ℕ) → Adds written (λ more. PassesSome mid new (gathered ++ more) after) b → Gathered old new after b
@@ -578,39 +612,6 @@ module _ {s : Reading TapeBuilder Tape} {w : StreamWriter} {read now old mid : O
         taken = known_taken read next bytes h.taken known (Consumes-kept read now next h.taken i.input k);
         holds = record { items = h.items; given = g; tidy = tidy_so (Gathered old mid gathered) i.out g.begins };
       })
-
-  front_more : {L : Bounds} {bytes all : List ℕ} {P Q : List ℕ → Type 0} (more : List ℕ) → all ≡ bytes ++ more
-      → RewritesFront L bytes P → ((b : List ℕ) → P b → Q b) → RewritesFront L all Q
-  front_more more e f turn = record {
-    items = f.items;
-    begins = record {
-      front = f.begins.front;
-      rest = f.begins.rest ++ more;
-      table = f.begins.table;
-      stream = f.begins.stream;
-      whole = e ∙ ap (λ (l : List ℕ). l ++ more) f.begins.whole ∙ append_assoc f.begins.front f.begins.rest more;
-    };
-    tidy = tidy_as f.tidy turn;
-  }
-
-  refused_more : {L : Bounds} {bytes all : List ℕ} {R : Refusal} {P Q : List ℕ → Type 0} (more : List ℕ) → all ≡ bytes ++ more
-      → RewritesToRefusal L bytes R P → R.reason ≢ reason.Ended → ((b : List ℕ) → P b → Q b) → RewritesToRefusal L all R Q
-  refused_more {L = L} {all = all} {P = P} {Q = Q} more e f shown turn =
-      let o = (shown_more more e (record { outcome = f.outcome; shown = shown })).outcome in
-      let was = f.outcome.gives.begins in
-      let is = o.gives.begins in
-      let table = one_table L all f.items was.table is.table
-      (record {
-        front = was.front;
-        rest = was.rest ++ more;
-        stream = was.stream;
-        whole = e ∙ ap (λ (l : List ℕ). l ++ more) was.whole ∙ append_assoc was.front was.rest more;
-      }) (record { front = is.front; rest = is.rest; stream = is.stream; whole = is.whole }) in
-      record {
-        items = f.items;
-        outcome = o;
-        tidy = subst (λ (T : Table). HasTidyStream L T f.items Q) table (tidy_as f.tidy turn);
-      }
 
   -- a piece ended the run
   rewritten_stopped_there : (s' : Reading TapeBuilder Tape) (w' : StreamWriter) (next new : Option (List ℕ)) (after : List ℕ)

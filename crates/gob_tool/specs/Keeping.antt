@@ -13,14 +13,14 @@ use Rattle.gob_tool.specs.declared.fault.ToolFault.{ToolFault}
 use Rattle.gob_tool.specs.Gathering.{StandsBehind, TakesPiece, StopsShowing, TakesFront}
 
 -- the bytes are the first of an item behind what the reader took, which lacks so many
-pub record Lacks (s : Reading TreeBuilder Value) (missing : ℕ) (kept : List ℕ) : Type 0 where
+pub record Lacks {X O : Type 0} (s : Reading X O) (missing : ℕ) (kept : List ℕ) : Type 0 where
   pub id : TypeId
   pub head : ℕ
   pub between : IsBetween s
   pub begun : HasBegun s.limits (types s.types) s.taken id head (length kept + missing) kept
 
 -- no bytes, or the first of an item
-pub data IsKept (s : Reading TreeBuilder Value) : List ℕ → Type 0 where
+pub data IsKept {X O : Type 0} (s : Reading X O) : List ℕ → Type 0 where
   none_kept : {kept : List ℕ} → kept ≡ [] → IsKept s kept
   some_kept : {kept : List ℕ} (missing : ℕ) → Lacks s missing kept → IsKept s kept
 

@@ -32,6 +32,7 @@ use Rattle.gob_tool.specs.declared.fault.ToolFault.{ToolFault}
 use Rattle.gob_tool.specs.declared.fault.ToolFault.TheVariants as fault
 use Rattle.gob_tool.specs.Gathering.{Gathered, PassesSome}
 use Rattle.gob_tool.specs.Rewriting.{content, content_type, with_content, AreTidied, RewritesToRefusal, RewritesFront}
+use Rattle.gob_tool.specs.Keeping.{IsKept}
 use Rattle.gob_tool.specs.Showing.{AppendsFront}
 
 -- the reader of tapes has given the items, of these bytes
@@ -195,3 +196,28 @@ pub record RewritesIn (s : Reading TapeBuilder Tape) (w : StreamWriter) (read no
   pub so_far : HasRewritten s w
   pub input : Consumes read now so_far.taken
   pub out : Gathered old new gathered so_far.written
+
+-- what taking the front of a piece answers, which may be the first bytes of an item
+abbrev pub MayRewriteFront : {s : Reading TapeBuilder Tape} {w : StreamWriter} (h : HasRewritten s w)
+    (s' : Reading TapeBuilder Tape) (w' : StreamWriter) (piece before after : List ℕ) → Result (Option ℕ) Fault → Type 0
+MayRewriteFront {s = s} {w = w} h s' w' piece before after (Ok None) = (s' ≡ s) × (w' ≡ w) × (after ≡ before)
+    × IsKept s' piece
+MayRewriteFront h s' w' piece before after (Ok (Some used)) = RewritesSome h s' w' piece before after (Ok used)
+MayRewriteFront h s' w' piece before after (Err e) = RewritesSome h s' w' piece before after (Err e)
+
+-- what taking a piece answers, whose last bytes may be kept
+abbrev pub RewritesKeeping : Bounds → {s : Reading TapeBuilder Tape} {w : StreamWriter} (h : HasRewritten s w)
+    (s' : Reading TapeBuilder Tape) (w' : StreamWriter) (kept piece : List ℕ) (old new : Option (List ℕ))
+    (before after : List ℕ) → Result (Unit {0}) ToolFault → Type 0
+RewritesKeeping L h s' w' kept piece old new before after (Ok u) = RewritesUpTo h s' w' piece kept old new before after
+    × IsKept s' kept
+RewritesKeeping L h s' w' kept piece old new before after (Err f) = RewritesPiece L h s' w' piece old new before after
+    (Err f)
+
+-- what was consumed of the input was taken, or is kept
+pub record RewritesKept (s : Reading TapeBuilder Tape) (w : StreamWriter) (kept : List ℕ)
+    (read now old new : Option (List ℕ)) (gathered : List ℕ) : Type 0 where
+  pub behind : Option (List ℕ)
+  pub taken : RewritesIn s w read behind old new gathered
+  pub input : Consumes behind now kept
+  pub is_kept : IsKept s kept

@@ -4,7 +4,7 @@ ghost use Rattle.std.specs.Prelude.{◌≡◌, ◌++◌, ◌<◌, [], length, fa
 ghost use Rattle.gob_tool.specs.Keeping.{Lacks, IsKept};
 
 use gob_num::Memory;
-use gob_read::TreeBuilder;
+use gob_read::Builder;
 use gob_stream::Session;
 use std::alloc::Global;
 
@@ -33,7 +33,7 @@ impl Pending {
 
     /// How many bytes the item lacks, behind what the session took. 0 where nothing is kept that is known to be an
     /// item.
-    pub(crate) fn missing(&self, session: &Session<TreeBuilder>) -> u64
+    pub(crate) fn missing<B: Builder>(&self, session: &Session<B>) -> u64
         ensures { 0 < result → Lacks session.now.reading result self.now.bytes.items }
     {
         match session.awaited(&self.bytes) {
@@ -60,7 +60,7 @@ impl Pending {
 
 /// Whether the piece is the first bytes of an item of a value, behind what the session took, or empty. False says
 /// nothing else of the piece.
-pub(crate) fn is_begun(session: &Session<TreeBuilder>, piece: &[u8]) -> bool
+pub(crate) fn is_begun<B: Builder>(session: &Session<B>, piece: &[u8]) -> bool
     ensures kept { IsTrue result → IsKept session.now.reading piece.now }
     ensures some { result ≡ false → 0 < length piece.now }
 {

@@ -1,14 +1,17 @@
 //! The run that writes a stream again, in its tidy form.
 
-ghost use Rattle.std.specs.Prelude.{◌≡◌, ◌<◌, ◌≤◌, ℕ, List, [], Some, length, IfOk};
+ghost use Rattle.std.specs.Prelude.{◌≡◌, ◌<◌, ◌≤◌, ◌++◌, ℕ, List, [], Option, Some, length, IfOk, IfSome, OnOk};
+ghost use Rattle.std.specs.Io.KnownBytes.{Consumes, IsAtEnd};
 ghost use Rattle.gob_stream.specs.Bounds.{AreLimits, deepest, no_deeper};
 ghost use Rattle.gob_stream.specs.Writing.{IsNew};
 ghost use Rattle.gob_tool.specs.Gathering.{Gathered, CountsOnlyReads, CountsOnlyWrites};
 ghost use Rattle.gob_tool.specs.Rewriting.{Rewrites, RewritesSo};
 ghost use Rattle.gob_tool.specs.Rewritten.{GaveTapes, HasRewritten, RewritesPiece, RewritesSome, MayRewriteWhole};
+ghost use Rattle.gob_tool.specs.Rewritten.{RewritesIn, RewritesKeeping, MayRewriteFront};
 ghost use Rattle.gob_tool.specs.Showing.{AppendsFront, CountsReadFaults, CountsWriteFaults};
 
 use crate::fault::ToolFault;
+use crate::pending::{Pending, is_begun};
 use crate::rewriter::Rewriter;
 use gob_num::Memory;
 use gob_read::Builder;
@@ -24,8 +27,8 @@ const PIECE: usize = 65536;
 /// Writes the stream of the items of a stream, each in its tidy form, and ends with a flush. Ok exactly at the end of
 /// a whole stream; no limit refuses what is written, as it is no longer and no deeper than what was read. Before a
 /// fault is answered the items before it are written; at `ToolFault::Write` a front of them may be. The input is read
-/// in pieces of 64 KiB. What it takes in memory doesn't grow with the stream. No value may be deeper than
-/// `limits.depth()`.
+/// in pieces of 64 KiB. What it takes in memory grows with the types and the largest item alone. No value may be
+/// deeper than `limits.depth()`.
 pub fn run_rewrite<R: Read, W: Write>(
     alloc: Global,
     input: &mut Input<R>,
@@ -133,12 +136,155 @@ fn rewrite_pieces<R: Read, W: Write>(
     ensures reads { CountsOnlyReads input.old.failures input.new.failures result }
     ensures writes { CountsOnlyWrites output.old.failures output.new.failures result }
 {
+    let mut pending = Pending::new(alloc);
     'pieces: loop {
         match input.read(buffer) {
-            Ok(0) => return Ok(session.finish()?),
-            Ok(count) => rewrite_piece(alloc, &buffer[..count], depth, session, rewriter, output)?,
+            Ok(0) => return rewrite_end(alloc, pending.bytes(), depth, session, rewriter, output),
+            Ok(count) => {
+                let piece = &buffer[..count];
+                rewrite_next(alloc, piece, depth, session, &mut pending, rewriter, output)?;
+            }
             Err(_) => return Err(ToolFault::Read),
         }
+    }
+}
+
+/// Takes the kept bytes at the end of the input, and says whether the stream ends there.
+fn rewrite_end<W: Write>(
+    alloc: Global,
+    kept: &[u8],
+    depth: u64,
+    session: &mut Session<TapeBuilder>,
+    rewriter: &mut Rewriter,
+    output: &mut Output<W>,
+) -> Result<(), ToolFault>
+    requires so_far { HasRewritten session.old.reading rewriter.old.writer }
+    requires depth { depth ≡ session.old.reading.limits.depth }
+    ensures rewritten { (bytes : List ℕ) (read at next start : Option (List ℕ))
+        → RewritesIn session.old.reading rewriter.old.writer read at start (W.contents output.old.writer)
+        rewriter.old.gathered.items
+        → read ≡ Some bytes → Consumes at next kept.now → IsAtEnd next
+        → RewritesSo (no_deeper deepest session.old.reading.limits) bytes next
+        (Gathered start (W.contents output.new.writer) rewriter.new.gathered.items)
+        (AppendsFront start (W.contents output.new.writer)) result }
+    ensures reads { (failures : ℕ) → CountsOnlyReads failures failures result }
+    ensures writes { CountsOnlyWrites output.old.failures output.new.failures result }
+{
+    rewrite_piece(alloc, kept, depth, session, rewriter, output)?;
+    Ok(session.finish()?)
+}
+
+/// Takes a piece of the stream, and rewrites the items that are whole with it, also those before a refusal. The first
+/// bytes of an item that isn't are kept.
+fn rewrite_next<W: Write>(
+    alloc: Global,
+    piece: &[u8],
+    depth: u64,
+    session: &mut Session<TapeBuilder>,
+    pending: &mut Pending,
+    rewriter: &mut Rewriter,
+    output: &mut Output<W>,
+) -> Result<(), ToolFault>
+    requires so_far { HasRewritten session.old.reading rewriter.old.writer }
+    requires depth { depth ≡ session.old.reading.limits.depth }
+    ensures rewritten { (h : HasRewritten session.old.reading rewriter.old.writer)
+        → RewritesKeeping (no_deeper deepest session.old.reading.limits) h session.new.reading rewriter.new.writer
+        pending.new.bytes.items (pending.old.bytes.items ++ piece.now)
+        (W.contents output.old.writer) (W.contents output.new.writer)
+        rewriter.old.gathered.items rewriter.new.gathered.items result }
+    ensures limits { session.new.reading.limits ≡ session.old.reading.limits }
+    ensures writes { CountsOnlyWrites output.old.failures output.new.failures result }
+{
+    let missing = pending.missing(session);
+    if (piece.len() as u64) < missing {
+        return Ok(pending.keep(piece)?);
+    }
+    let (front, behind) = piece.split_at(missing as usize);
+    rewrite_kept(alloc, front, depth, session, pending, rewriter, output)?;
+    rewrite_behind(alloc, behind, depth, session, pending, rewriter, output)
+}
+
+/// Takes what the kept bytes lacked, and them before it. None are kept then.
+fn rewrite_kept<W: Write>(
+    alloc: Global,
+    front: &[u8],
+    depth: u64,
+    session: &mut Session<TapeBuilder>,
+    pending: &mut Pending,
+    rewriter: &mut Rewriter,
+    output: &mut Output<W>,
+) -> Result<(), ToolFault>
+    requires so_far { HasRewritten session.old.reading rewriter.old.writer }
+    requires depth { depth ≡ session.old.reading.limits.depth }
+    ensures rewritten { (h : HasRewritten session.old.reading rewriter.old.writer)
+        → RewritesPiece (no_deeper deepest session.old.reading.limits) h session.new.reading rewriter.new.writer
+        (pending.old.bytes.items ++ front.now)
+        (W.contents output.old.writer) (W.contents output.new.writer)
+        rewriter.old.gathered.items rewriter.new.gathered.items result }
+    ensures none { OnOk result (pending.new.bytes.items ≡ []) }
+    ensures limits { session.new.reading.limits ≡ session.old.reading.limits }
+    ensures writes { CountsOnlyWrites output.old.failures output.new.failures result }
+{
+    pending.keep(front)?;
+    rewrite_piece(alloc, pending.bytes(), depth, session, rewriter, output)?;
+    pending.clear();
+    Ok(())
+}
+
+/// Takes the items that are whole in the piece, and keeps what is behind them where it is the first bytes of one.
+fn rewrite_behind<W: Write>(
+    alloc: Global,
+    piece: &[u8],
+    depth: u64,
+    session: &mut Session<TapeBuilder>,
+    pending: &mut Pending,
+    rewriter: &mut Rewriter,
+    output: &mut Output<W>,
+) -> Result<(), ToolFault>
+    requires so_far { HasRewritten session.old.reading rewriter.old.writer }
+    requires depth { depth ≡ session.old.reading.limits.depth }
+    requires none { pending.old.bytes.items ≡ [] }
+    ensures rewritten { (h : HasRewritten session.old.reading rewriter.old.writer)
+        → RewritesKeeping (no_deeper deepest session.old.reading.limits) h session.new.reading rewriter.new.writer
+        pending.new.bytes.items piece.now
+        (W.contents output.old.writer) (W.contents output.new.writer)
+        rewriter.old.gathered.items rewriter.new.gathered.items result }
+    ensures limits { session.new.reading.limits ≡ session.old.reading.limits }
+    ensures writes { CountsOnlyWrites output.old.failures output.new.failures result }
+{
+    let mut rest = piece;
+    'items: loop {
+        match rewrite_ready(alloc, rest, depth, session, rewriter)? {
+            Some(used) => {
+                rewriter.write_many(output)?;
+                rest = &rest[used..];
+            }
+            None => return Ok(pending.keep(rest)?),
+        }
+    }
+}
+
+/// Takes bytes from the front of the piece as [`rewrite_front`] does. None where the piece is the first bytes of an item
+/// of a value, or empty, and then nothing has changed.
+fn rewrite_ready(
+    alloc: Global,
+    piece: &[u8],
+    depth: u64,
+    session: &mut Session<TapeBuilder>,
+    rewriter: &mut Rewriter,
+) -> Result<Option<usize>, Fault>
+    requires so_far { HasRewritten session.old.reading rewriter.old.writer }
+    requires depth { depth ≡ session.old.reading.limits.depth }
+    ensures rewritten { (h : HasRewritten session.old.reading rewriter.old.writer)
+        → MayRewriteFront h session.new.reading rewriter.new.writer piece.now
+        rewriter.old.gathered.items rewriter.new.gathered.items result }
+    ensures used { IfOk result (λ taken. IfSome taken (λ used. (0 < used) × (used ≤ length piece.now))) }
+    ensures limits { session.new.reading.limits ≡ session.old.reading.limits }
+{
+    match rewrite_whole(alloc, piece, depth, session, rewriter)? {
+        Some(used) => Ok(Some(used)),
+        None if is_begun(session, piece) => Ok(None),
+        None => Ok(Some(rewrite_step(alloc, piece, session, rewriter)?)),
     }
 }
 

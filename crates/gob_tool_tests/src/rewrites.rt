@@ -69,6 +69,17 @@ fn rewritten_and_refused(rt: HostRuntime) {
     }
 }
 
+#[test]
+fn rewritten_byte_by_byte(rt: HostRuntime) {
+    for (bytes, tidy, due) in ROWS {
+        let reader = SlowReader::new(bytes, usize::MAX, ErrorKind::Other);
+        assert!(rt;
+            is_rewritten(rt.alloc(), reader, Limits::standard(), tidy, due),
+            "{bytes:?}"
+        );
+    }
+}
+
 // Whether slices in slices give so many of their bytes again, and the run ends so.
 fn nested_is_rewritten(
     alloc: Global,

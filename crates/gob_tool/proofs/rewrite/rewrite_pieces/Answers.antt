@@ -1,105 +1,98 @@
--- From piece to piece the session stands behind what was read, and each end is that of the stream.
-use Rattle.std.proofs.Common.{◌≡◌, ◌<◌, ◌∙◌, length, take, arith, refl, length-take}
-use Rattle.gob_stream.specs.Bounds.{deepest, no_deeper}
-use Rattle.gob_tool.specs.Fault.{reading_fault}
-use Rattle.gob_tool.specs.Gathering.{Gathered}
+-- From piece to piece the session stands behind what was read and isn't kept, and each end is that of the stream.
+use Rattle.std.proofs.Common.{◌≡◌, ◌<◌, ◌∙◌, ◌++◌, length, take, arith, refl, sym, subst, length-take}
+use Rattle.std.specs.Io.KnownBytes.{Consumes}
+use Rattle.gob_stream.specs.Bounds.{Bounds, deepest, no_deeper}
+use Rattle.gob_tool.specs.Gathering.{Gathered, CountsOnlyReads}
+use Rattle.gob_tool.specs.Rewriting.{RewritesSo}
 use Rattle.gob_tool.specs.Showing.{AppendsFront}
-use Rattle.gob_tool.proofs.RewriteRuns.{rewrites_first, rewrites_on, rewrites_nearer, rewritten_whole, rewritten_within}
-use Rattle.gob_tool.proofs.RewriteRuns.{rewritten_unread, rewritten_stopped, end_reads, piece_reads, rewrites_at}
+use Rattle.gob_tool.proofs.RewriteRuns.{rewritten_stopped, piece_reads, rewrites_at}
+use Rattle.gob_tool.proofs.RewriteKeeping.{keeps_first, keeps_on, falls_keeping, taken_more, taken_all, unread_keeping}
 use Rattle.gob_tool.proofs.ShowLaws.{read_none, reads_at}
 use Rattle.gob_tool.proofs.rewrite.rewrite_pieces.Goals as goal
 
 pub pieces-init : goal.pieces-init
-pieces-init g c = (refl, refl, refl, rewrites_first _ _ _ _ _ c.requires.stands c.requires.limits c.requires.new c.requires.empty)
+pieces-init g c = (
+  refl,
+  refl,
+  refl,
+  keeps_first _ _ _ _ _ _ c.requires.stands c.requires.limits c.requires.new c.requires.empty c.new-pending.ensures,
+)
 
-pub rewrite_piece-requires-clause-so_far : goal.rewrite_piece-requires-clause-so_far
-rewrite_piece-requires-clause-so_far g c = c.pieces.invariant.3.so_far
+pub rewrite_end-requires-clause-so_far : goal.rewrite_end-requires-clause-so_far
+rewrite_end-requires-clause-so_far g c = c.pieces.invariant.3.taken.so_far
 
-pub returns-in_err-finish-in-Ok-eq0-clause-rewritten : goal.returns-in_err-finish-in-Ok-eq0-clause-rewritten
-returns-in_err-finish-in-Ok-eq0-clause-rewritten g c = λ bytes known.
-    let now = g.R.Read.remaining c.pieces.input.reader in
-    let next = g.R.Read.remaining c.read.new.self.reader in
-    let old = g.W.Write.contents c.args.output.now.writer in
-    let out = g.W.Write.contents c.pieces.output.writer in
-    let gathered = c.pieces.rewriter.gathered.items in
-    let M = c.args.session.now.reading.limits in
-    let i = c.pieces.invariant.3 in
-    let none : c.in-Ok-eq0.field-0 ≡ 0 = omega arith in
-    let room : 0 < length c.read.new.buf = omega (arith, c.requires.room, c.pieces.auto.buffer, c.read.auto.buf) in
-    let e = c.in_err-finish-in-Ok-eq0.field-0.0 in
-    rewrites_at (no_deeper deepest M) bytes next (Gathered old out gathered) (AppendsFront old out) c.from_residual.result
-    (reading_fault e) c.from_residual.ensures.1
-    (rewritten_within i M c.finish.new.self.reading next bytes (AppendsFront old out) e c.pieces.invariant.0 known
-    (read_none now next c.in-Ok-eq0.field-0 c.read.new.buf none c.in-Ok-eq0.ensures.bytes.0)
-    (c.in-Ok-eq0.ensures.bytes.1 none room)
-    (c.in_err-finish-in-Ok-eq0.ensures.finishes i.so_far.items i.so_far.taken i.so_far.gave))
-
-pub returns-in_err-finish-in-Ok-eq0-clause-reads : goal.returns-in_err-finish-in-Ok-eq0-clause-reads
-returns-in_err-finish-in-Ok-eq0-clause-reads g c =
-    let h = c.pieces.invariant.3.so_far in
-    let e = c.in_err-finish-in-Ok-eq0.field-0.0 in
-    reads_at _ _ c.from_residual.result (reading_fault e) c.from_residual.ensures.1
-    (end_reads c.pieces.session.reading c.finish.new.self.reading h.items h.taken _ _ e
-    (c.in_err-finish-in-Ok-eq0.ensures.finishes h.items h.taken h.gave)
-    (c.in-Ok-eq0.ensures.counted.1 ∙ c.pieces.invariant.1))
+pub rewrite_next-requires-clause-so_far : goal.rewrite_next-requires-clause-so_far
+rewrite_next-requires-clause-so_far g c = c.pieces.invariant.3.taken.so_far
 
 pub returns-in-Ok-eq0-clause-rewritten : goal.returns-in-Ok-eq0-clause-rewritten
 returns-in-Ok-eq0-clause-rewritten g c = λ bytes known.
+    let read = g.R.Read.remaining c.args.input.now.reader in
     let now = g.R.Read.remaining c.pieces.input.reader in
     let next = g.R.Read.remaining c.read.new.self.reader in
+    let old = g.W.Write.contents c.args.output.now.writer in
+    let new = g.W.Write.contents c.rewrite_end.new.output.writer in
     let i = c.pieces.invariant.3 in
     let none : c.in-Ok-eq0.field-0 ≡ 0 = omega arith in
     let room : 0 < length c.read.new.buf = omega (arith, c.requires.room, c.pieces.auto.buffer, c.read.auto.buf) in
-    rewritten_whole i c.args.session.now.reading.limits c.finish.new.self.reading next bytes tt c.pieces.invariant.0 known
-    (read_none now next c.in-Ok-eq0.field-0 c.read.new.buf none c.in-Ok-eq0.ensures.bytes.0)
-    (c.in-Ok-eq0.ensures.bytes.1 none room)
-    (c.in_ok-finish-in-Ok-eq0.ensures.finishes i.so_far.items i.so_far.taken i.so_far.gave)
+    let all = taken_all i next (read_none now next c.in-Ok-eq0.field-0 c.read.new.buf none c.in-Ok-eq0.ensures.bytes.0) in
+    subst (λ (L : Bounds). RewritesSo (no_deeper deepest L) bytes next
+    (Gathered old new c.rewrite_end.new.rewriter.gathered.items) (AppendsFront old new) c.rewrite_end.result)
+    c.pieces.invariant.0
+    (c.rewrite_end.ensures.rewritten bytes read i.behind next old i.taken known
+    (subst (λ l. Consumes i.behind next l) (sym c.bytes.ensures) all) (c.in-Ok-eq0.ensures.bytes.1 none room))
+
+pub returns-in-Ok-eq0-clause-reads : goal.returns-in-Ok-eq0-clause-reads
+returns-in-Ok-eq0-clause-reads g c =
+    subst (λ n. CountsOnlyReads c.args.input.now.failures n c.rewrite_end.result)
+    (sym (c.in-Ok-eq0.ensures.counted.1 ∙ c.pieces.invariant.1))
+    (c.rewrite_end.ensures.reads c.args.input.now.failures)
 
 pub pieces-smaller : goal.pieces-smaller
 pieces-smaller g c =
     let i = c.pieces.invariant.3 in
     let piece = take c.in-Ok.count c.read.new.buf in
     let some : 0 < length piece = omega (arith, length-take c.in-Ok.count c.read.new.buf, c.in-Ok.ensures.bound) in
-    rewrites_nearer i piece (c.in_ok-rewrite_piece-in-Ok.ensures.rewritten i.so_far)
-    c.in_ok-rewrite_piece-in-Ok.ensures.limits some
+    falls_keeping i piece (c.in_ok-rewrite_next-in-Ok.ensures.rewritten i.taken.so_far)
+    c.in_ok-rewrite_next-in-Ok.ensures.limits some
 
 pub pieces-preserved : goal.pieces-preserved
 pieces-preserved g c =
     let i = c.pieces.invariant.3 in (
-      c.in_ok-rewrite_piece-in-Ok.ensures.limits ∙ c.pieces.invariant.0,
+      c.in_ok-rewrite_next-in-Ok.ensures.limits ∙ c.pieces.invariant.0,
       c.in-Ok.ensures.counted.1 ∙ c.pieces.invariant.1,
-      c.in_ok-rewrite_piece-in-Ok.ensures.writes ∙ c.pieces.invariant.2,
-      rewrites_on i (take c.in-Ok.count c.read.new.buf) c.in-Ok.ensures.bytes.0
-          (c.in_ok-rewrite_piece-in-Ok.ensures.rewritten i.so_far),
+      c.in_ok-rewrite_next-in-Ok.ensures.writes ∙ c.pieces.invariant.2,
+      keeps_on i (take c.in-Ok.count c.read.new.buf) c.in-Ok.ensures.bytes.0
+          (c.in_ok-rewrite_next-in-Ok.ensures.rewritten i.taken.so_far),
     )
 
-pub returns-in_err-rewrite_piece-in-Ok-clause-rewritten : goal.returns-in_err-rewrite_piece-in-Ok-clause-rewritten
-returns-in_err-rewrite_piece-in-Ok-clause-rewritten g c = λ bytes known.
+pub returns-in_err-rewrite_next-in-Ok-clause-rewritten : goal.returns-in_err-rewrite_next-in-Ok-clause-rewritten
+returns-in_err-rewrite_next-in-Ok-clause-rewritten g c = λ bytes known.
     let next = g.R.Read.remaining c.read.new.self.reader in
     let old = g.W.Write.contents c.args.output.now.writer in
-    let new = g.W.Write.contents c.rewrite_piece.new.output.writer in
-    let after = c.rewrite_piece.new.rewriter.gathered.items in
+    let new = g.W.Write.contents c.rewrite_next.new.output.writer in
+    let after = c.rewrite_next.new.rewriter.gathered.items in
     let piece = take c.in-Ok.count c.read.new.buf in
     let M = c.args.session.now.reading.limits in
     let i = c.pieces.invariant.3 in
-    let f = c.in_err-rewrite_piece-in-Ok.field-0.0 in
+    let f = c.in_err-rewrite_next-in-Ok.field-0.0 in
     rewrites_at (no_deeper deepest M) bytes next (Gathered old new after) (AppendsFront old new)
-    c.from_residual-in_err-rewrite_piece-in-Ok.result f c.from_residual-in_err-rewrite_piece-in-Ok.ensures.1
-    (rewritten_stopped i M c.rewrite_piece.new.session.reading c.rewrite_piece.new.rewriter.writer next new after piece
-    bytes f c.pieces.invariant.0 known c.in-Ok.ensures.bytes.0
-    (c.in_err-rewrite_piece-in-Ok.ensures.rewritten i.so_far))
+    c.from_residual.result f c.from_residual.ensures.1
+    (rewritten_stopped i.taken M c.rewrite_next.new.session.reading c.rewrite_next.new.rewriter.writer next new after
+    (c.pieces.pending.bytes.items ++ piece) bytes f c.pieces.invariant.0 known
+    (taken_more i next piece c.in-Ok.ensures.bytes.0) (c.in_err-rewrite_next-in-Ok.ensures.rewritten i.taken.so_far))
 
-pub returns-in_err-rewrite_piece-in-Ok-clause-reads : goal.returns-in_err-rewrite_piece-in-Ok-clause-reads
-returns-in_err-rewrite_piece-in-Ok-clause-reads g c =
+pub returns-in_err-rewrite_next-in-Ok-clause-reads : goal.returns-in_err-rewrite_next-in-Ok-clause-reads
+returns-in_err-rewrite_next-in-Ok-clause-reads g c =
     let i = c.pieces.invariant.3 in
-    let f = c.in_err-rewrite_piece-in-Ok.field-0.0 in
-    reads_at _ _ c.from_residual-in_err-rewrite_piece-in-Ok.result f c.from_residual-in_err-rewrite_piece-in-Ok.ensures.1
-    (piece_reads (no_deeper deepest c.pieces.session.reading.limits) i.so_far c.rewrite_piece.new.session.reading
-    c.rewrite_piece.new.rewriter.writer (take c.in-Ok.count c.read.new.buf) _ _ _ _ _ _ f
-    (c.in_err-rewrite_piece-in-Ok.ensures.rewritten i.so_far) (c.in-Ok.ensures.counted.1 ∙ c.pieces.invariant.1))
+    let f = c.in_err-rewrite_next-in-Ok.field-0.0 in
+    reads_at _ _ c.from_residual.result f c.from_residual.ensures.1
+    (piece_reads (no_deeper deepest c.pieces.session.reading.limits) i.taken.so_far c.rewrite_next.new.session.reading
+    c.rewrite_next.new.rewriter.writer (c.pieces.pending.bytes.items ++ take c.in-Ok.count c.read.new.buf) _ _ _ _ _ _ f
+    (c.in_err-rewrite_next-in-Ok.ensures.rewritten i.taken.so_far)
+    (c.in-Ok.ensures.counted.1 ∙ c.pieces.invariant.1))
 
 pub returns-in-Err-clause-rewritten : goal.returns-in-Err-clause-rewritten
 returns-in-Err-clause-rewritten g c = λ bytes known.
     let next = g.R.Read.remaining c.read.new.self.reader in
-    rewritten_unread c.pieces.invariant.3 c.args.session.now.reading.limits next bytes c.pieces.invariant.0 known
+    unread_keeping c.pieces.invariant.3 c.args.session.now.reading.limits next bytes c.pieces.invariant.0 known
     c.in-Err.ensures.bytes

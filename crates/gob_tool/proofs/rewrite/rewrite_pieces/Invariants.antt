@@ -1,6 +1,6 @@
--- The session stands behind what was read, and the tidy stream of it went out or is gathered.
-use Rattle.std.proofs.Common.{◌≡◌, ◌+◌, ◌-◌}
-use Rattle.gob_tool.specs.Rewritten.{RewritesIn}
+-- The session stands behind what was read and isn't kept, and the tidy stream of it went out or is gathered.
+use Rattle.std.proofs.Common.{◌≡◌, ◌+◌, ◌-◌, length}
+use Rattle.gob_tool.specs.Rewritten.{RewritesKept}
 use Rattle.gob_tool.proofs.rewrite.rewrite_pieces.Given as goal
 
 abbrev pub invariant-pieces : goal.invariant-pieces
@@ -8,9 +8,10 @@ invariant-pieces g l =
     (l.session.reading.limits ≡ l.fn.session.reading.limits)
     × (l.input.failures ≡ l.fn.input.failures)
     × (l.output.failures ≡ l.fn.output.failures)
-    × RewritesIn l.session.reading l.rewriter.writer (g.R.Read.remaining l.fn.input.reader)
+    × RewritesKept l.session.reading l.rewriter.writer l.pending.bytes.items (g.R.Read.remaining l.fn.input.reader)
     (g.R.Read.remaining l.input.reader) (g.W.Write.contents l.fn.output.writer) (g.W.Write.contents l.output.writer)
     l.rewriter.gathered.items
 
 abbrev pub decreases-pieces : goal.decreases-pieces
-decreases-pieces g l = l.session.reading.limits.stream + 9 - l.session.reading.taken
+decreases-pieces g l =
+    l.session.reading.limits.stream + 9 - (l.session.reading.taken + length l.pending.bytes.items)

@@ -1,0 +1,16 @@
+-- The front of the piece was rewritten, and what was written of it went out or is gathered; nothing is kept yet.
+use Rattle.std.proofs.Common.{◌≡◌, [], length}
+use Rattle.gob_tool.specs.Rewritten.{HasRewritten, RewritesUpTo}
+use Rattle.gob_tool.proofs.rewrite.rewrite_behind.Given as goal
+
+abbrev pub invariant-items : goal.invariant-items
+invariant-items g l =
+    (l.session.reading.limits ≡ l.fn.session.reading.limits)
+    × (l.output.failures ≡ l.fn.output.failures)
+    × (l.pending.bytes.items ≡ [])
+    × ((h : HasRewritten l.fn.session.reading l.fn.rewriter.writer)
+    → RewritesUpTo h l.session.reading l.rewriter.writer l.piece l.rest (g.W.Write.contents l.fn.output.writer)
+    (g.W.Write.contents l.output.writer) l.fn.rewriter.gathered.items l.rewriter.gathered.items)
+
+abbrev pub decreases-items : goal.decreases-items
+decreases-items g l = length l.rest
