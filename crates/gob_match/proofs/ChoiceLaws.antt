@@ -15,8 +15,8 @@ use Rattle.gob_types.proofs.PublicLaws.{reaches_itself}
 use Rattle.gob_match.specs.declared.pair.TypePair.{TypePair}
 use Rattle.gob_match.specs.declared.reason.ClashReason.{ClashReason}
 use Rattle.gob_match.specs.declared.step.Step.{Step}
-use Rattle.gob_match.specs.Clashing.{HasClashingShapes, Leads, here, onward, ClashAt, IsLeastClash}
-use Rattle.gob_match.specs.Matching.{KindsMatch, HasShapes, HasMatchingShapes, Names, Match}
+use Rattle.gob_match.specs.Clashing.{HasClashingShapes, LeadsBySteps, here, onward, ClashAt, IsLeastClash}
+use Rattle.gob_match.specs.Matching.{KindsMatch, HasShapes, HasMatchingShapes, NamesByStep, Match}
 use Rattle.gob_match.specs.Pairs.{of_types, NamesPair}
 use Rattle.gob_match.proofs.ClashLaws.{one_stream, one_wanted, match_or_clash_at}
 use Rattle.gob_match.proofs.ConversionLaws.{undefined}
@@ -130,19 +130,19 @@ module _ (T U : Table) where
     path : List Step
     reason : ClashReason
     last : TypePair
-    leads : Leads T U path p last
+    leads : LeadsBySteps T U path p last
     clash : HasClashingShapes T U last reason
 
   -- the pair may stand in a closed list of these
   record IsClosedAt (ps : List TypePair) (p : TypePair) : Type 0 where
     match : HasMatchingShapes T U p
-    named : (s : Step) (q : TypePair) → Names T U p s q → In q ps
+    named : (s : Step) (q : TypePair) → NamesByStep T U p s q → In q ps
 
   -- what isn't in the list clashes
   record Covers (ps : List TypePair) : Type 0 where
     each : (p : TypePair) → IsReadyPair T U p → In p ps ⊎ Clashes p
 
-  named_at : {p : TypePair} {s r : Shape} → HasShapes T U p s r → {x : Step} {q : TypePair} → Names T U p x q
+  named_at : {p : TypePair} {s r : Shape} → HasShapes T U p s r → {x : Step} {q : TypePair} → NamesByStep T U p x q
       → NamesPair s.kind r.kind x q
   named_at {s = s} {r = r} shapes {x = x} {q = q} n =
       subst (λ (y : Shape). NamesPair y.kind r.kind x q) (one_stream n.shapes shapes)
@@ -265,18 +265,18 @@ module _ (T U : Table) where
     path : List Step
     reason : ClashReason
     last : TypePair
-    leads : Leads T U path p last
+    leads : LeadsBySteps T U path p last
     clash : HasClashingShapes T U last reason
     steps : length path ≡ n
 
   no_steps : {p last : TypePair} {path : List Step} {reason : ClashReason} → HasMatchingShapes T U p
-      → Leads T U path p last → HasClashingShapes T U last reason → length path ≡ 0 → ⊥
+      → LeadsBySteps T U path p last → HasClashingShapes T U last reason → length path ≡ 0 → ⊥
   no_steps m here c e = match_or_clash_at m c
   no_steps m (onward g n l) c e = absurd (omega (arith, e))
 
-  one_step : {n : ℕ} {p last : TypePair} {path : List Step} {reason : ClashReason} → Leads T U path p last
+  one_step : {n : ℕ} {p last : TypePair} {path : List Step} {reason : ClashReason} → LeadsBySteps T U path p last
       → HasClashingShapes T U last reason → length path ≡ suc n
-      → HasMatchingShapes T U p × (s : Step) × (q : TypePair) × Names T U p s q × ClashesIn n q
+      → HasMatchingShapes T U p × (s : Step) × (q : TypePair) × NamesByStep T U p s q × ClashesIn n q
   one_step here c e = absurd (omega (arith, e))
   one_step {n = n} (onward {q = q} {s = s} {path = path} m names l) c e =
       (m, s, q, names, record { path = path; reason = _; last = _; leads = l; clash = c; steps = omega (arith, e) })
@@ -323,7 +323,7 @@ module _ (T U : Table) where
   has_shapes : {n : ℕ} {p : TypePair} → ClashesIn n p → (s : Shape) × (r : Shape) × HasShapes T U p s r
   has_shapes c = first c.leads c.clash
     where
-      first : {p last : TypePair} {path : List Step} {reason : ClashReason} → Leads T U path p last
+      first : {p last : TypePair} {path : List Step} {reason : ClashReason} → LeadsBySteps T U path p last
           → HasClashingShapes T U last reason → (s : Shape) × (r : Shape) × HasShapes T U p s r
       first here h = (h.stream, h.wanted, h.shapes)
       first (onward m n l) h = (m.stream, m.wanted, m.shapes)

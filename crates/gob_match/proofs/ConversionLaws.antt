@@ -25,7 +25,7 @@ use Rattle.gob_match.specs.Machine.Exploring.{Converts, ConvertsAt, Explores}
 use Rattle.gob_match.specs.Machine.Search.{Entry, came, IsAt, AddsPairs}
 use Rattle.gob_match.specs.Machine.Struct.{AreCommonFields, no_more, missing, common}
 use Rattle.gob_match.specs.Machine.Kept.{IsMatched}
-use Rattle.gob_match.specs.Matching.{KindsMatch, structs, HasShapes, HasMatchingShapes, Names}
+use Rattle.gob_match.specs.Matching.{KindsMatch, structs, HasShapes, HasMatchingShapes, NamesByStep}
 use Rattle.gob_match.specs.Pairs.{of_types, RepeatsName, NamesPair, element_of_arrays, element_of_slices, key_of_maps}
 use Rattle.gob_match.specs.Pairs.{element_of_maps, field_of_structs}
 use Rattle.gob_match.proofs.ClashLaws.{one_stream, one_wanted}
@@ -323,7 +323,7 @@ explored {T = T} {U = U} {p = p} {s = s} {t = t} {w = w} at shapes converts adde
   }) back;
 }
   where
-    back : (x : Step) (q : TypePair) → Names T U p x q → ConversionNames w x q
+    back : (x : Step) (q : TypePair) → NamesByStep T U p x q → ConversionNames w x q
     back x q n =
         named_conversion converts.match converts.conversion
         (subst (λ (r : Shape). NamesPair r.kind t.kind x q) (one_stream n.shapes shapes)

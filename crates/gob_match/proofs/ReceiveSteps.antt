@@ -32,7 +32,7 @@ use Rattle.gob_match.specs.declared.step.Step.TheVariants as step
 use Rattle.gob_match.specs.Machine.Conversions.{IsConversion, ConversionNames}
 use Rattle.gob_match.specs.Machine.Conversions as kept
 use Rattle.gob_match.specs.Machine.Exploring.{ConvertsAt}
-use Rattle.gob_match.specs.Machine.Receiving.{IsReceived, AreReceived, PairsReceived, FieldsReceived, no_more, absent}
+use Rattle.gob_match.specs.Machine.Receiving.{IsReceived, AreElementsReceived, PairsReceived, FieldsReceived, no_more, absent}
 use Rattle.gob_match.specs.Machine.Receiving.{present, IsOfMatch, IsReceivable, AreReceivable, PairsReceivable}
 use Rattle.gob_match.specs.Machine.Receiving.{FieldsReceivable, HaveRisingNumbers}
 use Rattle.gob_match.specs.Machine.Search.{Entry}
@@ -229,7 +229,7 @@ elements_as maps w r = elim w [ ]
 elements_as (structs d c) w r = elim w [ ]
 
 elements_received : {T U : Table} {p q : TypePair} {vs ws : Trees} → ConvertsAt T U p (conversion.Elements q)
-    → AreReceived T U q vs ws → IsReceived T U p (Value.many vs) (Value.many ws)
+    → AreElementsReceived T U q vs ws → IsReceived T U p (Value.many vs) (Value.many ws)
 elements_received c r = as_received c (elements_as c.converts.match c.converts.conversion r.receives) r.small
 
 module _ {T U : Table} {p q : TypePair} {w : Conversion} (is : w ≡ conversion.Elements q) (c : ConvertsAt T U p w) where
@@ -248,7 +248,7 @@ module _ {T U : Table} {p q : TypePair} {w : Conversion} (is : w ≡ conversion.
       r))
 
   pub list_received : {v : Value} {items : List Value} (parts made : Vec Value Global) → v ≡ Many parts
-      → items ≡ parts.items → AreReceived T U q (views items) (views made.items)
+      → items ≡ parts.items → AreElementsReceived T U q (views items) (views made.items)
       → IsReceived T U p (view v) (view (Many made))
   list_received parts made e f r =
       subst (IsReceived T U p (view _)) (sym (view-Many made))

@@ -24,9 +24,9 @@ use Rattle.gob_match.specs.Faults.{IsMatchFault}
 use Rattle.gob_match.specs.Machine.Exploring.{EndsAt}
 use Rattle.gob_match.specs.declared.reason.ClashReason.{ClashReason}
 use Rattle.gob_match.specs.declared.step.Step.{Step}
-use Rattle.gob_match.specs.Clashing.{HasClashingShapes, Leads, here, onward, IsLeastClash}
+use Rattle.gob_match.specs.Clashing.{HasClashingShapes, LeadsBySteps, here, onward, IsLeastClash}
 use Rattle.gob_match.specs.Machine.Search.{Entry, came, IsPathTo, at_start, from, HasPath, IsAt, AddsPairs}
-use Rattle.gob_match.specs.Matching.{HasMatchingShapes, Names, Match}
+use Rattle.gob_match.specs.Matching.{HasMatchingShapes, NamesByStep, Match}
 use Rattle.gob_match.specs.Pairs.{of_types, NamesPair, element_of_arrays, element_of_slices, key_of_maps}
 use Rattle.gob_match.specs.Pairs.{element_of_maps, field_of_structs}
 use Rattle.gob_match.proofs.ClashLaws.{match_or_clash_at}
@@ -110,7 +110,7 @@ pub record IsReadyPair (T U : Table) (p : TypePair) : Type 0 where
   pub stream : IsReady T p.stream
   pub wanted : IsReady U p.wanted
 
-pub named_ready : {T U : Table} {p q : TypePair} {s : Step} → IsReadyPair T U p → Names T U p s q → IsReadyPair T U q
+pub named_ready : {T U : Table} {p q : TypePair} {s : Step} → IsReadyPair T U p → NamesByStep T U p s q → IsReadyPair T U q
 named_ready r n = record {
   stream = growth.names_ready r.stream n.shapes.stream (stream_named n.named);
   wanted =
@@ -122,7 +122,7 @@ named_ready r n = record {
 -- the pair's names are there, no more than one step further on
 pub record NamesAreNear (T U : Table) (es : List Entry) (i : ℕ) (p : TypePair) : Type 0 where
   pub match : HasMatchingShapes T U p
-  pub named : (s : Step) (q : TypePair) → Names T U p s q → (j : ℕ) × IsAt es j q
+  pub named : (s : Step) (q : TypePair) → NamesByStep T U p s q → (j : ℕ) × IsAt es j q
       × ((x y : List Step) → IsPathTo es i x → IsPathTo es j y → length y ≤ length x + 1)
 
 -- the pair was added from another, which has matching shapes and names it
@@ -130,7 +130,7 @@ pub record WasNamed (T U : Table) (es : List Entry) (b : ℕ) (s : Step) (q : Ty
   pub pair : TypePair
   pub at : IsAt es b pair
   pub match : HasMatchingShapes T U pair
-  pub named : Names T U pair s q
+  pub named : NamesByStep T U pair s q
 
 -- the first pairs were explored
 pub record Searched (T U : Table) (start : TypePair) (es : List Entry) (next : ℕ) : Type 0 where
@@ -186,7 +186,7 @@ searched_start {T = T} {U = U} p r = record {
 
 -- the pair at the place was explored, and what it names was added
 pub searched_on : {T U : Table} {start p : TypePair} {es new : List Entry} {next : ℕ} → Searched T U start es next
-    → IsAt es next p → HasMatchingShapes T U p → AddsPairs es new next (Names T U p)
+    → IsAt es next p → HasMatchingShapes T U p → AddsPairs es new next (NamesByStep T U p)
     → Searched T U start new (next + 1)
 searched_on {T = T} {U = U} {start = start} {p = p} {es = es} {new = new} {next = next} r at match added =
     subst (λ zs. Searched T U start zs (next + 1)) (sym added.grown)
@@ -209,7 +209,7 @@ searched_on {T = T} {U = U} {start = start} {p = p} {es = es} {new = new} {next 
 
     -- what stands behind es
     entry_past : (k : ℕ) (e : Entry) → length es ≤ k → slice_get (es ++ more) k ≡ Some e → (s : Step) × (q : TypePair)
-        × (e ≡ (q, came next s)) × Names T U p s q
+        × (e ≡ (q, came next s)) × NamesByStep T U p s q
     entry_past k e past there = added.only (k - length es) e
         (sym (slice_get-append_right es more k (k - length es) (omega (arith, past))) ∙ there)
 
@@ -250,7 +250,7 @@ searched_on {T = T} {U = U} {start = start} {p = p} {es = es} {new = new} {next 
               pair = p;
               at = subst (λ n. IsAt (es ++ more) n p) b_is (kept_at more at);
               match = match;
-              named = subst (λ t. Names T U p t q) s_is (subst (Names T U p w.0) q_is w.3);
+              named = subst (λ t. NamesByStep T U p t q) s_is (subst (NamesByStep T U p w.0) q_is w.3);
             }
 
     paths : (k : ℕ) → k < length (es ++ more) → HasPath (es ++ more) k
@@ -375,26 +375,26 @@ searched_match {T = T} {U = U} {es = es} {next = next} r whole = record {
     in_keys k q at = contains_read (keys_of es) k q (key_at es k (q, at.origin) at.there)
 
 -- one more step at the end
-leads_further : {T U : Table} {p q r : TypePair} {path : List Step} {s : Step} → Leads T U path p q
-    → HasMatchingShapes T U q → Names T U q s r → Leads T U (path ++ s ∷ []) p r
+leads_further : {T U : Table} {p q r : TypePair} {path : List Step} {s : Step} → LeadsBySteps T U path p q
+    → HasMatchingShapes T U q → NamesByStep T U q s r → LeadsBySteps T U (path ++ s ∷ []) p r
 leads_further here m n = onward m n here
 leads_further (onward g h l) m n = onward g h (leads_further l m n)
 
 leads_to : {T U : Table} {start : TypePair} {es : List Entry} {next : ℕ} → Searched T U start es next
-    → {q : TypePair} {k : ℕ} {path : List Step} → IsPathTo es k path → IsAt es k q → Leads T U path start q
+    → {q : TypePair} {k : ℕ} {path : List Step} → IsPathTo es k path → IsAt es k q → LeadsBySteps T U path start q
 leads_to {T = T} {U = U} {start = start} r {q = q} (at_start {p = p} e) at =
     let is : start ≡ q = sym (r.first 0 p e) ∙ ap (λ (x : Entry). x.0) (some_injective (sym e ∙ at.there)) in
-    subst (Leads T U [] start) is here
+    subst (LeadsBySteps T U [] start) is here
 leads_to {T = T} {U = U} {start = start} r {q = q}
     (from {place = k} {before = b} {p = p} {s = s} {path = path} e below h) at =
     let w = r.later k b s p e in
     let is : p ≡ q = ap (λ (x : Entry). x.0) (some_injective (sym e ∙ at.there)) in
-    subst (Leads T U (path ++ s ∷ []) start) is (leads_further (leads_to r h w.at) w.match w.named)
+    subst (LeadsBySteps T U (path ++ s ∷ []) start) is (leads_further (leads_to r h w.at) w.match w.named)
 
 -- no clash is nearer than the pair that the search comes to
 nearest : {T U : Table} {start : TypePair} {es : List Entry} {next : ℕ} {x : List Step} {reason : ClashReason}
     → Searched T U start es next → IsPathTo es next x → {p q : TypePair} {i : ℕ} {y more : List Step}
-    → IsAt es i p → IsPathTo es i y → Leads T U more p q → HasClashingShapes T U q reason
+    → IsAt es i p → IsPathTo es i y → LeadsBySteps T U more p q → HasClashingShapes T U q reason
     → length x ≤ length y + length more
 nearest {next = next} {x = x} r g {p = p} {i = i} {y = y} at h here clash =
     elim (below_or_past i next) as (λ _. length x ≤ length y + 0) [

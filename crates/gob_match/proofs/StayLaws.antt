@@ -13,8 +13,8 @@ use Rattle.gob_value.proofs.PublicLaws.{spells_on}
 use Rattle.gob_match.specs.declared.pair.TypePair.{TypePair}
 use Rattle.gob_match.specs.declared.reason.ClashReason.{ClashReason}
 use Rattle.gob_match.specs.declared.step.Step.{Step}
-use Rattle.gob_match.specs.Matching.{HasShapes, HasMatchingShapes, Names, Match}
-use Rattle.gob_match.specs.Clashing.{Leads, here, onward, ClashAt, IsLeastClash}
+use Rattle.gob_match.specs.Matching.{HasShapes, HasMatchingShapes, NamesByStep, Match}
+use Rattle.gob_match.specs.Clashing.{LeadsBySteps, here, onward, ClashAt, IsLeastClash}
 use Rattle.gob_match.specs.Received.{Receives, of_types as of_shapes, ReceivesAs, of_basics, of_opaques, of_arrays}
 use Rattle.gob_match.specs.Received.{of_slices, of_maps, of_structs, ReceivesEach, no_element, element, ReceivesPairs}
 use Rattle.gob_match.specs.Received.{no_entry, entry, ReceivesFields, no_more, absent, received}
@@ -26,7 +26,7 @@ use Rattle.gob_match.proofs.HaveLaws.{have}
 
 -- the steps lead there, to a pair of ready types
 record LeadsReady (T U : Table) (path : List Step) (p q : TypePair) : Type 0 where
-  leads : Leads T U path p q
+  leads : LeadsBySteps T U path p q
   ready : IsReadyPair T U q
 
 module _ {T V U : Table} (keeps : Keeps T V) where
@@ -37,10 +37,10 @@ module _ {T V U : Table} (keeps : Keeps T V) where
   matching_on : {p : TypePair} → HasMatchingShapes T U p → HasMatchingShapes V U p
   matching_on h = record { stream = h.stream; wanted = h.wanted; shapes = shapes_on h.shapes; match = h.match }
 
-  names_on : {p q : TypePair} {s : Step} → Names T U p s q → Names V U p s q
+  names_on : {p q : TypePair} {s : Step} → NamesByStep T U p s q → NamesByStep V U p s q
   names_on h = record { stream = h.stream; wanted = h.wanted; shapes = shapes_on h.shapes; named = h.named }
 
-  leads_on : {path : List Step} {p q : TypePair} → Leads T U path p q → Leads V U path p q
+  leads_on : {path : List Step} {p q : TypePair} → LeadsBySteps T U path p q → LeadsBySteps V U path p q
   leads_on here = here
   leads_on (onward m n l) = onward (matching_on m) (names_on n) (leads_on l)
 
@@ -97,7 +97,7 @@ module _ {T V U : Table} (keeps : Keeps T V) where
         h.match;
   }
 
-  names_back : {p q : TypePair} {s : Step} → IsReadyPair T U p → Names V U p s q → Names T U p s q
+  names_back : {p q : TypePair} {s : Step} → IsReadyPair T U p → NamesByStep V U p s q → NamesByStep T U p s q
   names_back ready h = record {
     stream = h.stream;
     wanted = h.wanted;
@@ -106,7 +106,7 @@ module _ {T V U : Table} (keeps : Keeps T V) where
         h.named;
   }
 
-  leads_back : {path : List Step} {p q : TypePair} → IsReadyPair T U p → Leads V U path p q → LeadsReady T U path p q
+  leads_back : {path : List Step} {p q : TypePair} → IsReadyPair T U p → LeadsBySteps V U path p q → LeadsReady T U path p q
   leads_back ready here = record { leads = here; ready = ready }
   leads_back ready (onward m n l) =
       let named = names_back ready n in

@@ -7,7 +7,7 @@ ghost use Rattle.gob_value.specs.Written.{HasParts};
 ghost use Rattle.gob_match.specs.Matched.{IsSound, stream_of, stream_type, wanted_of, wanted_type};
 ghost use Rattle.gob_match.specs.Received.{Receives, IsPresent, IsAbsent};
 ghost use Rattle.gob_match.specs.Machine.Receiving.{CanReceive, CanReceiveEach, CanReceivePairs, CanReceiveFields};
-ghost use Rattle.gob_match.specs.Machine.Receiving.{Gives, GivesEach, GivesPairs, GivesFields, HasConversion, IsPairOf};
+ghost use Rattle.gob_match.specs.Machine.Receiving.{GivesTree, GivesEach, GivesPairs, GivesCommonFields, HasConversion, IsPairOf};
 ghost use Rattle.gob_match.specs.Machine.Receiving.{HaveRisingNumbers};
 
 use crate::common::CommonField;
@@ -54,7 +54,7 @@ fn receive_value<S: Shapes, T: Shapes>(
     value: &Value,
 ) -> Result<Value, Memory>
     requires { CanReceive S.table T.table matched.now pair (view value.now) }
-    ensures { IfOk result (λ w. Gives S.table T.table matched.now pair (view value.now) (view w)) }
+    ensures { IfOk result (λ w. GivesTree S.table T.table matched.now pair (view value.now) (view w)) }
 {
     match conversion_of(matched, pair) {
         Conversion::Unchanged => copied_leaf(alloc, value),
@@ -124,7 +124,7 @@ fn receive_fields<S: Shapes, T: Shapes>(
 ) -> Result<Vec<(u64, Value)>, Memory>
     requires { CanReceiveFields S.table T.table matched.now common.now (field_views parts.now) }
     ensures { IfOk result (λ ws.
-        GivesFields S.table T.table matched.now common.now (field_views parts.now) (field_views ws.items)) }
+        GivesCommonFields S.table T.table matched.now common.now (field_views parts.now) (field_views ws.items)) }
 {
     let mut received = Vec::new(alloc);
     for field in common {

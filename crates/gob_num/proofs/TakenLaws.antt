@@ -5,7 +5,7 @@ use Rattle.std.specs.Int.{from_be_bytes}
 use Rattle.std.proofs.lemmas.Bool.{cases_lt}
 use Rattle.std.proofs.lemmas.List.{take-append-le, take-append-drop, length-take-le}
 use Rattle.gob_num.specs.Unsigned.{big_endian, AreBytes, IsUnsigned, short, IsUnsignedFront, BeginsNumber, IsNotMinimal}
-use Rattle.gob_num.specs.Taken.{Takes}
+use Rattle.gob_num.specs.Taken.{TakesUnsigned}
 use Rattle.gob_num.specs.declared.unsigned.Taken.{Taken}
 use Rattle.gob_num.specs.declared.unsigned.Taken.TheVariants.{Whole, More, BadHead, NotMinimal}
 use Rattle.gob_num.proofs.DigitLaws.{bytes_front, bytes_each, big_endian-take, from_be_bytes-big_endian, bits_of_digits}
@@ -16,11 +16,11 @@ pub empty_taken : (piece : List ℕ) → length piece ≡ 0 → IsUnsignedFront 
 empty_taken [] e = begins_front tt
 empty_taken (b ∷ piece) e = absurd (omega arith)
 
-pub short_taken : (piece rest : List ℕ) (h n : ℕ) → piece ≡ h ∷ rest → h < 128 → n ≡ h → Takes piece (Whole n 1)
+pub short_taken : (piece rest : List ℕ) (h n : ℕ) → piece ≡ h ∷ rest → h < 128 → n ≡ h → TakesUnsigned piece (Whole n 1)
 short_taken piece rest h n e l s = rw (e, s) (omega arith, short l)
 
 -- ---- all of the digits are there
-digits_spell : (h d k : ℕ) (ds : List ℕ) → 248 ≤ h → h + suc k ≡ 256 → k ≤ length ds → AreBytes (d ∷ ds)
+pub digits_spell : (h d k : ℕ) (ds : List ℕ) → 248 ≤ h → h + suc k ≡ 256 → k ≤ length ds → AreBytes (d ∷ ds)
     → ¬ IsNotMinimal (h ∷ d ∷ []) → IsUnsigned (big_endian (d ∷ take k ds)) (h ∷ d ∷ take k ds)
 digits_spell h d k ds low e l b p =
     let size : length (take k ds) ≡ k = length-take-le k ds l in
@@ -47,7 +47,7 @@ digits_spell h d k ds low e l b p =
 
 pub digits_taken : (h count c u n : ℕ) (ds : List ℕ) → length ds ≡ 8 → ((i : ℕ) → get_or ds i 0 < 256) → 248 ≤ h
     → h < 256 → h + count ≡ 256 → c ≡ count → u ≡ count → ¬ IsNotMinimal ((256 - count) ∷ get_or ds 0 0 ∷ [])
-    → n ≡ from_be_bytes w64 ds → Takes (h ∷ ds) (Whole (n / 2 ^ (64 - 8 * c)) (u + 1))
+    → n ≡ from_be_bytes w64 ds → TakesUnsigned (h ∷ ds) (Whole (n / 2 ^ (64 - 8 * c)) (u + 1))
 digits_taken h count c u n [] l b low high t e f p v = absurd (omega arith)
 digits_taken h count zero u n (d ∷ ds) l b low high t e f p v = absurd (omega arith)
 digits_taken h count (suc k) u n (d ∷ ds) l b low high t e f p v =
@@ -66,7 +66,7 @@ digits_taken h count (suc k) u n (d ∷ ds) l b low high t e f p v =
     )
 
 -- nine bytes show what any more of them would
-pub taken_before : (a b : List ℕ) (t : Taken) → 9 ≤ length a → Takes a t → Takes (a ++ b) t
+pub taken_before : (a b : List ℕ) (t : Taken) → 9 ≤ length a → TakesUnsigned a t → TakesUnsigned (a ++ b) t
 taken_before a b (Whole n used) l s = (omega (arith, length-append a b), rw (take-append-le used a b s.0) s.1)
 taken_before a b More l s = absurd (too_long a l (front_begins s))
   where
@@ -81,9 +81,9 @@ taken_before (h ∷ []) b NotMinimal l s = absurd s
 taken_before (h ∷ d ∷ a) b NotMinimal l s = s
 
 pub chunk_taken : (piece rest eight : List ℕ) (h : ℕ) (t : Taken) → piece ≡ h ∷ rest → 8 ≤ length rest
-    → eight ≡ take 8 rest → Takes (h ∷ eight) t → Takes piece t
+    → eight ≡ take 8 rest → TakesUnsigned (h ∷ eight) t → TakesUnsigned piece t
 chunk_taken piece rest eight h t e l s p =
     let size : length (take 8 rest) ≡ 8 = length-take-le 8 rest l in
-    let q : Takes (h ∷ take 8 rest ++ drop 8 rest) t = taken_before (h ∷ take 8 rest) (drop 8 rest) t (omega arith)
-    (subst (λ ds. Takes (h ∷ ds) t) s p) in
-    subst (λ ds. Takes ds t) (sym (e ∙ ap (λ ds. h ∷ ds) (sym (take-append-drop 8 rest)))) q
+    let q : TakesUnsigned (h ∷ take 8 rest ++ drop 8 rest) t = taken_before (h ∷ take 8 rest) (drop 8 rest) t (omega arith)
+    (subst (λ ds. TakesUnsigned (h ∷ ds) t) s p) in
+    subst (λ ds. TakesUnsigned ds t) (sym (e ∙ ap (λ ds. h ∷ ds) (sym (take-append-drop 8 rest)))) q

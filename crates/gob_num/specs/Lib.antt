@@ -6,3 +6,4 @@ pub mod Laws
 pub mod Pushed
 pub mod Step
 pub mod Taken
+pub mod Place

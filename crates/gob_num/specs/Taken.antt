@@ -12,8 +12,8 @@ TakesOn old piece BadHead = IsBadHead (old ++ piece)
 TakesOn old piece NotMinimal = IsNotMinimal (old ++ piece)
 
 -- the same where none came before
-abbrev pub Takes : List ℕ → Taken → Type 0
-Takes piece taken = TakesOn [] piece taken
+abbrev pub TakesUnsigned : List ℕ → Taken → Type 0
+TakesUnsigned piece taken = TakesOn [] piece taken
 
 -- the bytes of the number that is under way after the answer: none after any but `More`
 abbrev pub left : Taken → List ℕ → List ℕ

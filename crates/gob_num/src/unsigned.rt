@@ -3,7 +3,7 @@ ghost use Rattle.std.specs.Prelude.{◌≡◌, ◌+◌, ◌-◌, ◌^◌, ◌<�
 ghost use Rattle.std.specs.Prelude.{IsTrue, OnOk, OnErr, vec_len, vec_capacity};
 ghost use Rattle.gob_num.specs.Unsigned.{IsUnsigned, IsNotMinimal};
 ghost use Rattle.gob_num.specs.Spelled.{Appends};
-ghost use Rattle.gob_num.specs.Taken.{Takes};
+ghost use Rattle.gob_num.specs.Taken.{TakesUnsigned};
 
 use crate::memory::Memory;
 use crate::number::Number;
@@ -49,7 +49,7 @@ pub fn write_uint(_alloc: Global, n: u64, out: &mut Vec<u8>) -> Result<(), Memor
 /// It is faster than [`Number`], and judges as it does. A number of which the piece has a front alone is left
 /// to [`Number`], which keeps that front.
 pub fn take_uint(piece: &[u8]) -> Taken
-    ensures { Takes piece.now result }
+    ensures { TakesUnsigned piece.now result }
 {
     let Some((head, rest)) = piece.split_first() else {
         return Taken::More;
@@ -67,9 +67,10 @@ pub fn take_uint(piece: &[u8]) -> Taken
 }
 
 // Takes a number of more than one byte, where eight bytes and so all of its digits are there.
-fn take_digits(head: u8, digits: &[u8; 8]) -> Taken
+#[inline(always)]
+pub(crate) fn take_digits(head: u8, digits: &[u8; 8]) -> Taken
     requires { 128 ≤ head }
-    ensures { Takes (head ∷ digits.now) result }
+    ensures { TakesUnsigned (head ∷ digits.now) result }
 {
     if head < LEAST_HEAD {
         return Taken::BadHead;

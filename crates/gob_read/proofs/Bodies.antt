@@ -12,8 +12,8 @@ use Rattle.gob_read.specs.Telling.{Telling, Tells}
 use Rattle.gob_read.specs.Building.{IsComplete}
 use Rattle.gob_read.specs.Kinds.{IsStructType, BeginsAs, as_struct, as_tagged, number_stays, raw_stays}
 use Rattle.gob_read.specs.Within.{At, at_tag, at_part, at_once}
-use Rattle.gob_read.specs.Running.{IsReached, IsReachedSomewhere, StopsFor, GoesOn, Finishes, RefusesPiece}
-use Rattle.gob_read.specs.Reader.{HasTaken, nothing_taken, taken_so_far, IsAfter, Stands, IsUsable, StandsSomewhere, TakesPiece, EndsBody, RefusesBody, Stops}
+use Rattle.gob_read.specs.Running.{IsReached, IsReachedSomewhere, StopsFor, RunGoesOn, RunFinishes, RefusesPiece}
+use Rattle.gob_read.specs.Reader.{HasTaken, nothing_taken, taken_so_far, IsAfter, ReaderStands, IsUsableReader, StandsSomewhere, ReaderTakesPiece, EndsBody, ReaderRefusesBody, Stops}
 use Rattle.gob_read.specs.Honest.{RefusesHonestly}
 use Rattle.gob_read.specs.declared.frame.Frame.{Frame}
 use Rattle.gob_read.specs.declared.awaited.Awaited.{Awaited}
@@ -92,8 +92,8 @@ begun_reached {T = T} {t = t} {X = X} {O = O} {stands = stands} {run = run} {new
     subst (λ (r : Run X O). IsReached T t stands r z) (sym (same_run new run state b.number b.start b.taken b.length_is b.depth_is)) h
 
 -- a reader that hasn't ended
-pub usable_somewhere : {T : Table} {X O : Type 0} {stands : X → List Telling → Type 0} {run : Run X O} {o : Option (Run X O)} → Some run ≡ o → IsUsable T stands o → StandsSomewhere T stands run
-usable_somewhere {T = T} {stands = stands} e u = subst (IsUsable T stands) (sym e) u
+pub usable_somewhere : {T : Table} {X O : Type 0} {stands : X → List Telling → Type 0} {run : Run X O} {o : Option (Run X O)} → Some run ≡ o → IsUsableReader T stands o → StandsSomewhere T stands run
+usable_somewhere {T = T} {stands = stands} e u = subst (IsUsableReader T stands) (sym e) u
 
 pub reached_somewhere : {T : Table} {X O : Type 0} {stands : X → List Telling → Type 0} {run new : Run X O} → HasBegun T run new → StandsSomewhere T stands run → IsReachedSomewhere T stands new
 reached_somewhere b s = record { type = s.type; bytes = s.bytes; reached = begun_reached b s.after.so_far }
@@ -140,11 +140,11 @@ pub reads_on : {T : Table} {X O : Type 0} (run : Run X O) (state : State X O) {o
     → count ≡ min (run.length - run.taken) (length piece) → ReadsOn T run (record { state = state; number = run.number; start = run.start; taken = run.taken; length = run.length; depth = run.depth }) o piece count
 reads_on run state e a b f n = record { was = e; count_is = n; begun = record { begins = a; builder = b; stack = f; number = refl; start = refl; taken = refl; length_is = refl; depth_is = refl } }
 
-after_is : {T : Table} {t : TypeId} {limit announced : ℕ} {X O : Type 0} {stands : X → List Telling → Type 0} {run : Run X O} {o : Option (Run X O)} {z : List ℕ} → Some run ≡ o → Stands T t limit announced stands o z → IsAfter T t limit announced stands run z
-after_is {T = T} {t = t} {limit = limit} {announced = announced} {stands = stands} {z = z} e h = subst (λ o. Stands T t limit announced stands o z) (sym e) h
+after_is : {T : Table} {t : TypeId} {limit announced : ℕ} {X O : Type 0} {stands : X → List Telling → Type 0} {run : Run X O} {o : Option (Run X O)} {z : List ℕ} → Some run ≡ o → ReaderStands T t limit announced stands o z → IsAfter T t limit announced stands run z
+after_is {T = T} {t = t} {limit = limit} {announced = announced} {stands = stands} {z = z} e h = subst (λ o. ReaderStands T t limit announced stands o z) (sym e) h
 
-pub push_more : {T : Table} {t : TypeId} {limit announced : ℕ} {X O : Type 0} {stands : X → List Telling → Type 0} {run mid new : Run X O} {o : Option (Run X O)} {z piece : List ℕ} {count : ℕ} → ReadsOn T run mid o piece count → GoesOn T stands mid new (take count piece)
-    → new.length ≡ mid.length → new.depth ≡ mid.depth → Stands T t limit announced stands o z → TakesPiece T t limit announced stands (Some new) z piece
+pub push_more : {T : Table} {t : TypeId} {limit announced : ℕ} {X O : Type 0} {stands : X → List Telling → Type 0} {run mid new : Run X O} {o : Option (Run X O)} {z piece : List ℕ} {count : ℕ} → ReadsOn T run mid o piece count → RunGoesOn T stands mid new (take count piece)
+    → new.length ≡ mid.length → new.depth ≡ mid.depth → ReaderStands T t limit announced stands o z → ReaderTakesPiece T t limit announced stands (Some new) z piece
 push_more {T = T} {t = t} {limit = limit} {announced = announced} {stands = stands} {run = run} {mid = mid} {new = new} {z = z} {piece = piece} {count = count} p g l d s =
     let a : IsAfter T t limit announced stands run z = after_is p.was s in
     let h = begun_reached p.begun a.so_far in
@@ -163,11 +163,11 @@ push_more {T = T} {t = t} {limit = limit} {announced = announced} {stands = stan
       stood = there;
     }
 
-pub push_complete : {T : Table} {X O : Type 0} {stands : X → List Telling → Type 0} {mid new : Run X O} {piece : List ℕ} {used : ℕ} {builder : X} → IsReachedSomewhere T stands mid → Finishes T stands mid new piece used → builder ≡ new.state.builder → IsComplete stands builder
+pub push_complete : {T : Table} {X O : Type 0} {stands : X → List Telling → Type 0} {mid new : Run X O} {piece : List ℕ} {used : ℕ} {builder : X} → IsReachedSomewhere T stands mid → RunFinishes T stands mid new piece used → builder ≡ new.state.builder → IsComplete stands builder
 push_complete {stands = stands} s f one = let r = (f.finished s.type s.bytes s.reached).read in record { told = r.us; value = r.value; stood = subst (λ b. stands b r.us) (sym one) r.told; tells = r.tells }
 
 pub push_done : {T : Table} {t : TypeId} (limit : ℕ) {announced : ℕ} {X O : Type 0} {stands : X → List Telling → Type 0} {means : O → Tree → Type 0} {run mid new : Run X O} {o ended : Option (Run X O)} {z piece : List ℕ} {count used : ℕ} {builder : X} {out : O} → ReadsOn T run mid o piece count
-    → Finishes T stands mid new (take count piece) used → new.depth ≡ mid.depth → builder ≡ new.state.builder → ((us : List Telling) (v : Tree) → stands builder us → Tells v us → means out v) → ended ≡ None → Stands T t limit announced stands o z → EndsBody T t limit announced means ended z piece out used
+    → RunFinishes T stands mid new (take count piece) used → new.depth ≡ mid.depth → builder ≡ new.state.builder → ((us : List Telling) (v : Tree) → stands builder us → Tells v us → means out v) → ended ≡ None → ReaderStands T t limit announced stands o z → EndsBody T t limit announced means ended z piece out used
 push_done {T = T} {t = t} limit {announced = announced} {stands = stands} {run = run} {new = new} {z = z} {piece = piece} {count = count} {used = used} p f d same m e s =
     let a : IsAfter T t limit announced stands run z = after_is p.was s in
     let h = begun_reached p.begun a.so_far in
@@ -187,7 +187,7 @@ push_done {T = T} {t = t} limit {announced = announced} {stands = stands} {run =
     }
 
 pub push_stops : (T : Table) {X O : Type 0} (stands : X → List Telling → Type 0) (run mid : Run X O) (o : Option (Run X O)) (piece : List ℕ) (count : ℕ) (stop : Stop) → ReadsOn T run mid o piece count
-    → StopsFor (λ refusal. RefusesPiece T stands mid (take count piece) refusal) stop → Stops o (λ refusal. RefusesBody T stands o piece refusal) stop
+    → StopsFor (λ refusal. RefusesPiece T stands mid (take count piece) refusal) stop → Stops o (λ refusal. ReaderRefusesBody T stands o piece refusal) stop
 push_stops T stands run mid o piece count (stops.Refused q s r) p k = record {
   each = λ t limit announced z h.
       let a : IsAfter T t limit announced stands run z = after_is p.was h in
@@ -202,13 +202,13 @@ ready_taken : {T : Table} {t : TypeId} {X O : Type 0} {stands : X → List Telli
 ready_taken (nothing_taken n) = n.ready
 ready_taken (taken_so_far r) = r.ready
 
-stands_ready : {T : Table} {t : TypeId} (limit announced : ℕ) {X O : Type 0} (stands : X → List Telling → Type 0) (run : Option (Run X O)) (z : List ℕ) → Stands T t limit announced stands run z → IsReady T t
+stands_ready : {T : Table} {t : TypeId} (limit announced : ℕ) {X O : Type 0} (stands : X → List Telling → Type 0) (run : Option (Run X O)) (z : List ℕ) → ReaderStands T t limit announced stands run z → IsReady T t
 stands_ready limit announced stands None z h = absurd h
 stands_ready limit announced stands (Some run) z h = ready_taken h.so_far
 
 -- what a push refuses is refused honestly
 pub stops_honestly : (T : Table) {X O : Type 0} (stands : X → List Telling → Type 0) (o : Option (Run X O)) (piece : List ℕ) (stop : Stop)
-    → Stops o (λ refusal. RefusesBody T stands o piece refusal) stop → Stops o (λ refusal. RefusesHonestly T stands o piece refusal) stop
+    → Stops o (λ refusal. ReaderRefusesBody T stands o piece refusal) stop → Stops o (λ refusal. RefusesHonestly T stands o piece refusal) stop
 stops_honestly T stands o piece (stops.Refused q s r) k = record { each = λ t limit announced z l h. first_honest l (stands_ready limit announced stands o z h) (k.each t limit announced z h) }
 stops_honestly T stands o piece stops.Memory k = k
 stops_honestly T stands o piece stops.Failed k = k

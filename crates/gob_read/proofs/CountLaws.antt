@@ -6,7 +6,7 @@ use Rattle.gob_read.specs.declared.telling.GroupKind.{GroupKind}
 use Rattle.gob_read.specs.declared.telling.GroupKind.TheVariants as group
 use Rattle.gob_value.specs.Tree.{Tree, Trees, Pairs, Fields}
 use Rattle.gob_read.specs.Telling.{Telling, number, raw_start, raw_more, enter, field, leave, TellsRaw, no_bytes, more_bytes, Tells, tell_bool, tell_not_negative, tell_negative, tell_uint, tell_float, tell_complex, tell_nil, tell_bytes, tell_text, tell_opaque, tell_many, tell_pairs, tell_fields, TellsEach, tell_none, tell_each, TellsPairs, tell_no_pair, tell_pair, TellsFields, tell_no_field, tell_field}
-use Rattle.gob_read.specs.Building.{HasRoom}
+use Rattle.gob_read.specs.Building.{HasRoomFor}
 use Rattle.gob_read.specs.Weight.{part_count, parts_of_all, parts_of_pairs, parts_of_fields, raw_count, raw_of_all, raw_of_pairs, raw_of_fields, weight, parts_told, raw_told}
 
 pub parts_told-append : (us ws : List Telling) → parts_told (us ++ ws) ≡ parts_told us + parts_told ws
@@ -92,7 +92,7 @@ pub tells_weight : {v : Tree} {us : List Telling} → Tells v us → parts_told 
 tells_weight t = let d = tells_counts t in omega (arith, d.parts, d.raw)
 
 -- a front has room where the whole list has
-pub front_room : (us ws : List Telling) → HasRoom (us ++ ws) → HasRoom us
+pub front_room : (us ws : List Telling) → HasRoomFor (us ++ ws) → HasRoomFor us
 front_room us ws r = record { room = omega (arith, r.room, parts_told-append us ws, raw_told-append us ws) }
 
 pub ruleset counting = (parts_told-append, raw_told-append)

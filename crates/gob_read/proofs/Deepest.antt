@@ -13,7 +13,7 @@ use Rattle.gob_types.specs.Table.{Table, shape_of}
 use Rattle.gob_value.specs.Tree.{Tree, Trees, Pairs, Fields, tree_count, pair_count, depth, trees_depth, pairs_depth, fields_depth}
 use Rattle.gob_value.specs.Spelling.{Spells, of_type, SpellsAs, of_bool, of_int, of_uint, of_float, of_complex, of_nil, of_bytes, of_text, of_opaque, of_slice, of_array, of_map, of_struct, SpellsEach, no_element, element, SpellsPairs, no_entry, entry, SpellsFields, end_of_fields, next_field}
 use Rattle.gob_value.specs.Top.{SpellsTop, at_once, tagged}
-use Rattle.gob_read.specs.Awaited.{Allowed, Awaited, a_number, first_of}
+use Rattle.gob_read.specs.Awaited.{Allowed, Awaited, a_number, first_allowed}
 use Rattle.gob_read.specs.Awaits.{FieldsRun, no_fields, field_then, Enters, slice_element, array_element, next_key, next_value, next_field as enters_field, first, Awaits, in_itself, in_part, in_struct, behind_tag}
 use Rattle.gob_read.specs.Stood.{IsShallow}
 use Rattle.gob_read.proofs.Fronts.{append_nil, joined_three}
@@ -55,7 +55,7 @@ spelled_some : {T : Table} {k : Kind} {v : Tree} {b : List ℕ} → SpellsAs T k
 spelled_some {b = b} s = met_length (first_met b [] s (sym (append_nil b)))
 
 at_first : {T : Table} {t : TypeId} {s : Shape} {v : Tree} {b : List ℕ} → shape_of T t ≡ Some s → SpellsAs T s.kind v b → DeepPlace T t 1 b
-at_first {s = s} {b = b} e p = record { before = []; rest = b; awaited = a_number (first_of s.kind); awaits = in_itself e first; whole = refl; some = spelled_some p }
+at_first {s = s} {b = b} e p = record { before = []; rest = b; awaited = a_number (first_allowed s.kind); awaits = in_itself e first; whole = refl; some = spelled_some p }
 
 deeper : {T : Table} {t : TypeId} {s : Shape} {n : ℕ} {v : Tree} {b : List ℕ} → shape_of T t ≡ Some s → SpellsAs T s.kind v b → DeepIn T s.kind n b → DeepPlace T t (n + 1) b
 deeper {T = T} {t = t} {b = b} e p (at_start z) = subst (λ n. DeepPlace T t n b) (omega arith) (at_first e p)

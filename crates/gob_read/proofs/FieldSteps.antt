@@ -21,7 +21,7 @@ use Rattle.gob_read.specs.WellFormed.{a_number_of_field, end_of_struct}
 use Rattle.gob_read.specs.Building.{CanTell, IsTold}
 use Rattle.gob_read.specs.Kinds.{HasKind}
 use Rattle.gob_read.specs.Within.{Within, OpenStruct, open_struct, At, at_part, at_delta, Completed}
-use Rattle.gob_read.specs.Steps.{IsBegun, IsInStruct, IsPlaced, IsEnded, CanEnd, Ends, CanBegin, CanBeginStruct, BeginsStruct, CanGoOn, GoesOn, LeadsNowhere, CanTake, Takes, Refuses, IsNoFirst}
+use Rattle.gob_read.specs.Steps.{IsBegun, IsInStruct, IsPlaced, IsEnded, CanEnd, StepEnds, CanBegin, CanBeginStruct, BeginsStruct, CanGoOn, StepGoesOn, LeadsNowhere, CanTake, StepTakes, StepRefuses, IsNoFirst}
 use Rattle.gob_read.proofs.KindLaws.{same_fields}
 use Rattle.gob_read.proofs.Moves.{fields_whole, field_begins, struct_opens}
 use Rattle.gob_read.proofs.ToldLaws.{open_follows, open_weighs, told, some, can_tell}
@@ -64,7 +64,7 @@ pub struct_can_end : {X O : Type 0} {stands : X → List Telling → Type 0} {st
 struct_can_end e f z r = record { table = r.table; type = r.type; bytes = r.before ++ r.bytes; ended = struct_ended e f z r.table r.type r.before r.bytes r.inside r.spelled; small = r.small }
 
 pub struct_goes_on : {X O : Type 0} {stands : X → List Telling → Type 0} {state mid new : State X O} {u : TypeId} {types : List Field} {next n : ℕ} {whole : Bool} → mid.stack ≡ drop 1 state.stack → IsTold stands state.builder mid.builder leave → n ≡ 0
-    → Ends stands mid new whole → GoesOn stands state new u types next n whole
+    → StepEnds stands mid new whole → StepGoesOn stands state new u types next n whole
 struct_goes_on e f z h = record { each = λ T t p c b n. h.each T t (p ++ c) (struct_ended e f z T t p c b n) }
 
 -- a delta that leads to a field
@@ -104,7 +104,7 @@ pub struct_can_go_on : {X O : Type 0} {stands : X → List Telling → Type 0} {
 struct_can_go_on e f r = record { table = r.table; type = r.type; before = r.before; bytes = r.bytes; inside = struct_inside e f r.table r.type r.before r.begun r.has; spelled = r.spelled; small = r.small }
 
 pub struct_begins : {X O : Type 0} {stands : X → List Telling → Type 0} {state mid new : State X O} {u : TypeId} {types : List Field} {n : ℕ} {whole : Bool} → mid.stack ≡ frame.Fields u 0 ∷ state.stack → IsTold stands state.builder mid.builder (enter group.Fields)
-    → GoesOn stands mid new u types 0 n whole → BeginsStruct stands state new u types n whole
+    → StepGoesOn stands mid new u types 0 n whole → BeginsStruct stands state new u types n whole
 struct_begins e f g = record { each = λ T t p c b h n. g.each T t p c (struct_inside e f T t p b h) n }
 
 pub struct_no_first : {types : List Field} {n : ℕ} {r : Reason} → LeadsNowhere types 0 n r → IsNoFirst (kind.Struct types) n r
@@ -160,11 +160,11 @@ pub delta_can : {T : Table} {i : TypeId} {X O : Type 0} {stands : X → List Tel
 delta_can {T = T} h k r = record { table = T; type = r.type; before = r.before; bytes = r.bytes; inside = (delta_inside r.awaited h k r.placed).0; spelled = r.spelled; small = r.small }
 
 pub delta_takes : {T : Table} {i : TypeId} {X O : Type 0} {stands : X → List Telling → Type 0} {old new : State X O} {n m : ℕ} {types : List Field} {whole : Bool} → old.awaited ≡ Number Delta → slice_get old.stack 0 ≡ Some (frame.Fields i m) → HasKind T i (kind.Struct types)
-    → GoesOn stands old new i types m n whole → Takes T stands old new n whole
+    → StepGoesOn stands old new i types m n whole → StepTakes T stands old new n whole
 delta_takes {T = T} e h k g = record { each = λ t p r c d b n. g.each T t p c (delta_inside e h k b).0 n }
 
 pub delta_refuses : {T : Table} {i : TypeId} {X O : Type 0} {stands : X → List Telling → Type 0} {old : State X O} {n m : ℕ} {types : List Field} {why : Reason} → old.awaited ≡ Number Delta → slice_get old.stack 0 ≡ Some (frame.Fields i m) → HasKind T i (kind.Struct types)
-    → LeadsNowhere types m n why → Refuses T stands old n why
+    → LeadsNowhere types m n why → StepRefuses T stands old n why
 delta_refuses {T = T} {n = n} {m = m} {types = types} e h k l = record {
   each = λ t p r d b.
       let x = delta_inside e h k b in

@@ -31,7 +31,7 @@ use Rattle.gob_read.specs.Frames.{item_of}
 use Rattle.gob_read.specs.Kinds.{HasKind, IsRawKind, is_bytes, is_text, is_opaque, IsList, IsGroup, of_list, of_map as map_group, IsScalar}
 use Rattle.gob_read.specs.Kinds as kinds
 use Rattle.gob_read.specs.Within.{Within, At, at_part, at_second, at_raw, Completed}
-use Rattle.gob_read.specs.Steps.{IsBegun, IsPlaced, IsEnded, CanBegin, Begins, IsNoFirst}
+use Rattle.gob_read.specs.Steps.{IsBegun, IsPlaced, IsEnded, CanBegin, StepBegins, IsNoFirst}
 use Rattle.gob_read.proofs.Fronts.{append_nil}
 use Rattle.gob_read.proofs.KindLaws.{spelled_as}
 use Rattle.gob_read.proofs.Moves.{part_whole, list_spelled, list_begins, map_begins}
@@ -160,7 +160,7 @@ can_end_group {stands = stands} {state = state} {g = g} {f = f} {n = n} {builder
 pub can_begin_as : {X O : Type 0} {stands : X → List Telling → Type 0} {state : State X O} {P Q : Kind → Type 0} {n : ℕ} → ((k : Kind) → P k → Q k) → CanBegin stands state P n → CanBegin stands state Q n
 can_begin_as f r = record { table = r.table; type = r.type; id = r.id; kind = r.kind; before = r.before; bytes = r.bytes; begun = r.begun; has = r.has; holds = f r.kind r.holds; spelled = r.spelled; small = r.small }
 
-pub begins_as : {X O : Type 0} {stands : X → List Telling → Type 0} {old new : State X O} {P Q : Kind → Type 0} {n : ℕ} {whole : Bool} → ((k : Kind) → P k → Q k) → Begins stands old new Q n whole → Begins stands old new P n whole
+pub begins_as : {X O : Type 0} {stands : X → List Telling → Type 0} {old new : State X O} {P Q : Kind → Type 0} {n : ℕ} {whole : Bool} → ((k : Kind) → P k → Q k) → StepBegins stands old new Q n whole → StepBegins stands old new P n whole
 begins_as f b = record { each = λ T t u k p c x h i n. b.each T t u k p c x h (f k i) n }
 
 -- a basic type's part

@@ -5,7 +5,7 @@ use Rattle.std.proofs.lemmas.List.{reverse-append, reverse-reverse, length-rever
 use Rattle.gob_types.specs.declared.id.TypeId.{TypeId}
 use Rattle.gob_read.specs.declared.frame.Frame.{Frame}
 use Rattle.gob_read.specs.declared.frame.Frame.TheVariants as frame
-use Rattle.gob_read.specs.Frames.{IsOver, last_element, last_pair, GoesOn, to_element, to_value, to_key, to_delta}
+use Rattle.gob_read.specs.Frames.{IsOver, last_element, last_pair, FrameGoesOn, to_element, to_value, to_key, to_delta}
 
 -- the last of the frames is set
 pub reverse_set : (fs : List Frame) (last : ℕ) (f : Frame) → last + 1 ≡ length fs → reverse (slice_set fs last f) ≡ f ∷ drop 1 (reverse fs)
@@ -33,16 +33,16 @@ pub over_map : {f : Frame} {k e : TypeId} (left : ℕ) → f ≡ frame.Elem k e 
 over_map zero h z = subst IsOver (sym h) last_pair
 over_map (suc left) h z = absurd (omega arith)
 
-pub list_on : {f : Frame} {e : TypeId} (left : ℕ) → f ≡ frame.Many e left → (left ≡ 0 → ⊥) → GoesOn f (frame.Many e (left - 1))
+pub list_on : {f : Frame} {e : TypeId} (left : ℕ) → f ≡ frame.Many e left → (left ≡ 0 → ⊥) → FrameGoesOn f (frame.Many e (left - 1))
 list_on zero h z = absurd (z refl)
-list_on {f = f} {e = e} (suc left) h z = let one : left ≡ suc left - 1 = omega arith in subst (λ n. GoesOn f (frame.Many e n)) one (subst (λ g. GoesOn g (frame.Many e left)) (sym h) to_element)
+list_on {f = f} {e = e} (suc left) h z = let one : left ≡ suc left - 1 = omega arith in subst (λ n. FrameGoesOn f (frame.Many e n)) one (subst (λ g. FrameGoesOn g (frame.Many e left)) (sym h) to_element)
 
-pub map_on : {f : Frame} {k e : TypeId} (left : ℕ) → f ≡ frame.Elem k e left → (left ≡ 0 → ⊥) → GoesOn f (frame.Key k e (left - 1))
+pub map_on : {f : Frame} {k e : TypeId} (left : ℕ) → f ≡ frame.Elem k e left → (left ≡ 0 → ⊥) → FrameGoesOn f (frame.Key k e (left - 1))
 map_on zero h z = absurd (z refl)
-map_on {f = f} {k = k} {e = e} (suc left) h z = let one : left ≡ suc left - 1 = omega arith in subst (λ n. GoesOn f (frame.Key k e n)) one (subst (λ g. GoesOn g (frame.Key k e left)) (sym h) to_key)
+map_on {f = f} {k = k} {e = e} (suc left) h z = let one : left ≡ suc left - 1 = omega arith in subst (λ n. FrameGoesOn f (frame.Key k e n)) one (subst (λ g. FrameGoesOn g (frame.Key k e left)) (sym h) to_key)
 
-pub key_on : {f : Frame} {k e : TypeId} {left : ℕ} → f ≡ frame.Key k e left → GoesOn f (frame.Elem k e left)
-key_on {k = k} {e = e} {left = left} h = subst (λ f. GoesOn f (frame.Elem k e left)) (sym h) to_value
+pub key_on : {f : Frame} {k e : TypeId} {left : ℕ} → f ≡ frame.Key k e left → FrameGoesOn f (frame.Elem k e left)
+key_on {k = k} {e = e} {left = left} h = subst (λ f. FrameGoesOn f (frame.Elem k e left)) (sym h) to_value
 
-pub fields_on : {f : Frame} {t : TypeId} {next : ℕ} → f ≡ frame.Fields t next → GoesOn f (frame.Fields t next)
-fields_on {t = t} {next = next} h = subst (λ f. GoesOn f (frame.Fields t next)) (sym h) to_delta
+pub fields_on : {f : Frame} {t : TypeId} {next : ℕ} → f ≡ frame.Fields t next → FrameGoesOn f (frame.Fields t next)
+fields_on {t = t} {next = next} h = subst (λ f. FrameGoesOn f (frame.Fields t next)) (sym h) to_delta

@@ -11,7 +11,7 @@ use Rattle.gob_read.specs.Telling.{Telling}
 use Rattle.gob_read.specs.Kinds.{HasKind}
 use Rattle.gob_read.specs.Within.{EachTold, none_told, one_told, PairsTold, no_pair_told, pair_told, FieldsTold, no_field_told, field_told, Within, at_once, behind_tag, in_list, at_key, at_value, in_field, OpenStruct, open_struct, At, at_tag, at_part, at_second, at_delta, at_raw}
 use Rattle.gob_read.specs.Running.{IsReached}
-use Rattle.gob_read.specs.Reader.{HasTaken, nothing_taken, taken_so_far, IsAfter, Stands, IsUsable}
+use Rattle.gob_read.specs.Reader.{HasTaken, nothing_taken, taken_so_far, IsAfter, ReaderStands, IsUsableReader}
 use Rattle.gob_read.specs.declared.frame.Frame.{Frame}
 use Rattle.gob_read.specs.declared.awaited.Awaited.{Awaited}
 use Rattle.gob_read.specs.declared.run.Run.{Run}
@@ -79,10 +79,10 @@ taken_on s (taken_so_far h) = taken_so_far (reached_on s h)
 after_on : {T U : Table} {t : TypeId} {limit announced : ℕ} {X O : Type 0} {stands : X → List Telling → Type 0} {run : Run X O} {z : List ℕ} → Keeps T U → IsAfter T t limit announced stands run z → IsAfter U t limit announced stands run z
 after_on s a = record { so_far = taken_on s a.so_far; depth_is = a.depth_is; length_is = a.length_is; within = a.within }
 
-pub stands_on : {T U : Table} (t : TypeId) (limit announced : ℕ) {X O : Type 0} (stands : X → List Telling → Type 0) (z : List ℕ) (o : Option (Run X O)) → Extends T U → Stands T t limit announced stands o z → Stands U t limit announced stands o z
+pub stands_on : {T U : Table} (t : TypeId) (limit announced : ℕ) {X O : Type 0} (stands : X → List Telling → Type 0) (z : List ℕ) (o : Option (Run X O)) → Extends T U → ReaderStands T t limit announced stands o z → ReaderStands U t limit announced stands o z
 stands_on t limit announced stands z None e h = h
 stands_on t limit announced stands z (Some run) e h = after_on (extends_keeps e) h
 
-pub usable_on : {T U : Table} {X O : Type 0} (stands : X → List Telling → Type 0) (o : Option (Run X O)) → Extends T U → IsUsable T stands o → IsUsable U stands o
+pub usable_on : {T U : Table} {X O : Type 0} (stands : X → List Telling → Type 0) (o : Option (Run X O)) → Extends T U → IsUsableReader T stands o → IsUsableReader U stands o
 usable_on stands None e h = h
 usable_on stands (Some run) e h = record { type = h.type; limit = h.limit; announced = h.announced; bytes = h.bytes; after = after_on (extends_keeps e) h.after }

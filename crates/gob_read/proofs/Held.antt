@@ -1,6 +1,6 @@
 -- What a reader holds is what is held of the bytes so far: its builder was told of each part that has begun, but for the
 -- one whose first number is under way.
-use Rattle.std.proofs.Common.{◌≡◌, ℕ, ◌+◌, ◌<◌, ◌≤◌, ◌⊎◌, inl, inr, Bool, true, false, List, [], ◌∷◌, ◌++◌, length, arith, refl, sym, ap, ◌∙◌, subst, append_assoc, length-append}
+use Rattle.std.proofs.Common.{◌≡◌, ℕ, ◌+◌, ◌<◌, ◌≤◌, ◌⊎◌, inl, inr, List, [], ◌∷◌, ◌++◌, length, arith, refl, sym, ap, ◌∙◌, subst, append_assoc, length-append}
 use Rattle.gob_num.specs.Unsigned.{IsUnsigned, BeginsNumber}
 use Rattle.gob_num.proofs.PublicLaws.{begins_front}
 use Rattle.gob_types.specs.declared.id.TypeId.{TypeId}
@@ -12,16 +12,18 @@ use Rattle.gob_types.specs.Ready.{IsReady}
 use Rattle.gob_types.proofs.PublicLaws.{ready_defined}
 use Rattle.gob_value.specs.Tree.{Trees, Fields, tree_count}
 use Rattle.gob_value.specs.Top.{IsStruct}
+use Rattle.gob_read.specs.declared.builder.Stores.{Stores}
+use Rattle.gob_read.specs.declared.builder.Stores.TheVariants.{PartsAndRaw, Parts, Nothing}
 use Rattle.gob_read.specs.declared.telling.GroupKind.TheVariants as group
 use Rattle.gob_read.specs.declared.telling.RawKind.{RawKind}
 use Rattle.gob_read.specs.Telling.{Telling, raw_start, enter, field}
 use Rattle.gob_read.specs.Weight.{parts_told, raw_told, parts_of_all, raw_of_all}
-use Rattle.gob_read.specs.Held.{WholeFields, no_whole_field, whole_field, PartsBefore, before_element, before_array_element, before_key, before_value, before_field, EndsInItself, not_begun, in_first_number, in_imaginary_part, in_bytes, in_text, in_opaque, in_delta, PartialPart, in_itself, in_part, PartialBody, in_struct, in_tag, behind_tag, held_of, IsHeld}
+use Rattle.gob_read.specs.Held.{WholeFields, no_whole_field, whole_field, PartsBefore, before_element, before_array_element, before_key, before_value, before_field, EndsInItself, not_begun, in_first_number, in_imaginary_part, in_bytes, in_text, in_opaque, in_delta, PartialPart, in_itself, in_part, PartialBody, in_struct, in_tag, behind_tag, held_of, counted_of, IsHeld}
 use Rattle.gob_read.specs.Kinds.{HasKind, IsRawKind, is_bytes, is_text, is_opaque, IsList, is_slice, is_array}
 use Rattle.gob_read.specs.Within.{EachTold, FieldsTold, no_field_told, field_told, Within, in_list, at_key, at_value, in_field, OpenStruct, open_struct, At, at_tag, at_part, at_second, at_delta, at_raw}
 use Rattle.gob_read.specs.Within as within
 use Rattle.gob_read.specs.Reader.{HasTaken, nothing_taken, taken_so_far}
-use Rattle.gob_read.specs.Running.{IsUnderWay, begun_parts}
+use Rattle.gob_read.specs.Running.{IsUnderWayAt, begun_parts}
 use Rattle.gob_read.specs.declared.frame.Frame.{Frame}
 use Rattle.gob_read.specs.declared.awaited.Awaited.{Awaited}
 use Rattle.gob_read.specs.declared.awaited.Awaited.TheVariants.{Top, Number, Raw}
@@ -86,7 +88,7 @@ raw_holds r is_text n l = in_text r n l
 raw_holds r is_opaque n l = in_opaque r n l
 
 -- where a reader stands, so many parts and raw bytes came
-at_holds : {T : Table} {t : TypeId} {fs : List Frame} {p r : List ℕ} {us : List Telling} (number : List ℕ) (a : Awaited) → IsReady T t → At T t fs a p r us → IsUnderWay a number r → PartialBody T t (p ++ r) (parts_told us + begun_parts a r) (raw_told us)
+at_holds : {T : Table} {t : TypeId} {fs : List Frame} {p r : List ℕ} {us : List Telling} (number : List ℕ) (a : Awaited) → IsReady T t → At T t fs a p r us → IsUnderWayAt a number r → PartialBody T t (p ++ r) (parts_told us + begun_parts a r) (raw_told us)
 at_holds number (Top u) d a n = absurd (no_top a)
 at_holds number (Number (Tag u)) d (at_tag e i) n = body_as refl (omega arith) refl (in_tag e i (begins_front n.1))
 at_holds {r = r} number (Number (Part u)) d (at_part w) n = body_as refl refl (omega arith) (within_holds w (first_holds u r (part_defined d w) n.1))
@@ -116,18 +118,24 @@ new_holds r =
       | inr i ↦ in_tag d.1 i nothing_yet
     ]
 
-held_more : (stores : Bool) (m n w : ℕ) → held_of stores (m + n) w ≡ held_of stores m w + n
-held_more true m n w = omega arith
-held_more false m n w = refl
+held_more : (stores : Stores) (m n w : ℕ) → held_of stores (m + n) w ≡ held_of stores m w + counted_of stores n
+held_more PartsAndRaw m n w = omega arith
+held_more Parts m n w = refl
+held_more Nothing m n w = refl
 
-pub held_is : {T : Table} {t : TypeId} {X O : Type 0} {stands : X → List Telling → Type 0} {run : Run X O} {z : List ℕ} {count held : ℕ} (stores : Bool) (said : ℕ)
-    → ((us : List Telling) → stands run.state.builder us → said ≡ held_of stores (parts_told us) (raw_told us)) → ((r : List ℕ) → run.taken ≡ run.start + length r → count ≡ begun_parts run.state.awaited r)
+none_counted : (stores : Stores) → counted_of stores 0 ≡ 0
+none_counted PartsAndRaw = refl
+none_counted Parts = refl
+none_counted Nothing = refl
+
+pub held_is : {T : Table} {t : TypeId} {X O : Type 0} {stands : X → List Telling → Type 0} {run : Run X O} {z : List ℕ} {count held : ℕ} (stores : Stores) (said : ℕ)
+    → ((us : List Telling) → stands run.state.builder us → said ≡ held_of stores (parts_told us) (raw_told us)) → ((r : List ℕ) → run.taken ≡ run.start + length r → count ≡ counted_of stores (begun_parts run.state.awaited r))
     → (said + count ≤ run.taken → held ≡ said + count) → HasTaken T t stands run z → IsHeld T t stores z held
 held_is {count = count} {held = held} stores said s i e (nothing_taken n) =
     let f : said ≡ held_of stores 0 0 = s [] n.told in
     let most = held_most stores 0 0 in
     let a = n.start_is in let l = n.taken_is in
-    let c : count ≡ 0 = i [] (omega arith) ∙ ap (λ a. begun_parts a []) n.awaited in
+    let c : count ≡ 0 = i [] (omega arith) ∙ ap (λ a. counted_of stores (begun_parts a [])) n.awaited ∙ none_counted stores in
     let k = e (omega arith) in
     record { parts = 0; raws = 0; partial = new_holds n.ready; held_is = omega arith }
 held_is {T = T} {t = t} {run = run} {z = z} {count = count} {held = held} stores said s i e (taken_so_far h) =

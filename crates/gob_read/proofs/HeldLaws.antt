@@ -1,5 +1,5 @@
 -- How much is held of some bytes of a body: there is one answer, and it is at most as many as the bytes.
-use Rattle.std.proofs.Common.{◌≡◌, ℕ, ◌+◌, ◌-◌, ◌<◌, ◌≤◌, inl, inr, Bool, true, false, List, [], ◌∷◌, ◌++◌, length, arith, refl, sym, ap, ◌∙◌, subst, append_assoc, length-append}
+use Rattle.std.proofs.Common.{◌≡◌, ℕ, ◌+◌, ◌-◌, ◌<◌, ◌≤◌, inl, inr, List, [], ◌∷◌, ◌++◌, length, arith, refl, sym, ap, ◌∙◌, subst, append_assoc, length-append}
 use Rattle.std.specs.Prelude.{slice_get}
 use Rattle.gob_num.specs.Unsigned.{IsUnsigned, short, IsUnsignedFront}
 use Rattle.gob_num.specs.Spelled.{Same}
@@ -15,7 +15,9 @@ use Rattle.gob_value.specs.Tree.{Tree, Trees, Pairs, Fields, no_field}
 use Rattle.gob_value.specs.Tree as Value
 use Rattle.gob_value.specs.Spelling.{Spells}
 use Rattle.gob_value.proofs.PublicLaws.{same_spelling}
-use Rattle.gob_read.specs.Awaited.{Awaited, a_number, raw, any, delta, EndsWithin, within_number, within_raw, first_of}
+use Rattle.gob_read.specs.declared.builder.Stores.{Stores}
+use Rattle.gob_read.specs.declared.builder.Stores.TheVariants.{PartsAndRaw, Parts, Nothing}
+use Rattle.gob_read.specs.Awaited.{Awaited, a_number, raw, any, delta, EndsWithin, within_number, within_raw, first_allowed}
 use Rattle.gob_read.specs.Awaits.{FieldsRun, no_fields, field_then, Enters, slice_element, array_element, next_key, next_value, next_field, AwaitsAt, first, second, byte_content, text_content, opaque_content, next_delta, Awaits, AwaitsTop}
 use Rattle.gob_read.specs.Awaits as awaits
 use Rattle.gob_read.specs.Weight.{part_count, raw_count, parts_of_all, raw_of_all, parts_of_pairs, raw_of_pairs, parts_of_fields, raw_of_fields}
@@ -130,7 +132,7 @@ place_of : {T : Table} {k : Kind} {z : List ℕ} {m w : ℕ} → EndsInItself T 
 place_of {T = T} (not_begun {k = k}) = record {
   front = [];
   rest = [];
-  awaited = a_number (first_of k);
+  awaited = a_number (first_allowed k);
   at = first;
   ends = within_number nothing_yet;
   whole = refl;
@@ -143,7 +145,7 @@ place_of {T = T} (not_begun {k = k}) = record {
 place_of {T = T} (in_first_number {k = k} {b = b} {r = r} f) = record {
   front = [];
   rest = b ∷ r;
-  awaited = a_number (first_of k);
+  awaited = a_number (first_allowed k);
   at = first;
   ends = within_number f;
   whole = refl;
@@ -352,7 +354,7 @@ body_once (behind_tag e n d) (in_struct f j g) h = one_way f j e n
 body_once (behind_tag {z = z} e n d) (in_tag f m s) h = absurd (front_not_number z s zero_spelled (sym h))
 body_once (behind_tag e n d) (behind_tag f m g) h = part_once d g (tail_same h)
 
-pub held_once : {T : Table} {t : TypeId} (stores : Bool) {z : List ℕ} {held other : ℕ} → IsHeld T t stores z held → IsHeld T t stores z other → held ≡ other
+pub held_once : {T : Table} {t : TypeId} (stores : Stores) {z : List ℕ} {held other : ℕ} → IsHeld T t stores z held → IsHeld T t stores z other → held ≡ other
 held_once stores h o =
     let same = body_once h.partial o.partial refl in
     h.held_is ∙ ap (λ m. held_of stores m h.raws) same.0 ∙ ap (held_of stores o.parts) same.1 ∙ sym o.held_is
@@ -393,11 +395,12 @@ body_few (in_struct e i d) = part_few d
 body_few (in_tag e n r) = omega arith
 body_few (behind_tag e n d) = omega (arith, part_few d)
 
-pub held_most : (stores : Bool) (m w : ℕ) → held_of stores m w ≤ m + w
-held_most true m w = omega arith
-held_most false m w = omega arith
+pub held_most : (stores : Stores) (m w : ℕ) → held_of stores m w ≤ m + w
+held_most PartsAndRaw m w = omega arith
+held_most Parts m w = omega arith
+held_most Nothing m w = omega arith
 
-pub held_few : {T : Table} {t : TypeId} (stores : Bool) {z : List ℕ} {held : ℕ} → IsHeld T t stores z held → held ≤ length z
+pub held_few : {T : Table} {t : TypeId} (stores : Stores) {z : List ℕ} {held : ℕ} → IsHeld T t stores z held → held ≤ length z
 held_few stores h = omega (arith, h.held_is, held_most stores h.parts h.raws, body_few h.partial)
 
 -- where something is awaited, so many came

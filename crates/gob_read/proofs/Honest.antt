@@ -16,7 +16,7 @@ use Rattle.gob_read.specs.Refusal.{Refusal, Refused, extra, too_deep, short_of, 
 use Rattle.gob_read.specs.Begins.{BeginsValue, BeginsNone, BeginsOnlyDeep}
 use Rattle.gob_read.specs.Laws.{IsOfNumber, HasCountedArrays}
 use Rattle.gob_read.specs.First.{IsFirst}
-use Rattle.gob_read.specs.Honest.{IsHonest}
+use Rattle.gob_read.specs.Honest.{IsHonestBody}
 use Rattle.gob_read.proofs.Fronts.{append_nil}
 use Rattle.gob_read.proofs.Compare.{whole_meets_top, awaits_once}
 use Rattle.gob_read.proofs.Firsts.{bad_not_met, minimal_not_met, not_allowed_not_met}
@@ -68,7 +68,7 @@ place_begins l i (not_minimal_at r a e h) n = front_begins r e (awaits_begins l 
 place_begins l i (not_allowed {c = c} r a e u h) n = front_begins (c ++ r) e (awaits_begins l i a)
 
 -- so the refusal that is given is honest
-pub first_honest : {T : Table} {t : TypeId} {limit announced : ℕ} {z : List ℕ} {R : Refusal} → HasCountedArrays T → IsReady T t → IsFirst T t limit announced z R → IsHonest T t limit z R
+pub first_honest : {T : Table} {t : TypeId} {limit announced : ℕ} {z : List ℕ} {R : Refusal} → HasCountedArrays T → IsReady T t → IsFirst T t limit announced z R → IsHonestBody T t limit z R
 first_honest l i f = record {
   number = λ n. (place_begins l i f.refused (λ e. subst IsOfNumber e n), begins_none f.refused n);
   deep = λ e. (place_begins l i f.refused (λ short. let same = sym e ∙ short in cc), begins_deep f.refused e);

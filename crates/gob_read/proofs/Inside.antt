@@ -6,7 +6,7 @@ use Rattle.gob_types.specs.Table.{Table, shape_of}
 use Rattle.gob_value.specs.Tree.{Tree, Trees, no_tree, tree, tree_count, Pairs, no_pair, pair, pair_count}
 use Rattle.gob_value.specs.Spelling.{Spells, SpellsEach, no_element, element, SpellsPairs, no_entry, entry}
 use Rattle.gob_value.specs.Top.{IsStruct}
-use Rattle.gob_read.specs.Awaited.{Awaited, a_number, first_of}
+use Rattle.gob_read.specs.Awaited.{Awaited, a_number, first_allowed}
 use Rattle.gob_read.specs.Awaits.{FieldsRun, no_fields, field_then, Enters, AwaitsAt, first, Awaits, in_itself, in_part, AwaitsTop, in_struct, behind_tag}
 use Rattle.std.specs.Prelude.{◌-◌, ◌≤◌, slice_get}
 use Rattle.gob_num.specs.Unsigned.{IsUnsigned}
@@ -47,8 +47,8 @@ inside_awaits_top (inside_struct f i a) e n = in_struct f i (inside_awaits a e n
 inside_awaits_top (inside_behind_tag f i a) e n = behind_tag f i (inside_awaits a e n)
 
 -- where a part begins, its first number is awaited
-pub begins_awaits : {T : Table} {t u : TypeId} {d : ℕ} {s : Shape} {p : List ℕ} → InsideTop T t p u d → shape_of T u ≡ Some s → AwaitsTop T t p (a_number (first_of s.kind)) (suc d)
-begins_awaits {T = T} {t = t} {d = d} {s = s} {p = p} i e = subst (λ l. AwaitsTop T t l (a_number (first_of s.kind)) (suc d)) (append_nil p) (inside_awaits_top i e first)
+pub begins_awaits : {T : Table} {t u : TypeId} {d : ℕ} {s : Shape} {p : List ℕ} → InsideTop T t p u d → shape_of T u ≡ Some s → AwaitsTop T t p (a_number (first_allowed s.kind)) (suc d)
+begins_awaits {T = T} {t = t} {d = d} {s = s} {p = p} i e = subst (λ l. AwaitsTop T t l (a_number (first_allowed s.kind)) (suc d)) (append_nil p) (inside_awaits_top i e first)
 
 -- behind a run of elements one more was read
 pub record Longer (T : Table) (e : TypeId) (vs : Trees) (b : List ℕ) : Type 0 where

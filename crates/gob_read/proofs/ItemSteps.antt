@@ -25,14 +25,14 @@ use Rattle.gob_read.specs.declared.awaited.Item.TheVariants.{Tag, Part, Second}
 use Rattle.gob_read.specs.declared.state.State.{State}
 use Rattle.gob_read.specs.declared.stop.Fault.{Fault}
 use Rattle.gob_read.specs.declared.stop.Fault.TheVariants.{Memory, Refused}
-use Rattle.gob_read.specs.Awaited.{first_of, tag, a_number}
+use Rattle.gob_read.specs.Awaited.{first_allowed, tag, a_number}
 use Rattle.gob_read.specs.Awaits.{AwaitsTop, at_tag as awaits_tag}
 use Rattle.gob_read.specs.Telling.{Telling, number, raw_start, raw_more, leave, Tells, TellsRaw, more_bytes, tell_complex, tell_bytes, tell_text, tell_opaque}
 use Rattle.gob_read.specs.WellFormed.{a_number as number_follows, of_complex as two_numbers, raw_bytes, end_of_raw}
 use Rattle.gob_read.specs.Building.{CanTell, IsTold}
 use Rattle.gob_read.specs.Kinds.{HasKind, IsRawKind, is_bytes, is_text, is_opaque, IsList, is_array, IsStructType, BeginsAs, as_struct, as_tagged, number_stays, raw_stays}
 use Rattle.gob_read.specs.Within.{Within, behind_tag, At, at_tag, at_part, at_second, at_raw, Completed}
-use Rattle.gob_read.specs.Steps.{IsBegun, IsPlaced, IsEnded, Blames, CanEnd, CanBegin, Begins, CanBeginStruct, BeginsStruct, IsNoFirst, CanTakeFirst, TakesFirst, RefusesFirst, CanTake, Takes, Refuses, CanTakeTag, IsWrongTag, CanTakeSecond, TakesHere, CanTakeRaw}
+use Rattle.gob_read.specs.Steps.{IsBegun, IsPlaced, IsEnded, Blames, CanEnd, CanBegin, StepBegins, CanBeginStruct, BeginsStruct, IsNoFirst, CanTakeFirst, TakesFirst, RefusesFirst, CanTake, StepTakes, StepRefuses, CanTakeTag, IsWrongTag, CanTakeSecond, TakesHere, CanTakeRaw}
 use Rattle.gob_value.proofs.PublicLaws.{not_true}
 use Rattle.gob_read.proofs.KindLaws.{spelled_as}
 use Rattle.gob_read.proofs.Moves.{part_whole}
@@ -51,11 +51,11 @@ blames (Refused r) f p = f r p
 pub first_can : {T : Table} {X O : Type 0} {stands : X → List Telling → Type 0} {state : State X O} {id : TypeId} {k : Kind} {P : Kind → Type 0} {n : ℕ} → HasKind T id k → P k → CanTakeFirst T stands state id n → CanBegin stands state P n
 first_can {T = T} {id = id} {k = k} h i r = record { table = T; type = r.type; id = id; kind = k; before = r.before; bytes = r.bytes; begun = r.begun; has = h; holds = i; spelled = r.spelled; small = r.small }
 
-pub first_takes : {T : Table} {X O : Type 0} {stands : X → List Telling → Type 0} {old new : State X O} {id : TypeId} {k : Kind} {P : Kind → Type 0} {n : ℕ} {whole : Bool} → HasKind T id k → P k → Begins stands old new P n whole → TakesFirst T stands old new id n whole
+pub first_takes : {T : Table} {X O : Type 0} {stands : X → List Telling → Type 0} {old new : State X O} {id : TypeId} {k : Kind} {P : Kind → Type 0} {n : ℕ} {whole : Bool} → HasKind T id k → P k → StepBegins stands old new P n whole → TakesFirst T stands old new id n whole
 first_takes {T = T} {id = id} {k = k} h i b = record { each = λ t p c x n. b.each T t id k p c x h i n }
 
 pub first_refuses : {T : Table} {X O : Type 0} {stands : X → List Telling → Type 0} {state : State X O} {id : TypeId} {k : Kind} {n : ℕ} {why : Reason} → HasKind T id k → IsNoFirst k n why → RefusesFirst T stands state id n why
-first_refuses {k = k} h r = record { each = λ t p b. record { allowed = first_of k; depth = _; awaits = part_awaits b.within h; not_allowed = r.not_allowed; reason_is = r.reason_is } }
+first_refuses {k = k} h r = record { each = λ t p b. record { allowed = first_allowed k; depth = _; awaits = part_awaits b.within h; not_allowed = r.not_allowed; reason_is = r.reason_is } }
 
 pub first_defined : {T : Table} {X O : Type 0} {stands : X → List Telling → Type 0} {state : State X O} {id : TypeId} {n : ℕ} → CanTakeFirst T stands state id n → None ≡ shape_of T id → ⊥
 first_defined r e = let k = part_defined r.ready r.begun.within in let same : None ≡ Some k.0 = e ∙ k.1 in cc
@@ -70,10 +70,10 @@ placed_begun {T = T} {t = t} {state = state} {p = p} {r = r} e b = record { us =
 pub part_can : {T : Table} {X O : Type 0} {stands : X → List Telling → Type 0} {state : State X O} {id : TypeId} {n : ℕ} → CanTake T stands state (Part id) n → CanTakeFirst T stands state id n
 part_can r = record { type = r.type; ready = r.ready; before = r.before; bytes = r.bytes; begun = placed_begun r.awaited r.placed; spelled = r.spelled; small = r.small }
 
-pub part_takes : {T : Table} {X O : Type 0} {stands : X → List Telling → Type 0} {old new : State X O} {id : TypeId} {n : ℕ} {whole : Bool} → old.awaited ≡ Number (Part id) → TakesFirst T stands old new id n whole → Takes T stands old new n whole
+pub part_takes : {T : Table} {X O : Type 0} {stands : X → List Telling → Type 0} {old new : State X O} {id : TypeId} {n : ℕ} {whole : Bool} → old.awaited ≡ Number (Part id) → TakesFirst T stands old new id n whole → StepTakes T stands old new n whole
 part_takes e f = record { each = λ t p r c d b n. f.each t p c (placed_begun e b) n }
 
-pub part_refuses : {T : Table} {X O : Type 0} {stands : X → List Telling → Type 0} {state : State X O} {id : TypeId} {n : ℕ} {why : Reason} → state.awaited ≡ Number (Part id) → RefusesFirst T stands state id n why → Refuses T stands state n why
+pub part_refuses : {T : Table} {X O : Type 0} {stands : X → List Telling → Type 0} {state : State X O} {id : TypeId} {n : ℕ} {why : Reason} → state.awaited ≡ Number (Part id) → RefusesFirst T stands state id n why → StepRefuses T stands state n why
 part_refuses e f = record { each = λ t p r d b. f.each t p (placed_begun e b) }
 
 -- where the tag is awaited
@@ -103,7 +103,7 @@ tag_placed {stands = stands} {old = old} {new = new} {id = id} e z s b a T t p r
     subst (λ l. At T t new.stack new.awaited l [] []) (sym by) (subst (λ fs. At T t fs new.awaited (0 ∷ []) [] []) (sym (s ∙ k.stack_is)) (subst (λ i. At T t [] i (0 ∷ []) [] []) (sym (a ∙ ap (λ i. Number (Part i)) k.same)) part)) in
     record { us = []; at = here; told = subst (λ y. stands y []) (sym b) (subst (λ us. stands old.builder us) k.told_is x.told) }
 
-pub wrong_tag_refuses : {T : Table} {X O : Type 0} {stands : X → List Telling → Type 0} {state : State X O} {id : TypeId} {n : ℕ} {why : Reason} → state.awaited ≡ Number (Tag id) → IsWrongTag n why → Refuses T stands state n why
+pub wrong_tag_refuses : {T : Table} {X O : Type 0} {stands : X → List Telling → Type 0} {state : State X O} {id : TypeId} {n : ℕ} {why : Reason} → state.awaited ≡ Number (Tag id) → IsWrongTag n why → StepRefuses T stands state n why
 wrong_tag_refuses {T = T} {state = state} e w = record {
   each = λ t p r d b.
       let k = tag_at (subst (λ a. At T t state.stack a p r b.us) e b.at) in
@@ -111,7 +111,7 @@ wrong_tag_refuses {T = T} {state = state} e w = record {
 }
 
 -- what comes behind an awaited number that needs no table
-pub here_takes : {T : Table} {X O : Type 0} {stands : X → List Telling → Type 0} {old new : State X O} {n : ℕ} {whole : Bool} → TakesHere stands old new n whole → Takes T stands old new n whole
+pub here_takes : {T : Table} {X O : Type 0} {stands : X → List Telling → Type 0} {old new : State X O} {n : ℕ} {whole : Bool} → TakesHere stands old new n whole → StepTakes T stands old new n whole
 here_takes {T = T} h = record { each = λ t p r c d b n. h.each T t p r c b n }
 
 -- the imaginary part

@@ -38,3 +38,4 @@ pub mod Counted
 pub mod Taken
 pub mod Stops
 pub mod Pushed
+pub mod Skips

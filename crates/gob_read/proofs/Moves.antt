@@ -17,7 +17,7 @@ use Rattle.gob_read.specs.declared.frame.Frame.TheVariants as frame
 use Rattle.gob_read.specs.declared.awaited.Awaited.TheVariants.{Number}
 use Rattle.gob_read.specs.declared.awaited.Item.TheVariants.{Delta}
 use Rattle.gob_read.specs.Telling.{Telling, enter, field, leave, Tells, tell_many, tell_pairs, tell_fields, TellsEach, tell_none, tell_each, TellsPairs, tell_no_pair, tell_pair, TellsFields, tell_no_field, tell_field}
-use Rattle.gob_read.specs.Frames.{IsOver, last_element, last_pair, GoesOn, to_element, to_value, to_key, to_delta, item_of}
+use Rattle.gob_read.specs.Frames.{IsOver, last_element, last_pair, FrameGoesOn, to_element, to_value, to_key, to_delta, item_of}
 use Rattle.gob_read.specs.Kinds.{HasKind, IsList, is_slice, is_array}
 use Rattle.gob_read.specs.Within.{EachTold, none_told, one_told, PairsTold, no_pair_told, pair_told, FieldsTold, no_field_told, field_told, Within, at_once, behind_tag, in_list, at_key, at_value, in_field, OpenStruct, open_struct, At, at_part, at_delta, Completed}
 use Rattle.gob_read.proofs.Fronts.{append_nil}
@@ -122,7 +122,7 @@ completed_value {T = T} {t = t} {z = z} {us = us} c = from c.within c.spelled c.
     from {v = v} (behind_tag e i) s o h f = record { value = v; spelled = subst (SpellsTop T t v) (sym h) (tagged e i s); told = subst (Tells v) (sym f) o }
 
 -- an element was read, and another follows
-next_element : {T : Table} {t e : TypeId} {left : ℕ} {fs : List Frame} {z : List ℕ} {us : List Telling} → Completed T t (frame.Many e (suc left) ∷ fs) z us → Within T t (frame.Many e left ∷ fs) z us e
+pub next_element : {T : Table} {t e : TypeId} {left : ℕ} {fs : List Frame} {z : List ℕ} {us : List Telling} → Completed T t (frame.Many e (suc left) ∷ fs) z us → Within T t (frame.Many e left ∷ fs) z us e
 next_element {T = T} {t = t} {e = e} {left = left} {fs = fs} {z = z} {us = us} c = from c.within c.spelled c.tells c.whole c.telling
   where
     from : {b d : List ℕ} {ws ys : List Telling} {u : TypeId} {v : Tree} → Within T t (frame.Many e (suc left) ∷ fs) b ws u → Spells T u v d → Tells v ys → z ≡ b ++ d → us ≡ ws ++ ys → Within T t (frame.Many e left ∷ fs) z us e
@@ -135,7 +135,7 @@ next_element {T = T} {t = t} {e = e} {left = left} {fs = fs} {z = z} {us = us} c
         (in_list w k l n x.told (let y = x.count_is in omega arith)))
 
 -- a key was read, and its element follows
-key_read : {T : Table} {t k e : TypeId} {left : ℕ} {fs : List Frame} {z : List ℕ} {us : List Telling} → Completed T t (frame.Key k e left ∷ fs) z us → Within T t (frame.Elem k e left ∷ fs) z us e
+pub key_read : {T : Table} {t k e : TypeId} {left : ℕ} {fs : List Frame} {z : List ℕ} {us : List Telling} → Completed T t (frame.Key k e left ∷ fs) z us → Within T t (frame.Elem k e left ∷ fs) z us e
 key_read {T = T} {t = t} {k = k} {e = e} {left = left} {fs = fs} {z = z} {us = us} c = from c.within c.spelled c.tells c.whole c.telling
   where
     from : {b d : List ℕ} {ws ys : List Telling} {u : TypeId} {v : Tree} → Within T t (frame.Key k e left ∷ fs) b ws u → Spells T u v d → Tells v ys → z ≡ b ++ d → us ≡ ws ++ ys → Within T t (frame.Elem k e left ∷ fs) z us e
@@ -146,7 +146,7 @@ key_read {T = T} {t = t} {k = k} {e = e} {left = left} {fs = fs} {z = z} {us = u
         (subst (λ q. Within T t (frame.Elem k e left ∷ fs) (p ++ (c ++ (b ++ d))) q e) told (at_value w q n r m s o))
 
 -- an element of a map was read, and another key follows
-next_pair : {T : Table} {t k e : TypeId} {left : ℕ} {fs : List Frame} {z : List ℕ} {us : List Telling} → Completed T t (frame.Elem k e (suc left) ∷ fs) z us → Within T t (frame.Key k e left ∷ fs) z us k
+pub next_pair : {T : Table} {t k e : TypeId} {left : ℕ} {fs : List Frame} {z : List ℕ} {us : List Telling} → Completed T t (frame.Elem k e (suc left) ∷ fs) z us → Within T t (frame.Key k e left ∷ fs) z us k
 next_pair {T = T} {t = t} {k = k} {e = e} {left = left} {fs = fs} {z = z} {us = us} c = from c.within c.spelled c.tells c.whole c.telling
   where
     from : {b d : List ℕ} {ws ys : List Telling} {u : TypeId} {v : Tree} → Within T t (frame.Elem k e (suc left) ∷ fs) b ws u → Spells T u v d → Tells v ys → z ≡ b ++ d → us ≡ ws ++ ys → Within T t (frame.Key k e left ∷ fs) z us k
@@ -173,7 +173,7 @@ field_read {T = T} {t = t} {i = i} {next = next} {fs = fs} {z = z} {us = us} c =
         (at_delta (open_struct w k told) (omega arith)))
 
 -- behind a part, where another one or a delta is to come
-pub moved : {T : Table} {t : TypeId} {f g : Frame} {fs : List Frame} {z : List ℕ} {us : List Telling} → GoesOn f g → Completed T t (f ∷ fs) z us → At T t (g ∷ fs) (Number (item_of g)) z [] us
+pub moved : {T : Table} {t : TypeId} {f g : Frame} {fs : List Frame} {z : List ℕ} {us : List Telling} → FrameGoesOn f g → Completed T t (f ∷ fs) z us → At T t (g ∷ fs) (Number (item_of g)) z [] us
 moved to_element c = at_part (next_element c)
 moved to_value c = at_part (key_read c)
 moved to_key c = at_part (next_pair c)

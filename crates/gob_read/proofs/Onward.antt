@@ -20,7 +20,7 @@ pub data Takes : Awaited → List ℕ → Type 0 where
   raw_taken : {n : ℕ} {c : List ℕ} → n ≡ length c → Takes (raw n) c
 
 -- what is awaited doesn't stand in a proper front of such an item
-takes_least : {w : Awaited} {c : List ℕ} (m s : List ℕ) → Takes w c → c ≡ m ++ s → s ≢ [] → Meets w m → ⊥
+pub takes_least : {w : Awaited} {c : List ℕ} (m s : List ℕ) → Takes w c → c ≡ m ++ s → s ≢ [] → Meets w m → ⊥
 takes_least {c = c} m s (number_taken u) e z k =
     let n = met_number k in
     let p = unsigned_prefix (n.rest ++ s) [] n.spelled u (sym (append_nil c ∙ e ∙ ap (λ l. l ++ s) n.whole ∙ append_assoc n.bytes n.rest s)) in

@@ -11,10 +11,10 @@ use Rattle.gob_read.specs.declared.state.State.{State}
 use Rattle.gob_read.specs.Telling.{Telling, leave}
 use Rattle.gob_read.specs.WellFormed.{end_of_list, end_of_map}
 use Rattle.gob_read.specs.Building.{CanTell, IsTold}
-use Rattle.gob_read.specs.Frames.{IsOver, last_element, last_pair, GoesOn, item_of}
+use Rattle.gob_read.specs.Frames.{IsOver, last_element, last_pair, FrameGoesOn, item_of}
 use Rattle.gob_read.specs.Kinds.{HasKind}
 use Rattle.gob_read.specs.Within.{At, Completed}
-use Rattle.gob_read.specs.Steps.{IsBegun, IsPlaced, IsEnded, IsRead, CanEnd, Ends, CanBegin, Begins}
+use Rattle.gob_read.specs.Steps.{IsBegun, IsPlaced, IsEnded, IsRead, CanEnd, StepEnds, CanBegin, StepBegins}
 use Rattle.gob_read.proofs.Moves.{completed_value, moved, closed}
 use Rattle.gob_read.proofs.ToldLaws.{completed_follows, completed_weighs, told, can_tell}
 
@@ -34,7 +34,7 @@ ended_none {T = T} {t = t} {stands = stands} {state = state} {z = z} h e = from 
     from (f ∷ fs) h c = cc
 
 -- the innermost open part goes on
-pub ended_on : {T : Table} {t : TypeId} {X O : Type 0} {stands : X → List Telling → Type 0} {state state' : State X O} {f g : Frame} {z : List ℕ} → slice_get state.stack 0 ≡ Some f → GoesOn f g
+pub ended_on : {T : Table} {t : TypeId} {X O : Type 0} {stands : X → List Telling → Type 0} {state state' : State X O} {f g : Frame} {z : List ℕ} → slice_get state.stack 0 ≡ Some f → FrameGoesOn f g
     → state'.stack ≡ g ∷ drop 1 state.stack → state'.awaited ≡ Number (item_of g) → state'.builder ≡ state.builder → IsEnded T t stands state z → IsPlaced T t stands state' z []
 ended_on {T = T} {t = t} {stands = stands} {state = state} {state' = state'} {f = f} {g = g} {z = z} h on stack awaited builder e = record {
   us = e.us;
@@ -77,7 +77,7 @@ over_can_end h over stack told_on c = record { table = c.table; type = c.type; b
 -- a part ends where it begins
 pub begins_ended : {X O : Type 0} {stands : X → List Telling → Type 0} {old mid new : State X O} {P : Kind → Type 0} {n : ℕ} {whole : Bool}
     → ((T : Table) (t u : TypeId) (k : Kind) (p c : List ℕ) → IsBegun T t stands old u p → HasKind T u k → P k → IsUnsigned n c → IsEnded T t stands mid (p ++ c))
-    → Ends stands mid new whole → Begins stands old new P n whole
+    → StepEnds stands mid new whole → StepBegins stands old new P n whole
 begins_ended f e = record { each = λ T t u k p c b h i n. e.each T t (p ++ c) (f T t u k p c b h i n) }
 
 pub begins_can_end : {X O : Type 0} {stands : X → List Telling → Type 0} {old mid : State X O} {P : Kind → Type 0} {n : ℕ}

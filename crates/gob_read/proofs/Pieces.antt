@@ -4,7 +4,7 @@ use Rattle.gob_types.specs.declared.id.TypeId.{TypeId}
 use Rattle.gob_types.specs.Table.{Table}
 use Rattle.gob_read.specs.Stood.{IsStood}
 use Rattle.gob_read.specs.Telling.{Telling}
-use Rattle.gob_read.specs.Running.{IsReached, IsReachedSomewhere, IsOpenSomewhere, IsFinished, TakesMore, Steps, StopsFor, RefusesAt, Opens, JudgesFor, EndsFor, GoesOn, Finishes, RefusesPiece}
+use Rattle.gob_read.specs.Running.{IsReached, IsReachedSomewhere, IsOpenSomewhere, IsFinished, TakesMore, Steps, StopsFor, RefusesAt, Opens, JudgesFor, EndsFor, RunGoesOn, RunFinishes, RefusesPiece}
 use Rattle.gob_read.specs.declared.stop.Stop.{Stop}
 use Rattle.gob_read.specs.declared.stop.Stop.TheVariants as stops
 use Rattle.gob_read.specs.declared.run.Run.{Run}
@@ -98,7 +98,7 @@ pub come_open : {T : Table} {X O : Type 0} {stands : X → List Telling → Type
 come_open w h o = record { type = w.type; bytes = _; open_ = o.each w.type _ (h.reached w.type w.bytes w.reached) }
 
 -- the whole piece was taken
-pub come_all : {T : Table} {X O : Type 0} {stands : X → List Telling → Type 0} {old new : Run X O} {piece : List ℕ} {used count : ℕ} → HasCome T stands old new piece used count → Opens T stands new → length piece ≤ used → GoesOn T stands old new piece
+pub come_all : {T : Table} {X O : Type 0} {stands : X → List Telling → Type 0} {old new : Run X O} {piece : List ℕ} {used count : ℕ} → HasCome T stands old new piece used count → Opens T stands new → length piece ≤ used → RunGoesOn T stands old new piece
 come_all {T = T} {stands = stands} {old = old} {new = new} {piece = piece} {used = used} h o l = record { reached = reached; stood = stood }
   where
     reached : (t : TypeId) (z : List ℕ) → IsReached T t stands old z → IsReached T t stands new (z ++ piece)
@@ -110,7 +110,7 @@ come_all {T = T} {stands = stands} {old = old} {new = new} {piece = piece} {used
         subst (λ d. IsStood T t d old.length (z ++ piece)) h.more.depth_is
         (subst (λ n. IsStood T t new.depth n (z ++ piece)) h.more.length_is (reached_stood i.reached i.not_deep i.room))
 
-pub ended_all : {T : Table} {X O : Type 0} {stands : X → List Telling → Type 0} {old new : Run X O} {piece : List ℕ} {used : ℕ} → HasEnded T stands old new piece used → new.taken ≡ new.length → Finishes T stands old new piece used
+pub ended_all : {T : Table} {X O : Type 0} {stands : X → List Telling → Type 0} {old new : Run X O} {piece : List ℕ} {used : ℕ} → HasEnded T stands old new piece used → new.taken ≡ new.length → RunFinishes T stands old new piece used
 ended_all h e = record { within = h.within; finished = h.finished; all = λ t z k. sym (h.finished t z k).taken_is ∙ e ∙ h.more.length_is }
 
 -- what is refused behind so much of the piece is refused of the piece

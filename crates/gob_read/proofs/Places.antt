@@ -8,7 +8,7 @@ use Rattle.gob_types.specs.Table.{Table, IsDefined}
 use Rattle.gob_types.specs.Ready.{IsReady}
 use Rattle.gob_types.proofs.PublicLaws.{names_ready, ready_defined}
 use Rattle.gob_value.specs.Tree.{Trees, tree_count, Fields}
-use Rattle.gob_read.specs.Awaited.{Allowed, Awaited as NextItem, a_number, raw, any, tag, delta, first_of}
+use Rattle.gob_read.specs.Awaited.{Allowed, Awaited as NextItem, a_number, raw, any, tag, delta, first_allowed}
 use Rattle.gob_read.specs.Awaits.{FieldsRun, no_fields, field_then, Enters, slice_element, array_element, next_key, next_value, next_field as enters_field, AwaitsAt, second, byte_content, text_content, opaque_content, next_delta, AwaitsTop}
 use Rattle.gob_read.specs.Awaits as awaits
 use Rattle.gob_read.specs.Telling.{Telling}
@@ -66,9 +66,9 @@ pub part_defined : {T : Table} {t u : TypeId} {fs : List Frame} {p : List ℕ} {
 part_defined r w = ready_defined (within_ready r w)
 
 -- where a part of the kind begins, its first number is awaited
-pub part_awaits : {T : Table} {t u : TypeId} {k : Kind} {fs : List Frame} {p : List ℕ} {us : List Telling} → Within T t fs p us u → HasKind T u k → AwaitsTop T t p (a_number (first_of k)) (length fs + 1)
+pub part_awaits : {T : Table} {t u : TypeId} {k : Kind} {fs : List Frame} {p : List ℕ} {us : List Telling} → Within T t fs p us u → HasKind T u k → AwaitsTop T t p (a_number (first_allowed k)) (length fs + 1)
 part_awaits {T = T} {t = t} {fs = fs} {p = p} w h =
-    subst (λ k. AwaitsTop T t p (a_number (first_of k)) (length fs + 1)) h.kind (rw add-one (begins_awaits (within_inside w) h.there))
+    subst (λ k. AwaitsTop T t p (a_number (first_allowed k)) (length fs + 1)) h.kind (rw add-one (begins_awaits (within_inside w) h.there))
 
 -- the delta behind a field
 pub delta_awaits : {T : Table} {t u : TypeId} {fs : List Frame} {types : List Field} {next : ℕ} {p : List ℕ} {us : List Telling} → OpenStruct T t fs u types next p us → 0 < next → AwaitsTop T t p (a_number (delta (length types - next))) (length fs)
@@ -83,7 +83,7 @@ pub item_awaits : {T : Table} {t : TypeId} {fs : List Frame} {p r : List ℕ} {u
 item_awaits (Tag u) d (at_tag e n) = record { allowed = tag; awaits = awaits.at_tag e n }
 item_awaits (Part u) d (at_part w) =
     let k = part_defined d w in
-    record { allowed = first_of k.0.kind; awaits = part_awaits w (record { shape = k.0; there = k.1; kind = refl }) }
+    record { allowed = first_allowed k.0.kind; awaits = part_awaits w (record { shape = k.0; there = k.1; kind = refl }) }
 item_awaits (Second q) d (at_second w h n) = record { allowed = any; awaits = rw add-one (awaited_in (within_inside w) h (second n)) }
 item_awaits Delta d (at_delta {next = next} {types = types} o l) = record { allowed = delta (length types - next); awaits = delta_awaits o l }
 

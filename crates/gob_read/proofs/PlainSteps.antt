@@ -23,9 +23,9 @@ use Rattle.gob_read.specs.Frames as Frames
 use Rattle.gob_read.specs.Frames.{to_delta, to_element, item_of}
 use Rattle.gob_read.specs.Kinds.{HasKind, IsScalar, IsRawKind}
 use Rattle.gob_read.specs.Within.{Within, at_once, behind_tag, in_list, at_key, at_value, in_field}
-use Rattle.gob_read.specs.Steps.{Ends, CanGoOn, GoesOn, CanTakeRaw}
+use Rattle.gob_read.specs.Steps.{StepEnds, CanGoOn, StepGoesOn, CanTakeRaw}
 use Rattle.gob_read.specs.Running.{IsOpenSomewhere, IsOpenIn, IsStepped, TakesMore, Steps, Opens, depth_of, item_depth}
-use Rattle.gob_read.specs.Plain.{CanTellPlain, TellsPlain, told_nothing, told_number, told_bytes, IsInFields, IsInList, IsFollowedBy, StepsPlain, not_stepped, stepped_over, Passes, TakesPlain, not_taken, plain_taken, EntersField, NamesField, TakesName, not_named, named, CanEndFields, EndsFields}
+use Rattle.gob_read.specs.Plain.{CanTellPlain, TellsPlain, told_nothing, told_number, told_bytes, IsInFields, IsInList, IsFollowedBy, StepsPlain, not_stepped, stepped_over, PassesPlain, TakesPlain, not_taken, plain_taken, EntersField, NamesField, TakesName, not_named, named, CanEndFields, EndsFields}
 use Rattle.gob_read.proofs.Fronts.{append_nil}
 use Rattle.gob_read.proofs.Parts.{ended_on, begins_ended}
 use Rattle.gob_read.proofs.FirstSteps.{number_ended, length_placed}
@@ -61,7 +61,7 @@ abbrev behind : {X O : Type 0} → Run X O → ℕ → Run X O
 behind run count = record { state = run.state; number = run.number; start = run.start; taken = run.taken + count; length = run.length; depth = run.depth }
 
 -- behind a whole part the innermost open part goes on
-goes_behind : {X O : Type 0} {stands : X → List Telling → Type 0} {mid new : State X O} {f g : Frame} → slice_get mid.stack 0 ≡ Some f → Frames.GoesOn f g → new.stack ≡ g ∷ drop 1 mid.stack → new.awaited ≡ Number (item_of g) → new.builder ≡ mid.builder → Ends stands mid new false
+goes_behind : {X O : Type 0} {stands : X → List Telling → Type 0} {mid new : State X O} {f g : Frame} → slice_get mid.stack 0 ≡ Some f → Frames.FrameGoesOn f g → new.stack ≡ g ∷ drop 1 mid.stack → new.awaited ≡ Number (item_of g) → new.builder ≡ mid.builder → StepEnds stands mid new false
 goes_behind f on s w b = record { each = λ T t z e. ended_on f on s w b e }
 
 -- a part is whole with what the builder was told, inside the open parts that it began in
@@ -302,7 +302,7 @@ named_on {T = T} {stands = stands} {run = run} {new = new} {rest = rest} {used =
 -- what a taken part was taken so
 pub record IsPlainTaken (T : Table) {X O : Type 0} (stands : X → List Telling → Type 0) (old new : Run X O) (next : Frame) (rest : List ℕ) (used : ℕ) : Type 0 where
   pub within : used ≤ length rest
-  pub passes : Passes T stands old new (take used rest)
+  pub passes : PassesPlain T stands old new (take used rest)
   pub awaited : new.state.awaited ≡ Number (item_of next)
   pub stack : new.state.stack ≡ next ∷ drop 1 old.state.stack
   pub as_deep : length new.state.stack ≡ length old.state.stack
@@ -356,8 +356,8 @@ behind_it {T = T} {stands = stands} {old = old} {new = new} {whole = whole} rest
     let cut : take (used + more) rest ≡ take used rest ++ take more (take (length rest - used) (drop used rest)) = take_further rest used more ∙ ap (λ l. take used rest ++ take more l) (sym (slice_rest rest used)) in
     subst (λ c. Steps T stands old new c whole) (sym cut) (steps_then f o g)
 
-pub ends_go_on : {X O : Type 0} {stands : X → List Telling → Type 0} {old new : State X O} {u : TypeId} {types : List Field} {next n : ℕ} {whole : Bool} → n ≡ 0 → EndsFields stands old new whole → GoesOn stands old new u types next n whole
-ends_go_on {stands = stands} {old = old} {new = new} {u = u} {types = types} {next = next} {whole = whole} z e = subst (λ n. GoesOn stands old new u types next n whole) (sym z) (e.each u types next)
+pub ends_go_on : {X O : Type 0} {stands : X → List Telling → Type 0} {old new : State X O} {u : TypeId} {types : List Field} {next n : ℕ} {whole : Bool} → n ≡ 0 → EndsFields stands old new whole → StepGoesOn stands old new u types next n whole
+ends_go_on {stands = stands} {old = old} {new = new} {u = u} {types = types} {next = next} {whole = whole} z e = subst (λ n. StepGoesOn stands old new u types next n whole) (sym z) (e.each u types next)
 
 pub go_on_ends : {X O : Type 0} {stands : X → List Telling → Type 0} {state : State X O} {u : TypeId} {types : List Field} {next n : ℕ} → n ≡ 0 → CanGoOn stands state u types next n → CanEndFields stands state
 go_on_ends {stands = stands} {state = state} {u = u} {types = types} {next = next} z r = record { id = u; types = types; next = next; goes_on = subst (λ n. CanGoOn stands state u types next n) z r }
@@ -406,9 +406,9 @@ element_within (in_field w k b l m g n) h = cc
 pub element_is : {T : Table} {X O : Type 0} {stands : X → List Telling → Type 0} {run : Run X O} {id e : TypeId} {left : ℕ} → run.state.awaited ≡ Number (Part id) → IsOpenSomewhere T stands run → IsInList e left run.state.stack → run.state.awaited ≡ Number (Part e)
 element_is a o h = a ∙ ap (λ u. Number (Part u)) (element_within (placed_begun a o.open_.reached.placed).within h)
 
-pub goes_to_element : {e : TypeId} (left less : ℕ) → left ≡ less + 1 → Frames.GoesOn (frame.Many e left) (frame.Many e less)
+pub goes_to_element : {e : TypeId} (left less : ℕ) → left ≡ less + 1 → Frames.FrameGoesOn (frame.Many e left) (frame.Many e less)
 goes_to_element zero less h = absurd (omega arith)
-goes_to_element {e = e} (suc left) less h = subst (λ n. Frames.GoesOn (frame.Many e (suc left)) (frame.Many e n)) (omega arith) to_element
+goes_to_element {e = e} (suc left) less h = subst (λ n. Frames.FrameGoesOn (frame.Many e (suc left)) (frame.Many e n)) (omega arith) to_element
 
 -- behind the first part
 pub part_deep : {T : Table} {X O : Type 0} {stands : X → List Telling → Type 0} {run : Run X O} {id : TypeId} → run.state.awaited ≡ Number (Part id) → IsOpenSomewhere T stands run → length run.state.stack + 1 ≤ run.depth

@@ -4,7 +4,7 @@ use Rattle.gob_types.specs.declared.id.TypeId.{TypeId}
 use Rattle.gob_types.specs.Table.{Table}
 use Rattle.gob_read.specs.Telling.{Telling}
 use Rattle.gob_value.specs.Tree.{Tree}
-use Rattle.gob_read.specs.Reader.{Stands, IsUsable, Gives}
+use Rattle.gob_read.specs.Reader.{ReaderStands, IsUsableReader, ReaderGives}
 use Rattle.gob_read.specs.declared.run.Run.{Run}
 use Rattle.gob_read.specs.declared.reader.Progress.{Progress}
 use Rattle.gob_read.specs.declared.reader.Progress.TheVariants.{More, Done}
@@ -16,21 +16,21 @@ pub record IsPushed (T : Table) (t : TypeId) {X O : Type 0} (stands : X → List
   pub limit : ℕ
   pub announced : ℕ
   pub bytes : List ℕ
-  pub after : Stands T t limit announced stands o bytes
+  pub after : ReaderStands T t limit announced stands o bytes
 
-pub usable : {T : Table} {t : TypeId} {X O : Type 0} {stands : X → List Telling → Type 0} {o : Option (Run X O)} → IsPushed T t stands o → IsUsable T stands o
+pub usable : {T : Table} {t : TypeId} {X O : Type 0} {stands : X → List Telling → Type 0} {o : Option (Run X O)} → IsPushed T t stands o → IsUsableReader T stands o
 usable {T = T} {t = t} {X = X} {O = O} {stands = stands} {o = o} p = from o p.after
   where
-    from : (o : Option (Run X O)) → Stands T t p.limit p.announced stands o p.bytes → IsUsable T stands o
+    from : (o : Option (Run X O)) → ReaderStands T t p.limit p.announced stands o p.bytes → IsUsableReader T stands o
     from None a = absurd a
     from (Some run) a = record { type = t; limit = p.limit; announced = p.announced; bytes = p.bytes; after = a }
 
 -- whatever a push answered, the reader stays of use
 pub usable_pushed : (T : Table) {X O : Type 0} (stands : X → List Telling → Type 0) (means : O → Tree → Type 0) (old new : Option (Run X O)) (piece : List ℕ) (result : Result (Progress O) Stop)
-    → IfOk result (λ p. (t : TypeId) (limit announced : ℕ) (z : List ℕ) → Stands T t limit announced stands old z → Gives T t limit announced stands means new z piece p)
-    → (old ≡ None → result ≡ Err Failed) → OnErr result (new ≡ None) → IsUsable T stands old → IsUsable T stands new
-usable_pushed T stands means old new piece (Err e) given failed ended u = subst (IsUsable T stands) (sym ended) tt
+    → IfOk result (λ p. (t : TypeId) (limit announced : ℕ) (z : List ℕ) → ReaderStands T t limit announced stands old z → ReaderGives T t limit announced stands means new z piece p)
+    → (old ≡ None → result ≡ Err Failed) → OnErr result (new ≡ None) → IsUsableReader T stands old → IsUsableReader T stands new
+usable_pushed T stands means old new piece (Err e) given failed ended u = subst (IsUsableReader T stands) (sym ended) tt
 usable_pushed T stands means None new piece (Ok p) given failed ended u = cc (failed refl)
 usable_pushed T stands means (Some run) new piece (Ok More) given failed ended u =
     usable (record { limit = u.limit; announced = u.announced; bytes = _; after = (given u.type u.limit u.announced u.bytes u.after).after })
-usable_pushed T stands means (Some run) new piece (Ok (Done out used)) given failed ended u = subst (IsUsable T stands) (sym (given u.type u.limit u.announced u.bytes u.after).ended) tt
+usable_pushed T stands means (Some run) new piece (Ok (Done out used)) given failed ended u = subst (IsUsableReader T stands) (sym (given u.type u.limit u.announced u.bytes u.after).ended) tt

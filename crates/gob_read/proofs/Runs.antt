@@ -16,7 +16,7 @@ use Rattle.gob_read.specs.Stood.{IsShallow, IsStood}
 use Rattle.gob_read.specs.Telling.{Telling}
 use Rattle.gob_read.specs.Within.{At}
 use Rattle.gob_read.specs.Steps.{CanTake, CanTakeRaw, IsPlaced, IsRead, Settled, TakesRaw}
-use Rattle.gob_read.specs.Running.{TakesMore, IsOpenSomewhere, IsOpenIn, IsUnderWay, depth_of, IsReached, IsOpen, IsFinished, IsStepped, Steps, RefusesAt, TakesNumber, RefusesNumber, JudgesFor, EndsFor, StopsFor}
+use Rattle.gob_read.specs.Running.{TakesMore, IsOpenSomewhere, IsOpenIn, IsUnderWayAt, depth_of, IsReached, IsOpenRun, IsFinished, IsStepped, Steps, RefusesAt, TakesNumber, RefusesNumber, JudgesFor, EndsFor, StopsFor}
 use Rattle.gob_read.specs.declared.awaited.Awaited.{Awaited}
 use Rattle.gob_read.specs.declared.awaited.Awaited.TheVariants.{Top, Number, Raw}
 use Rattle.gob_read.specs.declared.awaited.Item.{Item}
@@ -46,11 +46,11 @@ pub record NumberOpen (T : Table) (t : TypeId) {X O : Type 0} (stands : X → Li
   pub start_is : run.start ≡ length before
   pub taken_is : run.taken ≡ length z
 
-pub number_open : {T : Table} {t : TypeId} {X O : Type 0} {stands : X → List Telling → Type 0} {run : Run X O} {z : List ℕ} (i : Item) → run.state.awaited ≡ Number i → IsOpen T t stands run z → NumberOpen T t stands run z
+pub number_open : {T : Table} {t : TypeId} {X O : Type 0} {stands : X → List Telling → Type 0} {run : Run X O} {z : List ℕ} (i : Item) → run.state.awaited ≡ Number i → IsOpenRun T t stands run z → NumberOpen T t stands run z
 number_open {T = T} {t = t} {run = run} i e o =
     let h = o.reached in
     let w = item_awaits i h.ready (subst (λ a. At T t run.state.stack a h.before h.under_way h.placed.us) e h.placed.at) in
-    let n = subst (λ a. IsUnderWay a run.number h.under_way) e h.number_is in
+    let n = subst (λ a. IsUnderWayAt a run.number h.under_way) e h.number_is in
     record {
       ready = h.ready;
       before = h.before;
@@ -72,10 +72,10 @@ placed_any : {T : Table} {t : TypeId} {X O : Type 0} {stands : X → List Tellin
 placed_any {T = T} {t = t} {state = state} {p = p} {r = r} i r' e b =
     record { us = b.us; at = subst (λ a. At T t state.stack a p r' b.us) (sym e) (at_any i r' (subst (λ a. At T t state.stack a p r b.us) e b.at)); told = b.told }
 
-number_under_way : {number r : List ℕ} {a : Awaited} {i : Item} → a ≡ Number i → number ≡ r → BeginsNumber r → IsUnderWay a number r
-number_under_way {number = number} {r = r} e n b = subst (λ a. IsUnderWay a number r) (sym e) (n, b)
+number_under_way : {number r : List ℕ} {a : Awaited} {i : Item} → a ≡ Number i → number ≡ r → BeginsNumber r → IsUnderWayAt a number r
+number_under_way {number = number} {r = r} e n b = subst (λ a. IsUnderWayAt a number r) (sym e) (n, b)
 
-pub fresh_number : {number : List ℕ} (a : Awaited) → number ≡ [] → IsUnderWay a number []
+pub fresh_number : {number : List ℕ} (a : Awaited) → number ≡ [] → IsUnderWayAt a number []
 fresh_number (Top u) e = (e, refl)
 fresh_number (Number i) e = (e, tt)
 fresh_number (Raw left) e = e
@@ -101,7 +101,7 @@ pub number_goes_on : {T : Table} {X O : Type 0} {stands : X → List Telling →
     → new.taken ≡ run.taken + 1 → new.depth ≡ run.depth → IsUnsignedFront (run.number ++ b ∷ []) → Steps T stands run new (b ∷ []) false
 number_goes_on {T = T} {X = X} {O = O} {stands = stands} {run = run} {new = new} i b e s n a k d f = record { each = step }
   where
-    step : (t : TypeId) (z : List ℕ) → IsOpen T t stands run z → IsReached T t stands new (z ++ b ∷ [])
+    step : (t : TypeId) (z : List ℕ) → IsOpenRun T t stands run z → IsReached T t stands new (z ++ b ∷ [])
     step t z o =
         let h = number_open i e o in
         let more : run.number ++ b ∷ [] ≡ h.under_way ++ b ∷ [] = ap (λ l. l ++ b ∷ []) h.number_is in
@@ -134,7 +134,7 @@ pub bad_head_refused : {T : Table} {X O : Type 0} {stands : X → List Telling �
     → RefusesAt T stands run (b ∷ []) (record { place = run.start; seen = run.taken + 1; reason = reason.BadHead })
 bad_head_refused {T = T} {stands = stands} {run = run} i b e k = record { each = refused }
   where
-    refused : (t : TypeId) (z x : List ℕ) → IsOpen T t stands run z → IsFirst T t run.depth run.length (z ++ (b ∷ [] ++ x)) (record { place = run.start; seen = run.taken + 1; reason = reason.BadHead })
+    refused : (t : TypeId) (z x : List ℕ) → IsOpenRun T t stands run z → IsFirst T t run.depth run.length (z ++ (b ∷ [] ++ x)) (record { place = run.start; seen = run.taken + 1; reason = reason.BadHead })
     refused t z x o =
         let h = number_open i e o in
         let f = bad_first h.under_way b x h.begins (subst (λ r. IsBadHead (r ++ b ∷ [])) h.number_is k) in
@@ -147,7 +147,7 @@ pub not_minimal_refused : {T : Table} {X O : Type 0} {stands : X → List Tellin
     → RefusesAt T stands run (b ∷ []) (record { place = run.start; seen = run.taken + 1; reason = reason.NotMinimal })
 not_minimal_refused {T = T} {stands = stands} {run = run} i b e k = record { each = refused }
   where
-    refused : (t : TypeId) (z x : List ℕ) → IsOpen T t stands run z → IsFirst T t run.depth run.length (z ++ (b ∷ [] ++ x)) (record { place = run.start; seen = run.taken + 1; reason = reason.NotMinimal })
+    refused : (t : TypeId) (z x : List ℕ) → IsOpenRun T t stands run z → IsFirst T t run.depth run.length (z ++ (b ∷ [] ++ x)) (record { place = run.start; seen = run.taken + 1; reason = reason.NotMinimal })
     refused t z x o =
         let h = number_open i e o in
         let f = minimal_first h.under_way b x h.begins (subst (λ r. IsNotMinimal (r ++ b ∷ [])) h.number_is k) in
@@ -160,7 +160,7 @@ pub not_allowed_refused : {T : Table} {X O : Type 0} {stands : X → List Tellin
     → mid.taken ≡ run.taken + length c → IsUnsigned n (run.number ++ c) → RefusesNumber T stands mid n refusal → RefusesAt T stands run c refusal
 not_allowed_refused {T = T} {X = X} {O = O} {stands = stands} {run = run} {mid = mid} {n = n} {refusal = refusal} i c e s a k u r = record { each = refused }
   where
-    refused : (t : TypeId) (z x : List ℕ) → IsOpen T t stands run z → IsFirst T t run.depth run.length (z ++ (c ++ x)) refusal
+    refused : (t : TypeId) (z x : List ℕ) → IsOpenRun T t stands run z → IsFirst T t run.depth run.length (z ++ (c ++ x)) refusal
     refused t z x o =
         let h = number_open i e o in
         let y = r.refuses.each t h.before h.under_way h.ready (subst (λ (s : State X O). IsPlaced T t stands s h.before h.under_way) (sym s) h.placed) in
@@ -173,7 +173,7 @@ not_allowed_refused {T = T} {X = X} {O = O} {stands = stands} {run = run} {mid =
         first_is (not_allowed_first {announced = run.length} x y.awaits (omega arith) h.shallow there v y.not_allowed) (sym (r.place_is ∙ a ∙ h.start_is)) (omega arith) y.reason_is
 
 -- behind what was read whole
-settled_stepped : {T : Table} {t : TypeId} {X O : Type 0} (stands : X → List Telling → Type 0) (new : Run X O) {y z : List ℕ} (whole : Bool) → IsReady T t → y ≡ z → new.number ≡ [] → new.start ≡ length z → new.taken ≡ length z → IsShallow T t new.depth z
+pub settled_stepped : {T : Table} {t : TypeId} {X O : Type 0} (stands : X → List Telling → Type 0) (new : Run X O) {y z : List ℕ} (whole : Bool) → IsReady T t → y ≡ z → new.number ≡ [] → new.start ≡ length z → new.taken ≡ length z → IsShallow T t new.depth z
     → Settled T t stands new.state y whole → IsStepped T t stands new z whole
 settled_stepped {T = T} {t = t} stands new true d e n a m k r = record { read = subst (IsRead T t stands new.state) e r; taken_is = m; shallow = k }
 settled_stepped {T = T} {t = t} stands new {z = z} false d e n a m k r = record {
@@ -236,7 +236,7 @@ pub number_stepped : {T : Table} {X O : Type 0} {stands : X → List Telling →
     → mid.taken ≡ run.taken + length c → mid.depth ≡ run.depth → IsUnsigned n (run.number ++ c) → TakesNumber T stands mid new n whole → Steps T stands run new c whole
 number_stepped {T = T} {X = X} {O = O} {stands = stands} {run = run} {mid = mid} {new = new} {n = n} {whole = whole} i c e s b k d u f = record { each = step }
   where
-    step : (t : TypeId) (z : List ℕ) → IsOpen T t stands run z → IsStepped T t stands new (z ++ c) whole
+    step : (t : TypeId) (z : List ℕ) → IsOpenRun T t stands run z → IsStepped T t stands new (z ++ c) whole
     step t z o =
         let h = number_open i e o in
         let v : IsUnsigned n (h.under_way ++ c) = subst (λ r. IsUnsigned n (r ++ c)) h.number_is u in
@@ -256,12 +256,12 @@ raw_stepped {T = T} {X = X} {O = O} {stands = stands} {run = run} {new = new} {w
     deep_is : {rest : ℕ} → new.state.awaited ≡ Raw rest → new.state.stack ≡ run.state.stack → length run.state.stack + 1 ≤ run.depth → depth_of new.state.awaited new.state.stack ≤ new.depth
     deep_is a s l = let m : depth_of new.state.awaited new.state.stack ≡ length run.state.stack + 1 = ap (λ a. depth_of a new.state.stack) a ∙ ap (λ fs. length fs + 1) s in omega arith
 
-    step : (t : TypeId) (z : List ℕ) → IsOpen T t stands run z → IsStepped T t stands new (z ++ bytes) whole
+    step : (t : TypeId) (z : List ℕ) → IsOpenRun T t stands run z → IsStepped T t stands new (z ++ bytes) whole
     step t z o =
         let h = o.reached in
         let w = raw_awaits (subst (λ a. At T t run.state.stack a h.before h.under_way h.placed.us) e h.placed.at) in
         let l : length run.state.stack + 1 ≤ run.depth = subst (λ a. depth_of a run.state.stack ≤ run.depth) e o.not_deep in
-        let none : run.number ≡ [] = subst (λ a. IsUnderWay a run.number h.under_way) e h.number_is in
+        let none : run.number ≡ [] = subst (λ a. IsUnderWayAt a run.number h.under_way) e h.number_is in
         let there = further h.before h.under_way bytes h.whole in
         let m = h.taken_is in
         let taken : new.taken ≡ length (z ++ bytes) = omega (arith, length-append z bytes) in
@@ -274,7 +274,7 @@ raw_stepped {T = T} {X = X} {O = O} {stands = stands} {run = run} {new = new} {w
                 under_way = h.under_way ++ bytes;
                 placed = r.placed;
                 whole = there;
-                number_is = subst (λ a. IsUnderWay a new.number (h.under_way ++ bytes)) (sym r.awaited) (n ∙ none);
+                number_is = subst (λ a. IsUnderWayAt a new.number (h.under_way ++ bytes)) (sym r.awaited) (n ∙ none);
                 start_is = before_end some ∙ h.start_is;
                 taken_is = taken;
                 shallow = subst (λ k. IsShallow T t k h.before) (sym d) h.shallow;
@@ -327,7 +327,7 @@ reached_stood {T = T} {t = t} {run = run} {announced = announced} {z = z} h l ro
     from (Top u) e = absurd (no_top (at_place (Top u) e))
     from (Number i) e =
         let w = item_awaits i h.ready (at_place (Number i) e) in
-        let n = subst (λ a. IsUnderWay a run.number h.under_way) e h.number_is in
+        let n = subst (λ a. IsUnderWayAt a run.number h.under_way) e h.number_is in
         record {
           before = h.before;
           under_way = h.under_way;

@@ -4,7 +4,7 @@ use Rattle.std.proofs.lemmas.List.{reverse-append, set_split}
 use Rattle.std.proofs.lemmas.Grind.{common_steps}
 use Rattle.gob_value.specs.Tree.{Tree}
 use Rattle.gob_read.specs.declared.open.Open.{Open}
-use Rattle.gob_read.specs.Built.{Part, Work, added, closed, changed, put_in, left_in}
+use Rattle.gob_read.specs.Built.{Part, Work, added_part, closed, changed, put_in, left_in}
 use Rattle.gob_read.specs.Stack.{part_view, stack_view}
 
 abbrev pub work : List Part → Option Tree → Work
@@ -36,7 +36,7 @@ stack_set parts i y h = ap stack_view (set_last parts i y h) ∙ stack_pushed (t
 pub stack_changed : (f : Part → Part) (parts : List Open) (i : ℕ) (x y : Open) → i + 1 ≡ length parts → x ≡ get_or parts i x → part_view y ≡ f (part_view x) → stack_view (set parts i y) ≡ changed f (stack_view parts)
 stack_changed f parts i x y h e c = stack_set parts i y h ∙ ap (λ p. p ∷ stack_view (take i parts)) c ∙ ap (changed f) (sym (stack_top parts i x h e))
 
-pub put_last : (parts : List Open) (whole : Option Tree) (v : Tree) (i : ℕ) (x y : Open) → i + 1 ≡ length parts → x ≡ get_or parts i x → part_view y ≡ added (part_view x) v
+pub put_last : (parts : List Open) (whole : Option Tree) (v : Tree) (i : ℕ) (x y : Open) → i + 1 ≡ length parts → x ≡ get_or parts i x → part_view y ≡ added_part (part_view x) v
     → seen (set parts i y) whole ≡ put_in (stack_view parts) whole v
 put_last parts whole v i x y h e c =
     ap (λ ps. work ps whole) (stack_set parts i y h ∙ ap (λ p. p ∷ stack_view (take i parts)) c)

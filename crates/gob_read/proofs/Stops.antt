@@ -16,7 +16,7 @@ use Rattle.gob_types.specs.Table.{Table, shape_of}
 use Rattle.gob_value.specs.Tree.{Tree, Trees, no_tree, tree, Pairs, Fields, tree_count, pair_count}
 use Rattle.gob_value.specs.Spelling.{Spells, of_type, SpellsAs, of_bool, of_int, of_uint, of_float, of_complex, of_nil, of_bytes, of_text, of_opaque, of_slice, of_array, of_map, of_struct, SpellsEach, no_element, element, SpellsPairs, no_entry, entry, SpellsFields, end_of_fields, next_field}
 use Rattle.gob_value.specs.Top.{SpellsTop, at_once, tagged}
-use Rattle.gob_read.specs.Awaited.{Awaited, a_number, raw, Allowed, Allows, delta, tag, first_of}
+use Rattle.gob_read.specs.Awaited.{Awaited, a_number, raw, Allowed, Allows, delta, tag, first_allowed}
 use Rattle.gob_read.specs.Awaits.{FieldsRun, no_fields, field_then, Enters, slice_element, array_element, next_key, next_value, next_field as enters_field, AwaitsAt, first, second, byte_content, text_content, opaque_content, next_delta, Awaits, in_itself, in_part, in_struct, at_tag, behind_tag}
 use Rattle.gob_read.specs.Begins.{IsProperFront}
 use Rattle.gob_read.specs.Laws.{is_number, is_raw, BeginsItem, StandsInValue}
@@ -51,7 +51,7 @@ data StopsIn (T : Table) (k : Kind) (z : List ℕ) : Type 0 where
   stops_here : {p : List ℕ} {w : Awaited} (r : List ℕ) → AwaitsAt T k p w → z ≡ p ++ r → BeginsItem w r → StopsIn T k z
   stops_inside : {u : TypeId} {q : List ℕ} (y : List ℕ) → Enters T k q u → Stops T u y → z ≡ q ++ y → StopsIn T k z
 
-at_number : {T : Table} {k : Kind} {n : ℕ} {c : List ℕ} (z s : List ℕ) → Allows (first_of k) n → IsUnsigned n c → c ≡ z ++ s → s ≢ [] → StopsIn T k z
+at_number : {T : Table} {k : Kind} {n : ℕ} {c : List ℕ} (z s : List ℕ) → Allows (first_allowed k) n → IsUnsigned n c → c ≡ z ++ s → s ≢ [] → StopsIn T k z
 at_number z s l u e n = stops_here z first refl (number_begun z s l u e n)
 
 of_stops : {T : Table} {t : TypeId} {s : Shape} {z : List ℕ} → shape_of T t ≡ Some s → StopsIn T s.kind z → Stops T t z
@@ -109,13 +109,13 @@ struct_stops {T = T} {types = types} {z = z} (in_delta {next = zero} {a = a} r q
 struct_stops (in_delta {next = suc n} r q l h i) = stops_here r (next_delta (omega arith) q) h i
 struct_stops (in_field {a = a} {b = b} y q l g n s h) = stops_inside y (enters_field q l g n) s (h ∙ sym (append_assoc a b y))
 
-content_stops : {T : Table} {k : Kind} {c : List ℕ} (s z x : List ℕ) → Allows (first_of k) (length s) → IsUnsigned (length s) c → (0 < length s → AwaitsAt T k c (raw (length s))) → c ++ s ≡ z ++ x → x ≢ [] → StopsIn T k z
+content_stops : {T : Table} {k : Kind} {c : List ℕ} (s z x : List ℕ) → Allows (first_allowed k) (length s) → IsUnsigned (length s) c → (0 < length s → AwaitsAt T k c (raw (length s))) → c ++ s ≡ z ++ x → x ≢ [] → StopsIn T k z
 content_stops {c = c} s z x l u f e n =
     cut c s z x e (λ r h i. at_number z r l u h i)
     (λ r h i. stops_here r (f (let m = ap length i in let k = some_bytes x n in omega (arith, length-append r x))) h (raw_begun r x refl i n))
 
 -- behind the count of a list or a map
-counted_stops : {T : Table} {k : Kind} {n : ℕ} {c b : List ℕ} (z x : List ℕ) → Allows (first_of k) n → IsUnsigned n c → ((y : List ℕ) → z ≡ c ++ y → b ≡ y ++ x → StopsIn T k z) → c ++ b ≡ z ++ x → StopsIn T k z
+counted_stops : {T : Table} {k : Kind} {n : ℕ} {c b : List ℕ} (z x : List ℕ) → Allows (first_allowed k) n → IsUnsigned n c → ((y : List ℕ) → z ≡ c ++ y → b ≡ y ++ x → StopsIn T k z) → c ++ b ≡ z ++ x → StopsIn T k z
 counted_stops {c = c} {b = b} z x l u f e = cut c b z x e (λ r h i. at_number z r l u h i) f
 
 list_stops : {T : Table} {k : Kind} {e : TypeId} {m : ℕ} (c z y : List ℕ) → ((us : Trees) (a : List ℕ) → SpellsEach T e us a → tree_count us < m → Enters T k (c ++ a) e) → z ≡ c ++ y → StopsEach T e m y → StopsIn T k z

@@ -20,7 +20,7 @@ use Rattle.gob_value.specs.Tree.{no_field, field}
 use Rattle.gob_value.specs.Spelling.{Spells, of_type, SpellsAs, of_bool, of_int, of_uint, of_float, of_complex, of_nil, of_bytes, of_text, of_opaque, of_slice, of_array, of_map, of_struct, end_of_fields, next_field}
 use Rattle.gob_value.specs.Top.{SpellsTop, at_once, tagged}
 use Rattle.gob_value.proofs.PublicLaws.{AllReady}
-use Rattle.gob_read.specs.Awaited.{Awaited, Allows, first_of}
+use Rattle.gob_read.specs.Awaited.{Awaited, Allows, first_allowed}
 use Rattle.gob_read.specs.Awaits.{FieldsRun, no_fields, AwaitsAt, first, second, byte_content, text_content, opaque_content, next_delta, Awaits, in_itself, in_part, AwaitsTop, in_struct, at_tag, behind_tag}
 use Rattle.gob_read.specs.Begins.{BeginsValue, IsProperFront}
 use Rattle.gob_read.specs.Laws.{HasCountedArrays, IsItem, is_number, is_raw, StandsInValue}
@@ -85,7 +85,7 @@ whole_filled : {T : Table} {k : Kind} {v : Value.Tree} {c : List ℕ} → Spells
 whole_filled {T = T} {k = k} {v = v} {c = c} s = record { value = v; rest = []; spelled = subst (SpellsAs T k v) (sym (append_nil c)) s }
 
 -- the first number
-first_filled : {T : Table} {n : ℕ} {c : List ℕ} (k : Kind) → HasCountedArrays T → AllReady T k → Allows (first_of k) n → IsUnsigned n c → Filled T k c
+first_filled : {T : Table} {n : ℕ} {c : List ℕ} (k : Kind) → HasCountedArrays T → AllReady T k → Allows (first_allowed k) n → IsUnsigned n c → Filled T k c
 first_filled (kind.Basic basic.Bool) l r a u = bool_filled a u
 first_filled (kind.Basic basic.Int) l r a u = whole_filled (of_int (number_signed u).spelled)
 first_filled (kind.Basic basic.Uint) l r a u = whole_filled (of_uint u)

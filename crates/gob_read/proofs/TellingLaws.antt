@@ -7,9 +7,9 @@ use Rattle.gob_types.specs.Table.{Table}
 use Rattle.gob_value.specs.Tree.{Tree, Trees, Pairs, Fields}
 use Rattle.gob_value.specs.Spelling.{Spells, of_type, of_slice, of_array, of_map, of_struct, SpellsEach, element, SpellsPairs, entry, SpellsFields, next_field, truth}
 use Rattle.gob_read.specs.Telling.{Telling, leave, TellsRaw, no_bytes, more_bytes, Tells, tell_bool, tell_not_negative, tell_negative, tell_uint, tell_float, tell_complex, tell_nil, tell_bytes, tell_text, tell_opaque, tell_many, tell_pairs, tell_fields, TellsEach, tell_none, tell_each, TellsPairs, tell_no_pair, tell_pair, TellsFields, tell_no_field, tell_field}
-use Rattle.gob_read.specs.Building.{HasRoom, CanTell}
+use Rattle.gob_read.specs.Building.{HasRoomFor, CanTell}
 use Rattle.gob_read.proofs.CountLaws.{front_room}
-use Rattle.gob_read.specs.WellFormed.{Place, at_start, at_end, in_raw, in_many, before_key, before_field, Begins, whole_value, an_element, a_key, its_element, a_field, of_bool, of_int, of_uint, of_float, of_complex, of_nil, Follows, a_number, a_raw_part, raw_bytes, a_list, a_map, a_struct, a_number_of_field, end_of_raw, end_of_list, end_of_map, end_of_struct, FollowsAll, no_telling, telling, IsWellFormed}
+use Rattle.gob_read.specs.WellFormed.{Place, at_start, at_end, in_raw, in_many, before_key, before_field, BeginsPlace, whole_value, an_element, a_key, its_element, a_field, of_bool, of_int, of_uint, of_float, of_complex, of_nil, Follows, a_number, a_raw_part, raw_bytes, a_list, a_map, a_struct, a_number_of_field, end_of_raw, end_of_list, end_of_map, end_of_struct, FollowsAll, no_telling, telling, IsWellFormed}
 
 pub follows_then : {p q r : Place} {us ws : List Telling} → FollowsAll p us q → FollowsAll q ws r → FollowsAll p (us ++ ws) r
 follows_then no_telling g = g
@@ -52,7 +52,7 @@ pub record FieldsFollow (next : ℕ) (p : Place) (us : List Telling) : Type 0 wh
 
 mutual
   -- the tellings of a value that a type has
-  pub tells_follows : {T : Table} {t : TypeId} {v : Tree} {b : List ℕ} {us : List Telling} {p q : Place} → Tells v us → Spells T t v b → Begins p q → FollowsAll p us q
+  pub tells_follows : {T : Table} {t : TypeId} {v : Tree} {b : List ℕ} {us : List Telling} {p q : Place} → Tells v us → Spells T t v b → BeginsPlace p q → FollowsAll p us q
   tells_follows (tell_bool {b = b}) s h = telling (a_number h (of_bool (truth_follows b))) no_telling
   tells_follows tell_not_negative s h = telling (a_number h of_int) no_telling
   tells_follows tell_negative s h = telling (a_number h of_int) no_telling
@@ -87,7 +87,7 @@ pub value_formed : {T : Table} {t : TypeId} {v : Tree} {b : List ℕ} {us : List
 value_formed s t = record { place = at_end; follows = tells_follows t s whole_value }
 
 -- a builder that stands for a front of a well formed list may be told of what follows
-pub can_tell : {B : Type 0} (stands : B → List Telling → Type 0) (builder : B) (us ws : List Telling) (t : Telling) → stands builder us → IsWellFormed ((us ++ t ∷ []) ++ ws) → HasRoom ((us ++ t ∷ []) ++ ws) → CanTell stands builder t
+pub can_tell : {B : Type 0} (stands : B → List Telling → Type 0) (builder : B) (us ws : List Telling) (t : Telling) → stands builder us → IsWellFormed ((us ++ t ∷ []) ++ ws) → HasRoomFor ((us ++ t ∷ []) ++ ws) → CanTell stands builder t
 can_tell stands builder us ws t s f r = record { told = us; stood = s; well_formed = front_formed (us ++ t ∷ []) ws f; room = front_room (us ++ t ∷ []) ws r }
 
 -- a list seen by its items, parted behind one of them

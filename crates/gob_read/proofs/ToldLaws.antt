@@ -13,7 +13,7 @@ use Rattle.gob_read.specs.declared.frame.Frame.{Frame}
 use Rattle.gob_read.specs.declared.frame.Frame.TheVariants as frame
 use Rattle.gob_read.specs.Telling.{Telling, raw_start, raw_more, enter, field, Tells, TellsRaw, no_bytes, more_bytes}
 use Rattle.gob_read.specs.Weight.{parts_told, raw_told}
-use Rattle.gob_read.specs.WellFormed.{Place, at_start, at_end, in_raw, in_many, before_key, before_element, before_field, behind_number, Begins, whole_value, an_element, a_key, its_element, a_field, Follows, a_raw_part, raw_bytes, a_list, a_map, a_struct, a_number_of_field, FollowsAll, no_telling, telling}
+use Rattle.gob_read.specs.WellFormed.{Place, at_start, at_end, in_raw, in_many, before_key, before_element, before_field, behind_number, BeginsPlace, whole_value, an_element, a_key, its_element, a_field, Follows, a_raw_part, raw_bytes, a_list, a_map, a_struct, a_number_of_field, FollowsAll, no_telling, telling}
 use Rattle.gob_read.specs.Building.{CanTell}
 use Rattle.gob_read.specs.Within.{EachTold, none_told, one_told, PairsTold, no_pair_told, pair_told, FieldsTold, no_field_told, field_told, Within, at_once, behind_tag, in_list, at_key, at_value, in_field, OpenStruct, open_struct, Completed}
 use Rattle.gob_read.proofs.TellingLaws.{follows_then, formed_more, tells_follows}
@@ -36,7 +36,7 @@ before (frame.Key k e left ∷ fs) = before_key (behind fs)
 before (frame.Elem k e left ∷ fs) = before_element (behind fs)
 before (frame.Fields t next ∷ fs) = behind_number next (behind fs)
 
-pub begins_in : (fs : List Frame) → Begins (before fs) (behind fs)
+pub begins_in : (fs : List Frame) → BeginsPlace (before fs) (behind fs)
 begins_in [] = whole_value
 begins_in (frame.Many e left ∷ fs) = an_element
 begins_in (frame.Key k e left ∷ fs) = a_key

@@ -15,7 +15,7 @@ use Rattle.gob_types.proofs.PublicLaws.{some_injective}
 use Rattle.gob_value.specs.Tree.{Tree, Trees, Pairs, Fields, tree_count, pair_count}
 use Rattle.gob_value.specs.Spelling.{truth, Spells, of_type, SpellsAs, of_bool, of_int, of_uint, of_float, of_complex, of_nil, of_bytes, of_text, of_opaque, of_slice, of_array, of_map, of_struct, SpellsEach, no_element, element, SpellsPairs, no_entry, entry, SpellsFields, end_of_fields, next_field}
 use Rattle.gob_value.proofs.PublicLaws.{same_spelling}
-use Rattle.gob_read.specs.Awaited.{Awaited, a_number, raw, Allowed, Allows, any, delta, first_of}
+use Rattle.gob_read.specs.Awaited.{Awaited, a_number, raw, Allowed, Allows, any, delta, first_allowed}
 use Rattle.gob_read.specs.Awaits.{FieldsRun, no_fields, field_then, Enters, slice_element, array_element, next_key, next_value, next_field as enters_field, AwaitsAt, first, second, byte_content, text_content, opaque_content, next_delta, Awaits, in_itself, in_part}
 
 -- some value of the type stands first
@@ -129,7 +129,7 @@ pub next_below : {T : Table} {types : List Field} {start next : ℕ} {b : List �
 next_below no_fields l = l
 next_below {types = types} (field_then {f = f} {e = e} l g n s q) h = let k = slice_get_within types f e g in next_below q (omega arith)
 
-pub first_met : {T : Table} {k : Kind} {v : Tree} {b : List ℕ} (x y : List ℕ) → SpellsAs T k v b → x ≡ b ++ y → Meets (a_number (first_of k)) x
+pub first_met : {T : Table} {k : Kind} {v : Tree} {b : List ℕ} (x y : List ℕ) → SpellsAs T k v b → x ≡ b ++ y → Meets (a_number (first_allowed k)) x
 first_met x y (of_bool {x = b} p) e = met x y (truth_low b) p e
 first_met x y (of_int p) e = signed_met x y p e
 first_met x y (of_uint p) e = met x y tt p e

@@ -39,15 +39,15 @@ reason_of (delta most) = reason.FieldNumber
 reason_of nil = reason.InterfaceValue
 
 -- the first number of a kind: a truth value, a count, the first delta, ..
-abbrev pub first_of : Kind → Allowed
-first_of (kind.Basic basic.Bool) = truth_value
-first_of (kind.Basic basic.Interface) = nil
-first_of (kind.Basic _) = any
-first_of (kind.Array elem len) = array_count len
-first_of (kind.Slice elem) = any
-first_of (kind.Struct fields) = delta (length fields)
-first_of (kind.Map key elem) = any
-first_of (kind.Opaque marshal) = any
+abbrev pub first_allowed : Kind → Allowed
+first_allowed (kind.Basic basic.Bool) = truth_value
+first_allowed (kind.Basic basic.Interface) = nil
+first_allowed (kind.Basic _) = any
+first_allowed (kind.Array elem len) = array_count len
+first_allowed (kind.Slice elem) = any
+first_allowed (kind.Struct fields) = delta (length fields)
+first_allowed (kind.Map key elem) = any
+first_allowed (kind.Opaque marshal) = any
 
 -- the bytes end before what is awaited does
 pub data EndsWithin : Awaited → List ℕ → Type 0 where

@@ -14,7 +14,7 @@ use Rattle.gob_types.specs.Table.{Table, shape_of}
 use Rattle.gob_value.specs.Tree.{Tree, Trees, Pairs, tree_count, pair_count}
 use Rattle.gob_value.specs.Spelling.{Spells, SpellsEach, SpellsPairs}
 use Rattle.gob_value.specs.Top.{IsStruct}
-use Rattle.gob_read.specs.Awaited.{Awaited, a_number, raw, any, tag, delta, first_of}
+use Rattle.gob_read.specs.Awaited.{Awaited, a_number, raw, any, tag, delta, first_allowed}
 
 -- whole fields, each behind its delta, from one field number on to another
 pub data FieldsRun (T : Table) : List Field → ℕ → ℕ → List ℕ → Type 0 where
@@ -34,7 +34,7 @@ pub data Enters (T : Table) : Kind → List ℕ → TypeId → Type 0 where
 
 -- a part of this kind has begun with these bytes, and this comes next in the part itself
 pub data AwaitsAt (T : Table) : Kind → List ℕ → Awaited → Type 0 where
-  first : {k : Kind} → AwaitsAt T k [] (a_number (first_of k))
+  first : {k : Kind} → AwaitsAt T k [] (a_number (first_allowed k))
   second : {p : ℕ} {b : List ℕ} → IsPattern p b → AwaitsAt T (kind.Basic basic.Complex) b (a_number any)
   byte_content : {n : ℕ} {b : List ℕ} → 0 < n → IsUnsigned n b → AwaitsAt T (kind.Basic basic.Bytes) b (raw n)
   text_content : {n : ℕ} {b : List ℕ} → 0 < n → IsUnsigned n b → AwaitsAt T (kind.Basic basic.Str) b (raw n)

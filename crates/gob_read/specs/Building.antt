@@ -7,7 +7,7 @@ use Rattle.gob_read.specs.WellFormed.{IsWellFormed}
 use Rattle.gob_read.specs.Weight.{parts_told, raw_told}
 
 -- the parts and raw bytes that are told can be counted in 64 bits
-pub record HasRoom (us : List Telling) : Type 0 where
+pub record HasRoomFor (us : List Telling) : Type 0 where
   pub room : parts_told us + raw_told us < 2 ^ 64
 
 -- the builder stands for some list of tellings that may go on with this one
@@ -15,7 +15,7 @@ pub record CanTell {B : Type 0} (stands : B → List Telling → Type 0) (builde
   pub told : List Telling
   pub stood : stands builder told
   pub well_formed : IsWellFormed (told ++ t ∷ [])
-  pub room : HasRoom (told ++ t ∷ [])
+  pub room : HasRoomFor (told ++ t ∷ [])
 
 -- each list of tellings that the old builder stands for, with this one last, the new builder stands for
 pub record IsTold {B : Type 0} (stands : B → List Telling → Type 0) (old new : B) (t : Telling) : Type 0 where

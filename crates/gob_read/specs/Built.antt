@@ -40,10 +40,10 @@ pub data Part : Type 0 where
   fields : List (ℕ × Tree) → Option ℕ → Part
 
 -- the part that a group begins with
-abbrev pub opened : GroupKind → Part
-opened group.Many = many []
-opened group.Pairs = pairs [] None
-opened group.Fields = fields [] None
+abbrev pub opened_part : GroupKind → Part
+opened_part group.Many = many []
+opened_part group.Pairs = pairs [] None
+opened_part group.Fields = fields [] None
 
 -- the value of the part where it ends
 abbrev pub closed : Part → Tree
@@ -53,13 +53,13 @@ closed (pairs ps key) = Tree.pairs (pairs_of ps)
 closed (fields fs next) = Tree.fields (fields_of fs)
 
 -- a part in the part
-abbrev pub added : Part → Tree → Part
-added (raw k s) v = raw k s
-added (many vs) v = many (vs ++ v ∷ [])
-added (pairs ps None) v = pairs ps (Some v)
-added (pairs ps (Some k)) v = pairs (ps ++ (k, v) ∷ []) None
-added (fields fs None) v = fields fs None
-added (fields fs (Some f)) v = fields (fs ++ (f, v) ∷ []) None
+abbrev pub added_part : Part → Tree → Part
+added_part (raw k s) v = raw k s
+added_part (many vs) v = many (vs ++ v ∷ [])
+added_part (pairs ps None) v = pairs ps (Some v)
+added_part (pairs ps (Some k)) v = pairs (ps ++ (k, v) ∷ []) None
+added_part (fields fs None) v = fields fs None
+added_part (fields fs (Some f)) v = fields (fs ++ (f, v) ∷ []) None
 
 -- more raw bytes in the part
 abbrev pub with_bytes : Part → List ℕ → Part
@@ -100,7 +100,7 @@ numbered w f = record { parts = changed (λ p. with_number p f) w.parts; whole =
 
 abbrev pub put_in : List Part → Option Tree → Tree → Work
 put_in [] whole v = record { parts = []; whole = Some v }
-put_in (p ∷ ps) whole v = record { parts = added p v ∷ ps; whole = whole }
+put_in (p ∷ ps) whole v = record { parts = added_part p v ∷ ps; whole = whole }
 
 -- a whole part comes into the innermost open one, or is the whole value
 abbrev pub put : Work → Tree → Work
@@ -111,17 +111,17 @@ left_in [] whole = record { parts = []; whole = whole }
 left_in (p ∷ ps) whole = put_in ps whole (closed p)
 
 -- the innermost open part ends
-abbrev pub left : Work → Work
-left w = left_in w.parts w.whole
+abbrev pub left_work : Work → Work
+left_work w = left_in w.parts w.whole
 
 -- what one more telling makes of it; one that may not come there is passed over
 abbrev pub told : Work → Telling → Work
 told w (number k a b) = put w (number_tree k a b)
 told w (raw_start k) = begun w (raw k [])
 told w (raw_more s) = extended w s
-told w (enter k) = begun w (opened k)
+told w (enter k) = begun w (opened_part k)
 told w (field f) = numbered w f
-told w leave = left w
+told w leave = left_work w
 
 -- the tellings, one after another
 abbrev pub all_told : Work → List Telling → Work

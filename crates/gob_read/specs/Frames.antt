@@ -12,11 +12,11 @@ pub data IsOver : Frame → Type 0 where
   last_pair : {k e : TypeId} → IsOver (frame.Elem k e zero)
 
 -- another part follows, or the next delta
-pub data GoesOn : Frame → Frame → Type 0 where
-  to_element : {e : TypeId} {left : ℕ} → GoesOn (frame.Many e (suc left)) (frame.Many e left)
-  to_value : {k e : TypeId} {left : ℕ} → GoesOn (frame.Key k e left) (frame.Elem k e left)
-  to_key : {k e : TypeId} {left : ℕ} → GoesOn (frame.Elem k e (suc left)) (frame.Key k e left)
-  to_delta : {t : TypeId} {next : ℕ} → GoesOn (frame.Fields t next) (frame.Fields t next)
+pub data FrameGoesOn : Frame → Frame → Type 0 where
+  to_element : {e : TypeId} {left : ℕ} → FrameGoesOn (frame.Many e (suc left)) (frame.Many e left)
+  to_value : {k e : TypeId} {left : ℕ} → FrameGoesOn (frame.Key k e left) (frame.Elem k e left)
+  to_key : {k e : TypeId} {left : ℕ} → FrameGoesOn (frame.Elem k e (suc left)) (frame.Key k e left)
+  to_delta : {t : TypeId} {next : ℕ} → FrameGoesOn (frame.Fields t next) (frame.Fields t next)
 
 -- the number that is awaited there
 abbrev pub item_of : Frame → Item

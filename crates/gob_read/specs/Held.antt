@@ -1,7 +1,7 @@
 -- How much is held of a body of which only the first bytes came: each part from its first byte on, and of its raw bytes
--- those that came, where they are stored.
+-- those that came, as far as either is stored.
 -- (docs/FORMAT.md, Tellings: What is held.)
-use Rattle.std.specs.Prelude.{◌≡◌, ℕ, ◌+◌, ◌-◌, ◌<◌, ◌≤◌, List, [], ◌∷◌, ◌++◌, length, Some, slice_get, Bool, true, false}
+use Rattle.std.specs.Prelude.{◌≡◌, ℕ, ◌+◌, ◌-◌, ◌<◌, ◌≤◌, List, [], ◌∷◌, ◌++◌, length, Some, slice_get}
 use Rattle.gob_num.specs.Unsigned.{IsUnsigned, IsUnsignedFront}
 use Rattle.gob_num.specs.Pattern.{IsPattern}
 use Rattle.gob_types.specs.declared.id.TypeId.{TypeId}
@@ -16,6 +16,8 @@ use Rattle.gob_value.specs.Tree.{Tree, Trees, Pairs, Fields, no_field, tree_coun
 use Rattle.gob_value.specs.Tree as Value
 use Rattle.gob_value.specs.Spelling.{Spells, SpellsEach, SpellsPairs}
 use Rattle.gob_value.specs.Top.{IsStruct}
+use Rattle.gob_read.specs.declared.builder.Stores.{Stores}
+use Rattle.gob_read.specs.declared.builder.Stores.TheVariants.{PartsAndRaw, Parts, Nothing}
 use Rattle.gob_read.specs.Stood.{IsStood}
 use Rattle.gob_read.specs.Weight.{part_count, raw_count, parts_of_all, raw_of_all, parts_of_pairs, raw_of_pairs, parts_of_fields, raw_of_fields}
 
@@ -61,17 +63,24 @@ pub data PartialBody (T : Table) : TypeId → List ℕ → ℕ → ℕ → Type 
   in_tag : {t : TypeId} {s : Shape} {r : List ℕ} → shape_of T t ≡ Some s → ¬ IsStruct s.kind → IsUnsignedFront r → PartialBody T t r 0 0
   behind_tag : {t : TypeId} {s : Shape} {z : List ℕ} {m w : ℕ} → shape_of T t ≡ Some s → ¬ IsStruct s.kind → PartialPart T t z m w → PartialBody T t (0 ∷ z) m w
 
--- so much is held of so many parts and raw bytes by a builder that stores raw bytes, or doesn't
-abbrev pub held_of : Bool → ℕ → ℕ → ℕ
-held_of true parts raws = parts + raws
-held_of false parts raws = parts
+-- so much is held of so many parts and raw bytes by a builder that stores this of them
+abbrev pub held_of : Stores → ℕ → ℕ → ℕ
+held_of PartsAndRaw parts raws = parts + raws
+held_of Parts parts raws = parts
+held_of Nothing parts raws = 0
+
+-- of so many parts so many are held
+abbrev pub counted_of : Stores → ℕ → ℕ
+counted_of PartsAndRaw parts = parts
+counted_of Parts parts = parts
+counted_of Nothing parts = 0
 
 -- so much is held of a body of which these bytes came
-pub record IsHeld (T : Table) (t : TypeId) (stores_raw : Bool) (z : List ℕ) (held : ℕ) : Type 0 where
+pub record IsHeld (T : Table) (t : TypeId) (stores : Stores) (z : List ℕ) (held : ℕ) : Type 0 where
   pub parts : ℕ
   pub raws : ℕ
   pub partial : PartialBody T t z parts raws
-  pub held_is : held ≡ held_of stores_raw parts raws
+  pub held_is : held ≡ held_of stores parts raws
 
 -- of bytes that stand so many parts and raw bytes came
 abbrev pub StandingArePartial : Type 0
@@ -79,8 +88,8 @@ StandingArePartial = (T : Table) (t : TypeId) (limit announced : ℕ) (z : List 
 
 -- and no others, so that one number is held
 abbrev pub HoldOnce : Type 0
-HoldOnce = (T : Table) (t : TypeId) (stores_raw : Bool) (z : List ℕ) (held other : ℕ) → IsHeld T t stores_raw z held → IsHeld T t stores_raw z other → held ≡ other
+HoldOnce = (T : Table) (t : TypeId) (stores : Stores) (z : List ℕ) (held other : ℕ) → IsHeld T t stores z held → IsHeld T t stores z other → held ≡ other
 
 -- at most as many as the bytes
 abbrev pub HoldAtMostTheirLength : Type 0
-HoldAtMostTheirLength = (T : Table) (t : TypeId) (stores_raw : Bool) (z : List ℕ) (held : ℕ) → IsHeld T t stores_raw z held → held ≤ length z
+HoldAtMostTheirLength = (T : Table) (t : TypeId) (stores : Stores) (z : List ℕ) (held : ℕ) → IsHeld T t stores z held → held ≤ length z

@@ -10,11 +10,11 @@ use Rattle.gob_read.specs.Refusal.{Refusal}
 use Rattle.gob_read.specs.First.{IsFirst}
 use Rattle.gob_read.specs.Begins.{BeginsValue, BeginsNone, BeginsOnlyDeep}
 use Rattle.gob_read.specs.Laws.{IsOfNumber, HasCountedArrays}
-use Rattle.gob_read.specs.Reader.{Stands}
+use Rattle.gob_read.specs.Reader.{ReaderStands}
 use Rattle.gob_read.specs.declared.run.Run.{Run}
 
 -- z is what is there of a value of the type and its tag, whose parts may be no deeper than the limit
-pub record IsHonest (T : Table) (t : TypeId) (limit : ℕ) (z : List ℕ) (R : Refusal) : Type 0 where
+pub record IsHonestBody (T : Table) (t : TypeId) (limit : ℕ) (z : List ℕ) (R : Refusal) : Type 0 where
   -- where a number is refused, the bytes before it begin a value, and those up to its end begin none
   pub number : IsOfNumber R.reason → BeginsValue T t (take R.place z) × BeginsNone T t (take R.seen z)
   -- where a part is too deep, the bytes before it begin a value, and only values that are too deep
@@ -22,8 +22,8 @@ pub record IsHonest (T : Table) (t : TypeId) (limit : ℕ) (z : List ℕ) (R : R
 
 -- the refusal that is given is honest
 abbrev pub FirstIsHonest : Type 0
-FirstIsHonest = (T : Table) (t : TypeId) (limit announced : ℕ) (z : List ℕ) (R : Refusal) → HasCountedArrays T → IsReady T t → IsFirst T t limit announced z R → IsHonest T t limit z R
+FirstIsHonest = (T : Table) (t : TypeId) (limit announced : ℕ) (z : List ℕ) (R : Refusal) → HasCountedArrays T → IsReady T t → IsFirst T t limit announced z R → IsHonestBody T t limit z R
 
 -- the refusal of a piece is honest, wherever the reader stood
 pub record RefusesHonestly (T : Table) {X O : Type 0} (stands : X → List Telling → Type 0) (run : Option (Run X O)) (piece : List ℕ) (refusal : Refusal) : Type 0 where
-  pub each : (t : TypeId) (limit announced : ℕ) (z : List ℕ) → HasCountedArrays T → Stands T t limit announced stands run z → IsHonest T t limit (z ++ take (announced - length z) piece) refusal
+  pub each : (t : TypeId) (limit announced : ℕ) (z : List ℕ) → HasCountedArrays T → ReaderStands T t limit announced stands run z → IsHonestBody T t limit (z ++ take (announced - length z) piece) refusal

@@ -53,8 +53,8 @@ abbrev pub GiveOne : Type 0
 GiveOne = (T : Table) (t : TypeId) (limit announced : ℕ) (z : List ℕ) (R S : Refusal) → IsFirst T t limit announced z R → IsFirst T t limit announced z S → R ≡ S
 
 -- the bytes that show the refusal are there, and it is the one that is given of all bytes that begin with them
-abbrev pub StayShown : Type 0
-StayShown = (T : Table) (t : TypeId) (limit announced : ℕ) (z y : List ℕ) (R : Refusal) → IsFirst T t limit announced z R → length z ≤ announced → length y ≤ announced → take R.seen y ≡ take R.seen z
+abbrev pub BodiesStayShown : Type 0
+BodiesStayShown = (T : Table) (t : TypeId) (limit announced : ℕ) (z y : List ℕ) (R : Refusal) → IsFirst T t limit announced z R → length z ≤ announced → length y ≤ announced → take R.seen y ≡ take R.seen z
     → (R.seen ≤ length z) × IsFirst T t limit announced y R
 
 -- where bytes stand, each refusal is shown by more bytes, whatever they are

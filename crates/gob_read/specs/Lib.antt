@@ -16,6 +16,7 @@ pub mod Steps
 pub mod Running
 pub mod Plain
 pub mod Reader
+pub mod UnderWay
 pub mod ReaderLaws
 pub mod Counted
 pub mod Built

@@ -11,12 +11,12 @@ use Rattle.gob_read.specs.Building.{IsTold}
 use Rattle.gob_read.specs.Kinds.{IsScalar, IsRawKind}
 use Rattle.gob_read.specs.Frames as Frames
 use Rattle.gob_read.specs.Frames.{item_of}
-use Rattle.gob_read.specs.Steps.{CanBegin, CanGoOn, GoesOn}
+use Rattle.gob_read.specs.Steps.{CanBegin, CanGoOn, StepGoesOn}
 use Rattle.gob_read.specs.Running.{TakesMore, Steps}
 use Rattle.gob_read.specs.declared.frame.Frame.{Frame}
 use Rattle.gob_read.specs.declared.frame.Frame.TheVariants as frame
 use Rattle.gob_read.specs.declared.awaited.Awaited.TheVariants.{Number}
-use Rattle.gob_read.specs.declared.awaited.Item.TheVariants.{Part, Delta}
+use Rattle.gob_read.specs.declared.awaited.Item.TheVariants.{Part}
 use Rattle.gob_read.specs.declared.telling.RawKind.{RawKind}
 use Rattle.gob_read.specs.declared.state.State.{State}
 use Rattle.gob_read.specs.declared.run.Run.{Run}
@@ -48,14 +48,18 @@ IsInFields u next fs = slice_get fs 0 ≡ Some (frame.Fields u next)
 abbrev pub IsInList : TypeId → ℕ → List Frame → Type 0
 IsInList e left fs = slice_get fs 0 ≡ Some (frame.Many e left)
 
+-- it is a map of keys and elements, of which so many pairs are to come behind the one whose key is read
+abbrev pub IsInMap : TypeId → TypeId → ℕ → List Frame → Type 0
+IsInMap k e left fs = slice_get fs 0 ≡ Some (frame.Key k e left)
+
 -- behind the part that is read, the innermost open part is this one
 pub record IsFollowedBy (next : Frame) (fs : List Frame) : Type 0 where
   pub frame : Frame
   pub innermost : slice_get fs 0 ≡ Some frame
-  pub goes_on : Frames.GoesOn frame next
+  pub goes_on : Frames.FrameGoesOn frame next
 
 -- the reader has stepped over the bytes, and the next item begins behind them
-pub record Passes (T : Table) {X O : Type 0} (stands : X → List Telling → Type 0) (old new : Run X O) (bytes : List ℕ) : Type 0 where
+pub record PassesPlain (T : Table) {X O : Type 0} (stands : X → List Telling → Type 0) (old new : Run X O) (bytes : List ℕ) : Type 0 where
   pub more : TakesMore old new (length bytes)
   pub steps : Steps T stands old new bytes false
   pub fresh : new.start ≡ new.taken
@@ -63,7 +67,7 @@ pub record Passes (T : Table) {X O : Type 0} (stands : X → List Telling → Ty
 -- the part was taken with so many bytes, and behind it the innermost open part is this one, or nothing was done
 pub data TakesPlain (T : Table) {X O : Type 0} (stands : X → List Telling → Type 0) (old new : Run X O) (next : Frame) (rest : List ℕ) : ℕ → Type 0 where
   not_taken : new ≡ old → TakesPlain T stands old new next rest 0
-  plain_taken : {used : ℕ} → 0 < used → used ≤ length rest → Passes T stands old new (take used rest) → new.state.awaited ≡ Number (item_of next) → new.state.stack ≡ next ∷ drop 1 old.state.stack → length new.state.stack ≡ length old.state.stack → TakesPlain T stands old new next rest used
+  plain_taken : {used : ℕ} → 0 < used → used ≤ length rest → PassesPlain T stands old new (take used rest) → new.state.awaited ≡ Number (item_of next) → new.state.stack ≡ next ∷ drop 1 old.state.stack → length new.state.stack ≡ length old.state.stack → TakesPlain T stands old new next rest used
 
 -- so much of the piece was stepped over, or nothing was done
 pub data StepsPlain (T : Table) {X O : Type 0} (stands : X → List Telling → Type 0) (old new : Run X O) (rest : List ℕ) (s : Stepped) : Type 0 where
@@ -72,7 +76,7 @@ pub data StepsPlain (T : Table) {X O : Type 0} (stands : X → List Telling → 
 
 -- the delta was taken, and a part of this type is awaited in the struct
 pub record EntersField (T : Table) {X O : Type 0} (stands : X → List Telling → Type 0) (old new : Run X O) (n : ℕ) (u : TypeId) (next : ℕ) (part : TypeId) : Type 0 where
-  pub passes : Passes T stands old new (n ∷ [])
+  pub passes : PassesPlain T stands old new (n ∷ [])
   pub awaited : new.state.awaited ≡ Number (Part part)
   pub inside : IsInFields u next new.state.stack
   pub as_deep : length new.state.stack ≡ length old.state.stack
@@ -97,4 +101,4 @@ pub record CanEndFields {X O : Type 0} (stands : X → List Telling → Type 0) 
 
 -- what comes behind it is settled
 pub record EndsFields {X O : Type 0} (stands : X → List Telling → Type 0) (old new : State X O) (whole : Bool) : Type 0 where
-  pub each : (id : TypeId) (types : List Field) (next : ℕ) → GoesOn stands old new id types next 0 whole
+  pub each : (id : TypeId) (types : List Field) (next : ℕ) → StepGoesOn stands old new id types next 0 whole

@@ -8,7 +8,7 @@ use Rattle.gob_read.specs.Refusal.{Refusal}
 use Rattle.gob_read.specs.First.{IsFirst}
 use Rattle.gob_read.specs.Stood.{IsStood}
 use Rattle.gob_read.specs.Telling.{Telling}
-use Rattle.gob_read.specs.Running.{IsReached, IsNew}
+use Rattle.gob_read.specs.Running.{IsReached, IsNewRun}
 use Rattle.gob_read.specs.declared.run.Run.{Run}
 use Rattle.gob_read.specs.declared.stop.Stop.{Stop}
 use Rattle.gob_read.specs.declared.stop.Stop.TheVariants as stops
@@ -17,7 +17,7 @@ use Rattle.gob_read.specs.declared.reader.Progress.TheVariants.{More, Done}
 
 -- the reader is new, or has taken these bytes
 pub data HasTaken (T : Table) (t : TypeId) {X O : Type 0} (stands : X → List Telling → Type 0) (run : Run X O) : List ℕ → Type 0 where
-  nothing_taken : IsNew T t stands run → HasTaken T t stands run []
+  nothing_taken : IsNewRun T t stands run → HasTaken T t stands run []
   taken_so_far : {z : List ℕ} → IsReached T t stands run z → HasTaken T t stands run z
 
 -- a run under way stands after these bytes of a body of the type, of whose length so many bytes are announced, and
@@ -29,9 +29,9 @@ pub record IsAfter (T : Table) (t : TypeId) (limit announced : ℕ) {X O : Type 
   pub within : length z ≤ announced
 
 -- a reader that has ended stands after nothing
-abbrev pub Stands : Table → TypeId → ℕ → ℕ → {X O : Type 0} → (X → List Telling → Type 0) → Option (Run X O) → List ℕ → Type 0
-Stands T t limit announced stands None z = ⊥
-Stands T t limit announced stands (Some run) z = IsAfter T t limit announced stands run z
+abbrev pub ReaderStands : Table → TypeId → ℕ → ℕ → {X O : Type 0} → (X → List Telling → Type 0) → Option (Run X O) → List ℕ → Type 0
+ReaderStands T t limit announced stands None z = ⊥
+ReaderStands T t limit announced stands (Some run) z = IsAfter T t limit announced stands run z
 
 pub record StandsSomewhere (T : Table) {X O : Type 0} (stands : X → List Telling → Type 0) (run : Run X O) : Type 0 where
   pub type : TypeId
@@ -41,9 +41,9 @@ pub record StandsSomewhere (T : Table) {X O : Type 0} (stands : X → List Telli
   pub after : IsAfter T type limit announced stands run bytes
 
 -- it has ended, or stands after some bytes
-abbrev pub IsUsable : Table → {X O : Type 0} → (X → List Telling → Type 0) → Option (Run X O) → Type 0
-IsUsable T stands None = Unit {0}
-IsUsable T stands (Some run) = StandsSomewhere T stands run
+abbrev pub IsUsableReader : Table → {X O : Type 0} → (X → List Telling → Type 0) → Option (Run X O) → Type 0
+IsUsableReader T stands None = Unit {0}
+IsUsableReader T stands (Some run) = StandsSomewhere T stands run
 
 -- the bytes spell a value no deeper than the limit, all that were announced, and this was made of it
 pub record IsMade (T : Table) (t : TypeId) (limit announced : ℕ) {O : Type 0} (means : O → Tree → Type 0) (out : O) (z : List ℕ) : Type 0 where
@@ -54,8 +54,8 @@ pub record IsMade (T : Table) (t : TypeId) (limit announced : ℕ) {O : Type 0} 
   pub meant : means out value
 
 -- the piece was taken, and nothing that the bytes show is refused
-pub record TakesPiece (T : Table) (t : TypeId) (limit announced : ℕ) {X O : Type 0} (stands : X → List Telling → Type 0) (run : Option (Run X O)) (z piece : List ℕ) : Type 0 where
-  pub after : Stands T t limit announced stands run (z ++ piece)
+pub record ReaderTakesPiece (T : Table) (t : TypeId) (limit announced : ℕ) {X O : Type 0} (stands : X → List Telling → Type 0) (run : Option (Run X O)) (z piece : List ℕ) : Type 0 where
+  pub after : ReaderStands T t limit announced stands run (z ++ piece)
   pub stood : IsStood T t limit announced (z ++ piece)
 
 -- so many bytes of the piece were taken, with which the body and its value end
@@ -65,13 +65,13 @@ pub record EndsBody (T : Table) (t : TypeId) (limit announced : ℕ) {X O : Type
   pub made : IsMade T t limit announced means out (z ++ take used piece)
 
 -- after the bytes z a piece was pushed
-abbrev pub Gives : (T : Table) (t : TypeId) (limit announced : ℕ) {X O : Type 0} (stands : X → List Telling → Type 0) (means : O → Tree → Type 0) (run : Option (Run X O)) (z piece : List ℕ) → Progress O → Type 0
-Gives T t limit announced stands means run z piece More = TakesPiece T t limit announced stands run z piece
-Gives T t limit announced stands means run z piece (Done out used) = EndsBody T t limit announced means run z piece out used
+abbrev pub ReaderGives : (T : Table) (t : TypeId) (limit announced : ℕ) {X O : Type 0} (stands : X → List Telling → Type 0) (means : O → Tree → Type 0) (run : Option (Run X O)) (z piece : List ℕ) → Progress O → Type 0
+ReaderGives T t limit announced stands means run z piece More = ReaderTakesPiece T t limit announced stands run z piece
+ReaderGives T t limit announced stands means run z piece (Done out used) = EndsBody T t limit announced means run z piece out used
 
 -- the refusal is the one that is given of the bytes up to the announced length
-pub record RefusesBody (T : Table) {X O : Type 0} (stands : X → List Telling → Type 0) (run : Option (Run X O)) (piece : List ℕ) (refusal : Refusal) : Type 0 where
-  pub each : (t : TypeId) (limit announced : ℕ) (z : List ℕ) → Stands T t limit announced stands run z → IsFirst T t limit announced (z ++ take (announced - length z) piece) refusal
+pub record ReaderRefusesBody (T : Table) {X O : Type 0} (stands : X → List Telling → Type 0) (run : Option (Run X O)) (piece : List ℕ) (refusal : Refusal) : Type 0 where
+  pub each : (t : TypeId) (limit announced : ℕ) (z : List ℕ) → ReaderStands T t limit announced stands run z → IsFirst T t limit announced (z ++ take (announced - length z) piece) refusal
 
 -- why a reader stops: what holds of the refusal, if there is one, and only one that has ended before says so
 abbrev pub Stops : {X O : Type 0} → Option (Run X O) → (Refusal → Type 0) → Stop → Type 0

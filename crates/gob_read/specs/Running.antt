@@ -9,7 +9,7 @@ use Rattle.gob_read.specs.Refusal.{Refusal}
 use Rattle.gob_read.specs.First.{IsFirst}
 use Rattle.gob_read.specs.Stood.{IsShallow, IsStood}
 use Rattle.gob_read.specs.Telling.{Telling}
-use Rattle.gob_read.specs.Steps.{IsPlaced, IsRead, Takes, Refuses}
+use Rattle.gob_read.specs.Steps.{IsPlaced, IsRead, StepTakes, StepRefuses}
 use Rattle.gob_read.specs.declared.stop.Stop.{Stop}
 use Rattle.gob_read.specs.declared.stop.Stop.TheVariants.{Refused, Memory, Failed}
 use Rattle.gob_read.specs.declared.frame.Frame.{Frame}
@@ -20,10 +20,10 @@ use Rattle.gob_read.specs.declared.awaited.Item.TheVariants.{Tag, Part, Second, 
 use Rattle.gob_read.specs.declared.run.Run.{Run}
 
 -- the bytes of the awaited item that came
-abbrev pub IsUnderWay : Awaited → List ℕ → List ℕ → Type 0
-IsUnderWay (Top t) number r = (number ≡ []) × (r ≡ [])
-IsUnderWay (Number item) number r = (number ≡ r) × BeginsNumber r
-IsUnderWay (Raw left) number r = number ≡ []
+abbrev pub IsUnderWayAt : Awaited → List ℕ → List ℕ → Type 0
+IsUnderWayAt (Top t) number r = (number ≡ []) × (r ≡ [])
+IsUnderWayAt (Number item) number r = (number ≡ r) × BeginsNumber r
+IsUnderWayAt (Raw left) number r = number ≡ []
 
 -- how deep the awaited item's part lies, where so many parts are open; a tag is in no part
 abbrev pub item_depth : Item → ℕ → ℕ
@@ -50,14 +50,14 @@ pub record IsReached (T : Table) (t : TypeId) {X O : Type 0} (stands : X → Lis
   pub under_way : List ℕ
   pub placed : IsPlaced T t stands run.state before under_way
   pub whole : z ≡ before ++ under_way
-  pub number_is : IsUnderWay run.state.awaited run.number under_way
+  pub number_is : IsUnderWayAt run.state.awaited run.number under_way
   pub start_is : run.start ≡ length before
   pub taken_is : run.taken ≡ length z
   pub shallow : IsShallow T t run.depth before
   pub judged : 0 < length under_way → depth_of run.state.awaited run.state.stack ≤ run.depth
 
 -- and may take more
-pub record IsOpen (T : Table) (t : TypeId) {X O : Type 0} (stands : X → List Telling → Type 0) (run : Run X O) (z : List ℕ) : Type 0 where
+pub record IsOpenRun (T : Table) (t : TypeId) {X O : Type 0} (stands : X → List Telling → Type 0) (run : Run X O) (z : List ℕ) : Type 0 where
   pub reached : IsReached T t stands run z
   pub not_deep : depth_of run.state.awaited run.state.stack ≤ run.depth
   pub room : run.taken < run.length
@@ -71,7 +71,7 @@ pub record IsReachedSomewhere (T : Table) {X O : Type 0} (stands : X → List Te
 pub record IsOpenSomewhere (T : Table) {X O : Type 0} (stands : X → List Telling → Type 0) (run : Run X O) : Type 0 where
   pub type : TypeId
   pub bytes : List ℕ
-  pub open_ : IsOpen T type stands run bytes
+  pub open_ : IsOpenRun T type stands run bytes
 
 -- the same under some table
 pub record IsOpenIn {X O : Type 0} (stands : X → List Telling → Type 0) (run : Run X O) : Type 0 where
@@ -79,7 +79,7 @@ pub record IsOpenIn {X O : Type 0} (stands : X → List Telling → Type 0) (run
   pub open_ : IsOpenSomewhere table stands run
 
 -- the reader has taken nothing, and looked nothing up
-pub record IsNew (T : Table) (t : TypeId) {X O : Type 0} (stands : X → List Telling → Type 0) (run : Run X O) : Type 0 where
+pub record IsNewRun (T : Table) (t : TypeId) {X O : Type 0} (stands : X → List Telling → Type 0) (run : Run X O) : Type 0 where
   pub ready : IsReady T t
   pub awaited : run.state.awaited ≡ Top t
   pub stack : run.state.stack ≡ []
@@ -112,28 +112,28 @@ pub record TakesMore {X O : Type 0} (old new : Run X O) (count : ℕ) : Type 0 w
 
 -- wherever the reader may take more, it has stepped over these bytes
 pub record Steps (T : Table) {X O : Type 0} (stands : X → List Telling → Type 0) (old new : Run X O) (bytes : List ℕ) (whole : Bool) : Type 0 where
-  pub each : (t : TypeId) (z : List ℕ) → IsOpen T t stands old z → IsStepped T t stands new (z ++ bytes) whole
+  pub each : (t : TypeId) (z : List ℕ) → IsOpenRun T t stands old z → IsStepped T t stands new (z ++ bytes) whole
 
 -- wherever the reader may take more, this is the refusal that is given, whatever follows the bytes
 pub record RefusesAt (T : Table) {X O : Type 0} (stands : X → List Telling → Type 0) (run : Run X O) (bytes : List ℕ) (refusal : Refusal) : Type 0 where
-  pub each : (t : TypeId) (z x : List ℕ) → IsOpen T t stands run z → IsFirst T t run.depth run.length (z ++ (bytes ++ x)) refusal
+  pub each : (t : TypeId) (z x : List ℕ) → IsOpenRun T t stands run z → IsFirst T t run.depth run.length (z ++ (bytes ++ x)) refusal
 
 -- a number is taken, and the next item begins behind it
 pub record TakesNumber (T : Table) {X O : Type 0} (stands : X → List Telling → Type 0) (old new : Run X O) (n : ℕ) (whole : Bool) : Type 0 where
-  pub takes : Takes T stands old.state new.state n whole
+  pub takes : StepTakes T stands old.state new.state n whole
   pub start_is : new.start ≡ old.taken
   pub number_is : new.number ≡ old.number
   pub more : TakesMore old new 0
 
 -- the number isn't allowed where it stands
 pub record RefusesNumber (T : Table) {X O : Type 0} (stands : X → List Telling → Type 0) (run : Run X O) (n : ℕ) (refusal : Refusal) : Type 0 where
-  pub refuses : Refuses T stands run.state n refusal.reason
+  pub refuses : StepRefuses T stands run.state n refusal.reason
   pub place_is : refusal.place ≡ run.start
   pub seen_is : refusal.seen ≡ run.taken
 
 -- the reader may take more
 pub record Opens (T : Table) {X O : Type 0} (stands : X → List Telling → Type 0) (run : Run X O) : Type 0 where
-  pub each : (t : TypeId) (z : List ℕ) → IsReached T t stands run z → IsOpen T t stands run z
+  pub each : (t : TypeId) (z : List ℕ) → IsReached T t stands run z → IsOpenRun T t stands run z
 
 -- where it stands, this is the refusal that is given, whatever follows within the body
 pub record JudgesFor (T : Table) {X O : Type 0} (stands : X → List Telling → Type 0) (run : Run X O) (refusal : Refusal) : Type 0 where
@@ -144,12 +144,12 @@ pub record EndsFor {X O : Type 0} (stands : X → List Telling → Type 0) (run 
   pub each : (T : Table) (t : TypeId) (z x : List ℕ) → IsFinished T t stands run z → IsFirst T t run.depth run.length (z ++ x) refusal
 
 -- wherever the reader stood, the piece is taken and nothing is refused
-pub record GoesOn (T : Table) {X O : Type 0} (stands : X → List Telling → Type 0) (old new : Run X O) (piece : List ℕ) : Type 0 where
+pub record RunGoesOn (T : Table) {X O : Type 0} (stands : X → List Telling → Type 0) (old new : Run X O) (piece : List ℕ) : Type 0 where
   pub reached : (t : TypeId) (z : List ℕ) → IsReached T t stands old z → IsReached T t stands new (z ++ piece)
   pub stood : (t : TypeId) (z : List ℕ) → IsReached T t stands old z → IsStood T t old.depth old.length (z ++ piece)
 
 -- wherever the reader stood, the value and the body end behind so many bytes of the piece
-pub record Finishes (T : Table) {X O : Type 0} (stands : X → List Telling → Type 0) (old new : Run X O) (piece : List ℕ) (used : ℕ) : Type 0 where
+pub record RunFinishes (T : Table) {X O : Type 0} (stands : X → List Telling → Type 0) (old new : Run X O) (piece : List ℕ) (used : ℕ) : Type 0 where
   pub within : used ≤ length piece
   pub finished : (t : TypeId) (z : List ℕ) → IsReached T t stands old z → IsFinished T t stands new (z ++ take used piece)
   pub all : (t : TypeId) (z : List ℕ) → IsReached T t stands old z → length (z ++ take used piece) ≡ old.length

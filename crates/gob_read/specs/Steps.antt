@@ -12,7 +12,7 @@ use Rattle.gob_types.specs.Table.{Table}
 use Rattle.gob_types.specs.Ready.{IsReady}
 use Rattle.gob_value.specs.Tree.{Tree}
 use Rattle.gob_value.specs.Top.{SpellsTop}
-use Rattle.gob_read.specs.Awaited.{Allowed, a_number, Allows, reason_of, first_of}
+use Rattle.gob_read.specs.Awaited.{Allowed, a_number, Allows, reason_of, first_allowed}
 use Rattle.gob_read.specs.Awaits.{AwaitsTop}
 use Rattle.gob_read.specs.Telling.{Telling, Tells}
 use Rattle.gob_read.specs.Kinds.{HasKind}
@@ -83,7 +83,7 @@ pub record CanEnd {X O : Type 0} (stands : X → List Telling → Type 0) (state
   pub small : length bytes < 2 ^ 64
 
 -- where a part is whole, what comes behind it is settled
-pub record Ends {X O : Type 0} (stands : X → List Telling → Type 0) (old new : State X O) (whole : Bool) : Type 0 where
+pub record StepEnds {X O : Type 0} (stands : X → List Telling → Type 0) (old new : State X O) (whole : Bool) : Type 0 where
   pub each : (T : Table) (t : TypeId) (z : List ℕ) → IsEnded T t stands old z → Settled T t stands new z whole
 
 -- a part of such a kind begins, and its first number is this
@@ -101,7 +101,7 @@ pub record CanBegin {X O : Type 0} (stands : X → List Telling → Type 0) (sta
   pub small : length (before ++ bytes) < 2 ^ 64
 
 -- where a part of such a kind begins, what comes behind its first number is settled
-pub record Begins {X O : Type 0} (stands : X → List Telling → Type 0) (old new : State X O) (IsOf : Kind → Type 0) (n : ℕ) (whole : Bool) : Type 0 where
+pub record StepBegins {X O : Type 0} (stands : X → List Telling → Type 0) (old new : State X O) (IsOf : Kind → Type 0) (n : ℕ) (whole : Bool) : Type 0 where
   pub each : (T : Table) (t u : TypeId) (k : Kind) (p c : List ℕ) → IsBegun T t stands old u p → HasKind T u k → IsOf k → IsUnsigned n c → Settled T t stands new (p ++ c) whole
 
 -- a struct of the type and these fields begins, and its first delta is this
@@ -121,8 +121,8 @@ pub record BeginsStruct {X O : Type 0} (stands : X → List Telling → Type 0) 
 
 -- a part of the kind doesn't begin with the number
 pub record IsNoFirst (k : Kind) (n : ℕ) (reason : Reason) : Type 0 where
-  pub not_allowed : ¬ Allows (first_of k) n
-  pub reason_is : reason_of (first_of k) ≡ reason
+  pub not_allowed : ¬ Allows (first_allowed k) n
+  pub reason_is : reason_of (first_allowed k) ≡ reason
 
 -- a delta of a field is to come, and is this
 pub record CanGoOn {X O : Type 0} (stands : X → List Telling → Type 0) (state : State X O) (id : TypeId) (types : List Field) (next n : ℕ) : Type 0 where
@@ -135,7 +135,7 @@ pub record CanGoOn {X O : Type 0} (stands : X → List Telling → Type 0) (stat
   pub small : length (before ++ bytes) < 2 ^ 64
 
 -- where a delta of a field is to come, what comes behind it is settled
-pub record GoesOn {X O : Type 0} (stands : X → List Telling → Type 0) (old new : State X O) (id : TypeId) (types : List Field) (next n : ℕ) (whole : Bool) : Type 0 where
+pub record StepGoesOn {X O : Type 0} (stands : X → List Telling → Type 0) (old new : State X O) (id : TypeId) (types : List Field) (next n : ℕ) (whole : Bool) : Type 0 where
   pub each : (T : Table) (t : TypeId) (p c : List ℕ) → IsInStruct T t stands old id types next p → IsUnsigned n c → Settled T t stands new (p ++ c) whole
 
 -- the delta leads to no field
@@ -173,11 +173,11 @@ pub record CanTake (T : Table) {X O : Type 0} (stands : X → List Telling → T
   pub spelled : IsUnsigned n bytes
   pub small : length (before ++ bytes) < 2 ^ 64
 
-pub record Takes (T : Table) {X O : Type 0} (stands : X → List Telling → Type 0) (old new : State X O) (n : ℕ) (whole : Bool) : Type 0 where
+pub record StepTakes (T : Table) {X O : Type 0} (stands : X → List Telling → Type 0) (old new : State X O) (n : ℕ) (whole : Bool) : Type 0 where
   pub each : (t : TypeId) (p r c : List ℕ) → IsReady T t → IsPlaced T t stands old p r → IsUnsigned n c → Settled T t stands new (p ++ c) whole
 
 -- the number isn't allowed there
-pub record Refuses (T : Table) {X O : Type 0} (stands : X → List Telling → Type 0) (state : State X O) (n : ℕ) (reason : Reason) : Type 0 where
+pub record StepRefuses (T : Table) {X O : Type 0} (stands : X → List Telling → Type 0) (state : State X O) (n : ℕ) (reason : Reason) : Type 0 where
   pub each : (t : TypeId) (p r : List ℕ) → IsReady T t → IsPlaced T t stands state p r → IsDisallowed T t p n reason
 
 -- the tag before the value is awaited, and is this number

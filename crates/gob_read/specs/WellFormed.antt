@@ -21,12 +21,12 @@ pub data Place : Type 0 where
   behind_number : ℕ → Place → Place
 
 -- a part may begin at the first place, and the second is behind it
-pub data Begins : Place → Place → Type 0 where
-  whole_value : Begins at_start at_end
-  an_element : {p : Place} → Begins (in_many p) (in_many p)
-  a_key : {p : Place} → Begins (before_key p) (before_element p)
-  its_element : {p : Place} → Begins (before_element p) (before_key p)
-  a_field : {next : ℕ} {p : Place} → Begins (behind_number next p) (before_field next p)
+pub data BeginsPlace : Place → Place → Type 0 where
+  whole_value : BeginsPlace at_start at_end
+  an_element : {p : Place} → BeginsPlace (in_many p) (in_many p)
+  a_key : {p : Place} → BeginsPlace (before_key p) (before_element p)
+  its_element : {p : Place} → BeginsPlace (before_element p) (before_key p)
+  a_field : {next : ℕ} {p : Place} → BeginsPlace (behind_number next p) (before_field next p)
 
 -- the numbers of a part of this basic type; one that isn't used is 0
 pub data AreNumbers : Basic → ℕ → ℕ → Type 0 where
@@ -39,12 +39,12 @@ pub data AreNumbers : Basic → ℕ → ℕ → Type 0 where
 
 -- the telling may come at the first place, and leads to the second
 pub data Follows : Place → Telling → Place → Type 0 where
-  a_number : {p q : Place} {k : Basic} {a b : ℕ} → Begins p q → AreNumbers k a b → Follows p (number k a b) q
-  a_raw_part : {p q : Place} {k : RawKind} → Begins p q → Follows p (raw_start k) (in_raw q)
+  a_number : {p q : Place} {k : Basic} {a b : ℕ} → BeginsPlace p q → AreNumbers k a b → Follows p (number k a b) q
+  a_raw_part : {p q : Place} {k : RawKind} → BeginsPlace p q → Follows p (raw_start k) (in_raw q)
   raw_bytes : {p : Place} {s : List ℕ} → Follows (in_raw p) (raw_more s) (in_raw p)
-  a_list : {p q : Place} → Begins p q → Follows p (enter group.Many) (in_many q)
-  a_map : {p q : Place} → Begins p q → Follows p (enter group.Pairs) (before_key q)
-  a_struct : {p q : Place} → Begins p q → Follows p (enter group.Fields) (before_field 0 q)
+  a_list : {p q : Place} → BeginsPlace p q → Follows p (enter group.Many) (in_many q)
+  a_map : {p q : Place} → BeginsPlace p q → Follows p (enter group.Pairs) (before_key q)
+  a_struct : {p q : Place} → BeginsPlace p q → Follows p (enter group.Fields) (before_field 0 q)
   a_number_of_field : {next f above : ℕ} {p : Place} → next ≤ f → above ≡ f + 1 → Follows (before_field next p) (field f) (behind_number above p)
   end_of_raw : {p : Place} → Follows (in_raw p) leave p
   end_of_list : {p : Place} → Follows (in_many p) leave p

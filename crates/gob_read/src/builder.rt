@@ -1,17 +1,29 @@
 //! What is made of a value that is told.
 
-ghost use Rattle.std.specs.Prelude.{◌≡◌, ℕ, Bool, List, [], OnOk, IfOk};
+ghost use Rattle.std.specs.Prelude.{◌≡◌, ℕ, List, [], OnOk, IfOk, IsTrue};
 ghost use Rattle.gob_value.specs.Tree.{Tree};
 ghost use Rattle.gob_read.specs.Telling as telling;
 ghost use Rattle.gob_read.specs.Telling.{Telling, Tells};
 ghost use Rattle.gob_read.specs.Building.{CanTell, IsTold, IsComplete};
 ghost use Rattle.gob_read.specs.Weight.{parts_told, raw_told};
 ghost use Rattle.gob_read.specs.Held.{held_of};
+ghost use Rattle.gob_read.specs.declared.builder.Stores.{Stores};
 
 use crate::telling::{GroupKind, RawKind};
 use gob_num::Memory;
 use gob_types::Basic;
 use std::alloc::Global;
+
+/// What a builder keeps of what it is told.
+#[derive(Clone, Copy, Debug, PartialEq, Eq)]
+pub enum Stores {
+    /// The parts and their raw bytes.
+    PartsAndRaw,
+    /// The parts, or how many there are.
+    Parts,
+    /// Nothing, not even counts.
+    Nothing,
+}
 
 /// Makes something of a value of which it is told part by part, in the order of the first bytes.
 ///
@@ -27,14 +39,16 @@ pub trait Builder: Drop {
     /// The depth of the deepest value that may be told.
     const DEPTH: u64;
 
+    ghost STORES: { Stores };
+
+    /// What is kept of the parts that are told.
+    const STORES: Stores;
+
     // The builder stands for this list of tellings.
     ghost stands: { Self → List Telling → Type 0 };
 
     // What was made stands for this value.
     ghost means: { Self.Out → Tree → Type 0 };
-
-    // Whether raw bytes are stored.
-    ghost stores_raw: { Bool };
 
     /// A builder that was told of no part yet.
     fn fresh(alloc: Global) -> Result<Self, Memory>
@@ -71,10 +85,14 @@ pub trait Builder: Drop {
         requires { CanTell stands self.old telling.leave }
         ensures { OnOk result (IsTold stands self.old self.new telling.leave) };
 
-    /// The parts told, and the raw bytes that are stored.
+    /// Whether the builder makes the same of whatever it is told, so that parts may be left untold.
+    fn may_skip(&self) -> bool
+        ensures { IsTrue result → (us : List Telling) → stands self.now us };
+
+    /// How much is kept of the parts told: the parts and the raw bytes, the parts, or nothing.
     fn held(&self) -> u64
         ensures { (us : List Telling) → stands self.now us
-            → result ≡ held_of stores_raw (parts_told us) (raw_told us) };
+            → result ≡ held_of STORES (parts_told us) (raw_told us) };
 
     /// What was made of the whole value that was told.
     fn take(self) -> Self::Out

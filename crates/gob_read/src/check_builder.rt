@@ -2,7 +2,7 @@
 
 ghost use Rattle.std.specs.Prelude.{◌≡◌, ℕ, ◌+◌, ◌^◌, ◌<◌};
 
-use crate::builder::Builder;
+use crate::builder::{Builder, Stores};
 use crate::telling::{GroupKind, RawKind};
 use gob_num::Memory;
 use gob_types::Basic;
@@ -37,18 +37,20 @@ impl CheckBuilder {
 impl Builder for CheckBuilder {
     type Out = Counts;
 
-    ghost use Rattle.std.specs.Prelude.{false};
     ghost use Rattle.gob_read.specs.Counted.{AreTold, AreCountsOf};
+    ghost use Rattle.gob_read.specs.declared.builder.Stores.TheVariants.{Parts};
 
     ghost DEPTH = { 65536 };
 
     const DEPTH: u64 = 65536;
 
+    ghost STORES = { Parts };
+
+    const STORES: Stores = Stores::Parts;
+
     ghost stands = { λ builder us. AreTold builder.counts us };
 
     ghost means = { λ counts v. AreCountsOf counts v };
-
-    ghost stores_raw = { false };
 
     fn fresh(_alloc: Global) -> Result<Self, Memory> {
         Ok(CheckBuilder {
@@ -82,6 +84,10 @@ impl Builder for CheckBuilder {
 
     fn leave(&mut self) -> Result<(), Memory> {
         Ok(())
+    }
+
+    fn may_skip(&self) -> bool {
+        false
     }
 
     fn held(&self) -> u64 {

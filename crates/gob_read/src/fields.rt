@@ -4,8 +4,8 @@ ghost use Rattle.std.specs.Prelude.{◌≡◌, ◌+◌, ◌^◌, ◌<◌, ◌≤
 ghost use Rattle.gob_read.specs.Telling as telling;
 ghost use Rattle.gob_read.specs.Building.{CanTell};
 ghost use Rattle.gob_read.specs.Plain.{NamesField, CanEndFields, EndsFields};
-ghost use Rattle.gob_read.specs.Steps.{CanBeginStruct, BeginsStruct, CanGoOn, GoesOn, LeadsNowhere, CanTake, Takes};
-ghost use Rattle.gob_read.specs.Steps.{Refuses, Blames};
+ghost use Rattle.gob_read.specs.Steps.{CanBeginStruct, BeginsStruct, CanGoOn, StepGoesOn, LeadsNowhere, CanTake, StepTakes};
+ghost use Rattle.gob_read.specs.Steps.{StepRefuses, Blames};
 
 use crate::awaited::{Awaited, Item};
 use crate::builder::Builder;
@@ -38,8 +38,8 @@ impl<B: Builder> State<B> {
     #[inline(always)]
     pub(crate) fn take_delta<S: Shapes>(&mut self, shapes: &S, n: u64) -> Result<bool, Fault>
         requires { CanTake (S.table shapes.now) B.stands self.old Item.Delta n }
-        ensures ok { IfOk result (λ whole. Takes (S.table shapes.now) B.stands self.old self.new n whole) }
-        ensures refused { IfErr result (Blames (λ reason. Refuses (S.table shapes.now) B.stands self.old n reason)) }
+        ensures ok { IfOk result (λ whole. StepTakes (S.table shapes.now) B.stands self.old self.new n whole) }
+        ensures refused { IfErr result (Blames (λ reason. StepRefuses (S.table shapes.now) B.stands self.old n reason)) }
     {
         let Some(frame) = self.stack.innermost() else {
             unreachable!()
@@ -61,7 +61,7 @@ impl<B: Builder> State<B> {
     #[inline(always)]
     fn take_field(&mut self, id: TypeId, next: u64, fields: &Fields, n: u64) -> Result<bool, Fault>
         requires { CanGoOn B.stands self.old id fields.now next n }
-        ensures ok { IfOk result (λ whole. GoesOn B.stands self.old self.new id fields.now next n whole) }
+        ensures ok { IfOk result (λ whole. StepGoesOn B.stands self.old self.new id fields.now next n whole) }
         ensures refused { IfErr result (Blames (λ reason. LeadsNowhere fields.now next n reason)) }
     {
         if n == 0 {

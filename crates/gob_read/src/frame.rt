@@ -42,12 +42,12 @@ pub(crate) enum Frame {
 
 impl Frame {
     ghost use Rattle.std.specs.Prelude.{◌≡◌, MatchOption};
-    ghost use Rattle.gob_read.specs.Frames.{IsOver, GoesOn, item_of};
+    ghost use Rattle.gob_read.specs.Frames.{IsOver, FrameGoesOn, item_of};
 
     /// The open part behind the part that is read, where another part, or the end of the fields, is to come there.
     #[inline(always)]
     pub(crate) fn next(self) -> Option<Frame>
-        ensures { MatchOption result (IsOver self) (λ next. GoesOn self next) }
+        ensures { MatchOption result (IsOver self) (λ next. FrameGoesOn self next) }
     {
         match self {
             Frame::Many { elem, left } => {

@@ -3,7 +3,7 @@
 
 ghost use Rattle.gob_read.specs.Awaits.{Awaits, AwaitsTop};
 ghost use Rattle.gob_read.specs.Laws.{StopOnce, WholeIsExtraAlone, ExtraIsGiven, WholeIsAccepted, DeepIsRefused};
-ghost use Rattle.gob_read.specs.Laws.{GiveOne, StayShown, StandPromptly, StandBeforeTheEnd};
+ghost use Rattle.gob_read.specs.Laws.{GiveOne, BodiesStayShown, StandPromptly, StandBeforeTheEnd};
 ghost use Rattle.gob_read.specs.Laws.{StayAwaited, AwaitNoMore, StayStanding, StayRefused, RefuseNoMore};
 ghost use Rattle.gob_read.specs.Laws.{SeenBeginNone, DeepBeginDeep, PlacesBegin, AwaitedGoOn, TablesCountArrays};
 ghost use Rattle.gob_read.specs.Laws.{FrontsStand, StandingAreFronts};
@@ -32,7 +32,7 @@ pub fn one_refusal_is_given()
 
 /// The refusal that is given is the same for all bytes that begin with those that show it.
 pub fn refusals_stay_shown()
-    ensures { StayShown }
+    ensures { BodiesStayShown }
 {}
 
 /// Where bytes stand, nothing that they show is refused, whatever follows; nor do they hold a whole value.

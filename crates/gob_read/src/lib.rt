@@ -17,7 +17,8 @@
 //! - [`BodyReader`] reads one body. It refuses at the place and for the reason that the grammar gives, in the
 //!   call that brings the last byte that shows it. It keeps a stack of the open parts, and nothing of what is
 //!   only announced.
-//! - A [`Builder`] makes something of what is told: [`TreeBuilder`] the value, [`CheckBuilder`] its [`Counts`].
+//! - A [`Builder`] makes something of what is told: [`TreeBuilder`] the value, [`CheckBuilder`] its [`Counts`],
+//!   and [`SkipBuilder`] nothing.
 //! - [`laws`] has the laws of bodies that readers and writers rely on; [`readers_stay`] and the laws of tellings
 //!   and weights stand beside it.
 #![tactic(auto)]
@@ -35,6 +36,8 @@ mod part;
 mod plain;
 mod reader;
 mod run;
+mod skip;
+mod skip_builder;
 mod stack;
 mod state;
 mod stop;
@@ -42,7 +45,7 @@ mod telling;
 mod tree_builder;
 mod work;
 
-pub use builder::Builder;
+pub use builder::{Builder, Stores};
 pub use check_builder::{CheckBuilder, Counts};
 pub use laws_builder::{
     counts_are_the_weight, tellings_are_well_formed, tellings_have_the_weight,
@@ -50,6 +53,7 @@ pub use laws_builder::{
 };
 pub use laws_reader::readers_stay;
 pub use reader::{BodyReader, Progress};
+pub use skip_builder::SkipBuilder;
 pub use stop::Stop;
 pub use telling::{GroupKind, RawKind};
 pub use tree_builder::TreeBuilder;

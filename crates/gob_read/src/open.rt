@@ -2,7 +2,7 @@
 
 ghost use Rattle.std.specs.Prelude.{◌≡◌, OnOk};
 ghost use Rattle.gob_value.specs.View.{view};
-ghost use Rattle.gob_read.specs.Built.{opened, closed, added, with_bytes, with_number, raw_tree};
+ghost use Rattle.gob_read.specs.Built.{opened_part, closed, added_part, with_bytes, with_number, raw_tree};
 ghost use Rattle.gob_read.specs.Built as built;
 ghost use Rattle.gob_read.specs.Stack.{part_view};
 
@@ -25,7 +25,7 @@ pub(crate) enum Open {
 impl Open {
     /// A group that has nothing in it.
     pub(crate) fn group(alloc: Global, kind: GroupKind) -> Open
-        ensures { part_view result ≡ opened kind }
+        ensures { part_view result ≡ opened_part kind }
     {
         match kind {
             GroupKind::Many => Open::Many(Vec::new(alloc)),
@@ -36,7 +36,7 @@ impl Open {
 
     /// Adds a whole part.
     pub(crate) fn add(&mut self, value: Value) -> Result<(), Memory>
-        ensures { OnOk result (part_view self.new ≡ added (part_view self.old) (view value)) }
+        ensures { OnOk result (part_view self.new ≡ added_part (part_view self.old) (view value)) }
     {
         match self {
             Open::Raw(_, _) => {}

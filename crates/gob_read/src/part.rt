@@ -3,7 +3,7 @@
 ghost use Rattle.std.specs.Prelude.{◌≡◌, ◌<◌, ◌≤◌, IfOk, IfErr, length};
 ghost use Rattle.gob_types.specs.declared.kind.Kind.TheVariants as kind;
 ghost use Rattle.gob_read.specs.Kinds.{IsScalar, IsRawKind, IsList, IsGroup};
-ghost use Rattle.gob_read.specs.Steps.{CanBegin, Begins, CanTakeFirst, TakesFirst, RefusesFirst, IsNoFirst, Blames};
+ghost use Rattle.gob_read.specs.Steps.{CanBegin, StepBegins, CanTakeFirst, TakesFirst, RefusesFirst, IsNoFirst, Blames};
 
 use crate::awaited::{Awaited, Item};
 use crate::builder::Builder;
@@ -58,7 +58,7 @@ impl<B: Builder> State<B> {
     #[inline(always)]
     fn take_basic(&mut self, basic: Basic, n: u64) -> Result<bool, Fault>
         requires { CanBegin B.stands self.old (λ k. k ≡ kind.Basic basic) n }
-        ensures ok { IfOk result (λ whole. Begins B.stands self.old self.new (λ k. k ≡ kind.Basic basic) n whole) }
+        ensures ok { IfOk result (λ whole. StepBegins B.stands self.old self.new (λ k. k ≡ kind.Basic basic) n whole) }
         ensures refused { IfErr result (Blames (λ reason. IsNoFirst (kind.Basic basic) n reason)) }
     {
         match basic {
@@ -92,7 +92,7 @@ impl<B: Builder> State<B> {
     #[inline(always)]
     fn take_number(&mut self, basic: Basic, n: u64, told: u64) -> Result<bool, Memory>
         requires { CanBegin B.stands self.old (λ k. IsScalar k n basic told) n }
-        ensures { IfOk result (λ whole. Begins B.stands self.old self.new (λ k. IsScalar k n basic told) n whole) }
+        ensures { IfOk result (λ whole. StepBegins B.stands self.old self.new (λ k. IsScalar k n basic told) n whole) }
     {
         self.builder.number(basic, told, 0)?;
         self.after_part()
@@ -102,7 +102,7 @@ impl<B: Builder> State<B> {
     #[inline(always)]
     fn take_length(&mut self, kind: RawKind, n: u64) -> Result<bool, Memory>
         requires { CanBegin B.stands self.old (λ k. IsRawKind k kind) n }
-        ensures { IfOk result (λ whole. Begins B.stands self.old self.new (λ k. IsRawKind k kind) n whole) }
+        ensures { IfOk result (λ whole. StepBegins B.stands self.old self.new (λ k. IsRawKind k kind) n whole) }
     {
         self.builder.raw_start(kind)?;
         if n == 0 {
@@ -117,7 +117,7 @@ impl<B: Builder> State<B> {
     #[inline(always)]
     fn take_elements(&mut self, elem: TypeId, n: u64) -> Result<bool, Memory>
         requires { CanBegin B.stands self.old (λ k. IsList k n elem) n }
-        ensures { IfOk result (λ whole. Begins B.stands self.old self.new (λ k. IsList k n elem) n whole) }
+        ensures { IfOk result (λ whole. StepBegins B.stands self.old self.new (λ k. IsList k n elem) n whole) }
     {
         let first = Frame::Many {
             elem,
@@ -130,7 +130,7 @@ impl<B: Builder> State<B> {
     #[inline(always)]
     fn take_count(&mut self, group: GroupKind, first: Frame, n: u64) -> Result<bool, Memory>
         requires { CanBegin B.stands self.old (λ k. IsGroup k n group first) n }
-        ensures { IfOk result (λ whole. Begins B.stands self.old self.new (λ k. IsGroup k n group first) n whole) }
+        ensures { IfOk result (λ whole. StepBegins B.stands self.old self.new (λ k. IsGroup k n group first) n whole) }
     {
         self.builder.enter(group)?;
         if n == 0 {

@@ -1,10 +1,11 @@
 //! The reader of a body.
 
-ghost use Rattle.std.specs.Prelude.{◌≡◌, ℕ, [], IfOk, IfErr, OnErr, Err, None, List, min};
+ghost use Rattle.std.specs.Prelude.{◌≡◌, ℕ, [], IfOk, IfErr, OnErr, Err, List, min};
 ghost use Rattle.gob_types.specs.declared.id.TypeId.{TypeId};
 ghost use Rattle.gob_types.specs.Table.{Table};
 ghost use Rattle.gob_types.specs.Ready.{IsReady};
-ghost use Rattle.gob_read.specs.Reader.{Stands, IsUsable, Gives, RefusesBody, Stops};
+ghost use Rattle.gob_read.specs.Reader.{ReaderStands, IsUsableReader, ReaderGives, ReaderRefusesBody, Stops};
+ghost use Rattle.gob_read.specs.UnderWay.{under_way, HasEnded};
 ghost use Rattle.gob_read.specs.Held.{IsHeld};
 ghost use Rattle.gob_read.specs.Honest.{RefusesHonestly};
 
@@ -46,7 +47,7 @@ impl<B: Builder> BodyReader<B> {
     /// be deeper than `depth`, or than the builder takes.
     pub fn new(alloc: Global, id: TypeId, length: u64, depth: u64) -> Result<BodyReader<B>, Memory>
         ensures { IfOk result (λ reader. (T : Table) → IsReady T id
-            → Stands T id (min depth B.DEPTH) length B.stands reader.run []) }
+            → ReaderStands T id (min depth B.DEPTH) length B.stands (under_way reader) []) }
     {
         let run = Run::new(alloc, id, length, depth.min(B::DEPTH))?;
         Ok(BodyReader { run: Some(run) })
@@ -62,16 +63,16 @@ impl<B: Builder> BodyReader<B> {
         shapes: &S,
         piece: &[u8],
     ) -> Result<Progress<B::Out>, Stop>
-        requires { IsUsable (S.table shapes.now) B.stands self.old.run }
+        requires { IsUsableReader (S.table shapes.now) B.stands (under_way self.old) }
         ensures given { IfOk result (λ progress. (t : TypeId) (limit announced : ℕ) (z : List ℕ)
-            → Stands (S.table shapes.now) t limit announced B.stands self.old.run z
-            → Gives (S.table shapes.now) t limit announced B.stands B.means self.new.run z piece.now progress) }
-        ensures refused { IfErr result (Stops self.old.run (λ refusal. RefusesBody (S.table shapes.now)
-            B.stands self.old.run piece.now refusal)) }
-        ensures honest { IfErr result (Stops self.old.run (λ refusal. RefusesHonestly (S.table shapes.now)
-            B.stands self.old.run piece.now refusal)) }
-        ensures failed { self.old.run ≡ None → result ≡ Err Stop.Failed }
-        ensures ended { OnErr result (self.new.run ≡ None) }
+            → ReaderStands (S.table shapes.now) t limit announced B.stands (under_way self.old) z
+            → ReaderGives (S.table shapes.now) t limit announced B.stands B.means (under_way self.new) z piece.now progress) }
+        ensures refused { IfErr result (Stops (under_way self.old) (λ refusal. ReaderRefusesBody (S.table shapes.now)
+            B.stands (under_way self.old) piece.now refusal)) }
+        ensures honest { IfErr result (Stops (under_way self.old) (λ refusal. RefusesHonestly (S.table shapes.now)
+            B.stands (under_way self.old) piece.now refusal)) }
+        ensures failed { HasEnded self.old → result ≡ Err Stop.Failed }
+        ensures ended { OnErr result (HasEnded self.new) }
     {
         let Some(mut run) = self.run.take() else {
             return Err(Stop::Failed);
@@ -99,8 +100,8 @@ impl<B: Builder> BodyReader<B> {
     /// It is at most the number of bytes taken, and 0 once the reader has ended.
     pub fn held(&self) -> u64
         ensures held { (T : Table) (t : TypeId) (limit announced : ℕ) (z : List ℕ)
-            → Stands T t limit announced B.stands self.now.run z → IsHeld T t B.stores_raw z result }
-        ensures ended { self.now.run ≡ None → result ≡ 0 }
+            → ReaderStands T t limit announced B.stands (under_way self.now) z → IsHeld T t B.STORES z result }
+        ensures ended { HasEnded self.now → result ≡ 0 }
     {
         match &self.run {
             Some(run) => run.held(),

@@ -9,14 +9,14 @@ ghost use Rattle.gob_types.specs.Ready.{IsReady};
 ghost use Rattle.gob_read.specs.Steps.{CanTake};
 ghost use Rattle.gob_read.specs.Running.{IsReachedSomewhere, IsOpenSomewhere, TakesMore, Steps, StopsFor};
 ghost use Rattle.gob_read.specs.Running.{Opens as MayGoOn};
-ghost use Rattle.gob_read.specs.Running.{TakesNumber, RefusesNumber, RefusesAt, JudgesFor, EndsFor, GoesOn, Finishes};
+ghost use Rattle.gob_read.specs.Running.{TakesNumber, RefusesNumber, RefusesAt, JudgesFor, EndsFor, RunGoesOn, RunFinishes};
 ghost use Rattle.gob_read.specs.Running.{RefusesPiece};
-ghost use Rattle.gob_read.specs.Running.{IsNew, IsOpenIn, depth_of, begun_parts};
+ghost use Rattle.gob_read.specs.Running.{IsNewRun, IsOpenIn, depth_of, begun_parts};
 ghost use Rattle.gob_read.specs.Reader.{HasTaken};
-ghost use Rattle.gob_read.specs.Held.{IsHeld};
+ghost use Rattle.gob_read.specs.Held.{IsHeld, counted_of};
 
 use crate::awaited::{Awaited, Item};
-use crate::builder::Builder;
+use crate::builder::{Builder, Stores};
 use crate::stack::Opens;
 use crate::state::State;
 use crate::stop::{Fault, Stop};
@@ -89,7 +89,7 @@ impl<B: Builder> Run<B> {
 
     /// A reader of a value of the type that has taken nothing.
     pub(crate) fn new(alloc: Global, id: TypeId, length: u64, depth: u64) -> Result<Run<B>, Memory>
-        ensures new { IfOk result (λ run. (T : Table) → IsReady T id → IsNew T id B.stands run) }
+        ensures new { IfOk result (λ run. (T : Table) → IsReady T id → IsNewRun T id B.stands run) }
         ensures length { IfOk result (λ run. run.length ≡ length) }
         ensures depth { IfOk result (λ run. run.depth ≡ depth) }
     {
@@ -116,9 +116,9 @@ impl<B: Builder> Run<B> {
     ) -> Result<Option<usize>, Stop>
         requires stands { IsReachedSomewhere (S.table shapes.now) B.stands self.old }
         requires room { self.old.taken + length piece.now ≤ self.old.length }
-        ensures more { IfOk result (λ done. IfNone done (GoesOn (S.table shapes.now) B.stands self.old
+        ensures more { IfOk result (λ done. IfNone done (RunGoesOn (S.table shapes.now) B.stands self.old
             self.new piece.now)) }
-        ensures done { IfOk result (λ done. IfSome done (λ used. Finishes (S.table shapes.now) B.stands
+        ensures done { IfOk result (λ done. IfSome done (λ used. RunFinishes (S.table shapes.now) B.stands
             self.old self.new piece.now used)) }
         ensures refused { IfErr result (StopsFor (λ refusal. RefusesPiece (S.table shapes.now) B.stands
             self.old piece.now refusal)) }
@@ -129,11 +129,12 @@ impl<B: Builder> Run<B> {
             return Err(stop);
         }
         let mut used = 0;
+        let mut cut = false;
         'items: for _ in 0..piece.len() {
             if used == piece.len() {
                 return Ok(None);
             }
-            match self.step(shapes, &piece[used..]) {
+            match self.step(shapes, &piece[used..], &mut cut) {
                 Ok(stepped) => {
                     used += stepped.used;
                     if stepped.whole {
@@ -152,20 +153,23 @@ impl<B: Builder> Run<B> {
         Ok(None)
     }
 
-    /// The parts that have begun, and the raw bytes that are stored.
+    /// What is kept of the parts that have begun, and of their raw bytes.
     pub(crate) fn held(&self) -> u64
         ensures { (T : Table) (t : TypeId) (z : List ℕ) → HasTaken T t B.stands self.now z
-            → IsHeld T t B.stores_raw z result }
+            → IsHeld T t B.STORES z result }
     {
         let _taken = self.taken;
         self.state.builder.held().saturating_add(self.begun())
     }
 
-    /// The parts that have begun, and that the builder isn't told of yet.
+    /// The parts that have begun, and that the builder isn't told of yet, if it stores parts.
     fn begun(&self) -> u64
         ensures { (r : List ℕ) → self.now.taken ≡ self.now.start + length r
-            → result ≡ begun_parts self.now.state.awaited r }
+            → result ≡ counted_of B.STORES (begun_parts self.now.state.awaited r) }
     {
+        if matches!(B::STORES, Stores::Nothing) {
+            return 0;
+        }
         match self.state.awaited {
             Awaited::Top { id: _ } => 0,
             Awaited::Number(Item::Tag { id: _ }) => 0,
@@ -231,9 +235,9 @@ impl<B: Builder> Run<B> {
         }
     }
 
-    /// Takes the next item, or as much of it as there is.
+    /// Takes the next item, or as much of it as there is, or parts that stand whole.
     #[inline(always)]
-    fn step<S: Shapes>(&mut self, shapes: &S, rest: &[u8]) -> Result<Stepped, Stop>
+    fn step<S: Shapes>(&mut self, shapes: &S, rest: &[u8], cut: &mut bool) -> Result<Stepped, Stop>
         requires stands { IsOpenSomewhere (S.table shapes.now) B.stands self.old }
         requires some { 0 < length rest.now }
         requires room { self.old.taken + length rest.now ≤ self.old.length }
@@ -246,7 +250,7 @@ impl<B: Builder> Run<B> {
     {
         match self.state.awaited {
             Awaited::Top { id: _ } => unreachable!(),
-            Awaited::Number(Item::Part { id }) => self.step_part(shapes, id, rest),
+            Awaited::Number(Item::Part { id }) => self.step_over(shapes, id, rest, cut),
             Awaited::Number(item) => self.step_number(shapes, item, rest),
             Awaited::Raw { left } => Ok(self.step_raw(left, rest)?),
         }

@@ -1,7 +1,7 @@
 //! A reader between two items.
 
 ghost use Rattle.std.specs.Prelude.{◌≡◌, ◌-◌, ◌<◌, ◌≤◌, ◌↔◌, IfOk, IfErr, IsTrue, length};
-ghost use Rattle.gob_read.specs.Steps.{CanEnd, Ends, CanTake, Takes, Refuses, CanTakeRaw, TakesRaw, Blames};
+ghost use Rattle.gob_read.specs.Steps.{CanEnd, StepEnds, CanTake, StepTakes, StepRefuses, CanTakeRaw, TakesRaw, Blames};
 ghost use Rattle.gob_read.specs.Steps.{CanTakeTag, IsWrongTag, CanTakeSecond, TakesHere};
 ghost use Rattle.gob_read.specs.Kinds.{IsStructType, BeginsAs};
 
@@ -68,7 +68,7 @@ impl<B: Builder> State<B> {
     #[inline(always)]
     pub(crate) fn after_part(&mut self) -> Result<bool, Memory>
         requires { CanEnd B.stands self.old }
-        ensures { IfOk result (λ whole. Ends B.stands self.old self.new whole) }
+        ensures { IfOk result (λ whole. StepEnds B.stands self.old self.new whole) }
     {
         'opens: loop {
             let Some(frame) = self.stack.innermost() else {
@@ -88,8 +88,8 @@ impl<B: Builder> State<B> {
     #[inline(always)]
     pub(crate) fn take<S: Shapes>(&mut self, shapes: &S, item: Item, n: u64) -> Result<bool, Fault>
         requires { CanTake (S.table shapes.now) B.stands self.old item n }
-        ensures ok { IfOk result (λ whole. Takes (S.table shapes.now) B.stands self.old self.new n whole) }
-        ensures refused { IfErr result (Blames (λ reason. Refuses (S.table shapes.now) B.stands self.old n reason)) }
+        ensures ok { IfOk result (λ whole. StepTakes (S.table shapes.now) B.stands self.old self.new n whole) }
+        ensures refused { IfErr result (Blames (λ reason. StepRefuses (S.table shapes.now) B.stands self.old n reason)) }
     {
         match item {
             Item::Tag { id } => self.take_tag(id, n),

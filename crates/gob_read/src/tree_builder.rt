@@ -4,7 +4,7 @@ ghost use Rattle.std.specs.Prelude.{◌≡◌, ◌+◌, ◌^◌, ◌<◌};
 ghost use Rattle.gob_value.specs.View.{view};
 ghost use Rattle.gob_read.specs.Built.{number_tree};
 
-use crate::builder::Builder;
+use crate::builder::{Builder, Stores};
 use crate::open::Open;
 use crate::telling::{GroupKind, RawKind};
 use crate::work::Work;
@@ -50,20 +50,23 @@ fn basic_value(kind: Basic, first: u64, second: u64) -> Value
 impl Builder for TreeBuilder {
     type Out = Value;
 
-    ghost use Rattle.std.specs.Prelude.{◌≡◌, true};
+    ghost use Rattle.std.specs.Prelude.{◌≡◌};
     ghost use Rattle.gob_value.specs.View.{view};
     ghost use Rattle.gob_read.specs.Stack.{work_of};
     ghost use Rattle.gob_read.specs.Standing.{AreBuilt};
+    ghost use Rattle.gob_read.specs.declared.builder.Stores.TheVariants.{PartsAndRaw};
 
     ghost DEPTH = { 1000 };
 
     const DEPTH: u64 = 1000;
 
+    ghost STORES = { PartsAndRaw };
+
+    const STORES: Stores = Stores::PartsAndRaw;
+
     ghost stands = { λ builder us. AreBuilt (work_of builder.work) builder.held us };
 
     ghost means = { λ value v. view value ≡ v };
-
-    ghost stores_raw = { true };
 
     fn fresh(alloc: Global) -> Result<Self, Memory> {
         Ok(TreeBuilder {
@@ -105,6 +108,10 @@ impl Builder for TreeBuilder {
     fn leave(&mut self) -> Result<(), Memory> {
         self.work.leave()?;
         Ok(())
+    }
+
+    fn may_skip(&self) -> bool {
+        false
     }
 
     fn held(&self) -> u64 {

@@ -75,7 +75,7 @@ impl Work {
 
     /// The innermost open part ends.
     pub(crate) fn leave(&mut self) -> Result<(), Memory>
-        ensures { OnOk result (work_of self.new ≡ built.left (work_of self.old)) }
+        ensures { OnOk result (work_of self.new ≡ built.left_work (work_of self.old)) }
     {
         if let Some(part) = self.parts.pop() {
             self.put(part.close())?;

@@ -3,7 +3,7 @@
 use crate::row::{body_of, numbers};
 use crate::types::table;
 use gob_num::Memory;
-use gob_read::{CheckBuilder, Counts, Stop, TreeBuilder};
+use gob_read::{CheckBuilder, Counts, SkipBuilder, Stop, TreeBuilder};
 use gob_read_support::{Body, read};
 use gob_types::{Table, TypeId};
 use gob_value::{SpellFault, Value, spell};
@@ -81,13 +81,14 @@ const REFUSED: &str = "\
 // The lengths of the pieces in which each body is read.
 const PIECES: [usize; 3] = [1, 3, usize::MAX];
 
-// Whether both builders read the body of the row, whole and in pieces.
+// Whether each builder reads the body of the row, whole and in pieces.
 fn is_accepted(alloc: Global, table: &Table, row: &str) -> Result<bool, Memory> {
     let body = body_of(alloc, row)?;
     let due = numbers(alloc, row, 2)?;
     for piece in PIECES {
         if !is_counted(alloc, table, &body, &due, piece)?
             || !is_built(alloc, table, &body, piece)?
+            || !is_skipped(alloc, table, &body, piece)?
         {
             return Ok(false);
         }
@@ -105,6 +106,15 @@ pub(crate) fn is_counted(
 ) -> Result<bool, Memory> {
     match read::<CheckBuilder>(alloc, table, body, piece) {
         Ok(Some(Counts { nodes, raw })) => Ok(due == [nodes, raw].as_slice()),
+        Err(Stop::Memory) => Err(Memory),
+        _ => Ok(false),
+    }
+}
+
+// Whether it is read with nothing kept.
+fn is_skipped(alloc: Global, table: &Table, body: &Body, piece: usize) -> Result<bool, Memory> {
+    match read::<SkipBuilder>(alloc, table, body, piece) {
+        Ok(Some(())) => Ok(true),
         Err(Stop::Memory) => Err(Memory),
         _ => Ok(false),
     }
@@ -133,13 +143,14 @@ fn is_respelled(alloc: Global, table: &Table, body: &Body, value: &Value) -> Res
     }
 }
 
-// Whether both builders are refused the body of the row so, whole and in pieces.
+// Whether each builder is refused the body of the row so, whole and in pieces.
 fn is_refused(alloc: Global, table: &Table, row: &str) -> Result<bool, Memory> {
     let body = body_of(alloc, row)?;
     let due = numbers(alloc, row, 2)?;
     for piece in PIECES {
         if !is_refusal(read::<CheckBuilder>(alloc, table, &body, piece).err(), &due)?
             || !is_refusal(read::<TreeBuilder>(alloc, table, &body, piece).err(), &due)?
+            || !is_refusal(read::<SkipBuilder>(alloc, table, &body, piece).err(), &due)?
         {
             return Ok(false);
         }

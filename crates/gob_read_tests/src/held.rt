@@ -2,12 +2,13 @@
 
 ghost use Rattle.std.specs.Prelude.{OnOk};
 ghost use Rattle.gob_types.specs.Defined.{types};
-ghost use Rattle.gob_read.specs.Reader.{IsUsable};
+ghost use Rattle.gob_read.specs.Reader.{IsUsableReader};
+ghost use Rattle.gob_read.specs.UnderWay.{under_way};
 
 use crate::row::{body_of, numbers};
 use crate::types::table;
 use gob_num::Memory;
-use gob_read::{BodyReader, Builder, CheckBuilder, Stop, TreeBuilder};
+use gob_read::{BodyReader, Builder, CheckBuilder, SkipBuilder, Stop, TreeBuilder};
 use gob_read_support::reader;
 use gob_types::Table;
 use std::alloc::Global;
@@ -46,8 +47,8 @@ fn held_after_each<B: Builder>(
     reader: &mut BodyReader<B>,
     bytes: &[u8],
 ) -> Result<Vec<u64>, Memory>
-    requires { IsUsable (types table.now) B.stands reader.old.run }
-    ensures { OnOk result (IsUsable (types table.now) B.stands reader.new.run) }
+    requires { IsUsableReader (types table.now) B.stands (under_way reader.old) }
+    ensures { OnOk result (IsUsableReader (types table.now) B.stands (under_way reader.new)) }
 {
     let mut held = Vec::new(alloc);
     'bytes: for byte in bytes {
@@ -61,8 +62,17 @@ fn held_after_each<B: Builder>(
 fn is_right(alloc: Global, table: &Table, row: &str) -> Result<bool, Stop> {
     Ok(
         is_held::<TreeBuilder>(alloc, table, row, 2)?
-            && is_held::<CheckBuilder>(alloc, table, row, 3)?,
+            && is_held::<CheckBuilder>(alloc, table, row, 3)?
+            && holds_nothing(alloc, table, row)?,
     )
+}
+
+// Whether a builder that keeps nothing holds nothing after each byte.
+fn holds_nothing(alloc: Global, table: &Table, row: &str) -> Result<bool, Stop> {
+    let body = body_of(alloc, row)?;
+    let mut reader: BodyReader<SkipBuilder> = reader(alloc, table, &body)?;
+    let held = held_after_each(alloc, table, &mut reader, &body.bytes)?;
+    Ok(held.iter().all(|held| *held == 0))
 }
 
 #[test]

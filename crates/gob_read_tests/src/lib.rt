@@ -1,5 +1,5 @@
 //! Tests of `gob_read` by its public calls: bodies of each shape, whole and in pieces, bodies that are refused, values as
-//! deep as builders take them, how much is held of a body under way, and reading where memory may be refused.
+//! deep as builders take them, how much is held of a body under way, parts that stand whole in a piece, and reading where memory may be refused.
 //!
 //! Rows are lines of text, one for each body:
 //!
@@ -16,5 +16,7 @@ mod deep;
 mod held;
 #[cfg(test)]
 mod row;
+#[cfg(test)]
+mod skipped;
 #[cfg(test)]
 mod types;

@@ -16,7 +16,7 @@ enum Form {
 }
 
 // The types of the rows. An array has two elements.
-const TYPES: [(u64, Form); 9] = [
+const TYPES: [(u64, Form); 10] = [
     // two ints
     (65, Form::Struct(2, 2)),
     // an int and another such struct
@@ -34,6 +34,8 @@ const TYPES: [(u64, Form); 9] = [
     (72, Form::Slice(3)),
     // with a field of each kind
     (73, Form::Every),
+    // of 65
+    (74, Form::Slice(65)),
 ];
 
 // The types of those fields. The last is the struct's own.

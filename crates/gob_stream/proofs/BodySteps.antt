@@ -6,12 +6,12 @@ use Rattle.gob_types.specs.Table.{Table}
 use Rattle.gob_value.specs.Tree.{Tree}
 use Rattle.gob_read.specs.Refusal as body
 use Rattle.gob_read.specs.Refusal.{Refused, extra, too_deep, short_of, bad_head_at, not_minimal_at, not_allowed}
-use Rattle.gob_read.specs.Reader.{Stands, RefusesBody, Stops}
+use Rattle.gob_read.specs.Reader.{ReaderStands, ReaderRefusesBody, Stops}
 use Rattle.gob_read.specs.declared.run.Run.{Run}
 use Rattle.gob_read.specs.declared.stop.Stop.{Stop}
 use Rattle.gob_read.specs.declared.stop.Stop.TheVariants as stop
 use Rattle.gob_read.proofs.PublicLaws.{seen_within}
-use Rattle.gob_read.specs.Reader.{Gives}
+use Rattle.gob_read.specs.Reader.{ReaderGives}
 use Rattle.gob_read.specs.declared.reader.BodyReader.{BodyReader}
 use Rattle.gob_read.specs.declared.reader.Progress.{Progress}
 use Rattle.gob_read.specs.declared.reader.Progress.TheVariants as progress
@@ -21,10 +21,10 @@ use Rattle.gob_stream.specs.declared.stage.Stage.TheVariants as stage
 use Rattle.gob_stream.specs.declared.fault.Fault.{Fault}
 use Rattle.gob_stream.specs.declared.stage.Extent.{Extent}
 use Rattle.gob_stream.specs.Standing.{Standing, size}
-use Rattle.gob_stream.specs.ReadParts.{IsUnderWay, StopsWithin, fault_behind, ReadsValue, value_goes_on, value_ends, value_refused, no_memory_for_value}
+use Rattle.gob_stream.specs.ReadParts.{IsBodyUnderWay, StopsWithin, fault_behind, ReadsValueIn, value_goes_on, value_ends, value_refused, no_memory_for_value}
 
 -- ---- what stands has taken no more than was announced
-stood_within : (T : Table) (t : TypeId) (limit announced : ℕ) {X O : Type 0} (stands : Standing X) (run : Option (Run X O)) (z : List ℕ) → Stands T t limit announced stands run z → length z ≤ announced
+stood_within : (T : Table) (t : TypeId) (limit announced : ℕ) {X O : Type 0} (stands : Standing X) (run : Option (Run X O)) (z : List ℕ) → ReaderStands T t limit announced stands run z → length z ≤ announced
 stood_within T t limit announced stands None z s = absurd s
 stood_within T t limit announced stands (Some run) z s = s.within
 
@@ -40,8 +40,8 @@ place_before (not_allowed r a e u h) = omega arith
 pub within_body : (z piece : List ℕ) (announced : ℕ) → length z ≤ announced → length (z ++ take (announced - length z) piece) ≤ announced
 within_body z piece announced l = omega (arith, length-append z (take (announced - length z) piece), length-take (announced - length z) piece)
 
-pub stops_within : {T : Table} {t : TypeId} {rest : Extent} {X O : Type 0} {stands : Standing X} (run : Option (Run X O)) (piece : List ℕ) (s : Stop) → IsUnderWay T t rest stands run → rest.begin ≤ rest.end → rest.end < 2 ^ 64
-    → Stops run (λ refusal. RefusesBody T stands run piece refusal) s → StopsWithin rest.begin s
+pub stops_within : {T : Table} {t : TypeId} {rest : Extent} {X O : Type 0} {stands : Standing X} (run : Option (Run X O)) (piece : List ℕ) (s : Stop) → IsBodyUnderWay T t rest stands run → rest.begin ≤ rest.end → rest.end < 2 ^ 64
+    → Stops run (λ refusal. ReaderRefusesBody T stands run piece refusal) s → StopsWithin rest.begin s
 stops_within {T = T} {t = t} {rest = rest} {stands = stands} run piece (stop.Refused place seen reason) u l n r =
     let first = r.each t u.limit (size rest) u.bytes u.after in
     let w = stood_within T t u.limit (size rest) stands run u.bytes u.after in
@@ -53,26 +53,26 @@ stops_within run piece stop.Memory u l n r = tt
 stops_within run piece stop.Failed u l n r = tt
 
 -- ---- why a value is stopped
-pub not_ended : (T : Table) (t : TypeId) (limit announced : ℕ) {X O : Type 0} (stands : Standing X) (run : Option (Run X O)) (z : List ℕ) → Stands T t limit announced stands run z → run ≡ None → ⊥
+pub not_ended : (T : Table) (t : TypeId) (limit announced : ℕ) {X O : Type 0} (stands : Standing X) (run : Option (Run X O)) (z : List ℕ) → ReaderStands T t limit announced stands run z → run ≡ None → ⊥
 not_ended T t limit announced stands None z s e = s
 not_ended T t limit announced stands (Some run) z s e = cc
 
 pub value_stopped : {T : Table} {t : TypeId} {limit : ℕ} {rest : Extent} {X O : Type 0} {stands : Standing X} {means : O → Tree → Type 0} (run : Option (Run X O)) (z piece : List ℕ) (s : Stop) {f : Fault} → f ≡ fault_behind rest.begin s
-    → Stops run (λ refusal. RefusesBody T stands run piece refusal) s → Stands T t limit (size rest) stands run z → ReadsValue {X = X} {O = O} stands means T t limit rest z piece (Err f)
+    → Stops run (λ refusal. ReaderRefusesBody T stands run piece refusal) s → ReaderStands T t limit (size rest) stands run z → ReadsValueIn {X = X} {O = O} stands means T t limit rest z piece (Err f)
 value_stopped {T = T} {t = t} {limit = limit} {rest = rest} {X = X} {O = O} {stands = stands} {means = means} run z piece (stop.Refused place seen reason) e r s =
-    subst (λ f. ReadsValue {X = X} {O = O} stands means T t limit rest z piece (Err f)) (sym e) (value_refused (r.each t limit (size rest) z s))
+    subst (λ f. ReadsValueIn {X = X} {O = O} stands means T t limit rest z piece (Err f)) (sym e) (value_refused (r.each t limit (size rest) z s))
 value_stopped {T = T} {t = t} {limit = limit} {rest = rest} {X = X} {O = O} {stands = stands} {means = means} run z piece stop.Memory e r s =
-    subst (λ f. ReadsValue {X = X} {O = O} stands means T t limit rest z piece (Err f)) (sym e) no_memory_for_value
+    subst (λ f. ReadsValueIn {X = X} {O = O} stands means T t limit rest z piece (Err f)) (sym e) no_memory_for_value
 value_stopped {T = T} {t = t} {limit = limit} {rest = rest} {stands = stands} run z piece stop.Failed e r s = absurd (not_ended T t limit (size rest) stands run z s r)
 
 pub value_more : {T : Table} {t : TypeId} {limit : ℕ} {rest : Extent} {X O : Type 0} {stands : Standing X} {means : O → Tree → Type 0} {p : Progress O} (reader : BodyReader X O) (z piece : List ℕ) → p ≡ progress.More
-    → Gives T t limit (size rest) stands means reader.run z piece p → ReadsValue stands means T t limit rest z piece (Ok (record { used = length piece; stage = stage.Value t rest reader; item = None }))
+    → ReaderGives T t limit (size rest) stands means reader.run z piece p → ReadsValueIn stands means T t limit rest z piece (Ok (record { used = length piece; stage = stage.Value t rest reader; item = None }))
 value_more {T = T} {t = t} {limit = limit} {rest = rest} {stands = stands} {means = means} reader z piece e h =
-    let g = subst (λ p. Gives T t limit (size rest) stands means reader.run z piece p) e h in
+    let g = subst (λ p. ReaderGives T t limit (size rest) stands means reader.run z piece p) e h in
     value_goes_on (record { after = g.after; stood = g.stood })
 
 pub value_done : {T : Table} {t : TypeId} {limit : ℕ} {rest : Extent} {X O : Type 0} {stands : Standing X} {means : O → Tree → Type 0} {p : Progress O} {out : O} {used : ℕ} {st : Stage X O} (run : Option (Run X O)) (z piece : List ℕ) → p ≡ progress.Done out used
-    → Gives T t limit (size rest) stands means run z piece p → st ≡ stage.Count rest.end [] → ReadsValue stands means T t limit rest z piece (Ok (record { used = used; stage = st; item = Some (item.Put t out) }))
+    → ReaderGives T t limit (size rest) stands means run z piece p → st ≡ stage.Count rest.end [] → ReadsValueIn stands means T t limit rest z piece (Ok (record { used = used; stage = st; item = Some (item.Put t out) }))
 value_done {T = T} {t = t} {limit = limit} {rest = rest} {stands = stands} {means = means} {out = out} {used = used} run z piece e h f =
-    let g = subst (λ p. Gives T t limit (size rest) stands means run z piece p) e h in
-    subst (λ st. ReadsValue stands means T t limit rest z piece (Ok (record { used = used; stage = st; item = Some (item.Put t out) }))) (sym f) (value_ends g.within g.made)
+    let g = subst (λ p. ReaderGives T t limit (size rest) stands means run z piece p) e h in
+    subst (λ st. ReadsValueIn stands means T t limit rest z piece (Ok (record { used = used; stage = st; item = Some (item.Put t out) }))) (sym f) (value_ends g.within g.made)

@@ -15,7 +15,7 @@ use Rattle.gob_value.specs.Tree.{Tree, Fields, no_field, field}
 use Rattle.gob_value.specs.Tree as Value
 use Rattle.gob_value.specs.Spelling.{Spells, of_type, of_int, of_struct, SpellsFields, next_field}
 use Rattle.gob_value.specs.Fits.{Fits}
-use Rattle.gob_value.specs.Description.{Said, SaidField, SaidKind, said_array, said_slice, said_struct, said_map, said_opaque, said_kind, said_with, present, number_in, fields_in, elements_in, said_fields, GivesFields, and_field, GivesKind, gives_array, gives_slice, gives_struct, gives_map, gives_opaque, Describes}
+use Rattle.gob_value.specs.Description.{Said, SaidField, SaidKind, said_array, said_slice, said_struct, said_map, said_opaque, said_kind, said_with, present_field, number_in, fields_in, elements_in, said_fields, GivesFields, and_field, GivesKind, gives_array, gives_slice, gives_struct, gives_map, gives_opaque, Describes}
 use Rattle.gob_num.specs.Signed.{not_negative}
 use Rattle.gob_num.proofs.PublicLaws.{unsigned_fits}
 
@@ -29,16 +29,16 @@ record IsOfSomeType (T : Table) (v : Tree) : Type 0 where
 
 -- each field that is present is a value of some type
 record ArePresent (T : Table) (fs : Fields) : Type 0 where
-  each : (n : ℕ) (v : Tree) → present n fs ≡ Some v → IsOfSomeType T v
+  each : (n : ℕ) (v : Tree) → present_field n fs ≡ Some v → IsOfSomeType T v
 
 none_present : {T : Table} → ArePresent T no_field
 none_present = record { each = λ n v at. absurd (cc at) }
 
-spelled_fields : {T : Table} {types : List Field} (fs : Fields) {next : ℕ} {b : List ℕ} → SpellsFields T types next fs b → (n : ℕ) (v : Tree) → present n fs ≡ Some v → IsOfSomeType T v
+spelled_fields : {T : Table} {types : List Field} (fs : Fields) {next : ℕ} {b : List ℕ} → SpellsFields T types next fs b → (n : ℕ) (v : Tree) → present_field n fs ≡ Some v → IsOfSomeType T v
 spelled_fields no_field spelled n v at = absurd (cc at)
 spelled_fields {T = T} (field f w fs) (next_field l m p q ps) n v at = by (f == n) at (spelled_fields fs ps n v)
   where
-    by : (b : Bool) → cond b (Some w) (present n fs) ≡ Some v → (present n fs ≡ Some v → IsOfSomeType T v) → IsOfSomeType T v
+    by : (b : Bool) → cond b (Some w) (present_field n fs) ≡ Some v → (present_field n fs ≡ Some v → IsOfSomeType T v) → IsOfSomeType T v
     by true at rest = subst (IsOfSomeType T) (some_injective at) (record { type = _; bytes = _; spelled = q })
     by false at rest = rest at
 
@@ -62,8 +62,8 @@ int_small (Value.int i) {n = n} of is = by of.spelled
     by {b = b} (of_type found (of_int spelled)) = small_number (subst (λ j. IsSigned j b) is spelled)
 int_small _ of is = zero_small is
 
-number_small : {T : Table} {fs : Fields} {n : ℕ} (f : ℕ) → ArePresent T fs → number_in (present f fs) ≡ pos n → n ≤ 9223372036854775807
-number_small {T = T} {fs = fs} {n = n} f all is = by (present f fs) is (all.each f)
+number_small : {T : Table} {fs : Fields} {n : ℕ} (f : ℕ) → ArePresent T fs → number_in (present_field f fs) ≡ pos n → n ≤ 9223372036854775807
+number_small {T = T} {fs = fs} {n = n} f all is = by (present_field f fs) is (all.each f)
   where
     by : (o : _) → number_in o ≡ pos n → ((v : Tree) → o ≡ Some v → IsOfSomeType T v) → n ≤ 9223372036854775807
     by None is each = zero_small is
@@ -89,9 +89,9 @@ array_chosen x y m n p e l gs false false true d o none says = absurd (cc)
 array_chosen x y m n p e l gs false false false true o none says = absurd (cc)
 array_chosen x y m n p e l gs false false false false o none says = absurd (none says)
 
-array_said : (f : ℕ) (fs : Fields) {e l : ℤ} → said_kind f fs ≡ Some (said_array e l) → l ≡ number_in (present 2 fs)
+array_said : (f : ℕ) (fs : Fields) {e l : ℤ} → said_kind f fs ≡ Some (said_array e l) → l ≡ number_in (present_field 2 fs)
 array_said f fs {e = e} {l = l} says =
-    array_chosen (number_in (present 1 fs)) (number_in (present 2 fs)) (number_in (present 1 fs)) (number_in (present 1 fs)) (number_in (present 2 fs)) e l (said_fields (elements_in (present 1 fs)))
+    array_chosen (number_in (present_field 1 fs)) (number_in (present_field 2 fs)) (number_in (present_field 1 fs)) (number_in (present_field 1 fs)) (number_in (present_field 2 fs)) e l (said_fields (elements_in (present_field 1 fs)))
     (f == 0) (f == 1) (f == 2) (f == 3) (opaque_chosen (f == 4) (f == 5) (f == 6)) (no_array_chosen (f == 4) (f == 5) (f == 6)) says
 
 has_length : {T : Table} (f : ℕ) (fs : Fields) {k : SaidKind} {kk : Kind} → ArePresent T fs → said_kind f fs ≡ Some k → GivesKind k kk → HasLength kk
@@ -124,7 +124,7 @@ kind_with common (Some k) says = ap (λ w. Some w.kind) (some_injective says)
 
 described_length : {T : Table} {t id : TypeId} {v : Tree} {b : List ℕ} {s : Shape} → Spells T t v b → Describes id v s → HasLength s.kind
 described_length {T = T} {v = Value.fields (field f w no_field)} (of_type found (of_struct (next_field l m p q ps))) d =
-    has_length f (fields_in (Some w)) (fields_present w (record { type = _; bytes = _; spelled = q })) (kind_with (fields_in (present 0 (fields_in (Some w)))) (said_kind f (fields_in (Some w))) d.says) d.kind
+    has_length f (fields_in (Some w)) (fields_present w (record { type = _; bytes = _; spelled = q })) (kind_with (fields_in (present_field 0 (fields_in (Some w)))) (said_kind f (fields_in (Some w))) d.says) d.kind
 described_length {v = _} spelled d = absurd (cc d.says)
 
 pub definable : {T : Table} {t id : TypeId} {v : Tree} {s : Shape} → Fits T t v → Describes id v s → IsDefinable s

@@ -11,7 +11,7 @@ use Rattle.gob_value.specs.Fits.{Fits}
 use Rattle.gob_value.specs.View.{view}
 use Rattle.gob_value.specs.declared.value.Value.{Value}
 use Rattle.gob_value.proofs.PublicLaws.{spells_back}
-use Rattle.gob_read.specs.Reader.{Stands, RefusesBody, Stops, IsMade, Gives}
+use Rattle.gob_read.specs.Reader.{ReaderStands, ReaderRefusesBody, Stops, IsMade, ReaderGives}
 use Rattle.gob_read.specs.declared.run.Run.{Run}
 use Rattle.gob_read.specs.declared.stop.Stop.{Stop}
 use Rattle.gob_read.specs.declared.stop.Stop.TheVariants as stop
@@ -64,15 +64,15 @@ wire_fits w made = record { bytes = _; spelled = spells_back (wire_keeps w) wire
 
 -- ---- what became of a piece of a description
 pub made_of : {T : Table} {limit : ℕ} {rest : Extent} {p : Progress Value} {described : Value} {used : ℕ} (trees : Standing TreeBuilder) (run : Option (Run TreeBuilder Value)) (z piece : List ℕ) → p ≡ progress.Done described used
-    → Gives T wire_type limit (size rest) trees IsView run z piece p → IsDescribed T limit rest z piece described used
+    → ReaderGives T wire_type limit (size rest) trees IsView run z piece p → IsDescribed T limit rest z piece described used
 made_of {T = T} {limit = limit} {rest = rest} trees run z piece e h =
-    let g = subst (λ p. Gives T wire_type limit (size rest) trees IsView run z piece p) e h in record { within = g.within; made = g.made }
+    let g = subst (λ p. ReaderGives T wire_type limit (size rest) trees IsView run z piece p) e h in record { within = g.within; made = g.made }
 
 pub description_more : {T : Table} {id : TypeId} {limit : ℕ} {rest : Extent} {X O : Type 0} {trees : Standing TreeBuilder} {p : Progress Value} (reader : BodyReader TreeBuilder Value) (z piece : List ℕ) → p ≡ progress.More
-    → Gives T wire_type limit (size rest) trees IsView reader.run z piece p
+    → ReaderGives T wire_type limit (size rest) trees IsView reader.run z piece p
     → ReadsDescription {X = X} {O = O} trees T id limit rest z piece T (Ok (record { used = length piece; stage = stage.Description id rest reader; item = None }))
 description_more {T = T} {limit = limit} {rest = rest} {trees = trees} reader z piece e h =
-    let g = subst (λ p. Gives T wire_type limit (size rest) trees IsView reader.run z piece p) e h in
+    let g = subst (λ p. ReaderGives T wire_type limit (size rest) trees IsView reader.run z piece p) e h in
     description_goes_on refl (record { after = g.after; stood = g.stood })
 
 pub description_done : {T U : Table} {id : TypeId} {limit : ℕ} {rest : Extent} {X O : Type 0} {trees : Standing TreeBuilder} {described : Value} {used : ℕ} {st : Stage X O} {z piece : List ℕ} → IsDescribed T limit rest z piece described used
@@ -87,7 +87,7 @@ description_wrong d (described_wrongly w e) = describes_nothing e d w
 description_wrong d (no_memory_to_define e) = no_memory_for_description
 
 pub description_stopped : {T : Table} {id : TypeId} {limit : ℕ} {rest : Extent} {X O : Type 0} {trees : Standing TreeBuilder} (run : Option (Run TreeBuilder Value)) (z piece : List ℕ) (s : Stop) {f : Fault} → f ≡ fault_behind rest.begin s
-    → Stops run (λ refusal. RefusesBody T trees run piece refusal) s → Stands T wire_type limit (size rest) trees run z → ReadsDescription {X = X} {O = O} trees T id limit rest z piece T (Err f)
+    → Stops run (λ refusal. ReaderRefusesBody T trees run piece refusal) s → ReaderStands T wire_type limit (size rest) trees run z → ReadsDescription {X = X} {O = O} trees T id limit rest z piece T (Err f)
 description_stopped {T = T} {id = id} {limit = limit} {rest = rest} {X = X} {O = O} {trees = trees} run z piece (stop.Refused place seen reason) e r s =
     subst (λ f. ReadsDescription {X = X} {O = O} trees T id limit rest z piece T (Err f)) (sym e) (description_refused refl (r.each wire_type limit (size rest) z s))
 description_stopped {T = T} {id = id} {limit = limit} {rest = rest} {X = X} {O = O} {trees = trees} run z piece stop.Memory e r s =

@@ -1,5 +1,5 @@
 -- How faults and bytes pass from a call to its caller.
-use Rattle.std.proofs.Common.{◌≡◌, ℕ, List, ◌++◌, Result, Ok, Err, IfErr, OnOk, IsErrAnd, sym, ap, subst, ◌∙◌, append_assoc}
+use Rattle.std.proofs.Common.{◌≡◌, ℕ, List, ◌++◌, Result, Ok, Err, IfErr, OnOk, OnErr, IsErrAnd, sym, ap, subst, ◌∙◌, append_assoc}
 use Rattle.gob_num.specs.Spelled.{Appends}
 use Rattle.gob_types.specs.declared.reason.Reason.{Reason}
 use Rattle.gob_stream.specs.declared.fault.WriteFault.{WriteFault}
@@ -10,6 +10,11 @@ use Rattle.gob_stream.specs.Writing.{IsRefusal}
 pub passed : {A E : Type 0} (r : Result A E) {e : E} (P : E → Type 0) → IsErrAnd r (λ y. y ≡ e) → P e → IfErr r P
 passed (Ok a) P is p = absurd is
 passed (Err y) P is p = subst P (sym is) p
+
+-- what holds anyway holds after an error
+pub on_any_err : {A E : Type 0} (r : Result A E) {X : Type 0} → X → OnErr r X
+on_any_err (Ok a) x = tt
+on_any_err (Err e) x = x
 
 -- what refuses one refuses the other
 pub refusal_weaker : {P Q : Reason → Type 0} (f : WriteFault) → ((r : Reason) → P r → Q r) → IsRefusal P f → IsRefusal Q f

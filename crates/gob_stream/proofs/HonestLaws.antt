@@ -27,7 +27,7 @@ use Rattle.gob_stream.specs.declared.item.Item as declared
 use Rattle.gob_stream.specs.declared.reading.Reading.{Reading}
 use Rattle.gob_stream.specs.Body.{Body, definition, value}
 use Rattle.gob_stream.specs.Bounds.{Bounds, no_deeper}
-use Rattle.gob_stream.specs.Honest.{IsTypeNumber, of_value, of_definition, from, IsHonest, OfRefusal, FeedsHonestly, ReadsHonestly}
+use Rattle.gob_stream.specs.Honest.{SpellsTypeNumber, of_value, of_definition, from, IsHonest, OfRefusal, FeedsHonestly, ReadsHonestly}
 use Rattle.gob_stream.specs.Item.{StreamItem}
 use Rattle.gob_stream.specs.Outcome.{RefusesNext, refused_count, refused_body, refused, EndsSo, next_refused, within_an_item, Outcome}
 use Rattle.gob_stream.specs.Reading.{Given, Feeds, ReadsNext, ReadsStream, shown, ended}
@@ -56,7 +56,7 @@ wire_ready_in h = ready_on (extends_keeps (table_extends h)) wire_ready
 -- ---- a body
 -- counted from a later byte on, and with more bytes behind those that are there
 honest_from : {T : Table} {t : TypeId} {limit n k : ℕ} {w z : List ℕ} {S : body.Refusal} (x : List ℕ) → n ≡ k → w ++ x ≡ z → S.place ≤ length w → S.seen ≤ length w
-    → body_honest.IsHonest T t limit w S → body_honest.IsHonest T t limit z (from k (behind n S))
+    → body_honest.IsHonestBody T t limit w S → body_honest.IsHonestBody T t limit z (from k (behind n S))
 honest_from {T = T} {t = t} {limit = limit} {n = n} {k = k} {w = w} {z = z} {S = S} x same e p s h =
     let place : (n + S.place) - k ≡ S.place = omega arith in
     let seen : (n + S.seen) - k ≡ S.seen = omega arith in
@@ -68,7 +68,7 @@ honest_from {T = T} {t = t} {limit = limit} {n = n} {k = k} {w = w} {z = z} {S =
     }
 
 -- of reasons that aren't those of a number, nor of depth, nothing is said
-nothing_said : {T : Table} {t : TypeId} {limit : ℕ} {z : List ℕ} {S : body.Refusal} → ¬ IsOfNumber S.reason → ¬ (S.reason ≡ reason.TooDeep) → body_honest.IsHonest T t limit z S
+nothing_said : {T : Table} {t : TypeId} {limit : ℕ} {z : List ℕ} {S : body.Refusal} → ¬ IsOfNumber S.reason → ¬ (S.reason ≡ reason.TooDeep) → body_honest.IsHonestBody T t limit z S
 nothing_said i d = record { number = λ n. absurd (i n); deep = λ e. absurd (d e) }
 
 description_number : {id : TypeId} {v : Tree} {r : Reason} → Misdescribes id v r → ¬ IsOfNumber r
@@ -83,19 +83,19 @@ description_deep (wrong_id p q) e = cc
 description_deep (bad_reference p q s) e = cc
 description_deep (bad_length p q s u) e = cc
 
-some_number : {t : TypeId} {a : List ℕ} → IsTypeNumber t a → 0 < length a
+some_number : {t : TypeId} {a : List ℕ} → SpellsTypeNumber t a → 0 < length a
 some_number (of_value s) = (unsigned_length (signed_unsigned s).1).0
 some_number (of_definition s) = (unsigned_length (signed_unsigned s).1).0
 
 value_honest : {T : Table} {limit announced : ℕ} {t u : TypeId} {a b w z : List ℕ} {S : body.Refusal} (offset : ℕ) (x : List ℕ) → IsTable T → IsReady T u
-    → IsTypeNumber t a → IsTypeNumber u b → (t ≡ u) × (b ≡ a) × (w ++ x ≡ z) → IsFirst T u limit announced w S
-    → body_honest.IsHonest T t limit z (from (offset + length a) (behind (offset + length b) S))
+    → SpellsTypeNumber t a → SpellsTypeNumber u b → (t ≡ u) × (b ≡ a) × (w ++ x ≡ z) → IsFirst T u limit announced w S
+    → body_honest.IsHonestBody T t limit z (from (offset + length a) (behind (offset + length b) S))
 value_honest {T = T} {limit = limit} {w = w} {S = S} offset x h ready s s' same f =
-    let honest = subst (λ t. body_honest.IsHonest T t limit w S) (sym same.0) (first_honest (table_counted h) ready f) in
+    let honest = subst (λ t. body_honest.IsHonestBody T t limit w S) (sym same.0) (first_honest (table_counted h) ready f) in
     honest_from x (ap (λ l. offset + length l) same.1) same.2 (place_within f.refused) (seen_within f.refused) honest
 
 -- bytes begin with one type number
-one_number : {t u : TypeId} {a b z : List ℕ} (w x : List ℕ) → IsTypeNumber t a → IsTypeNumber u b → (b ++ w) ++ x ≡ a ++ z → (t ≡ u) × (b ≡ a) × (w ++ x ≡ z)
+one_number : {t u : TypeId} {a b z : List ℕ} (w x : List ℕ) → SpellsTypeNumber t a → SpellsTypeNumber u b → (b ++ w) ++ x ≡ a ++ z → (t ≡ u) × (b ≡ a) × (w ++ x ≡ z)
 one_number {t = t} {u = u} {b = b} {z = z} w x (of_value s) (of_value r) e =
     let p = signed_prefix (w ++ x) z r s (sym (append_assoc b w x) ∙ e) in
     let same : t.0 ≡ u.0 = let v = p.value in cc in
@@ -106,7 +106,7 @@ one_number {b = b} {z = z} w x (of_definition s) (of_definition r) e =
     let p = signed_prefix (w ++ x) z r s (sym (append_assoc b w x) ∙ e) in (refl, p.bytes, p.rest)
 
 body_refused_honestly : {L : Bounds} {T : Table} {offset m : ℕ} {t : TypeId} {y a z : List ℕ} {R : Refusal} (x : List ℕ) → IsTable T → RefusesBody base_table L T offset m y R → y ++ x ≡ a ++ z
-    → IsTypeNumber t a → offset + length a ≤ R.place → body_honest.IsHonest T t L.depth z (from (offset + length a) R)
+    → SpellsTypeNumber t a → offset + length a ≤ R.place → body_honest.IsHonestBody T t L.depth z (from (offset + length a) R)
 body_refused_honestly x h (refusing.RefusesBody.bad_head q) e s l = absurd (let n = some_number s in omega arith)
 body_refused_honestly x h (refusing.RefusesBody.not_minimal q) e s l = absurd (let n = some_number s in omega arith)
 body_refused_honestly x h (short n q) e s l = nothing_said (λ i. i) (λ i. cc)
@@ -126,7 +126,7 @@ count_place (item_too_long r e u l) = refl
 count_place (stream_too_long r e u l k) = refl
 
 next_honest : {L : Bounds} {T : Table} {offset m : ℕ} {t : TypeId} {c a z : List ℕ} {R : Refusal} → IsTable T → RefusesNext base_table L T offset (c ++ (a ++ z)) R
-    → IsUnsigned m c → IsTypeNumber t a → offset + length c + length a ≤ R.place → body_honest.IsHonest T t L.depth z (from (offset + length c + length a) R)
+    → IsUnsigned m c → SpellsTypeNumber t a → offset + length c + length a ≤ R.place → body_honest.IsHonestBody T t L.depth z (from (offset + length c + length a) R)
 next_honest h (refused_count q) u s l = absurd (let n = (unsigned_length u).0 in let p = count_place q in omega arith)
 next_honest {L = L} {T = T} {offset = offset} {c = c} {a = a} {z = z} {R = R} h (refused_body {m = m} {c = d} r e v i k q) u s l =
     let p = unsigned_prefix (a ++ z) r u v e in

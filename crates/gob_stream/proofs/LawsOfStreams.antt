@@ -7,7 +7,7 @@ use Rattle.gob_stream.specs.Item.{StreamItem}
 use Rattle.gob_stream.specs.Body.{Body, definition, value}
 use Rattle.gob_stream.specs.Stream.{Counted, counted, Continues, no_more, and_then}
 use Rattle.gob_stream.specs.Outcome.{BeginsWith, GivesItems}
-use Rattle.gob_stream.specs.Laws.{GoesOn, AtLeast}
+use Rattle.gob_stream.specs.Laws.{ItemsGoOn, AtLeast}
 use Rattle.gob_stream.proofs.StreamLaws.{counted_prefix, counted_some}
 
 regroup : (b p x c q y : List ℕ) → (b ++ p) ++ x ≡ (c ++ q) ++ y → b ++ (p ++ x) ≡ c ++ (q ++ y)
@@ -29,12 +29,12 @@ one_reading {base = base} {L = L} {V = V} (and_then {U = U} {next = m} {i = i} {
     (cc, rest.1)
 
 -- ---- one begins the other
-goes_on_more : {i : StreamItem} {items others : List StreamItem} → GoesOn items others ⊎ GoesOn others items → GoesOn (i ∷ items) (i ∷ others) ⊎ GoesOn (i ∷ others) (i ∷ items)
+goes_on_more : {i : StreamItem} {items others : List StreamItem} → ItemsGoOn items others ⊎ ItemsGoOn others items → ItemsGoOn (i ∷ items) (i ∷ others) ⊎ ItemsGoOn (i ∷ others) (i ∷ items)
 goes_on_more {i = i} (inl g) = inl (record { more = g.more; whole = ap (λ l. i ∷ l) g.whole })
 goes_on_more {i = i} (inr g) = inr (record { more = g.more; whole = ap (λ l. i ∷ l) g.whole })
 
 begin_from : {base : Table} {L : Bounds} {T U V : Table} {offset : ℕ} {items others : List StreamItem} {b c : List ℕ} (x y : List ℕ)
-    → Continues base L T offset items b U → Continues base L T offset others c V → b ++ x ≡ c ++ y → GoesOn items others ⊎ GoesOn others items
+    → Continues base L T offset items b U → Continues base L T offset others c V → b ++ x ≡ c ++ y → ItemsGoOn items others ⊎ ItemsGoOn others items
 begin_from {others = others} x y no_more q e = inl (record { more = others; whole = refl })
 begin_from {items = items} x y p no_more e = inr (record { more = items; whole = refl })
 begin_from {base = base} {L = L} {V = V} x y (and_then {U = U} {next = m} {i = i} {items = items} {b = a} {c = b} p e r) (and_then {U = W} {next = n} {i = j} {items = others} {b = c} {c = d} q f s) h =
@@ -42,13 +42,13 @@ begin_from {base = base} {L = L} {V = V} x y (and_then {U = U} {next = m} {i = i
     let lengths : length a ≡ length c = ap length one.bytes in
     let offsets : n ≡ m = omega arith in
     let s' = subst (λ (U : Table). Continues base L U m others d V) (sym one.table) (subst (λ n. Continues base L W n others d V) offsets s) in
-    subst (λ j. GoesOn (i ∷ items) (j ∷ others) ⊎ GoesOn (j ∷ others) (i ∷ items)) one.item (goes_on_more (begin_from x y r s' one.rest))
+    subst (λ j. ItemsGoOn (i ∷ items) (j ∷ others) ⊎ ItemsGoOn (j ∷ others) (i ∷ items)) one.item (goes_on_more (begin_from x y r s' one.rest))
 
-pub begin_one_another : (base : Table) (L : Bounds) (bytes : List ℕ) (items others : List StreamItem) → BeginsWith base L bytes items → BeginsWith base L bytes others → GoesOn items others ⊎ GoesOn others items
+pub begin_one_another : (base : Table) (L : Bounds) (bytes : List ℕ) (items others : List StreamItem) → BeginsWith base L bytes items → BeginsWith base L bytes others → ItemsGoOn items others ⊎ ItemsGoOn others items
 begin_one_another base L bytes items others p q = begin_from p.rest q.rest p.stream q.stream (sym p.whole ∙ q.whole)
 
 -- what isn't longer is all
-pub all_of : {items others : List StreamItem} → GoesOn items others → length others ≤ length items → items ≡ others
+pub all_of : {items others : List StreamItem} → ItemsGoOn items others → length others ≤ length items → items ≡ others
 all_of {items = items} {others = others} g l = sym (g.whole ∙ ap (λ m. items ++ m) (none g.more (omega (arith, ap length g.whole, length-append items g.more))) ∙ append-nil items)
   where
     none : (m : List StreamItem) → length m ≡ 0 → m ≡ []

@@ -9,5 +9,5 @@ pub use Rattle.gob_stream.proofs.StayLaws.{shown_refusal_stays, shown_there}
 pub use Rattle.gob_stream.proofs.StreamLaws.{NoNext, counted_prefix, counted_some, gives_items, one_more, same_id}
 pub use Rattle.gob_stream.proofs.StreamReadSteps.{IsSeen, views_behind, views_meant}
 pub use Rattle.gob_stream.proofs.UnderWayLaws.{after_gives}
-pub use Rattle.gob_stream.proofs.WholeSteps.{begun_gives}
+pub use Rattle.gob_stream.proofs.WholeSteps.{begun_gives, has_item, whole_item}
 pub use Rattle.gob_stream.proofs.WireLaws.{wire_ready}

@@ -15,8 +15,8 @@ use Rattle.gob_stream.specs.Item.{StreamItem}
 use Rattle.gob_stream.specs.Stream.{Stream}
 use Rattle.gob_stream.specs.Outcome.{BeginsWith, GivesItems, the_end, refused, at_the_end, Outcome}
 use Rattle.gob_stream.specs.Standing.{Standing}
-use Rattle.gob_stream.specs.Reading.{IsShown, ReadsStream, Feeds, Finishes}
-use Rattle.gob_stream.specs.Laws.{GoesOn, WrittenWithin, ReadsThese, AreReadBackInPieces}
+use Rattle.gob_stream.specs.Reading.{IsShown, ReadsStream, Feeds, ReadingFinishes}
+use Rattle.gob_stream.specs.Laws.{ItemsGoOn, WrittenWithin, ReadsThese, AreReadBackInPieces}
 use Rattle.gob_stream.proofs.StreamLaws.{counted_some, more_items, NoNext, gives_items}
 use Rattle.gob_stream.proofs.LawsOfStreams.{one_reading, begin_one_another, all_of, give_one_list, wider}
 use Rattle.gob_stream.proofs.OutcomeLaws.{outcome_once}
@@ -47,7 +47,7 @@ not_refused {M = M} {items = items} {given = given} {bytes = bytes} {R = R} w h 
 
 -- ---- by a reader of streams
 -- a front of the bytes of the stream of the items gives a front of them
-front_of : {base : Table} {L : Bounds} {items given : List StreamItem} {bytes : List ℕ} {T : Table} → Stream base L items bytes T → BeginsWith base L bytes given → GoesOn given items
+front_of : {base : Table} {L : Bounds} {items given : List StreamItem} {bytes : List ℕ} {T : Table} → Stream base L items bytes T → BeginsWith base L bytes given → ItemsGoOn given items
 front_of {base = base} {L = L} {items = items} {given = given} {bytes = bytes} {T = T} p q =
     elim (begin_one_another base L bytes given items q (record { front = bytes; rest = []; table = T; stream = p; whole = sym (append-nil bytes) })) [
       | inl g ↦ g
@@ -85,7 +85,7 @@ fed_back stands trees means most s s' items before bytes piece rest given (Err f
 fed_back stands trees means most s s' items before bytes piece rest given (Err fault.Failed) w f = absurd f
 
 finished_back : {X O : Type 0} (most : ℕ) (s s' : Reading X O) (items before : List StreamItem) (bytes : List ℕ) (result : Result (Unit {0}) Fault)
-    → WrittenWithin (no_deeper most s.limits) items bytes → Finishes most s s' before bytes result → result ≡ Ok tt
+    → WrittenWithin (no_deeper most s.limits) items bytes → ReadingFinishes most s s' before bytes result → result ≡ Ok tt
 finished_back most s s' items before bytes (Ok u) w f = refl
 finished_back most s s' items before bytes (Err (fault.Refused R)) w f = absurd (not_refused w f.0)
 finished_back most s s' items before bytes (Err fault.Read) w f = absurd f

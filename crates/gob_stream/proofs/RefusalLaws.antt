@@ -18,7 +18,7 @@ use Rattle.gob_stream.specs.Bounds.{Bounds}
 use Rattle.gob_stream.specs.Item.{StreamItem, defines, puts}
 use Rattle.gob_stream.specs.Body.{Body, definition, value, MayDefine, MayPut}
 use Rattle.gob_stream.specs.Stream.{Counted, counted}
-use Rattle.gob_stream.specs.WriterRefusal.{RefusesId, reserved, defined_twice, too_many, RefusesType, private_type, undefined, bottomless, RefusesValue, too_deep, does_not_fit, RefusesBody, item_too_long, stream_too_long, RefusesItem, refused_id, refused_description, described_wrongly, refused_type, refused_value, refused_body}
+use Rattle.gob_stream.specs.WriterRefusal.{RefusesId, reserved, defined_twice, too_many, RefusesType, private_type, undefined, bottomless, RefusesValue, too_deep, does_not_fit, WriterRefusesBody, item_too_long, stream_too_long, RefusesItem, refused_id, refused_description, described_wrongly, refused_type, refused_value, refused_body}
 
 -- ---- an item has one body, and one spelling with its count
 
@@ -85,7 +85,7 @@ top_fits : {T : Table} {t : TypeId} {v : Tree} {b : List ℕ} → SpellsTop T t 
 top_fits (at_once found struct spelled) = record { bytes = _; spelled = spelled }
 top_fits (tagged found struct spelled) = record { bytes = _; spelled = spelled }
 
-body_met : {L : Bounds} {offset : ℕ} {c d : List ℕ} {r : Reason} → RefusesBody L offset d r → IsUnsigned (length d) c → length d ≤ L.item → offset + length (c ++ d) ≤ L.stream → ⊥
+body_met : {L : Bounds} {offset : ℕ} {c d : List ℕ} {r : Reason} → WriterRefusesBody L offset d r → IsUnsigned (length d) c → length d ≤ L.item → offset + length (c ++ d) ≤ L.stream → ⊥
 body_met (item_too_long long) spelled item stream = omega (arith, long, item)
 body_met (stream_too_long {c = b} item' spelled' long) spelled item stream = let same = unsigned_unique spelled' spelled in let long' = rw same at long in omega (arith, long', stream)
 
@@ -154,7 +154,7 @@ one_description {v = v} (bad_length says same good bad) (wrong_id says' bad') = 
 one_description {v = v} (bad_length says same good bad) (bad_reference says' same' bad') = absurd (good (subst (λ w. HasBadReference w.kind) (one_said v says' says) bad'))
 one_description (bad_length says same good bad) (bad_length says' same' good' bad') = refl
 
-one_length : {L : Bounds} {offset : ℕ} {d : List ℕ} {r s : Reason} → RefusesBody L offset d r → RefusesBody L offset d s → r ≡ s
+one_length : {L : Bounds} {offset : ℕ} {d : List ℕ} {r s : Reason} → WriterRefusesBody L offset d r → WriterRefusesBody L offset d s → r ≡ s
 one_length (item_too_long long) (item_too_long long') = refl
 one_length (item_too_long long) (stream_too_long item spelled past) = absurd (omega (arith, long, item))
 one_length (stream_too_long item spelled past) (item_too_long long) = absurd (omega (arith, long, item))
@@ -162,7 +162,7 @@ one_length (stream_too_long item spelled past) (stream_too_long item' spelled' p
 
 -- why a definition isn't written, once it has a body
 definition_met : {base : Table} {L : Bounds} {T U : Table} {o : ℕ} {t : TypeId} {v : Tree} {d : List ℕ} {r s : Reason} → Body base L T (defines t v) d U
-    → RefusesBody L o d r → RefusesItem base L T o (defines t v) s → r ≡ s
+    → WriterRefusesBody L o d r → RefusesItem base L T o (defines t v) s → r ≡ s
 definition_met (definition may within says is number spelled) bad (refused_id bad') = absurd (id_met bad' may)
 definition_met (definition {b = b} may within says is number spelled) bad (refused_description may' bad') = absurd (value_met bad' within (record { bytes = b; spelled = spelled }))
 definition_met (definition may within says is number spelled) bad (described_wrongly may' within' fits bad') = absurd (description_met bad' says)
@@ -170,7 +170,7 @@ definition_met body bad (refused_body body' bad') = let same = one_body body' bo
 
 -- the same of a value
 value_body_met : {base : Table} {L : Bounds} {T U : Table} {o : ℕ} {t : TypeId} {v : Tree} {d : List ℕ} {r s : Reason} → Body base L T (puts t v) d U
-    → RefusesBody L o d r → RefusesItem base L T o (puts t v) s → r ≡ s
+    → WriterRefusesBody L o d r → RefusesItem base L T o (puts t v) s → r ≡ s
 value_body_met (value may within number spelled) bad (refused_type bad') = absurd (type_met bad' may)
 value_body_met (value may within number spelled) bad (refused_value may' bad') = absurd (value_met bad' within (top_fits spelled))
 value_body_met body bad (refused_body body' bad') = let same = one_body body' body in one_length bad (rw same at bad')

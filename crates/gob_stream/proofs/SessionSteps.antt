@@ -30,8 +30,8 @@ use Rattle.gob_stream.specs.Item.{StreamItem, ItemMeans}
 use Rattle.gob_stream.specs.Stream.{Counted, counted, Continues, no_more, and_then, Stream}
 use Rattle.gob_stream.specs.Outcome.{GivesItems, GivesButLast, RefusesNext, EndsSo, at_the_end, Outcome, the_end, refused}
 use Rattle.gob_stream.specs.Standing.{Standing, StandsIn, in_count, in_type_number, in_value, in_description, IsCount, StandsAfter, IsUsable, has_failed, stands_after}
-use Rattle.gob_stream.specs.Reading.{Taken, SomeTaken, IsShown, IsNoFurther, up_to_the_last_shown, within_the_item, EndsInItem, GivesNext, shown, ended, StopsNext, ReadsNext, TakesNext, Finishes, CountsReads}
-use Rattle.gob_stream.specs.ReadParts.{Advances, AdvancesOver, over_some, over_item, wanted_in}
+use Rattle.gob_stream.specs.Reading.{Taken, SomeTaken, IsShown, IsNoFurther, up_to_the_last_shown, within_the_item, EndsInItem, ReadingGivesNext, shown, ended, StopsNext, ReadsNext, TakesNext, ReadingFinishes, CountsReads}
+use Rattle.gob_stream.specs.ReadParts.{Advances, AdvancesOver, over_some, over_item, bytes_wanted}
 use Rattle.gob_stream.proofs.OutcomeLaws.{one_front}
 use Rattle.gob_stream.proofs.ShownLaws.{next_seen}
 use Rattle.gob_stream.proofs.StayLaws.{refused_behind}
@@ -139,7 +139,7 @@ front_short {b = b} f = shorter b f.rest f.more (unsigned_length f.spelled).1
     shorter b (d ∷ r) m l = omega (arith, length-append b (d ∷ r))
 
 stage_room : {X O : Type 0} {stands : Standing X} {trees : Standing TreeBuilder} {L : Bounds} {T : Table} {offset taken : ℕ} {awaits : Stage X O} {z : List ℕ}
-    → StandsIn stands trees L T offset awaits z → offset ≤ L.stream → taken ≡ offset + length z → Room L.stream taken (wanted_in awaits taken)
+    → StandsIn stands trees L T offset awaits z → offset ≤ L.stream → taken ≡ offset + length z → Room L.stream taken (bytes_wanted awaits taken)
 stage_room (in_count {number = number} f) l e = let n = front_short f in record { some = omega arith; within = omega arith }
 stage_room (in_type_number {c = c} {number = number} k f w) l e =
     let s = k.stream in record { some = omega arith; within = omega (arith, length-append c number) }
@@ -153,16 +153,16 @@ stage_room (in_description {c = c} {a = a} {z = z} k i s r p b) l e =
     record { some = omega arith; within = omega arith }
 
 pub after_room : {X O : Type 0} {stands : Standing X} {trees : Standing TreeBuilder} {most : ℕ} {s : Reading X O} {items : List StreamItem} {bytes : List ℕ}
-    → StandsAfter stands trees most s items bytes → Room s.limits.stream s.taken (wanted_in s.stage s.taken)
+    → StandsAfter stands trees most s items bytes → Room s.limits.stream s.taken (bytes_wanted s.stage s.taken)
 after_room a = stage_room a.stage (stream_within a.stream) (let t = a.taken in omega (arith, ap length a.whole, length-append a.front a.under_way))
 
-pub room_of : {X O : Type 0} {stands : Standing X} {trees : Standing TreeBuilder} {most : ℕ} {s : Reading X O} → IsUsable stands trees most s → IsSound s → Room s.limits.stream s.taken (wanted_in s.stage s.taken)
+pub room_of : {X O : Type 0} {stands : Standing X} {trees : Standing TreeBuilder} {most : ℕ} {s : Reading X O} → IsUsable stands trees most s → IsSound s → Room s.limits.stream s.taken (bytes_wanted s.stage s.taken)
 room_of u n = after_room (somewhere u n).after
 
 -- ---- what is refused
 -- a piece of no more bytes than can be taken at once ends with what shows the refusal, or within the item
 piece_no_further : {X O : Type 0} {stands : Standing X} {trees : Standing TreeBuilder} {L : Bounds} {T : Table} {offset : ℕ} (taken : ℕ) {awaits : Stage X O} {z : List ℕ} (piece : List ℕ) {R : Refusal}
-    → StandsIn stands trees L T offset awaits z → RefusesNext base_table L T offset (z ++ piece) R → taken ≡ offset + length z → 0 < length piece → length piece ≤ wanted_in awaits taken
+    → StandsIn stands trees L T offset awaits z → RefusesNext base_table L T offset (z ++ piece) R → taken ≡ offset + length z → 0 < length piece → length piece ≤ bytes_wanted awaits taken
     → IsNoFurther L offset (z ++ piece) R
 piece_no_further {X = X} {O = O} {stands = stands} {trees = trees} {offset = offset} taken {z = z} piece {R = R} (in_count f) r e m l =
     let before : offset + length z < R.seen = refused_later {X = X} {O = O} {stands = stands} {trees = trees} piece (in_count f) r in
@@ -192,7 +192,7 @@ refused_there {most = most} {s = s} piece {R = R} a h =
     subst (λ z. RefusesNext base_table L (types s.types) (length a.front) z R) o.rest (subst (λ f. RefusesNext base_table L (types s.types) (length f) b.left R) o.front moved)
 
 ends_in_item : {X O : Type 0} {stands : Standing X} {trees : Standing TreeBuilder} {most : ℕ} {s : Reading X O} {items : List StreamItem} {bytes : List ℕ} (piece : List ℕ) {R : Refusal} → StandsAfter stands trees most s items bytes
-    → 0 < length piece → length piece ≤ wanted_in s.stage s.taken → IsShown (no_deeper most s.limits) (bytes ++ piece) items R → EndsInItem (no_deeper most s.limits) (bytes ++ piece) items R
+    → 0 < length piece → length piece ≤ bytes_wanted s.stage s.taken → IsShown (no_deeper most s.limits) (bytes ++ piece) items R → EndsInItem (no_deeper most s.limits) (bytes ++ piece) items R
 ends_in_item {s = s} piece a m l h = record {
   front = a.front;
   item = a.under_way ++ piece;
@@ -216,7 +216,7 @@ count_covered {number = number} x y f l (counted {c = d} {d = e} u n s p) h =
     omega (arith, ap length all, length-append number x, length-append d (e ++ y), length-append e y)
 
 no_second : {X O : Type 0} {stands : Standing X} {trees : Standing TreeBuilder} {L : Bounds} {T : Table} {offset : ℕ} (taken : ℕ) {awaits : Stage X O} {z : List ℕ} (piece : List ℕ)
-    → StandsIn stands trees L T offset awaits z → taken ≡ offset + length z → length piece ≤ wanted_in awaits taken → LastNext base_table L T offset (z ++ piece)
+    → StandsIn stands trees L T offset awaits z → taken ≡ offset + length z → length piece ≤ bytes_wanted awaits taken → LastNext base_table L T offset (z ++ piece)
 no_second taken piece (in_count f) e l = λ i U b y q h. count_covered piece y f l q h
 no_second taken piece (in_type_number {number = number} k f w) e l = λ i U b y q h. covered number piece y k (omega arith) q h
 no_second taken piece (in_value {c = c} {a = a} {z = z} k s r p b) e l = λ i U x y q h.
@@ -225,7 +225,7 @@ no_second taken piece (in_description {c = c} {a = a} {z = z} k n s r p b) e l =
     let lie = lies k r in covered (a ++ z) piece y k (omega (arith, lie.ends, length-append c (a ++ z), length-append a z)) q h
 
 pub after_but_last : {X O : Type 0} {stands : Standing X} {trees : Standing TreeBuilder} {most : ℕ} {s : Reading X O} {items : List StreamItem} {bytes : List ℕ} (piece : List ℕ) → StandsAfter stands trees most s items bytes
-    → length piece ≤ wanted_in s.stage s.taken → GivesButLast base_table (no_deeper most s.limits) (bytes ++ piece) items
+    → length piece ≤ bytes_wanted s.stage s.taken → GivesButLast base_table (no_deeper most s.limits) (bytes ++ piece) items
 after_but_last {most = most} {s = s} {items = items} piece a l =
     let all = ap (λ b. b ++ piece) a.whole ∙ append_assoc a.front a.under_way piece in
     let here : s.taken ≡ length a.front + length a.under_way = let t = a.taken in omega (arith, ap length a.whole, length-append a.front a.under_way) in
@@ -270,9 +270,9 @@ piece_consumed {n = n} {buf = buf} mid now tail r c = subst (λ b. Consumes mid 
 pub record Stepped {X O : Type 0} (stands : Standing X) (trees : Standing TreeBuilder) (means : O → Tree → Type 0) (most : ℕ) (s s' : Reading X O) (piece : List ℕ) (result : Result (Step O) Fault) : Type 0 where
   pub each : (items : List StreamItem) (bytes : List ℕ) → StandsAfter stands trees most s items bytes → Advances stands trees means most s s' items bytes piece result
   pub some : 0 < length piece
-  pub few : length piece ≤ wanted_in s.stage s.taken
+  pub few : length piece ≤ bytes_wanted s.stage s.taken
 
-pub stepped : {X O : Type 0} (stands : Standing X) (trees : Standing TreeBuilder) (means : O → Tree → Type 0) (most : ℕ) (s s' : Reading X O) {n : ℕ} {buf : List ℕ} (tail : List ℕ) (result : Result (Step O) Fault) → IsRead n (wanted_in s.stage s.taken) buf
+pub stepped : {X O : Type 0} (stands : Standing X) (trees : Standing TreeBuilder) (means : O → Tree → Type 0) (most : ℕ) (s s' : Reading X O) {n : ℕ} {buf : List ℕ} (tail : List ℕ) (result : Result (Step O) Fault) → IsRead n (bytes_wanted s.stage s.taken) buf
     → ((items : List StreamItem) (bytes : List ℕ) → StandsAfter stands trees most s items bytes → Advances stands trees means most s s' items bytes (take n (buf ++ tail)) result) → Stepped stands trees means most s s' (take n (buf ++ tail)) result
 stepped stands trees means most s s' tail result r f = let l = piece_length tail r in let some = r.some in let within = r.within in let few = r.few in record { each = f; some = omega arith; few = omega arith }
 
@@ -300,7 +300,7 @@ read_stops {most = most} {items = items} bytes l e k p =
     taken_as (λ x a. subst (λ L. GivesItems base_table (no_deeper most L) (bytes ++ x) items) l (after_gives a)) (known_taken e (consumed_still k p))
 
 -- the end of the input within an item
-pub end_stops : {X O : Type 0} (most : ℕ) {L : Bounds} (s s' : Reading X O) (items : List StreamItem) (bytes rest : List ℕ) {now : Option (List ℕ)} (e : Fault) → s.limits ≡ L → now ≡ Some [] → Finishes most s s' items (bytes ++ rest) (Err e)
+pub end_stops : {X O : Type 0} (most : ℕ) {L : Bounds} (s s' : Reading X O) (items : List StreamItem) (bytes rest : List ℕ) {now : Option (List ℕ)} (e : Fault) → s.limits ≡ L → now ≡ Some [] → ReadingFinishes most s s' items (bytes ++ rest) (Err e)
     → StopsNext (no_deeper most L) items bytes rest now e
 end_stops most s s' items bytes rest (fault.Refused R) l n f = ended n (subst (λ L. Outcome base_table (no_deeper most L) (bytes ++ rest) items (refused R)) l f.0) f.1
 end_stops most s s' items bytes rest fault.Read l n f = absurd f
@@ -326,7 +326,7 @@ pub step_unread : {X O : Type 0} {stands : Standing X} {trees : Standing TreeBui
     → Stepped stands trees means most s s' piece (Err e) → e ≢ fault.Read
 step_unread piece e w p = advances_unread piece e w.after p
 
-pub end_unread : {X O : Type 0} (most : ℕ) (s s' : Reading X O) (items : List StreamItem) (bytes : List ℕ) (e : Fault) → Finishes most s s' items bytes (Err e) → e ≢ fault.Read
+pub end_unread : {X O : Type 0} (most : ℕ) (s s' : Reading X O) (items : List StreamItem) (bytes : List ℕ) (e : Fault) → ReadingFinishes most s s' items bytes (Err e) → e ≢ fault.Read
 end_unread most s s' items bytes (fault.Refused R) p e = cc
 end_unread most s s' items bytes fault.Memory p e = cc
 end_unread most s s' items bytes fault.Read p e = p
@@ -369,18 +369,18 @@ between_items n (in_description k i s r p b) e = cc
 
 -- the item was given with the last byte of the piece
 gives_next : {X O : Type 0} {stands : Standing X} {trees : Standing TreeBuilder} {means : O → Tree → Type 0} {most : ℕ} {s' : Reading X O} {given : declared.Item O} {i : StreamItem} {items : List StreamItem} {bytes : List ℕ} (n : ℕ)
-    → ItemMeans means given i → StandsAfter stands trees most s' (items ++ i ∷ []) bytes → s'.stage ≡ stage.Count n [] → GivesNext stands trees means most s' given items bytes
+    → ItemMeans means given i → StandsAfter stands trees most s' (items ++ i ∷ []) bytes → s'.stage ≡ stage.Count n [] → ReadingGivesNext stands trees means most s' given items bytes
 gives_next {most = most} {s' = s'} {i = i} {items = items} n m a e =
     let all = a.whole ∙ ap (λ l. a.front ++ l) (between_items n a.stage e) ∙ append-nil a.front in
     record { item = i; meant = m; after = a; stream = subst (λ b. Stream base_table (no_deeper most s'.limits) (items ++ i ∷ []) b (types s'.types)) (sym all) a.stream }
 
 pub over_the_item : {X O : Type 0} {stands : Standing X} {trees : Standing TreeBuilder} {means : O → Tree → Type 0} {most : ℕ} {s' : Reading X O} {items : List StreamItem} {bytes piece : List ℕ} (used n : ℕ) (o : Option (declared.Item O)) {given : declared.Item O}
-    → o ≡ Some given → used ≡ length piece → s'.stage ≡ stage.Count n [] → AdvancesOver stands trees means most s' items bytes piece used o → GivesNext stands trees means most s' given items (bytes ++ piece)
+    → o ≡ Some given → used ≡ length piece → s'.stage ≡ stage.Count n [] → AdvancesOver stands trees means most s' items bytes piece used o → ReadingGivesNext stands trees means most s' given items (bytes ++ piece)
 over_the_item used n o e u c (over_some m l a) = cc
 over_the_item {stands = stands} {trees = trees} {means = means} {most = most} {s' = s'} {items = items} {bytes = bytes} {piece = piece} used n o {given = given} e u c (over_item {given = x} {i = i} k l m a) =
     let same : x ≡ given = cc in
     let whole : bytes ++ take used piece ≡ bytes ++ piece = ap (λ l. bytes ++ l) (take_whole piece used (omega arith)) in
-    subst (λ b. GivesNext stands trees means most s' given items b) whole (gives_next n (subst (λ x. ItemMeans means x i) same m) a c)
+    subst (λ b. ReadingGivesNext stands trees means most s' given items b) whole (gives_next n (subst (λ x. ItemMeans means x i) same m) a c)
 
 if_some : {A : Type 0} (P : Type 0) {o : Option A} {x : A} → IfSome o (λ _. P) → o ≡ Some x → P
 if_some P {o = Some y} p e = p
@@ -388,20 +388,20 @@ if_some P {o = None} p e = cc
 
 pub step_gives : {X O : Type 0} {stands : Standing X} {trees : Standing TreeBuilder} {means : O → Tree → Type 0} {most : ℕ} {s s' : Reading X O} {items : List StreamItem} {bytes : List ℕ} (piece : List ℕ) (n : ℕ) (step : Step O) {given : declared.Item O}
     → Stepped stands trees means most s s' piece (Ok step) → step.used ≡ length piece → IfSome step.item (λ _. s'.stage ≡ stage.Count n []) → step.item ≡ Some given → StandsAfter stands trees most s items bytes
-    → GivesNext stands trees means most s' given items (bytes ++ piece)
+    → ReadingGivesNext stands trees means most s' given items (bytes ++ piece)
 step_gives {s' = s'} {items = items} {bytes = bytes} piece n step p u b e a = over_the_item step.used n step.item e u (if_some (s'.stage ≡ stage.Count n []) b e) (p.each items bytes a)
 
 -- the item of this call
 pub reads_item : {X O : Type 0} (stands : Standing X) (trees : Standing TreeBuilder) (means : O → Tree → Type 0) (most : ℕ) (s s' : Reading X O) (items : List StreamItem) (bytes rest : List ℕ) (now : Option (List ℕ)) (o : Option (declared.Item O)) → o ≢ None
-    → ((given : declared.Item O) → o ≡ Some given → SomeTaken rest now (λ taken. GivesNext stands trees means most s' given items (bytes ++ taken))) → ReadsNext stands trees means most s s' items bytes rest now (Ok o)
+    → ((given : declared.Item O) → o ≡ Some given → SomeTaken rest now (λ taken. ReadingGivesNext stands trees means most s' given items (bytes ++ taken))) → ReadsNext stands trees means most s s' items bytes rest now (Ok o)
 reads_item stands trees means most s s' items bytes rest now None n f = absurd (n refl)
 reads_item stands trees means most s s' items bytes rest now (Some x) n f = f x refl
 
 pub gives_taken : {X O : Type 0} {stands : Standing X} {trees : Standing TreeBuilder} {means : O → Tree → Type 0} {most : ℕ} {s s' : Reading X O} {items : List StreamItem} {bytes rest : List ℕ} {now : Option (List ℕ)} (piece : List ℕ) (n : ℕ) (step : Step O) {given : declared.Item O}
     → Stepped stands trees means most s s' piece (Ok step) → step.used ≡ length piece → IfSome step.item (λ _. s'.stage ≡ stage.Count n []) → step.item ≡ Some given → SomeTaken rest now (StoodBefore stands trees most s items bytes piece)
-    → SomeTaken rest now (λ taken. GivesNext stands trees means most s' given items (bytes ++ taken))
+    → SomeTaken rest now (λ taken. ReadingGivesNext stands trees means most s' given items (bytes ++ taken))
 gives_taken {stands = stands} {trees = trees} {means = means} {most = most} {s' = s'} {items = items} piece n step {given = given} p u b e q =
-    taken_as (λ x w. subst (λ y. GivesNext stands trees means most s' given items y) w.whole (step_gives piece n step p u b e w.after)) q
+    taken_as (λ x w. subst (λ y. ReadingGivesNext stands trees means most s' given items y) w.whole (step_gives piece n step p u b e w.after)) q
 
 pub takes_item : {X O : Type 0} (s s' : Reading X O) (t t' : ℕ) (o : Option (declared.Item O)) → o ≢ None
     → ((given : declared.Item O) → o ≡ Some given → (t' ≡ counts_up t (s'.taken - s.taken)) × (s.taken < s'.taken) × (s'.taken ≤ s.limits.stream)) → TakesNext s s' t t' (Ok o)
@@ -425,7 +425,7 @@ pub step_taken : {X O : Type 0} {stands : Standing X} {trees : Standing TreeBuil
 step_taken piece step u w f = let t = w.after.taken in let n = over_taken w.bytes piece step.used step.item (f.each w.items w.bytes w.after) (omega arith) in omega arith
 
 -- behind the item the stream keeps to its limit
-pub item_within : {X O : Type 0} {stands : Standing X} {trees : Standing TreeBuilder} {means : O → Tree → Type 0} {most : ℕ} {s' : Reading X O} {given : declared.Item O} {items : List StreamItem} {bytes : List ℕ} → GivesNext stands trees means most s' given items bytes → s'.taken ≤ s'.limits.stream
+pub item_within : {X O : Type 0} {stands : Standing X} {trees : Standing TreeBuilder} {means : O → Tree → Type 0} {most : ℕ} {s' : Reading X O} {given : declared.Item O} {items : List StreamItem} {bytes : List ℕ} → ReadingGivesNext stands trees means most s' given items bytes → s'.taken ≤ s'.limits.stream
 item_within p = let t = p.after.taken in let l = stream_within p.stream in omega arith
 
 pub no_less : {X O : Type 0} {s s' : Reading X O} → (s' ≡ s) ⊎ (s.taken < s'.taken) → s.taken ≤ s'.taken

@@ -11,7 +11,7 @@ use Rattle.gob_types.specs.Table.{Table}
 use Rattle.gob_value.specs.Tree.{Tree}
 use Rattle.gob_value.specs.declared.value.Value.{Value}
 use Rattle.gob_read.specs.Stood.{IsStood}
-use Rattle.gob_read.specs.Reader.{Stands, IsMade}
+use Rattle.gob_read.specs.Reader.{ReaderStands, IsMade}
 use Rattle.gob_read.specs.declared.reader.BodyReader.{BodyReader}
 use Rattle.gob_read.specs.declared.tree_builder.TreeBuilder.{TreeBuilder}
 use Rattle.gob_read.proofs.PublicLaws.{take_whole}
@@ -28,7 +28,7 @@ use Rattle.gob_stream.specs.Refusing.{refuses, RefusesCount, item_too_long, stre
 use Rattle.gob_stream.specs.Refusing as refusing
 use Rattle.gob_stream.specs.Outcome.{RefusesNext, refused_count, refused_body}
 use Rattle.gob_stream.specs.Standing.{Standing, StandsIn, in_count, in_type_number, in_value, in_description, IsCount, IsRest, IsBehind, size}
-use Rattle.gob_stream.specs.ReadParts.{CountGoesOn, more_of_count, whole_count, IsCountRefused, count_refused, empty_body, HasWireType, ReadsValue, value_goes_on, value_ends, value_refused, no_memory_for_value, ReadsDescription, description_goes_on, description_ends, description_refused, describes_nothing, no_memory_for_description, StepsOn, goes_on, gives, refuses_it, no_memory}
+use Rattle.gob_stream.specs.ReadParts.{CountGoesOn, more_of_count, whole_count, IsCountRefused, count_refused, empty_body, HasWireType, ReadsValueIn, value_goes_on, value_ends, value_refused, no_memory_for_value, ReadsDescription, description_goes_on, description_ends, description_refused, describes_nothing, no_memory_for_description, StepsOn, goes_on, gives, refuses_it, no_memory}
 use Rattle.gob_stream.proofs.ValueSteps.{stands_as, lies, value_steps}
 use Rattle.gob_stream.proofs.DefinitionSteps.{description_steps}
 use Rattle.gob_stream.proofs.NumberSteps.{number_taken}
@@ -152,13 +152,13 @@ count_some {piece = piece} f l (whole_count {used = used} w k p) = (number_taken
 
 -- ---- a value
 pub value_taken : {X O : Type 0} {stands : Standing X} {trees : Standing TreeBuilder} {means : O → Tree → Type 0} {L : Bounds} {T : Table} {offset : ℕ} {t : TypeId} {rest : Extent} {reader : BodyReader X O} {z piece : List ℕ} {result : Result (Stepped X O) Fault}
-    → ValueParts stands L T offset t rest reader z → ((limit : ℕ) (y : List ℕ) → Stands T t limit (size rest) stands reader.run y → ReadsValue stands means T t limit rest y piece result) → StepsOn stands trees means L T offset z piece T result
+    → ValueParts stands L T offset t rest reader z → ((limit : ℕ) (y : List ℕ) → ReaderStands T t limit (size rest) stands reader.run y → ReadsValueIn stands means T t limit rest y piece result) → StepsOn stands trees means L T offset z piece T result
 value_taken {stands = stands} {trees = trees} {means = means} {L = L} {T = T} {offset = offset} {piece = piece} {result = result} p r =
     subst (λ z. StepsOn stands trees means L T offset z piece T result) (sym p.whole)
     (value_steps p.c p.a p.y piece p.count p.number p.rest_is p.may (let room = p.behind.stood.room in omega arith) (r L.depth p.y p.behind.after))
 
 pub description_taken : {X O : Type 0} {stands : Standing X} {trees : Standing TreeBuilder} {means : O → Tree → Type 0} {L : Bounds} {T U : Table} {offset : ℕ} {id : TypeId} {rest : Extent} {reader : BodyReader TreeBuilder Value} {z piece : List ℕ} {result : Result (Stepped X O) Fault}
-    → HasWireType T → DescriptionParts trees L T offset id rest reader z → ((limit : ℕ) (y : List ℕ) → Stands T wire_type limit (size rest) trees reader.run y → ReadsDescription trees T id limit rest y piece U result)
+    → HasWireType T → DescriptionParts trees L T offset id rest reader z → ((limit : ℕ) (y : List ℕ) → ReaderStands T wire_type limit (size rest) trees reader.run y → ReadsDescription trees T id limit rest y piece U result)
     → StepsOn stands trees means L T offset z piece U result
 description_taken {stands = stands} {trees = trees} {means = means} {L = L} {T = T} {U = U} {offset = offset} {piece = piece} {result = result} h p r =
     subst (λ z. StepsOn stands trees means L T offset z piece U result) (sym p.whole)
@@ -172,14 +172,14 @@ ended_some {announced = announced} {y = y} {used = used} piece i k made =
     omega (arith, length-append y (take used piece), length-take used piece)
 
 pub value_some : {X O : Type 0} {stands : Standing X} {means : O → Tree → Type 0} {T : Table} {t : TypeId} {limit : ℕ} {rest : Extent} {y piece : List ℕ} {result : Result (Stepped X O) Fault} → IsStood T t limit (size rest) y → 0 < length piece
-    → ReadsValue stands means T t limit rest y piece result → IfOk result (λ stepped. 0 < stepped.used)
+    → ReadsValueIn stands means T t limit rest y piece result → IfOk result (λ stepped. 0 < stepped.used)
 value_some i l (value_goes_on b) = l
 value_some {piece = piece} i l (value_ends k made) = let n = ended_some piece i k made in let room = i.room in omega arith
 value_some i l (value_refused f) = tt
 value_some i l no_memory_for_value = tt
 
 pub value_all : {X O : Type 0} {stands : Standing X} {means : O → Tree → Type 0} {T : Table} {t : TypeId} {limit : ℕ} {rest : Extent} {y piece : List ℕ} {result : Result (Stepped X O) Fault} → IsStood T t limit (size rest) y
-    → length piece ≤ size rest - length y → ReadsValue stands means T t limit rest y piece result → IfOk result (λ stepped. stepped.used ≡ length piece)
+    → length piece ≤ size rest - length y → ReadsValueIn stands means T t limit rest y piece result → IfOk result (λ stepped. stepped.used ≡ length piece)
 value_all i l (value_goes_on b) = refl
 value_all {piece = piece} i l (value_ends k made) = let n = ended_some piece i k made in omega arith
 value_all i l (value_refused f) = tt

@@ -19,7 +19,7 @@ use Rattle.gob_stream.specs.Item.{StreamItem, ItemMeans, means_definition, means
 use Rattle.gob_stream.specs.Outcome.{GivesItems, GivesButLast, Outcome, EndsSo, at_the_end, the_end, refused}
 use Rattle.gob_stream.specs.Stream.{Stream, no_more}
 use Rattle.gob_stream.specs.Standing.{Standing, StandsAfter}
-use Rattle.gob_stream.specs.Reading.{SomeTaken, Given, IsShown, GivesNext, RefusesNextItem, shown, ended, StopsNext, ReadsNext, TakesNext, ReadsStream}
+use Rattle.gob_stream.specs.Reading.{SomeTaken, Given, IsShown, ReadingGivesNext, RefusesNextItem, shown, ended, StopsNext, ReadsNext, TakesNext, ReadsStream}
 use Rattle.gob_stream.proofs.StayLaws.{shown_there, shown_refusal_stays}
 use Rattle.gob_stream.proofs.StreamLaws.{NoNext, counted_some, gives_items, but_none, before_last}
 use Rattle.gob_stream.proofs.UnderWayLaws.{after_gives}
@@ -100,7 +100,7 @@ pub stands_next : {stands : Standing TreeBuilder} {most : ℕ} (s s' : Reading T
     → (p : SomeTaken bytes mid (λ taken. StandsAfter stands stands most s (item_views given) taken)) → ReadsNext stands stands IsSeen most s s' (item_views given) p.bytes p.taken.left now (Ok o)
     → SomeTaken bytes now (λ taken. StandsAfter stands stands most s' (item_views (given ++ item ∷ [])) taken)
 stands_next {stands = stands} {most = most} s s' given now item e p h =
-    let h' : SomeTaken p.taken.left now (λ taken. GivesNext stands stands IsSeen most s' item (item_views given) (p.bytes ++ taken)) =
+    let h' : SomeTaken p.taken.left now (λ taken. ReadingGivesNext stands stands IsSeen most s' item (item_views given) (p.bytes ++ taken)) =
     subst (λ (o : Option (declared.Item Value)). ReadsNext stands stands IsSeen most s s' (item_views given) p.bytes p.taken.left now (Ok o)) e h in
     taken_again p
     (λ more g. subst (λ items. StandsAfter stands stands most s' items (p.bytes ++ more)) (ap (λ i. item_views given ++ i ∷ []) (sym (view_meant g.meant)) ∙ sym (views_more given item)) g.after) h'
@@ -112,7 +112,7 @@ pub item_lost : {stands : Standing TreeBuilder} {most : ℕ} {L : Bounds} (s s' 
 item_lost {stands = stands} {most = most} {L = L} s s' given {bytes = bytes} now item e l same p h =
     let M = no_deeper most s.limits in
     let items = item_views given in
-    let h' : SomeTaken p.taken.left now (λ taken. GivesNext stands stands IsSeen most s' item items (p.bytes ++ taken)) =
+    let h' : SomeTaken p.taken.left now (λ taken. ReadingGivesNext stands stands IsSeen most s' item items (p.bytes ++ taken)) =
     subst (λ (o : Option (declared.Item Value)). ReadsNext stands stands IsSeen most s s' items p.bytes p.taken.left now (Ok o)) e h in
     let a = p.holds in
     subst (λ L. SomeTaken bytes now (λ taken. GivesButLast base_table L taken items)) l

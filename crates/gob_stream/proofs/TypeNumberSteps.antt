@@ -13,7 +13,7 @@ use Rattle.gob_types.specs.declared.readiness.NotReady.TheVariants as unready
 use Rattle.gob_types.specs.Table.{Table, shape_of}
 use Rattle.gob_types.specs.Base.{base_table, gob_encoder_type}
 use Rattle.gob_types.specs.Defined.{Defined, types, Admits}
-use Rattle.gob_types.specs.Refused.{Refuses}
+use Rattle.gob_types.specs.Refused.{RefusesToDefine}
 use Rattle.gob_types.specs.Ready.{IsReady}
 use Rattle.gob_types.specs.Readiness.{IsNotReady}
 use Rattle.gob_stream.specs.Bounds.{Bounds}
@@ -41,7 +41,7 @@ admitted {L = L} {d = d} k a =
     let most : d.most ≡ L.types = k.most in let room = a.room in
     may_define (record { own = a.own; new = a.new; room = omega arith })
 
-refused_id_for : {L : Bounds} {d : Defined} (id : TypeId) (f : DefineFault) → AreTypes L d → Refuses d id f → (f ≡ define.Memory → ⊥) → RefusesId base_table L (types d) id (define_reason id f)
+refused_id_for : {L : Bounds} {d : Defined} (id : TypeId) (f : DefineFault) → AreTypes L d → RefusesToDefine d id f → (f ≡ define.Memory → ⊥) → RefusesId base_table L (types d) id (define_reason id f)
 refused_id_for id define.ReservedType k r n = reserved r
 refused_id_for id define.DefinedTwice k r n = defined_twice r.0 (λ e. none-some _ (sym e ∙ r.1.1))
 refused_id_for {L = L} {d = d} id define.TooManyTypes k r n =
@@ -49,7 +49,7 @@ refused_id_for {L = L} {d = d} id define.TooManyTypes k r n =
     too_many r.0 r.1 (λ room. omega (arith, r.2))
 refused_id_for id define.Memory k r n = absurd (n refl)
 
-pub not_admitted : {L : Bounds} {d : Defined} {id : TypeId} {place seen : ℕ} {R : Refusal} (f : DefineFault) → R ≡ refuses place seen (define_reason id f) → AreTypes L d → Refuses d id f → (f ≡ define.Memory → ⊥)
+pub not_admitted : {L : Bounds} {d : Defined} {id : TypeId} {place seen : ℕ} {R : Refusal} (f : DefineFault) → R ≡ refuses place seen (define_reason id f) → AreTypes L d → RefusesToDefine d id f → (f ≡ define.Memory → ⊥)
     → MaybeDefines L (types d) id place seen (Err R)
 not_admitted {L = L} {d = d} {id = id} {place = place} {seen = seen} f e k r n =
     subst (λ R. MaybeDefines L (types d) id place seen (Err R)) (sym e) (may_not (refused_id_for id f k r n))

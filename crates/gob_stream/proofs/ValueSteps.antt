@@ -28,7 +28,7 @@ use Rattle.gob_stream.specs.Stream.{Counted, counted}
 use Rattle.gob_stream.specs.Refusing.{behind, refuses, RefusesBody, refused_value, refused_type}
 use Rattle.gob_stream.specs.Outcome.{RefusesNext, refused_body}
 use Rattle.gob_stream.specs.Standing.{Standing, StandsIn, in_value, IsCount, IsRest, size}
-use Rattle.gob_stream.specs.ReadParts.{MaybePuts, may_put, may_not_put, no_memory_to_ask, ReadsValue, value_goes_on, value_ends, value_refused, no_memory_for_value, StepsOn, goes_on, gives, refuses_it, no_memory}
+use Rattle.gob_stream.specs.ReadParts.{MaybePuts, may_put, may_not_put, no_memory_to_ask, ReadsValueIn, value_goes_on, value_ends, value_refused, no_memory_for_value, StepsOn, goes_on, gives, refuses_it, no_memory}
 
 -- ---- lists
 pub three : (c a y p : List ℕ) → (c ++ (a ++ y)) ++ p ≡ c ++ (a ++ (y ++ p))
@@ -83,7 +83,7 @@ counted_as {L = L} {T = T} {U = U} {offset = offset} {i = i} e h = subst (λ z. 
 
 -- ---- values
 pub value_steps : {X O : Type 0} {stands : Standing X} {trees : Standing TreeBuilder} {means : O → Tree → Type 0} {L : Bounds} {T : Table} {offset m : ℕ} {t : TypeId} {body rest : Extent} {result : Result (Stepped X O) Fault} (c a y piece : List ℕ)
-    → IsCount L offset m c body → IsSigned (pos t.0) a → IsRest body a rest → MayPut T t → length y ≤ size rest → ReadsValue stands means T t L.depth rest y piece result
+    → IsCount L offset m c body → IsSigned (pos t.0) a → IsRest body a rest → MayPut T t → length y ≤ size rest → ReadsValueIn stands means T t L.depth rest y piece result
     → StepsOn stands trees means L T offset (c ++ (a ++ y)) piece T result
 value_steps {stands = stands} {trees = trees} {L = L} {T = T} {offset = offset} c a y piece k s r p w (value_goes_on b) =
     let there : (c ++ (a ++ y)) ++ take (length piece) piece ≡ c ++ (a ++ (y ++ piece)) = ap (λ l. (c ++ (a ++ y)) ++ l) (take_whole piece (length piece) (omega arith)) ∙ three c a y piece in
@@ -138,6 +138,6 @@ put_refused {X = X} {O = O} {stands = stands} {trees = trees} {means = means} {L
     subst (λ f. StepsOn {X = X} {O = O} stands trees means L T offset (c ++ a) piece T (Err f)) (err_injective e) no_memory
 
 pub value_begins : {X O : Type 0} {stands : Standing X} {trees : Standing TreeBuilder} {means : O → Tree → Type 0} {L : Bounds} {T : Table} {offset m : ℕ} {t : TypeId} {body rest : Extent} {result : Result (Stepped X O) Fault} (c a piece : List ℕ)
-    → IsCount L offset m c body → IsSigned (pos t.0) a → IsRest body a rest → MayPut T t → ReadsValue stands means T t L.depth rest [] piece result → StepsOn stands trees means L T offset (c ++ a) piece T result
+    → IsCount L offset m c body → IsSigned (pos t.0) a → IsRest body a rest → MayPut T t → ReadsValueIn stands means T t L.depth rest [] piece result → StepsOn stands trees means L T offset (c ++ a) piece T result
 value_begins {stands = stands} {trees = trees} {means = means} {L = L} {T = T} {offset = offset} {result = result} c a piece k s r p q =
     subst (λ l. StepsOn stands trees means L T offset (c ++ l) piece T result) (append-nil a) (value_steps c a [] piece k s r p (omega arith) q)

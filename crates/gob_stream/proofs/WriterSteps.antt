@@ -1,7 +1,7 @@
 -- What a writer has written after a call.
-use Rattle.std.proofs.Common.{◌≡◌, ℕ, ◌+◌, List, [], ◌∷◌, ◌++◌, length, true, false, Option, Result, Ok, Err, OnOk, OnErr, IfErr, refl, sym, ap, subst, ◌∙◌, arith, length-append}
+use Rattle.std.proofs.Common.{◌≡◌, ℕ, ◌+◌, List, [], ◌∷◌, ◌++◌, length, true, false, Option, Result, Ok, Err, OnOk, OnErr, IfErr, refl, sym, ap, subst, ◌∙◌, arith, append_assoc, length-append}
 use Rattle.std.specs.Io.KnownBytes.{Appends}
-use Rattle.std.proofs.KnownBytes.{Keeps-refl}
+use Rattle.std.proofs.KnownBytes.{Keeps-refl, Appends-trans}
 use Rattle.gob_types.specs.Table.{Table}
 use Rattle.gob_types.specs.Base.{base_table}
 use Rattle.gob_types.specs.Defined.{types}
@@ -56,42 +56,56 @@ trees_within L = record { item = omega arith; depth = omega arith; types = omega
 pub all_within : (L : Bounds) → AtLeast L L
 all_within L = record { item = omega arith; depth = omega arith; types = omega arith; stream = omega arith }
 
--- the writer has the bytes of this item, as these limits admit it, and the types behind it
-pub record HasItem (L : Bounds) (w ready : StreamWriter) (i : StreamItem) (U : Table) : Type 0 where
+-- the writer has begun this item, as these limits admit it, whose bytes end with the rest, and has the types behind it
+pub record HasItem (L : Bounds) (w ready : StreamWriter) (rest : List ℕ) (i : StreamItem) (U : Table) : Type 0 where
   pub limits : ready.limits ≡ w.limits
   pub offset : ready.offset ≡ w.offset
   pub most : ready.types.most ≡ w.types.most
   pub table : types ready.types ≡ U
   pub within : AtLeast L w.limits
-  pub item : Counted base_table L (types w.types) w.offset i ready.item.items U
+  pub item : Counted base_table L (types w.types) w.offset i (ready.item.items ++ rest) U
 
 -- the item's bytes went out, or a front of them
-pub sent_writes : (L : Bounds) (w ready w' : StreamWriter) (items : List StreamItem) (bytes : List ℕ) (T U : Table) (i : StreamItem) (old new : Option (List ℕ))
-    (r : Result (Unit {0}) WriteFault) → HasWritten w items bytes T → HasItem L w ready i U
-    → OnOk r (Appends old new ready.item.items) → OnOk r (w' ≡ record ready { offset = ready.offset + length ready.item.items; failed = false })
-    → OnErr r (SentFront ready.item.items old new) → IfErr r (λ f. f ≡ fault.Write)
+pub sent_writes : (L : Bounds) (w ready w' : StreamWriter) (rest : List ℕ) (items : List StreamItem) (bytes : List ℕ) (T U : Table) (i : StreamItem) (old new : Option (List ℕ))
+    (r : Result (Unit {0}) WriteFault) → HasWritten w items bytes T → HasItem L w ready rest i U
+    → OnOk r (Appends old new (ready.item.items ++ rest)) → OnOk r (w' ≡ record ready { offset = ready.offset + length (ready.item.items ++ rest); failed = false })
+    → OnErr r (SentFront (ready.item.items ++ rest) old new) → IfErr r (λ f. f ≡ fault.Write)
     → WritesItem L w w' items bytes T i old new r
-sent_writes L w ready w' items bytes T U i old new (Ok u) written has out behind front is =
-    let here : Counted base_table L T (length bytes) i ready.item.items U = rw (← written.table, ← written.offset) has.item in
+sent_writes L w ready w' rest items bytes T U i old new (Ok u) written has out behind front is =
+    let all = ready.item.items ++ rest in
+    let here : Counted base_table L T (length bytes) i all U = rw (← written.table, ← written.offset) has.item in
     let limits : w'.limits ≡ w.limits = ap (λ x. x.limits) behind ∙ has.limits in
     record {
-      more = ready.item.items;
+      more = all;
       table = U;
       item = here;
       out = out;
       limits = limits;
       written = record {
-        stream = subst (λ M. Stream base_table M (items ++ i ∷ []) (bytes ++ ready.item.items) U) (sym limits) (one_more written.stream (omega arith) (wider_counted has.within here));
+        stream = subst (λ M. Stream base_table M (items ++ i ∷ []) (bytes ++ all) U) (sym limits) (one_more written.stream (omega arith) (wider_counted has.within here));
         table = ap (λ x. types x.types) behind ∙ has.table;
         room = ap (λ x. x.types.most) behind ∙ has.most ∙ written.room ∙ ap (λ L. L.types) (sym limits);
-        offset = ap (λ x. x.offset) behind ∙ ap (λ o. o + length ready.item.items) (has.offset ∙ written.offset) ∙ sym (length-append bytes ready.item.items);
+        offset = ap (λ x. x.offset) behind ∙ ap (λ o. o + length all) (has.offset ∙ written.offset) ∙ sym (length-append bytes all);
         sound = ap (λ x. x.failed) behind;
       };
     }
-sent_writes L w ready w' items bytes T U i old new (Err f) written has out behind front is =
-    let here : Counted base_table L T (length bytes) i ready.item.items U = rw (← written.table, ← written.offset) has.item in
+sent_writes L w ready w' rest items bytes T U i old new (Err f) written has out behind front is =
+    let here : Counted base_table L T (length bytes) i (ready.item.items ++ rest) U = rw (← written.table, ← written.offset) has.item in
     subst (λ g. WritesItem L w w' items bytes T i old new (Err g)) (sym is)
     (record { front = front.front; rest = front.rest; table = U; item = subst (λ b. Counted base_table L T (length bytes) i b U) front.whole here; out = front.out })
+
+-- a front of these bytes is one of more
+pub front_of_more : {a : List ℕ} (b : List ℕ) {old new : Option (List ℕ)} → SentFront a old new → SentFront (a ++ b) old new
+front_of_more b sent = record { front = sent.front; rest = sent.rest ++ b; whole = ap (λ l. l ++ b) sent.whole ∙ append_assoc sent.front sent.rest b; out = sent.out }
+
+-- and a front of what follows them, where they are out
+pub front_behind : (a : List ℕ) {b : List ℕ} {old between new : Option (List ℕ)} → Appends old between a → SentFront b between new → SentFront (a ++ b) old new
+front_behind a out sent = record {
+  front = a ++ sent.front;
+  rest = sent.rest;
+  whole = ap (λ l. a ++ l) sent.whole ∙ sym (append_assoc a sent.front sent.rest);
+  out = Appends-trans _ _ _ _ _ out sent.out;
+}
 
 -- a writer whose send failed writes no more
 pub sent_leaves : (w ready w' : StreamWriter) (old new : Option (List ℕ)) (offset : ℕ) (r : Result (Unit {0}) WriteFault)

@@ -1,5 +1,5 @@
 -- What the writing calls rest on.
-use Rattle.std.proofs.Common.{◌≡◌, ◌≢◌, ℕ, ℤ, negsuc, ◌+◌, ◌^◌, ◌<◌, ◌≤◌, ◌⊎◌, inl, inr, true, false, cond, List, [], ◌∷◌, ◌++◌, length, Option, Some, None, refl, sym, ap, subst, ◌∙◌, arith, append_assoc, length-append}
+use Rattle.std.proofs.Common.{◌≡◌, ◌≢◌, ℕ, ℤ, negsuc, ◌+◌, ◌^◌, ◌<◌, ◌≤◌, ◌⊎◌, inl, inr, true, false, cond, List, [], ◌∷◌, ◌++◌, length, Option, Some, None, refl, sym, ap, subst, ◌∙◌, arith, append_assoc, append-nil, length-append}
 use Rattle.std.specs.Prelude.{◌==◌}
 use Rattle.std.proofs.lemmas.Bool.Decides.{eqb_tells}
 use Rattle.gob_num.specs.Unsigned.{IsUnsigned, short, long}
@@ -13,7 +13,7 @@ use Rattle.gob_types.specs.declared.readiness.NotReady.TheVariants as unready
 use Rattle.gob_types.specs.Table.{Table, shape_of}
 use Rattle.gob_types.specs.Base.{base_table, wire_type, gob_encoder_type}
 use Rattle.gob_types.specs.Defined.{Defined, types, IsTable, Admits}
-use Rattle.gob_types.specs.Refused.{Refuses}
+use Rattle.gob_types.specs.Refused.{RefusesToDefine}
 use Rattle.gob_types.specs.Ready.{IsReady}
 use Rattle.gob_types.specs.Readiness.{IsNotReady}
 use Rattle.gob_types.proofs.PublicLaws.{ready_defined, shape_of-table}
@@ -33,7 +33,7 @@ use Rattle.gob_stream.specs.Item.{StreamItem, defines, puts}
 use Rattle.gob_stream.specs.Body.{Body, definition, value, MayDefine, MayPut}
 use Rattle.gob_stream.specs.Stream.{Counted, counted}
 use Rattle.gob_stream.specs.WriterRefusal.{reserved, defined_twice, too_many, RefusesType, undefined, bottomless, RefusesValue, too_deep, does_not_fit, RefusesItem, refused_id, refused_description, described_wrongly, refused_value}
-use Rattle.gob_stream.specs.Writing.{IsRefusal, IsWhole, IsHead, head_of_struct, head_with_tag, spelling_fault, type_fault, definition_fault, description_fault}
+use Rattle.gob_stream.specs.Writing.{IsRefusal, IsWholeItem, IsHead, head_of_struct, head_with_tag, spelling_fault, type_fault, definition_fault, description_fault}
 use Rattle.gob_stream.proofs.FaultSteps.{refusal_weaker}
 
 -- ---- which ids can be defined
@@ -45,7 +45,7 @@ may_define L d most admits = record { own = admits.own; new = admits.new; room =
 base_within : {T : Table} → IsTable T → 17 ≤ length T
 base_within table = omega (arith, ap length table.behind_base, length-append base_table table.definitions)
 
-pub id_refusal : (L : Bounds) (d : Defined) (t : TypeId) (v : Tree) (o : ℕ) (f : DefineFault) → IsTable (types d) → d.most ≡ L.types → Refuses d t f
+pub id_refusal : (L : Bounds) (d : Defined) (t : TypeId) (v : Tree) (o : ℕ) (f : DefineFault) → IsTable (types d) → d.most ≡ L.types → RefusesToDefine d t f
     → IsRefusal (RefusesItem base_table L (types d) o (defines t v)) (definition_fault t f)
 id_refusal L d t v o defining.ReservedType table most refused = refused_id (reserved refused)
 id_refusal L d t v o defining.DefinedTwice table most refused =
@@ -150,6 +150,10 @@ value_body L {T = T} {t = t} {v = v} {s = s} may within (head_with_tag {a = a} {
 
 -- ---- the item of a body
 
-pub whole_item : {base : Table} {L : Bounds} {T U : Table} {o : ℕ} {i : StreamItem} {d w : List ℕ} → Body base L T i d U → IsWhole L o d w → Counted base L T o i w U
+-- a body that is all in its first part
+pub body_alone : {L : Bounds} {T U : Table} {i : StreamItem} {d : List ℕ} → Body base_table L T i d U → Body base_table L T i (d ++ []) U
+body_alone {L = L} {T = T} {U = U} {i = i} {d = d} body = subst (λ b. Body base_table L T i b U) (sym (append-nil d)) body
+
+pub whole_item : {base : Table} {L : Bounds} {T U : Table} {o : ℕ} {i : StreamItem} {d w : List ℕ} → Body base L T i d U → IsWholeItem L o d w → Counted base L T o i w U
 whole_item {base = base} {L = L} {T = T} {U = U} {o = o} {i = i} body whole =
     subst (λ b. Counted base L T o i b U) (sym whole.whole) (counted whole.spelled whole.fits.item whole.fits.stream body)

@@ -20,9 +20,9 @@ use Rattle.gob_stream.specs.Outcome.{Outcome, refused}
 use Rattle.gob_stream.specs.Reading.{GivesOn, SomeTaken}
 
 -- the bytes are the number behind which a value of the type stands: that of the type itself, or of a definition
-pub data IsTypeNumber : TypeId → List ℕ → Type 0 where
-  of_value : {t : TypeId} {a : List ℕ} → IsSigned (pos t.0) a → IsTypeNumber t a
-  of_definition : {n : ℕ} {a : List ℕ} → IsSigned (negsuc n) a → IsTypeNumber wire_type a
+pub data SpellsTypeNumber : TypeId → List ℕ → Type 0 where
+  of_value : {t : TypeId} {a : List ℕ} → IsSigned (pos t.0) a → SpellsTypeNumber t a
+  of_definition : {n : ℕ} {a : List ℕ} → IsSigned (negsuc n) a → SpellsTypeNumber wire_type a
 
 -- the bytes are the stream of the items, and behind it the count and the type number of an item, and z of what follows these
 pub record HasTypeNumber (L : Bounds) (bytes : List ℕ) (items : List StreamItem) (T : Table) (t : TypeId) (z : List ℕ) : Type 0 where
@@ -32,7 +32,7 @@ pub record HasTypeNumber (L : Bounds) (bytes : List ℕ) (items : List StreamIte
   pub size : ℕ
   pub stream : Stream base_table L items front T
   pub counted : IsUnsigned size count
-  pub numbered : IsTypeNumber t number
+  pub numbered : SpellsTypeNumber t number
   pub whole : bytes ≡ front ++ (count ++ (number ++ z))
 
 -- where that begins
@@ -45,7 +45,7 @@ from start R = record { place = R.place - start; seen = R.seen - start; reason =
 
 -- what is refused behind a type number is refused honestly
 pub record IsHonest (L : Bounds) (bytes : List ℕ) (items : List StreamItem) (R : Refusal) : Type 0 where
-  pub each : (T : Table) (t : TypeId) (z : List ℕ) (h : HasTypeNumber L bytes items T t z) → value_at h ≤ R.place → body_honest.IsHonest T t L.depth z (from (value_at h) R)
+  pub each : (T : Table) (t : TypeId) (z : List ℕ) (h : HasTypeNumber L bytes items T t z) → value_at h ≤ R.place → body_honest.IsHonestBody T t L.depth z (from (value_at h) R)
 
 -- the refusal of each outcome is honest
 abbrev pub OutcomesAreHonest : Type 0

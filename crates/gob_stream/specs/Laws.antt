@@ -16,7 +16,7 @@ use Rattle.gob_stream.specs.Item.{StreamItem}
 use Rattle.gob_stream.specs.Stream.{Counted, Stream}
 use Rattle.gob_stream.specs.Outcome.{BeginsWith, GivesItems, RefusesNext, Ending, Outcome}
 use Rattle.gob_stream.specs.Standing.{Standing, StandsAfter}
-use Rattle.gob_stream.specs.Reading.{IsShown, HasTypesBehind, ReadsStream, Feeds, Finishes}
+use Rattle.gob_stream.specs.Reading.{IsShown, HasTypesBehind, ReadsStream, Feeds, ReadingFinishes}
 use Rattle.gob_stream.specs.Writing.{WritesStream}
 
 -- bytes are the stream of one list of items, with one table behind it
@@ -25,14 +25,14 @@ HaveOneReading = (base : Table) (L : Bounds) (items others : List StreamItem) (b
     → Stream base L items bytes T → Stream base L others bytes U → (items ≡ others) × (T ≡ U)
 
 -- the second list goes on after the first
-pub record GoesOn (items others : List StreamItem) : Type 0 where
+pub record ItemsGoOn (items others : List StreamItem) : Type 0 where
   pub more : List StreamItem
   pub whole : others ≡ items ++ more
 
 -- of two streams with which bytes begin, one begins the other
 abbrev pub BeginOneAnother : Type 0
 BeginOneAnother = (base : Table) (L : Bounds) (bytes : List ℕ) (items others : List StreamItem)
-    → BeginsWith base L bytes items → BeginsWith base L bytes others → GoesOn items others ⊎ GoesOn others items
+    → BeginsWith base L bytes items → BeginsWith base L bytes others → ItemsGoOn items others ⊎ ItemsGoOn others items
 
 -- bytes give one list of items
 abbrev pub GiveOneList : Type 0
@@ -62,8 +62,8 @@ pub record WrittenWithin (M : Bounds) (items : List StreamItem) (bytes : List �
 abbrev pub ReadsThese : (given items : List StreamItem) → Result (Unit {0}) Fault → Type 0
 ReadsThese given items (Ok _) = given ≡ items
 ReadsThese given items (Err (fault.Refused r)) = ⊥
-ReadsThese given items (Err fault.Read) = GoesOn given items
-ReadsThese given items (Err fault.Memory) = GoesOn given items
+ReadsThese given items (Err fault.Read) = ItemsGoOn given items
+ReadsThese given items (Err fault.Memory) = ItemsGoOn given items
 ReadsThese given items (Err fault.Failed) = ⊥
 
 -- what is written is read back as that list, under limits that are each at least the writer's
@@ -85,7 +85,7 @@ pub record AreReadBackInPieces {X O : Type 0} (stands : Standing X) (trees : Sta
       → WrittenWithin (no_deeper most s.limits) items bytes → StandsAfter stands trees most s before bytes → before ≡ items
   -- and finishing answers Ok
   pub finished : (s s' : Reading X O) (items before : List StreamItem) (bytes : List ℕ) (result : Result (Unit {0}) Fault)
-      → WrittenWithin (no_deeper most s.limits) items bytes → Finishes most s s' before bytes result → result ≡ Ok tt
+      → WrittenWithin (no_deeper most s.limits) items bytes → ReadingFinishes most s s' before bytes result → result ≡ Ok tt
 
 -- what a session stands for that has given the items, of these bytes, under its limits and no deeper than its builder goes
 pub record GivesWhatStands {X : Type 0} (O : Type 0) (stands : Standing X) (trees : Standing TreeBuilder) (most : ℕ) : Type 0 where
@@ -121,6 +121,6 @@ RefuseNoItem = (L : Bounds) (items : List StreamItem) (front z : List ℕ) (T : 
     → (i : StreamItem) (b y : List ℕ) (U : Table) → Counted base_table L T (length front) i b U → ¬ (z ≡ b ++ y)
 
 -- the bytes that show a refusal are there, and it is the one of all bytes that begin with them
-abbrev pub StayShown : Type 0
-StayShown = (L : Bounds) (bytes others : List ℕ) (items : List StreamItem) (R : Refusal) → IsShown L bytes items R → take R.seen others ≡ take R.seen bytes
+abbrev pub StreamsStayShown : Type 0
+StreamsStayShown = (L : Bounds) (bytes others : List ℕ) (items : List StreamItem) (R : Refusal) → IsShown L bytes items R → take R.seen others ≡ take R.seen bytes
     → (R.seen ≤ length bytes) × IsShown L others items R

@@ -7,6 +7,7 @@ pub mod Outcome
 pub mod RefusalText
 pub mod WriterRefusal
 pub mod Devices
+pub mod Ends
 pub mod Standing
 pub mod Reading
 pub mod Whole

@@ -20,7 +20,7 @@ use Rattle.gob_value.specs.declared.fault.ShapeFault.{ShapeFault}
 use Rattle.gob_value.specs.declared.fault.ShapeFault.TheVariants as shape
 use Rattle.gob_read.specs.Refusal as body
 use Rattle.gob_read.specs.First.{IsFirst}
-use Rattle.gob_read.specs.Reader.{Stands, IsMade}
+use Rattle.gob_read.specs.Reader.{ReaderStands, IsMade}
 use Rattle.gob_read.specs.declared.run.Run.{Run}
 use Rattle.gob_read.specs.declared.reader.BodyReader.{BodyReader}
 use Rattle.gob_read.specs.declared.stop.Stop.{Stop}
@@ -76,10 +76,10 @@ JudgesCount L begin end count (Ok body) = (0 < count) × (count ≤ L.item) × (
 JudgesCount L begin end count (Err R) = CountJudged L begin end count R
 
 -- what reads a part of the stream stands after some bytes of it
-pub record IsUnderWay (T : Table) (t : TypeId) (rest : Extent) {X O : Type 0} (stands : Standing X) (run : Option (Run X O)) : Type 0 where
+pub record IsBodyUnderWay (T : Table) (t : TypeId) (rest : Extent) {X O : Type 0} (stands : Standing X) (run : Option (Run X O)) : Type 0 where
   pub limit : ℕ
   pub bytes : List ℕ
-  pub after : Stands T t limit (size rest) stands run bytes
+  pub after : ReaderStands T t limit (size rest) stands run bytes
 
 -- places and counts behind this offset are numbers of 64 bits
 abbrev pub StopsWithin : ℕ → Stop → Type 0
@@ -93,14 +93,14 @@ fault_behind begin stop.Memory = fault.Memory
 fault_behind begin stop.Failed = fault.Failed
 
 -- what became of a piece, where z was read of a value of the type
-pub data ReadsValue {X O : Type 0} (stands : Standing X) (means : O → Tree → Type 0) (T : Table) (t : TypeId) (limit : ℕ) (rest : Extent) (z piece : List ℕ) : Result (Stepped X O) Fault → Type 0 where
+pub data ReadsValueIn {X O : Type 0} (stands : Standing X) (means : O → Tree → Type 0) (T : Table) (t : TypeId) (limit : ℕ) (rest : Extent) (z piece : List ℕ) : Result (Stepped X O) Fault → Type 0 where
   value_goes_on : {reader : BodyReader X O} → IsBehind T t limit rest stands reader (z ++ piece)
-      → ReadsValue stands means T t limit rest z piece (Ok (record { used = length piece; stage = stage.Value t rest reader; item = None }))
+      → ReadsValueIn stands means T t limit rest z piece (Ok (record { used = length piece; stage = stage.Value t rest reader; item = None }))
   value_ends : {out : O} {used : ℕ} → used ≤ length piece → IsMade T t limit (size rest) means out (z ++ take used piece)
-      → ReadsValue stands means T t limit rest z piece (Ok (record { used = used; stage = stage.Count rest.end []; item = Some (item.Put t out) }))
+      → ReadsValueIn stands means T t limit rest z piece (Ok (record { used = used; stage = stage.Count rest.end []; item = Some (item.Put t out) }))
   value_refused : {R : body.Refusal} → IsFirst T t limit (size rest) (z ++ take (size rest - length z) piece) R
-      → ReadsValue stands means T t limit rest z piece (Err (fault.Refused (behind rest.begin R)))
-  no_memory_for_value : ReadsValue stands means T t limit rest z piece (Err fault.Memory)
+      → ReadsValueIn stands means T t limit rest z piece (Err (fault.Refused (behind rest.begin R)))
+  no_memory_for_value : ReadsValueIn stands means T t limit rest z piece (Err fault.Memory)
 
 -- what is made of a description
 abbrev pub IsView : Value → Tree → Type 0
@@ -155,7 +155,7 @@ pub data StepsOn {X O : Type 0} (stands : Standing X) (trees : Standing TreeBuil
   no_memory : {U : Table} → StepsOn stands trees means L T offset z piece U (Err fault.Memory)
 
 -- the body of some item, as its count says
-pub record HasCount (L : Bounds) (body : Extent) : Type 0 where
+pub record HasBodyCount (L : Bounds) (body : Extent) : Type 0 where
   pub offset : ℕ
   pub size : ℕ
   pub bytes : List ℕ
@@ -176,10 +176,10 @@ pub record IsWithinItem {X O : Type 0} (stands : Standing X) (trees : Standing T
   pub known : AreTypes L d
 
 -- how many bytes are sure to be of the item under way, where so many of the stream were taken
-abbrev pub wanted_in : {X O : Type 0} → Stage X O → (taken : ℕ) → ℕ
-wanted_in (stage.Value t rest reader) taken = rest.end - taken
-wanted_in (stage.Description id rest reader) taken = rest.end - taken
-wanted_in _ taken = 1
+abbrev pub bytes_wanted : {X O : Type 0} → Stage X O → (taken : ℕ) → ℕ
+bytes_wanted (stage.Value t rest reader) taken = rest.end - taken
+bytes_wanted (stage.Description id rest reader) taken = rest.end - taken
+bytes_wanted _ taken = 1
 
 -- what asking for leave to define answers
 pub data MaybeDefines (L : Bounds) (T : Table) (id : TypeId) (place seen : ℕ) : Result (Unit {0}) Refusal → Type 0 where

@@ -80,10 +80,10 @@ Feeds stands trees means most s s' items bytes piece given (Err fault.Memory) =
 Feeds stands trees means most s s' items bytes piece given (Err fault.Failed) = ⊥
 
 -- what finishing answers: nothing has changed at the end of a stream, else the bytes end within an item
-abbrev pub Finishes : {X O : Type 0} → ℕ → (s s' : Reading X O) → List StreamItem → List ℕ → Result (Unit {0}) Fault → Type 0
-Finishes most s s' items bytes (Ok _) = Outcome base_table (no_deeper most s.limits) bytes items the_end × (s' ≡ s)
-Finishes most s s' items bytes (Err (fault.Refused R)) = Outcome base_table (no_deeper most s.limits) bytes items (refused R) × (R.reason ≡ reason.Ended)
-Finishes most s s' items bytes (Err _) = ⊥
+abbrev pub ReadingFinishes : {X O : Type 0} → ℕ → (s s' : Reading X O) → List StreamItem → List ℕ → Result (Unit {0}) Fault → Type 0
+ReadingFinishes most s s' items bytes (Ok _) = Outcome base_table (no_deeper most s.limits) bytes items the_end × (s' ≡ s)
+ReadingFinishes most s s' items bytes (Err (fault.Refused R)) = Outcome base_table (no_deeper most s.limits) bytes items (refused R) × (R.reason ≡ reason.Ended)
+ReadingFinishes most s s' items bytes (Err _) = ⊥
 
 -- the bytes z of an item that begins at the offset are no more than those that show the refusal, or than its count and its body
 pub data IsNoFurther (L : Bounds) (offset : ℕ) (z : List ℕ) (R : Refusal) : Type 0 where
@@ -101,7 +101,7 @@ pub record EndsInItem (L : Bounds) (bytes : List ℕ) (items : List StreamItem) 
   pub no_further : IsNoFurther L (length front) item R
 
 -- an item was given with the last of the bytes, which are the stream of this item behind the others
-pub record GivesNext {X O : Type 0} (stands : Standing X) (trees : Standing TreeBuilder) (means : O → Tree → Type 0) (most : ℕ) (s' : Reading X O) (given : declared.Item O) (items : List StreamItem) (bytes : List ℕ) : Type 0 where
+pub record ReadingGivesNext {X O : Type 0} (stands : Standing X) (trees : Standing TreeBuilder) (means : O → Tree → Type 0) (most : ℕ) (s' : Reading X O) (given : declared.Item O) (items : List StreamItem) (bytes : List ℕ) : Type 0 where
   pub item : StreamItem
   pub meant : ItemMeans means given item
   pub after : StandsAfter stands trees most s' (items ++ item ∷ []) bytes
@@ -121,7 +121,7 @@ StopsNext L items bytes rest now fault.Failed = ⊥
 
 -- what reading the next item answers
 abbrev pub ReadsNext : {X O : Type 0} → (stands : Standing X) (trees : Standing TreeBuilder) (means : O → Tree → Type 0) (most : ℕ) (s s' : Reading X O) → List StreamItem → (bytes rest : List ℕ) → Option (List ℕ) → Result (Option (declared.Item O)) Fault → Type 0
-ReadsNext stands trees means most s s' items bytes rest now (Ok (Some given)) = SomeTaken rest now (λ taken. GivesNext stands trees means most s' given items (bytes ++ taken))
+ReadsNext stands trees means most s s' items bytes rest now (Ok (Some given)) = SomeTaken rest now (λ taken. ReadingGivesNext stands trees means most s' given items (bytes ++ taken))
 ReadsNext stands trees means most s s' items bytes rest now (Ok None) = (rest ≡ []) × (now ≡ Some []) × Outcome base_table (no_deeper most s.limits) bytes items the_end × (s' ≡ s)
 ReadsNext stands trees means most s s' items bytes rest now (Err e) = StopsNext (no_deeper most s.limits) items bytes rest now e
 

@@ -16,7 +16,7 @@ use Rattle.gob_stream.specs.Bounds.{Bounds, no_deeper}
 use Rattle.gob_stream.specs.Honest.{FeedsHonestly, ReadsHonestly}
 use Rattle.gob_stream.specs.Item.{StreamItem}
 use Rattle.gob_stream.specs.ReadParts.{Advances}
-use Rattle.gob_stream.specs.Reading.{Feeds, Finishes, ReadsNext, TakesNext}
+use Rattle.gob_stream.specs.Reading.{Feeds, ReadingFinishes, ReadsNext, TakesNext}
 use Rattle.gob_stream.specs.Standing.{Standing, StandsAfter}
 use Rattle.gob_stream.specs.Stream.{Counted}
 use Rattle.gob_stream.specs.Whole.{IsBetween, HasBody, HasBegun, HasItem, PassesItem}
@@ -61,7 +61,7 @@ FeedAnswers stands means most s s' items bytes piece given result =
 
 abbrev pub FinishAnswers : {X O : Type 0} → (most : ℕ) → (s s' : SessionState X O) → List StreamItem → List ℕ
     → Result (Unit {0}) Fault → Type 0
-FinishAnswers most s s' items bytes result = Finishes most s.reading s'.reading items bytes result
+FinishAnswers most s s' items bytes result = ReadingFinishes most s.reading s'.reading items bytes result
 
 abbrev pub StepAnswers : {X O : Type 0} → Standing X → (means : O → Tree → Type 0) → (most : ℕ) → (s s' : SessionState X O)
     → List StreamItem → (bytes piece : List ℕ) → Result (Step O) Fault → Type 0

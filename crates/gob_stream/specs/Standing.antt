@@ -9,7 +9,7 @@ use Rattle.gob_types.specs.Base.{base_table, wire_type}
 use Rattle.gob_types.specs.Defined.{types}
 use Rattle.gob_read.specs.Telling.{Telling}
 use Rattle.gob_read.specs.Stood.{IsStood}
-use Rattle.gob_read.specs.Reader.{Stands}
+use Rattle.gob_read.specs.Reader.{ReaderStands}
 use Rattle.gob_read.specs.declared.reader.BodyReader.{BodyReader}
 use Rattle.gob_read.specs.declared.tree_builder.TreeBuilder.{TreeBuilder}
 use Rattle.gob_value.specs.declared.value.Value.{Value}
@@ -46,7 +46,7 @@ size rest = rest.end - rest.begin
 
 -- what reads it stands behind these bytes of it
 pub record IsBehind (T : Table) (t : TypeId) (limit : ℕ) (rest : Extent) {X O : Type 0} (stands : Standing X) (reader : BodyReader X O) (z : List ℕ) : Type 0 where
-  pub after : Stands T t limit (size rest) stands reader.run z
+  pub after : ReaderStands T t limit (size rest) stands reader.run z
   pub stood : IsStood T t limit (size rest) z
 
 -- the reader stands behind these bytes of an item that begins at the offset, where the types are those of T

@@ -38,10 +38,10 @@ pub data RefusesValue (L : Bounds) (T : Table) (t : TypeId) (v : Tree) : Reason 
   does_not_fit : depth v ≤ L.depth → ¬ Fits T t v → RefusesValue L T t v reason.DoesNotFit
 
 -- why a body isn't written at this offset
-pub data RefusesBody (L : Bounds) (offset : ℕ) (body : List ℕ) : Reason → Type 0 where
-  item_too_long : L.item < length body → RefusesBody L offset body reason.ItemTooLong
+pub data WriterRefusesBody (L : Bounds) (offset : ℕ) (body : List ℕ) : Reason → Type 0 where
+  item_too_long : L.item < length body → WriterRefusesBody L offset body reason.ItemTooLong
   stream_too_long : {c : List ℕ} → length body ≤ L.item → IsUnsigned (length body) c → L.stream < offset + length (c ++ body)
-      → RefusesBody L offset body reason.StreamTooLong
+      → WriterRefusesBody L offset body reason.StreamTooLong
 
 -- why the item isn't written where the types are those of T, at this offset
 pub data RefusesItem (base : Table) (L : Bounds) (T : Table) (offset : ℕ) : StreamItem → Reason → Type 0 where
@@ -52,11 +52,11 @@ pub data RefusesItem (base : Table) (L : Bounds) (T : Table) (offset : ℕ) : St
       → RefusesItem base L T offset (defines id v) r
   refused_type : {t : TypeId} {v : Tree} {r : Reason} → RefusesType T t r → RefusesItem base L T offset (puts t v) r
   refused_value : {t : TypeId} {v : Tree} {r : Reason} → MayPut T t → RefusesValue L T t v r → RefusesItem base L T offset (puts t v) r
-  refused_body : {i : StreamItem} {d : List ℕ} {U : Table} {r : Reason} → Body base L T i d U → RefusesBody L offset d r → RefusesItem base L T offset i r
+  refused_body : {i : StreamItem} {d : List ℕ} {U : Table} {r : Reason} → Body base L T i d U → WriterRefusesBody L offset d r → RefusesItem base L T offset i r
 
 -- an item isn't written for one reason
-abbrev pub HaveOneReason : Type 0
-HaveOneReason = (base : Table) (L : Bounds) (T : Table) (offset : ℕ) (i : StreamItem) (r s : Reason) → RefusesItem base L T offset i r → RefusesItem base L T offset i s → r ≡ s
+abbrev pub WritersHaveOneReason : Type 0
+WritersHaveOneReason = (base : Table) (L : Bounds) (T : Table) (offset : ℕ) (i : StreamItem) (r s : Reason) → RefusesItem base L T offset i r → RefusesItem base L T offset i s → r ≡ s
 
 -- and no bytes are that item there
 abbrev pub AreNotCounted : Type 0

@@ -32,6 +32,18 @@ use Rattle.gob_stream.specs.Item.{StreamItem}
 use Rattle.gob_stream.specs.Stream.{Stream, HasStream, Counted}
 use Rattle.gob_stream.specs.WriterRefusal.{RefusesItem}
 
+-- ---- what contracts see of a writer
+-- a write failed before, and it writes no more
+abbrev pub HasWriterFailed : StreamWriter → Type 0
+HasWriterFailed w = w.failed ≡ true
+
+-- what it keeps to, and the types of its stream so far
+abbrev pub writer_limits : StreamWriter → Bounds
+writer_limits w = w.limits
+
+abbrev pub writer_types : StreamWriter → Table
+writer_types w = types w.types
+
 -- the writer has written these items, as these bytes
 pub record HasWritten (w : StreamWriter) (items : List StreamItem) (bytes : List ℕ) (T : Table) : Type 0 where
   pub stream : Stream base_table w.limits items bytes T
@@ -97,9 +109,9 @@ CountsFault failures failures' fault.Write = failures' ≡ counts_up failures 1
 CountsFault failures failures' _ = failures' ≡ failures
 
 -- the same of an answer: no write failed in a call that answers Ok
-abbrev pub CountsWrites : (failures failures' : ℕ) → Result (Unit {0}) WriteFault → Type 0
-CountsWrites failures failures' (Ok _) = failures' ≡ failures
-CountsWrites failures failures' (Err f) = CountsFault failures failures' f
+abbrev pub CountsWriterFaults : (failures failures' : ℕ) → Result (Unit {0}) WriteFault → Type 0
+CountsWriterFaults failures failures' (Ok _) = failures' ≡ failures
+CountsWriterFaults failures failures' (Err f) = CountsFault failures failures' f
 
 -- and of the writing of a list of items
 abbrev pub CountsStop : (failures failures' : ℕ) → Result (Unit {0}) WriteStop → Type 0
@@ -124,7 +136,7 @@ pub record FitsLimits (L : Bounds) (offset : ℕ) (count body : List ℕ) : Type
   pub stream : offset + length (count ++ body) ≤ L.stream
 
 -- the bytes are the item of this body, as the limits admit it at the offset
-pub record IsWhole (L : Bounds) (offset : ℕ) (body bytes : List ℕ) : Type 0 where
+pub record IsWholeItem (L : Bounds) (offset : ℕ) (body bytes : List ℕ) : Type 0 where
   pub count : List ℕ
   pub spelled : IsUnsigned (length body) count
   pub fits : FitsLimits L offset count body

@@ -8,11 +8,12 @@ ghost use Rattle.gob_types.specs.Definable.{IsDefinable};
 ghost use Rattle.gob_value.specs.View.{view};
 ghost use Rattle.gob_value.specs.Fits.{Fits};
 ghost use Rattle.gob_value.specs.Description.{Describes};
-ghost use Rattle.gob_read.specs.Reader.{Stands};
+ghost use Rattle.gob_read.specs.Reader.{ReaderStands};
 ghost use Rattle.gob_stream.specs.Standing.{size};
-ghost use Rattle.gob_stream.specs.ReadParts.{IsUnderWay, ReadsValue, ReadsDescription, StopsWithin, shape_fault};
+ghost use Rattle.gob_stream.specs.ReadParts.{IsBodyUnderWay, ReadsValueIn, ReadsDescription, StopsWithin, shape_fault};
 ghost use Rattle.gob_stream.specs.ReadParts.{fault_behind};
 ghost use Rattle.gob_stream.specs.ReadParts.{Defines, HasWireType};
+ghost use Rattle.gob_read.specs.UnderWay.{under_way};
 
 use crate::count::refusal;
 use crate::fault::Fault;
@@ -33,10 +34,10 @@ pub(crate) fn take_value<B: Builder>(
     mut reader: BodyReader<B>,
     piece: &[u8],
 ) -> Result<Stepped<B>, Fault>
-    requires stands { IsUnderWay (types table.now) id rest B.stands reader.run }
+    requires stands { IsBodyUnderWay (types table.now) id rest B.stands (under_way reader) }
     requires order { rest.begin ≤ rest.end }
-    ensures { (limit : ℕ) (z : List ℕ) → Stands (types table.now) id limit (size rest) B.stands reader.run z
-        → ReadsValue B.stands B.means (types table.now) id limit rest z piece.now result }
+    ensures { (limit : ℕ) (z : List ℕ) → ReaderStands (types table.now) id limit (size rest) B.stands (under_way reader) z
+        → ReadsValueIn B.stands B.means (types table.now) id limit rest z piece.now result }
 {
     match reader.push(alloc, table, piece) {
         Ok(Progress::More) => Ok(Stepped {
@@ -62,12 +63,12 @@ pub(crate) fn take_description<B: Builder>(
     mut reader: BodyReader<TreeBuilder>,
     piece: &[u8],
 ) -> Result<Stepped<B>, Fault>
-    requires stands { IsUnderWay (types table.old) wire_type rest ⟦<TreeBuilder as Builder>⟧.stands reader.run }
+    requires stands { IsBodyUnderWay (types table.old) wire_type rest ⟦<TreeBuilder as Builder>⟧.stands (under_way reader) }
     requires order { rest.begin ≤ rest.end }
     requires admitted { Admits table.old id }
     requires keeps { HasWireType (types table.old) }
     ensures read { (limit : ℕ) (z : List ℕ)
-        → Stands (types table.old) wire_type limit (size rest) ⟦<TreeBuilder as Builder>⟧.stands reader.run z
+        → ReaderStands (types table.old) wire_type limit (size rest) ⟦<TreeBuilder as Builder>⟧.stands (under_way reader) z
         → ReadsDescription ⟦<TreeBuilder as Builder>⟧.stands (types table.old) id limit rest z piece.now
         (types table.new) result }
     ensures most { table.new.most ≡ table.old.most }

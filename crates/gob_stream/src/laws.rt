@@ -1,11 +1,11 @@
 //! Laws of streams. Each function does nothing: its contract is a law that is proved here, once.
 
 ghost use Rattle.gob_stream.specs.Laws.{HaveOneReading, BeginOneAnother, GiveOneList};
-ghost use Rattle.gob_stream.specs.Laws.{StayStreams, HaveOneOutcome, HaveAnOutcome, RefuseNoItem, StayShown};
+ghost use Rattle.gob_stream.specs.Laws.{StayStreams, HaveOneOutcome, HaveAnOutcome, RefuseNoItem, StreamsStayShown};
 ghost use Rattle.gob_stream.specs.Laws.{GivesWhatStands, HaveOneTable, StayLimits};
 ghost use Rattle.gob_stream.specs.Laws.{AreReadBack, ShowNoRefusal, AreReadBackInPieces};
 ghost use Rattle.gob_stream.specs.Honest.{OutcomesAreHonest};
-ghost use Rattle.gob_stream.specs.WriterRefusal.{HaveOneReason, AreNotCounted};
+ghost use Rattle.gob_stream.specs.WriterRefusal.{WritersHaveOneReason, AreNotCounted};
 
 use gob_read::{Builder, TreeBuilder};
 
@@ -42,7 +42,7 @@ pub fn streams_are_read_back_in_pieces<B: Builder>()
 
 /// There is one reason at most for which an item isn't written, and none where some bytes are the item.
 pub fn one_refusal()
-    ensures reason { HaveOneReason }
+    ensures reason { WritersHaveOneReason }
     ensures not_counted { AreNotCounted }
 {}
 
@@ -76,7 +76,7 @@ pub fn refused_bytes_are_no_item()
 /// The refusal that the bytes show is the same for all bytes that begin with those that show it, and so are the
 /// items before it.
 pub fn shown_refusals_stay()
-    ensures { StayShown }
+    ensures { StreamsStayShown }
 {}
 
 /// The place of a refusal is honest. Where what stands behind a type number is refused for a number, the bytes between

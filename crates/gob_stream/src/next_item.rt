@@ -2,6 +2,7 @@
 
 ghost use Rattle.std.specs.Prelude.{◌≡◌, ℕ, List, Err, Some, OnErr};
 ghost use Rattle.gob_types.specs.Defined.{types};
+ghost use Rattle.gob_stream.specs.Ends.{bytes_read, failed_reads, reader_of};
 ghost use Rattle.gob_stream.specs.Item.{StreamItem};
 ghost use Rattle.gob_stream.specs.Standing.{StandsAfter, IsUsable};
 ghost use Rattle.gob_stream.specs.Reading.{ReadsNext, CountsReads, TakesNext};
@@ -28,17 +29,17 @@ impl<B: Builder> Reading<B> {
         requires { IsUsable B.stands ⟦<TreeBuilder as Builder>⟧.stands B.DEPTH self.old }
         ensures read { (items : List StreamItem) (bytes rest : List ℕ)
             → StandsAfter B.stands ⟦<TreeBuilder as Builder>⟧.stands B.DEPTH self.old items bytes
-            → R.remaining input.old.reader ≡ Some rest
+            → R.remaining (reader_of input.old) ≡ Some rest
             → ReadsNext B.stands ⟦<TreeBuilder as Builder>⟧.stands B.means B.DEPTH self.old self.new
-            items bytes rest (R.remaining input.new.reader) result }
+            items bytes rest (R.remaining (reader_of input.new)) result }
         ensures failed { OnErr result (self.new.stage ≡ Stage.Failed) }
         ensures stays { self.old.stage ≡ Stage.Failed
             → (result ≡ Err Fault.Failed) × (self.new ≡ self.old) × (input.new ≡ input.old) }
         ensures usable { IsUsable B.stands ⟦<TreeBuilder as Builder>⟧.stands B.DEPTH self.new }
         ensures types { OnErr result (types self.new.types ≡ types self.old.types) }
         ensures limits { self.new.limits ≡ self.old.limits }
-        ensures counted { CountsReads input.old.failures input.new.failures result }
-        ensures taken { TakesNext self.old self.new input.old.taken input.new.taken result }
+        ensures counted { CountsReads (failed_reads input.old) (failed_reads input.new) result }
+        ensures taken { TakesNext self.old self.new (bytes_read input.old) (bytes_read input.new) result }
     {
         if matches!(self.stage, Stage::Failed) {
             return Err(Fault::Failed);

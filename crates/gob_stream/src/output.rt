@@ -2,6 +2,7 @@
 
 ghost use Rattle.std.specs.Prelude.{◌≡◌};
 ghost use Rattle.gob_stream.specs.Devices.{WriteCounted, FlushCounted, counts_up};
+ghost use Rattle.gob_stream.specs.Ends.{failed_writes, writer_of};
 ghost use Rattle.std.specs.Io.KnownBytes.{WriteAppends, Keeps};
 ghost use Rattle.std.specs.Io.{WritesAtMost};
 
@@ -19,8 +20,8 @@ pub struct Output<W> {
 impl<W> Output<W> {
     /// Over this writer.
     pub fn new(writer: W) -> Output<W>
-        ensures writer { result.writer ≡ writer }
-        ensures failures { result.failures ≡ 0 }
+        ensures writer { writer_of result ≡ writer }
+        ensures failures { failed_writes result ≡ 0 }
     {
         Output {
             writer,
@@ -30,14 +31,14 @@ impl<W> Output<W> {
 
     /// The writer, as the writes so far left it.
     pub fn into_inner(self) -> W
-        ensures { result ≡ self.writer }
+        ensures { result ≡ writer_of self }
     {
         self.writer
     }
 
     /// How many calls failed so far. It stays at 2^64-1 once there.
     pub fn failures(&self) -> u64
-        ensures { result ≡ self.now.failures }
+        ensures { result ≡ failed_writes self.now }
     {
         self.failures
     }
@@ -55,8 +56,8 @@ impl<W: Write> Write for Output<W> {
 
     fn write(&mut self, buf: &[u8]) -> io::Result<usize>
         ensures bound { WritesAtMost result buf.now }
-        ensures bytes { WriteAppends (W.contents self.old.writer) (W.contents self.new.writer) result buf.now }
-        ensures counted { WriteCounted self.old.failures self.new.failures result buf.now }
+        ensures bytes { WriteAppends (W.contents (writer_of self.old)) (W.contents (writer_of self.new)) result buf.now }
+        ensures counted { WriteCounted (failed_writes self.old) (failed_writes self.new) result buf.now }
     {
         let result = self.writer.write(buf);
         let failed = match &result {
@@ -70,8 +71,8 @@ impl<W: Write> Write for Output<W> {
     }
 
     fn flush(&mut self) -> io::Result<()>
-        ensures bytes { Keeps (W.contents self.old.writer) (W.contents self.new.writer) }
-        ensures counted { FlushCounted self.old.failures self.new.failures result }
+        ensures bytes { Keeps (W.contents (writer_of self.old)) (W.contents (writer_of self.new)) }
+        ensures counted { FlushCounted (failed_writes self.old) (failed_writes self.new) result }
     {
         let result = self.writer.flush();
         if result.is_err() {

@@ -2,6 +2,7 @@
 
 ghost use Rattle.std.specs.Prelude.{◌≡◌, ℕ, ◌+◌, ◌≤◌, List, [], Some};
 ghost use Rattle.gob_stream.specs.Bounds.{within_trees};
+ghost use Rattle.gob_stream.specs.Ends.{bytes_read, failed_reads, reader_of};
 ghost use Rattle.gob_stream.specs.Item.{item_views};
 ghost use Rattle.gob_stream.specs.Standing.{StandsAfter};
 ghost use Rattle.gob_stream.specs.Honest.{IsHonest, OfRefusal};
@@ -28,13 +29,13 @@ pub fn read_stream<R: Read>(
     out: &mut Vec<Item<Value>>,
 ) -> Result<(), Fault>
     ensures items { Given out.old.items out.new.items (λ given. (bytes : List ℕ)
-        → R.remaining input.old.reader ≡ Some bytes
-        → ReadsStream (within_trees limits) bytes (R.remaining input.new.reader) (item_views given) result) }
+        → R.remaining (reader_of input.old) ≡ Some bytes
+        → ReadsStream (within_trees limits) bytes (R.remaining (reader_of input.new)) (item_views given) result) }
     ensures honest { Given out.old.items out.new.items (λ given. (bytes : List ℕ)
-        → R.remaining input.old.reader ≡ Some bytes
+        → R.remaining (reader_of input.old) ≡ Some bytes
         → OfRefusal (λ refusal. IsHonest (within_trees limits) bytes (item_views given) refusal) result) }
-    ensures counted { CountsReads input.old.failures input.new.failures result }
-    ensures taken { input.new.taken ≤ input.old.taken + limits.stream + 9 }
+    ensures counted { CountsReads (failed_reads input.old) (failed_reads input.new) result }
+    ensures taken { (bytes_read input.new) ≤ (bytes_read input.old) + limits.stream + 9 }
 {
     let mut session = Session::<TreeBuilder>::new(alloc, limits)?;
     read_items(alloc, input, &mut session, out)
@@ -51,11 +52,11 @@ fn read_items<R: Read>(
         session.old.reading [] [] }
     requires new { session.old.reading.taken ≡ 0 }
     ensures items { Given out.old.items out.new.items (λ given. (bytes : List ℕ)
-        → R.remaining input.old.reader ≡ Some bytes
-        → ReadsStream (within_trees session.old.reading.limits) bytes (R.remaining input.new.reader)
+        → R.remaining (reader_of input.old) ≡ Some bytes
+        → ReadsStream (within_trees session.old.reading.limits) bytes (R.remaining (reader_of input.new))
         (item_views given) result) }
-    ensures counted { CountsReads input.old.failures input.new.failures result }
-    ensures taken { input.new.taken ≤ input.old.taken + session.old.reading.limits.stream + 9 }
+    ensures counted { CountsReads (failed_reads input.old) (failed_reads input.new) result }
+    ensures taken { (bytes_read input.new) ≤ (bytes_read input.old) + session.old.reading.limits.stream + 9 }
 {
     while let Some(item) = session.read_item(alloc, input)? {
         out.push(item).map_err(Memory::from)?;

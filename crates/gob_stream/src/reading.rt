@@ -6,8 +6,8 @@ ghost use Rattle.gob_types.specs.Defined.{types};
 ghost use Rattle.gob_stream.specs.Bounds.{AreLimits, deepest, no_deeper};
 ghost use Rattle.gob_stream.specs.Item.{StreamItem};
 ghost use Rattle.gob_stream.specs.Standing.{StandsIn, StandsAfter, IsUsable};
-ghost use Rattle.gob_stream.specs.Reading.{Given, Feeds, Finishes};
-ghost use Rattle.gob_stream.specs.ReadParts.{Advances, StepsOn, IsWithinItem, wanted_in};
+ghost use Rattle.gob_stream.specs.Reading.{Given, Feeds, ReadingFinishes};
+ghost use Rattle.gob_stream.specs.ReadParts.{Advances, StepsOn, IsWithinItem, bytes_wanted};
 
 use crate::body::{take_description, take_value};
 use crate::count::{refusal, take_count};
@@ -120,7 +120,7 @@ impl<B: Builder> Reading<B> {
             → Advances B.stands ⟦<TreeBuilder as Builder>⟧.stands B.means B.DEPTH
             self.old self.new items bytes piece.now result }
         ensures used { IfOk result (λ step. (0 < step.used) × (step.used ≤ length piece.now)) }
-        ensures whole { length piece.now ≤ wanted_in self.old.stage self.old.taken
+        ensures whole { length piece.now ≤ bytes_wanted self.old.stage self.old.taken
             → IfOk result (λ step. step.used ≡ length piece.now) }
         ensures between { IfOk result (λ step. IfSome step.item (λ _. self.new.stage ≡ Stage.Count self.new.taken [])) }
         ensures usable { IsUsable B.stands ⟦<TreeBuilder as Builder>⟧.stands B.DEPTH self.new }
@@ -183,7 +183,7 @@ impl<B: Builder> Reading<B> {
         requires { IsUsable B.stands ⟦<TreeBuilder as Builder>⟧.stands B.DEPTH self.old }
         ensures finishes { (items : List StreamItem) (bytes : List ℕ)
             → StandsAfter B.stands ⟦<TreeBuilder as Builder>⟧.stands B.DEPTH self.old items bytes
-            → Finishes B.DEPTH self.old self.new items bytes result }
+            → ReadingFinishes B.DEPTH self.old self.new items bytes result }
         ensures usable { IsUsable B.stands ⟦<TreeBuilder as Builder>⟧.stands B.DEPTH self.new }
         ensures failed { OnErr result (self.new.stage ≡ Stage.Failed) }
         ensures stays { self.old.stage ≡ Stage.Failed → (result ≡ Err Fault.Failed) × (self.new ≡ self.old) }
@@ -205,7 +205,7 @@ impl<B: Builder> Reading<B> {
     /// How many bytes can be read at once without going past the item's end: one where that isn't known.
     pub(crate) fn wanted(&self) -> u64
         requires { IsUsable B.stands ⟦<TreeBuilder as Builder>⟧.stands B.DEPTH self.now }
-        ensures value { result ≡ wanted_in self.now.stage self.now.taken }
+        ensures value { result ≡ bytes_wanted self.now.stage self.now.taken }
         ensures some { 0 < result }
     {
         match &self.stage {
@@ -242,7 +242,7 @@ fn take_awaited<B: Builder>(
         → StepsOn B.stands ⟦<TreeBuilder as Builder>⟧.stands B.means (no_deeper B.DEPTH limits)
         (types table.old) offset z piece.now (types table.new) result }
     ensures some { IfOk result (λ stepped. 0 < stepped.used) }
-    ensures whole { length piece.now ≤ wanted_in stage taken
+    ensures whole { length piece.now ≤ bytes_wanted stage taken
         → IfOk result (λ stepped. stepped.used ≡ length piece.now) }
     ensures failed { stage ≡ Stage.Failed → result ≡ Err Fault.Failed }
     ensures most { table.new.most ≡ table.old.most }

@@ -46,6 +46,7 @@ impl<B: Builder> Session<B> {
     ghost use Rattle.std.specs.Prelude.{◌≡◌, ◌+◌, ◌<◌, ◌≤◌, ◌++◌, ℕ, List, [], length, Err, Some, None};
     ghost use Rattle.std.specs.Prelude.{IfOk, IfSome, OnErr};
     ghost use Rattle.gob_stream.specs.Bounds.{AreLimits, deepest};
+    ghost use Rattle.gob_stream.specs.Ends.{bytes_read, failed_reads, reader_of};
     ghost use Rattle.gob_stream.specs.Item.{StreamItem};
     ghost use Rattle.gob_stream.specs.Reading.{Given, CountsReads};
     ghost use Rattle.gob_stream.specs.Session.{HasRead, HasFailed, IsBetweenItems, StaysAsItWas};
@@ -198,20 +199,20 @@ impl<B: Builder> Session<B> {
     ) -> Result<Option<Item<B::Out>>, Fault>
         ensures read { (items : List StreamItem) (bytes rest : List ℕ)
             → HasRead B.stands B.DEPTH self.old items bytes
-            → R.remaining input.old.reader ≡ Some rest
+            → R.remaining (reader_of input.old) ≡ Some rest
             → ReadItemAnswers B.stands B.means B.DEPTH self.old self.new
-            items bytes rest (R.remaining input.new.reader) result }
+            items bytes rest (R.remaining (reader_of input.new)) result }
         ensures honest { (items : List StreamItem) (bytes rest : List ℕ)
             → HasRead B.stands B.DEPTH self.old items bytes
-            → R.remaining input.old.reader ≡ Some rest
-            → ReadsHonestlyFrom B.DEPTH self.old items bytes rest (R.remaining input.new.reader) result }
+            → R.remaining (reader_of input.old) ≡ Some rest
+            → ReadsHonestlyFrom B.DEPTH self.old items bytes rest (R.remaining (reader_of input.new)) result }
         ensures failed { OnErr result (HasFailed self.new) }
         ensures stays { HasFailed self.old
             → (result ≡ Err Fault.Failed) × StaysAsItWas self.old self.new × (input.new ≡ input.old) }
         ensures types { OnErr result (types_of self.new ≡ types_of self.old) }
         ensures limits { limits_of self.new ≡ limits_of self.old }
-        ensures counted { CountsReads input.old.failures input.new.failures result }
-        ensures taken { ReadItemTakes self.old self.new input.old.taken input.new.taken result }
+        ensures counted { CountsReads (failed_reads input.old) (failed_reads input.new) result }
+        ensures taken { ReadItemTakes self.old self.new (bytes_read input.old) (bytes_read input.new) result }
     {
         self.reading.read_item(alloc, input)
     }

@@ -1,6 +1,7 @@
 //! The bytes of an item.
 
-ghost use Rattle.std.specs.Prelude.{◌≡◌, ◌+◌, ◌^◌, ◌<◌, ◌≤◌, ◌↔◌, ◌++◌, ◌∷◌, [], ℕ, length, IsTrue, IfOk, OnOk, IfErr};
+ghost use Rattle.std.specs.Prelude.{◌≡◌, ◌+◌, ◌^◌, ◌<◌, ◌≤◌, ◌↔◌, ◌++◌, ◌∷◌, [], ℕ, List, length, IsTrue, IfOk, OnOk};
+ghost use Rattle.std.specs.Prelude.{IfErr};
 ghost use Rattle.gob_num.specs.Unsigned.{IsUnsigned};
 ghost use Rattle.gob_num.specs.Spelled.{Appends};
 ghost use Rattle.gob_types.specs.Base.{base_table};
@@ -11,8 +12,8 @@ ghost use Rattle.gob_value.specs.View.{view};
 ghost use Rattle.gob_stream.specs.Bounds.{Bounds, greatest_depth};
 ghost use Rattle.gob_stream.specs.Item.{defines, puts};
 ghost use Rattle.gob_stream.specs.Body.{Body, MayPut};
-ghost use Rattle.gob_stream.specs.WriterRefusal.{RefusesItem, RefusesType, RefusesBody};
-ghost use Rattle.gob_stream.specs.Writing.{IsRefusal, IsWhole, FitsLimits, definition_fault, HasStructs, IsHead};
+ghost use Rattle.gob_stream.specs.WriterRefusal.{RefusesItem, RefusesType, WriterRefusesBody};
+ghost use Rattle.gob_stream.specs.Writing.{IsRefusal, IsWholeItem, FitsLimits, definition_fault, HasStructs, IsHead};
 ghost use Rattle.gob_stream.specs.Writing.{IsSpelledAs};
 
 use crate::fault::WriteFault;
@@ -151,23 +152,22 @@ pub(crate) fn spell_value(
     Ok(())
 }
 
-/// Makes the body of the item that gives the value of this spelling, in place of what the vector held.
-pub(crate) fn wrap_spelling(
+/// Spells what stands before a value of the type in its item, in place of what the vector held: the number of the
+/// type, and the tag where the value is no struct.
+pub(crate) fn spell_head(
     alloc: Global,
     table: &Table,
     id: TypeId,
-    spelling: &[u8],
-    body: &mut Vec<u8>,
+    head: &mut Vec<u8>,
 ) -> Result<(), WriteFault>
-    ensures ok { OnOk result ((L : Bounds) (v : Tree) → IsSpelledAs L (types table.now) id spelling.now v
-        → Body base_table L (types table.now) (puts id v) body.new.items (types table.now)) }
+    ensures ok { OnOk result ((L : Bounds) (v : Tree) (spelling : List ℕ) → IsSpelledAs L (types table.now) id spelling v
+        → Body base_table L (types table.now) (puts id v) (head.new.items ++ spelling) (types table.now)) }
     ensures err { IfErr result (IsRefusal (RefusesType (types table.now) id)) }
     ensures early { IfErr result (IsRefusal (λ _. Unit {0})) }
 {
     judge_type(alloc, table, id)?;
-    body.clear();
-    write_head(alloc, table, id, body)?;
-    body.extend_from_slice(spelling)?;
+    head.clear();
+    write_head(alloc, table, id, head)?;
     Ok(())
 }
 
@@ -183,40 +183,49 @@ fn write_head(alloc: Global, table: &Table, id: TypeId, body: &mut Vec<u8>) -> R
     write_uint(alloc, 0, body)
 }
 
-/// Makes the item of this body, in place of what the vector held, where the limits admit it at the offset: the count
-/// of the body's bytes, and the body.
-pub(crate) fn finish_item(
+/// Makes the item whose body is these two parts, up to the second, in place of what the vector held, where the limits
+/// admit the item at the offset: the count of the body's bytes, and the first part.
+pub(crate) fn begin_item(
     alloc: Global,
     limits: &Limits,
     offset: u64,
-    body: &[u8],
+    first: &[u8],
+    rest: &[u8],
     item: &mut Vec<u8>,
 ) -> Result<(), WriteFault>
-    ensures ok { OnOk result (IsWhole limits.now offset body.now item.new.items) }
-    ensures end { OnOk result (offset + length item.new.items < 2 ^ 64) }
-    ensures err { IfErr result (IsRefusal (RefusesBody limits.now offset body.now)) }
+    ensures ok { OnOk result (IsWholeItem limits.now offset (first.now ++ rest.now) (item.new.items ++ rest.now)) }
+    ensures end { OnOk result (offset + length (item.new.items ++ rest.now) < 2 ^ 64) }
+    ensures err { IfErr result (IsRefusal (WriterRefusesBody limits.now offset (first.now ++ rest.now))) }
     ensures early { IfErr result (IsRefusal (λ _. Unit {0})) }
 {
     item.clear();
-    write_uint(alloc, body.len() as u64, item)?;
-    judge_length(limits, offset, item, body)?;
-    item.extend_from_slice(body)?;
+    write_uint(alloc, (first.len() + rest.len()) as u64, item)?;
+    judge_length(limits, offset, item, first, rest)?;
+    item.extend_from_slice(first)?;
     Ok(())
 }
 
-// Whether the limits admit an item of this count and body at the offset.
-fn judge_length(limits: &Limits, offset: u64, count: &[u8], body: &[u8]) -> Result<(), WriteFault>
-    requires { IsUnsigned (length body.now) count.now }
-    ensures ok { OnOk result (FitsLimits limits.now offset count.now body.now) }
-    ensures end { OnOk result (offset + length (count.now ++ body.now) < 2 ^ 64) }
-    ensures err { IfErr result (IsRefusal (RefusesBody limits.now offset body.now)) }
+// Whether the limits admit an item of this count, and of a body of these two parts, at the offset.
+fn judge_length(
+    limits: &Limits,
+    offset: u64,
+    count: &[u8],
+    first: &[u8],
+    rest: &[u8],
+) -> Result<(), WriteFault>
+    requires { IsUnsigned (length (first.now ++ rest.now)) count.now }
+    ensures ok { OnOk result (FitsLimits limits.now offset count.now (first.now ++ rest.now)) }
+    ensures end { OnOk result (offset + length (count.now ++ (first.now ++ rest.now)) < 2 ^ 64) }
+    ensures err { IfErr result (IsRefusal (WriterRefusesBody limits.now offset (first.now ++ rest.now))) }
     ensures early { IfErr result (IsRefusal (λ _. Unit {0})) }
 {
-    if body.len() as u64 > limits.item() {
+    let size = (first.len() + rest.len()) as u64;
+    if size > limits.item() {
         return Err(WriteFault::Refused(Reason::ItemTooLong));
     }
     let room = limits.stream().saturating_sub(offset);
-    if (count.len() + body.len()) as u64 > room {
+    let count = count.len() as u64;
+    if count > room || size > room - count {
         return Err(WriteFault::Refused(Reason::StreamTooLong));
     }
     Ok(())

@@ -8,7 +8,7 @@ ghost use Rattle.gob_types.specs.Defined.{types, Admits};
 ghost use Rattle.gob_stream.specs.Bounds.{Bounds, greatest_stream, no_deeper};
 ghost use Rattle.gob_stream.specs.Standing.{IsCount, IsRest};
 ghost use Rattle.gob_stream.specs.declared.stage.Extent.{Extent};
-ghost use Rattle.gob_stream.specs.ReadParts.{AreTypes, HasCount, HasWireType, MaybeDefines, MaybePuts, StepsOn};
+ghost use Rattle.gob_stream.specs.ReadParts.{AreTypes, HasBodyCount, HasWireType, MaybeDefines, MaybePuts, StepsOn};
 ghost use Rattle.gob_stream.specs.ReadParts.{GoesOnIn};
 ghost use Rattle.gob_stream.specs.ReadParts.{define_reason, ready_fault};
 
@@ -40,7 +40,7 @@ pub(crate) fn take_type_number<B: Builder>(
     piece: &[u8],
 ) -> Result<Stepped<B>, Fault>
     requires known { AreTypes limits table.old }
-    requires counted { HasCount (no_deeper B.DEPTH limits) body }
+    requires counted { HasBodyCount (no_deeper B.DEPTH limits) body }
     requires begin { body.begin + length number ≡ taken }
     requires room { taken < body.end }
     requires end { body.end ≤ greatest_stream }

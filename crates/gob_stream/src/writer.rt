@@ -1,21 +1,21 @@
 //! Writing a stream item by item.
 
-ghost use Rattle.std.specs.Prelude.{true, false, ◌≡◌, ◌+◌, ◌^◌, ◌<◌, length, IfOk, IfErr, OnOk, OnErr};
+ghost use Rattle.std.specs.Prelude.{true, false, ◌≡◌, ◌+◌, ◌^◌, ◌<◌, ◌++◌, length, IfOk, IfErr, OnOk, OnErr};
 ghost use Rattle.std.specs.Io.KnownBytes.{Appends};
-ghost use Rattle.gob_types.specs.Defined.{types};
 ghost use Rattle.gob_value.specs.Tree.{Tree};
 ghost use Rattle.gob_value.specs.View.{view};
 ghost use Rattle.gob_stream.specs.Bounds.{within_trees};
+ghost use Rattle.gob_stream.specs.Ends.{failed_writes, writer_of};
 ghost use Rattle.gob_stream.specs.Item.{defines, puts, item_view};
-ghost use Rattle.gob_stream.specs.Writing.{IsNew, WritesNext, Leaves, AnswersFailed, CountsWrites, SentFront};
-ghost use Rattle.gob_stream.specs.Writing.{IsSpelling, IsSpelledAs};
+ghost use Rattle.gob_stream.specs.Writing.{IsNew, WritesNext, Leaves, AnswersFailed, CountsWriterFaults, SentFront};
+ghost use Rattle.gob_stream.specs.Writing.{IsSpelling, IsSpelledAs, HasWriterFailed, writer_limits, writer_types};
 
 use crate::fault::WriteFault;
 use crate::item::Item;
 use crate::limits::Limits;
 use crate::output::Output;
 use crate::send::send_all;
-use crate::spelled::{definition_fault, finish_item, spell_definition, spell_value, wrap_spelling};
+use crate::spelled::{begin_item, definition_fault, spell_definition, spell_head, spell_value};
 use gob_num::Memory;
 use gob_types::{Table, TypeId};
 use gob_value::Value;
@@ -31,7 +31,8 @@ pub struct StreamWriter {
     // How many bytes of the stream are out.
     offset: u64,
     failed: bool,
-    // Where the body of an item is spelled, and then the item: kept from one item to the next.
+    // Where the body of an item is spelled, and then the item, both without a spelling that the caller has: kept from one
+    // item to the next.
     body: Vec<u8>,
     item: Vec<u8>,
 }
@@ -80,24 +81,24 @@ impl StreamWriter {
         id: TypeId,
         described: &Value,
     ) -> Result<(), WriteFault>
-        ensures writes { WritesNext (within_trees self.old.limits) self.old self.new (defines id (view described.now))
-            (W.contents output.old.writer) (W.contents output.new.writer) result }
+        ensures writes { WritesNext (within_trees (writer_limits self.old)) self.old self.new (defines id (view described.now))
+            (W.contents (writer_of output.old)) (W.contents (writer_of output.new)) result }
         ensures leaves { Leaves self.old self.new
-            (W.contents output.old.writer) (W.contents output.new.writer) result }
-        ensures failed { self.old.failed ≡ true →
-            AnswersFailed self.old self.new (W.contents output.old.writer) (W.contents output.new.writer) result }
-        ensures counted { CountsWrites output.old.failures output.new.failures result }
+            (W.contents (writer_of output.old)) (W.contents (writer_of output.new)) result }
+        ensures failed { HasWriterFailed self.old →
+            AnswersFailed self.old self.new (W.contents (writer_of output.old)) (W.contents (writer_of output.new)) result }
+        ensures counted { CountsWriterFaults (failed_writes output.old) (failed_writes output.new) result }
     {
         if self.failed {
             return Err(WriteFault::Failed);
         }
         let limits = self.limits.up_to(Limits::GREATEST_DEPTH);
         let shape = spell_definition(alloc, &self.types, &limits, id, described, &mut self.body)?;
-        finish_item(alloc, &limits, self.offset, &self.body, &mut self.item)?;
+        begin_item(alloc, &limits, self.offset, &self.body, &[], &mut self.item)?;
         if let Err(fault) = self.types.define(alloc, id, shape) {
             return Err(definition_fault(id, fault));
         }
-        self.send(output)
+        self.send(output, &[])
     }
 
     /// Writes a value of a type. Refused, in this order: a type that leads to one that isn't defined, or is 24, as
@@ -112,21 +113,21 @@ impl StreamWriter {
         id: TypeId,
         value: &Value,
     ) -> Result<(), WriteFault>
-        ensures writes { WritesNext (within_trees self.old.limits) self.old self.new (puts id (view value.now))
-            (W.contents output.old.writer) (W.contents output.new.writer) result }
+        ensures writes { WritesNext (within_trees (writer_limits self.old)) self.old self.new (puts id (view value.now))
+            (W.contents (writer_of output.old)) (W.contents (writer_of output.new)) result }
         ensures leaves { Leaves self.old self.new
-            (W.contents output.old.writer) (W.contents output.new.writer) result }
-        ensures failed { self.old.failed ≡ true →
-            AnswersFailed self.old self.new (W.contents output.old.writer) (W.contents output.new.writer) result }
-        ensures counted { CountsWrites output.old.failures output.new.failures result }
+            (W.contents (writer_of output.old)) (W.contents (writer_of output.new)) result }
+        ensures failed { HasWriterFailed self.old →
+            AnswersFailed self.old self.new (W.contents (writer_of output.old)) (W.contents (writer_of output.new)) result }
+        ensures counted { CountsWriterFaults (failed_writes output.old) (failed_writes output.new) result }
     {
         if self.failed {
             return Err(WriteFault::Failed);
         }
         let limits = self.limits.up_to(Limits::GREATEST_DEPTH);
         spell_value(alloc, &self.types, &limits, id, value, &mut self.body)?;
-        finish_item(alloc, &limits, self.offset, &self.body, &mut self.item)?;
-        self.send(output)
+        begin_item(alloc, &limits, self.offset, &self.body, &[], &mut self.item)?;
+        self.send(output, &[])
     }
 
     /// Writes a value of a type by its spelling. These are the bytes of the value alone: the tag is written before
@@ -135,6 +136,7 @@ impl StreamWriter {
     /// 24, as `UndefinedType`, one that leads to an array without finite values as `Bottomless`, an item whose count
     /// is above the limit for items as `ItemTooLong`, and one that would end beyond the limit for the stream as
     /// `StreamTooLong`. `WriteFault` says what each fault leaves. (docs/FORMAT.md, Refusals, the writer's order.)
+    /// No copy of the spelling is made: it goes out as it stands, behind a write of what comes before it in the item.
     pub fn put_spelled<W: Write>(
         &mut self,
         alloc: Global,
@@ -142,22 +144,29 @@ impl StreamWriter {
         id: TypeId,
         spelling: &[u8],
     ) -> Result<(), WriteFault>
-        requires { IsSpelling self.old.limits (types self.old.types) id spelling.now }
-        ensures writes { (v : Tree) → IsSpelledAs self.old.limits (types self.old.types) id spelling.now v
-            → WritesNext self.old.limits self.old self.new (puts id v)
-            (W.contents output.old.writer) (W.contents output.new.writer) result }
+        requires { IsSpelling (writer_limits self.old) (writer_types self.old) id spelling.now }
+        ensures writes { (v : Tree) → IsSpelledAs (writer_limits self.old) (writer_types self.old) id spelling.now v
+            → WritesNext (writer_limits self.old) self.old self.new (puts id v)
+            (W.contents (writer_of output.old)) (W.contents (writer_of output.new)) result }
         ensures leaves { Leaves self.old self.new
-            (W.contents output.old.writer) (W.contents output.new.writer) result }
-        ensures failed { self.old.failed ≡ true →
-            AnswersFailed self.old self.new (W.contents output.old.writer) (W.contents output.new.writer) result }
-        ensures counted { CountsWrites output.old.failures output.new.failures result }
+            (W.contents (writer_of output.old)) (W.contents (writer_of output.new)) result }
+        ensures failed { HasWriterFailed self.old →
+            AnswersFailed self.old self.new (W.contents (writer_of output.old)) (W.contents (writer_of output.new)) result }
+        ensures counted { CountsWriterFaults (failed_writes output.old) (failed_writes output.new) result }
     {
         if self.failed {
             return Err(WriteFault::Failed);
         }
-        wrap_spelling(alloc, &self.types, id, spelling, &mut self.body)?;
-        finish_item(alloc, &self.limits, self.offset, &self.body, &mut self.item)?;
-        self.send(output)
+        spell_head(alloc, &self.types, id, &mut self.body)?;
+        begin_item(
+            alloc,
+            &self.limits,
+            self.offset,
+            &self.body,
+            spelling,
+            &mut self.item,
+        )?;
+        self.send(output, spelling)
     }
 
     /// Writes an item.
@@ -167,13 +176,13 @@ impl StreamWriter {
         output: &mut Output<W>,
         item: &Item<Value>,
     ) -> Result<(), WriteFault>
-        ensures writes { WritesNext (within_trees self.old.limits) self.old self.new (item_view item.now)
-            (W.contents output.old.writer) (W.contents output.new.writer) result }
+        ensures writes { WritesNext (within_trees (writer_limits self.old)) self.old self.new (item_view item.now)
+            (W.contents (writer_of output.old)) (W.contents (writer_of output.new)) result }
         ensures leaves { Leaves self.old self.new
-            (W.contents output.old.writer) (W.contents output.new.writer) result }
-        ensures failed { self.old.failed ≡ true →
-            AnswersFailed self.old self.new (W.contents output.old.writer) (W.contents output.new.writer) result }
-        ensures counted { CountsWrites output.old.failures output.new.failures result }
+            (W.contents (writer_of output.old)) (W.contents (writer_of output.new)) result }
+        ensures failed { HasWriterFailed self.old →
+            AnswersFailed self.old self.new (W.contents (writer_of output.old)) (W.contents (writer_of output.new)) result }
+        ensures counted { CountsWriterFaults (failed_writes output.old) (failed_writes output.new) result }
     {
         match item {
             Item::Define { id, described } => self.define(alloc, output, *id, described),
@@ -181,23 +190,27 @@ impl StreamWriter {
         }
     }
 
-    // Sends the item that was spelled. The writer counts as failed until the last of its bytes is out.
-    fn send<W: Write>(&mut self, output: &mut Output<W>) -> Result<(), WriteFault>
-        requires { self.old.offset + length self.old.item.items < 2 ^ 64 }
-        ensures ok { OnOk result
-            (Appends (W.contents output.old.writer) (W.contents output.new.writer) self.old.item.items) }
-        ensures behind { OnOk result
-            (self.new ≡ record self.old { offset = self.old.offset + length self.old.item.items; failed = false }) }
-        ensures front { OnErr result
-            (SentFront self.old.item.items (W.contents output.old.writer) (W.contents output.new.writer)) }
+    // Sends the item that was begun, and behind it the rest of its bytes, which are the caller's. The writer counts as failed
+    // until the last of them is out.
+    fn send<W: Write>(&mut self, output: &mut Output<W>, rest: &[u8]) -> Result<(), WriteFault>
+        requires { self.old.offset + length (self.old.item.items ++ rest.now) < 2 ^ 64 }
+        ensures ok { OnOk result (Appends (W.contents (writer_of output.old)) (W.contents (writer_of output.new))
+            (self.old.item.items ++ rest.now)) }
+        ensures behind { OnOk result (self.new ≡ record self.old {
+          offset = self.old.offset + length (self.old.item.items ++ rest.now);
+          failed = false;
+        }) }
+        ensures front { OnErr result (SentFront (self.old.item.items ++ rest.now)
+            (W.contents (writer_of output.old)) (W.contents (writer_of output.new))) }
         ensures failed { OnErr result (self.new ≡ record self.old { failed = true }) }
         ensures fault { IfErr result (λ fault. fault ≡ WriteFault.Write) }
-        ensures counted { CountsWrites output.old.failures output.new.failures result }
+        ensures counted { CountsWriterFaults (failed_writes output.old) (failed_writes output.new) result }
     {
         self.failed = true;
         send_all(output, &self.item)?;
+        send_all(output, rest)?;
         self.failed = false;
-        self.offset += self.item.len() as u64;
+        self.offset += (self.item.len() + rest.len()) as u64;
         Ok(())
     }
 }

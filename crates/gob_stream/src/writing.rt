@@ -1,6 +1,7 @@
 //! Writing a whole stream.
 
 ghost use Rattle.gob_stream.specs.Bounds.{within_trees};
+ghost use Rattle.gob_stream.specs.Ends.{failed_writes, writer_of};
 ghost use Rattle.gob_stream.specs.Item.{item_views};
 ghost use Rattle.gob_stream.specs.Writing.{WritesStream, CountsStop};
 
@@ -23,8 +24,8 @@ pub fn write_stream<W: Write>(
     limits: Limits,
 ) -> Result<(), WriteStop>
     ensures writes { WritesStream (within_trees limits) (item_views items.now)
-        (W.contents output.old.writer) (W.contents output.new.writer) result }
-    ensures counted { CountsStop output.old.failures output.new.failures result }
+        (W.contents (writer_of output.old)) (W.contents (writer_of output.new)) result }
+    ensures counted { CountsStop (failed_writes output.old) (failed_writes output.new) result }
 {
     let limits = limits.up_to(Limits::GREATEST_DEPTH);
     let Ok(mut writer) = StreamWriter::new(alloc, limits) else {

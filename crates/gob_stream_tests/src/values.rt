@@ -1,11 +1,12 @@
 //! The documented values of basic types and one of a struct, and their bytes.
 
-use crate::devices::Small;
+use crate::devices::{Device, Small, Wrong};
 use gob_num::Memory;
 use gob_stream::{Limits, Output, StreamWriter, WriteFault};
 use gob_types::{Table, TypeId};
 use gob_value::{Value, spell};
 use std::alloc::{AllocError, Global};
+use std::io::Write;
 
 /// The types of the values, and the bytes of a stream of each.
 pub(crate) static VALUES: [(u64, &[u8]); 9] = [
@@ -53,13 +54,17 @@ fn put_one(alloc: Global, small: &mut Small, id: u64, value: &Value) -> Result<(
 }
 
 // Writes a stream of one value by its spelling.
-fn put_spelled(alloc: Global, small: &mut Small, id: u64, value: &Value) -> Result<(), WriteFault> {
+fn put_spelled<W: Write>(
+    alloc: Global,
+    output: &mut Output<W>,
+    id: u64,
+    value: &Value,
+) -> Result<(), WriteFault> {
     let table = Table::new(alloc, 0)?;
     let mut spelling = Vec::new(alloc);
     spell(alloc, &table, TypeId(id), value, 1000, &mut spelling)?;
-    let mut output = Output::new(small);
     let mut writer = StreamWriter::new(alloc, Limits::standard())?;
-    writer.put_spelled(alloc, &mut output, TypeId(id), &spelling)
+    writer.put_spelled(alloc, output, TypeId(id), &spelling)
 }
 
 /// Whether the value of this row is written as these bytes. Nothing is written for want of memory.
@@ -79,8 +84,34 @@ pub(crate) fn is_written_spelled(
 ) -> Result<bool, Memory> {
     let value = value_of(alloc, row)?;
     let mut small = Small::new();
-    let answer = put_spelled(alloc, &mut small, id, &value);
+    let mut output = Output::new(&mut small);
+    let answer = put_spelled(alloc, &mut output, id, &value);
+    drop(output);
     is_right(answer, &small, bytes)
+}
+
+/// Whether the writing of the value of this row by its spelling, a byte at a time, ends with the write behind so many of
+/// these bytes, which goes wrong so and is counted. None goes wrong behind all of them.
+pub(crate) fn is_cut_spelled(
+    alloc: Global,
+    row: usize,
+    id: u64,
+    bytes: &[u8],
+    out: usize,
+    wrong: Wrong,
+) -> Result<bool, Memory> {
+    let value = value_of(alloc, row)?;
+    let mut device = Device::slow(alloc, (out as u64).saturating_add(1), wrong);
+    let mut output = Output::new(&mut device);
+    let answer = put_spelled(alloc, &mut output, id, &value);
+    let failures = output.failures();
+    drop(output);
+    let is_told = if out < bytes.len() {
+        answer == Err(WriteFault::Write) && failures == 1
+    } else {
+        answer.is_ok() && failures == 0
+    };
+    Ok(is_told && bytes.get(..out) == Some(device.taken.as_slice()))
 }
 
 // Whether these bytes were written, or none for want of memory.

@@ -1,7 +1,7 @@
 //! What no proof shows of writers: the bytes of the documented rows, that each call succeeds, and writers that fail.
 
 use crate::devices::{Device, Wrong};
-use crate::values::{VALUES, is_written, is_written_spelled};
+use crate::values::{VALUES, is_cut_spelled, is_written, is_written_spelled};
 use gob_stream::{
     Input, Item, Limits, Output, StreamWriter, WriteFault, WriteStop, read_stream, write_stream,
 };
@@ -100,6 +100,18 @@ fn a_failed_write_is_the_last(rt: HostRuntime) {
                 is_cut_there(rt.alloc(), &items, out, wrong),
                 "{wrong:?} behind {out}"
             );
+        }
+    }
+}
+
+#[test]
+fn a_spelled_value_is_cut_anywhere(rt: HostRuntime) {
+    for (row, (id, bytes)) in VALUES.iter().enumerate() {
+        for out in 0..=bytes.len() {
+            for wrong in [Wrong::Interrupted, Wrong::Broken, Wrong::Zero] {
+                let is_cut = is_cut_spelled(rt.alloc(), row, *id, bytes, out, wrong);
+                assert!(rt; is_cut == Ok(true), "row {row}, {wrong:?} behind {out}");
+            }
         }
     }
 }

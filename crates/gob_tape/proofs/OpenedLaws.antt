@@ -14,17 +14,17 @@ use Rattle.gob_read.specs.declared.telling.RawKind.TheVariants as kind
 use Rattle.gob_read.specs.declared.telling.GroupKind.{GroupKind}
 use Rattle.gob_read.specs.declared.telling.GroupKind.TheVariants as group
 use Rattle.gob_read.specs.WellFormed.{AreNumbers}
-use Rattle.gob_read.specs.Built.{number_tree, raw_tree, Part, raw, fields, closed, opened, put_in}
+use Rattle.gob_read.specs.Built.{number_tree, raw_tree, Part, raw, fields, closed, opened_part, put_in}
 use Rattle.gob_tape.specs.declared.node.Content.{Content}
 use Rattle.gob_tape.specs.declared.node.Content.TheVariants as content
 use Rattle.gob_tape.specs.declared.node.Node.{Node}
 use Rattle.gob_tape.specs.declared.node.Begun.{Begun}
 use Rattle.gob_tape.specs.Meaning.{node, field_count, MeansAt, a_number, raw_bytes, a_list, a_map, a_struct, MeansEach, no_part, part, MeansPairs, no_entry, entry, MeansFields, end_of_fields, next_field}
 use Rattle.gob_tape.specs.Machine.Coming.{IsFree, at_top, in_list, in_map, in_struct, MayEnd, of_raw, of_list, of_map, of_struct}
-use Rattle.gob_tape.specs.Machine.Opened.{MeansKey, no_key, a_key, key_count, IsOpen, open_raw, open_list, open_map, open_struct, AreOpen, no_open, in_part}
-use Rattle.gob_tape.specs.Machine.State.{State, count_of, ended, counted, added}
+use Rattle.gob_tape.specs.Machine.Opened.{MeansKey, no_key, a_key, key_count, IsOpenPart, open_raw, open_list, open_map, open_struct, AreOpen, no_open, in_part}
+use Rattle.gob_tape.specs.Machine.State.{State, count_of, ended, counted, added_node}
 use Rattle.gob_tape.specs.Machine.State as state
-use Rattle.gob_tape.specs.Machine.Standing.{key_depth, part_depth, parts_depth, Shows, under_way, whole}
+use Rattle.gob_tape.specs.Machine.Standing.{key_depth, part_depth, parts_depth, ShowsTree, under_way, whole}
 use Rattle.gob_tape.specs.Machine.Standing as standing
 use Rattle.gob_tape.proofs.MeaningLaws.{Kept, at_rises, each_rises, pairs_rise, fields_rise, at_kept, each_kept, pairs_kept, fields_kept}
 
@@ -41,7 +41,7 @@ key_kept : {nodes after : List Node} {pool grown : List ℕ} {low high i j : ℕ
 key_kept x l h no_key = no_key
 key_kept x l h (a_key m) = a_key (at_kept x l h m)
 
-open_rises : {nodes : List Node} {pool : List ℕ} {i j count : ℕ} {f : Option ℕ} {p : Part} → IsOpen nodes pool i j count f p → i < j
+open_rises : {nodes : List Node} {pool : List ℕ} {i j count : ℕ} {f : Option ℕ} {p : Part} → IsOpenPart nodes pool i j count f p → i < j
 open_rises (open_raw s n l e) = omega arith
 open_rises (open_list s c m) = omega (arith, each_rises m)
 open_rises (open_map s c m k) = omega (arith, pairs_rise m, key_rises k)
@@ -127,7 +127,7 @@ counted_once : {c n : ℕ} → c ≡ n → n + 1 < 2 ^ 64 → min (c + 1) (2 ^ 6
 counted_once e l = omega arith
 
 pub put_shown : {s : State} {i : ℕ} {os : List Begun} {ps : List Part} {f : Option ℕ} {v : Tree} → AreOpen s.nodes s.pool i os ps → IsFree ps None f → MeansAt s.nodes s.pool i (length s.nodes) f v
-    → length s.nodes < 2 ^ 63 → s.begun ≡ counted os → s.field ≡ None → s.deepest ≡ max (parts_depth ps) (length ps + depth v) → Shows s (put_in ps None v).parts (put_in ps None v).whole
+    → length s.nodes < 2 ^ 63 → s.begun ≡ counted os → s.field ≡ None → s.deepest ≡ max (parts_depth ps) (length ps + depth v) → ShowsTree s (put_in ps None v).parts (put_in ps None v).whole
 put_shown (in_part a g (open_raw t n r q)) h m l b e d = elim h [ ]
 put_shown no_open at_top m l b e d = whole m b (omega arith)
 put_shown {s = s} {v = v} (in_part {ps = ps} a g (open_list {vs = vs} t c ms)) in_list m l b e d =
@@ -171,32 +171,32 @@ one_more xs x = sym (length-append xs (x ∷ []))
 pushed_kept : (nodes : List Node) (pool : List ℕ) (x : Node) → Kept nodes (nodes ++ x ∷ []) pool pool 0 (length nodes)
 pushed_kept nodes pool x = record { same = λ k a b. slice_get-append_left nodes (x ∷ []) k b; more = []; grows = sym (append-nil pool) }
 
-pub shows_added : (s : State) {ps : List Part} {whole : Option Tree} {f : Option ℕ} (k : Basic) (a b : ℕ) → Shows s ps whole → IsFree ps whole f → AreNumbers k a b → length (added s (content.Number k a b)).nodes < 2 ^ 63
-    → Shows (added s (content.Number k a b)) (put_in ps whole (number_tree k a b)).parts (put_in ps whole (number_tree k a b)).whole
+pub shows_added : (s : State) {ps : List Part} {whole : Option Tree} {f : Option ℕ} (k : Basic) (a b : ℕ) → ShowsTree s ps whole → IsFree ps whole f → AreNumbers k a b → length (added_node s (content.Number k a b)).nodes < 2 ^ 63
+    → ShowsTree (added_node s (content.Number k a b)) (put_in ps whole (number_tree k a b)).parts (put_in ps whole (number_tree k a b)).whole
 shows_added s k a b (whole m e d) h n l = elim h [ ]
 shows_added s {f = f} k a b (under_way o e d) h n l =
     let c = content.Number k a b in
     let x = node s.field c in
-    put_shown {s = added s c} (open_kept o h (pushed_kept s.nodes s.pool x)) h
+    put_shown {s = added_node s c} (open_kept o h (pushed_kept s.nodes s.pool x)) h
     (subst (λ j. MeansAt (s.nodes ++ x ∷ []) s.pool (length s.nodes) j f (number_tree k a b)) (one_more s.nodes x) (a_number (last_node s c e h) n))
     l refl refl (omega (arith, d, open_length o, number_depth k a b))
 
-opened_list : {nodes : List Node} {pool : List ℕ} {i j : ℕ} {f : Option ℕ} (k : GroupKind) → slice_get nodes i ≡ Some (node f (content.Group k 0 0)) → i + 1 ≡ j → IsOpen nodes pool i j 0 f (opened k)
-opened_list {nodes = nodes} {pool = pool} {i = i} {f = f} group.Many t e = subst (λ j. IsOpen nodes pool i j 0 f (opened group.Many)) e (open_list t refl no_part)
-opened_list {nodes = nodes} {pool = pool} {i = i} {f = f} group.Pairs t e = subst (λ j. IsOpen nodes pool i j 0 f (opened group.Pairs)) e (open_map t refl no_entry no_key)
-opened_list {nodes = nodes} {pool = pool} {i = i} {f = f} group.Fields t e = subst (λ j. IsOpen nodes pool i j 0 f (opened group.Fields)) e (open_struct t refl end_of_fields)
+opened_list : {nodes : List Node} {pool : List ℕ} {i j : ℕ} {f : Option ℕ} (k : GroupKind) → slice_get nodes i ≡ Some (node f (content.Group k 0 0)) → i + 1 ≡ j → IsOpenPart nodes pool i j 0 f (opened_part k)
+opened_list {nodes = nodes} {pool = pool} {i = i} {f = f} group.Many t e = subst (λ j. IsOpenPart nodes pool i j 0 f (opened_part group.Many)) e (open_list t refl no_part)
+opened_list {nodes = nodes} {pool = pool} {i = i} {f = f} group.Pairs t e = subst (λ j. IsOpenPart nodes pool i j 0 f (opened_part group.Pairs)) e (open_map t refl no_entry no_key)
+opened_list {nodes = nodes} {pool = pool} {i = i} {f = f} group.Fields t e = subst (λ j. IsOpenPart nodes pool i j 0 f (opened_part group.Fields)) e (open_struct t refl end_of_fields)
 
-opened_next : (k : GroupKind) (ps : List Part) → None ≡ standing.next_field (opened k ∷ ps)
+opened_next : (k : GroupKind) (ps : List Part) → None ≡ standing.next_field (opened_part k ∷ ps)
 opened_next group.Many ps = refl
 opened_next group.Pairs ps = refl
 opened_next group.Fields ps = refl
 
-opened_depth : (k : GroupKind) → part_depth (opened k) ≡ 1
+opened_depth : (k : GroupKind) → part_depth (opened_part k) ≡ 1
 opened_depth group.Many = omega arith
 opened_depth group.Pairs = omega arith
 opened_depth group.Fields = omega arith
 
-pub shows_entered : (s : State) {ps : List Part} {whole : Option Tree} {f : Option ℕ} (k : GroupKind) → Shows s ps whole → IsFree ps whole f → Shows (state.opened s (content.Group k 0 0)) (opened k ∷ ps) whole
+pub shows_entered : (s : State) {ps : List Part} {whole : Option Tree} {f : Option ℕ} (k : GroupKind) → ShowsTree s ps whole → IsFree ps whole f → ShowsTree (state.opened_node s (content.Group k 0 0)) (opened_part k ∷ ps) whole
 shows_entered s k (whole m e d) h = elim h [ ]
 shows_entered s {ps = ps} k (under_way o e d) h =
     let c = content.Group k 0 0 in
@@ -204,8 +204,8 @@ shows_entered s {ps = ps} k (under_way o e d) h =
     under_way (in_part (open_kept o h (pushed_kept s.nodes s.pool x)) h (opened_list k (last_node s c e h) (one_more s.nodes x)))
     (opened_next k ps) (omega (arith, d, open_length o, opened_depth k))
 
-pub shows_started : (s : State) {ps : List Part} {whole : Option Tree} {f : Option ℕ} (k : RawKind) → Shows s ps whole → IsFree ps whole f
-    → Shows (state.opened s (content.Raw k (length s.pool) 0)) (raw k [] ∷ ps) whole
+pub shows_started : (s : State) {ps : List Part} {whole : Option Tree} {f : Option ℕ} (k : RawKind) → ShowsTree s ps whole → IsFree ps whole f
+    → ShowsTree (state.opened_node s (content.Raw k (length s.pool) 0)) (raw k [] ∷ ps) whole
 shows_started s k (whole m e d) h = elim h [ ]
 shows_started s {ps = ps} k (under_way o e d) h =
     let c = content.Raw k (length s.pool) 0 in
@@ -219,14 +219,14 @@ bytes_come {nodes = nodes} {pool = pool} more (in_part a g (open_raw {start = st
     in_part (open_kept a g (record { same = λ k a b. refl; more = more; grows = refl })) g
     (open_raw t n (omega (arith, length-append pool more)) (ap (λ r. r ++ more) e ∙ sym (drop-append-le start pool more l)))
 
-pub shows_more : (s : State) {k : RawKind} {r : List ℕ} {ps : List Part} {whole : Option Tree} (more : List ℕ) → Shows s (raw k r ∷ ps) whole → Shows (record s { pool = s.pool ++ more }) (raw k (r ++ more) ∷ ps) whole
+pub shows_more : (s : State) {k : RawKind} {r : List ℕ} {ps : List Part} {whole : Option Tree} (more : List ℕ) → ShowsTree s (raw k r ∷ ps) whole → ShowsTree (record s { pool = s.pool ++ more }) (raw k (r ++ more) ∷ ps) whole
 shows_more s more (under_way o e d) = under_way (bytes_come more o) e d
 
 -- the number of the next part comes
 number_comes : {nodes : List Node} {pool : List ℕ} {j : ℕ} {os : List Begun} {fs : List (ℕ × Tree)} {ps : List Part} (f : ℕ) → AreOpen nodes pool j os (fields fs None ∷ ps) → AreOpen nodes pool j os (fields fs (Some f) ∷ ps)
 number_comes f (in_part a g (open_struct t c m)) = in_part a g (open_struct t c m)
 
-pub shows_field : (s : State) {fs : List (ℕ × Tree)} {ps : List Part} {whole : Option Tree} (f : ℕ) → Shows s (fields fs None ∷ ps) whole → Shows (record s { field = Some f }) (fields fs (Some f) ∷ ps) whole
+pub shows_field : (s : State) {fs : List (ℕ × Tree)} {ps : List Part} {whole : Option Tree} (f : ℕ) → ShowsTree s (fields fs None ∷ ps) whole → ShowsTree (record s { field = Some f }) (fields fs (Some f) ∷ ps) whole
 shows_field s f (under_way o e d) = under_way (number_comes f o) refl d
 
 -- ---- the end of a part
@@ -251,7 +251,7 @@ set_kept : (nodes : List Node) (pool : List ℕ) (i low high : ℕ) (x : Node) �
 set_kept nodes pool i low high x apart = record { same = λ k a b. set_other nodes i k x (apart k a b); more = []; grows = sym (append-nil pool) }
 
 -- the part is whole then
-ended_means : {nodes : List Node} {pool : List ℕ} {i j count : ℕ} {f : Option ℕ} {p : Part} (x : Node) → slice_get nodes i ≡ Some x → j ≡ length nodes → IsOpen nodes pool i j count f p → MayEnd p
+ended_means : {nodes : List Node} {pool : List ℕ} {i j count : ℕ} {f : Option ℕ} {p : Part} (x : Node) → slice_get nodes i ≡ Some x → j ≡ length nodes → IsOpenPart nodes pool i j count f p → MayEnd p
     → MeansAt (set nodes i (node x.field (ended x.content count i j (length pool)))) pool i j f (closed p)
 ended_means {nodes = nodes} {pool = pool} {i = i} {j = j} {count = count} {f = f} x g l (open_raw {start = start} {length_so_far = n} {k = k} {s = r'} t e b r) of_raw =
     let same = same_Some x (node f (content.Raw k start n)) (sym g ∙ t) in
@@ -292,20 +292,20 @@ closed_depth of_struct = refl
 
 left_shown : (s : State) {j : ℕ} {o : Begun} {os : List Begun} {p : Part} {ps : List Part} (x : Node) → AreOpen s.nodes s.pool j (o ∷ os) (p ∷ ps) → j ≡ length s.nodes → MayEnd p → s.deepest ≡ parts_depth (p ∷ ps)
     → slice_get s.nodes o.node ≡ Some x → length s.nodes < 2 ^ 63
-    → Shows (record { nodes = set s.nodes o.node (node x.field (ended x.content o.parts o.node (length s.nodes) (length s.pool))); pool = s.pool; begun = counted os; field = None; deepest = s.deepest })
+    → ShowsTree (record { nodes = set s.nodes o.node (node x.field (ended x.content o.parts o.node (length s.nodes) (length s.pool))); pool = s.pool; begun = counted os; field = None; deepest = s.deepest })
     (put_in ps None (closed p)).parts (put_in ps None (closed p)).whole
 left_shown s {j = j} {o = o} {os = os} {p = p} {ps = ps} x (in_part {f = f} a g q) e h d t l =
     let y = node x.field (ended x.content o.parts o.node (length s.nodes) (length s.pool)) in
-    let m = ended_means {j = length s.nodes} x t refl (subst (λ k. IsOpen s.nodes s.pool o.node k o.parts f p) e q) h in
+    let m = ended_means {j = length s.nodes} x t refl (subst (λ k. IsOpenPart s.nodes s.pool o.node k o.parts f p) e q) h in
     put_shown {s = record { nodes = set s.nodes o.node y; pool = s.pool; begun = counted os; field = None; deepest = s.deepest }}
     (open_kept a g (set_kept s.nodes s.pool o.node 0 o.node y (λ k a b e. absurd (omega arith)))) g
     (subst (λ k. MeansAt (set s.nodes o.node y) s.pool o.node k f (closed p)) (sym (length-set s.nodes o.node y)) m)
     (omega (arith, length-set s.nodes o.node y)) refl refl (omega (arith, d, closed_depth h))
 
 -- the innermost part ends
-pub shows_left : (s : State) {o : Begun} {os : List Begun} {p : Part} {ps : List Part} {whole : Option Tree} (x : Node) → s.begun ≡ o ∷ os → Shows s (p ∷ ps) whole → MayEnd p
+pub shows_left : (s : State) {o : Begun} {os : List Begun} {p : Part} {ps : List Part} {whole : Option Tree} (x : Node) → s.begun ≡ o ∷ os → ShowsTree s (p ∷ ps) whole → MayEnd p
     → slice_get s.nodes o.node ≡ Some x → length s.nodes < 2 ^ 63
-    → Shows (record { nodes = set s.nodes o.node (node x.field (ended x.content o.parts o.node (length s.nodes) (length s.pool))); pool = s.pool; begun = counted os; field = None; deepest = s.deepest })
+    → ShowsTree (record { nodes = set s.nodes o.node (node x.field (ended x.content o.parts o.node (length s.nodes) (length s.pool))); pool = s.pool; begun = counted os; field = None; deepest = s.deepest })
     (put_in ps whole (closed p)).parts (put_in ps whole (closed p)).whole
 shows_left s {p = p} {ps = ps} x b (under_way a e d) h t l = left_shown s x (subst (λ os. AreOpen s.nodes s.pool (length s.nodes) os (p ∷ ps)) b a) refl h d t l
 

@@ -11,7 +11,7 @@ use Rattle.gob_read.specs.declared.telling.RawKind.{RawKind}
 use Rattle.gob_read.specs.declared.telling.RawKind.TheVariants as raw
 use Rattle.gob_read.specs.declared.telling.GroupKind.{GroupKind}
 use Rattle.gob_read.specs.declared.telling.GroupKind.TheVariants as group
-use Rattle.gob_read.specs.Built.{signed_of, number_tree, raw_tree, opened, closed}
+use Rattle.gob_read.specs.Built.{signed_of, number_tree, raw_tree, opened_part, closed}
 use Rattle.gob_read.specs.WellFormed.{AreNumbers, of_bool, of_int, of_uint, of_float, of_complex, of_nil}
 use Rattle.gob_tape.specs.declared.node.Content.{Content}
 use Rattle.gob_tape.specs.declared.node.Content.TheVariants as content
@@ -200,7 +200,7 @@ says_number_kind nodes pool i j v k a b s = number_kind k a b ∙ ap kind_of (sy
 pub says_raw_kind : (nodes : List Node) (pool : List ℕ) (i j : ℕ) (v : Tree) (k : RawKind) (start count : ℕ) → Says nodes pool (content.Raw k start count) i j v → kind_of (raw_tree k []) ≡ kind_of v
 says_raw_kind nodes pool i j v k start count s = raw_kind k (take count (drop start pool)) ∙ ap kind_of (sym s.value)
 
-pub says_group_kind : (nodes : List Node) (pool : List ℕ) (i j : ℕ) (v : Tree) (k : GroupKind) (count extent : ℕ) → Says nodes pool (content.Group k count extent) i j v → kind_of (closed (opened k)) ≡ kind_of v
+pub says_group_kind : (nodes : List Node) (pool : List ℕ) (i j : ℕ) (v : Tree) (k : GroupKind) (count extent : ℕ) → Says nodes pool (content.Group k count extent) i j v → kind_of (closed (opened_part k)) ≡ kind_of v
 says_group_kind nodes pool i j v group.Many count extent s = ap kind_of (sym s.value)
 says_group_kind nodes pool i j v group.Pairs count extent s = ap kind_of (sym s.value)
 says_group_kind nodes pool i j v group.Fields count extent s = ap kind_of (sym s.value)

@@ -16,53 +16,53 @@ use Rattle.gob_tape.specs.declared.node.Begun.{Begun}
 use Rattle.gob_tape.specs.Meaning.{MeansAt}
 use Rattle.gob_tape.specs.Machine.Coming.{at_top, MayEnd, of_raw, of_list, of_map, of_struct, MayCome, a_number, a_raw_part, raw_bytes, a_group, a_field, an_end}
 use Rattle.gob_tape.specs.Machine.Opened.{AreOpen, no_open, in_part}
-use Rattle.gob_tape.specs.Machine.State.{State, added, opened, with_begun, with_pool, counted, ended_in}
-use Rattle.gob_tape.specs.Machine.Standing.{next_field, Shows, under_way, whole, AreTaped}
+use Rattle.gob_tape.specs.Machine.State.{State, added_node, opened_node, with_begun, with_pool, counted, ended_in}
+use Rattle.gob_tape.specs.Machine.Standing.{next_field, ShowsTree, under_way, whole, AreTaped}
 use Rattle.gob_tape.proofs.ComingLaws.{front_comes, tells_come}
 use Rattle.gob_tape.proofs.OpenedLaws.{shows_added, shows_entered, shows_started, shows_more, shows_field, shows_left, node_stands}
 
 -- one more telling, where the state goes along with what it makes
 told_more : {old new : State} {before after : ℕ} {us : List Telling} (t : Telling)
-    → ((w : Work) → MayCome w.parts w.whole t → Shows old w.parts w.whole → Shows new (told w t).parts (told w t).whole)
+    → ((w : Work) → MayCome w.parts w.whole t → ShowsTree old w.parts w.whole → ShowsTree new (told w t).parts (told w t).whole)
     → after ≡ before + (parts_told (t ∷ []) + raw_told (t ∷ [])) → AreTaped old before us → AreTaped new after (us ++ t ∷ [])
 told_more {new = new} {us = us} t step n a = record {
   shown = λ m.
       let x = front_comes us t m in
-      subst (λ w. Shows new w.parts w.whole) (sym (all_told-append no_work us (t ∷ []))) (step (all_told no_work us) x.1 (a.shown x.0));
+      subst (λ w. ShowsTree new w.parts w.whole) (sym (all_told-append no_work us (t ∷ []))) (step (all_told no_work us) x.1 (a.shown x.0));
   count = omega (arith, n, a.count, parts_told-append us (t ∷ []), raw_told-append us (t ∷ []));
 }
 
-pub number_told : {old new : State} {before after : ℕ} {us : List Telling} (k : Basic) (a b : ℕ) → new ≡ added old (content.Number k a b) → length new.nodes < 2 ^ 63 → after ≡ before + 1
+pub number_told : {old new : State} {before after : ℕ} {us : List Telling} (k : Basic) (a b : ℕ) → new ≡ added_node old (content.Number k a b) → length new.nodes < 2 ^ 63 → after ≡ before + 1
     → AreTaped old before us → AreTaped new after (us ++ number k a b ∷ [])
 number_told {old = old} {new = new} k a b e l n = told_more (number k a b) step (omega arith)
   where
-    step : (w : Work) → MayCome w.parts w.whole (number k a b) → Shows old w.parts w.whole → Shows new (told w (number k a b)).parts (told w (number k a b)).whole
+    step : (w : Work) → MayCome w.parts w.whole (number k a b) → ShowsTree old w.parts w.whole → ShowsTree new (told w (number k a b)).parts (told w (number k a b)).whole
     step w (a_number h m) s = rw e (shows_added old k a b s h m (subst (λ new. length new.nodes < 2 ^ 63) e l))
 
-pub start_told : {old new : State} {before after start : ℕ} {us : List Telling} (k : RawKind) → start ≡ length old.pool → new ≡ opened old (content.Raw k start 0) → after ≡ before + 1
+pub start_told : {old new : State} {before after start : ℕ} {us : List Telling} (k : RawKind) → start ≡ length old.pool → new ≡ opened_node old (content.Raw k start 0) → after ≡ before + 1
     → AreTaped old before us → AreTaped new after (us ++ raw_start k ∷ [])
 start_told {old = old} {new = new} k p e n = told_more (raw_start k) step (omega arith)
   where
-    step : (w : Work) → MayCome w.parts w.whole (raw_start k) → Shows old w.parts w.whole → Shows new (told w (raw_start k)).parts (told w (raw_start k)).whole
+    step : (w : Work) → MayCome w.parts w.whole (raw_start k) → ShowsTree old w.parts w.whole → ShowsTree new (told w (raw_start k)).parts (told w (raw_start k)).whole
     step w (a_raw_part h) s = rw (e, p) (shows_started old k s h)
 
 pub more_told : {old new : State} {before after : ℕ} {us : List Telling} (c : List ℕ) → new ≡ with_pool old (old.pool ++ c) → after ≡ before + length c → AreTaped old before us → AreTaped new after (us ++ raw_more c ∷ [])
 more_told {old = old} {new = new} c e n = told_more (raw_more c) (λ w m s. by w.parts w.whole m s) (omega arith)
   where
-    by : (ps : List Part) (v : Option Tree) → MayCome ps v (raw_more c) → Shows old ps v → Shows new (told (record { parts = ps; whole = v }) (raw_more c)).parts v
+    by : (ps : List Part) (v : Option Tree) → MayCome ps v (raw_more c) → ShowsTree old ps v → ShowsTree new (told (record { parts = ps; whole = v }) (raw_more c)).parts v
     by ps v raw_bytes s = rw e (shows_more old c s)
 
-pub group_told : {old new : State} {before after : ℕ} {us : List Telling} (k : GroupKind) → new ≡ opened old (content.Group k 0 0) → after ≡ before + 1
+pub group_told : {old new : State} {before after : ℕ} {us : List Telling} (k : GroupKind) → new ≡ opened_node old (content.Group k 0 0) → after ≡ before + 1
     → AreTaped old before us → AreTaped new after (us ++ enter k ∷ [])
 group_told {old = old} {new = new} k e n = told_more (enter k) step (omega arith)
   where
-    step : (w : Work) → MayCome w.parts w.whole (enter k) → Shows old w.parts w.whole → Shows new (told w (enter k)).parts (told w (enter k)).whole
+    step : (w : Work) → MayCome w.parts w.whole (enter k) → ShowsTree old w.parts w.whole → ShowsTree new (told w (enter k)).parts (told w (enter k)).whole
     step w (a_group h) s = rw e (shows_entered old k s h)
 
 pub field_told : {old : State} {before : ℕ} {us : List Telling} (f : ℕ) → AreTaped old before us → AreTaped (record old { field = Some f }) before (us ++ field f ∷ [])
 field_told {old = old} f = told_more (field f) (λ w m s. by w.parts w.whole m s) (omega arith)
   where
-    by : (ps : List Part) (v : Option Tree) → MayCome ps v (field f) → Shows old ps v → Shows (record old { field = Some f }) (told (record { parts = ps; whole = v }) (field f)).parts v
+    by : (ps : List Part) (v : Option Tree) → MayCome ps v (field f) → ShowsTree old ps v → ShowsTree (record old { field = Some f }) (told (record { parts = ps; whole = v }) (field f)).parts v
     by ps v a_field s = shows_field old f s
 
 no_number : {p : Part} (ps : List Part) → MayEnd p → next_field (p ∷ ps) ≡ None
@@ -71,17 +71,17 @@ no_number ps of_list = refl
 no_number ps of_map = refl
 no_number ps of_struct = refl
 
-shown_field : {s : State} {p : Part} {ps : List Part} {v : Option Tree} → Shows s (p ∷ ps) v → MayEnd p → s.field ≡ None
+shown_field : {s : State} {p : Part} {ps : List Part} {v : Option Tree} → ShowsTree s (p ∷ ps) v → MayEnd p → s.field ≡ None
 shown_field {ps = ps} (under_way a e d) h = e ∙ no_number ps h
 
 -- where a part ends, there is one, with its node
-some_open : {s : State} {p : Part} {ps : List Part} {v : Option Tree} → Shows s (p ∷ ps) v → length s.begun ≡ 0 → ⊥
+some_open : {s : State} {p : Part} {ps : List Part} {v : Option Tree} → ShowsTree s (p ∷ ps) v → length s.begun ≡ 0 → ⊥
 some_open (under_way a e d) n = none a n
   where
     none : {nodes : List Node} {pool : List ℕ} {j : ℕ} {os : List Begun} {p : Part} {ps : List Part} → AreOpen nodes pool j os (p ∷ ps) → length os ≡ 0 → ⊥
     none (in_part a g q) n = absurd (omega arith)
 
-place_stands : {s : State} {o : Begun} {os : List Begun} {p : Part} {ps : List Part} {v : Option Tree} → s.begun ≡ o ∷ os → Shows s (p ∷ ps) v → o.node < length s.nodes
+place_stands : {s : State} {o : Begun} {os : List Begun} {p : Part} {ps : List Part} {v : Option Tree} → s.begun ≡ o ∷ os → ShowsTree s (p ∷ ps) v → o.node < length s.nodes
 place_stands {s = s} {p = p} {ps = ps} b (under_way a e d) = node_stands (subst (λ os. AreOpen s.nodes s.pool (length s.nodes) os (p ∷ ps)) b a)
 
 -- the innermost part has ended: its node says so, and it is one more part of the next
@@ -90,7 +90,7 @@ pub leave_told : {old new : State} {before after : ℕ} {us : List Telling} (o :
     → after ≡ before → AreTaped old before us → AreTaped new after (us ++ leave ∷ [])
 leave_told {old = old} {new = new} o os b l e n = told_more leave (λ w m s. by w.parts w.whole m s) (omega arith)
   where
-    by : (ps : List Part) (v : Option Tree) → MayCome ps v leave → Shows old ps v → Shows new (told (record { parts = ps; whole = v }) leave).parts (told (record { parts = ps; whole = v }) leave).whole
+    by : (ps : List Part) (v : Option Tree) → MayCome ps v leave → ShowsTree old ps v → ShowsTree new (told (record { parts = ps; whole = v }) leave).parts (told (record { parts = ps; whole = v }) leave).whole
     by [] v h s = elim h [ ]
     by (p ∷ ps) v (an_end h) s =
         let d : Node = record { field = None; content = content.Raw Rattle.gob_read.specs.declared.telling.RawKind.TheVariants.Bytes 0 0 } in
@@ -101,7 +101,7 @@ leave_told {old = old} {new = new} o os b l e n = told_more leave (λ w m s. by 
 pub none_left : {old new : State} {before : ℕ} {us : List Telling} → length old.begun ≡ 0 → new ≡ old → AreTaped old before us → AreTaped new before (us ++ leave ∷ [])
 none_left {old = old} {new = new} n e = told_more leave (λ w m s. by w.parts w.whole m s) (omega arith)
   where
-    by : (ps : List Part) (v : Option Tree) → MayCome ps v leave → Shows old ps v → Shows new (told (record { parts = ps; whole = v }) leave).parts (told (record { parts = ps; whole = v }) leave).whole
+    by : (ps : List Part) (v : Option Tree) → MayCome ps v leave → ShowsTree old ps v → ShowsTree new (told (record { parts = ps; whole = v }) leave).parts (told (record { parts = ps; whole = v }) leave).whole
     by [] v h s = elim h [ ]
     by (p ∷ ps) v (an_end h) s = absurd (some_open s n)
 
@@ -116,7 +116,7 @@ pub record IsWhole (s : State) (v : Tree) : Type 0 where
   pub deep : s.deepest ≡ Rattle.gob_value.specs.Tree.depth v
 
 pub whole_told : {s : State} {held : ℕ} {us : List Telling} {v : Tree} → AreTaped s held us → Tells v us → IsWhole s v
-whole_told {s = s} {v = v} a t = by (subst (λ w. Shows s w.parts w.whole) (tells_built t no_work) (a.shown (tells_come t at_top)))
+whole_told {s = s} {v = v} a t = by (subst (λ w. ShowsTree s w.parts w.whole) (tells_built t no_work) (a.shown (tells_come t at_top)))
   where
-    by : Shows s [] (Some v) → IsWhole s v
+    by : ShowsTree s [] (Some v) → IsWhole s v
     by (whole m b d) = record { parts = m; deep = d }

@@ -45,13 +45,13 @@ use Rattle.gob_tape.specs.Meaning.{end_of_fields, next_field}
 use Rattle.gob_tape.specs.Meaning.{node, a_number, raw_bytes, a_list, a_map, a_struct}
 use Rattle.gob_tape.specs.Seeing.{unsigned_of}
 use Rattle.gob_tape.specs.Machine.State.{State}
-use Rattle.gob_tape.specs.Machine.Standing.{IsTapeOf, GoesOn}
+use Rattle.gob_tape.specs.Machine.Standing.{IsTapeOf, TapeGoesOn}
 use Rattle.gob_tape.specs.Machine.Tidying.{tellings, each_told, pairs_told, fields_told, name_told, content_told}
 use Rattle.gob_tape.specs.Machine.Tidying.{IsZeroContent, IsDroppedContent, IsPooled, open_to, innermost, has_field}
-use Rattle.gob_tape.specs.Machine.Tidying.{IsNext, the_whole, an_element, a_key_or_element, a_field, turned, advanced}
-use Rattle.gob_tape.specs.Machine.Tidying.{types_of, entered_as, entered, HasOpenEnd, TellsPart, Due, none_due, element}
-use Rattle.gob_tape.specs.Machine.Tidying.{key_or_element, dropped, kept, Left, at_end, at_start, in_part, IsInside}
-use Rattle.gob_tape.specs.Machine.Tidying.{Goes, Ends, none_ends, one_ends, Ended, Ending, UpTo, Reaches, IsAllTold}
+use Rattle.gob_tape.specs.Machine.Tidying.{IsNextType, the_whole, an_element, a_key_or_element, a_field, turned, advanced}
+use Rattle.gob_tape.specs.Machine.Tidying.{types_in, entered_as, entered_open, HasOpenEnd, TellsPart, Due, none_due, element}
+use Rattle.gob_tape.specs.Machine.Tidying.{key_or_element, dropped, kept, Left, at_end, at_start, in_part, IsInsideOpen}
+use Rattle.gob_tape.specs.Machine.Tidying.{TidyGoes, TidyEnds, none_ends, one_ends, TidyEnded, TidyEnding, TidyUpTo, TidyReaches, IsAllTold}
 use Rattle.gob_tape.specs.Machine.Tidying.{HasSmallNumber}
 use Rattle.gob_tape.proofs.BegunLaws.{last_first, last_changed}
 use Rattle.gob_tape.proofs.MeaningLaws.{at_rises, at_within, Says, node_says, has_node}
@@ -61,10 +61,10 @@ use Rattle.gob_tape.proofs.WritingLaws.{last_is, none_is}
 
 -- ---- tellings behind tellings
 
-pub goes_then : {a b c : State} {xs ys : List Telling} → GoesOn a b xs → GoesOn b c ys → GoesOn a c (xs ++ ys)
+pub goes_then : {a b c : State} {xs ys : List Telling} → TapeGoesOn a b xs → TapeGoesOn b c ys → TapeGoesOn a c (xs ++ ys)
 goes_then {c = c} {xs = xs} {ys = ys} g h us t = subst (IsTapeOf c) (append_assoc us xs ys) (h (us ++ xs) (g us t))
 
-pub goes_none : {a b : State} → b ≡ a → GoesOn a b []
+pub goes_none : {a b : State} → b ≡ a → TapeGoesOn a b []
 goes_none {a = a} e us t = rw e (subst (IsTapeOf a) (sym (append-nil us)) t)
 
 -- ---- the tellings of a value tell it
@@ -392,10 +392,10 @@ module _ {T : Table} {nodes : List Node} {pool : List ℕ} where
 -- the next part is dropped, or stays with its tidy form
 data Next (T : Table) (t : TypeId) (nodes : List Node) (pool : List ℕ) : ℕ → List Open → List Telling → Type 0 where
   next_dropped : {i j f : ℕ} {e : TypeId} {s : Shape} {v : Tree} {os : List Open} {us : List Telling}
-      → IsNext T t (innermost os) (Some f) e → shape_of T e ≡ Some s → IsDropped s.kind v
+      → IsNextType T t (innermost os) (Some f) e → shape_of T e ≡ Some s → IsDropped s.kind v
       → MeansAt nodes pool i j (Some f) v → Left T t nodes pool j (advanced os) us → Next T t nodes pool i os us
   next_kept : {i j : ℕ} {f : Option ℕ} {e : TypeId} {s : Shape} {v w : Tree} {os : List Open} {us : List Telling}
-      → IsNext T t (innermost os) f e → shape_of T e ≡ Some s
+      → IsNextType T t (innermost os) f e → shape_of T e ≡ Some s
       → ((n : ℕ) → f ≡ Some n → ¬ IsDropped s.kind v) → TidiesAs T s.kind v w → MeansAt nodes pool i j f v
       → Left T t nodes pool j (advanced os) us
       → Next T t nodes pool i os (name_told f ++ (tellings w ++ us))
@@ -411,7 +411,7 @@ record EndSplit (T : Table) (t : TypeId) (nodes : List Node) (pool : List ℕ) (
     (told due : List Telling) : Type 0 where
   left : List Telling
   splits : due ≡ told ++ left
-  inside : IsInside i os
+  inside : IsInsideOpen i os
   more : Left T t nodes pool i os left
 
 module _ {T : Table} {t : TypeId} {nodes : List Node} {pool : List ℕ} where
@@ -421,7 +421,7 @@ module _ {T : Table} {t : TypeId} {nodes : List Node} {pool : List ℕ} where
   left_within (in_part d q) = omega (arith, due_rises d, left_within q)
 
   next : {i : ℕ} {os : List Open} {us : List Telling} → Left T t nodes pool i os us → i < length nodes
-      → IsInside i os → Next T t nodes pool i os us
+      → IsInsideOpen i os → Next T t nodes pool i os us
   next (at_end e) l h = absurd (omega arith)
   next {i = i} (at_start {w = w} m (of_type e p)) l h = subst (Next T t nodes pool i []) (append-nil (tellings w))
       (next_kept the_whole e (λ n f. absurd (cc)) p m (at_end refl))
@@ -441,7 +441,7 @@ module _ {T : Table} {t : TypeId} {nodes : List Node} {pool : List ℕ} where
 
   list_goes : (i : ℕ) {j end : ℕ} (e : TypeId) {k : Kind} {vs : Trees} {w : Tree} {os : List Open} {r : List Telling}
       → TidiesAs T k (Value.many vs) w → MeansEach nodes pool (i + 1) j vs → j ≡ end → Left T t nodes pool j os r
-      → Split T t nodes pool (i + 1) (entered_as end (types_of k e) os) (enter group.Many ∷ []) (tellings w ++ r)
+      → Split T t nodes pool (i + 1) (entered_as end (types_in k e) os) (enter group.Many ∷ []) (tellings w ++ r)
   list_goes i e {os = os} {r = r} (of_slice {e = x} {ws = ws} p) m h q = record {
     left = each_told ws ++ leave ∷ r;
     splits = ap (λ l. enter group.Many ∷ l) (append_assoc (each_told ws) (leave ∷ []) r);
@@ -459,7 +459,7 @@ module _ {T : Table} {t : TypeId} {nodes : List Node} {pool : List ℕ} where
 
   map_goes : (i : ℕ) {j end : ℕ} (e : TypeId) {k : Kind} {vs : Pairs} {w : Tree} {os : List Open} {r : List Telling}
       → TidiesAs T k (Value.pairs vs) w → MeansPairs nodes pool (i + 1) j vs → j ≡ end → Left T t nodes pool j os r
-      → Split T t nodes pool (i + 1) (entered_as end (types_of k e) os) (enter group.Pairs ∷ []) (tellings w ++ r)
+      → Split T t nodes pool (i + 1) (entered_as end (types_in k e) os) (enter group.Pairs ∷ []) (tellings w ++ r)
   map_goes i e {os = os} {r = r} (of_map {k = x} {e = y} {qs = ws} p) m h q = record {
     left = pairs_told ws ++ leave ∷ r;
     splits = ap (λ l. enter group.Pairs ∷ l) (append_assoc (pairs_told ws) (leave ∷ []) r);
@@ -473,7 +473,7 @@ module _ {T : Table} {t : TypeId} {nodes : List Node} {pool : List ℕ} where
       (e : TypeId) {k : Kind} {s : Shape} {vs : Fields} {w : Tree} {os : List Open} {r : List Telling}
       → shape_of T e ≡ Some s → s.kind ≡ k
       → TidiesAs T k (Value.fields vs) w → MeansFields nodes pool (i + 1) j vs → j ≡ end → Left T t nodes pool j os r
-      → Split T t nodes pool (i + 1) (entered_as end (types_of k e) os) (enter group.Fields ∷ []) (tellings w ++ r)
+      → Split T t nodes pool (i + 1) (entered_as end (types_in k e) os) (enter group.Fields ∷ []) (tellings w ++ r)
   struct_goes i e {os = os} {r = r} f g (of_struct {gs = ws} p) m h q = record {
     left = fields_told ws ++ leave ∷ r;
     splits = ap (λ l. enter group.Fields ∷ l) (append_assoc (fields_told ws) (leave ∷ []) r);
@@ -486,7 +486,7 @@ module _ {T : Table} {t : TypeId} {nodes : List Node} {pool : List ℕ} where
   part_goes : (i : ℕ) {j : ℕ} (e : TypeId) (of : Shape) {v w : Tree} {os : List Open} {r : List Telling}
       (c : Content) → Says nodes pool c i j v → shape_of T e ≡ Some of → TidiesAs T of.kind v w
       → Left T t nodes pool j os r
-      → Split T t nodes pool (i + 1) (entered i c of.kind e os) (content_told pool c) (tellings w ++ r)
+      → Split T t nodes pool (i + 1) (entered_open i c of.kind e os) (content_told pool c) (tellings w ++ r)
   part_goes i e of {w = w} {os = os} {r = r} (content.Number k a b) s h p q =
       let same = leaf_stays (subst (λ v. TidiesAs T of.kind v w) s.value p) (number_leaf k a b) in
       record {
@@ -522,11 +522,11 @@ module _ {T : Table} {t : TypeId} {nodes : List Node} {pool : List ℕ} where
   one_end e (in_part (kept m h f z p d) q) = absurd (omega (arith, at_rises m, due_rises d))
 
   inside_of : {i : ℕ} {r : List Telling} (os : List Open) → ((o : Open) (rest : List Open) → os ≡ o ∷ rest
-      → o.end ≢ i) → Left T t nodes pool i os r → IsInside i os
+      → o.end ≢ i) → Left T t nodes pool i os r → IsInsideOpen i os
   inside_of [] n q = tt
   inside_of (o ∷ os) n (in_part d q) = let apart = n o os refl in omega (arith, due_rises d)
 
-  all_end : {i : ℕ} {os after : List Open} {r x : List Telling} → Ends i os x after → Left T t nodes pool i os r
+  all_end : {i : ℕ} {os after : List Open} {r x : List Telling} → TidyEnds i os x after → Left T t nodes pool i os r
       → EndSplit T t nodes pool i after x r
   all_end {os = os} {r = r} (none_ends n) q = record { left = r; splits = refl; inside = inside_of os n q; more = q }
   all_end {i = i} (one_ends {us = us} e d) q =
@@ -537,25 +537,25 @@ module _ {T : Table} {t : TypeId} {nodes : List Node} {pool : List ℕ} where
   -- ---- a node
 
   pub node_tells : {i : ℕ} {os mid after : List Open} {old told new : State} {due : List Telling} (x : Node)
-      → length nodes < 2 ^ 64 → slice_get nodes i ≡ Some x → IsInside i os
-      → ((e : TypeId) (s : Shape) → IsNext T t (innermost os) x.field e → shape_of T e ≡ Some s
+      → length nodes < 2 ^ 64 → slice_get nodes i ≡ Some x → IsInsideOpen i os
+      → ((e : TypeId) (s : Shape) → IsNextType T t (innermost os) x.field e → shape_of T e ≡ Some s
       → HasSmallNumber x × TellsPart i x s.kind e pool (advanced os) mid old told)
-      → Ended (i + 1) mid after told new
-      → Left T t nodes pool i os due → Goes T t nodes pool i after old new due
+      → TidyEnded (i + 1) mid after told new
+      → Left T t nodes pool i os due → TidyGoes T t nodes pool i after old new due
   node_tells {i = i} {os = os} {mid = mid} {after = after} {old = old} {told = told} {new = new} x n h inside g z q =
       by inside g (next q (slice_get_within nodes i x h) inside)
     where
       is_small : {y : Node} → slice_get nodes i ≡ Some y → HasSmallNumber x → HasSmallNumber y
       is_small {y = y} there = subst HasSmallNumber (same_Some x y (sym h ∙ there))
 
-      by : {os : List Open} {due : List Telling} → IsInside i os → ((e : TypeId) (s : Shape)
-          → IsNext T t (innermost os) x.field e → shape_of T e ≡ Some s
+      by : {os : List Open} {due : List Telling} → IsInsideOpen i os → ((e : TypeId) (s : Shape)
+          → IsNextType T t (innermost os) x.field e → shape_of T e ≡ Some s
           → HasSmallNumber x × TellsPart i x s.kind e pool (advanced os) mid old told)
-          → Next T t nodes pool i os due → Goes T t nodes pool i after old new due
+          → Next T t nodes pool i os due → TidyGoes T t nodes pool i after old new due
       by {os = os} {due = due} inside g (next_dropped {j = j} {f = f} {e = e} {s = s} {v = v} a b d m r) =
           let w = node_says x.content h m in
           let y = drops_says nodes pool i j v s.kind x.content w.1 d in
-          let o = g e s (subst (λ f. IsNext T t (innermost os) f e) (sym w.0) a) b in
+          let o = g e s (subst (λ f. IsNextType T t (innermost os) f e) (sym w.0) a) b in
           let c = o.1.drops f w.0 y.0 in
           let k = all_end z.ends (subst (λ os. Left T t nodes pool (i + 1) os due) (sym c.0) (subst
           (λ j. Left T t nodes pool j (advanced os) due) y.1 r)) in
@@ -564,14 +564,14 @@ module _ {T : Table} {t : TypeId} {nodes : List Node} {pool : List ℕ} where
             left = k.left;
             splits = k.splits;
             stands = subst
-                (λ s. GoesOn s new z.told) c.1 z.stands;
+                (λ s. TapeGoesOn s new z.told) c.1 z.stands;
             inside = k.inside;
             more = k.more;
             small = λ y there. is_small there o.0;
           }
       by {os = os} inside g (next_kept {j = j} {f = f} {e = e} {s = s} {v = v} {w = u} {us = us} a b d p m r) =
           let w = node_says x.content h m in
-          let o = g e s (subst (λ f. IsNext T t (innermost os) f e) (sym w.0) a) b in
+          let o = g e s (subst (λ f. IsNextType T t (innermost os) f e) (sym w.0) a) b in
           let c = o.1.keeps (λ k e o. d k (sym w.0 ∙ e) (says_drops nodes pool i j v s.kind x.content w.1 o))
           (says_pooled nodes pool i j v x.content w.1) in
           let y = part_goes i e s x.content w.1 b p r in
@@ -595,12 +595,12 @@ module _ {T : Table} {t : TypeId} {nodes : List Node} {pool : List ℕ} where
   -- ---- the whole tape
 
   left_none : {i : ℕ} {os : List Open} {us : List Telling} → Left T t nodes pool i os us → i ≡ length nodes
-      → IsInside i os → us ≡ []
+      → IsInsideOpen i os → us ≡ []
   left_none (at_end e) l h = refl
   left_none (at_start m p) l h = absurd (omega (arith, at_rises m))
   left_none (in_part d q) l h = absurd (omega (arith, left_within q))
 
-  pub nothing_told : {os : List Open} {now : State} → os ≡ [] → IsTapeOf now [] → Reaches T t nodes pool 0 os now
+  pub nothing_told : {os : List Open} {now : State} → os ≡ [] → IsTapeOf now [] → TidyReaches T t nodes pool 0 os now
   nothing_told e s v w m p = rw e (record {
     told = [];
     left = tellings w;
@@ -611,12 +611,12 @@ module _ {T : Table} {t : TypeId} {nodes : List Node} {pool : List ℕ} where
     small = λ k x l. absurd (omega arith);
   })
 
-  pub node_reached : {i : ℕ} {os after : List Open} {old new : State} → Reaches T t nodes pool i os old
-      → ((due : List Telling) → IsInside i os → Left T t nodes pool i os due
-      → Goes T t nodes pool i after old new due) → Reaches T t nodes pool (i + 1) after new
+  pub node_reached : {i : ℕ} {os after : List Open} {old new : State} → TidyReaches T t nodes pool i os old
+      → ((due : List Telling) → IsInsideOpen i os → Left T t nodes pool i os due
+      → TidyGoes T t nodes pool i after old new due) → TidyReaches T t nodes pool (i + 1) after new
   node_reached {i = i} {os = os} {after = after} {old = old} {new = new} r g v w m p = on (r v w m p)
     where
-      on : {due : List Telling} → UpTo T t nodes pool i os old due → UpTo T t nodes pool (i + 1) after new due
+      on : {due : List Telling} → TidyUpTo T t nodes pool i os old due → TidyUpTo T t nodes pool (i + 1) after new due
       on u =
           let d = g u.left u.inside u.more in
           record {
@@ -633,7 +633,7 @@ module _ {T : Table} {t : TypeId} {nodes : List Node} {pool : List ℕ} where
             ];
           }
 
-  pub all_told_of : {i : ℕ} {os : List Open} {now : State} → length nodes ≤ i → Reaches T t nodes pool i os now
+  pub all_told_of : {i : ℕ} {os : List Open} {now : State} → length nodes ≤ i → TidyReaches T t nodes pool i os now
       → (v w : Tree) → MeansAt nodes pool 0 (length nodes) None v → Tidies T t v w → IsAllTold v w now
   all_told_of {now = now} l r v w m p =
       let u = r v w m p in
@@ -661,40 +661,40 @@ last_advanced os i o ts h g e =
     last_changed os i (open_to o.end ts) h ∙ ap (λ ts. open_to o.end ts ∷ reverse (take i os)) e
     ∙ ap advanced (sym (last_first os i o h g))
 
-pub none_ended : {i : ℕ} {before : List Open} {s : State} → Ending i before before s s
+pub none_ended : {i : ℕ} {before : List Open} {s : State} → TidyEnding i before before s s
 none_ended = record { told = []; completes = λ us after d. d; stands = goes_none refl }
 
 -- one more part has ended
 pub one_ended : (now popped : List Open) {i : ℕ} {before : List Open} {old mid new : State} (o : Open)
-    → Ending i before (reverse now) old mid → slice_get now (length now - 1) ≡ Some o → o.end ≡ i
-    → popped ≡ take (length now - 1) now → GoesOn mid new (leave ∷ []) → Ending i before (reverse popped) old new
+    → TidyEnding i before (reverse now) old mid → slice_get now (length now - 1) ≡ Some o → o.end ≡ i
+    → popped ≡ take (length now - 1) now → TapeGoesOn mid new (leave ∷ []) → TidyEnding i before (reverse popped) old new
 one_ended now popped {i = i} {before = before} o e g h p n = record {
   told = e.told ++ leave ∷ [];
   completes = λ us after d.
       let top : reverse now ≡ o ∷ reverse popped = last_is now o g ∙ ap (λ t. o ∷ reverse t) (sym p) in
-      subst (λ x. Ends i before x after) (sym (append_assoc e.told (leave ∷ []) us)) (e.completes (leave ∷ us) after
-      (subst (λ t. Ends i t (leave ∷ us) after) (sym top) (one_ends h d)));
+      subst (λ x. TidyEnds i before x after) (sym (append_assoc e.told (leave ∷ []) us)) (e.completes (leave ∷ us) after
+      (subst (λ t. TidyEnds i t (leave ∷ us) after) (sym top) (one_ends h d)));
   stands = goes_then e.stands n;
 }
 
-all_ended : {i : ℕ} {before now : List Open} {old new : State} → Ending i before now old new
-    → ((o : Open) (rest : List Open) → now ≡ o ∷ rest → o.end ≢ i) → Ended i before now old new
+all_ended : {i : ℕ} {before now : List Open} {old new : State} → TidyEnding i before now old new
+    → ((o : Open) (rest : List Open) → now ≡ o ∷ rest → o.end ≢ i) → TidyEnded i before now old new
 all_ended {i = i} {before = before} {now = now} e n =
     record {
       told = e.told;
-      ends = subst (λ x. Ends i before x now) (append-nil e.told) (e.completes [] now
+      ends = subst (λ x. TidyEnds i before x now) (append-nil e.told) (e.completes [] now
           (none_ends n));
       stands = e.stands;
     }
 
 pub ended_apart : (now : List Open) {i : ℕ} {before : List Open} {old new : State} (o : Open)
-    → Ending i before (reverse now) old new → slice_get now (length now - 1) ≡ Some o → o.end ≢ i
-    → Ended i before (reverse now) old new
+    → TidyEnding i before (reverse now) old new → slice_get now (length now - 1) ≡ Some o → o.end ≢ i
+    → TidyEnded i before (reverse now) old new
 ended_apart now {i = i} o e g n = all_ended e (λ t rest h. let same : o ∷ reverse (take
     (length now - 1) now) ≡ t ∷ rest = sym (last_is now o g)
     ∙ h in let here : o ≡ t = cc in subst (λ (t : Open). t.end ≢ i) here n)
 
 pub ended_all : (now : List Open) {i : ℕ} {before : List Open} {old new : State}
-    → Ending i before (reverse now) old new → slice_get now (length now - 1) ≡ None
-    → Ended i before (reverse now) old new
+    → TidyEnding i before (reverse now) old new → slice_get now (length now - 1) ≡ None
+    → TidyEnded i before (reverse now) old new
 ended_all now e g = all_ended e (λ t rest h. let same : [] ≡ t ∷ rest = sym (none_is now g) ∙ h in absurd (cc))

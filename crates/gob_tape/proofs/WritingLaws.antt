@@ -24,7 +24,7 @@ use Rattle.gob_tape.specs.declared.node.Content.TheVariants as content
 use Rattle.gob_tape.specs.declared.node.Node.{Node}
 use Rattle.gob_tape.specs.declared.spelling.Struct.{Struct}
 use Rattle.gob_tape.specs.Meaning.{node, MeansAt, MeansEach, no_part, part, MeansPairs, no_entry, entry, MeansFields, end_of_fields, next_field}
-use Rattle.gob_tape.specs.Machine.Writing.{IsNumberHead, IsHead, HasEnd, entered, Ends, none_ends, one_ends, Rest, at_end, part_left, each_left, pairs_left, fields_left, IsInside, Goes, Ended, Ending, Named, UpTo, Progress}
+use Rattle.gob_tape.specs.Machine.Writing.{IsNumberHead, IsHeadOf, HasEnd, entered_struct, WritingEnds, none_ends, one_ends, Rest, at_end, part_left, each_left, pairs_left, fields_left, IsInsideStruct, WritingGoes, WritingEnded, WritingEnding, Named, WrittenUpTo, Progress}
 use Rattle.gob_tape.proofs.BegunLaws.{last_first, last_changed}
 use Rattle.gob_tape.proofs.MeaningLaws.{at_rises, each_rises, pairs_rise, fields_rise, node_says}
 
@@ -75,7 +75,7 @@ pub record Split (nodes : List Node) (pool : List ℕ) (i : ℕ) (ss : List Stru
 pub record EndSplit (nodes : List Node) (pool : List ℕ) (i : ℕ) (ss : List Struct) (x rest : List ℕ) : Type 0 where
   pub left : List ℕ
   pub splits : rest ≡ x ++ left
-  pub inside : IsInside i ss
+  pub inside : IsInsideStruct i ss
   pub stands : Rest nodes pool i ss left
 
 -- ---- places
@@ -96,7 +96,7 @@ module _ {nodes : List Node} {pool : List ℕ} where
 
   -- ---- the next part
 
-  pub next : {i : ℕ} {ss : List Struct} {r : List ℕ} → Rest nodes pool i ss r → i < length nodes → IsInside i ss → Next nodes pool i ss r
+  pub next : {i : ℕ} {ss : List Struct} {r : List ℕ} → Rest nodes pool i ss r → i < length nodes → IsInsideStruct i ss → Next nodes pool i ss r
   next (at_end e) l h = absurd (omega arith)
   next (part_left m p q) l h = next_part m p q
   next (each_left no_part no_element q) l h = next q l h
@@ -122,8 +122,8 @@ module _ {nodes : List Node} {pool : List ℕ} where
       → Split nodes pool (i + 1) (record { end = end; last = None } ∷ ss) [] (b ++ r)
   in_fields i {b = b} {r = r} m e (of_fields ps) q = record { left = b ++ r; splits = refl; stands = fields_left m ps e q }
 
-  pub head_goes : {i j : ℕ} {f : Option ℕ} {v : Tree} {b r x : List ℕ} {ss : List Struct} (c : Content) → slice_get nodes i ≡ Some (node f c) → MeansAt nodes pool i j f v → Written v b → Rest nodes pool j ss r → IsHead pool c x
-      → Split nodes pool (i + 1) (entered i c ss) x (b ++ r)
+  pub head_goes : {i j : ℕ} {f : Option ℕ} {v : Tree} {b r x : List ℕ} {ss : List Struct} (c : Content) → slice_get nodes i ≡ Some (node f c) → MeansAt nodes pool i j f v → Written v b → Rest nodes pool j ss r → IsHeadOf pool c x
+      → Split nodes pool (i + 1) (entered_struct i c ss) x (b ++ r)
   head_goes {b = b} {r = r} {x = x} {ss = ss} (content.Number k n o) t m p q u =
       let s = (node_says (content.Number k n o) t m).1 in
       record { left = r; splits = ap (λ y. y ++ r) (written_once (subst (λ v. Written v b) s.value p) (number_head s.numbers u)); stands = subst (λ j. Rest nodes pool j ss r) s.end q }
@@ -147,11 +147,11 @@ module _ {nodes : List Node} {pool : List ℕ} where
   one_end e u (fields_left {r = r} end_of_fields (written.end_of_fields p) d q) = record { left = r; splits = ap (λ y. y ++ r) (unsigned_unique p u); stands = q }
   one_end e u (fields_left (next_field m ms) p d q) = absurd (omega (arith, at_rises m, fields_rise ms))
 
-  inside_of : {i : ℕ} {r : List ℕ} (ss : List Struct) → ((s : Struct) (rest : List Struct) → ss ≡ s ∷ rest → s.end ≢ i) → Rest nodes pool i ss r → IsInside i ss
+  inside_of : {i : ℕ} {r : List ℕ} (ss : List Struct) → ((s : Struct) (rest : List Struct) → ss ≡ s ∷ rest → s.end ≢ i) → Rest nodes pool i ss r → IsInsideStruct i ss
   inside_of [] n q = tt
   inside_of (s ∷ ss) n q = let apart = n s ss refl in omega (arith, rest_ends q)
 
-  pub all_end : {i : ℕ} {ss ts : List Struct} {r x : List ℕ} → Ends i ss x ts → Rest nodes pool i ss r → EndSplit nodes pool i ts x r
+  pub all_end : {i : ℕ} {ss ts : List Struct} {r x : List ℕ} → WritingEnds i ss x ts → Rest nodes pool i ss r → EndSplit nodes pool i ts x r
   all_end {ss = ss} {r = r} (none_ends n) q = record { left = r; splits = refl; inside = inside_of ss n q; stands = q }
   all_end {i = i} (one_ends {z = z} {x = x} e u d) q =
       let a = one_end e u q in
@@ -160,7 +160,7 @@ module _ {nodes : List Node} {pool : List ℕ} where
 
   -- ---- the end
 
-  pub rest_none : {i : ℕ} {ss : List Struct} {r : List ℕ} → Rest nodes pool i ss r → i ≡ length nodes → IsInside i ss → r ≡ []
+  pub rest_none : {i : ℕ} {ss : List Struct} {r : List ℕ} → Rest nodes pool i ss r → i ≡ length nodes → IsInsideStruct i ss → r ≡ []
   rest_none (at_end e) l h = refl
   rest_none (part_left m p q) l h = absurd (omega (arith, at_rises m, rest_within q))
   rest_none (each_left no_part no_element q) l h = rest_none q l h
@@ -209,36 +209,36 @@ none_is [] g = refl
 none_is (x ∷ xs) g = let there = slice_get-get_or (x ∷ xs) (length (x ∷ xs) - 1) x (omega arith) in absurd (cc)
 
 -- one more struct has ended
-pub ending_more : (now popped : List Struct) {i : ℕ} {before : List Struct} {old mid new : List ℕ} (s : Struct) → Ending i before (reverse now) old mid → slice_get now (length now - 1) ≡ Some s → s.end ≡ i
-    → popped ≡ take (length now - 1) now → Appends (IsUnsigned 0) mid new → Ending i before (reverse popped) old new
+pub ending_more : (now popped : List Struct) {i : ℕ} {before : List Struct} {old mid new : List ℕ} (s : Struct) → WritingEnding i before (reverse now) old mid → slice_get now (length now - 1) ≡ Some s → s.end ≡ i
+    → popped ≡ take (length now - 1) now → Appends (IsUnsigned 0) mid new → WritingEnding i before (reverse popped) old new
 ending_more now popped {i = i} {before = before} {old = old} s e g h p a = record {
   bytes = e.bytes ++ a.bytes;
   completes = λ y after d.
       let top : reverse now ≡ s ∷ reverse popped = last_is now s g ∙ ap (λ t. s ∷ reverse t) (sym p) in
-      subst (λ x. Ends i before x after) (sym (append_assoc e.bytes a.bytes y)) (e.completes (a.bytes ++ y) after (subst (λ t. Ends i t (a.bytes ++ y) after) (sym top) (one_ends h a.spelled d)));
+      subst (λ x. WritingEnds i before x after) (sym (append_assoc e.bytes a.bytes y)) (e.completes (a.bytes ++ y) after (subst (λ t. WritingEnds i t (a.bytes ++ y) after) (sym top) (one_ends h a.spelled d)));
   written = a.appended ∙ ap (λ l. l ++ a.bytes) e.written ∙ append_assoc old e.bytes a.bytes;
 }
 
-pub ending_none : {i : ℕ} {before : List Struct} {old : List ℕ} → Ending i before before old old
+pub ending_none : {i : ℕ} {before : List Struct} {old : List ℕ} → WritingEnding i before before old old
 ending_none {old = old} = record { bytes = []; completes = λ y after d. d; written = sym (append-nil old) }
 
-all_ended : {i : ℕ} {before now : List Struct} {old new : List ℕ} → Ending i before now old new → ((s : Struct) (rest : List Struct) → now ≡ s ∷ rest → s.end ≢ i) → Ended i before now old new
+all_ended : {i : ℕ} {before now : List Struct} {old new : List ℕ} → WritingEnding i before now old new → ((s : Struct) (rest : List Struct) → now ≡ s ∷ rest → s.end ≢ i) → WritingEnded i before now old new
 all_ended {i = i} {before = before} {now = now} e n =
-    record { bytes = e.bytes; ends = subst (λ x. Ends i before x now) (append-nil e.bytes) (e.completes [] now (none_ends n)); written = e.written }
+    record { bytes = e.bytes; ends = subst (λ x. WritingEnds i before x now) (append-nil e.bytes) (e.completes [] now (none_ends n)); written = e.written }
 
-pub ended_apart : (now : List Struct) {i : ℕ} {before : List Struct} {old new : List ℕ} (s : Struct) → Ending i before (reverse now) old new → slice_get now (length now - 1) ≡ Some s → s.end ≢ i → Ended i before (reverse now) old new
+pub ended_apart : (now : List Struct) {i : ℕ} {before : List Struct} {old new : List ℕ} (s : Struct) → WritingEnding i before (reverse now) old new → slice_get now (length now - 1) ≡ Some s → s.end ≢ i → WritingEnded i before (reverse now) old new
 ended_apart now {i = i} s e g n = all_ended e (λ t rest h. let same : s ∷ reverse (take (length now - 1) now) ≡ t ∷ rest = sym (last_is now s g) ∙ h in let here : s ≡ t = cc in subst (λ (t : Struct). t.end ≢ i) here n)
 
-pub ended_all : (now : List Struct) {i : ℕ} {before : List Struct} {old new : List ℕ} → Ending i before (reverse now) old new → slice_get now (length now - 1) ≡ None → Ended i before (reverse now) old new
+pub ended_all : (now : List Struct) {i : ℕ} {before : List Struct} {old new : List ℕ} → WritingEnding i before (reverse now) old new → slice_get now (length now - 1) ≡ None → WritingEnded i before (reverse now) old new
 ended_all now e g = all_ended e (λ t rest h. let same : [] ≡ t ∷ rest = sym (none_is now g) ∙ h in absurd (cc))
 
 -- a struct is entered
 pub struct_entered : (i : ℕ) (xs : List Struct) {a e end : ℕ} {c : Content} {ys : List Struct} → c ≡ content.Group group.Fields a e → end ≡ min (i + e) (2 ^ 64 - 1) → ys ≡ xs ++ record { end = end; last = None } ∷ [] → HasEnd i c
-    → reverse ys ≡ entered i c (reverse xs)
+    → reverse ys ≡ entered_struct i c (reverse xs)
 struct_entered i xs {a = a} {e = e} {end = end} {c = c} f m p h =
     let room : i + e < 2 ^ 64 = subst (HasEnd i) f h in
     let place : end ≡ i + e = omega arith in
-    ap reverse p ∙ reverse-append xs (record { end = end; last = None } ∷ []) ∙ ap (λ n. record { end = n; last = None } ∷ reverse xs) place ∙ sym (ap (λ c. entered i c (reverse xs)) f)
+    ap reverse p ∙ reverse-append xs (record { end = end; last = None } ∷ []) ∙ ap (λ n. record { end = n; last = None } ∷ reverse xs) place ∙ sym (ap (λ c. entered_struct i c (reverse xs)) f)
 
 -- ---- a node is written
 
@@ -257,10 +257,10 @@ module _ {nodes : List Node} {pool : List ℕ} where
 
   -- from behind its number
   part_goes : {i j : ℕ} {f : Option ℕ} {v : Tree} {b r mid fore new : List ℕ} {ss ts us : List Struct} (c : Content) → length nodes < 2 ^ 64 → slice_get nodes i ≡ Some (node f c) → MeansAt nodes pool i j f v → Written v b → Rest nodes pool j ss r
-      → Appends (IsHead pool c) mid fore → (HasEnd i c → ts ≡ entered i c ss) → Ended (i + 1) ts us fore new → Goes nodes pool i us mid new (b ++ r)
+      → Appends (IsHeadOf pool c) mid fore → (HasEnd i c → ts ≡ entered_struct i c ss) → WritingEnded (i + 1) ts us fore new → WritingGoes nodes pool i us mid new (b ++ r)
   part_goes {i = i} {mid = mid} {us = us} c n t m p q a e d =
       let h = head_goes c t m p q a.spelled in
-      let z = all_end (subst (λ ts. Ends (i + 1) ts d.bytes us) (e (has_end c t m (rest_within q) n)) d.ends) h.stands in
+      let z = all_end (subst (λ ts. WritingEnds (i + 1) ts d.bytes us) (e (has_end c t m (rest_within q) n)) d.ends) h.stands in
       record {
         bytes = a.bytes ++ d.bytes;
         left = z.left;
@@ -270,7 +270,7 @@ module _ {nodes : List Node} {pool : List ℕ} where
         stands = z.stands;
       }
 
-  behind_number : (a : List ℕ) {i : ℕ} {us : List Struct} {old mid new rest : List ℕ} → mid ≡ old ++ a → Goes nodes pool i us mid new rest → Goes nodes pool i us old new (a ++ rest)
+  behind_number : (a : List ℕ) {i : ℕ} {us : List Struct} {old mid new rest : List ℕ} → mid ≡ old ++ a → WritingGoes nodes pool i us mid new rest → WritingGoes nodes pool i us old new (a ++ rest)
   behind_number a {old = old} e g = record {
     bytes = a ++ g.bytes;
     left = g.left;
@@ -280,21 +280,21 @@ module _ {nodes : List Node} {pool : List ℕ} where
     stands = g.stands;
   }
 
-  pub node_goes : {i : ℕ} {ss ts vs us : List Struct} {old mid fore new rest : List ℕ} (x : Node) → length nodes < 2 ^ 64 → slice_get nodes i ≡ Some x → IsInside i ss → Rest nodes pool i ss rest
-      → Before x.field ss ts old mid → Appends (IsHead pool x.content) mid fore → (HasEnd i x.content → vs ≡ entered i x.content ts) → Ended (i + 1) vs us fore new → Goes nodes pool i us old new rest
+  pub node_goes : {i : ℕ} {ss ts vs us : List Struct} {old mid fore new rest : List ℕ} (x : Node) → length nodes < 2 ^ 64 → slice_get nodes i ≡ Some x → IsInsideStruct i ss → Rest nodes pool i ss rest
+      → Before x.field ss ts old mid → Appends (IsHeadOf pool x.content) mid fore → (HasEnd i x.content → vs ≡ entered_struct i x.content ts) → WritingEnded (i + 1) vs us fore new → WritingGoes nodes pool i us old new rest
   node_goes {i = i} {ts = ts} {vs = vs} {us = us} {old = old} {mid = mid} {fore = fore} {new = new} x n t h q b a e d = by b (next q (slice_get_within nodes i x t) h)
     where
-      by : {ss : List Struct} {rest : List ℕ} → Before x.field ss ts old mid → Next nodes pool i ss rest → Goes nodes pool i us old new rest
+      by : {ss : List Struct} {rest : List ℕ} → Before x.field ss ts old mid → Next nodes pool i ss rest → WritingGoes nodes pool i us old new rest
       by b (next_part {b = c} {r = r} m p q) =
           let f = (node_says x.content t m).0 in
           let k = b.none f in
-          subst (λ mid. Goes nodes pool i us mid new (c ++ r)) k.1
-          (part_goes x.content n (t ∙ ap (λ f. Some (node f x.content)) f) m p q a (λ h. e h ∙ ap (entered i x.content) k.0) d)
+          subst (λ mid. WritingGoes nodes pool i us mid new (c ++ r)) k.1
+          (part_goes x.content n (t ∙ ap (λ f. Some (node f x.content)) f) m p q a (λ h. e h ∙ ap (entered_struct i x.content) k.0) d)
       by {ss = s ∷ ss} b (next_named {f = g} {b = c} {r = r} m l u p q) =
           let f = (node_says x.content t m).0 in
           let k = b.some g s ss f refl l (unsigned_fits u) in
-          subst (λ y. Goes nodes pool i us old new (y ++ (c ++ r))) (unsigned_unique k.written.spelled u)
-          (behind_number k.written.bytes k.written.appended (part_goes x.content n (t ∙ ap (λ f. Some (node f x.content)) f) m p q a (λ h. e h ∙ ap (entered i x.content) k.last) d))
+          subst (λ y. WritingGoes nodes pool i us old new (y ++ (c ++ r))) (unsigned_unique k.written.spelled u)
+          (behind_number k.written.bytes k.written.appended (part_goes x.content n (t ∙ ap (λ f. Some (node f x.content)) f) m p q a (λ h. e h ∙ ap (entered_struct i x.content) k.last) d))
 
   -- ---- the whole tape
 
@@ -305,11 +305,11 @@ module _ {nodes : List Node} {pool : List ℕ} where
   })
 
   pub one_more : {i : ℕ} {ss ts : List Struct} {old mid new : List ℕ} (x : Node) → length nodes < 2 ^ 64 → slice_get nodes i ≡ Some x → Progress nodes pool i ss old mid
-      → ((ns : List Node) (rest : List ℕ) → length ns < 2 ^ 64 → slice_get ns i ≡ Some x → IsInside i ss → Rest ns pool i ss rest → Goes ns pool i ts mid new rest) → Appends (λ _. Unit {0}) mid new
+      → ((ns : List Node) (rest : List ℕ) → length ns < 2 ^ 64 → slice_get ns i ≡ Some x → IsInsideStruct i ss → Rest ns pool i ss rest → WritingGoes ns pool i ts mid new rest) → Appends (λ _. Unit {0}) mid new
       → Progress nodes pool (i + 1) ts old new
   one_more {i = i} {ss = ss} {ts = ts} {old = old} {mid = mid} {new = new} x n t g w k = record { each = λ v b m p. on (g.each v b m p); kept = keeps_then g.kept k }
     where
-      on : {b : List ℕ} → UpTo nodes pool i ss old mid b → UpTo nodes pool (i + 1) ts old new b
+      on : {b : List ℕ} → WrittenUpTo nodes pool i ss old mid b → WrittenUpTo nodes pool (i + 1) ts old new b
       on u =
           let d = w nodes u.left n t u.inside u.stands in
           record {

@@ -35,10 +35,10 @@ part_kind (content.Number k a b) = kind.Number k
 part_kind (content.Raw k a b) = kind.Raw k
 part_kind (content.Group k a b) = kind.Group k
 
-abbrev pub first_of : Content → ℕ
-first_of (content.Number k a b) = a
-first_of (content.Raw k a b) = a
-first_of (content.Group k a b) = a
+abbrev pub first_number : Content → ℕ
+first_number (content.Number k a b) = a
+first_number (content.Raw k a b) = a
+first_number (content.Group k a b) = a
 
 abbrev pub second_of : Content → ℕ
 second_of (content.Number k a b) = b
@@ -50,7 +50,7 @@ packed n = record {
   kind = part_kind n.content;
   named = is_named n.field;
   number = number_of n.field;
-  first = first_of n.content;
+  first = first_number n.content;
   second = second_of n.content;
 }
 
@@ -68,7 +68,7 @@ kind_back (kind.Number k) a b = refl
 kind_back (kind.Raw k) a b = refl
 kind_back (kind.Group k) a b = refl
 
-first_back : (k : PartKind) (a b : ℕ) → first_of (content_of k a b) ≡ a
+first_back : (k : PartKind) (a b : ℕ) → first_number (content_of k a b) ≡ a
 first_back (kind.Number k) a b = refl
 first_back (kind.Raw k) a b = refl
 first_back (kind.Group k) a b = refl

@@ -1,7 +1,7 @@
 //! The kinds of values.
 
 ghost use Rattle.std.specs.Prelude.{◌≡◌, []};
-ghost use Rattle.gob_read.specs.Built.{number_tree, raw_tree, opened, closed};
+ghost use Rattle.gob_read.specs.Built.{number_tree, raw_tree, opened_part, closed};
 ghost use Rattle.gob_tape.specs.Seeing.{kind_of};
 
 use gob_read::{GroupKind, RawKind};
@@ -63,7 +63,7 @@ pub(crate) fn raw_kind(kind: RawKind) -> ValueKind
 
 /// The kind of a part that has parts.
 pub(crate) fn group_kind(kind: GroupKind) -> ValueKind
-    ensures { result ≡ kind_of (closed (opened kind)) }
+    ensures { result ≡ kind_of (closed (opened_part kind)) }
 {
     match kind {
         GroupKind::Many => ValueKind::Many,

@@ -7,8 +7,8 @@ ghost use Rattle.gob_value.specs.Tree.{Tree};
 ghost use Rattle.gob_value.specs.Written.{Written, next_number};
 ghost use Rattle.gob_tape.specs.Meaning.{MeansAt};
 ghost use Rattle.gob_tape.specs.declared.node.Node.{Node};
-ghost use Rattle.gob_tape.specs.Machine.Writing.{IsNumberHead, IsHead, Rest, IsInside, Goes, Ended, Named};
-ghost use Rattle.gob_tape.specs.Machine.Writing.{HasEnd, entered};
+ghost use Rattle.gob_tape.specs.Machine.Writing.{IsNumberHead, IsHeadOf, Rest, IsInsideStruct, WritingGoes, WritingEnded, Named};
+ghost use Rattle.gob_tape.specs.Machine.Writing.{HasEnd, entered_struct};
 ghost use Rattle.gob_tape.specs.declared.spelling.Struct.{Struct};
 
 use crate::node::{Content, Node};
@@ -57,7 +57,7 @@ fn write_content(
     pool: &[u8],
     out: &mut Vec<u8>,
 ) -> Result<(), Memory>
-    ensures ok { OnOk result (Appends (IsHead pool.now content) out.old.items out.new.items) }
+    ensures ok { OnOk result (Appends (IsHeadOf pool.now content) out.old.items out.new.items) }
     ensures err { OnErr result (Appends (λ _. Unit {0}) out.old.items out.new.items) }
 {
     match content {
@@ -115,7 +115,7 @@ fn end_structs(
     structs: &mut Vec<Struct>,
     out: &mut Vec<u8>,
 ) -> Result<(), Memory>
-    ensures ok { OnOk result (Ended place (reverse structs.old.items) (reverse structs.new.items)
+    ensures ok { OnOk result (WritingEnded place (reverse structs.old.items) (reverse structs.new.items)
         out.old.items out.new.items) }
     ensures err { OnErr result (Appends (λ _. Unit {0}) out.old.items out.new.items) }
 {
@@ -140,9 +140,9 @@ fn write_node(
 ) -> Result<(), Memory>
     requires { place + 1 < 2 ^ 64 }
     ensures ok { OnOk result ((nodes : List Node) (rest : List ℕ) → length nodes < 2 ^ 64
-        → slice_get nodes place ≡ Some node → IsInside place (reverse structs.old.items)
+        → slice_get nodes place ≡ Some node → IsInsideStruct place (reverse structs.old.items)
         → Rest nodes pool.now place (reverse structs.old.items) rest
-        → Goes nodes pool.now place (reverse structs.new.items) out.old.items out.new.items rest) }
+        → WritingGoes nodes pool.now place (reverse structs.new.items) out.old.items out.new.items rest) }
     ensures kept { OnOk result (Appends (λ _. Unit {0}) out.old.items out.new.items) }
     ensures err { OnErr result (Appends (λ _. Unit {0}) out.old.items out.new.items) }
 {
@@ -155,7 +155,7 @@ fn write_node(
 /// Opens the struct that begins with the node, if one does.
 fn enter(place: usize, content: Content, structs: &mut Vec<Struct>) -> Result<(), Memory>
     ensures { OnOk result (HasEnd place content
-        → reverse structs.new.items ≡ entered place content (reverse structs.old.items)) }
+        → reverse structs.new.items ≡ entered_struct place content (reverse structs.old.items)) }
 {
     if let Content::Group(GroupKind::Fields, _, nodes) = content {
         structs.push(Struct {

@@ -2,9 +2,9 @@
 
 ghost use Rattle.std.specs.Prelude.{◌≡◌, ℕ, ◌+◌, ◌<◌, ◌^◌, List, [], ◌∷◌, ◌++◌, OnOk, Some, length, reverse, slice_get};
 ghost use Rattle.gob_read.specs.Telling.{Telling, raw_start, raw_more, leave};
-ghost use Rattle.gob_tape.specs.Machine.Standing.{AreTaped, GoesOn};
+ghost use Rattle.gob_tape.specs.Machine.Standing.{AreTaped, TapeGoesOn};
 ghost use Rattle.gob_tape.specs.Machine.Tidying.{name_told, content_told, IsPooled};
-ghost use Rattle.gob_tape.specs.Machine.State.{pushed, opened, added, with_begun, counted, ended_in};
+ghost use Rattle.gob_tape.specs.Machine.State.{pushed_node, opened_node, added_node, with_begun, counted, ended_in};
 ghost use Rattle.gob_tape.specs.declared.node.Node.{Node};
 ghost use Rattle.gob_tape.specs.Machine.View.{state_of};
 
@@ -12,7 +12,7 @@ use crate::node::{Begun, Content, Node};
 use crate::raw::raw_bytes;
 use crate::tape::Tape;
 use gob_num::Memory;
-use gob_read::{Builder, GroupKind, RawKind};
+use gob_read::{Builder, GroupKind, RawKind, Stores};
 use gob_types::Basic;
 use std::alloc::Global;
 
@@ -35,7 +35,7 @@ pub struct TapeBuilder {
 impl TapeBuilder {
     /// A part begins.
     fn push(&mut self, content: Content) -> Result<(), Memory>
-        ensures state { OnOk result (state_of self.new ≡ pushed (state_of self.old) content) }
+        ensures state { OnOk result (state_of self.new ≡ pushed_node (state_of self.old) content) }
         ensures held { self.new.held ≡ self.old.held }
     {
         self.deepest = self.deepest.max(self.begun.len() as u64 + 1);
@@ -46,7 +46,7 @@ impl TapeBuilder {
 
     /// A part begins, and stays open.
     fn open(&mut self, content: Content) -> Result<(), Memory>
-        ensures state { OnOk result (state_of self.new ≡ opened (state_of self.old) content) }
+        ensures state { OnOk result (state_of self.new ≡ opened_node (state_of self.old) content) }
         ensures held { self.new.held ≡ self.old.held }
     {
         let node = self.nodes.len();
@@ -57,7 +57,7 @@ impl TapeBuilder {
 
     /// A part without parts comes.
     fn add(&mut self, content: Content) -> Result<(), Memory>
-        ensures state { OnOk result (state_of self.new ≡ added (state_of self.old) content) }
+        ensures state { OnOk result (state_of self.new ≡ added_node (state_of self.old) content) }
         ensures held { self.new.held ≡ self.old.held }
         ensures small { length self.new.nodes.items < 2 ^ 63 }
     {
@@ -105,7 +105,7 @@ impl TapeBuilder {
 
     /// The number of the next part, where it is a field of a struct.
     pub(crate) fn name(&mut self, field: Option<u64>)
-        ensures { GoesOn (state_of self.old) (state_of self.new) (name_told field) }
+        ensures { TapeGoesOn (state_of self.old) (state_of self.new) (name_told field) }
     {
         if let Some(next) = field {
             self.field = Some(next);
@@ -114,7 +114,7 @@ impl TapeBuilder {
 
     /// A part of these raw bytes comes.
     fn copy_raw(&mut self, kind: RawKind, copied: &[u8]) -> Result<(), Memory>
-        ensures { OnOk result (GoesOn (state_of self.old) (state_of self.new)
+        ensures { OnOk result (TapeGoesOn (state_of self.old) (state_of self.new)
             (raw_start kind ∷ (raw_more copied.now ∷ (leave ∷ [])))) }
     {
         let first = self.pool.len();
@@ -127,7 +127,7 @@ impl TapeBuilder {
     /// A part comes that has this content in a tape with this pool. It stays open where it has parts.
     pub(crate) fn begin(&mut self, content: Content, pool: &[u8]) -> Result<(), Memory>
         ensures { OnOk result (IsPooled pool.now content
-            → GoesOn (state_of self.old) (state_of self.new) (content_told pool.now content)) }
+            → TapeGoesOn (state_of self.old) (state_of self.new) (content_told pool.now content)) }
     {
         match content {
             Content::Number(kind, first, second) => self.add(Content::Number(kind, first, second)),
@@ -155,21 +155,24 @@ impl TapeBuilder {
 impl Builder for TapeBuilder {
     type Out = Tape;
 
-    ghost use Rattle.std.specs.Prelude.{◌≡◌, true};
+    ghost use Rattle.std.specs.Prelude.{◌≡◌};
     ghost use Rattle.gob_tape.specs.Meaning.{Means};
     ghost use Rattle.gob_tape.specs.declared.node.Node.{Node};
     ghost use Rattle.gob_tape.specs.Machine.View.{state_of};
     ghost use Rattle.gob_tape.specs.Machine.Standing.{AreTaped};
+    ghost use Rattle.gob_read.specs.declared.builder.Stores.TheVariants.{PartsAndRaw};
 
     ghost DEPTH = { 65536 };
 
     const DEPTH: u64 = 65536;
 
+    ghost STORES = { PartsAndRaw };
+
+    const STORES: Stores = Stores::PartsAndRaw;
+
     ghost stands = { λ builder us. AreTaped (state_of builder) builder.held us };
 
     ghost means = { λ tape v. Means tape v };
-
-    ghost stores_raw = { true };
 
     fn fresh(alloc: Global) -> Result<Self, Memory> {
         Ok(TapeBuilder {
@@ -216,6 +219,10 @@ impl Builder for TapeBuilder {
     fn leave(&mut self) -> Result<(), Memory> {
         self.close();
         Ok(())
+    }
+
+    fn may_skip(&self) -> bool {
+        false
     }
 
     fn held(&self) -> u64 {

@@ -16,9 +16,9 @@ ghost use Rattle.gob_read.specs.Telling.{Telling};
 ghost use Rattle.gob_tape.specs.declared.node.Node.{Node};
 ghost use Rattle.gob_tape.specs.Meaning.{MeansAt, Means, MeansFitting};
 ghost use Rattle.gob_tape.specs.Machine.Tidying.{IsAllTold, HasSmallNumber, IsZeroContent, IsDroppedContent};
-ghost use Rattle.gob_tape.specs.Machine.Tidying.{HasField, IsNext, advanced, HasOpenEnd, entered, Entered};
+ghost use Rattle.gob_tape.specs.Machine.Tidying.{HasFieldType, IsNextType, advanced, HasOpenEnd, entered_open, Entered};
 ghost use Rattle.gob_tape.specs.Machine.Tidying.{innermost, TellsPart};
-ghost use Rattle.gob_tape.specs.Machine.Tidying.{Left, IsInside, Goes, Ended};
+ghost use Rattle.gob_tape.specs.Machine.Tidying.{Left, IsInsideOpen, TidyGoes, TidyEnded};
 ghost use Rattle.gob_tape.specs.Machine.Tidying as tidying;
 ghost use Rattle.gob_tape.specs.Machine.View.{state_of};
 
@@ -83,8 +83,8 @@ fn is_dropped(kind: &Kind, content: Content) -> bool
 
 /// The type of a field of the struct of this type.
 fn field_type<S: Shapes>(shapes: &S, id: TypeId, number: u64) -> Option<TypeId>
-    ensures found { (e : TypeId) → HasField (S.table shapes.now) id number e → result ≡ Some e }
-    ensures small { (e : TypeId) → HasField (S.table shapes.now) id number e → number + 1 < 2 ^ 64 }
+    ensures found { (e : TypeId) → HasFieldType (S.table shapes.now) id number e → result ≡ Some e }
+    ensures small { (e : TypeId) → HasFieldType (S.table shapes.now) id number e → number + 1 < 2 ^ 64 }
 {
     match &shapes.shape_of(id)?.kind {
         Kind::Struct { fields } => Some(fields.get(number)?.id),
@@ -99,8 +99,8 @@ fn next_type<S: Shapes>(
     last: Option<Open>,
     field: Option<u64>,
 ) -> Option<TypeId>
-    ensures found { (e : TypeId) → IsNext (S.table shapes.now) id last field e → result ≡ Some e }
-    ensures small { (e : TypeId) (f : ℕ) → IsNext (S.table shapes.now) id last field e → field ≡ Some f
+    ensures found { (e : TypeId) → IsNextType (S.table shapes.now) id last field e → result ≡ Some e }
+    ensures small { (e : TypeId) (f : ℕ) → IsNextType (S.table shapes.now) id last field e → field ≡ Some f
         → f + 1 < 2 ^ 64 }
 {
     match last {
@@ -115,7 +115,7 @@ fn next_type<S: Shapes>(
 
 /// The types of the parts in a part of this type, which has this kind.
 fn types_of(kind: &Kind, id: TypeId) -> Option<Types>
-    ensures { result ≡ tidying.types_of kind.now id }
+    ensures { result ≡ tidying.types_in kind.now id }
 {
     match kind {
         Kind::Basic(_) | Kind::Opaque(_) => None,
@@ -145,7 +145,7 @@ fn enter(
     stack: &mut Vec<Open>,
 ) -> Result<(), Memory>
     ensures { OnOk result (HasOpenEnd place content
-        → reverse stack.new.items ≡ entered place content kind.now id (reverse stack.old.items)) }
+        → reverse stack.new.items ≡ entered_open place content kind.now id (reverse stack.old.items)) }
 {
     if let Content::Group(_, _, nodes) = content {
         if let Some(types) = types_of(kind, id) {
@@ -158,7 +158,7 @@ fn enter(
 
 /// Ends the parts whose nodes end at this place.
 fn end_parts(place: usize, stack: &mut Vec<Open>, builder: &mut TapeBuilder)
-    ensures { Ended place (reverse stack.old.items) (reverse stack.new.items)
+    ensures { TidyEnded place (reverse stack.old.items) (reverse stack.new.items)
         (state_of builder.old) (state_of builder.new) }
 {
     'ends: while let Some(innermost) = stack.last().copied() {
@@ -202,7 +202,7 @@ fn tell_node<S: Shapes>(
     builder: &mut TapeBuilder,
 ) -> Result<(), Memory>
     ensures { OnOk result ((e : TypeId) (s : Shape)
-        → IsNext (S.table shapes.now) id (innermost (reverse stack.old.items)) node.field e
+        → IsNextType (S.table shapes.now) id (innermost (reverse stack.old.items)) node.field e
         → shape_of (S.table shapes.now) e ≡ Some s
         → HasSmallNumber node × TellsPart place node s.kind e pool.now (advanced (reverse stack.old.items))
         (reverse stack.new.items) (state_of builder.old) (state_of builder.new)) }
@@ -229,9 +229,9 @@ fn tidy_node<S: Shapes>(
 ) -> Result<(), Memory>
     requires { place + 1 < 2 ^ 64 }
     ensures { OnOk result ((nodes : List Node) (due : List Telling) → length nodes < 2 ^ 64
-        → slice_get nodes place ≡ Some node → IsInside place (reverse stack.old.items)
+        → slice_get nodes place ≡ Some node → IsInsideOpen place (reverse stack.old.items)
         → Left (S.table shapes.now) id nodes pool.now place (reverse stack.old.items) due
-        → Goes (S.table shapes.now) id nodes pool.now place (reverse stack.new.items)
+        → TidyGoes (S.table shapes.now) id nodes pool.now place (reverse stack.new.items)
         (state_of builder.old) (state_of builder.new) due) }
 {
     tell_node(shapes, id, place, node, pool, stack, builder)?;

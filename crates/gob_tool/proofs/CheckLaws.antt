@@ -9,10 +9,9 @@ use Rattle.gob_types.specs.Base.{base_table}
 use Rattle.gob_types.specs.Defined.{types, definition_count}
 use Rattle.gob_types.specs.Table.{Table}
 use Rattle.gob_types.specs.declared.id.TypeId.{TypeId}
-use Rattle.gob_read.specs.contracts.check_builder.CheckBuilderBuilder.TheImpl as check_builder
+use Rattle.gob_read.specs.contracts.skip_builder.SkipBuilderBuilder.TheImpl as skip_builder
 use Rattle.gob_read.specs.contracts.tree_builder.TreeBuilderBuilder.TheImpl as tree_builder
-use Rattle.gob_read.specs.declared.check_builder.CheckBuilder.{CheckBuilder}
-use Rattle.gob_read.specs.declared.check_builder.Counts.{Counts}
+use Rattle.gob_read.specs.declared.skip_builder.SkipBuilder.{SkipBuilder}
 use Rattle.gob_stream.specs.declared.fault.Fault.{Fault}
 use Rattle.gob_stream.specs.declared.fault.Fault.TheVariants as reading
 use Rattle.gob_stream.specs.declared.item.Item as declared
@@ -23,14 +22,14 @@ use Rattle.gob_stream.specs.Bounds.{Bounds, AreLimits, deepest, no_deeper}
 use Rattle.gob_stream.specs.Item.{StreamItem, puts}
 use Rattle.gob_stream.specs.Outcome.{Outcome, refused}
 use Rattle.gob_stream.specs.ReadParts.{Advances, AdvancesOver, over_some, over_item}
-use Rattle.gob_stream.specs.Reading.{Taken, Finishes}
+use Rattle.gob_stream.specs.Reading.{Taken, ReadingFinishes}
 use Rattle.gob_stream.specs.Stream.{Stream, Continues, no_more, and_then, counted}
 use Rattle.gob_stream.specs.Whole.{PassesItem}
 use Rattle.gob_stream.proofs.PublicLaws.{after_gives, stands_within}
 use Rattle.gob_tool.specs.declared.check.Tally.{Tally}
 use Rattle.gob_tool.specs.declared.fault.ToolFault.{ToolFault}
 use Rattle.gob_tool.specs.declared.fault.ToolFault.TheVariants as fault
-use Rattle.gob_tool.specs.Checking.{definitions_in, counts_line, IsCounted, IsNoStream, Checks, is_cut}
+use Rattle.gob_tool.specs.Checking.{definitions_in, counts_line, IsCountedStream, IsNoStream, Checks, is_cut}
 use Rattle.gob_tool.specs.Showing.{AppendsFront}
 use Rattle.gob_tool.specs.Counting.{GaveCounts, CountsIn, EndsCounting, CountsCounting, tally_line, HasCounted}
 use Rattle.gob_tool.specs.Counting.{CountsOn, CountsUpTo, StopsCounting, CountsFront, CountsAll}
@@ -62,13 +61,13 @@ stream_defines (and_then {i = i} {items = items} (counted u l s p) e r) =
 pub limits_as : {L M : Bounds} → L ≡ M → AreLimits deepest M → AreLimits deepest L
 limits_as same l = subst (λ (L : Bounds). AreLimits deepest L) (sym same) l
 
-pub counts_first : (s : Reading CheckBuilder Counts) (read : Option (List ℕ)) → GaveCounts s [] []
+pub counts_first : (s : Reading SkipBuilder (Unit {0})) (read : Option (List ℕ)) → GaveCounts s [] []
     → CountsIn s read read 0 0
 counts_first s read gave = record
     { given = []; taken = []; input = Consumes-nil read; gave = gave; items_are = refl; bytes_are = refl }
 
-module _ {s : Reading CheckBuilder Counts} {read now : Option (List ℕ)} {n m : ℕ} (i : CountsIn s read now n m) where
-  pub counts_on : {s' : Reading CheckBuilder Counts} {k : ℕ} (next : Option (List ℕ)) (piece : List ℕ) (j : ℕ)
+module _ {s : Reading SkipBuilder (Unit {0})} {read now : Option (List ℕ)} {n m : ℕ} (i : CountsIn s read now n m) where
+  pub counts_on : {s' : Reading SkipBuilder (Unit {0})} {k : ℕ} (next : Option (List ℕ)) (piece : List ℕ) (j : ℕ)
       → Consumes now next piece → j ≡ length piece → HasCounted s' k (i.taken ++ piece)
       → CountsIn s' read next k (m + j)
   counts_on next piece j c long h = record {
@@ -91,9 +90,9 @@ module _ {s : Reading CheckBuilder Counts} {read now : Option (List ℕ)} {n m :
 
   -- ---- the ends
   -- the input ended between two items
-  pub counted_whole : (M : Bounds) (s' : Reading CheckBuilder Counts) (next : Option (List ℕ)) (bytes : List ℕ) (u : Unit {0})
+  pub counted_whole : (M : Bounds) (s' : Reading SkipBuilder (Unit {0})) (next : Option (List ℕ)) (bytes : List ℕ) (u : Unit {0})
       (tally : Tally) → s.limits ≡ M → read ≡ Some bytes → Consumes now next [] → IsAtEnd next
-      → Finishes deepest s s' i.given i.taken (Ok u) → tally.items ≡ n
+      → ReadingFinishes deepest s s' i.given i.taken (Ok u) → tally.items ≡ n
       → tally.types ≡ definition_count (types s.types) → tally.bytes ≡ m
       → EndsCounting tally_line (no_deeper deepest M) bytes next (Ok tally)
   counted_whole M s' next bytes u tally same known c end finish items_are types_are bytes_are =
@@ -114,9 +113,9 @@ module _ {s : Reading CheckBuilder Counts} {read now : Option (List ℕ)} {n m :
       })
 
   -- or within an item
-  pub counted_within : (M : Bounds) (s' : Reading CheckBuilder Counts) (next : Option (List ℕ)) (bytes : List ℕ) (e : Fault)
+  pub counted_within : (M : Bounds) (s' : Reading SkipBuilder (Unit {0})) (next : Option (List ℕ)) (bytes : List ℕ) (e : Fault)
       → s.limits ≡ M → read ≡ Some bytes → Consumes now next [] → IsAtEnd next
-      → Finishes deepest s s' i.given i.taken (Err e)
+      → ReadingFinishes deepest s s' i.given i.taken (Err e)
       → IsNoStream (no_deeper deepest M) bytes next (reading_fault e)
   counted_within M s' next bytes (reading.Refused R) same known c end finish =
       let all = all_taken read now next bytes i.taken known i.input c end in
@@ -154,7 +153,7 @@ module _ {s : Reading CheckBuilder Counts} {read now : Option (List ℕ)} {n m :
   count_stopped M next piece bytes reading.Failed same known c f = absurd f
 
 -- ---- within a piece
-pub items_fit : {s : Reading CheckBuilder Counts} {n : ℕ} {bytes : List ℕ} → HasCounted s n bytes
+pub items_fit : {s : Reading SkipBuilder (Unit {0})} {n : ℕ} {bytes : List ℕ} → HasCounted s n bytes
     → AreLimits deepest s.limits → n < 2 ^ 64
 items_fit h l =
     let bound = stands_within h.gave in
@@ -162,13 +161,13 @@ items_fit h l =
     omega (arith, l.stream, h.items_are)
 
 -- so many bytes and items, and no more, can be counted
-pub items_end : {s : Reading CheckBuilder Counts} {n : ℕ} {bytes : List ℕ} → HasCounted s n bytes
+pub items_end : {s : Reading SkipBuilder (Unit {0})} {n : ℕ} {bytes : List ℕ} → HasCounted s n bytes
     → n ≤ s.limits.stream + 9
 items_end h = let bound = stands_within h.gave in let few = items_within h.gave in omega (arith, h.items_are)
 
 -- the item of a value that stands whole
-pub counts_whole : {s s' : Reading CheckBuilder Counts} {id : TypeId} {used n n' : ℕ} {piece : List ℕ}
-    → PassesItem check_builder.stands-value.it tree_builder.stands-value.it deepest s s' id used piece → n' ≡ n + 1
+pub counts_whole : {s s' : Reading SkipBuilder (Unit {0})} {id : TypeId} {used n n' : ℕ} {piece : List ℕ}
+    → PassesItem skip_builder.stands-value.it tree_builder.stands-value.it deepest s s' id used piece → n' ≡ n + 1
     → (bytes : List ℕ) → HasCounted s n bytes → CountsOn s' n n' bytes piece used
 counts_whole {id = id} p e bytes h = record {
   within = p.within;
@@ -181,10 +180,10 @@ counts_whole {id = id} p e bytes h = record {
 }
 
 -- an item that is whole with the bytes of a step
-pub counts_item : {s s' : Reading CheckBuilder Counts} {used n n' : ℕ} {bytes piece : List ℕ}
-    {o : Option (declared.Item Counts)} {given : declared.Item Counts} → o ≡ Some given → n' ≡ n + 1
+pub counts_item : {s s' : Reading SkipBuilder (Unit {0})} {used n n' : ℕ} {bytes piece : List ℕ}
+    {o : Option (declared.Item (Unit {0}))} {given : declared.Item (Unit {0})} → o ≡ Some given → n' ≡ n + 1
     → (h : HasCounted s n bytes)
-    → AdvancesOver check_builder.stands-value.it tree_builder.stands-value.it check_builder.means-value.it deepest s'
+    → AdvancesOver skip_builder.stands-value.it tree_builder.stands-value.it skip_builder.means-value.it deepest s'
     h.given bytes piece used o → CountsOn s' n n' bytes piece used
 counts_item f e h (over_some l w a) = cc
 counts_item f e h (over_item {i = i} l w m a) = record {
@@ -198,9 +197,9 @@ counts_item f e h (over_item {i = i} l w m a) = record {
 }
 
 -- or none is
-pub counts_none : {s s' : Reading CheckBuilder Counts} {used n : ℕ} {bytes piece : List ℕ}
-    {o : Option (declared.Item Counts)} → o ≡ None → (h : HasCounted s n bytes)
-    → AdvancesOver check_builder.stands-value.it tree_builder.stands-value.it check_builder.means-value.it deepest s'
+pub counts_none : {s s' : Reading SkipBuilder (Unit {0})} {used n : ℕ} {bytes piece : List ℕ}
+    {o : Option (declared.Item (Unit {0}))} → o ≡ None → (h : HasCounted s n bytes)
+    → AdvancesOver skip_builder.stands-value.it tree_builder.stands-value.it skip_builder.means-value.it deepest s'
     h.given bytes piece used o → CountsOn s' n n bytes piece used
 counts_none f h (over_some l w a) = record {
   within = w;
@@ -210,8 +209,8 @@ counts_none f h (over_some l w a) = record {
 counts_none f h (over_item l w m a) = cc
 
 -- a step was refused
-pub step_stops : (s s' : Reading CheckBuilder Counts) (items : List StreamItem) (bytes piece : List ℕ) (e : Fault)
-    → Advances check_builder.stands-value.it tree_builder.stands-value.it check_builder.means-value.it deepest s s'
+pub step_stops : (s s' : Reading SkipBuilder (Unit {0})) (items : List StreamItem) (bytes piece : List ℕ) (e : Fault)
+    → Advances skip_builder.stands-value.it tree_builder.stands-value.it skip_builder.means-value.it deepest s s'
     items bytes piece (Err e) → StopsCounting (no_deeper deepest s.limits) (bytes ++ piece) e
 step_stops s s' items bytes piece (reading.Refused R) f = (items, f.0)
 step_stops s s' items bytes piece reading.Read f = absurd f
@@ -219,13 +218,13 @@ step_stops s s' items bytes piece reading.Memory f = tt
 step_stops s s' items bytes piece reading.Failed f = absurd f
 
 -- a session in which nothing has changed
-pub counted_still : {s s' : Session CheckBuilder Counts} {n : ℕ} {bytes : List ℕ} → s' ≡ s
+pub counted_still : {s s' : Session SkipBuilder (Unit {0})} {n : ℕ} {bytes : List ℕ} → s' ≡ s
     → HasCounted s.reading n bytes → HasCounted s'.reading n bytes
-counted_still {n = n} {bytes = bytes} e h = subst (λ (s : Session CheckBuilder Counts). HasCounted s.reading n bytes)
+counted_still {n = n} {bytes = bytes} e h = subst (λ (s : Session SkipBuilder (Unit {0})). HasCounted s.reading n bytes)
     (sym e) h
 
 -- from item to item
-pub counts_none_yet : {s : Reading CheckBuilder Counts} {n : ℕ} (piece bytes : List ℕ) → HasCounted s n bytes
+pub counts_none_yet : {s : Reading SkipBuilder (Unit {0})} {n : ℕ} (piece bytes : List ℕ) → HasCounted s n bytes
     → CountsUpTo s n bytes piece piece
 counts_none_yet {s = s} {n = n} piece bytes h = record {
   front = [];
@@ -233,7 +232,7 @@ counts_none_yet {s = s} {n = n} piece bytes h = record {
   counted = subst (λ (l : List ℕ). HasCounted s n l) (sym (append-nil bytes)) h;
 }
 
-pub counts_up_to : {s s' : Reading CheckBuilder Counts} {n n' used : ℕ} {bytes piece rest later : List ℕ}
+pub counts_up_to : {s s' : Reading SkipBuilder (Unit {0})} {n n' used : ℕ} {bytes piece rest later : List ℕ}
     → later ≡ drop used rest → (u : CountsUpTo s n bytes piece rest) → CountsOn s' n n' (bytes ++ u.front) rest used
     → CountsUpTo s' n' bytes piece later
 counts_up_to {s' = s'} {n' = n'} {used = used} {bytes = bytes} {rest = rest} so u on = record {
@@ -245,7 +244,7 @@ counts_up_to {s' = s'} {n' = n'} {used = used} {bytes = bytes} {rest = rest} so 
   counted = subst (λ (l : List ℕ). HasCounted s' n' l) (append_assoc bytes u.front (take used rest)) on.counted;
 }
 
-pub counts_falls : {s s' : Reading CheckBuilder Counts} {n n' used : ℕ} {bytes rest : List ℕ} → s'.limits ≡ s.limits
+pub counts_falls : {s s' : Reading SkipBuilder (Unit {0})} {n n' used : ℕ} {bytes rest : List ℕ} → s'.limits ≡ s.limits
     → HasCounted s n bytes → CountsOn s' n n' bytes rest used
     → length rest - used + (s'.limits.stream + 9 - n') < length rest + (s.limits.stream + 9 - n)
 counts_falls same h on =
@@ -255,7 +254,7 @@ counts_falls same h on =
     omega (arith, on.within, on.nearer)
 
 -- all of the piece was taken
-pub counts_piece : {s : Reading CheckBuilder Counts} {n : ℕ} {bytes piece rest : List ℕ} → length rest ≡ 0
+pub counts_piece : {s : Reading SkipBuilder (Unit {0})} {n : ℕ} {bytes piece rest : List ℕ} → length rest ≡ 0
     → CountsUpTo s n bytes piece rest → HasCounted s n (bytes ++ piece)
 counts_piece {s = s} {n = n} {bytes = bytes} {rest = []} none u =
     subst (λ (l : List ℕ). HasCounted s n (bytes ++ l)) (sym (u.whole ∙ append-nil u.front)) u.counted
@@ -267,7 +266,7 @@ pub stops_under : (L M : Bounds) (bytes : List ℕ) (e : Fault) → L ≡ M → 
 stops_under L M bytes e same f = subst (λ (L : Bounds). StopsCounting (no_deeper deepest L) bytes e) same f
 
 -- or the rest of it is refused
-pub stops_piece : {s : Reading CheckBuilder Counts} {n : ℕ} {bytes piece rest : List ℕ} (L M : Bounds) (e : Fault)
+pub stops_piece : {s : Reading SkipBuilder (Unit {0})} {n : ℕ} {bytes piece rest : List ℕ} (L M : Bounds) (e : Fault)
     → L ≡ M → (u : CountsUpTo s n bytes piece rest)
     → StopsCounting (no_deeper deepest L) ((bytes ++ u.front) ++ rest) e
     → StopsCounting (no_deeper deepest M) (bytes ++ piece) e
@@ -277,12 +276,12 @@ stops_piece {bytes = bytes} {piece = piece} {rest = rest} L M e same u f =
     (append_assoc bytes u.front rest ∙ ap (λ (l : List ℕ). bytes ++ l) (sym u.whole)) f)
 
 -- at the error that a `?` returns
-pub counts_all_at : (L : Bounds) (s : Reading CheckBuilder Counts) (n : ℕ) (bytes : List ℕ)
+pub counts_all_at : (L : Bounds) (s : Reading SkipBuilder (Unit {0})) (n : ℕ) (bytes : List ℕ)
     (r : Result (Unit {0}) Fault) (e : Fault) → IsErrAnd r (λ x. x ≡ e) → StopsCounting L bytes e → CountsAll L s n bytes r
 counts_all_at L s n bytes (Ok u) e is h = absurd is
 counts_all_at L s n bytes (Err g) e is h = subst (λ e. StopsCounting L bytes e) (sym is) h
 
-pub counts_front_at : (L : Bounds) (s : Reading CheckBuilder Counts) (n n' : ℕ) (bytes piece : List ℕ)
+pub counts_front_at : (L : Bounds) (s : Reading SkipBuilder (Unit {0})) (n n' : ℕ) (bytes piece : List ℕ)
     (r : Result ℕ Fault) (e : Fault) → IsErrAnd r (λ x. x ≡ e) → StopsCounting L (bytes ++ piece) e
     → CountsFront L s n n' bytes piece r
 counts_front_at L s n n' bytes piece (Ok u) e is h = absurd is
@@ -300,8 +299,8 @@ pub counting_reads_at : {A : Type 0} (failures failures' : ℕ) (r : Result A To
 counting_reads_at failures failures' (Ok a) f e h = absurd e
 counting_reads_at {A = A} failures failures' (Err g) f e h = subst (λ f. CountsCounting {A = A} failures failures' (Err f)) (sym e) h
 
-pub finish_reads : (A : Type 0) (s s' : Reading CheckBuilder Counts) (items : List StreamItem) (bytes : List ℕ)
-    (failures failures' : ℕ) (e : Fault) → Finishes deepest s s' items bytes (Err e) → failures' ≡ failures
+pub finish_reads : (A : Type 0) (s s' : Reading SkipBuilder (Unit {0})) (items : List StreamItem) (bytes : List ℕ)
+    (failures failures' : ℕ) (e : Fault) → ReadingFinishes deepest s s' items bytes (Err e) → failures' ≡ failures
     → CountsCounting {A = A} failures failures' (Err (reading_fault e))
 finish_reads A s s' items bytes failures failures' (reading.Refused R) f h = h
 finish_reads A s s' items bytes failures failures' reading.Read f h = absurd f
@@ -316,17 +315,17 @@ stop_reads A L bytes failures failures' reading.Memory f h = h
 stop_reads A L bytes failures failures' reading.Failed f h = absurd f
 
 -- ---- the run
-pub counted_as : {L : Bounds} {bytes : List ℕ} {now : Option (List ℕ)} {P Q : List ℕ → Type 0} → IsCounted L bytes now P
-    → ((line : List ℕ) → P line → Q line) → IsCounted L bytes now Q
+pub counted_as : {L : Bounds} {bytes : List ℕ} {now : Option (List ℕ)} {P Q : List ℕ → Type 0} → IsCountedStream L bytes now P
+    → ((line : List ℕ) → P line → Q line) → IsCountedStream L bytes now Q
 counted_as c f = record { items = c.items; table = c.table; stream = c.stream; end = c.end; holds = f _ c.holds }
 
 -- what went out of the line that was written
 pub written_as : {L : Bounds} {bytes : List ℕ} {now : Option (List ℕ)} (Q : List ℕ → Type 0) (text out : List ℕ)
-    → IsCounted L bytes now (λ line. text ≡ line) → out ≡ text → Q out → IsCounted L bytes now Q
+    → IsCountedStream L bytes now (λ line. text ≡ line) → out ≡ text → Q out → IsCountedStream L bytes now Q
 written_as Q text out c same q = counted_as c (λ line e. subst Q (same ∙ e) q)
 
 pub checks_cut : (L : Bounds) (bytes : List ℕ) (now old new : Option (List ℕ)) (r : Result (Unit {0}) ToolFault)
-    (f : ToolFault) → IsErrAnd r (λ e. e ≡ f) → f ≡ fault.Write → IsCounted L bytes now (AppendsFront old new)
+    (f : ToolFault) → IsErrAnd r (λ e. e ≡ f) → f ≡ fault.Write → IsCountedStream L bytes now (AppendsFront old new)
     → Checks L bytes now old new r
 checks_cut L bytes now old new (Ok u) f e write h = absurd e
 checks_cut L bytes now old new (Err g) f e write h = subst (λ f. Checks L bytes now old new (Err f)) (sym (e ∙ write))

@@ -15,16 +15,16 @@ use Rattle.gob_stream.specs.declared.reading.Reading.{Reading}
 use Rattle.gob_stream.specs.Bounds.{Bounds, greatest_depth, within_trees}
 use Rattle.gob_stream.specs.Item.{StreamItem}
 use Rattle.gob_stream.specs.Outcome.{GivesItems}
-use Rattle.gob_stream.specs.Reading.{SomeTaken, Finishes}
+use Rattle.gob_stream.specs.Reading.{SomeTaken, ReadingFinishes}
 use Rattle.gob_stream.specs.Whole.{IsBetween, HasBegun}
 use Rattle.gob_stream.proofs.PublicLaws.{after_gives, begun_gives, stands_within}
 use Rattle.gob_tool.specs.declared.fault.ToolFault.{ToolFault}
 use Rattle.gob_tool.specs.declared.fault.ToolFault.TheVariants as fault
 use Rattle.gob_tool.specs.Fault.{reading_fault}
-use Rattle.gob_tool.specs.Showing.{EndsWhole, Gives, Begins, Runs, AppendsFront}
-use Rattle.gob_tool.specs.Gathering.{Gathered, GaveItems, StandsBehind, StandsIn, StandsUpTo, TakesPiece}
+use Rattle.gob_tool.specs.Showing.{EndsWhole, GivesOutcome, BeginsOutcome, Runs, AppendsFront}
+use Rattle.gob_tool.specs.Gathering.{Gathered, GaveItems, StandsBehind, StandsGathered, StandsUpTo, TakesPiece}
 use Rattle.gob_tool.specs.Gathering.{StopsShowing, TakesFront}
-use Rattle.gob_tool.specs.Keeping.{Lacks, IsKept, none_kept, some_kept, KeepsBehind, KeepsIn, TakesKeeping, MayTakeFront}
+use Rattle.gob_tool.specs.Keeping.{Lacks, IsKeptFront, none_kept, some_kept, KeepsBehind, KeepsIn, TakesKeeping, MayTakeFront}
 use Rattle.gob_tool.proofs.ShowLaws.{ended, ended_within, stopped, gave_lines, known_taken, begins_more, refused_more}
 use Rattle.gob_tool.proofs.ShowLaws.{reads_first}
 use Rattle.gob_tool.proofs.ShowFront.{begun_so_far, front_under, stands_still}
@@ -91,18 +91,18 @@ keeps_more {s = s} {missing = missing} {bytes = bytes} {old = old} {new = new} {
 -- no memory was had to keep more
 pub keeps_begun : {s : Reading TreeBuilder Value} {kept bytes : List ℕ} {old new : Option (List ℕ)} {gathered : List ℕ}
     (more : List ℕ) → KeepsBehind s kept bytes old new gathered
-    → Begins (within_trees s.limits) (bytes ++ more) (Gathered old new gathered)
+    → BeginsOutcome (within_trees s.limits) (bytes ++ more) (Gathered old new gathered)
 keeps_begun {s = s} {kept = kept} {old = old} {new = new} {gathered = gathered} more k =
-    subst (λ (l : List ℕ). Begins (within_trees s.limits) l (Gathered old new gathered)) (kept_whole more k)
+    subst (λ (l : List ℕ). BeginsOutcome (within_trees s.limits) l (Gathered old new gathered)) (kept_whole more k)
     (begun_so_far (kept ++ more) k.behind)
 
 -- they are to be kept where an item has begun
 pub begun_kept : {X O : Type 0} {s : Reading X O} {id : TypeId} {head size : ℕ} {piece : List ℕ} → IsBetween s
-    → HasBegun s.limits (types s.types) s.taken id head size piece → IsKept s piece
+    → HasBegun s.limits (types s.types) s.taken id head size piece → IsKeptFront s piece
 begun_kept {size = size} {piece = piece} between h = some_kept (size - length piece) (lacks_some piece (length piece)
     between h refl refl)
 
-pub empty_kept : {X O : Type 0} {s : Reading X O} (piece : List ℕ) → length piece ≡ 0 → IsKept s piece
+pub empty_kept : {X O : Type 0} {s : Reading X O} (piece : List ℕ) → length piece ≡ 0 → IsKeptFront s piece
 empty_kept [] none = none_kept refl
 empty_kept (b ∷ piece) none = absurd (omega (arith, none))
 
@@ -128,7 +128,7 @@ keeps_none {kept = kept} {bytes = bytes} none b = record {
 -- what is behind the whole items of a piece is kept
 pub keeps_rest : {s : Reading TreeBuilder Value} {bytes piece rest kept : List ℕ} {old new : Option (List ℕ)}
     {gathered after : List ℕ} (u : StandsUpTo s bytes piece rest old new gathered) → kept ≡ rest → (s' : Reading TreeBuilder Value)
-    → StandsBehind s' (bytes ++ u.front) old new after × IsKept s' rest → KeepsBehind s' kept (bytes ++ piece) old new after
+    → StandsBehind s' (bytes ++ u.front) old new after × IsKeptFront s' rest → KeepsBehind s' kept (bytes ++ piece) old new after
 keeps_rest {bytes = bytes} {piece = piece} {rest = rest} {old = old} {new = new} {after = after} u e s' t =
     subst (λ (l : List ℕ). KeepsBehind s' l (bytes ++ piece) old new after) (sym e) (record {
       given = bytes ++ u.front;
@@ -190,10 +190,10 @@ may_stop {s = s} {s' = s'} {bytes = bytes} {old = old} {new = new} t piece after
 pub rest_begun : {s : Reading TreeBuilder Value} {bytes piece rest : List ℕ} {old new : Option (List ℕ)}
     {gathered after : List ℕ} (M : Bounds) (s' : Reading TreeBuilder Value) → s'.limits ≡ M
     → (u : StandsUpTo s bytes piece rest old new gathered) → StandsBehind s' (bytes ++ u.front) old new after
-    → Begins (within_trees M) (bytes ++ piece) (Gathered old new after)
+    → BeginsOutcome (within_trees M) (bytes ++ piece) (Gathered old new after)
 rest_begun {bytes = bytes} {piece = piece} {rest = rest} {old = old} {new = new} {after = after} M s' same u b =
-    subst (λ (L : Bounds). Begins (within_trees L) (bytes ++ piece) (Gathered old new after)) same
-    (subst (λ (l : List ℕ). Begins (within_trees s'.limits) l (Gathered old new after))
+    subst (λ (L : Bounds). BeginsOutcome (within_trees L) (bytes ++ piece) (Gathered old new after)) same
+    (subst (λ (l : List ℕ). BeginsOutcome (within_trees s'.limits) l (Gathered old new after))
     (append_assoc bytes u.front rest ∙ ap (λ (l : List ℕ). bytes ++ l) (sym u.whole)) (begun_so_far rest b))
 
 -- a piece in two
@@ -205,7 +205,7 @@ front_behind {behind = behind} n piece e f = ap (λ (l : List ℕ). l ++ behind)
 -- ---- the ends
 -- what was kept isn't whole, so the items that were given are all
 pub kept_gives : {s : Reading TreeBuilder Value} {kept bytes : List ℕ} {items : List StreamItem} → GaveItems s items bytes
-    → IsKept s kept → GivesItems base_table (within_trees s.limits) (bytes ++ kept) items
+    → IsKeptFront s kept → GivesItems base_table (within_trees s.limits) (bytes ++ kept) items
 kept_gives {s = s} {bytes = bytes} {items = items} a (none_kept e) =
     subst (λ (l : List ℕ). GivesItems base_table (within_trees s.limits) l items)
     (sym (append-nil bytes) ∙ ap (λ (l : List ℕ). bytes ++ l) (sym e)) (after_gives a)
@@ -215,13 +215,13 @@ kept_gives a (some_kept missing l) = begun_gives a l.between l.begun
 pub read_failed_keeping : (M : Bounds) (s : Reading TreeBuilder Value) (kept : List ℕ)
     (read now next old new : Option (List ℕ)) (bytes gathered : List ℕ) → s.limits ≡ M
     → (i : KeepsIn s kept read now old new gathered) → read ≡ Some bytes → Keeps now next
-    → SomeTaken bytes next (λ taken. Gives (within_trees M) taken (Gathered old new gathered))
+    → SomeTaken bytes next (λ taken. GivesOutcome (within_trees M) taken (Gathered old new gathered))
 read_failed_keeping M s kept read now next old new bytes gathered same i known k =
     let b = i.behind.behind in
     let g : GivesItems base_table (within_trees s.limits) i.taken b.items =
     subst (λ (l : List ℕ). GivesItems base_table (within_trees s.limits) l b.items) (sym i.behind.whole)
     (kept_gives b.gave i.behind.is_kept) in
-    subst (λ (L : Bounds). SomeTaken bytes next (λ taken. Gives (within_trees L) taken (Gathered old new gathered)))
+    subst (λ (L : Bounds). SomeTaken bytes next (λ taken. GivesOutcome (within_trees L) taken (Gathered old new gathered)))
     same (record {
       bytes = i.taken;
       taken = known_taken read next bytes i.taken known (Consumes-kept read now next i.taken i.input k);
@@ -235,7 +235,7 @@ read_failed_keeping M s kept read now next old new bytes gathered same i known k
 
 -- all was taken
 stands_there : {s : Reading TreeBuilder Value} {bytes : List ℕ} {old new : Option (List ℕ)} {gathered : List ℕ}
-    → StandsBehind s bytes old new gathered → StandsIn s (Some bytes) (Some []) old new gathered
+    → StandsBehind s bytes old new gathered → StandsGathered s (Some bytes) (Some []) old new gathered
 stands_there {bytes = bytes} b = record { taken = bytes; input = sym (append-nil bytes); behind = b }
 
 pub end_stopped : (L : Bounds) (s : Reading TreeBuilder Value) (old new : Option (List ℕ)) (bytes gathered : List ℕ)
@@ -247,7 +247,7 @@ end_stopped L s old new bytes gathered f t =
 pub end_whole : (M : Bounds) (s s' : Reading TreeBuilder Value) (old new : Option (List ℕ)) (bytes gathered : List ℕ)
     (u : Unit {0}) → s.limits ≡ M → StandsBehind s bytes old new gathered
     → ((items : List StreamItem) (taken : List ℕ) → GaveItems s items taken
-    → Finishes greatest_depth s s' items taken (Ok u))
+    → ReadingFinishes greatest_depth s s' items taken (Ok u))
     → EndsWhole (within_trees M) bytes (Some []) (Gathered old new gathered)
 end_whole M s s' old new bytes gathered u same b finish =
     ended M s s' (Some bytes) (Some []) (Some []) old new bytes gathered u same (stands_there b) refl refl refl finish
@@ -255,7 +255,7 @@ end_whole M s s' old new bytes gathered u same b finish =
 pub end_within : (M : Bounds) (s s' : Reading TreeBuilder Value) (old new : Option (List ℕ)) (bytes gathered : List ℕ)
     (C : List ℕ → Type 0) (e : Fault) → s.limits ≡ M → StandsBehind s bytes old new gathered
     → ((items : List StreamItem) (taken : List ℕ) → GaveItems s items taken
-    → Finishes greatest_depth s s' items taken (Err e))
+    → ReadingFinishes greatest_depth s s' items taken (Err e))
     → Runs (within_trees M) bytes (Some []) (Gathered old new gathered) C (Err (reading_fault e))
 end_within M s s' old new bytes gathered C e same b finish =
     ended_within M s s' (Some bytes) (Some []) (Some []) old new bytes gathered C e same (stands_there b) refl refl refl
@@ -286,7 +286,7 @@ keeps_on after read now next old mid new gathered more piece i c b = record
 
 -- how much was taken or kept
 pub kept_within : {s : Reading TreeBuilder Value} {kept bytes : List ℕ} {items : List StreamItem} → GaveItems s items bytes
-    → IsKept s kept → length bytes + length kept ≤ s.limits.stream + 9
+    → IsKeptFront s kept → length bytes + length kept ≤ s.limits.stream + 9
 kept_within a (none_kept e) = let bound = stands_within a in omega (arith, ap length e)
 kept_within {kept = kept} a (some_kept missing l) = omega (arith, l.begun.stream, l.begun.short, a.taken)
 

@@ -1,11 +1,6 @@
-pub mod DigitLaws
-pub mod TextLaws
-pub mod LeafLaws
-pub mod TextSteps
-pub mod LineLaws
+pub mod BlockLaws
+pub mod SentLaws
 pub mod PrintLaws
-pub mod WrittenLaws
-pub mod TapeLaws
 pub mod WordLaws
 pub mod FrontLaws
 pub mod LinesStay
@@ -13,6 +8,7 @@ pub mod GatherLaws
 pub mod ShowLaws
 pub mod ShowWhole
 pub mod ShowFront
+pub mod LargeLaws
 pub mod KeepLaws
 pub mod TakeLaws
 pub mod PieceLaws
@@ -23,6 +19,7 @@ pub mod PieceRuns
 pub mod CheckLaws
 pub mod TidyStays
 pub mod RewriteLaws
+pub mod RewriteOut
 pub mod RewriteRuns
 pub mod RewriteWhole
 pub mod RewriteKeeping

@@ -21,9 +21,10 @@ use Rattle.gob_stream.specs.Bounds.{Bounds}
 use Rattle.gob_stream.specs.Item.{StreamItem, defines, puts}
 use Rattle.gob_stream.specs.Body.{Body, definition, value}
 use Rattle.gob_stream.specs.Stream.{counted, Continues, no_more, and_then}
-use Rattle.gob_tool.specs.Json.{element_type, key_type, struct_fields, field_type, id_json, value_json, elements_json}
-use Rattle.gob_tool.specs.Json.{pairs_json, fields_json}
-use Rattle.gob_tool.specs.Line.{definition_json, line, lines}
+use Rattle.gob_json.specs.Json.{element_type, key_type, struct_fields, field_type, id_json, value_json, elements_json}
+use Rattle.gob_json.specs.Json.{pairs_json, fields_json}
+use Rattle.gob_json.specs.DefinitionJson.{definition_json}
+use Rattle.gob_tool.specs.Line.{line, lines}
 
 -- the type has a shape of this kind
 record HasKind (T : Table) (t : TypeId) (k : Kind) : Type 0 where

@@ -15,7 +15,7 @@ use Rattle.gob_stream.specs.declared.reading.Reading.{Reading}
 use Rattle.gob_stream.specs.Bounds.{Bounds, greatest_depth, within_trees}
 use Rattle.gob_stream.specs.Item.{StreamItem, item_views}
 use Rattle.gob_stream.specs.Stream.{Stream}
-use Rattle.gob_stream.specs.Reading.{Feeds, Finishes}
+use Rattle.gob_stream.specs.Reading.{Feeds, ReadingFinishes}
 use Rattle.gob_stream.proofs.PublicLaws.{views_meant}
 use Rattle.gob_tool.specs.Gathering.{GaveItems}
 use Rattle.gob_tool.specs.Pieces.{TypesBehind, EndsPiece, GivesPiece, CountsPiece}
@@ -64,12 +64,12 @@ gives_none s s' items taken given read now result none c same gave ends =
 
 -- the input ended
 pub ends_whole : (s s' : Reading TreeBuilder Value) (items : List StreamItem) (taken : List ℕ) (now : Option (List ℕ))
-    (u : Unit {0}) → Finishes greatest_depth s s' items taken (Ok u) → IsAtEnd now
+    (u : Unit {0}) → ReadingFinishes greatest_depth s s' items taken (Ok u) → IsAtEnd now
     → EndsPiece (within_trees s.limits) s s' items taken now (Ok false)
 ends_whole s s' items taken now u f end = (f.0, end)
 
 pub ends_within : (s s' : Reading TreeBuilder Value) (items : List StreamItem) (taken : List ℕ) (now : Option (List ℕ))
-    (e : Fault) → Finishes greatest_depth s s' items taken (Err e) → IsAtEnd now
+    (e : Fault) → ReadingFinishes greatest_depth s s' items taken (Err e) → IsAtEnd now
     → EndsPiece (within_trees s.limits) s s' items taken now (Err e)
 ends_within s s' items taken now (reading.Refused R) f end = (f.0, inr end)
 ends_within s s' items taken now reading.Read f end = absurd f
@@ -77,7 +77,7 @@ ends_within s s' items taken now reading.Memory f end = absurd f
 ends_within s s' items taken now reading.Failed f end = absurd f
 
 pub finish_unread : (s s' : Reading TreeBuilder Value) (items : List StreamItem) (taken : List ℕ)
-    (failures failures' : ℕ) (e : Fault) → Finishes greatest_depth s s' items taken (Err e) → failures' ≡ failures
+    (failures failures' : ℕ) (e : Fault) → ReadingFinishes greatest_depth s s' items taken (Err e) → failures' ≡ failures
     → CountsPiece {A = Bool} failures failures' (Err e)
 finish_unread s s' items taken failures failures' (reading.Refused R) f h = h
 finish_unread s s' items taken failures failures' reading.Read f h = absurd f

@@ -21,7 +21,7 @@ use Rattle.gob_stream.specs.Outcome.{BeginsWith}
 use Rattle.gob_stream.specs.Stream.{counted, Continues, no_more, and_then, Stream}
 use Rattle.gob_stream.proofs.PublicLaws.{one_table}
 use Rattle.gob_tool.specs.Pieces.{TypesBehind, AreSent, none_sent, defined, sent, ReceivesFirst, ClashesNext}
-use Rattle.gob_tool.specs.Taking.{AreReceived, no_item, definition, value, HasReceived, ReceivesFront, ClashesBehind}
+use Rattle.gob_tool.specs.Taking.{AreReceived, no_item, definition, value, HasTakenItems, ReceivesFront, ClashesBehind}
 use Rattle.gob_tool.proofs.LinesStay.{stream_keeps, keeps_on, first_items}
 
 -- ---- what was sent
@@ -121,7 +121,7 @@ keeps_of {L = L} {bytes = bytes} {T = T} {items = items} t b =
 module _ {L : Bounds} {bytes : List ℕ} {T U : Table} {u : TypeId} (wanted : IsReady U u) where
   -- the lines are the same by the types of any stream of the items
   pub received_begins : {items : List StreamItem} {P : List ℕ → Type 0} → TypesBehind L bytes items T
-      → (b : BeginsWith base_table L bytes items) → HasReceived T U u items P → HasReceived b.table U u items P
+      → (b : BeginsWith base_table L bytes items) → HasTakenItems T U u items P → HasTakenItems b.table U u items P
   received_begins t b h = record
       { lines = h.lines; received = received_back wanted b.stream (keeps_of t b) h.received; holds = h.holds }
 

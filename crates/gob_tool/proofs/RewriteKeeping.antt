@@ -20,23 +20,25 @@ use Rattle.gob_tape.specs.declared.tape_builder.TapeBuilder.{TapeBuilder}
 use Rattle.gob_tool.specs.declared.fault.ToolFault.{ToolFault}
 use Rattle.gob_tool.specs.declared.fault.ToolFault.TheVariants as fault
 use Rattle.gob_tool.specs.Gathering.{Gathered, PassesSome}
-use Rattle.gob_tool.specs.Keeping.{Lacks, IsKept, none_kept, some_kept}
+use Rattle.gob_tool.specs.Keeping.{Lacks, IsKeptFront, none_kept, some_kept}
 use Rattle.gob_tool.specs.Showing.{AppendsFront}
 use Rattle.gob_tool.specs.Rewriting.{RewritesToRefusal, RewritesGiven, RewritesFront, HasTidyStream}
-use Rattle.gob_tool.specs.Rewritten.{GaveTapes, HasRewritten, Adds, RewritesOn, RewritesSome, RewritesUpTo, RewritesPiece}
-use Rattle.gob_tool.specs.Rewritten.{RewritesKeeping, RewritesKept, MayRewriteFront}
+use Rattle.gob_tool.specs.Rewritten.{GaveTapes, HasRewritten, Adds, RewritesOn, RewritesUpTo, RewritesPiece}
+use Rattle.gob_tool.specs.Rewritten.{RewritesKeeping, RewritesKept, MayRewriteFront, StandsStill}
 use Rattle.gob_tool.proofs.ShowLaws.{gathered_grown, front_grown, known_taken}
 use Rattle.gob_tool.proofs.KeepLaws.{lacks_still}
 use Rattle.gob_tool.proofs.RewriteRuns.{tidy_there, front_there, tidy_as, front_more, refused_more, rewrites_first}
 use Rattle.gob_tool.proofs.RewriteRuns.{rewrites_on, up_to_none}
 
 -- ---- what the answers say
-pub may_at : {s : Reading TapeBuilder Tape} {w : StreamWriter} (h : HasRewritten s w) (s' : Reading TapeBuilder Tape)
-    (w' : StreamWriter) (piece before after : List ℕ) (r : Result (Option ℕ) Fault) (e : Fault) → IsErrAnd r (λ x. x ≡ e)
-    → RewritesSome h s' w' piece before after (Err e) → MayRewriteFront h s' w' piece before after r
-may_at h s' w' piece before after (Ok used) e is x = absurd is
-may_at h s' w' piece before after (Err f) e is x =
-    subst (λ e. RewritesSome h s' w' piece before after (Err e)) (sym is) x
+pub front_at : {s : Reading TapeBuilder Tape} {w : StreamWriter} (h : HasRewritten s w) (s' : Reading TapeBuilder Tape)
+    (w' : StreamWriter) (piece : List ℕ) (old new : Option (List ℕ)) (before after : List ℕ)
+    (r : Result (Option ℕ) ToolFault) (f : ToolFault) → IsErrAnd r (λ x. x ≡ f)
+    → RewritesPiece (no_deeper deepest s.limits) h s' w' piece old new before after (Err f)
+    → MayRewriteFront h s' w' piece old new before after r
+front_at h s' w' piece old new before after (Ok used) f is x = absurd is
+front_at {s = s} h s' w' piece old new before after (Err e) f is x =
+    subst (λ f. RewritesPiece (no_deeper deepest s.limits) h s' w' piece old new before after (Err f)) (sym is) x
 
 pub keeping_at : (L : Bounds) {s : Reading TapeBuilder Tape} {w : StreamWriter} (h : HasRewritten s w)
     (s' : Reading TapeBuilder Tape) (w' : StreamWriter) (kept piece : List ℕ) (old new : Option (List ℕ))
@@ -59,40 +61,45 @@ module _ {s : Reading TapeBuilder Tape} {w : StreamWriter} (h : HasRewritten s w
   -- more of an item, and not yet all
   pub kept_more : {missing : ℕ} {kept after : List ℕ} (piece : List ℕ) (out : Option (List ℕ)) (before : List ℕ)
       → Lacks s missing kept → length piece < missing → after ≡ kept ++ piece
-      → RewritesUpTo h s w (kept ++ piece) after out out before before × IsKept s after
+      → RewritesUpTo h s w (kept ++ piece) after out out before before × IsKeptFront s after
   kept_more {missing = missing} {kept = kept} piece out before l few e =
-      subst (λ (y : List ℕ). RewritesUpTo h s w (kept ++ piece) y out out before before × IsKept s y) (sym e)
+      subst (λ (y : List ℕ). RewritesUpTo h s w (kept ++ piece) y out out before before × IsKeptFront s y) (sym e)
       (up_to_none h (kept ++ piece) out before, some_kept (missing - length piece) (lacks_still piece l few))
 
   -- what is behind the whole items of a piece is kept
   pub rest_kept : {s1 s2 : Reading TapeBuilder Tape} {w1 w2 : StreamWriter} {piece rest kept : List ℕ}
-      {old new : Option (List ℕ)} {before g1 g2 : List ℕ} → RewritesUpTo h s1 w1 piece rest old new before g1
-      → kept ≡ rest → (s2 ≡ s1) × (w2 ≡ w1) × (g2 ≡ g1) × IsKept s2 rest
-      → RewritesUpTo h s2 w2 piece kept old new before g2 × IsKept s2 kept
-  rest_kept {s1 = s1} {s2 = s2} {w1 = w1} {w2 = w2} {piece = piece} {rest = rest} {kept = kept} {old = old} {new = new}
-      {before = before} {g1 = g1} {g2 = g2} u e x =
-      let v = subst (λ (s : Reading TapeBuilder Tape). RewritesUpTo h s w1 piece rest old new before g1) (sym x.0) u in
-      let v1 = subst (λ (w : StreamWriter). RewritesUpTo h s2 w piece rest old new before g1) (sym x.1) v in
-      let v2 = subst (λ (g : List ℕ). RewritesUpTo h s2 w2 piece rest old new before g) (sym x.2) v1 in
-      subst (λ (k : List ℕ). RewritesUpTo h s2 w2 piece k old new before g2 × IsKept s2 k) (sym e) (v2, x.3)
+      {old mid new : Option (List ℕ)} {before g1 g2 : List ℕ} → RewritesUpTo h s1 w1 piece rest old mid before g1
+      → kept ≡ rest → StandsStill s1 s2 w1 w2 mid new g1 g2 × IsKeptFront s2 rest
+      → RewritesUpTo h s2 w2 piece kept old new before g2 × IsKeptFront s2 kept
+  rest_kept {s1 = s1} {s2 = s2} {w1 = w1} {w2 = w2} {piece = piece} {rest = rest} {kept = kept} {old = old} {mid = mid}
+      {new = new} {before = before} {g1 = g1} {g2 = g2} u e x =
+      let still = x.0 in
+      let v = subst (λ (s : Reading TapeBuilder Tape). RewritesUpTo h s w1 piece rest old mid before g1) (sym still.0) u in
+      let v1 = subst (λ (w : StreamWriter). RewritesUpTo h s2 w piece rest old mid before g1) (sym still.1) v in
+      let v2 = subst (λ (o : Option (List ℕ)). RewritesUpTo h s2 w2 piece rest old o before g1) (sym still.2) v1 in
+      let v3 = subst (λ (g : List ℕ). RewritesUpTo h s2 w2 piece rest old new before g) (sym still.3) v2 in
+      subst (λ (k : List ℕ). RewritesUpTo h s2 w2 piece k old new before g2 × IsKeptFront s2 k) (sym e) (v3, x.1)
 
   -- no memory was had to keep it
   pub rest_begun : {s1 s2 : Reading TapeBuilder Tape} {w1 w2 : StreamWriter} {piece rest : List ℕ}
-      {old new : Option (List ℕ)} {before g1 g2 : List ℕ} (M : Bounds) → s1.limits ≡ M
-      → RewritesUpTo h s1 w1 piece rest old new before g1
-      → (s2 ≡ s1) × (w2 ≡ w1) × (g2 ≡ g1) × IsKept s2 rest
+      {old mid new : Option (List ℕ)} {before g1 g2 : List ℕ} (M : Bounds) → s1.limits ≡ M
+      → RewritesUpTo h s1 w1 piece rest old mid before g1
+      → StandsStill s1 s2 w1 w2 mid new g1 g2 × IsKeptFront s2 rest
       → RewritesFront (no_deeper deepest M) (h.taken ++ piece)
       (Adds h.written (λ more. PassesSome old new (before ++ more) g2))
-  rest_begun {s1 = s1} {piece = piece} {rest = rest} {old = old} {new = new} {before = before} {g1 = g1} {g2 = g2} M same
-      u x =
-      let P : List ℕ → List ℕ → Type 0 = λ g. Adds h.written (λ more. PassesSome old new (before ++ more) g) in
+  rest_begun {s1 = s1} {piece = piece} {rest = rest} {old = old} {mid = mid} {new = new} {before = before} {g1 = g1}
+      {g2 = g2} M same u x =
+      let still = x.0 in
+      let P : Option (List ℕ) → List ℕ → List ℕ → Type 0 =
+      λ out g. Adds h.written (λ more. PassesSome old out (before ++ more) g) in
       let all : u.on.next.taken ++ rest ≡ h.taken ++ piece =
       ap (λ (l : List ℕ). l ++ rest) u.on.taken ∙ append_assoc h.taken u.front rest
       ∙ ap (λ (l : List ℕ). h.taken ++ l) (sym u.whole) in
-      subst (λ (L : Bounds). RewritesFront (no_deeper deepest L) (h.taken ++ piece) (P g2)) same
-      (subst (λ (g : List ℕ). RewritesFront (no_deeper deepest s1.limits) (h.taken ++ piece) (P g)) (sym x.2)
-      (subst (λ (l : List ℕ). RewritesFront (no_deeper deepest s1.limits) l (P g1)) all
-      (front_there u.on.next rest (P g1) u.on.adds)))
+      subst (λ (L : Bounds). RewritesFront (no_deeper deepest L) (h.taken ++ piece) (P new g2)) same
+      (subst (λ (o : Option (List ℕ)). RewritesFront (no_deeper deepest s1.limits) (h.taken ++ piece) (P o g2)) (sym still.2)
+      (subst (λ (g : List ℕ). RewritesFront (no_deeper deepest s1.limits) (h.taken ++ piece) (P mid g)) (sym still.3)
+      (subst (λ (l : List ℕ). RewritesFront (no_deeper deepest s1.limits) l (P mid g1)) all
+      (front_there u.on.next rest (P mid g1) u.on.adds))))
 
   -- ---- a piece in two
   module _ {s1 : Reading TapeBuilder Tape} {w1 : StreamWriter} {front : List ℕ} (old mid : Option (List ℕ))
@@ -193,12 +200,12 @@ module _ {s : Reading TapeBuilder Tape} {w : StreamWriter} (h : HasRewritten s w
   fault_more L s' s2 w' w2 bytes all more old new before after fault.Read e x = absurd x
 
   -- how many bytes were taken or are kept
-  kept_within : {kept : List ℕ} → IsKept s kept → length h.taken + length kept ≤ s.limits.stream + 9
+  kept_within : {kept : List ℕ} → IsKeptFront s kept → length h.taken + length kept ≤ s.limits.stream + 9
   kept_within (none_kept e) = let bound = stands_within h.gave in omega (arith, ap length e)
   kept_within {kept = kept} (some_kept missing l) = omega (arith, l.begun.stream, l.begun.short, h.gave.taken)
 
   -- what was kept isn't whole, so the items that were given are all
-  kept_gives : {kept : List ℕ} → IsKept s kept
+  kept_gives : {kept : List ℕ} → IsKeptFront s kept
       → GivesItems base_table (no_deeper deepest s.limits) (h.taken ++ kept) h.items
   kept_gives (none_kept e) =
       subst (λ (l : List ℕ). GivesItems base_table (no_deeper deepest s.limits) l h.items)
@@ -259,7 +266,7 @@ module _ {s : Reading TapeBuilder Tape} {w : StreamWriter} {kept : List ℕ} {re
 
   pub keeps_on : {s' : Reading TapeBuilder Tape} {w' : StreamWriter} {next new : Option (List ℕ)} {after later : List ℕ}
       (piece : List ℕ) → Consumes now next piece
-      → RewritesUpTo i.taken.so_far s' w' (kept ++ piece) later mid new gathered after × IsKept s' later
+      → RewritesUpTo i.taken.so_far s' w' (kept ++ piece) later mid new gathered after × IsKeptFront s' later
       → RewritesKept s' w' later read next old new after
   keeps_on {next = next} {later = later} piece c x =
       let t = in_two i.behind next x.0.front later (subst (λ (l : List ℕ). Consumes i.behind next l) x.0.whole
@@ -273,7 +280,7 @@ module _ {s : Reading TapeBuilder Tape} {w : StreamWriter} {kept : List ℕ} {re
 
   -- each piece brings the run nearer to where it has to stop
   pub falls_keeping : {s' : Reading TapeBuilder Tape} {w' : StreamWriter} {new : Option (List ℕ)} {after later : List ℕ}
-      (piece : List ℕ) → RewritesUpTo i.taken.so_far s' w' (kept ++ piece) later mid new gathered after × IsKept s' later
+      (piece : List ℕ) → RewritesUpTo i.taken.so_far s' w' (kept ++ piece) later mid new gathered after × IsKeptFront s' later
       → s'.limits ≡ s.limits → 0 < length piece
       → s'.limits.stream + 9 - (s'.taken + length later) < s.limits.stream + 9 - (s.taken + length kept)
   falls_keeping {later = later} piece x same some =

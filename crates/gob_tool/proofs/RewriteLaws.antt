@@ -3,6 +3,7 @@ use Rattle.std.proofs.Common.{◌≡◌, ◌≢◌, ℕ, ◌≤◌, ◌⊎◌, i
 use Rattle.std.proofs.Common.{◌∙◌, ap, sym, subst, refl, length-append}
 use Rattle.std.proofs.lemmas.List.{take-append-le}
 use Rattle.std.proofs.Math.Seq.{take-length}
+use Rattle.std.specs.Io.KnownBytes.{Appends}
 use Rattle.std.specs.Result.{IsErrAnd}
 use Rattle.gob_types.specs.declared.id.TypeId.{TypeId}
 use Rattle.gob_types.specs.Base.{base_table, wire_type}
@@ -29,17 +30,18 @@ use Rattle.gob_stream.specs.declared.writer.StreamWriter.{StreamWriter}
 use Rattle.gob_stream.specs.Body.{definition, value}
 use Rattle.gob_stream.specs.Bounds.{Bounds, deepest, no_deeper, within_trees}
 use Rattle.gob_stream.specs.Item.{StreamItem, defines, puts, ItemMeans, means_definition, means_value}
-use Rattle.gob_stream.specs.Stream.{no_more, and_then, Counted, counted}
+use Rattle.gob_stream.specs.Stream.{no_more, and_then, Counted, counted, Stream}
 use Rattle.gob_stream.specs.Writing.{HasWritten, WritesNext, Leaves, IsSpelledAs, IsSpelling}
 use Rattle.gob_stream.proofs.PublicLaws.{not_counted, one_counted}
-use Rattle.gob_stream.proofs.PublicLaws.{counted_prefix}
+use Rattle.gob_stream.proofs.PublicLaws.{counted_prefix, one_more}
 use Rattle.gob_stream.proofs.PublicLaws.{wire_ready}
 use Rattle.gob_tape.specs.declared.tape.Tape.{Tape}
 use Rattle.gob_tape.specs.declared.tape_builder.TapeBuilder.{TapeBuilder}
 use Rattle.gob_tape.specs.Meaning.{Means, MeansFitting}
-use Rattle.gob_tool.specs.Rewriting.{content, content_type, with_content, AreTidied, no_item, and_item}
+use Rattle.gob_tool.specs.Rewriting.{content, content_type, with_content, AreItemsTidied, no_item, and_item}
 use Rattle.gob_tool.specs.Rewritten.{IsTape, bounds_for, StandsThere, IsOfStream, WritesForm, HasRewritten, ComesNext}
-use Rattle.gob_tool.specs.Rewritten.{IsNext, SpellsTidy, Pushes}
+use Rattle.gob_tool.specs.Rewritten.{IsNextTape, SpellsTidy, Pushes, GoesOnRewriting, IsTidiedItem}
+use Rattle.gob_tool.specs.Showing.{AppendsFront}
 use Rattle.gob_tool.proofs.LinesStay.{stream_keeps, keeps_on}
 use Rattle.gob_tool.proofs.TidyStays.{tidies_on, tidies_back, CountedShort, form_counted}
 
@@ -174,12 +176,12 @@ value_meant (means_value {id = t} {out = out} {v = v} m) e =
 
 -- ---- from item to item
 pub keeps_to : {L : Bounds} {T V : Table} {o : ℕ} {i : StreamItem} {b : List ℕ} {items others : List StreamItem}
-    → Counted base_table L T o i b V → AreTidied T items others → AreTidied V items others
+    → Counted base_table L T o i b V → AreItemsTidied T items others → AreItemsTidied V items others
 keeps_to q no_item = no_item
 keeps_to q (and_item p ps) = and_item (tidies_on (item_keeps q) p) (keeps_to q ps)
 
-tidied_more : {T : Table} {items others : List StreamItem} {v : Tree} (i : StreamItem) → AreTidied T items others
-    → Tidies T (content_type i) (content i) v → AreTidied T (items ++ i ∷ []) (others ++ with_content i v ∷ [])
+tidied_more : {T : Table} {items others : List StreamItem} {v : Tree} (i : StreamItem) → AreItemsTidied T items others
+    → Tidies T (content_type i) (content i) v → AreItemsTidied T (items ++ i ∷ []) (others ++ with_content i v ∷ [])
 tidied_more i no_item p = and_item p no_item
 tidied_more i (and_item q qs) p = and_item q (tidied_more i qs p)
 
@@ -234,14 +236,14 @@ module _ {s : Reading TapeBuilder Tape} {w : StreamWriter} {h : HasRewritten s w
       let why = subst (λ r. WritesNext (bounds_for s.limits i) w w' (with_content i x.form) old new r) same x.writes in
       absurd (why h.tidy h.written (types s.types) h.has)
 
-  -- it was gathered
-  pub pushed : {w' : StreamWriter} {before after : List ℕ} {r : Result (Unit {0}) WriteFault} (u : Unit {0})
-      → WritesIt w' (Some before) (Some after) r → r ≡ Ok u → Pushes n w' before after (Ok u)
-  pushed {w' = w'} {before = before} {after = after} u writes same =
+  -- it went out
+  pub went_out : {w' : StreamWriter} {old new : Option (List ℕ)} {r : Result (Unit {0}) WriteFault} (u : Unit {0})
+      → WritesIt w' old new r → r ≡ Ok u → (g : GoesOnRewriting n w') × Appends old new g.more
+  went_out {w' = w'} {old = old} {new = new} u writes same =
       let x = wrote writes (λ (memory : _ ≡ Err write.Memory). cc) in
       let c = can_stand x.form x.tidies x.fits in
       let j = with_content i x.form in
-      let done = subst (λ r. WritesNext (bounds_for s.limits i) w w' j (Some before) (Some after) r) same x.writes in
+      let done = subst (λ r. WritesNext (bounds_for s.limits i) w w' j old new r) same x.writes in
       let o = done h.tidy h.written (types s.types) h.has in
       let bytes : o.more ≡ c.bytes = one_counted o.item c.counted in
       let one = counted_prefix [] [] o.item c.counted (ap (λ (l : List ℕ). l ++ []) bytes) in (
@@ -262,6 +264,11 @@ module _ {s : Reading TapeBuilder Tape} {w : StreamWriter} {h : HasRewritten s w
         },
         o.out,
       )
+
+  -- it was gathered
+  pub pushed : {w' : StreamWriter} {before after : List ℕ} {r : Result (Unit {0}) WriteFault} (u : Unit {0})
+      → WritesIt w' (Some before) (Some after) r → r ≡ Ok u → Pushes n w' before after (Ok u)
+  pushed u writes same = went_out u writes same
 
   -- or a front of it, which is taken back
   pub taken_back : {w' : StreamWriter} {before some : List ℕ} {r : Result (Unit {0}) WriteFault} (e : WriteFault)
@@ -289,8 +296,32 @@ module _ {s : Reading TapeBuilder Tape} {w : StreamWriter} {h : HasRewritten s w
   pushes_as u e f p = (p.0, sym f ∙ p.1 ∙ ap (λ (l : List ℕ). l ++ p.0.more) e)
 
 pub of_stream : {s : Reading TapeBuilder Tape} {w : StreamWriter} {h : HasRewritten s w} {U : Table}
-    {g : declared.Item Tape} → IsNext h U g → IsOfStream (no_deeper deepest w.limits) (types w.types) U g
+    {g : declared.Item Tape} → IsNextTape h U g → IsOfStream (no_deeper deepest w.limits) (types w.types) U g
 of_stream n = record { item = n.item; meant = n.meant; there = stands_there n.next }
+
+-- a front of a value went out
+pub cut_out : {s : Reading TapeBuilder Tape} {w : StreamWriter} {h : HasRewritten s w} {t : TypeId} {v : Tree} {U : Table}
+    (n : ComesNext h (puts t v) U) {w' : StreamWriter} {old new : Option (List ℕ)} {r : Result (Unit {0}) WriteFault}
+    → WritesIt n w' old new r → r ≡ Err write.Write
+    → (more : List ℕ) × IsTidiedItem n more × AppendsFront old new more
+cut_out {s = s} {w = w} {h = h} {t = t} {v = v} n {w' = w'} {old = old} {new = new} writes same =
+    let x = wrote n writes (λ (memory : _ ≡ Err write.Memory). cc) in
+    let c = can_stand n x.form x.tidies x.fits in
+    let j = puts t x.form in
+    let cut = subst (λ r. WritesNext s.limits w w' j old new r) same x.writes in
+    let o = cut h.tidy h.written (types s.types) h.has in
+    let all = o.front ++ o.rest in
+    let one = counted_prefix [] [] o.item c.counted (ap (λ (l : List ℕ). l ++ []) (one_counted o.item c.counted)) in
+    let before = subst (λ (L : Bounds). Stream base_table L h.tidy h.written (types s.types)) h.limits h.has.stream in (
+      all,
+      record {
+        tidy = h.tidy ++ j ∷ [];
+        tidied = tidied_more (puts t v) (keeps_to n.counted h.tidied) (tidies_on (item_keeps n.counted) x.tidies);
+        stream = subst (λ (T : Table). Stream base_table s.limits (h.tidy ++ j ∷ []) (h.written ++ all) T) one.table
+            (one_more before (omega arith) o.item);
+      },
+      record { front = o.front; rest = o.rest; whole = refl; out = o.out },
+    )
 
 -- ---- a value that is its own tidy form
 pub itself_spelled : {L : Bounds} {T U : Table} {t : TypeId} {v : Tree} {body spelling : List ℕ}

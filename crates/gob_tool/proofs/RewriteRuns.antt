@@ -21,7 +21,7 @@ use Rattle.gob_stream.specs.Bounds.{Bounds, AreLimits, deepest, no_deeper}
 use Rattle.gob_stream.specs.Item.{StreamItem, ItemMeans}
 use Rattle.gob_stream.specs.Outcome.{BeginsWith, Outcome, refused}
 use Rattle.gob_stream.specs.ReadParts.{Advances, AdvancesOver, over_some, over_item}
-use Rattle.gob_stream.specs.Reading.{Finishes, SomeTaken}
+use Rattle.gob_stream.specs.Reading.{ReadingFinishes, SomeTaken}
 use Rattle.gob_stream.specs.Stream.{Stream, Continues, no_more, and_then, Counted}
 use Rattle.gob_stream.specs.Writing.{HasWritten, IsNew}
 use Rattle.gob_stream.proofs.PublicLaws.{after_gives, one_table, limits_stay}
@@ -34,10 +34,10 @@ use Rattle.gob_tool.specs.declared.fault.ToolFault.TheVariants as fault
 use Rattle.gob_tool.specs.Fault.{reading_fault}
 use Rattle.gob_tool.specs.Gathering.{Gathered, PassesSome, CountsOnlyReads}
 use Rattle.gob_tool.specs.Showing.{AppendsFront}
-use Rattle.gob_tool.specs.Rewriting.{AreTidied, no_item, HasTidyStream, RewritesWhole, RewritesToRefusal, RewritesGiven}
+use Rattle.gob_tool.specs.Rewriting.{AreItemsTidied, no_item, HasTidyStream, RewritesWhole, RewritesToRefusal, RewritesGiven}
 use Rattle.gob_tool.specs.Rewriting.{RewritesFront, RewritesSo}
-use Rattle.gob_tool.specs.Rewritten.{GaveTapes, IsTape, HasRewritten, ComesNext, IsNext, GoesOn, Pushes, Adds, RewritesOn}
-use Rattle.gob_tool.specs.Rewritten.{RewritesSome, RewritesUpTo, RewritesPiece, RewritesIn}
+use Rattle.gob_tool.specs.Rewritten.{GaveTapes, IsTape, HasRewritten, ComesNext, IsNextTape, GoesOnRewriting, Pushes, Adds, RewritesOn}
+use Rattle.gob_tool.specs.Rewritten.{RewritesSome, RewritesUpTo, RewritesPiece, RewritesIn, RewritesUsed, StandsStill}
 use Rattle.gob_tool.proofs.PieceRuns.{shown_more, nearer}
 use Rattle.gob_tool.proofs.ShowLaws.{gathered_grown, front_grown, known_taken, all_taken, whole_stream}
 
@@ -75,7 +75,7 @@ split {L = L} {V = V} {offset = offset} (i ∷ items) others (and_then {next = n
     }
 
 -- the limits of a reader of tapes are those that it was given
-same_bounds : {L : Bounds} → AreLimits deepest L → no_deeper deepest L ≡ L
+pub same_bounds : {L : Bounds} → AreLimits deepest L → no_deeper deepest L ≡ L
 same_bounds {L = L} a = limits_stay deepest L a.depth
 
 ends_there : {L : Bounds} {T U : Table} {o : ℕ} {items : List StreamItem} {rest : List ℕ}
@@ -169,7 +169,7 @@ module _ {s : Reading TapeBuilder Tape} {w : StreamWriter} (s' : Reading TapeBui
           taken = h.taken ++ z;
           gave = a;
           tidy = h.tidy;
-          tidied = subst (λ (T : Table). AreTidied T h.items h.tidy) o.table h.tidied;
+          tidied = subst (λ (T : Table). AreItemsTidied T h.items h.tidy) o.table h.tidied;
           written = h.written;
           has = subst (λ (T : Table). HasWritten w h.tidy h.written T) o.table h.has;
           limits = h.limits ∙ sym same;
@@ -205,7 +205,7 @@ module _ {s : Reading TapeBuilder Tape} {w : StreamWriter} (s' : Reading TapeBui
       }
 
   -- and it was written
-  pub one_rewritten : {i : StreamItem} {w' : StreamWriter} (P : List ℕ → Type 0) (c : ComesWith i) (g : GoesOn c.next w')
+  pub one_rewritten : {i : StreamItem} {w' : StreamWriter} (P : List ℕ → Type 0) (c : ComesWith i) (g : GoesOnRewriting c.next w')
       → P g.more → RewritesOn h s' w' z P
   one_rewritten {i = i} P c g holds = record {
     next = record {
@@ -289,11 +289,11 @@ module _ {s : Reading TapeBuilder Tape} {w : StreamWriter} (h : HasRewritten s w
         comes = comes_with s' h (take used piece) same i a;
       }
 
-  pub given_next : {given : declared.Item Tape} → StepGives given → IsNext h (types s'.types) given
+  pub given_next : {given : declared.Item Tape} → StepGives given → IsNextTape h (types s'.types) given
   given_next g = record { item = g.item; meant = g.meant; next = g.comes.next }
 
   pub step_pushed : {given : declared.Item Tape} {w' : StreamWriter} (before after : List ℕ) (u : Unit {0}) (g : StepGives given)
-      → ((r : Reading TapeBuilder Tape) (k : HasRewritten r w) (n : IsNext k (types s'.types) given)
+      → ((r : Reading TapeBuilder Tape) (k : HasRewritten r w) (n : IsNextTape k (types s'.types) given)
       → Pushes n.next w' before after (Ok u))
       → RewritesOn h s' w' (take used piece) (λ more. after ≡ before ++ more)
   step_pushed before after u g push =
@@ -303,10 +303,10 @@ module _ {s : Reading TapeBuilder Tape} {w : StreamWriter} (h : HasRewritten s w
 -- by the types of a table that are these
 pub pushes_by : {w : StreamWriter} {U V : Table} {given : declared.Item Tape} (w' : StreamWriter) (before after : List ℕ)
     (r : Result (Unit {0}) Memory) → U ≡ V
-    → ((s : Reading TapeBuilder Tape) (h : HasRewritten s w) (n : IsNext h U given) → Pushes n.next w' before after r)
-    → (s : Reading TapeBuilder Tape) (h : HasRewritten s w) (n : IsNext h V given) → Pushes n.next w' before after r
+    → ((s : Reading TapeBuilder Tape) (h : HasRewritten s w) (n : IsNextTape h U given) → Pushes n.next w' before after r)
+    → (s : Reading TapeBuilder Tape) (h : HasRewritten s w) (n : IsNextTape h V given) → Pushes n.next w' before after r
 pushes_by {w = w} {given = given} w' before after r e p =
-    subst (λ V. (s : Reading TapeBuilder Tape) (h : HasRewritten s w) (n : IsNext h V given) → Pushes n.next w' before after r)
+    subst (λ V. (s : Reading TapeBuilder Tape) (h : HasRewritten s w) (n : IsNextTape h V given) → Pushes n.next w' before after r)
     e p
 
 -- where nothing has changed
@@ -315,14 +315,74 @@ pub stands_still : {s s' : Reading TapeBuilder Tape} {w w' : StreamWriter} → s
 stands_still {s = s} {w' = w'} e f h = subst (λ (s : Reading TapeBuilder Tape). HasRewritten s w') (sym e)
     (subst (λ (w : StreamWriter). HasRewritten s w) (sym f) h)
 
-pub still_rewrites : {s s' : Reading TapeBuilder Tape} {w w' : StreamWriter} {before g1 : List ℕ}
-    (s2 : Reading TapeBuilder Tape) (w2 : StreamWriter) (piece after : List ℕ) (r : Result ℕ Fault) → s' ≡ s → w' ≡ w → g1 ≡ before
-    → ((h : HasRewritten s' w') → RewritesSome h s2 w2 piece g1 after r)
-    → (h : HasRewritten s w) → RewritesSome h s2 w2 piece before after r
-still_rewrites {s = s} {w = w} {w' = w'} {g1 = g1} s2 w2 piece after r e f same x =
-    subst (λ (b : List ℕ). (h : HasRewritten s w) → RewritesSome h s2 w2 piece b after r) same
-    (subst (λ (w : StreamWriter). (h : HasRewritten s w) → RewritesSome h s2 w2 piece g1 after r) f
-    (subst (λ (s : Reading TapeBuilder Tape). (h : HasRewritten s w') → RewritesSome h s2 w2 piece g1 after r) e x))
+pub still_used : {s s' : Reading TapeBuilder Tape} {w w' : StreamWriter} {old mid : Option (List ℕ)} {before g1 : List ℕ}
+    (s2 : Reading TapeBuilder Tape) (w2 : StreamWriter) (piece : List ℕ) (new : Option (List ℕ)) (after : List ℕ)
+    (r : Result ℕ ToolFault) → StandsStill s s' w w' old mid before g1
+    → ((h : HasRewritten s' w') → RewritesUsed h s2 w2 piece mid new g1 after r)
+    → (h : HasRewritten s w) → RewritesUsed h s2 w2 piece old new before after r
+still_used {s = s} {w = w} {w' = w'} {old = old} {mid = mid} {g1 = g1} s2 w2 piece new after r still x =
+    subst (λ (b : List ℕ). (h : HasRewritten s w) → RewritesUsed h s2 w2 piece old new b after r) still.3
+    (subst (λ (o : Option (List ℕ)). (h : HasRewritten s w) → RewritesUsed h s2 w2 piece o new g1 after r) still.2
+    (subst (λ (w : StreamWriter). (h : HasRewritten s w) → RewritesUsed h s2 w2 piece mid new g1 after r) still.1
+    (subst (λ (s : Reading TapeBuilder Tape). (h : HasRewritten s w') → RewritesUsed h s2 w2 piece mid new g1 after r)
+    still.0 x)))
+
+-- a step was refused, or no memory was had for it: nothing is written then
+module _ {s : Reading TapeBuilder Tape} {w : StreamWriter} (h : HasRewritten s w) where
+  passes_none : (out : Option (List ℕ)) (before after b : List ℕ) → Adds h.written (λ more. after ≡ before ++ more) b
+      → Adds h.written (λ more. PassesSome out out (before ++ more) after) b
+  passes_none out before after b a = (a.0, a.1, record { written = []; whole = sym a.2; out = Appends-nil out })
+
+  pub step_refused : (s2 : Reading TapeBuilder Tape) (w2 : StreamWriter) (piece : List ℕ) (out : Option (List ℕ))
+      (before after : List ℕ) (e : Fault) → RewritesSome h s2 w2 piece before after (Err e)
+      → RewritesPiece (no_deeper deepest s.limits) h s2 w2 piece out out before after (Err (reading_fault e))
+  step_refused s2 w2 piece out before after (reading.Refused R) f = (
+    record { items = f.0.items; outcome = f.0.outcome; tidy = tidy_as f.0.tidy (passes_none out before after) },
+    f.1,
+  )
+  step_refused s2 w2 piece out before after reading.Memory f =
+      record { items = f.items; begins = f.begins; tidy = tidy_as f.tidy (passes_none out before after) }
+  step_refused s2 w2 piece out before after reading.Read f = absurd f
+  step_refused s2 w2 piece out before after reading.Failed f = absurd f
+
+  -- the write behind it failed
+  pub step_cut : {s2 : Reading TapeBuilder Tape} {w2 : StreamWriter} (w3 : StreamWriter) (piece : List ℕ) (old new : Option (List ℕ))
+      (before : List ℕ) {g2 : List ℕ} (after : List ℕ) (used : ℕ) (f : ToolFault) → s2.limits ≡ s.limits → f ≡ fault.Write
+      → RewritesOn h s2 w2 (take used piece) (λ more. g2 ≡ before ++ more) → AppendsFront old new g2
+      → RewritesPiece (no_deeper deepest s.limits) h s2 w3 piece old new before after (Err f)
+  step_cut {s2 = s2} w3 piece old new before after used f same write x cut =
+      let P = Adds h.written (λ more. AppendsFront old new (before ++ more)) in
+      let holds : P x.next.written = (x.adds.0, x.adds.1, subst (λ (l : List ℕ). AppendsFront old new l) x.adds.2 cut) in
+      let all : x.next.taken ++ drop used piece ≡ h.taken ++ piece =
+      ap (λ (l : List ℕ). l ++ drop used piece) x.taken
+      ∙ append_assoc h.taken (take used piece) (drop used piece)
+      ∙ ap (λ (l : List ℕ). h.taken ++ l) (take-append-drop used piece) in
+      subst (λ f. RewritesPiece (no_deeper deepest s.limits) h s2 w3 piece old new before after (Err f)) (sym write)
+      (subst (λ (L : Bounds). RewritesFront (no_deeper deepest L) (h.taken ++ piece) P) same
+      (subst (λ (l : List ℕ). RewritesFront (no_deeper deepest s2.limits) l P) all
+      (front_there x.next (drop used piece) P holds)))
+
+-- at the fault that a `?` returns
+pub used_at : {s : Reading TapeBuilder Tape} {w : StreamWriter} (h : HasRewritten s w) (s' : Reading TapeBuilder Tape)
+    (w' : StreamWriter) (piece : List ℕ) (old new : Option (List ℕ)) (before after : List ℕ) (r : Result ℕ ToolFault)
+    (f : ToolFault) → IsErrAnd r (λ x. x ≡ f)
+    → RewritesPiece (no_deeper deepest s.limits) h s' w' piece old new before after (Err f)
+    → RewritesUsed h s' w' piece old new before after r
+used_at h s' w' piece old new before after (Ok used) f is x = absurd is
+used_at {s = s} h s' w' piece old new before after (Err e) f is x =
+    subst (λ f. RewritesPiece (no_deeper deepest s.limits) h s' w' piece old new before after (Err f)) (sym is) x
+
+-- what was gathered with some bytes went out in part
+pub used_passed : {s : Reading TapeBuilder Tape} {w : StreamWriter} {h : HasRewritten s w} {s2 : Reading TapeBuilder Tape}
+    {w2 w3 : StreamWriter} {z : List ℕ} (old new : Option (List ℕ)) (before : List ℕ) {g2 : List ℕ} (g3 : List ℕ)
+    → RewritesOn h s2 w2 z (λ more. g2 ≡ before ++ more) → PassesSome old new g2 g3 → w3 ≡ w2
+    → RewritesOn h s2 w3 z (λ more. PassesSome old new (before ++ more) g3)
+used_passed {h = h} {s2 = s2} {z = z} old new before g3 x passes same =
+    subst (λ (w : StreamWriter). RewritesOn h s2 w z (λ more. PassesSome old new (before ++ more) g3)) (sym same) (record {
+      next = x.next;
+      taken = x.taken;
+      adds = (x.adds.0, x.adds.1, subst (λ (l : List ℕ). PassesSome old new l g3) x.adds.2 passes);
+    })
 
 -- ---- from item to item of a piece
 module _ {s : Reading TapeBuilder Tape} {w : StreamWriter} (h : HasRewritten s w) where
@@ -339,32 +399,16 @@ module _ {s : Reading TapeBuilder Tape} {w : StreamWriter} (h : HasRewritten s w
 
   module _ {s1 : Reading TapeBuilder Tape} {w1 : StreamWriter} {piece rest : List ℕ} {old mid : Option (List ℕ)}
       {before g1 : List ℕ} (u : RewritesUpTo h s1 w1 piece rest old mid before g1) where
-    -- what was gathered of the rest, and what was before
-    passes_more : {g2 b : List ℕ} → Adds u.on.next.written (λ more. g2 ≡ g1 ++ more) b
-        → Adds h.written (λ more. PassesSome old mid (before ++ more) g2) b
-    passes_more {g2 = g2} a =
-        let was = u.on.adds in
-        let passed = was.2 in (
-          was.0 ++ a.0,
-          a.1 ∙ ap (λ (l : List ℕ). l ++ a.0) was.1 ∙ append_assoc h.written was.0 a.0,
-          record {
-            written = passed.written;
-            whole = sym (append_assoc before was.0 a.0) ∙ ap (λ (l : List ℕ). l ++ a.0) passed.whole
-                ∙ append_assoc passed.written g1 a.0 ∙ ap (λ (l : List ℕ). passed.written ++ l) (sym a.2);
-            out = passed.out;
-          },
-        )
-
-    rest_there : u.on.next.taken ++ rest ≡ h.taken ++ piece
-    rest_there = ap (λ (l : List ℕ). l ++ rest) u.on.taken ∙ append_assoc h.taken u.front rest
-        ∙ ap (λ (l : List ℕ). h.taken ++ l) (sym u.whole)
-
-    pub up_to_more : {s2 : Reading TapeBuilder Tape} {w2 w3 : StreamWriter} {later g2 g3 : List ℕ} {new : Option (List ℕ)}
+    pub up_to_more : {s2 : Reading TapeBuilder Tape} {w2 : StreamWriter} {later g3 : List ℕ} {new : Option (List ℕ)}
         (used : ℕ) → later ≡ drop used rest
-        → RewritesOn u.on.next s2 w2 (take used rest) (λ more. g2 ≡ g1 ++ more) → PassesSome mid new g2 g3 → w3 ≡ w2
-        → RewritesUpTo h s2 w3 piece later old new before g3
-    up_to_more {s2 = s2} {later = later} {g2 = g2} {g3 = g3} {new = new} used so x passes same =
-        subst (λ (w : StreamWriter). RewritesUpTo h s2 w piece later old new before g3) (sym same) (record {
+        → RewritesOn u.on.next s2 w2 (take used rest) (λ more. PassesSome mid new (g1 ++ more) g3)
+        → RewritesUpTo h s2 w2 piece later old new before g3
+    up_to_more {later = later} {g3 = g3} {new = new} used so x =
+        let was = u.on.adds in
+        let passed = was.2 in
+        let more = x.adds.0 in
+        let passes = x.adds.2 in
+        record {
           front = u.front ++ take used rest;
           whole = u.whole
               ∙ ap (λ (l : List ℕ). u.front ++ l)
@@ -374,67 +418,20 @@ module _ {s : Reading TapeBuilder Tape} {w : StreamWriter} (h : HasRewritten s w
             next = x.next;
             taken = x.taken ∙ ap (λ (l : List ℕ). l ++ take used rest) u.on.taken
                 ∙ append_assoc h.taken u.front (take used rest);
-            adds = let a = passes_more x.adds in (
-              a.0,
-              a.1,
+            adds = (
+              was.0 ++ more,
+              x.adds.1 ∙ ap (λ (l : List ℕ). l ++ more) was.1 ∙ append_assoc h.written was.0 more,
               record {
-                written = a.2.written ++ passes.written;
-                whole = a.2.whole ∙ ap (λ (l : List ℕ). a.2.written ++ l) passes.whole
-                    ∙ sym (append_assoc a.2.written passes.written g3);
-                out = Appends-trans old mid new a.2.written passes.written a.2.out passes.out;
+                written = passed.written ++ passes.written;
+                whole = sym (append_assoc before was.0 more) ∙ ap (λ (l : List ℕ). l ++ more) passed.whole
+                    ∙ append_assoc passed.written g1 more
+                    ∙ ap (λ (l : List ℕ). passed.written ++ l) passes.whole
+                    ∙ sym (append_assoc passed.written passes.written g3);
+                out = Appends-trans old mid new passed.written passes.written passed.out passes.out;
               },
             );
           };
-        })
-
-    -- the rest of it was refused, or no memory was had for it
-    pub rest_stops : (M : Bounds) (s2 : Reading TapeBuilder Tape) (w2 : StreamWriter) (g2 : List ℕ) (e : Fault)
-        → s1.limits ≡ M → RewritesSome u.on.next s2 w2 rest g1 g2 (Err e)
-        → RewritesPiece (no_deeper deepest M) h s2 w2 piece old mid before g2 (Err (reading_fault e))
-    rest_stops M s2 w2 g2 (reading.Refused R) same f = (
-      subst (λ (L : Bounds). RewritesToRefusal (no_deeper deepest L) (h.taken ++ piece) R
-          (Adds h.written (λ more. PassesSome old mid (before ++ more) g2))) same
-          (subst (λ (l : List ℕ). RewritesToRefusal (no_deeper deepest s1.limits) l R
-          (Adds h.written (λ more. PassesSome old mid (before ++ more) g2))) rest_there
-          (record { items = f.0.items; outcome = f.0.outcome; tidy = tidy_as f.0.tidy (λ b a. passes_more a) })),
-      f.1,
-    )
-    rest_stops M s2 w2 g2 reading.Memory same f =
-        subst (λ (L : Bounds). RewritesFront (no_deeper deepest L) (h.taken ++ piece)
-        (Adds h.written (λ more. PassesSome old mid (before ++ more) g2))) same
-        (subst (λ (l : List ℕ). RewritesFront (no_deeper deepest s1.limits) l
-        (Adds h.written (λ more. PassesSome old mid (before ++ more) g2))) rest_there
-        (record { items = f.items; begins = f.begins; tidy = tidy_as f.tidy (λ b a. passes_more a) }))
-    rest_stops M s2 w2 g2 reading.Read same f = absurd f
-    rest_stops M s2 w2 g2 reading.Failed same f = absurd f
-
-    -- a write failed
-    pub rest_cut : {s2 : Reading TapeBuilder Tape} {w2 : StreamWriter} {g2 : List ℕ} {new : Option (List ℕ)} (used : ℕ)
-        (M : Bounds) (w3 : StreamWriter) (g3 : List ℕ) (f : ToolFault) → s2.limits ≡ M → f ≡ fault.Write
-        → RewritesOn u.on.next s2 w2 (take used rest) (λ more. g2 ≡ g1 ++ more) → AppendsFront mid new g2
-        → RewritesPiece (no_deeper deepest M) h s2 w3 piece old new before g3 (Err f)
-    rest_cut {s2 = s2} {new = new} used M w3 g3 f same write x cut =
-        let P = Adds h.written (λ more. AppendsFront old new (before ++ more)) in
-        let a = passes_more x.adds in
-        let holds : P x.next.written = (
-          a.0,
-          a.1,
-          record {
-            front = a.2.written ++ cut.front;
-            rest = cut.rest;
-            whole = a.2.whole ∙ ap (λ (l : List ℕ). a.2.written ++ l) cut.whole
-                ∙ sym (append_assoc a.2.written cut.front cut.rest);
-            out = Appends-trans old mid new a.2.written cut.front a.2.out cut.out;
-          },
-        ) in
-        let all : x.next.taken ++ drop used rest ≡ h.taken ++ piece =
-        ap (λ (l : List ℕ). l ++ drop used rest) x.taken
-        ∙ append_assoc u.on.next.taken (take used rest) (drop used rest)
-        ∙ ap (λ (l : List ℕ). u.on.next.taken ++ l) (take-append-drop used rest) ∙ rest_there in
-        subst (λ f. RewritesPiece (no_deeper deepest M) h s2 w3 piece old new before g3 (Err f)) (sym write)
-        (subst (λ (L : Bounds). RewritesFront (no_deeper deepest L) (h.taken ++ piece) P) same
-        (subst (λ (l : List ℕ). RewritesFront (no_deeper deepest s2.limits) l P) all
-        (front_there x.next (drop used rest) P holds)))
+        }
 
     -- all of the piece was taken
     pub up_to_all : length rest ≡ 0 → RewritesOn h s1 w1 piece (λ more. PassesSome old mid (before ++ more) g1)
@@ -554,7 +551,7 @@ module _ {s : Reading TapeBuilder Tape} {w : StreamWriter} {read now old mid : O
       (record { front = b.front; rest = b.rest; stream = b.stream; whole = b.whole }) in
       record {
         tidy = h.tidy;
-        tidied = subst (λ (T : Table). AreTidied T h.items h.tidy) table h.tidied;
+        tidied = subst (λ (T : Table). AreItemsTidied T h.items h.tidy) table h.tidied;
         bytes = h.written;
         stream = subst (λ (T : Table). Stream base_table L h.tidy h.written T) table
             (subst (λ (L : Bounds). Stream base_table L h.tidy h.written (types s.types))
@@ -565,7 +562,7 @@ module _ {s : Reading TapeBuilder Tape} {w : StreamWriter} {read now old mid : O
   -- the input ended between two items
   pub rewritten_whole : (M : Bounds) (s' : Reading TapeBuilder Tape) (next : Option (List ℕ)) (bytes : List ℕ) (u : Unit {0})
       → s.limits ≡ M → read ≡ Some bytes → Consumes now next [] → IsAtEnd next
-      → Finishes deepest s s' i.so_far.items i.so_far.taken (Ok u)
+      → ReadingFinishes deepest s s' i.so_far.items i.so_far.taken (Ok u)
       → RewritesWhole (no_deeper deepest M) bytes next (Gathered old mid gathered)
   rewritten_whole M s' next bytes u same known c end finish =
       let h = i.so_far in
@@ -583,7 +580,7 @@ module _ {s : Reading TapeBuilder Tape} {w : StreamWriter} {read now old mid : O
   -- or within an item
   pub rewritten_within : (M : Bounds) (s' : Reading TapeBuilder Tape) (next : Option (List ℕ)) (bytes : List ℕ)
       (C : List ℕ → Type 0) (e : Fault) → s.limits ≡ M → read ≡ Some bytes → Consumes now next [] → IsAtEnd next
-      → Finishes deepest s s' i.so_far.items i.so_far.taken (Err e)
+      → ReadingFinishes deepest s s' i.so_far.items i.so_far.taken (Err e)
       → RewritesSo (no_deeper deepest M) bytes next (Gathered old mid gathered) C (Err (reading_fault e))
   rewritten_within M s' next bytes C (reading.Refused R) same known c end finish =
       let h = i.so_far in
@@ -642,7 +639,7 @@ module _ {s : Reading TapeBuilder Tape} {w : StreamWriter} {read now old mid : O
 
 -- reads that failed are counted: none at the end of the input, nor while a piece is taken
 pub end_reads : (s s' : Reading TapeBuilder Tape) (items : List StreamItem) (bytes : List ℕ)
-    (failures failures' : ℕ) (e : Fault) → Finishes deepest s s' items bytes (Err e) → failures' ≡ failures
+    (failures failures' : ℕ) (e : Fault) → ReadingFinishes deepest s s' items bytes (Err e) → failures' ≡ failures
     → CountsOnlyReads failures failures' (Err (reading_fault e))
 end_reads s s' items bytes failures failures' (reading.Refused R) f h = h
 end_reads s s' items bytes failures failures' reading.Read f h = absurd f

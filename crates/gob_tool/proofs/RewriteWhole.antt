@@ -1,8 +1,7 @@
 -- A whole item that is tidy already is written as it stands, and the reader goes past it.
-use Rattle.std.proofs.Common.{◌≡◌, ℕ, ◌≤◌, List, [], ◌∷◌, ◌++◌, length, take, min, arith, ap, sym, subst, length-append, Option}
-use Rattle.std.proofs.Common.{Result, Ok, Err}
+use Rattle.std.proofs.Common.{◌≡◌, ℕ, ◌≤◌, ◌⊎◌, inl, inr, List, [], ◌∷◌, ◌++◌, length, take, drop, min, arith, ap, sym, subst, refl, ◌∙◌}
+use Rattle.std.proofs.Common.{Option, Result, Ok, Err, length-append, append-nil, append_assoc, take-append-drop}
 use Rattle.std.specs.Result.{IsErrAnd}
-use Rattle.gob_num.specs.declared.memory.Memory.{Memory}
 use Rattle.std.proofs.lemmas.List.{length-take-le}
 use Rattle.gob_types.specs.declared.id.TypeId.{TypeId}
 use Rattle.gob_types.specs.Base.{base_table}
@@ -13,14 +12,20 @@ use Rattle.gob_stream.specs.declared.reading.Reading.{Reading}
 use Rattle.gob_stream.specs.declared.writer.StreamWriter.{StreamWriter}
 use Rattle.gob_stream.specs.Bounds.{Bounds, deepest, no_deeper}
 use Rattle.gob_stream.specs.Item.{StreamItem, puts}
-use Rattle.gob_stream.specs.Stream.{Counted, counted}
+use Rattle.gob_stream.specs.Stream.{Counted, counted, Stream}
 use Rattle.gob_stream.specs.Whole.{HasBody}
-use Rattle.gob_stream.proofs.WholeSteps.{whole_item}
+use Rattle.gob_stream.proofs.PublicLaws.{whole_item}
 use Rattle.gob_tape.specs.declared.tape.Tape.{Tape}
 use Rattle.gob_tape.specs.declared.tape_builder.TapeBuilder.{TapeBuilder}
-use Rattle.gob_tool.specs.Rewritten.{GaveTapes, HasRewritten, SpellsTidy, IsTidyNext, Pushes, RewritesItem}
-use Rattle.gob_tool.specs.Rewritten.{MayRewriteWhole}
-use Rattle.gob_tool.proofs.RewriteRuns.{comes_with, one_rewritten}
+use Rattle.gob_tool.specs.declared.fault.ToolFault.{ToolFault}
+use Rattle.gob_tool.specs.declared.fault.ToolFault.TheVariants as fault
+use Rattle.gob_tool.specs.Gathering.{PassesSome}
+use Rattle.gob_tool.specs.Rewriting.{RewritesFront}
+use Rattle.gob_tool.specs.Rewritten.{GaveTapes, HasRewritten, SpellsTidy, IsTidyNext, IsTidiedItem, Adds, RewritesItem}
+use Rattle.gob_tool.specs.Rewritten.{MayRewriteWhole, RewritesPiece}
+use Rattle.gob_tool.specs.Showing.{AppendsFront}
+use Rattle.gob_tool.proofs.RewriteOut.{EachPushesOut}
+use Rattle.gob_tool.proofs.RewriteRuns.{comes_with, one_rewritten, front_there, same_bounds}
 use Rattle.gob_tool.proofs.ShowWhole.{body_some}
 
 pub whole_of : {T : Table} {t : TypeId} {limit : ℕ} {bytes : List ℕ} → IsTidyWhole T t limit bytes
@@ -51,43 +56,92 @@ module _ {s : Reading TapeBuilder Tape} {w : StreamWriter} (h : HasRewritten s w
       }
 
   -- it was, and the reader is behind it
-  pub whole_rewritten : {s' : Reading TapeBuilder Tape} {w' : StreamWriter} {before after : List ℕ} (u : Unit {0})
-      → s'.limits ≡ s.limits → s'.types ≡ s.types
-      → ((items : List StreamItem) (bytes : List ℕ) (item : StreamItem) (z : List ℕ) → GaveTapes s items bytes
+  module _ (s' : Reading TapeBuilder Tape) (w' : StreamWriter) (old new : Option (List ℕ)) (before after : List ℕ)
+      (limits : s'.limits ≡ s.limits) (same : s'.types ≡ s.types)
+      (passed : (items : List StreamItem) (bytes : List ℕ) (item : StreamItem) (z : List ℕ) → GaveTapes s items bytes
       → Counted base_table (no_deeper deepest s.limits) (types s.types) s.taken item z (types s.types)
-      → length z ≡ used → GaveTapes s' (items ++ item ∷ []) (bytes ++ z))
-      → ((r : Reading TapeBuilder Tape) (k : HasRewritten r w) (n : IsTidyNext k (types s.types) id body)
-      → Pushes n.next w' before after (Ok u))
-      → RewritesItem h s' w' piece before after used
-  unfolding whole_of
-  whole_rewritten {s' = s'} {w' = w'} {before = before} {after = after} u limits same passed push =
-      let z = take used piece in
-      let gave = passed h.items h.taken (puts id v.value) z h.gave (whole_item deepest e b (whole_of v))
-      (length-take-le used piece b.within) in
-      let c = comes_with s' h z limits (puts id v.value) gave in
-      let there = subst (λ d. (r : Reading TapeBuilder Tape) (k : HasRewritten r w) (n : IsTidyNext k (types d) id body)
-      → Pushes n.next w' before after (Ok u)) (sym same) push in
-      let spells = subst (λ d. SpellsTidy (types d) id v.value body) (sym same)
-      (record { spelled = v.spelled; tidied = v.tidied }) in
-      let p = there s h (record { value = v.value; spells = spells; next = c.next }) in
-      record {
-        some = body_some b;
-        within = b.within;
-        rewrites = one_rewritten s' h z limits (λ more. after ≡ before ++ more) c p.0 p.1;
-      }
+      → length z ≡ used → GaveTapes s' (items ++ item ∷ []) (bytes ++ z)) where
+    gave_whole : GaveTapes s' (h.items ++ puts id v.value ∷ []) (h.taken ++ take used piece)
+    unfolding whole_of
+    gave_whole = passed h.items h.taken (puts id v.value) (take used piece) h.gave
+        (whole_item deepest e b (whole_of v)) (length-take-le used piece b.within)
 
--- by the types of a table that are these
-pub whole_pushes_by : {w : StreamWriter} {U V : Table} {id : TypeId} {body : List ℕ} (w' : StreamWriter) (before after : List ℕ)
-    (r : Result (Unit {0}) Memory) → U ≡ V
-    → ((s : Reading TapeBuilder Tape) (h : HasRewritten s w) (n : IsTidyNext h U id body) → Pushes n.next w' before after r)
-    → (s : Reading TapeBuilder Tape) (h : HasRewritten s w) (n : IsTidyNext h V id body) → Pushes n.next w' before after r
-whole_pushes_by {w = w} {id = id} {body = body} w' before after r e p =
-    subst (λ V. (s : Reading TapeBuilder Tape) (h : HasRewritten s w) (n : IsTidyNext h V id body)
-    → Pushes n.next w' before after r) e p
+    pub whole_rewritten : (u : Unit {0}) → EachPushesOut w w' (types s.types) id body old new before after (Ok u)
+        → RewritesItem h s' w' piece old new before after used
+    whole_rewritten u push =
+        let z = take used piece in
+        let c = comes_with s' h z limits (puts id v.value) gave_whole in
+        let there = subst (λ d. EachPushesOut w w' (types d) id body old new before after (Ok u)) (sym same) push in
+        let spells = subst (λ d. SpellsTidy (types d) id v.value body) (sym same)
+        (record { spelled = v.spelled; tidied = v.tidied }) in
+        let p = there s h (record { value = v.value; spells = spells; next = c.next }) in
+        record {
+          some = body_some b;
+          within = b.within;
+          rewrites = one_rewritten s' h z limits (λ more. PassesSome old new (before ++ more) after) c p.0 p.1;
+        }
 
--- at the error that a `?` returns
+    -- a write failed within it
+    cut_within : (more : List ℕ) → IsTidiedItem (whole_next.next) more → AppendsFront old new (before ++ more)
+        → RewritesFront (no_deeper deepest s.limits) (h.taken ++ piece)
+        (Adds h.written (λ more. AppendsFront old new (before ++ more)))
+    unfolding whole_next
+    cut_within more t cut =
+        let a = gave_whole in
+        let left = drop used piece in
+        let L = no_deeper deepest s.limits in
+        let items = h.items ++ puts id v.value ∷ [] in
+        record {
+          items = items;
+          begins = record {
+            front = a.front;
+            rest = a.under_way ++ left;
+            table = types s.types;
+            stream = subst (λ d. Stream base_table L items a.front (types d)) same
+                (subst (λ (M : Bounds). Stream base_table (no_deeper deepest M) items a.front (types s'.types)) limits a.stream);
+            whole = ap (λ (l : List ℕ). h.taken ++ l) (sym (take-append-drop used piece))
+                ∙ sym (append_assoc h.taken (take used piece) left)
+                ∙ ap (λ (l : List ℕ). l ++ left) a.whole ∙ append_assoc a.front a.under_way left;
+          };
+          tidy = record {
+            tidy = t.tidy;
+            tidied = t.tidied;
+            bytes = h.written ++ more;
+            stream = subst (λ (M : Bounds). Stream base_table M t.tidy (h.written ++ more) (types s.types))
+                (sym (same_bounds h.allowed)) t.stream;
+            holds = (more, refl, cut);
+          };
+        }
+
+    cut_somewhere : AppendsFront old new before
+        ⊎ ((more : List ℕ) × IsTidiedItem (whole_next.next) more × AppendsFront old new (before ++ more))
+        → RewritesFront (no_deeper deepest s.limits) (h.taken ++ piece)
+        (Adds h.written (λ more. AppendsFront old new (before ++ more)))
+    cut_somewhere (inl cut) = front_there h piece (Adds h.written (λ more. AppendsFront old new (before ++ more)))
+        ([], sym (append-nil h.written), subst (λ (l : List ℕ). AppendsFront old new l) (sym (append-nil before)) cut)
+    cut_somewhere (inr cut) = cut_within cut.0 cut.1 cut.2
+
+    -- or no memory was had for it
+    pub whole_stops : (f : ToolFault) → EachPushesOut w w' (types s.types) id body old new before after (Err f)
+        → RewritesPiece (no_deeper deepest s.limits) h s' w' piece old new before after (Err f)
+    whole_stops fault.Write push = cut_somewhere (push s h whole_next)
+    whole_stops fault.Memory push = front_there h piece (Adds h.written (λ more. PassesSome old new (before ++ more) after)) (
+      [],
+      sym (append-nil h.written),
+      subst (λ (l : List ℕ). PassesSome old new l after) (sym (append-nil before)) (push s h whole_next),
+    )
+    whole_stops (fault.Refused R) push = absurd (push s h whole_next)
+    whole_stops (fault.Wanted R) push = absurd (push s h whole_next)
+    whole_stops fault.NoWantedType push = absurd (push s h whole_next)
+    whole_stops (fault.Clash path why) push = absurd (push s h whole_next)
+    whole_stops fault.Read push = absurd (push s h whole_next)
+
+-- at the fault that a `?` returns
 pub may_at : {s : Reading TapeBuilder Tape} {w : StreamWriter} (h : HasRewritten s w) (s' : Reading TapeBuilder Tape)
-    (w' : StreamWriter) (piece before after : List ℕ) (r : Result (Option ℕ) Memory) {e : Memory} → IsErrAnd r (λ x. x ≡ e)
-    → after ≡ before → MayRewriteWhole h s' w' piece before after r
-may_at h s' w' piece before after (Ok o) is same = absurd is
-may_at h s' w' piece before after (Err f) is same = same
+    (w' : StreamWriter) (piece : List ℕ) (old new : Option (List ℕ)) (before after : List ℕ)
+    (r : Result (Option ℕ) ToolFault) (f : ToolFault) → IsErrAnd r (λ x. x ≡ f)
+    → RewritesPiece (no_deeper deepest s.limits) h s' w' piece old new before after (Err f)
+    → MayRewriteWhole h s' w' piece old new before after r
+may_at h s' w' piece old new before after (Ok o) f is x = absurd is
+may_at {s = s} h s' w' piece old new before after (Err e) f is x =
+    subst (λ f. RewritesPiece (no_deeper deepest s.limits) h s' w' piece old new before after (Err f)) (sym is) x

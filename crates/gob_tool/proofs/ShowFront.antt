@@ -22,7 +22,7 @@ use Rattle.gob_tool.specs.declared.fault.ToolFault.TheVariants as fault
 use Rattle.gob_tool.specs.Fault.{reading_fault}
 use Rattle.gob_tool.specs.Line.{line, lines}
 use Rattle.gob_tool.specs.Pieces.{TypesBehind}
-use Rattle.gob_tool.specs.Showing.{AppendsFront, Begins}
+use Rattle.gob_tool.specs.Showing.{AppendsFront, BeginsOutcome}
 use Rattle.gob_tool.specs.Gathering.{Gathered, GaveItems, StandsBehind, PassesSome, TakesPiece, CountsOnlyWrites}
 use Rattle.gob_tool.specs.Gathering.{GathersWhole, GathersGiven, StopsShowing, TakesFront, StandsUpTo}
 use Rattle.gob_tool.proofs.GatherLaws.{lines_append}
@@ -41,7 +41,7 @@ types_so_far more a = types_behind (record {
 
 pub begun_so_far : {s : Reading TreeBuilder Value} {bytes : List ℕ} {old new : Option (List ℕ)} {gathered : List ℕ}
     (more : List ℕ) → StandsBehind s bytes old new gathered
-    → Begins (within_trees s.limits) (bytes ++ more) (Gathered old new gathered)
+    → BeginsOutcome (within_trees s.limits) (bytes ++ more) (Gathered old new gathered)
 begun_so_far {old = old} {new = new} {gathered = gathered} more b = begins_at (Gathered old new gathered)
     (types_so_far more b.gave) b.out
 
@@ -63,7 +63,7 @@ stands_on {old = old} {mid = mid} {new = new} {after = after} b p = record {
 -- or a write failed
 pub cut_so_far : {s : Reading TreeBuilder Value} {bytes : List ℕ} {old mid new : Option (List ℕ)} {gathered : List ℕ}
     (more : List ℕ) → StandsBehind s bytes old mid gathered → AppendsFront mid new gathered
-    → Begins (within_trees s.limits) (bytes ++ more) (AppendsFront old new)
+    → BeginsOutcome (within_trees s.limits) (bytes ++ more) (AppendsFront old new)
 cut_so_far {s = s} {old = old} {mid = mid} {new = new} {gathered = gathered} more b f =
     begins_at (AppendsFront old new) (types_so_far more b.gave)
     (front_out old mid new gathered (lines (types s.types) b.items) b.out f)
@@ -138,7 +138,7 @@ pub memory_stops : {s : Reading TreeBuilder Value} {bytes : List ℕ} {old new :
     {gathered after : List ℕ} (piece : List ℕ) → after ≡ gathered → StandsBehind s bytes old new gathered
     → StopsShowing (within_trees s.limits) (bytes ++ piece) old new after reading.Memory
 memory_stops {s = s} {bytes = bytes} {old = old} {new = new} piece e b =
-    subst (λ (l : List ℕ). Begins (within_trees s.limits) (bytes ++ piece) (Gathered old new l)) (sym e)
+    subst (λ (l : List ℕ). BeginsOutcome (within_trees s.limits) (bytes ++ piece) (Gathered old new l)) (sym e)
     (begun_so_far piece b)
 
 -- a step was refused
@@ -254,13 +254,13 @@ rest_cut {s' = s'} {bytes = bytes} {piece = piece} {rest = rest} {old = old} {ne
     append_assoc (bytes ++ u.front) (take used rest) (drop used rest)
     ∙ ap (λ (l : List ℕ). (bytes ++ u.front) ++ l) (take-append-drop used rest) ∙ whole_again u in
     subst (λ f. TakesPiece (within_trees M) s' (bytes ++ piece) old new after (Err f)) (sym write)
-    (subst (λ (L : Bounds). Begins (within_trees L) (bytes ++ piece) (AppendsFront old new)) same
-    (subst (λ (l : List ℕ). Begins (within_trees s'.limits) l (AppendsFront old new)) all
+    (subst (λ (L : Bounds). BeginsOutcome (within_trees L) (bytes ++ piece) (AppendsFront old new)) same
+    (subst (λ (l : List ℕ). BeginsOutcome (within_trees s'.limits) l (AppendsFront old new)) all
     (cut_so_far (drop used rest) b cut)))
 
 -- no write failed where a reader stopped
 pub stop_writes : (failures failures' : ℕ) (e : Fault) → failures' ≡ failures
-    → CountsOnlyWrites failures failures' (Err (reading_fault e))
+    → CountsOnlyWrites {A = Unit {0}} failures failures' (Err (reading_fault e))
 stop_writes failures failures' (reading.Refused R) h = h
 stop_writes failures failures' reading.Read h = h
 stop_writes failures failures' reading.Memory h = h

@@ -20,14 +20,14 @@ use Rattle.gob_stream.specs.Item.{StreamItem}
 use Rattle.gob_stream.specs.Stream.{Stream, no_more}
 use Rattle.gob_stream.specs.Outcome.{BeginsWith, the_end, EndsSo, at_the_end}
 use Rattle.gob_stream.specs.Reading.{SomeTaken, Taken, HasTypesBehind, HasTypesBeyond, IsShown}
-use Rattle.gob_stream.specs.Reading.{Finishes}
+use Rattle.gob_stream.specs.Reading.{ReadingFinishes}
 use Rattle.gob_stream.proofs.PublicLaws.{after_gives, one_table, shown_there, shown_refusal_stays, stands_within}
 use Rattle.gob_tool.specs.declared.fault.ToolFault.{ToolFault}
 use Rattle.gob_tool.specs.declared.fault.ToolFault.TheVariants as fault
 use Rattle.gob_tool.specs.Line.{lines}
 use Rattle.gob_tool.specs.Fault.{reading_fault}
-use Rattle.gob_tool.specs.Showing.{EndsWhole, IsRefused, Gives, Begins, Runs, AppendsFront}
-use Rattle.gob_tool.specs.Gathering.{Gathered, GaveItems, PassesSome, StandsBehind, StandsIn, TakesPiece}
+use Rattle.gob_tool.specs.Showing.{EndsWhole, IsRefused, GivesOutcome, BeginsOutcome, Runs, AppendsFront}
+use Rattle.gob_tool.specs.Gathering.{Gathered, GaveItems, PassesSome, StandsBehind, StandsGathered, TakesPiece}
 use Rattle.gob_tool.specs.Gathering.{CountsOnlyReads}
 use Rattle.gob_tool.specs.Pieces.{TypesBehind}
 use Rattle.gob_tool.proofs.LinesStay.{lines_stay, first_items}
@@ -116,7 +116,7 @@ whole_front old new all a = record { front = all; rest = []; whole = sym (append
 -- ---- a piece
 -- some of the items of a stream, with what holds of their lines
 pub begins_at : {L : Bounds} {bytes : List ℕ} {items : List StreamItem} {T : Table} (P : List ℕ → Type 0)
-    → TypesBehind L bytes items T → P (lines T items) → Begins L bytes P
+    → TypesBehind L bytes items T → P (lines T items) → BeginsOutcome L bytes P
 begins_at {L = L} {bytes = bytes} {items = items} P t h =
     let f = first_items items t.more t.stream in
     let b : BeginsWith base_table L bytes items =
@@ -139,7 +139,7 @@ piece_at L s bytes old new gathered (Err g) f e h = subst (λ f. TakesPiece L s 
 
 -- ---- from piece to piece
 pub reads_first : (s : Reading TreeBuilder Value) (read out : Option (List ℕ)) (gathered : List ℕ) → GaveItems s [] []
-    → gathered ≡ [] → StandsIn s read read out out gathered
+    → gathered ≡ [] → StandsGathered s read read out out gathered
 reads_first s read out gathered gave none = record {
   taken = [];
   input = Consumes-nil read;
@@ -147,8 +147,8 @@ reads_first s read out gathered gave none = record {
 }
 
 pub reads_on : {s s' : Reading TreeBuilder Value} (read now next old mid new : Option (List ℕ))
-    (gathered after piece : List ℕ) (i : StandsIn s read now old mid gathered) → Consumes now next piece
-    → StandsBehind s' (i.taken ++ piece) old new after → StandsIn s' read next old new after
+    (gathered after piece : List ℕ) (i : StandsGathered s read now old mid gathered) → Consumes now next piece
+    → StandsBehind s' (i.taken ++ piece) old new after → StandsGathered s' read next old new after
 reads_on read now next old mid new gathered after piece i c b = record
     { taken = i.taken ++ piece; input = Consumes-trans read now next i.taken piece i.input c; behind = b }
 
@@ -196,10 +196,10 @@ whole_stream (at_the_end {T = T} p) = record { table = T; stream = p }
 
 -- the input ended between two items
 pub ended : (M : Bounds) (s s' : Reading TreeBuilder Value) (read now next old new : Option (List ℕ))
-    (bytes gathered : List ℕ) (u : Unit {0}) → s.limits ≡ M → (i : StandsIn s read now old new gathered) → read
+    (bytes gathered : List ℕ) (u : Unit {0}) → s.limits ≡ M → (i : StandsGathered s read now old new gathered) → read
     ≡ Some bytes → Consumes now next [] → IsAtEnd next
     → ((items : List StreamItem) (taken : List ℕ) → GaveItems s items taken
-    → Finishes greatest_depth s s' items taken (Ok u))
+    → ReadingFinishes greatest_depth s s' items taken (Ok u))
     → EndsWhole (within_trees M) bytes next (Gathered old new gathered)
 ended M s s' read now next old new bytes gathered u same i known c h finish =
     let all = all_taken read now next bytes i.taken known i.input c h in
@@ -220,9 +220,9 @@ ended M s s' read now next old new bytes gathered u same i known c h finish =
 -- or within an item
 pub ended_within : (M : Bounds) (s s' : Reading TreeBuilder Value) (read now next old new : Option (List ℕ))
     (bytes gathered : List ℕ) (C : List ℕ → Type 0) (e : Fault) → s.limits ≡ M
-    → (i : StandsIn s read now old new gathered) → read ≡ Some bytes → Consumes now next [] → IsAtEnd next
+    → (i : StandsGathered s read now old new gathered) → read ≡ Some bytes → Consumes now next [] → IsAtEnd next
     → ((items : List StreamItem) (taken : List ℕ) → GaveItems s items taken
-    → Finishes greatest_depth s s' items taken (Err e))
+    → ReadingFinishes greatest_depth s s' items taken (Err e))
     → Runs (within_trees M) bytes next (Gathered old new gathered) C (Err (reading_fault e))
 ended_within M s s' read now next old new bytes gathered C (reading.Refused R) same i known c h finish =
     let all = all_taken read now next bytes i.taken known i.input c h in
@@ -245,13 +245,13 @@ ended_within M s s' read now next old new bytes gathered C reading.Failed same i
 
 -- a read failed
 pub read_failed : (M : Bounds) (s : Reading TreeBuilder Value) (read now next old new : Option (List ℕ))
-    (bytes gathered : List ℕ) → s.limits ≡ M → (i : StandsIn s read now old new gathered) → read ≡ Some bytes
+    (bytes gathered : List ℕ) → s.limits ≡ M → (i : StandsGathered s read now old new gathered) → read ≡ Some bytes
     → Keeps now next
-    → SomeTaken bytes next (λ taken. Gives (within_trees M) taken (Gathered old new gathered))
+    → SomeTaken bytes next (λ taken. GivesOutcome (within_trees M) taken (Gathered old new gathered))
 read_failed M s read now next old new bytes gathered same i known k =
     let b = i.behind in
     let g = after_gives b.gave in
-    subst (λ (L : Bounds). SomeTaken bytes next (λ taken. Gives (within_trees L) taken (Gathered old new gathered)))
+    subst (λ (L : Bounds). SomeTaken bytes next (λ taken. GivesOutcome (within_trees L) taken (Gathered old new gathered)))
     same (record {
       bytes = i.taken;
       taken = known_taken read next bytes i.taken known (Consumes-kept read now next i.taken i.input k);
@@ -265,7 +265,7 @@ read_failed M s read now next old new bytes gathered same i known k =
 
 -- the same of more bytes
 pub begins_more : {L : Bounds} {bytes all : List ℕ} {P : List ℕ → Type 0} (more : List ℕ) → all ≡ bytes ++ more
-    → Begins L bytes P → Begins L all P
+    → BeginsOutcome L bytes P → BeginsOutcome L all P
 begins_more more e b =
     record {
       items = b.items;
@@ -329,7 +329,7 @@ read_none now next n buffer e c = subst (λ k. Consumes now next (take k buffer)
 
 -- reads that failed are counted: none at the end of the input
 pub finish_counts : (s s' : Reading TreeBuilder Value) (items : List StreamItem) (bytes : List ℕ)
-    (failures failures' : ℕ) (e : Fault) → Finishes greatest_depth s s' items bytes (Err e) → failures' ≡ failures
+    (failures failures' : ℕ) (e : Fault) → ReadingFinishes greatest_depth s s' items bytes (Err e) → failures' ≡ failures
     → CountsOnlyReads failures failures' (Err (reading_fault e))
 finish_counts s s' items bytes failures failures' (reading.Refused R) f h = h
 finish_counts s s' items bytes failures failures' reading.Read f h = absurd f
@@ -372,14 +372,14 @@ runs_at L bytes now P C (Ok u) f e h = absurd e
 runs_at L bytes now P C (Err g) f e h = subst (λ f. Runs L bytes now P C (Err f)) (sym e) h
 
 pub runs_cut : (L : Bounds) (bytes : List ℕ) (now : Option (List ℕ)) (P C : List ℕ → Type 0)
-    (r : Result (Unit {0}) ToolFault) (f : ToolFault) → IsErrAnd r (λ e. e ≡ f) → f ≡ fault.Write → Begins L bytes C
+    (r : Result (Unit {0}) ToolFault) (f : ToolFault) → IsErrAnd r (λ e. e ≡ f) → f ≡ fault.Write → BeginsOutcome L bytes C
     → Runs L bytes now P C r
 runs_cut L bytes now P C r f e write h = runs_at L bytes now P C r f e
     (subst (λ f. Runs L bytes now P C (Err f)) (sym write) h)
 
 -- no memory was had before the first item
 pub begun_first : (L : Bounds) (bytes : List ℕ) (out : Option (List ℕ)) (gathered : List ℕ) → gathered ≡ []
-    → Begins L bytes (Gathered out out gathered)
+    → BeginsOutcome L bytes (Gathered out out gathered)
 begun_first L bytes out gathered none = record {
   items = [];
   begins = record { front = []; rest = bytes; table = base_table; stream = no_more; whole = refl };
@@ -387,13 +387,13 @@ begun_first L bytes out gathered none = record {
 }
 
 -- what holds of the lines may be said in other words
-pub begun_as : (L : Bounds) (bytes : List ℕ) (P Q : List ℕ → Type 0) → Begins L bytes P
-    → ((all : List ℕ) → P all → Q all) → Begins L bytes Q
+pub begun_as : (L : Bounds) (bytes : List ℕ) (P Q : List ℕ → Type 0) → BeginsOutcome L bytes P
+    → ((all : List ℕ) → P all → Q all) → BeginsOutcome L bytes Q
 begun_as L bytes P Q b f = record { items = b.items; begins = b.begins; holds = f _ b.holds }
 
 -- the lines before any end but a failed write
 pub begun_before : (L : Bounds) (bytes : List ℕ) (now : Option (List ℕ)) (P C : List ℕ → Type 0)
-    (r : Result (Unit {0}) ToolFault) → Runs L bytes now P C r → (r ≡ Err fault.Write → ⊥) → Begins L bytes P
+    (r : Result (Unit {0}) ToolFault) → Runs L bytes now P C r → (r ≡ Err fault.Write → ⊥) → BeginsOutcome L bytes P
 begun_before L bytes now P C (Ok u) e other = record {
   items = e.items;
   begins = record { front = bytes; rest = []; table = e.table; stream = e.stream; whole = sym (append-nil bytes) };

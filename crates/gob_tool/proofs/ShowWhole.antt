@@ -14,8 +14,8 @@ use Rattle.gob_stream.specs.Bounds.{Bounds, no_deeper, greatest_depth}
 use Rattle.gob_stream.specs.Item.{StreamItem, puts}
 use Rattle.gob_stream.specs.Stream.{Counted}
 use Rattle.gob_stream.specs.Whole.{HasBody}
-use Rattle.gob_stream.proofs.WholeSteps.{whole_item}
-use Rattle.gob_tool.specs.TextWhole.{LineOfWhole}
+use Rattle.gob_stream.proofs.PublicLaws.{whole_item}
+use Rattle.gob_json.specs.TextWhole.{LineOfWhole}
 use Rattle.gob_tool.specs.Gathering.{GaveItems, GathersWhole}
 
 pub whole_of : {T : Table} {t : TypeId} {limit : ℕ} {bytes old new : List ℕ} → LineOfWhole T t limit bytes old new

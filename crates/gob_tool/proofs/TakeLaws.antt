@@ -24,7 +24,7 @@ use Rattle.gob_tool.specs.Gathering.{PassesSome, Passes}
 use Rattle.gob_tool.specs.Line.{line}
 use Rattle.gob_tool.specs.Pieces.{AreSent, none_sent, defined, sent, TakesItems}
 use Rattle.gob_tool.specs.Showing.{AppendsFront}
-use Rattle.gob_tool.specs.Taking.{AreReceived, no_item, definition, value, HasReceived}
+use Rattle.gob_tool.specs.Taking.{AreReceived, no_item, definition, value, HasTakenItems}
 use Rattle.gob_tool.proofs.GatherLaws.{passes_on, front_on, views_append, views_in_two}
 
 pub line_as : {T U : Table} {t u : TypeId} (v : Tree) → T ≡ U → t ≡ u → line T (puts t v) ≡ line U (puts u v)
@@ -72,7 +72,7 @@ module _ (T U : Table) (u : TypeId) where
       (sym e) h
 
   nothing_passed : (out : Option (List ℕ)) (before after : List ℕ) → after ≡ before
-      → HasReceived T U u [] (λ lines. PassesSome out out (before ++ lines) after)
+      → HasTakenItems T U u [] (λ lines. PassesSome out out (before ++ lines) after)
   nothing_passed out before after e = record {
     lines = [];
     received = no_item;
@@ -82,9 +82,9 @@ module _ (T U : Table) (u : TypeId) where
 
   -- a definition gives no line
   pub definition_taken : (i : StreamItem) (id : TypeId) (v : Tree) (out : Option (List ℕ)) (before : List ℕ) → i
-      ≡ defines id v → HasReceived T U u (i ∷ []) (λ lines. PassesSome out out (before ++ lines) before)
+      ≡ defines id v → HasTakenItems T U u (i ∷ []) (λ lines. PassesSome out out (before ++ lines) before)
   definition_taken i id v out before e =
-      subst (λ (i : StreamItem). HasReceived T U u (i ∷ []) (λ lines. PassesSome out out (before ++ lines) before))
+      subst (λ (i : StreamItem). HasTakenItems T U u (i ∷ []) (λ lines. PassesSome out out (before ++ lines) before))
       (sym e)
       (record {
         lines = [];
@@ -159,10 +159,10 @@ module _ (T U : Table) (u : TypeId) where
       (sym (append_assoc (line U (puts u w)) lines b)) (value m r (received_append p q))
 
   module _ (first more : List StreamItem) (old mid new : Option (List ℕ)) (before gathered after : List ℕ)
-      (so : HasReceived T U u first (λ lines. PassesSome old mid (before ++ lines) gathered)) where
-    pub passed_more : {items : List StreamItem} → HasReceived T U u items
+      (so : HasTakenItems T U u first (λ lines. PassesSome old mid (before ++ lines) gathered)) where
+    pub passed_more : {items : List StreamItem} → HasTakenItems T U u items
         (λ lines. PassesSome mid new (gathered ++ lines) after)
-        → HasReceived T U u (first ++ items) (λ lines. PassesSome old new (before ++ lines) after)
+        → HasTakenItems T U u (first ++ items) (λ lines. PassesSome old new (before ++ lines) after)
     passed_more h = record {
       lines = so.lines ++ h.lines;
       received = received_append so.received h.received;
@@ -170,9 +170,9 @@ module _ (T U : Table) (u : TypeId) where
           (passes_on old mid new (before ++ so.lines) gathered h.lines after so.holds h.holds);
     }
 
-    fronted_more : {items : List StreamItem} → HasReceived T U u items
+    fronted_more : {items : List StreamItem} → HasTakenItems T U u items
         (λ lines. AppendsFront mid new (gathered ++ lines))
-        → HasReceived T U u (first ++ items) (λ lines. AppendsFront old new (before ++ lines))
+        → HasTakenItems T U u (first ++ items) (λ lines. AppendsFront old new (before ++ lines))
     fronted_more h = record {
       lines = so.lines ++ h.lines;
       received = received_append so.received h.received;
@@ -224,7 +224,7 @@ views_more items k i e h =
     ∙ views_append (take k items) (i ∷ [])
 
 module _ (T U : Table) (u : TypeId) (items : List (declared.Item Value)) (old : Option (List ℕ)) (before : List ℕ) where
-  pub takes_none : HasReceived T U u (item_views (take 0 items)) (λ lines. PassesSome old old (before ++ lines) before)
+  pub takes_none : HasTakenItems T U u (item_views (take 0 items)) (λ lines. PassesSome old old (before ++ lines) before)
   takes_none = record {
     lines = [];
     received = no_item;
@@ -233,17 +233,17 @@ module _ (T U : Table) (u : TypeId) (items : List (declared.Item Value)) (old : 
   }
 
   pub takes_more : (mid new : Option (List ℕ)) (gathered after : List ℕ) (k : ℕ) (i : declared.Item Value)
-      → HasReceived T U u (item_views (take k items)) (λ lines. PassesSome old mid (before ++ lines) gathered)
-      → HasReceived T U u (item_view i ∷ []) (λ lines. PassesSome mid new (gathered ++ lines) after) → i
+      → HasTakenItems T U u (item_views (take k items)) (λ lines. PassesSome old mid (before ++ lines) gathered)
+      → HasTakenItems T U u (item_view i ∷ []) (λ lines. PassesSome mid new (gathered ++ lines) after) → i
       ≡ get_or items k i → k < length items
-      → HasReceived T U u (item_views (take (k + 1) items)) (λ lines. PassesSome old new (before ++ lines) after)
+      → HasTakenItems T U u (item_views (take (k + 1) items)) (λ lines. PassesSome old new (before ++ lines) after)
   takes_more mid new gathered after k i so h e within =
-      subst (λ (l : List StreamItem). HasReceived T U u l (λ lines. PassesSome old new (before ++ lines) after))
+      subst (λ (l : List StreamItem). HasTakenItems T U u l (λ lines. PassesSome old new (before ++ lines) after))
       (sym (views_more items k i e within))
       (passed_more T U u (item_views (take k items)) (item_view i ∷ []) old mid new before gathered after so h)
 
   pub takes_stopped : (mid new : Option (List ℕ)) (gathered after : List ℕ) (k : ℕ) (i : declared.Item Value)
-      (f : ToolFault) → HasReceived T U u (item_views (take k items))
+      (f : ToolFault) → HasTakenItems T U u (item_views (take k items))
       (λ lines. PassesSome old mid (before ++ lines) gathered)
       → TakesItems T U u (item_view i ∷ []) mid new gathered after (Err f) → i ≡ get_or items k i → k < length items
       → TakesItems T U u (item_views items) old new before after (Err f)

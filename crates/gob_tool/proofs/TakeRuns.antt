@@ -30,7 +30,7 @@ use Rattle.gob_tool.specs.Fault.{reading_fault}
 use Rattle.gob_tool.specs.Gathering.{GaveItems, PassesSome}
 use Rattle.gob_tool.specs.Pieces.{TypesBehind, EndsPiece, GivesPiece, StandsAt, AreSent, TakesItems, unread}
 use Rattle.gob_tool.specs.Showing.{AppendsFront}
-use Rattle.gob_tool.specs.Taking.{no_item, HasReceived, ReceivesWhole, ReceivesFront, Receiving}
+use Rattle.gob_tool.specs.Taking.{no_item, HasTakenItems, ReceivesWhole, ReceivesFront, Receiving}
 use Rattle.gob_tool.proofs.LinesStay.{keeps_itself}
 use Rattle.gob_tool.proofs.ShowLaws.{known_taken, none_left, whole_stream}
 use Rattle.gob_tool.proofs.TakeLaws.{takes_then, passed_more}
@@ -74,7 +74,7 @@ module _ {s s' : Reading TreeBuilder Value} {items : List StreamItem} {taken : L
         })
 
     pub piece_received : {U : Table} {u : TypeId} {P : List ℕ → Type 0} → IsReady U u → GaveItems s items taken
-        → HasReceived (types s.types) U u items P → HasReceived (types s'.types) U u items P
+        → HasTakenItems (types s.types) U u items P → HasTakenItems (types s'.types) U u items P
     piece_received wanted gave h = record
         { lines = h.lines; received = received_on wanted gave.stream (piece_keeps gave) h.received; holds = h.holds }
 
@@ -157,7 +157,7 @@ module _ (L : Bounds) (bytes : List ℕ) (next : Option (List ℕ)) (T U : Table
   -- at a fault of the reader
   stops_at_reader : (s s' : Reading TreeBuilder Value) (items : List StreamItem) (taken : List ℕ)
       (P C : List ℕ → Type 0) (e : Fault) → Taken bytes next taken → TypesBehind L taken items T
-      → HasReceived T U u items P
+      → HasTakenItems T U u items P
       → EndsPiece L s s' items taken next (Err e) → Receiving L bytes next U u P C (Err (reading_fault e))
   stops_at_reader s s' items taken P C (reading.Refused R) k t h ends =
       let o = refused_known k ends.0 ends.1 in
@@ -179,7 +179,7 @@ module _ (L : Bounds) (bytes : List ℕ) (next : Option (List ℕ)) (T U : Table
 
   -- at the end of the input
   ends_there : (s s' : Reading TreeBuilder Value) (items : List StreamItem) (taken : List ℕ) (P : List ℕ → Type 0)
-      → Taken bytes next taken → TypesBehind L taken items T → HasReceived T U u items P
+      → Taken bytes next taken → TypesBehind L taken items T → HasTakenItems T U u items P
       → EndsPiece L s s' items taken next (Ok false) → ReceivesWhole L bytes next U u P
   ends_there s s' items taken P k t h ends =
       let a = all_known s s' k ends in
@@ -198,7 +198,7 @@ module _ (L : Bounds) (bytes : List ℕ) (next : Option (List ℕ)) (T U : Table
 abbrev pub StandsTaking : (s : Reading TreeBuilder Value) (start now : Option (List ℕ)) → Table → TypeId
     → (old new : Option (List ℕ)) → (gathered : List ℕ) → Type 0
 StandsTaking s start now U u old new gathered = StandsAt s start now
-    (λ items. HasReceived (types s.types) U u items (λ lines. PassesSome old new lines gathered))
+    (λ items. HasTakenItems (types s.types) U u items (λ lines. PassesSome old new lines gathered))
 
 pub takes_first : (s : Reading TreeBuilder Value) (start : Option (List ℕ)) (U : Table) (u : TypeId)
     (out : Option (List ℕ)) (gathered : List ℕ) → GaveItems s [] [] → gathered ≡ []
@@ -220,13 +220,13 @@ module _ (M : Bounds) (s s' : Reading TreeBuilder Value) (start now next old out
     (u : TypeId) (gathered : List ℕ) (given : List StreamItem) (wanted : IsReady U u) (same : s.limits ≡ M)
     (i : StandsTaking s start now U u old out gathered) where
   module _ {result : Result Bool Fault} (p : GivesPiece s s' i.items i.taken given now next result) where
-    so : HasReceived (types s'.types) U u i.items (λ lines. PassesSome old out lines gathered)
+    so : HasTakenItems (types s'.types) U u i.items (λ lines. PassesSome old out lines gathered)
     so = piece_received p wanted i.gave i.holds
 
     -- all lines were gathered
     all_taken_so : (new : Option (List ℕ)) (after : List ℕ)
-        → HasReceived (types s'.types) U u given (λ lines. PassesSome out new (gathered ++ lines) after)
-        → HasReceived (types s'.types) U u (i.items ++ given) (λ lines. PassesSome old new lines after)
+        → HasTakenItems (types s'.types) U u given (λ lines. PassesSome out new (gathered ++ lines) after)
+        → HasTakenItems (types s'.types) U u (i.items ++ given) (λ lines. PassesSome old new lines after)
     all_taken_so new after h = passed_more (types s'.types) U u i.items given old out new [] gathered after so h
 
     known_so : (bytes : List ℕ) → start ≡ Some bytes → Taken bytes next (i.taken ++ p.piece)
@@ -256,7 +256,7 @@ module _ (M : Bounds) (s s' : Reading TreeBuilder Value) (start now next old out
       let none = p.unfed refl in
       let same_items : i.items ≡ i.items ++ given = sym (append-nil i.items)
       ∙ ap (λ (l : List StreamItem). i.items ++ l) (sym none) in
-      let h = subst (λ (l : List StreamItem). HasReceived (types s'.types) U u l
+      let h = subst (λ (l : List StreamItem). HasTakenItems (types s'.types) U u l
       (λ lines. PassesSome old out lines gathered)) same_items (so p) in
       subst (λ (L : Bounds). Receiving (within_trees L) bytes next U u (λ lines. PassesSome old out lines gathered) C
       (Err fault.Read)) same
@@ -266,7 +266,7 @@ module _ (M : Bounds) (s s' : Reading TreeBuilder Value) (start now next old out
 
   pub stopped_at_reader : (bytes : List ℕ) (new : Option (List ℕ)) (after : List ℕ) (C : List ℕ → Type 0) (e : Fault)
       → start ≡ Some bytes → GivesPiece s s' i.items i.taken given now next (Err e)
-      → HasReceived (types s'.types) U u given (λ lines. PassesSome out new (gathered ++ lines) after)
+      → HasTakenItems (types s'.types) U u given (λ lines. PassesSome out new (gathered ++ lines) after)
       → Receiving (within_trees M) bytes next U u (λ lines. PassesSome old new lines after) C
       (Err (reading_fault e))
   stopped_at_reader bytes new after C e known p h =
@@ -278,7 +278,7 @@ module _ (M : Bounds) (s s' : Reading TreeBuilder Value) (start now next old out
 
   pub ended_whole : (bytes : List ℕ) (new : Option (List ℕ)) (after : List ℕ) (more : Bool) → more ≡ false → start
       ≡ Some bytes → GivesPiece s s' i.items i.taken given now next (Ok more)
-      → HasReceived (types s'.types) U u given (λ lines. PassesSome out new (gathered ++ lines) after)
+      → HasTakenItems (types s'.types) U u given (λ lines. PassesSome out new (gathered ++ lines) after)
       → ReceivesWhole (within_trees M) bytes next U u (λ lines. PassesSome old new lines after)
   ended_whole bytes new after more e known q h =
       let p = subst (λ (b : Bool). GivesPiece s s' i.items i.taken given now next (Ok b)) e q in
@@ -290,7 +290,7 @@ module _ (M : Bounds) (s s' : Reading TreeBuilder Value) (start now next old out
 
   pub takes_on : (new : Option (List ℕ)) (after : List ℕ) (more : Bool) → more ≡ true
       → GivesPiece s s' i.items i.taken given now next (Ok more)
-      → HasReceived (types s'.types) U u given (λ lines. PassesSome out new (gathered ++ lines) after)
+      → HasTakenItems (types s'.types) U u given (λ lines. PassesSome out new (gathered ++ lines) after)
       → StandsTaking s' start next U u old new after
   takes_on new after more e q h =
       let p = subst (λ (b : Bool). GivesPiece s s' i.items i.taken given now next (Ok b)) e q in
@@ -338,7 +338,7 @@ received_first L bytes U u out gathered none = record {
 
 -- what holds of the lines may be said in other words
 as_said : {T U : Table} {u : TypeId} {items : List StreamItem} {P Q : List ℕ → Type 0}
-    → ((lines : List ℕ) → P lines → Q lines) → HasReceived T U u items P → HasReceived T U u items Q
+    → ((lines : List ℕ) → P lines → Q lines) → HasTakenItems T U u items P → HasTakenItems T U u items Q
 as_said f h = record { lines = h.lines; received = h.received; holds = f _ h.holds }
 
 pub front_as : (L : Bounds) (bytes : List ℕ) (U : Table) (u : TypeId) (P Q : List ℕ → Type 0)

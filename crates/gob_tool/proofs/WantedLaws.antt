@@ -26,7 +26,7 @@ use Rattle.gob_tool.specs.declared.fault.ToolFault.TheVariants as fault
 use Rattle.gob_tool.specs.Gathering.{GaveItems}
 use Rattle.gob_tool.specs.Fault.{wanted_fault}
 use Rattle.gob_tool.specs.Pieces.{EndsPiece, GivesPiece, StandsAt, AreSent, sent, defined, ReadsWanted, CountsPiece}
-use Rattle.gob_tool.specs.Pieces.{TypesBehind, first_of}
+use Rattle.gob_tool.specs.Pieces.{TypesBehind, first_type_of}
 use Rattle.gob_tool.specs.Showing.{CountsWriteFaults, MayCount}
 use Rattle.gob_tool.specs.Taking.{first_type, HasWanted, LacksWanted, Receiving}
 use Rattle.gob_tool.specs.Wanting.{CountsWanted}
@@ -37,15 +37,15 @@ use Rattle.gob_tool.proofs.TakeRuns.{trees_deep, refused_known, at_end}
 
 -- ---- the first value
 pub first_append : (items others : List StreamItem) → first_type (items ++ others)
-    ≡ first_of (first_type items) (first_type others)
+    ≡ first_type_of (first_type items) (first_type others)
 first_append [] others = refl
 first_append (defines id v ∷ items) others = first_append items others
 first_append (puts id v ∷ items) others = refl
 
 -- what is known of the items before, and of others
 pub first_more : (first found : Option TypeId) (items others : List StreamItem) → first ≡ first_type items → found
-    ≡ first_of first (first_type others) → found ≡ first_type (items ++ others)
-first_more first found items others e f = f ∙ ap (λ (o : Option TypeId). first_of o (first_type others)) e
+    ≡ first_type_of first (first_type others) → found ≡ first_type (items ++ others)
+first_more first found items others e f = f ∙ ap (λ (o : Option TypeId). first_type_of o (first_type others)) e
     ∙ sym (first_append items others)
 
 -- it is ready

@@ -27,7 +27,7 @@ counts_line items types bytes =
     ++ (codes " bytes" ++ 10 ∷ []))))))
 
 -- the bytes are the stream of some items, all of them were read, and this holds of the line that says so
-pub record IsCounted (L : Bounds) (bytes : List ℕ) (now : Option (List ℕ)) (P : List ℕ → Type 0) : Type 0 where
+pub record IsCountedStream (L : Bounds) (bytes : List ℕ) (now : Option (List ℕ)) (P : List ℕ → Type 0) : Type 0 where
   pub items : List StreamItem
   pub table : Table
   pub stream : Stream base_table L items bytes table
@@ -49,6 +49,6 @@ IsNoStream L bytes now (fault.Clash path reason) = ⊥
 -- went out, or a front of it where the output failed; or nothing was written
 pub data Checks (L : Bounds) (bytes : List ℕ) (now old new : Option (List ℕ)) : Result (Unit {0}) ToolFault → Type 0
   where
-    is_accepted : {u : Unit {0}} → IsCounted L bytes now (Appends old new) → Checks L bytes now old new (Ok u)
-    is_cut : IsCounted L bytes now (AppendsFront old new) → Checks L bytes now old new (Err fault.Write)
+    is_accepted : {u : Unit {0}} → IsCountedStream L bytes now (Appends old new) → Checks L bytes now old new (Ok u)
+    is_cut : IsCountedStream L bytes now (AppendsFront old new) → Checks L bytes now old new (Err fault.Write)
     is_stopped : {f : ToolFault} → IsNoStream L bytes now f → Appends old new [] → Checks L bytes now old new (Err f)

@@ -20,7 +20,7 @@ use Rattle.gob_stream.specs.Standing.{StandsAfter}
 use Rattle.gob_tool.specs.declared.fault.ToolFault.{ToolFault}
 use Rattle.gob_tool.specs.declared.fault.ToolFault.TheVariants as fault
 use Rattle.gob_tool.specs.Line.{line, lines}
-use Rattle.gob_tool.specs.Showing.{AppendsFront, IsRefused, Begins}
+use Rattle.gob_tool.specs.Showing.{AppendsFront, IsRefused, BeginsOutcome}
 
 -- what went out, and then what is gathered, are these bytes
 pub record Gathered (old new : Option (List ℕ)) (gathered : List ℕ) (all : List ℕ) : Type 0 where
@@ -65,11 +65,11 @@ TakesPiece L s bytes old new gathered (Err (fault.Wanted R)) = ⊥
 TakesPiece L s bytes old new gathered (Err fault.NoWantedType) = ⊥
 TakesPiece L s bytes old new gathered (Err (fault.Clash path reason)) = ⊥
 TakesPiece L s bytes old new gathered (Err fault.Read) = ⊥
-TakesPiece L s bytes old new gathered (Err fault.Write) = Begins L bytes (AppendsFront old new)
-TakesPiece L s bytes old new gathered (Err fault.Memory) = Begins L bytes (Gathered old new gathered)
+TakesPiece L s bytes old new gathered (Err fault.Write) = BeginsOutcome L bytes (AppendsFront old new)
+TakesPiece L s bytes old new gathered (Err fault.Memory) = BeginsOutcome L bytes (Gathered old new gathered)
 
 -- what was consumed of the input was taken
-pub record StandsIn (s : Reading TreeBuilder Value) (read now old new : Option (List ℕ)) (gathered : List ℕ) : Type 0
+pub record StandsGathered (s : Reading TreeBuilder Value) (read now old new : Option (List ℕ)) (gathered : List ℕ) : Type 0
   where
     pub taken : List ℕ
     pub input : Consumes read now taken
@@ -85,7 +85,7 @@ abbrev pub CountsOnlyReads : (failures failures' : ℕ) → Result (Unit {0}) To
 CountsOnlyReads failures failures' (Err fault.Read) = failures' ≡ counts_up failures 1
 CountsOnlyReads failures failures' _ = failures' ≡ failures
 
-abbrev pub CountsOnlyWrites : (failures failures' : ℕ) → Result (Unit {0}) ToolFault → Type 0
+abbrev pub CountsOnlyWrites : {A : Type 0} → (failures failures' : ℕ) → Result A ToolFault → Type 0
 CountsOnlyWrites failures failures' (Err fault.Write) = failures' ≡ counts_up failures 1
 CountsOnlyWrites failures failures' _ = failures' ≡ failures
 
@@ -117,7 +117,7 @@ abbrev pub StopsShowing : Bounds → (bytes : List ℕ) → (old new : Option (L
 StopsShowing L bytes old new gathered (reading.Refused R) = IsRefused L bytes R (Gathered old new gathered)
     × (R.reason ≢ reason.Ended)
 StopsShowing L bytes old new gathered reading.Read = ⊥
-StopsShowing L bytes old new gathered reading.Memory = Begins L bytes (Gathered old new gathered)
+StopsShowing L bytes old new gathered reading.Memory = BeginsOutcome L bytes (Gathered old new gathered)
 StopsShowing L bytes old new gathered reading.Failed = ⊥
 
 -- what taking the front of a piece answers, behind these bytes

@@ -20,9 +20,9 @@ pub record Lacks {X O : Type 0} (s : Reading X O) (missing : ℕ) (kept : List �
   pub begun : HasBegun s.limits (types s.types) s.taken id head (length kept + missing) kept
 
 -- no bytes, or the first of an item
-pub data IsKept {X O : Type 0} (s : Reading X O) : List ℕ → Type 0 where
-  none_kept : {kept : List ℕ} → kept ≡ [] → IsKept s kept
-  some_kept : {kept : List ℕ} (missing : ℕ) → Lacks s missing kept → IsKept s kept
+pub data IsKeptFront {X O : Type 0} (s : Reading X O) : List ℕ → Type 0 where
+  none_kept : {kept : List ℕ} → kept ≡ [] → IsKeptFront s kept
+  some_kept : {kept : List ℕ} (missing : ℕ) → Lacks s missing kept → IsKeptFront s kept
 
 -- of these bytes the reader has taken some, the others are kept, and the lines of the items that it gave went out or are
 -- gathered
@@ -31,7 +31,7 @@ pub record KeepsBehind (s : Reading TreeBuilder Value) (kept bytes : List ℕ) (
   pub given : List ℕ
   pub whole : bytes ≡ given ++ kept
   pub behind : StandsBehind s given old new gathered
-  pub is_kept : IsKept s kept
+  pub is_kept : IsKeptFront s kept
 
 -- what was consumed of the input was taken, or is kept
 pub record KeepsIn (s : Reading TreeBuilder Value) (kept : List ℕ) (read now old new : Option (List ℕ))
@@ -49,6 +49,6 @@ TakesKeeping L s kept bytes old new gathered (Err f) = TakesPiece L s bytes old 
 -- what taking the front of a piece answers, which may be the first bytes of an item
 abbrev pub MayTakeFront : Bounds → (s : Reading TreeBuilder Value) → (bytes piece : List ℕ)
     → (old new : Option (List ℕ)) → (gathered : List ℕ) → Result (Option ℕ) Fault → Type 0
-MayTakeFront L s bytes piece old new gathered (Ok None) = StandsBehind s bytes old new gathered × IsKept s piece
+MayTakeFront L s bytes piece old new gathered (Ok None) = StandsBehind s bytes old new gathered × IsKeptFront s piece
 MayTakeFront L s bytes piece old new gathered (Ok (Some used)) = TakesFront L s bytes piece old new gathered (Ok used)
 MayTakeFront L s bytes piece old new gathered (Err e) = StopsShowing L (bytes ++ piece) old new gathered e

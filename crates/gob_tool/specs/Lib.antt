@@ -1,14 +1,13 @@
-pub mod Json
-pub mod TapeJson
 pub mod Line
-pub mod Text
-pub mod TextWhole
 pub mod Fault
 pub mod Depths
 pub mod Words
 pub mod Showing
 pub mod Gathering
 pub mod Keeping
+pub mod Large
+pub mod Block
+pub mod Blocks
 pub mod Taking
 pub mod Pieces
 pub mod Wanting

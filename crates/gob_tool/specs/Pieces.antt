@@ -26,7 +26,7 @@ use Rattle.gob_tool.specs.declared.fault.ToolFault.{ToolFault}
 use Rattle.gob_tool.specs.declared.fault.ToolFault.TheVariants as fault
 use Rattle.gob_tool.specs.Gathering.{GaveItems, PassesSome}
 use Rattle.gob_tool.specs.Showing.{AppendsFront}
-use Rattle.gob_tool.specs.Taking.{first_type, HasReceived}
+use Rattle.gob_tool.specs.Taking.{first_type, HasTakenItems}
 
 -- the reader of trees has given some items, of some bytes
 pub record HasGiven (s : Reading TreeBuilder Value) : Type 0 where
@@ -93,7 +93,7 @@ pub record ReceivesFirst (T U : Table) (u : TypeId) (items : List StreamItem) (P
   pub first : List StreamItem
   pub left : List StreamItem
   pub whole : items ≡ first ++ left
-  pub received : HasReceived T U u first P
+  pub received : HasTakenItems T U u first P
 
 -- the next one clashes with the wanted type
 pub record ClashesNext (T U : Table) (u : TypeId) (items : List StreamItem) (Clash : TypeId → Type 0)
@@ -103,7 +103,7 @@ pub record ClashesNext (T U : Table) (u : TypeId) (items : List StreamItem) (Cla
   pub id : TypeId
   pub value : Tree
   pub whole : items ≡ first ++ (puts id value ∷ left)
-  pub received : HasReceived T U u first P
+  pub received : HasTakenItems T U u first P
   pub clash : Clash id
 
 -- the lines of what is received of the items were gathered behind what was, and some of all that went out; or those of
@@ -111,7 +111,7 @@ pub record ClashesNext (T U : Table) (u : TypeId) (items : List StreamItem) (Cla
 -- first items, up to the fault
 abbrev pub TakesItems : (T U : Table) → TypeId → List StreamItem → (old new : Option (List ℕ)) → (before after : List ℕ)
     → Result (Unit {0}) ToolFault → Type 0
-TakesItems T U u items old new before after (Ok _) = HasReceived T U u items
+TakesItems T U u items old new before after (Ok _) = HasTakenItems T U u items
     (λ lines. PassesSome old new (before ++ lines) after)
 TakesItems T U u items old new before after (Err fault.Write) = ReceivesFirst T U u items
     (λ lines. AppendsFront old new (before ++ lines))
@@ -126,9 +126,9 @@ TakesItems T U u items old new before after (Err fault.NoWantedType) = ⊥
 TakesItems T U u items old new before after (Err fault.Read) = ⊥
 
 -- the first type, or else the other
-abbrev pub first_of : Option TypeId → Option TypeId → Option TypeId
-first_of None other = other
-first_of (Some id) other = Some id
+abbrev pub first_type_of : Option TypeId → Option TypeId → Option TypeId
+first_type_of None other = other
+first_type_of (Some id) other = Some id
 
 -- what reading a wanted stream gives: the type of its first value
 abbrev pub ReadsWanted : Bounds → (bytes : List ℕ) → (now : Option (List ℕ)) → Table → Result (Option TypeId) Fault

@@ -32,16 +32,16 @@ with_content (defines id described) v = defines id v
 with_content (puts id value) v = puts id v
 
 -- the second items are the first, each with the tidy form of its content, by the types of T
-pub data AreTidied (T : Table) : List StreamItem → List StreamItem → Type 0 where
-  no_item : AreTidied T [] []
+pub data AreItemsTidied (T : Table) : List StreamItem → List StreamItem → Type 0 where
+  no_item : AreItemsTidied T [] []
   and_item : {i : StreamItem} {items others : List StreamItem} {v : Tree} → Tidies T (content_type i) (content i) v
-      → AreTidied T items others → AreTidied T (i ∷ items) (with_content i v ∷ others)
+      → AreItemsTidied T items others → AreItemsTidied T (i ∷ items) (with_content i v ∷ others)
 
 -- the stream of the items in their tidy form, behind which the types are those behind the items, and this holds of its
 -- bytes
 pub record HasTidyStream (L : Bounds) (T : Table) (items : List StreamItem) (P : List ℕ → Type 0) : Type 0 where
   pub tidy : List StreamItem
-  pub tidied : AreTidied T items tidy
+  pub tidied : AreItemsTidied T items tidy
   pub bytes : List ℕ
   pub stream : Stream base_table L tidy bytes T
   pub holds : P bytes

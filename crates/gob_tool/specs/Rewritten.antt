@@ -1,7 +1,7 @@
 -- Where a run stands that rewrites what it reads. For private clauses.
 use Rattle.std.specs.Prelude.{◌≡◌, ◌≢◌, ℕ, ◌<◌, ◌≤◌, List, [], ◌∷◌, ◌++◌, length, take, Option, Some, None, Result}
-use Rattle.std.specs.Prelude.{Ok, Err}
-use Rattle.std.specs.Io.KnownBytes.{Consumes}
+use Rattle.std.specs.Prelude.{◌⊎◌, Ok, Err}
+use Rattle.std.specs.Io.KnownBytes.{Appends, Consumes, Keeps}
 use Rattle.gob_num.specs.declared.memory.Memory.{Memory}
 use Rattle.gob_types.specs.declared.id.TypeId.{TypeId}
 use Rattle.gob_types.specs.declared.reason.Reason.TheVariants as reason
@@ -31,8 +31,8 @@ use Rattle.gob_tape.specs.Meaning.{Means}
 use Rattle.gob_tool.specs.declared.fault.ToolFault.{ToolFault}
 use Rattle.gob_tool.specs.declared.fault.ToolFault.TheVariants as fault
 use Rattle.gob_tool.specs.Gathering.{Gathered, PassesSome}
-use Rattle.gob_tool.specs.Rewriting.{content, content_type, with_content, AreTidied, RewritesToRefusal, RewritesFront}
-use Rattle.gob_tool.specs.Keeping.{IsKept}
+use Rattle.gob_tool.specs.Rewriting.{content, content_type, with_content, AreItemsTidied, RewritesToRefusal, RewritesFront}
+use Rattle.gob_tool.specs.Keeping.{IsKeptFront}
 use Rattle.gob_tool.specs.Showing.{AppendsFront}
 
 -- the reader of tapes has given the items, of these bytes
@@ -81,7 +81,7 @@ pub record HasRewritten (s : Reading TapeBuilder Tape) (w : StreamWriter) : Type
   pub taken : List ℕ
   pub gave : GaveTapes s items taken
   pub tidy : List StreamItem
-  pub tidied : AreTidied (types s.types) items tidy
+  pub tidied : AreItemsTidied (types s.types) items tidy
   pub written : List ℕ
   pub has : HasWritten w tidy written (types s.types)
   pub limits : w.limits ≡ s.limits
@@ -95,7 +95,7 @@ pub record ComesNext {s : Reading TapeBuilder Tape} {w : StreamWriter} (h : HasR
   pub counted : Counted base_table (no_deeper deepest s.limits) (types s.types) (length h.gave.front) i bytes U
 
 -- and what was made of it is here
-pub record IsNext {s : Reading TapeBuilder Tape} {w : StreamWriter} (h : HasRewritten s w) (U : Table)
+pub record IsNextTape {s : Reading TapeBuilder Tape} {w : StreamWriter} (h : HasRewritten s w) (U : Table)
     (given : declared.Item Tape) : Type 0 where
   pub item : StreamItem
   pub meant : ItemMeans IsTape given item
@@ -114,11 +114,11 @@ pub record IsTidyNext {s : Reading TapeBuilder Tape} {w : StreamWriter} (h : Has
   pub next : ComesNext h (puts t value) U
 
 -- its tidy form is written too
-pub record GoesOn {s : Reading TapeBuilder Tape} {w : StreamWriter} {h : HasRewritten s w} {i : StreamItem} {U : Table}
+pub record GoesOnRewriting {s : Reading TapeBuilder Tape} {w : StreamWriter} {h : HasRewritten s w} {i : StreamItem} {U : Table}
     (n : ComesNext h i U) (w' : StreamWriter) : Type 0 where
   pub limits : w'.limits ≡ s.limits
   pub tidy : List StreamItem
-  pub tidied : AreTidied U (h.items ++ i ∷ []) tidy
+  pub tidied : AreItemsTidied U (h.items ++ i ∷ []) tidy
   pub more : List ℕ
   pub has : HasWritten w' tidy (h.written ++ more) U
   pub no_longer : length (h.written ++ more) ≤ length (h.gave.front ++ n.bytes)
@@ -126,8 +126,42 @@ pub record GoesOn {s : Reading TapeBuilder Tape} {w : StreamWriter} {h : HasRewr
 -- it was gathered in its tidy form, or nothing of it
 abbrev pub Pushes : {s : Reading TapeBuilder Tape} {w : StreamWriter} {h : HasRewritten s w} {i : StreamItem} {U : Table}
     (n : ComesNext h i U) (w' : StreamWriter) (before after : List ℕ) → Result (Unit {0}) Memory → Type 0
-Pushes n w' before after (Ok _) = (g : GoesOn n w') × (after ≡ before ++ g.more)
+Pushes n w' before after (Ok _) = (g : GoesOnRewriting n w') × (after ≡ before ++ g.more)
 Pushes n w' before after (Err e) = after ≡ before
+
+-- its tidy form follows what was written, as these bytes
+pub record IsTidiedItem {s : Reading TapeBuilder Tape} {w : StreamWriter} {h : HasRewritten s w} {i : StreamItem} {U : Table}
+    (n : ComesNext h i U) (more : List ℕ) : Type 0 where
+  pub tidy : List StreamItem
+  pub tidied : AreItemsTidied U (h.items ++ i ∷ []) tidy
+  pub stream : Stream base_table s.limits tidy (h.written ++ more) U
+
+-- it went out in its tidy form, or nothing of it, or after a failed write a front of it
+abbrev pub PutsOut : {s : Reading TapeBuilder Tape} {w : StreamWriter} {h : HasRewritten s w} {i : StreamItem} {U : Table}
+    (n : ComesNext h i U) (w' : StreamWriter) (old new : Option (List ℕ)) → Result (Unit {0}) ToolFault → Type 0
+PutsOut n w' old new (Ok _) = (g : GoesOnRewriting n w') × Appends old new g.more
+PutsOut n w' old new (Err fault.Write) = (more : List ℕ) × IsTidiedItem n more × AppendsFront old new more
+PutsOut n w' old new (Err fault.Memory) = Keeps old new
+PutsOut n w' old new (Err (fault.Refused R)) = ⊥
+PutsOut n w' old new (Err (fault.Wanted R)) = ⊥
+PutsOut n w' old new (Err fault.NoWantedType) = ⊥
+PutsOut n w' old new (Err (fault.Clash path reason)) = ⊥
+PutsOut n w' old new (Err fault.Read) = ⊥
+
+-- what was gathered, and the item in its tidy form behind it, went out or are gathered; after a failed write a front of
+-- what was gathered is out, or all of it and a front of the item
+abbrev pub PushesOut : {s : Reading TapeBuilder Tape} {w : StreamWriter} {h : HasRewritten s w} {i : StreamItem} {U : Table}
+    (n : ComesNext h i U) (w' : StreamWriter) (old new : Option (List ℕ)) (before after : List ℕ)
+    → Result (Unit {0}) ToolFault → Type 0
+PushesOut n w' old new before after (Ok _) = (g : GoesOnRewriting n w') × PassesSome old new (before ++ g.more) after
+PushesOut n w' old new before after (Err fault.Write) = AppendsFront old new before
+    ⊎ ((more : List ℕ) × IsTidiedItem n more × AppendsFront old new (before ++ more))
+PushesOut n w' old new before after (Err fault.Memory) = PassesSome old new before after
+PushesOut n w' old new before after (Err (fault.Refused R)) = ⊥
+PushesOut n w' old new before after (Err (fault.Wanted R)) = ⊥
+PushesOut n w' old new before after (Err fault.NoWantedType) = ⊥
+PushesOut n w' old new before after (Err (fault.Clash path reason)) = ⊥
+PushesOut n w' old new before after (Err fault.Read) = ⊥
 
 -- so many more bytes were written, and this holds of them
 abbrev pub Adds : List ℕ → (List ℕ → Type 0) → List ℕ → Type 0
@@ -153,20 +187,6 @@ RewritesSome {s = s} h s' w' piece before after (Err reading.Memory) =
 RewritesSome h s' w' piece before after (Err reading.Read) = ⊥
 RewritesSome h s' w' piece before after (Err reading.Failed) = ⊥
 
--- a whole item of its front was
-pub record RewritesItem {s : Reading TapeBuilder Tape} {w : StreamWriter} (h : HasRewritten s w)
-    (s' : Reading TapeBuilder Tape) (w' : StreamWriter) (piece before after : List ℕ) (used : ℕ) : Type 0 where
-  pub some : 0 < used
-  pub within : used ≤ length piece
-  pub rewrites : RewritesOn h s' w' (take used piece) (λ more. after ≡ before ++ more)
-
--- or nothing has changed
-abbrev pub MayRewriteWhole : {s : Reading TapeBuilder Tape} {w : StreamWriter} (h : HasRewritten s w)
-    (s' : Reading TapeBuilder Tape) (w' : StreamWriter) (piece before after : List ℕ) → Result (Option ℕ) Memory → Type 0
-MayRewriteWhole h s' w' piece before after (Ok (Some used)) = RewritesItem h s' w' piece before after used
-MayRewriteWhole {s = s} {w = w} h s' w' piece before after (Ok None) = (s' ≡ s) × (w' ≡ w) × (after ≡ before)
-MayRewriteWhole h s' w' piece before after (Err e) = after ≡ before
-
 abbrev pub RewritesPiece : Bounds → {s : Reading TapeBuilder Tape} {w : StreamWriter} (h : HasRewritten s w)
     (s' : Reading TapeBuilder Tape) (w' : StreamWriter) (piece : List ℕ) (old new : Option (List ℕ))
     (before after : List ℕ) → Result (Unit {0}) ToolFault → Type 0
@@ -182,6 +202,37 @@ RewritesPiece L h s' w' piece old new before after (Err (fault.Wanted R)) = ⊥
 RewritesPiece L h s' w' piece old new before after (Err fault.NoWantedType) = ⊥
 RewritesPiece L h s' w' piece old new before after (Err (fault.Clash path reason)) = ⊥
 RewritesPiece L h s' w' piece old new before after (Err fault.Read) = ⊥
+
+-- bytes of the front of a piece were rewritten too, and what was written of them went out or is gathered
+abbrev pub RewritesUsed : {s : Reading TapeBuilder Tape} {w : StreamWriter} (h : HasRewritten s w)
+    (s' : Reading TapeBuilder Tape) (w' : StreamWriter) (piece : List ℕ) (old new : Option (List ℕ))
+    (before after : List ℕ) → Result ℕ ToolFault → Type 0
+RewritesUsed h s' w' piece old new before after (Ok used) = RewritesOn h s' w' (take used piece)
+    (λ more. PassesSome old new (before ++ more) after)
+RewritesUsed {s = s} h s' w' piece old new before after (Err f) = RewritesPiece (no_deeper deepest s.limits) h s' w' piece
+    old new before after (Err f)
+
+-- a whole item of its front was
+pub record RewritesItem {s : Reading TapeBuilder Tape} {w : StreamWriter} (h : HasRewritten s w)
+    (s' : Reading TapeBuilder Tape) (w' : StreamWriter) (piece : List ℕ) (old new : Option (List ℕ))
+    (before after : List ℕ) (used : ℕ) : Type 0 where
+  pub some : 0 < used
+  pub within : used ≤ length piece
+  pub rewrites : RewritesOn h s' w' (take used piece) (λ more. PassesSome old new (before ++ more) after)
+
+-- nothing has changed
+abbrev pub StandsStill : (s s' : Reading TapeBuilder Tape) (w w' : StreamWriter) (old new : Option (List ℕ))
+    (before after : List ℕ) → Type 0
+StandsStill s s' w w' old new before after = (s' ≡ s) × (w' ≡ w) × (new ≡ old) × (after ≡ before)
+
+-- what taking a whole item from the front of a piece answers
+abbrev pub MayRewriteWhole : {s : Reading TapeBuilder Tape} {w : StreamWriter} (h : HasRewritten s w)
+    (s' : Reading TapeBuilder Tape) (w' : StreamWriter) (piece : List ℕ) (old new : Option (List ℕ))
+    (before after : List ℕ) → Result (Option ℕ) ToolFault → Type 0
+MayRewriteWhole h s' w' piece old new before after (Ok (Some used)) = RewritesItem h s' w' piece old new before after used
+MayRewriteWhole {s = s} {w = w} h s' w' piece old new before after (Ok None) = StandsStill s s' w w' old new before after
+MayRewriteWhole {s = s} h s' w' piece old new before after (Err f) = RewritesPiece (no_deeper deepest s.limits) h s' w'
+    piece old new before after (Err f)
 
 -- the front of a piece was rewritten, up to the rest
 pub record RewritesUpTo {s : Reading TapeBuilder Tape} {w : StreamWriter} (h : HasRewritten s w) (s' : Reading TapeBuilder Tape)
@@ -199,18 +250,20 @@ pub record RewritesIn (s : Reading TapeBuilder Tape) (w : StreamWriter) (read no
 
 -- what taking the front of a piece answers, which may be the first bytes of an item
 abbrev pub MayRewriteFront : {s : Reading TapeBuilder Tape} {w : StreamWriter} (h : HasRewritten s w)
-    (s' : Reading TapeBuilder Tape) (w' : StreamWriter) (piece before after : List ℕ) → Result (Option ℕ) Fault → Type 0
-MayRewriteFront {s = s} {w = w} h s' w' piece before after (Ok None) = (s' ≡ s) × (w' ≡ w) × (after ≡ before)
-    × IsKept s' piece
-MayRewriteFront h s' w' piece before after (Ok (Some used)) = RewritesSome h s' w' piece before after (Ok used)
-MayRewriteFront h s' w' piece before after (Err e) = RewritesSome h s' w' piece before after (Err e)
+    (s' : Reading TapeBuilder Tape) (w' : StreamWriter) (piece : List ℕ) (old new : Option (List ℕ))
+    (before after : List ℕ) → Result (Option ℕ) ToolFault → Type 0
+MayRewriteFront {s = s} {w = w} h s' w' piece old new before after (Ok None) = StandsStill s s' w w' old new before after
+    × IsKeptFront s' piece
+MayRewriteFront h s' w' piece old new before after (Ok (Some used)) = RewritesUsed h s' w' piece old new before after
+    (Ok used)
+MayRewriteFront h s' w' piece old new before after (Err f) = RewritesUsed h s' w' piece old new before after (Err f)
 
 -- what taking a piece answers, whose last bytes may be kept
 abbrev pub RewritesKeeping : Bounds → {s : Reading TapeBuilder Tape} {w : StreamWriter} (h : HasRewritten s w)
     (s' : Reading TapeBuilder Tape) (w' : StreamWriter) (kept piece : List ℕ) (old new : Option (List ℕ))
     (before after : List ℕ) → Result (Unit {0}) ToolFault → Type 0
 RewritesKeeping L h s' w' kept piece old new before after (Ok u) = RewritesUpTo h s' w' piece kept old new before after
-    × IsKept s' kept
+    × IsKeptFront s' kept
 RewritesKeeping L h s' w' kept piece old new before after (Err f) = RewritesPiece L h s' w' piece old new before after
     (Err f)
 
@@ -220,4 +273,4 @@ pub record RewritesKept (s : Reading TapeBuilder Tape) (w : StreamWriter) (kept 
   pub behind : Option (List ℕ)
   pub taken : RewritesIn s w read behind old new gathered
   pub input : Consumes behind now kept
-  pub is_kept : IsKept s kept
+  pub is_kept : IsKeptFront s kept

@@ -31,13 +31,13 @@ pub record IsRefused (L : Bounds) (bytes : List ℕ) (R : Refusal) (P : List ℕ
   pub holds : P (lines outcome.gives.begins.table items)
 
 -- this holds of the lines of the items of the longest stream that the bytes begin with
-pub record Gives (L : Bounds) (bytes : List ℕ) (P : List ℕ → Type 0) : Type 0 where
+pub record GivesOutcome (L : Bounds) (bytes : List ℕ) (P : List ℕ → Type 0) : Type 0 where
   pub items : List StreamItem
   pub given : GivesItems base_table L bytes items
   pub holds : P (lines given.begins.table items)
 
 -- this holds of the lines of the items of some stream that the bytes begin with
-pub record Begins (L : Bounds) (bytes : List ℕ) (P : List ℕ → Type 0) : Type 0 where
+pub record BeginsOutcome (L : Bounds) (bytes : List ℕ) (P : List ℕ → Type 0) : Type 0 where
   pub items : List StreamItem
   pub begins : BeginsWith base_table L bytes items
   pub holds : P (lines begins.table items)
@@ -48,9 +48,9 @@ abbrev pub Runs : Bounds → (bytes : List ℕ) → (now : Option (List ℕ)) �
     → Result (Unit {0}) ToolFault → Type 0
 Runs L bytes now Whole Cut (Ok _) = EndsWhole L bytes now Whole
 Runs L bytes now Whole Cut (Err (fault.Refused R)) = IsRefused L bytes R Whole
-Runs L bytes now Whole Cut (Err fault.Read) = SomeTaken bytes now (λ taken. Gives L taken Whole)
-Runs L bytes now Whole Cut (Err fault.Write) = Begins L bytes Cut
-Runs L bytes now Whole Cut (Err fault.Memory) = Begins L bytes Whole
+Runs L bytes now Whole Cut (Err fault.Read) = SomeTaken bytes now (λ taken. GivesOutcome L taken Whole)
+Runs L bytes now Whole Cut (Err fault.Write) = BeginsOutcome L bytes Cut
+Runs L bytes now Whole Cut (Err fault.Memory) = BeginsOutcome L bytes Whole
 Runs L bytes now Whole Cut (Err (fault.Wanted R)) = ⊥
 Runs L bytes now Whole Cut (Err fault.NoWantedType) = ⊥
 Runs L bytes now Whole Cut (Err (fault.Clash path reason)) = ⊥

@@ -52,7 +52,7 @@ pub data AreReceived (T U : Table) (u : TypeId) : List StreamItem → List ℕ �
       → AreReceived T U u (puts t v ∷ items) (line U (puts u w) ++ lines)
 
 -- they are, and this holds of the lines
-pub record HasReceived (T U : Table) (u : TypeId) (items : List StreamItem) (P : List ℕ → Type 0) : Type 0 where
+pub record HasTakenItems (T U : Table) (u : TypeId) (items : List StreamItem) (P : List ℕ → Type 0) : Type 0 where
   pub lines : List ℕ
   pub received : AreReceived T U u items lines
   pub holds : P lines
@@ -64,14 +64,14 @@ pub record ReceivesWhole (L : Bounds) (bytes : List ℕ) (now : Option (List ℕ
   pub table : Table
   pub stream : Stream base_table L items bytes table
   pub end : now ≡ Some []
-  pub received : HasReceived table U u items P
+  pub received : HasTakenItems table U u items P
 
 -- the bytes are refused so, and this holds of the lines of the items before the refusal
 pub record IsRefusedBehind (L : Bounds) (bytes : List ℕ) (R : Refusal) (U : Table) (u : TypeId) (P : List ℕ → Type 0) :
     Type 0 where
   pub items : List StreamItem
   pub outcome : Outcome base_table L bytes items (refused R)
-  pub received : HasReceived outcome.gives.begins.table U u items P
+  pub received : HasTakenItems outcome.gives.begins.table U u items P
 
 -- the bytes begin with the stream of some items and of a value whose type clashes with the wanted one, on this path of
 -- the
@@ -82,20 +82,20 @@ pub record ClashesBehind (L : Bounds) (bytes : List ℕ) (U : Table) (u : TypeId
   pub id : TypeId
   pub value : Tree
   pub begins : BeginsWith base_table L bytes (items ++ puts id value ∷ [])
-  pub received : HasReceived begins.table U u items P
+  pub received : HasTakenItems begins.table U u items P
   pub clash : IsLeastClash begins.table U id u path reason
 
 -- this holds of the lines of the items of the longest stream that the bytes begin with
 pub record ReceivesGiven (L : Bounds) (bytes : List ℕ) (U : Table) (u : TypeId) (P : List ℕ → Type 0) : Type 0 where
   pub items : List StreamItem
   pub given : GivesItems base_table L bytes items
-  pub received : HasReceived given.begins.table U u items P
+  pub received : HasTakenItems given.begins.table U u items P
 
 -- this holds of the lines of the items of some stream that the bytes begin with
 pub record ReceivesFront (L : Bounds) (bytes : List ℕ) (U : Table) (u : TypeId) (P : List ℕ → Type 0) : Type 0 where
   pub items : List StreamItem
   pub begins : BeginsWith base_table L bytes items
-  pub received : HasReceived begins.table U u items P
+  pub received : HasTakenItems begins.table U u items P
 
 -- how the part of the run behind the wanted stream ends, over an input with these bytes left, where `Whole` holds of
 -- the

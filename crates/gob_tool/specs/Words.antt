@@ -107,8 +107,8 @@ Refuses words fault.Memory = ⊤
 -- ---- what comes of them
 
 -- the limits under which the streams are read
-abbrev pub limits_of : Order → Bounds
-limits_of order = record { item = order.item; depth = order.depth; types = 10000; stream = 68719476736 }
+abbrev pub order_limits : Order → Bounds
+order_limits order = record { item = order.item; depth = order.depth; types = 10000; stream = 68719476736 }
 
 -- the exit status of the program behind a fault of its words
 abbrev pub order_status : OrderFault → ℕ

@@ -2,6 +2,8 @@
 
 ghost use Rattle.std.specs.Prelude.{◌≡◌, ◌<◌, ◌≤◌, ℕ, List, [], ◌++◌, Some, IfOk, length, string_bytes};
 ghost use Rattle.gob_stream.specs.Bounds.{AreLimits, deepest, no_deeper};
+ghost use Rattle.gob_stream.specs.Ends.{failed_reads, failed_writes, reader_of, writer_of};
+ghost use Rattle.gob_stream.specs.Session.{limits_of};
 ghost use Rattle.gob_tool.specs.Checking.{Checks};
 ghost use Rattle.gob_tool.specs.Counting.{GaveCounts, EndsCounting, CountsCounting, tally_line};
 ghost use Rattle.gob_tool.specs.Counting.{HasCounted, CountsAll, CountsFront};
@@ -10,7 +12,7 @@ ghost use Rattle.gob_tool.specs.Showing.{CountsReadFaults, CountsWriteFaults};
 use crate::fault::ToolFault;
 use crate::lines::write_whole;
 use gob_num::Memory;
-use gob_read::CheckBuilder;
+use gob_read::SkipBuilder;
 use gob_stream::{Fault, Input, Limits, Output, Session};
 use std::alloc::{AllocError, Global};
 use std::io::{Read, Write};
@@ -38,11 +40,11 @@ pub fn run_check<R: Read, W: Write>(
     output: &mut Output<W>,
     limits: Limits,
 ) -> Result<(), ToolFault>
-    ensures checked { (bytes : List ℕ) → R.remaining input.old.reader ≡ Some bytes
-        → Checks (no_deeper deepest limits) bytes (R.remaining input.new.reader)
-        (W.contents output.old.writer) (W.contents output.new.writer) result }
-    ensures reads { CountsReadFaults input.old.failures input.new.failures result }
-    ensures writes { CountsWriteFaults output.old.failures output.new.failures result }
+    ensures checked { (bytes : List ℕ) → R.remaining (reader_of input.old) ≡ Some bytes
+        → Checks (no_deeper deepest limits) bytes (R.remaining (reader_of input.new))
+        (W.contents (writer_of output.old)) (W.contents (writer_of output.new)) result }
+    ensures reads { CountsReadFaults (failed_reads input.old) (failed_reads input.new) result }
+    ensures writes { CountsWriteFaults (failed_writes output.old) (failed_writes output.new) result }
 {
     match check_stream(alloc, input, limits) {
         Ok(line) => {
@@ -65,10 +67,10 @@ fn check_stream<R: Read>(
     input: &mut Input<R>,
     limits: Limits,
 ) -> Result<String, ToolFault>
-    ensures checked { (bytes : List ℕ) → R.remaining input.old.reader ≡ Some bytes
+    ensures checked { (bytes : List ℕ) → R.remaining (reader_of input.old) ≡ Some bytes
         → EndsCounting (λ line. string_bytes line) (no_deeper deepest limits) bytes
-        (R.remaining input.new.reader) result }
-    ensures reads { CountsCounting input.old.failures input.new.failures result }
+        (R.remaining (reader_of input.new)) result }
+    ensures reads { CountsCounting (failed_reads input.old) (failed_reads input.new) result }
 {
     let tally = count_stream(alloc, input, limits)?;
     let line = counts_line(alloc, tally).map_err(Memory::from)?;
@@ -91,12 +93,12 @@ fn count_stream<R: Read>(
     input: &mut Input<R>,
     limits: Limits,
 ) -> Result<Tally, ToolFault>
-    ensures counted { (bytes : List ℕ) → R.remaining input.old.reader ≡ Some bytes
-        → EndsCounting tally_line (no_deeper deepest limits) bytes (R.remaining input.new.reader) result }
-    ensures reads { CountsCounting input.old.failures input.new.failures result }
+    ensures counted { (bytes : List ℕ) → R.remaining (reader_of input.old) ≡ Some bytes
+        → EndsCounting tally_line (no_deeper deepest limits) bytes (R.remaining (reader_of input.new)) result }
+    ensures reads { CountsCounting (failed_reads input.old) (failed_reads input.new) result }
 {
     let mut buffer = vec![in alloc; 0; PIECE].map_err(Memory::from)?;
-    let mut session = Session::<CheckBuilder>::new(alloc, limits)?;
+    let mut session = Session::<SkipBuilder>::new(alloc, limits)?;
     let counted = count_pieces(alloc, input, &mut session, &mut buffer);
     drop(session);
     counted
@@ -106,16 +108,16 @@ fn count_stream<R: Read>(
 fn count_pieces<R: Read>(
     alloc: Global,
     input: &mut Input<R>,
-    session: &mut Session<CheckBuilder>,
+    session: &mut Session<SkipBuilder>,
     buffer: &mut [u8],
 ) -> Result<Tally, ToolFault>
     requires stands { GaveCounts session.old.reading [] [] }
-    requires limits { AreLimits deepest session.old.reading.limits }
+    requires limits { AreLimits deepest (limits_of session.old) }
     requires room { 0 < length buffer.old }
-    ensures counted { (bytes : List ℕ) → R.remaining input.old.reader ≡ Some bytes
-        → EndsCounting tally_line (no_deeper deepest session.old.reading.limits) bytes
-        (R.remaining input.new.reader) result }
-    ensures reads { CountsCounting input.old.failures input.new.failures result }
+    ensures counted { (bytes : List ℕ) → R.remaining (reader_of input.old) ≡ Some bytes
+        → EndsCounting tally_line (no_deeper deepest (limits_of session.old)) bytes
+        (R.remaining (reader_of input.new)) result }
+    ensures reads { CountsCounting (failed_reads input.old) (failed_reads input.new) result }
 {
     let mut items = 0;
     let mut bytes = 0;
@@ -142,16 +144,16 @@ fn count_pieces<R: Read>(
 /// Takes a piece of the stream, and counts the items that are whole with it.
 fn count_piece(
     alloc: Global,
-    session: &mut Session<CheckBuilder>,
+    session: &mut Session<SkipBuilder>,
     piece: &[u8],
     items: &mut u64,
 ) -> Result<(), Fault>
     requires counted { (bytes : List ℕ) × HasCounted session.old.reading items.old bytes }
-    requires limits { AreLimits deepest session.old.reading.limits }
+    requires limits { AreLimits deepest (limits_of session.old) }
     ensures counted { (bytes : List ℕ) → HasCounted session.old.reading items.old bytes
-        → CountsAll (no_deeper deepest session.old.reading.limits) session.new.reading items.new
+        → CountsAll (no_deeper deepest (limits_of session.old)) session.new.reading items.new
         (bytes ++ piece.now) result }
-    ensures limits { session.new.reading.limits ≡ session.old.reading.limits }
+    ensures limits { limits_of session.new ≡ limits_of session.old }
 {
     let mut rest = piece;
     while !rest.is_empty() {
@@ -165,18 +167,18 @@ fn count_piece(
 /// them. Answers how many it took. Nothing is built of a value that stands whole.
 fn count_front(
     alloc: Global,
-    session: &mut Session<CheckBuilder>,
+    session: &mut Session<SkipBuilder>,
     piece: &[u8],
     items: &mut u64,
 ) -> Result<usize, Fault>
     requires some { 0 < length piece.now }
     requires counted { (bytes : List ℕ) × HasCounted session.old.reading items.old bytes }
-    requires limits { AreLimits deepest session.old.reading.limits }
+    requires limits { AreLimits deepest (limits_of session.old) }
     ensures counted { (bytes : List ℕ) → HasCounted session.old.reading items.old bytes
-        → CountsFront (no_deeper deepest session.old.reading.limits) session.new.reading items.old items.new bytes
+        → CountsFront (no_deeper deepest (limits_of session.old)) session.new.reading items.old items.new bytes
         piece.now result }
     ensures used { IfOk result (λ used. used ≤ length piece.now) }
-    ensures limits { session.new.reading.limits ≡ session.old.reading.limits }
+    ensures limits { limits_of session.new ≡ limits_of session.old }
 {
     match session.pass_whole(piece) {
         Some(passed) => {

@@ -1,7 +1,7 @@
 //! The commands, options and files that the words can name, for clap, which reads the words and shows help.
 
 ghost use Rattle.std.specs.Prelude.{◌≡◌, IfOk, codes, false};
-ghost use Rattle.clap.specs.Words.{app_of, rule_of};
+ghost use Rattle.clap.specs.Words.{app_of, rule_of, with_subcommand};
 ghost use Rattle.clap.specs.declared.builder.Command.TheViews.{out-Command};
 ghost use Rattle.gob_tool.specs.Words.{option_rule, with_options, one_stream, two_streams, program};
 
@@ -13,14 +13,28 @@ use std::alloc::{AllocError, Global};
 pub(crate) fn program<'a>(alloc: Global) -> Result<Command<'a>, AllocError>
     ensures { IfOk result (λ command. app_of command ≡ program) }
 {
-    Command::new(alloc, "gob")
+    let bare = Command::new(alloc, "gob")
         .about(help::PROGRAM)
         .after_help(help::USE)
-        .subcommand_required(true)
-        .subcommand(one_stream(alloc, "show", help::SHOW, help::DEPTH_OF_TREES)?)?
-        .subcommand(one_stream(alloc, "check", help::CHECK, help::DEPTH)?)?
-        .subcommand(one_stream(alloc, "rewrite", help::REWRITE, help::DEPTH)?)?
-        .subcommand(two_streams(alloc, "take", help::TAKE, help::DEPTH_OF_TREES)?)
+        .subcommand_required(true);
+    let showing = with_one_stream(alloc, bare, "show", help::SHOW, help::DEPTH_OF_TREES)?;
+    let checking = with_one_stream(alloc, showing, "check", help::CHECK, help::DEPTH)?;
+    let rewriting = with_one_stream(alloc, checking, "rewrite", help::REWRITE, help::DEPTH)?;
+    rewriting.subcommand(two_streams(alloc, "take", help::TAKE, help::DEPTH_OF_TREES)?)
+}
+
+// The program with one command more, which reads one stream.
+fn with_one_stream<'a>(
+    alloc: Global,
+    program: Command<'a>,
+    name: &'a str,
+    about: &'a str,
+    depth: &'a str,
+) -> Result<Command<'a>, AllocError>
+    ensures { IfOk result (λ more. app_of more
+        ≡ with_subcommand (app_of program.entry) (one_stream name.now).top) }
+{
+    program.subcommand(one_stream(alloc, name, about, depth)?)
 }
 
 // A command that reads one stream.
@@ -33,8 +47,7 @@ fn one_stream<'a>(
     ensures app { IfOk result (λ command. app_of command ≡ one_stream name.now) }
     ensures local { IfOk result (λ command. (out-Command command).has_globals ≡ false) }
 {
-    let input = Arg::new(alloc, "IN").help(help::INPUT);
-    with_options(alloc, name, about, depth)?.arg(input)
+    with_options(alloc, name, about, depth)?.arg(Arg::new(alloc, "IN").help(help::INPUT))
 }
 
 // A command that reads the stream that has the wanted type, and then another.
@@ -47,11 +60,9 @@ fn two_streams<'a>(
     ensures app { IfOk result (λ command. app_of command ≡ two_streams name.now) }
     ensures local { IfOk result (λ command. (out-Command command).has_globals ≡ false) }
 {
-    let wanted = Arg::new(alloc, "WANTED").required(true).help(help::WANTED);
-    let input = Arg::new(alloc, "IN").help(help::INPUT);
     with_options(alloc, name, about, depth)?
-        .arg(wanted)?
-        .arg(input)
+        .arg(Arg::new(alloc, "WANTED").required(true).help(help::WANTED))?
+        .arg(Arg::new(alloc, "IN").help(help::INPUT))
 }
 
 // A command with the options that each has.

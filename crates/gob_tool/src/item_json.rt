@@ -4,20 +4,18 @@ ghost use Rattle.std.specs.Prelude.{◌≡◌, ◌≤◌, ◌++◌, [], OnOk, If
 ghost use Rattle.json.specs.Tree.{json_tokens};
 ghost use Rattle.serde_json.specs.Data.{Data};
 ghost use Rattle.serde_json.specs.Written.{outline, compact_text};
+ghost use Rattle.gob_types.specs.declared.id.TypeId.{TypeId};
 ghost use Rattle.gob_types.specs.Defined.{types};
 ghost use Rattle.gob_value.specs.Tree.{Tree, depth};
 ghost use Rattle.gob_stream.specs.Item.{StreamItem, item_view, puts, ItemMeans};
 ghost use Rattle.gob_tape.specs.Meaning.{Means};
-ghost use Rattle.gob_tool.specs.Line.{item_json, item_text, put_json};
-ghost use Rattle.gob_value.specs.View.{view};
+ghost use Rattle.gob_tool.specs.Line.{item_json, item_text};
 
-use crate::definition_json::write_definition;
-use crate::tape_json::write_part;
-use crate::value_json::write_value;
+use gob_json::{write_definition, write_put, write_tape};
 use gob_num::Memory;
 use gob_stream::Item;
 use gob_tape::Tape;
-use gob_types::{Shapes, Table, TypeId};
+use gob_types::{Shapes, Table};
 use gob_value::Value;
 use json::Writer;
 use std::alloc::{AllocError, Global};
@@ -63,26 +61,6 @@ fn write_item_of_tape(
     }
 }
 
-/// Writes the value that a tape means as one of this type, with the type.
-fn write_tape(
-    alloc: Global,
-    id: TypeId,
-    tape: &Tape,
-    table: &Table,
-    out: &mut Writer,
-) -> Result<(), AllocError>
-    ensures tokens { OnOk result ((v : Tree) → Means tape.now v
-        → out.new.tokens ≡ out.old.tokens ++ json_tokens (outline (put_json (types table.now) id v))) }
-    ensures before { out.new.before ≡ out.old.before }
-{
-    out.begin_object()?;
-    out.key("type")?;
-    out.u64(id.0)?;
-    out.key("value")?;
-    write_part(alloc, tape.root(), id, table, out)?;
-    out.end_object()
-}
-
 /// The text that the writer holds.
 fn text_of(out: Writer) -> String
     requires { out.before ≡ [] }
@@ -109,24 +87,4 @@ pub(crate) fn write_item<S: Shapes>(
         Item::Define { id, .. } => write_definition(alloc, *id, table.shape_of(*id), out),
         Item::Put { id, value } => write_put(alloc, *id, value, table, out),
     }
-}
-
-/// Writes a value as one of this type, with the type.
-fn write_put<S: Shapes>(
-    alloc: Global,
-    id: TypeId,
-    value: &Value,
-    table: &S,
-    out: &mut Writer,
-) -> Result<(), AllocError>
-    ensures tokens { OnOk result (out.new.tokens
-        ≡ out.old.tokens ++ json_tokens (outline (put_json (S.table table.now) id (view value.now)))) }
-    ensures before { out.new.before ≡ out.old.before }
-{
-    out.begin_object()?;
-    out.key("type")?;
-    out.u64(id.0)?;
-    out.key("value")?;
-    write_value(alloc, value, id, table, out)?;
-    out.end_object()
 }

@@ -6,28 +6,26 @@
 //! ```
 #![tactic(auto)]
 
+mod block;
+mod blocks;
 mod check;
 mod command_line;
 mod decimal;
-mod definition_json;
 mod fault;
 mod help;
 mod item_json;
-mod leaf;
+mod large;
 mod lines;
 mod orders;
-mod parts;
 mod pending;
 mod pieces;
 mod receiver;
 mod rewrite;
 mod rewriter;
 mod run;
+mod sent;
 mod show;
 mod take;
-mod tape_json;
-mod text;
-mod value_json;
 mod wanted;
 mod words;
 

@@ -1,14 +1,15 @@
 //! Lines that wait to be written.
 
-ghost use Rattle.std.specs.Prelude.{◌≡◌, ◌++◌, ◌≤◌, ◌↔◌, [], IsTrue, IfOk, OnOk, OnErr, false};
+ghost use Rattle.std.specs.Prelude.{◌≡◌, ◌++◌, ◌∷◌, ◌≤◌, ◌↔◌, [], IsTrue, IfOk, OnOk, OnErr, false};
+ghost use Rattle.gob_stream.specs.Ends.{failed_writes, writer_of};
 ghost use Rattle.gob_stream.specs.Item.{item_view};
 ghost use Rattle.gob_tool.specs.Line.{line};
-ghost use Rattle.gob_tool.specs.TextWhole.{LineOfWhole};
+ghost use Rattle.gob_json.specs.TextWhole.{LineOfWhole, head_text};
 ghost use Rattle.gob_tool.specs.Gathering.{Writes, Passes, GathersGiven, CountsWrites};
 
 use crate::fault::ToolFault;
 use crate::item_json::write_item;
-use crate::text::line_of_whole;
+use gob_json::{line_of_whole, put_head};
 use gob_num::Memory;
 use gob_stream::{Item, Output, Step};
 use gob_types::{Shapes, TypeId};
@@ -97,12 +98,24 @@ impl Lines {
         line_of_whole(table, id, body, depth, &mut self.line, &mut self.gathered)
     }
 
+    /// Appends the begin of the line of an item that puts a list, up to the bracket. After an error the lines are as
+    /// before.
+    pub(crate) fn push_head(&mut self, id: TypeId) -> Result<(), Memory>
+        ensures ok { OnOk result (self.new.gathered.items ≡ self.old.gathered.items ++ (head_text id ++ 91 ∷ [])) }
+        ensures err { OnErr result (self.new.gathered.items ≡ self.old.gathered.items) }
+    {
+        self.line.clear();
+        put_head(id, &mut self.line)?;
+        self.line.push(b'[')?;
+        Ok(self.gathered.extend_from_slice(&self.line)?)
+    }
+
     /// Writes the lines if there are enough of them to be worth a write. After an error a front of them is
     /// written.
     pub(crate) fn write_many<W: Write>(&mut self, output: &mut Output<W>) -> Result<(), ToolFault>
-        ensures passed { Passes (W.contents output.old.writer) (W.contents output.new.writer)
+        ensures passed { Passes (W.contents (writer_of output.old)) (W.contents (writer_of output.new))
             self.old.gathered.items self.new.gathered.items result }
-        ensures counted { CountsWrites output.old.failures output.new.failures result }
+        ensures counted { CountsWrites (failed_writes output.old) (failed_writes output.new) result }
     {
         if self.gathered.len() < MANY {
             return Ok(());
@@ -112,10 +125,10 @@ impl Lines {
 
     /// Writes the lines, of which none are left then. After an error a front of them is written.
     pub(crate) fn write_to<W: Write>(&mut self, output: &mut Output<W>) -> Result<(), ToolFault>
-        ensures written { Writes (W.contents output.old.writer) (W.contents output.new.writer)
+        ensures written { Writes (W.contents (writer_of output.old)) (W.contents (writer_of output.new))
             self.old.gathered.items result }
         ensures empty { OnOk result (self.new.gathered.items ≡ []) }
-        ensures counted { CountsWrites output.old.failures output.new.failures result }
+        ensures counted { CountsWrites (failed_writes output.old) (failed_writes output.new) result }
     {
         write_whole(&self.gathered, output)?;
         self.gathered.clear();
@@ -125,8 +138,8 @@ impl Lines {
 
 /// Writes all of the bytes, or a front of them before an error.
 pub(crate) fn write_whole<W: Write>(bytes: &[u8], output: &mut Output<W>) -> Result<(), ToolFault>
-    ensures written { Writes (W.contents output.old.writer) (W.contents output.new.writer) bytes.now result }
-    ensures counted { CountsWrites output.old.failures output.new.failures result }
+    ensures written { Writes (W.contents (writer_of output.old)) (W.contents (writer_of output.new)) bytes.now result }
+    ensures counted { CountsWrites (failed_writes output.old) (failed_writes output.new) result }
 {
     let mut rest = bytes;
     while !rest.is_empty() {

@@ -1,7 +1,7 @@
 //! The bytes of an item that isn't whole yet.
 
 ghost use Rattle.std.specs.Prelude.{◌≡◌, ◌++◌, ◌<◌, [], length, false, IsTrue, OnOk, OnErr};
-ghost use Rattle.gob_tool.specs.Keeping.{Lacks, IsKept};
+ghost use Rattle.gob_tool.specs.Keeping.{Lacks, IsKeptFront};
 
 use gob_num::Memory;
 use gob_read::Builder;
@@ -61,7 +61,7 @@ impl Pending {
 /// Whether the piece is the first bytes of an item of a value, behind what the session took, or empty. False says
 /// nothing else of the piece.
 pub(crate) fn is_begun<B: Builder>(session: &Session<B>, piece: &[u8]) -> bool
-    ensures kept { IsTrue result → IsKept session.now.reading piece.now }
+    ensures kept { IsTrue result → IsKeptFront session.now.reading piece.now }
     ensures some { result ≡ false → 0 < length piece.now }
 {
     match session.awaited(piece) {

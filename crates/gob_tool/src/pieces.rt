@@ -1,7 +1,9 @@
 //! A stream that is read piece by piece.
 
 ghost use Rattle.std.specs.Prelude.{◌≡◌, ◌<◌, ℕ, List, length};
+ghost use Rattle.gob_stream.specs.Ends.{failed_reads, reader_of};
 ghost use Rattle.gob_stream.specs.Item.{StreamItem, item_views};
+ghost use Rattle.gob_stream.specs.Session.{limits_of};
 ghost use Rattle.gob_tool.specs.Gathering.{GaveItems};
 ghost use Rattle.gob_tool.specs.Pieces.{HasGiven, GivesPiece, CountsPiece};
 
@@ -24,9 +26,9 @@ pub(crate) fn next_items<R: Read>(
     requires room { 0 < length buffer.old }
     ensures gave { (before : List StreamItem) (taken : List ℕ) → GaveItems session.old.reading before taken
         → GivesPiece session.old.reading session.new.reading before taken (item_views items.new.items)
-        (R.remaining input.old.reader) (R.remaining input.new.reader) result }
-    ensures limits { session.new.reading.limits ≡ session.old.reading.limits }
-    ensures reads { CountsPiece input.old.failures input.new.failures result }
+        (R.remaining (reader_of input.old)) (R.remaining (reader_of input.new)) result }
+    ensures limits { limits_of session.new ≡ limits_of session.old }
+    ensures reads { CountsPiece (failed_reads input.old) (failed_reads input.new) result }
 {
     items.clear();
     match input.read(buffer) {

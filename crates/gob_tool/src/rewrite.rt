@@ -3,10 +3,13 @@
 ghost use Rattle.std.specs.Prelude.{◌≡◌, ◌<◌, ◌≤◌, ◌++◌, ℕ, List, [], Option, Some, length, IfOk, IfSome, OnOk};
 ghost use Rattle.std.specs.Io.KnownBytes.{Consumes, IsAtEnd};
 ghost use Rattle.gob_stream.specs.Bounds.{AreLimits, deepest, no_deeper};
+ghost use Rattle.gob_stream.specs.Ends.{failed_reads, failed_writes, reader_of, writer_of};
+ghost use Rattle.gob_stream.specs.Session.{limits_of};
 ghost use Rattle.gob_stream.specs.Writing.{IsNew};
 ghost use Rattle.gob_tool.specs.Gathering.{Gathered, CountsOnlyReads, CountsOnlyWrites};
 ghost use Rattle.gob_tool.specs.Rewriting.{Rewrites, RewritesSo};
-ghost use Rattle.gob_tool.specs.Rewritten.{GaveTapes, HasRewritten, RewritesPiece, RewritesSome, MayRewriteWhole};
+ghost use Rattle.gob_tool.specs.Rewritten.{GaveTapes, HasRewritten, RewritesPiece, RewritesSome, RewritesUsed};
+ghost use Rattle.gob_tool.specs.Rewritten.{MayRewriteWhole};
 ghost use Rattle.gob_tool.specs.Rewritten.{RewritesIn, RewritesKeeping, MayRewriteFront};
 ghost use Rattle.gob_tool.specs.Showing.{AppendsFront, CountsReadFaults, CountsWriteFaults};
 
@@ -35,11 +38,11 @@ pub fn run_rewrite<R: Read, W: Write>(
     output: &mut Output<W>,
     limits: Limits,
 ) -> Result<(), ToolFault>
-    ensures rewritten { (bytes : List ℕ) → R.remaining input.old.reader ≡ Some bytes
-        → Rewrites (no_deeper deepest limits) bytes (R.remaining input.new.reader)
-        (W.contents output.old.writer) (W.contents output.new.writer) result }
-    ensures reads { CountsReadFaults input.old.failures input.new.failures result }
-    ensures writes { CountsWriteFaults output.old.failures output.new.failures result }
+    ensures rewritten { (bytes : List ℕ) → R.remaining (reader_of input.old) ≡ Some bytes
+        → Rewrites (no_deeper deepest limits) bytes (R.remaining (reader_of input.new))
+        (W.contents (writer_of output.old)) (W.contents (writer_of output.new)) result }
+    ensures reads { CountsReadFaults (failed_reads input.old) (failed_reads input.new) result }
+    ensures writes { CountsWriteFaults (failed_writes output.old) (failed_writes output.new) result }
 {
     let mut rewriter = match Rewriter::new(alloc, limits) {
         Ok(rewriter) => rewriter,
@@ -63,11 +66,11 @@ fn rewrite_and_flush<R: Read, W: Write>(
 ) -> Result<(), ToolFault>
     requires new { IsNew rewriter.old.writer limits }
     requires empty { rewriter.old.gathered.items ≡ [] }
-    ensures rewritten { (bytes : List ℕ) → R.remaining input.old.reader ≡ Some bytes
-        → Rewrites (no_deeper deepest limits) bytes (R.remaining input.new.reader)
-        (W.contents output.old.writer) (W.contents output.new.writer) result }
-    ensures reads { CountsReadFaults input.old.failures input.new.failures result }
-    ensures writes { CountsWriteFaults output.old.failures output.new.failures result }
+    ensures rewritten { (bytes : List ℕ) → R.remaining (reader_of input.old) ≡ Some bytes
+        → Rewrites (no_deeper deepest limits) bytes (R.remaining (reader_of input.new))
+        (W.contents (writer_of output.old)) (W.contents (writer_of output.new)) result }
+    ensures reads { CountsReadFaults (failed_reads input.old) (failed_reads input.new) result }
+    ensures writes { CountsWriteFaults (failed_writes output.old) (failed_writes output.new) result }
 {
     let rewritten = rewrite_items(alloc, input, output, limits, rewriter);
     if matches!(rewritten, Err(ToolFault::Write)) {
@@ -91,12 +94,12 @@ fn rewrite_items<R: Read, W: Write>(
 ) -> Result<(), ToolFault>
     requires new { IsNew rewriter.old.writer limits }
     requires empty { rewriter.old.gathered.items ≡ [] }
-    ensures rewritten { (bytes : List ℕ) → R.remaining input.old.reader ≡ Some bytes
-        → RewritesSo (no_deeper deepest limits) bytes (R.remaining input.new.reader)
-        (Gathered (W.contents output.old.writer) (W.contents output.new.writer) rewriter.new.gathered.items)
-        (AppendsFront (W.contents output.old.writer) (W.contents output.new.writer)) result }
-    ensures reads { CountsOnlyReads input.old.failures input.new.failures result }
-    ensures writes { CountsOnlyWrites output.old.failures output.new.failures result }
+    ensures rewritten { (bytes : List ℕ) → R.remaining (reader_of input.old) ≡ Some bytes
+        → RewritesSo (no_deeper deepest limits) bytes (R.remaining (reader_of input.new))
+        (Gathered (W.contents (writer_of output.old)) (W.contents (writer_of output.new)) rewriter.new.gathered.items)
+        (AppendsFront (W.contents (writer_of output.old)) (W.contents (writer_of output.new))) result }
+    ensures reads { CountsOnlyReads (failed_reads input.old) (failed_reads input.new) result }
+    ensures writes { CountsOnlyWrites (failed_writes output.old) (failed_writes output.new) result }
 {
     let mut buffer = vec![in alloc; 0; PIECE].map_err(Memory::from)?;
     let mut session = Session::<TapeBuilder>::new(alloc, limits)?;
@@ -124,17 +127,17 @@ fn rewrite_pieces<R: Read, W: Write>(
     rewriter: &mut Rewriter,
 ) -> Result<(), ToolFault>
     requires stands { GaveTapes session.old.reading [] [] }
-    requires depth { depth ≡ session.old.reading.limits.depth }
-    requires limits { AreLimits deepest session.old.reading.limits }
-    requires new { IsNew rewriter.old.writer session.old.reading.limits }
+    requires depth { depth ≡ (limits_of session.old).depth }
+    requires limits { AreLimits deepest (limits_of session.old) }
+    requires new { IsNew rewriter.old.writer (limits_of session.old) }
     requires empty { rewriter.old.gathered.items ≡ [] }
     requires room { 0 < length buffer.old }
-    ensures rewritten { (bytes : List ℕ) → R.remaining input.old.reader ≡ Some bytes
-        → RewritesSo (no_deeper deepest session.old.reading.limits) bytes (R.remaining input.new.reader)
-        (Gathered (W.contents output.old.writer) (W.contents output.new.writer) rewriter.new.gathered.items)
-        (AppendsFront (W.contents output.old.writer) (W.contents output.new.writer)) result }
-    ensures reads { CountsOnlyReads input.old.failures input.new.failures result }
-    ensures writes { CountsOnlyWrites output.old.failures output.new.failures result }
+    ensures rewritten { (bytes : List ℕ) → R.remaining (reader_of input.old) ≡ Some bytes
+        → RewritesSo (no_deeper deepest (limits_of session.old)) bytes (R.remaining (reader_of input.new))
+        (Gathered (W.contents (writer_of output.old)) (W.contents (writer_of output.new)) rewriter.new.gathered.items)
+        (AppendsFront (W.contents (writer_of output.old)) (W.contents (writer_of output.new))) result }
+    ensures reads { CountsOnlyReads (failed_reads input.old) (failed_reads input.new) result }
+    ensures writes { CountsOnlyWrites (failed_writes output.old) (failed_writes output.new) result }
 {
     let mut pending = Pending::new(alloc);
     'pieces: loop {
@@ -159,16 +162,16 @@ fn rewrite_end<W: Write>(
     output: &mut Output<W>,
 ) -> Result<(), ToolFault>
     requires so_far { HasRewritten session.old.reading rewriter.old.writer }
-    requires depth { depth ≡ session.old.reading.limits.depth }
+    requires depth { depth ≡ (limits_of session.old).depth }
     ensures rewritten { (bytes : List ℕ) (read at next start : Option (List ℕ))
-        → RewritesIn session.old.reading rewriter.old.writer read at start (W.contents output.old.writer)
+        → RewritesIn session.old.reading rewriter.old.writer read at start (W.contents (writer_of output.old))
         rewriter.old.gathered.items
         → read ≡ Some bytes → Consumes at next kept.now → IsAtEnd next
-        → RewritesSo (no_deeper deepest session.old.reading.limits) bytes next
-        (Gathered start (W.contents output.new.writer) rewriter.new.gathered.items)
-        (AppendsFront start (W.contents output.new.writer)) result }
+        → RewritesSo (no_deeper deepest (limits_of session.old)) bytes next
+        (Gathered start (W.contents (writer_of output.new)) rewriter.new.gathered.items)
+        (AppendsFront start (W.contents (writer_of output.new))) result }
     ensures reads { (failures : ℕ) → CountsOnlyReads failures failures result }
-    ensures writes { CountsOnlyWrites output.old.failures output.new.failures result }
+    ensures writes { CountsOnlyWrites (failed_writes output.old) (failed_writes output.new) result }
 {
     rewrite_piece(alloc, kept, depth, session, rewriter, output)?;
     Ok(session.finish()?)
@@ -186,14 +189,14 @@ fn rewrite_next<W: Write>(
     output: &mut Output<W>,
 ) -> Result<(), ToolFault>
     requires so_far { HasRewritten session.old.reading rewriter.old.writer }
-    requires depth { depth ≡ session.old.reading.limits.depth }
+    requires depth { depth ≡ (limits_of session.old).depth }
     ensures rewritten { (h : HasRewritten session.old.reading rewriter.old.writer)
-        → RewritesKeeping (no_deeper deepest session.old.reading.limits) h session.new.reading rewriter.new.writer
+        → RewritesKeeping (no_deeper deepest (limits_of session.old)) h session.new.reading rewriter.new.writer
         pending.new.bytes.items (pending.old.bytes.items ++ piece.now)
-        (W.contents output.old.writer) (W.contents output.new.writer)
+        (W.contents (writer_of output.old)) (W.contents (writer_of output.new))
         rewriter.old.gathered.items rewriter.new.gathered.items result }
-    ensures limits { session.new.reading.limits ≡ session.old.reading.limits }
-    ensures writes { CountsOnlyWrites output.old.failures output.new.failures result }
+    ensures limits { limits_of session.new ≡ limits_of session.old }
+    ensures writes { CountsOnlyWrites (failed_writes output.old) (failed_writes output.new) result }
 {
     let missing = pending.missing(session);
     if (piece.len() as u64) < missing {
@@ -215,15 +218,15 @@ fn rewrite_kept<W: Write>(
     output: &mut Output<W>,
 ) -> Result<(), ToolFault>
     requires so_far { HasRewritten session.old.reading rewriter.old.writer }
-    requires depth { depth ≡ session.old.reading.limits.depth }
+    requires depth { depth ≡ (limits_of session.old).depth }
     ensures rewritten { (h : HasRewritten session.old.reading rewriter.old.writer)
-        → RewritesPiece (no_deeper deepest session.old.reading.limits) h session.new.reading rewriter.new.writer
+        → RewritesPiece (no_deeper deepest (limits_of session.old)) h session.new.reading rewriter.new.writer
         (pending.old.bytes.items ++ front.now)
-        (W.contents output.old.writer) (W.contents output.new.writer)
+        (W.contents (writer_of output.old)) (W.contents (writer_of output.new))
         rewriter.old.gathered.items rewriter.new.gathered.items result }
     ensures none { OnOk result (pending.new.bytes.items ≡ []) }
-    ensures limits { session.new.reading.limits ≡ session.old.reading.limits }
-    ensures writes { CountsOnlyWrites output.old.failures output.new.failures result }
+    ensures limits { limits_of session.new ≡ limits_of session.old }
+    ensures writes { CountsOnlyWrites (failed_writes output.old) (failed_writes output.new) result }
 {
     pending.keep(front)?;
     rewrite_piece(alloc, pending.bytes(), depth, session, rewriter, output)?;
@@ -242,23 +245,20 @@ fn rewrite_behind<W: Write>(
     output: &mut Output<W>,
 ) -> Result<(), ToolFault>
     requires so_far { HasRewritten session.old.reading rewriter.old.writer }
-    requires depth { depth ≡ session.old.reading.limits.depth }
+    requires depth { depth ≡ (limits_of session.old).depth }
     requires none { pending.old.bytes.items ≡ [] }
     ensures rewritten { (h : HasRewritten session.old.reading rewriter.old.writer)
-        → RewritesKeeping (no_deeper deepest session.old.reading.limits) h session.new.reading rewriter.new.writer
+        → RewritesKeeping (no_deeper deepest (limits_of session.old)) h session.new.reading rewriter.new.writer
         pending.new.bytes.items piece.now
-        (W.contents output.old.writer) (W.contents output.new.writer)
+        (W.contents (writer_of output.old)) (W.contents (writer_of output.new))
         rewriter.old.gathered.items rewriter.new.gathered.items result }
-    ensures limits { session.new.reading.limits ≡ session.old.reading.limits }
-    ensures writes { CountsOnlyWrites output.old.failures output.new.failures result }
+    ensures limits { limits_of session.new ≡ limits_of session.old }
+    ensures writes { CountsOnlyWrites (failed_writes output.old) (failed_writes output.new) result }
 {
     let mut rest = piece;
     'items: loop {
-        match rewrite_ready(alloc, rest, depth, session, rewriter)? {
-            Some(used) => {
-                rewriter.write_many(output)?;
-                rest = &rest[used..];
-            }
+        match rewrite_ready(alloc, rest, depth, session, rewriter, output)? {
+            Some(used) => rest = &rest[used..],
             None => return Ok(pending.keep(rest)?),
         }
     }
@@ -266,25 +266,28 @@ fn rewrite_behind<W: Write>(
 
 /// Takes bytes from the front of the piece as [`rewrite_front`] does. None where the piece is the first bytes of an item
 /// of a value, or empty, and then nothing has changed.
-fn rewrite_ready(
+fn rewrite_ready<W: Write>(
     alloc: Global,
     piece: &[u8],
     depth: u64,
     session: &mut Session<TapeBuilder>,
     rewriter: &mut Rewriter,
-) -> Result<Option<usize>, Fault>
+    output: &mut Output<W>,
+) -> Result<Option<usize>, ToolFault>
     requires so_far { HasRewritten session.old.reading rewriter.old.writer }
-    requires depth { depth ≡ session.old.reading.limits.depth }
+    requires depth { depth ≡ (limits_of session.old).depth }
     ensures rewritten { (h : HasRewritten session.old.reading rewriter.old.writer)
         → MayRewriteFront h session.new.reading rewriter.new.writer piece.now
+        (W.contents (writer_of output.old)) (W.contents (writer_of output.new))
         rewriter.old.gathered.items rewriter.new.gathered.items result }
     ensures used { IfOk result (λ taken. IfSome taken (λ used. (0 < used) × (used ≤ length piece.now))) }
-    ensures limits { session.new.reading.limits ≡ session.old.reading.limits }
+    ensures limits { limits_of session.new ≡ limits_of session.old }
+    ensures writes { CountsOnlyWrites (failed_writes output.old) (failed_writes output.new) result }
 {
-    match rewrite_whole(alloc, piece, depth, session, rewriter)? {
+    match rewrite_whole(alloc, piece, depth, session, rewriter, output)? {
         Some(used) => Ok(Some(used)),
         None if is_begun(session, piece) => Ok(None),
-        None => Ok(Some(rewrite_step(alloc, piece, session, rewriter)?)),
+        None => Ok(Some(rewrite_by_step(alloc, piece, session, rewriter, output)?)),
     }
 }
 
@@ -298,77 +301,109 @@ fn rewrite_piece<W: Write>(
     output: &mut Output<W>,
 ) -> Result<(), ToolFault>
     requires so_far { HasRewritten session.old.reading rewriter.old.writer }
-    requires depth { depth ≡ session.old.reading.limits.depth }
+    requires depth { depth ≡ (limits_of session.old).depth }
     ensures rewritten { (h : HasRewritten session.old.reading rewriter.old.writer)
-        → RewritesPiece (no_deeper deepest session.old.reading.limits) h session.new.reading rewriter.new.writer
+        → RewritesPiece (no_deeper deepest (limits_of session.old)) h session.new.reading rewriter.new.writer
         piece.now
-        (W.contents output.old.writer) (W.contents output.new.writer)
+        (W.contents (writer_of output.old)) (W.contents (writer_of output.new))
         rewriter.old.gathered.items rewriter.new.gathered.items result }
-    ensures limits { session.new.reading.limits ≡ session.old.reading.limits }
-    ensures writes { CountsOnlyWrites output.old.failures output.new.failures result }
+    ensures limits { limits_of session.new ≡ limits_of session.old }
+    ensures writes { CountsOnlyWrites (failed_writes output.old) (failed_writes output.new) result }
 {
     let mut rest = piece;
     while !rest.is_empty() {
-        let used = rewrite_front(alloc, rest, depth, session, rewriter)?;
-        rewriter.write_many(output)?;
+        let used = rewrite_front(alloc, rest, depth, session, rewriter, output)?;
         rest = &rest[used..];
     }
     Ok(())
 }
 
 /// Takes bytes from the front of the piece, none behind the end of an item, and rewrites the item that is whole with
-/// them. Answers how many it took, one at least.
-fn rewrite_front(
+/// them: what is written of it goes out, or is gathered. Answers how many it took, one at least.
+fn rewrite_front<W: Write>(
     alloc: Global,
     piece: &[u8],
     depth: u64,
     session: &mut Session<TapeBuilder>,
     rewriter: &mut Rewriter,
-) -> Result<usize, Fault>
+    output: &mut Output<W>,
+) -> Result<usize, ToolFault>
     requires some { 0 < length piece.now }
     requires so_far { HasRewritten session.old.reading rewriter.old.writer }
-    requires depth { depth ≡ session.old.reading.limits.depth }
+    requires depth { depth ≡ (limits_of session.old).depth }
     ensures rewritten { (h : HasRewritten session.old.reading rewriter.old.writer)
-        → RewritesSome h session.new.reading rewriter.new.writer piece.now
+        → RewritesUsed h session.new.reading rewriter.new.writer piece.now
+        (W.contents (writer_of output.old)) (W.contents (writer_of output.new))
         rewriter.old.gathered.items rewriter.new.gathered.items result }
     ensures used { IfOk result (λ used. (0 < used) × (used ≤ length piece.now)) }
-    ensures limits { session.new.reading.limits ≡ session.old.reading.limits }
+    ensures limits { limits_of session.new ≡ limits_of session.old }
+    ensures writes { CountsOnlyWrites (failed_writes output.old) (failed_writes output.new) result }
 {
-    match rewrite_whole(alloc, piece, depth, session, rewriter)? {
+    match rewrite_whole(alloc, piece, depth, session, rewriter, output)? {
         Some(used) => Ok(used),
-        None => rewrite_step(alloc, piece, session, rewriter),
+        None => rewrite_by_step(alloc, piece, session, rewriter, output),
     }
 }
 
 /// The same of an item of a value that stands whole at the front of the piece and is tidy already, of which nothing is
 /// built. None where there is none, and then nothing has changed.
-fn rewrite_whole(
+fn rewrite_whole<W: Write>(
     alloc: Global,
     piece: &[u8],
     depth: u64,
     session: &mut Session<TapeBuilder>,
     rewriter: &mut Rewriter,
-) -> Result<Option<usize>, Memory>
+    output: &mut Output<W>,
+) -> Result<Option<usize>, ToolFault>
     requires so_far { HasRewritten session.old.reading rewriter.old.writer }
-    requires depth { depth ≡ session.old.reading.limits.depth }
+    requires depth { depth ≡ (limits_of session.old).depth }
     ensures rewritten { (h : HasRewritten session.old.reading rewriter.old.writer)
         → MayRewriteWhole h session.new.reading rewriter.new.writer piece.now
+        (W.contents (writer_of output.old)) (W.contents (writer_of output.new))
         rewriter.old.gathered.items rewriter.new.gathered.items result }
-    ensures limits { session.new.reading.limits ≡ session.old.reading.limits }
+    ensures limits { limits_of session.new ≡ limits_of session.old }
+    ensures writes { CountsOnlyWrites (failed_writes output.old) (failed_writes output.new) result }
 {
     let Some(whole) = session.whole_value(piece) else {
         return Ok(None);
     };
-    let table = session.table();
-    if !is_tidy_whole(table, whole.id, whole.body, depth.min(TapeBuilder::DEPTH)) {
+    if !is_tidy_whole(
+        session.table(),
+        whole.id,
+        whole.body,
+        depth.min(TapeBuilder::DEPTH),
+    ) {
         return Ok(None);
     }
-    rewriter.push_whole(alloc, table, whole.id, whole.body)?;
     session.pass(whole.used);
+    rewriter.push_whole(alloc, session.table(), whole.id, whole.body, output)?;
     Ok(Some(whole.used))
 }
 
-/// The same by a step of the session, which makes a tape of the value.
+/// The same by a step of the session.
+fn rewrite_by_step<W: Write>(
+    alloc: Global,
+    piece: &[u8],
+    session: &mut Session<TapeBuilder>,
+    rewriter: &mut Rewriter,
+    output: &mut Output<W>,
+) -> Result<usize, ToolFault>
+    requires some { 0 < length piece.now }
+    requires so_far { HasRewritten session.old.reading rewriter.old.writer }
+    ensures rewritten { (h : HasRewritten session.old.reading rewriter.old.writer)
+        → RewritesUsed h session.new.reading rewriter.new.writer piece.now
+        (W.contents (writer_of output.old)) (W.contents (writer_of output.new))
+        rewriter.old.gathered.items rewriter.new.gathered.items result }
+    ensures used { IfOk result (λ used. (0 < used) × (used ≤ length piece.now)) }
+    ensures limits { limits_of session.new ≡ limits_of session.old }
+    ensures writes { CountsOnlyWrites (failed_writes output.old) (failed_writes output.new) result }
+{
+    let used = rewrite_step(alloc, piece, session, rewriter)?;
+    rewriter.write_many(output)?;
+    Ok(used)
+}
+
+/// Takes a step of the session, which makes a tape of a value, and gathers what is whole with it.
 fn rewrite_step(
     alloc: Global,
     piece: &[u8],
@@ -381,7 +416,7 @@ fn rewrite_step(
         → RewritesSome h session.new.reading rewriter.new.writer piece.now
         rewriter.old.gathered.items rewriter.new.gathered.items result }
     ensures used { IfOk result (λ used. (0 < used) × (used ≤ length piece.now)) }
-    ensures limits { session.new.reading.limits ≡ session.old.reading.limits }
+    ensures limits { limits_of session.new ≡ limits_of session.old }
 {
     let Step { used, item } = session.step(alloc, piece)?;
     if let Some(item) = item {

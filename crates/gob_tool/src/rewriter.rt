@@ -6,14 +6,15 @@ ghost use Rattle.gob_value.specs.Spelling.{Spells};
 ghost use Rattle.gob_value.specs.Top.{SpellsTop};
 ghost use Rattle.gob_value.specs.Tree.{Tree};
 ghost use Rattle.gob_value.specs.View.{view};
+ghost use Rattle.gob_stream.specs.Ends.{failed_writes, writer_of};
 ghost use Rattle.gob_stream.specs.declared.reading.Reading.{Reading};
 ghost use Rattle.gob_stream.specs.Bounds.{deepest, no_deeper};
 ghost use Rattle.gob_tape.specs.declared.tape_builder.TapeBuilder.{TapeBuilder};
 ghost use Rattle.gob_stream.specs.Item.{StreamItem, ItemMeans, defines, puts};
-ghost use Rattle.gob_stream.specs.Writing.{IsNew, Leaves};
-ghost use Rattle.gob_tool.specs.Gathering.{Passes, Writes, CountsWrites};
-ghost use Rattle.gob_tool.specs.Rewritten.{IsTape, StandsThere, IsOfStream, WritesForm, HasRewritten, IsNext};
-ghost use Rattle.gob_tool.specs.Rewritten.{SpellsTidy, IsTidyNext, Pushes};
+ghost use Rattle.gob_stream.specs.Writing.{IsNew, Leaves, CountsWriterFaults};
+ghost use Rattle.gob_tool.specs.Gathering.{Passes, Writes, CountsWrites, CountsOnlyWrites};
+ghost use Rattle.gob_tool.specs.Rewritten.{IsTape, StandsThere, IsOfStream, WritesForm, HasRewritten, IsNextTape};
+ghost use Rattle.gob_tool.specs.Rewritten.{SpellsTidy, IsTidyNext, Pushes, PushesOut, PutsOut};
 
 use crate::fault::ToolFault;
 use crate::lines::write_whole;
@@ -75,9 +76,9 @@ impl Rewriter {
         table: &Table,
     ) -> Result<(), Memory>
         requires { (s : Reading TapeBuilder Tape) × (h : HasRewritten s self.old.writer)
-            × IsNext h (types table.now) item }
+            × IsNextTape h (types table.now) item }
         ensures { (s : Reading TapeBuilder Tape) (h : HasRewritten s self.old.writer)
-            (n : IsNext h (types table.now) item)
+            (n : IsNextTape h (types table.now) item)
             → Pushes n.next self.new.writer self.old.gathered.items self.new.gathered.items result }
     {
         let whole = self.gathered.len();
@@ -101,8 +102,35 @@ impl Rewriter {
     }
 
     /// The same of the item that puts the value which the body spells and which is its own tidy form: its bytes are
-    /// written as they stand.
-    pub(crate) fn push_whole(
+    /// written as they stand. What is gathered is written if it is enough to be worth a write, and an item that is large
+    /// itself isn't gathered, but written behind it. After a failed write a front of what was gathered is written, or all of
+    /// it and a front of the item; after another error nothing of the item is written or gathered.
+    pub(crate) fn push_whole<W: Write>(
+        &mut self,
+        alloc: Global,
+        table: &Table,
+        id: TypeId,
+        body: &[u8],
+        output: &mut Output<W>,
+    ) -> Result<(), ToolFault>
+        requires { (s : Reading TapeBuilder Tape) × (h : HasRewritten s self.old.writer)
+            × IsTidyNext h (types table.now) id body.now }
+        ensures pushed { (s : Reading TapeBuilder Tape) (h : HasRewritten s self.old.writer)
+            (n : IsTidyNext h (types table.now) id body.now)
+            → PushesOut n.next self.new.writer (W.contents (writer_of output.old)) (W.contents (writer_of output.new))
+            self.old.gathered.items self.new.gathered.items result }
+        ensures counted { CountsOnlyWrites (failed_writes output.old) (failed_writes output.new) result }
+    {
+        if body.len() < MANY {
+            self.gather_whole(alloc, table, id, body)?;
+            return self.write_many(output);
+        }
+        self.write_to(output)?;
+        self.put_whole(alloc, table, id, body, output)
+    }
+
+    /// Gathers such an item. After an error nothing of it is gathered.
+    fn gather_whole(
         &mut self,
         alloc: Global,
         table: &Table,
@@ -128,12 +156,36 @@ impl Rewriter {
         }
     }
 
+    /// Writes such an item at once. After a failed write a front of it is written, and after another error nothing.
+    fn put_whole<W: Write>(
+        &mut self,
+        alloc: Global,
+        table: &Table,
+        id: TypeId,
+        body: &[u8],
+        output: &mut Output<W>,
+    ) -> Result<(), ToolFault>
+        requires { (s : Reading TapeBuilder Tape) × (h : HasRewritten s self.old.writer)
+            × IsTidyNext h (types table.now) id body.now }
+        ensures put { (s : Reading TapeBuilder Tape) (h : HasRewritten s self.old.writer)
+            (n : IsTidyNext h (types table.now) id body.now)
+            → PutsOut n.next self.new.writer (W.contents (writer_of output.old))
+            (W.contents (writer_of output.new)) result }
+        ensures gathered { self.new.gathered ≡ self.old.gathered }
+        ensures counted { CountsOnlyWrites (failed_writes output.old) (failed_writes output.new) result }
+    {
+        match write_as_spelled(alloc, table, id, body, &mut self.writer, output) {
+            Ok(()) => Ok(()),
+            Err(fault) => Err(stop_of(fault)),
+        }
+    }
+
     /// Writes what is gathered if it is enough to be worth a write. After an error a front of it is written.
     pub(crate) fn write_many<W: Write>(&mut self, output: &mut Output<W>) -> Result<(), ToolFault>
-        ensures passed { Passes (W.contents output.old.writer) (W.contents output.new.writer)
+        ensures passed { Passes (W.contents (writer_of output.old)) (W.contents (writer_of output.new))
             self.old.gathered.items self.new.gathered.items result }
         ensures writer { self.new.writer ≡ self.old.writer }
-        ensures counted { CountsWrites output.old.failures output.new.failures result }
+        ensures counted { CountsWrites (failed_writes output.old) (failed_writes output.new) result }
     {
         if self.gathered.len() < MANY {
             return Ok(());
@@ -143,11 +195,11 @@ impl Rewriter {
 
     /// Writes what is gathered, of which nothing is left then. After an error a front of it is written.
     pub(crate) fn write_to<W: Write>(&mut self, output: &mut Output<W>) -> Result<(), ToolFault>
-        ensures written { Writes (W.contents output.old.writer) (W.contents output.new.writer)
+        ensures written { Writes (W.contents (writer_of output.old)) (W.contents (writer_of output.new))
             self.old.gathered.items result }
         ensures empty { OnOk result (self.new.gathered.items ≡ []) }
         ensures writer { self.new.writer ≡ self.old.writer }
-        ensures counted { CountsWrites output.old.failures output.new.failures result }
+        ensures counted { CountsWrites (failed_writes output.old) (failed_writes output.new) result }
     {
         write_whole(&self.gathered, output)?;
         self.gathered.clear();
@@ -161,6 +213,20 @@ fn want_of_memory(fault: WriteFault) -> Memory
 {
     match fault {
         WriteFault::Write | WriteFault::Memory => Memory,
+        WriteFault::Refused(_) => unreachable!(),
+        WriteFault::Failed => unreachable!(),
+    }
+}
+
+/// What stops the writing of what was read: no limit refuses it.
+fn stop_of(fault: WriteFault) -> ToolFault
+    requires { (fault ≡ WriteFault.Write) ⊎ (fault ≡ WriteFault.Memory) }
+    ensures write { fault ≡ WriteFault.Write → result ≡ ToolFault.Write }
+    ensures memory { fault ≡ WriteFault.Memory → result ≡ ToolFault.Memory }
+{
+    match fault {
+        WriteFault::Write => ToolFault::Write,
+        WriteFault::Memory => ToolFault::Memory,
         WriteFault::Refused(_) => unreachable!(),
         WriteFault::Failed => unreachable!(),
     }
@@ -180,9 +246,10 @@ fn write_as_spelled<W: Write>(
     ensures written { (v : Tree) → SpellsTidy (types table.now) id v body.now
         → StandsThere (no_deeper deepest writer.old.limits) (types writer.old.types) (types table.now) (puts id v)
         → WritesForm writer.old.limits (types writer.old.types) writer.old writer.new (puts id v)
-        (W.contents output.old.writer) (W.contents output.new.writer) result }
+        (W.contents (writer_of output.old)) (W.contents (writer_of output.new)) result }
     ensures leaves { Leaves writer.old writer.new
-        (W.contents output.old.writer) (W.contents output.new.writer) result }
+        (W.contents (writer_of output.old)) (W.contents (writer_of output.new)) result }
+    ensures counted { CountsWriterFaults (failed_writes output.old) (failed_writes output.new) result }
 {
     let spelling = spelling_of(table, id, body);
     writer.put_spelled(alloc, output, id, spelling)
@@ -216,9 +283,9 @@ fn write_tidy<W: Write>(
         → StandsThere (no_deeper deepest writer.old.limits) (types writer.old.types) (types table.now) i
         → result ≢ Err WriteFault.Memory
         → WritesForm writer.old.limits (types writer.old.types) writer.old writer.new i
-        (W.contents output.old.writer) (W.contents output.new.writer) result }
+        (W.contents (writer_of output.old)) (W.contents (writer_of output.new)) result }
     ensures leaves { Leaves writer.old writer.new
-        (W.contents output.old.writer) (W.contents output.new.writer) result }
+        (W.contents (writer_of output.old)) (W.contents (writer_of output.new)) result }
 {
     match item {
         Item::Define { id, described } => {
@@ -245,9 +312,9 @@ fn write_tidy_definition<W: Write>(
         (defines id (view described)) }
     ensures written { result ≢ Err WriteFault.Memory → WritesForm writer.old.limits (types writer.old.types)
         writer.old writer.new (defines id (view described))
-        (W.contents output.old.writer) (W.contents output.new.writer) result }
+        (W.contents (writer_of output.old)) (W.contents (writer_of output.new)) result }
     ensures leaves { Leaves writer.old writer.new
-        (W.contents output.old.writer) (W.contents output.new.writer) result }
+        (W.contents (writer_of output.old)) (W.contents (writer_of output.new)) result }
 {
     let tidied = tidy(alloc, table, WIRE_TYPE, described)?;
     let defined = writer.define(alloc, output, id, &tidied);
@@ -271,9 +338,9 @@ fn write_tidy_value<W: Write>(
         → StandsThere (no_deeper deepest writer.old.limits) (types writer.old.types) (types table.now) (puts id v)
         → result ≢ Err WriteFault.Memory
         → WritesForm writer.old.limits (types writer.old.types) writer.old writer.new (puts id v)
-        (W.contents output.old.writer) (W.contents output.new.writer) result }
+        (W.contents (writer_of output.old)) (W.contents (writer_of output.new)) result }
     ensures leaves { Leaves writer.old writer.new
-        (W.contents output.old.writer) (W.contents output.new.writer) result }
+        (W.contents (writer_of output.old)) (W.contents (writer_of output.new)) result }
 {
     let tidied = tidy_tape(alloc, table, id, tape)?;
     spelling.clear();

@@ -2,10 +2,11 @@
 
 ghost use Rattle.std.specs.Prelude.{◌≡◌, ℕ, List, Some, false};
 ghost use Rattle.gob_tool.specs.Depths.{wants_type};
-ghost use Rattle.gob_tool.specs.Words.{limits_of};
+ghost use Rattle.gob_tool.specs.Words.{order_limits};
 ghost use Rattle.gob_tool.specs.Running.{Does};
 ghost use Rattle.gob_tool.specs.Showing.{CountsWriteFaults};
 ghost use Rattle.gob_tool.specs.Taking.{CountsTakeReads};
+ghost use Rattle.gob_stream.specs.Ends.{failed_reads, failed_writes, reader_of, writer_of};
 
 use crate::check::run_check;
 use crate::fault::ToolFault;
@@ -26,14 +27,15 @@ pub fn run_order<Q: Read, R: Read, W: Write>(
     input: &mut Input<R>,
     output: &mut Output<W>,
 ) -> Result<(), ToolFault>
-    ensures does { (wanted_bytes bytes : List ℕ) → Q.remaining wanted.old.reader ≡ Some wanted_bytes
-        → R.remaining input.old.reader ≡ Some bytes
-        → Does order.now.command (limits_of order.now) wanted_bytes bytes (Q.remaining wanted.new.reader)
-        (R.remaining input.new.reader) (W.contents output.old.writer) (W.contents output.new.writer) result }
+    ensures does { (wanted_bytes bytes : List ℕ) → Q.remaining (reader_of wanted.old) ≡ Some wanted_bytes
+        → R.remaining (reader_of input.old) ≡ Some bytes
+        → Does order.now.command (order_limits order.now) wanted_bytes bytes (Q.remaining (reader_of wanted.new))
+        (R.remaining (reader_of input.new)) (W.contents (writer_of output.old)) (W.contents (writer_of output.new)) result }
     ensures unread { wants_type order.now.command ≡ false → wanted.new ≡ wanted.old }
-    ensures reads { CountsTakeReads wanted.old.failures wanted.new.failures input.old.failures input.new.failures
+    ensures reads { CountsTakeReads (failed_reads wanted.old) (failed_reads wanted.new)
+        (failed_reads input.old) (failed_reads input.new)
         result }
-    ensures writes { CountsWriteFaults output.old.failures output.new.failures result }
+    ensures writes { CountsWriteFaults (failed_writes output.old) (failed_writes output.new) result }
 {
     let limits = order.limits();
     match order.command {

@@ -1,6 +1,8 @@
 //! The run that prints a stream.
 
 ghost use Rattle.std.specs.Prelude.{◌≡◌, ◌≢◌, ℕ, ◌<◌, ◌≤◌, List, [], ◌++◌, length, Option, Some, IfOk, IfSome, OnOk};
+ghost use Rattle.gob_stream.specs.Ends.{failed_reads, failed_writes, reader_of, writer_of};
+ghost use Rattle.gob_stream.specs.Session.{limits_of};
 ghost use Rattle.gob_stream.specs.declared.reading.Reading.{Reading};
 ghost use Rattle.gob_stream.specs.Item.{StreamItem};
 ghost use Rattle.gob_tool.specs.Showing.{Runs, Shows, AppendsFront, CountsReadFaults, CountsWriteFaults};
@@ -11,6 +13,7 @@ ghost use Rattle.gob_tool.specs.Gathering.{MayGatherWhole, TakesFront};
 ghost use Rattle.gob_tool.specs.Keeping.{KeepsBehind, TakesKeeping, MayTakeFront};
 
 use crate::fault::ToolFault;
+use crate::large::{large_item, large_list, show_large, show_list};
 use crate::lines::Lines;
 use crate::pending::{Pending, is_begun};
 use gob_num::Memory;
@@ -33,11 +36,11 @@ pub fn run_show<R: Read, W: Write>(
     output: &mut Output<W>,
     limits: Limits,
 ) -> Result<(), ToolFault>
-    ensures shown { (bytes : List ℕ) → R.remaining input.old.reader ≡ Some bytes
-        → Shows (within_trees limits) bytes (R.remaining input.new.reader)
-        (W.contents output.old.writer) (W.contents output.new.writer) result }
-    ensures reads { CountsReadFaults input.old.failures input.new.failures result }
-    ensures writes { CountsWriteFaults output.old.failures output.new.failures result }
+    ensures shown { (bytes : List ℕ) → R.remaining (reader_of input.old) ≡ Some bytes
+        → Shows (within_trees limits) bytes (R.remaining (reader_of input.new))
+        (W.contents (writer_of output.old)) (W.contents (writer_of output.new)) result }
+    ensures reads { CountsReadFaults (failed_reads input.old) (failed_reads input.new) result }
+    ensures writes { CountsWriteFaults (failed_writes output.old) (failed_writes output.new) result }
 {
     let mut lines = Lines::new(alloc);
     let shown = show_items(alloc, input, output, limits, &mut lines);
@@ -61,12 +64,12 @@ fn show_items<R: Read, W: Write>(
     lines: &mut Lines,
 ) -> Result<(), ToolFault>
     requires { lines.old.gathered.items ≡ [] }
-    ensures shown { (bytes : List ℕ) → R.remaining input.old.reader ≡ Some bytes
-        → Runs (within_trees limits) bytes (R.remaining input.new.reader)
-        (Gathered (W.contents output.old.writer) (W.contents output.new.writer) lines.new.gathered.items)
-        (AppendsFront (W.contents output.old.writer) (W.contents output.new.writer)) result }
-    ensures reads { CountsOnlyReads input.old.failures input.new.failures result }
-    ensures writes { CountsOnlyWrites output.old.failures output.new.failures result }
+    ensures shown { (bytes : List ℕ) → R.remaining (reader_of input.old) ≡ Some bytes
+        → Runs (within_trees limits) bytes (R.remaining (reader_of input.new))
+        (Gathered (W.contents (writer_of output.old)) (W.contents (writer_of output.new)) lines.new.gathered.items)
+        (AppendsFront (W.contents (writer_of output.old)) (W.contents (writer_of output.new))) result }
+    ensures reads { CountsOnlyReads (failed_reads input.old) (failed_reads input.new) result }
+    ensures writes { CountsOnlyWrites (failed_writes output.old) (failed_writes output.new) result }
 {
     let mut buffer = vec![in alloc; 0; PIECE].map_err(Memory::from)?;
     let mut session = Session::<TreeBuilder>::new(alloc, limits)?;
@@ -94,15 +97,15 @@ fn show_pieces<R: Read, W: Write>(
     lines: &mut Lines,
 ) -> Result<(), ToolFault>
     requires stands { GaveItems session.old.reading [] [] }
-    requires depth { depth ≡ session.old.reading.limits.depth }
+    requires depth { depth ≡ (limits_of session.old).depth }
     requires room { 0 < length buffer.old }
     requires lines { lines.old.gathered.items ≡ [] }
-    ensures shown { (bytes : List ℕ) → R.remaining input.old.reader ≡ Some bytes
-        → Runs (within_trees session.old.reading.limits) bytes (R.remaining input.new.reader)
-        (Gathered (W.contents output.old.writer) (W.contents output.new.writer) lines.new.gathered.items)
-        (AppendsFront (W.contents output.old.writer) (W.contents output.new.writer)) result }
-    ensures reads { CountsOnlyReads input.old.failures input.new.failures result }
-    ensures writes { CountsOnlyWrites output.old.failures output.new.failures result }
+    ensures shown { (bytes : List ℕ) → R.remaining (reader_of input.old) ≡ Some bytes
+        → Runs (within_trees (limits_of session.old)) bytes (R.remaining (reader_of input.new))
+        (Gathered (W.contents (writer_of output.old)) (W.contents (writer_of output.new)) lines.new.gathered.items)
+        (AppendsFront (W.contents (writer_of output.old)) (W.contents (writer_of output.new))) result }
+    ensures reads { CountsOnlyReads (failed_reads input.old) (failed_reads input.new) result }
+    ensures writes { CountsOnlyWrites (failed_writes output.old) (failed_writes output.new) result }
 {
     let mut pending = Pending::new(alloc);
     'pieces: loop {
@@ -126,16 +129,16 @@ fn show_end<W: Write>(
     lines: &mut Lines,
     output: &mut Output<W>,
 ) -> Result<(), ToolFault>
-    requires depth { depth ≡ session.old.reading.limits.depth }
+    requires depth { depth ≡ (limits_of session.old).depth }
     ensures shown { (bytes : List ℕ) (start : Option (List ℕ))
-        → KeepsBehind session.old.reading kept.now bytes start (W.contents output.old.writer) lines.old.gathered.items
-        → Runs (within_trees session.old.reading.limits) bytes (Some [])
-        (Gathered start (W.contents output.new.writer) lines.new.gathered.items)
-        (AppendsFront start (W.contents output.new.writer)) result }
+        → KeepsBehind session.old.reading kept.now bytes start (W.contents (writer_of output.old)) lines.old.gathered.items
+        → Runs (within_trees (limits_of session.old)) bytes (Some [])
+        (Gathered start (W.contents (writer_of output.new)) lines.new.gathered.items)
+        (AppendsFront start (W.contents (writer_of output.new))) result }
     ensures reads { (bytes : List ℕ) (start : Option (List ℕ)) (failures : ℕ)
-        → KeepsBehind session.old.reading kept.now bytes start (W.contents output.old.writer) lines.old.gathered.items
+        → KeepsBehind session.old.reading kept.now bytes start (W.contents (writer_of output.old)) lines.old.gathered.items
         → CountsOnlyReads failures failures result }
-    ensures writes { CountsOnlyWrites output.old.failures output.new.failures result }
+    ensures writes { CountsOnlyWrites (failed_writes output.old) (failed_writes output.new) result }
 {
     show_piece(alloc, kept, depth, session, lines, output)?;
     Ok(session.finish()?)
@@ -152,14 +155,14 @@ fn show_next<W: Write>(
     lines: &mut Lines,
     output: &mut Output<W>,
 ) -> Result<(), ToolFault>
-    requires depth { depth ≡ session.old.reading.limits.depth }
+    requires depth { depth ≡ (limits_of session.old).depth }
     ensures shown { (bytes : List ℕ) (start : Option (List ℕ))
-        → KeepsBehind session.old.reading pending.old.bytes.items bytes start (W.contents output.old.writer)
+        → KeepsBehind session.old.reading pending.old.bytes.items bytes start (W.contents (writer_of output.old))
         lines.old.gathered.items
-        → TakesKeeping (within_trees session.old.reading.limits) session.new.reading pending.new.bytes.items
-        (bytes ++ piece.now) start (W.contents output.new.writer) lines.new.gathered.items result }
-    ensures limits { session.new.reading.limits ≡ session.old.reading.limits }
-    ensures writes { CountsOnlyWrites output.old.failures output.new.failures result }
+        → TakesKeeping (within_trees (limits_of session.old)) session.new.reading pending.new.bytes.items
+        (bytes ++ piece.now) start (W.contents (writer_of output.new)) lines.new.gathered.items result }
+    ensures limits { limits_of session.new ≡ limits_of session.old }
+    ensures writes { CountsOnlyWrites (failed_writes output.old) (failed_writes output.new) result }
 {
     let missing = pending.missing(session);
     if (piece.len() as u64) < missing {
@@ -180,20 +183,69 @@ fn show_kept<W: Write>(
     lines: &mut Lines,
     output: &mut Output<W>,
 ) -> Result<(), ToolFault>
-    requires depth { depth ≡ session.old.reading.limits.depth }
+    requires depth { depth ≡ (limits_of session.old).depth }
     ensures shown { (bytes : List ℕ) (start : Option (List ℕ))
-        → KeepsBehind session.old.reading pending.old.bytes.items bytes start (W.contents output.old.writer)
+        → KeepsBehind session.old.reading pending.old.bytes.items bytes start (W.contents (writer_of output.old))
         lines.old.gathered.items
-        → TakesPiece (within_trees session.old.reading.limits) session.new.reading (bytes ++ front.now)
-        start (W.contents output.new.writer) lines.new.gathered.items result }
+        → TakesPiece (within_trees (limits_of session.old)) session.new.reading (bytes ++ front.now)
+        start (W.contents (writer_of output.new)) lines.new.gathered.items result }
     ensures none { OnOk result (pending.new.bytes.items ≡ []) }
-    ensures limits { session.new.reading.limits ≡ session.old.reading.limits }
-    ensures writes { CountsOnlyWrites output.old.failures output.new.failures result }
+    ensures limits { limits_of session.new ≡ limits_of session.old }
+    ensures writes { CountsOnlyWrites (failed_writes output.old) (failed_writes output.new) result }
 {
     pending.keep(front)?;
-    show_piece(alloc, pending.bytes(), depth, session, lines, output)?;
+    show_item(alloc, pending.bytes(), depth, session, lines, output)?;
     pending.clear();
     Ok(())
+}
+
+/// The same as [`show_piece`] of a piece that may be one large item, whose line goes out while it is made. A list of ints
+/// has a way of its own, which is faster.
+fn show_item<W: Write>(
+    alloc: Global,
+    piece: &[u8],
+    depth: u64,
+    session: &mut Session<TreeBuilder>,
+    lines: &mut Lines,
+    output: &mut Output<W>,
+) -> Result<(), ToolFault>
+    requires depth { depth ≡ (limits_of session.old).depth }
+    ensures shown { (bytes : List ℕ) (start : Option (List ℕ))
+        → StandsBehind session.old.reading bytes start (W.contents (writer_of output.old)) lines.old.gathered.items
+        → TakesPiece (within_trees (limits_of session.old)) session.new.reading (bytes ++ piece.now)
+        start (W.contents (writer_of output.new)) lines.new.gathered.items result }
+    ensures limits { limits_of session.new ≡ limits_of session.old }
+    ensures writes { CountsOnlyWrites (failed_writes output.old) (failed_writes output.new) result }
+{
+    let limit = depth.min(TreeBuilder::DEPTH);
+    match large_list(piece, limit, session) {
+        Some(large) => show_list(alloc, piece, limit, large, session, lines, output),
+        None => show_other(alloc, piece, depth, session, lines, output),
+    }
+}
+
+/// The same of a piece that may be one large item of any type.
+fn show_other<W: Write>(
+    alloc: Global,
+    piece: &[u8],
+    depth: u64,
+    session: &mut Session<TreeBuilder>,
+    lines: &mut Lines,
+    output: &mut Output<W>,
+) -> Result<(), ToolFault>
+    requires depth { depth ≡ (limits_of session.old).depth }
+    ensures shown { (bytes : List ℕ) (start : Option (List ℕ))
+        → StandsBehind session.old.reading bytes start (W.contents (writer_of output.old)) lines.old.gathered.items
+        → TakesPiece (within_trees (limits_of session.old)) session.new.reading (bytes ++ piece.now)
+        start (W.contents (writer_of output.new)) lines.new.gathered.items result }
+    ensures limits { limits_of session.new ≡ limits_of session.old }
+    ensures writes { CountsOnlyWrites (failed_writes output.old) (failed_writes output.new) result }
+{
+    let limit = depth.min(TreeBuilder::DEPTH);
+    match large_item(piece, limit, session) {
+        Some(item) => show_large(alloc, piece, limit, item, session, lines, output),
+        None => show_piece(alloc, piece, depth, session, lines, output),
+    }
 }
 
 /// Takes the items that are whole in the piece, and keeps what is behind them where it is the first bytes of one.
@@ -206,14 +258,14 @@ fn show_behind<W: Write>(
     lines: &mut Lines,
     output: &mut Output<W>,
 ) -> Result<(), ToolFault>
-    requires depth { depth ≡ session.old.reading.limits.depth }
+    requires depth { depth ≡ (limits_of session.old).depth }
     requires none { pending.old.bytes.items ≡ [] }
     ensures shown { (bytes : List ℕ) (start : Option (List ℕ))
-        → StandsBehind session.old.reading bytes start (W.contents output.old.writer) lines.old.gathered.items
-        → TakesKeeping (within_trees session.old.reading.limits) session.new.reading pending.new.bytes.items
-        (bytes ++ piece.now) start (W.contents output.new.writer) lines.new.gathered.items result }
-    ensures limits { session.new.reading.limits ≡ session.old.reading.limits }
-    ensures writes { CountsOnlyWrites output.old.failures output.new.failures result }
+        → StandsBehind session.old.reading bytes start (W.contents (writer_of output.old)) lines.old.gathered.items
+        → TakesKeeping (within_trees (limits_of session.old)) session.new.reading pending.new.bytes.items
+        (bytes ++ piece.now) start (W.contents (writer_of output.new)) lines.new.gathered.items result }
+    ensures limits { limits_of session.new ≡ limits_of session.old }
+    ensures writes { CountsOnlyWrites (failed_writes output.old) (failed_writes output.new) result }
 {
     let mut rest = piece;
     'items: loop {
@@ -236,13 +288,13 @@ fn show_ready(
     session: &mut Session<TreeBuilder>,
     lines: &mut Lines,
 ) -> Result<Option<usize>, Fault>
-    requires depth { depth ≡ session.old.reading.limits.depth }
+    requires depth { depth ≡ (limits_of session.old).depth }
     ensures shown { (bytes : List ℕ) (start now : Option (List ℕ))
         → StandsBehind session.old.reading bytes start now lines.old.gathered.items
-        → MayTakeFront (within_trees session.old.reading.limits) session.new.reading bytes piece.now
+        → MayTakeFront (within_trees (limits_of session.old)) session.new.reading bytes piece.now
         start now lines.new.gathered.items result }
     ensures used { IfOk result (λ taken. IfSome taken (λ used. (0 < used) × (used ≤ length piece.now))) }
-    ensures limits { session.new.reading.limits ≡ session.old.reading.limits }
+    ensures limits { limits_of session.new ≡ limits_of session.old }
 {
     match show_whole(piece, depth, session, lines)? {
         Some(used) => Ok(Some(used)),
@@ -260,13 +312,13 @@ fn show_piece<W: Write>(
     lines: &mut Lines,
     output: &mut Output<W>,
 ) -> Result<(), ToolFault>
-    requires depth { depth ≡ session.old.reading.limits.depth }
+    requires depth { depth ≡ (limits_of session.old).depth }
     ensures shown { (bytes : List ℕ) (start : Option (List ℕ))
-        → StandsBehind session.old.reading bytes start (W.contents output.old.writer) lines.old.gathered.items
-        → TakesPiece (within_trees session.old.reading.limits) session.new.reading (bytes ++ piece.now)
-        start (W.contents output.new.writer) lines.new.gathered.items result }
-    ensures limits { session.new.reading.limits ≡ session.old.reading.limits }
-    ensures writes { CountsOnlyWrites output.old.failures output.new.failures result }
+        → StandsBehind session.old.reading bytes start (W.contents (writer_of output.old)) lines.old.gathered.items
+        → TakesPiece (within_trees (limits_of session.old)) session.new.reading (bytes ++ piece.now)
+        start (W.contents (writer_of output.new)) lines.new.gathered.items result }
+    ensures limits { limits_of session.new ≡ limits_of session.old }
+    ensures writes { CountsOnlyWrites (failed_writes output.old) (failed_writes output.new) result }
 {
     let mut rest = piece;
     while !rest.is_empty() {
@@ -287,13 +339,13 @@ fn show_front(
     lines: &mut Lines,
 ) -> Result<usize, Fault>
     requires some { 0 < length piece.now }
-    requires depth { depth ≡ session.old.reading.limits.depth }
+    requires depth { depth ≡ (limits_of session.old).depth }
     ensures shown { (bytes : List ℕ) (start now : Option (List ℕ))
         → StandsBehind session.old.reading bytes start now lines.old.gathered.items
-        → TakesFront (within_trees session.old.reading.limits) session.new.reading bytes piece.now
+        → TakesFront (within_trees (limits_of session.old)) session.new.reading bytes piece.now
         start now lines.new.gathered.items result }
     ensures used { IfOk result (λ used. (0 < used) × (used ≤ length piece.now)) }
-    ensures limits { session.new.reading.limits ≡ session.old.reading.limits }
+    ensures limits { limits_of session.new ≡ limits_of session.old }
 {
     match show_whole(piece, depth, session, lines)? {
         Some(used) => Ok(used),
@@ -309,10 +361,10 @@ fn show_whole(
     session: &mut Session<TreeBuilder>,
     lines: &mut Lines,
 ) -> Result<Option<usize>, Memory>
-    requires depth { depth ≡ session.old.reading.limits.depth }
+    requires depth { depth ≡ (limits_of session.old).depth }
     ensures shown { MayGatherWhole session.old.reading session.new.reading piece.now lines.old.gathered.items
         lines.new.gathered.items result }
-    ensures limits { session.new.reading.limits ≡ session.old.reading.limits }
+    ensures limits { limits_of session.new ≡ limits_of session.old }
 {
     let Some(whole) = session.whole_value(piece) else {
         return Ok(None);
@@ -335,10 +387,10 @@ fn show_step(
     requires some { 0 < length piece.now }
     ensures shown { (bytes : List ℕ) (start now : Option (List ℕ))
         → StandsBehind session.old.reading bytes start now lines.old.gathered.items
-        → TakesFront (within_trees session.old.reading.limits) session.new.reading bytes piece.now
+        → TakesFront (within_trees (limits_of session.old)) session.new.reading bytes piece.now
         start now lines.new.gathered.items result }
     ensures used { IfOk result (λ used. (0 < used) × (used ≤ length piece.now)) }
-    ensures limits { session.new.reading.limits ≡ session.old.reading.limits }
+    ensures limits { limits_of session.new ≡ limits_of session.old }
 {
     let step = session.step(alloc, piece)?;
     let used = step.used;

@@ -4,8 +4,10 @@ ghost use Rattle.std.specs.Prelude.{◌≡◌, ◌<◌, ℕ, List, [], ◌∷◌
 ghost use Rattle.std.specs.Io.KnownBytes.{Appends};
 ghost use Rattle.gob_types.specs.Defined.{types};
 ghost use Rattle.gob_types.specs.Ready.{IsReady};
+ghost use Rattle.gob_stream.specs.Ends.{failed_reads, failed_writes, reader_of, writer_of};
 ghost use Rattle.gob_stream.specs.Item.{item_view, item_views};
 ghost use Rattle.gob_stream.specs.Bounds.{within_trees};
+ghost use Rattle.gob_stream.specs.Session.{limits_of};
 ghost use Rattle.gob_tool.specs.Gathering.{GaveItems, PassesSome, CountsOnlyReads, CountsOnlyWrites};
 ghost use Rattle.gob_tool.specs.Pieces.{AreSent, TakesItems};
 ghost use Rattle.gob_tool.specs.Receiver.{IsReceiver, IsSameReceiver};
@@ -43,13 +45,15 @@ pub fn run_take<Q: Read, R: Read, W: Write>(
     output: &mut Output<W>,
     limits: Limits,
 ) -> Result<(), ToolFault>
-    ensures taken { (wanted_bytes bytes : List ℕ) → Q.remaining wanted.old.reader ≡ Some wanted_bytes
-        → R.remaining input.old.reader ≡ Some bytes
-        → Takes (within_trees limits) wanted_bytes bytes (Q.remaining wanted.new.reader) (R.remaining input.new.reader)
-        (W.contents output.old.writer) (W.contents output.new.writer) result }
-    ensures reads { CountsTakeReads wanted.old.failures wanted.new.failures input.old.failures input.new.failures
+    ensures taken { (wanted_bytes bytes : List ℕ) → Q.remaining (reader_of wanted.old) ≡ Some wanted_bytes
+        → R.remaining (reader_of input.old) ≡ Some bytes
+        → Takes (within_trees limits) wanted_bytes bytes (Q.remaining (reader_of wanted.new))
+        (R.remaining (reader_of input.new))
+        (W.contents (writer_of output.old)) (W.contents (writer_of output.new)) result }
+    ensures reads { CountsTakeReads (failed_reads wanted.old) (failed_reads wanted.new)
+        (failed_reads input.old) (failed_reads input.new)
         result }
-    ensures writes { CountsWriteFaults output.old.failures output.new.failures result }
+    ensures writes { CountsWriteFaults (failed_writes output.old) (failed_writes output.new) result }
 {
     let mut session = match Session::<TreeBuilder>::new(alloc, limits) {
         Ok(session) => session,
@@ -74,14 +78,16 @@ fn take_as_wanted<Q: Read, R: Read, W: Write>(
     limits: Limits,
 ) -> Result<(), ToolFault>
     requires stands { GaveItems session.old.reading [] [] }
-    requires within { session.old.reading.limits ≡ limits }
-    ensures taken { (wanted_bytes bytes : List ℕ) → Q.remaining wanted.old.reader ≡ Some wanted_bytes
-        → R.remaining input.old.reader ≡ Some bytes
-        → Takes (within_trees limits) wanted_bytes bytes (Q.remaining wanted.new.reader) (R.remaining input.new.reader)
-        (W.contents output.old.writer) (W.contents output.new.writer) result }
-    ensures reads { CountsTakeReads wanted.old.failures wanted.new.failures input.old.failures input.new.failures
+    requires within { limits_of session.old ≡ limits }
+    ensures taken { (wanted_bytes bytes : List ℕ) → Q.remaining (reader_of wanted.old) ≡ Some wanted_bytes
+        → R.remaining (reader_of input.old) ≡ Some bytes
+        → Takes (within_trees limits) wanted_bytes bytes (Q.remaining (reader_of wanted.new))
+        (R.remaining (reader_of input.new))
+        (W.contents (writer_of output.old)) (W.contents (writer_of output.new)) result }
+    ensures reads { CountsTakeReads (failed_reads wanted.old) (failed_reads wanted.new)
+        (failed_reads input.old) (failed_reads input.new)
         result }
-    ensures writes { CountsWriteFaults output.old.failures output.new.failures result }
+    ensures writes { CountsWriteFaults (failed_writes output.old) (failed_writes output.new) result }
 {
     match read_wanted(alloc, wanted, session) {
         Ok(id) => take_values(alloc, session.table(), id, input, output, limits),
@@ -102,12 +108,12 @@ fn take_values<R: Read, W: Write>(
     limits: Limits,
 ) -> Result<(), ToolFault>
     requires { IsReady (types wanted.now) wanted_id }
-    ensures taken { (bytes : List ℕ) → R.remaining input.old.reader ≡ Some bytes
-        → Receiving (within_trees limits) bytes (R.remaining input.new.reader) (types wanted.now) wanted_id
-        (λ lines. Appends (W.contents output.old.writer) (W.contents output.new.writer) lines)
-        (AppendsFront (W.contents output.old.writer) (W.contents output.new.writer)) result }
-    ensures reads { CountsReadFaults input.old.failures input.new.failures result }
-    ensures writes { CountsWriteFaults output.old.failures output.new.failures result }
+    ensures taken { (bytes : List ℕ) → R.remaining (reader_of input.old) ≡ Some bytes
+        → Receiving (within_trees limits) bytes (R.remaining (reader_of input.new)) (types wanted.now) wanted_id
+        (λ lines. Appends (W.contents (writer_of output.old)) (W.contents (writer_of output.new)) lines)
+        (AppendsFront (W.contents (writer_of output.old)) (W.contents (writer_of output.new))) result }
+    ensures reads { CountsReadFaults (failed_reads input.old) (failed_reads input.new) result }
+    ensures writes { CountsWriteFaults (failed_writes output.old) (failed_writes output.new) result }
 {
     let mut lines = Lines::new(alloc);
     let taken = take_items(alloc, wanted, wanted_id, input, output, limits, &mut lines);
@@ -134,12 +140,13 @@ fn take_items<R: Read, W: Write>(
 ) -> Result<(), ToolFault>
     requires ready { IsReady (types wanted.now) wanted_id }
     requires lines { lines.old.gathered.items ≡ [] }
-    ensures taken { (bytes : List ℕ) → R.remaining input.old.reader ≡ Some bytes
-        → Receiving (within_trees limits) bytes (R.remaining input.new.reader) (types wanted.now) wanted_id
-        (λ all. PassesSome (W.contents output.old.writer) (W.contents output.new.writer) all lines.new.gathered.items)
-        (AppendsFront (W.contents output.old.writer) (W.contents output.new.writer)) result }
-    ensures reads { CountsOnlyReads input.old.failures input.new.failures result }
-    ensures writes { CountsOnlyWrites output.old.failures output.new.failures result }
+    ensures taken { (bytes : List ℕ) → R.remaining (reader_of input.old) ≡ Some bytes
+        → Receiving (within_trees limits) bytes (R.remaining (reader_of input.new)) (types wanted.now) wanted_id
+        (λ all. PassesSome (W.contents (writer_of output.old)) (W.contents (writer_of output.new))
+        all lines.new.gathered.items)
+        (AppendsFront (W.contents (writer_of output.old)) (W.contents (writer_of output.new))) result }
+    ensures reads { CountsOnlyReads (failed_reads input.old) (failed_reads input.new) result }
+    ensures writes { CountsOnlyWrites (failed_writes output.old) (failed_writes output.new) result }
 {
     let mut buffer = vec![in alloc; 0; PIECE].map_err(Memory::from)?;
     let mut session = Session::<TreeBuilder>::new(alloc, limits)?;
@@ -172,13 +179,14 @@ fn take_pieces<R: Read, W: Write>(
     requires stands { GaveItems session.old.reading [] [] }
     requires room { 0 < length buffer.old }
     requires lines { lines.old.gathered.items ≡ [] }
-    ensures taken { (bytes : List ℕ) → R.remaining input.old.reader ≡ Some bytes
-        → Receiving (within_trees session.old.reading.limits) bytes (R.remaining input.new.reader)
+    ensures taken { (bytes : List ℕ) → R.remaining (reader_of input.old) ≡ Some bytes
+        → Receiving (within_trees (limits_of session.old)) bytes (R.remaining (reader_of input.new))
         (types wanted.now) wanted_id
-        (λ all. PassesSome (W.contents output.old.writer) (W.contents output.new.writer) all lines.new.gathered.items)
-        (AppendsFront (W.contents output.old.writer) (W.contents output.new.writer)) result }
-    ensures reads { CountsOnlyReads input.old.failures input.new.failures result }
-    ensures writes { CountsOnlyWrites output.old.failures output.new.failures result }
+        (λ all. PassesSome (W.contents (writer_of output.old)) (W.contents (writer_of output.new))
+        all lines.new.gathered.items)
+        (AppendsFront (W.contents (writer_of output.old)) (W.contents (writer_of output.new))) result }
+    ensures reads { CountsOnlyReads (failed_reads input.old) (failed_reads input.new) result }
+    ensures writes { CountsOnlyWrites (failed_writes output.old) (failed_writes output.new) result }
 {
     let mut items = Vec::new(alloc);
     'pieces: loop {
@@ -214,9 +222,9 @@ fn take_piece<W: Write>(
     requires ready { IsReady (types wanted.now) wanted_id }
     requires sent { AreSent (types stream.now) (item_views items.now) }
     ensures taken { TakesItems (types stream.now) (types wanted.now) wanted_id (item_views items.now)
-        (W.contents output.old.writer) (W.contents output.new.writer)
+        (W.contents (writer_of output.old)) (W.contents (writer_of output.new))
         lines.old.gathered.items lines.new.gathered.items result }
-    ensures writes { CountsOnlyWrites output.old.failures output.new.failures result }
+    ensures writes { CountsOnlyWrites (failed_writes output.old) (failed_writes output.new) result }
 {
     let mut receiver = Receiver::new(stream, wanted, wanted_id);
     let taken = take_each(alloc, items, &mut receiver, lines, output);
@@ -236,9 +244,9 @@ fn take_each<W: Write>(
     requires ready { IsReady (types receiver.old.wanted.now) receiver.old.wanted_id }
     requires sent { AreSent (types receiver.old.stream.now) (item_views items.now) }
     ensures taken { TakesItems (types receiver.old.stream.now) (types receiver.old.wanted.now) receiver.old.wanted_id
-        (item_views items.now) (W.contents output.old.writer) (W.contents output.new.writer)
+        (item_views items.now) (W.contents (writer_of output.old)) (W.contents (writer_of output.new))
         lines.old.gathered.items lines.new.gathered.items result }
-    ensures writes { CountsOnlyWrites output.old.failures output.new.failures result }
+    ensures writes { CountsOnlyWrites (failed_writes output.old) (failed_writes output.new) result }
 {
     for item in items {
         take_item(alloc, item, receiver, lines, output)?;
@@ -258,11 +266,11 @@ fn take_item<W: Write>(
     requires ready { IsReady (types receiver.old.wanted.now) receiver.old.wanted_id }
     requires sent { AreSent (types receiver.old.stream.now) (item_view item.now ∷ []) }
     ensures taken { TakesItems (types receiver.old.stream.now) (types receiver.old.wanted.now) receiver.old.wanted_id
-        (item_view item.now ∷ []) (W.contents output.old.writer) (W.contents output.new.writer)
+        (item_view item.now ∷ []) (W.contents (writer_of output.old)) (W.contents (writer_of output.new))
         lines.old.gathered.items lines.new.gathered.items result }
     ensures receiver { IsReceiver receiver.new }
     ensures same { IsSameReceiver receiver.old receiver.new }
-    ensures writes { CountsOnlyWrites output.old.failures output.new.failures result }
+    ensures writes { CountsOnlyWrites (failed_writes output.old) (failed_writes output.new) result }
 {
     let Item::Put { id, value } = item else {
         return Ok(());

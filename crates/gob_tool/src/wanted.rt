@@ -1,12 +1,13 @@
 //! The type that the values of another stream are received as.
 
 ghost use Rattle.std.specs.Prelude.{◌≡◌, ◌<◌, ℕ, List, [], Some, IfOk, IfSome, length};
-ghost use Rattle.gob_types.specs.Defined.{types};
 ghost use Rattle.gob_types.specs.Ready.{IsReady};
+ghost use Rattle.gob_stream.specs.Ends.{failed_reads, reader_of};
 ghost use Rattle.gob_stream.specs.Item.{item_views};
 ghost use Rattle.gob_stream.specs.Bounds.{within_trees};
+ghost use Rattle.gob_stream.specs.Session.{limits_of, types_of};
 ghost use Rattle.gob_tool.specs.Gathering.{GaveItems};
-ghost use Rattle.gob_tool.specs.Pieces.{ReadsWanted, CountsPiece, first_of};
+ghost use Rattle.gob_tool.specs.Pieces.{ReadsWanted, CountsPiece, first_type_of};
 ghost use Rattle.gob_tool.specs.Taking.{first_type};
 ghost use Rattle.gob_tool.specs.Wanting.{FindsWanted, CountsWanted};
 
@@ -31,11 +32,11 @@ pub(crate) fn read_wanted<Q: Read>(
     session: &mut Session<TreeBuilder>,
 ) -> Result<TypeId, ToolFault>
     requires stands { GaveItems session.old.reading [] [] }
-    ensures found { (bytes : List ℕ) → Q.remaining input.old.reader ≡ Some bytes
-        → FindsWanted (within_trees session.old.reading.limits) bytes (Q.remaining input.new.reader)
-        (types session.new.reading.types) result }
-    ensures ready { IfOk result (λ id. IsReady (types session.new.reading.types) id) }
-    ensures reads { CountsWanted input.old.failures input.new.failures result }
+    ensures found { (bytes : List ℕ) → Q.remaining (reader_of input.old) ≡ Some bytes
+        → FindsWanted (within_trees (limits_of session.old)) bytes (Q.remaining (reader_of input.new))
+        (types_of session.new) result }
+    ensures ready { IfOk result (λ id. IsReady (types_of session.new) id) }
+    ensures reads { CountsWanted (failed_reads input.old) (failed_reads input.new) result }
 {
     let mut buffer = vec![in alloc; 0; PIECE].map_err(Memory::from)?;
     match read_type(alloc, input, session, &mut buffer) {
@@ -54,11 +55,11 @@ fn read_type<Q: Read>(
 ) -> Result<Option<TypeId>, Fault>
     requires stands { GaveItems session.old.reading [] [] }
     requires room { 0 < length buffer.old }
-    ensures read { (bytes : List ℕ) → Q.remaining input.old.reader ≡ Some bytes
-        → ReadsWanted (within_trees session.old.reading.limits) bytes (Q.remaining input.new.reader)
-        (types session.new.reading.types) result }
-    ensures ready { IfOk result (λ first. IfSome first (λ id. IsReady (types session.new.reading.types) id)) }
-    ensures reads { CountsPiece input.old.failures input.new.failures result }
+    ensures read { (bytes : List ℕ) → Q.remaining (reader_of input.old) ≡ Some bytes
+        → ReadsWanted (within_trees (limits_of session.old)) bytes (Q.remaining (reader_of input.new))
+        (types_of session.new) result }
+    ensures ready { IfOk result (λ first. IfSome first (λ id. IsReady (types_of session.new) id)) }
+    ensures reads { CountsPiece (failed_reads input.old) (failed_reads input.new) result }
 {
     let mut items = Vec::new(alloc);
     let mut first = None;
@@ -73,7 +74,7 @@ fn read_type<Q: Read>(
 
 /// The type that is known, or else that of the first value among the items.
 fn first_put(known: Option<TypeId>, items: &[Item<Value>]) -> Option<TypeId>
-    ensures { result ≡ first_of known (first_type (item_views items.now)) }
+    ensures { result ≡ first_type_of known (first_type (item_views items.now)) }
 {
     if let Some(id) = known {
         return Some(id);

@@ -59,11 +59,11 @@ pub struct Order<'a> {
 }
 
 impl Order<'_> {
-    ghost use Rattle.gob_tool.specs.Words.{limits_of};
+    ghost use Rattle.gob_tool.specs.Words.{order_limits};
 
     /// The limits under which the streams are read: the order's depth and item, and else the standard ones.
     pub fn limits(&self) -> Limits
-        ensures { result ≡ limits_of self.now }
+        ensures { result ≡ order_limits self.now }
     {
         let standard = Limits::standard();
         // The depth is within what each command allows, so these are limits.

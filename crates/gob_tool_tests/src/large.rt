@@ -1,10 +1,11 @@
 //! Runs over an item that is larger than a piece, with smaller ones around it.
 
-use crate::devices::PieceReader;
+use crate::devices::{PieceReader, SlowWriter, Trouble};
 use crate::endings::ends_so;
 use gob_stream::{Input, Limits, Output};
 use gob_tool::run_show;
 use std::alloc::{AllocError, Global};
+use std::io::ErrorKind;
 use std::test::*;
 
 // The definition of a slice of ints, and of a slice of 200001 of them what stands before the second.
@@ -27,11 +28,24 @@ const TEN_LINES: &str = ",5,5,5,5,5,5,5,5,5,5";
 
 const TAIL_LINES: &str = "]}\n{\"type\":2,\"value\":3}\n{\"type\":1,\"value\":true}\n";
 
+// Before a slice of 80001 ints of one to three bytes, and four of them.
+const SIZES_HEAD: &[u8] = b"\x0c\xff\x83\x02\x01\x02\xff\x84\x00\x01\x04\x00\x00\
+    \xfd\x02\x22\xe8\xff\x84\x00\xfd\x01\x38\x81\x0a";
+
+const SIZES: &[u8] = b"\x05\xfe\x4e\x20\x02\xff\xc8";
+
+const SIZES_LINES: &str = ",-3,10000,1,100";
+
 // How many bytes stand before the element in the middle that the tests spoil.
 const MIDDLE: usize = 100024;
 
-// A head, a part 20000 times, and a tail.
-fn repeated(alloc: Global, head: &[u8], part: &[u8], tail: &[u8]) -> Result<Vec<u8>, AllocError> {
+/// A head, a part 20000 times, and a tail.
+pub(crate) fn repeated(
+    alloc: Global,
+    head: &[u8],
+    part: &[u8],
+    tail: &[u8],
+) -> Result<Vec<u8>, AllocError> {
     let mut bytes = head.to_vec(alloc)?;
     for _ in 0..20000 {
         bytes.extend_from_slice(part)?;
@@ -40,8 +54,8 @@ fn repeated(alloc: Global, head: &[u8], part: &[u8], tail: &[u8]) -> Result<Vec<
     Ok(bytes)
 }
 
-// The slice and the items around it.
-fn large(alloc: Global) -> Result<Vec<u8>, AllocError> {
+/// The slice and the items around it.
+pub(crate) fn large(alloc: Global) -> Result<Vec<u8>, AllocError> {
     repeated(alloc, HEAD, TEN, TAIL)
 }
 
@@ -65,6 +79,44 @@ fn whole(rt: HostRuntime) -> Result<(), Fail> {
             is_shown(alloc, reader, &lines, b"", 200033),
             "{most} a call"
         );
+    }
+    Ok(())
+}
+
+#[test]
+fn several_sizes(rt: HostRuntime) -> Result<(), Fail> {
+    let alloc = rt.alloc();
+    let head = HEAD_LINES.as_bytes();
+    let lines = repeated(alloc, head, SIZES_LINES.as_bytes(), TAIL_LINES.as_bytes())?;
+    for most in [7usize, 65536] {
+        let bytes = repeated(alloc, SIZES_HEAD, SIZES, TAIL)?;
+        let reader = PieceReader::new(bytes, most, usize::MAX);
+        assert!(rt;
+            is_shown(alloc, reader, &lines, b"", 140033),
+            "{most} a call"
+        );
+    }
+    Ok(())
+}
+
+// A front of the lines is written: the call of so many bytes fails, of which there is one for each.
+#[test]
+fn write_fails_in_the_middle(rt: HostRuntime) -> Result<(), Fail> {
+    let alloc = rt.alloc();
+    let head = HEAD_LINES.as_bytes();
+    let lines = repeated(alloc, head, TEN_LINES.as_bytes(), TAIL_LINES.as_bytes())?;
+    for fails_at in [
+        0usize, 47, 70, 71, 65600, 65601, 131136, 400000, 400071, 400074,
+    ] {
+        let mut input = Input::new(PieceReader::new(large(alloc)?, 65536, usize::MAX));
+        let trouble = Trouble::Error(ErrorKind::Other);
+        let mut writer = SlowWriter::new(alloc, fails_at, trouble, false);
+        let mut output = Output::new(&mut writer);
+        let result = run_show(alloc, &mut input, &mut output, Limits::standard());
+        let failed = ends_so(alloc, &result, b"gob: write fault") && output.failures() == 1;
+        assert!(rt; failed, "at {fails_at}");
+        let front = lines.get(..fails_at).ok_or("front")?;
+        assert!(rt; writer.held.as_slice() == front, "up to {fails_at}");
     }
     Ok(())
 }

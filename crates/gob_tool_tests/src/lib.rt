@@ -13,6 +13,10 @@ mod faults;
 #[cfg(test)]
 mod large;
 #[cfg(test)]
+mod large_items;
+#[cfg(test)]
+mod large_rewrites;
+#[cfg(test)]
 mod lines;
 #[cfg(test)]
 mod nested;

@@ -4,8 +4,8 @@ use Rattle.std.proofs.lemmas.List.Elements.{Contains-append_left, Contains-push,
 use Rattle.gob_types.specs.declared.id.TypeId.{TypeId}
 use Rattle.gob_types.specs.Table.{Table, IsDefined}
 use Rattle.gob_types.specs.Ready.{IsGrounded}
-use Rattle.gob_types.specs.Readiness.{IsComplete}
-use Rattle.gob_types.specs.Walk.{AddsAll, IsFilledOf, IsFilledIn, KnowsGrounds, EndsWell, GoesOn}
+use Rattle.gob_types.specs.Readiness.{IsAllDefined}
+use Rattle.gob_types.specs.Walk.{AddsAll, IsFilledOf, IsFilledIn, KnowsGrounds, EndsWell, WalksOn}
 use Rattle.gob_types.proofs.GrowthLaws.{reaches_itself}
 use Rattle.gob_types.proofs.RankLaws.{filled_leads, filled_grounded, closed_bottomless}
 use Rattle.gob_types.proofs.SetLaws.{adds_keeps}
@@ -15,9 +15,9 @@ pub record Following (T : Table) (start : TypeId) (way : List TypeId) (at : Type
   pub path : (u : TypeId) → Contains way u → IsFilledIn T (λ e. Contains way e ⊎ (e ≡ at)) u
   pub lifts : (u : TypeId) → Contains way u → IsGrounded T at → IsGrounded T u
   pub begin : Contains way start ⊎ (start ≡ at)
-  pub complete : IsComplete T at
+  pub complete : IsAllDefined T at
 
-pub follow_start : {T : Table} {t : TypeId} → IsComplete T t → Following T t [] t
+pub follow_start : {T : Table} {t : TypeId} → IsAllDefined T t → Following T t [] t
 follow_start complete = record { path = λ u h. absurd (omega (arith, h.1)); lifts = λ u h. absurd (omega (arith, h.1)); begin = inr refl; complete = complete }
 
 -- elements of another property
@@ -33,7 +33,7 @@ follow_known {T = T} {t = t} {at = at} {way = way} f g = record { have = λ u th
     start (inr e) = subst (IsGrounded T) (sym e) g
 
 -- it comes to one that is known to have none
-pub follow_bottomless : {T : Table} {t at : TypeId} {way : List TypeId} (bottomless : List TypeId) → Following T t way at → Contains bottomless at → GoesOn T t bottomless way
+pub follow_bottomless : {T : Table} {t at : TypeId} {way : List TypeId} (bottomless : List TypeId) → Following T t way at → Contains bottomless at → WalksOn T t bottomless way
 follow_bottomless {t = t} {at = at} {way = way} bottomless f known = record { closed = λ u there. filled_as (f.path u there) within; start = within t f.begin }
   where
     within : (u : TypeId) → Contains way u ⊎ (u ≡ at) → Contains way u ⊎ Contains bottomless u
@@ -41,7 +41,7 @@ follow_bottomless {t = t} {at = at} {way = way} bottomless f known = record { cl
     within u (inr e) = inr (subst (Contains bottomless) (sym e) known)
 
 -- it comes round
-pub follow_round : {T : Table} {t at : TypeId} {way : List TypeId} (bottomless : List TypeId) → Following T t way at → Contains way at → GoesOn T t bottomless way
+pub follow_round : {T : Table} {t at : TypeId} {way : List TypeId} (bottomless : List TypeId) → Following T t way at → Contains way at → WalksOn T t bottomless way
 follow_round {t = t} {at = at} {way = way} bottomless f round = record { closed = λ u there. filled_as (f.path u there) within; start = within t f.begin }
   where
     within : (u : TypeId) → Contains way u ⊎ (u ≡ at) → Contains way u ⊎ Contains bottomless u
@@ -88,7 +88,7 @@ knows_more {T = T} {grounded = grounded} {way = way} known ends a = record { hav
     have u (inl there) = known.have u there
     have u (inr there) = ends.have u there
 
-pub knows_endless : {T : Table} {t : TypeId} {grounded bottomless new way : List TypeId} → KnowsGrounds T grounded bottomless → GoesOn T t bottomless way → AddsAll bottomless new (Contains way) → KnowsGrounds T grounded new
+pub knows_endless : {T : Table} {t : TypeId} {grounded bottomless new way : List TypeId} → KnowsGrounds T grounded bottomless → WalksOn T t bottomless way → AddsAll bottomless new (Contains way) → KnowsGrounds T grounded new
 knows_endless {T = T} {bottomless = bottomless} {new = new} {way = way} known goes a = record { have = known.have; closed = λ u there. closed u (a.only u there) }
   where
     within : (u : TypeId) → Contains way u ⊎ Contains bottomless u → Contains new u
@@ -99,7 +99,7 @@ knows_endless {T = T} {bottomless = bottomless} {new = new} {way = way} known go
     closed u (inl there) = filled_as (known.closed u there) (adds_keeps a)
     closed u (inr there) = filled_as (goes.closed u there) within
 
-pub goes_on_bottomless : {T : Table} {t : TypeId} {grounded bottomless new way : List TypeId} → KnowsGrounds T grounded bottomless → GoesOn T t bottomless way → AddsAll bottomless new (Contains way) → ¬ IsGrounded T t
+pub goes_on_bottomless : {T : Table} {t : TypeId} {grounded bottomless new way : List TypeId} → KnowsGrounds T grounded bottomless → WalksOn T t bottomless way → AddsAll bottomless new (Contains way) → ¬ IsGrounded T t
 goes_on_bottomless {t = t} {bottomless = bottomless} {new = new} {way = way} known goes a = closed_bottomless (knows_endless known goes a).closed t (start goes.start)
   where
     start : Contains way t ⊎ Contains bottomless t → Contains new t

@@ -12,9 +12,9 @@ use Rattle.gob_types.specs.declared.kind.Shape.{Shape}
 use Rattle.gob_types.specs.Table.{Table, shape_of, IsDefined}
 use Rattle.gob_types.specs.Ready.{Names, Leads, here, onward, Reaches, HasRank, plain, filled, IsGrounded, IsReady}
 use Rattle.gob_types.specs.Entered.{same_id}
-use Rattle.gob_types.specs.Readiness.{IsComplete}
+use Rattle.gob_types.specs.Readiness.{IsAllDefined}
 use Rattle.gob_types.specs.Walk.{AddsAll, AddsOne, KnowsGrounds, Grows, AreAmong}
-use Rattle.gob_types.specs.Kept.{AreNames, IsHopeless, AreReady, NamesAmong, MetPast, front}
+use Rattle.gob_types.specs.Kept.{AreNamedBy, IsHopeless, AreReady, NamesAmong, MetPast, front}
 use Rattle.gob_types.proofs.GrowthLaws.{Keeps, some_injective, reaches_itself, reaches_onward, reaches_on, ready_defined, ready_grounded}
 use Rattle.gob_types.proofs.FirstLaws.{slice_get-append_left, FirstAre, none_first, more_first, first_grown, first_as, all_first, contains_read}
 use Rattle.gob_types.proofs.SetLaws.{same_laws, same_exact, adds_keeps, adds_one}
@@ -74,10 +74,10 @@ past_all m whole = record { sound = m.sound; start = m.start; closed = λ u ther
 
 -- ---- what a type names
 
-pub names_none : {T : Table} {u : TypeId} {ids : List TypeId} → shape_of T u ≡ None → ids ≡ [] → AreNames T u ids
+pub names_none : {T : Table} {u : TypeId} {ids : List TypeId} → shape_of T u ≡ None → ids ≡ [] → AreNamedBy T u ids
 names_none {T = T} {u = u} none e = record { has = λ s w there names. absurd (none-some _ (sym none ∙ there)); reached = λ w h. absurd (omega (arith, (subst (λ l. Contains l w) e h).1)) }
 
-pub names_all : {T : Table} {u : TypeId} {s : Shape} {ids : List TypeId} → shape_of T u ≡ Some s → AddsAll [] ids (Names s.kind) → AreNames T u ids
+pub names_all : {T : Table} {u : TypeId} {s : Shape} {ids : List TypeId} → shape_of T u ≡ Some s → AddsAll [] ids (Names s.kind) → AreNamedBy T u ids
 names_all {T = T} {u = u} {s = s} {ids = ids} there a = record { has = λ r w e names. a.has w (subst (λ (x : Shape). Names x.kind w) (some_injective (sym e ∙ there)) names); reached = λ w h. by w (a.only w h) }
   where
     by : (w : TypeId) → Contains [] w ⊎ Names s.kind w → Reaches T u w
@@ -104,7 +104,7 @@ past_defined : {T : Table} {known ids : List TypeId} {t : TypeId} → AreReady T
 past_defined {T = T} ready m u there = elim (m.closed u there) as (λ _. IsDefined T u) [ inl h ↦ ready_defined (ready.each u h) | inr h ↦ h.defined ]
 
 -- and so is all that one of them reaches
-pub past_complete : {T : Table} {known ids : List TypeId} {t : TypeId} → AreReady T known → MetPast T known t ids → (u : TypeId) → Contains ids u → IsComplete T u
+pub past_complete : {T : Table} {known ids : List TypeId} {t : TypeId} → AreReady T known → MetPast T known t ids → (u : TypeId) → Contains ids u → IsAllDefined T u
 past_complete {T = T} {ids = ids} ready m u there w h = by (inside ready m u w h.steps there h.leads)
   where
     by : Contains ids w ⊎ IsReady T w → IsDefined T w
@@ -124,22 +124,22 @@ pub hopeless_not : {T : Table} {t : TypeId} → IsHopeless T t → ¬ IsReady T 
 hopeless_not h r = h.bottomless (ready_grounded (ready_reached r h.reached))
 
 -- a complete type's shape in the larger table is its shape, so it has the same rank there, and reaches no others
-complete_shape : {T U : Table} {t : TypeId} {s : Shape} → Keeps T U → IsComplete T t → shape_of U t ≡ Some s → shape_of T t ≡ Some s
+complete_shape : {T U : Table} {t : TypeId} {s : Shape} → Keeps T U → IsAllDefined T t → shape_of U t ≡ Some s → shape_of T t ≡ Some s
 complete_shape {T = T} {U = U} {t = t} {s = s} keeps c e =
     let d = c t reaches_itself in
     let same : d.0 ≡ s = some_injective (sym (keeps.shape _ _ d.1) ∙ e) in
     d.1 ∙ ap Some same
 
-complete_names : {T : Table} {t w : TypeId} {s : Shape} → IsComplete T t → shape_of T t ≡ Some s → Names s.kind w → IsComplete T w
+complete_names : {T : Table} {t w : TypeId} {s : Shape} → IsAllDefined T t → shape_of T t ≡ Some s → Names s.kind w → IsAllDefined T w
 complete_names c e names u h = c u (reaches_onward e names h)
 
-complete_rank : {T U : Table} {m : ℕ} {t : TypeId} → Keeps T U → IsComplete T t → HasRank U m t → HasRank T m t
+complete_rank : {T U : Table} {m : ℕ} {t : TypeId} → Keeps T U → IsAllDefined T t → HasRank U m t → HasRank T m t
 complete_rank keeps c (plain e p) = plain (complete_shape keeps c e) p
 complete_rank keeps c (filled {e = d} {s = s} e k l h) =
     let f = complete_shape keeps c e in
     filled f k l (complete_rank keeps (complete_names c f (subst (λ x. Names x d) (sym k) refl)) h)
 
-complete_leads : {T U : Table} {n : ℕ} {t u : TypeId} → Keeps T U → IsComplete T t → Leads U n t u → Leads T n t u
+complete_leads : {T U : Table} {n : ℕ} {t u : TypeId} → Keeps T U → IsAllDefined T t → Leads U n t u → Leads T n t u
 complete_leads keeps c here = here
 complete_leads keeps c (onward e names l) = let f = complete_shape keeps c e in onward f names (complete_leads keeps (complete_names c f names) l)
 

@@ -7,7 +7,7 @@ use Rattle.gob_types.specs.declared.id.TypeId.{TypeId}
 use Rattle.gob_types.specs.declared.kind.Shape.{Shape}
 use Rattle.gob_types.specs.Table.{Table, shape_of, IsDefined}
 use Rattle.gob_types.specs.Ready.{Names, Leads, here, onward, Reaches, IsGrounded, IsReady}
-use Rattle.gob_types.specs.Readiness.{IsLeast, IsComplete}
+use Rattle.gob_types.specs.Readiness.{IsLeast, IsAllDefined}
 use Rattle.gob_types.specs.Walk.{AddsAll, IsReach}
 use Rattle.gob_types.proofs.GrowthLaws.{some_injective, reaches_itself, reaches_onward}
 use Rattle.gob_types.proofs.FirstLaws.{slice_get-append_left, FirstAre, none_first, more_first, first_grown, first_as, all_first, contains_read}
@@ -92,7 +92,7 @@ pub reaches_joined : {T : Table} {t u w : TypeId} → Reaches T t u → Reaches 
 reaches_joined g h = leads_joined g.leads h
 
 -- where all that are reached are defined, so are all that one of them reaches
-pub complete_within : {T : Table} {t : TypeId} {ids : List TypeId} → IsReach T t ids → ((u : TypeId) → Contains ids u → IsDefined T u) → (u : TypeId) → Contains ids u → IsComplete T u
+pub complete_within : {T : Table} {t : TypeId} {ids : List TypeId} → IsReach T t ids → ((u : TypeId) → Contains ids u → IsDefined T u) → (u : TypeId) → Contains ids u → IsAllDefined T u
 complete_within reach defined u there w h = defined w (reach.whole w (reaches_joined (reach.sound u there) h))
 
 -- and where they have finite values too, the type is ready

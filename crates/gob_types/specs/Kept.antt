@@ -7,7 +7,7 @@ use Rattle.gob_types.specs.declared.kind.Shape.{Shape}
 use Rattle.gob_types.specs.Entered.{same_id}
 use Rattle.gob_types.specs.Table.{Table, shape_of, IsDefined}
 use Rattle.gob_types.specs.Ready.{Names, Reaches, IsGrounded, IsReady}
-use Rattle.gob_types.specs.Readiness.{IsComplete}
+use Rattle.gob_types.specs.Readiness.{IsAllDefined}
 use Rattle.gob_types.specs.Walk.{AddsAll, Grows}
 
 -- these are ready
@@ -27,7 +27,7 @@ pub record IsIn (sets : Sets) (t u : TypeId) : Type 0 where
   pub among : Contains set u
 
 -- whatever is in a set of the first is in that of the second
-pub record KeepsIn (old new : Sets) : Type 0 where
+pub record KeepsSets (old new : Sets) : Type 0 where
   pub each : (t u : TypeId) → IsIn old t u → IsIn new t u
 
 -- the second map has this value at the id, and else what the first has
@@ -37,25 +37,25 @@ pub record IsSet {X : Type 0} (old new : List (TypeId × X)) (t : TypeId) (x : X
 -- ---- waiting
 
 -- for some types the one each that they wait for
-abbrev pub Awaited : Type 0
-Awaited = List (TypeId × TypeId)
+abbrev pub AwaitedTypes : Type 0
+AwaitedTypes = List (TypeId × TypeId)
 
 -- what types wait for, and what each has still to look at
 pub record Waiting : Type 0 where
-  pub awaited : Awaited
+  pub awaited : AwaitedTypes
   pub left : Sets
 
 -- who waits for a type is in its set
-pub record KnowsUsers (A : Awaited) (users : Sets) : Type 0 where
+pub record KnowsUsers (A : AwaitedTypes) (users : Sets) : Type 0 where
   pub each : (u w : TypeId) → lookup (same_id u) A ≡ Some w → IsIn users w u
 
 -- the one type is the other, or waits for one that waits for it
-pub data WaitsFor (A : Awaited) : TypeId → TypeId → Type 0 where
+pub data WaitsFor (A : AwaitedTypes) : TypeId → TypeId → Type 0 where
   here : {u : TypeId} → WaitsFor A u u
   onward : {u w v : TypeId} → lookup (same_id u) A ≡ Some w → WaitsFor A w v → WaitsFor A u v
 
 -- each type waits for what it did, or for this one
-pub record Redirects (A B : Awaited) (t : TypeId) : Type 0 where
+pub record Redirects (A B : AwaitedTypes) (t : TypeId) : Type 0 where
   pub each : (u : TypeId) → (lookup (same_id u) B ≡ lookup (same_id u) A) ⊎ (lookup (same_id u) B ≡ Some t)
 
 -- each type leads to what it waits for, and to what it has still to look at
@@ -67,7 +67,7 @@ pub record AreLed (T : Table) (W : Waiting) : Type 0 where
 pub record IsHopeless (T : Table) (u : TypeId) : Type 0 where
   pub end : TypeId
   pub reached : Reaches T u end
-  pub complete : IsComplete T end
+  pub complete : IsAllDefined T end
   pub bottomless : ¬ IsGrounded T end
 
 -- the type isn't defined, or no definition makes it ready
@@ -75,7 +75,7 @@ abbrev pub IsLost : Table → TypeId → Type 0
 IsLost T u = (shape_of T u ≡ None) ⊎ IsHopeless T u
 
 -- the way of waiting goes on from the type, past those that are ready, to one with the property
-pub data LeadsAway (A : Awaited) (ready : List TypeId) (P : TypeId → Type 0) : TypeId → Type 0 where
+pub data LeadsAway (A : AwaitedTypes) (ready : List TypeId) (P : TypeId → Type 0) : TypeId → Type 0 where
   ends : {u : TypeId} → P u → LeadsAway A ready P u
   further : {u w : TypeId} → lookup (same_id u) A ≡ Some w → ¬ Contains ready w → LeadsAway A ready P w → LeadsAway A ready P u
 
@@ -90,23 +90,23 @@ abbrev pub AreSettled : Table → List TypeId → Waiting → Type 0
 AreSettled T ready W = AreSorted T ready W (IsLost T)
 
 -- the type is to be looked at: it is in the queue, and waits for none that isn't ready
-abbrev pub IsOpen : Awaited → (ready queue : List TypeId) → TypeId → Type 0
-IsOpen A ready queue u = Contains queue u × ((w : TypeId) → lookup (same_id u) A ≡ Some w → Contains ready w)
+abbrev pub IsOpenType : AwaitedTypes → (ready queue : List TypeId) → TypeId → Type 0
+IsOpenType A ready queue u = Contains queue u × ((w : TypeId) → lookup (same_id u) A ≡ Some w → Contains ready w)
 
 -- or for one that is to be looked at
 abbrev pub IsLearning : Table → List TypeId → Waiting → List TypeId → Type 0
-IsLearning T ready W queue = AreSorted T ready W (λ u. IsLost T u ⊎ IsOpen W.awaited ready queue u)
+IsLearning T ready W queue = AreSorted T ready W (λ u. IsLost T u ⊎ IsOpenType W.awaited ready queue u)
 
 -- or for this one, which is looked at
 abbrev pub IsLooking : Table → List TypeId → Waiting → List TypeId → TypeId → Type 0
-IsLooking T ready W queue t = AreSorted T ready W (λ u. (IsLost T u ⊎ IsOpen W.awaited ready queue u) ⊎ (t ≡ u))
+IsLooking T ready W queue t = AreSorted T ready W (λ u. (IsLost T u ⊎ IsOpenType W.awaited ready queue u) ⊎ (t ≡ u))
 
 -- the type is ready, or waits for one that isn't
-abbrev pub IsJudged : Awaited → List TypeId → TypeId → Type 0
+abbrev pub IsJudged : AwaitedTypes → List TypeId → TypeId → Type 0
 IsJudged A ready u = Contains ready u ⊎ ((w : TypeId) × (lookup (same_id u) A ≡ Some w) × ¬ Contains ready w)
 
 -- these are the ready types; and it is known what the others wait for, or nothing of it
-pub record IsKept (T : Table) (ready : List TypeId) (waits : Option Waiting) : Type 0 where
+pub record IsKeptReadiness (T : Table) (ready : List TypeId) (waits : Option Waiting) : Type 0 where
   pub sound : AreReady T ready
   pub whole : (u : TypeId) → IsReady T u → Contains ready u
   pub settled : MatchOption waits (Unit {0}) (AreSettled T ready)
@@ -117,7 +117,7 @@ pub record WasKept (U : Table) (t : TypeId) (ready : List TypeId) (waits : Optio
   pub shape : Shape
   pub new : shape_of before t ≡ None
   pub grown : U ≡ before ++ (t, shape) ∷ []
-  pub kept : IsKept before ready waits
+  pub kept : IsKeptReadiness before ready waits
 
 -- all entries but the last
 abbrev pub front : Table → Table
@@ -126,7 +126,7 @@ front T = take (length T - 1) T
 -- ---- looks
 
 -- the ids hold what the type's shape names, and it reaches them
-pub record AreNames (T : Table) (u : TypeId) (ids : List TypeId) : Type 0 where
+pub record AreNamedBy (T : Table) (u : TypeId) (ids : List TypeId) : Type 0 where
   pub has : (s : Shape) (w : TypeId) → shape_of T u ≡ Some s → Names s.kind w → Contains ids w
   pub reached : (w : TypeId) → Contains ids w → Reaches T u w
 
@@ -142,17 +142,17 @@ pub record MetPast (T : Table) (known : List TypeId) (t : TypeId) (ids : List Ty
   pub closed : (u : TypeId) → Contains ids u → Contains known u ⊎ NamesAmong T ids u
 
 -- who waits for an id that came to the first ones has the property
-pub record HandsOn (A : Awaited) (old new : List TypeId) (P : TypeId → Type 0) : Type 0 where
+pub record HandsOn (A : AwaitedTypes) (old new : List TypeId) (P : TypeId → Type 0) : Type 0 where
   pub each : (w : TypeId) → Contains new w → Contains old w ⊎ ((u : TypeId) → lookup (same_id u) A ≡ Some w → P u)
 
 -- the ids came to the first ones, and the types that wait for a new one of them to the queue
-pub record AreAdded (A : Awaited) (ids old new queue after : List TypeId) : Type 0 where
+pub record AreAdded (A : AwaitedTypes) (ids old new queue after : List TypeId) : Type 0 where
   pub added : AddsAll old new (Contains ids)
   pub queued : Grows queue after
   pub handed : HandsOn A old new (Contains after)
 
 -- the users that wait for the type came to the ids
-pub record AddsWaiting (A : Awaited) (users : List TypeId) (t : TypeId) (old new : List TypeId) : Type 0 where
+pub record AddsWaiting (A : AwaitedTypes) (users : List TypeId) (t : TypeId) (old new : List TypeId) : Type 0 where
   pub grown : Grows old new
   pub has : (u : TypeId) → Contains users u → lookup (same_id u) A ≡ Some t → Contains new u
   pub only : (u : TypeId) → Contains new u → Contains old u ⊎ (lookup (same_id u) A ≡ Some t)

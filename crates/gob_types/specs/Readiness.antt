@@ -20,11 +20,11 @@ abbrev pub ReachesBottomless : Table → TypeId → TypeId → Type 0
 ReachesBottomless T t u = Reaches T t u × ¬ IsGrounded T u
 
 -- each type that is reached is defined
-abbrev pub IsComplete : Table → TypeId → Type 0
-IsComplete T t = (u : TypeId) → Reaches T t u → IsDefined T u
+abbrev pub IsAllDefined : Table → TypeId → Type 0
+IsAllDefined T t = (u : TypeId) → Reaches T t u → IsDefined T u
 
 -- why the type isn't ready: what isn't defined comes first, and out of memory tells nothing of the type
 abbrev pub IsNotReady : Table → TypeId → NotReady → Type 0
 IsNotReady T t (fault.UndefinedType u) = IsLeast (ReachesUndefined T t) u
-IsNotReady T t (fault.Bottomless u) = IsComplete T t × IsLeast (ReachesBottomless T t) u
+IsNotReady T t (fault.Bottomless u) = IsAllDefined T t × IsLeast (ReachesBottomless T t) u
 IsNotReady T t fault.Memory = Unit {0}

@@ -64,10 +64,10 @@ reason_id (reason.Bottomless id) = Some id
 reason_id _ = None
 
 -- a name with the id in parentheses behind it, where there is one
-abbrev pub name_and_id : List ℕ → Option TypeId → List ℕ
-name_and_id name None = name
-name_and_id name (Some id) = name ++ (codes "(" ++ (decimal id.0 ++ codes ")"))
+abbrev pub name_with_id : List ℕ → Option TypeId → List ℕ
+name_with_id name None = name
+name_with_id name (Some id) = name ++ (codes "(" ++ (decimal id.0 ++ codes ")"))
 
 -- the reason as it is printed
 abbrev pub reason_text : Reason → List ℕ
-reason_text r = name_and_id (reason_name r) (reason_id r)
+reason_text r = name_with_id (reason_name r) (reason_id r)

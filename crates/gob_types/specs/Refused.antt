@@ -9,8 +9,8 @@ use Rattle.gob_types.specs.Definable.{IsOwnId}
 use Rattle.gob_types.specs.Defined.{Defined, types, definition_count, Admits}
 
 -- the definition of this id is refused for this reason; out of memory is one where none of the others holds
-abbrev pub Refuses : Defined → TypeId → DefineFault → Type 0
-Refuses d t fault.ReservedType = ¬ IsOwnId t
-Refuses d t fault.DefinedTwice = IsOwnId t × IsDefined (types d) t
-Refuses d t fault.TooManyTypes = IsOwnId t × (shape_of (types d) t ≡ None) × (d.most ≤ definition_count (types d))
-Refuses d t fault.Memory = Admits d t
+abbrev pub RefusesToDefine : Defined → TypeId → DefineFault → Type 0
+RefusesToDefine d t fault.ReservedType = ¬ IsOwnId t
+RefusesToDefine d t fault.DefinedTwice = IsOwnId t × IsDefined (types d) t
+RefusesToDefine d t fault.TooManyTypes = IsOwnId t × (shape_of (types d) t ≡ None) × (d.most ≤ definition_count (types d))
+RefusesToDefine d t fault.Memory = Admits d t

@@ -62,6 +62,6 @@ pub record EndsWell (T : Table) (t : TypeId) (way : List TypeId) : Type 0 where
   pub start : IsGrounded T t
 
 -- or each is an array of another, or of one that is known to have none
-pub record GoesOn (T : Table) (t : TypeId) (bottomless way : List TypeId) : Type 0 where
+pub record WalksOn (T : Table) (t : TypeId) (bottomless way : List TypeId) : Type 0 where
   pub closed : (u : TypeId) → Contains way u → IsFilledIn T (λ e. Contains way e ⊎ Contains bottomless e) u
   pub start : Contains way t ⊎ Contains bottomless t

@@ -5,7 +5,7 @@ ghost use Rattle.gob_types.specs.Table.{IsDefined};
 ghost use Rattle.gob_types.specs.Base.{base_table};
 ghost use Rattle.gob_types.specs.Definable.{IsDefinable};
 ghost use Rattle.gob_types.specs.Defined.{IsTable, Admits, types, definition_count};
-ghost use Rattle.gob_types.specs.Refused.{Refuses};
+ghost use Rattle.gob_types.specs.Refused.{RefusesToDefine};
 ghost use Rattle.gob_types.specs.Kept.{front};
 
 use crate::base::enter_base;
@@ -85,7 +85,7 @@ impl Definitions {
     /// answers [`DefineFault::Memory`].
     pub(crate) fn admits(&self, id: TypeId) -> Result<(), DefineFault>
         ensures admitted { OnOk result (Admits self.now id) }
-        ensures refused { IfErr result (λ fault. Refuses self.now id fault) }
+        ensures refused { IfErr result (λ fault. RefusesToDefine self.now id fault) }
         ensures judged { IfErr result (λ fault. ¬ (fault ≡ DefineFault.Memory)) }
         ensures known { IsTable (types self.now) }
     {
@@ -115,7 +115,7 @@ impl Definitions {
         ensures defined { OnOk result (types self.new ≡ types self.old ++ (id, shape) ∷ []) }
         ensures entries { OnOk result (self.new.entries ≡ self.old.entries ++ (id, shape) ∷ []) }
         ensures most { self.new.most ≡ self.old.most }
-        ensures refused { IfErr result (λ fault. Refuses self.old id fault) }
+        ensures refused { IfErr result (λ fault. RefusesToDefine self.old id fault) }
         ensures unchanged { OnErr result (self.new ≡ self.old) }
     {
         self.admits(id)?;

@@ -7,8 +7,8 @@ ghost use Rattle.std.specs.Prelude.{◌≡◌, ◌<◌, ℕ, [], IfOk, OnOk, Mat
 ghost use Rattle.gob_types.specs.Table.{IsDefined};
 ghost use Rattle.gob_types.specs.Defined.{types};
 ghost use Rattle.gob_types.specs.Ready.{IsGrounded, IsFilledArray};
-ghost use Rattle.gob_types.specs.Readiness.{IsComplete};
-ghost use Rattle.gob_types.specs.Walk.{IsFilledOf, KnowsGrounds, EndsWell, GoesOn};
+ghost use Rattle.gob_types.specs.Readiness.{IsAllDefined};
+ghost use Rattle.gob_types.specs.Walk.{IsFilledOf, KnowsGrounds, EndsWell, WalksOn};
 
 use crate::definitions::Definitions;
 use crate::id::TypeId;
@@ -66,7 +66,7 @@ impl Grounds {
         alloc: Global,
         id: TypeId,
     ) -> Result<bool, Memory>
-        requires complete { IsComplete (types table.now) id }
+        requires complete { IsAllDefined (types table.now) id }
         requires known { KnowsGrounds (types table.now) self.old.grounded self.old.bottomless }
         ensures judged { let T = types table.now in
             IfOk result (λ yes. MatchBool yes (IsGrounded T id) (¬ IsGrounded T id)) }
@@ -84,11 +84,11 @@ impl Grounds {
     // Follows the elements of arrays from this type on until the answer is known. It gives the types on the
     // way, of which nothing was known, and whether they have finite values.
     fn follow(&self, table: &Definitions, id: TypeId, way: &mut TypeSet) -> Result<bool, Memory>
-        requires complete { IsComplete (types table.now) id }
+        requires complete { IsAllDefined (types table.now) id }
         requires known { KnowsGrounds (types table.now) self.now.grounded self.now.bottomless }
         requires new { way.old ≡ [] }
         ensures { let T = types table.now in
-            IfOk result (λ yes. MatchBool yes (EndsWell T id way.new) (GoesOn T id self.now.bottomless way.new)) }
+            IfOk result (λ yes. MatchBool yes (EndsWell T id way.new) (WalksOn T id self.now.bottomless way.new)) }
     {
         let mut at = id;
         while !self.grounded.contains(at) {

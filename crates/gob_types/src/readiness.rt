@@ -4,9 +4,9 @@ ghost use Rattle.gob_types.specs.declared.id.TypeId.{TypeId};
 ghost use Rattle.gob_types.specs.Table.{shape_of, IsDefined};
 ghost use Rattle.gob_types.specs.Defined.{types, IsTable};
 ghost use Rattle.gob_types.specs.Ready.{Names, HasFieldOf, IsGrounded, IsReady};
-ghost use Rattle.gob_types.specs.Readiness.{IsNotReady, IsComplete};
+ghost use Rattle.gob_types.specs.Readiness.{IsNotReady, IsAllDefined};
 ghost use Rattle.gob_types.specs.Walk.{AddsAll, IsReach, IsFilledOf, IsLeastBad};
-ghost use Rattle.gob_types.specs.Kept.{AreNames};
+ghost use Rattle.gob_types.specs.Kept.{AreNamedBy};
 
 use crate::definitions::Definitions;
 use crate::grounds::Grounds;
@@ -84,7 +84,7 @@ fn reached(table: &Definitions, alloc: Global, id: TypeId) -> Result<TypeSet, Me
 
 /// The types that the type's shape names.
 pub(crate) fn names_of(table: &Definitions, alloc: Global, id: TypeId) -> Result<TypeSet, Memory>
-    ensures { IfOk result (λ names. AreNames (types table.now) id names) }
+    ensures { IfOk result (λ names. AreNamedBy (types table.now) id names) }
 {
     let mut names = TypeSet::new(alloc);
     let Some(shape) = table.shape_of(id) else {
@@ -138,7 +138,7 @@ fn least_bottomless(
     alloc: Global,
     met: &TypeSet,
 ) -> Result<Option<TypeId>, Memory>
-    requires { (u : TypeId) → Contains met.now u → IsComplete (types table.now) u }
+    requires { (u : TypeId) → Contains met.now u → IsAllDefined (types table.now) u }
     ensures { let T = types table.now in
         IfOk result (λ least. IsLeastBad (IsGrounded T) (λ u. ¬ IsGrounded T u) met.now least) }
 {

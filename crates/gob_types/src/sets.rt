@@ -3,7 +3,7 @@ ghost use Rattle.std.specs.Prelude.{◌≡◌, [], OnOk, Contains, IfSome, is_so
 ghost use Rattle.std.specs.Map.{lookup};
 ghost use Rattle.gob_types.specs.declared.id.TypeId.{TypeId};
 ghost use Rattle.gob_types.specs.Entered.{same_id};
-ghost use Rattle.gob_types.specs.Kept.{IsIn, KeepsIn, IsSet};
+ghost use Rattle.gob_types.specs.Kept.{IsIn, KeepsSets, IsSet};
 
 use crate::id::TypeId;
 use crate::type_set::TypeSet;
@@ -63,7 +63,7 @@ impl Sets {
     /// Adds an id to the set of this type. Without memory each set has what it had.
     pub(crate) fn add(&mut self, alloc: Global, id: TypeId, member: TypeId) -> Result<(), Memory>
         ensures added { OnOk result (IsIn self.new id member) }
-        ensures kept { KeepsIn self.old self.new }
+        ensures kept { KeepsSets self.old self.new }
     {
         if let Some(set) = self.sets.get_mut(&id) {
             set.add(member)?;
@@ -86,7 +86,7 @@ impl Sets {
     /// Takes an id out of the set of this type, the last, where there is one.
     pub(crate) fn pop(&mut self, id: TypeId) -> Option<TypeId>
         ensures taken { IfSome result (λ u. IsIn self.old id u) }
-        ensures kept { KeepsIn self.new self.old }
+        ensures kept { KeepsSets self.new self.old }
     {
         let set = self.sets.get_mut(&id)?;
         set.pop()
@@ -95,7 +95,7 @@ impl Sets {
     /// Takes all out of the set of this type.
     pub(crate) fn take(&mut self, alloc: Global, id: TypeId) -> TypeSet
         ensures taken { (u : TypeId) → Contains result u → IsIn self.old id u }
-        ensures kept { KeepsIn self.new self.old }
+        ensures kept { KeepsSets self.new self.old }
     {
         let empty = TypeSet::new(alloc);
         let Some(set) = self.sets.get_mut(&id) else {

@@ -3,9 +3,9 @@ ghost use Rattle.std.specs.Prelude.{◌≡◌, ◌++◌, ◌∷◌, [], IfOk, On
 ghost use Rattle.gob_types.specs.Base.{base_table};
 ghost use Rattle.gob_types.specs.Definable.{IsDefinable};
 ghost use Rattle.gob_types.specs.Defined.{IsTable, Admits, types, definition_count};
-ghost use Rattle.gob_types.specs.Refused.{Refuses};
+ghost use Rattle.gob_types.specs.Refused.{RefusesToDefine};
 ghost use Rattle.gob_types.specs.Ready.{IsReady};
-ghost use Rattle.gob_types.specs.Kept.{IsKept};
+ghost use Rattle.gob_types.specs.Kept.{IsKeptReadiness};
 ghost use Rattle.gob_types.specs.Readiness.{IsNotReady};
 
 use crate::definitions::Definitions;
@@ -72,13 +72,13 @@ impl Drop for Table {
 
 impl Model for Table {
     ghost use Rattle.gob_types.specs.Defined.{Defined, types};
-    ghost use Rattle.gob_types.specs.Kept.{IsKept};
+    ghost use Rattle.gob_types.specs.Kept.{IsKeptReadiness};
 
     ghost Value = { Defined };
 
     ghost view = { λ s. s.definitions };
 
-    ghost invariant = { λ s. IsKept (types s.definitions) s.ready s.waits };
+    ghost invariant = { λ s. IsKeptReadiness (types s.definitions) s.ready s.waits };
 }
 
 impl Table {
@@ -112,7 +112,7 @@ impl Table {
     /// answers [`DefineFault::Memory`].
     pub fn admits(&self, id: TypeId) -> Result<(), DefineFault>
         ensures admitted { OnOk result (Admits self.now id) }
-        ensures refused { IfErr result (λ fault. Refuses self.now id fault) }
+        ensures refused { IfErr result (λ fault. RefusesToDefine self.now id fault) }
         ensures judged { IfErr result (λ fault. ¬ (fault ≡ DefineFault.Memory)) }
         ensures known { IsTable (types self.now) }
     {
@@ -126,7 +126,7 @@ impl Table {
         ensures admitted { OnOk result (Admits self.old id) }
         ensures defined { OnOk result (types self.new ≡ types self.old ++ (id, shape) ∷ []) }
         ensures most { self.new.most ≡ self.old.most }
-        ensures refused { IfErr result (λ fault. Refuses self.old id fault) }
+        ensures refused { IfErr result (λ fault. RefusesToDefine self.old id fault) }
         ensures unchanged { OnErr result (self.new ≡ self.old) }
     {
         self.definitions.learn();

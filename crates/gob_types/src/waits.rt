@@ -9,7 +9,7 @@ ghost use Rattle.gob_types.specs.declared.id.TypeId.{TypeId};
 ghost use Rattle.gob_types.specs.Entered.{same_id};
 ghost use Rattle.gob_types.specs.Table.{Table};
 ghost use Rattle.gob_types.specs.Ready.{Reaches};
-ghost use Rattle.gob_types.specs.Kept.{IsIn, KeepsIn, IsSet, Waiting, WaitsFor, AreLed, Redirects, AddsWaiting};
+ghost use Rattle.gob_types.specs.Kept.{IsIn, KeepsSets, IsSet, Waiting, WaitsFor, AreLed, Redirects, AddsWaiting};
 
 use crate::id::TypeId;
 use crate::sets::Sets;
@@ -98,7 +98,7 @@ impl Waits {
     /// The next type that this one has to look at.
     pub(crate) fn next(&mut self, id: TypeId) -> Option<TypeId>
         ensures taken { IfSome result (λ u. IsIn self.old.left id u) }
-        ensures left { KeepsIn self.new.left self.old.left }
+        ensures left { KeepsSets self.new.left self.old.left }
         ensures awaited { self.new.awaited ≡ self.old.awaited }
     {
         self.left.pop(id)

@@ -22,7 +22,7 @@ use Rattle.gob_value.specs.Tree.{Tree, Fields, no_field, field}
 use Rattle.gob_value.specs.Spelling.{Spells, of_type, SpellsAs, of_int, of_struct, SpellsFields, end_of_fields}
 use Rattle.gob_value.specs.Spelling.{next_field}
 use Rattle.gob_value.specs.Fits.{Fits}
-use Rattle.gob_value.specs.Description.{present, number_in, fields_in, said, said_kind, said_with, Said, SaidField}
+use Rattle.gob_value.specs.Description.{present_field, number_in, fields_in, said, said_kind, said_with, Said, SaidField}
 use Rattle.gob_value.specs.Description.{SaidKind, said_array, said_opaque, GivesFields, no_more, and_field, GivesKind}
 use Rattle.gob_value.specs.Description.{gives_array, gives_slice, gives_struct, gives_map, gives_opaque, Describes}
 
@@ -63,12 +63,12 @@ type_back {T = T} {v = v} {b = b} s (of_type f p) e = subst (λ (s : Shape). Spe
 
 -- a present field is of its type
 present_back : {T : Table} {types : List Field} {next : ℕ} {fs : Fields} {b : List ℕ} → SpellsFields T types next fs b
-    → (n : ℕ) (e : Field) (v : Tree) → slice_get types n ≡ Some e → present n fs ≡ Some v → Fits T e.id v
+    → (n : ℕ) (e : Field) (v : Tree) → slice_get types n ≡ Some e → present_field n fs ≡ Some v → Fits T e.id v
 present_back (end_of_fields p) n e v there is = cc
 present_back {T = T} {types = types} (next_field {f = f} {e = d} {v = w} {fs = fs} {b = b} l m p q ps) n e v there is =
     by (eqb_tells f n) (present_back ps n e v there)
   where
-    by : ((eqb f n ≡ true) × (f ≡ n)) ⊎ ((eqb f n ≡ false) × (f ≢ n)) → (present n fs ≡ Some v → Fits T e.id v)
+    by : ((eqb f n ≡ true) × (f ≡ n)) ⊎ ((eqb f n ≡ false) × (f ≢ n)) → (present_field n fs ≡ Some v → Fits T e.id v)
         → Fits T e.id v
     by (inl h) rest =
         let same : w ≡ v = some_injective (rw h.0 at is) in
@@ -87,10 +87,10 @@ int_back (of_int p) = signed_fits p
 
 -- the number in a field of type 2
 number_back : {types : List Field} {next : ℕ} {fs : Fields} {b : List ℕ} → SpellsFields base_table types next fs b
-    → (n : ℕ) (e : Field) → slice_get types n ≡ Some e → e.id ≡ id 2 → FitsSigned w64 (number_in (present n fs))
-number_back {fs = fs} p n e there type = by (present n fs) refl
+    → (n : ℕ) (e : Field) → slice_get types n ≡ Some e → e.id ≡ id 2 → FitsSigned w64 (number_in (present_field n fs))
+number_back {fs = fs} p n e there type = by (present_field n fs) refl
   where
-    by : (o : Option Tree) → present n fs ≡ o → FitsSigned w64 (number_in o)
+    by : (o : Option Tree) → present_field n fs ≡ o → FitsSigned w64 (number_in o)
     by None is = omega (arith, ints)
     by (Some v) is =
         let fit = present_back p n e v there is in
@@ -107,7 +107,7 @@ opaque_said false false false h = cc
 
 -- an array is what field 0 says
 array_said : (a b c d : Bool) (f : ℕ) (fs : Fields) (elem len : ℤ) → eqb f 0 ≡ a → eqb f 1 ≡ b → eqb f 2 ≡ c
-    → eqb f 3 ≡ d → said_kind f fs ≡ Some (said_array elem len) → (f ≡ 0) × (number_in (present 2 fs) ≡ len)
+    → eqb f 3 ≡ d → said_kind f fs ≡ Some (said_array elem len) → (f ≡ 0) × (number_in (present_field 2 fs) ≡ len)
 array_said true b c d f fs elem len p q r s h = let g = rw p at h in (eqb-true f 0 p, cc)
 array_said false true c d f fs elem len p q r s h = let g = rw (p, q) at h in cc
 array_said false false true d f fs elem len p q r s h = let g = rw (p, q, r) at h in cc
@@ -128,14 +128,14 @@ length_fits v w elem len fit says is =
   where
     -- the fields of the arrayType
     within : (f : ℕ) (g : Tree) (b : List ℕ) → SpellsFields base_table wire_type_fields 0 (field f g no_field) b
-        → (f ≡ 0) × (number_in (present 2 (fields_in (Some g))) ≡ len) → FitsSigned w64 len
+        → (f ≡ 0) × (number_in (present_field 2 (fields_in (Some g))) ≡ len) → FitsSigned w64 len
     within f g b p array =
-        let here : present 0 (field f g no_field) ≡ Some g = rw (eq-eqb f 0 array.0) refl in
+        let here : present_field 0 (field f g no_field) ≡ Some g = rw (eq-eqb f 0 array.0) refl in
         let fit = present_back p 0 _ g refl here in
         let inner = struct_back (type_back _ fit.spelled refl) in
         let number = number_back inner.spelled 2 _ refl refl in
-        let same : number_in (present 2 inner.fields) ≡ len = ap
-        (λ (g : Tree). number_in (present 2 (fields_in (Some g)))) (sym inner.are) ∙ array.1 in
+        let same : number_in (present_field 2 inner.fields) ≡ len = ap
+        (λ (g : Tree). number_in (present_field 2 (fields_in (Some g)))) (sym inner.are) ∙ array.1 in
         subst (FitsSigned w64) same number
 
     by : (fs : Fields) {b : List ℕ} → SpellsFields base_table wire_type_fields 0 fs b → said (Tree.fields fs) ≡ Some w
@@ -145,7 +145,7 @@ length_fits v w elem len fit says is =
     by (field f g no_field) p e =
         let fs = fields_in (Some g) in
         let array = array_said (eqb f 0) (eqb f 1) (eqb f 2) (eqb f 3) f fs elem len refl refl refl refl
-        (kind_of (fields_in (present 0 fs)) (said_kind f fs) w e ∙ ap (λ (k : SaidKind). Some k) is) in
+        (kind_of (fields_in (present_field 0 fs)) (said_kind f fs) w e ∙ ap (λ (k : SaidKind). Some k) is) in
         within f g _ p array
 
 has_length : {k : SaidKind} {g : Kind} → GivesKind k g → ((elem len : ℤ) → k ≡ said_array elem len → FitsSigned w64 len)

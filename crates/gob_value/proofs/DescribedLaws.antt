@@ -23,28 +23,28 @@ use Rattle.gob_value.specs.declared.value.Value.{Value}
 use Rattle.gob_value.specs.Spelling.{of_type, of_int, of_text, of_slice, of_struct, no_element, element, end_of_fields}
 use Rattle.gob_value.specs.Spelling.{next_field}
 use Rattle.gob_value.specs.Within.{FitsWithin, AllFitWithin, FieldsFitWithin}
-use Rattle.gob_value.specs.Description.{said, present, number_in, name_in, elements_in, said_fields, Said, SaidKind}
+use Rattle.gob_value.specs.Description.{said, present_field, number_in, name_in, elements_in, said_fields, Said, SaidKind}
 use Rattle.gob_value.specs.Description.{said_array, said_slice, said_struct, said_map, said_opaque, RefersTo}
 use Rattle.gob_value.specs.Description.{GivesFields, no_more, and_field, gives_array, gives_slice, gives_struct}
 use Rattle.gob_value.specs.Description.{gives_map, gives_opaque, Describes}
 use Rattle.gob_value.specs.Described.{described, described_kind, name_and_id, field_types, field_list, array_length}
 use Rattle.gob_value.specs.Described.{wire_type_of}
-use Rattle.gob_value.specs.DescriptionLaws.{IsCounted, AreCounted, HasCountedFields, IsCountable}
+use Rattle.gob_value.specs.DescriptionLaws.{IsCountedName, AreCounted, HasCountedFields, IsCountable}
 
 -- ---- what it says
 
-named : (name : List ℕ) (t : TypeId) → name_in (present 0 (name_and_id name t)) ≡ name
+named : (name : List ℕ) (t : TypeId) → name_in (present_field 0 (name_and_id name t)) ≡ name
 named [] t = refl
 named (b ∷ bs) t = refl
 
-numbered : (name : List ℕ) (t : TypeId) → number_in (present 1 (name_and_id name t)) ≡ pos t.0
+numbered : (name : List ℕ) (t : TypeId) → number_in (present_field 1 (name_and_id name t)) ≡ pos t.0
 numbered [] t = refl
 numbered (b ∷ bs) t = refl
 
-long : (n : ℕ) → number_in (present 2 (array_length n)) ≡ pos n
+long : (n : ℕ) → number_in (present_field 2 (array_length n)) ≡ pos n
 long n = by (eqb n 0) refl
   where
-    by : (b : Bool) → eqb n 0 ≡ b → number_in (present 2 (array_length n)) ≡ pos n
+    by : (b : Bool) → eqb n 0 ≡ b → number_in (present_field 2 (array_length n)) ≡ pos n
     by true e = rw e (ap pos (sym (eqb-true n 0 e)))
     by false e = rw e refl
 
@@ -64,7 +64,7 @@ fields_said (f ∷ fs) each =
     (fields_said fs (λ u h. each u (further h)))
 
 elements_said : (common : Tree) (fs : List Field)
-    → elements_in (present 1 (field 0 common (field_list fs))) ≡ field_types fs
+    → elements_in (present_field 1 (field 0 common (field_list fs))) ≡ field_types fs
 elements_said common [] = refl
 elements_said common (f ∷ fs) = refl
 
@@ -73,9 +73,9 @@ describes t s d = by s.name s.kind d.length d.references
   where
     said_as : (name : List ℕ) → SaidKind → Said
     said_as name k = record {
-      name = name_in (present 0 (name_and_id name t));
+      name = name_in (present_field 0 (name_and_id name t));
       id = number_in
-          (present 1 (name_and_id name t));
+          (present_field 1 (name_and_id name t));
       kind = k;
     }
 
@@ -90,7 +90,7 @@ describes t s d = by s.name s.kind d.length d.references
     by name (kind.Basic b) l each = absurd l
     by name (kind.Array e n) l each = record {
       what = said_as name
-          (said_array (pos e.0) (number_in (present 2 (array_length n))));
+          (said_array (pos e.0) (number_in (present_field 2 (array_length n))));
       says = refl;
       same_id = numbered name t;
       name =
@@ -107,7 +107,7 @@ describes t s d = by s.name s.kind d.length d.references
     }
     by name (kind.Struct fs) l each = record {
       what = said_as name (said_struct (said_fields
-          (elements_in (present 1 (field 0 (Tree.fields (name_and_id name t)) (field_list fs))))));
+          (elements_in (present_field 1 (field 0 (Tree.fields (name_and_id name t)) (field_list fs))))));
       says = refl;
       same_id = numbered name t;
       name = sym (named name t);
@@ -138,7 +138,7 @@ int_fits : (n limit : ℕ) → n < 2 ^ 63 → 0 < limit → FitsWithin base_tabl
 int_fits n limit h l = let s = signed_spelled (pos n) (omega (arith, ints)) in record
     { bytes = s.bytes; spelled = of_type refl (of_int s.spelled); within = omega arith }
 
-text_fits : (s : List ℕ) (limit : ℕ) → IsCounted s → 0 < limit → FitsWithin base_table (id 6) limit (Tree.text s)
+text_fits : (s : List ℕ) (limit : ℕ) → IsCountedName s → 0 < limit → FitsWithin base_table (id 6) limit (Tree.text s)
 text_fits s limit h l = let c = unsigned_spelled (length s) h in record
     { bytes = c.bytes ++ s; spelled = of_type refl (of_text c.spelled); within = omega arith }
 
@@ -170,17 +170,17 @@ struct_fits e k p = let w = p.within in record {
 }
 
 -- CommonType and fieldType
-names_fit : {a b : List ℕ} (name : List ℕ) (t : TypeId) (limit : ℕ) → IsCounted name → t.0 < 2 ^ 63 → 0 < limit
+names_fit : {a b : List ℕ} (name : List ℕ) (t : TypeId) (limit : ℕ) → IsCountedName name → t.0 < 2 ^ 63 → 0 < limit
     → FieldsFitWithin base_table (base.field a 6 ∷ base.field b 2 ∷ []) 0 limit (name_and_id name t)
 names_fit [] t limit c h l = one_more (omega arith) (omega arith) refl (int_fits t.0 limit h l) no_fields
 names_fit (x ∷ xs) t limit c h l = one_more (omega arith) (omega arith) refl (text_fits (x ∷ xs) limit c l)
     (one_more (omega arith) (omega arith) refl (int_fits t.0 limit h l) no_fields)
 
-common_fits : (name : List ℕ) (t : TypeId) (limit : ℕ) → IsCounted name → t.0 < 2 ^ 63 → 0 < limit
+common_fits : (name : List ℕ) (t : TypeId) (limit : ℕ) → IsCountedName name → t.0 < 2 ^ 63 → 0 < limit
     → FitsWithin base_table (id 18) (limit + 1) (Tree.fields (name_and_id name t))
 common_fits name t limit c h l = struct_fits refl refl (names_fit name t limit c h l)
 
-field_type_fits : (name : List ℕ) (t : TypeId) (limit : ℕ) → IsCounted name → t.0 < 2 ^ 63 → 0 < limit
+field_type_fits : (name : List ℕ) (t : TypeId) (limit : ℕ) → IsCountedName name → t.0 < 2 ^ 63 → 0 < limit
     → FitsWithin base_table (id 21) (limit + 1) (Tree.fields (name_and_id name t))
 field_type_fits name t limit c h l = struct_fits refl refl (names_fit name t limit c h l)
 
@@ -272,15 +272,22 @@ fits t s d c h = by s.kind d.length d.references c.fields
     by (kind.Opaque marshal.Text) l each n = wire_fits (omega arith) refl
         (struct_fits refl refl (one_more (omega arith) (omega arith) refl common no_fields))
 
--- what is made of a shape fits, and a signed number holds its id
+-- what is made of a shape is its description, where a signed number holds its id
+pub made_described : {E : Type 0} (t : TypeId) (s : Shape) (k : Kind) (common : Tree) (r : Result Value E) → s.kind ≡ k
+    → (t.0 < 2 ^ 63 → common ≡ Tree.fields (name_and_id s.name t)) → IfOk r (λ v. view v ≡ described_kind common k)
+    → IfOk r (λ v. t.0 < 2 ^ 63 → view v ≡ described t s)
+made_described t s k common (Err e) is first made = tt
+made_described t s k common (Ok v) is first made = λ h.
+    made ∙ ap (λ (c : Tree). described_kind c k) (first h) ∙ ap (described_kind (Tree.fields (name_and_id s.name t))) (sym is)
+
+-- and it fits
 pub made_fits : {E : Type 0} (t : TypeId) (s : Shape) (k : Kind) (common : Tree) (r : Result Value E) → IsDefinable s
-    → IsCounted s.name → s.kind ≡ k → (t.0 < 2 ^ 63 → common ≡ Tree.fields (name_and_id s.name t))
+    → IsCountedName s.name → s.kind ≡ k → (t.0 < 2 ^ 63 → common ≡ Tree.fields (name_and_id s.name t))
     → OnOk r (HasCountedFields k) → IfOk r (λ v. view v ≡ described_kind common k)
     → IfOk r (λ v. t.0 < 2 ^ 63 → FitsWithin base_table wire_type 5 (view v))
 made_fits t s k common (Err e) d c is first counted made = tt
 made_fits t s k common (Ok v) d c is first counted made = λ h.
-    let same : view v ≡ described t s = made ∙ ap (λ (c : Tree). described_kind c k) (first h)
-    ∙ ap (described_kind (Tree.fields (name_and_id s.name t))) (sym is) in
+    let same : view v ≡ described t s = made_described {E = ⊥} t s k common (Ok v) is first made h in
     let countable : IsCountable s = record { name = c; fields = subst HasCountedFields (sym is) counted } in
     subst (FitsWithin base_table wire_type 5) (sym same) (fits t s d countable h)
 

@@ -12,9 +12,9 @@ use Rattle.gob_types.specs.Definable.{IsReference}
 use Rattle.gob_value.specs.Tree.{Tree, tree, Fields, no_field, field}
 use Rattle.gob_value.specs.View.{view, views, field_views, trees_of}
 use Rattle.gob_value.specs.Described.{name_and_id, field_types}
-use Rattle.gob_value.specs.Description.{present, said, said_with, said_kind, said_fields, fields_in, number_in, name_in}
+use Rattle.gob_value.specs.Description.{present_field, said, said_with, said_kind, said_fields, fields_in, number_in, name_in}
 use Rattle.gob_value.specs.Description.{RefersTo, Said, GivesFields, no_more, and_field}
-use Rattle.gob_value.specs.DescriptionLaws.{IsCounted, AreCounted}
+use Rattle.gob_value.specs.DescriptionLaws.{IsCountedName, AreCounted}
 use Rattle.gob_value.specs.Saying.{IsTypeNumber, HaveTypes, no_type, and_type}
 use Rattle.gob_value.specs.declared.value.Value.{Value}
 use Rattle.gob_value.proofs.ViewLaws.{field_item, views_item}
@@ -22,20 +22,20 @@ use Rattle.gob_value.proofs.TestSteps.{none_left}
 
 -- the item that a loop has is the field that is looked for, or it is passed
 pub present_here : (n : ℕ) (fs : List (ℕ × Value)) (i : ℕ) (f : ℕ × Value) → f ≡ get_or fs i f → i < length fs → f.0 ≡ n
-    → present n (field_views (drop i fs)) ≡ Some (view f.1)
+    → present_field n (field_views (drop i fs)) ≡ Some (view f.1)
 present_here n fs i f is h e = rw (field_item fs i f is h, eq-eqb f.0 n e) refl
 
 pub present_later : (n : ℕ) (fs : List (ℕ × Value)) (i : ℕ) (f : ℕ × Value) → f ≡ get_or fs i f → i < length fs
-    → f.0 ≢ n → present n (field_views (drop i fs)) ≡ present n (field_views (drop (i + 1) fs))
+    → f.0 ≢ n → present_field n (field_views (drop i fs)) ≡ present_field n (field_views (drop (i + 1) fs))
 present_later n fs i f is h ne = rw (field_item fs i f is h) (by (eqb f.0 n) refl)
   where
     by : (b : Bool) → eqb f.0 n ≡ b
-        → cond b (Some (view f.1)) (present n (field_views (drop (i + 1) fs))) ≡ present n
+        → cond b (Some (view f.1)) (present_field n (field_views (drop (i + 1) fs))) ≡ present_field n
         (field_views (drop (i + 1) fs))
     by true e = absurd (ne (eqb-true f.0 n e))
     by false e = refl
 
-pub present_none : (n : ℕ) (fs : List (ℕ × Value)) (i : ℕ) → length fs ≤ i → present n (field_views (drop i fs)) ≡ None
+pub present_none : (n : ℕ) (fs : List (ℕ × Value)) (i : ℕ) → length fs ≤ i → present_field n (field_views (drop i fs)) ≡ None
 present_none n fs i h = rw (none_left fs i h) refl
 
 -- a value with no field or with several says nothing
@@ -59,7 +59,7 @@ said_none (Tree.opaque s) fs e n = refl
 
 -- a value with one field says what that says
 abbrev pub said_by : ℕ → Fields → Option Said
-said_by f fs = said_with (fields_in (present 0 fs)) (said_kind f fs)
+said_by f fs = said_with (fields_in (present_field 0 fs)) (said_kind f fs)
 
 pub said_one : (v : Tree) (fs : List (ℕ × Value)) (f : ℕ × Value) → field_views fs ≡ fields_in (Some v) → length fs ≡ 1
     → f ≡ get_or fs 0 f → said v ≡ said_by f.0 (fields_in (Some (view f.1)))
@@ -103,12 +103,12 @@ pub types_all : (vs : List Value) (fs : List Field) (i : ℕ) → map view vs �
 types_all vs fs i so_far h = ap trees_of (so_far ∙ ap (map field_type) (take_all i fs h)) ∙ field_types-each fs
 
 -- names that are counted, one by one
-counted_push : (fs : List Field) (f : Field) → AreCounted fs → IsCounted f.name → AreCounted (fs ++ f ∷ [])
+counted_push : (fs : List Field) (f : Field) → AreCounted fs → IsCountedName f.name → AreCounted (fs ++ f ∷ [])
 counted_push [] f c h = (h, tt)
 counted_push (g ∷ fs) f c h = (c.0, counted_push fs f c.1 h)
 
 pub counted_more : (fs : List Field) (i : ℕ) (f : Field) → AreCounted (take i fs) → f ≡ get_or fs i f → i < length fs
-    → IsCounted f.name → AreCounted (take (i + 1) fs)
+    → IsCountedName f.name → AreCounted (take (i + 1) fs)
 counted_more fs i f c is l h = rw (take_more fs i f l, ← is) (counted_push (take i fs) f c h)
 
 pub counted_all : (fs : List Field) (i : ℕ) → AreCounted (take i fs) → length fs ≤ i → AreCounted fs
@@ -137,10 +137,10 @@ reference_number i n e = (
 
 -- the Id of a fieldType, and its Name
 abbrev pub id_said : Value → ℤ
-id_said v = number_in (present 1 (fields_in (Some (view v))))
+id_said v = number_in (present_field 1 (fields_in (Some (view v))))
 
 abbrev pub name_said : Value → List ℕ
-name_said v = name_in (present 0 (fields_in (Some (view v))))
+name_said v = name_in (present_field 0 (fields_in (Some (view v))))
 
 pub have_item : (vs : List Value) (i : ℕ) (v : Value) → v ≡ get_or vs i v → i < length vs
     → (IsTypeNumber (id_said v) × HaveTypes (said_fields (views (drop (i + 1) vs))))

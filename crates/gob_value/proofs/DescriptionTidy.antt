@@ -23,7 +23,7 @@ use Rattle.gob_value.specs.Written as written
 use Rattle.gob_value.specs.Tidy.{IsDropped, zero_basic, empty_slice, Tidies, of_type, TidiesAs, of_basic, of_slice}
 use Rattle.gob_value.specs.Tidy.{of_struct, TidiesEach, no_element, element, TidiesFields, no_more, dropped, kept}
 use Rattle.gob_value.specs.Tidy as tidy
-use Rattle.gob_value.specs.Description.{present, number_in, name_in, fields_in, elements_in, SaidKind, said_slice}
+use Rattle.gob_value.specs.Description.{present_field, number_in, name_in, fields_in, elements_in, SaidKind, said_slice}
 use Rattle.gob_value.specs.Description.{said_struct, said_fields, said_with, said, Describes, Misdescribes, kind_count}
 use Rattle.gob_value.specs.Description.{wrong_id, bad_reference, bad_length}
 use Rattle.gob_value.proofs.TidyLaws.{same_shape}
@@ -31,10 +31,10 @@ use Rattle.gob_value.proofs.WrittenLaws.{spells_written}
 
 -- ---- a field before and after
 
-present_here : (f n : ℕ) (v : Tree) (fs : Fields) → f ≡ n → present n (field f v fs) ≡ Some v
+present_here : (f n : ℕ) (v : Tree) (fs : Fields) → f ≡ n → present_field n (field f v fs) ≡ Some v
 present_here f n v fs h = rw (eq-eqb f n h)
 
-present_past : (f n : ℕ) (v : Tree) (fs : Fields) → (f ≡ n → ⊥) → present n (field f v fs) ≡ present n fs
+present_past : (f n : ℕ) (v : Tree) (fs : Fields) → (f ≡ n → ⊥) → present_field n (field f v fs) ≡ present_field n fs
 present_past f n v fs h = rw (ne_eqb f n h)
 
 -- absent before and after, dropped, or kept and tidied
@@ -44,7 +44,7 @@ data Left (T : Table) (k : Kind) : Option Tree → Option Tree → Type 0 where
   there : {v w : Tree} {b : List ℕ} → TidiesAs T k v w → Written v b → Left T k (Some v) (Some w)
 
 none_before : {T : Table} {types : List Field} {next : ℕ} {fs gs : Fields} {b : List ℕ} (n : ℕ) → n < next
-    → TidiesFields T types fs gs → WrittenFields next fs b → present n gs ≡ None
+    → TidiesFields T types fs gs → WrittenFields next fs b → present_field n gs ≡ None
 none_before n l no_more (end_of_fields q) = refl
 none_before n l (dropped m p d ps) (next_field o a q qs) = none_before n (omega arith) ps qs
 none_before n l (kept {f = f} {w = w} {gs = gs} m p d r ps) (next_field o a q qs) = present_past f n w gs
@@ -52,7 +52,7 @@ none_before n l (kept {f = f} {w = w} {gs = gs} m p d r ps) (next_field o a q qs
 
 left_of : {T : Table} {types : List Field} {next : ℕ} {fs gs : Fields} {b : List ℕ} (n : ℕ) (e : Field) (s : Shape)
     → slice_get types n ≡ Some e → shape_of T e.id ≡ Some s → TidiesFields T types fs gs
-    → WrittenFields next fs b → Left T s.kind (present n fs) (present n gs)
+    → WrittenFields next fs b → Left T s.kind (present_field n fs) (present_field n gs)
 left_of n e s h i no_more (end_of_fields q) = absent
 left_of {T = T} {types = types} n e s h i (dropped {f = f} {e = x} {s = r} {v = v} {fs = fs} {gs = gs} m p d ps)
     (next_field o a q qs) =
@@ -129,19 +129,19 @@ fields_shape = record { name = []; kind = kind.Slice (id 21) }
 module _ {types : List Field} {fs gs : Fields} {b : List ℕ} (p : TidiesFields base_table types fs gs)
     (q : WrittenFields 0 fs b) where
   number_at : (n : ℕ) (name : List ℕ) → slice_get types n ≡ Some (base.field name 2)
-      → number_in (present n gs) ≡ number_in (present n fs)
+      → number_in (present_field n gs) ≡ number_in (present_field n fs)
   number_at n name h = number_left (left_of n (base.field name 2) int_shape h refl p q)
 
   name_at : (n : ℕ) (name : List ℕ) → slice_get types n ≡ Some (base.field name 6)
-      → name_in (present n gs) ≡ name_in (present n fs)
+      → name_in (present_field n gs) ≡ name_in (present_field n fs)
   name_at n name h = name_left (left_of n (base.field name 6) string_shape h refl p q)
 
 module _ {types : List Field} {fs gs : Fields} {b : List ℕ} (p : TidiesFields base_table types fs gs)
     (q : WrittenFields 0 fs b) where
   -- the CommonType of each kind
   common_at : slice_get types 0 ≡ Some (base.field (codes "CommonType") 18)
-      → (name_in (present 0 (fields_in (present 0 gs))) ≡ name_in (present 0 (fields_in (present 0 fs))))
-      × (number_in (present 1 (fields_in (present 0 gs))) ≡ number_in (present 1 (fields_in (present 0 fs))))
+      → (name_in (present_field 0 (fields_in (present_field 0 gs))) ≡ name_in (present_field 0 (fields_in (present_field 0 fs))))
+      × (number_in (present_field 1 (fields_in (present_field 0 gs))) ≡ number_in (present_field 1 (fields_in (present_field 0 fs))))
   common_at h =
       let l = struct_left (left_of 0 (base.field (codes "CommonType") 18)
       (struct_shape (codes "CommonType") name_and_id) h refl p q) in
@@ -156,16 +156,16 @@ same_fields (element {v = v} {w = w} (of_type {s = s} e p) ps) (written.element 
     let r = same_fields ps qs in rw (f.0, f.1, r)
   where
     same_field : {v w : Tree} {b : List ℕ} → TidiesAs base_table (kind.Struct name_and_id) v w → Written v b
-        → (name_in (present 0 (fields_in (Some w))) ≡ name_in (present 0 (fields_in (Some v))))
-        × (number_in (present 1 (fields_in (Some w))) ≡ number_in (present 1 (fields_in (Some v))))
+        → (name_in (present_field 0 (fields_in (Some w))) ≡ name_in (present_field 0 (fields_in (Some v))))
+        × (number_in (present_field 1 (fields_in (Some w))) ≡ number_in (present_field 1 (fields_in (Some v))))
     same_field (of_struct ps) (of_fields qs) = (
       name_at ps qs 0 (codes "Name") refl,
       number_at ps qs 1 (codes "Id")
           refl,
     )
 
-same_said : (c d : Fields) (k l : SaidKind) → (name_in (present 0 c) ≡ name_in (present 0 d))
-    × (number_in (present 1 c) ≡ number_in (present 1 d)) → k ≡ l → said_with c (Some k) ≡ said_with d (Some l)
+same_said : (c d : Fields) (k l : SaidKind) → (name_in (present_field 0 c) ≡ name_in (present_field 0 d))
+    × (number_in (present_field 1 c) ≡ number_in (present_field 1 d)) → k ≡ l → said_with c (Some k) ≡ said_with d (Some l)
 same_said c d k l h e = rw (h.0, h.1, e)
 
 -- ---- what the one field of wireType says
@@ -192,41 +192,41 @@ array_said : {v w : Tree} {b : List ℕ} → TidiesAs base_table (kind.Struct ar
     → said (alone 0 w) ≡ said (alone 0 v)
 array_said (of_struct {fs = fs} {gs = gs} ps) (of_fields qs) =
     let e = number_at ps qs 1 (codes "Elem") refl in let l = number_at ps qs 2 (codes "Len") refl in
-    same_said (fields_in (present 0 gs)) (fields_in (present 0 fs)) _ _ (common_at ps qs refl) (rw (e, l))
+    same_said (fields_in (present_field 0 gs)) (fields_in (present_field 0 fs)) _ _ (common_at ps qs refl) (rw (e, l))
 
 slice_said : {v w : Tree} {b : List ℕ} → TidiesAs base_table (kind.Struct slice_types) v w → Written v b
     → said (alone 1 w) ≡ said (alone 1 v)
 slice_said (of_struct {fs = fs} {gs = gs} ps) (of_fields qs) =
-    same_said (fields_in (present 0 gs)) (fields_in (present 0 fs)) _ _ (common_at ps qs refl)
+    same_said (fields_in (present_field 0 gs)) (fields_in (present_field 0 fs)) _ _ (common_at ps qs refl)
     (ap said_slice (number_at ps qs 1 (codes "Elem") refl))
 
 struct_said : {v w : Tree} {b : List ℕ} → TidiesAs base_table (kind.Struct struct_types) v w → Written v b
     → said (alone 2 w) ≡ said (alone 2 v)
 struct_said (of_struct {fs = fs} {gs = gs} ps) (of_fields qs) =
     let l = list_left (left_of 1 (base.field (codes "Field") 22) fields_shape refl refl ps qs) in
-    same_said (fields_in (present 0 gs)) (fields_in (present 0 fs)) _ _ (common_at ps qs refl)
+    same_said (fields_in (present_field 0 gs)) (fields_in (present_field 0 fs)) _ _ (common_at ps qs refl)
     (ap said_struct (same_fields l.2 l.1))
 
 map_said : {v w : Tree} {b : List ℕ} → TidiesAs base_table (kind.Struct map_types) v w → Written v b
     → said (alone 3 w) ≡ said (alone 3 v)
 map_said (of_struct {fs = fs} {gs = gs} ps) (of_fields qs) =
     let k = number_at ps qs 1 (codes "Key") refl in let e = number_at ps qs 2 (codes "Elem") refl in
-    same_said (fields_in (present 0 gs)) (fields_in (present 0 fs)) _ _ (common_at ps qs refl) (rw (k, e))
+    same_said (fields_in (present_field 0 gs)) (fields_in (present_field 0 fs)) _ _ (common_at ps qs refl) (rw (k, e))
 
 gob_said : {v w : Tree} {b : List ℕ} → TidiesAs base_table (kind.Struct opaque_types) v w → Written v b
     → said (alone 4 w) ≡ said (alone 4 v)
-gob_said (of_struct {fs = fs} {gs = gs} ps) (of_fields qs) = same_said (fields_in (present 0 gs))
-    (fields_in (present 0 fs)) _ _ (common_at ps qs refl) refl
+gob_said (of_struct {fs = fs} {gs = gs} ps) (of_fields qs) = same_said (fields_in (present_field 0 gs))
+    (fields_in (present_field 0 fs)) _ _ (common_at ps qs refl) refl
 
 binary_said : {v w : Tree} {b : List ℕ} → TidiesAs base_table (kind.Struct opaque_types) v w → Written v b
     → said (alone 5 w) ≡ said (alone 5 v)
-binary_said (of_struct {fs = fs} {gs = gs} ps) (of_fields qs) = same_said (fields_in (present 0 gs))
-    (fields_in (present 0 fs)) _ _ (common_at ps qs refl) refl
+binary_said (of_struct {fs = fs} {gs = gs} ps) (of_fields qs) = same_said (fields_in (present_field 0 gs))
+    (fields_in (present_field 0 fs)) _ _ (common_at ps qs refl) refl
 
 text_said : {v w : Tree} {b : List ℕ} → TidiesAs base_table (kind.Struct opaque_types) v w → Written v b
     → said (alone 6 w) ≡ said (alone 6 v)
-text_said (of_struct {fs = fs} {gs = gs} ps) (of_fields qs) = same_said (fields_in (present 0 gs))
-    (fields_in (present 0 fs)) _ _ (common_at ps qs refl) refl
+text_said (of_struct {fs = fs} {gs = gs} ps) (of_fields qs) = same_said (fields_in (present_field 0 gs))
+    (fields_in (present_field 0 fs)) _ _ (common_at ps qs refl) refl
 
 module _ {e : Field} {s : Shape} where
   -- the shape of a field of wireType

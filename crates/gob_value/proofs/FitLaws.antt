@@ -13,7 +13,7 @@ use Rattle.gob_types.specs.Table.{Table, shape_of}
 use Rattle.gob_types.proofs.PublicLaws.{some_injective}
 use Rattle.gob_value.specs.Tree.{Tree, Trees, tree, Pairs, pair, Fields, field, tree_count, pair_count}
 use Rattle.gob_value.specs.View.{view, views, pair_views, field_views}
-use Rattle.gob_value.specs.Elements.{element_type}
+use Rattle.gob_value.specs.Elements.{element_type_at}
 use Rattle.gob_value.specs.Fits.{FitsKind}
 use Rattle.gob_value.specs.Within.{FitsWithin, FitsKindWithin, AllFitWithin, PairsFitWithin, FieldsFitWithin}
 use Rattle.gob_value.specs.Written.{HasParts}
@@ -31,10 +31,10 @@ chosen true x e h = (refl, some_injective h)
 chosen false x e h = cc
 
 -- an array's element type, where the length is right
-pub array_length : (x e : TypeId) (n count : ℕ) → element_type (kind.Array x n) count ≡ Some e → (count ≡ n) × (x ≡ e)
+pub array_length : (x e : TypeId) (n count : ℕ) → element_type_at (kind.Array x n) count ≡ Some e → (count ≡ n) × (x ≡ e)
 array_length x e n count h = let r = chosen (eqb n count) x e h in (sym (eqb-true n count r.0), r.1)
 
-array_element : (x : TypeId) (n count : ℕ) → count ≡ n → element_type (kind.Array x n) count ≡ Some x
+array_element : (x : TypeId) (n count : ℕ) → count ≡ n → element_type_at (kind.Array x n) count ≡ Some x
 array_element x n count h = rw (eq-eqb n count (sym h))
 
 module _ (T : Table) where
@@ -57,7 +57,7 @@ module _ (T : Table) where
     λ f. record { bytes = f.bytes; spelled = leaf_any T [] k v f.bytes n f.spelled },
   )
 
-  pub fits_many : (k : Kind) (vs : Trees) (e : TypeId) (limit : ℕ) → element_type k (tree_count vs) ≡ Some e
+  pub fits_many : (k : Kind) (vs : Trees) (e : TypeId) (limit : ℕ) → element_type_at k (tree_count vs) ≡ Some e
       → tree_count vs < 2 ^ 64 → 0 < limit
       → AllFitWithin T e (limit - 1) vs ↔ FitsKindWithin T k limit (Tree.many vs)
   fits_many k vs e limit h l o = (
@@ -66,7 +66,7 @@ module _ (T : Table) where
     λ f. let r = back e f.spelled h in let w = f.within in record { bytes = r.0; spelled = r.1; within = omega arith },
   )
     where
-      on : (k : Kind) (vs : Trees) (e : TypeId) → element_type k (tree_count vs) ≡ Some e → tree_count vs < 2 ^ 64
+      on : (k : Kind) (vs : Trees) (e : TypeId) → element_type_at k (tree_count vs) ≡ Some e → tree_count vs < 2 ^ 64
           → (b : List ℕ) → SpellsEach T e vs b → FitsKind T k (Tree.many vs)
       on (kind.Slice x) vs e h l b p =
           let c = unsigned_spelled (tree_count vs) l in
@@ -88,17 +88,17 @@ module _ (T : Table) where
       on (kind.Opaque m) vs e h l b p = cc
 
       back : {k : Kind} {vs : Trees} {b : List ℕ} (e : TypeId) → SpellsAs T k (Tree.many vs) b
-          → element_type k (tree_count vs) ≡ Some e → (c : List ℕ) × SpellsEach T e vs c
+          → element_type_at k (tree_count vs) ≡ Some e → (c : List ℕ) × SpellsEach T e vs c
       back {vs = vs} e (of_slice {b = c} p ps) h = (c, subst (λ e. SpellsEach T e vs c) (some_injective h) ps)
       back {vs = vs} e (of_array {e = x} {n = n} {b = c} m p ps) h =
           (c, subst (λ e. SpellsEach T e vs c) (array_length x e n (tree_count vs) h).1 ps)
 
-  pub fits_no_list : (k : Kind) (vs : Trees) (limit : ℕ) → element_type k (tree_count vs) ≡ None
+  pub fits_no_list : (k : Kind) (vs : Trees) (limit : ℕ) → element_type_at k (tree_count vs) ≡ None
       → ¬ FitsKindWithin T k limit (Tree.many vs)
   fits_no_list k vs limit h f = nowhere f.spelled h
     where
       nowhere : {k : Kind} {vs : Trees} {b : List ℕ} → SpellsAs T k (Tree.many vs) b
-          → element_type k (tree_count vs) ≡ None → ⊥
+          → element_type_at k (tree_count vs) ≡ None → ⊥
       nowhere (of_slice p ps) h = cc
       nowhere {vs = vs} (of_array {e = e} {n = n} m p ps) h = let g = array_element e n (tree_count vs) m in cc
 

@@ -19,7 +19,7 @@ use Rattle.gob_value.specs.Description.{Said, said, RefersTo, GivesFields, no_mo
 use Rattle.gob_value.specs.Description.{gives_slice, gives_struct, gives_map, gives_opaque, Describes, IsBadReference}
 use Rattle.gob_value.specs.Description.{HasBadField, this_field, later_field, HasBadReference, HasBadLength}
 use Rattle.gob_value.specs.Description.{Misdescribes, kind_count, wrong_id, bad_reference, bad_length}
-use Rattle.gob_value.specs.DescriptionLaws.{IsRefused}
+use Rattle.gob_value.specs.DescriptionLaws.{IsRefusedDescription}
 use Rattle.gob_value.specs.Saying.{IsTypeNumber, HaveTypes, no_type, and_type}
 use Rattle.gob_value.specs.ShapeFaults.{IsDescription, IsShapeFault, IsKind, IsKindFault}
 use Rattle.gob_value.specs.declared.fault.ShapeFault.{ShapeFault}
@@ -242,20 +242,20 @@ same_number (pos m) n = by (eqb_tells m n)
     by (inl e) = inl (ap pos e.1)
     by (inr e) = inr (λ f. e.1 (pos_injective f))
 
-pub judged : (id : TypeId) (v : Tree) → IsDescription id v ⊎ IsRefused id v
+pub judged : (id : TypeId) (v : Tree) → IsDescription id v ⊎ IsRefusedDescription id v
 judged id v = by (said v) refl
   where
     kind_by : (what : Said) → said v ≡ Some what → what.id ≡ pos id.0 → KindJudged what.kind
-        → IsDescription id v ⊎ IsRefused id v
+        → IsDescription id v ⊎ IsRefusedDescription id v
     kind_by what e i (inl p) = inl (some_shape id v what p.kind e i p.gives)
     kind_by what e i (inr (inl bad)) = inr (record { reason = reason.BadReference; refused = bad_reference e i bad })
     kind_by what e i (inr (inr bad)) = inr (record { reason = reason.BadLength; refused = bad_length e i bad.0 bad.1 })
 
     id_by : (what : Said) → said v ≡ Some what → (what.id ≡ pos id.0) ⊎ (what.id ≢ pos id.0)
-        → IsDescription id v ⊎ IsRefused id v
+        → IsDescription id v ⊎ IsRefusedDescription id v
     id_by what e (inl i) = kind_by what e i (kind_judged what.kind)
     id_by what e (inr n) = inr (record { reason = reason.WrongId; refused = wrong_id e n })
 
-    by : (o : Option Said) → said v ≡ o → IsDescription id v ⊎ IsRefused id v
+    by : (o : Option Said) → said v ≡ o → IsDescription id v ⊎ IsRefusedDescription id v
     by None e = inr (record { reason = reason.KindCount; refused = kind_count e })
     by (Some what) e = id_by what e (same_number what.id id.0)

@@ -4,6 +4,7 @@ pub mod TestSteps
 pub mod LeafLaws
 pub mod WithinLaws
 pub mod WholeSteps
+pub mod WholePartSteps
 pub mod WholeLaws
 pub mod KeptLaws
 pub mod FitLaws

@@ -4,6 +4,7 @@ use Rattle.std.proofs.Common.{Some, None, IfSome, Bool, IsTrue, take, drop, arit
 use Rattle.std.specs.Prelude.{slice_get}
 use Rattle.std.proofs.lemmas.List.{drop-drop, take-append-drop, length-drop, length-take-le}
 use Rattle.gob_num.specs.Unsigned.{IsUnsigned}
+use Rattle.gob_num.specs.Place.{IsUnsignedAt, AreUnsignedAt, no_number, one_more}
 use Rattle.gob_num.proofs.PublicLaws.{unsigned_signed, unsigned_pattern}
 use Rattle.gob_types.specs.declared.id.TypeId.{TypeId}
 use Rattle.gob_types.specs.declared.basic.Basic.TheVariants as basic
@@ -21,7 +22,7 @@ use Rattle.gob_value.specs.Tidy.{of_basic, of_opaque, of_slice as slice_tidy, of
 use Rattle.gob_value.specs.Tidy.{of_map as map_tidy, of_struct as struct_tidy, of_type as type_tidy}
 use Rattle.gob_value.specs.Tidy.{no_element as no_element_tidy, element as element_tidy, no_entry as no_entry_tidy}
 use Rattle.gob_value.specs.Tidy.{entry as entry_tidy, no_more as no_field_tidy, kept as field_tidy}
-use Rattle.gob_value.specs.Whole.{AreNumbers, Stands, BeginsKind, BeginsEach, BeginsPairs, BeginsFields, BeginsNumber}
+use Rattle.gob_value.specs.Whole.{HoldsNumbers, Stands, BeginsKind, BeginsEach, BeginsPairs, BeginsFields, BeginsThisNumber}
 use Rattle.gob_value.specs.Whole.{BeginsRaw, BeginsKept}
 
 -- what begins at one place and ends at the next, and what begins there
@@ -52,21 +53,21 @@ all_three {body = body} {a = a} {b = b} {c = c} {d = d} p q r f = record {
 }
 
 -- ---- numbers and bytes
-pub number_stands : (body : List ℕ) (at used n : ℕ) → at ≤ length body → used ≤ length (drop at body)
-    → IsUnsigned n (take used (drop at body)) → Stands (BeginsNumber n) body at (at + used)
-number_stands body at used n l u s = record {
-  order = omega arith;
-  inside = omega (arith, length-drop at body);
-  begins =
-      record {
-        bytes = take used (drop at body);
-        spelled = s;
-        whole = sym (take-append-drop used (drop at body)) ∙ ap (λ r. take used (drop at body) ++ r)
-            (drop-drop used at body);
+pub number_stands : {n at end : ℕ} {body : List ℕ} → IsUnsignedAt n body at end → Stands (BeginsThisNumber n) body at end
+number_stands {at = at} {end = end} {body = body} p =
+    let up : at + (end - at) ≡ end = let o = p.order in omega arith in
+    record {
+      order = let o = p.order in omega arith;
+      inside = p.inside;
+      begins = record {
+        bytes = take (end - at) (drop at body);
+        spelled = p.spelled;
+        whole = sym (take-append-drop (end - at) (drop at body)) ∙ ap (λ r. take (end - at) (drop at body) ++ r)
+            (drop-drop (end - at) at body ∙ ap (λ i. drop i body) up);
       };
-}
+    }
 
-pub raw_stands : (body : List ℕ) (at behind count : ℕ) → Stands (BeginsNumber count) body at behind
+pub raw_stands : (body : List ℕ) (at behind count : ℕ) → Stands (BeginsThisNumber count) body at behind
     → count ≤ length body - behind → Stands BeginsRaw body at (behind + count)
 raw_stands body at behind count p l =
     let d = drop behind body in
@@ -90,7 +91,7 @@ raw_stands body at behind count p l =
 
 -- ---- values without parts
 module _ (T : Table) (tidy : Bool) where
-  pub int_begins : (n : ℕ) (x y : List ℕ) → BeginsNumber n x y → BeginsKind T tidy (kind.Basic basic.Int) 1 x y
+  pub int_begins : (n : ℕ) (x y : List ℕ) → BeginsThisNumber n x y → BeginsKind T tidy (kind.Basic basic.Int) 1 x y
   int_begins n x y p =
       let i = unsigned_signed p.spelled in
       record {
@@ -102,7 +103,7 @@ module _ (T : Table) (tidy : Bool) where
         whole = p.whole;
       }
 
-  pub uint_begins : (n : ℕ) (x y : List ℕ) → BeginsNumber n x y → BeginsKind T tidy (kind.Basic basic.Uint) 1 x y
+  pub uint_begins : (n : ℕ) (x y : List ℕ) → BeginsThisNumber n x y → BeginsKind T tidy (kind.Basic basic.Uint) 1 x y
   uint_begins n x y p =
       record {
         value = Tree.uint n;
@@ -113,7 +114,7 @@ module _ (T : Table) (tidy : Bool) where
         whole = p.whole;
       }
 
-  pub float_begins : (n : ℕ) (x y : List ℕ) → BeginsNumber n x y → BeginsKind T tidy (kind.Basic basic.Float) 1 x y
+  pub float_begins : (n : ℕ) (x y : List ℕ) → BeginsThisNumber n x y → BeginsKind T tidy (kind.Basic basic.Float) 1 x y
   float_begins n x y p =
       let f = unsigned_pattern p.spelled in
       record {
@@ -125,7 +126,7 @@ module _ (T : Table) (tidy : Bool) where
         whole = p.whole;
       }
 
-  pub complex_begins : (m n : ℕ) (x y z : List ℕ) → BeginsNumber m x y → BeginsNumber n y z
+  pub complex_begins : (m n : ℕ) (x y z : List ℕ) → BeginsThisNumber m x y → BeginsThisNumber n y z
       → BeginsKind T tidy (kind.Basic basic.Complex) 1 x z
   complex_begins m n x y z p q =
       let f = unsigned_pattern p.spelled in
@@ -139,7 +140,7 @@ module _ (T : Table) (tidy : Bool) where
         whole = p.whole ∙ ap (λ r. p.bytes ++ r) q.whole ∙ sym (append_assoc p.bytes q.bytes z);
       }
 
-  pub bool_begins : (n : ℕ) → n ≤ 1 → (x y : List ℕ) → BeginsNumber n x y → BeginsKind T tidy (kind.Basic basic.Bool) 1 x y
+  pub bool_begins : (n : ℕ) → n ≤ 1 → (x y : List ℕ) → BeginsThisNumber n x y → BeginsKind T tidy (kind.Basic basic.Bool) 1 x y
   bool_begins zero l x y p =
       record {
         value = Tree.bool false;
@@ -160,7 +161,7 @@ module _ (T : Table) (tidy : Bool) where
       }
   bool_begins (suc (suc n)) l x y p = absurd (omega arith)
 
-  pub nil_begins : (n : ℕ) → n ≤ 0 → (x y : List ℕ) → BeginsNumber n x y
+  pub nil_begins : (n : ℕ) → n ≤ 0 → (x y : List ℕ) → BeginsThisNumber n x y
       → BeginsKind T tidy (kind.Basic basic.Interface) 1 x y
   nil_begins n l x y p =
       let none : n ≡ 0 = omega arith in
@@ -218,7 +219,7 @@ module _ (T : Table) (tidy : Bool) where
         whole = p.whole;
       }
 
-  number_begins : (k : Kind) → AreNumbers k → (n : ℕ) (x y : List ℕ) → BeginsNumber n x y → BeginsKind T tidy k 1 x y
+  number_begins : (k : Kind) → HoldsNumbers k → (n : ℕ) (x y : List ℕ) → BeginsThisNumber n x y → BeginsKind T tidy k 1 x y
   number_begins (kind.Basic basic.Int) a n x y p = int_begins n x y p
   number_begins (kind.Basic basic.Uint) a n x y p = uint_begins n x y p
   number_begins (kind.Basic basic.Float) a n x y p = float_begins n x y p
@@ -234,7 +235,7 @@ module _ (T : Table) (tidy : Bool) where
   number_begins (kind.Opaque m) a n x y p = absurd a
 
   -- ---- values with parts
-  pub slice_begins : (e : TypeId) (limit n : ℕ) → 0 < limit → (x y z : List ℕ) → BeginsNumber n x y
+  pub slice_begins : (e : TypeId) (limit n : ℕ) → 0 < limit → (x y z : List ℕ) → BeginsThisNumber n x y
       → BeginsEach T tidy e (limit - 1) n y z → BeginsKind T tidy (kind.Slice e) limit x z
   slice_begins e limit n o x y z p q =
       let w = q.within in
@@ -247,7 +248,7 @@ module _ (T : Table) (tidy : Bool) where
         whole = p.whole ∙ ap (λ r. p.bytes ++ r) q.whole ∙ sym (append_assoc p.bytes q.bytes z);
       }
 
-  pub array_begins : (e : TypeId) (limit n m : ℕ) → 0 < limit → n ≡ m → (x y z : List ℕ) → BeginsNumber n x y
+  pub array_begins : (e : TypeId) (limit n m : ℕ) → 0 < limit → n ≡ m → (x y z : List ℕ) → BeginsThisNumber n x y
       → BeginsEach T tidy e (limit - 1) n y z → BeginsKind T tidy (kind.Array e m) limit x z
   array_begins e limit n m o same x y z p q =
       let w = q.within in
@@ -260,7 +261,7 @@ module _ (T : Table) (tidy : Bool) where
         whole = p.whole ∙ ap (λ r. p.bytes ++ r) q.whole ∙ sym (append_assoc p.bytes q.bytes z);
       }
 
-  pub map_begins : (k e : TypeId) (limit n : ℕ) → 0 < limit → (x y z : List ℕ) → BeginsNumber n x y
+  pub map_begins : (k e : TypeId) (limit n : ℕ) → 0 < limit → (x y z : List ℕ) → BeginsThisNumber n x y
       → BeginsPairs T tidy k e (limit - 1) n y z → BeginsKind T tidy (kind.Map k e) limit x z
   map_begins k e limit n o x y z p q =
       let w = q.within in
@@ -319,10 +320,17 @@ module _ (T : Table) (tidy : Bool) where
         whole = p.whole ∙ ap (λ r. p.bytes ++ r) q.whole ∙ sym (append_assoc p.bytes q.bytes z);
       }
 
-  pub number_element : (e : TypeId) (s : Shape) (number n m : ℕ) → shape_of T e ≡ Some s → AreNumbers s.kind
-      → n ≡ m + 1 → (x y z : List ℕ) → BeginsNumber number x y → BeginsEach T tidy e 1 m y z → BeginsEach T tidy e 1 n x z
+  pub number_element : (e : TypeId) (s : Shape) (number n m : ℕ) → shape_of T e ≡ Some s → HoldsNumbers s.kind
+      → n ≡ m + 1 → (x y z : List ℕ) → BeginsThisNumber number x y → BeginsEach T tidy e 1 m y z → BeginsEach T tidy e 1 n x z
   number_element e s number n m f a more x y z p q =
       element_begins e s 1 n m f more x y z (number_begins s.kind a number x y p) q
+
+  -- numbers one behind another
+  pub numbers_stand : (e : TypeId) (s : Shape) → shape_of T e ≡ Some s → HoldsNumbers s.kind → {body : List ℕ} {count at end : ℕ}
+      → at ≤ length body → AreUnsignedAt body count at end → Stands (BeginsEach T tidy e 1 count) body at end
+  numbers_stand e s f a {body = body} {at = at} l (no_number) = none_stand e 1 0 body at refl l
+  numbers_stand e s f a l (one_more {n = n} {count = k} p q) =
+      both (number_stands p) (numbers_stand e s f a p.inside q) (number_element e s n (suc k) k f a (omega arith))
 
   pub basic_element : (e : TypeId) (s : Shape) (k : Kind) (n m : ℕ) → shape_of T e ≡ Some s → s.kind ≡ k
       → n ≡ m + 1 → (x y z : List ℕ) → BeginsKind T tidy k 1 x y → BeginsEach T tidy e 1 m y z → BeginsEach T tidy e 1 n x z
@@ -389,7 +397,7 @@ module _ (T : Table) (tidy : Bool) where
   kept_part p kept =
       record { order = p.order; inside = p.inside; begins = record { part = p.begins; kept = kept } }
 
-  pub fields_end : (types : List Field) (next limit n : ℕ) → n ≡ 0 → (x y : List ℕ) → BeginsNumber n x y
+  pub fields_end : (types : List Field) (next limit n : ℕ) → n ≡ 0 → (x y : List ℕ) → BeginsThisNumber n x y
       → BeginsFields T tidy types next limit x y
   fields_end types next limit n o x y p =
       record {
@@ -405,7 +413,7 @@ module _ (T : Table) (tidy : Bool) where
 
   pub field_begins : (types : List Field) (next limit delta f : ℕ) (e : Field) (s : Shape) → 0 < delta
       → f + 1 ≡ next + delta → slice_get types f ≡ Some e → shape_of T e.id ≡ Some s
-      → (x a y z : List ℕ) → BeginsNumber delta x a → KeptPart s.kind limit a y
+      → (x a y z : List ℕ) → BeginsThisNumber delta x a → KeptPart s.kind limit a y
       → BeginsFields T tidy types (f + 1) limit y z → BeginsFields T tidy types next limit x z
   field_begins types next limit delta f e s o is here shape x a y z p kept r =
       let q = kept.part in

@@ -15,9 +15,9 @@ use Rattle.gob_value.specs.Tree.{Tree, Trees, no_tree, tree, Fields, no_field, f
 use Rattle.gob_value.specs.Tree as Value
 
 -- the field of this number, where it is present
-abbrev pub present : ℕ → Fields → Option Tree
-present n no_field = None
-present n (field f v fs) = if f == n then Some v else present n fs
+abbrev pub present_field : ℕ → Fields → Option Tree
+present_field n no_field = None
+present_field n (field f v fs) = if f == n then Some v else present_field n fs
 
 -- an absent number is 0, an absent name is empty, and an absent struct or list has nothing in it
 abbrev pub number_in : Option Tree → ℤ
@@ -60,15 +60,15 @@ abbrev pub said_fields : Trees → List SaidField
 said_fields no_tree = []
 said_fields (tree v vs) =
     let fs = fields_in (Some v) in
-    record { name = name_in (present 0 fs); id = number_in (present 1 fs) } ∷ said_fields vs
+    record { name = name_in (present_field 0 fs); id = number_in (present_field 1 fs) } ∷ said_fields vs
 
 -- what the one field of wireType that is present says, by its number
 abbrev pub said_kind : ℕ → Fields → Option SaidKind
 said_kind f fs =
-    if f == 0 then Some (said_array (number_in (present 1 fs)) (number_in (present 2 fs)))
-    else (if f == 1 then Some (said_slice (number_in (present 1 fs)))
-    else (if f == 2 then Some (said_struct (said_fields (elements_in (present 1 fs))))
-    else (if f == 3 then Some (said_map (number_in (present 1 fs)) (number_in (present 2 fs)))
+    if f == 0 then Some (said_array (number_in (present_field 1 fs)) (number_in (present_field 2 fs)))
+    else (if f == 1 then Some (said_slice (number_in (present_field 1 fs)))
+    else (if f == 2 then Some (said_struct (said_fields (elements_in (present_field 1 fs))))
+    else (if f == 3 then Some (said_map (number_in (present_field 1 fs)) (number_in (present_field 2 fs)))
     else (if f == 4 then Some (said_opaque marshal.Gob)
     else (if f == 5 then Some (said_opaque marshal.Binary)
     else (if f == 6 then Some (said_opaque marshal.Text)
@@ -78,15 +78,15 @@ said_kind f fs =
 abbrev pub said_with : Fields → Option SaidKind → Option Said
 said_with common None = None
 said_with common (Some k) = Some (record {
-  name = name_in (present 0 common);
-  id = number_in (present 1 common);
+  name = name_in (present_field 0 common);
+  id = number_in (present_field 1 common);
   kind =
       k;
 })
 
 -- what a value of wireType says, where exactly one of its fields is present
 abbrev pub said : Tree → Option Said
-said (Value.fields (field f v no_field)) = said_with (fields_in (present 0 (fields_in (Some v))))
+said (Value.fields (field f v no_field)) = said_with (fields_in (present_field 0 (fields_in (Some v))))
     (said_kind f (fields_in (Some v)))
 said _ = None
 

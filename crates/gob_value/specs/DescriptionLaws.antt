@@ -28,17 +28,17 @@ abbrev pub AreNotRefused : Type 0
 AreNotRefused = (id : TypeId) (v : Tree) (s : Shape) (r : Reason) → Describes id v s → ¬ Misdescribes id v r
 
 -- a value fails one demand first
-abbrev pub HaveOneReason : Type 0
-HaveOneReason = (id : TypeId) (v : Tree) (r q : Reason) → Misdescribes id v r → Misdescribes id v q → r ≡ q
+abbrev pub DescriptionsHaveOneReason : Type 0
+DescriptionsHaveOneReason = (id : TypeId) (v : Tree) (r q : Reason) → Misdescribes id v r → Misdescribes id v q → r ≡ q
 
 -- a value that is refused, for some reason
-pub record IsRefused (id : TypeId) (v : Tree) : Type 0 where
+pub record IsRefusedDescription (id : TypeId) (v : Tree) : Type 0 where
   pub reason : Reason
   pub refused : Misdescribes id v reason
 
 -- there is no third way
 abbrev pub AreJudged : Type 0
-AreJudged = (id : TypeId) (v : Tree) → IsDescription id v ⊎ IsRefused id v
+AreJudged = (id : TypeId) (v : Tree) → IsDescription id v ⊎ IsRefusedDescription id v
 
 -- what describes a shape describes one that may be defined
 abbrev pub DescribeDefinable : Type 0
@@ -46,12 +46,12 @@ DescribeDefinable = (id : TypeId) (v : Tree) (s : Shape) → Fits base_table wir
     → IsDefinable s
 
 -- a text that an unsigned number counts the bytes of
-abbrev pub IsCounted : List ℕ → Type 0
-IsCounted name = length name < 2 ^ 64
+abbrev pub IsCountedName : List ℕ → Type 0
+IsCountedName name = length name < 2 ^ 64
 
 abbrev pub AreCounted : List Field → Type 0
 AreCounted [] = Unit {0}
-AreCounted (f ∷ fs) = IsCounted f.name × AreCounted fs
+AreCounted (f ∷ fs) = IsCountedName f.name × AreCounted fs
 
 abbrev pub HasCountedFields : Kind → Type 0
 HasCountedFields (kind.Struct fs) = (length fs < 2 ^ 64) × AreCounted fs
@@ -59,7 +59,7 @@ HasCountedFields _ = Unit {0}
 
 -- a shape whose names and fields an unsigned number counts, as it does all that memory holds
 pub record IsCountable (s : Shape) : Type 0 where
-  pub name : IsCounted s.name
+  pub name : IsCountedName s.name
   pub fields : HasCountedFields s.kind
 
 -- the description that is made of such a shape, under an id that a signed number holds, is a value of wireType of depth

@@ -5,7 +5,7 @@ use Rattle.gob_types.specs.declared.kind.Kind.{Kind}
 use Rattle.gob_types.specs.declared.kind.Kind.TheVariants as kind
 
 -- where the kind is that of a list of so many
-abbrev pub element_type : Kind → ℕ → Option TypeId
-element_type (kind.Slice e) count = Some e
-element_type (kind.Array e n) count = if n == count then Some e else None
-element_type _ count = None
+abbrev pub element_type_at : Kind → ℕ → Option TypeId
+element_type_at (kind.Slice e) count = Some e
+element_type_at (kind.Array e n) count = if n == count then Some e else None
+element_type_at _ count = None

@@ -5,6 +5,7 @@ pub mod Top
 pub mod Fits
 pub mod Within
 pub mod Whole
+pub mod WholeParts
 pub mod Elements
 pub mod Written
 pub mod Faults

@@ -4,17 +4,17 @@ use Rattle.gob_types.specs.declared.id.TypeId.{TypeId}
 use Rattle.gob_types.specs.declared.kind.Marshal.TheVariants as marshal
 use Rattle.gob_value.specs.Tree.{Fields}
 use Rattle.gob_value.specs.Description.{Said, SaidKind, said_array, said_slice, said_struct, said_map, said_opaque}
-use Rattle.gob_value.specs.Description.{SaidField, said_fields, present, number_in, name_in, fields_in, elements_in}
+use Rattle.gob_value.specs.Description.{SaidField, said_fields, present_field, number_in, name_in, fields_in, elements_in}
 use Rattle.gob_value.specs.Description.{RefersTo}
 use Rattle.gob_value.specs.declared.description.WireField.{WireField}
 use Rattle.gob_value.specs.declared.description.WireField.TheVariants as wire
 
 -- the kind that the field's fields say
 abbrev pub kind_said : WireField → Fields → SaidKind
-kind_said wire.ArrayT fs = said_array (number_in (present 1 fs)) (number_in (present 2 fs))
-kind_said wire.SliceT fs = said_slice (number_in (present 1 fs))
-kind_said wire.StructT fs = said_struct (said_fields (elements_in (present 1 fs)))
-kind_said wire.MapT fs = said_map (number_in (present 1 fs)) (number_in (present 2 fs))
+kind_said wire.ArrayT fs = said_array (number_in (present_field 1 fs)) (number_in (present_field 2 fs))
+kind_said wire.SliceT fs = said_slice (number_in (present_field 1 fs))
+kind_said wire.StructT fs = said_struct (said_fields (elements_in (present_field 1 fs)))
+kind_said wire.MapT fs = said_map (number_in (present_field 1 fs)) (number_in (present_field 2 fs))
 kind_said wire.GobEncoderT fs = said_opaque marshal.Gob
 kind_said wire.BinaryMarshalerT fs = said_opaque marshal.Binary
 kind_said wire.TextMarshalerT fs = said_opaque marshal.Text
@@ -32,8 +32,8 @@ wire_number wire.TextMarshalerT = 6
 -- all that is said: the CommonType is field 0 of each
 abbrev pub what_said : WireField → Fields → Said
 what_said w fs =
-    let common = fields_in (present 0 fs) in
-    record { name = name_in (present 0 common); id = number_in (present 1 common); kind = kind_said w fs }
+    let common = fields_in (present_field 0 fs) in
+    record { name = name_in (present_field 0 common); id = number_in (present_field 1 common); kind = kind_said w fs }
 
 -- the number refers to some type
 pub record IsTypeNumber (i : ℤ) : Type 0 where

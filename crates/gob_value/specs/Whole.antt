@@ -35,11 +35,11 @@ pub record IsWholeSo (T : Table) (tidy : Bool) (t : TypeId) (limit : ℕ) (bytes
   pub tidied : IsTrue tidy → Tidies T t value value
 
 -- each value of the kind is spelled by one number, and each number spells one
-abbrev pub AreNumbers : Kind → Type 0
-AreNumbers (kind.Basic basic.Int) = Unit {0}
-AreNumbers (kind.Basic basic.Uint) = Unit {0}
-AreNumbers (kind.Basic basic.Float) = Unit {0}
-AreNumbers _ = ⊥
+abbrev pub HoldsNumbers : Kind → Type 0
+HoldsNumbers (kind.Basic basic.Int) = Unit {0}
+HoldsNumbers (kind.Basic basic.Uint) = Unit {0}
+HoldsNumbers (kind.Basic basic.Float) = Unit {0}
+HoldsNumbers _ = ⊥
 
 -- the piece begins with a value of the kind, its own tidy form where that is asked for, and this is the rest
 pub record BeginsKind (T : Table) (tidy : Bool) (k : Kind) (limit : ℕ) (piece rest : List ℕ) : Type 0 where
@@ -85,7 +85,7 @@ BeginsKept k piece = (T : Table) (v : Tree) (bytes rest : List ℕ) → SpellsAs
     → ¬ IsDropped k v
 
 -- with this number
-pub record BeginsNumber (n : ℕ) (piece rest : List ℕ) : Type 0 where
+pub record BeginsThisNumber (n : ℕ) (piece rest : List ℕ) : Type 0 where
   pub bytes : List ℕ
   pub spelled : IsUnsigned n bytes
   pub whole : piece ≡ bytes ++ rest

@@ -9,7 +9,7 @@ ghost use Rattle.gob_value.specs.Tree.{int, fields};
 ghost use Rattle.gob_value.specs.View.{view, views, field_views};
 ghost use Rattle.gob_value.specs.Described.{described, described_kind, wire_type_of};
 ghost use Rattle.gob_value.specs.Described.{name_and_id, field_types};
-ghost use Rattle.gob_value.specs.DescriptionLaws.{IsCounted, AreCounted, HasCountedFields};
+ghost use Rattle.gob_value.specs.DescriptionLaws.{IsCountedName, AreCounted, HasCountedFields};
 ghost use Rattle.gob_value.specs.Within.{FitsWithin};
 
 use crate::value::Value;
@@ -121,7 +121,7 @@ fn wire_type(alloc: Global, field: u64, given: Vec<(u64, Value)>) -> Result<Valu
 fn name_and_id(alloc: Global, name: &Name, id: TypeId) -> Result<Value, Memory>
     ensures described { IfOk result
         (λ value. id.0 < 2 ^ 63 → view value ≡ fields (name_and_id name.now id)) }
-    ensures counted { OnOk result (IsCounted name.now) }
+    ensures counted { OnOk result (IsCountedName name.now) }
 {
     let text = name.as_bytes();
     let mut given = Vec::new(alloc);

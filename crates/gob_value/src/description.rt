@@ -7,7 +7,7 @@ ghost use Rattle.gob_types.specs.Definable.{IsDefinable, IsReference};
 ghost use Rattle.gob_value.specs.View.{view, views, field_views};
 ghost use Rattle.gob_value.specs.Fits.{Fits};
 ghost use Rattle.gob_value.specs.Description.{said, said_fields, said_struct, Describes};
-ghost use Rattle.gob_value.specs.Description.{present, number_in, name_in};
+ghost use Rattle.gob_value.specs.Description.{present_field, number_in, name_in};
 ghost use Rattle.gob_value.specs.Description.{RefersTo, IsBadReference, GivesFields, GivesKind};
 ghost use Rattle.gob_value.specs.Saying.{kind_said, what_said, wire_number, IsTypeNumber, HaveTypes};
 ghost use Rattle.gob_value.specs.ShapeFaults.{IsShapeFault, IsKindFault};
@@ -190,9 +190,9 @@ fn fields_from(alloc: Global, field_types: &[Value]) -> Result<Fields, Memory>
 
 // The field that the fields of a fieldType give.
 fn field_from(alloc: Global, fields: &[(u64, Value)]) -> Result<Field, Memory>
-    requires { IsTypeNumber (number_in (present 1 (field_views fields.now))) }
-    ensures name { IfOk result (λ field. field.name ≡ name_in (present 0 (field_views fields.now))) }
-    ensures id { IfOk result (λ field. RefersTo (number_in (present 1 (field_views fields.now))) field.id) }
+    requires { IsTypeNumber (number_in (present_field 1 (field_views fields.now))) }
+    ensures name { IfOk result (λ field. field.name ≡ name_in (present_field 0 (field_views fields.now))) }
+    ensures id { IfOk result (λ field. RefersTo (number_in (present_field 1 (field_views fields.now))) field.id) }
 {
     let name = name_from(alloc, text_of(fields, 0))?;
     let id = TypeId(number_of(fields, 1).unsigned_abs());

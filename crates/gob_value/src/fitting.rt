@@ -2,7 +2,7 @@
 
 ghost use Rattle.std.specs.Prelude.{◌≡◌, ◌↔◌, ◌≤◌, IsTrue, OnOk, IfErr};
 ghost use Rattle.gob_value.specs.View.{view, views, pair_views, field_views};
-ghost use Rattle.gob_value.specs.Elements.{element_type};
+ghost use Rattle.gob_value.specs.Elements.{element_type_at};
 ghost use Rattle.gob_value.specs.Within.{FitsWithin, FitsKindWithin};
 ghost use Rattle.gob_value.specs.Within.{AllFitWithin, PairsFitWithin, FieldsFitWithin};
 ghost use Rattle.gob_value.specs.Faults.{IsMisfit};
@@ -128,7 +128,7 @@ fn fields_fit<S: Shapes>(shapes: &S, types: &Fields, parts: &[(u64, Value)], dep
 
 // The type of the elements, where the kind is that of a list of so many.
 fn element_of(kind: &Kind, count: u64) -> Option<TypeId>
-    ensures { result ≡ element_type kind.now count }
+    ensures { result ≡ element_type_at kind.now count }
 {
     match kind {
         Kind::Slice { elem } => Some(*elem),

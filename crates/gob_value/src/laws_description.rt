@@ -1,7 +1,7 @@
 //! Laws of descriptions. Each function does nothing: its contract is a law that is proved here, once.
 
 ghost use Rattle.gob_value.specs.DescriptionLaws.{DescribeTheShape, DescribeOneShape, DescribeDefinable};
-ghost use Rattle.gob_value.specs.DescriptionLaws.{AreNotRefused, HaveOneReason, AreJudged, AreOfWireType};
+ghost use Rattle.gob_value.specs.DescriptionLaws.{AreNotRefused, DescriptionsHaveOneReason, AreJudged, AreOfWireType};
 
 /// The description that is made of a shape gives that shape back, and no other one.
 pub fn descriptions_tell_the_shape()
@@ -13,7 +13,7 @@ pub fn descriptions_tell_the_shape()
 pub fn descriptions_are_judged()
     ensures either { AreJudged }
     ensures not_both { AreNotRefused }
-    ensures one { HaveOneReason }
+    ensures one { DescriptionsHaveOneReason }
 {}
 
 /// A shape that a value of type 16 describes is one that may be defined.

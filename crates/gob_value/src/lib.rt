@@ -15,7 +15,10 @@
 //! - [`spell`] appends the one spelling of a value that is.
 //! - [`shape_from`] gives the shape that a description gives, and [`describe`] a description of a shape.
 //! - [`is_whole`] says whether bytes are a value of a type, and keeps nothing of it. [`is_tidy_whole`] says so of one that
-//!   is its own tidy form.
+//!   is its own tidy form. [`whole_elements`] and [`whole_entries`] say how much of a list or a map stands whole in a
+//!   piece of it.
+//! - [`number_at`] reads a number where it stands in a body, [`number_end`] says where it ends, and [`field_number`] tells
+//!   the field by the delta.
 //! - [`tidy`] leaves out of each struct the fields that Go's encoder leaves out.
 //! - [`spellings_begin_no_other`], [`spellings_are_unique`], [`spellings_tell_the_value`],
 //!   [`spellings_are_bytes`] and [`spellings_stay`] are laws, which readers and writers rely on. So are those of
@@ -34,11 +37,13 @@ mod laws;
 mod laws_description;
 mod laws_tidy;
 mod leaf;
+mod number;
 mod parts;
 mod spelling;
 mod tidying;
 mod value;
 mod whole;
+mod whole_parts;
 mod writing;
 
 pub use describing::describe;
@@ -57,7 +62,9 @@ pub use laws_tidy::{
     made_descriptions_are_tidy, tidy_form_fits, tidy_form_is_no_deeper, tidy_form_is_no_longer,
     tidy_form_is_tidy, tidy_form_is_unique, tidy_form_says_the_same,
 };
+pub use number::{field_number, number_at, number_end};
 pub use spelling::spell;
 pub use tidying::tidy;
 pub use value::Value;
 pub use whole::{is_tidy_whole, is_whole};
+pub use whole_parts::{WholeParts, whole_elements, whole_entries};

@@ -4,13 +4,13 @@
 ghost use Rattle.std.specs.Prelude.{◌≡◌, option_map};
 ghost use Rattle.std.specs.Option.{option_copied};
 ghost use Rattle.gob_value.specs.View.{view, views, field_views};
-ghost use Rattle.gob_value.specs.Description.{present, number_in, name_in, fields_in, elements_in};
+ghost use Rattle.gob_value.specs.Description.{present_field, number_in, name_in, fields_in, elements_in};
 
 use crate::value::Value;
 
 /// The value of the field of this number, where it is present.
 pub(crate) fn field_of(fields: &[(u64, Value)], number: u64) -> Option<&Value>
-    ensures { option_map view (option_copied result) ≡ present number (field_views fields.now) }
+    ensures { option_map view (option_copied result) ≡ present_field number (field_views fields.now) }
 {
     for (n, value) in fields {
         if *n == number {
@@ -22,7 +22,7 @@ pub(crate) fn field_of(fields: &[(u64, Value)], number: u64) -> Option<&Value>
 
 /// The signed number in this field.
 pub(crate) fn number_of(fields: &[(u64, Value)], number: u64) -> i64
-    ensures { result ≡ number_in (present number (field_views fields.now)) }
+    ensures { result ≡ number_in (present_field number (field_views fields.now)) }
 {
     match field_of(fields, number) {
         Some(value) => number_within(value),
@@ -32,7 +32,7 @@ pub(crate) fn number_of(fields: &[(u64, Value)], number: u64) -> i64
 
 /// The text in this field.
 pub(crate) fn text_of(fields: &[(u64, Value)], number: u64) -> &[u8]
-    ensures { result.now ≡ name_in (present number (field_views fields.now)) }
+    ensures { result.now ≡ name_in (present_field number (field_views fields.now)) }
 {
     match field_of(fields, number) {
         Some(value) => text_within(value),
@@ -42,7 +42,7 @@ pub(crate) fn text_of(fields: &[(u64, Value)], number: u64) -> &[u8]
 
 /// The fields of the struct in this field.
 pub(crate) fn struct_of(fields: &[(u64, Value)], number: u64) -> &[(u64, Value)]
-    ensures { field_views result.now ≡ fields_in (present number (field_views fields.now)) }
+    ensures { field_views result.now ≡ fields_in (present_field number (field_views fields.now)) }
 {
     match field_of(fields, number) {
         Some(value) => fields_within(value),
@@ -52,7 +52,7 @@ pub(crate) fn struct_of(fields: &[(u64, Value)], number: u64) -> &[(u64, Value)]
 
 /// The elements of the list in this field.
 pub(crate) fn list_of(fields: &[(u64, Value)], number: u64) -> &[Value]
-    ensures { views result.now ≡ elements_in (present number (field_views fields.now)) }
+    ensures { views result.now ≡ elements_in (present_field number (field_views fields.now)) }
 {
     match field_of(fields, number) {
         Some(value) => elements_within(value),

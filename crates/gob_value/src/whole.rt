@@ -7,14 +7,15 @@ ghost use Rattle.gob_types.specs.Table.{Table, shape_of};
 ghost use Rattle.gob_types.specs.declared.kind.Kind.TheVariants as kind;
 ghost use Rattle.gob_types.specs.declared.id.TypeId.{TypeId};
 ghost use Rattle.gob_types.specs.declared.kind.Shape.{Shape};
-ghost use Rattle.gob_value.specs.Whole.{IsWhole, IsTidyWhole, IsWholeSo, AreNumbers, Stands, BeginsKind, BeginsEach};
-ghost use Rattle.gob_value.specs.Whole.{BeginsPairs, BeginsFields, BeginsNumber, BeginsRaw, BeginsKept};
+ghost use Rattle.gob_value.specs.Whole.{IsWhole, IsTidyWhole, IsWholeSo, HoldsNumbers, Stands, BeginsKind, BeginsEach};
+ghost use Rattle.gob_value.specs.Whole.{BeginsPairs, BeginsFields, BeginsRaw, BeginsKept};
 
-use gob_num::{Taken, take_uint};
+use crate::number::{field_number, number_at, number_end};
+use gob_num::uints_end;
 use gob_types::{Basic, Fields, Kind, Shapes, TypeId};
 
 // How deep a value may be that is looked at: each level is a call within a call.
-const MOST_DEPTH: u64 = 1000;
+pub(crate) const MOST_DEPTH: u64 = 1000;
 
 /// Whether the bytes are a value of the type, behind its tag where it isn't a struct, no deeper than `depth`. It takes
 /// no memory. A false says nothing: what is deeper than 1000 may be a value all the same.
@@ -93,7 +94,7 @@ fn value_end<S: Shapes, const TIDY: bool>(
 // The same, without a call where the kind is basic.
 #[cycle(whole)]
 #[inline(always)]
-fn part_end<S: Shapes, const TIDY: bool>(
+pub(crate) fn part_end<S: Shapes, const TIDY: bool>(
     shapes: &S,
     kind: &Kind,
     body: &[u8],
@@ -240,18 +241,9 @@ fn is_zero_at(body: &[u8], at: usize) -> bool
     matches!(body.get(at), Some(0))
 }
 
-// The number of the field that is so much above the one before the next.
-#[inline]
-fn field_number(next: u64, delta: u64) -> Option<u64>
-    requires { 0 < delta }
-    ensures { IfSome result (λ number. number + 1 ≡ next + delta) }
-{
-    next.checked_add(delta - 1)
-}
-
 // Whether each value of the type is spelled by one number, and each number spells one.
-fn are_numbers(basic: Basic) -> bool
-    ensures { IsTrue result → AreNumbers (kind.Basic basic) }
+pub(crate) fn are_numbers(basic: Basic) -> bool
+    ensures { IsTrue result → HoldsNumbers (kind.Basic basic) }
 {
     matches!(basic, Basic::Int | Basic::Uint | Basic::Float)
 }
@@ -271,18 +263,12 @@ fn basics_end(basic: Basic, count: u64, body: &[u8], begin: usize) -> Option<usi
 }
 
 // Where so many numbers end.
-#[inline(never)]
 fn numbers_end(count: u64, body: &[u8], begin: usize) -> Option<usize>
     requires { begin ≤ length body.now }
     ensures { IfSome result (λ end. (T : Table) (tidy : Bool) (e : TypeId) (s : Shape) → shape_of T e ≡ Some s
-        → AreNumbers s.kind → Stands (BeginsEach T tidy e 1 count) body.now begin end) }
+        → HoldsNumbers s.kind → Stands (BeginsEach T tidy e 1 count) body.now begin end) }
 {
-    let mut at = begin;
-    'numbers: for _ in 0..count {
-        let (_, end) = number_at(body, at)?;
-        at = end;
-    }
-    Some(at)
+    uints_end(body, begin, count)
 }
 
 // Where the value of the basic type ends.
@@ -292,10 +278,7 @@ fn basic_end(basic: Basic, body: &[u8], at: usize) -> Option<usize>
     ensures { IfSome result (λ end. (T : Table) (tidy : Bool) → Stands (BeginsKind T tidy (kind.Basic basic) 1) body.now at end) }
 {
     match basic {
-        Basic::Int | Basic::Uint | Basic::Float => {
-            let (_, end) = number_at(body, at)?;
-            Some(end)
-        }
+        Basic::Int | Basic::Uint | Basic::Float => number_end(body, at),
         Basic::Bytes | Basic::Str => raw_end(body, at),
         Basic::Bool => {
             let (n, end) = number_at(body, at)?;
@@ -306,9 +289,8 @@ fn basic_end(basic: Basic, body: &[u8], at: usize) -> Option<usize>
             if n > 0 { None } else { Some(end) }
         }
         Basic::Complex => {
-            let (_, behind) = number_at(body, at)?;
-            let (_, end) = number_at(body, behind)?;
-            Some(end)
+            let behind = number_end(body, at)?;
+            number_end(body, behind)
         }
     }
 }
@@ -324,17 +306,4 @@ fn raw_end(body: &[u8], at: usize) -> Option<usize>
         return None;
     }
     Some(behind + count as usize)
-}
-
-// The number that stands in the body from the place on, and where it ends.
-#[inline(always)]
-fn number_at(body: &[u8], at: usize) -> Option<(u64, usize)>
-    requires { at ≤ length body.now }
-    ensures stands { IfSome result (λ found. Stands (BeginsNumber found.0) body.now at found.1) }
-    ensures onward { IfSome result (λ found. at < found.1) }
-{
-    match take_uint(&body[at..]) {
-        Taken::Whole { number, used } => Some((number, at + used)),
-        _ => None,
-    }
 }

@@ -18,3 +18,5 @@ mod texts;
 mod values;
 #[cfg(test)]
 mod whole;
+#[cfg(test)]
+mod whole_parts;

@@ -1,8 +1,8 @@
 //! The examples of docs/FORMAT.md, Numbers: each is written, and read back whole and one byte after another.
 use crate::rows::expect;
 use gob_num::{
-    Memory, Number, Step, Taken, take_uint, to_pattern, to_signed, write_int, write_pattern,
-    write_uint,
+    Memory, Number, Step, Taken, take_uint, to_pattern, to_signed, uint_at, uint_end, uints_end,
+    write_int, write_pattern, write_uint,
 };
 use std::alloc::Global;
 
@@ -141,6 +141,35 @@ fn writers_want_memory(rt: HostRuntime) {
 fn no_whole_numbers(rt: HostRuntime) {
     for (i, (bytes, step, taken, used)) in NOT_WHOLE.iter().enumerate() {
         let is_right = read(bytes) == (*step, *used) && take_uint(bytes) == *taken;
+        expect(&rt, is_right, "NOT_WHOLE", i);
+    }
+}
+
+// Two numbers of four bytes, one of three, one of one, one of nine and one of two, which is the last.
+const IN_A_LIST: &[u8] =
+    b"\xfd\x01\x22\x2a\xfd\x01\x47\x1c\xfe\x14\xc0\x07\xf8\xff\xff\xff\xff\xff\xff\xff\xff\xff\x80";
+
+#[test]
+fn numbers_are_found_where_they_stand(rt: HostRuntime) {
+    let places = [0, 4, 8, 11, 12, 21, 23];
+    let numbers = [74282, 83740, 5312, 7, u64::MAX, 128];
+    for (i, number) in numbers.iter().enumerate() {
+        let end = places[i + 1];
+        let is_right = uint_at(IN_A_LIST, places[i]) == Some((*number, end))
+            && uint_end(IN_A_LIST, places[i]) == Some(end)
+            && uints_end(IN_A_LIST, 0, i as u64 + 1) == Some(end);
+        expect(&rt, is_right, "IN_A_LIST", i);
+    }
+    let is_right = uint_at(IN_A_LIST, 23).is_none() && uints_end(IN_A_LIST, 0, 7).is_none();
+    expect(&rt, is_right, "IN_A_LIST, its end", 23);
+}
+
+#[test]
+fn cut_numbers_stand_nowhere(rt: HostRuntime) {
+    for (i, (bytes, _, _, _)) in NOT_WHOLE.iter().enumerate() {
+        let is_right = uint_at(bytes, 0).is_none()
+            && uint_end(bytes, 0).is_none()
+            && uints_end(bytes, 0, 1).is_none();
         expect(&rt, is_right, "NOT_WHOLE", i);
     }
 }

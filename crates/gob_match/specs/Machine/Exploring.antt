@@ -14,7 +14,7 @@ use Rattle.gob_match.specs.declared.step.Step.{Step}
 use Rattle.gob_match.specs.Clashing.{HasClashingShapes}
 use Rattle.gob_match.specs.Machine.Conversions.{IsConversion}
 use Rattle.gob_match.specs.Machine.Search.{Entry, IsAt, IsPathTo, AddsPairs}
-use Rattle.gob_match.specs.Matching.{KindsMatch, KindsClash, HasShapes, Names}
+use Rattle.gob_match.specs.Matching.{KindsMatch, KindsClash, HasShapes, NamesByStep}
 
 -- the two kinds match, and this is their conversion
 pub record Converts (k l : Kind) (w : Conversion) : Type 0 where
@@ -42,7 +42,7 @@ pub record Explores (T U : Table) (old new : List Entry) (place : ℕ) (conversi
   pub pair : TypePair
   pub at : IsAt old place pair
   pub converts : ConvertsAt T U pair conversion
-  pub added : AddsPairs old new place (Names T U pair)
+  pub added : AddsPairs old new place (NamesByStep T U pair)
 
 -- the pair at the place clashes, and nothing was added
 pub record ClashesAt (T U : Table) (old new : List Entry) (place : ℕ) (reason : ClashReason) : Type 0 where

@@ -25,7 +25,7 @@ pub record IsReceived (T U : Table) (p : TypePair) (v w : Tree) : Type 0 where
   pub receives : Receives T U p.stream p.wanted v w
   pub small : HasSmallNumbers w
 
-pub record AreReceived (T U : Table) (p : TypePair) (vs ws : Trees) : Type 0 where
+pub record AreElementsReceived (T U : Table) (p : TypePair) (vs ws : Trees) : Type 0 where
   pub receives : ReceivesEach T U p.stream p.wanted vs ws
   pub small : AllHaveSmallNumbers ws
 
@@ -116,14 +116,14 @@ module _ {S W : Type 0} (stream : S → Table) (wanted : W → Table) (m : Match
   abbrev pub CanReceiveFields : List CommonField → Fields → Type 0
   CanReceiveFields = FieldsReceivable (stream m.stream.now) (wanted m.wanted.now) m.found m.conversions.items
 
-  abbrev pub Gives : TypePair → Tree → Tree → Type 0
-  Gives = IsReceived (stream m.stream.now) (wanted m.wanted.now)
+  abbrev pub GivesTree : TypePair → Tree → Tree → Type 0
+  GivesTree = IsReceived (stream m.stream.now) (wanted m.wanted.now)
 
   abbrev pub GivesEach : TypePair → Trees → Trees → Type 0
-  GivesEach = AreReceived (stream m.stream.now) (wanted m.wanted.now)
+  GivesEach = AreElementsReceived (stream m.stream.now) (wanted m.wanted.now)
 
   abbrev pub GivesPairs : TypePair → TypePair → Pairs → Pairs → Type 0
   GivesPairs = PairsReceived (stream m.stream.now) (wanted m.wanted.now)
 
-  abbrev pub GivesFields : List CommonField → Fields → Fields → Type 0
-  GivesFields common fs gs = FieldsReceived (stream m.stream.now) (wanted m.wanted.now) fs common gs
+  abbrev pub GivesCommonFields : List CommonField → Fields → Fields → Type 0
+  GivesCommonFields common fs gs = FieldsReceived (stream m.stream.now) (wanted m.wanted.now) fs common gs

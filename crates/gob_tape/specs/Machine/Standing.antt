@@ -33,13 +33,13 @@ parts_depth [] = 0
 parts_depth (p ∷ ps) = max (parts_depth ps) (length ps + part_depth p)
 
 -- the state is that of these open parts, or of the whole value
-pub data Shows (s : State) : List Part → Option Tree → Type 0 where
-  under_way : {ps : List Part} → AreOpen s.nodes s.pool (length s.nodes) s.begun ps → s.field ≡ next_field ps → s.deepest ≡ parts_depth ps → Shows s ps None
-  whole : {v : Tree} → MeansAt s.nodes s.pool 0 (length s.nodes) None v → s.begun ≡ [] → s.deepest ≡ depth v → Shows s [] (Some v)
+pub data ShowsTree (s : State) : List Part → Option Tree → Type 0 where
+  under_way : {ps : List Part} → AreOpen s.nodes s.pool (length s.nodes) s.begun ps → s.field ≡ next_field ps → s.deepest ≡ parts_depth ps → ShowsTree s ps None
+  whole : {v : Tree} → MeansAt s.nodes s.pool 0 (length s.nodes) None v → s.begun ≡ [] → s.deepest ≡ depth v → ShowsTree s [] (Some v)
 
 -- the state is what the tellings make, where they may come one after another; and so much of them is held
 pub record AreTaped (s : State) (held : ℕ) (us : List Telling) : Type 0 where
-  pub shown : MayAllCome no_work us → Shows s (all_told no_work us).parts (all_told no_work us).whole
+  pub shown : MayAllCome no_work us → ShowsTree s (all_told no_work us).parts (all_told no_work us).whole
   pub count : held ≡ parts_told us + raw_told us
 
 -- the state is what the tellings make
@@ -48,5 +48,5 @@ pub record IsTapeOf (s : State) (us : List Telling) : Type 0 where
   pub taped : AreTaped s held us
 
 -- the second state is what the first is with these tellings behind its own
-abbrev pub GoesOn : State → State → List Telling → Type 0
-GoesOn old new ws = (us : List Telling) → IsTapeOf old us → IsTapeOf new (us ++ ws)
+abbrev pub TapeGoesOn : State → State → List Telling → Type 0
+TapeGoesOn old new ws = (us : List Telling) → IsTapeOf old us → IsTapeOf new (us ++ ws)

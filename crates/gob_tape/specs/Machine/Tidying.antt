@@ -26,7 +26,7 @@ use Rattle.gob_tape.specs.declared.tidying.Types.TheVariants as types
 use Rattle.gob_tape.specs.Meaning.{MeansAt}
 use Rattle.gob_tape.specs.Seeing.{unsigned_of}
 use Rattle.gob_tape.specs.Machine.State.{State}
-use Rattle.gob_tape.specs.Machine.Standing.{GoesOn, IsTapeOf}
+use Rattle.gob_tape.specs.Machine.Standing.{TapeGoesOn, IsTapeOf}
 
 -- what a builder is told of a value, the raw bytes of each part in one piece
 abbrev mutual
@@ -85,8 +85,8 @@ IsDroppedContent (kind.Slice e) (content.Group group.Many count extent) = count 
 IsDroppedContent _ _ = ⊥
 
 -- it stays
-abbrev pub IsKept : Option ℕ → Kind → Content → Type 0
-IsKept f k c = (n : ℕ) → f ≡ Some n → ¬ IsDroppedContent k c
+abbrev pub IsKeptPart : Option ℕ → Kind → Content → Type 0
+IsKeptPart f k c = (n : ℕ) → f ≡ Some n → ¬ IsDroppedContent k c
 
 -- its raw bytes are in the pool
 abbrev pub IsPooled : List ℕ → Content → Type 0
@@ -103,17 +103,17 @@ innermost [] = None
 innermost (o ∷ os) = Some o
 
 -- the field of this number in the struct of the type has this type
-pub data HasField (T : Table) : TypeId → ℕ → TypeId → Type 0 where
+pub data HasFieldType (T : Table) : TypeId → ℕ → TypeId → Type 0 where
   has_field : {t : TypeId} {f : ℕ} {s : Shape} {fields : List Field} {e : Field} → shape_of T t ≡ Some s
       → s.kind ≡ kind.Struct fields
-      → slice_get fields f ≡ Some e → HasField T t f e.id
+      → slice_get fields f ≡ Some e → HasFieldType T t f e.id
 
 -- the next part has this type, where the whole value has the first
-pub data IsNext (T : Table) (t : TypeId) : Option Open → Option ℕ → TypeId → Type 0 where
-  the_whole : IsNext T t None None t
-  an_element : {end : ℕ} {e : TypeId} → IsNext T t (Some (open_to end (types.Elements e))) None e
-  a_key_or_element : {end : ℕ} {a b : TypeId} → IsNext T t (Some (open_to end (types.Alternating a b))) None a
-  a_field : {end f : ℕ} {r e : TypeId} → HasField T r f e → IsNext T t (Some (open_to end (types.Fields r))) (Some f) e
+pub data IsNextType (T : Table) (t : TypeId) : Option Open → Option ℕ → TypeId → Type 0 where
+  the_whole : IsNextType T t None None t
+  an_element : {end : ℕ} {e : TypeId} → IsNextType T t (Some (open_to end (types.Elements e))) None e
+  a_key_or_element : {end : ℕ} {a b : TypeId} → IsNextType T t (Some (open_to end (types.Alternating a b))) None a
+  a_field : {end f : ℕ} {r e : TypeId} → HasFieldType T r f e → IsNextType T t (Some (open_to end (types.Fields r))) (Some f) e
 
 -- one more than the number of the part, where it is a field, has 64 bits
 abbrev pub HasSmallNumber : Node → Type 0
@@ -129,21 +129,21 @@ advanced [] = []
 advanced (o ∷ os) = open_to o.end (turned o.types) ∷ os
 
 -- the types of the parts in a part of this kind and type
-abbrev pub types_of : Kind → TypeId → Option Types
-types_of (kind.Array e n) t = Some (types.Elements e)
-types_of (kind.Slice e) t = Some (types.Elements e)
-types_of (kind.Map k e) t = Some (types.Alternating k e)
-types_of (kind.Struct fields) t = Some (types.Fields t)
-types_of _ t = None
+abbrev pub types_in : Kind → TypeId → Option Types
+types_in (kind.Array e n) t = Some (types.Elements e)
+types_in (kind.Slice e) t = Some (types.Elements e)
+types_in (kind.Map k e) t = Some (types.Alternating k e)
+types_in (kind.Struct fields) t = Some (types.Fields t)
+types_in _ t = None
 
 abbrev pub entered_as : ℕ → Option Types → List Open → List Open
 entered_as end None os = os
 entered_as end (Some ts) os = open_to end ts ∷ os
 
 -- the open parts behind the beginning of a part
-abbrev pub entered : ℕ → Content → Kind → TypeId → List Open → List Open
-entered i (content.Group k count extent) of t os = entered_as (i + extent) (types_of of t) os
-entered i c of t os = os
+abbrev pub entered_open : ℕ → Content → Kind → TypeId → List Open → List Open
+entered_open i (content.Group k count extent) of t os = entered_as (i + extent) (types_in of t) os
+entered_open i c of t os = os
 
 -- the end of the part can be counted
 abbrev pub HasOpenEnd : ℕ → Content → Type 0
@@ -153,14 +153,14 @@ HasOpenEnd i c = Unit {0}
 -- the beginning of a part that stays was told
 pub record Entered (i : ℕ) (x : Node) (k : Kind) (t : TypeId) (pool : List ℕ) (before after : List Open)
     (old new : State) : Type 0 where
-  pub opens : HasOpenEnd i x.content → after ≡ entered i x.content k t before
-  pub stands : GoesOn old new (name_told x.field ++ content_told pool x.content)
+  pub opens : HasOpenEnd i x.content → after ≡ entered_open i x.content k t before
+  pub stands : TapeGoesOn old new (name_told x.field ++ content_told pool x.content)
 
 -- the part was told as far as its beginning, unless a struct drops it
 pub record TellsPart (i : ℕ) (x : Node) (k : Kind) (t : TypeId) (pool : List ℕ) (before after : List Open)
     (old new : State) : Type 0 where
   pub drops : (f : ℕ) → x.field ≡ Some f → IsDroppedContent k x.content → (after ≡ before) × (new ≡ old)
-  pub keeps : IsKept x.field k x.content → IsPooled pool x.content → Entered i x k t pool before after old new
+  pub keeps : IsKeptPart x.field k x.content → IsPooled pool x.content → Entered i x k t pool before after old new
 
 -- ---- what is left to tell
 
@@ -174,10 +174,10 @@ pub data Due (T : Table) (nodes : List Node) (pool : List ℕ) : ℕ → ℕ →
       → Due T nodes pool j k (types.Alternating b a) us → Due T nodes pool i k (types.Alternating a b)
       (tellings w ++ us)
   dropped : {i j k f : ℕ} {r e : TypeId} {s : Shape} {v : Tree} {us : List Telling}
-      → MeansAt nodes pool i j (Some f) v → HasField T r f e → shape_of T e ≡ Some s
+      → MeansAt nodes pool i j (Some f) v → HasFieldType T r f e → shape_of T e ≡ Some s
       → IsDropped s.kind v → Due T nodes pool j k (types.Fields r) us → Due T nodes pool i k (types.Fields r) us
   kept : {i j k f : ℕ} {r e : TypeId} {s : Shape} {v w : Tree} {us : List Telling}
-      → MeansAt nodes pool i j (Some f) v → HasField T r f e → shape_of T e ≡ Some s
+      → MeansAt nodes pool i j (Some f) v → HasFieldType T r f e → shape_of T e ≡ Some s
       → ¬ IsDropped s.kind v → TidiesAs T s.kind v w → Due T nodes pool j k (types.Fields r) us
       → Due T nodes pool i k (types.Fields r) (field f ∷ (tellings w ++ us))
 
@@ -191,52 +191,52 @@ pub data Left (T : Table) (t : TypeId) (nodes : List Node) (pool : List ℕ) : �
       → Left T t nodes pool i (open_to j ts ∷ os) (us ++ leave ∷ ws)
 
 -- some node of the innermost part is still to come
-abbrev pub IsInside : ℕ → List Open → Type 0
-IsInside i [] = Unit {0}
-IsInside i (o ∷ os) = i < o.end
+abbrev pub IsInsideOpen : ℕ → List Open → Type 0
+IsInsideOpen i [] = Unit {0}
+IsInsideOpen i (o ∷ os) = i < o.end
 
 -- from one place to the next, this was told
-pub record Goes (T : Table) (t : TypeId) (nodes : List Node) (pool : List ℕ) (i : ℕ) (after : List Open)
+pub record TidyGoes (T : Table) (t : TypeId) (nodes : List Node) (pool : List ℕ) (i : ℕ) (after : List Open)
     (old new : State) (due : List Telling) : Type 0 where
   pub told : List Telling
   pub left : List Telling
   pub splits : due ≡ told ++ left
-  pub stands : GoesOn old new told
-  pub inside : IsInside (i + 1) after
+  pub stands : TapeGoesOn old new told
+  pub inside : IsInsideOpen (i + 1) after
   pub more : Left T t nodes pool (i + 1) after left
   pub small : (x : Node) → slice_get nodes i ≡ Some x → HasSmallNumber x
 
 -- the ends of the parts whose nodes end at this place
-pub data Ends (i : ℕ) : List Open → List Telling → List Open → Type 0 where
-  none_ends : {os : List Open} → ((o : Open) (rest : List Open) → os ≡ o ∷ rest → o.end ≢ i) → Ends i os [] os
-  one_ends : {o : Open} {os after : List Open} {us : List Telling} → o.end ≡ i → Ends i os us after
-      → Ends i (o ∷ os) (leave ∷ us) after
+pub data TidyEnds (i : ℕ) : List Open → List Telling → List Open → Type 0 where
+  none_ends : {os : List Open} → ((o : Open) (rest : List Open) → os ≡ o ∷ rest → o.end ≢ i) → TidyEnds i os [] os
+  one_ends : {o : Open} {os after : List Open} {us : List Telling} → o.end ≡ i → TidyEnds i os us after
+      → TidyEnds i (o ∷ os) (leave ∷ us) after
 
-pub record Ended (i : ℕ) (before after : List Open) (old new : State) : Type 0 where
+pub record TidyEnded (i : ℕ) (before after : List Open) (old new : State) : Type 0 where
   pub told : List Telling
-  pub ends : Ends i before told after
-  pub stands : GoesOn old new told
+  pub ends : TidyEnds i before told after
+  pub stands : TapeGoesOn old new told
 
 -- some of them
-pub record Ending (i : ℕ) (before now : List Open) (old new : State) : Type 0 where
+pub record TidyEnding (i : ℕ) (before now : List Open) (old new : State) : Type 0 where
   pub told : List Telling
-  pub completes : (us : List Telling) (after : List Open) → Ends i now us after → Ends i before (told ++ us) after
-  pub stands : GoesOn old new told
+  pub completes : (us : List Telling) (after : List Open) → TidyEnds i now us after → TidyEnds i before (told ++ us) after
+  pub stands : TapeGoesOn old new told
 
 -- the nodes before this place are told of: of each value that they all mean, with its tidy form
-pub record UpTo (T : Table) (t : TypeId) (nodes : List Node) (pool : List ℕ) (i : ℕ) (os : List Open) (now : State)
+pub record TidyUpTo (T : Table) (t : TypeId) (nodes : List Node) (pool : List ℕ) (i : ℕ) (os : List Open) (now : State)
     (due : List Telling) : Type 0 where
   pub told : List Telling
   pub left : List Telling
   pub splits : due ≡ told ++ left
   pub stands : IsTapeOf now told
-  pub inside : IsInside i os
+  pub inside : IsInsideOpen i os
   pub more : Left T t nodes pool i os left
   pub small : (k : ℕ) (x : Node) → k < i → slice_get nodes k ≡ Some x → HasSmallNumber x
 
-abbrev pub Reaches : Table → TypeId → List Node → List ℕ → ℕ → List Open → State → Type 0
-Reaches T t nodes pool i os now = (v w : Tree) → MeansAt nodes pool 0 (length nodes) None v → Tidies T t v w
-    → UpTo T t nodes pool i os now (tellings w)
+abbrev pub TidyReaches : Table → TypeId → List Node → List ℕ → ℕ → List Open → State → Type 0
+TidyReaches T t nodes pool i os now = (v w : Tree) → MeansAt nodes pool 0 (length nodes) None v → Tidies T t v w
+    → TidyUpTo T t nodes pool i os now (tellings w)
 
 -- all of the tidy form was told, and the numbers of all fields are small
 pub record IsAllTold (v w : Tree) (now : State) : Type 0 where

@@ -1,5 +1,6 @@
 use Rattle.std.proofs.Common.{subst, length, refl}
 use Rattle.std.proofs.lemmas.Option.{slice_get_read}
+use Rattle.std.proofs.lemmas.Result.{IfOk-from_err}
 use Rattle.gob_match.specs.declared.step.Step.TheVariants as step
 use Rattle.gob_match.specs.Machine.Search.{AddsPairs}
 use Rattle.gob_match.proofs.ConversionLaws.{adds_next, adds_all}
@@ -17,3 +18,9 @@ loop-field-preserved c =
 
 pub returns : goal.returns
 returns c = adds_all c.loop-field.invariant c.loop-field-test.false
+
+pub returns-in_err-copied_name : goal.returns-in_err-copied_name
+returns-in_err-copied_name c = IfOk-from_err c.from_residual.result _ c.from_residual.ensures.0
+
+pub returns-in_err-add : goal.returns-in_err-add
+returns-in_err-add c = IfOk-from_err c.from_residual-in_err-add.result _ c.from_residual-in_err-add.ensures.0

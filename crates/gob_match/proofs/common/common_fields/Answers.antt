@@ -1,6 +1,7 @@
 use Rattle.std.proofs.Common.{◌≡◌, ℕ, List, length, refl, sym, ap, Contains, subst, Some, arith}
 use Rattle.std.proofs.lemmas.Option.{slice_get_read}
 use Rattle.std.specs.Prelude.{slice_get}
+use Rattle.std.proofs.lemmas.Result.{IfOk-from_err}
 use Rattle.gob_match.specs.declared.common.CommonField.{CommonField}
 use Rattle.gob_match.specs.Pairs.{of_types}
 use Rattle.gob_match.proofs.NameLaws.{CommonSoFar, common_none, common_missing, common_next, common_all, no_field}
@@ -41,3 +42,9 @@ loop-number-preserved c =
 
 pub returns : goal.returns
 returns c = common_all c.loop-number.invariant c.loop-number-test.false
+
+pub returns-in_err-name : goal.returns-in_err-name
+returns-in_err-name c = IfOk-from_err c.from_residual.result _ c.from_residual.ensures.0
+
+pub returns-in_err-push : goal.returns-in_err-push
+returns-in_err-push c = IfOk-from_err c.from_residual-in_err-push.result _ c.from_residual-in_err-push.ensures.0

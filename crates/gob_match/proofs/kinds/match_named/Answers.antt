@@ -1,5 +1,6 @@
 use Rattle.std.proofs.Common.{inr, sym, subst}
 use Rattle.gob_value.proofs.PublicLaws.{not_true}
+use Rattle.std.proofs.lemmas.Result.{IfOk-from_err}
 use Rattle.gob_match.specs.Matching.{name_repeated}
 use Rattle.gob_match.specs.Pairs.{RepeatsName}
 use Rattle.gob_match.proofs.kinds.match_named.Goals as goal
@@ -14,3 +15,9 @@ match_common-requires-clause-distinct c = record {
   in_wanted = λ twice. not_true c.if-branch.false c.in_ok-repeats_name.ensures
       (subst RepeatsName (sym c.as_slice.ensures) twice);
 }
+
+pub returns-in_err-repeats_name-clause-converts : goal.returns-in_err-repeats_name-clause-converts
+returns-in_err-repeats_name-clause-converts c = IfOk-from_err c.from_residual.result _ c.from_residual.ensures.0
+
+pub returns-in_err-match_common-clause-converts : goal.returns-in_err-match_common-clause-converts
+returns-in_err-match_common-clause-converts c = IfOk-from_err c.from_residual-in_err-match_common.result _ c.from_residual-in_err-match_common.ensures.0

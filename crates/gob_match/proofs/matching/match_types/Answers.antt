@@ -1,5 +1,6 @@
 use Rattle.std.proofs.Common.{refl, sym, subst, arith}
 use Rattle.gob_value.proofs.PublicLaws.{fault_at}
+use Rattle.std.proofs.lemmas.Result.{IfOk-from_err}
 use Rattle.gob_match.specs.Faults.{IsMatchFault}
 use Rattle.gob_match.specs.Pairs.{of_types}
 use Rattle.gob_match.proofs.ConversionLaws.{conversions_none, conversions_on, matched, converts_match}
@@ -55,3 +56,21 @@ returns-clause-of g c = record { of_stream = refl; of_type = refl; of_wanted = r
 pub returns-clause-sound : goal.returns-clause-sound
 returns-clause-sound g c = matched c.loop-next.invariant.searched c.loop-next.invariant.conversions
     (omega (arith, c.loop-next-test.false, c.count.ensures.count))
+
+pub returns-in_err-found-clause-matched : goal.returns-in_err-found-clause-matched
+returns-in_err-found-clause-matched g c = IfOk-from_err c.from_residual.result _ c.from_residual.ensures.0
+
+pub returns-in_err-found-clause-of : goal.returns-in_err-found-clause-of
+returns-in_err-found-clause-of g c = IfOk-from_err c.from_residual.result _ c.from_residual.ensures.0
+
+pub returns-in_err-found-clause-sound : goal.returns-in_err-found-clause-sound
+returns-in_err-found-clause-sound g c = IfOk-from_err c.from_residual.result _ c.from_residual.ensures.0
+
+pub returns-in_err-keep_explored-clause-matched : goal.returns-in_err-keep_explored-clause-matched
+returns-in_err-keep_explored-clause-matched g c = IfOk-from_err c.from_residual-in_err-keep_explored.result _ c.from_residual-in_err-keep_explored.ensures.0
+
+pub returns-in_err-keep_explored-clause-of : goal.returns-in_err-keep_explored-clause-of
+returns-in_err-keep_explored-clause-of g c = IfOk-from_err c.from_residual-in_err-keep_explored.result _ c.from_residual-in_err-keep_explored.ensures.0
+
+pub returns-in_err-keep_explored-clause-sound : goal.returns-in_err-keep_explored-clause-sound
+returns-in_err-keep_explored-clause-sound g c = IfOk-from_err c.from_residual-in_err-keep_explored.result _ c.from_residual-in_err-keep_explored.ensures.0

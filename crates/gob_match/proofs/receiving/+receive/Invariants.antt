@@ -1,7 +1,7 @@
 use Rattle.std.proofs.Common.{◌+◌, ◌*◌, drop}
 use Rattle.gob_value.specs.Tree.{depth, trees_depth, pairs_depth, fields_depth}
 use Rattle.gob_value.specs.View.{view, views, pair_views, field_views}
-use Rattle.gob_match.specs.Machine.Receiving.{GivesEach, GivesPairs, GivesFields}
+use Rattle.gob_match.specs.Machine.Receiving.{GivesEach, GivesPairs, GivesCommonFields}
 use Rattle.gob_match.proofs.Loops.{Completes}
 use Rattle.gob_match.proofs.receiving.+receive.Given as goal
 
@@ -29,5 +29,5 @@ invariant-receive_pairs-loop-k g l =
 
 abbrev pub invariant-receive_fields-loop-field : goal.invariant-receive_fields-loop-field
 invariant-receive_fields-loop-field g l =
-    Completes (λ cs gs. GivesFields g.S.Shapes.table g.T.Shapes.table l.matched cs (field_views l.parts)
+    Completes (λ cs gs. GivesCommonFields g.S.Shapes.table g.T.Shapes.table l.matched cs (field_views l.parts)
     (field_views gs)) l.common (drop l.field-index l.common) l.received.items

@@ -8,7 +8,7 @@ use Rattle.gob_value.specs.View.{view}
 use Rattle.gob_stream_tests.proofs.values.put_spelled.Goals as goal
 
 pub put_spelled-requires : goal.put_spelled-requires
-put_spelled-requires c =
+put_spelled-requires g c =
     let t : TypeId = record { 0 = c.args.id } in
     let v = view c.args.value.now in
     let spelled = c.in_ok-spell.ensures.ok in

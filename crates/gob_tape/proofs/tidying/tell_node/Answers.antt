@@ -4,7 +4,7 @@ use Rattle.std.proofs.lemmas.Option.{same_Some}
 use Rattle.std.proofs.lemmas.Result.{on_ok_weaker}
 use Rattle.gob_types.specs.declared.kind.Shape.{Shape}
 use Rattle.gob_types.specs.Table.{shape_of}
-use Rattle.gob_tape.specs.Machine.Tidying.{IsNext, TellsPart}
+use Rattle.gob_tape.specs.Machine.Tidying.{IsNextType, TellsPart}
 use Rattle.gob_tape.specs.Machine.View.{state_of}
 use Rattle.gob_tape.proofs.TidyingLaws.{innermost_is}
 use Rattle.gob_tape.proofs.tidying.tell_node.Goals as goal
@@ -20,8 +20,8 @@ returns g c =
     (c.last.ensures.value, c.deref.ensures.value, c.copied.ensures) in
     on_ok_weaker c.tell_part.result
     (λ d e s n h.
-    let due = subst (λ f. IsNext T c.args.id c.copied.result f e) (sym c.field.ensures)
-    (subst (λ l. IsNext T c.args.id l c.args.node.field e) (innermost_is xs last) n) in
+    let due = subst (λ f. IsNextType T c.args.id c.copied.result f e) (sym c.field.ensures)
+    (subst (λ l. IsNextType T c.args.id l c.args.node.field e) (innermost_is xs last) n) in
     let found = c.next_type.ensures.found e due in
     let type : c.in-Some.id ≡ e = same_Some c.in-Some.id e (sym c.in-Some.is ∙ found) in
     let there : Some c.in-Some-shape_of.shape.now ≡ shape_of T c.in-Some.id = c.in-Some-shape_of.ensures in

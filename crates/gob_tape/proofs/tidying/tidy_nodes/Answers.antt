@@ -1,5 +1,6 @@
 use Rattle.std.proofs.Common.{arith, refl, reverse, ap, ◌<◌, ◌^◌, length}
 use Rattle.std.proofs.lemmas.Option.{slice_get_read}
+use Rattle.std.proofs.lemmas.Result.{IfOk-from_err}
 use Rattle.gob_tape.proofs.TidyingLaws.{nothing_told, node_reached, all_told_of}
 use Rattle.gob_tape.proofs.tidying.tidy_nodes.Goals as goal
 
@@ -18,3 +19,9 @@ nodes-preserved g c =
 
 pub returns : goal.returns
 returns g c = all_told_of (omega arith) c.nodes.invariant
+
+pub returns-in_err-builder : goal.returns-in_err-builder
+returns-in_err-builder g c = IfOk-from_err c.from_residual.result _ c.from_residual.ensures.0
+
+pub returns-in_err-tidy_node : goal.returns-in_err-tidy_node
+returns-in_err-tidy_node g c = IfOk-from_err c.from_residual-in_err-tidy_node.result _ c.from_residual-in_err-tidy_node.ensures.0

@@ -2,6 +2,7 @@ use Rattle.std.proofs.Common.{◌≡◌, ◌∙◌, length, None, subst}
 use Rattle.gob_value.specs.Tree.{Tree, depth}
 use Rattle.gob_value.specs.Within.{FitsWithin}
 use Rattle.gob_value.proofs.PublicLaws.{tidy_fits, tidy_form, no_deeper}
+use Rattle.std.proofs.lemmas.Result.{IfOk-from_err}
 use Rattle.gob_tape.specs.Meaning.{MeansAt}
 use Rattle.gob_tape.proofs.MeaningLaws.{at_rises, at_one}
 use Rattle.gob_tape.proofs.TidyingLaws.{tape_whole}
@@ -44,3 +45,9 @@ returns-clause-fits g c = λ v w m n.
       spelled = fits.spelled;
       within = no_deeper f.tidies;
     }))
+
+pub returns-in_err-builder-clause-tidy : goal.returns-in_err-builder-clause-tidy
+returns-in_err-builder-clause-tidy g c = IfOk-from_err c.from_residual.result _ c.from_residual.ensures.0
+
+pub returns-in_err-builder-clause-fits : goal.returns-in_err-builder-clause-fits
+returns-in_err-builder-clause-fits g c = IfOk-from_err c.from_residual.result _ c.from_residual.ensures.0

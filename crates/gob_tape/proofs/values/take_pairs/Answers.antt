@@ -1,4 +1,5 @@
 use Rattle.std.proofs.Common.{arith}
+use Rattle.std.proofs.lemmas.Result.{IfOk-from_err}
 use Rattle.gob_tape.proofs.ValueLaws.{pairs_start, pairs_on, pairs_end}
 use Rattle.gob_tape.proofs.values.take_pairs.Goals as goal
 
@@ -10,3 +11,6 @@ pairs-preserved c = pairs_on c.take_part-key.result c.take_part-value.result c.p
 
 pub returns : goal.returns
 returns c = pairs_end (omega arith) c.pairs.invariant
+
+pub returns-in_err-push : goal.returns-in_err-push
+returns-in_err-push c = IfOk-from_err c.from_residual.result _ c.from_residual.ensures.0

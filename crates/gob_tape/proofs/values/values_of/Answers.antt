@@ -1,6 +1,7 @@
 use Rattle.std.proofs.Common.{arith, refl, ap, ◌≡◌, ◌∙◌, ◌+◌, ◌-◌, ◌∷◌, ◌++◌, [], length, subst}
 use Rattle.std.proofs.lemmas.Option.{slice_get_read}
 use Rattle.gob_value.specs.View.{view}
+use Rattle.std.proofs.lemmas.Result.{IfOk-from_err}
 use Rattle.gob_tape.specs.Machine.Values.{parts_on, TakesValue}
 use Rattle.gob_tape.proofs.ValueLaws.{Stacked, stacked_start, stacked_on}
 use Rattle.gob_tape.proofs.values.values_of.Goals as goal
@@ -20,3 +21,9 @@ nodes-preserved c =
     (subst (λ i. Stacked nodes pool i c.nodes.parts.items) behind c.nodes.invariant)
     (subst (λ x. TakesValue pool x (view c.in_ok-value.value) (parts_on c.nodes.parts.items) (parts_on c.take_value.new.parts.items)) c.content.ensures c.in_ok-value.ensures)
     (c.in_ok-push.ensures.items ∙ ap (λ f. c.take_value.new.parts.items ++ (f, c.in_ok-value.value) ∷ []) c.field.ensures))
+
+pub returns-in_err-value : goal.returns-in_err-value
+returns-in_err-value c = IfOk-from_err c.from_residual.result _ c.from_residual.ensures.0
+
+pub returns-in_err-push : goal.returns-in_err-push
+returns-in_err-push c = IfOk-from_err c.from_residual-in_err-push.result _ c.from_residual-in_err-push.ensures.0

@@ -1,12 +1,11 @@
 -- From item to item the tidy stream goes on, and what is behind the last whole item is kept.
-use Rattle.std.proofs.Common.{◌≡◌, ◌-◌, ◌∙◌, ◌++◌, ℕ, Option, Ok, ap, sym, subst, drop, take, length, length-drop, refl}
+use Rattle.std.proofs.Common.{◌≡◌, [], Err, ◌-◌, ◌∙◌, ◌++◌, ℕ, Option, Ok, ap, sym, subst, drop, take, length, length-drop, refl}
 use Rattle.std.proofs.Math.Seq.{take-length}
 use Rattle.gob_tool.specs.declared.fault.ToolFault.TheVariants as fault
-use Rattle.gob_tool.specs.Fault.{reading_fault}
 use Rattle.gob_stream.specs.Bounds.{deepest, no_deeper}
 use Rattle.gob_tool.specs.Rewritten.{MayRewriteFront}
-use Rattle.gob_tool.proofs.RewriteRuns.{up_to_none, up_to_more, rest_stops, rest_cut}
-use Rattle.gob_tool.proofs.RewriteKeeping.{keeping_at, rest_kept, rest_begun}
+use Rattle.gob_tool.proofs.RewriteRuns.{up_to_none, up_to_more}
+use Rattle.gob_tool.proofs.RewriteKeeping.{keeping_at, rest_kept, rest_begun, two_keeping}
 use Rattle.gob_tool.proofs.rewrite.rewrite_behind.Goals as goal
 
 pub items-init : goal.items-init
@@ -17,14 +16,15 @@ rewrite_ready-requires-clause-so_far g c = let u = c.items.invariant.3 c.require
 
 pub returns-in_err-used-clause-rewritten : goal.returns-in_err-used-clause-rewritten
 returns-in_err-used-clause-rewritten g c = λ h.
-    let e = c.in_err-used.field-0.0 in
+    let f = c.in_err-used.field-0.0 in
     let M = c.args.session.now.reading.limits in
     let s = c.rewrite_ready.new.session.reading in
     let w = c.rewrite_ready.new.rewriter.writer in
     let u = c.items.invariant.3 h in
-    keeping_at (no_deeper deepest M) h s w c.items.pending.bytes.items c.args.piece.now _ _ _ _ c.from_residual.result
-    (reading_fault e) c.from_residual.ensures.1
-    (rest_stops h u M s w _ e c.items.invariant.0 (c.in_err-used.ensures.rewritten u.on.next))
+    keeping_at (no_deeper deepest M) h s w c.items.pending.bytes.items c.args.piece.now _ _ _ _ c.from_residual.result f
+    c.from_residual.ensures.1
+    (two_keeping h _ _ _ _ u.on M c.items.rest.now c.args.piece.now s w [] _ _ (Err f) c.items.invariant.0 (sym u.whole)
+    (c.in_err-used.ensures.rewritten u.on.next))
 
 pub returns-in_err-keep-in-None-clause-rewritten : goal.returns-in_err-keep-in-None-clause-rewritten
 returns-in_err-keep-in-None-clause-rewritten g c = λ h.
@@ -33,6 +33,7 @@ returns-in_err-keep-in-None-clause-rewritten g c = λ h.
     let w = c.rewrite_ready.new.rewriter.writer in
     let u = c.items.invariant.3 h in
     let kept = subst (λ (o : Option ℕ). MayRewriteFront u.on.next s w c.items.rest.now
+    (g.W.Write.contents c.items.output.writer) (g.W.Write.contents c.rewrite_ready.new.output.writer)
     c.items.rewriter.gathered.items c.rewrite_ready.new.rewriter.gathered.items (Ok o)) c.in-None.is
     (c.in_ok-used.ensures.rewritten u.on.next) in
     keeping_at (no_deeper deepest M) h s w c.keep.new.self.bytes.items c.args.piece.now _ _ _ _
@@ -44,25 +45,10 @@ returns-in-None-clause-rewritten g c = λ h.
     let u = c.items.invariant.3 h in
     let kept = subst (λ (o : Option ℕ). MayRewriteFront u.on.next c.rewrite_ready.new.session.reading
     c.rewrite_ready.new.rewriter.writer c.items.rest.now
+    (g.W.Write.contents c.items.output.writer) (g.W.Write.contents c.rewrite_ready.new.output.writer)
     c.items.rewriter.gathered.items c.rewrite_ready.new.rewriter.gathered.items (Ok o)) c.in-None.is
     (c.in_ok-used.ensures.rewritten u.on.next) in
     rest_kept h u (c.in_ok-keep-in-None.ensures.kept ∙ ap (λ l. l ++ c.items.rest.now) c.items.invariant.2) kept
-
-pub returns-in_err-write_many-in-Some-clause-rewritten : goal.returns-in_err-write_many-in-Some-clause-rewritten
-returns-in_err-write_many-in-Some-clause-rewritten g c = λ h.
-    let f = c.in_err-write_many-in-Some.field-0.0 in
-    let M = c.args.session.now.reading.limits in
-    let s = c.rewrite_ready.new.session.reading in
-    let w = c.rewrite_ready.new.rewriter.writer in
-    let failed = c.in_err-write_many-in-Some.ensures.passed in
-    let u = c.items.invariant.3 h in
-    let taken = subst (λ (o : Option ℕ). MayRewriteFront u.on.next s w c.items.rest.now
-    c.items.rewriter.gathered.items c.rewrite_ready.new.rewriter.gathered.items (Ok o)) c.in-Some.is
-    (c.in_ok-used.ensures.rewritten u.on.next) in
-    keeping_at (no_deeper deepest M) h s c.write_many.new.self.writer c.items.pending.bytes.items c.args.piece.now
-    _ _ _ _ c.from_residual-in_err-write_many-in-Some.result f c.from_residual-in_err-write_many-in-Some.ensures.1
-    (rest_cut h u c.in-Some.used M c.write_many.new.self.writer _ f
-    (c.in_ok-used.ensures.limits ∙ c.items.invariant.0) failed.0 taken failed.1)
 
 pub items-preserved : goal.items-preserved
 items-preserved g c =
@@ -71,14 +57,14 @@ items-preserved g c =
     let later : take (length rest - n) (drop n rest)
     ≡ drop n rest = ap (λ (k : ℕ). take k (drop n rest)) (sym (length-drop n rest)) ∙ take-length (drop n rest) in (
       c.in_ok-used.ensures.limits ∙ c.items.invariant.0,
-      c.in_ok-write_many-in-Some.ensures.counted ∙ c.items.invariant.1,
+      c.in_ok-used.ensures.writes ∙ c.items.invariant.1,
       c.items.invariant.2,
       λ h.
           let u = c.items.invariant.3 h in
           let taken = subst (λ (o : Option ℕ). MayRewriteFront u.on.next c.rewrite_ready.new.session.reading
-          c.rewrite_ready.new.rewriter.writer rest c.items.rewriter.gathered.items
-          c.rewrite_ready.new.rewriter.gathered.items (Ok o)) c.in-Some.is
+          c.rewrite_ready.new.rewriter.writer rest
+          (g.W.Write.contents c.items.output.writer) (g.W.Write.contents c.rewrite_ready.new.output.writer)
+          c.items.rewriter.gathered.items c.rewrite_ready.new.rewriter.gathered.items (Ok o)) c.in-Some.is
           (c.in_ok-used.ensures.rewritten u.on.next) in
-          up_to_more h u n later taken c.in_ok-write_many-in-Some.ensures.passed
-          c.in_ok-write_many-in-Some.ensures.writer,
+          up_to_more h u n later taken,
     )

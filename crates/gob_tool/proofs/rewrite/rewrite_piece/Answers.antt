@@ -1,9 +1,9 @@
 -- From item to item the tidy stream goes on, and some of all goes out.
-use Rattle.std.proofs.Common.{rules, ◌≡◌, ◌-◌, ◌∙◌, ℕ, ap, sym, drop, take, length, length-drop, refl}
+use Rattle.std.proofs.Common.{rules, [], Err, ◌≡◌, ◌-◌, ◌∙◌, ℕ, ap, sym, drop, take, length, length-drop, refl}
 use Rattle.std.proofs.Math.Seq.{take-length}
 use Rattle.gob_stream.specs.Bounds.{deepest, no_deeper}
-use Rattle.gob_tool.specs.Fault.{reading_fault}
-use Rattle.gob_tool.proofs.RewriteRuns.{piece_at, up_to_none, up_to_more, up_to_all, rest_stops, rest_cut}
+use Rattle.gob_tool.proofs.RewriteRuns.{piece_at, up_to_none, up_to_more, up_to_all}
+use Rattle.gob_tool.proofs.RewriteKeeping.{two_keeping}
 use Rattle.gob_tool.proofs.rewrite.rewrite_piece.Goals as goal
 
 pub loop-rest-init : goal.loop-rest-init
@@ -15,25 +15,14 @@ rewrite_front-requires-clause-so_far g c =
 
 pub returns-in_err-used-clause-rewritten : goal.returns-in_err-used-clause-rewritten
 returns-in_err-used-clause-rewritten g c = λ h.
-    let e = c.in_err-used.field-0.0 in
+    let f = c.in_err-used.field-0.0 in
     let M = c.args.session.now.reading.limits in
+    let s = c.rewrite_front.new.session.reading in
+    let w = c.rewrite_front.new.rewriter.writer in
     let u = c.loop-rest.invariant.2 h in
-    piece_at (no_deeper deepest M) h c.rewrite_front.new.session.reading c.rewrite_front.new.rewriter.writer
-    c.args.piece.now _ _ _ _ c.from_residual.result (reading_fault e) c.from_residual.ensures.1
-    (rest_stops h u M c.rewrite_front.new.session.reading c.rewrite_front.new.rewriter.writer _ e
-    c.loop-rest.invariant.0 (c.in_err-used.ensures.rewritten u.on.next))
-
-pub returns-in_err-write_many-clause-rewritten : goal.returns-in_err-write_many-clause-rewritten
-returns-in_err-write_many-clause-rewritten g c = λ h.
-    let f = c.in_err-write_many.field-0.0 in
-    let M = c.args.session.now.reading.limits in
-    let failed = c.in_err-write_many.ensures.passed in
-    let u = c.loop-rest.invariant.2 h in
-    piece_at (no_deeper deepest M) h c.rewrite_front.new.session.reading c.write_many.new.self.writer
-    c.args.piece.now _ _ _ _ c.from_residual-in_err-write_many.result f c.from_residual-in_err-write_many.ensures.1
-    (rest_cut h u c.in_ok-used.used M c.write_many.new.self.writer _ f
-    (c.in_ok-used.ensures.limits ∙ c.loop-rest.invariant.0) failed.0 (c.in_ok-used.ensures.rewritten u.on.next)
-    failed.1)
+    piece_at (no_deeper deepest M) h s w c.args.piece.now _ _ _ _ c.from_residual.result f c.from_residual.ensures.1
+    (two_keeping h _ _ _ _ u.on M c.loop-rest.rest.now c.args.piece.now s w [] _ _ (Err f) c.loop-rest.invariant.0
+    (sym u.whole) (c.in_err-used.ensures.rewritten u.on.next))
 
 pub loop-rest-preserved : goal.loop-rest-preserved
 loop-rest-preserved g c =
@@ -42,11 +31,10 @@ loop-rest-preserved g c =
     let later : take (length rest - n) (drop n rest)
     ≡ drop n rest = ap (λ (k : ℕ). take k (drop n rest)) (sym (length-drop n rest)) ∙ take-length (drop n rest) in (
       c.in_ok-used.ensures.limits ∙ c.loop-rest.invariant.0,
-      c.in_ok-write_many.ensures.counted ∙ c.loop-rest.invariant.1,
+      c.in_ok-used.ensures.writes ∙ c.loop-rest.invariant.1,
       λ h.
           let u = c.loop-rest.invariant.2 h in
-          up_to_more h u n later (c.in_ok-used.ensures.rewritten u.on.next) c.in_ok-write_many.ensures.passed
-          c.in_ok-write_many.ensures.writer,
+          up_to_more h u n later (c.in_ok-used.ensures.rewritten u.on.next),
     )
 
 pub returns-clause-rewritten : goal.returns-clause-rewritten

@@ -3,7 +3,7 @@ use Rattle.std.proofs.Common.{Ok, ap, sym, subst, refl}
 use Rattle.gob_types.specs.Defined.{types}
 use Rattle.gob_types.specs.Table.{Table}
 use Rattle.gob_stream.specs.declared.fault.Fault.TheVariants as reading
-use Rattle.gob_tool.specs.Rewritten.{IsNext}
+use Rattle.gob_tool.specs.Rewritten.{IsNextTape}
 use Rattle.gob_tool.proofs.RewriteRuns.{some_at, memory_stops, step_stops, step_without, step_gives, given_next}
 use Rattle.gob_tool.proofs.RewriteRuns.{step_pushed, pushes_by}
 use Rattle.gob_tool.proofs.rewrite.rewrite_step.Goals as goal
@@ -23,7 +23,7 @@ push-requires c =
     (c.in_ok-used.ensures.advances h.items h.taken h.gave) c.in-Some.is in (
       c.args.session.now.reading,
       h,
-      subst (λ (T : Table). IsNext h T c.in-Some.item) (ap (λ d. types d) (sym c.table.ensures))
+      subst (λ (T : Table). IsNextTape h T c.in-Some.item) (ap (λ d. types d) (sym c.table.ensures))
           (given_next h c.step.new.self.reading c.step.ensures.limits c.args.piece.now _ g),
     )
 
@@ -33,7 +33,7 @@ returns-in_err-push-clause-rewritten c = λ h.
     let w = c.push.new.self.writer in
     let g = step_gives h s c.step.ensures.limits c.args.piece.now _
     (c.in_ok-used.ensures.advances h.items h.taken h.gave) c.in-Some.is in
-    let next = subst (λ (T : Table). IsNext h T c.in-Some.item) (ap (λ d. types d) (sym c.table.ensures))
+    let next = subst (λ (T : Table). IsNextTape h T c.in-Some.item) (ap (λ d. types d) (sym c.table.ensures))
     (given_next h s c.step.ensures.limits c.args.piece.now _ g) in
     some_at h s w c.args.piece.now _ _ c.from_residual-in_err-push.result reading.Memory
     c.from_residual-in_err-push.ensures.1

@@ -1,54 +1,71 @@
--- What was found to be a whole value and tidy is the item that is written and passed.
-use Rattle.std.proofs.Common.{◌≡◌, Ok, min, ap, sym, subst}
+-- What was found to be a whole value and tidy is the item that is passed and written.
+use Rattle.std.proofs.Common.{◌≡◌, ◌∙◌, Ok, Err, min, ap, sym, subst}
 use Rattle.gob_types.specs.Defined.{types}
 use Rattle.gob_types.specs.Table.{Table}
 use Rattle.gob_value.specs.Whole.{IsTidyWhole}
 use Rattle.gob_stream.specs.Bounds.{deepest}
-use Rattle.gob_stream.proofs.WholeSteps.{has_item}
+use Rattle.gob_stream.proofs.PublicLaws.{has_item}
 use Rattle.gob_tool.specs.Rewritten.{IsTidyNext}
-use Rattle.gob_tool.proofs.RewriteWhole.{whole_of, whole_next, whole_rewritten, whole_pushes_by, may_at}
+use Rattle.gob_tool.proofs.RewriteOut.{EachPushesOut}
+use Rattle.gob_tool.proofs.RewriteWhole.{whole_of, whole_next, whole_rewritten, whole_stops, may_at}
 use Rattle.gob_tool.proofs.rewrite.rewrite_whole.Goals as goal
 
+pub pass-requires-clause-item : goal.pass-requires-clause-item
+pass-requires-clause-item g c =
+    let limits = c.args.session.now.reading.limits in
+    let depth : c.min.result ≡ min limits.depth deepest = cc (c.min.ensures, c.requires.depth) in
+    let tidy = subst (λ (T : Table). IsTidyWhole T c.in-Some.whole.id c.min.result c.in-Some.whole.body.now)
+    (ap (λ d. types d) c.table.ensures) (c.is_tidy_whole.ensures c.if-not-is_tidy_whole.false) in
+    has_item deepest depth c.in-Some.ensures.body (whole_of tidy)
+
 pub push_whole-requires : goal.push_whole-requires
-push_whole-requires c =
+push_whole-requires g c =
     let h = c.requires.so_far in
     let limits = c.args.session.now.reading.limits in
     let depth : c.min.result ≡ min limits.depth deepest = cc (c.min.ensures, c.requires.depth) in
     let tidy = subst (λ (T : Table). IsTidyWhole T c.in-Some.whole.id c.min.result c.in-Some.whole.body.now)
-    (ap (λ d. types d) c.table-table.ensures) (c.is_tidy_whole.ensures c.if-not-is_tidy_whole.false) in (
+    (ap (λ d. types d) c.table.ensures) (c.is_tidy_whole.ensures c.if-not-is_tidy_whole.false) in (
       c.args.session.now.reading,
       h,
       subst (λ (T : Table). IsTidyNext h T c.in-Some.whole.id c.in-Some.whole.body.now)
-          (ap (λ d. types d) (sym c.table-table.ensures)) (whole_next h depth c.in-Some.ensures.body tidy),
+          (sym (ap (λ d. types d) (c.table-2.ensures ∙ c.pass.ensures.types))) (whole_next h depth c.in-Some.ensures.body tidy),
     )
 
 pub returns-in_err-push_whole-clause-rewritten : goal.returns-in_err-push_whole-clause-rewritten
-returns-in_err-push_whole-clause-rewritten c = λ h.
+returns-in_err-push_whole-clause-rewritten g c = λ h.
     let limits = c.args.session.now.reading.limits in
     let depth : c.min.result ≡ min limits.depth deepest = cc (c.min.ensures, c.requires.depth) in
     let tidy = subst (λ (T : Table). IsTidyWhole T c.in-Some.whole.id c.min.result c.in-Some.whole.body.now)
-    (ap (λ d. types d) c.table-table.ensures) (c.is_tidy_whole.ensures c.if-not-is_tidy_whole.false) in
-    let next = subst (λ (T : Table). IsTidyNext h T c.in-Some.whole.id c.in-Some.whole.body.now)
-    (ap (λ d. types d) (sym c.table-table.ensures)) (whole_next h depth c.in-Some.ensures.body tidy) in
-    may_at h c.args.session.now.reading c.push_whole.new.self.writer c.args.piece.now _ _ c.from_residual.result
-    c.from_residual.ensures.1 (c.in_err-push_whole.ensures c.args.session.now.reading h next)
-
-pub pass-requires-clause-item : goal.pass-requires-clause-item
-pass-requires-clause-item c =
-    let limits = c.args.session.now.reading.limits in
-    let depth : c.min.result ≡ min limits.depth deepest = cc (c.min.ensures, c.requires.depth) in
-    let tidy = subst (λ (T : Table). IsTidyWhole T c.in-Some.whole.id c.min.result c.in-Some.whole.body.now)
-    (ap (λ d. types d) c.table-table.ensures) (c.is_tidy_whole.ensures c.if-not-is_tidy_whole.false) in
-    has_item deepest depth c.in-Some.ensures.body (whole_of tidy)
+    (ap (λ d. types d) c.table.ensures) (c.is_tidy_whole.ensures c.if-not-is_tidy_whole.false) in
+    let s = c.pass.new.self.reading in
+    let w = c.push_whole.new.self.writer in
+    let old = g.W.Write.contents c.args.output.now.writer in
+    let new = g.W.Write.contents c.push_whole.new.output.writer in
+    let before = c.args.rewriter.now.gathered.items in
+    let after = c.push_whole.new.self.gathered.items in
+    let f = c.in_err-push_whole.field-0.0 in
+    may_at h s w c.args.piece.now old new before after c.from_residual.result f c.from_residual.ensures.1
+    (whole_stops h depth c.in-Some.ensures.body tidy s w old new before after c.pass.ensures.limits c.pass.ensures.types
+    c.pass.ensures.passed f
+    (subst (λ (T : Table). EachPushesOut c.args.rewriter.now.writer w T c.in-Some.whole.id c.in-Some.whole.body.now old new
+    before after (Err f)) (ap (λ d. types d) (c.table-2.ensures ∙ c.pass.ensures.types))
+    c.in_err-push_whole.ensures.pushed))
 
 pub returns-clause-rewritten : goal.returns-clause-rewritten
-returns-clause-rewritten c = λ h.
+returns-clause-rewritten g c = λ h.
     let limits = c.args.session.now.reading.limits in
     let depth : c.min.result ≡ min limits.depth deepest = cc (c.min.ensures, c.requires.depth) in
     let tidy = subst (λ (T : Table). IsTidyWhole T c.in-Some.whole.id c.min.result c.in-Some.whole.body.now)
-    (ap (λ d. types d) c.table-table.ensures) (c.is_tidy_whole.ensures c.if-not-is_tidy_whole.false) in
-    whole_rewritten h depth c.in-Some.ensures.body tidy c.in_ok-push_whole.field-0 c.pass.ensures.limits
-    c.pass.ensures.types c.pass.ensures.passed
-    (whole_pushes_by c.push_whole.new.self.writer c.args.rewriter.now.gathered.items
-    c.push_whole.new.self.gathered.items (Ok c.in_ok-push_whole.field-0) (ap (λ d. types d) c.table-table.ensures)
-    c.in_ok-push_whole.ensures)
+    (ap (λ d. types d) c.table.ensures) (c.is_tidy_whole.ensures c.if-not-is_tidy_whole.false) in
+    let s = c.pass.new.self.reading in
+    let w = c.push_whole.new.self.writer in
+    let old = g.W.Write.contents c.args.output.now.writer in
+    let new = g.W.Write.contents c.push_whole.new.output.writer in
+    let before = c.args.rewriter.now.gathered.items in
+    let after = c.push_whole.new.self.gathered.items in
+    let u = c.in_ok-push_whole.field-0 in
+    whole_rewritten h depth c.in-Some.ensures.body tidy s w old new before after c.pass.ensures.limits c.pass.ensures.types
+    c.pass.ensures.passed u
+    (subst (λ (T : Table). EachPushesOut c.args.rewriter.now.writer w T c.in-Some.whole.id c.in-Some.whole.body.now old new
+    before after (Ok u)) (ap (λ d. types d) (c.table-2.ensures ∙ c.pass.ensures.types))
+    c.in_ok-push_whole.ensures.pushed)

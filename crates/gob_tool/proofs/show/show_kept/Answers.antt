@@ -12,15 +12,15 @@ returns-in_err-keep-clause-shown g c = λ bytes start k.
     (g.W.Write.contents c.args.output.now.writer) c.args.lines.now.gathered.items c.from_residual.result fault.Memory
     c.from_residual.ensures.1 (keeps_begun c.args.front.now k)
 
-pub returns-in_err-show_piece-clause-shown : goal.returns-in_err-show_piece-clause-shown
-returns-in_err-show_piece-clause-shown g c = λ bytes start k.
+pub returns-in_err-show_item-clause-shown : goal.returns-in_err-show_item-clause-shown
+returns-in_err-show_item-clause-shown g c = λ bytes start k.
     let M = c.args.session.now.reading.limits in
-    let s = c.show_piece.new.session.reading in
+    let s = c.show_item.new.session.reading in
     let front = c.args.front.now in
-    let new = g.W.Write.contents c.show_piece.new.output.writer in
-    let after = c.show_piece.new.lines.gathered.items in
-    let f = c.in_err-show_piece.field-0.0 in
-    piece_at (within_trees M) s (bytes ++ front) start new after c.from_residual-in_err-show_piece.result f
-    c.from_residual-in_err-show_piece.ensures.1
+    let new = g.W.Write.contents c.show_item.new.output.writer in
+    let after = c.show_item.new.lines.gathered.items in
+    let f = c.in_err-show_item.field-0.0 in
+    piece_at (within_trees M) s (bytes ++ front) start new after c.from_residual-in_err-show_item.result f
+    c.from_residual-in_err-show_item.ensures.1
     (kept_given (within_trees M) s new after front (Err f) k (c.bytes.ensures ∙ c.in_ok-keep.ensures.kept)
-    (c.in_err-show_piece.ensures.shown k.given start k.behind))
+    (c.in_err-show_item.ensures.shown k.given start k.behind))

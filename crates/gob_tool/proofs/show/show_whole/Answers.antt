@@ -3,8 +3,8 @@ use Rattle.std.proofs.Common.{◌≡◌, min, ap, subst}
 use Rattle.gob_types.specs.Defined.{types}
 use Rattle.gob_types.specs.Table.{Table}
 use Rattle.gob_stream.specs.Bounds.{greatest_depth}
-use Rattle.gob_stream.proofs.WholeSteps.{has_item}
-use Rattle.gob_tool.specs.TextWhole.{LineOfWhole}
+use Rattle.gob_stream.proofs.PublicLaws.{has_item}
+use Rattle.gob_json.specs.TextWhole.{LineOfWhole}
 use Rattle.gob_tool.proofs.ShowWhole.{whole_of, gathers_whole}
 use Rattle.gob_tool.proofs.show.show_whole.Goals as goal
 

@@ -3,7 +3,7 @@ use Rattle.std.proofs.Common.{◌≡◌}
 use Rattle.gob_types.specs.Defined.{types}
 use Rattle.gob_tool.specs.Gathering.{PassesSome}
 use Rattle.gob_tool.specs.Pieces.{StandsAt, unread}
-use Rattle.gob_tool.specs.Taking.{HasReceived}
+use Rattle.gob_tool.specs.Taking.{HasTakenItems}
 use Rattle.gob_tool.proofs.take.take_pieces.Given as goal
 
 abbrev pub invariant-pieces : goal.invariant-pieces
@@ -12,7 +12,7 @@ invariant-pieces g l =
     × (l.input.failures ≡ l.fn.input.failures)
     × (l.output.failures ≡ l.fn.output.failures)
     × StandsAt l.session.reading (g.R.Read.remaining l.fn.input.reader) (g.R.Read.remaining l.input.reader)
-    (λ items. HasReceived (types l.session.reading.types) (types l.wanted) l.fn.wanted_id items
+    (λ items. HasTakenItems (types l.session.reading.types) (types l.wanted) l.fn.wanted_id items
     (λ lines. PassesSome (g.W.Write.contents l.fn.output.writer) (g.W.Write.contents l.output.writer) lines
     l.lines.gathered.items))
 

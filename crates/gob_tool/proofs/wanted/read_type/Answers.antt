@@ -5,7 +5,7 @@ use Rattle.gob_value.specs.declared.value.Value.{Value}
 use Rattle.gob_stream.specs.declared.item.Item as declared
 use Rattle.gob_stream.specs.Item.{item_views}
 use Rattle.gob_stream.specs.Bounds.{within_trees}
-use Rattle.gob_tool.specs.Pieces.{first_of}
+use Rattle.gob_tool.specs.Pieces.{first_type_of}
 use Rattle.gob_tool.specs.Taking.{first_type}
 use Rattle.gob_tool.proofs.TakeRuns.{nearer}
 use Rattle.gob_tool.proofs.WantedLaws.{first_more, wanted_ready, finds_on, wanted_read, wanted_stopped, wanted_at}
@@ -20,7 +20,7 @@ pub pieces-preserved : goal.pieces-preserved
 pieces-preserved g c =
     let i = c.pieces.invariant.2 in
     let known = c.first_put-first.ensures
-    ∙ ap (λ (l : List (declared.Item Value)). first_of c.pieces.first (first_type (item_views l)))
+    ∙ ap (λ (l : List (declared.Item Value)). first_type_of c.pieces.first (first_type (item_views l)))
     c.deref.ensures.value in (
       c.in_ok-more.ensures.limits ∙ c.pieces.invariant.0,
       c.in_ok-more.ensures.reads ∙ c.pieces.invariant.1,
@@ -46,7 +46,7 @@ pub returns-then-not-more-clause-read : goal.returns-then-not-more-clause-read
 returns-then-not-more-clause-read g c = λ bytes given.
     let i = c.pieces.invariant.2 in
     let known = c.first_put-first.ensures
-    ∙ ap (λ (l : List (declared.Item Value)). first_of c.pieces.first (first_type (item_views l)))
+    ∙ ap (λ (l : List (declared.Item Value)). first_type_of c.pieces.first (first_type (item_views l)))
     c.deref.ensures.value in
     wanted_read c.args.session.now.reading.limits c.pieces.session.reading c.next_items.new.session.reading _ _ _
     c.pieces.first _ c.pieces.invariant.0 i bytes c.first_put-first.result c.in_ok-more.more c.if-not-more.true
@@ -59,7 +59,7 @@ pub returns-then-not-more-clause-ready : goal.returns-then-not-more-clause-ready
 returns-then-not-more-clause-ready g c =
     let i = c.pieces.invariant.2 in
     let known = c.first_put-first.ensures
-    ∙ ap (λ (l : List (declared.Item Value)). first_of c.pieces.first (first_type (item_views l)))
+    ∙ ap (λ (l : List (declared.Item Value)). first_type_of c.pieces.first (first_type (item_views l)))
     c.deref.ensures.value in
     wanted_ready c.args.session.now.reading.limits c.pieces.session.reading c.next_items.new.session.reading _ _ _
     c.pieces.first _ c.pieces.invariant.0 i c.first_put-first.result

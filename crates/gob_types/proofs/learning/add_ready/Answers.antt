@@ -1,5 +1,6 @@
 use Rattle.std.proofs.Common.{List, Contains, subst}
 use Rattle.std.proofs.lemmas.Option.{slice_get-get_or}
+use Rattle.std.proofs.lemmas.Result.{IfOk-from_err}
 use Rattle.gob_types.specs.declared.id.TypeId.{TypeId}
 use Rattle.gob_types.specs.Walk.{AddsOne, AddsAll}
 use Rattle.gob_types.proofs.FirstLaws.{contains_read, contains_at}
@@ -42,3 +43,9 @@ returns-clause-added c =
     let i = c.loop-id.invariant in
     let a : AddsAll c.args.ready.now c.loop-id.ready (Contains ids) = adds_each i.added c.loop-id-test.false (contains_read ids) (contains_at ids) in
     record { added = subst (λ (l : List TypeId). AddsAll c.args.ready.now c.loop-id.ready (Contains l)) c.as_slice-id-items.ensures a; queued = i.queue; handed = i.handed }
+
+pub returns-in_err-add-clause-added : goal.returns-in_err-add-clause-added
+returns-in_err-add-clause-added c = IfOk-from_err c.from_residual.result _ c.from_residual.ensures.0
+
+pub returns-in_err-add_all-clause-added : goal.returns-in_err-add_all-clause-added
+returns-in_err-add_all-clause-added c = IfOk-from_err c.from_residual-in_err-add_all.result _ c.from_residual-in_err-add_all.ensures.0

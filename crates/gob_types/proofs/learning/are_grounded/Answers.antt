@@ -1,6 +1,7 @@
 use Rattle.std.proofs.Common.{◌<◌, Contains, List, length, ap, sym, arith, subst}
 use Rattle.std.proofs.lemmas.Bool.Decides.{when_true, when_false}
 use Rattle.std.proofs.lemmas.Option.{slice_get-get_or}
+use Rattle.std.proofs.lemmas.Result.{IfOk-from_err}
 use Rattle.gob_types.specs.declared.id.TypeId.{TypeId}
 use Rattle.gob_types.proofs.FirstLaws.{contains_read, read_at, none_first, more_first, all_first}
 use Rattle.gob_types.proofs.KeptLaws.{past_complete, past_ready, past_bottomless, trusted, knows_as}
@@ -32,3 +33,9 @@ loop-id-preserved c = record {
 
 pub returns : goal.returns
 returns c = past_ready c.requires.known c.requires.met (λ u there. all_first c.loop-id.invariant.all c.loop-id-test.false (subst (λ (ids : List TypeId). Contains ids u) (sym c.as_slice-id-items.ensures) there))
+
+pub returns-in_err-common : goal.returns-in_err-common
+returns-in_err-common c = IfOk-from_err c.from_residual.result _ c.from_residual.ensures.0
+
+pub returns-in_err-judge : goal.returns-in_err-judge
+returns-in_err-judge c = IfOk-from_err c.from_residual-in_err-judge.result _ c.from_residual-in_err-judge.ensures.0

@@ -2,11 +2,12 @@ use Rattle.std.proofs.Common.{◌≡◌, Contains, None, subst}
 use Rattle.std.specs.Prelude.{MatchOption}
 use Rattle.std.proofs.lemmas.Option.{MatchOption-at_none}
 use Rattle.std.proofs.lemmas.Bool.Decides.{when_true, when_false}
-use Rattle.std.proofs.lemmas.Result.{on_ok_weaker}
+use Rattle.std.proofs.lemmas.Result.{on_ok_weaker, IfOk-from_err}
 use Rattle.gob_types.specs.Defined.{types}
 use Rattle.gob_types.specs.Table.{shape_of}
 use Rattle.gob_types.specs.Ready.{Reaches}
 use Rattle.gob_types.specs.Kept.{WaitsFor, MetPast}
+use Rattle.gob_types.proofs.GrowsLaws.{grows_not}
 use Rattle.gob_types.proofs.WaitLaws.{looking_on, redirects_same, some_of, learning_waits, learning_missing, learning_hopeless, learning_ready}
 use Rattle.gob_types.proofs.learning.look.Goals as goal
 
@@ -45,3 +46,36 @@ returns-clause-learning c =
     let s = looking_on _ begun c.requires.apart next.redirected (next.led T begun.led) in
     let met = MatchOption-at_none _ _ c.in_default-2.is c.in_ok-missing.ensures in
     on_ok_weaker c.add_ready.result (λ a. learning_ready s (when_true _ _ c.if-not-branch.false c.in_ok-are_grounded.ensures) met.start a) c.add_ready.ensures.added
+
+pub returns-in_err-begin-clause-learning : goal.returns-in_err-begin-clause-learning
+returns-in_err-begin-clause-learning c = IfOk-from_err c.from_residual.result _ c.from_residual.ensures.0
+
+pub returns-in_err-begin-clause-grown : goal.returns-in_err-begin-clause-grown
+returns-in_err-begin-clause-grown c = grows_not
+
+pub returns-in_err-next-clause-learning : goal.returns-in_err-next-clause-learning
+returns-in_err-next-clause-learning c = IfOk-from_err c.from_residual-in_err-next.result _ c.from_residual-in_err-next.ensures.0
+
+pub returns-in_err-next-clause-grown : goal.returns-in_err-next-clause-grown
+returns-in_err-next-clause-grown c = grows_not
+
+pub returns-in_err-missing-clause-learning : goal.returns-in_err-missing-clause-learning
+returns-in_err-missing-clause-learning c = IfOk-from_err c.from_residual-in_err-missing.result _ c.from_residual-in_err-missing.ensures.0
+
+pub returns-in_err-missing-clause-grown : goal.returns-in_err-missing-clause-grown
+returns-in_err-missing-clause-grown c = grows_not
+
+pub returns-in_err-are_grounded-clause-learning : goal.returns-in_err-are_grounded-clause-learning
+returns-in_err-are_grounded-clause-learning c = IfOk-from_err c.from_residual-in_err-are_grounded.result _ c.from_residual-in_err-are_grounded.ensures.0
+
+pub returns-in_err-are_grounded-clause-grown : goal.returns-in_err-are_grounded-clause-grown
+returns-in_err-are_grounded-clause-grown c = grows_not
+
+pub returns-in-Some-clause-grown : goal.returns-in-Some-clause-grown
+returns-in-Some-clause-grown c = grows_not
+
+pub returns-in-Some-2-clause-grown : goal.returns-in-Some-2-clause-grown
+returns-in-Some-2-clause-grown c = grows_not
+
+pub returns-then-not-branch-clause-grown : goal.returns-then-not-branch-clause-grown
+returns-then-not-branch-clause-grown c = grows_not

@@ -1,4 +1,5 @@
 use Rattle.std.proofs.Common.{◌≡◌, length, ap, sym, subst, arith}
+use Rattle.std.proofs.lemmas.Result.{IfOk-from_err}
 use Rattle.gob_types.specs.Defined.{types}
 use Rattle.gob_types.specs.Walk.{AddsAll}
 use Rattle.gob_types.proofs.FirstLaws.{contains_read, read_at, next_less}
@@ -37,3 +38,9 @@ loop-next-smaller-then-contains c = next_less c.loop-next-test.true c.count.ensu
 
 pub loop-next-smaller : goal.loop-next-smaller
 loop-next-smaller c = next_less c.loop-next-test.true c.count.ensures.small
+
+pub returns-in_err-add : goal.returns-in_err-add
+returns-in_err-add c = IfOk-from_err c.from_residual.result _ c.from_residual.ensures.0
+
+pub returns-in_err-add_names : goal.returns-in_err-add_names
+returns-in_err-add_names c = IfOk-from_err c.from_residual-in_err-add_names.result _ c.from_residual-in_err-add_names.ensures.0

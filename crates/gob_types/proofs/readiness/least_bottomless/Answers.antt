@@ -1,6 +1,7 @@
 use Rattle.std.proofs.Common.{◌<◌, length, ap, arith, subst}
 use Rattle.std.proofs.lemmas.Bool.Decides.{when_true, when_false}
 use Rattle.std.proofs.lemmas.Option.{slice_get-get_or}
+use Rattle.std.proofs.lemmas.Result.{IfOk-from_err}
 use Rattle.gob_types.specs.declared.id.TypeId.{TypeId}
 use Rattle.gob_types.specs.Defined.{types}
 use Rattle.gob_types.specs.Ready.{IsGrounded}
@@ -44,3 +45,6 @@ returns c =
     let T = types c.args.table.now in
     subst (λ ids. IsLeastBad (IsGrounded T) (λ u. ¬ IsGrounded T u) ids c.loop-id.least) c.as_slice-id-items.ensures
     (least_end (IsGrounded T) (λ u. ¬ IsGrounded T u) c.as_slice-id-items.result.now c.loop-id.id-index c.loop-id.least c.loop-id.invariant.least c.loop-id-test.false)
+
+pub returns-in_err-judge : goal.returns-in_err-judge
+returns-in_err-judge c = IfOk-from_err c.from_residual.result _ c.from_residual.ensures.0

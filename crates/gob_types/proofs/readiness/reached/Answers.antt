@@ -1,4 +1,5 @@
 use Rattle.std.proofs.Common.{◌≡◌, sym, subst, arith}
+use Rattle.std.proofs.lemmas.Result.{IfOk-from_err}
 use Rattle.gob_types.specs.Defined.{types}
 use Rattle.gob_types.specs.Walk.{AddsAll}
 use Rattle.gob_types.proofs.FirstLaws.{read_at}
@@ -23,3 +24,9 @@ loop-next-preserved c =
 
 pub returns : goal.returns
 returns c = met_all (types c.args.table.now) c.args.id c.loop-next.met c.loop-next.next c.loop-next.invariant (omega (arith, c.loop-next-test.false, c.count.ensures.count))
+
+pub returns-in_err-add : goal.returns-in_err-add
+returns-in_err-add c = IfOk-from_err c.from_residual.result _ c.from_residual.ensures.0
+
+pub returns-in_err-add_names : goal.returns-in_err-add_names
+returns-in_err-add_names c = IfOk-from_err c.from_residual-in_err-add_names.result _ c.from_residual-in_err-add_names.ensures.0

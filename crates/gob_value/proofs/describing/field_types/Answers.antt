@@ -1,5 +1,6 @@
 use Rattle.std.proofs.Common.{arith, refl, length}
 use Rattle.std.proofs.lemmas.Option.{slice_get_read}
+use Rattle.std.proofs.lemmas.Result.{IfOk-from_err}
 use Rattle.gob_value.proofs.DescriptionSteps.{types_more, types_all, counted_more, counted_all}
 use Rattle.gob_value.proofs.describing.field_types.Goals as goal
 
@@ -25,3 +26,15 @@ returns-clause-described c = types_all c.loop-field.types.items c.args.fields.no
 pub returns-clause-counted : goal.returns-clause-counted
 returns-clause-counted c = counted_all c.args.fields.now c.loop-field.field-index c.loop-field.invariant.1
     c.loop-field-test.false
+
+pub returns-in_err-name_and_id-clause-described : goal.returns-in_err-name_and_id-clause-described
+returns-in_err-name_and_id-clause-described c = IfOk-from_err c.from_residual.result _ c.from_residual.ensures.0
+
+pub returns-in_err-name_and_id-clause-counted : goal.returns-in_err-name_and_id-clause-counted
+returns-in_err-name_and_id-clause-counted c = IfOk-from_err c.from_residual.result _ c.from_residual.ensures.0
+
+pub returns-in_err-push-clause-described : goal.returns-in_err-push-clause-described
+returns-in_err-push-clause-described c = IfOk-from_err c.from_residual-in_err-push.result _ c.from_residual-in_err-push.ensures.0
+
+pub returns-in_err-push-clause-counted : goal.returns-in_err-push-clause-counted
+returns-in_err-push-clause-counted c = IfOk-from_err c.from_residual-in_err-push.result _ c.from_residual-in_err-push.ensures.0

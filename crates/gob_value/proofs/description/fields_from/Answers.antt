@@ -1,5 +1,5 @@
 use Rattle.std.proofs.Common.{sym, ap, ◌∙◌, subst}
-use Rattle.gob_value.specs.Description.{number_in, name_in, present, GivesFields, said_fields}
+use Rattle.gob_value.specs.Description.{number_in, name_in, present_field, GivesFields, said_fields}
 use Rattle.gob_value.specs.View.{views}
 use Rattle.gob_value.proofs.DescriptionSteps.{refers_as, number_as, have_item, GivesSoFar, gives_start, gives_more}
 use Rattle.gob_value.proofs.DescriptionSteps.{gives_end}
@@ -7,7 +7,7 @@ use Rattle.gob_value.proofs.description.fields_from.Goals as goal
 
 pub field_from-requires : goal.field_from-requires
 field_from-requires c =
-    number_as (sym (ap (λ fs. number_in (present 1 fs)) c.fields_within.ensures))
+    number_as (sym (ap (λ fs. number_in (present_field 1 fs)) c.fields_within.ensures))
     ((have_item c.args.field_types.now c.loop-field_type.field_type-index c.field_type-item.result c.field_type-item.is
     c.loop-field_type-test.true).1 c.loop-field_type.invariant.left).0
 
@@ -20,8 +20,8 @@ loop-field_type-preserved c =
     gives_more c.args.field_types.now c.loop-field_type.field_type-index c.loop-field_type.items.items
     c.push.new.self.items c.field_type-item.result c.in_ok-field_from.field-0
     c.loop-field_type.invariant c.field_type-item.is c.loop-field_type-test.true
-    (c.in_ok-field_from.ensures.name ∙ ap (λ fs. name_in (present 0 fs)) c.fields_within.ensures)
-    (refers_as (ap (λ fs. number_in (present 1 fs)) c.fields_within.ensures) c.in_ok-field_from.ensures.id)
+    (c.in_ok-field_from.ensures.name ∙ ap (λ fs. name_in (present_field 0 fs)) c.fields_within.ensures)
+    (refers_as (ap (λ fs. number_in (present_field 1 fs)) c.fields_within.ensures) c.in_ok-field_from.ensures.id)
     c.in_ok-push.ensures.items
 
 pub returns : goal.returns

@@ -1,7 +1,7 @@
 use Rattle.std.proofs.Common.{rules, refl, sym, ap, ◌∙◌, w64}
 use Rattle.std.proofs.lemmas.Int.{to_z-of_z}
 use Rattle.gob_value.specs.View.{view, field_views}
-use Rattle.gob_value.specs.Description.{present, number_in, name_in, kind_count, wrong_id}
+use Rattle.gob_value.specs.Description.{present_field, number_in, name_in, kind_count, wrong_id}
 use Rattle.gob_value.specs.Saying.{what_said}
 use Rattle.gob_value.specs.ShapeFaults.{IsShapeFault}
 use Rattle.gob_value.specs.declared.fault.ShapeFault.TheVariants as fault
@@ -17,14 +17,14 @@ pub returns-then-not-is_id-clause-fault : goal.returns-then-not-is_id-clause-fau
 returns-then-not-is_id-clause-fault c =
     let number = c.number_of.result in
     let said_id = to_z-of_z w64 number (search rules) ∙ c.number_of.ensures
-    ∙ ap (λ fs. number_in (present 1 fs)) c.struct_of-common.ensures in
+    ∙ ap (λ fs. number_in (present_field 1 fs)) c.struct_of-common.ensures in
     wrong_id c.in-Some.ensures (λ same. not_true c.if-not-is_id.true c.is_id.ensures (said_id ∙ same))
 
 pub returns-in_err-kind-clause-fault : goal.returns-in_err-kind-clause-fault
 returns-in_err-kind-clause-fault c =
     let number = c.number_of.result in
     let said_id = to_z-of_z w64 number (search rules) ∙ c.number_of.ensures
-    ∙ ap (λ fs. number_in (present 1 fs)) c.struct_of-common.ensures in
+    ∙ ap (λ fs. number_in (present_field 1 fs)) c.struct_of-common.ensures in
     let v = view c.args.described.now in
     let what = what_said c.in-Some.wire (field_views c.in-Some.fields.now) in
     fault_at (IsShapeFault c.args.id v) c.from_residual.result c.in_err-kind.field-0.0 c.from_residual.ensures.1
@@ -35,7 +35,7 @@ pub returns-in_err-name-clause-fault : goal.returns-in_err-name-clause-fault
 returns-in_err-name-clause-fault c =
     let number = c.number_of.result in
     let said_id = to_z-of_z w64 number (search rules) ∙ c.number_of.ensures
-    ∙ ap (λ fs. number_in (present 1 fs)) c.struct_of-common.ensures in
+    ∙ ap (λ fs. number_in (present_field 1 fs)) c.struct_of-common.ensures in
     let v = view c.args.described.now in
     let what = what_said c.in-Some.wire (field_views c.in-Some.fields.now) in
     fault_at (IsShapeFault c.args.id v) c.from_residual-in_err-name.result fault.Memory
@@ -47,12 +47,12 @@ pub returns-clause-shape : goal.returns-clause-shape
 returns-clause-shape c =
     let number = c.number_of.result in
     let said_id = to_z-of_z w64 number (search rules) ∙ c.number_of.ensures
-    ∙ ap (λ fs. number_in (present 1 fs)) c.struct_of-common.ensures in
+    ∙ ap (λ fs. number_in (present_field 1 fs)) c.struct_of-common.ensures in
     record {
       what = what_said c.in-Some.wire (field_views c.in-Some.fields.now);
       says = c.in-Some.ensures;
       same_id = sym said_id ∙ c.if-not-is_id.ensures.0 refl;
-      name = c.in_ok-name.ensures ∙ c.text_of.ensures ∙ ap (λ fs. name_in (present 0 fs)) c.struct_of-common.ensures;
+      name = c.in_ok-name.ensures ∙ c.text_of.ensures ∙ ap (λ fs. name_in (present_field 0 fs)) c.struct_of-common.ensures;
       kind = c.in_ok-kind.ensures.kind;
     }
 

@@ -1,6 +1,6 @@
 use Rattle.std.proofs.Common.{arith, rules, sym, ap, ◌∙◌, ◌≡◌}
 use Rattle.gob_value.specs.View.{view, views, pair_views, field_views}
-use Rattle.gob_value.specs.Elements.{element_type}
+use Rattle.gob_value.specs.Elements.{element_type_at}
 use Rattle.gob_value.specs.Tree.{tree_count}
 use Rattle.gob_value.specs.declared.value.Value.{the_lemmas}
 use Rattle.gob_value.proofs.TestSteps.{through, never, always, keep, stop, stop_first, stop_second, keep_both, not_true}
@@ -92,7 +92,7 @@ fits_kind-returns-in-Some g t c =
     let n : tree_count (views vs.items) ≡ c.len.result = tree_count-views vs.items ∙ sym (c.len.ensures ∙ vs.ok.0) in
     rw (c.in-Many.is, view-Many vs) (through (rw c.deref.ensures.value at c.all_fit.ensures)
     (fits_many _ c.args.kind.now (views vs.items) c.in-Some.elem c.args.depth
-    (ap (element_type c.args.kind.now) n ∙ sym c.in-Some.ensures)
+    (ap (element_type_at c.args.kind.now) n ∙ sym c.in-Some.ensures)
     (omega (arith, n, c.len.ensures, vs.ok.0, vs.small)) (omega arith)))
 
 pub fits_kind-returns-in-None : goal.fits_kind-returns-in-None
@@ -100,7 +100,7 @@ fits_kind-returns-in-None g t c =
     let vs = c.in-Many.parts in
     let n : tree_count (views vs.items) ≡ c.len.result = tree_count-views vs.items ∙ sym (c.len.ensures ∙ vs.ok.0) in
     rw (c.in-Many.is, view-Many vs) (never (fits_no_list _ c.args.kind.now (views vs.items) c.args.depth
-    (ap (element_type c.args.kind.now) n ∙ sym c.in-None.ensures)))
+    (ap (element_type_at c.args.kind.now) n ∙ sym c.in-None.ensures)))
 
 pub fits_kind-returns-in-Map : goal.fits_kind-returns-in-Map
 fits_kind-returns-in-Map g t c =

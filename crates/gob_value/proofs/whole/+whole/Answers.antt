@@ -51,7 +51,7 @@ fields_end-fields-preserved g t c = record {
     | fields_end-else-this-ne0-via-then-this-ne0+else-is_dropped_at w ↦ λ tidy. w.is_dropped_at.ensures w.if-is_dropped_at.false
     | fields_end-else-this-ne0-via-else-this-ne0 w ↦ λ tidy. absurd (not_asked w.if-this-ne0.false tidy)
   ])) s
-      (field_begins _ _ _ _ _ _ _ c.in_ok-field.field.now c.in_ok-shape.shape.now (omega arith) c.in_ok-number.ensures
+      (field_begins _ _ _ _ _ _ _ c.in_ok-field.field.now c.in_ok-shape.shape.now (omega arith) c.in_ok-number.ensures.found
       (sym c.in_ok-field.ensures.found) (sym c.in_ok-shape.ensures)));
 }
 

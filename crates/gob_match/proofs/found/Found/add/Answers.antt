@@ -1,4 +1,5 @@
 use Rattle.std.proofs.Common.{◌≡◌, ◌++◌, ◌∷◌, [], sym, subst, ◌∙◌}
+use Rattle.std.proofs.lemmas.Result.{IfOk-from_err}
 use Rattle.gob_match.specs.Machine.Search.{came, IsAt, AddsPairs}
 use Rattle.gob_match.proofs.FoundLaws.{same_pair, known_at, no_lookup, IsStepTo, adds_known, adds_new, at_new}
 use Rattle.gob_match.proofs.found.Found.add.Goals as goal
@@ -32,3 +33,9 @@ returns-clause-added c =
     ∙ insert_entry-new same_pair c.self.inside.pairs c.args.pair (came c.args.place c.args.step) none in
     subst (λ zs. AddsPairs zs c.insert.new.self.entries c.args.place (IsStepTo c.args.step c.args.pair)) c.self.view_is
     (adds_new es c.args.place c.args.step grown)
+
+pub returns-in_err-insert-clause-at : goal.returns-in_err-insert-clause-at
+returns-in_err-insert-clause-at c = IfOk-from_err c.from_residual.result _ c.from_residual.ensures.0
+
+pub returns-in_err-insert-clause-added : goal.returns-in_err-insert-clause-added
+returns-in_err-insert-clause-added c = IfOk-from_err c.from_residual.result _ c.from_residual.ensures.0

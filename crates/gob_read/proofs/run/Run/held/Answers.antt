@@ -3,4 +3,4 @@ use Rattle.gob_read.proofs.Held.{held_is}
 use Rattle.gob_read.proofs.run.Run.held.Goals as goal
 
 pub returns : goal.returns
-returns g c = λ T t z h. held_is g.B.Builder.stores_raw c.held.result c.held.ensures c.begun.ensures (λ l. omega arith) h
+returns g c = λ T t z h. held_is g.B.Builder.STORES c.held.result c.held.ensures c.begun.ensures (λ l. omega arith) h

@@ -1,4 +1,4 @@
-use Rattle.std.proofs.Common.{arith, ap, ◌∙◌}
+use Rattle.std.proofs.Common.{arith, ap}
 use Rattle.std.specs.Prelude.{slice_get}
 use Rattle.gob_read.specs.Plain.{stepped_over}
 use Rattle.gob_read.proofs.PlainSteps.{taken_some, plain_stepped, plain_more, plain_opens, plain_open, part_deep, more_then, behind_it, rest_some}

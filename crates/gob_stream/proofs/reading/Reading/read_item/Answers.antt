@@ -3,7 +3,7 @@ use Rattle.std.proofs.lemmas.Grind.{common_steps}
 use Rattle.gob_types.specs.Defined.{types}
 use Rattle.gob_stream.specs.Standing.{has_failed}
 use Rattle.gob_stream.specs.Reading.{ReadsNext, TakesNext}
-use Rattle.gob_stream.specs.ReadParts.{wanted_in}
+use Rattle.gob_stream.specs.ReadParts.{bytes_wanted}
 use Rattle.gob_stream.proofs.SessionSteps.{IsSound, told_trees, types_stay, on_err, consumed_nothing, all_taken, somewhere, stood_first, room_of, passed_on, IsRead, piece_length, piece_consumed, stepped, stood_before, step_stops, read_stops, end_stops, counts_none, step_unread, end_unread, nothing_more, step_gives, gives_taken, step_taken, item_within, no_less, stood_further, sound_after, still_sound}
 use Rattle.gob_stream.proofs.reading.Reading.read_item.Goals as goal
 use Rattle.gob_stream.proofs.reading.Reading.read_item.Goals.{in-Failed, in_default}
@@ -69,7 +69,7 @@ returns-in-Ok-eq0-clause-taken g c =
 pub returns-in_err-step-in-Ok-clause-read : goal.returns-in_err-step-in-Ok-clause-read
 returns-in_err-step-in-Ok-clause-read g c = λ items bytes rest a e.
     let room = room_of c.pieces.invariant.usable c.pieces.invariant.sound in
-    let read : IsRead c.in-Ok.n (wanted_in c.pieces.self.stage c.pieces.self.taken) c.read.new.buf =
+    let read : IsRead c.in-Ok.n (bytes_wanted c.pieces.self.stage c.pieces.self.taken) c.read.new.buf =
     record { some = grind (arith, common_steps); within = grind (arith, common_steps); few = grind (arith, common_steps) } in
     let tail = drop c.min-wanted.result c.pieces.chunk in
     let piece = take c.in-Ok.n (c.read.new.buf ++ tail) in
@@ -81,7 +81,7 @@ returns-in_err-step-in-Ok-clause-read g c = λ items bytes rest a e.
 pub returns-in_err-step-in-Ok-clause-counted : goal.returns-in_err-step-in-Ok-clause-counted
 returns-in_err-step-in-Ok-clause-counted g c =
     let room = room_of c.pieces.invariant.usable c.pieces.invariant.sound in
-    let read : IsRead c.in-Ok.n (wanted_in c.pieces.self.stage c.pieces.self.taken) c.read.new.buf =
+    let read : IsRead c.in-Ok.n (bytes_wanted c.pieces.self.stage c.pieces.self.taken) c.read.new.buf =
     record { some = grind (arith, common_steps); within = grind (arith, common_steps); few = grind (arith, common_steps) } in
     let tail = drop c.min-wanted.result c.pieces.chunk in
     let piece = take c.in-Ok.n (c.read.new.buf ++ tail) in
@@ -92,7 +92,7 @@ returns-in_err-step-in-Ok-clause-counted g c =
 pub returns-in_err-step-in-Ok-clause-taken : goal.returns-in_err-step-in-Ok-clause-taken
 returns-in_err-step-in-Ok-clause-taken g c =
     let room = room_of c.pieces.invariant.usable c.pieces.invariant.sound in
-    let read : IsRead c.in-Ok.n (wanted_in c.pieces.self.stage c.pieces.self.taken) c.read.new.buf =
+    let read : IsRead c.in-Ok.n (bytes_wanted c.pieces.self.stage c.pieces.self.taken) c.read.new.buf =
     record { some = grind (arith, common_steps); within = grind (arith, common_steps); few = grind (arith, common_steps) } in
     let tail = drop c.min-wanted.result c.pieces.chunk in
     let piece = take c.in-Ok.n (c.read.new.buf ++ tail) in
@@ -104,7 +104,7 @@ returns-in_err-step-in-Ok-clause-taken g c =
 pub returns-in-Some-clause-read : goal.returns-in-Some-clause-read
 returns-in-Some-clause-read g c = λ items bytes rest a e.
     let room = room_of c.pieces.invariant.usable c.pieces.invariant.sound in
-    let read : IsRead c.in-Ok.n (wanted_in c.pieces.self.stage c.pieces.self.taken) c.read.new.buf =
+    let read : IsRead c.in-Ok.n (bytes_wanted c.pieces.self.stage c.pieces.self.taken) c.read.new.buf =
     record { some = grind (arith, common_steps); within = grind (arith, common_steps); few = grind (arith, common_steps) } in
     let tail = drop c.min-wanted.result c.pieces.chunk in
     let piece = take c.in-Ok.n (c.read.new.buf ++ tail) in
@@ -115,7 +115,7 @@ returns-in-Some-clause-read g c = λ items bytes rest a e.
 pub returns-in-Some-clause-taken : goal.returns-in-Some-clause-taken
 returns-in-Some-clause-taken g c =
     let room = room_of c.pieces.invariant.usable c.pieces.invariant.sound in
-    let read : IsRead c.in-Ok.n (wanted_in c.pieces.self.stage c.pieces.self.taken) c.read.new.buf =
+    let read : IsRead c.in-Ok.n (bytes_wanted c.pieces.self.stage c.pieces.self.taken) c.read.new.buf =
     record { some = grind (arith, common_steps); within = grind (arith, common_steps); few = grind (arith, common_steps) } in
     let tail = drop c.min-wanted.result c.pieces.chunk in
     let piece = take c.in-Ok.n (c.read.new.buf ++ tail) in
@@ -132,7 +132,7 @@ returns-in-Some-clause-taken g c =
 pub pieces-smaller : goal.pieces-smaller
 pieces-smaller g c =
     let room = room_of c.pieces.invariant.usable c.pieces.invariant.sound in
-    let read : IsRead c.in-Ok.n (wanted_in c.pieces.self.stage c.pieces.self.taken) c.read.new.buf =
+    let read : IsRead c.in-Ok.n (bytes_wanted c.pieces.self.stage c.pieces.self.taken) c.read.new.buf =
     record { some = grind (arith, common_steps); within = grind (arith, common_steps); few = grind (arith, common_steps) } in
     let tail = drop c.min-wanted.result c.pieces.chunk in
     let piece = take c.in-Ok.n (c.read.new.buf ++ tail) in
@@ -148,7 +148,7 @@ pieces-smaller g c =
 pub pieces-preserved : goal.pieces-preserved
 pieces-preserved g c =
     let room = room_of c.pieces.invariant.usable c.pieces.invariant.sound in
-    let read : IsRead c.in-Ok.n (wanted_in c.pieces.self.stage c.pieces.self.taken) c.read.new.buf =
+    let read : IsRead c.in-Ok.n (bytes_wanted c.pieces.self.stage c.pieces.self.taken) c.read.new.buf =
     record { some = grind (arith, common_steps); within = grind (arith, common_steps); few = grind (arith, common_steps) } in
     let tail = drop c.min-wanted.result c.pieces.chunk in
     let piece = take c.in-Ok.n (c.read.new.buf ++ tail) in

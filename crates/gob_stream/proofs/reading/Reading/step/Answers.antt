@@ -1,4 +1,4 @@
-use Rattle.std.proofs.Common.{◌∙◌, length, arith}
+use Rattle.std.proofs.Common.{◌∙◌, length, arith, refl}
 use Rattle.gob_types.specs.Defined.{types}
 use Rattle.gob_stream.proofs.AdvanceSteps.{usable_item, step_bound, step_few, step_between, advanced, usable_on, stopped_by, not_err, stands_there, within_there}
 use Rattle.gob_stream.proofs.reading.Reading.step.Goals as goal
@@ -34,3 +34,19 @@ returns-in-Ok-clause-usable g c =
 
 pub returns-in-Err-clause-advances : goal.returns-in-Err-clause-advances
 returns-in-Err-clause-advances g c = λ items bytes a. stopped_by c.args.self.now a (c.in-Err.ensures.steps (length a.front) a.under_way (stands_there c.replace-stage.ensures.value a.stage))
+
+pub returns-in-Ok-clause-whole : goal.returns-in-Ok-clause-whole
+returns-in-Ok-clause-whole g c = λ few.
+    c.in-Ok.ensures.whole (rw c.replace-stage.ensures.value few)
+
+pub returns-in-Ok-clause-limits : goal.returns-in-Ok-clause-limits
+returns-in-Ok-clause-limits g c = refl
+
+pub returns-in-Err-clause-types : goal.returns-in-Err-clause-types
+returns-in-Err-clause-types g c = c.in-Err.ensures.unchanged
+
+pub returns-in-Err-clause-taken : goal.returns-in-Err-clause-taken
+returns-in-Err-clause-taken g c = refl
+
+pub returns-in-Err-clause-limits : goal.returns-in-Err-clause-limits
+returns-in-Err-clause-limits g c = refl

@@ -1,11 +1,11 @@
-use Rattle.std.proofs.Common.{refl}
+use Rattle.std.proofs.Common.{[], refl}
 use Rattle.std.proofs.lemmas.Result.{err_from_is_err_and}
 use Rattle.gob_value.specs.View.{view}
 use Rattle.gob_stream.specs.Bounds.{within_trees}
 use Rattle.gob_stream.specs.Item.{puts}
 use Rattle.gob_stream.specs.WriterRefusal.{refused_body}
 use Rattle.gob_stream.proofs.FaultSteps.{refusal_weaker}
-use Rattle.gob_stream.proofs.WritingLaws.{whole_item}
+use Rattle.gob_stream.proofs.WritingLaws.{body_alone, whole_item}
 use Rattle.gob_stream.proofs.WriterSteps.{refused_writes, refused_leaves, trees_within, sent_writes, sent_leaves}
 use Rattle.gob_stream.proofs.writer.StreamWriter.put.Goals as goal
 
@@ -16,20 +16,20 @@ returns-in_err-spell_value-clause-writes g c = λ items bytes T written.
     rw (p.1, p.2) (refused_writes (within_trees w.limits) w (record w { body = c.spell_value.new.body }) items bytes T (puts c.args.id (view c.args.value.now)) _ c.in_err-spell_value.field-0.0 written
     ((rw c.up_to-limits.ensures at c.in_err-spell_value.ensures.err) w.offset))
 
-pub returns-in_err-finish_item-clause-writes : goal.returns-in_err-finish_item-clause-writes
-returns-in_err-finish_item-clause-writes g c = λ items bytes T written.
-    let p = err_from_is_err_and c.from_residual-in_err-finish_item.result c.from_residual-in_err-finish_item.ensures.1 in
+pub returns-in_err-begin_item-clause-writes : goal.returns-in_err-begin_item-clause-writes
+returns-in_err-begin_item-clause-writes g c = λ items bytes T written.
+    let p = err_from_is_err_and c.from_residual-in_err-begin_item.result c.from_residual-in_err-begin_item.ensures.1 in
     let w = c.args.self.now in
-    let refused = rw (c.deref.ensures.value, c.up_to-limits.ensures) at c.in_err-finish_item.ensures.err in
-    rw (p.1, p.2) (refused_writes (within_trees w.limits) w (record w { body = c.spell_value.new.body; item = c.finish_item.new.item }) items bytes T (puts c.args.id (view c.args.value.now)) _ c.in_err-finish_item.field-0.0 written
-    (refusal_weaker _ (λ r. refused_body (rw c.up_to-limits.ensures at c.in_ok-spell_value.ensures.ok)) refused))
+    let refused = rw (c.deref.ensures.value, c.up_to-limits.ensures) at c.in_err-begin_item.ensures.err in
+    rw (p.1, p.2) (refused_writes (within_trees w.limits) w (record w { body = c.spell_value.new.body; item = c.begin_item.new.item }) items bytes T (puts c.args.id (view c.args.value.now)) _ c.in_err-begin_item.field-0.0 written
+    (refusal_weaker _ (λ r. refused_body (body_alone (rw c.up_to-limits.ensures at c.in_ok-spell_value.ensures.ok))) refused))
 
 pub returns-clause-writes : goal.returns-clause-writes
 returns-clause-writes g c = λ items bytes T written.
     let w = c.args.self.now in
-    let whole = rw (c.deref.ensures.value, c.up_to-limits.ensures) at c.in_ok-finish_item.ensures.ok in
-    sent_writes (within_trees w.limits) w (record w { body = c.spell_value.new.body; item = c.finish_item.new.item }) c.send.new.self items bytes T _ (puts c.args.id (view c.args.value.now)) _ _ c.send.result written
-    (record { limits = refl; within = trees_within w.limits; offset = refl; most = refl; table = refl; item = whole_item (rw c.up_to-limits.ensures at c.in_ok-spell_value.ensures.ok) whole })
+    let whole = rw (c.deref.ensures.value, c.up_to-limits.ensures) at c.in_ok-begin_item.ensures.ok in
+    sent_writes (within_trees w.limits) w (record w { body = c.spell_value.new.body; item = c.begin_item.new.item }) c.send.new.self [] items bytes T _ (puts c.args.id (view c.args.value.now)) _ _ c.send.result written
+    (record { limits = refl; within = trees_within w.limits; offset = refl; most = refl; table = refl; item = whole_item (body_alone (rw c.up_to-limits.ensures at c.in_ok-spell_value.ensures.ok)) whole })
     c.send.ensures.ok c.send.ensures.behind c.send.ensures.front c.send.ensures.fault
 
 pub returns-in_err-spell_value-clause-leaves : goal.returns-in_err-spell_value-clause-leaves
@@ -38,13 +38,13 @@ returns-in_err-spell_value-clause-leaves g c =
     let w = c.args.self.now in
     rw (p.1, p.2) (refused_leaves w (record w { body = c.spell_value.new.body }) _ c.in_err-spell_value.field-0.0 refl c.in_err-spell_value.ensures.early)
 
-pub returns-in_err-finish_item-clause-leaves : goal.returns-in_err-finish_item-clause-leaves
-returns-in_err-finish_item-clause-leaves g c =
-    let p = err_from_is_err_and c.from_residual-in_err-finish_item.result c.from_residual-in_err-finish_item.ensures.1 in
+pub returns-in_err-begin_item-clause-leaves : goal.returns-in_err-begin_item-clause-leaves
+returns-in_err-begin_item-clause-leaves g c =
+    let p = err_from_is_err_and c.from_residual-in_err-begin_item.result c.from_residual-in_err-begin_item.ensures.1 in
     let w = c.args.self.now in
-    rw (p.1, p.2) (refused_leaves w (record w { body = c.spell_value.new.body; item = c.finish_item.new.item }) _ c.in_err-finish_item.field-0.0 refl c.in_err-finish_item.ensures.early)
+    rw (p.1, p.2) (refused_leaves w (record w { body = c.spell_value.new.body; item = c.begin_item.new.item }) _ c.in_err-begin_item.field-0.0 refl c.in_err-begin_item.ensures.early)
 
 pub returns-clause-leaves : goal.returns-clause-leaves
 returns-clause-leaves g c =
     let w = c.args.self.now in
-    sent_leaves w (record w { body = c.spell_value.new.body; item = c.finish_item.new.item }) c.send.new.self _ _ _ c.send.result c.send.ensures.behind c.send.ensures.failed c.send.ensures.fault
+    sent_leaves w (record w { body = c.spell_value.new.body; item = c.begin_item.new.item }) c.send.new.self _ _ _ c.send.result c.send.ensures.behind c.send.ensures.failed c.send.ensures.fault

@@ -7,42 +7,42 @@ use Rattle.gob_stream.proofs.WritingLaws.{whole_item}
 use Rattle.gob_stream.proofs.WriterSteps.{refused_writes, refused_leaves, all_within, sent_writes, sent_leaves}
 use Rattle.gob_stream.proofs.writer.StreamWriter.put_spelled.Goals as goal
 
-pub returns-in_err-wrap_spelling-clause-writes : goal.returns-in_err-wrap_spelling-clause-writes
-returns-in_err-wrap_spelling-clause-writes g c = λ v spelled items bytes T written.
+pub returns-in_err-spell_head-clause-writes : goal.returns-in_err-spell_head-clause-writes
+returns-in_err-spell_head-clause-writes g c = λ v spelled items bytes T written.
     let p = err_from_is_err_and c.from_residual.result c.from_residual.ensures.1 in
     let w = c.args.self.now in
-    rw (p.1, p.2) (refused_writes w.limits w (record w { body = c.wrap_spelling.new.body }) items bytes T (puts c.args.id v) _ c.in_err-wrap_spelling.field-0.0 written
-    (refusal_weaker _ (λ r. refused_type) c.in_err-wrap_spelling.ensures.err))
+    rw (p.1, p.2) (refused_writes w.limits w (record w { body = c.spell_head.new.head }) items bytes T (puts c.args.id v) _ c.in_err-spell_head.field-0.0 written
+    (refusal_weaker _ (λ r. refused_type) c.in_err-spell_head.ensures.err))
 
-pub returns-in_err-finish_item-clause-writes : goal.returns-in_err-finish_item-clause-writes
-returns-in_err-finish_item-clause-writes g c = λ v spelled items bytes T written.
-    let p = err_from_is_err_and c.from_residual-in_err-finish_item.result c.from_residual-in_err-finish_item.ensures.1 in
+pub returns-in_err-begin_item-clause-writes : goal.returns-in_err-begin_item-clause-writes
+returns-in_err-begin_item-clause-writes g c = λ v spelled items bytes T written.
+    let p = err_from_is_err_and c.from_residual-in_err-begin_item.result c.from_residual-in_err-begin_item.ensures.1 in
     let w = c.args.self.now in
-    let refused = rw c.deref.ensures.value at c.in_err-finish_item.ensures.err in
-    rw (p.1, p.2) (refused_writes w.limits w (record w { body = c.wrap_spelling.new.body; item = c.finish_item.new.item }) items bytes T (puts c.args.id v) _ c.in_err-finish_item.field-0.0 written
-    (refusal_weaker _ (λ r. refused_body (c.in_ok-wrap_spelling.ensures.ok w.limits v spelled)) refused))
+    let refused = rw c.deref.ensures.value at c.in_err-begin_item.ensures.err in
+    rw (p.1, p.2) (refused_writes w.limits w (record w { body = c.spell_head.new.head; item = c.begin_item.new.item }) items bytes T (puts c.args.id v) _ c.in_err-begin_item.field-0.0 written
+    (refusal_weaker _ (λ r. refused_body (c.in_ok-spell_head.ensures.ok w.limits v c.args.spelling.now spelled)) refused))
 
 pub returns-clause-writes : goal.returns-clause-writes
 returns-clause-writes g c = λ v spelled items bytes T written.
     let w = c.args.self.now in
-    let whole = rw c.deref.ensures.value at c.in_ok-finish_item.ensures.ok in
-    sent_writes w.limits w (record w { body = c.wrap_spelling.new.body; item = c.finish_item.new.item }) c.send.new.self items bytes T _ (puts c.args.id v) _ _ c.send.result written
-    (record { limits = refl; within = all_within w.limits; offset = refl; most = refl; table = refl; item = whole_item (c.in_ok-wrap_spelling.ensures.ok w.limits v spelled) whole })
+    let whole = rw c.deref.ensures.value at c.in_ok-begin_item.ensures.ok in
+    sent_writes w.limits w (record w { body = c.spell_head.new.head; item = c.begin_item.new.item }) c.send.new.self c.args.spelling.now items bytes T _ (puts c.args.id v) _ _ c.send.result written
+    (record { limits = refl; within = all_within w.limits; offset = refl; most = refl; table = refl; item = whole_item (c.in_ok-spell_head.ensures.ok w.limits v c.args.spelling.now spelled) whole })
     c.send.ensures.ok c.send.ensures.behind c.send.ensures.front c.send.ensures.fault
 
-pub returns-in_err-wrap_spelling-clause-leaves : goal.returns-in_err-wrap_spelling-clause-leaves
-returns-in_err-wrap_spelling-clause-leaves g c =
+pub returns-in_err-spell_head-clause-leaves : goal.returns-in_err-spell_head-clause-leaves
+returns-in_err-spell_head-clause-leaves g c =
     let p = err_from_is_err_and c.from_residual.result c.from_residual.ensures.1 in
     let w = c.args.self.now in
-    rw (p.1, p.2) (refused_leaves w (record w { body = c.wrap_spelling.new.body }) _ c.in_err-wrap_spelling.field-0.0 refl c.in_err-wrap_spelling.ensures.early)
+    rw (p.1, p.2) (refused_leaves w (record w { body = c.spell_head.new.head }) _ c.in_err-spell_head.field-0.0 refl c.in_err-spell_head.ensures.early)
 
-pub returns-in_err-finish_item-clause-leaves : goal.returns-in_err-finish_item-clause-leaves
-returns-in_err-finish_item-clause-leaves g c =
-    let p = err_from_is_err_and c.from_residual-in_err-finish_item.result c.from_residual-in_err-finish_item.ensures.1 in
+pub returns-in_err-begin_item-clause-leaves : goal.returns-in_err-begin_item-clause-leaves
+returns-in_err-begin_item-clause-leaves g c =
+    let p = err_from_is_err_and c.from_residual-in_err-begin_item.result c.from_residual-in_err-begin_item.ensures.1 in
     let w = c.args.self.now in
-    rw (p.1, p.2) (refused_leaves w (record w { body = c.wrap_spelling.new.body; item = c.finish_item.new.item }) _ c.in_err-finish_item.field-0.0 refl c.in_err-finish_item.ensures.early)
+    rw (p.1, p.2) (refused_leaves w (record w { body = c.spell_head.new.head; item = c.begin_item.new.item }) _ c.in_err-begin_item.field-0.0 refl c.in_err-begin_item.ensures.early)
 
 pub returns-clause-leaves : goal.returns-clause-leaves
 returns-clause-leaves g c =
     let w = c.args.self.now in
-    sent_leaves w (record w { body = c.wrap_spelling.new.body; item = c.finish_item.new.item }) c.send.new.self _ _ _ c.send.result c.send.ensures.behind c.send.ensures.failed c.send.ensures.fault
+    sent_leaves w (record w { body = c.spell_head.new.head; item = c.begin_item.new.item }) c.send.new.self _ _ _ c.send.result c.send.ensures.behind c.send.ensures.failed c.send.ensures.fault

@@ -1,5 +1,6 @@
 use Rattle.std.proofs.Common.{◌≡◌, ◌∙◌, ◌+◌, ◌∷◌, [], ◌++◌, length, ap, refl, subst, append_assoc}
 use Rattle.gob_read.specs.Telling.{raw_start, raw_more, leave}
+use Rattle.std.proofs.lemmas.Result.{IfOk-from_err}
 use Rattle.gob_tape.specs.Machine.View.{state_of}
 use Rattle.gob_tape.specs.Machine.State.{with_pool}
 use Rattle.gob_tape.specs.Machine.Standing.{IsTapeOf}
@@ -20,3 +21,9 @@ returns c = λ us t.
     append_assoc (us ++ raw_start k ∷ []) (raw_more bytes ∷ []) (leave ∷ [])
     ∙ append_assoc us (raw_start k ∷ []) (raw_more bytes ∷ (leave ∷ [])) in
     subst (IsTapeOf (state_of c.close.new.self)) all (record { held = t.held + 1 + length bytes; taped = third })
+
+pub returns-in_err-open : goal.returns-in_err-open
+returns-in_err-open c = IfOk-from_err c.from_residual.result _ c.from_residual.ensures.0
+
+pub returns-in_err-extend_from_slice : goal.returns-in_err-extend_from_slice
+returns-in_err-extend_from_slice c = IfOk-from_err c.from_residual-in_err-extend_from_slice.result _ c.from_residual-in_err-extend_from_slice.ensures.0

@@ -1,32 +1,33 @@
--- A value that is its own tidy form can be written; what was gathered of one that isn't is taken back.
-use Rattle.std.proofs.Common.{◌∙◌, List, ℕ, ap, sym, length, take}
-use Rattle.gob_tool.proofs.RewriteLaws.{stands_there, only_wanting, pushed, taken_back, pushes_as}
+-- A small item is gathered, and a large one goes out behind what was gathered.
+use Rattle.std.proofs.Common.{◌∙◌, ap, sym, subst}
+use Rattle.gob_types.specs.Defined.{types}
+use Rattle.gob_stream.specs.declared.writer.StreamWriter.{StreamWriter}
+use Rattle.gob_tool.specs.declared.fault.ToolFault.TheVariants as fault
+use Rattle.gob_tool.proofs.RewriteOut.{gathered_out, none_gathered, put_behind, out_at, SomeTidyNext, EachPutsOut}
 use Rattle.gob_tool.proofs.rewriter.Rewriter.push_whole.Goals as goal
 
-pub write_as_spelled-written-requires : goal.write_as_spelled-written-requires
-write_as_spelled-written-requires c =
-    let n = c.requires.2 in (n.value, n.spells, stands_there n.next)
+pub returns-in_err-gather_whole-clause-pushed : goal.returns-in_err-gather_whole-clause-pushed
+returns-in_err-gather_whole-clause-pushed g c = λ s h n.
+    out_at n.next c.gather_whole.new.self.writer _ _ _ _ c.from_residual.result fault.Memory c.from_residual.ensures.1
+    (none_gathered n.next c.gather_whole.new.self.writer _ (c.in_err-gather_whole.ensures s h n))
 
-pub want_of_memory-requires : goal.want_of_memory-requires
-want_of_memory-requires c =
-    let n = c.requires.2 in
-    only_wanting n.next c.in-Err.fault
-    (λ other. c.write_as_spelled-written.ensures.written n.value n.spells (stands_there n.next)) c.in-Err.is
+pub returns-then-body-lt-MANY-clause-pushed : goal.returns-then-body-lt-MANY-clause-pushed
+returns-then-body-lt-MANY-clause-pushed g c = λ s h n.
+    gathered_out n.next _ _ _ _ c.in_ok-gather_whole.field-0 c.write_many.result c.write_many.ensures.writer
+    (c.in_ok-gather_whole.ensures s h n) c.write_many.ensures.passed
 
-pub returns-in-Ok : goal.returns-in-Ok
-returns-in-Ok c = λ s h n.
-    let before = ap (λ v. v.items) (c.new-sink.ensures.writer ∙ c.replace.ensures.value) in
-    let after = ap (λ v. v.items) (sym c.into_inner.ensures) in
-    pushes_as n.next c.in-Ok.field-0 before after
-    (pushed n.next c.in-Ok.field-0 (λ other. c.write_as_spelled-written.ensures.written n.value n.spells (stands_there n.next))
-    c.in-Ok.is)
+pub put_whole-requires : goal.put_whole-requires
+put_whole-requires g c =
+    subst (λ (w : StreamWriter). SomeTidyNext w (types c.args.table.now) c.args.id c.args.body.now)
+    (sym c.in_ok-write_to.ensures.writer) c.requires
 
-pub returns-in-Err : goal.returns-in-Err
-returns-in-Err c = λ s h n.
-    let before = ap (λ v. v.items) (c.new-sink.ensures.writer ∙ c.replace.ensures.value) in
-    let after = ap (λ v. v.items) c.into_inner.ensures in
-    let long = c.len-before.ensures ∙ c.args.self.now.gathered.ok.0 ∙ ap length (sym before) in
-    c.truncate.ensures.items ∙ ap (λ (k : ℕ). take k c.into_inner.result.items) long
-    ∙ ap (λ (l : List ℕ). take (length c.new-sink.result.writer.items) l) after
-    ∙ taken_back n.next c.in-Err.fault (λ other. c.write_as_spelled-written.ensures.written n.value n.spells (stands_there n.next))
-    c.write_as_spelled-written.ensures.leaves c.in-Err.is ∙ before
+pub returns-clause-pushed : goal.returns-clause-pushed
+returns-clause-pushed g c = λ s h n.
+    let U = types c.args.table.now in
+    let w' = c.put_whole.new.self.writer in
+    let put = subst (λ (w : StreamWriter). EachPutsOut w w' U c.args.id c.args.body.now
+    (g.W.Write.contents c.write_to.new.output.writer) (g.W.Write.contents c.put_whole.new.output.writer) c.put_whole.result)
+    c.in_ok-write_to.ensures.writer c.put_whole.ensures.put in
+    put_behind n.next w' _ (g.W.Write.contents c.write_to.new.output.writer) _ _ _ c.put_whole.result
+    c.in_ok-write_to.ensures.written
+    (ap (λ v. v.items) c.put_whole.ensures.gathered ∙ c.in_ok-write_to.ensures.empty) (put s h n)

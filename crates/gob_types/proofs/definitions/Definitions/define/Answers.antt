@@ -1,4 +1,5 @@
 use Rattle.std.proofs.Common.{◌≡◌, ◌∙◌, ◌++◌, ◌∷◌, [], None, sym, ap, subst, refl}
+use Rattle.std.proofs.lemmas.Result.{IfOk-from_err}
 use Rattle.gob_types.specs.Table.{shape_of}
 use Rattle.gob_types.specs.Defined.{Defined, IsTable}
 use Rattle.gob_types.proofs.TableLaws.{types_are, with_entry-new, table-push}
@@ -26,3 +27,21 @@ returns-clause-entries c =
     let same = types_are c.self.view_is c.self.invariant in
     let new : shape_of T c.args.id ≡ None = subst (λ U. shape_of U c.args.id ≡ None) same c.in_ok-admits.ensures.admitted.new in
     c.in_ok-enter.ensures.entered ∙ with_entry-new T c.args.id c.args.shape new ∙ ap (λ (d : Defined). d.entries ++ (c.args.id, c.args.shape) ∷ []) c.self.view_is
+
+pub returns-in_err-admits-clause-admitted : goal.returns-in_err-admits-clause-admitted
+returns-in_err-admits-clause-admitted c = IfOk-from_err c.from_residual.result _ c.from_residual.ensures.0
+
+pub returns-in_err-admits-clause-defined : goal.returns-in_err-admits-clause-defined
+returns-in_err-admits-clause-defined c = IfOk-from_err c.from_residual.result _ c.from_residual.ensures.0
+
+pub returns-in_err-admits-clause-entries : goal.returns-in_err-admits-clause-entries
+returns-in_err-admits-clause-entries c = IfOk-from_err c.from_residual.result _ c.from_residual.ensures.0
+
+pub returns-in_err-enter-clause-admitted : goal.returns-in_err-enter-clause-admitted
+returns-in_err-enter-clause-admitted c = IfOk-from_err c.from_residual-in_err-enter.result _ c.from_residual-in_err-enter.ensures.0
+
+pub returns-in_err-enter-clause-defined : goal.returns-in_err-enter-clause-defined
+returns-in_err-enter-clause-defined c = IfOk-from_err c.from_residual-in_err-enter.result _ c.from_residual-in_err-enter.ensures.0
+
+pub returns-in_err-enter-clause-entries : goal.returns-in_err-enter-clause-entries
+returns-in_err-enter-clause-entries c = IfOk-from_err c.from_residual-in_err-enter.result _ c.from_residual-in_err-enter.ensures.0

@@ -1,4 +1,5 @@
 use Rattle.std.proofs.Common.{◌≡◌, Some, length, arith, refl, sym, ap, subst}
+use Rattle.std.proofs.lemmas.Result.{IfOk-from_err}
 use Rattle.gob_types.specs.declared.id.TypeId.{TypeId}
 use Rattle.gob_types.specs.declared.kind.Shape.{Shape}
 use Rattle.gob_types.specs.Table.{Table}
@@ -16,3 +17,6 @@ loop-place-preserved c =
 
 pub returns : goal.returns
 returns c u d = ids_read c.loop-place.ids c.loop-place.invariant (omega (arith, c.loop-place-test.false, c.len-place-end.ensures.len, ap (λ (T : Table). length T) c.self.view_is)) u d
+
+pub returns-in_err-add : goal.returns-in_err-add
+returns-in_err-add c = IfOk-from_err c.from_residual.result _ c.from_residual.ensures.0

@@ -1,6 +1,7 @@
 use Rattle.std.proofs.Common.{sym, subst}
+use Rattle.std.proofs.lemmas.Result.{IfOk-from_err}
 use Rattle.gob_types.specs.Defined.{types}
-use Rattle.gob_types.specs.Walk.{AddsOne, GoesOn, EndsWell}
+use Rattle.gob_types.specs.Walk.{AddsOne, WalksOn, EndsWell}
 use Rattle.gob_types.proofs.SetLaws.{added_less}
 use Rattle.gob_types.proofs.GroundLaws.{Following, follow_start, follow_known, follow_bottomless, follow_round, follow_end, follow_on}
 use Rattle.gob_types.proofs.grounds.Grounds.follow.Goals as goal
@@ -15,7 +16,7 @@ pub returns-then-not-branch : goal.returns-then-not-branch
 returns-then-not-branch c =
     let T = types c.args.table.now in
     let old = subst (AddsOne c.loop-at.way c.add.new.self c.loop-at.at) c.if-not-branch.true c.in_ok-add.ensures.added in
-    subst (GoesOn T c.args.id c.args.self.now.bottomless) (sym old.1) (follow_round c.args.self.now.bottomless c.loop-at.invariant old.0)
+    subst (WalksOn T c.args.id c.args.self.now.bottomless) (sym old.1) (follow_round c.args.self.now.bottomless c.loop-at.invariant old.0)
 
 pub returns-in_default : goal.returns-in_default
 returns-in_default c =
@@ -34,3 +35,6 @@ returns c = follow_known c.loop-at.invariant (c.requires.known.have _ (c.contain
 
 pub loop-at-smaller : goal.loop-at-smaller
 loop-at-smaller c = added_less c.loop-at.way c.add.new.self c.loop-at.at (subst (AddsOne c.loop-at.way c.add.new.self c.loop-at.at) c.if-not-branch.false c.in_ok-add.ensures.added) c.add.ensures.small
+
+pub returns-in_err-add : goal.returns-in_err-add
+returns-in_err-add c = IfOk-from_err c.from_residual.result _ c.from_residual.ensures.0

@@ -1,5 +1,5 @@
 use Rattle.std.proofs.Common.{subst, rules}
-use Rattle.gob_types.specs.Kept.{Sets, KeepsIn, IsSet}
+use Rattle.gob_types.specs.Kept.{Sets, KeepsSets, IsSet}
 use Rattle.gob_types.proofs.WaitLaws.{keeps_less, found_in, popped_less}
 use Rattle.gob_types.proofs.sets.Sets.pop.Goals as goal
 
@@ -8,5 +8,5 @@ returns-clause-kept c =
     let E = c.self.inside.sets.entries in
     let new = (c.get_mut.follows.lender c.pop.new.self).entries in
     let n : IsSet E new c.args.id c.pop.new.self = record { each = ((c.get_mut.follows.holds c.pop.new.self).3 (search rules)).0 } in
-    let less : KeepsIn new E = keeps_less n (λ u h. found_in c.in_ok-set.ensures.value u (popped_less _ _ c.pop.result c.pop.ensures u h)) in
-    subst (λ (m : Sets). KeepsIn new m) c.self.view_is less
+    let less : KeepsSets new E = keeps_less n (λ u h. found_in c.in_ok-set.ensures.value u (popped_less _ _ c.pop.result c.pop.ensures u h)) in
+    subst (λ (m : Sets). KeepsSets new m) c.self.view_is less

@@ -1,6 +1,7 @@
 use Rattle.std.proofs.Common.{ap, sym, subst, ◌∙◌, ◌++◌, ◌∷◌, []}
+use Rattle.std.proofs.lemmas.Result.{IfOk-from_err}
 use Rattle.gob_types.specs.Defined.{Defined, Admits, first_entries, types}
-use Rattle.gob_types.specs.Kept.{IsKept}
+use Rattle.gob_types.specs.Kept.{IsKeptReadiness}
 use Rattle.gob_types.proofs.KeptLaws.{front_entries, same_defined, cut_back}
 use Rattle.gob_types.proofs.WaitLaws.{kept_back, settled_kept}
 use Rattle.gob_types.proofs.table.Table.define.Goals as goal
@@ -13,14 +14,14 @@ invariant_of-self-2 c =
     c.replace-waits.ensures.after
 
 pub settle-requires : goal.settle-requires
-settle-requires c = record { before = types c.self.inside.definitions; shape = c.args.shape; new = c.in_ok-define.ensures.admitted.new; grown = c.in_ok-define.ensures.defined; kept = subst (IsKept (types c.self.inside.definitions) c.self.inside.ready) (sym c.replace-waits.ensures.value) c.self.invariant }
+settle-requires c = record { before = types c.self.inside.definitions; shape = c.args.shape; new = c.in_ok-define.ensures.admitted.new; grown = c.in_ok-define.ensures.defined; kept = subst (IsKeptReadiness (types c.self.inside.definitions) c.self.inside.ready) (sym c.replace-waits.ensures.value) c.self.invariant }
 
 pub returns-clause-unchanged : goal.returns-clause-unchanged
 returns-clause-unchanged c =
     same_defined (front_entries (c.args.id, c.args.shape) c.in_ok-define.ensures.entries c.undo.ensures.entries) (c.undo.ensures.most ∙ c.in_ok-define.ensures.most) ∙ c.self.view_is
 
 pub invariant_of-self : goal.invariant_of-self
-invariant_of-self c = subst (λ (d : Defined). IsKept (types d) c.self.inside.ready c.self.inside.waits) (sym c.in_err-define.ensures.unchanged) c.self.invariant
+invariant_of-self c = subst (λ (d : Defined). IsKeptReadiness (types d) c.self.inside.ready c.self.inside.waits) (sym c.in_err-define.ensures.unchanged) c.self.invariant
 
 pub returns-in-Ok-clause-admitted : goal.returns-in-Ok-clause-admitted
 returns-in-Ok-clause-admitted c = subst (λ (d : Defined). Admits d c.args.id) c.self.view_is c.in_ok-define.ensures.admitted
@@ -39,3 +40,9 @@ returns-clause-refused c = subst (λ (d : Defined). Admits d c.args.id) c.self.v
 
 pub invariant_of-self-in-Ok : goal.invariant_of-self-in-Ok
 invariant_of-self-in-Ok c = settled_kept c.in-Ok.ensures.settled
+
+pub returns-in_err-define-clause-admitted : goal.returns-in_err-define-clause-admitted
+returns-in_err-define-clause-admitted c = IfOk-from_err c.from_residual.result _ c.from_residual.ensures.0
+
+pub returns-in_err-define-clause-defined : goal.returns-in_err-define-clause-defined
+returns-in_err-define-clause-defined c = IfOk-from_err c.from_residual.result _ c.from_residual.ensures.0

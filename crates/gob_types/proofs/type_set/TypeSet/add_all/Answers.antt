@@ -1,4 +1,5 @@
 use Rattle.std.proofs.lemmas.Option.{slice_get-get_or}
+use Rattle.std.proofs.lemmas.Result.{IfOk-from_err}
 use Rattle.gob_types.proofs.FirstLaws.{contains_read, contains_at}
 use Rattle.gob_types.proofs.SetLaws.{adds_none_yet, adds_next, adds_one, adds_each}
 use Rattle.gob_types.proofs.GrowsLaws.{grows_by, grows_as}
@@ -21,3 +22,6 @@ returns-clause-grown c = grows_by c.loop-id.invariant
 
 pub returns-in_err-add-clause-grown : goal.returns-in_err-add-clause-grown
 returns-in_err-add-clause-grown c = grows_as (grows_by c.loop-id.invariant) c.in_err-add.ensures.unchanged
+
+pub returns-in_err-add-clause-added : goal.returns-in_err-add-clause-added
+returns-in_err-add-clause-added c = IfOk-from_err c.from_residual.result _ c.from_residual.ensures.0

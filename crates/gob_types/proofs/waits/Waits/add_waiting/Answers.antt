@@ -1,5 +1,6 @@
 use Rattle.std.proofs.Common.{inl, sym, ◌∙◌, true≢false}
 use Rattle.std.proofs.lemmas.Option.{slice_get-get_or}
+use Rattle.std.proofs.lemmas.Result.{IfOk-from_err}
 use Rattle.gob_types.proofs.FirstLaws.{none_first, more_first, first_as, all_first}
 use Rattle.gob_types.proofs.GrowsLaws.{grows_not, grows_then, grows_by}
 use Rattle.gob_types.proofs.SetLaws.{adds_one, adds_keeps}
@@ -31,3 +32,6 @@ loop-user-preserved c =
 
 pub returns : goal.returns
 returns c = record { grown = c.loop-user.invariant.grown; has = λ u there. all_first c.loop-user.invariant.has c.loop-user-test.false there; only = c.loop-user.invariant.only }
+
+pub returns-in_err-add : goal.returns-in_err-add
+returns-in_err-add c = IfOk-from_err c.from_residual.result _ c.from_residual.ensures.0

@@ -1,4 +1,5 @@
 use Rattle.std.proofs.Common.{◌≡◌, subst, arith}
+use Rattle.std.proofs.lemmas.Result.{IfOk-from_err}
 use Rattle.gob_types.specs.Walk.{AddsAll}
 use Rattle.gob_types.proofs.FirstLaws.{read_at}
 use Rattle.gob_types.proofs.SetLaws.{adds_one}
@@ -15,3 +16,9 @@ loop-next-preserved c =
 
 pub returns : goal.returns
 returns c = told_both c.contains.result c.contains.ensures (c.loop-next.invariant.sound _) (back_all c.loop-next.invariant (omega (arith, c.loop-next-test.false, c.count.ensures.count)))
+
+pub returns-in_err-add : goal.returns-in_err-add
+returns-in_err-add c = IfOk-from_err c.from_residual.result _ c.from_residual.ensures.0
+
+pub returns-in_err-add_waiting : goal.returns-in_err-add_waiting
+returns-in_err-add_waiting c = IfOk-from_err c.from_residual-in_err-add_waiting.result _ c.from_residual-in_err-add_waiting.ensures.0

@@ -1,4 +1,5 @@
 use Rattle.std.proofs.Common.{sym, ◌∙◌}
+use Rattle.std.proofs.lemmas.Result.{IfOk-from_err}
 use Rattle.gob_types.proofs.WaitLaws.{redirects_same, redirects_then, redirects_set, waits_next, waits_reach, waits_redirected, led_merged, led_set}
 use Rattle.gob_types.proofs.WalkLaws.{reaches_joined}
 use Rattle.gob_types.proofs.waits.Waits.take_over.Goals as goal
@@ -25,3 +26,9 @@ loop-preserved c =
             waits_redirected (redirects_then merges sets) onto,
           );
     }
+
+pub returns-in_err-merge-clause-redirected : goal.returns-in_err-merge-clause-redirected
+returns-in_err-merge-clause-redirected c = IfOk-from_err c.from_residual.result _ c.from_residual.ensures.0
+
+pub returns-in_err-wait-clause-redirected : goal.returns-in_err-wait-clause-redirected
+returns-in_err-wait-clause-redirected c = IfOk-from_err c.from_residual-in_err-wait.result _ c.from_residual-in_err-wait.ensures.0

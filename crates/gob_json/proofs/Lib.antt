@@ -1,0 +1,12 @@
+pub mod DigitLaws
+pub mod TextLaws
+pub mod OutLaws
+pub mod EscapeLaws
+pub mod LeafLaws
+pub mod TextSteps
+pub mod StandingLaws
+pub mod SendLaws
+pub mod LineLaws
+pub mod WrittenLaws
+pub mod TapeLaws
+pub mod PublicLaws

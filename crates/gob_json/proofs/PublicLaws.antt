@@ -1,0 +1,3 @@
+-- The laws that the proofs of other crates cite, in one place. Declares nothing.
+pub use Rattle.gob_json.proofs.LineLaws.{line_text}
+pub use Rattle.gob_json.proofs.TextSteps.{later_on}

@@ -1,0 +1,384 @@
+-- Values that are known to stand in a body, and their parts.
+use Rattle.std.proofs.Common.{◌≡◌, ℕ, ℤ, ◌+◌, ◌-◌, ◌<◌, ◌≤◌, Bool, List, ◌++◌, length, take, drop, Some, arith, refl, sym, ap, ◌∙◌, subst}
+use Rattle.std.proofs.Common.{[], ◌∷◌, None, append_assoc, length-append, length-drop}
+use Rattle.std.proofs.lemmas.List.{drop-drop}
+use Rattle.std.proofs.Math.Seq.{take-append_seam, drop-append_seam}
+use Rattle.std.specs.Prelude.{slice_get}
+use Rattle.gob_num.specs.Unsigned.{IsUnsigned}
+use Rattle.gob_num.specs.Signed.{IsSigned}
+use Rattle.gob_num.specs.Pattern.{IsPattern}
+use Rattle.gob_num.specs.Place.{NoNumberStandsAt}
+use Rattle.gob_num.proofs.PublicLaws.{unsigned_length, unsigned_prefix}
+use Rattle.gob_types.specs.declared.id.TypeId.{TypeId}
+use Rattle.gob_types.specs.declared.basic.Basic.TheVariants as basic
+use Rattle.gob_types.specs.declared.kind.Field.{Field}
+use Rattle.gob_types.specs.declared.kind.Marshal.{Marshal}
+use Rattle.gob_types.specs.declared.kind.Kind.{Kind}
+use Rattle.gob_types.specs.declared.kind.Kind.TheVariants as kind
+use Rattle.gob_types.specs.declared.kind.Shape.{Shape}
+use Rattle.gob_types.specs.Table.{Table, shape_of}
+use Rattle.gob_types.proofs.PublicLaws.{some_injective}
+use Rattle.gob_value.specs.Tree.{Tree, Trees, Pairs, Fields, no_tree, tree, no_pair, pair, no_field, field, depth, tree_count, pair_count}
+use Rattle.gob_value.specs.Spelling.{truth, Spells, SpellsAs, SpellsEach, SpellsPairs, SpellsFields, of_type, of_bool, of_int, of_uint}
+use Rattle.gob_value.specs.Spelling.{of_float, of_complex, of_nil, of_bytes, of_text, of_opaque, of_slice, of_array, of_map, of_struct}
+use Rattle.gob_value.specs.Spelling.{no_element, element, no_entry, entry, end_of_fields, next_field}
+use Rattle.gob_value.specs.Top.{IsStruct, SpellsTop, at_once, tagged}
+use Rattle.gob_value.specs.Whole.{Stands, BeginsThisNumber}
+use Rattle.gob_json.specs.TextWhole.{BeginsThese}
+use Rattle.gob_json.specs.TextSent.{HoldsKind, HoldsValue, BeginsElements, BeginsList, BeginsEntries, BeginsMap, BeginsEntry}
+use Rattle.gob_json.specs.TextSent.{BeginsPresent, IsNextField, NumberFrom, BytesFrom}
+
+-- ---- numbers and bytes
+pub number_found : {body : List ℕ} {m at end : ℕ} → Stands (BeginsThisNumber m) body at end → NumberFrom body at m end
+number_found {body = body} {end = end} s n rest p =
+    let one = unsigned_prefix (drop end body) rest s.begins.spelled p.spelled (sym s.begins.whole ∙ p.whole) in
+    (one.value, one.rest)
+
+pub none_stands : {body : List ℕ} {at : ℕ} (n : ℕ) (rest : List ℕ) → at ≤ length body → NoNumberStandsAt body at
+    → BeginsThisNumber n (drop at body) rest → ⊥
+none_stands {body = body} {at = at} n rest l none p =
+    let b = p.bytes in
+    let front : take (at + length b - at) (drop at body) ≡ b =
+    let same : at + length b - at ≡ length b = omega arith in
+    ap (λ k. take k (drop at body)) same ∙ ap (λ y. take (length b) y) p.whole ∙ take-append_seam b rest in
+    none n (at + length b) (record {
+      order = omega (arith, (unsigned_length p.spelled).0);
+      inside = omega (arith, ap length p.whole, length-drop at body, length-append b rest);
+      spelled = subst (IsUnsigned n) (sym front) p.spelled;
+    })
+
+pub bytes_found : (body : List ℕ) (at begin count len : ℕ) → begin ≤ length body → NumberFrom body at count begin
+    → (count ≤ length body - begin → len ≡ count)
+    → BytesFrom body at (take (begin + len - begin) (drop begin body)) (begin + len)
+bytes_found body at begin count len l f enough raw rest p =
+    let n = f (length raw) (raw ++ rest) (record {
+      bytes = p.count;
+      spelled = p.counted;
+      whole = p.whole ∙ append_assoc p.count raw rest;
+    }) in
+    let counted = n.0 in
+    let size : len ≡ length raw = let fits : count ≤ length body - begin =
+    omega (arith, ap length n.1, length-drop begin body, length-append raw rest) in enough fits ∙ counted in
+    let same : begin + len - begin ≡ length raw = omega arith in (
+      ap (λ k. take k (drop begin body)) same ∙ ap (λ y. take (length raw) y) n.1 ∙ take-append_seam raw rest,
+      sym (drop-drop len begin body) ∙ ap (λ k. drop k (drop begin body)) size ∙ ap (λ y. drop (length raw) y) n.1
+          ∙ drop-append_seam raw rest,
+    )
+
+-- ---- values without parts
+pub bool_parts : {T : Table} {v : Tree} {b : List ℕ} → SpellsAs T (kind.Basic basic.Bool) v b
+    → ((x : Bool) × (v ≡ Tree.bool x) × IsUnsigned (truth x) b)
+bool_parts (of_bool {x = x} p) = (x, refl, p)
+
+pub int_parts : {T : Table} {v : Tree} {b : List ℕ} → SpellsAs T (kind.Basic basic.Int) v b
+    → ((i : ℤ) × (v ≡ Tree.int i) × IsSigned i b)
+int_parts (of_int {i = i} p) = (i, refl, p)
+
+pub uint_parts : {T : Table} {v : Tree} {b : List ℕ} → SpellsAs T (kind.Basic basic.Uint) v b
+    → ((n : ℕ) × (v ≡ Tree.uint n) × IsUnsigned n b)
+uint_parts (of_uint {n = n} p) = (n, refl, p)
+
+pub float_parts : {T : Table} {v : Tree} {b : List ℕ} → SpellsAs T (kind.Basic basic.Float) v b
+    → ((p : ℕ) × (v ≡ Tree.float p) × IsPattern p b)
+float_parts (of_float {p = p} q) = (p, refl, q)
+
+pub record ComplexIn (v : Tree) (b : List ℕ) : Type 0 where
+  pub real : ℕ
+  pub imaginary : ℕ
+  pub first : List ℕ
+  pub second : List ℕ
+  pub same : v ≡ Tree.complex real imaginary
+  pub whole : b ≡ first ++ second
+  pub reals : IsPattern real first
+  pub imaginaries : IsPattern imaginary second
+
+pub complex_parts : {T : Table} {v : Tree} {b : List ℕ} → SpellsAs T (kind.Basic basic.Complex) v b → ComplexIn v b
+complex_parts (of_complex {p = p} {q = q} {b = b} {c = c} f g) = record {
+  real = p;
+  imaginary = q;
+  first = b;
+  second = c;
+  same = refl;
+  whole = refl;
+  reals = f;
+  imaginaries = g;
+}
+
+pub nil_parts : {T : Table} {v : Tree} {b : List ℕ} → SpellsAs T (kind.Basic basic.Interface) v b
+    → ((v ≡ Tree.nil) × IsUnsigned 0 b)
+nil_parts (of_nil p) = (refl, p)
+
+-- bytes behind their count
+pub record RawIn (means : List ℕ → Tree) (v : Tree) (b : List ℕ) : Type 0 where
+  pub raw : List ℕ
+  pub count : List ℕ
+  pub same : v ≡ means raw
+  pub whole : b ≡ count ++ raw
+  pub counted : IsUnsigned (length raw) count
+
+pub bytes_parts : {T : Table} {v : Tree} {b : List ℕ} → SpellsAs T (kind.Basic basic.Bytes) v b → RawIn Tree.bytes v b
+bytes_parts (of_bytes {s = s} {c = c} p) = record { raw = s; count = c; same = refl; whole = refl; counted = p }
+
+pub text_parts : {T : Table} {v : Tree} {b : List ℕ} → SpellsAs T (kind.Basic basic.Str) v b → RawIn Tree.text v b
+text_parts (of_text {s = s} {c = c} p) = record { raw = s; count = c; same = refl; whole = refl; counted = p }
+
+pub opaque_parts : {T : Table} {m : Marshal} {v : Tree} {b : List ℕ} → SpellsAs T (kind.Opaque m) v b → RawIn Tree.opaque v b
+opaque_parts (of_opaque {s = s} {c = c} p) = record { raw = s; count = c; same = refl; whole = refl; counted = p }
+
+pub these_begin : {means : List ℕ → Tree} {v : Tree} {b piece rest : List ℕ} (r : RawIn means v b) → piece ≡ b ++ rest
+    → BeginsThese r.raw piece rest
+these_begin {rest = rest} r whole = record {
+  count = r.count;
+  counted = r.counted;
+  whole = whole ∙ ap (λ b. b ++ rest) r.whole;
+}
+
+-- ---- values with parts
+pub value_as : {T : Table} {t : TypeId} {limit : ℕ} {v : Tree} {piece rest : List ℕ} (s : Shape) → shape_of T t ≡ Some s
+    → HoldsValue T t limit v piece rest → HoldsKind T s.kind v piece rest
+value_as {T = T} {v = v} s f p = spelled_as s f p.bytes p.whole p.spelled
+  where
+    spelled_as : {T : Table} {t : TypeId} {v : Tree} {piece rest : List ℕ} (s : Shape) → shape_of T t ≡ Some s
+        → (b : List ℕ) → piece ≡ b ++ rest → Spells T t v b → HoldsKind T s.kind v piece rest
+    spelled_as {T = T} {v = v} s f b whole (of_type {s = r} g q) =
+        let same : r ≡ s = some_injective (sym g ∙ f) in
+        record { bytes = b; spelled = subst (λ (r : Shape). SpellsAs T r.kind v b) same q; whole = whole }
+
+pub record ListIn (T : Table) (e : TypeId) (v : Tree) (b : List ℕ) : Type 0 where
+  pub values : Trees
+  pub count : List ℕ
+  pub rest : List ℕ
+  pub same : v ≡ Tree.many values
+  pub counted : IsUnsigned (tree_count values) count
+  pub each : SpellsEach T e values rest
+  pub whole : b ≡ count ++ rest
+
+pub slice_parts : {T : Table} {e : TypeId} {v : Tree} {b : List ℕ} → SpellsAs T (kind.Slice e) v b → ListIn T e v b
+slice_parts (of_slice {vs = vs} {c = c} {b = b} p q) = record {
+  values = vs;
+  count = c;
+  rest = b;
+  same = refl;
+  counted = p;
+  each = q;
+  whole = refl;
+}
+
+pub array_parts : {T : Table} {e : TypeId} {n : ℕ} {v : Tree} {b : List ℕ} → SpellsAs T (kind.Array e n) v b → ListIn T e v b
+array_parts (of_array {vs = vs} {c = c} {b = b} n p q) = record {
+  values = vs;
+  count = c;
+  rest = b;
+  same = refl;
+  counted = subst (λ k. IsUnsigned k c) (sym n) p;
+  each = q;
+  whole = refl;
+}
+
+pub list_begins : {T : Table} {e : TypeId} {v : Tree} {b piece rest : List ℕ} (limit : ℕ) (l : ListIn T e v b)
+    → depth v ≤ limit → piece ≡ b ++ rest → BeginsList T e (limit - 1) l.values piece rest
+list_begins {rest = rest} limit l deep whole =
+    let same = ap depth l.same in
+    record {
+      behind = l.rest ++ rest;
+      counted = record {
+        bytes = l.count;
+        spelled = l.counted;
+        whole = whole ∙ ap (λ b. b ++ rest) l.whole ∙ append_assoc l.count l.rest rest;
+      };
+      elements = record { bytes = l.rest; spelled = l.each; within = omega arith; whole = refl };
+    }
+
+pub record MapIn (T : Table) (k e : TypeId) (v : Tree) (b : List ℕ) : Type 0 where
+  pub pairs : Pairs
+  pub count : List ℕ
+  pub rest : List ℕ
+  pub same : v ≡ Tree.pairs pairs
+  pub counted : IsUnsigned (pair_count pairs) count
+  pub each : SpellsPairs T k e pairs rest
+  pub whole : b ≡ count ++ rest
+
+pub map_parts : {T : Table} {k e : TypeId} {v : Tree} {b : List ℕ} → SpellsAs T (kind.Map k e) v b → MapIn T k e v b
+map_parts (of_map {ps = ps} {c = c} {b = b} p q) = record {
+  pairs = ps;
+  count = c;
+  rest = b;
+  same = refl;
+  counted = p;
+  each = q;
+  whole = refl;
+}
+
+pub map_begins : {T : Table} {k e : TypeId} {v : Tree} {b piece rest : List ℕ} (limit : ℕ) (m : MapIn T k e v b)
+    → depth v ≤ limit → piece ≡ b ++ rest → BeginsMap T k e (limit - 1) m.pairs piece rest
+map_begins {rest = rest} limit m deep whole =
+    let same = ap depth m.same in
+    record {
+      behind = m.rest ++ rest;
+      counted = record {
+        bytes = m.count;
+        spelled = m.counted;
+        whole = whole ∙ ap (λ b. b ++ rest) m.whole ∙ append_assoc m.count m.rest rest;
+      };
+      entries = record { bytes = m.rest; spelled = m.each; within = omega arith; whole = refl };
+    }
+
+pub struct_parts : {T : Table} {types : List Field} {v : Tree} {b : List ℕ} → SpellsAs T (kind.Struct types) v b
+    → ((fs : Fields) × (v ≡ Tree.fields fs) × SpellsFields T types 0 fs b)
+struct_parts (of_struct {fs = fs} p) = (fs, refl, p)
+
+-- ---- the next part
+pub record NextElement (T : Table) (e : TypeId) (limit : ℕ) (vs : Trees) (piece rest : List ℕ) : Type 0 where
+  pub first : Tree
+  pub others : Trees
+  pub behind : List ℕ
+  pub same : vs ≡ tree first others
+  pub value : HoldsValue T e limit first piece behind
+  pub left : BeginsElements T e limit others behind rest
+
+next_spelled : {T : Table} {e : TypeId} {vs : Trees} {b piece rest : List ℕ} (limit : ℕ) → SpellsEach T e vs b
+    → BeginsElements T e limit vs piece rest → piece ≡ b ++ rest → 0 < tree_count vs → NextElement T e limit vs piece rest
+next_spelled limit no_element p whole some = absurd (omega (arith, some))
+next_spelled {rest = rest} limit (element {v = v} {vs = vs} {b = b} {c = c} f q) p whole some =
+    let deep = p.within in
+    record {
+      first = v;
+      others = vs;
+      behind = c ++ rest;
+      same = refl;
+      value = record { bytes = b; spelled = f; within = omega arith; whole = whole ∙ append_assoc b c rest };
+      left = record { bytes = c; spelled = q; within = omega arith; whole = refl };
+    }
+
+pub next_element : {T : Table} {e : TypeId} {limit : ℕ} {vs : Trees} {piece rest : List ℕ}
+    → BeginsElements T e limit vs piece rest → 0 < tree_count vs → NextElement T e limit vs piece rest
+next_element {limit = limit} p some = next_spelled limit p.spelled p p.whole some
+
+pub record NextEntry (T : Table) (k e : TypeId) (limit : ℕ) (ps : Pairs) (piece rest : List ℕ) : Type 0 where
+  pub key : Tree
+  pub value : Tree
+  pub others : Pairs
+  pub behind : List ℕ
+  pub same : ps ≡ pair key value others
+  pub entry : BeginsEntry T k e limit key value piece behind
+  pub left : BeginsEntries T k e limit others behind rest
+
+entry_spelled : {T : Table} {k e : TypeId} {ps : Pairs} {b piece rest : List ℕ} (limit : ℕ) → SpellsPairs T k e ps b
+    → BeginsEntries T k e limit ps piece rest → piece ≡ b ++ rest → 0 < pair_count ps → NextEntry T k e limit ps piece rest
+entry_spelled limit no_entry p whole some = absurd (omega (arith, some))
+entry_spelled {rest = rest} limit (entry {x = x} {v = v} {ps = ps} {a = a} {b = b} {c = c} f g q) p whole some =
+    let deep = p.within in
+    record {
+      key = x;
+      value = v;
+      others = ps;
+      behind = c ++ rest;
+      same = refl;
+      entry = record {
+        behind = b ++ (c ++ rest);
+        key = record {
+          bytes = a;
+          spelled = f;
+          within = omega arith;
+          whole = whole ∙ append_assoc a (b ++ c) rest ∙ ap (λ l. a ++ l) (append_assoc b c rest);
+        };
+        element = record { bytes = b; spelled = g; within = omega arith; whole = refl };
+      };
+      left = record { bytes = c; spelled = q; within = omega arith; whole = refl };
+    }
+
+pub next_entry : {T : Table} {k e : TypeId} {limit : ℕ} {ps : Pairs} {piece rest : List ℕ}
+    → BeginsEntries T k e limit ps piece rest → 0 < pair_count ps → NextEntry T k e limit ps piece rest
+next_entry {limit = limit} p some = entry_spelled limit p.spelled p p.whole some
+
+-- the next field, or the end of the fields
+pub record NextPresent (T : Table) (types : List Field) (next limit delta f : ℕ) (e : Field) (fs : Fields)
+    (piece rest : List ℕ) : Type 0 where
+  pub value : Tree
+  pub others : Fields
+  pub behind : List ℕ
+  pub after : List ℕ
+  pub same : fs ≡ field f value others
+  pub counted : BeginsThisNumber delta piece behind
+  pub begins : HoldsValue T e.id limit value behind after
+  pub left : BeginsPresent T types (f + 1) limit others after rest
+
+pub some_field : {T : Table} {types : List Field} {next limit delta f : ℕ} {fs : Fields} {b rest : List ℕ} {e : Field}
+    (body : List ℕ) (at end : ℕ) → SpellsFields T types next fs b → BeginsPresent T types next limit fs (drop at body) rest
+    → drop at body ≡ b ++ rest → NumberFrom body at delta end → IsNextField types next delta f e
+    → NextPresent T types next limit delta f e fs (drop at body) rest
+some_field {rest = rest} body at end (end_of_fields {b = b} p) q whole n is =
+    let none = n 0 rest (record { bytes = b; spelled = p; whole = whole }) in
+    let given = is.0 in
+    absurd (omega (arith, none.0))
+some_field {T = T} {types = types} {next = next} {limit = limit} {delta = delta} {f = f} {rest = rest} {e = e} body at end
+    (next_field {f = g} {e = d} {v = v} {fs = fs} {a = a} {b = b} {c = c} up here p s r) q whole n is =
+    let all : drop at body ≡ a ++ (b ++ (c ++ rest)) =
+    whole ∙ append_assoc a (b ++ c) rest ∙ ap (λ l. a ++ l) (append_assoc b c rest) in
+    let one = n (g + 1 - next) (b ++ (c ++ rest)) (record { bytes = a; spelled = p; whole = all }) in
+    let number : g ≡ f = omega (arith, one.0, is.1) in
+    let same : d ≡ e = some_injective (sym here ∙ ap (λ k. slice_get types k) number ∙ is.2) in
+    let deep = q.within in
+    record {
+      value = v;
+      others = fs;
+      behind = b ++ (c ++ rest);
+      after = c ++ rest;
+      same = ap (λ k. field k v fs) number;
+      counted = record { bytes = a; spelled = subst (λ k. IsUnsigned k a) (sym one.0) p; whole = all };
+      begins = record {
+        bytes = b;
+        spelled = subst (λ (d : Field). Spells T d.id v b) same s;
+        within = omega arith;
+        whole = refl;
+      };
+      left = record {
+        bytes = c;
+        spelled = subst (λ k. SpellsFields T types (k + 1) fs c) number r;
+        within = omega arith;
+        whole = refl;
+      };
+    }
+
+pub no_more_fields : {T : Table} {types : List Field} {next delta : ℕ} {fs : Fields} {b rest : List ℕ} (body : List ℕ)
+    (at end : ℕ) → SpellsFields T types next fs b → drop at body ≡ b ++ rest → NumberFrom body at delta end
+    → ((f : ℕ) (e : Field) → ¬ IsNextField types next delta f e) → (fs ≡ no_field) × (drop end body ≡ rest)
+no_more_fields {rest = rest} body at end (end_of_fields {b = b} p) whole n none =
+    (refl, (n 0 rest (record { bytes = b; spelled = p; whole = whole })).1)
+no_more_fields {next = next} {rest = rest} body at end (next_field {f = g} {e = d} {a = a} {b = b} {c = c} up here p s r) whole n none =
+    let one = n (g + 1 - next) (b ++ (c ++ rest)) (record {
+      bytes = a;
+      spelled = p;
+      whole = whole ∙ append_assoc a (b ++ c) rest ∙ ap (λ l. a ++ l) (append_assoc b c rest);
+    }) in
+    absurd (none g d (omega (arith, one.0), omega (arith, one.0), here))
+
+-- ---- the value of an item
+pub struct_begins : {T : Table} {t : TypeId} {v : Tree} {body : List ℕ} (s : Shape) (types : List Field) → shape_of T t ≡ Some s
+    → s.kind ≡ kind.Struct types → SpellsTop T t v body → Spells T t v body
+struct_begins s types f is (at_once g struct p) = p
+struct_begins s types f is (tagged {s = r} g other p) =
+    let same : r ≡ s = some_injective (sym g ∙ f) in
+    absurd (other (subst IsStruct (sym (ap (λ (r : Shape). r.kind) same ∙ is)) tt))
+
+no_struct : (k : Kind) → ((types : List Field) → k ≡ kind.Struct types → ⊥) → IsStruct k → ⊥
+no_struct (kind.Struct types) not is = not types refl
+no_struct (kind.Basic b) not is = is
+no_struct (kind.Array e n) not is = is
+no_struct (kind.Slice e) not is = is
+no_struct (kind.Map k e) not is = is
+no_struct (kind.Opaque m) not is = is
+
+pub tagged_begins : {T : Table} {t : TypeId} {v : Tree} {body : List ℕ} (s : Shape) (begin : ℕ) → shape_of T t ≡ Some s
+    → ((types : List Field) → s.kind ≡ kind.Struct types → ⊥) → (0 < length body → begin ≡ 1) → SpellsTop T t v body
+    → Spells T t v (drop begin body)
+tagged_begins s begin f not one (at_once {s = r} g struct p) =
+    let same : r ≡ s = some_injective (sym g ∙ f) in
+    absurd (no_struct s.kind not (subst (λ (r : Shape). IsStruct r.kind) same struct))
+tagged_begins {T = T} {t = t} {v = v} {body = body} s begin f not one (tagged {b = b} g other p) =
+    let first : begin ≡ 1 = one (omega arith) in
+    subst (λ n. Spells T t v (drop n (0 ∷ b))) (sym first) p
+
+pub no_shape_top : {T : Table} {t : TypeId} {v : Tree} {body : List ℕ} → shape_of T t ≡ None → SpellsTop T t v body → ⊥
+no_shape_top f (at_once g struct p) = cc
+no_shape_top f (tagged g other p) = cc

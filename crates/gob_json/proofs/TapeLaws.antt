@@ -1,0 +1,347 @@
+-- What is written of the parts that the children of a view give, and what is left to be written.
+use Rattle.std.proofs.Common.{◌≡◌, ◌≢◌, ℕ, ℤ, pos, negsuc, ◌+◌, ◌*◌, ◌/◌, ◌%◌, ◌<◌, List, [], ◌∷◌, ◌++◌, Option, Some}
+use Rattle.std.proofs.Common.{None, Bool, true, false, not, arith, refl, sym, ap, ◌∙◌, subst, append_assoc}
+use Rattle.std.specs.Prelude.{◌==◌, if◌then◌else◌, slice_get, codes}
+use Rattle.std.specs.Fmt.{signed_decimal}
+use Rattle.json.specs.Token.{Token}
+use Rattle.json.specs.Tree.{json_tokens, items_tokens}
+use Rattle.serde_json.specs.Data.{Data, array, Items, no_items, item}
+use Rattle.serde_json.specs.Written.{outline, items_outline}
+use Rattle.gob_types.specs.declared.id.TypeId.{TypeId}
+use Rattle.gob_types.specs.declared.kind.Field.{Field}
+use Rattle.gob_types.specs.Table.{Table}
+use Rattle.gob_value.specs.Tree.{Tree, Trees, no_tree, tree, Pairs, no_pair, pair, Fields, no_field, field}
+use Rattle.gob_value.specs.Tree as Value
+use Rattle.gob_value.specs.Spelling.{truth}
+use Rattle.gob_read.specs.Built.{signed_of}
+use Rattle.gob_tape.specs.declared.kind.ValueKind.{ValueKind}
+use Rattle.gob_tape.specs.declared.kind.ValueKind.TheVariants as kind
+use Rattle.gob_tape.specs.declared.view.View.{View}
+use Rattle.gob_tape.specs.declared.view.Children.{Children}
+use Rattle.gob_tape.specs.Seeing.{kind_of, numbers_of, bytes_of, unsigned_of, elements, alternating, present}
+use Rattle.gob_tape.specs.Seeing.{Sees, Gives, GivesNext, gives_one, GivesPart, TakesNodes}
+use Rattle.gob_tape.specs.Seeing.{takes_some, nodes_left}
+use Rattle.gob_json.specs.Json.{value_json, elements_json, pairs_json, fields_json, put_json}
+use Rattle.gob_json.specs.Json.{triple_json, natural_json, integer_json, id_json, text_json}
+use Rattle.gob_json.specs.Json.{field_name, field_type}
+use Rattle.gob_json.specs.TapeJson.{leaf_json}
+
+-- ---- parts without parts
+
+signed_even : (n : ℕ) → signed_of (2 * n) ≡ pos n
+signed_even n =
+    let even : 2 * n % 2 ≡ 0 = omega arith in
+    let half : 2 * n / 2 ≡ n = omega arith in
+    ap (λ r. if r == 0 then pos (2 * n / 2) else negsuc (2 * n / 2)) even ∙ ap pos half
+
+signed_odd : (n : ℕ) → signed_of (2 * n + 1) ≡ negsuc n
+signed_odd n =
+    let odd : (2 * n + 1) % 2 ≡ 1 = omega arith in
+    let half : (2 * n + 1) / 2 ≡ n = omega arith in
+    ap (λ r. if r == 0 then pos ((2 * n + 1) / 2) else negsuc ((2 * n + 1) / 2)) odd ∙ ap negsuc half
+
+signed_unsigned : (i : ℤ) → signed_of (unsigned_of i) ≡ i
+signed_unsigned (pos n) = signed_even n
+signed_unsigned (negsuc n) = signed_odd n
+
+truth_shown : (x : Bool) → (truth x == 1) ≡ x
+truth_shown true = refl
+truth_shown false = refl
+
+leaf_shown : (T : Table) (t : TypeId) (v : Tree) → (kind_of v ≢ kind.Many) → (kind_of v ≢ kind.Pairs)
+    → (kind_of v ≢ kind.Fields)
+    → leaf_json (kind_of v) (numbers_of v).0 (numbers_of v).1 (bytes_of v) ≡ value_json T t v
+leaf_shown T t (Value.bool x) m p f = ap Rattle.serde_json.specs.Data.boolean (truth_shown x)
+leaf_shown T t (Value.int i) m p f = ap integer_json (signed_unsigned i)
+leaf_shown T t (Value.uint n) m p f = refl
+leaf_shown T t (Value.float q) m p f = refl
+leaf_shown T t (Value.complex q r) m p f = refl
+leaf_shown T t (Value.bytes s) m p f = refl
+leaf_shown T t (Value.text s) m p f = refl
+leaf_shown T t Value.nil m p f = refl
+leaf_shown T t (Value.many vs) m p f = absurd (m refl)
+leaf_shown T t (Value.pairs ps) m p f = absurd (p refl)
+leaf_shown T t (Value.fields fs) m p f = absurd (f refl)
+leaf_shown T t (Value.opaque s) m p f = refl
+
+-- what a view shows of a part without parts
+pub leaf_seen : (T : Table) (t : TypeId) (v : Tree) (k : ValueKind) (n : ℕ × ℕ) (s : List ℕ) → k ≡ kind_of v
+    → n ≡ numbers_of v → s ≡ bytes_of v
+    → (k ≢ kind.Many) → (k ≢ kind.Pairs) → (k ≢ kind.Fields) → leaf_json k n.0 n.1 s ≡ value_json T t v
+leaf_seen T t v k n s e q r m p f =
+    ap (λ k. leaf_json k n.0 n.1 s) e ∙ ap (λ n. leaf_json (kind_of v) n.0 n.1 s) q ∙ ap
+    (λ s. leaf_json (kind_of v) (numbers_of v).0 (numbers_of v).1 s) r
+    ∙ leaf_shown T t v (λ h. m (e ∙ h)) (λ h. p (e ∙ h)) (λ h. f (e ∙ h))
+
+-- ---- which value has parts of which kind
+
+abbrev IsMany : ValueKind → Type 0
+IsMany kind.Many = Unit {0}
+IsMany _ = ⊥
+
+abbrev IsPairs : ValueKind → Type 0
+IsPairs kind.Pairs = Unit {0}
+IsPairs _ = ⊥
+
+abbrev IsFields : ValueKind → Type 0
+IsFields kind.Fields = Unit {0}
+IsFields _ = ⊥
+
+pub record AsMany (v : Tree) : Type 0 where
+  pub parts : Trees
+  pub is : v ≡ Value.many parts
+
+pub record AsPairs (v : Tree) : Type 0 where
+  pub parts : Pairs
+  pub is : v ≡ Value.pairs parts
+
+pub record AsFields (v : Tree) : Type 0 where
+  pub parts : Fields
+  pub is : v ≡ Value.fields parts
+
+pub as_many : (v : Tree) → kind.Many ≡ kind_of v → AsMany v
+as_many v e = by v (subst IsMany e tt)
+  where
+    by : (v : Tree) → IsMany (kind_of v) → AsMany v
+    by (Value.many vs) h = record { parts = vs; is = refl }
+    by (Value.bool x) h = absurd h
+    by (Value.int x) h = absurd h
+    by (Value.uint x) h = absurd h
+    by (Value.float x) h = absurd h
+    by (Value.complex x y) h = absurd h
+    by (Value.bytes x) h = absurd h
+    by (Value.text x) h = absurd h
+    by Value.nil h = absurd h
+    by (Value.pairs x) h = absurd h
+    by (Value.fields x) h = absurd h
+    by (Value.opaque x) h = absurd h
+
+pub as_pairs : (v : Tree) → kind.Pairs ≡ kind_of v → AsPairs v
+as_pairs v e = by v (subst IsPairs e tt)
+  where
+    by : (v : Tree) → IsPairs (kind_of v) → AsPairs v
+    by (Value.pairs ps) h = record { parts = ps; is = refl }
+    by (Value.bool x) h = absurd h
+    by (Value.int x) h = absurd h
+    by (Value.uint x) h = absurd h
+    by (Value.float x) h = absurd h
+    by (Value.complex x y) h = absurd h
+    by (Value.bytes x) h = absurd h
+    by (Value.text x) h = absurd h
+    by Value.nil h = absurd h
+    by (Value.many x) h = absurd h
+    by (Value.fields x) h = absurd h
+    by (Value.opaque x) h = absurd h
+
+pub as_fields : (v : Tree) → kind.Fields ≡ kind_of v → AsFields v
+as_fields v e = by v (subst IsFields e tt)
+  where
+    by : (v : Tree) → IsFields (kind_of v) → AsFields v
+    by (Value.fields fs) h = record { parts = fs; is = refl }
+    by (Value.bool x) h = absurd h
+    by (Value.int x) h = absurd h
+    by (Value.uint x) h = absurd h
+    by (Value.float x) h = absurd h
+    by (Value.complex x y) h = absurd h
+    by (Value.bytes x) h = absurd h
+    by (Value.text x) h = absurd h
+    by Value.nil h = absurd h
+    by (Value.many x) h = absurd h
+    by (Value.pairs x) h = absurd h
+    by (Value.opaque x) h = absurd h
+
+-- ---- elements
+
+-- these elements are to come, and with what is written of them the tokens are all
+pub record ElementsLeft (T : Table) (e : TypeId) (parts : Children) (tokens all : List Token) : Type 0 where
+  pub rest : Trees
+  pub gives : Gives parts (elements rest)
+  pub left : tokens ++ items_tokens (items_outline (elements_json T e rest)) ≡ all
+
+abbrev pub NextIs : Children → Option View → Children → Type 0
+NextIs old part new = (xs : List (Option ℕ × Tree)) → Gives old xs → GivesNext new xs part
+
+pub next_is : {old new : Children} {given part : Option View} → GivesPart old given new → given ≡ part
+    → NextIs old part new
+next_is {new = new} p e = λ xs h. subst (λ p. GivesNext new xs p) e (p.next xs h)
+
+pub fewer_left : {old new : Children} {given : Option View} {part : View} → GivesPart old given new → given ≡ Some part
+    → nodes_left new < nodes_left old
+fewer_left {old = old} {new = new} {part = part} p e = by (subst (λ p. TakesNodes old new p) e p.nodes)
+  where
+    by : TakesNodes old new (Some part) → nodes_left new < nodes_left old
+    by (takes_some a b) = b
+
+-- the closing bracket ends what was begun
+begun_left : (old : List Token) {begun : List Token} (items : List Token) → begun ≡ old ++ Token.begin_array ∷ []
+    → begun ++ items ≡ old ++ (Token.begin_array ∷ items)
+begun_left old items b = ap (λ (l : List Token). l ++ items) b ∙ append_assoc old (Token.begin_array ∷ []) items
+
+more_left : (old : List Token) {new all : List Token} (one rest : List Token) → new ≡ old ++ one
+    → old ++ (one ++ rest) ≡ all → new ++ rest ≡ all
+more_left old one rest n a = ap (λ (l : List Token). l ++ rest) n ∙ append_assoc old one rest ∙ a
+
+pub elements_begun : {T : Table} {e : TypeId} {parts : Children} {begun : List Token} (old : List Token) (vs : Trees)
+    → begun ≡ old ++ Token.begin_array ∷ [] → Gives parts (elements vs)
+    → ElementsLeft T e parts begun (old ++ json_tokens (outline (array (elements_json T e vs))))
+elements_begun old vs b g = record { rest = vs; gives = g; left = begun_left old _ b }
+
+pub elements_on : {T : Table} {e : TypeId} {parts others : Children} {part : View} {old new all : List Token}
+    → ElementsLeft T e parts old all → NextIs parts (Some part) others
+    → ((f : Option ℕ) (v : Tree) → Sees part f v → new ≡ old ++ json_tokens (outline (value_json T e v)))
+    → ElementsLeft T e others new all
+elements_on {T = T} {e = e} {others = others} {part = part} {old = old} {new = new} {all = all} l n w = by l.rest l.left
+    (n _ l.gives)
+  where
+    by : (vs : Trees) → old ++ items_tokens (items_outline (elements_json T e vs)) ≡ all
+        → GivesNext others (elements vs) (Some part) → ElementsLeft T e others new all
+    by no_tree q h = elim h [ ]
+    by (tree v vs) q (gives_one s g) = record { rest = vs; gives = g; left = more_left old _ _ (w None v s) q }
+
+pub elements_end : {T : Table} {e : TypeId} {parts others : Children} {old new all : List Token}
+    → ElementsLeft T e parts old all → NextIs parts None others
+    → new ≡ old ++ Token.end_array ∷ [] → new ≡ all
+elements_end {T = T} {e = e} {others = others} {old = old} {new = new} {all = all} l n w = by l.rest l.left
+    (n _ l.gives)
+  where
+    by : (vs : Trees) → old ++ items_tokens (items_outline (elements_json T e vs)) ≡ all
+        → GivesNext others (elements vs) None → new ≡ all
+    by no_tree q h = w ∙ q
+    by (tree v vs) q h = elim h [ ]
+
+-- ---- fields
+
+pub record FieldsLeft (T : Table) (types : List Field) (parts : Children) (tokens all : List Token) : Type 0 where
+  pub rest : Fields
+  pub gives : Gives parts (present rest)
+  pub left : tokens ++ items_tokens (items_outline (fields_json T types rest)) ≡ all
+
+pub fields_begun : {T : Table} {types : List Field} {parts : Children} {begun : List Token} (old : List Token) (fs : Fields) → begun ≡ old ++ Token.begin_array ∷ [] → Gives parts (present fs)
+    → FieldsLeft T types parts begun (old ++ json_tokens (outline (array (fields_json T types fs))))
+fields_begun old fs b g = record { rest = fs; gives = g; left = begun_left old _ b }
+
+pub fields_on : {T : Table} {types : List Field} {parts others : Children} {part : View} {old new all : List Token}
+    → FieldsLeft T types parts old all → NextIs parts (Some part) others
+    → ((f : ℕ) (v : Tree) → Sees part (Some f) v
+    → new ≡ old ++ json_tokens (outline
+    (triple_json (natural_json f) (text_json (field_name (slice_get types f)))
+    (value_json T (field_type (slice_get types f)) v))))
+    → FieldsLeft T types others new all
+fields_on {T = T} {types = types} {others = others} {part = part} {old = old} {new = new} {all = all} l n w = by l.rest l.left (n _ l.gives)
+  where
+    by : (fs : Fields) → old ++ items_tokens (items_outline (fields_json T types fs)) ≡ all
+        → GivesNext others (present fs) (Some part) → FieldsLeft T types others new all
+    by no_field q h = elim h [ ]
+    by (field f v fs) q (gives_one s g) = record { rest = fs; gives = g; left = more_left old _ _ (w f v s) q }
+
+pub fields_end : {T : Table} {types : List Field} {parts others : Children} {old new all : List Token}
+    → FieldsLeft T types parts old all → NextIs parts None others
+    → new ≡ old ++ Token.end_array ∷ [] → new ≡ all
+fields_end {T = T} {types = types} {others = others} {old = old} {new = new} {all = all} l n w = by l.rest l.left
+    (n _ l.gives)
+  where
+    by : (fs : Fields) → old ++ items_tokens (items_outline (fields_json T types fs)) ≡ all
+        → GivesNext others (present fs) None → new ≡ all
+    by no_field q h = w ∙ q
+    by (field f v fs) q h = elim h [ ]
+
+-- ---- entries
+
+-- the element of a key that was written, and then these entries, are to come; or these entries
+pub data EntriesLeft (T : Table) (k e : TypeId) (parts : Children) (tokens all : List Token) : Bool → Type 0 where
+  key_next : (ps : Pairs) → Gives parts (alternating ps)
+      → tokens ++ items_tokens (items_outline (pairs_json T k e ps)) ≡ all → EntriesLeft T k e parts tokens all true
+  element_next : (v : Tree) (ps : Pairs) → Gives parts ((None, v) ∷ alternating ps)
+      → tokens ++ ((json_tokens (outline (value_json T e v)) ++ Token.end_array ∷ []) ++ items_tokens (items_outline (pairs_json T k e ps))) ≡ all → EntriesLeft T k e parts tokens all false
+
+pub entries_begun : {T : Table} {k e : TypeId} {parts : Children} {begun : List Token} (old : List Token) (ps : Pairs)
+    → begun ≡ old ++ Token.begin_array ∷ [] → Gives parts (alternating ps)
+    → EntriesLeft T k e parts begun (old ++ json_tokens (outline (array (pairs_json T k e ps)))) true
+entries_begun old ps b g = key_next ps g (begun_left old _ b)
+
+key_on : {T : Table} {k e : TypeId} {parts others : Children} {part : View} {old begun new all : List Token}
+    → EntriesLeft T k e parts old all true → NextIs parts (Some part) others
+    → begun ≡ old ++ Token.begin_array ∷ []
+    → ((f : Option ℕ) (v : Tree) → Sees part f v → new ≡ begun ++ json_tokens (outline (value_json T k v)))
+    → EntriesLeft T k e others new all false
+key_on {T = T} {k = k} {e = e} {others = others} {part = part} {old = old} {begun = begun} {new = new} {all = all}
+    (key_next ps g q) n b w = by ps q (n _ g)
+  where
+    by : (ps : Pairs) → old ++ items_tokens (items_outline (pairs_json T k e ps)) ≡ all
+        → GivesNext others (alternating ps) (Some part) → EntriesLeft T k e others new all false
+    by no_pair q h = elim h [ ]
+    by (pair x v ps) q (gives_one s g) =
+        let key = json_tokens (outline (value_json T k x)) in
+        let element = json_tokens (outline (value_json T e v)) ++ Token.end_array ∷ [] in
+        let rest = items_tokens (items_outline (pairs_json T k e ps)) in
+        element_next v ps g (more_left begun key (element ++ rest) (w None x s)
+        (more_left old (Token.begin_array ∷ []) (key ++ (element ++ rest)) b
+        (ap (λ (l : List Token). old ++ Token.begin_array ∷ l) (sym (append_assoc key element rest)) ∙ q)))
+
+element_on : {T : Table} {k e : TypeId} {parts others : Children} {part : View} {old new ended all : List Token}
+    → EntriesLeft T k e parts old all false → NextIs parts (Some part) others
+    → ((f : Option ℕ) (v : Tree) → Sees part f v → new ≡ old ++ json_tokens (outline (value_json T e v)))
+    → ended ≡ new ++ Token.end_array ∷ [] → EntriesLeft T k e others ended all true
+element_on {T = T} {k = k} {e = e} {others = others} {part = part} {old = old} {new = new} {ended = ended} {all = all}
+    (element_next v ps g q) n w d = by (n _ g)
+  where
+    by : GivesNext others ((None, v) ∷ alternating ps) (Some part) → EntriesLeft T k e others ended all true
+    by (gives_one s h) =
+        let value = json_tokens (outline (value_json T e v)) in
+        let one : ended ≡ old ++ (value ++ Token.end_array ∷ []) = d ∙ ap
+        (λ (l : List Token). l ++ Token.end_array ∷ []) (w None v s) ∙ append_assoc old value (Token.end_array ∷ []) in
+        key_next ps h (more_left old _ _ one q)
+
+pub entries_end : {T : Table} {k e : TypeId} {parts others : Children} {old new all : List Token} {is_key : Bool}
+    → EntriesLeft T k e parts old all is_key → NextIs parts None others
+    → new ≡ old ++ Token.end_array ∷ [] → new ≡ all
+entries_end {T = T} {k = k} {e = e} {others = others} {old = old} {new = new} {all = all}
+    (key_next ps g q) n w = by ps q (n _ g)
+  where
+    by : (ps : Pairs) → old ++ items_tokens (items_outline (pairs_json T k e ps)) ≡ all
+        → GivesNext others (alternating ps) None → new ≡ all
+    by no_pair q h = w ∙ q
+    by (pair x v ps) q h = elim h [ ]
+entries_end {others = others} {new = new} {all = all} (element_next v ps g q) n w = by (n _ g)
+  where
+    by : GivesNext others ((None, v) ∷ alternating ps) None → new ≡ all
+    by h = elim h [ ]
+
+-- a key, and an element, was written
+pub key_turn : {T : Table} {k e : TypeId} {parts others : Children} {part : View} {old begun new all : List Token} {is_key : Bool} → is_key ≡ true → EntriesLeft T k e parts old all is_key
+    → NextIs parts (Some part) others → begun ≡ old ++ Token.begin_array ∷ []
+    → ((f : Option ℕ) (v : Tree) → Sees part f v → new ≡ begun ++ json_tokens (outline (value_json T k v)))
+    → EntriesLeft T k e others new all (not is_key)
+key_turn {T = T} {k = k} {e = e} {parts = parts} {others = others} {old = old} {new = new} {all = all} h l n b w =
+    subst (λ x. EntriesLeft T k e others new all (not x)) (sym h)
+    (key_on (subst (λ x. EntriesLeft T k e parts old all x) h l) n b w)
+
+pub element_turn : {T : Table} {k e : TypeId} {parts others : Children} {part : View} {old new ended all : List Token} {is_key : Bool} → is_key ≡ false → EntriesLeft T k e parts old all is_key
+    → NextIs parts (Some part) others
+    → ((f : Option ℕ) (v : Tree) → Sees part f v → new ≡ old ++ json_tokens (outline (value_json T e v)))
+    → ended ≡ new ++ Token.end_array ∷ []
+    → EntriesLeft T k e others ended all (not is_key)
+element_turn {T = T} {k = k} {e = e} {parts = parts} {others = others} {old = old} {ended = ended} {all =
+    all} h l n w d =
+    subst (λ x. EntriesLeft T k e others ended all (not x)) (sym h)
+    (element_on (subst (λ x. EntriesLeft T k e parts old all x) h l) n w d)
+
+-- the token of a signed number
+pub integer_token : (i : ℤ) → Token.number (signed_decimal i) ∷ [] ≡ json_tokens (outline (integer_json i))
+integer_token (pos n) = refl
+integer_token (negsuc n) = refl
+
+-- the tokens of a value with its type
+pub put_written : (T : Table) (id : TypeId) (v : Tree) (old begun type number value shown : List Token) {new : List Token} → begun ≡ old ++ Token.begin_object ∷ []
+    → type ≡ begun ++ Token.key (codes "type") ∷ [] → number ≡ type ++ json_tokens (outline (id_json id))
+    → value ≡ number ++ Token.key (codes "value") ∷ []
+    → shown ≡ value ++ json_tokens (outline (value_json T id v)) → new ≡ shown ++ Token.end_object ∷ []
+    → new ≡ old ++ json_tokens (outline (put_json T id v))
+put_written T id v old begun type number value shown a b c d e f =
+    let last = json_tokens (outline (value_json T id v)) ++ Token.end_object ∷ [] in
+    let named = Token.key (codes "value") ∷ last in
+    let typed = json_tokens (outline (id_json id)) ++ named in
+    f ∙ more_left value _ (Token.end_object ∷ []) e (more_left number (Token.key (codes "value") ∷ []) last d
+    (more_left type (json_tokens (outline (id_json id))) named c
+    (more_left begun (Token.key (codes "type") ∷ []) typed b
+    (more_left old (Token.begin_object ∷ []) (Token.key (codes "type") ∷ typed) a refl))))

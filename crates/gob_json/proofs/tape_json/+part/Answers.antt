@@ -1,0 +1,131 @@
+-- Part by part more is written, and less is left.
+use Rattle.std.proofs.Common.{◌≡◌, ◌∙◌, ◌++◌, ap, sym, arith, subst, Some}
+use Rattle.std.proofs.lemmas.Result.{on_ok_weaker}
+use Rattle.std.specs.Prelude.{slice_get, unwrap_or}
+use Rattle.json.specs.Written.{Written}
+use Rattle.json.specs.Tree.{json_tokens}
+use Rattle.serde_json.specs.Data.{array}
+use Rattle.serde_json.specs.Written.{outline}
+use Rattle.gob_types.specs.Table.{shape_of}
+use Rattle.gob_tape.specs.Seeing.{Gives, alternating, parts_of, nodes_left}
+use Rattle.gob_json.specs.Json.{value_json, elements_json, pairs_json, fields_json, key_type, natural_json, text_json, field_name, field_type}
+use Rattle.gob_json.proofs.TapeLaws.{next_is, fewer_left, elements_on, elements_end, fields_on, fields_end, entries_begun, key_turn, element_turn, entries_end, leaf_seen, as_many, as_pairs, as_fields}
+use Rattle.gob_json.proofs.WrittenLaws.{triple_written}
+use Rattle.gob_json.proofs.tape_json.+part.Goals as goal
+use Rattle.gob_json.proofs.tape_json.+part.Goals.{write_entries-then-is_key+in_ok-begin_array-2+in_ok-write_part, write_entries-else-is_key+in_ok-write_part-2+in_ok-end_array}
+
+pub write_elements-loop-part-preserved : goal.write_elements-loop-part-preserved
+write_elements-loop-part-preserved g t c = record {
+  next = tt;
+  finite = tt;
+  before = c.in_ok-write_part.ensures.before ∙ c.loop-part.invariant.before;
+  fewer = omega (arith, fewer_left c.next.ensures.steps c.in-Some.is, c.loop-part.invariant.fewer);
+  written = λ vs h. elements_on (c.loop-part.invariant.written vs h) (next_is c.next.ensures.steps c.in-Some.is) c.in_ok-write_part.ensures.tokens;
+}
+
+pub write_elements-returns-clause-tokens : goal.write_elements-returns-clause-tokens
+write_elements-returns-clause-tokens g t c =
+    on_ok_weaker c.end_array.result (λ e vs h. elements_end (c.loop-part.invariant.written vs h) (next_is c.next.ensures.steps c.in-None.is) e) c.end_array.ensures.ok
+
+pub write_entries-loop-part-init : goal.write_entries-loop-part-init
+write_entries-loop-part-init g t c =
+    let same = c.into_iter-part-iterator.ensures.into_iter_gives in record {
+      next = tt;
+      finite = tt;
+      before = c.in_ok-begin_array.ensures.room.0;
+      fewer = omega (arith, ap nodes_left same);
+      written = λ ps h. entries_begun c.args.out.now.tokens ps c.in_ok-begin_array.ensures.ok (subst (λ p. Gives p (alternating ps)) (sym same) h);
+    }
+
+pub write_entries-loop-part-preserved : goal.write_entries-loop-part-preserved
+write_entries-loop-part-preserved g t c = record {
+  next = tt;
+  finite = tt;
+  before = elim c.if-is_key.branch [
+    | write_entries-then-is_key+in_ok-begin_array-2+in_ok-write_part w ↦ ap (λ (o : Written). o.before) w.out-is ∙ w.in_ok-write_part.ensures.before ∙ w.in_ok-begin_array-2.ensures.room.0 ∙ c.loop-part.invariant.before
+    | write_entries-else-is_key+in_ok-write_part-2+in_ok-end_array w ↦ ap (λ (o : Written). o.before) w.out-is ∙ w.in_ok-end_array.ensures.room.0 ∙ w.in_ok-write_part-2.ensures.before ∙ c.loop-part.invariant.before
+  ];
+  fewer = omega (arith, fewer_left c.next.ensures.steps c.in-Some.is, c.loop-part.invariant.fewer);
+  written = λ ps h. elim c.if-is_key.branch [
+    | write_entries-then-is_key+in_ok-begin_array-2+in_ok-write_part w ↦
+        key_turn w.if-is_key.true (c.loop-part.invariant.written ps h) (next_is c.next.ensures.steps c.in-Some.is) w.in_ok-begin_array-2.ensures.ok
+        (λ f v s. ap (λ (o : Written). o.tokens) w.out-is ∙ w.in_ok-write_part.ensures.tokens f v s)
+    | write_entries-else-is_key+in_ok-write_part-2+in_ok-end_array w ↦
+        element_turn w.if-is_key.false (c.loop-part.invariant.written ps h) (next_is c.next.ensures.steps c.in-Some.is) w.in_ok-write_part-2.ensures.tokens
+        (ap (λ (o : Written). o.tokens) w.out-is ∙ w.in_ok-end_array.ensures.ok)
+  ];
+}
+
+pub write_entries-returns-clause-tokens : goal.write_entries-returns-clause-tokens
+write_entries-returns-clause-tokens g t c =
+    on_ok_weaker c.end_array-2.result (λ e ps h. entries_end (c.loop-part.invariant.written ps h) (next_is c.next.ensures.steps c.in-None.is) e) c.end_array-2.ensures.ok
+
+pub write_fields-loop-part-preserved : goal.write_fields-loop-part-preserved
+write_fields-loop-part-preserved g t c =
+    let T = g.S.Shapes.table c.args.table.now in
+    let types = c.args.types.now in
+    let n = c.unwrap_or-number.result in
+    let begun = c.in_ok-begin_array-2.ensures in
+    let number = c.in_ok-u64.ensures in
+    let text = c.in_ok-write_text.ensures in
+    let shown = c.in_ok-write_part.ensures in
+    let ended = c.in_ok-end_array.ensures in record {
+      next = tt;
+      finite = tt;
+      before = ended.room.0 ∙ shown.before ∙ text.before ∙ number.room.0 ∙ begun.room.0 ∙ c.loop-part.invariant.before;
+      fewer = omega (arith, fewer_left c.next.ensures.steps c.in-Some.is, c.loop-part.invariant.fewer);
+      written = λ fs h.
+          fields_on (c.loop-part.invariant.written fs h) (next_is c.next.ensures.steps c.in-Some.is)
+          (λ f v s.
+          let is : n ≡ f = c.unwrap_or-number.ensures ∙ ap (λ o. unwrap_or o 0) (c.field.ensures (Some f) v s) in
+          triple_written c.loop-part.out.tokens c.begin_array-in-loop-part.new.self.tokens (natural_json f) (text_json (field_name (slice_get types f)))
+          begun.ok (value_json T (field_type (slice_get types f)) v) c.u64.new.self.tokens c.write_text.new.out.tokens c.write_part.new.out.tokens c.end_array.new.self.tokens
+          (number.ok ∙ ap (λ n. c.begin_array-in-loop-part.new.self.tokens ++ json_tokens (outline (natural_json n))) is)
+          (text.tokens ∙ ap (λ b. c.u64.new.self.tokens ++ json_tokens (outline (text_json b))) (c.name_at.ensures ∙ ap (λ n. field_name (slice_get types n)) is))
+          (shown.tokens (Some f) v s ∙ ap (λ t. c.write_text.new.out.tokens ++ json_tokens (outline (value_json T t v))) (c.type_at.ensures ∙ ap (λ n. field_type (slice_get types n)) is))
+          ended.ok);
+    }
+
+pub write_fields-returns-clause-tokens : goal.write_fields-returns-clause-tokens
+write_fields-returns-clause-tokens g t c =
+    on_ok_weaker c.end_array-2.result (λ e fs h. fields_end (c.loop-part.invariant.written fs h) (next_is c.next.ensures.steps c.in-None.is) e) c.end_array-2.ensures.ok
+
+pub write_part-returns-in-Many-clause-tokens : goal.write_part-returns-in-Many-clause-tokens
+write_part-returns-in-Many-clause-tokens g t c =
+    let T = g.S.Shapes.table c.args.table.now in
+    on_ok_weaker c.write_elements.result
+    (λ w f v s.
+    let a = as_many v (sym c.in-Many.is ∙ c.kind.ensures f v s) in
+    w a.parts (subst (λ v. Gives c.children-parts.result (parts_of v)) a.is (c.children-parts.ensures.parts f v s))
+    ∙ ap (λ d. c.args.out.now.tokens ++ json_tokens (outline d)) (ap (λ e. array (elements_json T e a.parts)) c.element_of.ensures ∙ ap (value_json T c.args.id) (sym a.is)))
+    c.write_elements.ensures.tokens
+
+pub write_part-returns-in-Pairs-clause-tokens : goal.write_part-returns-in-Pairs-clause-tokens
+write_part-returns-in-Pairs-clause-tokens g t c =
+    let T = g.S.Shapes.table c.args.table.now in
+    on_ok_weaker c.write_entries.result
+    (λ w f v s.
+    let a = as_pairs v (sym c.in-Pairs.is ∙ c.kind.ensures f v s) in
+    w a.parts (subst (λ v. Gives c.children-parts.result (parts_of v)) a.is (c.children-parts.ensures.parts f v s))
+    ∙ ap (λ d. c.args.out.now.tokens ++ json_tokens (outline d)) (ap (λ k. array (pairs_json T k c.element_of-in-Pairs.result a.parts)) c.key_of.ensures ∙ ap (λ e. array (pairs_json T (key_type (shape_of T c.args.id)) e a.parts)) c.element_of-in-Pairs.ensures ∙ ap (value_json T c.args.id) (sym a.is)))
+    c.write_entries.ensures.tokens
+
+pub write_part-returns-in-Fields-clause-tokens : goal.write_part-returns-in-Fields-clause-tokens
+write_part-returns-in-Fields-clause-tokens g t c =
+    let T = g.S.Shapes.table c.args.table.now in
+    on_ok_weaker c.write_fields.result
+    (λ w f v s.
+    let a = as_fields v (sym c.in-Fields.is ∙ c.kind.ensures f v s) in
+    w a.parts (subst (λ v. Gives c.children-parts.result (parts_of v)) a.is (c.children-parts.ensures.parts f v s))
+    ∙ ap (λ d. c.args.out.now.tokens ++ json_tokens (outline d)) (ap (λ l. array (fields_json T l a.parts)) c.fields_of.ensures ∙ ap (value_json T c.args.id) (sym a.is)))
+    c.write_fields.ensures.tokens
+
+pub write_part-returns-in_default : goal.write_part-returns-in_default
+write_part-returns-in_default g t c =
+    let T = g.S.Shapes.table c.args.table.now in record {
+      tokens = on_ok_weaker c.write_leaf.result
+          (λ w f v s. w ∙ ap (λ d. c.args.out.now.tokens ++ json_tokens (outline d))
+          (leaf_seen T c.args.id v c.kind.result c.numbers-first.result c.bytes.result.now (c.kind.ensures f v s) (c.numbers-first.ensures f v s) (c.bytes.ensures f v s) c.in_default.not-Many c.in_default.not-Pairs c.in_default.not-Fields))
+          c.write_leaf.ensures.tokens;
+      before = c.write_leaf.ensures.before;
+    }

@@ -1,0 +1,85 @@
+-- Part by part the text grows, and what is left shrinks.
+use Rattle.std.proofs.Common.{[], ◌∷◌, ◌++◌, ◌∙◌, ap, arith, sym}
+use Rattle.std.specs.Fmt.{decimal}
+use Rattle.serde_json.specs.Written.{compact_text}
+use Rattle.gob_json.specs.Json.{text_json}
+use Rattle.gob_value.proofs.PublicLaws.{seen, both, all_three}
+use Rattle.gob_json.proofs.TextSteps.{if_ok, deeper_text, slice_text, array_text, map_text, struct_text, later_on, no_element_text}
+use Rattle.gob_json.proofs.TextSteps.{element_text, no_pair_text, pair_text, fields_end_text, field_text}
+use Rattle.gob_json.proofs.text.value.+text.Goals as goal
+
+pub put_elements-elements-preserved : goal.put_elements-elements-preserved
+put_elements-elements-preserved g t c = record {
+  inside = c.in_ok-at.ensures.inside;
+  parts = λ end new s. c.elements.invariant.parts end new (both c.in_ok-at.ensures s
+      (element_text _ _ c.in-Some.shape.now _ _ _ _ _ _ _ _ _ (sym c.in-Some.ensures) (omega arith)
+      (later_on c.elements.index) c.in_ok-put_comma.ensures));
+}
+
+pub put_elements-returns : goal.put_elements-returns
+put_elements-returns g t c =
+    c.elements.invariant.parts c.elements.at c.push.new.self.items
+    (no_element_text _ _ _ _ _ _ _ _ _ (omega arith) c.elements.invariant.inside c.in_ok-push.ensures.items)
+
+pub put_pairs-pairs-preserved : goal.put_pairs-pairs-preserved
+put_pairs-pairs-preserved g t c = record {
+  inside = c.in_ok-at.ensures.inside;
+  parts = λ end new s. c.pairs.invariant.parts end new (all_three c.in_ok-behind.ensures c.in_ok-at.ensures s
+      (pair_text _ _ _ c.in-Some.keys.now c.in-Some-shape_of.elems.now _ _ _ _ _ _ _ _ _ _ _ _ _
+      (sym c.in-Some.ensures) (sym c.in-Some-shape_of.ensures) (omega arith) (later_on c.pairs.index)
+      c.in_ok-put_comma.ensures c.in_ok-push.ensures.items c.in_ok-push-2.ensures.items
+      c.in_ok-push-3.ensures.items));
+}
+
+pub put_pairs-returns : goal.put_pairs-returns
+put_pairs-returns g t c =
+    c.pairs.invariant.parts c.pairs.at c.push-2.new.self.items
+    (no_pair_text _ _ _ _ _ _ _ _ _ _ (omega arith) c.pairs.invariant.inside c.in_ok-push-4.ensures.items)
+
+pub put_fields-returns-then-delta-eq0 : goal.put_fields-returns-then-delta-eq0
+put_fields-returns-then-delta-eq0 g t c =
+    c.fields.invariant.parts c.in_ok-delta.behind c.push.new.self.items
+    (seen c.in_ok-delta.ensures.stands (fields_end_text _ _ _ _ _ _ _ _ (omega arith) c.in_ok-push.ensures.items))
+
+pub put_fields-fields-preserved : goal.put_fields-fields-preserved
+put_fields-fields-preserved g t c =
+    let name = c.in_ok-put_name.ensures
+    ∙ ap (λ b. c.put_comma.new.out.items
+    ++ 91 ∷ (decimal c.in_ok-number.number ++ 44 ∷ (compact_text (text_json b) ++ 44 ∷ []))) c.as_bytes.ensures in
+    record {
+      inside = c.in_ok-at.ensures.inside;
+      parts = λ end new s. c.fields.invariant.parts end new
+          (all_three c.in_ok-delta.ensures.stands c.in_ok-at.ensures s
+          (field_text _ _ _ _ _ _ c.in-Some.field.now c.in-Some-shape_of.shape.now _ _ _ _ _ _ _ _ (omega arith)
+          c.in_ok-number.ensures (sym c.in-Some.ensures.found) (sym c.in-Some-shape_of.ensures)
+          (later_on c.in_ok-number.number) c.in_ok-put_comma.ensures name c.in_ok-push-2.ensures.items));
+    }
+
+pub put_value-returns-in-Opaque : goal.put_value-returns-in-Opaque
+put_value-returns-in-Opaque g t c =
+    rw c.in-Opaque.is (if_ok c.put_opaque_at.result
+    (λ end s. seen (s _ c.in-Opaque.field-0) (deeper_text _ _ _ (omega arith))) c.put_opaque_at.ensures)
+
+pub put_value-returns-in_ok-push-in-Struct : goal.put_value-returns-in_ok-push-in-Struct
+put_value-returns-in_ok-push-in-Struct g t c =
+    rw c.in-Struct.is (if_ok c.put_fields.result
+    (λ end s. seen s (struct_text _ _ _ _ c.in_ok-push-in-Struct.ensures.items c.in-Struct.fields c.args.depth
+    (omega arith))) c.put_fields.ensures)
+
+pub put_value-returns-in_ok-push-in-Slice : goal.put_value-returns-in_ok-push-in-Slice
+put_value-returns-in_ok-push-in-Slice g t c =
+    rw c.in-Slice.is (if_ok c.put_elements.result
+    (λ end s. both c.in_ok-count-in-Slice.ensures.stands s (slice_text _ _ _ _ c.in_ok-push-in-Slice.ensures.items
+    c.in-Slice.elem c.args.depth _ (omega arith))) c.put_elements.ensures)
+
+pub put_value-returns-in_ok-push-in-Array : goal.put_value-returns-in_ok-push-in-Array
+put_value-returns-in_ok-push-in-Array g t c =
+    rw c.in-Array.is (if_ok c.put_elements-in-Array.result
+    (λ end s. both c.in_ok-count-in-Array.ensures.stands s (array_text _ _ _ _ c.in_ok-push-in-Array.ensures.items
+    c.in-Array.elem c.args.depth _ c.in-Array.len (omega arith) (omega arith))) c.put_elements-in-Array.ensures)
+
+pub put_value-returns-in_ok-push-in-Map : goal.put_value-returns-in_ok-push-in-Map
+put_value-returns-in_ok-push-in-Map g t c =
+    rw c.in-Map.is (if_ok c.put_pairs.result
+    (λ end s. both c.in_ok-count-in-Map.ensures.stands s (map_text _ _ _ _ c.in_ok-push-in-Map.ensures.items
+    c.in-Map.key c.in-Map.elem c.args.depth _ (omega arith))) c.put_pairs.ensures)

@@ -1,0 +1,19 @@
+//! The line of a value, written straight from the bytes that spell it: no tree is made, and nothing is kept of a
+//! part once its text stands.
+
+mod basic;
+mod between;
+mod block;
+mod escape;
+mod integers;
+mod leaf;
+mod number;
+mod out;
+mod send;
+mod stop;
+mod value;
+mod whole;
+
+pub use block::{comma_at, integer_at};
+pub use out::TextOut;
+pub use whole::{line_of_whole, put_head, send_line};

@@ -1,0 +1,208 @@
+//! The text of what has no parts: numbers, truth values, bytes and text. Each says how it answers by what the output
+//! says of the text that it was to take.
+
+ghost use Rattle.std.specs.Prelude.{◌≡◌, ◌<◌, ◌++◌, IsTrue};
+ghost use Rattle.std.specs.Fmt.{decimal};
+ghost use Rattle.hex.specs.Hex.{encode_lower};
+ghost use Rattle.serde_json.specs.Data.{boolean, null, string};
+ghost use Rattle.serde_json.specs.Written.{compact_text};
+ghost use Rattle.gob_json.specs.Text.{IsPlainAscii};
+ghost use Rattle.gob_json.specs.Json.{hex_json, integer_json, natural_json, opaque_json, pair_json, pattern_json, text_json};
+
+use super::block::{DIGITS, four_digits};
+use super::escape::put_escaped;
+use super::out::TextOut;
+use std::str;
+
+const HEX: &[u8; 16] = b"0123456789abcdef";
+
+/// Puts out the number in decimal.
+pub(crate) fn put_natural<O: TextOut>(number: u64, out: &mut O) -> Result<(), O::Fault>
+    ensures { O.puts out.old out.new (compact_text (natural_json number)) result }
+{
+    if number < 10_000 {
+        return put_short(number, out);
+    }
+    if number < 100_000_000 {
+        put_short(number / 10_000, out)?;
+        return out.put(&four_digits(number % 10_000));
+    }
+    put_long(number, out)
+}
+
+// Puts out the number of at most four digits in decimal. Each piece is of a fixed number of bytes.
+#[inline(always)]
+fn put_short<O: TextOut>(number: u64, out: &mut O) -> Result<(), O::Fault>
+    requires { number < 10000 }
+    ensures { O.puts out.old out.new (decimal number) result }
+{
+    let [first, second, third, last] = four_digits(number);
+    if number >= 1000 {
+        return out.put(&[first, second, third, last]);
+    }
+    if number >= 100 {
+        return out.put(&[second, third, last]);
+    }
+    if number >= 10 {
+        return out.put(&[third, last]);
+    }
+    out.put(&[last])
+}
+
+// Puts out the number of any size in decimal.
+fn put_long<O: TextOut>(number: u64, out: &mut O) -> Result<(), O::Fault>
+    ensures { O.puts out.old out.new (decimal number) result }
+{
+    let mut digits = [0; DIGITS];
+    let start = itoa::write_digits(number, &mut digits, DIGITS);
+    out.put(&digits[start..])
+}
+
+/// Puts out the number in decimal, with a minus where it is below 0.
+pub(crate) fn put_integer<O: TextOut>(number: i64, out: &mut O) -> Result<(), O::Fault>
+    ensures { O.puts out.old out.new (compact_text (integer_json number)) result }
+{
+    let size = number.unsigned_abs();
+    if number >= 0 {
+        return put_natural(size, out);
+    }
+    out.put(b"-")?;
+    put_natural(size, out)
+}
+
+/// Puts out `true` or `false`.
+pub(crate) fn put_truth<O: TextOut>(truth: bool, out: &mut O) -> Result<(), O::Fault>
+    ensures { O.puts out.old out.new (compact_text (boolean truth)) result }
+{
+    if truth {
+        return out.put(b"true");
+    }
+    out.put(b"false")
+}
+
+/// Puts out `null`.
+pub(crate) fn put_null<O: TextOut>(out: &mut O) -> Result<(), O::Fault>
+    ensures { O.puts out.old out.new (compact_text null) result }
+{
+    out.put(b"null")
+}
+
+// Puts out the bytes in lower case hexadecimal.
+fn put_digits<O: TextOut>(bytes: &[u8], out: &mut O) -> Result<(), O::Fault>
+    ensures { O.puts out.old out.new (encode_lower bytes.now) result }
+{
+    'bytes: for byte in bytes {
+        let high = HEX[(*byte / 16) as usize];
+        let low = HEX[(*byte % 16) as usize];
+        out.put(&[high, low])?;
+    }
+    Ok(())
+}
+
+// Puts out the three one behind another.
+#[inline(always)]
+fn put_three<O: TextOut>(
+    first: &[u8],
+    second: &[u8],
+    third: &[u8],
+    out: &mut O,
+) -> Result<(), O::Fault>
+    ensures { O.puts out.old out.new (first.now ++ (second.now ++ third.now)) result }
+{
+    out.put(first)?;
+    out.put(second)?;
+    out.put(third)
+}
+
+// Puts out the bytes in lower case hexadecimal, between these two.
+fn put_digits_between<O: TextOut>(
+    before: &[u8],
+    bytes: &[u8],
+    behind: &[u8],
+    out: &mut O,
+) -> Result<(), O::Fault>
+    ensures { O.puts out.old out.new (before.now ++ (encode_lower bytes.now ++ behind.now)) result }
+{
+    out.put(before)?;
+    put_digits(bytes, out)?;
+    out.put(behind)
+}
+
+/// Puts out the bytes as a string of lower case hexadecimal.
+pub(crate) fn put_hex<O: TextOut>(bytes: &[u8], out: &mut O) -> Result<(), O::Fault>
+    ensures { O.puts out.old out.new (compact_text (hex_json bytes.now)) result }
+{
+    put_digits_between(b"\"", bytes, b"\"", out)
+}
+
+/// Puts out the 64 bits of a float as a string of 16 digits of lower case hexadecimal.
+pub(crate) fn put_pattern<O: TextOut>(pattern: u64, out: &mut O) -> Result<(), O::Fault>
+    ensures { O.puts out.old out.new (compact_text (pattern_json pattern)) result }
+{
+    put_three(b"\"", &pattern_digits(pattern.to_be_bytes()), b"\"", out)
+}
+
+// The digits of eight bytes.
+fn pattern_digits(bytes: [u8; 8]) -> [u8; 16]
+    ensures { result ≡ encode_lower bytes }
+{
+    let mut digits = [0; 16];
+    'bytes: for index in 0..8 {
+        digits[2 * index] = HEX[(bytes[index] / 16) as usize];
+        digits[2 * index + 1] = HEX[(bytes[index] % 16) as usize];
+    }
+    digits
+}
+
+/// Puts out the patterns of a complex number's two parts as an array.
+pub(crate) fn put_complex<O: TextOut>(
+    real: u64,
+    imaginary: u64,
+    out: &mut O,
+) -> Result<(), O::Fault>
+    ensures { O.puts out.old out.new (compact_text (pair_json (pattern_json real) (pattern_json imaginary))) result }
+{
+    put_three(b"[\"", &pattern_digits(real.to_be_bytes()), b"\",\"", out)?;
+    put_three(b"", &pattern_digits(imaginary.to_be_bytes()), b"\"]", out)
+}
+
+/// Puts out the bytes of an opaque value as an object that holds them in hexadecimal.
+pub(crate) fn put_opaque<O: TextOut>(bytes: &[u8], out: &mut O) -> Result<(), O::Fault>
+    ensures { O.puts out.old out.new (compact_text (opaque_json bytes.now)) result }
+{
+    put_digits_between(b"{\"opaque\":\"", bytes, b"\"}", out)
+}
+
+/// Puts out text as a string where it is UTF-8, else as an object that holds its bytes in hexadecimal.
+pub(crate) fn put_text<O: TextOut>(bytes: &[u8], out: &mut O) -> Result<(), O::Fault>
+    ensures { O.puts out.old out.new (compact_text (text_json bytes.now)) result }
+{
+    if is_plain_ascii(bytes) {
+        return put_three(b"\"", bytes, b"\"", out);
+    }
+    match str::from_utf8(bytes) {
+        Ok(_) => put_string(bytes, out),
+        Err(_) => put_digits_between(b"{\"hex\":\"", bytes, b"\"}", out),
+    }
+}
+
+// Whether each byte is an ASCII character that stands for itself in a string. It looks at all of them: a loop that
+// doesn't end early takes many bytes at once.
+fn is_plain_ascii(bytes: &[u8]) -> bool
+    ensures { IsTrue result → IsPlainAscii bytes.now }
+{
+    let mut plain = true;
+    'bytes: for byte in bytes {
+        plain &= (*byte >= 0x20) & (*byte < 0x80) & (*byte != b'"') & (*byte != b'\\');
+    }
+    plain
+}
+
+// Puts out the bytes as a string.
+fn put_string<O: TextOut>(bytes: &[u8], out: &mut O) -> Result<(), O::Fault>
+    ensures { O.puts out.old out.new (compact_text (string bytes.now)) result }
+{
+    out.put(b"\"")?;
+    put_escaped(bytes, out)?;
+    out.put(b"\"")
+}

@@ -1,0 +1,276 @@
+//! The text of a value that is known to stand whole in a body, for an output that takes it while it is made. It takes
+//! no memory, and nothing but the output can fail.
+
+ghost use Rattle.std.specs.Prelude.{◌≡◌, ◌^◌, ◌-◌, ◌<◌, ◌≤◌, ◌∷◌, List, ℕ, IfOk, IfSome, drop, false, length};
+ghost use Rattle.serde_json.specs.Written.{compact_text, items_text};
+ghost use Rattle.gob_types.specs.declared.id.TypeId.{TypeId};
+ghost use Rattle.gob_types.specs.declared.basic.Basic.TheVariants as basics;
+ghost use Rattle.gob_types.specs.declared.kind.Kind.TheVariants as kinds;
+ghost use Rattle.gob_types.specs.declared.kind.Field.{Field};
+ghost use Rattle.gob_types.specs.declared.kind.Marshal.{Marshal};
+ghost use Rattle.gob_types.specs.Table.{Table};
+ghost use Rattle.gob_value.specs.Tree.{Tree, Trees, Pairs, Fields};
+ghost use Rattle.gob_json.specs.Json.{elements_json, fields_json, natural_json, pair_json, pairs_json, text_json};
+ghost use Rattle.gob_json.specs.Json.{triple_json, value_json};
+ghost use Rattle.gob_json.specs.TextSent.{HoldsKind, HoldsValue, BeginsList, BeginsMap, BeginsEntry, BeginsPresent};
+ghost use Rattle.gob_json.specs.TextSent.{IsNextField, Sends};
+
+use super::between::{put_comma, put_name};
+use super::leaf::{
+    put_complex, put_hex, put_integer, put_natural, put_null, put_opaque, put_pattern, put_text,
+    put_truth,
+};
+use super::number::{bytes_from, number_from};
+use super::out::TextOut;
+use gob_num::{to_pattern, to_signed};
+use gob_types::{Basic, Field, Fields as Types, Kind, Shapes, TypeId};
+
+/// Puts out the text of the value of the type that stands in the body from the place on, and tells where it ends. A value
+/// that is no deeper than `depth` is known to stand there: else the text may end early. It calls itself as deep as the
+/// value is.
+#[cycle(sent)]
+pub(crate) fn send_value<S: Shapes, O: TextOut>(
+    shapes: &S,
+    id: TypeId,
+    body: &[u8],
+    at: usize,
+    depth: u64,
+    out: &mut O,
+) -> Result<usize, O::Fault>
+    requires depth { depth ≤ 1000 }
+    requires place { at ≤ length body.now }
+    ensures sent { (v : Tree) (rest : List ℕ) → HoldsValue (S.table shapes.now) id depth v (drop at body.now) rest
+        → Sends O.puts out.old out.new (compact_text (value_json (S.table shapes.now) id v)) body.now rest result }
+    ensures inside { IfOk result (λ end. end ≤ length body.now) }
+{
+    if depth == 0 {
+        return Ok(at);
+    }
+    let Some(shape) = shapes.shape_of(id) else {
+        return Ok(at);
+    };
+    match &shape.kind {
+        Kind::Basic(basic) => send_basic(*basic, body, at, out),
+        Kind::Opaque(_) => send_opaque(body, at, out),
+        Kind::Struct { fields } => send_fields(shapes, fields, body, at, depth - 1, out),
+        Kind::Slice { elem } => send_elements(shapes, *elem, body, at, depth - 1, out),
+        Kind::Array { elem, .. } => send_elements(shapes, *elem, body, at, depth - 1, out),
+        Kind::Map { key, elem } => send_pairs(shapes, *key, *elem, body, at, depth - 1, out),
+    }
+}
+
+// Puts out the text of the elements that stand behind their count.
+#[cycle(sent)]
+fn send_elements<S: Shapes, O: TextOut>(
+    shapes: &S,
+    elem: TypeId,
+    body: &[u8],
+    begin: usize,
+    depth: u64,
+    out: &mut O,
+) -> Result<usize, O::Fault>
+    requires depth { depth ≤ 1000 }
+    requires place { begin ≤ length body.now }
+    ensures sent { (vs : Trees) (rest : List ℕ) → BeginsList (S.table shapes.now) elem depth vs (drop begin body.now) rest
+        → Sends O.puts out.old out.new (91 ∷ items_text false (elements_json (S.table shapes.now) elem vs))
+        body.now rest result }
+    ensures inside { IfOk result (λ end. end ≤ length body.now) }
+{
+    let (count, behind) = number_from(body, begin);
+    out.put(b"[")?;
+    let mut at = behind;
+    'elements: for index in 0..count {
+        put_comma(index > 0, out)?;
+        at = send_value(shapes, elem, body, at, depth, out)?;
+    }
+    out.put(b"]").and(Ok(at))
+}
+
+// Puts out the text of the pairs of a key and an element that stand behind their count.
+#[cycle(sent)]
+fn send_pairs<S: Shapes, O: TextOut>(
+    shapes: &S,
+    key: TypeId,
+    elem: TypeId,
+    body: &[u8],
+    begin: usize,
+    depth: u64,
+    out: &mut O,
+) -> Result<usize, O::Fault>
+    requires depth { depth ≤ 1000 }
+    requires place { begin ≤ length body.now }
+    ensures sent { (ps : Pairs) (rest : List ℕ) → BeginsMap (S.table shapes.now) key elem depth ps (drop begin body.now) rest
+        → Sends O.puts out.old out.new (91 ∷ items_text false (pairs_json (S.table shapes.now) key elem ps))
+        body.now rest result }
+    ensures inside { IfOk result (λ end. end ≤ length body.now) }
+{
+    let (count, behind) = number_from(body, begin);
+    out.put(b"[")?;
+    let mut at = behind;
+    'pairs: for index in 0..count {
+        put_comma(index > 0, out)?;
+        at = send_pair(shapes, key, elem, body, at, depth, out)?;
+    }
+    out.put(b"]").and(Ok(at))
+}
+
+// Puts out the text of the key and the element that stand there.
+#[cycle(sent)]
+fn send_pair<S: Shapes, O: TextOut>(
+    shapes: &S,
+    key: TypeId,
+    elem: TypeId,
+    body: &[u8],
+    at: usize,
+    depth: u64,
+    out: &mut O,
+) -> Result<usize, O::Fault>
+    requires depth { depth ≤ 1000 }
+    requires place { at ≤ length body.now }
+    ensures sent { (x v : Tree) (rest : List ℕ)
+        → BeginsEntry (S.table shapes.now) key elem depth x v (drop at body.now) rest
+        → Sends O.puts out.old out.new (compact_text (pair_json (value_json (S.table shapes.now) key x)
+        (value_json (S.table shapes.now) elem v))) body.now rest result }
+    ensures inside { IfOk result (λ end. end ≤ length body.now) }
+{
+    out.put(b"[")?;
+    let behind = send_value(shapes, key, body, at, depth, out)?;
+    out.put(b",")?;
+    let end = send_value(shapes, elem, body, behind, depth, out)?;
+    out.put(b"]").and(Ok(end))
+}
+
+// Puts out the text of the fields of a struct that are present.
+#[cycle(sent)]
+fn send_fields<S: Shapes, O: TextOut>(
+    shapes: &S,
+    types: &Types,
+    body: &[u8],
+    begin: usize,
+    depth: u64,
+    out: &mut O,
+) -> Result<usize, O::Fault>
+    requires depth { depth ≤ 1000 }
+    requires place { begin ≤ length body.now }
+    ensures sent { (fs : Fields) (rest : List ℕ)
+        → BeginsPresent (S.table shapes.now) types.now 0 depth fs (drop begin body.now) rest
+        → Sends O.puts out.old out.new (91 ∷ items_text false (fields_json (S.table shapes.now) types.now fs))
+        body.now rest result }
+    ensures inside { IfOk result (λ end. end ≤ length body.now) }
+{
+    let mut next = 0;
+    let mut at = begin;
+    out.put(b"[")?;
+    'fields: loop {
+        let (delta, behind) = number_from(body, at);
+        let Some((number, field)) = next_field(types, next, delta) else {
+            return out.put(b"]").and(Ok(behind));
+        };
+        put_comma(next > 0, out)?;
+        at = send_field(shapes, number, field, body, behind, depth, out)?;
+        next = number + 1;
+    }
+}
+
+// Puts out the text of the field of this number, whose value stands there.
+#[cycle(sent)]
+fn send_field<S: Shapes, O: TextOut>(
+    shapes: &S,
+    number: u64,
+    field: &Field,
+    body: &[u8],
+    at: usize,
+    depth: u64,
+    out: &mut O,
+) -> Result<usize, O::Fault>
+    requires depth { depth ≤ 1000 }
+    requires place { at ≤ length body.now }
+    ensures sent { (v : Tree) (rest : List ℕ)
+        → HoldsValue (S.table shapes.now) field.now.id depth v (drop at body.now) rest
+        → Sends O.puts out.old out.new (compact_text (triple_json (natural_json number) (text_json field.now.name)
+        (value_json (S.table shapes.now) field.now.id v))) body.now rest result }
+    ensures inside { IfOk result (λ end. end ≤ length body.now) }
+{
+    put_name(number, field.name.as_bytes(), out)?;
+    let end = send_value(shapes, field.id, body, at, depth, out)?;
+    out.put(b"]").and(Ok(end))
+}
+
+// The field that is so much above the one before the next, with its number, if there is one.
+fn next_field(types: &Types, next: u64, delta: u64) -> Option<(u64, &Field)>
+    ensures some { IfSome result (λ found. IsNextField types.now next delta found.0 found.1.now) }
+    ensures none { result ≡ None → (f : ℕ) (e : Field) → ¬ IsNextField types.now next delta f e }
+    ensures small { IfSome result (λ found. found.0 < 2 ^ 64 - 1) }
+{
+    if delta == 0 || delta > types.count().saturating_sub(next) {
+        return None;
+    }
+    let number = next + delta - 1;
+    match types.get(number) {
+        Some(field) => Some((number, field)),
+        None => None,
+    }
+}
+
+// Puts out the text of the value of the basic type that stands there.
+#[inline(always)]
+fn send_basic<O: TextOut>(
+    basic: Basic,
+    body: &[u8],
+    at: usize,
+    out: &mut O,
+) -> Result<usize, O::Fault>
+    requires { at ≤ length body.now }
+    ensures sent { (T : Table) (t : TypeId) (v : Tree) (rest : List ℕ)
+        → HoldsKind T (kinds.Basic basic) v (drop at body.now) rest
+        → Sends O.puts out.old out.new (compact_text (value_json T t v)) body.now rest result }
+    ensures inside { IfOk result (λ end. end ≤ length body.now) }
+{
+    match basic {
+        Basic::Bool => {
+            let (number, end) = number_from(body, at);
+            put_truth(number == 1, out).and(Ok(end))
+        }
+        Basic::Int => {
+            let (number, end) = number_from(body, at);
+            put_integer(to_signed(number), out).and(Ok(end))
+        }
+        Basic::Uint => {
+            let (number, end) = number_from(body, at);
+            put_natural(number, out).and(Ok(end))
+        }
+        Basic::Float => {
+            let (number, end) = number_from(body, at);
+            put_pattern(to_pattern(number), out).and(Ok(end))
+        }
+        Basic::Bytes => {
+            let (bytes, end) = bytes_from(body, at);
+            put_hex(bytes, out).and(Ok(end))
+        }
+        Basic::Str => {
+            let (bytes, end) = bytes_from(body, at);
+            put_text(bytes, out).and(Ok(end))
+        }
+        Basic::Complex => {
+            let (real, behind) = number_from(body, at);
+            let (imaginary, end) = number_from(body, behind);
+            put_complex(to_pattern(real), to_pattern(imaginary), out).and(Ok(end))
+        }
+        Basic::Interface => {
+            let (_, end) = number_from(body, at);
+            put_null(out).and(Ok(end))
+        }
+    }
+}
+
+// Puts out the text of the opaque value that stands there.
+fn send_opaque<O: TextOut>(body: &[u8], at: usize, out: &mut O) -> Result<usize, O::Fault>
+    requires { at ≤ length body.now }
+    ensures sent { (T : Table) (t : TypeId) (m : Marshal) (v : Tree) (rest : List ℕ)
+        → HoldsKind T (kinds.Opaque m) v (drop at body.now) rest
+        → Sends O.puts out.old out.new (compact_text (value_json T t v)) body.now rest result }
+    ensures inside { IfOk result (λ end. end ≤ length body.now) }
+{
+    let (bytes, end) = bytes_from(body, at);
+    put_opaque(bytes, out).and(Ok(end))
+}

@@ -1,0 +1,156 @@
+//! The text of a whole item's value, and its line.
+
+ghost use Rattle.std.specs.Prelude.{◌≡◌, ◌≤◌, ◌++◌, ◌∷◌, [], IsTrue, IfOk, IfSome, OnErr, false, drop, length};
+ghost use Rattle.serde_json.specs.Written.{compact_text};
+ghost use Rattle.gob_value.specs.Spelling.{Spells};
+ghost use Rattle.gob_value.specs.Top.{SpellsTop};
+ghost use Rattle.gob_value.specs.Tree.{Tree, depth as DepthOf};
+ghost use Rattle.gob_json.specs.Json.{put_json};
+ghost use Rattle.gob_json.specs.TextWhole.{TextOfWhole, LineOfWhole, IsBehindTag, head_text};
+
+use super::leaf::put_natural;
+use super::out::TextOut;
+use super::send::send_value;
+use super::stop::Stop;
+use super::value::put_value;
+use gob_num::Memory;
+use gob_types::{Kind, Shapes, TypeId};
+use std::mem;
+
+// How deep a value may be whose text is written: each level is a call within a call.
+const MOST_DEPTH: u64 = 1000;
+
+// Appends the text of the JSON of the value of the type that the body spells behind its tag, if it has one. True says
+/// that the body is such a value, no deeper than `depth`, and that its text stands. False says nothing: the body may
+/// be a value all the same, of a depth above 1000. After false or [`Memory`] a front of some text is appended.
+fn text_of_whole<S: Shapes>(
+    shapes: &S,
+    id: TypeId,
+    body: &[u8],
+    depth: u64,
+    out: &mut Vec<u8>,
+) -> Result<bool, Memory>
+    ensures { IfOk result (λ done. IsTrue done
+        → TextOfWhole (S.table shapes.now) id depth body.now out.old.items out.new.items) }
+{
+    let Some(shape) = shapes.shape_of(id) else {
+        return Ok(false);
+    };
+    let Some(begin) = behind_tag(&shape.kind, body) else {
+        return Ok(false);
+    };
+    let most = depth.min(MOST_DEPTH);
+    match put_value(shapes, &shape.kind, body, begin, most, out) {
+        Ok(end) => Ok(end == body.len()),
+        Err(Stop::NotWhole) => Ok(false),
+        Err(Stop::Memory) => Err(Memory),
+    }
+}
+
+// Where the value begins: behind the tag, which a struct doesn't have.
+fn behind_tag(kind: &Kind, body: &[u8]) -> Option<usize>
+    ensures begins { IfSome result (λ begin. IsBehindTag kind.now body.now begin) }
+    ensures inside { IfSome result (λ begin. begin ≤ length body.now) }
+{
+    match kind {
+        Kind::Struct { .. } => Some(0),
+        _ => match body.first() {
+            Some(0) => Some(1),
+            _ => None,
+        },
+    }
+}
+
+/// Appends the line of the item that puts the value of the type that the body spells. True says that the body is such
+/// a value, no deeper than `depth`, and that its line stands. False says nothing, and the lines are as before; so they
+/// are after [`Memory`]. Either the line is made in `room` first, or what waits is kept there: what is shorter.
+pub fn line_of_whole<S: Shapes>(
+    shapes: &S,
+    id: TypeId,
+    body: &[u8],
+    depth: u64,
+    room: &mut Vec<u8>,
+    out: &mut Vec<u8>,
+) -> Result<bool, Memory>
+    ensures line { IfOk result (λ done. IsTrue done
+        → LineOfWhole (S.table shapes.now) id depth body.now out.old.items out.new.items) }
+    ensures same { IfOk result (λ done. done ≡ false → out.new.items ≡ out.old.items) }
+    ensures err { OnErr result (out.new.items ≡ out.old.items) }
+{
+    room.clear();
+    if body.len() > out.len() {
+        room.extend_from_slice(out)?;
+        let made = put_line(shapes, id, body, depth, out);
+        if made != Ok(true) {
+            mem::swap(room, out);
+        }
+        return made;
+    }
+    if !put_line(shapes, id, body, depth, room)? {
+        return Ok(false);
+    }
+    out.extend_from_slice(room)?;
+    Ok(true)
+}
+
+// Appends the line. After false or [`Memory`] a front of some text is appended.
+fn put_line<S: Shapes>(
+    shapes: &S,
+    id: TypeId,
+    body: &[u8],
+    depth: u64,
+    out: &mut Vec<u8>,
+) -> Result<bool, Memory>
+    ensures { IfOk result (λ done. IsTrue done
+        → LineOfWhole (S.table shapes.now) id depth body.now out.old.items out.new.items) }
+{
+    put_head(id, out)?;
+    if !text_of_whole(shapes, id, body, depth, out)? {
+        return Ok(false);
+    }
+    out.extend_from_slice(b"}\n")?;
+    Ok(true)
+}
+
+/// Puts out what stands before the value.
+pub fn put_head<O: TextOut>(id: TypeId, out: &mut O) -> Result<(), O::Fault>
+    ensures { O.puts out.old out.new (head_text id) result }
+{
+    out.put(b"{\"type\":")?;
+    put_natural(id.0, out)?;
+    out.put(b",\"value\":")
+}
+
+/// Puts out the line of the item that puts the value of the type that the body spells, as is known of it. It takes no
+/// memory, and nothing but the output can fail; then a front of the line is put out.
+pub fn send_line<S: Shapes, O: TextOut>(
+    shapes: &S,
+    id: TypeId,
+    body: &[u8],
+    depth: u64,
+    out: &mut O,
+) -> Result<(), O::Fault>
+    requires { depth ≤ 1000 }
+    ensures { (v : Tree) → SpellsTop (S.table shapes.now) id v body.now → DepthOf v ≤ depth
+        → O.puts out.old out.new (compact_text (put_json (S.table shapes.now) id v) ++ 10 ∷ []) result }
+{
+    put_head(id, out)?;
+    let begin = value_begin(shapes, id, body);
+    send_value(shapes, id, body, begin, depth, out)?;
+    out.put(b"}\n")
+}
+
+// Where the value of the type begins that the body is known to spell.
+fn value_begin<S: Shapes>(shapes: &S, id: TypeId, body: &[u8]) -> usize
+    ensures known { (v : Tree) → SpellsTop (S.table shapes.now) id v body.now
+        → Spells (S.table shapes.now) id v (drop result body.now) }
+    ensures inside { result ≤ length body.now }
+{
+    let Some(shape) = shapes.shape_of(id) else {
+        return 0;
+    };
+    match &shape.kind {
+        Kind::Struct { .. } => 0,
+        _ => body.len().min(1),
+    }
+}

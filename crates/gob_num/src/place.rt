@@ -1,0 +1,104 @@
+//! Numbers that stand whole at a place of bytes: the fastest way to read what is there already.
+ghost use Rattle.std.specs.Prelude.{◌≡◌, ℕ, IfSome};
+ghost use Rattle.gob_num.specs.Place.{IsUnsignedAt, AreUnsignedAt, NumberStandsAt, NoNumberStandsAt, CountsDigits};
+ghost use Rattle.gob_num.specs.Taken.{TakesUnsigned};
+
+use crate::number::Number;
+use crate::unsigned::{LEAST_HEAD, Taken, digits_after, is_padded, take_digits};
+
+/// The number that stands whole at the place of the bytes, and where it ends. None says that none stands there: the bytes
+/// end before it does, or begin no spelling, as [`take_uint`](crate::take_uint) judges.
+#[inline(always)]
+pub fn uint_at(bytes: &[u8], at: usize) -> Option<(u64, usize)>
+    ensures found { IfSome result (λ found. IsUnsignedAt found.0 bytes.now at found.1) }
+    ensures none { result ≡ None → NoNumberStandsAt bytes.now at }
+{
+    let head = *bytes.get(at)?;
+    if head < 128 {
+        return Some((u64::from(head), at + 1));
+    }
+    let taken = match bytes[at + 1..].first_chunk::<8>() {
+        Some(digits) => take_digits(head, digits),
+        None => take_near_the_end(&bytes[at..]),
+    };
+    match taken {
+        Taken::Whole { number, used } => Some((number, at + used)),
+        _ => None,
+    }
+}
+
+/// Where the number ends that stands whole at the place of the bytes, if one does.
+#[inline(always)]
+pub fn uint_end(bytes: &[u8], at: usize) -> Option<usize>
+    ensures found { IfSome result (λ end. NumberStandsAt bytes.now at end) }
+    ensures none { result ≡ None → NoNumberStandsAt bytes.now at }
+{
+    let mut last = Counted { head: 0, count: 0 };
+    last.end_of_next(bytes, at)
+}
+
+// Takes a number of which the last byte may be missing. It stands near the end of the bytes, and so is no part of the loops
+// over those before.
+#[inline(never)]
+fn take_near_the_end(piece: &[u8]) -> Taken
+    ensures { TakesUnsigned piece.now result }
+{
+    Number::new().take_by_bytes(piece)
+}
+
+/// Where so many numbers end that stand whole one behind another, the first of them at the place of the bytes. None says that
+/// no so many stand there.
+#[inline(never)]
+pub fn uints_end(bytes: &[u8], begin: usize, count: u64) -> Option<usize>
+    ensures found { IfSome result (λ end. AreUnsignedAt bytes.now count begin end) }
+    ensures none { result ≡ None → (end : ℕ) → ¬ AreUnsignedAt bytes.now count begin end }
+{
+    let mut last = Counted { head: 0, count: 0 };
+    let mut at = begin;
+    'numbers: for _ in 0..count {
+        at = last.end_of_next(bytes, at)?;
+    }
+    Some(at)
+}
+
+// The head of the last number of more than one byte, if there was one, and how many digits it counts. Lists have runs of
+// numbers of one size: so where the next ends is mostly there before its head is read.
+#[derive(Clone, Copy)]
+struct Counted {
+    head: u8,
+    count: u8,
+}
+
+impl Counted {
+    // Where the number at the place ends.
+    #[inline(always)]
+    fn end_of_next(&mut self, bytes: &[u8], at: usize) -> Option<usize>
+        requires { CountsDigits self.old.head self.old.count }
+        ensures counts { CountsDigits self.new.head self.new.count }
+        ensures found { IfSome result (λ end. NumberStandsAt bytes.now at end) }
+        ensures none { result ≡ None → NoNumberStandsAt bytes.now at }
+    {
+        let head = *bytes.get(at)?;
+        if head < 128 {
+            return Some(at + 1);
+        }
+        let first = *bytes.get(at + 1)?;
+        if head != self.head {
+            if head < LEAST_HEAD {
+                return None;
+            }
+            *self = Counted {
+                head,
+                count: digits_after(head),
+            };
+        }
+        if is_padded(self.count, first) {
+            return None;
+        }
+        let count = usize::from(self.count);
+        if bytes.len() - at - 1 < count {
+            return None;
+        }
+        Some(at + 1 + count)
+    }
+}

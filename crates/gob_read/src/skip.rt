@@ -1,0 +1,146 @@
+//! Elements and entries that stand whole in a piece, gone over without being told.
+
+ghost use Rattle.std.specs.Prelude.{◌≡◌, ◌+◌, ◌<◌, ◌≤◌, IfOk, IfErr, List, length, take};
+ghost use Rattle.gob_read.specs.Running.{IsOpenSomewhere, TakesMore, Steps, StopsFor, RefusesAt};
+ghost use Rattle.gob_read.specs.Plain.{IsInList, IsInMap, StepsPlain};
+ghost use Rattle.gob_read.specs.Telling.{Telling};
+
+use crate::awaited::{Awaited, Item};
+use crate::builder::Builder;
+use crate::frame::Frame;
+use crate::run::{Run, Stepped};
+use crate::stop::Stop;
+use gob_types::{Shapes, TypeId};
+use gob_value::{whole_elements, whole_entries};
+
+impl<B: Builder> Run<B> {
+    /// Takes the awaited part, or the next byte of its first number. Where the builder needn't be told, it takes the
+    /// elements or entries that stand whole in the piece at once. Where one of them doesn't it says so, `cut`: then
+    /// the piece isn't tried again, so that each byte of it is looked at twice at most.
+    #[inline(always)]
+    pub(crate) fn step_over<S: Shapes>(
+        &mut self,
+        shapes: &S,
+        id: TypeId,
+        rest: &[u8],
+        cut: &mut bool,
+    ) -> Result<Stepped, Stop>
+        requires awaited { self.old.state.awaited ≡ Awaited.Number (Item.Part id) }
+        requires stands { IsOpenSomewhere (S.table shapes.now) B.stands self.old }
+        requires some { 0 < length rest.now }
+        requires room { self.old.taken + length rest.now ≤ self.old.length }
+        ensures used { IfOk result (λ stepped. (0 < stepped.used) × (stepped.used ≤ length rest.now)) }
+        ensures more { IfOk result (λ stepped. TakesMore self.old self.new stepped.used) }
+        ensures ok { IfOk result (λ stepped. Steps (S.table shapes.now) B.stands self.old self.new
+            (take stepped.used rest.now) stepped.whole) }
+        ensures refused { IfErr result (StopsFor (λ refusal. RefusesAt (S.table shapes.now) B.stands
+            self.old rest.now refusal)) }
+    {
+        let stepped = self.skip_parts(shapes, id, rest, cut);
+        if stepped.used > 0 {
+            return Ok(stepped);
+        }
+        self.step_part(shapes, id, rest)
+    }
+
+    /// Goes over the parts of the innermost open list or map that stand whole in the piece, if the awaited one is the
+    /// next of them and no byte of it was taken before. Where there are none, nothing is done.
+    #[inline(always)]
+    fn skip_parts<S: Shapes>(
+        &mut self,
+        shapes: &S,
+        id: TypeId,
+        rest: &[u8],
+        cut: &mut bool,
+    ) -> Stepped
+        requires awaited { self.old.state.awaited ≡ Awaited.Number (Item.Part id) }
+        requires stands { IsOpenSomewhere (S.table shapes.now) B.stands self.old }
+        requires room { self.old.taken + length rest.now ≤ self.old.length }
+        ensures { StepsPlain (S.table shapes.now) B.stands self.old self.new rest.now result }
+    {
+        if *cut || self.start != self.taken || !self.state.builder.may_skip() {
+            return Stepped::NONE;
+        }
+        match self.state.stack.innermost() {
+            Some(Frame::Many { elem, left }) => self.skip_elements(shapes, elem, left, rest, cut),
+            Some(Frame::Key { key, elem, left }) => {
+                self.skip_entries(shapes, key, elem, left, rest, cut)
+            }
+            _ => Stepped::NONE,
+        }
+    }
+
+    /// Goes over the elements that stand whole, but for the last one of the list, since the list ends with it.
+    #[inline(never)]
+    fn skip_elements<S: Shapes>(
+        &mut self,
+        shapes: &S,
+        elem: TypeId,
+        left: u64,
+        rest: &[u8],
+        cut: &mut bool,
+    ) -> Stepped
+        requires awaited { self.old.state.awaited ≡ Awaited.Number (Item.Part elem) }
+        requires inside { IsInList elem left self.old.state.stack }
+        requires untold { (us : List Telling) → B.stands self.old.state.builder us }
+        requires stands { IsOpenSomewhere (S.table shapes.now) B.stands self.old }
+        requires fresh { self.old.start ≡ self.old.taken }
+        requires room { self.old.taken + length rest.now ≤ self.old.length }
+        ensures { StepsPlain (S.table shapes.now) B.stands self.old self.new rest.now result }
+    {
+        let depth = self.depth - self.state.stack.depth();
+        let elements = whole_elements(shapes, elem, left, rest, depth);
+        *cut = elements.count < left;
+        if elements.end == 0 {
+            return Stepped::NONE;
+        }
+        self.state.stack.replace(Frame::Many {
+            elem,
+            left: left - elements.count,
+        });
+        self.taken += elements.end as u64;
+        self.start = self.taken;
+        Stepped {
+            used: elements.end,
+            whole: false,
+        }
+    }
+
+    /// Goes over the entries that stand whole, but for the last one of the map.
+    #[inline(never)]
+    fn skip_entries<S: Shapes>(
+        &mut self,
+        shapes: &S,
+        key: TypeId,
+        elem: TypeId,
+        left: u64,
+        rest: &[u8],
+        cut: &mut bool,
+    ) -> Stepped
+        requires awaited { self.old.state.awaited ≡ Awaited.Number (Item.Part key) }
+        requires inside { IsInMap key elem left self.old.state.stack }
+        requires untold { (us : List Telling) → B.stands self.old.state.builder us }
+        requires stands { IsOpenSomewhere (S.table shapes.now) B.stands self.old }
+        requires fresh { self.old.start ≡ self.old.taken }
+        requires room { self.old.taken + length rest.now ≤ self.old.length }
+        ensures { StepsPlain (S.table shapes.now) B.stands self.old self.new rest.now result }
+    {
+        let depth = self.depth - self.state.stack.depth();
+        let entries = whole_entries(shapes, key, elem, left, rest, depth);
+        *cut = entries.count < left;
+        if entries.end == 0 {
+            return Stepped::NONE;
+        }
+        self.state.stack.replace(Frame::Key {
+            key,
+            elem,
+            left: left - entries.count,
+        });
+        self.taken += entries.end as u64;
+        self.start = self.taken;
+        Stepped {
+            used: entries.end,
+            whole: false,
+        }
+    }
+}

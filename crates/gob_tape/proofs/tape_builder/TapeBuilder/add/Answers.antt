@@ -1,0 +1,5 @@
+use Rattle.std.proofs.lemmas.Result.{IfOk-from_err}
+use Rattle.gob_tape.proofs.tape_builder.TapeBuilder.add.Goals as goal
+
+pub returns-in_err-push-clause-state : goal.returns-in_err-push-clause-state
+returns-in_err-push-clause-state c = IfOk-from_err c.from_residual.result _ c.from_residual.ensures.0

@@ -1,0 +1,30 @@
+-- What waits goes out where there is no room, and then the text if there is none yet.
+use Rattle.std.proofs.Common.{ℕ, List, ◌∙◌, subst}
+use Rattle.std.specs.Io.KnownBytes.{Appends}
+use Rattle.gob_stream.specs.Ends.{writer_of}
+use Rattle.gob_tool.specs.Block.{waiting}
+use Rattle.gob_tool.specs.Blocks.{counts_both, told}
+use Rattle.gob_tool.proofs.BlockLaws.{waiting_failed, counts_failed, straight_out}
+use Rattle.gob_tool.proofs.blocks.BlocksTextOut.put.Goals as goal
+
+pub returns-in_err-flush : goal.returns-in_err-flush
+returns-in_err-flush g c =
+    let r = c.from_residual.result in (
+      c.in_err-flush.ensures.same_output,
+      waiting_failed (waiting c.args.self.now.block) c.args.text.now (waiting c.flush.new.self.block) r c.from_residual.ensures.1
+          (c.keep.ensures.full c.if-keep.false) c.in_err-flush.ensures.written,
+      counts_failed _ _ _ r c.from_residual.ensures.1 c.in_err-flush.ensures.counted,
+    )
+
+pub returns : goal.returns
+returns g c =
+    let contents = g.W.Write.contents in
+    let old = contents (writer_of c.args.self.now.output.now) in
+    let mid = contents (writer_of c.flush.new.self.output.now) in
+    let same = c.keep.ensures.full c.if-keep.false in (
+      c.in_ok-flush.ensures.same_output,
+      straight_out old mid (contents (writer_of c.write_out.new.output)) (waiting c.args.self.now.block) c.args.text.now (waiting c.keep-2.new.self) (told c.write_out.result)
+          (subst (λ (t : List ℕ). Appends old mid t) same c.in_ok-flush.ensures.written) c.write_out.ensures.written
+          (c.keep-2.ensures.full c.if-keep-2.false ∙ c.in_ok-flush.ensures.empty),
+      counts_both _ _ _ (told c.write_out.result) c.in_ok-flush.ensures.counted c.write_out.ensures.counted,
+    )

@@ -1,8 +1,0 @@
--- The head, the value's text and the end.
-use Rattle.gob_tool.proofs.LineLaws.{whole_line}
-use Rattle.gob_tool.proofs.text.whole.put_line.Goals as goal
-
-pub returns : goal.returns
-returns g c = λ done.
-    whole_line _ _ _ _ c.in_ok-put_head.ensures (c.in_ok-text_of_whole.ensures c.if-not-branch.false)
-    c.in_ok-extend_from_slice.ensures.items

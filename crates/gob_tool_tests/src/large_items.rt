@@ -1,0 +1,106 @@
+//! Runs over large items that are no lists of ints: their lines go out in blocks too.
+
+use crate::devices::{PieceReader, SlowWriter, Trouble};
+use crate::endings::ends_so;
+use crate::large::repeated;
+use gob_stream::{Input, Limits, Output};
+use gob_tool::run_show;
+use std::alloc::{AllocError, Global};
+use std::io::ErrorKind;
+use std::test::*;
+
+// A stream of one large item and an int behind it, and its lines: each has a head, a part 20000 times and a tail.
+struct Row {
+    head: &'static [u8],
+    part: &'static [u8],
+    head_line: &'static str,
+    part_line: &'static str,
+}
+
+// The int behind the item.
+const TAIL: &[u8] = b"\x03\x04\x00\x06";
+
+const TAIL_LINE: &str = "]}\n{\"type\":2,\"value\":3}\n";
+
+// A slice of strings, of which the first is empty.
+const STRINGS: Row = Row {
+    head: b"\x0c\xff\x83\x02\x01\x02\xff\x84\x00\x01\x0c\x00\x00\
+        \xfd\x02\x71\x07\xff\x84\x00\xfe\x9c\x41\x00",
+    part: b"\x03a\"b\x03xyz",
+    head_line: "{\"define\":66,\"elem\":6,\"kind\":\"slice\",\"name\":\"\"}\n{\"type\":66,\"value\":[\"\"",
+    part_line: ",\"a\\\"b\",\"xyz\"",
+};
+
+// A map of strings to ints.
+const PAIRS: Row = Row {
+    head: b"\x0e\xff\x83\x04\x01\x02\xff\x84\x00\x01\x0c\x01\x04\x00\x00\
+        \xfd\x03\xa9\x89\xff\x84\x00\xfd\x01\x38\x81\x00\x0a",
+    part: b"\x01k\x0a\x01k\x09\x01l\x0a\x01k\x0a",
+    head_line: "{\"define\":66,\"elem\":2,\"key\":6,\"kind\":\"map\",\"name\":\"\"}\n{\"type\":66,\"value\":[[\"\",5]",
+    part_line: ",[\"k\",5],[\"k\",-5],[\"l\",5],[\"k\",5]",
+};
+
+// A slice of structs of an int and a string, of which the first has no field.
+const RECORDS: Row = Row {
+    head: b"\x0d\xff\x83\x02\x01\x02\xff\x84\x00\x01\xff\x86\x00\x00\
+        \x18\xff\x85\x03\x01\x02\xff\x86\x00\x01\x02\x01\x01A\x01\x04\x00\x01\x01B\x01\x0c\x00\x00\x00\
+        \xfd\x02\x71\x07\xff\x84\x00\xfe\x4e\x21\x00",
+    part: b"\x01\x0a\x01\x03x\"y\x00",
+    head_line: "{\"define\":66,\"elem\":67,\"kind\":\"slice\",\"name\":\"\"}\n\
+        {\"define\":67,\"fields\":[[\"A\",2],[\"B\",6]],\"kind\":\"struct\",\"name\":\"\"}\n\
+        {\"type\":66,\"value\":[[]",
+    part_line: ",[[0,\"A\",5],[1,\"B\",\"x\\\"y\"]]",
+};
+
+const ROWS: [Row; 3] = [STRINGS, PAIRS, RECORDS];
+
+fn stream(alloc: Global, row: &Row) -> Result<Vec<u8>, AllocError> {
+    repeated(alloc, row.head, row.part, TAIL)
+}
+
+fn lines(alloc: Global, row: &Row) -> Result<Vec<u8>, AllocError> {
+    repeated(
+        alloc,
+        row.head_line.as_bytes(),
+        row.part_line.as_bytes(),
+        TAIL_LINE.as_bytes(),
+    )
+}
+
+#[test]
+fn whole(rt: HostRuntime) -> Result<(), Fail> {
+    let alloc = rt.alloc();
+    for row in &ROWS {
+        let due = lines(alloc, row)?;
+        for most in [7usize, 65536] {
+            let mut held = Vec::new(alloc);
+            let mut input = Input::new(PieceReader::new(stream(alloc, row)?, most, usize::MAX));
+            let mut output = Output::new(&mut held);
+            let result = run_show(alloc, &mut input, &mut output, Limits::standard());
+            assert!(rt; ends_so(alloc, &result, b""), "{most} a call");
+            assert!(rt; held.as_slice() == due.as_slice(), "{most} a call");
+        }
+    }
+    Ok(())
+}
+
+// A front of the lines is written.
+#[test]
+fn write_fails_in_the_middle(rt: HostRuntime) -> Result<(), Fail> {
+    let alloc = rt.alloc();
+    for row in &ROWS {
+        let due = lines(alloc, row)?;
+        for fails_at in [0usize, 60, 65535, 65536, 131200, 250000] {
+            let mut input = Input::new(PieceReader::new(stream(alloc, row)?, 65536, usize::MAX));
+            let trouble = Trouble::Error(ErrorKind::Other);
+            let mut writer = SlowWriter::new(alloc, fails_at, trouble, false);
+            let mut output = Output::new(&mut writer);
+            let result = run_show(alloc, &mut input, &mut output, Limits::standard());
+            let failed = ends_so(alloc, &result, b"gob: write fault") && output.failures() == 1;
+            assert!(rt; failed, "at {fails_at}");
+            let front = due.get(..fails_at).ok_or("front")?;
+            assert!(rt; writer.held.as_slice() == front, "up to {fails_at}");
+        }
+    }
+    Ok(())
+}
