@@ -1,17 +1,17 @@
 -- The digits of a number, two and four at a time.
-use Rattle.std.proofs.Common.{◌≡◌, ℕ, zero, suc, ◌+◌, ◌-◌, ◌*◌, ◌/◌, ◌%◌, ◌^◌, ◌<◌, ◌≤◌, Bool, true, ◌&&◌, T, eqb, List, [], ◌∷◌, ◌++◌, get_or, ap, ◌∙◌, inl, inr, arith, eq-zero-or-pos, eqb→eq, append_assoc}
-use Rattle.std.proofs.Common.{length, take, drop, refl, sym, set, length-set, nat_lt}
+use Rattle.std.proofs.Common.{◌≡◌, ℕ, zero, suc, ◌+◌, ◌-◌, ◌*◌, ◌/◌, ◌%◌, ◌^◌, ◌<◌, ◌≤◌, Bool, true, false, ◌&&◌, T, eqb, List, [], ◌∷◌, ◌++◌, get_or, ap, ◌∙◌, inl, inr, arith, eq-zero-or-pos, eqb→eq, append_assoc}
+use Rattle.std.proofs.Common.{length, take, drop, refl, sym, subst, set, length-set, nat_lt}
 use mir.Val.{bool_byte}
 use Rattle.std.proofs.lemmas.Bool.{lt-ltb, le-ltb}
-use Rattle.std.proofs.lemmas.List.{take_more_set, drop-append-le, length-drop, length-take-le}
+use Rattle.std.proofs.lemmas.List.{take_more_set, drop-append-le, drop-drop, length-drop, length-take-le}
 use Rattle.std.proofs.Math.Seq.{take-append_seam, take-append-add}
 use borrow.Rule.Slice.PartMut.{put_mid}
 use Rattle.std.proofs.lemmas.Grind.{take-set_at}
 use Rattle.std.proofs.lemmas.Fmt.{decimal_digit, decimal_step}
 use Rattle.std.specs.Fmt.{decimal}
 use lib.Ieee.Fits.{and_l, and_r}
-use Rattle.gob_json.specs.Text.{four_digits, eight_digits}
-use Rattle.gob_json.specs.declared.text.block.TheConstants.{PAIRS}
+use Rattle.gob_json.specs.Text.{three_digits}
+use Rattle.gob_json.specs.declared.text.block.TheConstants.{PAIRS, TRIPLES}
 
 abbrev pub pair : ℕ → List ℕ
 pair p = (48 + p / 10) ∷ (48 + p % 10) ∷ []
@@ -35,6 +35,44 @@ below (suc n) p t h =
 pub pair_of_table : (p : ℕ) → p < 100
     → (get_or PAIRS (p * 2) 0 ≡ 48 + p / 10) × (get_or PAIRS (p * 2 + 1) 0 ≡ 48 + p % 10)
 pair_of_table p h = below 100 p tt h
+
+abbrev is_triple : List ℕ → ℕ → Bool
+is_triple [] n = false
+is_triple (a ∷ []) n = false
+is_triple (a ∷ b ∷ []) n = false
+is_triple (a ∷ b ∷ c ∷ l) n = eqb a (48 + n / 100 % 10) && (eqb b (48 + n / 10 % 10) && eqb c (48 + n % 10))
+
+triple : (l : List ℕ) (n : ℕ) → T (is_triple l n) → l ≡ three_digits n ++ drop 3 l
+triple [] n t = absurd t
+triple (a ∷ []) n t = absurd t
+triple (a ∷ b ∷ []) n t = absurd t
+triple (a ∷ b ∷ c ∷ l) n t =
+    let x : a ≡ 48 + n / 100 % 10 = eqb→eq _ _ (and_l _ _ t) in
+    let more = and_r (eqb a (48 + n / 100 % 10)) _ t in
+    let y : b ≡ 48 + n / 10 % 10 = eqb→eq _ _ (and_l _ _ more) in
+    let z : c ≡ 48 + n % 10 = eqb→eq _ _ (and_r (eqb b (48 + n / 10 % 10)) _ more) in
+    rw (x, y, z) refl
+
+-- so many rows of four bytes, of which the first has the digits of n
+abbrev are_triples : List ℕ → (n rows : ℕ) → Bool
+are_triples l n zero = true
+are_triples l n (suc rows) = is_triple l n && are_triples (drop 4 l) (suc n) rows
+
+row : (l : List ℕ) (n rows i m : ℕ) → m ≡ n + i → T (are_triples l n rows) → i < rows
+    → drop (i * 4) l ≡ three_digits m ++ drop 3 (drop (i * 4) l)
+row l n zero i m e t h = absurd (omega arith)
+row l n (suc rows) zero m e t h =
+    let same : n ≡ m = omega arith in
+    subst (λ (k : ℕ). l ≡ three_digits k ++ drop 3 l) same (triple l n (and_l _ _ t))
+row l n (suc rows) (suc i) m e t h =
+    let place : 4 + i * 4 ≡ suc i * 4 = omega arith in
+    let same : drop (i * 4) (drop 4 l) ≡ drop (suc i * 4) l =
+    drop-drop (i * 4) 4 l ∙ ap (λ (k : ℕ). drop k l) place in
+    subst (λ (r : List ℕ). r ≡ three_digits m ++ drop 3 r) same
+    (row (drop 4 l) (suc n) rows i m (omega arith) (and_r (is_triple l n) _ t) (omega arith))
+
+pub row_of_table : (n : ℕ) → n < 1000 → drop (n * 4) TRIPLES ≡ three_digits n ++ drop 3 (drop (n * 4) TRIPLES)
+row_of_table n h = row TRIPLES 0 1000 n n (omega arith) tt h
 
 -- ---- numbers
 pub decimal_two : (n : ℕ) → 10 ≤ n → n < 100 → decimal n ≡ pair n
@@ -84,21 +122,50 @@ two_stored b at x y h =
     take-set_at (set b at x) (at + 1) (at + 2) y (omega arith) (omega (arith, length-set b at x))
     ∙ ap (λ l. l ++ y ∷ []) (take_more_set b at x (omega arith)) ∙ append_assoc (take at b) (x ∷ []) (y ∷ [])
 
--- ---- eight digits, of which those before the number are zeros
-eight_of_small : (n : ℕ) → n < 10000 → eight_digits n ≡ four_digits 0 ++ four_digits n
-eight_of_small n h =
-    let a : n / 10000 ≡ 0 = omega arith in
-    let b : n % 10000 ≡ n = omega arith in
-    rw (a, b) refl
+-- ---- three digits, of which those before the number are zeros
+pub decimal_thousands : (n : ℕ) → 1000 ≤ n → n < 2 ^ 64 → decimal n ≡ decimal (n / 1000) ++ three_digits (n % 1000)
+decimal_thousands n lo hi =
+    let a : n / 10 / 10 / 10 ≡ n / 1000 = omega arith in
+    let b : n / 10 / 10 % 10 ≡ n % 1000 / 100 % 10 = omega arith in
+    let c : n / 10 % 10 ≡ n % 1000 / 10 % 10 = omega arith in
+    let d : n % 10 ≡ n % 1000 % 10 = omega arith in
+    rw (
+      decimal_step n (omega arith) hi,
+      decimal_step (n / 10) (omega arith) (omega arith),
+      decimal_step (n / 10 / 10) (omega arith) (omega arith),
+      append_assoc,
+      append_assoc,
+      a,
+      b,
+      c,
+      ← d,
+    )
 
-small : (n z : ℕ) → n < 10000 → drop z (four_digits 0 ++ four_digits n) ≡ decimal n → drop z (eight_digits n) ≡ decimal n
-small n z h e = ap (drop z) (eight_of_small n h) ∙ e
+pub decimal_millions : (n : ℕ) → 1000000 ≤ n → n < 2 ^ 64
+    → decimal n ≡ decimal (n / 1000000) ++ (three_digits (n / 1000 % 1000) ++ three_digits (n % 1000))
+decimal_millions n lo hi =
+    let a : n / 1000 / 1000 ≡ n / 1000000 = omega arith in
+    rw (decimal_thousands n (omega arith) hi, decimal_thousands (n / 1000) (omega arith) (omega arith), append_assoc, a) refl
 
--- the number has more than four digits, of which the first part has these
-large : (n : ℕ) (first : List ℕ) → 10000 ≤ n → n < 100000000 → first ≡ decimal (n / 10000)
-    → first ++ four_digits (n % 10000) ≡ decimal n
-large n first lo hi e =
-    ap (λ l. l ++ four_digits (n % 10000)) e ∙ sym (decimal_four n lo (omega arith))
+all_digits : (n : ℕ) → 100 ≤ n → n < 1000 → three_digits n ≡ decimal n
+all_digits n lo hi =
+    let a : n / 10 / 10 ≡ n / 100 % 10 = omega arith in
+    sym (rw (
+      decimal_step n (omega arith) (omega arith),
+      decimal_step (n / 10) (omega arith) (omega arith),
+      decimal_digit (n / 10 / 10) (omega arith),
+      a,
+    ) refl)
+
+two_of_three : (n : ℕ) → 10 ≤ n → n < 100 → drop 1 (three_digits n) ≡ decimal n
+two_of_three n lo hi =
+    let a : n / 10 % 10 ≡ n / 10 = omega arith in
+    rw (decimal_two n lo hi, a) refl
+
+one_of_three : (n : ℕ) → n < 10 → drop 2 (three_digits n) ≡ decimal n
+one_of_three n h =
+    let a : n % 10 ≡ n = omega arith in
+    rw (decimal_digit n h, a) refl
 
 -- whether the number is below the other, as 1 or 0
 pub record Counts (n p z : ℕ) : Type 0 where
@@ -111,121 +178,55 @@ counts n p z e = record {
   not_below = λ h. e ∙ ap bool_byte (le-ltb n p h);
 }
 
-pub zeros_dropped : (n a b c d e f g : ℕ) → n < 100000000 → Counts n 10 a → Counts n 100 b → Counts n 1000 c
-    → Counts n 10000 d → Counts n 100000 e → Counts n 1000000 f → Counts n 10000000 g
-    → drop (a + b + c + d + e + f + g) (eight_digits n) ≡ decimal n
-zeros_dropped n a b c d e f g h p q r s t u v =
+pub zeros_dropped : (n a b : ℕ) → n < 1000 → Counts n 10 a → Counts n 100 b
+    → (drop (a + b) (three_digits n) ≡ decimal n) × (a + b ≤ 2)
+zeros_dropped n a b h p q =
     elim (eq-zero-or-pos (n - 9)) [
-      | inl z1 ↦ rw (
-        p.below (omega arith),
-        q.below (omega arith),
-        r.below (omega arith),
-        s.below (omega arith),
-        t.below (omega arith),
-        u.below (omega arith),
-        v.below (omega arith),
-      )
-          (small n 7 (omega arith) (last_one n (omega arith)))
+      | inl z1 ↦ rw (p.below (omega arith), q.below (omega arith)) (one_of_three n (omega arith), omega arith)
       | inr z1 ↦ elim (eq-zero-or-pos (n - 99)) [
-        | inl z2 ↦ rw (
-          p.not_below (omega arith),
-          q.below (omega arith),
-          r.below (omega arith),
-          s.below (omega arith),
-          t.below (omega arith),
-          u.below (omega arith),
-          v.below (omega arith),
-        )
-            (small n 6 (omega arith) (last_two n (omega arith) (omega arith)))
-        | inr z2 ↦ elim (eq-zero-or-pos (n - 999)) [
-          | inl z3 ↦ rw (
-            p.not_below (omega arith),
-            q.not_below (omega arith),
-            r.below (omega arith),
-            s.below (omega arith),
-            t.below (omega arith),
-            u.below (omega arith),
-            v.below (omega arith),
-          )
-              (small n 5 (omega arith) (last_three n (omega arith) (omega arith)))
-          | inr z3 ↦ elim (eq-zero-or-pos (n - 9999)) [
-            | inl z4 ↦ rw (
-              p.not_below (omega arith),
-              q.not_below (omega arith),
-              r.not_below (omega arith),
-              s.below (omega arith),
-              t.below (omega arith),
-              u.below (omega arith),
-              v.below (omega arith),
-            )
-                (small n 4 (omega arith) (sym (decimal_all_four n (omega arith) (omega arith))))
-            | inr z4 ↦ elim (eq-zero-or-pos (n - 99999)) [
-              | inl z5 ↦ rw (
-                p.not_below (omega arith),
-                q.not_below (omega arith),
-                r.not_below (omega arith),
-                s.not_below (omega arith),
-                t.below (omega arith),
-                u.below (omega arith),
-                v.below (omega arith),
-              )
-                  (large n _ (omega arith) h (last_one (n / 10000) (omega arith)))
-              | inr z5 ↦ elim (eq-zero-or-pos (n - 999999)) [
-                | inl z6 ↦ rw (
-                  p.not_below (omega arith),
-                  q.not_below (omega arith),
-                  r.not_below (omega arith),
-                  s.not_below (omega arith),
-                  t.not_below (omega arith),
-                  u.below (omega arith),
-                  v.below (omega arith),
-                )
-                    (large n _ (omega arith) h (last_two (n / 10000) (omega arith) (omega arith)))
-                | inr z6 ↦ elim (eq-zero-or-pos (n - 9999999)) [
-                  | inl z7 ↦ rw (
-                    p.not_below (omega arith),
-                    q.not_below (omega arith),
-                    r.not_below (omega arith),
-                    s.not_below (omega arith),
-                    t.not_below (omega arith),
-                    u.not_below (omega arith),
-                    v.below (omega arith),
-                  )
-                      (large n _ (omega arith) h (last_three (n / 10000) (omega arith) (omega arith)))
-                  | inr z7 ↦ rw (
-                    p.not_below (omega arith),
-                    q.not_below (omega arith),
-                    r.not_below (omega arith),
-                    s.not_below (omega arith),
-                    t.not_below (omega arith),
-                    u.not_below (omega arith),
-                    v.not_below (omega arith),
-                  )
-                      (large n _ (omega arith) h (sym (decimal_all_four (n / 10000) (omega arith) (omega arith))))
-                ]
-              ]
-            ]
-          ]
-        ]
+        | inl z2 ↦ rw (p.not_below (omega arith), q.below (omega arith))
+            (two_of_three n (omega arith) (omega arith), omega arith)
+        | inr z2 ↦ rw (p.not_below (omega arith), q.not_below (omega arith))
+            (all_digits n (omega arith) h, omega arith)
       ]
     ]
 
--- eight bytes that are stored from the first digit that counts on, of which those behind the number don't count
-pub stored_from : (b digits others : List ℕ) (at z k : ℕ) → length digits ≡ 8 → z ≤ 7 → at ≤ length b
-    → take (at + (8 - z)) (put_mid at k b (take (z + 8 - z) (drop z (digits ++ others)))) ≡ take at b ++ drop z digits
-stored_from b digits others at z k l h inside =
+-- bytes that are stored, of which some don't count
+stored_front : (b xs more : List ℕ) (at k : ℕ) → at ≤ length b
+    → take (at + length xs) (put_mid at k b (xs ++ more)) ≡ take at b ++ xs
+stored_front b xs more at k place =
     let front = take at b in
-    let kept = drop z digits in
     let behind = drop k (drop at b) in
-    let long : length kept ≡ 8 - z = length-drop z digits ∙ ap (λ n. n - z) l in
-    let eight : z + 8 - z ≡ length kept + z = omega (arith, long, h) in
-    let bytes : take (z + 8 - z) (drop z (digits ++ others)) ≡ kept ++ take z others =
-    ap (λ n. take n (drop z (digits ++ others))) eight
-    ∙ ap (take (length kept + z)) (drop-append-le z digits others (omega (arith, l, h)))
-    ∙ take-append-add kept others z in
-    let all : put_mid at k b (take (z + 8 - z) (drop z (digits ++ others))) ≡ front ++ (kept ++ (take z others ++ behind)) =
-    ap (λ l. front ++ (l ++ behind)) bytes ∙ ap (λ l. front ++ l) (append_assoc kept (take z others) behind) in
-    let place : at + (8 - z) ≡ length front + length kept = omega (arith, long, length-take-le at b inside) in
-    ap (take (at + (8 - z))) all ∙ ap (λ n. take n (front ++ (kept ++ (take z others ++ behind)))) place
-    ∙ take-append-add front (kept ++ (take z others ++ behind)) (length kept)
-    ∙ ap (λ l. front ++ l) (take-append_seam kept (take z others ++ behind))
+    let here : at + length xs ≡ length front + length xs = omega (arith, length-take-le at b place) in
+    ap (λ (l : List ℕ). take (at + length xs) (front ++ l)) (append_assoc xs more behind)
+    ∙ ap (λ (n : ℕ). take n (front ++ (xs ++ (more ++ behind)))) here
+    ∙ take-append-add front (xs ++ (more ++ behind)) (length xs)
+    ∙ ap (λ (l : List ℕ). front ++ l) (take-append_seam xs (more ++ behind))
+
+-- four bytes of the table from a digit of the number on
+pub first_stored : (b : List ℕ) (at n x y k j : ℕ) → n < 1000 → at ≤ length b → Counts n 10 x → Counts n 100 y → j ≡ 4
+    → take (at + (3 - (x + y))) (put_mid at k b (take j (drop (n * 4 + (x + y)) TRIPLES))) ≡ take at b ++ decimal n
+first_stored b at n x y k j h place p q four =
+    let z = x + y in
+    let d = zeros_dropped n x y h p q in
+    let kept = drop z (three_digits n) in
+    let rest = drop 3 (drop (n * 4) TRIPLES) in
+    let long : length kept ≡ 3 - z = length-drop z (three_digits n) in
+    let bytes : drop (n * 4 + z) TRIPLES ≡ kept ++ rest =
+    sym (drop-drop z (n * 4) TRIPLES) ∙ ap (drop z) (row_of_table n h)
+    ∙ drop-append-le z (three_digits n) rest (omega (arith, d.1)) in
+    let whole : j ≡ length kept + suc z = omega (arith, four, long, d.1) in
+    let these : take j (drop (n * 4 + z) TRIPLES) ≡ kept ++ take (suc z) rest =
+    ap (take j) bytes ∙ ap (λ (m : ℕ). take m (kept ++ rest)) whole ∙ take-append-add kept rest (suc z) in
+    ap (λ (l : List ℕ). take (at + (3 - z)) (put_mid at k b l)) these
+    ∙ ap (λ (m : ℕ). take (at + m) (put_mid at k b (kept ++ take (suc z) rest))) (sym long)
+    ∙ stored_front b kept (take (suc z) rest) at k place ∙ ap (λ (l : List ℕ). take at b ++ l) d.0
+
+pub three_stored : (b : List ℕ) (at n k j : ℕ) → n < 1000 → at ≤ length b → j ≡ 4
+    → take (at + 3) (put_mid at k b (take j (drop (n * 4) TRIPLES))) ≡ take at b ++ three_digits n
+three_stored b at n k j h place four =
+    let rest = drop 3 (drop (n * 4) TRIPLES) in
+    let these : take j (drop (n * 4) TRIPLES) ≡ three_digits n ++ take 1 rest =
+    ap (take j) (row_of_table n h) ∙ ap (λ (m : ℕ). take m (three_digits n ++ rest)) four
+    ∙ take-append-add (three_digits n) rest 1 in
+    ap (λ (l : List ℕ). take (at + 3) (put_mid at k b l)) these ∙ stored_front b (three_digits n) (take 1 rest) at k place
