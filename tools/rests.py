@@ -6,14 +6,15 @@ The prover knows what a function calls by its contract, a contract by the defini
 import os
 import re
 
-from calls import LITERAL, UNNAMED, blanked, bodies
+from calls import LITERAL, UNNAMED, bodies
 
 WORD = re.compile(r"[^\W\d]\w*")
 BROUGHT = re.compile(r"(?m)^\s*(?:pub |ghost )?use\s+Rattle\.([^\s{};]+?)(?:\.\{([^}]*)\})?(?: as (\w+))?;?$")
 GHOST_USE = re.compile(r"(?m)^\s*ghost use .*$")
 NOTE = re.compile(r"(?m)^\s*--.*\n")
+COMMENT = re.compile(r"(?m)^[ \t]*//.*\n")
 NAMED = re.compile(r"\b(?:fn|struct|enum|trait|const|static|type)\s+(\w+)")
-OWNER = re.compile(r"(?:impl|trait)\b[^{]*")
+OWNER = re.compile(r"(?m)^(?:pub(?:\([^)]*\))? )?(?:impl|trait|struct|enum)\b[^{;]*")
 TYPE = re.compile(r"\b[A-Z]\w+")
 
 
@@ -48,9 +49,9 @@ class Code:
     """A file of code: what it declares, with no body but those that are asked for."""
 
     def __init__(self, file):
-        text = text_of(file)
-        self.text = LITERAL.sub(lambda it: " " * len(it[0]) if it[0].startswith("//") else it[0], text)
-        self.bodies = list(bodies(text))
+        text = COMMENT.sub("", text_of(file))
+        self.text = LITERAL.sub(lambda it: "" if it[0].startswith("//") else it[0], text)
+        self.bodies = list(bodies(self.text))
         self.ghost = "\n".join(GHOST_USE.findall(self.text))
 
     def part(self, text):
@@ -63,11 +64,11 @@ class Code:
         parts = [self.part(self.text[begin:end]) for begin, end, _ in own]
         for names, owner, part in self.declared():
             if name in names:
-                parts += [part, Part("", owner or frozenset(), ())]
+                parts += [part, Part("", owner, ())]
         return parts, {name, *(f"+{cycle}" for _, _, cycle in own if cycle)}
 
     def declared(self):
-        """Yields the parts that declare something, each with the names that it declares and the words of its owner, or None."""
+        """Yields the parts that declare something, each with the names that it declares and the types that it belongs to."""
         text, last = "", 0
         for _, begin, end, _ in self.bodies:
             if begin >= last:
@@ -75,15 +76,14 @@ class Code:
         text = GHOST_USE.sub("", text + self.text[last:])
         owner = None
         for paragraph in re.split(r"\n\s*\n", text):
-            lines = [it for it in paragraph.splitlines() if it.strip()]
-            if not lines:
-                continue
-            if not lines[0].startswith((" ", "}")):
-                owner = next((it[0] for it in (OWNER.match(line.removeprefix("pub ")) for line in lines) if it), None)
-            names = {*NAMED.findall(paragraph)}
-            if owner and (not names or "ghost " in paragraph):
-                names |= {*TYPE.findall(owner)}
-            yield names, owner and frozenset(TYPE.findall(owner)), self.part("\n".join([owner or "", *lines]))
+            paragraph = paragraph.strip("\n")
+            if not paragraph.startswith((" ", "}")):
+                found = OWNER.search(paragraph)
+                owner = found and found[0]
+            names, types = {*NAMED.findall(paragraph)}, frozenset(TYPE.findall(owner or ""))
+            if not names or "ghost " in paragraph:
+                names |= types
+            yield names, types, self.part(f"{owner or ''}\n{paragraph}")
 
 
 class Texts:
@@ -102,7 +102,7 @@ class Texts:
                         self.declared.setdefault(it, []).append((owner, part))
 
     def module(self, name):
-        """Returns the part that is the module, or None where it is made of code, with the words by which it is found there."""
+        """Returns the part that is the module, or else, where it is made of code, the words by which it is found there."""
         if name in self.files:
             return part_of(self.files[name])
         return Part("", frozenset(WORD.findall(name)), ())
@@ -140,8 +140,8 @@ class Texts:
         return parts
 
     def owned(self, owner, part, words, waiting):
-        """Returns the part where a word of its owner is reached, and else lets it wait for one."""
-        if owner is None or owner & words:
+        """Returns the part where a type that it belongs to is reached, or there is none, and else lets it wait for one."""
+        if not owner or owner & words:
             return [part]
         for it in owner:
             waiting.setdefault(it, []).append(part)
