@@ -1,119 +1,38 @@
--- The digits of a number, two and four at a time.
-use Rattle.std.proofs.Common.{◌≡◌, ℕ, zero, suc, ◌+◌, ◌-◌, ◌*◌, ◌/◌, ◌%◌, ◌^◌, ◌<◌, ◌≤◌, Bool, true, false, ◌&&◌, T, eqb, List, [], ◌∷◌, ◌++◌, get_or, ap, ◌∙◌, inl, inr, arith, eq-zero-or-pos, eqb→eq, append_assoc}
-use Rattle.std.proofs.Common.{length, take, drop, refl, sym, subst, set, length-set, nat_lt}
+-- The digits of a number, three at a time.
+use Rattle.std.proofs.Common.{◌≡◌, ℕ, suc, ◌+◌, ◌-◌, ◌*◌, ◌/◌, ◌%◌, ◌^◌, ◌<◌, ◌≤◌, List, [], ◌∷◌, ◌++◌, ap, ◌∙◌, inl, inr, arith, eq-zero-or-pos, append_assoc}
+use Rattle.std.proofs.Common.{length, take, drop, refl, sym, set, length-set, nat_lt}
 use mir.Val.{bool_byte}
 use Rattle.std.proofs.lemmas.Bool.{lt-ltb, le-ltb}
-use Rattle.std.proofs.lemmas.List.{take_more_set, drop-append-le, drop-drop, length-drop, length-take-le}
+use Rattle.std.proofs.lemmas.List.{take_more_set, take-append-drop, drop-append-le, drop-drop, length-drop, length-take-le}
 use Rattle.std.proofs.Math.Seq.{take-append_seam, take-append-add}
 use borrow.Rule.Slice.PartMut.{put_mid}
 use Rattle.std.proofs.lemmas.Grind.{take-set_at}
 use Rattle.std.proofs.lemmas.Fmt.{decimal_digit, decimal_step}
 use Rattle.std.specs.Fmt.{decimal}
-use lib.Ieee.Fits.{and_l, and_r}
+use Rattle.gob_json.proofs.RowLaws.{row}
 use Rattle.gob_json.specs.Text.{three_digits}
-use Rattle.gob_json.specs.declared.text.block.TheConstants.{PAIRS, TRIPLES}
-
-abbrev pub pair : ℕ → List ℕ
-pair p = (48 + p / 10) ∷ (48 + p % 10) ∷ []
+use Rattle.gob_json.specs.declared.text.digits.TheConstants.{TRIPLES}
 
 -- ---- the table
-abbrev are_pairs : ℕ → Bool
-are_pairs zero = true
-are_pairs (suc p) =
-    (eqb (get_or PAIRS (p * 2) 0) (48 + p / 10) && eqb (get_or PAIRS (p * 2 + 1) 0) (48 + p % 10)) && are_pairs p
-
-below : (n p : ℕ) → T (are_pairs n) → p < n
-    → (get_or PAIRS (p * 2) 0 ≡ 48 + p / 10) × (get_or PAIRS (p * 2 + 1) 0 ≡ 48 + p % 10)
-below zero p t h = absurd (omega arith)
-below (suc n) p t h =
-    elim (eq-zero-or-pos (n - p)) [
-      | inl z ↦ let e : p ≡ n = omega arith in
-          let a = and_l _ (are_pairs n) t in rw e (eqb→eq _ _ (and_l _ _ a), eqb→eq _ _ (and_r _ _ a))
-      | inr g ↦ below n p (and_r _ (are_pairs n) t) (omega arith)
-    ]
-
-pub pair_of_table : (p : ℕ) → p < 100
-    → (get_or PAIRS (p * 2) 0 ≡ 48 + p / 10) × (get_or PAIRS (p * 2 + 1) 0 ≡ 48 + p % 10)
-pair_of_table p h = below 100 p tt h
-
-abbrev is_triple : List ℕ → ℕ → Bool
-is_triple [] n = false
-is_triple (a ∷ []) n = false
-is_triple (a ∷ b ∷ []) n = false
-is_triple (a ∷ b ∷ c ∷ l) n = eqb a (48 + n / 100 % 10) && (eqb b (48 + n / 10 % 10) && eqb c (48 + n % 10))
-
-triple : (l : List ℕ) (n : ℕ) → T (is_triple l n) → l ≡ three_digits n ++ drop 3 l
-triple [] n t = absurd t
-triple (a ∷ []) n t = absurd t
-triple (a ∷ b ∷ []) n t = absurd t
-triple (a ∷ b ∷ c ∷ l) n t =
-    let x : a ≡ 48 + n / 100 % 10 = eqb→eq _ _ (and_l _ _ t) in
-    let more = and_r (eqb a (48 + n / 100 % 10)) _ t in
-    let y : b ≡ 48 + n / 10 % 10 = eqb→eq _ _ (and_l _ _ more) in
-    let z : c ≡ 48 + n % 10 = eqb→eq _ _ (and_r (eqb b (48 + n / 10 % 10)) _ more) in
-    rw (x, y, z) refl
-
--- so many rows of four bytes, of which the first has the digits of n
-abbrev are_triples : List ℕ → (n rows : ℕ) → Bool
-are_triples l n zero = true
-are_triples l n (suc rows) = is_triple l n && are_triples (drop 4 l) (suc n) rows
-
-row : (l : List ℕ) (n rows i m : ℕ) → m ≡ n + i → T (are_triples l n rows) → i < rows
-    → drop (i * 4) l ≡ three_digits m ++ drop 3 (drop (i * 4) l)
-row l n zero i m e t h = absurd (omega arith)
-row l n (suc rows) zero m e t h =
-    let same : n ≡ m = omega arith in
-    subst (λ (k : ℕ). l ≡ three_digits k ++ drop 3 l) same (triple l n (and_l _ _ t))
-row l n (suc rows) (suc i) m e t h =
-    let place : 4 + i * 4 ≡ suc i * 4 = omega arith in
-    let same : drop (i * 4) (drop 4 l) ≡ drop (suc i * 4) l =
-    drop-drop (i * 4) 4 l ∙ ap (λ (k : ℕ). drop k l) place in
-    subst (λ (r : List ℕ). r ≡ three_digits m ++ drop 3 r) same
-    (row (drop 4 l) (suc n) rows i m (omega arith) (and_r (is_triple l n) _ t) (omega arith))
+digits_in_table : (n : ℕ) → n < 1000 → take 3 (drop (n * 4) TRIPLES) ≡ three_digits n
+digits_in_table n h = row 4 3 three_digits TRIPLES 0 1000 n n (omega arith) tt h
 
 pub row_of_table : (n : ℕ) → n < 1000 → drop (n * 4) TRIPLES ≡ three_digits n ++ drop 3 (drop (n * 4) TRIPLES)
-row_of_table n h = row TRIPLES 0 1000 n n (omega arith) tt h
+row_of_table n h =
+    let r = drop (n * 4) TRIPLES in
+    sym (take-append-drop 3 r) ∙ ap (λ (l : List ℕ). l ++ drop 3 r) (digits_in_table n h)
 
--- ---- numbers
-pub decimal_two : (n : ℕ) → 10 ≤ n → n < 100 → decimal n ≡ pair n
-decimal_two n lo hi = rw (decimal_step n lo (omega arith), decimal_digit (n / 10) (omega arith))
-
-pub decimal_pair : (n : ℕ) → 100 ≤ n → n < 2 ^ 64 → decimal n ≡ decimal (n / 100) ++ pair (n % 100)
-decimal_pair n lo hi =
-    let a : n / 10 / 10 ≡ n / 100 = omega arith in
-    let b : n / 10 % 10 ≡ n % 100 / 10 = omega arith in
-    let c : n % 10 ≡ n % 100 % 10 = omega arith in
-    rw (decimal_step n (omega arith) hi, decimal_step (n / 10) (omega arith) (omega arith), append_assoc, a, b, ← c)
-
-pub decimal_three : (n : ℕ) → 100 ≤ n → n < 1000 → decimal n ≡ (48 + n / 100) ∷ pair (n % 100)
-decimal_three n lo hi = rw (decimal_pair n lo (omega arith), decimal_digit (n / 100) (omega arith))
-
-pub decimal_all_four : (n : ℕ) → 1000 ≤ n → n < 10000 → decimal n ≡ pair (n / 100) ++ pair (n % 100)
-decimal_all_four n lo hi = rw (decimal_pair n (omega arith) (omega arith), decimal_two (n / 100) (omega arith) (omega arith))
-
--- the last of four digits, as many as the number has
-pub last_three : (n : ℕ) → 100 ≤ n → n < 1000 → (48 + n / 100 % 10) ∷ pair (n % 100) ≡ decimal n
-last_three n lo hi =
-    let e : n / 100 % 10 ≡ n / 100 = omega arith in
-    rw (decimal_three n lo hi, e)
-
-pub last_two : (n : ℕ) → 10 ≤ n → n < 100 → pair (n % 100) ≡ decimal n
-last_two n lo hi =
-    let e : n % 100 ≡ n = omega arith in
-    rw (decimal_two n lo hi, e)
-
-pub last_one : (n : ℕ) → n < 10 → (48 + n % 100 % 10) ∷ [] ≡ decimal n
-last_one n h =
-    let e : n % 100 % 10 ≡ n = omega arith in
-    rw (decimal_digit n h, e)
-
-pub decimal_four : (n : ℕ) → 10000 ≤ n → n < 2 ^ 64
-    → decimal n ≡ decimal (n / 10000) ++ (pair (n % 10000 / 100) ++ pair (n % 10000 % 100))
-decimal_four n lo hi =
-    let a : n / 100 / 100 ≡ n / 10000 = omega arith in
-    let b : n / 100 % 100 ≡ n % 10000 / 100 = omega arith in
-    let c : n % 10000 % 100 ≡ n % 100 = omega arith in
-    rw (decimal_pair n (omega arith) hi, decimal_pair (n / 100) (omega arith) (omega arith), append_assoc, a, b, c)
+-- the last of the three digits, without so many before them
+pub last_digits : (n from k z : ℕ) → n < 1000 → from ≡ n * 4 + z → z + k ≡ 3
+    → take k (drop from TRIPLES) ≡ drop z (three_digits n)
+last_digits n from k z h place size =
+    let kept = drop z (three_digits n) in
+    let rest = drop 3 (drop (n * 4) TRIPLES) in
+    let long : length kept ≡ k = length-drop z (three_digits n) ∙ (omega (arith, size)) in
+    ap (λ (p : ℕ). take k (drop p TRIPLES)) place
+    ∙ ap (take k) (sym (drop-drop z (n * 4) TRIPLES) ∙ ap (drop z) (row_of_table n h)
+    ∙ drop-append-le z (three_digits n) rest (omega (arith, size)))
+    ∙ ap (λ (m : ℕ). take m (kept ++ rest)) (sym long) ∙ take-append_seam kept rest
 
 -- ---- stores
 pub two_stored : (b : List ℕ) (at x y : ℕ) → at + 2 ≤ length b
@@ -147,7 +66,7 @@ decimal_millions n lo hi =
     let a : n / 1000 / 1000 ≡ n / 1000000 = omega arith in
     rw (decimal_thousands n (omega arith) hi, decimal_thousands (n / 1000) (omega arith) (omega arith), append_assoc, a) refl
 
-all_digits : (n : ℕ) → 100 ≤ n → n < 1000 → three_digits n ≡ decimal n
+pub all_digits : (n : ℕ) → 100 ≤ n → n < 1000 → three_digits n ≡ decimal n
 all_digits n lo hi =
     let a : n / 10 / 10 ≡ n / 100 % 10 = omega arith in
     sym (rw (
@@ -157,12 +76,12 @@ all_digits n lo hi =
       a,
     ) refl)
 
-two_of_three : (n : ℕ) → 10 ≤ n → n < 100 → drop 1 (three_digits n) ≡ decimal n
+pub two_of_three : (n : ℕ) → 10 ≤ n → n < 100 → drop 1 (three_digits n) ≡ decimal n
 two_of_three n lo hi =
     let a : n / 10 % 10 ≡ n / 10 = omega arith in
-    rw (decimal_two n lo hi, a) refl
+    rw (decimal_step n lo (omega arith), decimal_digit (n / 10) (omega arith), a) refl
 
-one_of_three : (n : ℕ) → n < 10 → drop 2 (three_digits n) ≡ decimal n
+pub one_of_three : (n : ℕ) → n < 10 → drop 2 (three_digits n) ≡ decimal n
 one_of_three n h =
     let a : n % 10 ≡ n = omega arith in
     rw (decimal_digit n h, a) refl

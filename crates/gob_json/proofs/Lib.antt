@@ -1,8 +1,10 @@
+pub mod RowLaws
 pub mod DigitLaws
 pub mod TextLaws
 pub mod OutLaws
 pub mod EscapeLaws
 pub mod LeafLaws
+pub mod HeadLaws
 pub mod TextSteps
 pub mod StandingLaws
 pub mod SendLaws

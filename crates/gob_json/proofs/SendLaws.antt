@@ -1,7 +1,6 @@
 -- The text of values that are known to stand in a body, as it is put out part by part.
-use Rattle.std.proofs.Common.{◌≡◌, ℕ, ◌+◌, ◌-◌, ◌==◌, ◌<◌, ◌≤◌, Bool, true, false, List, [], ◌∷◌, ◌++◌, length, drop, Some}
-use Rattle.std.proofs.Common.{Result, Ok, Err, arith, refl, sym, ap, ◌∙◌, subst, append_assoc}
-use Rattle.std.specs.Prelude.{slice_get}
+use Rattle.std.proofs.Common.{◌≡◌, ℕ, ◌+◌, ◌-◌, ◌==◌, ◌<◌, Bool, true, false, List, [], ◌∷◌, ◌++◌, drop, Some}
+use Rattle.std.proofs.Common.{Option, Result, Ok, Err, arith, refl, sym, ap, ◌∙◌, subst, append_assoc}
 use Rattle.std.specs.Fmt.{decimal}
 use Rattle.std.specs.Result.{IsErrAnd, result_and}
 use Rattle.serde_json.specs.Data.{boolean, null}
@@ -17,19 +16,19 @@ use Rattle.gob_types.specs.declared.kind.Marshal.{Marshal}
 use Rattle.gob_types.specs.declared.kind.Kind.TheVariants as kind
 use Rattle.gob_types.specs.declared.kind.Shape.{Shape}
 use Rattle.gob_types.specs.Table.{Table, shape_of}
-use Rattle.gob_value.specs.Tree.{Tree, Trees, Pairs, Fields, no_tree, tree, no_pair, pair, no_field, field, tree_count, pair_count, depth}
+use Rattle.gob_value.specs.Tree.{Tree, Trees, Pairs, Fields, tree_count, pair_count, depth}
 use Rattle.gob_value.specs.Spelling.{truth, SpellsAs, SpellsEach, SpellsPairs, no_element, element, no_entry, entry}
-use Rattle.gob_value.specs.Whole.{BeginsThisNumber}
 use Rattle.gob_json.specs.Json.{value_json, elements_json, pairs_json, fields_json, element_type, key_type, struct_fields}
 use Rattle.gob_json.specs.Json.{field_name, field_type, hex_json, integer_json, natural_json, opaque_json, pair_json}
 use Rattle.gob_json.specs.Json.{pattern_json, text_json, triple_json}
+use Rattle.gob_json.specs.TextWhole.{field_head}
 use Rattle.gob_json.specs.TextSent.{HoldsKind, HoldsValue, BeginsElements, BeginsList, BeginsEntries, BeginsMap, BeginsEntry}
 use Rattle.gob_json.specs.TextSent.{BeginsPresent, IsNextField, NumberFrom, BytesFrom, Sends, without_end}
 use Rattle.gob_json.proofs.TextSteps.{slice_element, array_element, map_element, map_key, struct_types}
 use Rattle.gob_json.proofs.StandingLaws.{bool_parts, int_parts, uint_parts, float_parts, complex_parts, nil_parts, bytes_parts}
 use Rattle.gob_json.proofs.StandingLaws.{text_parts, opaque_parts, these_begin, value_as, slice_parts, array_parts, list_begins}
 use Rattle.gob_json.proofs.StandingLaws.{ListIn, map_parts, map_begins, struct_parts, next_element, next_entry, some_field, no_more_fields}
-use Rattle.gob_json.proofs.StandingLaws.{RawIn, NextElement, NextEntry, NextPresent}
+use Rattle.gob_json.proofs.StandingLaws.{NextElement, NextEntry, NextPresent}
 
 truth_is : (x : Bool) (n : ℕ) → n ≡ truth x → (n == 1) ≡ x
 truth_is false n e = rw e refl
@@ -256,39 +255,44 @@ no_entry_left : {T : Table} {k e : TypeId} {ps : Pairs} {b piece rest : List ℕ
 no_entry_left later no_entry whole none = (refl, whole)
 no_entry_left later (entry p q s) whole none = absurd (omega (arith, none))
 
--- ---- a field's number and name
-module _ {O E : Type 0} (puts : O → O → List ℕ → Result (Unit {0}) E → Type 0) where
-  pub name_put : {old mid new : O} {shown name value : List ℕ} {r : Result (Unit {0}) E} (number : ℕ)
-      → ((a b c : O) (x y : List ℕ) (r : Result (Unit {0}) E) → puts a b x (Ok tt) → puts b c y r → puts a c (x ++ y) r)
-      → shown ≡ name
-      → puts old mid (91 ∷ (decimal number ++ 44 ∷ (compact_text (text_json shown) ++ 44 ∷ []))) (Ok tt)
-      → puts mid new value r
-      → puts old new (91 ∷ (decimal number ++ 44 ∷ (compact_text (text_json name) ++ 44 ∷ value))) r
-  name_put {old = old} {mid = mid} {new = new} {name = name} {value = value} {r = r} number joined e p q =
-      let before = 91 ∷ (decimal number ++ 44 ∷ (compact_text (text_json name) ++ 44 ∷ [])) in
-      let same : before ++ value ≡ 91 ∷ (decimal number ++ 44 ∷ (compact_text (text_json name) ++ 44 ∷ value)) =
-      simp append_assoc in
-      subst (λ t. puts old new t r) same (joined old mid new before value r
-      (subst (λ (n : List ℕ). puts old mid (91 ∷ (decimal number ++ 44 ∷ (compact_text (text_json n) ++ 44 ∷ []))) (Ok tt)) e p) q)
+-- ---- what stands before a field's value
+-- the value behind it
+head_and_value : (later : Bool) (number : ℕ) (name value : List ℕ)
+    → field_head later number name ++ value
+    ≡ comma_if later ++ 91 ∷ (decimal number ++ 44 ∷ (compact_text (text_json name) ++ 44 ∷ value))
+head_and_value later number name value = simp append_assoc
 
-  pub name_failed : {old mid : O} {shown name : List ℕ} {f : E} (number : ℕ) (value : List ℕ)
+module _ {O E : Type 0} (puts : O → O → List ℕ → Result (Unit {0}) E → Type 0) where
+  pub head_put : {old mid new : O} {shown name value : List ℕ} {r : Result (Unit {0}) E} (later : Bool) (number : ℕ)
+      → ((a b c : O) (x y : List ℕ) (r : Result (Unit {0}) E) → puts a b x (Ok tt) → puts b c y r → puts a c (x ++ y) r)
+      → shown ≡ name → puts old mid (field_head later number shown) (Ok tt) → puts mid new value r
+      → puts old new (comma_if later ++ 91 ∷ (decimal number ++ 44 ∷ (compact_text (text_json name) ++ 44 ∷ value))) r
+  head_put {old = old} {mid = mid} {new = new} {name = name} {value = value} {r = r} later number joined e p q =
+      subst (λ t. puts old new t r) (head_and_value later number name value)
+      (joined old mid new (field_head later number name) value r
+      (subst (λ (n : List ℕ). puts old mid (field_head later number n) (Ok tt)) e p) q)
+
+  pub head_failed : {old mid : O} {shown name : List ℕ} {f : E} (later : Bool) (number : ℕ) (value : List ℕ)
       → ((a b : O) (x y : List ℕ) (e : E) → puts a b x (Err e) → puts a b (x ++ y) (Err e)) → shown ≡ name
-      → puts old mid (91 ∷ (decimal number ++ 44 ∷ (compact_text (text_json shown) ++ 44 ∷ []))) (Err f)
-      → puts old mid (91 ∷ (decimal number ++ 44 ∷ (compact_text (text_json name) ++ 44 ∷ value))) (Err f)
-  name_failed {old = old} {mid = mid} {name = name} {f = f} number value cut e p =
-      let before = 91 ∷ (decimal number ++ 44 ∷ (compact_text (text_json name) ++ 44 ∷ [])) in
-      let same : before ++ value ≡ 91 ∷ (decimal number ++ 44 ∷ (compact_text (text_json name) ++ 44 ∷ value)) =
-      simp append_assoc in
-      subst (λ t. puts old mid t (Err f)) same (cut old mid before value f
-      (subst (λ (n : List ℕ). puts old mid (91 ∷ (decimal number ++ 44 ∷ (compact_text (text_json n) ++ 44 ∷ []))) (Err f)) e p))
+      → puts old mid (field_head later number shown) (Err f)
+      → puts old mid (comma_if later ++ 91 ∷ (decimal number ++ 44 ∷ (compact_text (text_json name) ++ 44 ∷ value))) (Err f)
+  head_failed {old = old} {mid = mid} {name = name} {f = f} later number value cut e p =
+      subst (λ t. puts old mid t (Err f)) (head_and_value later number name value)
+      (cut old mid (field_head later number name) value f
+      (subst (λ (n : List ℕ). puts old mid (field_head later number n) (Err f)) e p))
 
 module _ {O E : Type 0} (puts : O → O → List ℕ → Result (Unit {0}) E → Type 0)
     (joined : (a b c : O) (x y : List ℕ) (r : Result (Unit {0}) E) → puts a b x (Ok tt) → puts b c y r → puts a c (x ++ y) r)
     (cut : (a b : O) (x y : List ℕ) (e : E) → puts a b x (Err e) → puts a b (x ++ y) (Err e)) where
-  comma_failed : {old now new : O} {f : E} {text all : List ℕ} (comma others : List ℕ) → GoesOn puts old now text all
-      → text ≡ comma ++ others → puts now new comma (Err f) → puts old new all (Err f)
-  comma_failed {now = now} {new = new} {f = f} comma others on e p =
-      on new (Err f) (subst (λ t. puts now new t (Err f)) (sym e) (cut now new comma others f p))
+  front_failed : {old now new : O} {f : E} {text all : List ℕ} (part others : List ℕ) → GoesOn puts old now text all
+      → text ≡ part ++ others → puts now new part (Err f) → puts old new all (Err f)
+  front_failed {now = now} {new = new} {f = f} part others on e p =
+      on new (Err f) (subst (λ t. puts now new t (Err f)) (sym e) (cut now new part others f p))
+
+  front_put : {old now after : O} {text all : List ℕ} (part others : List ℕ) → GoesOn puts old now text all
+      → text ≡ part ++ others → puts now after part (Ok tt) → GoesOn puts old after others all
+  front_put {now = now} {after = after} part others on e p new r w =
+      on new r (subst (λ t. puts now new t r) (sym e) (joined now after new part others r p w))
 
   part_failed : {old now mid new : O} {f : E} {text all : List ℕ} (comma part others : List ℕ)
       → GoesOn puts old now text all → text ≡ comma ++ (part ++ others) → puts now mid comma (Ok tt)
@@ -361,7 +365,7 @@ module _ {O E : Type 0} (puts : O → O → List ℕ → Result (Unit {0}) E →
       shown = ap (λ vs. items_text later (elements_json T e vs)) next.same
 
       pub element_comma_failed : {new : O} {f : E} → puts now new (comma_if later) (Err f) → puts old new all (Err f)
-      element_comma_failed p = comma_failed (comma_if later) _ l.text shown p
+      element_comma_failed p = front_failed (comma_if later) _ l.text shown p
 
       pub element_failed : {mid new : O} {f : E} → puts now mid (comma_if later) (Ok tt)
           → ((v : Tree) (rest : List ℕ) → HoldsValue T e limit v piece rest → puts mid new (compact_text (value_json T e v)) (Err f))
@@ -402,7 +406,7 @@ module _ {O E : Type 0} (puts : O → O → List ℕ → Result (Unit {0}) E →
       pair_shown = ap (λ ps. items_text later (pairs_json T k e ps)) next_pair.same
 
       pub entry_comma_failed : {new : O} {f : E} → puts now new (comma_if later) (Err f) → puts old new all (Err f)
-      entry_comma_failed p = comma_failed (comma_if later) _ l.text pair_shown p
+      entry_comma_failed p = front_failed (comma_if later) _ l.text pair_shown p
 
       pub entry_failed : {mid new : O} {f : E} → puts now mid (comma_if later) (Ok tt)
           → ((x v : Tree) (rest : List ℕ) → BeginsEntry T k e limit x v piece rest
@@ -446,34 +450,35 @@ module _ {O E : Type 0} (puts : O → O → List ℕ → Result (Unit {0}) E →
       behind_number = (number delta next_one.behind next_one.counted).1
 
       field_shown : items_text later (fields_json T types l.fields)
-          ≡ comma_if later ++ (compact_text (triple_json (natural_json f) (text_json e.name) (value_json T e.id next_one.value))
-          ++ items_text true (fields_json T types next_one.others))
+          ≡ (comma_if later ++ compact_text (triple_json (natural_json f) (text_json e.name) (value_json T e.id next_one.value)))
+          ++ items_text true (fields_json T types next_one.others)
       field_shown =
+          let value = λ (g : Option Field). compact_text (triple_json (natural_json f) (text_json (field_name g))
+          (value_json T (field_type g) next_one.value)) in
+          let others = items_text true (fields_json T types next_one.others) in
           ap (λ fs. items_text later (fields_json T types fs)) next_one.same
-          ∙ ap (λ g. comma_if later ++ (compact_text (triple_json (natural_json f) (text_json (field_name g))
-          (value_json T (field_type g) next_one.value)) ++ items_text true (fields_json T types next_one.others))) is.2
+          ∙ ap (λ g. comma_if later ++ (value g ++ others)) is.2
+          ∙ sym (append_assoc (comma_if later) (value (Some e)) others)
 
       value_there : HoldsValue T e.id limit next_one.value (drop end body) next_one.after
       value_there = subst (λ p. HoldsValue T e.id limit next_one.value p next_one.after) (sym behind_number) next_one.begins
 
-      pub field_comma_failed : {new : O} {g : E} → puts now new (comma_if later) (Err g) → puts old new all (Err g)
-      field_comma_failed p = comma_failed (comma_if later) _ l.text field_shown p
-
-      pub field_failed : {mid new : O} {g : E} → puts now mid (comma_if later) (Ok tt)
-          → ((v : Tree) (rest : List ℕ) → HoldsValue T e.id limit v (drop end body) rest
-          → puts mid new (compact_text (triple_json (natural_json f) (text_json e.name) (value_json T e.id v))) (Err g))
+      pub field_failed : {new : O} {g : E}
+          → ((v : Tree) (rest : List ℕ) → HoldsValue T e.id limit v (drop end body) rest → puts now new (comma_if later
+          ++ compact_text (triple_json (natural_json f) (text_json e.name) (value_json T e.id v))) (Err g))
           → puts old new all (Err g)
-      field_failed p sent = part_failed (comma_if later) _ _ l.text field_shown p (sent next_one.value next_one.after value_there)
+      field_failed sent = front_failed _ _ l.text field_shown (sent next_one.value next_one.after value_there)
 
-      pub field_put : {mid after : O} {place : List ℕ} → puts now mid (comma_if later) (Ok tt)
-          → ((v : Tree) (rest : List ℕ) → HoldsValue T e.id limit v (drop end body) rest → (place ≡ rest)
-          × puts mid after (compact_text (triple_json (natural_json f) (text_json e.name) (value_json T e.id v))) (Ok tt))
+      pub field_put : {after : O} {place : List ℕ}
+          → ((v : Tree) (rest : List ℕ) → HoldsValue T e.id limit v (drop end body) rest
+          → (place ≡ rest) × puts now after (comma_if later
+          ++ compact_text (triple_json (natural_json f) (text_json e.name) (value_json T e.id v))) (Ok tt))
           → PresentLeft puts T types (f + 1) limit true old after place rest all
-      field_put p sent =
+      field_put sent =
           let one = sent next_one.value next_one.after value_there in
           let w = next_one.left in
           record {
             fields = next_one.others;
             begins = record { bytes = w.bytes; spelled = w.spelled; within = w.within; whole = one.0 ∙ w.whole };
-            text = part_put (comma_if later) _ _ l.text field_shown p one.1;
+            text = front_put _ _ l.text field_shown one.1;
           }

@@ -1,6 +1,6 @@
 -- Values that are known to stand in a body, and their parts.
 use Rattle.std.proofs.Common.{◌≡◌, ℕ, ℤ, ◌+◌, ◌-◌, ◌<◌, ◌≤◌, Bool, List, ◌++◌, length, take, drop, Some, arith, refl, sym, ap, ◌∙◌, subst}
-use Rattle.std.proofs.Common.{[], ◌∷◌, None, append_assoc, length-append, length-drop}
+use Rattle.std.proofs.Common.{◌∷◌, None, append_assoc, length-append, length-drop}
 use Rattle.std.proofs.lemmas.List.{drop-drop}
 use Rattle.std.proofs.Math.Seq.{take-append_seam, drop-append_seam}
 use Rattle.std.specs.Prelude.{slice_get}
@@ -18,7 +18,7 @@ use Rattle.gob_types.specs.declared.kind.Kind.TheVariants as kind
 use Rattle.gob_types.specs.declared.kind.Shape.{Shape}
 use Rattle.gob_types.specs.Table.{Table, shape_of}
 use Rattle.gob_types.proofs.PublicLaws.{some_injective}
-use Rattle.gob_value.specs.Tree.{Tree, Trees, Pairs, Fields, no_tree, tree, no_pair, pair, no_field, field, depth, tree_count, pair_count}
+use Rattle.gob_value.specs.Tree.{Tree, Trees, Pairs, Fields, tree, pair, no_field, field, depth, tree_count, pair_count}
 use Rattle.gob_value.specs.Spelling.{truth, Spells, SpellsAs, SpellsEach, SpellsPairs, SpellsFields, of_type, of_bool, of_int, of_uint}
 use Rattle.gob_value.specs.Spelling.{of_float, of_complex, of_nil, of_bytes, of_text, of_opaque, of_slice, of_array, of_map, of_struct}
 use Rattle.gob_value.specs.Spelling.{no_element, element, no_entry, entry, end_of_fields, next_field}

@@ -4,7 +4,6 @@ use Rattle.std.proofs.Common.{◌==◌, Bool, true, false, List, [], ◌∷◌, 
 use Rattle.std.proofs.Common.{Result, Ok, Err, IfOk, take, drop, arith}
 use Rattle.std.proofs.Common.{refl, sym, ap, ◌∙◌, subst, append_assoc, nat_lt}
 use Rattle.std.specs.Prelude.{slice_get}
-use Rattle.std.specs.Fmt.{decimal}
 use Rattle.std.proofs.lemmas.Bool.{lt-ltb}
 use Rattle.std.proofs.lemmas.List.{drop-drop, take-append-drop, length-drop, length-take-le}
 use Rattle.serde_json.specs.Data.{Data, boolean, null, array}
@@ -31,7 +30,7 @@ use Rattle.gob_json.specs.Json.{field_name, field_type, integer_json}
 use Rattle.gob_json.specs.Json.{natural_json, pattern_json, pair_json, triple_json}
 use Rattle.gob_json.specs.Json.{hex_json, text_json, opaque_json}
 use Rattle.gob_value.specs.Whole.{Stands, BeginsThisNumber}
-use Rattle.gob_json.specs.TextWhole.{TextOfKind, TextOfEach, TextOfPairs, TextOfFields, BeginsThese}
+use Rattle.gob_json.specs.TextWhole.{TextOfKind, TextOfEach, TextOfPairs, TextOfFields, BeginsThese, field_head}
 
 -- an answer of a place, if any
 pub if_ok : {A E : Type 0} {P Q : A → Type 0} (r : Result A E) → ((x : A) → P x → Q x) → IfOk r P → IfOk r Q
@@ -390,18 +389,16 @@ module _ (T : Table) where
   }
 
   pub field_text : (types : List Field) (next limit delta f : ℕ) (e : Field) (s : Shape) (later after : Bool)
-      (old one two three four new : List ℕ) → 0 < delta → f + 1 ≡ next + delta → slice_get types f ≡ Some e
-      → shape_of T e.id ≡ Some s → after ≡ true → one ≡ old ++ comma_if later
-      → two ≡ one ++ 91 ∷ (decimal f ++ 44 ∷ (compact_text (text_json e.name) ++ 44 ∷ []))
+      (old two three four new : List ℕ) → 0 < delta → f + 1 ≡ next + delta → slice_get types f ≡ Some e
+      → shape_of T e.id ≡ Some s → after ≡ true → two ≡ old ++ field_head later f e.name
       → four ≡ three ++ 93 ∷ [] → (x a y z : List ℕ) → BeginsThisNumber delta x a
       → TextOfKind T s.kind limit two three a y → TextOfFields T types (f + 1) limit after four new y z
       → TextOfFields T types next limit later old new x z
-  field_text types next limit delta f e s later after old one two three four new o is here shape true_after comma name
+  field_text types next limit delta f e s later after old two three four new o is here shape true_after head
       close x a y z p q r =
       let v = q.within in
       let w = r.within in
       let up : delta ≡ f + 1 - next = omega arith in
-      let named = compact_text (text_json e.name) in
       let value = compact_text (value_json T e.id q.value) in
       let rest = items_text true (fields_json T types r.fields) in
       let own = q.text e.id (record { shape = s; found = shape; same = refl }) in
@@ -411,8 +408,7 @@ module _ (T : Table) where
       let whole : new ≡ old ++ (comma_if later ++ (compact_text (shown (Some e)) ++ rest)) =
       others ∙ ap (λ l. l ++ rest)
       (close ∙ ap (λ l. l ++ 93 ∷ [])
-      (own ∙ ap (λ l. l ++ value)
-      (name ∙ ap (λ l. l ++ 91 ∷ (decimal f ++ 44 ∷ (named ++ 44 ∷ []))) comma)))
+      (own ∙ ap (λ l. l ++ value) head))
       ∙ simp append_assoc in
       record {
         fields = field f q.value r.fields;

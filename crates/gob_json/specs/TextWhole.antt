@@ -1,21 +1,19 @@
 -- A value that stands whole at the front of a piece of a stream, no deeper than a limit, what stands behind it, and its
 -- text: what was appended is the compact text of the value's JSON. (docs/FORMAT.md, Values; Depth; The JSON lines.)
-use Rattle.std.specs.Prelude.{◌≡◌, ℕ, ◌≤◌, List, [], ◌∷◌, ◌++◌, Bool, false, Some, codes, drop, length, slice_get}
+use Rattle.std.specs.Prelude.{◌≡◌, ℕ, ◌+◌, ◌≤◌, List, [], ◌∷◌, ◌++◌, Bool, Some, codes, length, slice_get}
 use Rattle.std.specs.Fmt.{decimal}
-use Rattle.serde_json.specs.Written.{compact_text, items_text}
+use Rattle.serde_json.specs.Written.{comma_if, compact_text, items_text}
 use Rattle.gob_num.specs.Unsigned.{IsUnsigned}
 use Rattle.gob_types.specs.declared.id.TypeId.{TypeId}
 use Rattle.gob_types.specs.declared.kind.Field.{Field}
-use Rattle.gob_types.specs.declared.basic.Basic.TheVariants as basic
 use Rattle.gob_types.specs.declared.kind.Kind.{Kind}
-use Rattle.gob_types.specs.declared.kind.Kind.TheVariants as kind
 use Rattle.gob_types.specs.declared.kind.Shape.{Shape}
 use Rattle.gob_types.specs.Table.{Table, shape_of}
 use Rattle.gob_value.specs.Tree.{Tree, Trees, Pairs, Fields, depth, trees_depth, pairs_depth, fields_depth}
 use Rattle.gob_value.specs.Tree.{tree_count, pair_count}
 use Rattle.gob_value.specs.Spelling.{SpellsAs, SpellsEach, SpellsPairs, SpellsFields}
 use Rattle.gob_value.specs.Top.{SpellsTop, IsStruct}
-use Rattle.gob_json.specs.Json.{value_json, elements_json, pairs_json, fields_json, put_json}
+use Rattle.gob_json.specs.Json.{value_json, elements_json, pairs_json, fields_json, put_json, text_json}
 
 -- the type is one of this kind
 pub record IsOfKind (T : Table) (t : TypeId) (k : Kind) : Type 0 where
@@ -92,3 +90,12 @@ pub record IsBehindTag (k : Kind) (body : List ℕ) (begin : ℕ) : Type 0 where
 -- {"type":ID,"value":
 abbrev pub head_text : TypeId → List ℕ
 head_text id = codes "{\"type\":" ++ (decimal id.0 ++ codes ",\"value\":")
+
+-- what stands before the value of a field: [NUMBER,"NAME", and a comma before it or not
+abbrev pub field_head : Bool → ℕ → List ℕ → List ℕ
+field_head later number name =
+    comma_if later ++ 91 ∷ (decimal number ++ 44 ∷ (compact_text (text_json name) ++ 44 ∷ []))
+
+-- its front, where the number has one digit: [DIGIT,"
+abbrev pub digit_head : ℕ → List ℕ
+digit_head number = 91 ∷ (48 + number) ∷ 44 ∷ 34 ∷ []

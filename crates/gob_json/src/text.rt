@@ -4,6 +4,7 @@
 mod basic;
 mod between;
 mod block;
+mod digits;
 mod escape;
 mod integers;
 mod leaf;

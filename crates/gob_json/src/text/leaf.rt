@@ -1,15 +1,16 @@
 //! The text of what has no parts: numbers, truth values, bytes and text. Each says how it answers by what the output
 //! says of the text that it was to take.
 
-ghost use Rattle.std.specs.Prelude.{◌≡◌, ◌<◌, ◌++◌, IsTrue};
+ghost use Rattle.std.specs.Prelude.{◌≡◌, ◌<◌, ◌≤◌, ◌++◌, IsTrue};
 ghost use Rattle.std.specs.Fmt.{decimal};
 ghost use Rattle.hex.specs.Hex.{encode_lower};
 ghost use Rattle.serde_json.specs.Data.{boolean, null, string};
 ghost use Rattle.serde_json.specs.Written.{compact_text};
-ghost use Rattle.gob_json.specs.Text.{IsPlainAscii};
+ghost use Rattle.gob_json.specs.Text.{IsPlainAscii, three_digits};
 ghost use Rattle.gob_json.specs.Json.{hex_json, integer_json, natural_json, opaque_json, pair_json, pattern_json, text_json};
 
-use super::block::{DIGITS, four_digits};
+use super::block::DIGITS;
+use super::digits::TRIPLES;
 use super::escape::put_escaped;
 use super::out::TextOut;
 use std::str;
@@ -17,36 +18,57 @@ use std::str;
 const HEX: &[u8; 16] = b"0123456789abcdef";
 
 /// Puts out the number in decimal.
+#[inline(always)]
 pub(crate) fn put_natural<O: TextOut>(number: u64, out: &mut O) -> Result<(), O::Fault>
     ensures { O.puts out.old out.new (compact_text (natural_json number)) result }
 {
-    if number < 10_000 {
-        return put_short(number, out);
+    if number < 1000 {
+        return put_first(number, out);
     }
-    if number < 100_000_000 {
-        put_short(number / 10_000, out)?;
-        return out.put(&four_digits(number % 10_000));
-    }
-    put_long(number, out)
+    put_thousands(number, out)
 }
 
-// Puts out the number of at most four digits in decimal. Each piece is of a fixed number of bytes.
+// Puts out the number below 1000 in decimal. Each piece is of a fixed number of bytes.
 #[inline(always)]
-fn put_short<O: TextOut>(number: u64, out: &mut O) -> Result<(), O::Fault>
-    requires { number < 10000 }
+fn put_first<O: TextOut>(number: u64, out: &mut O) -> Result<(), O::Fault>
+    requires { number < 1000 }
     ensures { O.puts out.old out.new (decimal number) result }
 {
-    let [first, second, third, last] = four_digits(number);
-    if number >= 1000 {
-        return out.put(&[first, second, third, last]);
-    }
+    let row = number as usize * 4;
     if number >= 100 {
-        return out.put(&[second, third, last]);
+        return out.put(&TRIPLES[row..row + 3]);
     }
     if number >= 10 {
-        return out.put(&[third, last]);
+        return out.put(&TRIPLES[row + 1..row + 3]);
     }
-    out.put(&[last])
+    out.put(&TRIPLES[row + 2..row + 3])
+}
+
+// Puts out the three digits of the number below 1000, of which the first may be 0.
+#[inline(always)]
+fn put_three_digits<O: TextOut>(number: u64, out: &mut O) -> Result<(), O::Fault>
+    requires { number < 1000 }
+    ensures { O.puts out.old out.new (three_digits number) result }
+{
+    let row = number as usize * 4;
+    out.put(&TRIPLES[row..row + 3])
+}
+
+// Puts out the number of four digits or more in decimal, three at a time.
+fn put_thousands<O: TextOut>(number: u64, out: &mut O) -> Result<(), O::Fault>
+    requires { 1000 ≤ number }
+    ensures { O.puts out.old out.new (decimal number) result }
+{
+    if number < 1_000_000 {
+        put_first(number / 1000, out)?;
+        return put_three_digits(number % 1000, out);
+    }
+    if number < 1_000_000_000 {
+        put_first(number / 1_000_000, out)?;
+        put_three_digits(number / 1000 % 1000, out)?;
+        return put_three_digits(number % 1000, out);
+    }
+    put_long(number, out)
 }
 
 // Puts out the number of any size in decimal.
@@ -186,9 +208,9 @@ pub(crate) fn put_text<O: TextOut>(bytes: &[u8], out: &mut O) -> Result<(), O::F
     }
 }
 
-// Whether each byte is an ASCII character that stands for itself in a string. It looks at all of them: a loop that
-// doesn't end early takes many bytes at once.
-fn is_plain_ascii(bytes: &[u8]) -> bool
+/// Whether each byte is an ASCII character that stands for itself in a string. It looks at all of them: a loop that
+/// doesn't end early takes many bytes at once.
+pub(crate) fn is_plain_ascii(bytes: &[u8]) -> bool
     ensures { IsTrue result → IsPlainAscii bytes.now }
 {
     let mut plain = true;

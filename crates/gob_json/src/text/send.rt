@@ -1,8 +1,8 @@
 //! The text of a value that is known to stand whole in a body, for an output that takes it while it is made. It takes
 //! no memory, and nothing but the output can fail.
 
-ghost use Rattle.std.specs.Prelude.{◌≡◌, ◌^◌, ◌-◌, ◌<◌, ◌≤◌, ◌∷◌, List, ℕ, IfOk, IfSome, drop, false, length};
-ghost use Rattle.serde_json.specs.Written.{compact_text, items_text};
+ghost use Rattle.std.specs.Prelude.{◌≡◌, ◌^◌, ◌-◌, ◌<◌, ◌≤◌, ◌∷◌, ◌++◌, List, ℕ, IfOk, IfSome, drop, false, length};
+ghost use Rattle.serde_json.specs.Written.{comma_if, compact_text, items_text};
 ghost use Rattle.gob_types.specs.declared.id.TypeId.{TypeId};
 ghost use Rattle.gob_types.specs.declared.basic.Basic.TheVariants as basics;
 ghost use Rattle.gob_types.specs.declared.kind.Kind.TheVariants as kinds;
@@ -14,8 +14,9 @@ ghost use Rattle.gob_json.specs.Json.{elements_json, fields_json, natural_json, 
 ghost use Rattle.gob_json.specs.Json.{triple_json, value_json};
 ghost use Rattle.gob_json.specs.TextSent.{HoldsKind, HoldsValue, BeginsList, BeginsMap, BeginsEntry, BeginsPresent};
 ghost use Rattle.gob_json.specs.TextSent.{IsNextField, Sends};
+ghost use Rattle.gob_json.specs.TextWhole.{IsOfKind};
 
-use super::between::{put_comma, put_name};
+use super::between::{put_comma, put_field_head};
 use super::leaf::{
     put_complex, put_hex, put_integer, put_natural, put_null, put_opaque, put_pattern, put_text,
     put_truth,
@@ -77,13 +78,50 @@ fn send_elements<S: Shapes, O: TextOut>(
     ensures inside { IfOk result (λ end. end ≤ length body.now) }
 {
     let (count, behind) = number_from(body, begin);
+    let basic = basic_of(shapes, elem);
     out.put(b"[")?;
     let mut at = behind;
     'elements: for index in 0..count {
         put_comma(index > 0, out)?;
-        at = send_value(shapes, elem, body, at, depth, out)?;
+        at = send_part(shapes, elem, basic, body, at, depth, out)?;
     }
     out.put(b"]").and(Ok(at))
+}
+
+// The same as `send_value`, without a call where the type is known to be this basic one.
+#[cycle(sent)]
+#[inline(always)]
+fn send_part<S: Shapes, O: TextOut>(
+    shapes: &S,
+    id: TypeId,
+    basic: Option<Basic>,
+    body: &[u8],
+    at: usize,
+    depth: u64,
+    out: &mut O,
+) -> Result<usize, O::Fault>
+    requires depth { depth ≤ 1000 }
+    requires place { at ≤ length body.now }
+    requires basic { IfSome basic (λ b. IsOfKind (S.table shapes.now) id (kinds.Basic b)) }
+    ensures sent { (v : Tree) (rest : List ℕ) → HoldsValue (S.table shapes.now) id depth v (drop at body.now) rest
+        → Sends O.puts out.old out.new (compact_text (value_json (S.table shapes.now) id v)) body.now rest result }
+    ensures inside { IfOk result (λ end. end ≤ length body.now) }
+{
+    match basic {
+        Some(basic) => send_basic(basic, body, at, out),
+        None => send_value(shapes, id, body, at, depth, out),
+    }
+}
+
+// The basic type that the type is, if it is one.
+#[inline(always)]
+fn basic_of<S: Shapes>(shapes: &S, id: TypeId) -> Option<Basic>
+    ensures { IfSome result (λ basic. IsOfKind (S.table shapes.now) id (kinds.Basic basic)) }
+{
+    match &shapes.shape_of(id)?.kind {
+        Kind::Basic(basic) => Some(*basic),
+        _ => None,
+    }
 }
 
 // Puts out the text of the pairs of a key and an element that stand behind their count.
@@ -166,16 +204,17 @@ fn send_fields<S: Shapes, O: TextOut>(
         let Some((number, field)) = next_field(types, next, delta) else {
             return out.put(b"]").and(Ok(behind));
         };
-        put_comma(next > 0, out)?;
-        at = send_field(shapes, number, field, body, behind, depth, out)?;
+        at = send_field(shapes, next > 0, number, field, body, behind, depth, out)?;
         next = number + 1;
     }
 }
 
-// Puts out the text of the field of this number, whose value stands there.
+// Puts out the text of the field of this number, whose value stands there, and a comma before it or not.
 #[cycle(sent)]
+#[inline(always)]
 fn send_field<S: Shapes, O: TextOut>(
     shapes: &S,
+    later: bool,
     number: u64,
     field: &Field,
     body: &[u8],
@@ -187,16 +226,18 @@ fn send_field<S: Shapes, O: TextOut>(
     requires place { at ≤ length body.now }
     ensures sent { (v : Tree) (rest : List ℕ)
         → HoldsValue (S.table shapes.now) field.now.id depth v (drop at body.now) rest
-        → Sends O.puts out.old out.new (compact_text (triple_json (natural_json number) (text_json field.now.name)
-        (value_json (S.table shapes.now) field.now.id v))) body.now rest result }
+        → Sends O.puts out.old out.new (comma_if later ++ compact_text (triple_json (natural_json number)
+        (text_json field.now.name) (value_json (S.table shapes.now) field.now.id v))) body.now rest result }
     ensures inside { IfOk result (λ end. end ≤ length body.now) }
 {
-    put_name(number, field.name.as_bytes(), out)?;
-    let end = send_value(shapes, field.id, body, at, depth, out)?;
+    put_field_head(later, number, field.name.as_bytes(), out)?;
+    let basic = basic_of(shapes, field.id);
+    let end = send_part(shapes, field.id, basic, body, at, depth, out)?;
     out.put(b"]").and(Ok(end))
 }
 
 // The field that is so much above the one before the next, with its number, if there is one.
+#[inline(always)]
 fn next_field(types: &Types, next: u64, delta: u64) -> Option<(u64, &Field)>
     ensures some { IfSome result (λ found. IsNextField types.now next delta found.0 found.1.now) }
     ensures none { result ≡ None → (f : ℕ) (e : Field) → ¬ IsNextField types.now next delta f e }

@@ -11,7 +11,7 @@ ghost use Rattle.gob_types.specs.declared.kind.Marshal.{Marshal};
 ghost use Rattle.gob_types.specs.Table.{Table};
 
 use super::basic::put_basic;
-use super::between::{put_comma, put_name};
+use super::between::{put_comma, put_field_head};
 use super::integers::put_integers;
 use super::leaf::put_opaque;
 use super::number::{bytes_at, field_number, number_at};
@@ -190,8 +190,7 @@ fn put_fields<S: Shapes>(
         let Some(shape) = shapes.shape_of(field.id) else {
             return Err(Stop::NotWhole);
         };
-        put_comma(next > 0, out)?;
-        put_name(number, field.name.as_bytes(), out)?;
+        put_field_head(next > 0, number, field.name.as_bytes(), out)?;
         at = put_part(shapes, &shape.kind, body, behind, depth, out)?;
         out.push(b']')?;
         next = number + 1;

@@ -1,12 +1,8 @@
--- One digit, or more.
-use Rattle.std.proofs.Common.{[], ◌∷◌, ◌++◌, rules}
+-- The pieces, one behind another.
+use Rattle.std.proofs.Common.{[], ◌∷◌, ◌++◌}
 use Rattle.std.specs.Fmt.{decimal}
-use Rattle.std.proofs.lemmas.Fmt.{decimal_digit}
 use Rattle.gob_json.proofs.OutLaws.{piece_failed}
 use Rattle.gob_json.proofs.text.between.put_place.Goals as goal
-
-pub returns-then-number-lt10 : goal.returns-then-number-lt10
-returns-then-number-lt10 g c = rw (decimal_digit c.args.number c.if-number-lt10.true) (search rules)
 
 pub returns-in_err-put : goal.returns-in_err-put
 returns-in_err-put g c =
@@ -23,4 +19,4 @@ returns-in_err-put_natural g c =
 pub returns : goal.returns
 returns g c =
     let joined = g.met.O.TextOut.joined in
-    joined _ _ _ _ _ _ c.in_ok-put.ensures (joined _ _ _ _ _ _ c.in_ok-put_natural.ensures c.put-3.ensures)
+    joined _ _ _ _ _ _ c.in_ok-put.ensures (joined _ _ _ _ _ _ c.in_ok-put_natural.ensures c.put-2.ensures)

@@ -1,6 +1,6 @@
 -- A run stands for itself, and the byte behind it is escaped.
-use Rattle.std.proofs.Common.{◌≡◌, ℕ, List, [], ◌++◌, ◌+◌, ◌-◌, ◌∙◌, ap, sym, subst, arith, append-nil, take, drop, get_or}
-use Rattle.json.specs.Print.{escape, escape_byte}
+use Rattle.std.proofs.Common.{ℕ, List, ◌+◌, sym, subst, arith, drop}
+use Rattle.json.specs.Print.{escape}
 use Rattle.gob_json.proofs.EscapeLaws.{escape_run, escape_run_byte, all_plain}
 use Rattle.gob_json.proofs.OutLaws.{piece_failed}
 use Rattle.gob_json.proofs.text.escape.put_escaped.Goals as goal

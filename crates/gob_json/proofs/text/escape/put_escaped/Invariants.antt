@@ -1,5 +1,5 @@
 -- With what stands for the rest, the whole text is put out.
-use Rattle.std.proofs.Common.{ℕ, List, Result, ◌-◌, ◌≤◌, length, drop}
+use Rattle.std.proofs.Common.{Result, ◌-◌, ◌≤◌, length, drop}
 use Rattle.json.specs.Print.{escape}
 use Rattle.gob_json.proofs.text.escape.put_escaped.Given as goal
 

@@ -1,5 +1,5 @@
 -- With the digits of the rest, all digits are put out.
-use Rattle.std.proofs.Common.{List, Result, drop}
+use Rattle.std.proofs.Common.{Result, drop}
 use Rattle.hex.specs.Hex.{encode_lower}
 use Rattle.gob_json.proofs.text.leaf.put_digits.Given as goal
 

@@ -1,5 +1,5 @@
 -- Text as it is, text with escapes, and bytes that are no text.
-use Rattle.std.proofs.Common.{◌≡◌, ◌++◌, List, ℕ, codes, arith, rules, subst, sym}
+use Rattle.std.proofs.Common.{List, ℕ, codes, arith, subst}
 use Rattle.json.specs.Print.{escape_byte}
 use Rattle.gob_json.proofs.LeafLaws.{plain_text, hex_behind}
 use Rattle.gob_json.proofs.TextLaws.{utf8_json, bytes_json}

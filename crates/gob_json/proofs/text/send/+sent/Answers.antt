@@ -1,15 +1,17 @@
 -- Part by part the text goes out.
-use Rattle.std.proofs.Common.{ℕ, List, [], ◌∷◌, ◌++◌, ◌+◌, ◌-◌, ◌^◌, ◌<◌, ◌≡◌, ◌≤◌, arith, ap, false, refl, sym, subst, drop, None}
+use Rattle.std.proofs.Common.{ℕ, Option, IfSome, List, [], ◌∷◌, ◌++◌, ◌+◌, ◌-◌, ◌≡◌, arith, false, refl, sym, subst, drop}
 use Rattle.serde_json.specs.Written.{compact_text, items_text}
+use Rattle.gob_types.specs.declared.basic.Basic.{Basic}
 use Rattle.gob_types.specs.declared.kind.Kind.TheVariants as kind
-use Rattle.gob_json.specs.Json.{elements_json, pairs_json, fields_json, natural_json, text_json, value_json}
+use Rattle.gob_json.specs.Json.{elements_json, pairs_json, fields_json, value_json}
 use Rattle.gob_json.specs.TextSent.{HoldsKind, HoldsValue}
+use Rattle.gob_json.specs.TextWhole.{IsOfKind}
 use Rattle.gob_json.proofs.TextSteps.{later_on}
 use Rattle.gob_json.proofs.StandingLaws.{value_as}
-use Rattle.gob_json.proofs.SendLaws.{sent_behind, sent_failed, name_failed, name_put, slice_sent, array_sent, map_sent, struct_sent, first_elements}
+use Rattle.gob_json.proofs.SendLaws.{sent_behind, sent_failed, head_failed, head_put, slice_sent, array_sent, map_sent, struct_sent, first_elements}
 use Rattle.gob_json.proofs.SendLaws.{elements_ended, element_comma_failed, element_failed, element_put, first_entries}
 use Rattle.gob_json.proofs.SendLaws.{entries_ended, entry_comma_failed, entry_failed, entry_put, first_present}
-use Rattle.gob_json.proofs.SendLaws.{fields_ended, field_comma_failed, field_failed, field_put}
+use Rattle.gob_json.proofs.SendLaws.{fields_ended, field_failed, field_put}
 use Rattle.gob_json.proofs.text.send.+sent.Goals as goal
 
 -- ---- elements and pairs
@@ -93,6 +95,14 @@ send_pairs-returns-clause-sent g t c = λ ps rest b.
     entries_ended g.O.TextOut.puts g.met.O.TextOut.joined g.met.O.TextOut.cut (c.pairs.invariant.left ps rest b) c.pairs.at c.put-2.result c.and.result c.and.ensures refl
     (omega arith) c.put-2.ensures
 
+-- ---- a part
+pub send_part-returns-in-Some-clause-sent : goal.send_part-returns-in-Some-clause-sent
+send_part-returns-in-Some-clause-sent g t c = λ v rest b.
+    let T = g.S.Shapes.table c.args.shapes.now in
+    let is = subst (λ (o : Option Basic). IfSome o (λ k. IsOfKind T c.args.id (kind.Basic k))) c.in-Some.is c.requires.basic in
+    c.send_basic.ensures.sent T c.args.id v rest
+    (subst (λ k. HoldsKind T k v (drop c.args.at c.args.body.now) rest) is.same (value_as is.shape is.found b))
+
 -- ---- one pair
 pub send_pair-returns-in_err-put-clause-sent : goal.send_pair-returns-in_err-put-clause-sent
 send_pair-returns-in_err-put-clause-sent g t c = λ x v rest b.
@@ -156,19 +166,12 @@ send_fields-returns-in_default-clause-sent g t c = λ fs rest b.
     (c.fields.invariant.left fs rest b) c.number_from-delta.ensures.found c.put-in_default.result c.and.result c.and.ensures
     (c.next_field.ensures.none c.in_default.is) c.put-in_default.ensures
 
-pub send_fields-returns-in_err-put_comma-clause-sent : goal.send_fields-returns-in_err-put_comma-clause-sent
-send_fields-returns-in_err-put_comma-clause-sent g t c = λ fs rest b.
-    sent_failed g.O.TextOut.puts c.from_residual-in_err-put_comma.result c.from_residual-in_err-put_comma.ensures.1
-    (field_comma_failed g.O.TextOut.puts g.met.O.TextOut.joined g.met.O.TextOut.cut c.args.body.now c.fields.at c.number_from-delta.result.1
-    (c.fields.invariant.left fs rest b) c.number_from-delta.ensures.found c.in-Some.number c.in-Some.field.now c.in-Some.ensures.some
-    c.in_err-put_comma.ensures)
-
 pub send_fields-returns-in_err-at-clause-sent : goal.send_fields-returns-in_err-at-clause-sent
 send_fields-returns-in_err-at-clause-sent g t c = λ fs rest b.
     sent_failed g.O.TextOut.puts c.from_residual-in_err-at.result c.from_residual-in_err-at.ensures.1
     (field_failed g.O.TextOut.puts g.met.O.TextOut.joined g.met.O.TextOut.cut c.args.body.now c.fields.at c.number_from-delta.result.1
     (c.fields.invariant.left fs rest b) c.number_from-delta.ensures.found c.in-Some.number c.in-Some.field.now c.in-Some.ensures.some
-    c.in_ok-put_comma.ensures (λ v r p. (c.in_err-at.ensures.sent v r p).put))
+    (λ v r p. (c.in_err-at.ensures.sent v r p).put))
 
 pub send_fields-fields-preserved : goal.send_fields-fields-preserved
 send_fields-fields-preserved g t c = record {
@@ -176,27 +179,27 @@ send_fields-fields-preserved g t c = record {
   left = λ fs rest b. rw (later_on c.in-Some.number)
       (field_put g.O.TextOut.puts g.met.O.TextOut.joined g.met.O.TextOut.cut c.args.body.now c.fields.at c.number_from-delta.result.1
       (c.fields.invariant.left fs rest b) c.number_from-delta.ensures.found c.in-Some.number c.in-Some.field.now c.in-Some.ensures.some
-      c.in_ok-put_comma.ensures (λ v r p. let s = c.in_ok-at.ensures.sent v r p in (s.behind, s.put)));
+      (λ v r p. let s = c.in_ok-at.ensures.sent v r p in (s.behind, s.put)));
 }
 
 -- ---- one field
-pub send_field-returns-in_err-put_name-clause-sent : goal.send_field-returns-in_err-put_name-clause-sent
-send_field-returns-in_err-put_name-clause-sent g t c = λ v rest b.
+pub send_field-returns-in_err-put_field_head-clause-sent : goal.send_field-returns-in_err-put_field_head-clause-sent
+send_field-returns-in_err-put_field_head-clause-sent g t c = λ v rest b.
     sent_failed g.O.TextOut.puts c.from_residual.result c.from_residual.ensures.1
-    (name_failed g.O.TextOut.puts c.args.number
-    (compact_text (value_json (g.S.Shapes.table c.args.shapes.now) c.args.field.now.id v) ++ 93 ∷ []) g.met.O.TextOut.cut c.as_bytes.ensures c.in_err-put_name.ensures)
+    (head_failed g.O.TextOut.puts c.args.later c.args.number
+    (compact_text (value_json (g.S.Shapes.table c.args.shapes.now) c.args.field.now.id v) ++ 93 ∷ []) g.met.O.TextOut.cut c.as_bytes.ensures c.in_err-put_field_head.ensures)
 
 pub send_field-returns-in_err-end-clause-sent : goal.send_field-returns-in_err-end-clause-sent
 send_field-returns-in_err-end-clause-sent g t c = λ v rest b.
     sent_failed g.O.TextOut.puts c.from_residual-in_err-end.result c.from_residual-in_err-end.ensures.1
-    (name_put g.O.TextOut.puts c.args.number g.met.O.TextOut.joined c.as_bytes.ensures c.in_ok-put_name.ensures
+    (head_put g.O.TextOut.puts c.args.later c.args.number g.met.O.TextOut.joined c.as_bytes.ensures c.in_ok-put_field_head.ensures
     (g.met.O.TextOut.cut _ _ (compact_text (value_json (g.S.Shapes.table c.args.shapes.now) c.args.field.now.id v)) (93 ∷ []) _ (c.in_err-end.ensures.sent v rest b).put))
 
 pub send_field-returns-clause-sent : goal.send_field-returns-clause-sent
 send_field-returns-clause-sent g t c = λ v rest b.
     let value = c.in_ok-end.ensures.sent v rest b in
     sent_behind g.O.TextOut.puts c.in_ok-end.end c.put.result c.and.result c.and.ensures value.behind refl
-    (name_put g.O.TextOut.puts c.args.number g.met.O.TextOut.joined c.as_bytes.ensures c.in_ok-put_name.ensures
+    (head_put g.O.TextOut.puts c.args.later c.args.number g.met.O.TextOut.joined c.as_bytes.ensures c.in_ok-put_field_head.ensures
     (g.met.O.TextOut.joined _ _ _ (compact_text (value_json (g.S.Shapes.table c.args.shapes.now) c.args.field.now.id v)) (93 ∷ []) _ value.put c.put.ensures))
 
 -- ---- a value

@@ -1,5 +1,5 @@
 -- What is left of the parts, with what was put out of them.
-use Rattle.std.proofs.Common.{ℕ, List, [], ◌∷◌, ◌+◌, ◌-◌, ◌*◌, ◌^◌, ◌≤◌, false, drop, length, nat_lt}
+use Rattle.std.proofs.Common.{ℕ, List, ◌∷◌, ◌+◌, ◌-◌, ◌*◌, ◌^◌, ◌≤◌, false, drop, length, nat_lt}
 use Rattle.serde_json.specs.Written.{items_text}
 use Rattle.gob_value.specs.Tree.{Trees, Pairs, Fields}
 use Rattle.gob_json.specs.Json.{elements_json, fields_json, pairs_json}
@@ -8,22 +8,25 @@ use Rattle.gob_json.proofs.SendLaws.{ElementsLeft, EntriesLeft, PresentLeft}
 use Rattle.gob_json.proofs.text.send.+sent.Given as goal
 
 abbrev pub decreases-send_value : goal.decreases-send_value
-decreases-send_value g l = 3 * l.depth
+decreases-send_value g l = 4 * l.depth
+
+abbrev pub decreases-send_part : goal.decreases-send_part
+decreases-send_part g l = 4 * l.depth + 1
 
 abbrev pub decreases-send_pair : goal.decreases-send_pair
-decreases-send_pair g l = 3 * l.depth + 1
+decreases-send_pair g l = 4 * l.depth + 1
 
 abbrev pub decreases-send_field : goal.decreases-send_field
-decreases-send_field g l = 3 * l.depth + 1
+decreases-send_field g l = 4 * l.depth + 2
 
 abbrev pub decreases-send_elements : goal.decreases-send_elements
-decreases-send_elements g l = 3 * l.depth + 2
+decreases-send_elements g l = 4 * l.depth + 2
 
 abbrev pub decreases-send_pairs : goal.decreases-send_pairs
-decreases-send_pairs g l = 3 * l.depth + 2
+decreases-send_pairs g l = 4 * l.depth + 2
 
 abbrev pub decreases-send_fields : goal.decreases-send_fields
-decreases-send_fields g l = 3 * l.depth + 2
+decreases-send_fields g l = 4 * l.depth + 3
 
 abbrev pub invariant-send_elements-elements : goal.invariant-send_elements-elements
 invariant-send_elements-elements g l = record {

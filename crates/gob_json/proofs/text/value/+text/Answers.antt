@@ -1,8 +1,6 @@
 -- Part by part the text grows, and what is left shrinks.
-use Rattle.std.proofs.Common.{[], ◌∷◌, ◌++◌, ◌∙◌, ap, arith, sym}
-use Rattle.std.specs.Fmt.{decimal}
-use Rattle.serde_json.specs.Written.{compact_text}
-use Rattle.gob_json.specs.Json.{text_json}
+use Rattle.std.proofs.Common.{◌++◌, ◌∙◌, ap, arith, nat_lt, sym}
+use Rattle.gob_json.specs.TextWhole.{field_head}
 use Rattle.gob_value.proofs.PublicLaws.{seen, both, all_three}
 use Rattle.gob_json.proofs.TextSteps.{if_ok, deeper_text, slice_text, array_text, map_text, struct_text, later_on, no_element_text}
 use Rattle.gob_json.proofs.TextSteps.{element_text, no_pair_text, pair_text, fields_end_text, field_text}
@@ -43,16 +41,15 @@ put_fields-returns-then-delta-eq0 g t c =
 
 pub put_fields-fields-preserved : goal.put_fields-fields-preserved
 put_fields-fields-preserved g t c =
-    let name = c.in_ok-put_name.ensures
-    ∙ ap (λ b. c.put_comma.new.out.items
-    ++ 91 ∷ (decimal c.in_ok-number.number ++ 44 ∷ (compact_text (text_json b) ++ 44 ∷ []))) c.as_bytes.ensures in
+    let head = c.in_ok-put_field_head.ensures
+    ∙ ap (λ name. c.fields.out.items ++ field_head (nat_lt 0 c.fields.next) c.in_ok-number.number name) c.as_bytes.ensures in
     record {
       inside = c.in_ok-at.ensures.inside;
       parts = λ end new s. c.fields.invariant.parts end new
           (all_three c.in_ok-delta.ensures.stands c.in_ok-at.ensures s
-          (field_text _ _ _ _ _ _ c.in-Some.field.now c.in-Some-shape_of.shape.now _ _ _ _ _ _ _ _ (omega arith)
+          (field_text _ _ _ _ _ _ c.in-Some.field.now c.in-Some-shape_of.shape.now _ _ _ _ _ _ _ (omega arith)
           c.in_ok-number.ensures (sym c.in-Some.ensures.found) (sym c.in-Some-shape_of.ensures)
-          (later_on c.in_ok-number.number) c.in_ok-put_comma.ensures name c.in_ok-push-2.ensures.items));
+          (later_on c.in_ok-number.number) head c.in_ok-push-2.ensures.items));
     }
 
 pub put_value-returns-in-Opaque : goal.put_value-returns-in-Opaque

@@ -1,5 +1,5 @@
 -- The head, the value's text and the end.
-use Rattle.std.proofs.Common.{ℕ, List, [], ◌∷◌, ◌++◌, append-nil, drop, subst, sym, Ok}
+use Rattle.std.proofs.Common.{ℕ, List, [], ◌∷◌, ◌++◌, append-nil, drop, subst, sym}
 use Rattle.serde_json.specs.Written.{compact_text}
 use Rattle.gob_json.specs.Json.{value_json}
 use Rattle.gob_json.specs.TextSent.{HoldsValue}

@@ -1,6 +1,6 @@
 -- A struct begins at once, any other value behind its tag.
-use Rattle.std.proofs.Common.{arith, sym}
-use Rattle.gob_json.proofs.StandingLaws.{struct_begins, tagged_begins, no_shape_top}
+use Rattle.std.proofs.Common.{sym}
+use Rattle.gob_json.proofs.StandingLaws.{struct_begins, no_shape_top}
 use Rattle.gob_json.proofs.text.whole.value_begin.Goals as goal
 
 pub returns-in_default-clause-known : goal.returns-in_default-clause-known
