@@ -11,7 +11,7 @@ use Rattle.gob_stream.specs.declared.fault.Refusal.{Refusal}
 use Rattle.gob_stream.specs.declared.fault.Fault.{Fault}
 use Rattle.gob_stream.specs.declared.fault.Fault.TheVariants as fault
 use Rattle.gob_stream.specs.declared.item.Item as declared
-use Rattle.gob_stream.specs.declared.reading.Reading.{Reading}
+use Rattle.gob_stream.specs.SessionState.{SessionState}
 use Rattle.gob_stream.specs.Bounds.{Bounds, no_deeper}
 use Rattle.gob_stream.specs.Item.{StreamItem, item_views}
 use Rattle.gob_stream.specs.Laws.{WrittenWithin, ReadsThese, StreamsStayShown}
@@ -34,10 +34,10 @@ never_refused given items f R e h = subst (λ f. ReadsThese given items (Err f))
 
 -- ---- read in pieces
 -- the session of trees has given these, of these bytes
-abbrev pub HasGiven : Reading TreeBuilder Value → List (declared.Item Value) → List ℕ → Type 0
+abbrev pub HasGiven : SessionState TreeBuilder Value → List (declared.Item Value) → List ℕ → Type 0
 HasGiven s given bytes = StandsAfter tree_builder.stands-value.it tree_builder.stands-value.it 1000 s (item_views given) bytes
 
-abbrev pub FeedsTrees : (s s' : Reading TreeBuilder Value) → List StreamItem → (bytes piece : List ℕ) → List (declared.Item Value) → Result (Unit {0}) Fault → Type 0
+abbrev pub FeedsTrees : (s s' : SessionState TreeBuilder Value) → List StreamItem → (bytes piece : List ℕ) → List (declared.Item Value) → Result (Unit {0}) Fault → Type 0
 FeedsTrees s s' items bytes piece given result = Feeds tree_builder.stands-value.it tree_builder.stands-value.it tree_builder.means-value.it 1000 s s' items bytes piece given result
 
 -- the fault that a `?` returns is the callee's
@@ -67,7 +67,7 @@ shown_of_all law L front rest {bytes = bytes} items R e h =
     let seen = (law L front front items R h refl).0 in
     (law L front bytes items R h (ap (λ b. take R.seen b) e ∙ take-append-le R.seen front rest seen)).1.outcome
 
-stops_so : StreamsStayShown → (L : Bounds) (s s' : Reading TreeBuilder Value) (before given : List (declared.Item Value)) (bytes piece rest : List ℕ) {all : List ℕ} (f : Fault) → no_deeper 1000 s.limits ≡ L → all ≡ (bytes ++ piece) ++ rest
+stops_so : StreamsStayShown → (L : Bounds) (s s' : SessionState TreeBuilder Value) (before given : List (declared.Item Value)) (bytes piece rest : List ℕ) {all : List ℕ} (f : Fault) → no_deeper 1000 s.limits ≡ L → all ≡ (bytes ++ piece) ++ rest
     → FeedsTrees s s' (item_views before) bytes piece given (Err f) → HasOutcome L all (item_views (before ++ given)) (Err f)
 stops_so law L s s' before given bytes piece rest {all = all} (fault.Refused R) l e h =
     let shown = subst (λ L. IsShown L (bytes ++ piece) (item_views before ++ h.0.more) R) l h.0.holds.0 in
@@ -87,7 +87,7 @@ stops_so law L s s' before given bytes piece rest fault.Read l e h = h
 stops_so law L s s' before given bytes piece rest fault.Failed l e h = h
 
 -- a piece that is refused, or for which no memory was had
-pub piece_stops : StreamsStayShown → (L : Bounds) (s s' : Reading TreeBuilder Value) {out out' out'' : List (declared.Item Value)} (pieces : List (Vec ℕ)) (n : ℕ) (piece : Vec ℕ) (taken : List ℕ) (r : Result (Unit {0}) Fault) (f : Fault) → taken ≡ piece.items → IsErrAnd r (λ y. y ≡ f) → no_deeper 1000 s.limits ≡ L → piece ≡ get_or pieces n piece → n < length pieces
+pub piece_stops : StreamsStayShown → (L : Bounds) (s s' : SessionState TreeBuilder Value) {out out' out'' : List (declared.Item Value)} (pieces : List (Vec ℕ)) (n : ℕ) (piece : Vec ℕ) (taken : List ℕ) (r : Result (Unit {0}) Fault) (f : Fault) → taken ≡ piece.items → IsErrAnd r (λ y. y ≡ f) → no_deeper 1000 s.limits ≡ L → piece ≡ get_or pieces n piece → n < length pieces
     → Given out out' (λ given. HasGiven s given (joined (take n pieces)))
     → Given out' out'' (λ given. (items : List StreamItem) (bytes : List ℕ) → StandsAfter tree_builder.stands-value.it tree_builder.stands-value.it 1000 s items bytes → FeedsTrees s s' items bytes taken given (Err f))
     → Given out out'' (λ given. HasOutcome L (joined pieces) (item_views given) r)
@@ -100,7 +100,7 @@ piece_stops law L s s' {out = out} pieces n piece taken r f same e l is within h
 }
 
 -- or that is taken
-pub piece_taken : (s s' : Reading TreeBuilder Value) {out out' out'' : List (declared.Item Value)} (pieces : List (Vec ℕ)) (n : ℕ) (piece : Vec ℕ) (u : Unit {0}) → piece ≡ get_or pieces n piece → n < length pieces
+pub piece_taken : (s s' : SessionState TreeBuilder Value) {out out' out'' : List (declared.Item Value)} (pieces : List (Vec ℕ)) (n : ℕ) (piece : Vec ℕ) (u : Unit {0}) → piece ≡ get_or pieces n piece → n < length pieces
     → Given out out' (λ given. HasGiven s given (joined (take n pieces)))
     → Given out' out'' (λ given. (items : List StreamItem) (bytes : List ℕ) → StandsAfter tree_builder.stands-value.it tree_builder.stands-value.it 1000 s items bytes → FeedsTrees s s' items bytes piece.items given (Ok u))
     → Given out out'' (λ given. HasGiven s' given (joined (take (n + 1) pieces)))
@@ -114,14 +114,14 @@ piece_taken s s' {out = out} pieces n piece u is within h k =
     }
 
 -- the end of the last piece
-finishes_so : (L : Bounds) (s s' : Reading TreeBuilder Value) (items : List StreamItem) (bytes : List ℕ) (r : Result (Unit {0}) Fault) → no_deeper 1000 s.limits ≡ L → ReadingFinishes 1000 s s' items bytes r → HasOutcome L bytes items r
+finishes_so : (L : Bounds) (s s' : SessionState TreeBuilder Value) (items : List StreamItem) (bytes : List ℕ) (r : Result (Unit {0}) Fault) → no_deeper 1000 s.limits ≡ L → ReadingFinishes 1000 s s' items bytes r → HasOutcome L bytes items r
 finishes_so L s s' items bytes (Ok u) l h = subst (λ L. HasOutcome L bytes items (Ok u)) l h.0
 finishes_so L s s' items bytes (Err (fault.Refused R)) l h = subst (λ L. HasOutcome L bytes items (Err (fault.Refused R))) l h.0
 finishes_so L s s' items bytes (Err fault.Read) l h = h
 finishes_so L s s' items bytes (Err fault.Memory) l h = absurd h
 finishes_so L s s' items bytes (Err fault.Failed) l h = h
 
-pub pieces_end : (L : Bounds) (s s' : Reading TreeBuilder Value) {out out' : List (declared.Item Value)} (pieces : List (Vec ℕ)) (n : ℕ) (r : Result (Unit {0}) Fault) → no_deeper 1000 s.limits ≡ L → length pieces ≤ n
+pub pieces_end : (L : Bounds) (s s' : SessionState TreeBuilder Value) {out out' : List (declared.Item Value)} (pieces : List (Vec ℕ)) (n : ℕ) (r : Result (Unit {0}) Fault) → no_deeper 1000 s.limits ≡ L → length pieces ≤ n
     → Given out out' (λ given. HasGiven s given (joined (take n pieces)))
     → ((items : List StreamItem) (bytes : List ℕ) → StandsAfter tree_builder.stands-value.it tree_builder.stands-value.it 1000 s items bytes → ReadingFinishes 1000 s s' items bytes r)
     → Given out out' (λ given. HasOutcome L (joined pieces) (item_views given) r)

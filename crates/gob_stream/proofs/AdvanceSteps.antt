@@ -13,12 +13,13 @@ use Rattle.gob_stream.specs.declared.item.Item as declared
 use Rattle.gob_stream.specs.declared.stage.Stage.{Stage}
 use Rattle.gob_stream.specs.declared.stage.Stage.TheVariants as stage
 use Rattle.gob_stream.specs.declared.stage.Stepped.{Stepped}
-use Rattle.gob_stream.specs.declared.reading.Reading.{Reading}
+use Rattle.gob_stream.specs.SessionState.{SessionState}
 use Rattle.gob_stream.specs.Bounds.{Bounds, no_deeper}
 use Rattle.gob_stream.specs.Item.{StreamItem}
 use Rattle.gob_stream.specs.Body.{Body, definition, value}
 use Rattle.gob_stream.specs.Stream.{Counted, counted, Continues, no_more, and_then, Stream}
 use Rattle.gob_stream.specs.Standing.{Standing, StandsIn, in_count, in_type_number, in_value, in_description, StandsAfter, IsUsable, has_failed, stands_after}
+use Rattle.gob_stream.specs.Whole.{IsBetween}
 use Rattle.gob_stream.specs.ReadParts.{IsWithinItem, StepsOn, goes_on, gives, refuses_it, no_memory, AdvancesOver, over_some, over_item, Advances}
 use Rattle.gob_stream.proofs.StreamLaws.{one_more}
 use Rattle.gob_stream.proofs.ValueSteps.{lies}
@@ -43,7 +44,7 @@ pub ends_within : {L : Bounds} {T U : Table} {offset : ℕ} {items : List Stream
 ends_within no_more l = omega arith
 ends_within (and_then {b = b} {c = c} (counted u k s p) e r) l = let n = ends_within r (omega arith) in omega (arith, length-append b c)
 
-pub item_of : {X O : Type 0} {stands : Standing X} {trees : Standing TreeBuilder} {most : ℕ} {s : Reading X O} {items : List StreamItem} {bytes : List ℕ} → StandsAfter stands trees most s items bytes
+pub item_of : {X O : Type 0} {stands : Standing X} {trees : Standing TreeBuilder} {most : ℕ} {s : SessionState X O} {items : List StreamItem} {bytes : List ℕ} → StandsAfter stands trees most s items bytes
     → IsWithinItem stands trees (no_deeper most s.limits) s.types s.taken s.stage
 item_of a =
     let t = a.taken in let g = grows a.stream in
@@ -56,7 +57,7 @@ item_of a =
       known = record { base = record { more = g.more; grown = g.grown }; most = a.room };
     }
 
-pub usable_item : {X O : Type 0} {stands : Standing X} {trees : Standing TreeBuilder} {most : ℕ} {s : Reading X O} → IsUsable stands trees most s → s.stage ≢ stage.Failed → IsWithinItem stands trees (no_deeper most s.limits) s.types s.taken s.stage
+pub usable_item : {X O : Type 0} {stands : Standing X} {trees : Standing TreeBuilder} {most : ℕ} {s : SessionState X O} → IsUsable stands trees most s → s.stage ≢ stage.Failed → IsWithinItem stands trees (no_deeper most s.limits) s.types s.taken s.stage
 usable_item (has_failed e) n = absurd (n e)
 usable_item (stands_after a) n = item_of a
 
@@ -84,22 +85,24 @@ pub step_few : {X O : Type 0} {stands : Standing X} {trees : Standing TreeBuilde
 step_few (goes_on e k s) = k
 step_few (gives k q w n) = k
 
--- behind an item the count of the next one is awaited
-pub step_between : {X O : Type 0} {stands : Standing X} {trees : Standing TreeBuilder} {means : O → Tree → Type 0} {L : Bounds} {T U : Table} {offset taken : ℕ} {stepped : Stepped X O} (z piece : List ℕ) → taken ≡ offset + length z
-    → StepsOn stands trees means L T offset z piece U (Ok stepped) → IfSome stepped.item (λ _. stepped.stage ≡ stage.Count (taken + stepped.used) [])
-step_between z piece t (goes_on e k s) = tt
-step_between {taken = taken} z piece t (gives {used = used} {next = next} k q w n) =
-    let here : next ≡ taken + used = omega (arith, length-append z (take used piece), length-take used piece) in ap (λ n. stage.Count n []) here
+-- behind an item no byte of the next one was taken
+pub step_between : {X O : Type 0} {stands : Standing X} {trees : Standing TreeBuilder} {means : O → Tree → Type 0} {L : Bounds} {T U : Table} {offset taken : ℕ} {stepped : Stepped X O} (K : Bounds) (d : Defined) (z piece : List ℕ) → taken ≡ offset + length z
+    → StepsOn stands trees means L T offset z piece U (Ok stepped)
+    → IfSome stepped.item (λ _. IsBetween {X = X} {O = O} (record { limits = K; types = d; taken = taken + stepped.used; stage = stepped.stage }))
+step_between K d z piece t (goes_on e k s) = tt
+step_between {taken = taken} K d z piece t (gives {used = used} {next = next} k q w n) =
+    let here : next ≡ taken + used = omega (arith, length-append z (take used piece), length-take used piece) in
+    record { number = []; stage = ap (λ n. stage.Count n []) here }
 
 -- ---- the reader moves on
 no_bytes : IsUnsignedFront []
 no_bytes = begins_front {bytes = []} tt
 
 -- the reader that has moved on so
-abbrev pub moved : {X O : Type 0} → Reading X O → Defined → Stepped X O → Reading X O
+abbrev pub moved : {X O : Type 0} → SessionState X O → Defined → Stepped X O → SessionState X O
 moved s d stepped = record { limits = s.limits; types = d; taken = s.taken + stepped.used; stage = stepped.stage }
 
-pub advanced : {X O : Type 0} {stands : Standing X} {trees : Standing TreeBuilder} {means : O → Tree → Type 0} {most : ℕ} {s : Reading X O} {d : Defined} {items : List StreamItem} {bytes piece : List ℕ} {stepped : Stepped X O} (a : StandsAfter stands trees most s items bytes)
+pub advanced : {X O : Type 0} {stands : Standing X} {trees : Standing TreeBuilder} {means : O → Tree → Type 0} {most : ℕ} {s : SessionState X O} {d : Defined} {items : List StreamItem} {bytes piece : List ℕ} {stepped : Stepped X O} (a : StandsAfter stands trees most s items bytes)
     → StepsOn stands trees means (no_deeper most s.limits) (types s.types) (length a.front) a.under_way piece (types d) (Ok stepped) → d.most ≡ s.types.most → 0 < stepped.used
     → AdvancesOver stands trees means most (moved s d stepped) items bytes piece stepped.used stepped.item
 advanced {stands = stands} {trees = trees} {most = most} {s = s} {d = d} {items = items} {bytes = bytes} {piece = piece} a (goes_on {awaits = awaits} {used = used} e k st) m some =
@@ -128,7 +131,7 @@ advanced {X = X} {O = O} {stands = stands} {trees = trees} {most = most} {s = s}
       room = m ∙ a.room;
     })
 
-pub usable_on : {X O : Type 0} {stands : Standing X} {trees : Standing TreeBuilder} {means : O → Tree → Type 0} {most : ℕ} {s s' : Reading X O} {piece : List ℕ} {used : ℕ} {given : Option (declared.Item O)} → IsUsable stands trees most s → s.stage ≢ stage.Failed
+pub usable_on : {X O : Type 0} {stands : Standing X} {trees : Standing TreeBuilder} {means : O → Tree → Type 0} {most : ℕ} {s s' : SessionState X O} {piece : List ℕ} {used : ℕ} {given : Option (declared.Item O)} → IsUsable stands trees most s → s.stage ≢ stage.Failed
     → ((items : List StreamItem) (bytes : List ℕ) → StandsAfter stands trees most s items bytes → AdvancesOver stands trees means most s' items bytes piece used given) → IsUsable stands trees most s'
 usable_on (has_failed e) n f = absurd (n e)
 usable_on {stands = stands} {trees = trees} {means = means} {most = most} {s' = s'} {piece = piece} (stands_after {items = items} {bytes = bytes} a) n f = over (f items bytes a)
@@ -138,13 +141,24 @@ usable_on {stands = stands} {trees = trees} {means = means} {most = most} {s' = 
     over (over_item p l w b) = stands_after b
 
 -- or stops
-pub stopped_by : {X O : Type 0} {stands : Standing X} {trees : Standing TreeBuilder} {means : O → Tree → Type 0} {most : ℕ} {s : Reading X O} {items : List StreamItem} {bytes piece : List ℕ} {U : Table} {f : Fault} (s' : Reading X O) (a : StandsAfter stands trees most s items bytes)
+pub stopped_by : {X O : Type 0} {stands : Standing X} {trees : Standing TreeBuilder} {means : O → Tree → Type 0} {most : ℕ} {s : SessionState X O} {items : List StreamItem} {bytes piece : List ℕ} {U : Table} {f : Fault} (s' : SessionState X O) (a : StandsAfter stands trees most s items bytes)
     → StepsOn {X = X} {O = O} stands trees means (no_deeper most s.limits) (types s.types) (length a.front) a.under_way piece U (Err f) → Advances stands trees means most s s' items bytes piece (Err f)
 stopped_by {piece = piece} s' a (refuses_it q n) = let r = after_refused piece a q in (record { outcome = r.0; shown = n }, r.1)
 stopped_by s' a no_memory = tt
 
+-- what has neither grown nor moved is as it was
+pub stays_there : {X O : Type 0} {s t : SessionState X O} {d : Defined} {awaits : Stage X O} → d ≡ s.types → awaits ≡ s.stage → s ≡ t
+    → record { limits = s.limits; types = d; taken = s.taken; stage = awaits } ≡ t
+stays_there {X = X} {O = O} {s = s} {awaits = awaits} e f there =
+    let with_types : Defined → SessionState X O = λ d. record { limits = s.limits; types = d; taken = s.taken; stage = awaits } in
+    let with_stage : Stage X O → SessionState X O = λ st. record { limits = s.limits; types = s.types; taken = s.taken; stage = st } in
+    ap with_types e ∙ ap with_stage f ∙ there
+
 pub not_err : {A E : Type 0} {r : Result A E} {a : A} {e : E} → r ≡ Ok a → r ≡ Err e → ⊥
 not_err p q = let e : Ok _ ≡ Err _ = sym p ∙ q in cc
+
+pub same_fault : {A E : Type 0} {r : Result A E} {e f : E} → r ≡ Err e → r ≡ Err f → e ≡ f
+same_fault p q = let e : Err _ ≡ Err _ = sym p ∙ q in cc
 
 pub stands_there : {X O : Type 0} {stands : Standing X} {trees : Standing TreeBuilder} {L : Bounds} {T : Table} {offset : ℕ} {old now : Stage X O} {z : List ℕ} → now ≡ old → StandsIn stands trees L T offset old z → StandsIn stands trees L T offset now z
 stands_there {stands = stands} {trees = trees} {L = L} {T = T} {offset = offset} {z = z} e s = subst (λ st. StandsIn stands trees L T offset st z) (sym e) s

@@ -11,11 +11,11 @@ use Rattle.gob_stream.specs.declared.fault.Refusal.{Refusal}
 use Rattle.gob_stream.specs.declared.fault.Fault.{Fault}
 use Rattle.gob_stream.specs.declared.fault.Fault.TheVariants as fault
 use Rattle.gob_stream.specs.declared.item.Item as declared
-use Rattle.gob_stream.specs.declared.reading.Reading.{Reading}
+use Rattle.gob_stream.specs.SessionState.{SessionState}
 use Rattle.gob_stream.specs.Bounds.{Bounds, no_deeper}
 use Rattle.gob_stream.specs.Item.{StreamItem, ItemMeans, ItemsMean, mean_none, mean_more}
 use Rattle.gob_stream.specs.Stream.{Stream}
-use Rattle.gob_stream.specs.Standing.{Standing, StandsAfter, IsUsable}
+use Rattle.gob_stream.specs.Standing.{Standing, StandsAfter}
 use Rattle.gob_stream.specs.Outcome.{BeginsWith, GivesItems, GivesButLast}
 use Rattle.gob_stream.specs.Reading.{Given, GivesOn, IsShown, HasTypesBehind, HasTypesBeyond, GivesOfTaken, Feeds}
 use Rattle.gob_stream.specs.ReadParts.{AdvancesOver, over_some, over_item, Advances}
@@ -44,24 +44,22 @@ one_item_more (mean_more n ms) m = mean_more n (one_item_more ms m)
 
 -- ---- what was read of the piece
 -- wherever the reader stood, it stands behind so many bytes of the piece now, and the items were given
-abbrev pub ReadsOn : {X O : Type 0} → (stands : Standing X) (trees : Standing TreeBuilder) (means : O → Tree → Type 0) (most : ℕ) (s s' : Reading X O) → (piece : List ℕ) → ℕ → List (declared.Item O) → Type 0
+abbrev pub ReadsOn : {X O : Type 0} → (stands : Standing X) (trees : Standing TreeBuilder) (means : O → Tree → Type 0) (most : ℕ) (s s' : SessionState X O) → (piece : List ℕ) → ℕ → List (declared.Item O) → Type 0
 ReadsOn stands trees means most s s' piece used given =
     (items : List StreamItem) (bytes : List ℕ) → StandsAfter stands trees most s items bytes → GivesOn means given items (λ all. StandsAfter stands trees most s' all (bytes ++ take used piece))
 
 -- so many bytes of the piece were taken, in so many steps
-pub record HasFed {X O : Type 0} (stands : Standing X) (trees : Standing TreeBuilder) (means : O → Tree → Type 0) (most : ℕ) (s s' : Reading X O) (out out' : List (declared.Item O)) (piece : List ℕ) (used steps : ℕ) : Type 0 where
+pub record HasFed {X O : Type 0} (stands : Standing X) (trees : Standing TreeBuilder) (means : O → Tree → Type 0) (most : ℕ) (s s' : SessionState X O) (out out' : List (declared.Item O)) (piece : List ℕ) (used steps : ℕ) : Type 0 where
   pub within : used ≤ length piece
   pub onward : steps ≤ used
-  pub usable : IsUsable stands trees most s'
   pub limits : s'.limits ≡ s.limits
   pub fed : Given out out' (ReadsOn stands trees means most s s' piece used)
 
-pub feed_start : {X O : Type 0} {stands : Standing X} {trees : Standing TreeBuilder} {means : O → Tree → Type 0} {most : ℕ} {s : Reading X O} (out : List (declared.Item O)) (piece : List ℕ)
-    → IsUsable stands trees most s → HasFed stands trees means most s s out out piece 0 0
-feed_start {stands = stands} {trees = trees} {most = most} {s = s} out piece u = record {
+pub feed_start : {X O : Type 0} {stands : Standing X} {trees : Standing TreeBuilder} {means : O → Tree → Type 0} {most : ℕ} {s : SessionState X O} (out : List (declared.Item O)) (piece : List ℕ)
+    → HasFed stands trees means most s s out out piece 0 0
+feed_start {stands = stands} {trees = trees} {most = most} {s = s} out piece = record {
   within = omega arith;
   onward = omega arith;
-  usable = u;
   limits = refl;
   fed = record {
     given = [];
@@ -75,31 +73,30 @@ feed_start {stands = stands} {trees = trees} {most = most} {s = s} out piece u =
 }
 
 -- a step over the front of a piece
-pub record StepsOver {X O : Type 0} (stands : Standing X) (trees : Standing TreeBuilder) (means : O → Tree → Type 0) (most : ℕ) (s s' : Reading X O) (piece : List ℕ) (used : ℕ) (item : Option (declared.Item O)) : Type 0 where
+pub record StepsOver {X O : Type 0} (stands : Standing X) (trees : Standing TreeBuilder) (means : O → Tree → Type 0) (most : ℕ) (s s' : SessionState X O) (piece : List ℕ) (used : ℕ) (item : Option (declared.Item O)) : Type 0 where
   pub some : (0 < used) × (used ≤ length piece)
-  pub usable : IsUsable stands trees most s'
   pub limits : s'.limits ≡ s.limits
   pub advances : (items : List StreamItem) (bytes : List ℕ) → StandsAfter stands trees most s items bytes → AdvancesOver stands trees means most s' items bytes piece used item
 
-stands_over : {X O : Type 0} {stands : Standing X} {trees : Standing TreeBuilder} {means : O → Tree → Type 0} {most : ℕ} {s' : Reading X O} {items : List StreamItem} {bytes piece : List ℕ} {used : ℕ} {item : Option (declared.Item O)}
+stands_over : {X O : Type 0} {stands : Standing X} {trees : Standing TreeBuilder} {means : O → Tree → Type 0} {most : ℕ} {s' : SessionState X O} {items : List StreamItem} {bytes piece : List ℕ} {used : ℕ} {item : Option (declared.Item O)}
     → AdvancesOver stands trees means most s' items bytes piece used item → item ≡ None → StandsAfter stands trees most s' items (bytes ++ take used piece)
 stands_over (over_some p l a) e = a
 stands_over (over_item p l m a) e = absurd (cc)
 
 -- an item is whole with it
-record GivesOne {X O : Type 0} (stands : Standing X) (trees : Standing TreeBuilder) (means : O → Tree → Type 0) (most : ℕ) (s' : Reading X O) (items : List StreamItem) (bytes : List ℕ) (given : declared.Item O) : Type 0 where
+record GivesOne {X O : Type 0} (stands : Standing X) (trees : Standing TreeBuilder) (means : O → Tree → Type 0) (most : ℕ) (s' : SessionState X O) (items : List StreamItem) (bytes : List ℕ) (given : declared.Item O) : Type 0 where
   item : StreamItem
   mean : ItemMeans means given item
   after : StandsAfter stands trees most s' (items ++ item ∷ []) bytes
 
-gives_over : {X O : Type 0} {stands : Standing X} {trees : Standing TreeBuilder} {means : O → Tree → Type 0} {most : ℕ} {s' : Reading X O} {items : List StreamItem} {bytes piece : List ℕ} {used : ℕ} {item : Option (declared.Item O)} {given : declared.Item O}
+gives_over : {X O : Type 0} {stands : Standing X} {trees : Standing TreeBuilder} {means : O → Tree → Type 0} {most : ℕ} {s' : SessionState X O} {items : List StreamItem} {bytes piece : List ℕ} {used : ℕ} {item : Option (declared.Item O)} {given : declared.Item O}
     → AdvancesOver stands trees means most s' items bytes piece used item → item ≡ Some given → GivesOne stands trees means most s' items (bytes ++ take used piece) given
 gives_over (over_some p l a) e = absurd (cc)
 gives_over {means = means} {given = given} (over_item {given = one} {i = i} p l m a) e =
     let same : one ≡ given = cc in record { item = i; mean = subst (λ x. ItemMeans means x i) same m; after = a }
 
 -- with a step the reader has come further, by no item
-pub feed_on : {X O : Type 0} {stands : Standing X} {trees : Standing TreeBuilder} {means : O → Tree → Type 0} {most : ℕ} {s t t' : Reading X O} {out out' out'' : List (declared.Item O)} {piece : List ℕ} {used steps step : ℕ} {item : Option (declared.Item O)}
+pub feed_on : {X O : Type 0} {stands : Standing X} {trees : Standing TreeBuilder} {means : O → Tree → Type 0} {most : ℕ} {s t t' : SessionState X O} {out out' out'' : List (declared.Item O)} {piece : List ℕ} {used steps step : ℕ} {item : Option (declared.Item O)}
     → HasFed stands trees means most s t out out' piece used steps → StepsOver stands trees means most t t' (rest_of piece used) step item → item ≡ None → out'' ≡ out'
     → HasFed stands trees means most s t' out out'' piece (used + step) (steps + 1)
 feed_on {stands = stands} {trees = trees} {most = most} {t' = t'} {piece = piece} {used = used} {step = step} h o e f =
@@ -107,7 +104,6 @@ feed_on {stands = stands} {trees = trees} {most = most} {t' = t'} {piece = piece
     record {
       within = omega (arith, ap length (take_rest piece used), length-drop used piece);
       onward = omega arith;
-      usable = o.usable;
       limits = o.limits ∙ h.limits;
       fed = record {
         given = h.fed.given;
@@ -124,7 +120,7 @@ feed_on {stands = stands} {trees = trees} {most = most} {t' = t'} {piece = piece
     }
 
 -- or by one
-pub feed_item : {X O : Type 0} {stands : Standing X} {trees : Standing TreeBuilder} {means : O → Tree → Type 0} {most : ℕ} {s t t' : Reading X O} {out out' out'' : List (declared.Item O)} {piece : List ℕ} {used steps step : ℕ} {item : Option (declared.Item O)} {given : declared.Item O}
+pub feed_item : {X O : Type 0} {stands : Standing X} {trees : Standing TreeBuilder} {means : O → Tree → Type 0} {most : ℕ} {s t t' : SessionState X O} {out out' out'' : List (declared.Item O)} {piece : List ℕ} {used steps step : ℕ} {item : Option (declared.Item O)} {given : declared.Item O}
     → HasFed stands trees means most s t out out' piece used steps → StepsOver stands trees means most t t' (rest_of piece used) step item → item ≡ Some given → out'' ≡ out' ++ given ∷ []
     → HasFed stands trees means most s t' out out'' piece (used + step) (steps + 1)
 feed_item {stands = stands} {trees = trees} {most = most} {t' = t'} {out = out} {piece = piece} {used = used} {step = step} {given = given} h o e f =
@@ -132,7 +128,6 @@ feed_item {stands = stands} {trees = trees} {most = most} {t' = t'} {out = out} 
     record {
       within = omega (arith, ap length (take_rest piece used), length-drop used piece);
       onward = omega arith;
-      usable = o.usable;
       limits = o.limits ∙ h.limits;
       fed = record {
         given = h.fed.given ++ given ∷ [];
@@ -150,14 +145,14 @@ feed_item {stands = stands} {trees = trees} {most = most} {t' = t'} {out = out} 
     }
 
 -- it stands there by whichever name it goes
-pub feed_there : {X O : Type 0} {stands : Standing X} {trees : Standing TreeBuilder} {means : O → Tree → Type 0} {most : ℕ} {s t t' : Reading X O} {out out' : List (declared.Item O)} {piece : List ℕ} {used steps : ℕ}
+pub feed_there : {X O : Type 0} {stands : Standing X} {trees : Standing TreeBuilder} {means : O → Tree → Type 0} {most : ℕ} {s t t' : SessionState X O} {out out' : List (declared.Item O)} {piece : List ℕ} {used steps : ℕ}
     → t' ≡ t → HasFed stands trees means most s t out out' piece used steps → HasFed stands trees means most s t' out out' piece used steps
 feed_there {stands = stands} {trees = trees} {means = means} {most = most} {s = s} {out = out} {out' = out'} {piece = piece} {used = used} {steps = steps} e h =
     subst (λ t. HasFed stands trees means most s t out out' piece used steps) (sym e) h
 
 -- ---- how feeding ends
 -- the whole piece was taken
-pub fed_all : {X O : Type 0} {stands : Standing X} {trees : Standing TreeBuilder} {means : O → Tree → Type 0} {most : ℕ} {s s' : Reading X O} {out out' : List (declared.Item O)} {piece : List ℕ} {used steps : ℕ}
+pub fed_all : {X O : Type 0} {stands : Standing X} {trees : Standing TreeBuilder} {means : O → Tree → Type 0} {most : ℕ} {s s' : SessionState X O} {out out' : List (declared.Item O)} {piece : List ℕ} {used steps : ℕ}
     → HasFed stands trees means most s s' out out' piece used steps → length piece ≤ used
     → Given out out' (λ given. (items : List StreamItem) (bytes : List ℕ) → StandsAfter stands trees most s items bytes → GivesOn means given items (λ all. StandsAfter stands trees most s' all (bytes ++ piece)))
 fed_all {stands = stands} {trees = trees} {most = most} {s' = s'} {piece = piece} {used = used} h l = record {
@@ -173,7 +168,7 @@ fed_all {stands = stands} {trees = trees} {most = most} {s' = s'} {piece = piece
 }
 
 -- the bytes begin with the stream of the items that were given, behind which these are the types
-types_behind : {X O : Type 0} {stands : Standing X} {trees : Standing TreeBuilder} {most : ℕ} {s : Reading X O} {L : Bounds} {items : List StreamItem} {bytes all : List ℕ} {T : Table} (rest : List ℕ)
+types_behind : {X O : Type 0} {stands : Standing X} {trees : Standing TreeBuilder} {most : ℕ} {s : SessionState X O} {L : Bounds} {items : List StreamItem} {bytes all : List ℕ} {T : Table} (rest : List ℕ)
     → StandsAfter stands trees most s items bytes → s.limits ≡ L → T ≡ types s.types → bytes ++ rest ≡ all → HasTypesBehind (no_deeper most L) all items T
 types_behind {most = most} {s = s} {L = L} {items = items} rest a e t f = record {
   front = a.front;
@@ -193,11 +188,11 @@ types_one_on : {L : Bounds} {bytes : List ℕ} {items : List StreamItem} {T : Ta
 types_one_on i b = record { more = i ∷ []; at_most_one = omega arith; behind = b }
 
 -- and what they give
-given_by : {X O : Type 0} {stands : Standing X} {trees : Standing TreeBuilder} {most : ℕ} {s : Reading X O} {L : Bounds} {items : List StreamItem} {bytes : List ℕ}
+given_by : {X O : Type 0} {stands : Standing X} {trees : Standing TreeBuilder} {most : ℕ} {s : SessionState X O} {L : Bounds} {items : List StreamItem} {bytes : List ℕ}
     → StandsAfter stands trees most s items bytes → s.limits ≡ L → GivesItems base_table (no_deeper most L) bytes items
 given_by {most = most} {items = items} {bytes = bytes} a e = subst (λ L. GivesItems base_table (no_deeper most L) bytes items) e (after_gives a)
 
-behind_stream : {X O : Type 0} {stands : Standing X} {trees : Standing TreeBuilder} {most : ℕ} {s : Reading X O} {L : Bounds} {items : List StreamItem} {bytes : List ℕ} (more : List ℕ)
+behind_stream : {X O : Type 0} {stands : Standing X} {trees : Standing TreeBuilder} {most : ℕ} {s : SessionState X O} {L : Bounds} {items : List StreamItem} {bytes : List ℕ} (more : List ℕ)
     → StandsAfter stands trees most s items bytes → s.limits ≡ L → BeginsWith base_table (no_deeper most L) (bytes ++ more) items
 behind_stream more a e = let b = types_behind more a e refl refl in record { front = b.front; rest = b.rest; table = _; stream = b.stream; whole = b.whole }
 
@@ -205,7 +200,7 @@ taken_so : {L : Bounds} {taken : ℕ} {front bytes : List ℕ} {items : List Str
 taken_so {front = front} rest t e g = record { front = front; rest = rest; whole = sym e; taken_is = t; given = g }
 
 -- without memory for the item that is whole with a step
-pub feed_no_memory : {X O : Type 0} {stands : Standing X} {trees : Standing TreeBuilder} {means : O → Tree → Type 0} {most : ℕ} {s t t' : Reading X O} {out out' out'' : List (declared.Item O)} {piece : List ℕ} {used steps step : ℕ} {item : Option (declared.Item O)} {one : declared.Item O} {f : Fault} (s' : Reading X O)
+pub feed_no_memory : {X O : Type 0} {stands : Standing X} {trees : Standing TreeBuilder} {means : O → Tree → Type 0} {most : ℕ} {s t t' : SessionState X O} {out out' out'' : List (declared.Item O)} {piece : List ℕ} {used steps step : ℕ} {item : Option (declared.Item O)} {one : declared.Item O} {f : Fault} (s' : SessionState X O)
     → HasFed stands trees means most s t out out' piece used steps → StepsOver stands trees means most t t' (rest_of piece used) step item → item ≡ Some one → s'.types ≡ t'.types → s'.taken ≡ t'.taken → f ≡ fault.Memory → out'' ≡ out'
     → Given out out'' (λ given. (items : List StreamItem) (bytes : List ℕ) → StandsAfter stands trees most s items bytes → Feeds stands trees means most s s' items bytes piece given (Err f))
 feed_no_memory {stands = stands} {trees = trees} {means = means} {most = most} {s = s} {piece = piece} {used = used} {step = step} s' h o n k v e f = record {
@@ -227,7 +222,7 @@ shown_all : (most : ℕ) {K L : Bounds} {items : List StreamItem} {R : Refusal} 
 shown_all most {K = K} {L = L} {items = items} {R = R} bytes piece used e i =
     subst (λ b. IsShown (no_deeper most L) b items R) (all_bytes bytes piece used) (subst (λ K. IsShown (no_deeper most K) ((bytes ++ take used piece) ++ rest_of piece used) items R) e i)
 
-stops_so : {X O : Type 0} {stands : Standing X} {trees : Standing TreeBuilder} {means : O → Tree → Type 0} {most : ℕ} {t : Reading X O} {items : List StreamItem} {given : List (declared.Item O)} (s s' : Reading X O) (bytes piece : List ℕ) (used : ℕ) (f : Fault)
+stops_so : {X O : Type 0} {stands : Standing X} {trees : Standing TreeBuilder} {means : O → Tree → Type 0} {most : ℕ} {t : SessionState X O} {items : List StreamItem} {given : List (declared.Item O)} (s s' : SessionState X O) (bytes piece : List ℕ) (used : ℕ) (f : Fault)
     → GivesOn means given items (λ all. StandsAfter stands trees most t all (bytes ++ take used piece)) → t.limits ≡ s.limits → s'.types ≡ t.types → s'.taken ≡ t.taken
     → ((all : List StreamItem) → StandsAfter stands trees most t all (bytes ++ take used piece) → Advances stands trees means most t s' all (bytes ++ take used piece) (rest_of piece used) (Err f))
     → Feeds stands trees means most s s' items bytes piece given (Err f)
@@ -250,7 +245,7 @@ stops_so s s' bytes piece used fault.Memory before e k v stops =
     }
 stops_so {items = items} s s' bytes piece used fault.Failed before e k v stops = stops (items ++ before.more) before.holds
 
-pub feed_stops : {X O : Type 0} {stands : Standing X} {trees : Standing TreeBuilder} {means : O → Tree → Type 0} {most : ℕ} {s t : Reading X O} {out out' : List (declared.Item O)} {piece : List ℕ} {used steps : ℕ} (f : Fault) (s' : Reading X O)
+pub feed_stops : {X O : Type 0} {stands : Standing X} {trees : Standing TreeBuilder} {means : O → Tree → Type 0} {most : ℕ} {s t : SessionState X O} {out out' : List (declared.Item O)} {piece : List ℕ} {used steps : ℕ} (f : Fault) (s' : SessionState X O)
     → HasFed stands trees means most s t out out' piece used steps → s'.types ≡ t.types → s'.taken ≡ t.taken
     → ((items : List StreamItem) (bytes : List ℕ) → StandsAfter stands trees most t items bytes → Advances stands trees means most t s' items bytes (rest_of piece used) (Err f))
     → Given out out' (λ given. (items : List StreamItem) (bytes : List ℕ) → StandsAfter stands trees most s items bytes → Feeds stands trees means most s s' items bytes piece given (Err f))

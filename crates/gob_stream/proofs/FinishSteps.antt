@@ -4,7 +4,7 @@ use Rattle.gob_types.specs.declared.reason.Reason.TheVariants as reason
 use Rattle.gob_types.specs.Base.{base_table}
 use Rattle.gob_read.specs.declared.tree_builder.TreeBuilder.{TreeBuilder}
 use Rattle.gob_stream.specs.declared.fault.Refusal.{Refusal}
-use Rattle.gob_stream.specs.declared.reading.Reading.{Reading}
+use Rattle.gob_stream.specs.SessionState.{SessionState}
 use Rattle.gob_stream.specs.declared.stage.Stage.TheVariants as stage
 use Rattle.gob_stream.specs.Item.{StreamItem}
 use Rattle.gob_stream.specs.Refusing.{refuses}
@@ -14,7 +14,7 @@ use Rattle.gob_stream.specs.Bounds.{no_deeper}
 use Rattle.gob_stream.proofs.UnderWayLaws.{after_some, none_awaits_count}
 
 -- where the count of the next item is not awaited from there on, the bytes end within an item
-pub ended_within : {X O : Type 0} {stands : Standing X} {trees : Standing TreeBuilder} {most : ℕ} {s : Reading X O} {items : List StreamItem} {bytes : List ℕ} {R : Refusal}
+pub ended_within : {X O : Type 0} {stands : Standing X} {trees : Standing TreeBuilder} {most : ℕ} {s : SessionState X O} {items : List StreamItem} {bytes : List ℕ} {R : Refusal}
     → StandsAfter stands trees most s items bytes → s.stage ≢ stage.Count s.taken [] → R ≡ refuses s.taken s.taken reason.Ended
     → Outcome base_table (no_deeper most s.limits) bytes items (refused R) × (R.reason ≡ reason.Ended)
 ended_within {most = most} {s = s} {items = items} {bytes = bytes} a n e =

@@ -24,7 +24,7 @@ use Rattle.gob_stream.specs.declared.fault.Refusal.{Refusal}
 use Rattle.gob_stream.specs.declared.fault.Fault.{Fault}
 use Rattle.gob_stream.specs.declared.fault.Fault.TheVariants as fault
 use Rattle.gob_stream.specs.declared.item.Item as declared
-use Rattle.gob_stream.specs.declared.reading.Reading.{Reading}
+use Rattle.gob_stream.specs.SessionState.{SessionState}
 use Rattle.gob_stream.specs.Body.{Body, definition, value}
 use Rattle.gob_stream.specs.Bounds.{Bounds, no_deeper}
 use Rattle.gob_stream.specs.Honest.{SpellsTypeNumber, of_value, of_definition, from, IsHonest, OfRefusal, FeedsHonestly, ReadsHonestly}
@@ -145,7 +145,7 @@ pub outcome_honest : (L : Bounds) (bytes : List ℕ) (items : List StreamItem) (
 outcome_honest L bytes items R o = ending_honest o.ends
 
 -- ---- what the calls answer
-pub feeds_honestly : {X O : Type 0} (stands : Standing X) (trees : Standing TreeBuilder) (means : O → Tree → Type 0) (most : ℕ) (s s' : Reading X O) (items : List StreamItem) (bytes piece : List ℕ) (given : List (declared.Item O)) (result : Result (Unit {0}) Fault)
+pub feeds_honestly : {X O : Type 0} (stands : Standing X) (trees : Standing TreeBuilder) (means : O → Tree → Type 0) (most : ℕ) (s s' : SessionState X O) (items : List StreamItem) (bytes piece : List ℕ) (given : List (declared.Item O)) (result : Result (Unit {0}) Fault)
     → Feeds stands trees means most s s' items bytes piece given result → FeedsHonestly means (no_deeper most s.limits) items (bytes ++ piece) given result
 feeds_honestly stands trees means most s s' items bytes piece given (Ok u) f = tt
 feeds_honestly stands trees means most s s' items bytes piece given (Err (fault.Refused R)) f =
@@ -155,13 +155,13 @@ feeds_honestly stands trees means most s s' items bytes piece given (Err fault.M
 feeds_honestly stands trees means most s s' items bytes piece given (Err fault.Failed) f = tt
 
 -- of whatever was given and taken before
-pub always_feeds_honestly : {X O : Type 0} (stands : Standing X) (trees : Standing TreeBuilder) (means : O → Tree → Type 0) (most : ℕ) (s s' : Reading X O) (piece : List ℕ) {old new : List (declared.Item O)} (result : Result (Unit {0}) Fault)
+pub always_feeds_honestly : {X O : Type 0} (stands : Standing X) (trees : Standing TreeBuilder) (means : O → Tree → Type 0) (most : ℕ) (s s' : SessionState X O) (piece : List ℕ) {old new : List (declared.Item O)} (result : Result (Unit {0}) Fault)
     → Given old new (λ given. (items : List StreamItem) (bytes : List ℕ) → StandsAfter stands trees most s items bytes → Feeds stands trees means most s s' items bytes piece given result)
     → Given old new (λ given. (items : List StreamItem) (bytes : List ℕ) → StandsAfter stands trees most s items bytes → FeedsHonestly means (no_deeper most s.limits) items (bytes ++ piece) given result)
 always_feeds_honestly stands trees means most s s' piece result fed =
     given_as (λ given fed items bytes a. feeds_honestly stands trees means most s s' items bytes piece given result (fed items bytes a)) fed
 
-pub reads_honestly : {X O : Type 0} (stands : Standing X) (trees : Standing TreeBuilder) (means : O → Tree → Type 0) (most : ℕ) (s s' : Reading X O) (items : List StreamItem) (bytes rest : List ℕ) (now : Option (List ℕ)) (result : Result (Option (declared.Item O)) Fault)
+pub reads_honestly : {X O : Type 0} (stands : Standing X) (trees : Standing TreeBuilder) (means : O → Tree → Type 0) (most : ℕ) (s s' : SessionState X O) (items : List StreamItem) (bytes rest : List ℕ) (now : Option (List ℕ)) (result : Result (Option (declared.Item O)) Fault)
     → ReadsNext stands trees means most s s' items bytes rest now result → ReadsHonestly (no_deeper most s.limits) items bytes rest now result
 reads_honestly stands trees means most s s' items bytes rest now (Ok u) f = tt
 reads_honestly stands trees means most s s' items bytes rest now (Err (fault.Refused R)) (shown p) =

@@ -9,7 +9,7 @@ use Rattle.gob_stream.specs.declared.fault.Refusal.{Refusal}
 use Rattle.gob_stream.specs.declared.fault.Fault.{Fault}
 use Rattle.gob_stream.specs.declared.fault.Fault.TheVariants as fault
 use Rattle.gob_stream.specs.declared.item.Item as declared
-use Rattle.gob_stream.specs.declared.reading.Reading.{Reading}
+use Rattle.gob_stream.specs.SessionState.{SessionState}
 use Rattle.gob_stream.specs.Bounds.{Bounds, no_deeper}
 use Rattle.gob_stream.specs.Item.{StreamItem}
 use Rattle.gob_stream.specs.Stream.{Stream}
@@ -75,7 +75,7 @@ shows_no_refusal M items given front rest R w h =
     not_refused w (shown_refusal_stays M front (front ++ rest) given R h (take-append-le R.seen front rest (shown_there h))).1.outcome
 
 -- ---- by a session, in any pieces
-fed_back : {X O : Type 0} (stands : Standing X) (trees : Standing TreeBuilder) (means : O → Tree → Type 0) (most : ℕ) (s s' : Reading X O) (items before : List StreamItem) (bytes piece rest : List ℕ) (given : List (declared.Item O)) (result : Result (Unit {0}) Fault)
+fed_back : {X O : Type 0} (stands : Standing X) (trees : Standing TreeBuilder) (means : O → Tree → Type 0) (most : ℕ) (s s' : SessionState X O) (items before : List StreamItem) (bytes piece rest : List ℕ) (given : List (declared.Item O)) (result : Result (Unit {0}) Fault)
     → WrittenWithin (no_deeper most s.limits) items ((bytes ++ piece) ++ rest) → Feeds stands trees means most s s' before bytes piece given result → (result ≡ Ok tt) ⊎ (result ≡ Err fault.Memory)
 fed_back stands trees means most s s' items before bytes piece rest given (Ok u) w f = inl refl
 fed_back stands trees means most s s' items before bytes piece rest given (Err (fault.Refused R)) w f =
@@ -84,7 +84,7 @@ fed_back stands trees means most s s' items before bytes piece rest given (Err f
 fed_back stands trees means most s s' items before bytes piece rest given (Err fault.Memory) w f = inr refl
 fed_back stands trees means most s s' items before bytes piece rest given (Err fault.Failed) w f = absurd f
 
-finished_back : {X O : Type 0} (most : ℕ) (s s' : Reading X O) (items before : List StreamItem) (bytes : List ℕ) (result : Result (Unit {0}) Fault)
+finished_back : {X O : Type 0} (most : ℕ) (s s' : SessionState X O) (items before : List StreamItem) (bytes : List ℕ) (result : Result (Unit {0}) Fault)
     → WrittenWithin (no_deeper most s.limits) items bytes → ReadingFinishes most s s' before bytes result → result ≡ Ok tt
 finished_back most s s' items before bytes (Ok u) w f = refl
 finished_back most s s' items before bytes (Err (fault.Refused R)) w f = absurd (not_refused w f.0)

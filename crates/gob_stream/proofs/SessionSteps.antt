@@ -19,8 +19,8 @@ use Rattle.gob_stream.specs.declared.fault.Refusal.{Refusal}
 use Rattle.gob_stream.specs.declared.fault.Fault.{Fault}
 use Rattle.gob_stream.specs.declared.fault.Fault.TheVariants as fault
 use Rattle.gob_stream.specs.declared.item.Item as declared
-use Rattle.gob_stream.specs.declared.reading.Reading.{Reading}
-use Rattle.gob_stream.specs.declared.reading.Step.{Step}
+use Rattle.gob_stream.specs.SessionState.{SessionState}
+use Rattle.gob_stream.specs.declared.session.Step.{Step}
 use Rattle.gob_stream.specs.declared.stage.Extent.{Extent}
 use Rattle.gob_stream.specs.declared.stage.Stage.{Stage}
 use Rattle.gob_stream.specs.declared.stage.Stage.TheVariants as stage
@@ -31,20 +31,21 @@ use Rattle.gob_stream.specs.Stream.{Counted, counted, Continues, no_more, and_th
 use Rattle.gob_stream.specs.Outcome.{GivesItems, GivesButLast, RefusesNext, EndsSo, at_the_end, Outcome, the_end, refused}
 use Rattle.gob_stream.specs.Standing.{Standing, StandsIn, in_count, in_type_number, in_value, in_description, IsCount, StandsAfter, IsUsable, has_failed, stands_after}
 use Rattle.gob_stream.specs.Reading.{Taken, SomeTaken, IsShown, IsNoFurther, up_to_the_last_shown, within_the_item, EndsInItem, ReadingGivesNext, shown, ended, StopsNext, ReadsNext, TakesNext, ReadingFinishes, CountsReads}
+use Rattle.gob_stream.specs.Whole.{IsBetween}
 use Rattle.gob_stream.specs.ReadParts.{Advances, AdvancesOver, over_some, over_item, bytes_wanted}
 use Rattle.gob_stream.proofs.OutcomeLaws.{one_front}
 use Rattle.gob_stream.proofs.ShownLaws.{next_seen}
 use Rattle.gob_stream.proofs.StayLaws.{refused_behind}
 use Rattle.gob_stream.proofs.ValueSteps.{lies, three}
 use Rattle.gob_stream.proofs.StreamLaws.{LastNext, gives_but_last}
-use Rattle.gob_stream.proofs.UnderWayLaws.{refused_later, after_gives, front_shorter}
+use Rattle.gob_stream.proofs.UnderWayLaws.{refused_later, after_gives, front_shorter, count_begins_here}
 
 -- the tellings that a builder of trees stands for
 abbrev pub told_trees : Standing TreeBuilder
 told_trees = tree_builder.stands-value.it
 
 -- the reading met no fault
-abbrev pub IsSound : {X O : Type 0} → Reading X O → Type 0
+abbrev pub IsSound : {X O : Type 0} → SessionState X O → Type 0
 IsSound s = s.stage ≢ stage.Failed
 
 -- ---- bytes that were consumed of those that are left
@@ -91,26 +92,30 @@ all_taken {now = now} e f p = let t = known_taken e p in all_of t (subst IsAtEnd
 
 -- ---- where a session stands
 -- wherever the first reading stood, the second stands behind some more bytes, those that were consumed
-pub record StoodOn {X O : Type 0} (stands : Standing X) (trees : Standing TreeBuilder) (most : ℕ) (s s' : Reading X O) (old now : Option (List ℕ)) : Type 0 where
+pub record StoodOn {X O : Type 0} (stands : Standing X) (trees : Standing TreeBuilder) (most : ℕ) (s s' : SessionState X O) (old now : Option (List ℕ)) : Type 0 where
   pub each : (items : List StreamItem) (bytes : List ℕ) → StandsAfter stands trees most s items bytes
       → SomeConsumed old now (λ more. StandsAfter stands trees most s' items (bytes ++ more))
 
-pub record StandsSomewhere {X O : Type 0} (stands : Standing X) (trees : Standing TreeBuilder) (most : ℕ) (s : Reading X O) : Type 0 where
+pub record StandsSomewhere {X O : Type 0} (stands : Standing X) (trees : Standing TreeBuilder) (most : ℕ) (s : SessionState X O) : Type 0 where
   pub items : List StreamItem
   pub bytes : List ℕ
   pub after : StandsAfter stands trees most s items bytes
 
-pub somewhere : {X O : Type 0} {stands : Standing X} {trees : Standing TreeBuilder} {most : ℕ} {s : Reading X O} → IsUsable stands trees most s → IsSound s → StandsSomewhere stands trees most s
+pub somewhere : {X O : Type 0} {stands : Standing X} {trees : Standing TreeBuilder} {most : ℕ} {s : SessionState X O} → IsUsable stands trees most s → IsSound s → StandsSomewhere stands trees most s
 somewhere (has_failed f) n = absurd (n f)
 somewhere (stands_after {items = items} {bytes = bytes} a) n = record { items = items; bytes = bytes; after = a }
 
-pub stood_first : {X O : Type 0} {stands : Standing X} {trees : Standing TreeBuilder} {most : ℕ} {s : Reading X O} (now : Option (List ℕ)) → StoodOn stands trees most s s now now
+pub stood_first : {X O : Type 0} {stands : Standing X} {trees : Standing TreeBuilder} {most : ℕ} {s : SessionState X O} (now : Option (List ℕ)) → StoodOn stands trees most s s now now
 stood_first {stands = stands} {trees = trees} {most = most} {s = s} now = record {
   each = λ items bytes a. record { bytes = []; consumed = Consumes-nil now; holds = subst (λ b. StandsAfter stands trees most s items b) (sym (append-nil bytes)) a };
 }
 
+pub stood_on : {X O : Type 0} {stands : Standing X} {trees : Standing TreeBuilder} {most : ℕ} {s s' : SessionState X O} {old now : Option (List ℕ)} → StandsSomewhere stands trees most s → StoodOn stands trees most s s' old now
+    → StandsSomewhere stands trees most s'
+stood_on w q = let b = q.each w.items w.bytes w.after in record { items = w.items; bytes = w.bytes ++ b.bytes; after = b.holds }
+
 -- where no item was given, the types are those that they were
-pub types_stay : {X O : Type 0} {stands : Standing X} {trees : Standing TreeBuilder} {most : ℕ} {s s' : Reading X O} {old now : Option (List ℕ)} → s'.limits ≡ s.limits
+pub types_stay : {X O : Type 0} {stands : Standing X} {trees : Standing TreeBuilder} {most : ℕ} {s s' : SessionState X O} {old now : Option (List ℕ)} → s'.limits ≡ s.limits
     → StandsSomewhere stands trees most s → StoodOn stands trees most s s' old now → types s'.types ≡ types s.types
 types_stay {most = most} {s = s} {s' = s'} l w p =
     let a = w.after in let b = p.each w.items w.bytes w.after in let c = b.holds in
@@ -152,12 +157,9 @@ stage_room (in_description {c = c} {a = a} {z = z} k i s r p b) l e =
     let n : length (c ++ (a ++ z)) ≡ length c + (length a + length z) = omega (arith, length-append c (a ++ z), length-append a z) in
     record { some = omega arith; within = omega arith }
 
-pub after_room : {X O : Type 0} {stands : Standing X} {trees : Standing TreeBuilder} {most : ℕ} {s : Reading X O} {items : List StreamItem} {bytes : List ℕ}
+pub after_room : {X O : Type 0} {stands : Standing X} {trees : Standing TreeBuilder} {most : ℕ} {s : SessionState X O} {items : List StreamItem} {bytes : List ℕ}
     → StandsAfter stands trees most s items bytes → Room s.limits.stream s.taken (bytes_wanted s.stage s.taken)
 after_room a = stage_room a.stage (stream_within a.stream) (let t = a.taken in omega (arith, ap length a.whole, length-append a.front a.under_way))
-
-pub room_of : {X O : Type 0} {stands : Standing X} {trees : Standing TreeBuilder} {most : ℕ} {s : Reading X O} → IsUsable stands trees most s → IsSound s → Room s.limits.stream s.taken (bytes_wanted s.stage s.taken)
-room_of u n = after_room (somewhere u n).after
 
 -- ---- what is refused
 -- a piece of no more bytes than can be taken at once ends with what shows the refusal, or within the item
@@ -182,7 +184,7 @@ piece_no_further taken piece (in_description {c = c} {a = a} {z = z} k i s r p b
     within_the_item (a ++ (z ++ piece)) (three c a z piece) k.count k.item k.stream (omega (arith, length-append a (z ++ piece), length-append z piece))
 
 -- the refusal is one of what stands behind the front
-pub refused_there : {X O : Type 0} {stands : Standing X} {trees : Standing TreeBuilder} {most : ℕ} {s : Reading X O} {items : List StreamItem} {bytes : List ℕ} (piece : List ℕ) {R : Refusal} (a : StandsAfter stands trees most s items bytes)
+pub refused_there : {X O : Type 0} {stands : Standing X} {trees : Standing TreeBuilder} {most : ℕ} {s : SessionState X O} {items : List StreamItem} {bytes : List ℕ} (piece : List ℕ) {R : Refusal} (a : StandsAfter stands trees most s items bytes)
     → IsShown (no_deeper most s.limits) (bytes ++ piece) items R → RefusesNext base_table (no_deeper most s.limits) (types s.types) (length a.front) (a.under_way ++ piece) R
 refused_there {most = most} {s = s} piece {R = R} a h =
     let L = no_deeper most s.limits in
@@ -191,7 +193,7 @@ refused_there {most = most} {s = s} piece {R = R} a h =
     let moved = subst (λ (T : Table). RefusesNext base_table L T (length b.front) b.left R) o.table b.next in
     subst (λ z. RefusesNext base_table L (types s.types) (length a.front) z R) o.rest (subst (λ f. RefusesNext base_table L (types s.types) (length f) b.left R) o.front moved)
 
-ends_in_item : {X O : Type 0} {stands : Standing X} {trees : Standing TreeBuilder} {most : ℕ} {s : Reading X O} {items : List StreamItem} {bytes : List ℕ} (piece : List ℕ) {R : Refusal} → StandsAfter stands trees most s items bytes
+ends_in_item : {X O : Type 0} {stands : Standing X} {trees : Standing TreeBuilder} {most : ℕ} {s : SessionState X O} {items : List StreamItem} {bytes : List ℕ} (piece : List ℕ) {R : Refusal} → StandsAfter stands trees most s items bytes
     → 0 < length piece → length piece ≤ bytes_wanted s.stage s.taken → IsShown (no_deeper most s.limits) (bytes ++ piece) items R → EndsInItem (no_deeper most s.limits) (bytes ++ piece) items R
 ends_in_item {s = s} piece a m l h = record {
   front = a.front;
@@ -224,7 +226,7 @@ no_second taken piece (in_value {c = c} {a = a} {z = z} k s r p b) e l = λ i U 
 no_second taken piece (in_description {c = c} {a = a} {z = z} k n s r p b) e l = λ i U x y q h.
     let lie = lies k r in covered (a ++ z) piece y k (omega (arith, lie.ends, length-append c (a ++ z), length-append a z)) q h
 
-pub after_but_last : {X O : Type 0} {stands : Standing X} {trees : Standing TreeBuilder} {most : ℕ} {s : Reading X O} {items : List StreamItem} {bytes : List ℕ} (piece : List ℕ) → StandsAfter stands trees most s items bytes
+pub after_but_last : {X O : Type 0} {stands : Standing X} {trees : Standing TreeBuilder} {most : ℕ} {s : SessionState X O} {items : List StreamItem} {bytes : List ℕ} (piece : List ℕ) → StandsAfter stands trees most s items bytes
     → length piece ≤ bytes_wanted s.stage s.taken → GivesButLast base_table (no_deeper most s.limits) (bytes ++ piece) items
 after_but_last {most = most} {s = s} {items = items} piece a l =
     let all = ap (λ b. b ++ piece) a.whole ∙ append_assoc a.front a.under_way piece in
@@ -245,12 +247,12 @@ taken_as : {rest : List ℕ} {now : Option (List ℕ)} {P Q : List ℕ → Type 
 taken_as f p = record { bytes = p.bytes; taken = p.taken; holds = f p.bytes p.holds }
 
 -- the reading stood behind these bytes and some more, and then a piece was read
-pub record StoodBefore {X O : Type 0} (stands : Standing X) (trees : Standing TreeBuilder) (most : ℕ) (s : Reading X O) (items : List StreamItem) (bytes piece more : List ℕ) : Type 0 where
+pub record StoodBefore {X O : Type 0} (stands : Standing X) (trees : Standing TreeBuilder) (most : ℕ) (s : SessionState X O) (items : List StreamItem) (bytes piece more : List ℕ) : Type 0 where
   pub before : List ℕ
   pub after : StandsAfter stands trees most s items (bytes ++ before)
   pub whole : (bytes ++ before) ++ piece ≡ bytes ++ more
 
-pub stood_before : {X O : Type 0} {stands : Standing X} {trees : Standing TreeBuilder} {most : ℕ} {s : Reading X O} {items : List StreamItem} {bytes : List ℕ} {old mid now : Option (List ℕ)} {rest : List ℕ} (piece : List ℕ) → old ≡ Some rest → Consumes mid now piece
+pub stood_before : {X O : Type 0} {stands : Standing X} {trees : Standing TreeBuilder} {most : ℕ} {s : SessionState X O} {items : List StreamItem} {bytes : List ℕ} {old mid now : Option (List ℕ)} {rest : List ℕ} (piece : List ℕ) → old ≡ Some rest → Consumes mid now piece
     → SomeConsumed old mid (λ more. StandsAfter stands trees most s items (bytes ++ more)) → SomeTaken rest now (StoodBefore stands trees most s items bytes piece)
 stood_before {bytes = bytes} piece e c p = known_taken e (consumed_more piece c (λ x a. record { before = x; after = a; whole = append_assoc bytes x piece }) p)
 
@@ -267,17 +269,17 @@ pub piece_consumed : {n wanted : ℕ} {buf : List ℕ} (mid now : Option (List �
 piece_consumed {n = n} {buf = buf} mid now tail r c = subst (λ b. Consumes mid now b) (sym (take-append-le n buf tail r.within)) c
 
 -- wherever the reading stood, this is what a step over the piece answered
-pub record Stepped {X O : Type 0} (stands : Standing X) (trees : Standing TreeBuilder) (means : O → Tree → Type 0) (most : ℕ) (s s' : Reading X O) (piece : List ℕ) (result : Result (Step O) Fault) : Type 0 where
+pub record Stepped {X O : Type 0} (stands : Standing X) (trees : Standing TreeBuilder) (means : O → Tree → Type 0) (most : ℕ) (s s' : SessionState X O) (piece : List ℕ) (result : Result (Step O) Fault) : Type 0 where
   pub each : (items : List StreamItem) (bytes : List ℕ) → StandsAfter stands trees most s items bytes → Advances stands trees means most s s' items bytes piece result
   pub some : 0 < length piece
   pub few : length piece ≤ bytes_wanted s.stage s.taken
 
-pub stepped : {X O : Type 0} (stands : Standing X) (trees : Standing TreeBuilder) (means : O → Tree → Type 0) (most : ℕ) (s s' : Reading X O) {n : ℕ} {buf : List ℕ} (tail : List ℕ) (result : Result (Step O) Fault) → IsRead n (bytes_wanted s.stage s.taken) buf
+pub stepped : {X O : Type 0} (stands : Standing X) (trees : Standing TreeBuilder) (means : O → Tree → Type 0) (most : ℕ) (s s' : SessionState X O) {n : ℕ} {buf : List ℕ} (tail : List ℕ) (result : Result (Step O) Fault) → IsRead n (bytes_wanted s.stage s.taken) buf
     → ((items : List StreamItem) (bytes : List ℕ) → StandsAfter stands trees most s items bytes → Advances stands trees means most s s' items bytes (take n (buf ++ tail)) result) → Stepped stands trees means most s s' (take n (buf ++ tail)) result
 stepped stands trees means most s s' tail result r f = let l = piece_length tail r in let some = r.some in let within = r.within in let few = r.few in record { each = f; some = omega arith; few = omega arith }
 
 -- a step that is refused, or wants memory
-step_stops_here : {X O : Type 0} {stands : Standing X} {trees : Standing TreeBuilder} {means : O → Tree → Type 0} {most : ℕ} {s s' : Reading X O} {items : List StreamItem} {bytes rest : List ℕ} (piece : List ℕ) {now : Option (List ℕ)} (e : Fault)
+step_stops_here : {X O : Type 0} {stands : Standing X} {trees : Standing TreeBuilder} {means : O → Tree → Type 0} {most : ℕ} {s s' : SessionState X O} {items : List StreamItem} {bytes rest : List ℕ} (piece : List ℕ) {now : Option (List ℕ)} (e : Fault)
     → Stepped stands trees means most s s' piece (Err e) → SomeTaken rest now (StoodBefore stands trees most s items bytes piece) → StopsNext (no_deeper most s.limits) items bytes rest now e
 step_stops_here {most = most} {s = s} {items = items} piece (fault.Refused R) f p =
     let L = no_deeper most s.limits in
@@ -289,18 +291,18 @@ step_stops_here {most = most} {s = s} {items = items} piece fault.Memory f p =
 step_stops_here {items = items} piece fault.Read f p = absurd (f.each items _ p.holds.after)
 step_stops_here {items = items} piece fault.Failed f p = absurd (f.each items _ p.holds.after)
 
-pub step_stops : {X O : Type 0} {stands : Standing X} {trees : Standing TreeBuilder} {means : O → Tree → Type 0} {most : ℕ} {L : Bounds} {s s' : Reading X O} {items : List StreamItem} {bytes rest : List ℕ} (piece : List ℕ) {now : Option (List ℕ)} (e : Fault)
+pub step_stops : {X O : Type 0} {stands : Standing X} {trees : Standing TreeBuilder} {means : O → Tree → Type 0} {most : ℕ} {L : Bounds} {s s' : SessionState X O} {items : List StreamItem} {bytes rest : List ℕ} (piece : List ℕ) {now : Option (List ℕ)} (e : Fault)
     → s.limits ≡ L → Stepped stands trees means most s s' piece (Err e) → SomeTaken rest now (StoodBefore stands trees most s items bytes piece) → StopsNext (no_deeper most L) items bytes rest now e
 step_stops {most = most} {items = items} {bytes = bytes} {rest = rest} piece {now = now} e l f p = subst (λ L. StopsNext (no_deeper most L) items bytes rest now e) l (step_stops_here piece e f p)
 
 -- a read that fails
-pub read_stops : {X O : Type 0} {stands : Standing X} {trees : Standing TreeBuilder} {most : ℕ} {L : Bounds} {s : Reading X O} {items : List StreamItem} (bytes : List ℕ) {rest : List ℕ} {old mid now : Option (List ℕ)} → s.limits ≡ L → old ≡ Some rest → Keeps mid now
+pub read_stops : {X O : Type 0} {stands : Standing X} {trees : Standing TreeBuilder} {most : ℕ} {L : Bounds} {s : SessionState X O} {items : List StreamItem} (bytes : List ℕ) {rest : List ℕ} {old mid now : Option (List ℕ)} → s.limits ≡ L → old ≡ Some rest → Keeps mid now
     → SomeConsumed old mid (λ more. StandsAfter stands trees most s items (bytes ++ more)) → SomeTaken rest now (λ taken. GivesItems base_table (no_deeper most L) (bytes ++ taken) items)
 read_stops {most = most} {items = items} bytes l e k p =
     taken_as (λ x a. subst (λ L. GivesItems base_table (no_deeper most L) (bytes ++ x) items) l (after_gives a)) (known_taken e (consumed_still k p))
 
 -- the end of the input within an item
-pub end_stops : {X O : Type 0} (most : ℕ) {L : Bounds} (s s' : Reading X O) (items : List StreamItem) (bytes rest : List ℕ) {now : Option (List ℕ)} (e : Fault) → s.limits ≡ L → now ≡ Some [] → ReadingFinishes most s s' items (bytes ++ rest) (Err e)
+pub end_stops : {X O : Type 0} (most : ℕ) {L : Bounds} (s s' : SessionState X O) (items : List StreamItem) (bytes rest : List ℕ) {now : Option (List ℕ)} (e : Fault) → s.limits ≡ L → now ≡ Some [] → ReadingFinishes most s s' items (bytes ++ rest) (Err e)
     → StopsNext (no_deeper most L) items bytes rest now e
 end_stops most s s' items bytes rest (fault.Refused R) l n f = ended n (subst (λ L. Outcome base_table (no_deeper most L) (bytes ++ rest) items (refused R)) l f.0) f.1
 end_stops most s s' items bytes rest fault.Read l n f = absurd f
@@ -315,18 +317,18 @@ counts_none f f' (Err fault.Read) e p n h = absurd (n (sym p))
 counts_none f f' (Err fault.Memory) e p n h = h
 counts_none f f' (Err fault.Failed) e p n h = h
 
-advances_unread : {X O : Type 0} {stands : Standing X} {trees : Standing TreeBuilder} {means : O → Tree → Type 0} {most : ℕ} {s s' : Reading X O} {items : List StreamItem} {bytes : List ℕ} (piece : List ℕ) (e : Fault) → StandsAfter stands trees most s items bytes
+advances_unread : {X O : Type 0} {stands : Standing X} {trees : Standing TreeBuilder} {means : O → Tree → Type 0} {most : ℕ} {s s' : SessionState X O} {items : List StreamItem} {bytes : List ℕ} (piece : List ℕ) (e : Fault) → StandsAfter stands trees most s items bytes
     → Stepped stands trees means most s s' piece (Err e) → e ≡ fault.Read → ⊥
 advances_unread piece (fault.Refused R) a p e = cc
 advances_unread piece fault.Memory a p e = cc
 advances_unread {items = items} {bytes = bytes} piece fault.Read a p e = p.each items bytes a
 advances_unread piece fault.Failed a p e = cc
 
-pub step_unread : {X O : Type 0} {stands : Standing X} {trees : Standing TreeBuilder} {means : O → Tree → Type 0} {most : ℕ} {s s' : Reading X O} (piece : List ℕ) (e : Fault) → StandsSomewhere stands trees most s
+pub step_unread : {X O : Type 0} {stands : Standing X} {trees : Standing TreeBuilder} {means : O → Tree → Type 0} {most : ℕ} {s s' : SessionState X O} (piece : List ℕ) (e : Fault) → StandsSomewhere stands trees most s
     → Stepped stands trees means most s s' piece (Err e) → e ≢ fault.Read
 step_unread piece e w p = advances_unread piece e w.after p
 
-pub end_unread : {X O : Type 0} (most : ℕ) (s s' : Reading X O) (items : List StreamItem) (bytes : List ℕ) (e : Fault) → ReadingFinishes most s s' items bytes (Err e) → e ≢ fault.Read
+pub end_unread : {X O : Type 0} (most : ℕ) (s s' : SessionState X O) (items : List StreamItem) (bytes : List ℕ) (e : Fault) → ReadingFinishes most s s' items bytes (Err e) → e ≢ fault.Read
 end_unread most s s' items bytes (fault.Refused R) p e = cc
 end_unread most s s' items bytes fault.Memory p e = cc
 end_unread most s s' items bytes fault.Read p e = p
@@ -334,7 +336,7 @@ end_unread most s s' items bytes fault.Failed p e = cc
 
 -- ---- the end of the stream
 -- behind it nothing was taken
-pub record NothingMore {X O : Type 0} (most : ℕ) (s s' : Reading X O) (items : List StreamItem) (bytes more : List ℕ) : Type 0 where
+pub record NothingMore {X O : Type 0} (most : ℕ) (s s' : SessionState X O) (items : List StreamItem) (bytes more : List ℕ) : Type 0 where
   pub none : more ≡ []
   pub same : s' ≡ s
   pub outcome : Outcome base_table (no_deeper most s.limits) bytes items the_end
@@ -343,12 +345,12 @@ front_of_nothing : (x y : List ℕ) → [] ≡ x ++ y → y ≡ []
 front_of_nothing [] y e = sym e
 front_of_nothing (d ∷ x) y e = cc
 
-no_more_taken : {X O : Type 0} {stands : Standing X} {trees : Standing TreeBuilder} {most : ℕ} {s : Reading X O} {items : List StreamItem} {bytes : List ℕ} (more : List ℕ) (a : StandsAfter stands trees most s items bytes)
+no_more_taken : {X O : Type 0} {stands : Standing X} {trees : Standing TreeBuilder} {most : ℕ} {s : SessionState X O} {items : List StreamItem} {bytes : List ℕ} (more : List ℕ) (a : StandsAfter stands trees most s items bytes)
     → EndsSo base_table (no_deeper most s.limits) (bytes ++ more) items the_end → more ≡ []
 no_more_taken {bytes = bytes} more a (at_the_end p) =
     front_of_nothing a.under_way more (one_front [] (a.under_way ++ more) p a.stream (append-nil (bytes ++ more) ∙ (ap (λ l. l ++ more) a.whole ∙ append_assoc a.front a.under_way more))).rest
 
-pub nothing_more : {X O : Type 0} {stands : Standing X} {trees : Standing TreeBuilder} {most : ℕ} {s s' : Reading X O} {items : List StreamItem} {bytes : List ℕ} (more : List ℕ) → s'.limits ≡ s.limits
+pub nothing_more : {X O : Type 0} {stands : Standing X} {trees : Standing TreeBuilder} {most : ℕ} {s s' : SessionState X O} {items : List StreamItem} {bytes : List ℕ} (more : List ℕ) → s'.limits ≡ s.limits
     → StandsAfter stands trees most s items bytes → StandsAfter stands trees most s' items (bytes ++ more)
     → Outcome base_table (no_deeper most s'.limits) (bytes ++ more) items the_end → (s' ≡ s) ⊎ (s.taken < s'.taken) → NothingMore most s s' items bytes more
 nothing_more {most = most} {s = s} {s' = s'} {items = items} {bytes = bytes} more l a b o g =
@@ -361,74 +363,67 @@ nothing_more {most = most} {s = s} {s' = s'} {items = items} {bytes = bytes} mor
     }
 
 -- ---- the item that is whole
-between_items : {X O : Type 0} {stands : Standing X} {trees : Standing TreeBuilder} {L : Bounds} {T : Table} {offset : ℕ} (n : ℕ) {awaits : Stage X O} {z : List ℕ} → StandsIn stands trees L T offset awaits z → awaits ≡ stage.Count n [] → z ≡ []
-between_items n (in_count {number = number} f) e = let g : number ≡ [] = cc in g
-between_items n (in_type_number k f w) e = cc
-between_items n (in_value k s r p b) e = cc
-between_items n (in_description k i s r p b) e = cc
-
 -- the item was given with the last byte of the piece
-gives_next : {X O : Type 0} {stands : Standing X} {trees : Standing TreeBuilder} {means : O → Tree → Type 0} {most : ℕ} {s' : Reading X O} {given : declared.Item O} {i : StreamItem} {items : List StreamItem} {bytes : List ℕ} (n : ℕ)
-    → ItemMeans means given i → StandsAfter stands trees most s' (items ++ i ∷ []) bytes → s'.stage ≡ stage.Count n [] → ReadingGivesNext stands trees means most s' given items bytes
-gives_next {most = most} {s' = s'} {i = i} {items = items} n m a e =
-    let all = a.whole ∙ ap (λ l. a.front ++ l) (between_items n a.stage e) ∙ append-nil a.front in
+gives_next : {X O : Type 0} {stands : Standing X} {trees : Standing TreeBuilder} {means : O → Tree → Type 0} {most : ℕ} {s' : SessionState X O} {given : declared.Item O} {i : StreamItem} {items : List StreamItem} {bytes : List ℕ} → ItemMeans means given i → StandsAfter stands trees most s' (items ++ i ∷ []) bytes → IsBetween s' → ReadingGivesNext stands trees means most s' given items bytes
+gives_next {most = most} {s' = s'} {i = i} {items = items} m a e =
+    let all = a.whole ∙ ap (λ l. a.front ++ l) (count_begins_here a e.stage refl) ∙ append-nil a.front in
     record { item = i; meant = m; after = a; stream = subst (λ b. Stream base_table (no_deeper most s'.limits) (items ++ i ∷ []) b (types s'.types)) (sym all) a.stream }
 
-pub over_the_item : {X O : Type 0} {stands : Standing X} {trees : Standing TreeBuilder} {means : O → Tree → Type 0} {most : ℕ} {s' : Reading X O} {items : List StreamItem} {bytes piece : List ℕ} (used n : ℕ) (o : Option (declared.Item O)) {given : declared.Item O}
-    → o ≡ Some given → used ≡ length piece → s'.stage ≡ stage.Count n [] → AdvancesOver stands trees means most s' items bytes piece used o → ReadingGivesNext stands trees means most s' given items (bytes ++ piece)
-over_the_item used n o e u c (over_some m l a) = cc
-over_the_item {stands = stands} {trees = trees} {means = means} {most = most} {s' = s'} {items = items} {bytes = bytes} {piece = piece} used n o {given = given} e u c (over_item {given = x} {i = i} k l m a) =
+pub over_the_item : {X O : Type 0} {stands : Standing X} {trees : Standing TreeBuilder} {means : O → Tree → Type 0} {most : ℕ} {s' : SessionState X O} {items : List StreamItem} {bytes piece : List ℕ} (used : ℕ) (o : Option (declared.Item O)) {given : declared.Item O}
+    → o ≡ Some given → used ≡ length piece → IsBetween s' → AdvancesOver stands trees means most s' items bytes piece used o → ReadingGivesNext stands trees means most s' given items (bytes ++ piece)
+over_the_item used o e u c (over_some m l a) = cc
+over_the_item {stands = stands} {trees = trees} {means = means} {most = most} {s' = s'} {items = items} {bytes = bytes} {piece = piece} used o {given = given} e u c (over_item {given = x} {i = i} k l m a) =
     let same : x ≡ given = cc in
     let whole : bytes ++ take used piece ≡ bytes ++ piece = ap (λ l. bytes ++ l) (take_whole piece used (omega arith)) in
-    subst (λ b. ReadingGivesNext stands trees means most s' given items b) whole (gives_next n (subst (λ x. ItemMeans means x i) same m) a c)
+    subst (λ b. ReadingGivesNext stands trees means most s' given items b) whole (gives_next (subst (λ x. ItemMeans means x i) same m) a c)
 
 if_some : {A : Type 0} (P : Type 0) {o : Option A} {x : A} → IfSome o (λ _. P) → o ≡ Some x → P
 if_some P {o = Some y} p e = p
 if_some P {o = None} p e = cc
 
-pub step_gives : {X O : Type 0} {stands : Standing X} {trees : Standing TreeBuilder} {means : O → Tree → Type 0} {most : ℕ} {s s' : Reading X O} {items : List StreamItem} {bytes : List ℕ} (piece : List ℕ) (n : ℕ) (step : Step O) {given : declared.Item O}
-    → Stepped stands trees means most s s' piece (Ok step) → step.used ≡ length piece → IfSome step.item (λ _. s'.stage ≡ stage.Count n []) → step.item ≡ Some given → StandsAfter stands trees most s items bytes
+pub step_gives : {X O : Type 0} {stands : Standing X} {trees : Standing TreeBuilder} {means : O → Tree → Type 0} {most : ℕ} {s s' : SessionState X O} {items : List StreamItem} {bytes : List ℕ} (piece : List ℕ) (step : Step O) {given : declared.Item O}
+    → Stepped stands trees means most s s' piece (Ok step) → step.used ≡ length piece → IfSome step.item (λ _. IsBetween s') → step.item ≡ Some given → StandsAfter stands trees most s items bytes
     → ReadingGivesNext stands trees means most s' given items (bytes ++ piece)
-step_gives {s' = s'} {items = items} {bytes = bytes} piece n step p u b e a = over_the_item step.used n step.item e u (if_some (s'.stage ≡ stage.Count n []) b e) (p.each items bytes a)
+step_gives {s' = s'} {items = items} {bytes = bytes} piece step p u b e a = over_the_item step.used step.item e u (if_some (IsBetween s') b e) (p.each items bytes a)
 
 -- the item of this call
-pub reads_item : {X O : Type 0} (stands : Standing X) (trees : Standing TreeBuilder) (means : O → Tree → Type 0) (most : ℕ) (s s' : Reading X O) (items : List StreamItem) (bytes rest : List ℕ) (now : Option (List ℕ)) (o : Option (declared.Item O)) → o ≢ None
+pub reads_item : {X O : Type 0} (stands : Standing X) (trees : Standing TreeBuilder) (means : O → Tree → Type 0) (most : ℕ) (s s' : SessionState X O) (items : List StreamItem) (bytes rest : List ℕ) (now : Option (List ℕ)) (o : Option (declared.Item O)) → o ≢ None
     → ((given : declared.Item O) → o ≡ Some given → SomeTaken rest now (λ taken. ReadingGivesNext stands trees means most s' given items (bytes ++ taken))) → ReadsNext stands trees means most s s' items bytes rest now (Ok o)
 reads_item stands trees means most s s' items bytes rest now None n f = absurd (n refl)
 reads_item stands trees means most s s' items bytes rest now (Some x) n f = f x refl
 
-pub gives_taken : {X O : Type 0} {stands : Standing X} {trees : Standing TreeBuilder} {means : O → Tree → Type 0} {most : ℕ} {s s' : Reading X O} {items : List StreamItem} {bytes rest : List ℕ} {now : Option (List ℕ)} (piece : List ℕ) (n : ℕ) (step : Step O) {given : declared.Item O}
-    → Stepped stands trees means most s s' piece (Ok step) → step.used ≡ length piece → IfSome step.item (λ _. s'.stage ≡ stage.Count n []) → step.item ≡ Some given → SomeTaken rest now (StoodBefore stands trees most s items bytes piece)
+pub gives_taken : {X O : Type 0} {stands : Standing X} {trees : Standing TreeBuilder} {means : O → Tree → Type 0} {most : ℕ} {s s' : SessionState X O} {items : List StreamItem} {bytes rest : List ℕ} {now : Option (List ℕ)} (piece : List ℕ) (step : Step O) {given : declared.Item O}
+    → Stepped stands trees means most s s' piece (Ok step) → step.used ≡ length piece → IfSome step.item (λ _. IsBetween s') → step.item ≡ Some given → SomeTaken rest now (StoodBefore stands trees most s items bytes piece)
     → SomeTaken rest now (λ taken. ReadingGivesNext stands trees means most s' given items (bytes ++ taken))
-gives_taken {stands = stands} {trees = trees} {means = means} {most = most} {s' = s'} {items = items} piece n step {given = given} p u b e q =
-    taken_as (λ x w. subst (λ y. ReadingGivesNext stands trees means most s' given items y) w.whole (step_gives piece n step p u b e w.after)) q
+gives_taken {stands = stands} {trees = trees} {means = means} {most = most} {s' = s'} {items = items} piece step {given = given} p u b e q =
+    taken_as (λ x w. subst (λ y. ReadingGivesNext stands trees means most s' given items y) w.whole (step_gives piece step p u b e w.after)) q
 
-pub takes_item : {X O : Type 0} (s s' : Reading X O) (t t' : ℕ) (o : Option (declared.Item O)) → o ≢ None
+pub takes_item : {X O : Type 0} (s s' : SessionState X O) (t t' : ℕ) (o : Option (declared.Item O)) → o ≢ None
     → ((given : declared.Item O) → o ≡ Some given → (t' ≡ counts_up t (s'.taken - s.taken)) × (s.taken < s'.taken) × (s'.taken ≤ s.limits.stream)) → TakesNext s s' t t' (Ok o)
 takes_item s s' t t' None n f = absurd (n refl)
 takes_item s s' t t' (Some x) n f = f x refl
 
-pub over_the_piece : {X O : Type 0} {stands : Standing X} {trees : Standing TreeBuilder} {means : O → Tree → Type 0} {most : ℕ} {s' : Reading X O} {items : List StreamItem} {bytes piece : List ℕ} (used : ℕ) (o : Option (declared.Item O))
+pub over_the_piece : {X O : Type 0} {stands : Standing X} {trees : Standing TreeBuilder} {means : O → Tree → Type 0} {most : ℕ} {s' : SessionState X O} {items : List StreamItem} {bytes piece : List ℕ} (used : ℕ) (o : Option (declared.Item O))
     → o ≡ None → used ≡ length piece → AdvancesOver stands trees means most s' items bytes piece used o → StandsAfter stands trees most s' items (bytes ++ piece)
 over_the_piece {stands = stands} {trees = trees} {most = most} {s' = s'} {items = items} {bytes = bytes} {piece = piece} used o e u (over_some m l a) =
     subst (λ b. StandsAfter stands trees most s' items (bytes ++ b)) (take_whole piece used (omega arith)) a
 over_the_piece used o e u (over_item k l m a) = cc
 
 -- ---- how far a step comes
-over_taken : {X O : Type 0} {stands : Standing X} {trees : Standing TreeBuilder} {means : O → Tree → Type 0} {most : ℕ} {s' : Reading X O} {items : List StreamItem} (bytes piece : List ℕ) (used : ℕ) (o : Option (declared.Item O))
+over_taken : {X O : Type 0} {stands : Standing X} {trees : Standing TreeBuilder} {means : O → Tree → Type 0} {most : ℕ} {s' : SessionState X O} {items : List StreamItem} (bytes piece : List ℕ) (used : ℕ) (o : Option (declared.Item O))
     → AdvancesOver stands trees means most s' items bytes piece used o → used ≤ length piece → s'.taken ≡ length bytes + used
 over_taken bytes piece used o (over_some m l a) u = let v = a.taken in omega (arith, length-append bytes (take used piece), length-take used piece)
 over_taken bytes piece used o (over_item k l m a) u = let v = a.taken in omega (arith, length-append bytes (take used piece), length-take used piece)
 
-pub step_taken : {X O : Type 0} {stands : Standing X} {trees : Standing TreeBuilder} {means : O → Tree → Type 0} {most : ℕ} {s s' : Reading X O} (piece : List ℕ) (step : Step O) → step.used ≡ length piece → StandsSomewhere stands trees most s
+pub step_taken : {X O : Type 0} {stands : Standing X} {trees : Standing TreeBuilder} {means : O → Tree → Type 0} {most : ℕ} {s s' : SessionState X O} (piece : List ℕ) (step : Step O) → step.used ≡ length piece → StandsSomewhere stands trees most s
     → Stepped stands trees means most s s' piece (Ok step) → s'.taken ≡ s.taken + length piece
 step_taken piece step u w f = let t = w.after.taken in let n = over_taken w.bytes piece step.used step.item (f.each w.items w.bytes w.after) (omega arith) in omega arith
 
 -- behind the item the stream keeps to its limit
-pub item_within : {X O : Type 0} {stands : Standing X} {trees : Standing TreeBuilder} {means : O → Tree → Type 0} {most : ℕ} {s' : Reading X O} {given : declared.Item O} {items : List StreamItem} {bytes : List ℕ} → ReadingGivesNext stands trees means most s' given items bytes → s'.taken ≤ s'.limits.stream
+pub item_within : {X O : Type 0} {stands : Standing X} {trees : Standing TreeBuilder} {means : O → Tree → Type 0} {most : ℕ} {s' : SessionState X O} {given : declared.Item O} {items : List StreamItem} {bytes : List ℕ} → ReadingGivesNext stands trees means most s' given items bytes → s'.taken ≤ s'.limits.stream
 item_within p = let t = p.after.taken in let l = stream_within p.stream in omega arith
 
-pub no_less : {X O : Type 0} {s s' : Reading X O} → (s' ≡ s) ⊎ (s.taken < s'.taken) → s.taken ≤ s'.taken
+pub no_less : {X O : Type 0} {s s' : SessionState X O} → (s' ≡ s) ⊎ (s.taken < s'.taken) → s.taken ≤ s'.taken
 no_less (inl e) = let t = ap (λ s. s.taken) e in omega arith
 no_less (inr l) = omega arith
 
@@ -441,7 +436,7 @@ pub none_there : {A : Type 0} (o : Option A) → is_some o ≡ false → o ≡ N
 none_there None e = refl
 none_there (Some x) e = cc
 
-pub stood_further : {X O : Type 0} {stands : Standing X} {trees : Standing TreeBuilder} {means : O → Tree → Type 0} {most : ℕ} {s mid s' : Reading X O} {old between now : Option (List ℕ)} (piece : List ℕ) (step : Step O) → Consumes between now piece
+pub stood_further : {X O : Type 0} {stands : Standing X} {trees : Standing TreeBuilder} {means : O → Tree → Type 0} {most : ℕ} {s mid s' : SessionState X O} {old between now : Option (List ℕ)} (piece : List ℕ) (step : Step O) → Consumes between now piece
     → Stepped stands trees means most mid s' piece (Ok step) → step.used ≡ length piece → step.item ≡ None → StoodOn stands trees most s mid old between → StoodOn stands trees most s s' old now
 stood_further {stands = stands} {trees = trees} {most = most} {s' = s'} piece step c p u n q = record {
   each = λ items bytes a.
@@ -456,8 +451,5 @@ stands_sound (in_type_number k f w) e = cc
 stands_sound (in_value k s r p b) e = cc
 stands_sound (in_description k i s r p b) e = cc
 
-pub sound_after : {X O : Type 0} {stands : Standing X} {trees : Standing TreeBuilder} {most : ℕ} {s : Reading X O} {items : List StreamItem} {bytes : List ℕ} → StandsAfter stands trees most s items bytes → IsSound s
+pub sound_after : {X O : Type 0} {stands : Standing X} {trees : Standing TreeBuilder} {most : ℕ} {s : SessionState X O} {items : List StreamItem} {bytes : List ℕ} → StandsAfter stands trees most s items bytes → IsSound s
 sound_after a = stands_sound a.stage
-
-pub still_sound : {X O : Type 0} {stands : Standing X} {trees : Standing TreeBuilder} {most : ℕ} {s s' : Reading X O} {old now : Option (List ℕ)} → StandsSomewhere stands trees most s → StoodOn stands trees most s s' old now → IsSound s'
-still_sound w q = sound_after (q.each w.items w.bytes w.after).holds

@@ -6,7 +6,7 @@ use Rattle.gob_types.specs.Defined.{types}
 use Rattle.gob_types.specs.Table.{Table}
 use Rattle.gob_read.specs.declared.tree_builder.TreeBuilder.{TreeBuilder}
 use Rattle.gob_stream.specs.declared.fault.Refusal.{Refusal}
-use Rattle.gob_stream.specs.declared.reading.Reading.{Reading}
+use Rattle.gob_stream.specs.SessionState.{SessionState}
 use Rattle.gob_stream.specs.Bounds.{Bounds, no_deeper}
 use Rattle.gob_stream.specs.Item.{StreamItem}
 use Rattle.gob_stream.specs.Laws.{GivesWhatStands}
@@ -28,15 +28,15 @@ limits_stay most L deep =
 pub one_table : (L : Bounds) (bytes : List ℕ) (items : List StreamItem) (T U : Table) → HasTypesBehind L bytes items T → HasTypesBehind L bytes items U → T ≡ U
 one_table L bytes items T U p q = (one_front p.rest q.rest p.stream q.stream (sym p.whole ∙ q.whole)).table
 
-pub stands_within : {X O : Type 0} {stands : Standing X} {trees : Standing TreeBuilder} {most : ℕ} {s : Reading X O} {items : List StreamItem} {bytes : List ℕ}
+pub stands_within : {X O : Type 0} {stands : Standing X} {trees : Standing TreeBuilder} {most : ℕ} {s : SessionState X O} {items : List StreamItem} {bytes : List ℕ}
     → StandsAfter stands trees most s items bytes → length bytes ≤ s.limits.stream + 9
 stands_within a = let front = ends_within a.stream (omega arith) in let n = in_bound a.stage (omega arith) in omega (arith, ap length a.whole, length-append a.front a.under_way)
 
-pub stands_types : {X O : Type 0} {stands : Standing X} {trees : Standing TreeBuilder} {most : ℕ} {s : Reading X O} {items : List StreamItem} {bytes : List ℕ}
+pub stands_types : {X O : Type 0} {stands : Standing X} {trees : Standing TreeBuilder} {most : ℕ} {s : SessionState X O} {items : List StreamItem} {bytes : List ℕ}
     → StandsAfter stands trees most s items bytes → HasTypesBehind (no_deeper most s.limits) bytes items (types s.types)
 stands_types a = record { front = a.front; rest = a.under_way; stream = a.stream; whole = a.whole }
 
-unrefused : {X O : Type 0} {stands : Standing X} {trees : Standing TreeBuilder} {most : ℕ} {s : Reading X O} {items others : List StreamItem} {bytes : List ℕ} {R : Refusal}
+unrefused : {X O : Type 0} {stands : Standing X} {trees : Standing TreeBuilder} {most : ℕ} {s : SessionState X O} {items others : List StreamItem} {bytes : List ℕ} {R : Refusal}
     → StandsAfter stands trees most s items bytes → ¬ IsShown (no_deeper most s.limits) bytes others R
 unrefused {most = most} {s = s} {items = items} {others = others} {bytes = bytes} {R = R} a h =
     let L = no_deeper most s.limits in

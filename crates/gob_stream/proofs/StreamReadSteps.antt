@@ -12,7 +12,7 @@ use Rattle.gob_stream.specs.declared.fault.Refusal.{Refusal}
 use Rattle.gob_stream.specs.declared.fault.Fault.{Fault}
 use Rattle.gob_stream.specs.declared.fault.Fault.TheVariants as fault
 use Rattle.gob_stream.specs.declared.item.Item as declared
-use Rattle.gob_stream.specs.declared.reading.Reading.{Reading}
+use Rattle.gob_stream.specs.SessionState.{SessionState}
 use Rattle.gob_stream.specs.Bounds.{Bounds, no_deeper}
 use Rattle.gob_stream.specs.Devices.{counts_up}
 use Rattle.gob_stream.specs.Item.{StreamItem, ItemMeans, means_definition, means_value, ItemsMean, mean_none, mean_more, item_view, item_views}
@@ -96,7 +96,7 @@ stream_stops M {bytes = bytes} items now fault.Memory l p h = subst (λ L. SomeT
 stream_stops M items now fault.Failed l p h = absurd h
 
 -- ---- one more item, or none
-pub stands_next : {stands : Standing TreeBuilder} {most : ℕ} (s s' : Reading TreeBuilder Value) (given : List (declared.Item Value)) {bytes : List ℕ} {mid : Option (List ℕ)} (now : Option (List ℕ)) {o : Option (declared.Item Value)} (item : declared.Item Value) → o ≡ Some item
+pub stands_next : {stands : Standing TreeBuilder} {most : ℕ} (s s' : SessionState TreeBuilder Value) (given : List (declared.Item Value)) {bytes : List ℕ} {mid : Option (List ℕ)} (now : Option (List ℕ)) {o : Option (declared.Item Value)} (item : declared.Item Value) → o ≡ Some item
     → (p : SomeTaken bytes mid (λ taken. StandsAfter stands stands most s (item_views given) taken)) → ReadsNext stands stands IsSeen most s s' (item_views given) p.bytes p.taken.left now (Ok o)
     → SomeTaken bytes now (λ taken. StandsAfter stands stands most s' (item_views (given ++ item ∷ [])) taken)
 stands_next {stands = stands} {most = most} s s' given now item e p h =
@@ -106,7 +106,7 @@ stands_next {stands = stands} {most = most} s s' given now item e p h =
     (λ more g. subst (λ items. StandsAfter stands stands most s' items (p.bytes ++ more)) (ap (λ i. item_views given ++ i ∷ []) (sym (view_meant g.meant)) ∙ sym (views_more given item)) g.after) h'
 
 -- an item for which no memory was had
-pub item_lost : {stands : Standing TreeBuilder} {most : ℕ} {L : Bounds} (s s' : Reading TreeBuilder Value) (given : List (declared.Item Value)) {bytes : List ℕ} {mid : Option (List ℕ)} (now : Option (List ℕ)) {o : Option (declared.Item Value)} (item : declared.Item Value) → o ≡ Some item
+pub item_lost : {stands : Standing TreeBuilder} {most : ℕ} {L : Bounds} (s s' : SessionState TreeBuilder Value) (given : List (declared.Item Value)) {bytes : List ℕ} {mid : Option (List ℕ)} (now : Option (List ℕ)) {o : Option (declared.Item Value)} (item : declared.Item Value) → o ≡ Some item
     → no_deeper most s.limits ≡ L → s'.limits ≡ s.limits → (p : SomeTaken bytes mid (λ taken. StandsAfter stands stands most s (item_views given) taken))
     → ReadsNext stands stands IsSeen most s s' (item_views given) p.bytes p.taken.left now (Ok o) → SomeTaken bytes now (λ taken. GivesButLast base_table L taken (item_views given))
 item_lost {stands = stands} {most = most} {L = L} s s' given {bytes = bytes} now item e l same p h =
@@ -128,7 +128,7 @@ pub record IsWhole (L : Bounds) (bytes : List ℕ) (items : List StreamItem) : T
 whole_of : {L : Bounds} {bytes : List ℕ} {items : List StreamItem} → EndsSo base_table L bytes items the_end → IsWhole L bytes items
 whole_of (at_the_end {T = T} p) = record { table = T; stream = p }
 
-pub stream_ends : {stands : Standing TreeBuilder} {most : ℕ} {L : Bounds} (s s' : Reading TreeBuilder Value) {items : List StreamItem} {bytes : List ℕ} {mid : Option (List ℕ)} (now : Option (List ℕ)) {o : Option (declared.Item Value)} (u : Unit {0}) → o ≡ None → no_deeper most s.limits ≡ L
+pub stream_ends : {stands : Standing TreeBuilder} {most : ℕ} {L : Bounds} (s s' : SessionState TreeBuilder Value) {items : List StreamItem} {bytes : List ℕ} {mid : Option (List ℕ)} (now : Option (List ℕ)) {o : Option (declared.Item Value)} (u : Unit {0}) → o ≡ None → no_deeper most s.limits ≡ L
     → (p : SomeTaken bytes mid (λ taken. StandsAfter stands stands most s items taken)) → ReadsNext stands stands IsSeen most s s' items p.bytes p.taken.left now (Ok o) → ReadsStream L bytes now items (Ok u)
 stream_ends {stands = stands} {most = most} {L = L} s s' {items = items} {bytes = bytes} now u e l p h =
     let h' = subst (λ (o : Option (declared.Item Value)). ReadsNext stands stands IsSeen most s s' items p.bytes p.taken.left now (Ok o)) e h in
@@ -136,5 +136,5 @@ stream_ends {stands = stands} {most = most} {L = L} s s' {items = items} {bytes 
     let t = whole_of (subst (λ L. Outcome base_table L bytes items the_end) l (subst (λ b. Outcome base_table (no_deeper most s.limits) b items the_end) all h'.2)).ends in
     (t.table, t.stream, h'.1)
 
-pub item_taken : (s s' : Reading TreeBuilder Value) (t t' : ℕ) {o : Option (declared.Item Value)} {item : declared.Item Value} → o ≡ Some item → TakesNext s s' t t' (Ok o) → (t' ≡ counts_up t (s'.taken - s.taken)) × (s.taken < s'.taken) × (s'.taken ≤ s.limits.stream)
+pub item_taken : (s s' : SessionState TreeBuilder Value) (t t' : ℕ) {o : Option (declared.Item Value)} {item : declared.Item Value} → o ≡ Some item → TakesNext s s' t t' (Ok o) → (t' ≡ counts_up t (s'.taken - s.taken)) × (s.taken < s'.taken) × (s'.taken ≤ s.limits.stream)
 item_taken s s' t t' e h = subst (λ (o : Option (declared.Item Value)). TakesNext s s' t t' (Ok o)) e h

@@ -17,7 +17,7 @@ use Rattle.gob_stream.specs.declared.fault.Refusal.{Refusal}
 use Rattle.gob_stream.specs.declared.stage.Stage.{Stage}
 use Rattle.gob_stream.specs.declared.stage.Stage.TheVariants as stage
 use Rattle.gob_stream.specs.declared.stage.Extent.{Extent}
-use Rattle.gob_stream.specs.declared.reading.Reading.{Reading}
+use Rattle.gob_stream.specs.SessionState.{SessionState}
 use Rattle.gob_stream.specs.Bounds.{Bounds, no_deeper}
 use Rattle.gob_stream.specs.Item.{StreamItem}
 use Rattle.gob_stream.specs.Body.{MayDefine, MayPut}
@@ -172,25 +172,25 @@ stands_unrefused {L = L} {T = T} {offset = offset} {z = z} {R = R} s q =
     let n = next_seen q in omega arith
 
 -- ---- what bytes give after which a reader stands
-pub after_gives : {X O : Type 0} {stands : Standing X} {trees : Standing TreeBuilder} {most : ℕ} {s : Reading X O} {items : List StreamItem} {bytes : List ℕ}
+pub after_gives : {X O : Type 0} {stands : Standing X} {trees : Standing TreeBuilder} {most : ℕ} {s : SessionState X O} {items : List StreamItem} {bytes : List ℕ}
     → StandsAfter stands trees most s items bytes → GivesItems base_table (no_deeper most s.limits) bytes items
 after_gives {most = most} {s = s} {items = items} a =
     subst (λ b. GivesItems base_table (no_deeper most s.limits) b items) (sym a.whole) (gives_items a.under_way a.stream (stands_no_next a.stage))
 
 -- within an item they end too early
-pub after_some : {X O : Type 0} {stands : Standing X} {trees : Standing TreeBuilder} {most : ℕ} {s : Reading X O} {items : List StreamItem} {bytes : List ℕ} (a : StandsAfter stands trees most s items bytes)
+pub after_some : {X O : Type 0} {stands : Standing X} {trees : Standing TreeBuilder} {most : ℕ} {s : SessionState X O} {items : List StreamItem} {bytes : List ℕ} (a : StandsAfter stands trees most s items bytes)
     → a.under_way ≢ [] → Outcome base_table (no_deeper most s.limits) bytes items (refused (refuses (length bytes) (length bytes) reason.Ended))
 after_some a n = outcome_within a.under_way a.whole a.stream n (stands_no_next a.stage) (λ R q. stands_unrefused a.stage q)
 
 -- between two items they are the end of a stream
-pub after_none : {X O : Type 0} {stands : Standing X} {trees : Standing TreeBuilder} {most : ℕ} {s : Reading X O} {items : List StreamItem} {bytes : List ℕ} (a : StandsAfter stands trees most s items bytes)
+pub after_none : {X O : Type 0} {stands : Standing X} {trees : Standing TreeBuilder} {most : ℕ} {s : SessionState X O} {items : List StreamItem} {bytes : List ℕ} (a : StandsAfter stands trees most s items bytes)
     → a.under_way ≡ [] → Outcome base_table (no_deeper most s.limits) bytes items the_end
 after_none {most = most} {s = s} {items = items} a e =
     let all = a.whole ∙ ap (λ l. a.front ++ l) e ∙ append-nil a.front in
     record { gives = after_gives a; ends = at_the_end (subst (λ b. Stream base_table (no_deeper most s.limits) items b (types s.types)) (sym all) a.stream) }
 
 -- what follows is refused, by more bytes than have come
-pub after_refused : {X O : Type 0} {stands : Standing X} {trees : Standing TreeBuilder} {most : ℕ} {s : Reading X O} {items : List StreamItem} {bytes : List ℕ} {R : Refusal} (piece : List ℕ) (a : StandsAfter stands trees most s items bytes)
+pub after_refused : {X O : Type 0} {stands : Standing X} {trees : Standing TreeBuilder} {most : ℕ} {s : SessionState X O} {items : List StreamItem} {bytes : List ℕ} {R : Refusal} (piece : List ℕ) (a : StandsAfter stands trees most s items bytes)
     → RefusesNext base_table (no_deeper most s.limits) (types s.types) (length a.front) (a.under_way ++ piece) R
     → Outcome base_table (no_deeper most s.limits) (bytes ++ piece) items (refused R) × (length bytes < R.seen)
 after_refused piece a q =
@@ -217,14 +217,14 @@ begins_there (in_value k s r p w) e = absurd (cc)
 begins_there (in_description k n s r p w) e = absurd (cc)
 
 -- between two items the count of the next one is awaited
-pub none_awaits_count : {X O : Type 0} {stands : Standing X} {trees : Standing TreeBuilder} {most : ℕ} {s : Reading X O} {items : List StreamItem} {bytes : List ℕ} (a : StandsAfter stands trees most s items bytes)
+pub none_awaits_count : {X O : Type 0} {stands : Standing X} {trees : Standing TreeBuilder} {most : ℕ} {s : SessionState X O} {items : List StreamItem} {bytes : List ℕ} (a : StandsAfter stands trees most s items bytes)
     → a.under_way ≡ [] → s.stage ≡ stage.Count s.taken []
 none_awaits_count {s = s} a e =
     let t : s.taken ≡ length a.front = a.taken ∙ ap length (a.whole ∙ ap (λ l. a.front ++ l) e ∙ append-nil a.front) in
     awaits_count a.stage e ∙ ap (λ n. stage.Count n []) (sym t)
 
 -- and where that begins behind all bytes that were taken, no item is under way
-pub count_begins_here : {X O : Type 0} {stands : Standing X} {trees : Standing TreeBuilder} {most : ℕ} {s : Reading X O} {items : List StreamItem} {bytes number : List ℕ} {begin : ℕ} (a : StandsAfter stands trees most s items bytes)
+pub count_begins_here : {X O : Type 0} {stands : Standing X} {trees : Standing TreeBuilder} {most : ℕ} {s : SessionState X O} {items : List StreamItem} {bytes number : List ℕ} {begin : ℕ} (a : StandsAfter stands trees most s items bytes)
     → s.stage ≡ stage.Count begin number → begin ≡ s.taken → a.under_way ≡ []
 count_begins_here {s = s} {begin = begin} a e f =
     let b : begin ≡ length a.front = begins_there a.stage e in

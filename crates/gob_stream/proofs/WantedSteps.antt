@@ -8,7 +8,7 @@ use Rattle.gob_read.specs.declared.tree_builder.TreeBuilder.{TreeBuilder}
 use Rattle.gob_stream.specs.declared.stage.Stage.{Stage}
 use Rattle.gob_stream.specs.declared.stage.Stage.TheVariants as stage
 use Rattle.gob_stream.specs.declared.stage.Extent.{Extent}
-use Rattle.gob_stream.specs.declared.reading.Reading.{Reading}
+use Rattle.gob_stream.specs.SessionState.{SessionState}
 use Rattle.gob_stream.specs.Bounds.{Bounds}
 use Rattle.gob_stream.specs.Standing.{Standing, IsCount, IsRest, size, StandsIn, in_count, in_type_number, in_value, in_description, IsUsable, has_failed, stands_after}
 
@@ -33,14 +33,14 @@ description_ends_behind {rest = end} (in_description {z = z} {rest = rest} k n i
     let same : rest ≡ end = cc in let one = ap (λ (r : Extent). r.end) same in let l = before_end z k r w.stood.room in omega arith
 
 -- a reader awaits some bytes of a value
-pub value_left : {X O : Type 0} {stands : Standing X} {trees : Standing TreeBuilder} {most : ℕ} {s : Reading X O} {t : TypeId} {rest : Extent} {reader : BodyReader X O}
+pub value_left : {X O : Type 0} {stands : Standing X} {trees : Standing TreeBuilder} {most : ℕ} {s : SessionState X O} {t : TypeId} {rest : Extent} {reader : BodyReader X O}
     → IsUsable stands trees most s → s.stage ≡ stage.Value t rest reader → s.taken < rest.end
 value_left (has_failed f) e = absurd (cc)
 value_left (stands_after a) e =
     let l = value_ends_behind a.stage e in omega (arith, a.taken, ap length a.whole, length-append a.front a.under_way)
 
 -- and of a description
-pub description_left : {X O : Type 0} {stands : Standing X} {trees : Standing TreeBuilder} {most : ℕ} {s : Reading X O} {t : TypeId} {rest : Extent} {reader : BodyReader TreeBuilder Value}
+pub description_left : {X O : Type 0} {stands : Standing X} {trees : Standing TreeBuilder} {most : ℕ} {s : SessionState X O} {t : TypeId} {rest : Extent} {reader : BodyReader TreeBuilder Value}
     → IsUsable stands trees most s → s.stage ≡ stage.Description t rest reader → s.taken < rest.end
 description_left (has_failed f) e = absurd (cc)
 description_left (stands_after a) e =

@@ -13,7 +13,7 @@ use Rattle.gob_types.specs.Base.{base_table}
 use Rattle.gob_types.specs.Defined.{types}
 use Rattle.gob_read.specs.declared.tree_builder.TreeBuilder.{TreeBuilder}
 use Rattle.gob_stream.specs.declared.stage.Stage.TheVariants as stage
-use Rattle.gob_stream.specs.declared.reading.Reading.{Reading}
+use Rattle.gob_stream.specs.SessionState.{SessionState}
 use Rattle.gob_stream.specs.Bounds.{Bounds, no_deeper}
 use Rattle.gob_stream.specs.Item.{StreamItem, puts}
 use Rattle.gob_stream.specs.Body.{MayPut, value}
@@ -129,7 +129,7 @@ has_item {id = id} {used = used} {piece = piece} most e b w =
 
 -- ---- going past an item
 module _ {X O : Type 0} {stands : Standing X} {trees : Standing TreeBuilder} {most : ℕ} where
-  pub passed : {s s' : Reading X O} {begin used : ℕ} {number : List ℕ} → IsBetween s
+  pub passed : {s s' : SessionState X O} {begin used : ℕ} {number : List ℕ} → IsBetween s
       → s.stage ≡ stage.Count begin number
       → s' ≡ record s { taken = s.taken + used; stage = stage.Count (s.taken + used) number }
       → (items : List StreamItem) (bytes : List ℕ) (item : StreamItem) (z : List ℕ)
@@ -160,7 +160,7 @@ module _ {X O : Type 0} {stands : Standing X} {trees : Standing TreeBuilder} {mo
       })
 
   -- past an item whose body was found to be whole
-  pub passes_item : {s s' : Reading X O} {id : TypeId} {body : List ℕ} {used : ℕ} {piece : List ℕ} {d : ℕ}
+  pub passes_item : {s s' : SessionState X O} {id : TypeId} {body : List ℕ} {used : ℕ} {piece : List ℕ} {d : ℕ}
       → d ≡ min s.limits.depth most
       → HasBody s.limits (types s.types) s.taken id body used piece → IsWhole (types s.types) id d body
       → ((items : List StreamItem) (bytes : List ℕ) (item : StreamItem) (z : List ℕ)
@@ -177,7 +177,7 @@ module _ {X O : Type 0} {stands : Standing X} {trees : Standing TreeBuilder} {mo
   }
 
   -- what stood after some bytes is behind an item, so it stands after some
-  pub usable_behind : {s s' : Reading X O} {used : ℕ} → IsBetween s
+  pub usable_behind : {s s' : SessionState X O} {used : ℕ} → IsBetween s
       → HasItem (no_deeper most s.limits) (types s.types) s.taken used
       → ((items : List StreamItem) (bytes : List ℕ) (item : StreamItem) (z : List ℕ)
       → StandsAfter stands trees most s items bytes
@@ -202,7 +202,7 @@ begun_no_next h i V b y (counted {c = c} {d = d} counts item stream body) e =
 
 -- so bytes that end with it give the items before it
 pub begun_gives : {X O : Type 0} {stands : Standing X} {trees : Standing TreeBuilder} {most head size : ℕ}
-    {s : Reading X O} {id : TypeId} {items : List StreamItem} {bytes piece : List ℕ}
+    {s : SessionState X O} {id : TypeId} {items : List StreamItem} {bytes piece : List ℕ}
     → StandsAfter stands trees most s items bytes → IsBetween s
     → HasBegun s.limits (types s.types) s.taken id head size piece
     → GivesItems base_table (no_deeper most s.limits) (bytes ++ piece) items

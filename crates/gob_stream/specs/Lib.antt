@@ -8,6 +8,7 @@ pub mod RefusalText
 pub mod WriterRefusal
 pub mod Devices
 pub mod Ends
+pub mod SessionState
 pub mod Standing
 pub mod Reading
 pub mod Whole

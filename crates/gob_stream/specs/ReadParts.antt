@@ -35,8 +35,8 @@ use Rattle.gob_stream.specs.declared.stage.Stage.{Stage}
 use Rattle.gob_stream.specs.declared.stage.Stage.TheVariants as stage
 use Rattle.gob_stream.specs.declared.stage.Stepped.{Stepped}
 use Rattle.gob_stream.specs.declared.stage.Extent.{Extent}
-use Rattle.gob_stream.specs.declared.reading.Reading.{Reading}
-use Rattle.gob_stream.specs.declared.reading.Step.{Step}
+use Rattle.gob_stream.specs.SessionState.{SessionState}
+use Rattle.gob_stream.specs.declared.session.Step.{Step}
 use Rattle.gob_stream.specs.Bounds.{Bounds, no_deeper}
 use Rattle.gob_stream.specs.Item.{StreamItem, ItemMeans}
 use Rattle.gob_stream.specs.Body.{MayDefine, MayPut}
@@ -193,14 +193,14 @@ pub data MaybePuts (T : Table) (t : TypeId) (place seen : ℕ) : Result (Unit {0
   no_memory_to_ask : MaybePuts T t place seen (Err fault.Memory)
 
 -- the front of the piece was taken, one byte at least, and an item is whole with it or not
-pub data AdvancesOver {X O : Type 0} (stands : Standing X) (trees : Standing TreeBuilder) (means : O → Tree → Type 0) (most : ℕ) (s' : Reading X O) (items : List StreamItem) (bytes piece : List ℕ) : ℕ → Option (declared.Item O) → Type 0 where
+pub data AdvancesOver {X O : Type 0} (stands : Standing X) (trees : Standing TreeBuilder) (means : O → Tree → Type 0) (most : ℕ) (s' : SessionState X O) (items : List StreamItem) (bytes piece : List ℕ) : ℕ → Option (declared.Item O) → Type 0 where
   over_some : {used : ℕ} → 0 < used → used ≤ length piece → StandsAfter stands trees most s' items (bytes ++ take used piece)
       → AdvancesOver stands trees means most s' items bytes piece used None
   over_item : {used : ℕ} {given : declared.Item O} {i : StreamItem} → 0 < used → used ≤ length piece → ItemMeans means given i
       → StandsAfter stands trees most s' (items ++ i ∷ []) (bytes ++ take used piece) → AdvancesOver stands trees means most s' items bytes piece used (Some given)
 
 -- what a step over the front of a piece answers, behind these bytes, of which the items were given
-abbrev pub Advances : {X O : Type 0} → (stands : Standing X) (trees : Standing TreeBuilder) (means : O → Tree → Type 0) (most : ℕ) (s s' : Reading X O) → List StreamItem → (bytes piece : List ℕ) → Result (Step O) Fault → Type 0
+abbrev pub Advances : {X O : Type 0} → (stands : Standing X) (trees : Standing TreeBuilder) (means : O → Tree → Type 0) (most : ℕ) (s s' : SessionState X O) → List StreamItem → (bytes piece : List ℕ) → Result (Step O) Fault → Type 0
 Advances stands trees means most s s' items bytes piece (Ok step) = AdvancesOver stands trees means most s' items bytes piece step.used step.item
 Advances stands trees means most s s' items bytes piece (Err (fault.Refused R)) = IsShown (no_deeper most s.limits) (bytes ++ piece) items R × (length bytes < R.seen)
 Advances stands trees means most s s' items bytes piece (Err fault.Memory) = Unit {0}

@@ -11,7 +11,7 @@ use Rattle.gob_stream.specs.declared.fault.Refusal.{Refusal}
 use Rattle.gob_stream.specs.declared.fault.Fault.{Fault}
 use Rattle.gob_stream.specs.declared.fault.Fault.TheVariants as fault
 use Rattle.gob_stream.specs.declared.item.Item as declared
-use Rattle.gob_stream.specs.declared.reading.Reading.{Reading}
+use Rattle.gob_stream.specs.SessionState.{SessionState}
 use Rattle.gob_stream.specs.Bounds.{Bounds, no_deeper}
 use Rattle.gob_stream.specs.Devices.{counts_up, Rose}
 use Rattle.gob_stream.specs.Item.{StreamItem, ItemsMean, ItemMeans}
@@ -70,7 +70,7 @@ pub record GivesOfTaken (L : Bounds) (taken : ℕ) (bytes : List ℕ) (items : L
   pub given : GivesButLast base_table L front items
 
 -- what feeding a piece answers, where the items were given, to a session that had given the items before, of these bytes
-abbrev pub Feeds : {X O : Type 0} → (stands : Standing X) (trees : Standing TreeBuilder) (means : O → Tree → Type 0) (most : ℕ) (s s' : Reading X O) → List StreamItem → (bytes piece : List ℕ) → List (declared.Item O) → Result (Unit {0}) Fault → Type 0
+abbrev pub Feeds : {X O : Type 0} → (stands : Standing X) (trees : Standing TreeBuilder) (means : O → Tree → Type 0) (most : ℕ) (s s' : SessionState X O) → List StreamItem → (bytes piece : List ℕ) → List (declared.Item O) → Result (Unit {0}) Fault → Type 0
 Feeds stands trees means most s s' items bytes piece given (Ok _) = GivesOn means given items (λ all. StandsAfter stands trees most s' all (bytes ++ piece))
 Feeds stands trees means most s s' items bytes piece given (Err (fault.Refused R)) =
     GivesOn means given items (λ all. IsShown (no_deeper most s.limits) (bytes ++ piece) all R × HasTypesBehind (no_deeper most s.limits) (bytes ++ piece) all (types s'.types)) × (length bytes < R.seen)
@@ -80,7 +80,7 @@ Feeds stands trees means most s s' items bytes piece given (Err fault.Memory) =
 Feeds stands trees means most s s' items bytes piece given (Err fault.Failed) = ⊥
 
 -- what finishing answers: nothing has changed at the end of a stream, else the bytes end within an item
-abbrev pub ReadingFinishes : {X O : Type 0} → ℕ → (s s' : Reading X O) → List StreamItem → List ℕ → Result (Unit {0}) Fault → Type 0
+abbrev pub ReadingFinishes : {X O : Type 0} → ℕ → (s s' : SessionState X O) → List StreamItem → List ℕ → Result (Unit {0}) Fault → Type 0
 ReadingFinishes most s s' items bytes (Ok _) = Outcome base_table (no_deeper most s.limits) bytes items the_end × (s' ≡ s)
 ReadingFinishes most s s' items bytes (Err (fault.Refused R)) = Outcome base_table (no_deeper most s.limits) bytes items (refused R) × (R.reason ≡ reason.Ended)
 ReadingFinishes most s s' items bytes (Err _) = ⊥
@@ -101,7 +101,7 @@ pub record EndsInItem (L : Bounds) (bytes : List ℕ) (items : List StreamItem) 
   pub no_further : IsNoFurther L (length front) item R
 
 -- an item was given with the last of the bytes, which are the stream of this item behind the others
-pub record ReadingGivesNext {X O : Type 0} (stands : Standing X) (trees : Standing TreeBuilder) (means : O → Tree → Type 0) (most : ℕ) (s' : Reading X O) (given : declared.Item O) (items : List StreamItem) (bytes : List ℕ) : Type 0 where
+pub record ReadingGivesNext {X O : Type 0} (stands : Standing X) (trees : Standing TreeBuilder) (means : O → Tree → Type 0) (most : ℕ) (s' : SessionState X O) (given : declared.Item O) (items : List StreamItem) (bytes : List ℕ) : Type 0 where
   pub item : StreamItem
   pub meant : ItemMeans means given item
   pub after : StandsAfter stands trees most s' (items ++ item ∷ []) bytes
@@ -120,14 +120,14 @@ StopsNext L items bytes rest now fault.Memory = SomeTaken rest now (λ taken. Gi
 StopsNext L items bytes rest now fault.Failed = ⊥
 
 -- what reading the next item answers
-abbrev pub ReadsNext : {X O : Type 0} → (stands : Standing X) (trees : Standing TreeBuilder) (means : O → Tree → Type 0) (most : ℕ) (s s' : Reading X O) → List StreamItem → (bytes rest : List ℕ) → Option (List ℕ) → Result (Option (declared.Item O)) Fault → Type 0
+abbrev pub ReadsNext : {X O : Type 0} → (stands : Standing X) (trees : Standing TreeBuilder) (means : O → Tree → Type 0) (most : ℕ) (s s' : SessionState X O) → List StreamItem → (bytes rest : List ℕ) → Option (List ℕ) → Result (Option (declared.Item O)) Fault → Type 0
 ReadsNext stands trees means most s s' items bytes rest now (Ok (Some given)) = SomeTaken rest now (λ taken. ReadingGivesNext stands trees means most s' given items (bytes ++ taken))
 ReadsNext stands trees means most s s' items bytes rest now (Ok None) = (rest ≡ []) × (now ≡ Some []) × Outcome base_table (no_deeper most s.limits) bytes items the_end × (s' ≡ s)
 ReadsNext stands trees means most s s' items bytes rest now (Err e) = StopsNext (no_deeper most s.limits) items bytes rest now e
 
 -- how many bytes reading an item takes: those up to its end, within the limit, and before a fault no more than the limit
 -- leaves and a count
-abbrev pub TakesNext : {X O : Type 0} → (s s' : Reading X O) → (taken taken' : ℕ) → Result (Option (declared.Item O)) Fault → Type 0
+abbrev pub TakesNext : {X O : Type 0} → (s s' : SessionState X O) → (taken taken' : ℕ) → Result (Option (declared.Item O)) Fault → Type 0
 TakesNext s s' taken taken' (Ok None) = taken' ≡ taken
 TakesNext s s' taken taken' (Ok (Some item)) = (taken' ≡ counts_up taken (s'.taken - s.taken)) × (s.taken < s'.taken) × (s'.taken ≤ s.limits.stream)
 TakesNext s s' taken taken' (Err e) = taken' ≤ taken + (s.limits.stream + 9 - s.taken)

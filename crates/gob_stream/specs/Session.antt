@@ -9,75 +9,76 @@ use Rattle.gob_value.specs.Tree.{Tree}
 use Rattle.gob_read.specs.contracts.tree_builder.TreeBuilderBuilder.TheImpl as tree_builder
 use Rattle.gob_stream.specs.declared.fault.Fault.{Fault}
 use Rattle.gob_stream.specs.declared.item.Item as declared
-use Rattle.gob_stream.specs.declared.reading.Reading.{Reading}
-use Rattle.gob_stream.specs.declared.reading.Step.{Step}
+use Rattle.gob_stream.specs.SessionState.{SessionState}
+use Rattle.gob_stream.specs.declared.session.Step.{Step}
 use Rattle.gob_stream.specs.declared.stage.Stage.TheVariants as stage
 use Rattle.gob_stream.specs.Bounds.{Bounds, no_deeper}
 use Rattle.gob_stream.specs.Honest.{FeedsHonestly, ReadsHonestly}
 use Rattle.gob_stream.specs.Item.{StreamItem}
-use Rattle.gob_stream.specs.ReadParts.{Advances}
+use Rattle.gob_stream.specs.ReadParts.{Advances, bytes_wanted}
 use Rattle.gob_stream.specs.Reading.{Feeds, ReadingFinishes, ReadsNext, TakesNext}
 use Rattle.gob_stream.specs.Standing.{Standing, StandsAfter}
 use Rattle.gob_stream.specs.Stream.{Counted}
 use Rattle.gob_stream.specs.Whole.{IsBetween, HasBody, HasBegun, HasItem, PassesItem}
 
-pub record SessionState (X O : Type 0) : Type 0 where
-  pub reading : Reading X O
-
 -- the session has given these items, and taken these bytes
 abbrev pub HasRead : {X O : Type 0} → Standing X → (most : ℕ) → SessionState X O → List StreamItem → List ℕ → Type 0
-HasRead stands most s items bytes = StandsAfter stands tree_builder.stands-value.it most s.reading items bytes
+HasRead stands most s items bytes = StandsAfter stands tree_builder.stands-value.it most s items bytes
 
 -- it has met a fault, behind which it reads no more
 abbrev pub HasFailed : {X O : Type 0} → SessionState X O → Type 0
-HasFailed s = s.reading.stage ≡ stage.Failed
+HasFailed s = s.stage ≡ stage.Failed
 
 -- no byte of an item is under way
 abbrev pub IsBetweenItems : {X O : Type 0} → SessionState X O → Type 0
-IsBetweenItems s = IsBetween s.reading
+IsBetweenItems s = IsBetween s
 
 -- the types that the items so far have defined, how many bytes were taken, and what it keeps to
 abbrev pub table_of : {X O : Type 0} → SessionState X O → Defined
-table_of s = s.reading.types
+table_of s = s.types
 
 abbrev pub types_of : {X O : Type 0} → SessionState X O → Table
 types_of s = types (table_of s)
 
 abbrev pub taken_of : {X O : Type 0} → SessionState X O → ℕ
-taken_of s = s.reading.taken
+taken_of s = s.taken
 
 abbrev pub limits_of : {X O : Type 0} → SessionState X O → Bounds
-limits_of s = s.reading.limits
+limits_of s = s.limits
+
+-- how many bytes can be taken at once, without going past the end of the item under way
+abbrev pub wanted_of : {X O : Type 0} → SessionState X O → ℕ
+wanted_of s = bytes_wanted s.stage s.taken
 
 -- nothing in it has changed
 abbrev pub StaysAsItWas : {X O : Type 0} → (s s' : SessionState X O) → Type 0
-StaysAsItWas s s' = s'.reading ≡ s.reading
+StaysAsItWas s s' = s' ≡ s
 
 -- what the calls answer, to a session that had given the items, of these bytes
 abbrev pub FeedAnswers : {X O : Type 0} → Standing X → (means : O → Tree → Type 0) → (most : ℕ) → (s s' : SessionState X O)
     → List StreamItem → (bytes piece : List ℕ) → List (declared.Item O) → Result (Unit {0}) Fault → Type 0
 FeedAnswers stands means most s s' items bytes piece given result =
-    Feeds stands tree_builder.stands-value.it means most s.reading s'.reading items bytes piece given result
+    Feeds stands tree_builder.stands-value.it means most s s' items bytes piece given result
 
 abbrev pub FinishAnswers : {X O : Type 0} → (most : ℕ) → (s s' : SessionState X O) → List StreamItem → List ℕ
     → Result (Unit {0}) Fault → Type 0
-FinishAnswers most s s' items bytes result = ReadingFinishes most s.reading s'.reading items bytes result
+FinishAnswers most s s' items bytes result = ReadingFinishes most s s' items bytes result
 
 abbrev pub StepAnswers : {X O : Type 0} → Standing X → (means : O → Tree → Type 0) → (most : ℕ) → (s s' : SessionState X O)
     → List StreamItem → (bytes piece : List ℕ) → Result (Step O) Fault → Type 0
 StepAnswers stands means most s s' items bytes piece result =
-    Advances stands tree_builder.stands-value.it means most s.reading s'.reading items bytes piece result
+    Advances stands tree_builder.stands-value.it means most s s' items bytes piece result
 
 abbrev pub ReadItemAnswers : {X O : Type 0} → Standing X → (means : O → Tree → Type 0) → (most : ℕ)
     → (s s' : SessionState X O) → List StreamItem → (bytes rest : List ℕ) → Option (List ℕ)
     → Result (Option (declared.Item O)) Fault → Type 0
 ReadItemAnswers stands means most s s' items bytes rest now result =
-    ReadsNext stands tree_builder.stands-value.it means most s.reading s'.reading items bytes rest now result
+    ReadsNext stands tree_builder.stands-value.it means most s s' items bytes rest now result
 
 -- how many bytes of its input the reading of an item takes
 abbrev pub ReadItemTakes : {X O : Type 0} → (s s' : SessionState X O) → (taken taken' : ℕ)
     → Result (Option (declared.Item O)) Fault → Type 0
-ReadItemTakes s s' taken taken' result = TakesNext s.reading s'.reading taken taken' result
+ReadItemTakes s s' taken taken' result = TakesNext s s' taken taken' result
 
 -- the place of a refusal is honest
 abbrev pub FeedsHonestlyFrom : {X O : Type 0} → (means : O → Tree → Type 0) → (most : ℕ) → SessionState X O
@@ -111,4 +112,4 @@ ReadsOn stands most s s' used = (items : List StreamItem) (bytes : List ℕ) (it
 -- it has read the item of a value of the type, the first bytes of the piece
 abbrev pub ReadsValue : {X O : Type 0} → Standing X → (most : ℕ) → (s s' : SessionState X O) → TypeId → (used : ℕ)
     → (piece : List ℕ) → Type 0
-ReadsValue stands most s s' id used piece = PassesItem stands tree_builder.stands-value.it most s.reading s'.reading id used piece
+ReadsValue stands most s s' id used piece = PassesItem stands tree_builder.stands-value.it most s s' id used piece

@@ -16,7 +16,7 @@ use Rattle.gob_value.specs.declared.value.Value.{Value}
 use Rattle.gob_stream.specs.declared.stage.Stage.{Stage}
 use Rattle.gob_stream.specs.declared.stage.Stage.TheVariants as stage
 use Rattle.gob_stream.specs.declared.stage.Extent.{Extent}
-use Rattle.gob_stream.specs.declared.reading.Reading.{Reading}
+use Rattle.gob_stream.specs.SessionState.{SessionState}
 use Rattle.gob_stream.specs.Bounds.{Bounds, greatest_depth, no_deeper}
 use Rattle.gob_stream.specs.Item.{StreamItem}
 use Rattle.gob_stream.specs.Body.{MayDefine, MayPut}
@@ -62,7 +62,7 @@ pub data StandsIn {X O : Type 0} (stands : Standing X) (trees : Standing TreeBui
       → StandsIn stands trees L T offset (stage.Description id rest reader) (c ++ (a ++ z))
 
 -- the reader has given the items, and taken these bytes
-pub record StandsAfter {X O : Type 0} (stands : Standing X) (trees : Standing TreeBuilder) (most : ℕ) (s : Reading X O) (items : List StreamItem) (bytes : List ℕ) : Type 0 where
+pub record StandsAfter {X O : Type 0} (stands : Standing X) (trees : Standing TreeBuilder) (most : ℕ) (s : SessionState X O) (items : List StreamItem) (bytes : List ℕ) : Type 0 where
   pub front : List ℕ
   pub under_way : List ℕ
   pub whole : bytes ≡ front ++ under_way
@@ -72,6 +72,6 @@ pub record StandsAfter {X O : Type 0} (stands : Standing X) (trees : Standing Tr
   pub room : s.types.most ≡ s.limits.types
 
 -- the reader stands after some bytes, or has met a fault
-pub data IsUsable {X O : Type 0} (stands : Standing X) (trees : Standing TreeBuilder) (most : ℕ) (s : Reading X O) : Type 0 where
+pub data IsUsable {X O : Type 0} (stands : Standing X) (trees : Standing TreeBuilder) (most : ℕ) (s : SessionState X O) : Type 0 where
   has_failed : s.stage ≡ stage.Failed → IsUsable stands trees most s
   stands_after : {items : List StreamItem} {bytes : List ℕ} → StandsAfter stands trees most s items bytes → IsUsable stands trees most s

@@ -8,7 +8,7 @@ use Rattle.gob_types.specs.Table.{Table}
 use Rattle.gob_value.specs.Tree.{Tree}
 use Rattle.gob_read.specs.declared.tree_builder.TreeBuilder.{TreeBuilder}
 use Rattle.gob_stream.specs.declared.stage.Stage.TheVariants as stage
-use Rattle.gob_stream.specs.declared.reading.Reading.{Reading}
+use Rattle.gob_stream.specs.SessionState.{SessionState}
 use Rattle.gob_stream.specs.Bounds.{Bounds}
 use Rattle.gob_stream.specs.Item.{StreamItem, puts}
 use Rattle.gob_stream.specs.Body.{MayPut}
@@ -16,7 +16,7 @@ use Rattle.gob_stream.specs.Stream.{Counted}
 use Rattle.gob_stream.specs.Standing.{Standing, StandsAfter}
 
 -- no byte of the next item was taken
-pub record IsBetween {X O : Type 0} (s : Reading X O) : Type 0 where
+pub record IsBetween {X O : Type 0} (s : SessionState X O) : Type 0 where
   pub number : List ℕ
   pub stage : s.stage ≡ stage.Count s.taken number
 
@@ -66,7 +66,7 @@ pub record HasItem (L : Bounds) (T : Table) (offset used : ℕ) : Type 0 where
 
 -- behind this item, a value of the type, the first bytes of the piece
 pub record PassesItem {X O : Type 0} (stands : Standing X) (trees : Standing TreeBuilder) (most : ℕ)
-    (s s' : Reading X O) (id : TypeId) (used : ℕ) (piece : List ℕ) : Type 0 where
+    (s s' : SessionState X O) (id : TypeId) (used : ℕ) (piece : List ℕ) : Type 0 where
   pub value : Tree
   pub within : used ≤ length piece
   pub passed : (items : List StreamItem) (bytes : List ℕ) → StandsAfter stands trees most s items bytes

@@ -49,14 +49,14 @@ fn read_items<R: Read>(
     out: &mut Vec<Item<Value>>,
 ) -> Result<(), Fault>
     requires stands { StandsAfter ⟦<TreeBuilder as Builder>⟧.stands ⟦<TreeBuilder as Builder>⟧.stands 1000
-        session.old.reading [] [] }
-    requires new { session.old.reading.taken ≡ 0 }
+        session.old [] [] }
+    requires new { session.old.taken ≡ 0 }
     ensures items { Given out.old.items out.new.items (λ given. (bytes : List ℕ)
         → R.remaining (reader_of input.old) ≡ Some bytes
-        → ReadsStream (within_trees session.old.reading.limits) bytes (R.remaining (reader_of input.new))
+        → ReadsStream (within_trees session.old.limits) bytes (R.remaining (reader_of input.new))
         (item_views given) result) }
     ensures counted { CountsReads (failed_reads input.old) (failed_reads input.new) result }
-    ensures taken { (bytes_read input.new) ≤ (bytes_read input.old) + session.old.reading.limits.stream + 9 }
+    ensures taken { (bytes_read input.new) ≤ (bytes_read input.old) + session.old.limits.stream + 9 }
 {
     while let Some(item) = session.read_item(alloc, input)? {
         out.push(item).map_err(Memory::from)?;

@@ -1,59 +1,85 @@
 //! Reading a stream.
 
+use crate::count::refusal;
 use crate::fault::Fault;
-use crate::input::Input;
 use crate::item::Item;
 use crate::limits::Limits;
-use crate::reading::{Reading, Step};
-use crate::stage::Stage;
-use crate::whole::{Awaited, Passed, Whole};
-use gob_num::Memory;
+use crate::stage::{Extent, Stage, take_awaited};
+use gob_num::{Memory, Number};
 use gob_read::{Builder, TreeBuilder};
-use gob_types::Table;
+use gob_types::{Reason, Table};
 use std::alloc::Global;
-use std::io::Read;
 use std::marker::Model;
+use std::mem;
 
 /// A reader of one stream, from its first byte on, that makes of each value what `B` builds.
 pub struct Session<B: Builder> {
-    reading: Reading<B>,
+    // The limits of the stream.
+    pub(crate) limits: Limits,
+    // The types that it has defined.
+    pub(crate) types: Table,
+    // How many bytes of it were taken.
+    pub(crate) taken: u64,
+    // What is awaited.
+    pub(crate) stage: Stage<B>,
+}
+
+/// What became of the front of a piece.
+#[derive(Drop)]
+pub struct Step<O: Drop> {
+    /// How many bytes of the piece were taken, one at least.
+    pub used: usize,
+    /// The item that is whole with them.
+    pub item: Option<Item<O>>,
 }
 
 // Not derived, so that a drop is one call in the proofs of what owns one.
 impl<B: Builder> Drop for Session<B> {
     fn drop(self) {
-        let Session { reading: _ } = self;
+        let Session {
+            limits: _,
+            types: _,
+            taken: _,
+            stage: _,
+        } = self;
     }
 }
 
 impl<B: Builder> Model for Session<B> {
     ghost use Rattle.std.specs.Coded.{codes};
     ghost use Rattle.gob_value.specs.contracts.value.Value as value;
-    ghost use Rattle.gob_stream.specs.Session.{SessionState};
+    ghost use Rattle.gob_stream.specs.SessionState.{SessionState};
     ghost use Rattle.gob_stream.specs.Standing.{IsUsable};
 
     ghost Value = { SessionState B B.Out };
 
     ghost coded = { Prim.hlevel (codes, value.the_row.coded) };
 
-    ghost view = { λ session. record { reading = session.reading } };
+    ghost view = { λ session. record {
+      limits = session.limits;
+      types = session.types;
+      taken = session.taken;
+      stage = session.stage;
+    } };
 
     // It has read some bytes, or has failed.
-    ghost invariant = { λ session. IsUsable B.stands ⟦<TreeBuilder as Builder>⟧.stands B.DEPTH session.reading };
+    ghost invariant = { λ session. IsUsable B.stands ⟦<TreeBuilder as Builder>⟧.stands B.DEPTH (record {
+      limits = session.limits;
+      types = session.types;
+      taken = session.taken;
+      stage = session.stage;
+    }) };
 }
 
 impl<B: Builder> Session<B> {
-    ghost use Rattle.std.specs.Prelude.{◌≡◌, ◌+◌, ◌<◌, ◌≤◌, ◌++◌, ℕ, List, [], length, Err, Some, None};
-    ghost use Rattle.std.specs.Prelude.{IfOk, IfSome, OnErr};
+    ghost use Rattle.std.specs.Prelude.{◌≡◌, ◌-◌, ◌<◌, ◌≤◌, ◌++◌, ◌∷◌, ℕ, List, [], length, Err};
+    ghost use Rattle.std.specs.Prelude.{IfOk, IfErr, IfSome, OnOk, OnErr};
     ghost use Rattle.gob_stream.specs.Bounds.{AreLimits, deepest};
-    ghost use Rattle.gob_stream.specs.Ends.{bytes_read, failed_reads, reader_of};
     ghost use Rattle.gob_stream.specs.Item.{StreamItem};
-    ghost use Rattle.gob_stream.specs.Reading.{Given, CountsReads};
+    ghost use Rattle.gob_stream.specs.Reading.{Given};
     ghost use Rattle.gob_stream.specs.Session.{HasRead, HasFailed, IsBetweenItems, StaysAsItWas};
-    ghost use Rattle.gob_stream.specs.Session.{table_of, types_of, taken_of, limits_of};
+    ghost use Rattle.gob_stream.specs.Session.{table_of, taken_of, limits_of, wanted_of};
     ghost use Rattle.gob_stream.specs.Session.{FeedAnswers, FeedsHonestlyFrom, FinishAnswers, StepAnswers};
-    ghost use Rattle.gob_stream.specs.Session.{ReadItemAnswers, ReadsHonestlyFrom, ReadItemTakes};
-    ghost use Rattle.gob_stream.specs.Session.{HasBodyNext, HasBegunNext, HasItemNext, ReadsOn, ReadsValue};
 
     /// A reader that has taken no byte. No value may be deeper than these limits allow, or than the builder takes.
     pub fn new(alloc: Global, limits: Limits) -> Result<Session<B>, Memory>
@@ -63,8 +89,16 @@ impl<B: Builder> Session<B> {
         ensures limits { IfOk result (λ session. limits_of session ≡ limits) }
         ensures allowed { AreLimits deepest limits }
     {
-        let reading = Reading::new(alloc, limits)?;
-        Ok(Session { reading })
+        let types = Table::new(alloc, limits.types())?;
+        Ok(Session {
+            limits,
+            types,
+            taken: 0,
+            stage: Stage::Count {
+                begin: 0,
+                number: Number::new(),
+            },
+        })
     }
 
     /// Takes the next piece of the stream, and appends the items that are whole with it to `out`, also those before
@@ -88,10 +122,66 @@ impl<B: Builder> Session<B> {
             → (result ≡ Err Fault.Failed) × StaysAsItWas self.old self.new × (out.new ≡ out.old) }
         ensures limits { limits_of self.new ≡ limits_of self.old }
     {
-        if matches!(self.reading.stage, Stage::Failed) {
+        if matches!(self.stage, Stage::Failed) {
             return Err(Fault::Failed);
         }
-        self.reading.feed(alloc, piece, out)
+        let mut used = 0;
+        'steps: for _ in 0..piece.len() {
+            if used == piece.len() {
+                return Ok(());
+            }
+            match self.step(alloc, &piece[used..]) {
+                Ok(step) => {
+                    used += step.used;
+                    if let Some(item) = step.item {
+                        if let Err(fault) = self.give(item, out) {
+                            return Err(fault);
+                        }
+                    }
+                }
+                Err(fault) => return Err(fault),
+            }
+        }
+        Ok(())
+    }
+
+    /// Takes some bytes from the front of the piece, one at least, and none behind the end of an item.
+    /// A refusal comes in the call that is given the last of the bytes that show it, and never says `Ended`.
+    /// After a fault each call answers [`Fault::Failed`].
+    pub fn step(&mut self, alloc: Global, piece: &[u8]) -> Result<Step<B::Out>, Fault>
+        requires { 0 < length piece.now }
+        ensures advances { (items : List StreamItem) (bytes : List ℕ)
+            → HasRead B.stands B.DEPTH self.old items bytes
+            → StepAnswers B.stands B.means B.DEPTH self.old self.new items bytes piece.now result }
+        ensures used { IfOk result (λ step. (0 < step.used) × (step.used ≤ length piece.now)) }
+        ensures whole { length piece.now ≤ wanted_of self.old → IfOk result (λ step. step.used ≡ length piece.now) }
+        ensures between { IfOk result (λ step. IfSome step.item (λ _. IsBetweenItems self.new)) }
+        ensures failed { OnErr result (HasFailed self.new) }
+        ensures stays { HasFailed self.old
+            → (result ≡ Err Fault.Failed) × StaysAsItWas self.old self.new }
+        ensures types { OnErr result (table_of self.new ≡ table_of self.old) }
+        ensures taken { OnErr result (taken_of self.new ≡ taken_of self.old) }
+        ensures limits { limits_of self.new ≡ limits_of self.old }
+    {
+        let stage = mem::replace(&mut self.stage, Stage::Failed);
+        match take_awaited(
+            alloc,
+            self.limits,
+            &mut self.types,
+            self.taken,
+            stage,
+            piece,
+        ) {
+            Ok(stepped) => {
+                self.taken += stepped.used as u64;
+                self.stage = stepped.stage;
+                Ok(Step {
+                    used: stepped.used,
+                    item: stepped.item,
+                })
+            }
+            Err(fault) => Err(fault),
+        }
     }
 
     /// Says that no byte follows. Ok exactly between two items, and then nothing has changed; else the refusal
@@ -107,113 +197,69 @@ impl<B: Builder> Session<B> {
         ensures types { table_of self.new ≡ table_of self.old }
         ensures limits { limits_of self.new ≡ limits_of self.old }
     {
-        self.reading.finish()
+        match self.stage {
+            Stage::Failed => Err(Fault::Failed),
+            Stage::Count { begin, number: _ } if begin == self.taken => Ok(()),
+            _ => {
+                let ended = refusal(self.taken, self.taken, Reason::Ended);
+                self.fail();
+                Err(Fault::Refused(ended))
+            }
+        }
     }
 
     /// The types of the stream so far.
     pub fn table(&self) -> &Table
         ensures { result.now ≡ table_of self.now }
     {
-        &self.reading.types
+        &self.types
     }
 
-    /// The item of a value that stands whole at the front of the piece, where no byte of an item is under way: its type
-    /// is ready and the limits allow its length. It takes no memory, and looks at no byte of the value. None says
-    /// nothing of the piece.
-    pub fn whole_value<'a>(&self, piece: &'a [u8]) -> Option<Whole<'a>>
-        ensures between { IfSome result (λ whole. IsBetweenItems self.now) }
-        ensures body { IfSome result (λ whole.
-            HasBodyNext self.now whole.id whole.body.now whole.used piece.now) }
-    {
-        self.reading.whole_value(piece)
-    }
-
-    /// The item of a value at the front of the piece, where no byte of an item is under way and more bytes of it are to
-    /// come: its type is ready and the limits allow its length. It takes no memory, and looks at no byte of the value.
-    /// None says nothing of the piece.
-    pub fn awaited(&self, piece: &[u8]) -> Option<Awaited>
-        ensures between { IfSome result (λ awaited. IsBetweenItems self.now) }
-        ensures begun { IfSome result (λ awaited.
-            HasBegunNext self.now awaited.id awaited.head awaited.size piece.now) }
-    {
-        self.reading.awaited(piece)
-    }
-
-    /// Goes past so many bytes, which the caller has found to be an item that defines nothing.
-    pub fn pass(&mut self, used: usize)
-        requires between { IsBetweenItems self.old }
-        requires item { HasItemNext B.DEPTH self.old used }
-        ensures passed { ReadsOn B.stands B.DEPTH self.old self.new used }
-        ensures between { IsBetweenItems self.new }
-        ensures taken { taken_of self.new ≡ taken_of self.old + used }
-        ensures types { table_of self.new ≡ table_of self.old }
-        ensures limits { limits_of self.new ≡ limits_of self.old }
-    {
-        self.reading.pass(used);
-    }
-
-    /// Goes past the item of a value that stands whole at the front of the piece, and keeps nothing of the value. It
-    /// takes no memory. None says nothing of the piece, and then nothing has changed: [`Session::step`] reads on, and
-    /// refuses what is to be refused.
-    pub fn pass_whole(&mut self, piece: &[u8]) -> Option<Passed>
-        ensures passed { IfSome result (λ item. ReadsValue B.stands B.DEPTH self.old self.new
-            item.id item.used piece.now) }
-        ensures same { result ≡ None → self.new ≡ self.old }
-        ensures between { IfSome result (λ item. IsBetweenItems self.new) }
-        ensures taken { IfSome result (λ item. taken_of self.new ≡ taken_of self.old + item.used) }
-        ensures types { table_of self.new ≡ table_of self.old }
-        ensures limits { limits_of self.new ≡ limits_of self.old }
-    {
-        self.reading.pass_whole(piece)
-    }
-
-    /// Takes some bytes from the front of the piece, one at least, and none behind the end of an item.
-    /// A refusal comes in the call that is given the last of the bytes that show it, and never says `Ended`.
-    /// After a fault each call answers [`Fault::Failed`].
-    pub fn step(&mut self, alloc: Global, piece: &[u8]) -> Result<Step<B::Out>, Fault>
-        requires { 0 < length piece.now }
-        ensures advances { (items : List StreamItem) (bytes : List ℕ)
-            → HasRead B.stands B.DEPTH self.old items bytes
-            → StepAnswers B.stands B.means B.DEPTH self.old self.new items bytes piece.now result }
-        ensures used { IfOk result (λ step. (0 < step.used) × (step.used ≤ length piece.now)) }
+    // Appends an item. Without memory for it nothing more is read.
+    fn give(&mut self, item: Item<B::Out>, out: &mut Vec<Item<B::Out>>) -> Result<(), Fault>
+        ensures given { OnOk result (out.new.items ≡ out.old.items ++ item ∷ []) }
+        ensures kept { OnOk result (self.new ≡ self.old) }
+        ensures memory { IfErr result (λ fault. fault ≡ Fault.Memory) }
+        ensures as_before { OnErr result (out.new.items ≡ out.old.items) }
         ensures failed { OnErr result (HasFailed self.new) }
-        ensures stays { HasFailed self.old
-            → (result ≡ Err Fault.Failed) × StaysAsItWas self.old self.new }
-        ensures types { OnErr result (table_of self.new ≡ table_of self.old) }
-        ensures taken { OnErr result (taken_of self.new ≡ taken_of self.old) }
+        ensures types { table_of self.new ≡ table_of self.old }
+        ensures taken { taken_of self.new ≡ taken_of self.old }
         ensures limits { limits_of self.new ≡ limits_of self.old }
     {
-        if matches!(self.reading.stage, Stage::Failed) {
-            return Err(Fault::Failed);
+        if out.push(item).is_err() {
+            self.fail();
+            return Err(Fault::Memory);
         }
-        self.reading.step(alloc, piece)
+        Ok(())
     }
 
-    /// Reads up to the end of the next item, and no byte behind it. None at the end of the input between two items.
-    /// A read that fails for any reason, `Interrupted` too, is a fault. After a fault each call answers
-    /// [`Fault::Failed`].
-    pub fn read_item<R: Read>(
-        &mut self,
-        alloc: Global,
-        input: &mut Input<R>,
-    ) -> Result<Option<Item<B::Out>>, Fault>
-        ensures read { (items : List StreamItem) (bytes rest : List ℕ)
-            → HasRead B.stands B.DEPTH self.old items bytes
-            → R.remaining (reader_of input.old) ≡ Some rest
-            → ReadItemAnswers B.stands B.means B.DEPTH self.old self.new
-            items bytes rest (R.remaining (reader_of input.new)) result }
-        ensures honest { (items : List StreamItem) (bytes rest : List ℕ)
-            → HasRead B.stands B.DEPTH self.old items bytes
-            → R.remaining (reader_of input.old) ≡ Some rest
-            → ReadsHonestlyFrom B.DEPTH self.old items bytes rest (R.remaining (reader_of input.new)) result }
-        ensures failed { OnErr result (HasFailed self.new) }
-        ensures stays { HasFailed self.old
-            → (result ≡ Err Fault.Failed) × StaysAsItWas self.old self.new × (input.new ≡ input.old) }
-        ensures types { OnErr result (types_of self.new ≡ types_of self.old) }
+    /// From now on nothing more is read.
+    pub(crate) fn fail(&mut self)
+        ensures failed { HasFailed self.new }
+        ensures types { table_of self.new ≡ table_of self.old }
+        ensures taken { taken_of self.new ≡ taken_of self.old }
         ensures limits { limits_of self.new ≡ limits_of self.old }
-        ensures counted { CountsReads (failed_reads input.old) (failed_reads input.new) result }
-        ensures taken { ReadItemTakes self.old self.new (bytes_read input.old) (bytes_read input.new) result }
     {
-        self.reading.read_item(alloc, input)
+        self.stage = Stage::Failed;
+    }
+
+    /// How many bytes can be read at once without going past the item's end: one where that isn't known.
+    pub(crate) fn wanted(&self) -> u64
+        ensures value { result ≡ wanted_of self.now }
+        ensures some { 0 < result }
+    {
+        match &self.stage {
+            Stage::Value { rest, .. } => self.left(*rest),
+            Stage::Description { rest, .. } => self.left(*rest),
+            _ => 1,
+        }
+    }
+
+    // How many bytes of a part of the stream are to come.
+    fn left(&self, rest: Extent) -> u64
+        requires { taken_of self.now ≤ rest.end }
+        ensures { result ≡ rest.end - taken_of self.now }
+    {
+        rest.end - self.taken
     }
 }

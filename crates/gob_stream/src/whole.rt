@@ -1,22 +1,19 @@
 //! Items of values that stand whole at the front of a piece.
 
-ghost use Rattle.std.specs.Prelude.{◌≡◌, ◌+◌, ◌^◌, ◌<◌, ◌≤◌, ◌++◌, ◌∷◌, [], ℕ, List, pos, None, IsTrue, IfSome, length, take};
+ghost use Rattle.std.specs.Prelude.{◌≡◌, ◌+◌, ◌^◌, ◌<◌, ◌≤◌, ℕ, List, pos, None, IsTrue, IfSome, length, take};
 ghost use Rattle.gob_num.specs.Unsigned.{IsUnsigned};
 ghost use Rattle.gob_num.specs.Signed.{IsSigned};
-ghost use Rattle.gob_types.specs.Base.{base_table};
 ghost use Rattle.gob_types.specs.Defined.{types};
 ghost use Rattle.gob_stream.specs.Body.{MayPut};
-ghost use Rattle.gob_stream.specs.Item.{StreamItem};
-ghost use Rattle.gob_stream.specs.Stream.{Counted};
-ghost use Rattle.gob_stream.specs.Bounds.{no_deeper};
-ghost use Rattle.gob_stream.specs.Standing.{StandsAfter, IsUsable};
-ghost use Rattle.gob_stream.specs.Whole.{IsBetween, HasBody, HasBegun, HasCount, HasItem, PassesItem};
+ghost use Rattle.gob_stream.specs.Session.{IsBetweenItems, table_of, taken_of, limits_of};
+ghost use Rattle.gob_stream.specs.Session.{HasBodyNext, HasBegunNext, HasItemNext, ReadsOn, ReadsValue};
+ghost use Rattle.gob_stream.specs.Whole.{HasCount};
 
-use crate::reading::Reading;
+use crate::session::Session;
 use crate::stage::Stage;
 use crate::type_number::GOB_ENCODER_TYPE;
 use gob_num::{Taken, take_uint, to_signed};
-use gob_read::{Builder, TreeBuilder};
+use gob_read::Builder;
 use gob_types::{Table, TypeId};
 use gob_value::is_whole;
 
@@ -65,13 +62,14 @@ struct Named {
     used: usize,
 }
 
-impl<B: Builder> Reading<B> {
-    /// The item of a value that stands whole at the front of the piece, where no byte of it was taken before. None says
+impl<B: Builder> Session<B> {
+    /// The item of a value that stands whole at the front of the piece, where no byte of an item is under way: its type
+    /// is ready and the limits allow its length. It takes no memory, and looks at no byte of the value. None says
     /// nothing of the piece.
-    pub(crate) fn whole_value<'a>(&self, piece: &'a [u8]) -> Option<Whole<'a>>
-        ensures between { IfSome result (λ whole. IsBetween self.now) }
-        ensures body { IfSome result (λ whole. HasBody self.now.limits (types self.now.types) self.now.taken
-            whole.id whole.body.now whole.used piece.now) }
+    pub fn whole_value<'a>(&self, piece: &'a [u8]) -> Option<Whole<'a>>
+        ensures between { IfSome result (λ whole. IsBetweenItems self.now) }
+        ensures body { IfSome result (λ whole.
+            HasBodyNext self.now whole.id whole.body.now whole.used piece.now) }
     {
         let announced = self.announced(piece)?;
         let head = announced.used;
@@ -88,12 +86,13 @@ impl<B: Builder> Reading<B> {
         })
     }
 
-    /// The item of a value at the front of the piece, where no byte of it was taken before and more bytes of it are to
-    /// come. None says nothing of the piece.
-    pub(crate) fn awaited(&self, piece: &[u8]) -> Option<Awaited>
-        ensures between { IfSome result (λ awaited. IsBetween self.now) }
-        ensures begun { IfSome result (λ awaited. HasBegun self.now.limits (types self.now.types) self.now.taken
-            awaited.id awaited.head awaited.size piece.now) }
+    /// The item of a value at the front of the piece, where no byte of an item is under way and more bytes of it are to
+    /// come: its type is ready and the limits allow its length. It takes no memory, and looks at no byte of the value.
+    /// None says nothing of the piece.
+    pub fn awaited(&self, piece: &[u8]) -> Option<Awaited>
+        ensures between { IfSome result (λ awaited. IsBetweenItems self.now) }
+        ensures begun { IfSome result (λ awaited.
+            HasBegunNext self.now awaited.id awaited.head awaited.size piece.now) }
     {
         let announced = self.announced(piece)?;
         let count_end = announced.used;
@@ -110,9 +109,9 @@ impl<B: Builder> Reading<B> {
 
     /// The count at the front of the piece, where no byte of the item was taken before and the limits allow its length.
     fn announced(&self, piece: &[u8]) -> Option<Announced>
-        ensures between { IfSome result (λ announced. IsBetween self.now) }
-        ensures count { IfSome result (λ announced. HasCount self.now.limits self.now.taken announced.count
-            announced.used piece.now) }
+        ensures between { IfSome result (λ announced. IsBetweenItems self.now) }
+        ensures count { IfSome result (λ announced. HasCount (limits_of self.now) (taken_of self.now)
+            announced.count announced.used piece.now) }
         ensures fits { IfSome result (λ announced. announced.used + announced.count < 2 ^ 64) }
     {
         match &self.stage {
@@ -133,18 +132,17 @@ impl<B: Builder> Reading<B> {
         Some(Announced { count, used })
     }
 
-    /// Goes past the item of a value that stands whole at the front of the piece, and keeps nothing of its value. None
-    /// says nothing of the piece, and then nothing has changed.
-    pub(crate) fn pass_whole(&mut self, piece: &[u8]) -> Option<Passed>
-        ensures passed { IfSome result (λ item. PassesItem B.stands ⟦<TreeBuilder as Builder>⟧.stands B.DEPTH
-            self.old self.new item.id item.used piece.now) }
+    /// Goes past the item of a value that stands whole at the front of the piece, and keeps nothing of the value. It
+    /// takes no memory. None says nothing of the piece, and then nothing has changed: [`Session::step`] reads on, and
+    /// refuses what is to be refused.
+    pub fn pass_whole(&mut self, piece: &[u8]) -> Option<Passed>
+        ensures passed { IfSome result (λ item. ReadsValue B.stands B.DEPTH self.old self.new
+            item.id item.used piece.now) }
         ensures same { result ≡ None → self.new ≡ self.old }
-        ensures usable { IsUsable B.stands ⟦<TreeBuilder as Builder>⟧.stands B.DEPTH self.old
-            → IsUsable B.stands ⟦<TreeBuilder as Builder>⟧.stands B.DEPTH self.new }
-        ensures between { IfSome result (λ item. IsBetween self.new) }
-        ensures taken { IfSome result (λ item. self.new.taken ≡ self.old.taken + item.used) }
-        ensures types { self.new.types ≡ self.old.types }
-        ensures limits { self.new.limits ≡ self.old.limits }
+        ensures between { IfSome result (λ item. IsBetweenItems self.new) }
+        ensures taken { IfSome result (λ item. taken_of self.new ≡ taken_of self.old + item.used) }
+        ensures types { table_of self.new ≡ table_of self.old }
+        ensures limits { limits_of self.new ≡ limits_of self.old }
     {
         let whole = self.whole_value(piece)?;
         let depth = self.limits.depth().min(B::DEPTH);
@@ -158,23 +156,15 @@ impl<B: Builder> Reading<B> {
         })
     }
 
-    /// Goes past so many bytes, which are an item of a value.
-    pub(crate) fn pass(&mut self, used: usize)
-        requires between { IsBetween self.old }
-        requires item { HasItem (no_deeper B.DEPTH self.old.limits) (types self.old.types) self.old.taken used }
-        ensures passed { (items : List StreamItem) (bytes : List ℕ) (item : StreamItem) (z : List ℕ)
-            → StandsAfter B.stands ⟦<TreeBuilder as Builder>⟧.stands B.DEPTH self.old items bytes
-            → Counted base_table (no_deeper B.DEPTH self.old.limits) (types self.old.types) self.old.taken
-            item z (types self.old.types)
-            → length z ≡ used
-            → StandsAfter B.stands ⟦<TreeBuilder as Builder>⟧.stands B.DEPTH self.new
-            (items ++ item ∷ []) (bytes ++ z) }
-        ensures usable { IsUsable B.stands ⟦<TreeBuilder as Builder>⟧.stands B.DEPTH self.old
-            → IsUsable B.stands ⟦<TreeBuilder as Builder>⟧.stands B.DEPTH self.new }
-        ensures between { IsBetween self.new }
-        ensures taken { self.new.taken ≡ self.old.taken + used }
-        ensures types { self.new.types ≡ self.old.types }
-        ensures limits { self.new.limits ≡ self.old.limits }
+    /// Goes past so many bytes, which the caller has found to be an item that defines nothing.
+    pub fn pass(&mut self, used: usize)
+        requires between { IsBetweenItems self.old }
+        requires item { HasItemNext B.DEPTH self.old used }
+        ensures passed { ReadsOn B.stands B.DEPTH self.old self.new used }
+        ensures between { IsBetweenItems self.new }
+        ensures taken { taken_of self.new ≡ taken_of self.old + used }
+        ensures types { table_of self.new ≡ table_of self.old }
+        ensures limits { limits_of self.new ≡ limits_of self.old }
     {
         // its contract says that no stream is so long that the sum wraps
         let _most = self.limits.stream();

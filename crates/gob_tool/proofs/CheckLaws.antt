@@ -15,8 +15,7 @@ use Rattle.gob_read.specs.declared.skip_builder.SkipBuilder.{SkipBuilder}
 use Rattle.gob_stream.specs.declared.fault.Fault.{Fault}
 use Rattle.gob_stream.specs.declared.fault.Fault.TheVariants as reading
 use Rattle.gob_stream.specs.declared.item.Item as declared
-use Rattle.gob_stream.specs.declared.reading.Reading.{Reading}
-use Rattle.gob_stream.specs.declared.session.Session.{Session}
+use Rattle.gob_stream.specs.SessionState.{SessionState}
 use Rattle.gob_stream.specs.Body.{Body, definition, value}
 use Rattle.gob_stream.specs.Bounds.{Bounds, AreLimits, deepest, no_deeper}
 use Rattle.gob_stream.specs.Item.{StreamItem, puts}
@@ -61,13 +60,13 @@ stream_defines (and_then {i = i} {items = items} (counted u l s p) e r) =
 pub limits_as : {L M : Bounds} → L ≡ M → AreLimits deepest M → AreLimits deepest L
 limits_as same l = subst (λ (L : Bounds). AreLimits deepest L) (sym same) l
 
-pub counts_first : (s : Reading SkipBuilder (Unit {0})) (read : Option (List ℕ)) → GaveCounts s [] []
+pub counts_first : (s : SessionState SkipBuilder (Unit {0})) (read : Option (List ℕ)) → GaveCounts s [] []
     → CountsIn s read read 0 0
 counts_first s read gave = record
     { given = []; taken = []; input = Consumes-nil read; gave = gave; items_are = refl; bytes_are = refl }
 
-module _ {s : Reading SkipBuilder (Unit {0})} {read now : Option (List ℕ)} {n m : ℕ} (i : CountsIn s read now n m) where
-  pub counts_on : {s' : Reading SkipBuilder (Unit {0})} {k : ℕ} (next : Option (List ℕ)) (piece : List ℕ) (j : ℕ)
+module _ {s : SessionState SkipBuilder (Unit {0})} {read now : Option (List ℕ)} {n m : ℕ} (i : CountsIn s read now n m) where
+  pub counts_on : {s' : SessionState SkipBuilder (Unit {0})} {k : ℕ} (next : Option (List ℕ)) (piece : List ℕ) (j : ℕ)
       → Consumes now next piece → j ≡ length piece → HasCounted s' k (i.taken ++ piece)
       → CountsIn s' read next k (m + j)
   counts_on next piece j c long h = record {
@@ -90,7 +89,7 @@ module _ {s : Reading SkipBuilder (Unit {0})} {read now : Option (List ℕ)} {n 
 
   -- ---- the ends
   -- the input ended between two items
-  pub counted_whole : (M : Bounds) (s' : Reading SkipBuilder (Unit {0})) (next : Option (List ℕ)) (bytes : List ℕ) (u : Unit {0})
+  pub counted_whole : (M : Bounds) (s' : SessionState SkipBuilder (Unit {0})) (next : Option (List ℕ)) (bytes : List ℕ) (u : Unit {0})
       (tally : Tally) → s.limits ≡ M → read ≡ Some bytes → Consumes now next [] → IsAtEnd next
       → ReadingFinishes deepest s s' i.given i.taken (Ok u) → tally.items ≡ n
       → tally.types ≡ definition_count (types s.types) → tally.bytes ≡ m
@@ -113,7 +112,7 @@ module _ {s : Reading SkipBuilder (Unit {0})} {read now : Option (List ℕ)} {n 
       })
 
   -- or within an item
-  pub counted_within : (M : Bounds) (s' : Reading SkipBuilder (Unit {0})) (next : Option (List ℕ)) (bytes : List ℕ) (e : Fault)
+  pub counted_within : (M : Bounds) (s' : SessionState SkipBuilder (Unit {0})) (next : Option (List ℕ)) (bytes : List ℕ) (e : Fault)
       → s.limits ≡ M → read ≡ Some bytes → Consumes now next [] → IsAtEnd next
       → ReadingFinishes deepest s s' i.given i.taken (Err e)
       → IsNoStream (no_deeper deepest M) bytes next (reading_fault e)
@@ -153,7 +152,7 @@ module _ {s : Reading SkipBuilder (Unit {0})} {read now : Option (List ℕ)} {n 
   count_stopped M next piece bytes reading.Failed same known c f = absurd f
 
 -- ---- within a piece
-pub items_fit : {s : Reading SkipBuilder (Unit {0})} {n : ℕ} {bytes : List ℕ} → HasCounted s n bytes
+pub items_fit : {s : SessionState SkipBuilder (Unit {0})} {n : ℕ} {bytes : List ℕ} → HasCounted s n bytes
     → AreLimits deepest s.limits → n < 2 ^ 64
 items_fit h l =
     let bound = stands_within h.gave in
@@ -161,12 +160,12 @@ items_fit h l =
     omega (arith, l.stream, h.items_are)
 
 -- so many bytes and items, and no more, can be counted
-pub items_end : {s : Reading SkipBuilder (Unit {0})} {n : ℕ} {bytes : List ℕ} → HasCounted s n bytes
+pub items_end : {s : SessionState SkipBuilder (Unit {0})} {n : ℕ} {bytes : List ℕ} → HasCounted s n bytes
     → n ≤ s.limits.stream + 9
 items_end h = let bound = stands_within h.gave in let few = items_within h.gave in omega (arith, h.items_are)
 
 -- the item of a value that stands whole
-pub counts_whole : {s s' : Reading SkipBuilder (Unit {0})} {id : TypeId} {used n n' : ℕ} {piece : List ℕ}
+pub counts_whole : {s s' : SessionState SkipBuilder (Unit {0})} {id : TypeId} {used n n' : ℕ} {piece : List ℕ}
     → PassesItem skip_builder.stands-value.it tree_builder.stands-value.it deepest s s' id used piece → n' ≡ n + 1
     → (bytes : List ℕ) → HasCounted s n bytes → CountsOn s' n n' bytes piece used
 counts_whole {id = id} p e bytes h = record {
@@ -180,7 +179,7 @@ counts_whole {id = id} p e bytes h = record {
 }
 
 -- an item that is whole with the bytes of a step
-pub counts_item : {s s' : Reading SkipBuilder (Unit {0})} {used n n' : ℕ} {bytes piece : List ℕ}
+pub counts_item : {s s' : SessionState SkipBuilder (Unit {0})} {used n n' : ℕ} {bytes piece : List ℕ}
     {o : Option (declared.Item (Unit {0}))} {given : declared.Item (Unit {0})} → o ≡ Some given → n' ≡ n + 1
     → (h : HasCounted s n bytes)
     → AdvancesOver skip_builder.stands-value.it tree_builder.stands-value.it skip_builder.means-value.it deepest s'
@@ -197,7 +196,7 @@ counts_item f e h (over_item {i = i} l w m a) = record {
 }
 
 -- or none is
-pub counts_none : {s s' : Reading SkipBuilder (Unit {0})} {used n : ℕ} {bytes piece : List ℕ}
+pub counts_none : {s s' : SessionState SkipBuilder (Unit {0})} {used n : ℕ} {bytes piece : List ℕ}
     {o : Option (declared.Item (Unit {0}))} → o ≡ None → (h : HasCounted s n bytes)
     → AdvancesOver skip_builder.stands-value.it tree_builder.stands-value.it skip_builder.means-value.it deepest s'
     h.given bytes piece used o → CountsOn s' n n bytes piece used
@@ -209,7 +208,7 @@ counts_none f h (over_some l w a) = record {
 counts_none f h (over_item l w m a) = cc
 
 -- a step was refused
-pub step_stops : (s s' : Reading SkipBuilder (Unit {0})) (items : List StreamItem) (bytes piece : List ℕ) (e : Fault)
+pub step_stops : (s s' : SessionState SkipBuilder (Unit {0})) (items : List StreamItem) (bytes piece : List ℕ) (e : Fault)
     → Advances skip_builder.stands-value.it tree_builder.stands-value.it skip_builder.means-value.it deepest s s'
     items bytes piece (Err e) → StopsCounting (no_deeper deepest s.limits) (bytes ++ piece) e
 step_stops s s' items bytes piece (reading.Refused R) f = (items, f.0)
@@ -218,13 +217,13 @@ step_stops s s' items bytes piece reading.Memory f = tt
 step_stops s s' items bytes piece reading.Failed f = absurd f
 
 -- a session in which nothing has changed
-pub counted_still : {s s' : Session SkipBuilder (Unit {0})} {n : ℕ} {bytes : List ℕ} → s' ≡ s
-    → HasCounted s.reading n bytes → HasCounted s'.reading n bytes
-counted_still {n = n} {bytes = bytes} e h = subst (λ (s : Session SkipBuilder (Unit {0})). HasCounted s.reading n bytes)
+pub counted_still : {s s' : SessionState SkipBuilder (Unit {0})} {n : ℕ} {bytes : List ℕ} → s' ≡ s
+    → HasCounted s n bytes → HasCounted s' n bytes
+counted_still {n = n} {bytes = bytes} e h = subst (λ (s : SessionState SkipBuilder (Unit {0})). HasCounted s n bytes)
     (sym e) h
 
 -- from item to item
-pub counts_none_yet : {s : Reading SkipBuilder (Unit {0})} {n : ℕ} (piece bytes : List ℕ) → HasCounted s n bytes
+pub counts_none_yet : {s : SessionState SkipBuilder (Unit {0})} {n : ℕ} (piece bytes : List ℕ) → HasCounted s n bytes
     → CountsUpTo s n bytes piece piece
 counts_none_yet {s = s} {n = n} piece bytes h = record {
   front = [];
@@ -232,7 +231,7 @@ counts_none_yet {s = s} {n = n} piece bytes h = record {
   counted = subst (λ (l : List ℕ). HasCounted s n l) (sym (append-nil bytes)) h;
 }
 
-pub counts_up_to : {s s' : Reading SkipBuilder (Unit {0})} {n n' used : ℕ} {bytes piece rest later : List ℕ}
+pub counts_up_to : {s s' : SessionState SkipBuilder (Unit {0})} {n n' used : ℕ} {bytes piece rest later : List ℕ}
     → later ≡ drop used rest → (u : CountsUpTo s n bytes piece rest) → CountsOn s' n n' (bytes ++ u.front) rest used
     → CountsUpTo s' n' bytes piece later
 counts_up_to {s' = s'} {n' = n'} {used = used} {bytes = bytes} {rest = rest} so u on = record {
@@ -244,7 +243,7 @@ counts_up_to {s' = s'} {n' = n'} {used = used} {bytes = bytes} {rest = rest} so 
   counted = subst (λ (l : List ℕ). HasCounted s' n' l) (append_assoc bytes u.front (take used rest)) on.counted;
 }
 
-pub counts_falls : {s s' : Reading SkipBuilder (Unit {0})} {n n' used : ℕ} {bytes rest : List ℕ} → s'.limits ≡ s.limits
+pub counts_falls : {s s' : SessionState SkipBuilder (Unit {0})} {n n' used : ℕ} {bytes rest : List ℕ} → s'.limits ≡ s.limits
     → HasCounted s n bytes → CountsOn s' n n' bytes rest used
     → length rest - used + (s'.limits.stream + 9 - n') < length rest + (s.limits.stream + 9 - n)
 counts_falls same h on =
@@ -254,7 +253,7 @@ counts_falls same h on =
     omega (arith, on.within, on.nearer)
 
 -- all of the piece was taken
-pub counts_piece : {s : Reading SkipBuilder (Unit {0})} {n : ℕ} {bytes piece rest : List ℕ} → length rest ≡ 0
+pub counts_piece : {s : SessionState SkipBuilder (Unit {0})} {n : ℕ} {bytes piece rest : List ℕ} → length rest ≡ 0
     → CountsUpTo s n bytes piece rest → HasCounted s n (bytes ++ piece)
 counts_piece {s = s} {n = n} {bytes = bytes} {rest = []} none u =
     subst (λ (l : List ℕ). HasCounted s n (bytes ++ l)) (sym (u.whole ∙ append-nil u.front)) u.counted
@@ -266,7 +265,7 @@ pub stops_under : (L M : Bounds) (bytes : List ℕ) (e : Fault) → L ≡ M → 
 stops_under L M bytes e same f = subst (λ (L : Bounds). StopsCounting (no_deeper deepest L) bytes e) same f
 
 -- or the rest of it is refused
-pub stops_piece : {s : Reading SkipBuilder (Unit {0})} {n : ℕ} {bytes piece rest : List ℕ} (L M : Bounds) (e : Fault)
+pub stops_piece : {s : SessionState SkipBuilder (Unit {0})} {n : ℕ} {bytes piece rest : List ℕ} (L M : Bounds) (e : Fault)
     → L ≡ M → (u : CountsUpTo s n bytes piece rest)
     → StopsCounting (no_deeper deepest L) ((bytes ++ u.front) ++ rest) e
     → StopsCounting (no_deeper deepest M) (bytes ++ piece) e
@@ -276,12 +275,12 @@ stops_piece {bytes = bytes} {piece = piece} {rest = rest} L M e same u f =
     (append_assoc bytes u.front rest ∙ ap (λ (l : List ℕ). bytes ++ l) (sym u.whole)) f)
 
 -- at the error that a `?` returns
-pub counts_all_at : (L : Bounds) (s : Reading SkipBuilder (Unit {0})) (n : ℕ) (bytes : List ℕ)
+pub counts_all_at : (L : Bounds) (s : SessionState SkipBuilder (Unit {0})) (n : ℕ) (bytes : List ℕ)
     (r : Result (Unit {0}) Fault) (e : Fault) → IsErrAnd r (λ x. x ≡ e) → StopsCounting L bytes e → CountsAll L s n bytes r
 counts_all_at L s n bytes (Ok u) e is h = absurd is
 counts_all_at L s n bytes (Err g) e is h = subst (λ e. StopsCounting L bytes e) (sym is) h
 
-pub counts_front_at : (L : Bounds) (s : Reading SkipBuilder (Unit {0})) (n n' : ℕ) (bytes piece : List ℕ)
+pub counts_front_at : (L : Bounds) (s : SessionState SkipBuilder (Unit {0})) (n n' : ℕ) (bytes piece : List ℕ)
     (r : Result ℕ Fault) (e : Fault) → IsErrAnd r (λ x. x ≡ e) → StopsCounting L (bytes ++ piece) e
     → CountsFront L s n n' bytes piece r
 counts_front_at L s n n' bytes piece (Ok u) e is h = absurd is
@@ -299,7 +298,7 @@ pub counting_reads_at : {A : Type 0} (failures failures' : ℕ) (r : Result A To
 counting_reads_at failures failures' (Ok a) f e h = absurd e
 counting_reads_at {A = A} failures failures' (Err g) f e h = subst (λ f. CountsCounting {A = A} failures failures' (Err f)) (sym e) h
 
-pub finish_reads : (A : Type 0) (s s' : Reading SkipBuilder (Unit {0})) (items : List StreamItem) (bytes : List ℕ)
+pub finish_reads : (A : Type 0) (s s' : SessionState SkipBuilder (Unit {0})) (items : List StreamItem) (bytes : List ℕ)
     (failures failures' : ℕ) (e : Fault) → ReadingFinishes deepest s s' items bytes (Err e) → failures' ≡ failures
     → CountsCounting {A = A} failures failures' (Err (reading_fault e))
 finish_reads A s s' items bytes failures failures' (reading.Refused R) f h = h

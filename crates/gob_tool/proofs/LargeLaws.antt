@@ -22,7 +22,7 @@ use Rattle.gob_value.specs.Spelling.{of_bytes, of_text, of_opaque, of_slice, of_
 use Rattle.gob_value.specs.Top.{IsStruct, SpellsTop, at_once, tagged}
 use Rattle.gob_value.specs.Whole.{IsWhole}
 use Rattle.gob_read.specs.declared.tree_builder.TreeBuilder.{TreeBuilder}
-use Rattle.gob_stream.specs.declared.reading.Reading.{Reading}
+use Rattle.gob_stream.specs.SessionState.{SessionState}
 use Rattle.gob_stream.specs.Bounds.{within_trees}
 use Rattle.gob_stream.specs.Item.{puts}
 use Rattle.gob_tool.specs.declared.fault.ToolFault.{ToolFault}
@@ -195,7 +195,7 @@ line_out {T = T} {t = t} {head = head} before old mid new l e a (Err f) w =
     )
 
 -- ---- where a run stands behind it
-module _ {s s' : Reading TreeBuilder Value} {bytes piece : List ℕ} {old mid : Option (List ℕ)} {gathered after : List ℕ}
+module _ {s s' : SessionState TreeBuilder Value} {bytes piece : List ℕ} {old mid : Option (List ℕ)} {gathered after : List ℕ}
     {used : ℕ} (same : s'.limits ≡ s.limits) (b : StandsBehind s bytes old mid gathered) (all : used ≡ length piece)
     (w : GathersWhole s s' piece gathered after used) where
   list_taken : StandsBehind s' (bytes ++ piece) old mid after

@@ -11,7 +11,7 @@ use Rattle.gob_read.specs.declared.tree_builder.TreeBuilder.{TreeBuilder}
 use Rattle.gob_stream.specs.declared.fault.Fault.{Fault}
 use Rattle.gob_stream.specs.declared.fault.Fault.TheVariants as reading
 use Rattle.gob_stream.specs.declared.item.Item as declared
-use Rattle.gob_stream.specs.declared.reading.Reading.{Reading}
+use Rattle.gob_stream.specs.SessionState.{SessionState}
 use Rattle.gob_stream.specs.Bounds.{Bounds, greatest_depth, within_trees}
 use Rattle.gob_stream.specs.Item.{StreamItem, item_views}
 use Rattle.gob_stream.specs.Stream.{Stream}
@@ -22,7 +22,7 @@ use Rattle.gob_tool.specs.Pieces.{TypesBehind, EndsPiece, GivesPiece, CountsPiec
 use Rattle.gob_tool.proofs.ShowLaws.{types_behind, types_beyond, falls}
 
 -- the same at the error that a `?` returns
-pub piece_at : (s s' : Reading TreeBuilder Value) (items : List StreamItem) (taken : List ℕ) (given : List StreamItem)
+pub piece_at : (s s' : SessionState TreeBuilder Value) (items : List StreamItem) (taken : List ℕ) (given : List StreamItem)
     (read now : Option (List ℕ)) (r : Result Bool Fault) (e : Fault) → IsErrAnd r (λ x. x ≡ e)
     → GivesPiece s s' items taken given read now (Err e) → GivesPiece s s' items taken given read now r
 piece_at s s' items taken given read now (Ok b) e x h = absurd x
@@ -36,7 +36,7 @@ counts_piece_at failures failures' (Err f) e x h = subst (λ e. CountsPiece {A =
     (sym x) h
 
 -- ---- no bytes were read
-pub gives_none : (s s' : Reading TreeBuilder Value) (items : List StreamItem) (taken : List ℕ) (given : List StreamItem)
+pub gives_none : (s s' : SessionState TreeBuilder Value) (items : List StreamItem) (taken : List ℕ) (given : List StreamItem)
     (read now : Option (List ℕ)) (result : Result Bool Fault) → given ≡ [] → Consumes read now []
     → s'.types ≡ s.types → GaveItems s items taken → EndsPiece (within_trees s.limits) s s' items taken now result
     → GivesPiece s s' items taken given read now result
@@ -63,12 +63,12 @@ gives_none s s' items taken given read now result none c same gave ends =
     }
 
 -- the input ended
-pub ends_whole : (s s' : Reading TreeBuilder Value) (items : List StreamItem) (taken : List ℕ) (now : Option (List ℕ))
+pub ends_whole : (s s' : SessionState TreeBuilder Value) (items : List StreamItem) (taken : List ℕ) (now : Option (List ℕ))
     (u : Unit {0}) → ReadingFinishes greatest_depth s s' items taken (Ok u) → IsAtEnd now
     → EndsPiece (within_trees s.limits) s s' items taken now (Ok false)
 ends_whole s s' items taken now u f end = (f.0, end)
 
-pub ends_within : (s s' : Reading TreeBuilder Value) (items : List StreamItem) (taken : List ℕ) (now : Option (List ℕ))
+pub ends_within : (s s' : SessionState TreeBuilder Value) (items : List StreamItem) (taken : List ℕ) (now : Option (List ℕ))
     (e : Fault) → ReadingFinishes greatest_depth s s' items taken (Err e) → IsAtEnd now
     → EndsPiece (within_trees s.limits) s s' items taken now (Err e)
 ends_within s s' items taken now (reading.Refused R) f end = (f.0, inr end)
@@ -76,7 +76,7 @@ ends_within s s' items taken now reading.Read f end = absurd f
 ends_within s s' items taken now reading.Memory f end = absurd f
 ends_within s s' items taken now reading.Failed f end = absurd f
 
-pub finish_unread : (s s' : Reading TreeBuilder Value) (items : List StreamItem) (taken : List ℕ)
+pub finish_unread : (s s' : SessionState TreeBuilder Value) (items : List StreamItem) (taken : List ℕ)
     (failures failures' : ℕ) (e : Fault) → ReadingFinishes greatest_depth s s' items taken (Err e) → failures' ≡ failures
     → CountsPiece {A = Bool} failures failures' (Err e)
 finish_unread s s' items taken failures failures' (reading.Refused R) f h = h
@@ -85,7 +85,7 @@ finish_unread s s' items taken failures failures' reading.Memory f h = h
 finish_unread s s' items taken failures failures' reading.Failed f h = h
 
 -- ---- a piece was fed
-module _ (s s' : Reading TreeBuilder Value) (items : List StreamItem) (taken piece : List ℕ)
+module _ (s s' : SessionState TreeBuilder Value) (items : List StreamItem) (taken piece : List ℕ)
     (given new : List (declared.Item Value)) (read now : Option (List ℕ))
     (same : s'.limits ≡ s.limits) (gave : GaveItems s items taken) (appended : new ≡ given)
     (c : Consumes read now piece) where
@@ -131,7 +131,7 @@ module _ (s s' : Reading TreeBuilder Value) (items : List StreamItem) (taken pie
       (types_beyond f.holds.1) tt
   gives_stopped reading.Failed f = absurd f
 
-pub feed_unread : (s s' : Reading TreeBuilder Value) (items : List StreamItem) (taken piece : List ℕ)
+pub feed_unread : (s s' : SessionState TreeBuilder Value) (items : List StreamItem) (taken piece : List ℕ)
     (given : List (declared.Item Value)) (failures failures' : ℕ) (e : Fault)
     → Feeds tree_builder.stands-value.it tree_builder.stands-value.it tree_builder.means-value.it greatest_depth s s'
     items taken piece given (Err e) → failures' ≡ failures → CountsPiece {A = Bool} failures failures' (Err e)

@@ -9,7 +9,7 @@ use Rattle.gob_value.specs.Tree.{Tree}
 use Rattle.gob_read.specs.declared.tree_builder.TreeBuilder.{TreeBuilder}
 use Rattle.gob_stream.specs.declared.fault.Refusal.{Refusal}
 use Rattle.gob_stream.specs.declared.item.Item as declared
-use Rattle.gob_stream.specs.declared.reading.Reading.{Reading}
+use Rattle.gob_stream.specs.SessionState.{SessionState}
 use Rattle.gob_stream.specs.Bounds.{Bounds, no_deeper}
 use Rattle.gob_stream.specs.Item.{StreamItem, ItemsMean, mean_none, mean_more}
 use Rattle.gob_stream.specs.Outcome.{BeginsWith}
@@ -47,7 +47,7 @@ items_few (and_then {b = b} {c = c} q e r) = let some = counted_some q in let fe
 
 module _ {X O : Type 0} {stands : Standing X} {trees : Standing TreeBuilder} {most : ℕ} where
   -- each piece brings the reader nearer to where it has to stop
-  pub nearer : {s s' : Reading X O} {items others : List StreamItem} {taken : List ℕ} (piece : List ℕ)
+  pub nearer : {s s' : SessionState X O} {items others : List StreamItem} {taken : List ℕ} (piece : List ℕ)
       → StandsAfter stands trees most s items taken → StandsAfter stands trees most s' others (taken ++ piece)
       → s'.limits ≡ s.limits → 0 < length piece
       → s'.limits.stream + 9 - s'.taken < s.limits.stream + 9 - s.taken
@@ -57,12 +57,12 @@ module _ {X O : Type 0} {stands : Standing X} {trees : Standing TreeBuilder} {mo
       omega (arith, a.taken, b.taken, length-append taken piece)
 
   -- what was given, the bytes begin with
-  pub begins_so : {s : Reading X O} {items : List StreamItem} {taken : List ℕ} → StandsAfter stands trees most s items taken
+  pub begins_so : {s : SessionState X O} {items : List StreamItem} {taken : List ℕ} → StandsAfter stands trees most s items taken
       → BeginsWith base_table (no_deeper most s.limits) taken items
   begins_so {s = s} a = record
       { front = a.front; rest = a.under_way; table = types s.types; stream = a.stream; whole = a.whole }
 
   -- there are no more items than bytes
-  pub items_within : {s : Reading X O} {items : List StreamItem} {taken : List ℕ}
+  pub items_within : {s : SessionState X O} {items : List StreamItem} {taken : List ℕ}
       → StandsAfter stands trees most s items taken → length items ≤ length taken
   items_within a = let few = items_few a.stream in omega (arith, ap length a.whole, length-append a.front a.under_way)

@@ -8,7 +8,7 @@ use Rattle.gob_types.specs.Base.{base_table}
 use Rattle.gob_types.specs.Defined.{types}
 use Rattle.gob_types.specs.Table.{Table}
 use Rattle.gob_stream.specs.declared.fault.Fault.{Fault}
-use Rattle.gob_stream.specs.declared.reading.Reading.{Reading}
+use Rattle.gob_stream.specs.SessionState.{SessionState}
 use Rattle.gob_stream.specs.declared.writer.StreamWriter.{StreamWriter}
 use Rattle.gob_stream.specs.Bounds.{Bounds, AreLimits, deepest, no_deeper}
 use Rattle.gob_stream.specs.Outcome.{GivesItems}
@@ -31,7 +31,7 @@ use Rattle.gob_tool.proofs.RewriteRuns.{tidy_there, front_there, tidy_as, front_
 use Rattle.gob_tool.proofs.RewriteRuns.{rewrites_on, up_to_none}
 
 -- ---- what the answers say
-pub front_at : {s : Reading TapeBuilder Tape} {w : StreamWriter} (h : HasRewritten s w) (s' : Reading TapeBuilder Tape)
+pub front_at : {s : SessionState TapeBuilder Tape} {w : StreamWriter} (h : HasRewritten s w) (s' : SessionState TapeBuilder Tape)
     (w' : StreamWriter) (piece : List ℕ) (old new : Option (List ℕ)) (before after : List ℕ)
     (r : Result (Option ℕ) ToolFault) (f : ToolFault) → IsErrAnd r (λ x. x ≡ f)
     → RewritesPiece (no_deeper deepest s.limits) h s' w' piece old new before after (Err f)
@@ -40,8 +40,8 @@ front_at h s' w' piece old new before after (Ok used) f is x = absurd is
 front_at {s = s} h s' w' piece old new before after (Err e) f is x =
     subst (λ f. RewritesPiece (no_deeper deepest s.limits) h s' w' piece old new before after (Err f)) (sym is) x
 
-pub keeping_at : (L : Bounds) {s : Reading TapeBuilder Tape} {w : StreamWriter} (h : HasRewritten s w)
-    (s' : Reading TapeBuilder Tape) (w' : StreamWriter) (kept piece : List ℕ) (old new : Option (List ℕ))
+pub keeping_at : (L : Bounds) {s : SessionState TapeBuilder Tape} {w : StreamWriter} (h : HasRewritten s w)
+    (s' : SessionState TapeBuilder Tape) (w' : StreamWriter) (kept piece : List ℕ) (old new : Option (List ℕ))
     (before after : List ℕ) (r : Result (Unit {0}) ToolFault) (f : ToolFault) → IsErrAnd r (λ e. e ≡ f)
     → RewritesPiece L h s' w' piece old new before after (Err f)
     → RewritesKeeping L h s' w' kept piece old new before after r
@@ -50,7 +50,7 @@ keeping_at L h s' w' kept piece old new before after (Err g) f e x =
     subst (λ f. RewritesPiece L h s' w' piece old new before after (Err f)) (sym e) x
 
 -- ---- the kept bytes
-module _ {s : Reading TapeBuilder Tape} {w : StreamWriter} (h : HasRewritten s w) where
+module _ {s : SessionState TapeBuilder Tape} {w : StreamWriter} (h : HasRewritten s w) where
   -- no memory was had to keep more
   pub memory_kept : (piece : List ℕ) (out : Option (List ℕ)) (before : List ℕ)
       → RewritesFront (no_deeper deepest s.limits) (h.taken ++ piece)
@@ -67,21 +67,21 @@ module _ {s : Reading TapeBuilder Tape} {w : StreamWriter} (h : HasRewritten s w
       (up_to_none h (kept ++ piece) out before, some_kept (missing - length piece) (lacks_still piece l few))
 
   -- what is behind the whole items of a piece is kept
-  pub rest_kept : {s1 s2 : Reading TapeBuilder Tape} {w1 w2 : StreamWriter} {piece rest kept : List ℕ}
+  pub rest_kept : {s1 s2 : SessionState TapeBuilder Tape} {w1 w2 : StreamWriter} {piece rest kept : List ℕ}
       {old mid new : Option (List ℕ)} {before g1 g2 : List ℕ} → RewritesUpTo h s1 w1 piece rest old mid before g1
       → kept ≡ rest → StandsStill s1 s2 w1 w2 mid new g1 g2 × IsKeptFront s2 rest
       → RewritesUpTo h s2 w2 piece kept old new before g2 × IsKeptFront s2 kept
   rest_kept {s1 = s1} {s2 = s2} {w1 = w1} {w2 = w2} {piece = piece} {rest = rest} {kept = kept} {old = old} {mid = mid}
       {new = new} {before = before} {g1 = g1} {g2 = g2} u e x =
       let still = x.0 in
-      let v = subst (λ (s : Reading TapeBuilder Tape). RewritesUpTo h s w1 piece rest old mid before g1) (sym still.0) u in
+      let v = subst (λ (s : SessionState TapeBuilder Tape). RewritesUpTo h s w1 piece rest old mid before g1) (sym still.0) u in
       let v1 = subst (λ (w : StreamWriter). RewritesUpTo h s2 w piece rest old mid before g1) (sym still.1) v in
       let v2 = subst (λ (o : Option (List ℕ)). RewritesUpTo h s2 w2 piece rest old o before g1) (sym still.2) v1 in
       let v3 = subst (λ (g : List ℕ). RewritesUpTo h s2 w2 piece rest old new before g) (sym still.3) v2 in
       subst (λ (k : List ℕ). RewritesUpTo h s2 w2 piece k old new before g2 × IsKeptFront s2 k) (sym e) (v3, x.1)
 
   -- no memory was had to keep it
-  pub rest_begun : {s1 s2 : Reading TapeBuilder Tape} {w1 w2 : StreamWriter} {piece rest : List ℕ}
+  pub rest_begun : {s1 s2 : SessionState TapeBuilder Tape} {w1 w2 : StreamWriter} {piece rest : List ℕ}
       {old mid new : Option (List ℕ)} {before g1 g2 : List ℕ} (M : Bounds) → s1.limits ≡ M
       → RewritesUpTo h s1 w1 piece rest old mid before g1
       → StandsStill s1 s2 w1 w2 mid new g1 g2 × IsKeptFront s2 rest
@@ -102,7 +102,7 @@ module _ {s : Reading TapeBuilder Tape} {w : StreamWriter} (h : HasRewritten s w
       (front_there u.on.next rest (P mid g1) u.on.adds))))
 
   -- ---- a piece in two
-  module _ {s1 : Reading TapeBuilder Tape} {w1 : StreamWriter} {front : List ℕ} (old mid : Option (List ℕ))
+  module _ {s1 : SessionState TapeBuilder Tape} {w1 : StreamWriter} {front : List ℕ} (old mid : Option (List ℕ))
       (before g1 : List ℕ) (x : RewritesOn h s1 w1 front (λ more. PassesSome old mid (before ++ more) g1)) where
     so_far_out : Gathered old mid g1 (before ++ x.adds.0)
     so_far_out = let p = x.adds.2 in record { written = p.written; out = p.out; whole = sym p.whole }
@@ -137,7 +137,7 @@ module _ {s : Reading TapeBuilder Tape} {w : StreamWriter} (h : HasRewritten s w
     two_whole behind piece e = ap (λ (l : List ℕ). l ++ behind) x.taken ∙ append_assoc h.taken front behind
         ∙ ap (λ (l : List ℕ). h.taken ++ l) e
 
-    two_there : (behind piece : List ℕ) (s2 : Reading TapeBuilder Tape) (w2 : StreamWriter) (kept : List ℕ)
+    two_there : (behind piece : List ℕ) (s2 : SessionState TapeBuilder Tape) (w2 : StreamWriter) (kept : List ℕ)
         (new : Option (List ℕ)) (g2 : List ℕ) (r : Result (Unit {0}) ToolFault) → front ++ behind ≡ piece
         → RewritesKeeping (no_deeper deepest s1.limits) x.next s2 w2 kept behind mid new g1 g2 r
         → RewritesKeeping (no_deeper deepest s1.limits) h s2 w2 kept piece old new before g2 r
@@ -172,7 +172,7 @@ module _ {s : Reading TapeBuilder Tape} {w : StreamWriter} (h : HasRewritten s w
     two_there behind piece s2 w2 kept new g2 (Err (fault.Clash path why)) e t = absurd t
     two_there behind piece s2 w2 kept new g2 (Err fault.Read) e t = absurd t
 
-    pub two_keeping : (M : Bounds) (behind piece : List ℕ) (s2 : Reading TapeBuilder Tape) (w2 : StreamWriter)
+    pub two_keeping : (M : Bounds) (behind piece : List ℕ) (s2 : SessionState TapeBuilder Tape) (w2 : StreamWriter)
         (kept : List ℕ) (new : Option (List ℕ)) (g2 : List ℕ) (r : Result (Unit {0}) ToolFault) → s1.limits ≡ M
         → front ++ behind ≡ piece
         → RewritesKeeping (no_deeper deepest s1.limits) x.next s2 w2 kept behind mid new g1 g2 r
@@ -185,7 +185,7 @@ module _ {s : Reading TapeBuilder Tape} {w : StreamWriter} (h : HasRewritten s w
   longer bytes all more e = ap (λ (l : List ℕ). h.taken ++ l) e ∙ sym (append_assoc h.taken bytes more)
 
   -- a fault stays where more bytes follow
-  pub fault_more : (L : Bounds) (s' s2 : Reading TapeBuilder Tape) (w' w2 : StreamWriter) (bytes all more : List ℕ)
+  pub fault_more : (L : Bounds) (s' s2 : SessionState TapeBuilder Tape) (w' w2 : StreamWriter) (bytes all more : List ℕ)
       (old new : Option (List ℕ)) (before after : List ℕ) (f : ToolFault) → all ≡ bytes ++ more
       → RewritesPiece L h s' w' bytes old new before after (Err f) → RewritesPiece L h s2 w2 all old new before after (Err f)
   fault_more L s' s2 w' w2 bytes all more old new before after (fault.Refused R) e x =
@@ -243,7 +243,7 @@ in_two None w a b c = record { at = None; first = tt; later = tt }
 in_two (Some x) None a b c = absurd c
 in_two (Some x) (Some z) a b c = record { at = Some (b ++ z); first = c ∙ append_assoc a b z; later = refl }
 
-pub keeps_first : (s : Reading TapeBuilder Tape) (w : StreamWriter) (kept : List ℕ) (read out : Option (List ℕ))
+pub keeps_first : (s : SessionState TapeBuilder Tape) (w : StreamWriter) (kept : List ℕ) (read out : Option (List ℕ))
     (gathered : List ℕ) → GaveTapes s [] [] → AreLimits deepest s.limits → IsNew w s.limits → gathered ≡ [] → kept ≡ []
     → RewritesKept s w kept read read out out gathered
 keeps_first s w kept read out gathered gave allowed fresh none empty = record {
@@ -253,7 +253,7 @@ keeps_first s w kept read out gathered gave allowed fresh none empty = record {
   is_kept = none_kept empty;
 }
 
-module _ {s : Reading TapeBuilder Tape} {w : StreamWriter} {kept : List ℕ} {read now old mid : Option (List ℕ)}
+module _ {s : SessionState TapeBuilder Tape} {w : StreamWriter} {kept : List ℕ} {read now old mid : Option (List ℕ)}
     {gathered : List ℕ} (i : RewritesKept s w kept read now old mid gathered) where
   -- the kept bytes and more
   pub taken_more : (next : Option (List ℕ)) (piece : List ℕ) → Consumes now next piece
@@ -264,7 +264,7 @@ module _ {s : Reading TapeBuilder Tape} {w : StreamWriter} {kept : List ℕ} {re
   pub taken_all : (next : Option (List ℕ)) → Consumes now next [] → Consumes i.behind next kept
   taken_all next c = subst (λ (l : List ℕ). Consumes i.behind next l) (append-nil kept) (taken_more next [] c)
 
-  pub keeps_on : {s' : Reading TapeBuilder Tape} {w' : StreamWriter} {next new : Option (List ℕ)} {after later : List ℕ}
+  pub keeps_on : {s' : SessionState TapeBuilder Tape} {w' : StreamWriter} {next new : Option (List ℕ)} {after later : List ℕ}
       (piece : List ℕ) → Consumes now next piece
       → RewritesUpTo i.taken.so_far s' w' (kept ++ piece) later mid new gathered after × IsKeptFront s' later
       → RewritesKept s' w' later read next old new after
@@ -279,7 +279,7 @@ module _ {s : Reading TapeBuilder Tape} {w : StreamWriter} {kept : List ℕ} {re
       }
 
   -- each piece brings the run nearer to where it has to stop
-  pub falls_keeping : {s' : Reading TapeBuilder Tape} {w' : StreamWriter} {new : Option (List ℕ)} {after later : List ℕ}
+  pub falls_keeping : {s' : SessionState TapeBuilder Tape} {w' : StreamWriter} {new : Option (List ℕ)} {after later : List ℕ}
       (piece : List ℕ) → RewritesUpTo i.taken.so_far s' w' (kept ++ piece) later mid new gathered after × IsKeptFront s' later
       → s'.limits ≡ s.limits → 0 < length piece
       → s'.limits.stream + 9 - (s'.taken + length later) < s.limits.stream + 9 - (s.taken + length kept)

@@ -25,7 +25,7 @@ use Rattle.gob_stream.specs.declared.fault.WriteFault.{WriteFault}
 use Rattle.gob_stream.specs.declared.fault.WriteFault.TheVariants as write
 use Rattle.gob_stream.specs.declared.item.Item as declared
 use Rattle.gob_stream.specs.declared.item.Item.TheVariants as variant
-use Rattle.gob_stream.specs.declared.reading.Reading.{Reading}
+use Rattle.gob_stream.specs.SessionState.{SessionState}
 use Rattle.gob_stream.specs.declared.writer.StreamWriter.{StreamWriter}
 use Rattle.gob_stream.specs.Body.{definition, value}
 use Rattle.gob_stream.specs.Bounds.{Bounds, deepest, no_deeper, within_trees}
@@ -185,7 +185,7 @@ tidied_more : {T : Table} {items others : List StreamItem} {v : Tree} (i : Strea
 tidied_more i no_item p = and_item p no_item
 tidied_more i (and_item q qs) p = and_item q (tidied_more i qs p)
 
-module _ {s : Reading TapeBuilder Tape} {w : StreamWriter} {h : HasRewritten s w} {i : StreamItem} {U : Table}
+module _ {s : SessionState TapeBuilder Tape} {w : StreamWriter} {h : HasRewritten s w} {i : StreamItem} {U : Table}
     (n : ComesNext h i U) where
   there : StandsThere (no_deeper deepest s.limits) (types s.types) U i
   there = record {
@@ -295,12 +295,12 @@ module _ {s : Reading TapeBuilder Tape} {w : StreamWriter} {h : HasRewritten s w
       → after ≡ after' → Pushes n w' before after (Ok u) → Pushes n w' before' after' (Ok u)
   pushes_as u e f p = (p.0, sym f ∙ p.1 ∙ ap (λ (l : List ℕ). l ++ p.0.more) e)
 
-pub of_stream : {s : Reading TapeBuilder Tape} {w : StreamWriter} {h : HasRewritten s w} {U : Table}
+pub of_stream : {s : SessionState TapeBuilder Tape} {w : StreamWriter} {h : HasRewritten s w} {U : Table}
     {g : declared.Item Tape} → IsNextTape h U g → IsOfStream (no_deeper deepest w.limits) (types w.types) U g
 of_stream n = record { item = n.item; meant = n.meant; there = stands_there n.next }
 
 -- a front of a value went out
-pub cut_out : {s : Reading TapeBuilder Tape} {w : StreamWriter} {h : HasRewritten s w} {t : TypeId} {v : Tree} {U : Table}
+pub cut_out : {s : SessionState TapeBuilder Tape} {w : StreamWriter} {h : HasRewritten s w} {t : TypeId} {v : Tree} {U : Table}
     (n : ComesNext h (puts t v) U) {w' : StreamWriter} {old new : Option (List ℕ)} {r : Result (Unit {0}) WriteFault}
     → WritesIt n w' old new r → r ≡ Err write.Write
     → (more : List ℕ) × IsTidiedItem n more × AppendsFront old new more

@@ -11,7 +11,7 @@ use Rattle.gob_types.specs.Table.{Table}
 use Rattle.gob_value.specs.Tree.{Tree}
 use Rattle.gob_stream.specs.declared.fault.WriteFault.{WriteFault}
 use Rattle.gob_stream.specs.declared.fault.WriteFault.TheVariants as write
-use Rattle.gob_stream.specs.declared.reading.Reading.{Reading}
+use Rattle.gob_stream.specs.SessionState.{SessionState}
 use Rattle.gob_stream.specs.declared.writer.StreamWriter.{StreamWriter}
 use Rattle.gob_stream.specs.Bounds.{Bounds}
 use Rattle.gob_stream.specs.Item.{StreamItem, puts}
@@ -27,7 +27,7 @@ use Rattle.gob_tool.specs.Showing.{AppendsFront}
 use Rattle.gob_tool.proofs.RewriteLaws.{WritesIt, cut_out}
 
 -- ---- an item that is written at once
-module _ {s : Reading TapeBuilder Tape} {w : StreamWriter} {h : HasRewritten s w} {t : TypeId} {v : Tree} {U : Table}
+module _ {s : SessionState TapeBuilder Tape} {w : StreamWriter} {h : HasRewritten s w} {t : TypeId} {v : Tree} {U : Table}
     (n : ComesNext h (puts t v) U) where
   -- a write failed, or no memory was had
   pub put_stops : {w' : StreamWriter} {old new : Option (List ℕ)} {r : Result (Unit {0}) WriteFault} (e : WriteFault) (f : ToolFault)
@@ -52,7 +52,7 @@ put_counts failures failures' e f counts same (inr is) cut none =
     (subst (λ r. CountsWriterFaults failures failures' r) (same ∙ ap (λ e. Err e) is) counts)
 
 -- ---- an item behind what was gathered
-module _ {s : Reading TapeBuilder Tape} {w : StreamWriter} {h : HasRewritten s w} {i : StreamItem} {U : Table}
+module _ {s : SessionState TapeBuilder Tape} {w : StreamWriter} {h : HasRewritten s w} {i : StreamItem} {U : Table}
     (n : ComesNext h i U) where
   tidied_of : {w' : StreamWriter} (g : GoesOnRewriting n w') → IsTidiedItem n g.more
   tidied_of g = record {
@@ -126,14 +126,14 @@ module _ {s : Reading TapeBuilder Tape} {w : StreamWriter} {h : HasRewritten s w
 
 -- by a writer that is this one
 abbrev pub SomeTidyNext : StreamWriter → Table → TypeId → List ℕ → Type 0
-SomeTidyNext w U t body = (s : Reading TapeBuilder Tape) × (h : HasRewritten s w) × IsTidyNext h U t body
+SomeTidyNext w U t body = (s : SessionState TapeBuilder Tape) × (h : HasRewritten s w) × IsTidyNext h U t body
 
 abbrev pub EachPutsOut : (w w' : StreamWriter) → Table → TypeId → List ℕ → (old new : Option (List ℕ))
     → Result (Unit {0}) ToolFault → Type 0
 EachPutsOut w w' U t body old new r =
-    (s : Reading TapeBuilder Tape) (h : HasRewritten s w) (n : IsTidyNext h U t body) → PutsOut n.next w' old new r
+    (s : SessionState TapeBuilder Tape) (h : HasRewritten s w) (n : IsTidyNext h U t body) → PutsOut n.next w' old new r
 
 abbrev pub EachPushesOut : (w w' : StreamWriter) → Table → TypeId → List ℕ → (old new : Option (List ℕ))
     → (before after : List ℕ) → Result (Unit {0}) ToolFault → Type 0
-EachPushesOut w w' U t body old new before after r = (s : Reading TapeBuilder Tape) (h : HasRewritten s w)
+EachPushesOut w w' U t body old new before after r = (s : SessionState TapeBuilder Tape) (h : HasRewritten s w)
     (n : IsTidyNext h U t body) → PushesOut n.next w' old new before after r

@@ -15,7 +15,7 @@ use Rattle.gob_stream.specs.declared.fault.Fault.{Fault}
 use Rattle.gob_stream.specs.declared.fault.Fault.TheVariants as reading
 use Rattle.gob_stream.specs.declared.fault.Refusal.{Refusal}
 use Rattle.gob_stream.specs.declared.item.Item as declared
-use Rattle.gob_stream.specs.declared.reading.Reading.{Reading}
+use Rattle.gob_stream.specs.SessionState.{SessionState}
 use Rattle.gob_stream.specs.declared.writer.StreamWriter.{StreamWriter}
 use Rattle.gob_stream.specs.Bounds.{Bounds, AreLimits, deepest, no_deeper}
 use Rattle.gob_stream.specs.Item.{StreamItem, ItemMeans}
@@ -101,7 +101,7 @@ follows {L = L} {T = T} {o = o} {i = i} (and_then {b = b} q f r) e =
     nothing_more (and_then q f r) e = absurd (cc e)
 
 -- ---- from item to item
-module _ {s : Reading TapeBuilder Tape} {w : StreamWriter} (h : HasRewritten s w) where
+module _ {s : SessionState TapeBuilder Tape} {w : StreamWriter} (h : HasRewritten s w) where
   pub tidy_there : (P : List ℕ → Type 0) → P h.written
       → HasTidyStream (no_deeper deepest s.limits) (types s.types) h.items P
   tidy_there P holds = record {
@@ -146,7 +146,7 @@ module _ {s : Reading TapeBuilder Tape} {w : StreamWriter} (h : HasRewritten s w
         tidy = subst (λ (T : Table). HasTidyStream L T h.items P) table (tidy_there P holds);
       }
 
-module _ {s : Reading TapeBuilder Tape} {w : StreamWriter} (s' : Reading TapeBuilder Tape) (h : HasRewritten s w)
+module _ {s : SessionState TapeBuilder Tape} {w : StreamWriter} (s' : SessionState TapeBuilder Tape) (h : HasRewritten s w)
     (z : List ℕ) (same : s'.limits ≡ s.limits) where
   -- the bytes before and these, in two ways
   in_two_ways : {items : List StreamItem} (a : GaveTapes s' items (h.taken ++ z))
@@ -229,25 +229,25 @@ pub tidy_as : {L : Bounds} {T : Table} {items : List StreamItem} {P Q : List ℕ
 tidy_as t f = record { tidy = t.tidy; tidied = t.tidied; bytes = t.bytes; stream = t.stream; holds = f _ t.holds }
 
 -- ---- what taking the front of a piece answers
-pub some_at : {s : Reading TapeBuilder Tape} {w : StreamWriter} (h : HasRewritten s w) (s' : Reading TapeBuilder Tape)
+pub some_at : {s : SessionState TapeBuilder Tape} {w : StreamWriter} (h : HasRewritten s w) (s' : SessionState TapeBuilder Tape)
     (w' : StreamWriter) (piece before after : List ℕ) (r : Result ℕ Fault) (e : Fault) → IsErrAnd r (λ x. x ≡ e)
     → RewritesSome h s' w' piece before after (Err e) → RewritesSome h s' w' piece before after r
 some_at h s' w' piece before after (Ok used) e is x = absurd is
 some_at h s' w' piece before after (Err f) e is x =
     subst (λ e. RewritesSome h s' w' piece before after (Err e)) (sym is) x
 
-module _ {s : Reading TapeBuilder Tape} {w : StreamWriter} (h : HasRewritten s w) where
+module _ {s : SessionState TapeBuilder Tape} {w : StreamWriter} (h : HasRewritten s w) where
   nothing_more : {before after : List ℕ} → after ≡ before → Adds h.written (λ more. after ≡ before ++ more) h.written
   nothing_more {before = before} e = ([], sym (append-nil h.written), e ∙ sym (append-nil before))
 
   -- no memory was had, and nothing more was gathered
-  pub memory_stops : (s' : Reading TapeBuilder Tape) (w' : StreamWriter) (piece : List ℕ) {before after : List ℕ}
+  pub memory_stops : (s' : SessionState TapeBuilder Tape) (w' : StreamWriter) (piece : List ℕ) {before after : List ℕ}
       → after ≡ before → RewritesSome h s' w' piece before after (Err reading.Memory)
   memory_stops s' w' piece {before = before} {after = after} e =
       front_there h piece (Adds h.written (λ more. after ≡ before ++ more)) (nothing_more e)
 
   -- a step was refused
-  pub step_stops : (s' : Reading TapeBuilder Tape) (w' : StreamWriter) (piece : List ℕ) {before after : List ℕ} (e : Fault)
+  pub step_stops : (s' : SessionState TapeBuilder Tape) (w' : StreamWriter) (piece : List ℕ) {before after : List ℕ} (e : Fault)
       → after ≡ before
       → Advances tape_builder.stands-value.it tree_builder.stands-value.it tape_builder.means-value.it deepest s s' h.items
       h.taken piece (Err e) → RewritesSome h s' w' piece before after (Err e)
@@ -261,7 +261,7 @@ module _ {s : Reading TapeBuilder Tape} {w : StreamWriter} (h : HasRewritten s w
   step_stops s' w' piece reading.Failed e f = absurd f
 
 -- a step gave nothing
-module _ {s : Reading TapeBuilder Tape} {w : StreamWriter} (h : HasRewritten s w) (s' : Reading TapeBuilder Tape)
+module _ {s : SessionState TapeBuilder Tape} {w : StreamWriter} (h : HasRewritten s w) (s' : SessionState TapeBuilder Tape)
     (same : s'.limits ≡ s.limits) (piece : List ℕ) (used : ℕ) where
   pub step_without : {o : Option (declared.Item Tape)} {before after : List ℕ}
       → AdvancesOver tape_builder.stands-value.it tree_builder.stands-value.it tape_builder.means-value.it deepest s'
@@ -293,7 +293,7 @@ module _ {s : Reading TapeBuilder Tape} {w : StreamWriter} (h : HasRewritten s w
   given_next g = record { item = g.item; meant = g.meant; next = g.comes.next }
 
   pub step_pushed : {given : declared.Item Tape} {w' : StreamWriter} (before after : List ℕ) (u : Unit {0}) (g : StepGives given)
-      → ((r : Reading TapeBuilder Tape) (k : HasRewritten r w) (n : IsNextTape k (types s'.types) given)
+      → ((r : SessionState TapeBuilder Tape) (k : HasRewritten r w) (n : IsNextTape k (types s'.types) given)
       → Pushes n.next w' before after (Ok u))
       → RewritesOn h s' w' (take used piece) (λ more. after ≡ before ++ more)
   step_pushed before after u g push =
@@ -303,20 +303,20 @@ module _ {s : Reading TapeBuilder Tape} {w : StreamWriter} (h : HasRewritten s w
 -- by the types of a table that are these
 pub pushes_by : {w : StreamWriter} {U V : Table} {given : declared.Item Tape} (w' : StreamWriter) (before after : List ℕ)
     (r : Result (Unit {0}) Memory) → U ≡ V
-    → ((s : Reading TapeBuilder Tape) (h : HasRewritten s w) (n : IsNextTape h U given) → Pushes n.next w' before after r)
-    → (s : Reading TapeBuilder Tape) (h : HasRewritten s w) (n : IsNextTape h V given) → Pushes n.next w' before after r
+    → ((s : SessionState TapeBuilder Tape) (h : HasRewritten s w) (n : IsNextTape h U given) → Pushes n.next w' before after r)
+    → (s : SessionState TapeBuilder Tape) (h : HasRewritten s w) (n : IsNextTape h V given) → Pushes n.next w' before after r
 pushes_by {w = w} {given = given} w' before after r e p =
-    subst (λ V. (s : Reading TapeBuilder Tape) (h : HasRewritten s w) (n : IsNextTape h V given) → Pushes n.next w' before after r)
+    subst (λ V. (s : SessionState TapeBuilder Tape) (h : HasRewritten s w) (n : IsNextTape h V given) → Pushes n.next w' before after r)
     e p
 
 -- where nothing has changed
-pub stands_still : {s s' : Reading TapeBuilder Tape} {w w' : StreamWriter} → s' ≡ s → w' ≡ w → HasRewritten s w
+pub stands_still : {s s' : SessionState TapeBuilder Tape} {w w' : StreamWriter} → s' ≡ s → w' ≡ w → HasRewritten s w
     → HasRewritten s' w'
-stands_still {s = s} {w' = w'} e f h = subst (λ (s : Reading TapeBuilder Tape). HasRewritten s w') (sym e)
+stands_still {s = s} {w' = w'} e f h = subst (λ (s : SessionState TapeBuilder Tape). HasRewritten s w') (sym e)
     (subst (λ (w : StreamWriter). HasRewritten s w) (sym f) h)
 
-pub still_used : {s s' : Reading TapeBuilder Tape} {w w' : StreamWriter} {old mid : Option (List ℕ)} {before g1 : List ℕ}
-    (s2 : Reading TapeBuilder Tape) (w2 : StreamWriter) (piece : List ℕ) (new : Option (List ℕ)) (after : List ℕ)
+pub still_used : {s s' : SessionState TapeBuilder Tape} {w w' : StreamWriter} {old mid : Option (List ℕ)} {before g1 : List ℕ}
+    (s2 : SessionState TapeBuilder Tape) (w2 : StreamWriter) (piece : List ℕ) (new : Option (List ℕ)) (after : List ℕ)
     (r : Result ℕ ToolFault) → StandsStill s s' w w' old mid before g1
     → ((h : HasRewritten s' w') → RewritesUsed h s2 w2 piece mid new g1 after r)
     → (h : HasRewritten s w) → RewritesUsed h s2 w2 piece old new before after r
@@ -324,16 +324,16 @@ still_used {s = s} {w = w} {w' = w'} {old = old} {mid = mid} {g1 = g1} s2 w2 pie
     subst (λ (b : List ℕ). (h : HasRewritten s w) → RewritesUsed h s2 w2 piece old new b after r) still.3
     (subst (λ (o : Option (List ℕ)). (h : HasRewritten s w) → RewritesUsed h s2 w2 piece o new g1 after r) still.2
     (subst (λ (w : StreamWriter). (h : HasRewritten s w) → RewritesUsed h s2 w2 piece mid new g1 after r) still.1
-    (subst (λ (s : Reading TapeBuilder Tape). (h : HasRewritten s w') → RewritesUsed h s2 w2 piece mid new g1 after r)
+    (subst (λ (s : SessionState TapeBuilder Tape). (h : HasRewritten s w') → RewritesUsed h s2 w2 piece mid new g1 after r)
     still.0 x)))
 
 -- a step was refused, or no memory was had for it: nothing is written then
-module _ {s : Reading TapeBuilder Tape} {w : StreamWriter} (h : HasRewritten s w) where
+module _ {s : SessionState TapeBuilder Tape} {w : StreamWriter} (h : HasRewritten s w) where
   passes_none : (out : Option (List ℕ)) (before after b : List ℕ) → Adds h.written (λ more. after ≡ before ++ more) b
       → Adds h.written (λ more. PassesSome out out (before ++ more) after) b
   passes_none out before after b a = (a.0, a.1, record { written = []; whole = sym a.2; out = Appends-nil out })
 
-  pub step_refused : (s2 : Reading TapeBuilder Tape) (w2 : StreamWriter) (piece : List ℕ) (out : Option (List ℕ))
+  pub step_refused : (s2 : SessionState TapeBuilder Tape) (w2 : StreamWriter) (piece : List ℕ) (out : Option (List ℕ))
       (before after : List ℕ) (e : Fault) → RewritesSome h s2 w2 piece before after (Err e)
       → RewritesPiece (no_deeper deepest s.limits) h s2 w2 piece out out before after (Err (reading_fault e))
   step_refused s2 w2 piece out before after (reading.Refused R) f = (
@@ -346,7 +346,7 @@ module _ {s : Reading TapeBuilder Tape} {w : StreamWriter} (h : HasRewritten s w
   step_refused s2 w2 piece out before after reading.Failed f = absurd f
 
   -- the write behind it failed
-  pub step_cut : {s2 : Reading TapeBuilder Tape} {w2 : StreamWriter} (w3 : StreamWriter) (piece : List ℕ) (old new : Option (List ℕ))
+  pub step_cut : {s2 : SessionState TapeBuilder Tape} {w2 : StreamWriter} (w3 : StreamWriter) (piece : List ℕ) (old new : Option (List ℕ))
       (before : List ℕ) {g2 : List ℕ} (after : List ℕ) (used : ℕ) (f : ToolFault) → s2.limits ≡ s.limits → f ≡ fault.Write
       → RewritesOn h s2 w2 (take used piece) (λ more. g2 ≡ before ++ more) → AppendsFront old new g2
       → RewritesPiece (no_deeper deepest s.limits) h s2 w3 piece old new before after (Err f)
@@ -363,7 +363,7 @@ module _ {s : Reading TapeBuilder Tape} {w : StreamWriter} (h : HasRewritten s w
       (front_there x.next (drop used piece) P holds)))
 
 -- at the fault that a `?` returns
-pub used_at : {s : Reading TapeBuilder Tape} {w : StreamWriter} (h : HasRewritten s w) (s' : Reading TapeBuilder Tape)
+pub used_at : {s : SessionState TapeBuilder Tape} {w : StreamWriter} (h : HasRewritten s w) (s' : SessionState TapeBuilder Tape)
     (w' : StreamWriter) (piece : List ℕ) (old new : Option (List ℕ)) (before after : List ℕ) (r : Result ℕ ToolFault)
     (f : ToolFault) → IsErrAnd r (λ x. x ≡ f)
     → RewritesPiece (no_deeper deepest s.limits) h s' w' piece old new before after (Err f)
@@ -373,7 +373,7 @@ used_at {s = s} h s' w' piece old new before after (Err e) f is x =
     subst (λ f. RewritesPiece (no_deeper deepest s.limits) h s' w' piece old new before after (Err f)) (sym is) x
 
 -- what was gathered with some bytes went out in part
-pub used_passed : {s : Reading TapeBuilder Tape} {w : StreamWriter} {h : HasRewritten s w} {s2 : Reading TapeBuilder Tape}
+pub used_passed : {s : SessionState TapeBuilder Tape} {w : StreamWriter} {h : HasRewritten s w} {s2 : SessionState TapeBuilder Tape}
     {w2 w3 : StreamWriter} {z : List ℕ} (old new : Option (List ℕ)) (before : List ℕ) {g2 : List ℕ} (g3 : List ℕ)
     → RewritesOn h s2 w2 z (λ more. g2 ≡ before ++ more) → PassesSome old new g2 g3 → w3 ≡ w2
     → RewritesOn h s2 w3 z (λ more. PassesSome old new (before ++ more) g3)
@@ -385,7 +385,7 @@ used_passed {h = h} {s2 = s2} {z = z} old new before g3 x passes same =
     })
 
 -- ---- from item to item of a piece
-module _ {s : Reading TapeBuilder Tape} {w : StreamWriter} (h : HasRewritten s w) where
+module _ {s : SessionState TapeBuilder Tape} {w : StreamWriter} (h : HasRewritten s w) where
   pub up_to_none : (piece : List ℕ) (out : Option (List ℕ)) (before : List ℕ) → RewritesUpTo h s w piece piece out out before before
   up_to_none piece out before = record {
     front = [];
@@ -397,9 +397,9 @@ module _ {s : Reading TapeBuilder Tape} {w : StreamWriter} (h : HasRewritten s w
     };
   }
 
-  module _ {s1 : Reading TapeBuilder Tape} {w1 : StreamWriter} {piece rest : List ℕ} {old mid : Option (List ℕ)}
+  module _ {s1 : SessionState TapeBuilder Tape} {w1 : StreamWriter} {piece rest : List ℕ} {old mid : Option (List ℕ)}
       {before g1 : List ℕ} (u : RewritesUpTo h s1 w1 piece rest old mid before g1) where
-    pub up_to_more : {s2 : Reading TapeBuilder Tape} {w2 : StreamWriter} {later g3 : List ℕ} {new : Option (List ℕ)}
+    pub up_to_more : {s2 : SessionState TapeBuilder Tape} {w2 : StreamWriter} {later g3 : List ℕ} {new : Option (List ℕ)}
         (used : ℕ) → later ≡ drop used rest
         → RewritesOn u.on.next s2 w2 (take used rest) (λ more. PassesSome mid new (g1 ++ more) g3)
         → RewritesUpTo h s2 w2 piece later old new before g3
@@ -447,8 +447,8 @@ module _ {s : Reading TapeBuilder Tape} {w : StreamWriter} (h : HasRewritten s w
         nothing [] h = refl
         nothing (x ∷ xs) h = absurd (omega arith)
 
-pub piece_at : (L : Bounds) {s : Reading TapeBuilder Tape} {w : StreamWriter} (h : HasRewritten s w)
-    (s' : Reading TapeBuilder Tape) (w' : StreamWriter) (piece : List ℕ) (old new : Option (List ℕ))
+pub piece_at : (L : Bounds) {s : SessionState TapeBuilder Tape} {w : StreamWriter} (h : HasRewritten s w)
+    (s' : SessionState TapeBuilder Tape) (w' : StreamWriter) (piece : List ℕ) (old new : Option (List ℕ))
     (before after : List ℕ) (r : Result (Unit {0}) ToolFault) (f : ToolFault) → IsErrAnd r (λ e. e ≡ f)
     → RewritesPiece L h s' w' piece old new before after (Err f) → RewritesPiece L h s' w' piece old new before after r
 piece_at L h s' w' piece old new before after (Ok u) f e x = absurd e
@@ -500,7 +500,7 @@ adds_front : {old mid new : Option (List ℕ)} (gathered written : List ℕ) →
 adds_front {old = old} {mid = mid} {new = new} gathered written g b a =
     subst (λ (l : List ℕ). AppendsFront old new l) (sym a.1) (front_grown old mid new gathered a.0 written g a.2)
 
-pub rewrites_first : (s : Reading TapeBuilder Tape) (w : StreamWriter) (read out : Option (List ℕ)) (gathered : List ℕ)
+pub rewrites_first : (s : SessionState TapeBuilder Tape) (w : StreamWriter) (read out : Option (List ℕ)) (gathered : List ℕ)
     → GaveTapes s [] [] → AreLimits deepest s.limits → IsNew w s.limits → gathered ≡ []
     → RewritesIn s w read read out out gathered
 rewrites_first s w read out gathered gave allowed fresh none = record {
@@ -520,9 +520,9 @@ rewrites_first s w read out gathered gave allowed fresh none = record {
   out = record { written = []; out = Appends-nil out; whole = none };
 }
 
-module _ {s : Reading TapeBuilder Tape} {w : StreamWriter} {read now old mid : Option (List ℕ)} {gathered : List ℕ}
+module _ {s : SessionState TapeBuilder Tape} {w : StreamWriter} {read now old mid : Option (List ℕ)} {gathered : List ℕ}
     (i : RewritesIn s w read now old mid gathered) where
-  pub rewrites_on : {s' : Reading TapeBuilder Tape} {w' : StreamWriter} {next new : Option (List ℕ)} {after : List ℕ}
+  pub rewrites_on : {s' : SessionState TapeBuilder Tape} {w' : StreamWriter} {next new : Option (List ℕ)} {after : List ℕ}
       (piece : List ℕ) → Consumes now next piece
       → RewritesOn i.so_far s' w' piece (λ more. PassesSome mid new (gathered ++ more) after)
       → RewritesIn s' w' read next old new after
@@ -533,7 +533,7 @@ module _ {s : Reading TapeBuilder Tape} {w : StreamWriter} {read now old mid : O
     out = adds_out gathered after i.so_far.written i.out o.next.written o.adds;
   }
 
-  pub rewrites_nearer : {s' : Reading TapeBuilder Tape} {w' : StreamWriter} {P : List ℕ → Type 0} (piece : List ℕ)
+  pub rewrites_nearer : {s' : SessionState TapeBuilder Tape} {w' : StreamWriter} {P : List ℕ → Type 0} (piece : List ℕ)
       → RewritesOn i.so_far s' w' piece P → s'.limits ≡ s.limits → 0 < length piece
       → s'.limits.stream + 9 - s'.taken < s.limits.stream + 9 - s.taken
   rewrites_nearer {s' = s'} piece o same some =
@@ -560,7 +560,7 @@ module _ {s : Reading TapeBuilder Tape} {w : StreamWriter} {read now old mid : O
       }
 
   -- the input ended between two items
-  pub rewritten_whole : (M : Bounds) (s' : Reading TapeBuilder Tape) (next : Option (List ℕ)) (bytes : List ℕ) (u : Unit {0})
+  pub rewritten_whole : (M : Bounds) (s' : SessionState TapeBuilder Tape) (next : Option (List ℕ)) (bytes : List ℕ) (u : Unit {0})
       → s.limits ≡ M → read ≡ Some bytes → Consumes now next [] → IsAtEnd next
       → ReadingFinishes deepest s s' i.so_far.items i.so_far.taken (Ok u)
       → RewritesWhole (no_deeper deepest M) bytes next (Gathered old mid gathered)
@@ -578,7 +578,7 @@ module _ {s : Reading TapeBuilder Tape} {w : StreamWriter} {read now old mid : O
       })
 
   -- or within an item
-  pub rewritten_within : (M : Bounds) (s' : Reading TapeBuilder Tape) (next : Option (List ℕ)) (bytes : List ℕ)
+  pub rewritten_within : (M : Bounds) (s' : SessionState TapeBuilder Tape) (next : Option (List ℕ)) (bytes : List ℕ)
       (C : List ℕ → Type 0) (e : Fault) → s.limits ≡ M → read ≡ Some bytes → Consumes now next [] → IsAtEnd next
       → ReadingFinishes deepest s s' i.so_far.items i.so_far.taken (Err e)
       → RewritesSo (no_deeper deepest M) bytes next (Gathered old mid gathered) C (Err (reading_fault e))
@@ -611,7 +611,7 @@ module _ {s : Reading TapeBuilder Tape} {w : StreamWriter} {read now old mid : O
       })
 
   -- a piece ended the run
-  rewritten_stopped_there : (s' : Reading TapeBuilder Tape) (w' : StreamWriter) (next new : Option (List ℕ)) (after : List ℕ)
+  rewritten_stopped_there : (s' : SessionState TapeBuilder Tape) (w' : StreamWriter) (next new : Option (List ℕ)) (after : List ℕ)
       (piece bytes : List ℕ) (f : ToolFault) → read ≡ Some bytes → Consumes now next piece
       → RewritesPiece (no_deeper deepest s.limits) i.so_far s' w' piece mid new gathered after (Err f)
       → RewritesSo (no_deeper deepest s.limits) bytes next (Gathered old new after) (AppendsFront old new) (Err f)
@@ -629,7 +629,7 @@ module _ {s : Reading TapeBuilder Tape} {w : StreamWriter} {read now old mid : O
   rewritten_stopped_there s' w' next new after piece bytes (fault.Clash path why) known c x = absurd x
   rewritten_stopped_there s' w' next new after piece bytes fault.Read known c x = absurd x
 
-  pub rewritten_stopped : (M : Bounds) (s' : Reading TapeBuilder Tape) (w' : StreamWriter) (next new : Option (List ℕ))
+  pub rewritten_stopped : (M : Bounds) (s' : SessionState TapeBuilder Tape) (w' : StreamWriter) (next new : Option (List ℕ))
       (after piece bytes : List ℕ) (f : ToolFault) → s.limits ≡ M → read ≡ Some bytes → Consumes now next piece
       → RewritesPiece (no_deeper deepest s.limits) i.so_far s' w' piece mid new gathered after (Err f)
       → RewritesSo (no_deeper deepest M) bytes next (Gathered old new after) (AppendsFront old new) (Err f)
@@ -638,7 +638,7 @@ module _ {s : Reading TapeBuilder Tape} {w : StreamWriter} {read now old mid : O
       same (rewritten_stopped_there s' w' next new after piece bytes f known c x)
 
 -- reads that failed are counted: none at the end of the input, nor while a piece is taken
-pub end_reads : (s s' : Reading TapeBuilder Tape) (items : List StreamItem) (bytes : List ℕ)
+pub end_reads : (s s' : SessionState TapeBuilder Tape) (items : List StreamItem) (bytes : List ℕ)
     (failures failures' : ℕ) (e : Fault) → ReadingFinishes deepest s s' items bytes (Err e) → failures' ≡ failures
     → CountsOnlyReads failures failures' (Err (reading_fault e))
 end_reads s s' items bytes failures failures' (reading.Refused R) f h = h
@@ -646,8 +646,8 @@ end_reads s s' items bytes failures failures' reading.Read f h = absurd f
 end_reads s s' items bytes failures failures' reading.Memory f h = h
 end_reads s s' items bytes failures failures' reading.Failed f h = h
 
-pub piece_reads : (L : Bounds) {s : Reading TapeBuilder Tape} {w : StreamWriter} (h : HasRewritten s w)
-    (s' : Reading TapeBuilder Tape) (w' : StreamWriter) (piece : List ℕ) (old new : Option (List ℕ)) (before after : List ℕ)
+pub piece_reads : (L : Bounds) {s : SessionState TapeBuilder Tape} {w : StreamWriter} (h : HasRewritten s w)
+    (s' : SessionState TapeBuilder Tape) (w' : StreamWriter) (piece : List ℕ) (old new : Option (List ℕ)) (before after : List ℕ)
     (failures failures' : ℕ) (f : ToolFault) → RewritesPiece L h s' w' piece old new before after (Err f)
     → failures' ≡ failures → CountsOnlyReads failures failures' (Err f)
 piece_reads L h s' w' piece old new before after failures failures' (fault.Refused R) x e = e

@@ -8,7 +8,7 @@ use Rattle.gob_types.specs.Base.{base_table}
 use Rattle.gob_types.specs.Defined.{types}
 use Rattle.gob_types.specs.Table.{Table}
 use Rattle.gob_value.specs.Whole.{IsWhole, IsTidyWhole}
-use Rattle.gob_stream.specs.declared.reading.Reading.{Reading}
+use Rattle.gob_stream.specs.SessionState.{SessionState}
 use Rattle.gob_stream.specs.declared.writer.StreamWriter.{StreamWriter}
 use Rattle.gob_stream.specs.Bounds.{Bounds, deepest, no_deeper}
 use Rattle.gob_stream.specs.Item.{StreamItem, puts}
@@ -37,7 +37,7 @@ sooner : {L : Bounds} {T U : Table} {o n : ℕ} {i : StreamItem} {b : List ℕ} 
     → Counted base_table L T n i b U
 sooner l (counted u k s b) = counted u k (omega arith) b
 
-module _ {s : Reading TapeBuilder Tape} {w : StreamWriter} (h : HasRewritten s w) {id : TypeId} {body : List ℕ}
+module _ {s : SessionState TapeBuilder Tape} {w : StreamWriter} (h : HasRewritten s w) {id : TypeId} {body : List ℕ}
     {used d : ℕ} {piece : List ℕ} (e : d ≡ min s.limits.depth deepest)
     (b : HasBody s.limits (types s.types) s.taken id body used piece) (v : IsTidyWhole (types s.types) id d body) where
   -- it can be written next
@@ -56,7 +56,7 @@ module _ {s : Reading TapeBuilder Tape} {w : StreamWriter} (h : HasRewritten s w
       }
 
   -- it was, and the reader is behind it
-  module _ (s' : Reading TapeBuilder Tape) (w' : StreamWriter) (old new : Option (List ℕ)) (before after : List ℕ)
+  module _ (s' : SessionState TapeBuilder Tape) (w' : StreamWriter) (old new : Option (List ℕ)) (before after : List ℕ)
       (limits : s'.limits ≡ s.limits) (same : s'.types ≡ s.types)
       (passed : (items : List StreamItem) (bytes : List ℕ) (item : StreamItem) (z : List ℕ) → GaveTapes s items bytes
       → Counted base_table (no_deeper deepest s.limits) (types s.types) s.taken item z (types s.types)
@@ -137,7 +137,7 @@ module _ {s : Reading TapeBuilder Tape} {w : StreamWriter} (h : HasRewritten s w
     whole_stops fault.Read push = absurd (push s h whole_next)
 
 -- at the fault that a `?` returns
-pub may_at : {s : Reading TapeBuilder Tape} {w : StreamWriter} (h : HasRewritten s w) (s' : Reading TapeBuilder Tape)
+pub may_at : {s : SessionState TapeBuilder Tape} {w : StreamWriter} (h : HasRewritten s w) (s' : SessionState TapeBuilder Tape)
     (w' : StreamWriter) (piece : List ℕ) (old new : Option (List ℕ)) (before after : List ℕ)
     (r : Result (Option ℕ) ToolFault) (f : ToolFault) → IsErrAnd r (λ x. x ≡ f)
     → RewritesPiece (no_deeper deepest s.limits) h s' w' piece old new before after (Err f)

@@ -11,7 +11,7 @@ use Rattle.gob_read.specs.declared.tree_builder.TreeBuilder.{TreeBuilder}
 use Rattle.gob_stream.specs.declared.fault.Fault.{Fault}
 use Rattle.gob_stream.specs.declared.fault.Fault.TheVariants as reading
 use Rattle.gob_stream.specs.declared.item.Item as declared
-use Rattle.gob_stream.specs.declared.reading.Reading.{Reading}
+use Rattle.gob_stream.specs.SessionState.{SessionState}
 use Rattle.gob_stream.specs.Bounds.{Bounds, greatest_depth, within_trees}
 use Rattle.gob_stream.specs.Item.{StreamItem, item_view, mean_none, mean_more}
 use Rattle.gob_stream.specs.ReadParts.{Advances, AdvancesOver, over_some, over_item}
@@ -30,7 +30,7 @@ use Rattle.gob_tool.proofs.ShowLaws.{lines_once, same_lines, types_behind, begin
 
 -- ---- the lines so far
 -- the types of a reader are those behind the items that it gave, of the bytes that it took and of more
-types_so_far : {s : Reading TreeBuilder Value} {items : List StreamItem} {bytes : List ℕ} (more : List ℕ)
+types_so_far : {s : SessionState TreeBuilder Value} {items : List StreamItem} {bytes : List ℕ} (more : List ℕ)
     → GaveItems s items bytes → TypesBehind (within_trees s.limits) (bytes ++ more) items (types s.types)
 types_so_far more a = types_behind (record {
   front = a.front;
@@ -39,14 +39,14 @@ types_so_far more a = types_behind (record {
   whole = ap (λ (l : List ℕ). l ++ more) a.whole ∙ append_assoc a.front a.under_way more;
 })
 
-pub begun_so_far : {s : Reading TreeBuilder Value} {bytes : List ℕ} {old new : Option (List ℕ)} {gathered : List ℕ}
+pub begun_so_far : {s : SessionState TreeBuilder Value} {bytes : List ℕ} {old new : Option (List ℕ)} {gathered : List ℕ}
     (more : List ℕ) → StandsBehind s bytes old new gathered
     → BeginsOutcome (within_trees s.limits) (bytes ++ more) (Gathered old new gathered)
 begun_so_far {old = old} {new = new} {gathered = gathered} more b = begins_at (Gathered old new gathered)
     (types_so_far more b.gave) b.out
 
 -- some of them went out
-pub stands_on : {s : Reading TreeBuilder Value} {bytes : List ℕ} {old mid new : Option (List ℕ)}
+pub stands_on : {s : SessionState TreeBuilder Value} {bytes : List ℕ} {old mid new : Option (List ℕ)}
     {gathered after : List ℕ} → StandsBehind s bytes old mid gathered → PassesSome mid new gathered after
     → StandsBehind s bytes old new after
 stands_on {old = old} {mid = mid} {new = new} {after = after} b p = record {
@@ -61,7 +61,7 @@ stands_on {old = old} {mid = mid} {new = new} {after = after} b p = record {
 }
 
 -- or a write failed
-pub cut_so_far : {s : Reading TreeBuilder Value} {bytes : List ℕ} {old mid new : Option (List ℕ)} {gathered : List ℕ}
+pub cut_so_far : {s : SessionState TreeBuilder Value} {bytes : List ℕ} {old mid new : Option (List ℕ)} {gathered : List ℕ}
     (more : List ℕ) → StandsBehind s bytes old mid gathered → AppendsFront mid new gathered
     → BeginsOutcome (within_trees s.limits) (bytes ++ more) (AppendsFront old new)
 cut_so_far {s = s} {old = old} {mid = mid} {new = new} {gathered = gathered} more b f =
@@ -69,7 +69,7 @@ cut_so_far {s = s} {old = old} {mid = mid} {new = new} {gathered = gathered} mor
     (front_out old mid new gathered (lines (types s.types) b.items) b.out f)
 
 -- ---- the front of a piece
-module _ {s s' : Reading TreeBuilder Value} {bytes : List ℕ} {old new : Option (List ℕ)} {gathered : List ℕ}
+module _ {s s' : SessionState TreeBuilder Value} {bytes : List ℕ} {old new : Option (List ℕ)} {gathered : List ℕ}
     (same : s'.limits ≡ s.limits) (b : StandsBehind s bytes old new gathered) where
   stream_so : {items : List StreamItem} {all : List ℕ} (a : GaveItems s' items all)
       → Stream base_table (within_trees s.limits) items a.front (types s'.types)
@@ -134,7 +134,7 @@ module _ {s s' : Reading TreeBuilder Value} {bytes : List ℕ} {old new : Option
       one_more (take used piece) i a (e ∙ ap (λ (i : StreamItem). gathered ++ line (types s'.types) i) seen)
 
 -- no memory was had for what a step gave
-pub memory_stops : {s : Reading TreeBuilder Value} {bytes : List ℕ} {old new : Option (List ℕ)}
+pub memory_stops : {s : SessionState TreeBuilder Value} {bytes : List ℕ} {old new : Option (List ℕ)}
     {gathered after : List ℕ} (piece : List ℕ) → after ≡ gathered → StandsBehind s bytes old new gathered
     → StopsShowing (within_trees s.limits) (bytes ++ piece) old new after reading.Memory
 memory_stops {s = s} {bytes = bytes} {old = old} {new = new} piece e b =
@@ -142,8 +142,8 @@ memory_stops {s = s} {bytes = bytes} {old = old} {new = new} piece e b =
     (begun_so_far piece b)
 
 -- a step was refused
-pub step_stops : {s : Reading TreeBuilder Value} {bytes : List ℕ} {old new : Option (List ℕ)} {gathered : List ℕ}
-    (s' : Reading TreeBuilder Value) (piece : List ℕ) (e : Fault) (b : StandsBehind s bytes old new gathered)
+pub step_stops : {s : SessionState TreeBuilder Value} {bytes : List ℕ} {old new : Option (List ℕ)} {gathered : List ℕ}
+    (s' : SessionState TreeBuilder Value) (piece : List ℕ) (e : Fault) (b : StandsBehind s bytes old new gathered)
     → Advances tree_builder.stands-value.it tree_builder.stands-value.it tree_builder.means-value.it greatest_depth s s'
     b.items bytes piece (Err e) → StopsShowing (within_trees s.limits) (bytes ++ piece) old new gathered e
 step_stops {s = s} {bytes = bytes} {old = old} {new = new} {gathered = gathered} s' piece (reading.Refused R) b f =
@@ -161,22 +161,22 @@ step_stops s' piece reading.Memory b f = begun_so_far piece b
 step_stops s' piece reading.Failed b f = absurd f
 
 -- where nothing has changed
-pub stands_still : {s s' : Reading TreeBuilder Value} {bytes : List ℕ} {old new : Option (List ℕ)}
+pub stands_still : {s s' : SessionState TreeBuilder Value} {bytes : List ℕ} {old new : Option (List ℕ)}
     {gathered after : List ℕ} → (s' ≡ s) × (after ≡ gathered) → StandsBehind s bytes old new gathered
     → StandsBehind s' bytes old new after
 stands_still {s' = s'} {bytes = bytes} {old = old} {new = new} {gathered = gathered} e b =
     subst (λ (l : List ℕ). StandsBehind s' bytes old new l) (sym e.1)
-    (subst (λ (s : Reading TreeBuilder Value). StandsBehind s bytes old new gathered) (sym e.0) b)
+    (subst (λ (s : SessionState TreeBuilder Value). StandsBehind s bytes old new gathered) (sym e.0) b)
 
 -- the same under limits that are these
-pub front_under : (L M : Bounds) (s : Reading TreeBuilder Value) (bytes piece : List ℕ) (old new : Option (List ℕ))
+pub front_under : (L M : Bounds) (s : SessionState TreeBuilder Value) (bytes piece : List ℕ) (old new : Option (List ℕ))
     (gathered : List ℕ) (r : Result ℕ Fault) → L ≡ M → TakesFront (within_trees L) s bytes piece old new gathered r
     → TakesFront (within_trees M) s bytes piece old new gathered r
 front_under L M s bytes piece old new gathered r same f =
     subst (λ (L : Bounds). TakesFront (within_trees L) s bytes piece old new gathered r) same f
 
 -- at the error that a `?` returns
-pub front_at : (L : Bounds) (s : Reading TreeBuilder Value) (bytes piece : List ℕ) (old new : Option (List ℕ))
+pub front_at : (L : Bounds) (s : SessionState TreeBuilder Value) (bytes piece : List ℕ) (old new : Option (List ℕ))
     (gathered : List ℕ) (r : Result ℕ Fault) (e : Fault) → IsErrAnd r (λ x. x ≡ e)
     → StopsShowing L (bytes ++ piece) old new gathered e → TakesFront L s bytes piece old new gathered r
 front_at L s bytes piece old new gathered (Ok used) e is h = absurd is
@@ -184,7 +184,7 @@ front_at L s bytes piece old new gathered (Err f) e is h =
     subst (λ e. StopsShowing L (bytes ++ piece) old new gathered e) (sym is) h
 
 -- ---- from item to item
-pub up_to_none : {s : Reading TreeBuilder Value} {bytes : List ℕ} {old new : Option (List ℕ)} {gathered : List ℕ}
+pub up_to_none : {s : SessionState TreeBuilder Value} {bytes : List ℕ} {old new : Option (List ℕ)} {gathered : List ℕ}
     (piece : List ℕ) → StandsBehind s bytes old new gathered → StandsUpTo s bytes piece piece old new gathered
 up_to_none {s = s} {bytes = bytes} {old = old} {new = new} {gathered = gathered} piece b = record {
   front = [];
@@ -192,7 +192,7 @@ up_to_none {s = s} {bytes = bytes} {old = old} {new = new} {gathered = gathered}
   behind = subst (λ (l : List ℕ). StandsBehind s l old new gathered) (sym (append-nil bytes)) b;
 }
 
-pub up_to_more : {s s' : Reading TreeBuilder Value} {bytes piece rest later : List ℕ} {old mid new : Option (List ℕ)}
+pub up_to_more : {s s' : SessionState TreeBuilder Value} {bytes piece rest later : List ℕ} {old mid new : Option (List ℕ)}
     {gathered pushed after : List ℕ} (used : ℕ) → later ≡ drop used rest
     → (u : StandsUpTo s bytes piece rest old mid gathered)
     → StandsBehind s' ((bytes ++ u.front) ++ take used rest) old mid pushed → PassesSome mid new pushed after
@@ -209,7 +209,7 @@ up_to_more {s' = s'} {bytes = bytes} {rest = rest} {later = later} {old = old} {
     }
 
 -- all of the piece was taken
-pub up_to_all : {s : Reading TreeBuilder Value} {bytes piece rest : List ℕ} {old new : Option (List ℕ)}
+pub up_to_all : {s : SessionState TreeBuilder Value} {bytes piece rest : List ℕ} {old new : Option (List ℕ)}
     {gathered : List ℕ} → length rest ≡ 0 → StandsUpTo s bytes piece rest old new gathered
     → StandsBehind s (bytes ++ piece) old new gathered
 up_to_all {s = s} {bytes = bytes} {rest = []} {old = old} {new = new} {gathered = gathered} none u =
@@ -217,14 +217,14 @@ up_to_all {s = s} {bytes = bytes} {rest = []} {old = old} {new = new} {gathered 
 up_to_all {rest = b ∷ rest} none u = absurd (omega (arith, none))
 
 -- the bytes up to the rest, and the rest
-whole_again : {s : Reading TreeBuilder Value} {bytes piece rest : List ℕ} {old new : Option (List ℕ)}
+whole_again : {s : SessionState TreeBuilder Value} {bytes piece rest : List ℕ} {old new : Option (List ℕ)}
     {gathered : List ℕ} (u : StandsUpTo s bytes piece rest old new gathered)
     → (bytes ++ u.front) ++ rest ≡ bytes ++ piece
 whole_again {bytes = bytes} {rest = rest} u = append_assoc bytes u.front rest
     ∙ ap (λ (l : List ℕ). bytes ++ l) (sym u.whole)
 
 -- the rest of it was refused
-stops_there : (L : Bounds) (s : Reading TreeBuilder Value) (bytes : List ℕ) (old new : Option (List ℕ))
+stops_there : (L : Bounds) (s : SessionState TreeBuilder Value) (bytes : List ℕ) (old new : Option (List ℕ))
     (gathered : List ℕ) (e : Fault) → StopsShowing L bytes old new gathered e
     → TakesPiece L s bytes old new gathered (Err (reading_fault e))
 stops_there L s bytes old new gathered (reading.Refused R) f = f
@@ -232,8 +232,8 @@ stops_there L s bytes old new gathered reading.Read f = absurd f
 stops_there L s bytes old new gathered reading.Memory f = f
 stops_there L s bytes old new gathered reading.Failed f = absurd f
 
-pub rest_stops : {s : Reading TreeBuilder Value} {bytes piece rest : List ℕ} {old new : Option (List ℕ)}
-    {gathered : List ℕ} (after : List ℕ) (L M : Bounds) (s' : Reading TreeBuilder Value) (e : Fault) → L ≡ M
+pub rest_stops : {s : SessionState TreeBuilder Value} {bytes piece rest : List ℕ} {old new : Option (List ℕ)}
+    {gathered : List ℕ} (after : List ℕ) (L M : Bounds) (s' : SessionState TreeBuilder Value) (e : Fault) → L ≡ M
     → (u : StandsUpTo s bytes piece rest old new gathered)
     → StopsShowing (within_trees L) ((bytes ++ u.front) ++ rest) old new after e
     → TakesPiece (within_trees M) s' (bytes ++ piece) old new after (Err (reading_fault e))
@@ -243,7 +243,7 @@ rest_stops {bytes = bytes} {piece = piece} {old = old} {new = new} after L M s' 
     (subst (λ (l : List ℕ). StopsShowing (within_trees L) l old new after e) (whole_again u) f))
 
 -- a write failed
-pub rest_cut : {s s' : Reading TreeBuilder Value} {bytes piece rest : List ℕ} {old mid new : Option (List ℕ)}
+pub rest_cut : {s s' : SessionState TreeBuilder Value} {bytes piece rest : List ℕ} {old mid new : Option (List ℕ)}
     {gathered pushed : List ℕ} (used : ℕ) (after : List ℕ) (M : Bounds) (f : ToolFault) → s'.limits ≡ M
     → (u : StandsUpTo s bytes piece rest old mid gathered)
     → StandsBehind s' ((bytes ++ u.front) ++ take used rest) old mid pushed → f ≡ fault.Write

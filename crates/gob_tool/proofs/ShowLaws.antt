@@ -14,7 +14,7 @@ use Rattle.gob_read.specs.declared.tree_builder.TreeBuilder.{TreeBuilder}
 use Rattle.gob_stream.specs.declared.fault.Refusal.{Refusal}
 use Rattle.gob_stream.specs.declared.fault.Fault.{Fault}
 use Rattle.gob_stream.specs.declared.fault.Fault.TheVariants as reading
-use Rattle.gob_stream.specs.declared.reading.Reading.{Reading}
+use Rattle.gob_stream.specs.SessionState.{SessionState}
 use Rattle.gob_stream.specs.Bounds.{Bounds, greatest_depth, within_trees}
 use Rattle.gob_stream.specs.Item.{StreamItem}
 use Rattle.gob_stream.specs.Stream.{Stream, no_more}
@@ -131,14 +131,14 @@ begins_at {L = L} {bytes = bytes} {items = items} P t h =
     record { items = items; begins = b; holds = subst P (begins_lines t b) h }
 
 -- how taking a piece ends at the error that a `?` returns
-pub piece_at : (L : Bounds) (s : Reading TreeBuilder Value) (bytes : List ℕ) (old new : Option (List ℕ))
+pub piece_at : (L : Bounds) (s : SessionState TreeBuilder Value) (bytes : List ℕ) (old new : Option (List ℕ))
     (gathered : List ℕ) (r : Result (Unit {0}) ToolFault) (f : ToolFault) → IsErrAnd r (λ e. e ≡ f)
     → TakesPiece L s bytes old new gathered (Err f) → TakesPiece L s bytes old new gathered r
 piece_at L s bytes old new gathered (Ok u) f e h = absurd e
 piece_at L s bytes old new gathered (Err g) f e h = subst (λ f. TakesPiece L s bytes old new gathered (Err f)) (sym e) h
 
 -- ---- from piece to piece
-pub reads_first : (s : Reading TreeBuilder Value) (read out : Option (List ℕ)) (gathered : List ℕ) → GaveItems s [] []
+pub reads_first : (s : SessionState TreeBuilder Value) (read out : Option (List ℕ)) (gathered : List ℕ) → GaveItems s [] []
     → gathered ≡ [] → StandsGathered s read read out out gathered
 reads_first s read out gathered gave none = record {
   taken = [];
@@ -146,7 +146,7 @@ reads_first s read out gathered gave none = record {
   behind = record { items = []; gave = gave; out = record { written = []; out = Appends-nil out; whole = none } };
 }
 
-pub reads_on : {s s' : Reading TreeBuilder Value} (read now next old mid new : Option (List ℕ))
+pub reads_on : {s s' : SessionState TreeBuilder Value} (read now next old mid new : Option (List ℕ))
     (gathered after piece : List ℕ) (i : StandsGathered s read now old mid gathered) → Consumes now next piece
     → StandsBehind s' (i.taken ++ piece) old new after → StandsGathered s' read next old new after
 reads_on read now next old mid new gathered after piece i c b = record
@@ -179,7 +179,7 @@ all_taken read now next bytes taken known c d h =
     )
 
 -- the lines of what a session gave, by the types behind the items of any stream with which the bytes begin
-pub gave_lines : {s : Reading TreeBuilder Value} {items : List StreamItem} {taken bytes : List ℕ} (more : List ℕ) → bytes
+pub gave_lines : {s : SessionState TreeBuilder Value} {items : List StreamItem} {taken bytes : List ℕ} (more : List ℕ) → bytes
     ≡ taken ++ more → GaveItems s items taken → (b : BeginsWith base_table (within_trees s.limits) bytes items)
     → lines (types s.types) items ≡ lines b.table items
 gave_lines {items = items} more e a b =
@@ -195,7 +195,7 @@ pub whole_stream : {L : Bounds} {bytes : List ℕ} {items : List StreamItem} →
 whole_stream (at_the_end {T = T} p) = record { table = T; stream = p }
 
 -- the input ended between two items
-pub ended : (M : Bounds) (s s' : Reading TreeBuilder Value) (read now next old new : Option (List ℕ))
+pub ended : (M : Bounds) (s s' : SessionState TreeBuilder Value) (read now next old new : Option (List ℕ))
     (bytes gathered : List ℕ) (u : Unit {0}) → s.limits ≡ M → (i : StandsGathered s read now old new gathered) → read
     ≡ Some bytes → Consumes now next [] → IsAtEnd next
     → ((items : List StreamItem) (taken : List ℕ) → GaveItems s items taken
@@ -218,7 +218,7 @@ ended M s s' read now next old new bytes gathered u same i known c h finish =
     })
 
 -- or within an item
-pub ended_within : (M : Bounds) (s s' : Reading TreeBuilder Value) (read now next old new : Option (List ℕ))
+pub ended_within : (M : Bounds) (s s' : SessionState TreeBuilder Value) (read now next old new : Option (List ℕ))
     (bytes gathered : List ℕ) (C : List ℕ → Type 0) (e : Fault) → s.limits ≡ M
     → (i : StandsGathered s read now old new gathered) → read ≡ Some bytes → Consumes now next [] → IsAtEnd next
     → ((items : List StreamItem) (taken : List ℕ) → GaveItems s items taken
@@ -244,7 +244,7 @@ ended_within M s s' read now next old new bytes gathered C reading.Failed same i
     (finish i.behind.items i.taken i.behind.gave)
 
 -- a read failed
-pub read_failed : (M : Bounds) (s : Reading TreeBuilder Value) (read now next old new : Option (List ℕ))
+pub read_failed : (M : Bounds) (s : SessionState TreeBuilder Value) (read now next old new : Option (List ℕ))
     (bytes gathered : List ℕ) → s.limits ≡ M → (i : StandsGathered s read now old new gathered) → read ≡ Some bytes
     → Keeps now next
     → SomeTaken bytes next (λ taken. GivesOutcome (within_trees M) taken (Gathered old new gathered))
@@ -299,7 +299,7 @@ refused_more {L = L} {bytes = bytes} {all = all} {R = R} {P = P} more e n b =
     }
 
 -- a piece ended the run
-stopped_there : (L : Bounds) (s : Reading TreeBuilder Value) (read next old new : Option (List ℕ))
+stopped_there : (L : Bounds) (s : SessionState TreeBuilder Value) (read next old new : Option (List ℕ))
     (bytes gathered taken : List ℕ) (f : ToolFault) → read ≡ Some bytes → Consumes read next taken
     → TakesPiece L s taken old new gathered (Err f)
     → Runs L bytes next (Gathered old new gathered) (AppendsFront old new) (Err f)
@@ -314,7 +314,7 @@ stopped_there L s read next old new bytes gathered taken fault.Write known c h =
 stopped_there L s read next old new bytes gathered taken fault.Memory known c h = let t = known_taken read next bytes
     taken known c in begins_more t.left t.whole h
 
-pub stopped : (L M : Bounds) (s : Reading TreeBuilder Value) (read next old new : Option (List ℕ))
+pub stopped : (L M : Bounds) (s : SessionState TreeBuilder Value) (read next old new : Option (List ℕ))
     (bytes gathered taken : List ℕ) (f : ToolFault) → L ≡ M → read ≡ Some bytes → Consumes read next taken
     → TakesPiece (within_trees L) s taken old new gathered (Err f)
     → Runs (within_trees M) bytes next (Gathered old new gathered) (AppendsFront old new) (Err f)
@@ -328,7 +328,7 @@ pub read_none : (now next : Option (List ℕ)) (n : ℕ) (buffer : List ℕ) →
 read_none now next n buffer e c = subst (λ k. Consumes now next (take k buffer)) e c
 
 -- reads that failed are counted: none at the end of the input
-pub finish_counts : (s s' : Reading TreeBuilder Value) (items : List StreamItem) (bytes : List ℕ)
+pub finish_counts : (s s' : SessionState TreeBuilder Value) (items : List StreamItem) (bytes : List ℕ)
     (failures failures' : ℕ) (e : Fault) → ReadingFinishes greatest_depth s s' items bytes (Err e) → failures' ≡ failures
     → CountsOnlyReads failures failures' (Err (reading_fault e))
 finish_counts s s' items bytes failures failures' (reading.Refused R) f h = h
@@ -337,7 +337,7 @@ finish_counts s s' items bytes failures failures' reading.Memory f h = h
 finish_counts s s' items bytes failures failures' reading.Failed f h = h
 
 -- nor while a piece is taken
-pub piece_counts : (L : Bounds) (s : Reading TreeBuilder Value) (bytes : List ℕ) (old new : Option (List ℕ))
+pub piece_counts : (L : Bounds) (s : SessionState TreeBuilder Value) (bytes : List ℕ) (old new : Option (List ℕ))
     (gathered : List ℕ) (failures failures' : ℕ) (f : ToolFault) → TakesPiece L s bytes old new gathered (Err f)
     → failures' ≡ failures
     → CountsOnlyReads failures failures' (Err f)
@@ -355,7 +355,7 @@ reads_at failures failures' (Ok u) f e h = absurd e
 reads_at failures failures' (Err g) f e h = subst (λ f. CountsOnlyReads failures failures' (Err f)) (sym e) h
 
 -- each piece brings the reader nearer to where it has to stop
-pub falls : (s s' : Reading TreeBuilder Value) (items others : List StreamItem) (taken piece : List ℕ)
+pub falls : (s s' : SessionState TreeBuilder Value) (items others : List StreamItem) (taken piece : List ℕ)
     → GaveItems s items taken → GaveItems s' others (taken ++ piece) → s'.limits ≡ s.limits → 0 < length piece
     → s'.limits.stream + 9 - s'.taken < s.limits.stream + 9 - s.taken
 falls s s' items others taken piece a b same some =

@@ -9,7 +9,7 @@ use Rattle.gob_types.specs.Defined.{types}
 use Rattle.gob_value.specs.declared.value.Value.{Value}
 use Rattle.gob_value.specs.Whole.{IsWhole}
 use Rattle.gob_read.specs.declared.tree_builder.TreeBuilder.{TreeBuilder}
-use Rattle.gob_stream.specs.declared.reading.Reading.{Reading}
+use Rattle.gob_stream.specs.SessionState.{SessionState}
 use Rattle.gob_stream.specs.Bounds.{Bounds, no_deeper, greatest_depth}
 use Rattle.gob_stream.specs.Item.{StreamItem, puts}
 use Rattle.gob_stream.specs.Stream.{Counted}
@@ -29,7 +29,7 @@ body_some {body = body} {used = used} {piece = piece} b =
     let some = (unsigned_length b.counts).0 in
     omega (arith, ap length b.whole, length-take-le used piece b.within, length-append b.count (b.number ++ body))
 
-pub gathers_whole : {s s' : Reading TreeBuilder Value} {id : TypeId} {body : List ℕ} {used d : ℕ}
+pub gathers_whole : {s s' : SessionState TreeBuilder Value} {id : TypeId} {body : List ℕ} {used d : ℕ}
     {piece before after : List ℕ} → d ≡ min s.limits.depth greatest_depth
     → HasBody s.limits (types s.types) s.taken id body used piece → LineOfWhole (types s.types) id d body before after
     → s'.types ≡ s.types

@@ -17,7 +17,7 @@ use Rattle.gob_read.specs.declared.tree_builder.TreeBuilder.{TreeBuilder}
 use Rattle.gob_stream.specs.declared.fault.Refusal.{Refusal}
 use Rattle.gob_stream.specs.declared.fault.Fault.{Fault}
 use Rattle.gob_stream.specs.declared.fault.Fault.TheVariants as reading
-use Rattle.gob_stream.specs.declared.reading.Reading.{Reading}
+use Rattle.gob_stream.specs.SessionState.{SessionState}
 use Rattle.gob_stream.specs.Bounds.{Bounds, within_trees}
 use Rattle.gob_stream.specs.Item.{StreamItem, puts}
 use Rattle.gob_stream.specs.Outcome.{Outcome, BeginsWith, refused}
@@ -42,7 +42,7 @@ pub trees_deep : (L : Bounds) → (within_trees L).depth ≤ 1000
 trees_deep L = omega arith
 
 -- ---- what a piece gave
-module _ {s s' : Reading TreeBuilder Value} {items : List StreamItem} {taken : List ℕ} {given : List StreamItem}
+module _ {s s' : SessionState TreeBuilder Value} {items : List StreamItem} {taken : List ℕ} {given : List StreamItem}
     {read now : Option (List ℕ)} {result : Result Bool Fault} (p : GivesPiece s s' items taken given read now result)
   where
     -- was sent
@@ -121,7 +121,7 @@ pub record IsAll (L : Bounds) (bytes : List ℕ) (now : Option (List ℕ)) (item
   pub end : now ≡ Some []
 
 pub all_known : {L : Bounds} {bytes taken : List ℕ} {now : Option (List ℕ)} {items : List StreamItem}
-    (s s' : Reading TreeBuilder Value) → Taken bytes now taken → EndsPiece L s s' items taken now (Ok false)
+    (s s' : SessionState TreeBuilder Value) → Taken bytes now taken → EndsPiece L s s' items taken now (Ok false)
     → IsAll L bytes now items
 all_known {L = L} {items = items} s s' t ends =
     let a = at_end t ends.1 in
@@ -155,7 +155,7 @@ module _ (L : Bounds) (bytes : List ℕ) (next : Option (List ℕ)) (T U : Table
   stops_at_items items old new after fault.Read t h = absurd h
 
   -- at a fault of the reader
-  stops_at_reader : (s s' : Reading TreeBuilder Value) (items : List StreamItem) (taken : List ℕ)
+  stops_at_reader : (s s' : SessionState TreeBuilder Value) (items : List StreamItem) (taken : List ℕ)
       (P C : List ℕ → Type 0) (e : Fault) → Taken bytes next taken → TypesBehind L taken items T
       → HasTakenItems T U u items P
       → EndsPiece L s s' items taken next (Err e) → Receiving L bytes next U u P C (Err (reading_fault e))
@@ -178,7 +178,7 @@ module _ (L : Bounds) (bytes : List ℕ) (next : Option (List ℕ)) (T U : Table
   stops_at_reader s s' items taken P C reading.Failed k t h ends = absurd ends
 
   -- at the end of the input
-  ends_there : (s s' : Reading TreeBuilder Value) (items : List StreamItem) (taken : List ℕ) (P : List ℕ → Type 0)
+  ends_there : (s s' : SessionState TreeBuilder Value) (items : List StreamItem) (taken : List ℕ) (P : List ℕ → Type 0)
       → Taken bytes next taken → TypesBehind L taken items T → HasTakenItems T U u items P
       → EndsPiece L s s' items taken next (Ok false) → ReceivesWhole L bytes next U u P
   ends_there s s' items taken P k t h ends =
@@ -195,12 +195,12 @@ module _ (L : Bounds) (bytes : List ℕ) (next : Option (List ℕ)) (T U : Table
       }
 
 -- ---- from piece to piece
-abbrev pub StandsTaking : (s : Reading TreeBuilder Value) (start now : Option (List ℕ)) → Table → TypeId
+abbrev pub StandsTaking : (s : SessionState TreeBuilder Value) (start now : Option (List ℕ)) → Table → TypeId
     → (old new : Option (List ℕ)) → (gathered : List ℕ) → Type 0
 StandsTaking s start now U u old new gathered = StandsAt s start now
     (λ items. HasTakenItems (types s.types) U u items (λ lines. PassesSome old new lines gathered))
 
-pub takes_first : (s : Reading TreeBuilder Value) (start : Option (List ℕ)) (U : Table) (u : TypeId)
+pub takes_first : (s : SessionState TreeBuilder Value) (start : Option (List ℕ)) (U : Table) (u : TypeId)
     (out : Option (List ℕ)) (gathered : List ℕ) → GaveItems s [] [] → gathered ≡ []
     → StandsTaking s start start U u out out gathered
 takes_first s start U u out gathered gave none = record {
@@ -216,7 +216,7 @@ takes_first s start U u out gathered gave none = record {
   };
 }
 
-module _ (M : Bounds) (s s' : Reading TreeBuilder Value) (start now next old out : Option (List ℕ)) (U : Table)
+module _ (M : Bounds) (s s' : SessionState TreeBuilder Value) (start now next old out : Option (List ℕ)) (U : Table)
     (u : TypeId) (gathered : List ℕ) (given : List StreamItem) (wanted : IsReady U u) (same : s.limits ≡ M)
     (i : StandsTaking s start now U u old out gathered) where
   module _ {result : Result Bool Fault} (p : GivesPiece s s' i.items i.taken given now next result) where
@@ -303,7 +303,7 @@ module _ (M : Bounds) (s s' : Reading TreeBuilder Value) (start now next old out
       }
 
 -- each piece brings the reader nearer to where it has to stop
-pub nearer : (s s' : Reading TreeBuilder Value) (items : List StreamItem) (taken : List ℕ) (given : List StreamItem)
+pub nearer : (s s' : SessionState TreeBuilder Value) (items : List StreamItem) (taken : List ℕ) (given : List StreamItem)
     (read now : Option (List ℕ)) (more : Bool) → more ≡ true → GivesPiece s s' items taken given read now (Ok more)
     → unread s' < unread s
 nearer s s' items taken given read now more e q = let p = subst

@@ -13,7 +13,7 @@ use Rattle.gob_value.specs.declared.value.Value.{Value}
 use Rattle.gob_read.specs.declared.tree_builder.TreeBuilder.{TreeBuilder}
 use Rattle.gob_stream.specs.declared.fault.Fault.{Fault}
 use Rattle.gob_stream.specs.declared.fault.Fault.TheVariants as reading
-use Rattle.gob_stream.specs.declared.reading.Reading.{Reading}
+use Rattle.gob_stream.specs.SessionState.{SessionState}
 use Rattle.gob_stream.specs.Bounds.{Bounds, within_trees}
 use Rattle.gob_stream.specs.Devices.{FlushCounted}
 use Rattle.gob_stream.specs.Item.{StreamItem, defines, puts}
@@ -77,7 +77,7 @@ only_these {L = L} {items = items} {T = T} t g =
       whole = t.whole;
     }
 
-read_all : (L : Bounds) (s s' : Reading TreeBuilder Value) {bytes taken : List ℕ} {now : Option (List ℕ)}
+read_all : (L : Bounds) (s s' : SessionState TreeBuilder Value) {bytes taken : List ℕ} {now : Option (List ℕ)}
     (items : List StreamItem) (T : Table) → Taken bytes now taken → EndsPiece L s s' items taken now (Ok false)
     → TypesBehind L taken items T
     → Stream base_table L items bytes T × (now ≡ Some [])
@@ -93,12 +93,12 @@ read_all L s s' {bytes = bytes} {taken = taken} items T k ends t =
     )
 
 -- ---- from piece to piece
-pub finds_first : (s : Reading TreeBuilder Value) (start : Option (List ℕ)) (first : Option TypeId) → GaveItems s [] []
+pub finds_first : (s : SessionState TreeBuilder Value) (start : Option (List ℕ)) (first : Option TypeId) → GaveItems s [] []
     → first ≡ None → StandsAt s start start (λ items. first ≡ first_type items)
 finds_first s start first gave none = record
     { taken = []; items = []; input = Consumes-nil start; gave = gave; holds = none }
 
-module _ (M : Bounds) (s s' : Reading TreeBuilder Value) (start now next : Option (List ℕ)) (first : Option TypeId)
+module _ (M : Bounds) (s s' : SessionState TreeBuilder Value) (start now next : Option (List ℕ)) (first : Option TypeId)
     (given : List StreamItem) (same : s.limits ≡ M) (i : StandsAt s start now (λ items. first ≡ first_type items)) where
   known_so : (bytes : List ℕ) {result : Result Bool Fault} (p : GivesPiece s s' i.items i.taken given now next result)
       → start ≡ Some bytes → Taken bytes next (i.taken ++ p.piece)

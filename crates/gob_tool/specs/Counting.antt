@@ -6,7 +6,7 @@ use Rattle.gob_read.specs.contracts.tree_builder.TreeBuilderBuilder.TheImpl as t
 use Rattle.gob_read.specs.declared.skip_builder.SkipBuilder.{SkipBuilder}
 use Rattle.gob_stream.specs.declared.fault.Fault.{Fault}
 use Rattle.gob_stream.specs.declared.fault.Fault.TheVariants as reading
-use Rattle.gob_stream.specs.declared.reading.Reading.{Reading}
+use Rattle.gob_stream.specs.SessionState.{SessionState}
 use Rattle.gob_stream.specs.Bounds.{Bounds, deepest}
 use Rattle.gob_stream.specs.Devices.{counts_up}
 use Rattle.gob_stream.specs.Item.{StreamItem}
@@ -18,11 +18,11 @@ use Rattle.gob_tool.specs.declared.fault.ToolFault.TheVariants as fault
 use Rattle.gob_tool.specs.Checking.{IsCountedStream, IsNoStream, counts_line}
 
 -- the reader that counts has taken these bytes, and given the items
-abbrev pub GaveCounts : Reading SkipBuilder (Unit {0}) → List StreamItem → List ℕ → Type 0
+abbrev pub GaveCounts : SessionState SkipBuilder (Unit {0}) → List StreamItem → List ℕ → Type 0
 GaveCounts s items bytes = StandsAfter skip_builder.stands-value.it tree_builder.stands-value.it deepest s items bytes
 
 -- what was consumed of the input was taken, and counted
-pub record CountsIn (s : Reading SkipBuilder (Unit {0})) (read now : Option (List ℕ)) (items bytes : ℕ) : Type 0 where
+pub record CountsIn (s : SessionState SkipBuilder (Unit {0})) (read now : Option (List ℕ)) (items bytes : ℕ) : Type 0 where
   pub given : List StreamItem
   pub taken : List ℕ
   pub input : Consumes read now taken
@@ -47,20 +47,20 @@ CountsCounting failures failures' (Err fault.Write) = ⊥
 CountsCounting failures failures' _ = failures' ≡ failures
 
 -- the reader that counts has taken these bytes, and so many items were counted
-pub record HasCounted (s : Reading SkipBuilder (Unit {0})) (items : ℕ) (bytes : List ℕ) : Type 0 where
+pub record HasCounted (s : SessionState SkipBuilder (Unit {0})) (items : ℕ) (bytes : List ℕ) : Type 0 where
   pub given : List StreamItem
   pub gave : GaveCounts s given bytes
   pub items_are : items ≡ length given
 
 -- so many bytes of the piece were taken, and the items that are whole with them were counted: at least one of either
-pub record CountsOn (s : Reading SkipBuilder (Unit {0})) (items items' : ℕ) (bytes piece : List ℕ) (used : ℕ) : Type 0
+pub record CountsOn (s : SessionState SkipBuilder (Unit {0})) (items items' : ℕ) (bytes piece : List ℕ) (used : ℕ) : Type 0
   where
     pub within : used ≤ length piece
     pub nearer : items < items' + used
     pub counted : HasCounted s items' (bytes ++ take used piece)
 
 -- the front of the piece was taken, up to the rest, and its items were counted
-pub record CountsUpTo (s : Reading SkipBuilder (Unit {0})) (items : ℕ) (bytes piece rest : List ℕ) : Type 0 where
+pub record CountsUpTo (s : SessionState SkipBuilder (Unit {0})) (items : ℕ) (bytes piece rest : List ℕ) : Type 0 where
   pub front : List ℕ
   pub whole : piece ≡ front ++ rest
   pub counted : HasCounted s items (bytes ++ front)
@@ -73,13 +73,13 @@ StopsCounting L bytes reading.Memory = Unit {0}
 StopsCounting L bytes reading.Failed = ⊥
 
 -- what counting the items of the front of a piece answers, behind these bytes
-abbrev pub CountsFront : Bounds → Reading SkipBuilder (Unit {0}) → (items items' : ℕ) → (bytes piece : List ℕ)
+abbrev pub CountsFront : Bounds → SessionState SkipBuilder (Unit {0}) → (items items' : ℕ) → (bytes piece : List ℕ)
     → Result ℕ Fault → Type 0
 CountsFront L s items items' bytes piece (Ok used) = CountsOn s items items' bytes piece used
 CountsFront L s items items' bytes piece (Err e) = StopsCounting L (bytes ++ piece) e
 
 -- what counting the items of a whole piece answers, with which these are the bytes
-abbrev pub CountsAll : Bounds → Reading SkipBuilder (Unit {0}) → (items : ℕ) → (bytes : List ℕ)
+abbrev pub CountsAll : Bounds → SessionState SkipBuilder (Unit {0}) → (items : ℕ) → (bytes : List ℕ)
     → Result (Unit {0}) Fault → Type 0
 CountsAll L s items bytes (Ok _) = HasCounted s items bytes
 CountsAll L s items bytes (Err e) = StopsCounting L bytes e

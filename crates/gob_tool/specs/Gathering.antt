@@ -12,7 +12,7 @@ use Rattle.gob_read.specs.declared.tree_builder.TreeBuilder.{TreeBuilder}
 use Rattle.gob_stream.specs.declared.fault.Fault.{Fault}
 use Rattle.gob_stream.specs.declared.fault.Fault.TheVariants as reading
 use Rattle.gob_stream.specs.declared.item.Item as declared
-use Rattle.gob_stream.specs.declared.reading.Reading.{Reading}
+use Rattle.gob_stream.specs.SessionState.{SessionState}
 use Rattle.gob_stream.specs.Bounds.{Bounds, greatest_depth}
 use Rattle.gob_stream.specs.Item.{StreamItem, item_view}
 use Rattle.gob_stream.specs.Devices.{counts_up}
@@ -29,12 +29,12 @@ pub record Gathered (old new : Option (List ℕ)) (gathered : List ℕ) (all : L
   pub whole : written ++ gathered ≡ all
 
 -- the reader of trees has given the items, of these bytes
-abbrev pub GaveItems : Reading TreeBuilder Value → List StreamItem → List ℕ → Type 0
+abbrev pub GaveItems : SessionState TreeBuilder Value → List StreamItem → List ℕ → Type 0
 GaveItems s items bytes = StandsAfter tree_builder.stands-value.it tree_builder.stands-value.it greatest_depth s items
     bytes
 
 -- the reader has taken these bytes, and the lines of the items that it gave went out or are gathered
-pub record StandsBehind (s : Reading TreeBuilder Value) (bytes : List ℕ) (old new : Option (List ℕ)) (gathered : List ℕ)
+pub record StandsBehind (s : SessionState TreeBuilder Value) (bytes : List ℕ) (old new : Option (List ℕ)) (gathered : List ℕ)
     : Type 0 where
   pub items : List StreamItem
   pub gave : GaveItems s items bytes
@@ -56,7 +56,7 @@ Passes old new before after (Ok _) = PassesSome old new before after
 Passes old new before after (Err e) = (e ≡ fault.Write) × AppendsFront old new before
 
 -- what taking a piece answers, with which the reader took these bytes, under these limits
-abbrev pub TakesPiece : Bounds → (s : Reading TreeBuilder Value) → (bytes : List ℕ) → (old new : Option (List ℕ))
+abbrev pub TakesPiece : Bounds → (s : SessionState TreeBuilder Value) → (bytes : List ℕ) → (old new : Option (List ℕ))
     → (gathered : List ℕ) → Result (Unit {0}) ToolFault → Type 0
 TakesPiece L s bytes old new gathered (Ok _) = StandsBehind s bytes old new gathered
 TakesPiece L s bytes old new gathered (Err (fault.Refused R)) = IsRefused L bytes R (Gathered old new gathered)
@@ -69,7 +69,7 @@ TakesPiece L s bytes old new gathered (Err fault.Write) = BeginsOutcome L bytes 
 TakesPiece L s bytes old new gathered (Err fault.Memory) = BeginsOutcome L bytes (Gathered old new gathered)
 
 -- what was consumed of the input was taken
-pub record StandsGathered (s : Reading TreeBuilder Value) (read now old new : Option (List ℕ)) (gathered : List ℕ) : Type 0
+pub record StandsGathered (s : SessionState TreeBuilder Value) (read now old new : Option (List ℕ)) (gathered : List ℕ) : Type 0
   where
     pub taken : List ℕ
     pub input : Consumes read now taken
@@ -90,7 +90,7 @@ CountsOnlyWrites failures failures' (Err fault.Write) = failures' ≡ counts_up 
 CountsOnlyWrites failures failures' _ = failures' ≡ failures
 
 -- the line of a whole item at the front of a piece was gathered, and the reader is behind the item
-pub record GathersWhole (s s' : Reading TreeBuilder Value) (piece before after : List ℕ) (used : ℕ) : Type 0 where
+pub record GathersWhole (s s' : SessionState TreeBuilder Value) (piece before after : List ℕ) (used : ℕ) : Type 0 where
   pub item : StreamItem
   pub some : 0 < used
   pub within : used ≤ length piece
@@ -100,7 +100,7 @@ pub record GathersWhole (s s' : Reading TreeBuilder Value) (piece before after :
       → GaveItems s' (items ++ item ∷ []) (bytes ++ take used piece)
 
 -- or nothing has changed
-abbrev pub MayGatherWhole : (s s' : Reading TreeBuilder Value) → (piece before after : List ℕ)
+abbrev pub MayGatherWhole : (s s' : SessionState TreeBuilder Value) → (piece before after : List ℕ)
     → Result (Option ℕ) Memory → Type 0
 MayGatherWhole s s' piece before after (Ok (Some used)) = GathersWhole s s' piece before after used
 MayGatherWhole s s' piece before after (Ok None) = (s' ≡ s) × (after ≡ before)
@@ -121,13 +121,13 @@ StopsShowing L bytes old new gathered reading.Memory = BeginsOutcome L bytes (Ga
 StopsShowing L bytes old new gathered reading.Failed = ⊥
 
 -- what taking the front of a piece answers, behind these bytes
-abbrev pub TakesFront : Bounds → (s : Reading TreeBuilder Value) → (bytes piece : List ℕ) → (old new : Option (List ℕ))
+abbrev pub TakesFront : Bounds → (s : SessionState TreeBuilder Value) → (bytes piece : List ℕ) → (old new : Option (List ℕ))
     → (gathered : List ℕ) → Result ℕ Fault → Type 0
 TakesFront L s bytes piece old new gathered (Ok used) = StandsBehind s (bytes ++ take used piece) old new gathered
 TakesFront L s bytes piece old new gathered (Err e) = StopsShowing L (bytes ++ piece) old new gathered e
 
 -- the front of the piece was taken, up to the rest
-pub record StandsUpTo (s : Reading TreeBuilder Value) (bytes piece rest : List ℕ) (old new : Option (List ℕ))
+pub record StandsUpTo (s : SessionState TreeBuilder Value) (bytes piece rest : List ℕ) (old new : Option (List ℕ))
     (gathered : List ℕ) : Type 0 where
   pub front : List ℕ
   pub whole : piece ≡ front ++ rest

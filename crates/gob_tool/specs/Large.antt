@@ -13,7 +13,7 @@ use Rattle.gob_types.specs.declared.id.TypeId.{TypeId}
 use Rattle.gob_types.specs.Defined.{types}
 use Rattle.gob_value.specs.declared.value.Value.{Value}
 use Rattle.gob_read.specs.declared.tree_builder.TreeBuilder.{TreeBuilder}
-use Rattle.gob_stream.specs.declared.reading.Reading.{Reading}
+use Rattle.gob_stream.specs.SessionState.{SessionState}
 use Rattle.gob_stream.specs.Whole.{IsBetween, HasBody}
 use Rattle.gob_json.specs.Json.{value_json, elements_json}
 use Rattle.gob_json.specs.TextWhole.{IsOfKind}
@@ -39,7 +39,7 @@ pub record ListsIntegers (T : Table) (t : TypeId) (limit : ℕ) (bytes : List �
 
 -- the piece is, behind what the reader took, an item that puts a list of so many ints, of which the first begins at this
 -- place of the body
-pub record IsLargeList (s : Reading TreeBuilder Value) (limit : ℕ) (piece : List ℕ) (id : TypeId) (body : List ℕ)
+pub record IsLargeList (s : SessionState TreeBuilder Value) (limit : ℕ) (piece : List ℕ) (id : TypeId) (body : List ℕ)
     (used count begin : ℕ) : Type 0 where
   pub between : IsBetween s
   pub item : HasBody s.limits (types s.types) s.taken id body used piece
@@ -47,7 +47,7 @@ pub record IsLargeList (s : Reading TreeBuilder Value) (limit : ℕ) (piece : Li
   pub list : ListsIntegers (types s.types) id limit body count begin
 
 -- the piece is, behind what the reader took, an item that puts a value no deeper than the limit
-pub record IsLargeItem (s : Reading TreeBuilder Value) (limit : ℕ) (piece : List ℕ) (id : TypeId) (body : List ℕ)
+pub record IsLargeItem (s : SessionState TreeBuilder Value) (limit : ℕ) (piece : List ℕ) (id : TypeId) (body : List ℕ)
     (used : ℕ) : Type 0 where
   pub between : IsBetween s
   pub item : HasBody s.limits (types s.types) s.taken id body used piece

@@ -15,7 +15,7 @@ use Rattle.gob_match.specs.Clashing.{IsLeastClash}
 use Rattle.gob_read.specs.declared.tree_builder.TreeBuilder.{TreeBuilder}
 use Rattle.gob_stream.specs.declared.fault.Fault.{Fault}
 use Rattle.gob_stream.specs.declared.fault.Fault.TheVariants as reading
-use Rattle.gob_stream.specs.declared.reading.Reading.{Reading}
+use Rattle.gob_stream.specs.SessionState.{SessionState}
 use Rattle.gob_stream.specs.Bounds.{Bounds, within_trees}
 use Rattle.gob_stream.specs.Devices.{counts_up}
 use Rattle.gob_stream.specs.Item.{StreamItem, defines, puts}
@@ -29,7 +29,7 @@ use Rattle.gob_tool.specs.Showing.{AppendsFront}
 use Rattle.gob_tool.specs.Taking.{first_type, HasTakenItems}
 
 -- the reader of trees has given some items, of some bytes
-pub record HasGiven (s : Reading TreeBuilder Value) : Type 0 where
+pub record HasGiven (s : SessionState TreeBuilder Value) : Type 0 where
   pub items : List StreamItem
   pub bytes : List ℕ
   pub gave : GaveItems s items bytes
@@ -43,11 +43,11 @@ pub record TypesBehind (L : Bounds) (bytes : List ℕ) (items : List StreamItem)
   pub whole : bytes ≡ front ++ rest
 
 -- how far a reader is from where it has to stop
-abbrev pub unread : Reading TreeBuilder Value → ℕ
+abbrev pub unread : SessionState TreeBuilder Value → ℕ
 unread s = s.limits.stream + 9 - s.taken
 
 -- how reading a piece ended, where these are all items so far and all bytes that were taken: whether the stream goes on
-abbrev pub EndsPiece : Bounds → (s s' : Reading TreeBuilder Value) → List StreamItem → (taken : List ℕ)
+abbrev pub EndsPiece : Bounds → (s s' : SessionState TreeBuilder Value) → List StreamItem → (taken : List ℕ)
     → (now : Option (List ℕ)) → Result Bool Fault → Type 0
 EndsPiece L s s' items taken now (Ok true) = GaveItems s' items taken × (unread s' < unread s)
 EndsPiece L s s' items taken now (Ok false) = Outcome base_table L taken items the_end × IsAtEnd now
@@ -58,7 +58,7 @@ EndsPiece L s s' items taken now (Err reading.Memory) = Unit {0}
 EndsPiece L s s' items taken now (Err reading.Failed) = ⊥
 
 -- a reader that had given the items, of the bytes taken before, gave these with a piece
-pub record GivesPiece (s s' : Reading TreeBuilder Value) (items : List StreamItem) (taken : List ℕ)
+pub record GivesPiece (s s' : SessionState TreeBuilder Value) (items : List StreamItem) (taken : List ℕ)
     (given : List StreamItem) (read now : Option (List ℕ)) (result : Result Bool Fault) : Type 0 where
   pub piece : List ℕ
   pub input : Consumes read now piece
@@ -72,7 +72,7 @@ CountsPiece failures failures' (Err reading.Read) = failures' ≡ counts_up fail
 CountsPiece failures failures' _ = failures' ≡ failures
 
 -- what was consumed of the input was taken, and the items given
-pub record StandsAt (s : Reading TreeBuilder Value) (read now : Option (List ℕ)) (P : List StreamItem → Type 0) : Type 0
+pub record StandsAt (s : SessionState TreeBuilder Value) (read now : Option (List ℕ)) (P : List StreamItem → Type 0) : Type 0
   where
     pub taken : List ℕ
     pub items : List StreamItem

@@ -17,7 +17,7 @@ use Rattle.gob_stream.specs.declared.fault.WriteFault.{WriteFault}
 use Rattle.gob_stream.specs.declared.fault.Fault.{Fault}
 use Rattle.gob_stream.specs.declared.fault.Fault.TheVariants as reading
 use Rattle.gob_stream.specs.declared.item.Item as declared
-use Rattle.gob_stream.specs.declared.reading.Reading.{Reading}
+use Rattle.gob_stream.specs.SessionState.{SessionState}
 use Rattle.gob_stream.specs.declared.writer.StreamWriter.{StreamWriter}
 use Rattle.gob_stream.specs.Bounds.{Bounds, AreLimits, deepest, no_deeper, within_trees}
 use Rattle.gob_stream.specs.Item.{StreamItem, defines, puts, ItemMeans}
@@ -36,7 +36,7 @@ use Rattle.gob_tool.specs.Keeping.{IsKeptFront}
 use Rattle.gob_tool.specs.Showing.{AppendsFront}
 
 -- the reader of tapes has given the items, of these bytes
-abbrev pub GaveTapes : Reading TapeBuilder Tape → List StreamItem → List ℕ → Type 0
+abbrev pub GaveTapes : SessionState TapeBuilder Tape → List StreamItem → List ℕ → Type 0
 GaveTapes s items bytes = StandsAfter tape_builder.stands-value.it tree_builder.stands-value.it deepest s items bytes
 
 -- a tape was made of a value
@@ -76,7 +76,7 @@ pub record WritesForm (L : Bounds) (T : Table) (w w' : StreamWriter) (i : Stream
   pub writes : WritesNext (bounds_for L i) w w' (with_content i form) old new result
 
 -- the writer has written the tidy form of what the reader gave
-pub record HasRewritten (s : Reading TapeBuilder Tape) (w : StreamWriter) : Type 0 where
+pub record HasRewritten (s : SessionState TapeBuilder Tape) (w : StreamWriter) : Type 0 where
   pub items : List StreamItem
   pub taken : List ℕ
   pub gave : GaveTapes s items taken
@@ -89,13 +89,13 @@ pub record HasRewritten (s : Reading TapeBuilder Tape) (w : StreamWriter) : Type
   pub no_longer : length written ≤ length gave.front
 
 -- this item comes next in its stream, and the types behind it are U
-pub record ComesNext {s : Reading TapeBuilder Tape} {w : StreamWriter} (h : HasRewritten s w) (i : StreamItem) (U : Table)
+pub record ComesNext {s : SessionState TapeBuilder Tape} {w : StreamWriter} (h : HasRewritten s w) (i : StreamItem) (U : Table)
     : Type 0 where
   pub bytes : List ℕ
   pub counted : Counted base_table (no_deeper deepest s.limits) (types s.types) (length h.gave.front) i bytes U
 
 -- and what was made of it is here
-pub record IsNextTape {s : Reading TapeBuilder Tape} {w : StreamWriter} (h : HasRewritten s w) (U : Table)
+pub record IsNextTape {s : SessionState TapeBuilder Tape} {w : StreamWriter} (h : HasRewritten s w) (U : Table)
     (given : declared.Item Tape) : Type 0 where
   pub item : StreamItem
   pub meant : ItemMeans IsTape given item
@@ -107,14 +107,14 @@ pub record SpellsTidy (T : Table) (t : TypeId) (v : Tree) (body : List ℕ) : Ty
   pub tidied : Tidies T t v v
 
 -- such a value comes next
-pub record IsTidyNext {s : Reading TapeBuilder Tape} {w : StreamWriter} (h : HasRewritten s w) (U : Table) (t : TypeId)
+pub record IsTidyNext {s : SessionState TapeBuilder Tape} {w : StreamWriter} (h : HasRewritten s w) (U : Table) (t : TypeId)
     (body : List ℕ) : Type 0 where
   pub value : Tree
   pub spells : SpellsTidy U t value body
   pub next : ComesNext h (puts t value) U
 
 -- its tidy form is written too
-pub record GoesOnRewriting {s : Reading TapeBuilder Tape} {w : StreamWriter} {h : HasRewritten s w} {i : StreamItem} {U : Table}
+pub record GoesOnRewriting {s : SessionState TapeBuilder Tape} {w : StreamWriter} {h : HasRewritten s w} {i : StreamItem} {U : Table}
     (n : ComesNext h i U) (w' : StreamWriter) : Type 0 where
   pub limits : w'.limits ≡ s.limits
   pub tidy : List StreamItem
@@ -124,20 +124,20 @@ pub record GoesOnRewriting {s : Reading TapeBuilder Tape} {w : StreamWriter} {h 
   pub no_longer : length (h.written ++ more) ≤ length (h.gave.front ++ n.bytes)
 
 -- it was gathered in its tidy form, or nothing of it
-abbrev pub Pushes : {s : Reading TapeBuilder Tape} {w : StreamWriter} {h : HasRewritten s w} {i : StreamItem} {U : Table}
+abbrev pub Pushes : {s : SessionState TapeBuilder Tape} {w : StreamWriter} {h : HasRewritten s w} {i : StreamItem} {U : Table}
     (n : ComesNext h i U) (w' : StreamWriter) (before after : List ℕ) → Result (Unit {0}) Memory → Type 0
 Pushes n w' before after (Ok _) = (g : GoesOnRewriting n w') × (after ≡ before ++ g.more)
 Pushes n w' before after (Err e) = after ≡ before
 
 -- its tidy form follows what was written, as these bytes
-pub record IsTidiedItem {s : Reading TapeBuilder Tape} {w : StreamWriter} {h : HasRewritten s w} {i : StreamItem} {U : Table}
+pub record IsTidiedItem {s : SessionState TapeBuilder Tape} {w : StreamWriter} {h : HasRewritten s w} {i : StreamItem} {U : Table}
     (n : ComesNext h i U) (more : List ℕ) : Type 0 where
   pub tidy : List StreamItem
   pub tidied : AreItemsTidied U (h.items ++ i ∷ []) tidy
   pub stream : Stream base_table s.limits tidy (h.written ++ more) U
 
 -- it went out in its tidy form, or nothing of it, or after a failed write a front of it
-abbrev pub PutsOut : {s : Reading TapeBuilder Tape} {w : StreamWriter} {h : HasRewritten s w} {i : StreamItem} {U : Table}
+abbrev pub PutsOut : {s : SessionState TapeBuilder Tape} {w : StreamWriter} {h : HasRewritten s w} {i : StreamItem} {U : Table}
     (n : ComesNext h i U) (w' : StreamWriter) (old new : Option (List ℕ)) → Result (Unit {0}) ToolFault → Type 0
 PutsOut n w' old new (Ok _) = (g : GoesOnRewriting n w') × Appends old new g.more
 PutsOut n w' old new (Err fault.Write) = (more : List ℕ) × IsTidiedItem n more × AppendsFront old new more
@@ -150,7 +150,7 @@ PutsOut n w' old new (Err fault.Read) = ⊥
 
 -- what was gathered, and the item in its tidy form behind it, went out or are gathered; after a failed write a front of
 -- what was gathered is out, or all of it and a front of the item
-abbrev pub PushesOut : {s : Reading TapeBuilder Tape} {w : StreamWriter} {h : HasRewritten s w} {i : StreamItem} {U : Table}
+abbrev pub PushesOut : {s : SessionState TapeBuilder Tape} {w : StreamWriter} {h : HasRewritten s w} {i : StreamItem} {U : Table}
     (n : ComesNext h i U) (w' : StreamWriter) (old new : Option (List ℕ)) (before after : List ℕ)
     → Result (Unit {0}) ToolFault → Type 0
 PushesOut n w' old new before after (Ok _) = (g : GoesOnRewriting n w') × PassesSome old new (before ++ g.more) after
@@ -168,15 +168,15 @@ abbrev pub Adds : List ℕ → (List ℕ → Type 0) → List ℕ → Type 0
 Adds written P bytes = (more : List ℕ) × (bytes ≡ written ++ more) × P more
 
 -- a piece was rewritten too
-pub record RewritesOn {s : Reading TapeBuilder Tape} {w : StreamWriter} (h : HasRewritten s w) (s' : Reading TapeBuilder Tape)
+pub record RewritesOn {s : SessionState TapeBuilder Tape} {w : StreamWriter} (h : HasRewritten s w) (s' : SessionState TapeBuilder Tape)
     (w' : StreamWriter) (piece : List ℕ) (P : List ℕ → Type 0) : Type 0 where
   pub next : HasRewritten s' w'
   pub taken : next.taken ≡ h.taken ++ piece
   pub adds : Adds h.written P next.written
 
 -- bytes of the front of a piece were rewritten too, and what was written of them is gathered
-abbrev pub RewritesSome : {s : Reading TapeBuilder Tape} {w : StreamWriter} (h : HasRewritten s w)
-    (s' : Reading TapeBuilder Tape) (w' : StreamWriter) (piece before after : List ℕ) → Result ℕ Fault → Type 0
+abbrev pub RewritesSome : {s : SessionState TapeBuilder Tape} {w : StreamWriter} (h : HasRewritten s w)
+    (s' : SessionState TapeBuilder Tape) (w' : StreamWriter) (piece before after : List ℕ) → Result ℕ Fault → Type 0
 RewritesSome h s' w' piece before after (Ok used) = RewritesOn h s' w' (take used piece)
     (λ more. after ≡ before ++ more)
 RewritesSome {s = s} h s' w' piece before after (Err (reading.Refused R)) =
@@ -187,8 +187,8 @@ RewritesSome {s = s} h s' w' piece before after (Err reading.Memory) =
 RewritesSome h s' w' piece before after (Err reading.Read) = ⊥
 RewritesSome h s' w' piece before after (Err reading.Failed) = ⊥
 
-abbrev pub RewritesPiece : Bounds → {s : Reading TapeBuilder Tape} {w : StreamWriter} (h : HasRewritten s w)
-    (s' : Reading TapeBuilder Tape) (w' : StreamWriter) (piece : List ℕ) (old new : Option (List ℕ))
+abbrev pub RewritesPiece : Bounds → {s : SessionState TapeBuilder Tape} {w : StreamWriter} (h : HasRewritten s w)
+    (s' : SessionState TapeBuilder Tape) (w' : StreamWriter) (piece : List ℕ) (old new : Option (List ℕ))
     (before after : List ℕ) → Result (Unit {0}) ToolFault → Type 0
 RewritesPiece L h s' w' piece old new before after (Ok _) = RewritesOn h s' w' piece
     (λ more. PassesSome old new (before ++ more) after)
@@ -204,8 +204,8 @@ RewritesPiece L h s' w' piece old new before after (Err (fault.Clash path reason
 RewritesPiece L h s' w' piece old new before after (Err fault.Read) = ⊥
 
 -- bytes of the front of a piece were rewritten too, and what was written of them went out or is gathered
-abbrev pub RewritesUsed : {s : Reading TapeBuilder Tape} {w : StreamWriter} (h : HasRewritten s w)
-    (s' : Reading TapeBuilder Tape) (w' : StreamWriter) (piece : List ℕ) (old new : Option (List ℕ))
+abbrev pub RewritesUsed : {s : SessionState TapeBuilder Tape} {w : StreamWriter} (h : HasRewritten s w)
+    (s' : SessionState TapeBuilder Tape) (w' : StreamWriter) (piece : List ℕ) (old new : Option (List ℕ))
     (before after : List ℕ) → Result ℕ ToolFault → Type 0
 RewritesUsed h s' w' piece old new before after (Ok used) = RewritesOn h s' w' (take used piece)
     (λ more. PassesSome old new (before ++ more) after)
@@ -213,21 +213,21 @@ RewritesUsed {s = s} h s' w' piece old new before after (Err f) = RewritesPiece 
     old new before after (Err f)
 
 -- a whole item of its front was
-pub record RewritesItem {s : Reading TapeBuilder Tape} {w : StreamWriter} (h : HasRewritten s w)
-    (s' : Reading TapeBuilder Tape) (w' : StreamWriter) (piece : List ℕ) (old new : Option (List ℕ))
+pub record RewritesItem {s : SessionState TapeBuilder Tape} {w : StreamWriter} (h : HasRewritten s w)
+    (s' : SessionState TapeBuilder Tape) (w' : StreamWriter) (piece : List ℕ) (old new : Option (List ℕ))
     (before after : List ℕ) (used : ℕ) : Type 0 where
   pub some : 0 < used
   pub within : used ≤ length piece
   pub rewrites : RewritesOn h s' w' (take used piece) (λ more. PassesSome old new (before ++ more) after)
 
 -- nothing has changed
-abbrev pub StandsStill : (s s' : Reading TapeBuilder Tape) (w w' : StreamWriter) (old new : Option (List ℕ))
+abbrev pub StandsStill : (s s' : SessionState TapeBuilder Tape) (w w' : StreamWriter) (old new : Option (List ℕ))
     (before after : List ℕ) → Type 0
 StandsStill s s' w w' old new before after = (s' ≡ s) × (w' ≡ w) × (new ≡ old) × (after ≡ before)
 
 -- what taking a whole item from the front of a piece answers
-abbrev pub MayRewriteWhole : {s : Reading TapeBuilder Tape} {w : StreamWriter} (h : HasRewritten s w)
-    (s' : Reading TapeBuilder Tape) (w' : StreamWriter) (piece : List ℕ) (old new : Option (List ℕ))
+abbrev pub MayRewriteWhole : {s : SessionState TapeBuilder Tape} {w : StreamWriter} (h : HasRewritten s w)
+    (s' : SessionState TapeBuilder Tape) (w' : StreamWriter) (piece : List ℕ) (old new : Option (List ℕ))
     (before after : List ℕ) → Result (Option ℕ) ToolFault → Type 0
 MayRewriteWhole h s' w' piece old new before after (Ok (Some used)) = RewritesItem h s' w' piece old new before after used
 MayRewriteWhole {s = s} {w = w} h s' w' piece old new before after (Ok None) = StandsStill s s' w w' old new before after
@@ -235,22 +235,22 @@ MayRewriteWhole {s = s} h s' w' piece old new before after (Err f) = RewritesPie
     piece old new before after (Err f)
 
 -- the front of a piece was rewritten, up to the rest
-pub record RewritesUpTo {s : Reading TapeBuilder Tape} {w : StreamWriter} (h : HasRewritten s w) (s' : Reading TapeBuilder Tape)
+pub record RewritesUpTo {s : SessionState TapeBuilder Tape} {w : StreamWriter} (h : HasRewritten s w) (s' : SessionState TapeBuilder Tape)
     (w' : StreamWriter) (piece rest : List ℕ) (old new : Option (List ℕ)) (before after : List ℕ) : Type 0 where
   pub front : List ℕ
   pub whole : piece ≡ front ++ rest
   pub on : RewritesOn h s' w' front (λ more. PassesSome old new (before ++ more) after)
 
 -- what was consumed of the input was taken, and what was written of it went out or is gathered
-pub record RewritesIn (s : Reading TapeBuilder Tape) (w : StreamWriter) (read now old new : Option (List ℕ))
+pub record RewritesIn (s : SessionState TapeBuilder Tape) (w : StreamWriter) (read now old new : Option (List ℕ))
     (gathered : List ℕ) : Type 0 where
   pub so_far : HasRewritten s w
   pub input : Consumes read now so_far.taken
   pub out : Gathered old new gathered so_far.written
 
 -- what taking the front of a piece answers, which may be the first bytes of an item
-abbrev pub MayRewriteFront : {s : Reading TapeBuilder Tape} {w : StreamWriter} (h : HasRewritten s w)
-    (s' : Reading TapeBuilder Tape) (w' : StreamWriter) (piece : List ℕ) (old new : Option (List ℕ))
+abbrev pub MayRewriteFront : {s : SessionState TapeBuilder Tape} {w : StreamWriter} (h : HasRewritten s w)
+    (s' : SessionState TapeBuilder Tape) (w' : StreamWriter) (piece : List ℕ) (old new : Option (List ℕ))
     (before after : List ℕ) → Result (Option ℕ) ToolFault → Type 0
 MayRewriteFront {s = s} {w = w} h s' w' piece old new before after (Ok None) = StandsStill s s' w w' old new before after
     × IsKeptFront s' piece
@@ -259,8 +259,8 @@ MayRewriteFront h s' w' piece old new before after (Ok (Some used)) = RewritesUs
 MayRewriteFront h s' w' piece old new before after (Err f) = RewritesUsed h s' w' piece old new before after (Err f)
 
 -- what taking a piece answers, whose last bytes may be kept
-abbrev pub RewritesKeeping : Bounds → {s : Reading TapeBuilder Tape} {w : StreamWriter} (h : HasRewritten s w)
-    (s' : Reading TapeBuilder Tape) (w' : StreamWriter) (kept piece : List ℕ) (old new : Option (List ℕ))
+abbrev pub RewritesKeeping : Bounds → {s : SessionState TapeBuilder Tape} {w : StreamWriter} (h : HasRewritten s w)
+    (s' : SessionState TapeBuilder Tape) (w' : StreamWriter) (kept piece : List ℕ) (old new : Option (List ℕ))
     (before after : List ℕ) → Result (Unit {0}) ToolFault → Type 0
 RewritesKeeping L h s' w' kept piece old new before after (Ok u) = RewritesUpTo h s' w' piece kept old new before after
     × IsKeptFront s' kept
@@ -268,7 +268,7 @@ RewritesKeeping L h s' w' kept piece old new before after (Err f) = RewritesPiec
     (Err f)
 
 -- what was consumed of the input was taken, or is kept
-pub record RewritesKept (s : Reading TapeBuilder Tape) (w : StreamWriter) (kept : List ℕ)
+pub record RewritesKept (s : SessionState TapeBuilder Tape) (w : StreamWriter) (kept : List ℕ)
     (read now old new : Option (List ℕ)) (gathered : List ℕ) : Type 0 where
   pub behind : Option (List ℕ)
   pub taken : RewritesIn s w read behind old new gathered

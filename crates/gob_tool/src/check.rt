@@ -111,7 +111,7 @@ fn count_pieces<R: Read>(
     session: &mut Session<SkipBuilder>,
     buffer: &mut [u8],
 ) -> Result<Tally, ToolFault>
-    requires stands { GaveCounts session.old.reading [] [] }
+    requires stands { GaveCounts session.old [] [] }
     requires limits { AreLimits deepest (limits_of session.old) }
     requires room { 0 < length buffer.old }
     ensures counted { (bytes : List ℕ) → R.remaining (reader_of input.old) ≡ Some bytes
@@ -148,10 +148,10 @@ fn count_piece(
     piece: &[u8],
     items: &mut u64,
 ) -> Result<(), Fault>
-    requires counted { (bytes : List ℕ) × HasCounted session.old.reading items.old bytes }
+    requires counted { (bytes : List ℕ) × HasCounted session.old items.old bytes }
     requires limits { AreLimits deepest (limits_of session.old) }
-    ensures counted { (bytes : List ℕ) → HasCounted session.old.reading items.old bytes
-        → CountsAll (no_deeper deepest (limits_of session.old)) session.new.reading items.new
+    ensures counted { (bytes : List ℕ) → HasCounted session.old items.old bytes
+        → CountsAll (no_deeper deepest (limits_of session.old)) session.new items.new
         (bytes ++ piece.now) result }
     ensures limits { limits_of session.new ≡ limits_of session.old }
 {
@@ -172,10 +172,10 @@ fn count_front(
     items: &mut u64,
 ) -> Result<usize, Fault>
     requires some { 0 < length piece.now }
-    requires counted { (bytes : List ℕ) × HasCounted session.old.reading items.old bytes }
+    requires counted { (bytes : List ℕ) × HasCounted session.old items.old bytes }
     requires limits { AreLimits deepest (limits_of session.old) }
-    ensures counted { (bytes : List ℕ) → HasCounted session.old.reading items.old bytes
-        → CountsFront (no_deeper deepest (limits_of session.old)) session.new.reading items.old items.new bytes
+    ensures counted { (bytes : List ℕ) → HasCounted session.old items.old bytes
+        → CountsFront (no_deeper deepest (limits_of session.old)) session.new items.old items.new bytes
         piece.now result }
     ensures used { IfOk result (λ used. used ≤ length piece.now) }
     ensures limits { limits_of session.new ≡ limits_of session.old }

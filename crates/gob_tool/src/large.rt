@@ -35,7 +35,7 @@ pub(crate) fn large_list<'a>(
     depth: u64,
     session: &Session<TreeBuilder>,
 ) -> Option<LargeList<'a>>
-    ensures { IfSome result (λ large. IsLargeList session.now.reading depth piece.now large.item.id
+    ensures { IfSome result (λ large. IsLargeList session.now depth piece.now large.item.id
         large.item.body.now large.item.used large.list.count large.list.begin) }
 {
     if piece.len() <= BLOCK {
@@ -60,11 +60,11 @@ pub(crate) fn show_list<W: Write>(
     output: &mut Output<W>,
 ) -> Result<(), ToolFault>
     requires depth { depth ≡ min (limits_of session.old).depth greatest_depth }
-    requires large { IsLargeList session.old.reading depth piece.now large.item.id
+    requires large { IsLargeList session.old depth piece.now large.item.id
         large.item.body.now large.item.used large.list.count large.list.begin }
     ensures shown { (bytes : List ℕ) (start : Option (List ℕ))
-        → StandsBehind session.old.reading bytes start (W.contents (writer_of output.old)) lines.old.gathered.items
-        → TakesPiece (within_trees (limits_of session.old)) session.new.reading (bytes ++ piece.now)
+        → StandsBehind session.old bytes start (W.contents (writer_of output.old)) lines.old.gathered.items
+        → TakesPiece (within_trees (limits_of session.old)) session.new (bytes ++ piece.now)
         start (W.contents (writer_of output.new)) lines.new.gathered.items result }
     ensures limits { limits_of session.new ≡ limits_of session.old }
     ensures writes { CountsOnlyWrites (failed_writes output.old) (failed_writes output.new) result }
@@ -82,7 +82,7 @@ pub(crate) fn large_item<'a>(
     depth: u64,
     session: &Session<TreeBuilder>,
 ) -> Option<Whole<'a>>
-    ensures { IfSome result (λ item. IsLargeItem session.now.reading depth piece.now item.id item.body.now item.used) }
+    ensures { IfSome result (λ item. IsLargeItem session.now depth piece.now item.id item.body.now item.used) }
 {
     if piece.len() <= BLOCK {
         return None;
@@ -106,10 +106,10 @@ pub(crate) fn show_large<W: Write>(
     output: &mut Output<W>,
 ) -> Result<(), ToolFault>
     requires depth { depth ≡ min (limits_of session.old).depth greatest_depth }
-    requires large { IsLargeItem session.old.reading depth piece.now item.id item.body.now item.used }
+    requires large { IsLargeItem session.old depth piece.now item.id item.body.now item.used }
     ensures shown { (bytes : List ℕ) (start : Option (List ℕ))
-        → StandsBehind session.old.reading bytes start (W.contents (writer_of output.old)) lines.old.gathered.items
-        → TakesPiece (within_trees (limits_of session.old)) session.new.reading (bytes ++ piece.now)
+        → StandsBehind session.old bytes start (W.contents (writer_of output.old)) lines.old.gathered.items
+        → TakesPiece (within_trees (limits_of session.old)) session.new (bytes ++ piece.now)
         start (W.contents (writer_of output.new)) lines.new.gathered.items result }
     ensures limits { limits_of session.new ≡ limits_of session.old }
     ensures writes { CountsOnlyWrites (failed_writes output.old) (failed_writes output.new) result }

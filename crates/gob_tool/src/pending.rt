@@ -34,7 +34,7 @@ impl Pending {
     /// How many bytes the item lacks, behind what the session took. 0 where nothing is kept that is known to be an
     /// item.
     pub(crate) fn missing<B: Builder>(&self, session: &Session<B>) -> u64
-        ensures { 0 < result → Lacks session.now.reading result self.now.bytes.items }
+        ensures { 0 < result → Lacks session.now result self.now.bytes.items }
     {
         match session.awaited(&self.bytes) {
             Some(awaited) => awaited.size - self.bytes.len() as u64,
@@ -61,7 +61,7 @@ impl Pending {
 /// Whether the piece is the first bytes of an item of a value, behind what the session took, or empty. False says
 /// nothing else of the piece.
 pub(crate) fn is_begun<B: Builder>(session: &Session<B>, piece: &[u8]) -> bool
-    ensures kept { IsTrue result → IsKeptFront session.now.reading piece.now }
+    ensures kept { IsTrue result → IsKeptFront session.now piece.now }
     ensures some { result ≡ false → 0 < length piece.now }
 {
     match session.awaited(piece) {

@@ -22,10 +22,10 @@ pub(crate) fn next_items<R: Read>(
     buffer: &mut [u8],
     items: &mut Vec<Item<Value>>,
 ) -> Result<bool, Fault>
-    requires stands { HasGiven session.old.reading }
+    requires stands { HasGiven session.old }
     requires room { 0 < length buffer.old }
-    ensures gave { (before : List StreamItem) (taken : List ℕ) → GaveItems session.old.reading before taken
-        → GivesPiece session.old.reading session.new.reading before taken (item_views items.new.items)
+    ensures gave { (before : List StreamItem) (taken : List ℕ) → GaveItems session.old before taken
+        → GivesPiece session.old session.new before taken (item_views items.new.items)
         (R.remaining (reader_of input.old)) (R.remaining (reader_of input.new)) result }
     ensures limits { limits_of session.new ≡ limits_of session.old }
     ensures reads { CountsPiece (failed_reads input.old) (failed_reads input.new) result }

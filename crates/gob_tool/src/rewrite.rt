@@ -126,7 +126,7 @@ fn rewrite_pieces<R: Read, W: Write>(
     buffer: &mut [u8],
     rewriter: &mut Rewriter,
 ) -> Result<(), ToolFault>
-    requires stands { GaveTapes session.old.reading [] [] }
+    requires stands { GaveTapes session.old [] [] }
     requires depth { depth ≡ (limits_of session.old).depth }
     requires limits { AreLimits deepest (limits_of session.old) }
     requires new { IsNew rewriter.old.writer (limits_of session.old) }
@@ -161,10 +161,10 @@ fn rewrite_end<W: Write>(
     rewriter: &mut Rewriter,
     output: &mut Output<W>,
 ) -> Result<(), ToolFault>
-    requires so_far { HasRewritten session.old.reading rewriter.old.writer }
+    requires so_far { HasRewritten session.old rewriter.old.writer }
     requires depth { depth ≡ (limits_of session.old).depth }
     ensures rewritten { (bytes : List ℕ) (read at next start : Option (List ℕ))
-        → RewritesIn session.old.reading rewriter.old.writer read at start (W.contents (writer_of output.old))
+        → RewritesIn session.old rewriter.old.writer read at start (W.contents (writer_of output.old))
         rewriter.old.gathered.items
         → read ≡ Some bytes → Consumes at next kept.now → IsAtEnd next
         → RewritesSo (no_deeper deepest (limits_of session.old)) bytes next
@@ -188,10 +188,10 @@ fn rewrite_next<W: Write>(
     rewriter: &mut Rewriter,
     output: &mut Output<W>,
 ) -> Result<(), ToolFault>
-    requires so_far { HasRewritten session.old.reading rewriter.old.writer }
+    requires so_far { HasRewritten session.old rewriter.old.writer }
     requires depth { depth ≡ (limits_of session.old).depth }
-    ensures rewritten { (h : HasRewritten session.old.reading rewriter.old.writer)
-        → RewritesKeeping (no_deeper deepest (limits_of session.old)) h session.new.reading rewriter.new.writer
+    ensures rewritten { (h : HasRewritten session.old rewriter.old.writer)
+        → RewritesKeeping (no_deeper deepest (limits_of session.old)) h session.new rewriter.new.writer
         pending.new.bytes.items (pending.old.bytes.items ++ piece.now)
         (W.contents (writer_of output.old)) (W.contents (writer_of output.new))
         rewriter.old.gathered.items rewriter.new.gathered.items result }
@@ -217,10 +217,10 @@ fn rewrite_kept<W: Write>(
     rewriter: &mut Rewriter,
     output: &mut Output<W>,
 ) -> Result<(), ToolFault>
-    requires so_far { HasRewritten session.old.reading rewriter.old.writer }
+    requires so_far { HasRewritten session.old rewriter.old.writer }
     requires depth { depth ≡ (limits_of session.old).depth }
-    ensures rewritten { (h : HasRewritten session.old.reading rewriter.old.writer)
-        → RewritesPiece (no_deeper deepest (limits_of session.old)) h session.new.reading rewriter.new.writer
+    ensures rewritten { (h : HasRewritten session.old rewriter.old.writer)
+        → RewritesPiece (no_deeper deepest (limits_of session.old)) h session.new rewriter.new.writer
         (pending.old.bytes.items ++ front.now)
         (W.contents (writer_of output.old)) (W.contents (writer_of output.new))
         rewriter.old.gathered.items rewriter.new.gathered.items result }
@@ -244,11 +244,11 @@ fn rewrite_behind<W: Write>(
     rewriter: &mut Rewriter,
     output: &mut Output<W>,
 ) -> Result<(), ToolFault>
-    requires so_far { HasRewritten session.old.reading rewriter.old.writer }
+    requires so_far { HasRewritten session.old rewriter.old.writer }
     requires depth { depth ≡ (limits_of session.old).depth }
     requires none { pending.old.bytes.items ≡ [] }
-    ensures rewritten { (h : HasRewritten session.old.reading rewriter.old.writer)
-        → RewritesKeeping (no_deeper deepest (limits_of session.old)) h session.new.reading rewriter.new.writer
+    ensures rewritten { (h : HasRewritten session.old rewriter.old.writer)
+        → RewritesKeeping (no_deeper deepest (limits_of session.old)) h session.new rewriter.new.writer
         pending.new.bytes.items piece.now
         (W.contents (writer_of output.old)) (W.contents (writer_of output.new))
         rewriter.old.gathered.items rewriter.new.gathered.items result }
@@ -274,10 +274,10 @@ fn rewrite_ready<W: Write>(
     rewriter: &mut Rewriter,
     output: &mut Output<W>,
 ) -> Result<Option<usize>, ToolFault>
-    requires so_far { HasRewritten session.old.reading rewriter.old.writer }
+    requires so_far { HasRewritten session.old rewriter.old.writer }
     requires depth { depth ≡ (limits_of session.old).depth }
-    ensures rewritten { (h : HasRewritten session.old.reading rewriter.old.writer)
-        → MayRewriteFront h session.new.reading rewriter.new.writer piece.now
+    ensures rewritten { (h : HasRewritten session.old rewriter.old.writer)
+        → MayRewriteFront h session.new rewriter.new.writer piece.now
         (W.contents (writer_of output.old)) (W.contents (writer_of output.new))
         rewriter.old.gathered.items rewriter.new.gathered.items result }
     ensures used { IfOk result (λ taken. IfSome taken (λ used. (0 < used) × (used ≤ length piece.now))) }
@@ -300,10 +300,10 @@ fn rewrite_piece<W: Write>(
     rewriter: &mut Rewriter,
     output: &mut Output<W>,
 ) -> Result<(), ToolFault>
-    requires so_far { HasRewritten session.old.reading rewriter.old.writer }
+    requires so_far { HasRewritten session.old rewriter.old.writer }
     requires depth { depth ≡ (limits_of session.old).depth }
-    ensures rewritten { (h : HasRewritten session.old.reading rewriter.old.writer)
-        → RewritesPiece (no_deeper deepest (limits_of session.old)) h session.new.reading rewriter.new.writer
+    ensures rewritten { (h : HasRewritten session.old rewriter.old.writer)
+        → RewritesPiece (no_deeper deepest (limits_of session.old)) h session.new rewriter.new.writer
         piece.now
         (W.contents (writer_of output.old)) (W.contents (writer_of output.new))
         rewriter.old.gathered.items rewriter.new.gathered.items result }
@@ -329,10 +329,10 @@ fn rewrite_front<W: Write>(
     output: &mut Output<W>,
 ) -> Result<usize, ToolFault>
     requires some { 0 < length piece.now }
-    requires so_far { HasRewritten session.old.reading rewriter.old.writer }
+    requires so_far { HasRewritten session.old rewriter.old.writer }
     requires depth { depth ≡ (limits_of session.old).depth }
-    ensures rewritten { (h : HasRewritten session.old.reading rewriter.old.writer)
-        → RewritesUsed h session.new.reading rewriter.new.writer piece.now
+    ensures rewritten { (h : HasRewritten session.old rewriter.old.writer)
+        → RewritesUsed h session.new rewriter.new.writer piece.now
         (W.contents (writer_of output.old)) (W.contents (writer_of output.new))
         rewriter.old.gathered.items rewriter.new.gathered.items result }
     ensures used { IfOk result (λ used. (0 < used) × (used ≤ length piece.now)) }
@@ -355,10 +355,10 @@ fn rewrite_whole<W: Write>(
     rewriter: &mut Rewriter,
     output: &mut Output<W>,
 ) -> Result<Option<usize>, ToolFault>
-    requires so_far { HasRewritten session.old.reading rewriter.old.writer }
+    requires so_far { HasRewritten session.old rewriter.old.writer }
     requires depth { depth ≡ (limits_of session.old).depth }
-    ensures rewritten { (h : HasRewritten session.old.reading rewriter.old.writer)
-        → MayRewriteWhole h session.new.reading rewriter.new.writer piece.now
+    ensures rewritten { (h : HasRewritten session.old rewriter.old.writer)
+        → MayRewriteWhole h session.new rewriter.new.writer piece.now
         (W.contents (writer_of output.old)) (W.contents (writer_of output.new))
         rewriter.old.gathered.items rewriter.new.gathered.items result }
     ensures limits { limits_of session.new ≡ limits_of session.old }
@@ -389,9 +389,9 @@ fn rewrite_by_step<W: Write>(
     output: &mut Output<W>,
 ) -> Result<usize, ToolFault>
     requires some { 0 < length piece.now }
-    requires so_far { HasRewritten session.old.reading rewriter.old.writer }
-    ensures rewritten { (h : HasRewritten session.old.reading rewriter.old.writer)
-        → RewritesUsed h session.new.reading rewriter.new.writer piece.now
+    requires so_far { HasRewritten session.old rewriter.old.writer }
+    ensures rewritten { (h : HasRewritten session.old rewriter.old.writer)
+        → RewritesUsed h session.new rewriter.new.writer piece.now
         (W.contents (writer_of output.old)) (W.contents (writer_of output.new))
         rewriter.old.gathered.items rewriter.new.gathered.items result }
     ensures used { IfOk result (λ used. (0 < used) × (used ≤ length piece.now)) }
@@ -411,9 +411,9 @@ fn rewrite_step(
     rewriter: &mut Rewriter,
 ) -> Result<usize, Fault>
     requires some { 0 < length piece.now }
-    requires so_far { HasRewritten session.old.reading rewriter.old.writer }
-    ensures rewritten { (h : HasRewritten session.old.reading rewriter.old.writer)
-        → RewritesSome h session.new.reading rewriter.new.writer piece.now
+    requires so_far { HasRewritten session.old rewriter.old.writer }
+    ensures rewritten { (h : HasRewritten session.old rewriter.old.writer)
+        → RewritesSome h session.new rewriter.new.writer piece.now
         rewriter.old.gathered.items rewriter.new.gathered.items result }
     ensures used { IfOk result (λ used. (0 < used) × (used ≤ length piece.now)) }
     ensures limits { limits_of session.new ≡ limits_of session.old }

@@ -7,7 +7,7 @@ ghost use Rattle.gob_value.specs.Top.{SpellsTop};
 ghost use Rattle.gob_value.specs.Tree.{Tree};
 ghost use Rattle.gob_value.specs.View.{view};
 ghost use Rattle.gob_stream.specs.Ends.{failed_writes, writer_of};
-ghost use Rattle.gob_stream.specs.declared.reading.Reading.{Reading};
+ghost use Rattle.gob_stream.specs.SessionState.{SessionState};
 ghost use Rattle.gob_stream.specs.Bounds.{deepest, no_deeper};
 ghost use Rattle.gob_tape.specs.declared.tape_builder.TapeBuilder.{TapeBuilder};
 ghost use Rattle.gob_stream.specs.Item.{StreamItem, ItemMeans, defines, puts};
@@ -75,9 +75,9 @@ impl Rewriter {
         item: Item<Tape>,
         table: &Table,
     ) -> Result<(), Memory>
-        requires { (s : Reading TapeBuilder Tape) × (h : HasRewritten s self.old.writer)
+        requires { (s : SessionState TapeBuilder Tape) × (h : HasRewritten s self.old.writer)
             × IsNextTape h (types table.now) item }
-        ensures { (s : Reading TapeBuilder Tape) (h : HasRewritten s self.old.writer)
+        ensures { (s : SessionState TapeBuilder Tape) (h : HasRewritten s self.old.writer)
             (n : IsNextTape h (types table.now) item)
             → Pushes n.next self.new.writer self.old.gathered.items self.new.gathered.items result }
     {
@@ -113,9 +113,9 @@ impl Rewriter {
         body: &[u8],
         output: &mut Output<W>,
     ) -> Result<(), ToolFault>
-        requires { (s : Reading TapeBuilder Tape) × (h : HasRewritten s self.old.writer)
+        requires { (s : SessionState TapeBuilder Tape) × (h : HasRewritten s self.old.writer)
             × IsTidyNext h (types table.now) id body.now }
-        ensures pushed { (s : Reading TapeBuilder Tape) (h : HasRewritten s self.old.writer)
+        ensures pushed { (s : SessionState TapeBuilder Tape) (h : HasRewritten s self.old.writer)
             (n : IsTidyNext h (types table.now) id body.now)
             → PushesOut n.next self.new.writer (W.contents (writer_of output.old)) (W.contents (writer_of output.new))
             self.old.gathered.items self.new.gathered.items result }
@@ -137,9 +137,9 @@ impl Rewriter {
         id: TypeId,
         body: &[u8],
     ) -> Result<(), Memory>
-        requires { (s : Reading TapeBuilder Tape) × (h : HasRewritten s self.old.writer)
+        requires { (s : SessionState TapeBuilder Tape) × (h : HasRewritten s self.old.writer)
             × IsTidyNext h (types table.now) id body.now }
-        ensures { (s : Reading TapeBuilder Tape) (h : HasRewritten s self.old.writer)
+        ensures { (s : SessionState TapeBuilder Tape) (h : HasRewritten s self.old.writer)
             (n : IsTidyNext h (types table.now) id body.now)
             → Pushes n.next self.new.writer self.old.gathered.items self.new.gathered.items result }
     {
@@ -165,9 +165,9 @@ impl Rewriter {
         body: &[u8],
         output: &mut Output<W>,
     ) -> Result<(), ToolFault>
-        requires { (s : Reading TapeBuilder Tape) × (h : HasRewritten s self.old.writer)
+        requires { (s : SessionState TapeBuilder Tape) × (h : HasRewritten s self.old.writer)
             × IsTidyNext h (types table.now) id body.now }
-        ensures put { (s : Reading TapeBuilder Tape) (h : HasRewritten s self.old.writer)
+        ensures put { (s : SessionState TapeBuilder Tape) (h : HasRewritten s self.old.writer)
             (n : IsTidyNext h (types table.now) id body.now)
             → PutsOut n.next self.new.writer (W.contents (writer_of output.old))
             (W.contents (writer_of output.new)) result }

@@ -3,7 +3,7 @@
 ghost use Rattle.std.specs.Prelude.{◌≡◌, ◌≢◌, ℕ, ◌<◌, ◌≤◌, List, [], ◌++◌, length, Option, Some, IfOk, IfSome, OnOk};
 ghost use Rattle.gob_stream.specs.Ends.{failed_reads, failed_writes, reader_of, writer_of};
 ghost use Rattle.gob_stream.specs.Session.{limits_of};
-ghost use Rattle.gob_stream.specs.declared.reading.Reading.{Reading};
+ghost use Rattle.gob_stream.specs.SessionState.{SessionState};
 ghost use Rattle.gob_stream.specs.Item.{StreamItem};
 ghost use Rattle.gob_tool.specs.Showing.{Runs, Shows, AppendsFront, CountsReadFaults, CountsWriteFaults};
 ghost use Rattle.gob_stream.specs.Bounds.{within_trees};
@@ -96,7 +96,7 @@ fn show_pieces<R: Read, W: Write>(
     buffer: &mut [u8],
     lines: &mut Lines,
 ) -> Result<(), ToolFault>
-    requires stands { GaveItems session.old.reading [] [] }
+    requires stands { GaveItems session.old [] [] }
     requires depth { depth ≡ (limits_of session.old).depth }
     requires room { 0 < length buffer.old }
     requires lines { lines.old.gathered.items ≡ [] }
@@ -131,12 +131,12 @@ fn show_end<W: Write>(
 ) -> Result<(), ToolFault>
     requires depth { depth ≡ (limits_of session.old).depth }
     ensures shown { (bytes : List ℕ) (start : Option (List ℕ))
-        → KeepsBehind session.old.reading kept.now bytes start (W.contents (writer_of output.old)) lines.old.gathered.items
+        → KeepsBehind session.old kept.now bytes start (W.contents (writer_of output.old)) lines.old.gathered.items
         → Runs (within_trees (limits_of session.old)) bytes (Some [])
         (Gathered start (W.contents (writer_of output.new)) lines.new.gathered.items)
         (AppendsFront start (W.contents (writer_of output.new))) result }
     ensures reads { (bytes : List ℕ) (start : Option (List ℕ)) (failures : ℕ)
-        → KeepsBehind session.old.reading kept.now bytes start (W.contents (writer_of output.old)) lines.old.gathered.items
+        → KeepsBehind session.old kept.now bytes start (W.contents (writer_of output.old)) lines.old.gathered.items
         → CountsOnlyReads failures failures result }
     ensures writes { CountsOnlyWrites (failed_writes output.old) (failed_writes output.new) result }
 {
@@ -157,9 +157,9 @@ fn show_next<W: Write>(
 ) -> Result<(), ToolFault>
     requires depth { depth ≡ (limits_of session.old).depth }
     ensures shown { (bytes : List ℕ) (start : Option (List ℕ))
-        → KeepsBehind session.old.reading pending.old.bytes.items bytes start (W.contents (writer_of output.old))
+        → KeepsBehind session.old pending.old.bytes.items bytes start (W.contents (writer_of output.old))
         lines.old.gathered.items
-        → TakesKeeping (within_trees (limits_of session.old)) session.new.reading pending.new.bytes.items
+        → TakesKeeping (within_trees (limits_of session.old)) session.new pending.new.bytes.items
         (bytes ++ piece.now) start (W.contents (writer_of output.new)) lines.new.gathered.items result }
     ensures limits { limits_of session.new ≡ limits_of session.old }
     ensures writes { CountsOnlyWrites (failed_writes output.old) (failed_writes output.new) result }
@@ -185,9 +185,9 @@ fn show_kept<W: Write>(
 ) -> Result<(), ToolFault>
     requires depth { depth ≡ (limits_of session.old).depth }
     ensures shown { (bytes : List ℕ) (start : Option (List ℕ))
-        → KeepsBehind session.old.reading pending.old.bytes.items bytes start (W.contents (writer_of output.old))
+        → KeepsBehind session.old pending.old.bytes.items bytes start (W.contents (writer_of output.old))
         lines.old.gathered.items
-        → TakesPiece (within_trees (limits_of session.old)) session.new.reading (bytes ++ front.now)
+        → TakesPiece (within_trees (limits_of session.old)) session.new (bytes ++ front.now)
         start (W.contents (writer_of output.new)) lines.new.gathered.items result }
     ensures none { OnOk result (pending.new.bytes.items ≡ []) }
     ensures limits { limits_of session.new ≡ limits_of session.old }
@@ -211,8 +211,8 @@ fn show_item<W: Write>(
 ) -> Result<(), ToolFault>
     requires depth { depth ≡ (limits_of session.old).depth }
     ensures shown { (bytes : List ℕ) (start : Option (List ℕ))
-        → StandsBehind session.old.reading bytes start (W.contents (writer_of output.old)) lines.old.gathered.items
-        → TakesPiece (within_trees (limits_of session.old)) session.new.reading (bytes ++ piece.now)
+        → StandsBehind session.old bytes start (W.contents (writer_of output.old)) lines.old.gathered.items
+        → TakesPiece (within_trees (limits_of session.old)) session.new (bytes ++ piece.now)
         start (W.contents (writer_of output.new)) lines.new.gathered.items result }
     ensures limits { limits_of session.new ≡ limits_of session.old }
     ensures writes { CountsOnlyWrites (failed_writes output.old) (failed_writes output.new) result }
@@ -235,8 +235,8 @@ fn show_other<W: Write>(
 ) -> Result<(), ToolFault>
     requires depth { depth ≡ (limits_of session.old).depth }
     ensures shown { (bytes : List ℕ) (start : Option (List ℕ))
-        → StandsBehind session.old.reading bytes start (W.contents (writer_of output.old)) lines.old.gathered.items
-        → TakesPiece (within_trees (limits_of session.old)) session.new.reading (bytes ++ piece.now)
+        → StandsBehind session.old bytes start (W.contents (writer_of output.old)) lines.old.gathered.items
+        → TakesPiece (within_trees (limits_of session.old)) session.new (bytes ++ piece.now)
         start (W.contents (writer_of output.new)) lines.new.gathered.items result }
     ensures limits { limits_of session.new ≡ limits_of session.old }
     ensures writes { CountsOnlyWrites (failed_writes output.old) (failed_writes output.new) result }
@@ -261,8 +261,8 @@ fn show_behind<W: Write>(
     requires depth { depth ≡ (limits_of session.old).depth }
     requires none { pending.old.bytes.items ≡ [] }
     ensures shown { (bytes : List ℕ) (start : Option (List ℕ))
-        → StandsBehind session.old.reading bytes start (W.contents (writer_of output.old)) lines.old.gathered.items
-        → TakesKeeping (within_trees (limits_of session.old)) session.new.reading pending.new.bytes.items
+        → StandsBehind session.old bytes start (W.contents (writer_of output.old)) lines.old.gathered.items
+        → TakesKeeping (within_trees (limits_of session.old)) session.new pending.new.bytes.items
         (bytes ++ piece.now) start (W.contents (writer_of output.new)) lines.new.gathered.items result }
     ensures limits { limits_of session.new ≡ limits_of session.old }
     ensures writes { CountsOnlyWrites (failed_writes output.old) (failed_writes output.new) result }
@@ -290,8 +290,8 @@ fn show_ready(
 ) -> Result<Option<usize>, Fault>
     requires depth { depth ≡ (limits_of session.old).depth }
     ensures shown { (bytes : List ℕ) (start now : Option (List ℕ))
-        → StandsBehind session.old.reading bytes start now lines.old.gathered.items
-        → MayTakeFront (within_trees (limits_of session.old)) session.new.reading bytes piece.now
+        → StandsBehind session.old bytes start now lines.old.gathered.items
+        → MayTakeFront (within_trees (limits_of session.old)) session.new bytes piece.now
         start now lines.new.gathered.items result }
     ensures used { IfOk result (λ taken. IfSome taken (λ used. (0 < used) × (used ≤ length piece.now))) }
     ensures limits { limits_of session.new ≡ limits_of session.old }
@@ -314,8 +314,8 @@ fn show_piece<W: Write>(
 ) -> Result<(), ToolFault>
     requires depth { depth ≡ (limits_of session.old).depth }
     ensures shown { (bytes : List ℕ) (start : Option (List ℕ))
-        → StandsBehind session.old.reading bytes start (W.contents (writer_of output.old)) lines.old.gathered.items
-        → TakesPiece (within_trees (limits_of session.old)) session.new.reading (bytes ++ piece.now)
+        → StandsBehind session.old bytes start (W.contents (writer_of output.old)) lines.old.gathered.items
+        → TakesPiece (within_trees (limits_of session.old)) session.new (bytes ++ piece.now)
         start (W.contents (writer_of output.new)) lines.new.gathered.items result }
     ensures limits { limits_of session.new ≡ limits_of session.old }
     ensures writes { CountsOnlyWrites (failed_writes output.old) (failed_writes output.new) result }
@@ -341,8 +341,8 @@ fn show_front(
     requires some { 0 < length piece.now }
     requires depth { depth ≡ (limits_of session.old).depth }
     ensures shown { (bytes : List ℕ) (start now : Option (List ℕ))
-        → StandsBehind session.old.reading bytes start now lines.old.gathered.items
-        → TakesFront (within_trees (limits_of session.old)) session.new.reading bytes piece.now
+        → StandsBehind session.old bytes start now lines.old.gathered.items
+        → TakesFront (within_trees (limits_of session.old)) session.new bytes piece.now
         start now lines.new.gathered.items result }
     ensures used { IfOk result (λ used. (0 < used) × (used ≤ length piece.now)) }
     ensures limits { limits_of session.new ≡ limits_of session.old }
@@ -362,7 +362,7 @@ fn show_whole(
     lines: &mut Lines,
 ) -> Result<Option<usize>, Memory>
     requires depth { depth ≡ (limits_of session.old).depth }
-    ensures shown { MayGatherWhole session.old.reading session.new.reading piece.now lines.old.gathered.items
+    ensures shown { MayGatherWhole session.old session.new piece.now lines.old.gathered.items
         lines.new.gathered.items result }
     ensures limits { limits_of session.new ≡ limits_of session.old }
 {
@@ -386,8 +386,8 @@ fn show_step(
 ) -> Result<usize, Fault>
     requires some { 0 < length piece.now }
     ensures shown { (bytes : List ℕ) (start now : Option (List ℕ))
-        → StandsBehind session.old.reading bytes start now lines.old.gathered.items
-        → TakesFront (within_trees (limits_of session.old)) session.new.reading bytes piece.now
+        → StandsBehind session.old bytes start now lines.old.gathered.items
+        → TakesFront (within_trees (limits_of session.old)) session.new bytes piece.now
         start now lines.new.gathered.items result }
     ensures used { IfOk result (λ used. (0 < used) × (used ≤ length piece.now)) }
     ensures limits { limits_of session.new ≡ limits_of session.old }

@@ -77,7 +77,7 @@ fn take_as_wanted<Q: Read, R: Read, W: Write>(
     output: &mut Output<W>,
     limits: Limits,
 ) -> Result<(), ToolFault>
-    requires stands { GaveItems session.old.reading [] [] }
+    requires stands { GaveItems session.old [] [] }
     requires within { limits_of session.old ≡ limits }
     ensures taken { (wanted_bytes bytes : List ℕ) → Q.remaining (reader_of wanted.old) ≡ Some wanted_bytes
         → R.remaining (reader_of input.old) ≡ Some bytes
@@ -176,7 +176,7 @@ fn take_pieces<R: Read, W: Write>(
     lines: &mut Lines,
 ) -> Result<(), ToolFault>
     requires ready { IsReady (types wanted.now) wanted_id }
-    requires stands { GaveItems session.old.reading [] [] }
+    requires stands { GaveItems session.old [] [] }
     requires room { 0 < length buffer.old }
     requires lines { lines.old.gathered.items ≡ [] }
     ensures taken { (bytes : List ℕ) → R.remaining (reader_of input.old) ≡ Some bytes

@@ -31,7 +31,7 @@ pub(crate) fn read_wanted<Q: Read>(
     input: &mut Input<Q>,
     session: &mut Session<TreeBuilder>,
 ) -> Result<TypeId, ToolFault>
-    requires stands { GaveItems session.old.reading [] [] }
+    requires stands { GaveItems session.old [] [] }
     ensures found { (bytes : List ℕ) → Q.remaining (reader_of input.old) ≡ Some bytes
         → FindsWanted (within_trees (limits_of session.old)) bytes (Q.remaining (reader_of input.new))
         (types_of session.new) result }
@@ -53,7 +53,7 @@ fn read_type<Q: Read>(
     session: &mut Session<TreeBuilder>,
     buffer: &mut [u8],
 ) -> Result<Option<TypeId>, Fault>
-    requires stands { GaveItems session.old.reading [] [] }
+    requires stands { GaveItems session.old [] [] }
     requires room { 0 < length buffer.old }
     ensures read { (bytes : List ℕ) → Q.remaining (reader_of input.old) ≡ Some bytes
         → ReadsWanted (within_trees (limits_of session.old)) bytes (Q.remaining (reader_of input.new))

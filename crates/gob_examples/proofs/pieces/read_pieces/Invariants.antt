@@ -7,6 +7,6 @@ use Rattle.gob_examples.proofs.pieces.read_pieces.Given as goal
 
 abbrev pub invariant-loop-piece : goal.invariant-loop-piece
 invariant-loop-piece l = record {
-  limits : l.session.reading.limits ≡ l.fn.limits;
-  given : Given l.fn.out.items l.out.items (λ given. HasGiven l.session.reading given (joined (take l.piece-index l.pieces)));
+  limits : l.session.limits ≡ l.fn.limits;
+  given : Given l.fn.out.items l.out.items (λ given. HasGiven l.session given (joined (take l.piece-index l.pieces)));
 }

@@ -9,12 +9,12 @@ use Rattle.gob_stream.proofs.read.read_items.Given as goal
 abbrev pub invariant-loop-item : goal.invariant-loop-item
 invariant-loop-item g l = record {
   given : Given l.initial.out.items l.out.items
-      (λ given. (bytes : List ℕ) → g.R.Read.remaining l.initial.input.reader ≡ Some bytes → SomeTaken bytes (g.R.Read.remaining l.input.reader) (λ taken. StandsAfter told_trees told_trees 1000 l.session.reading (item_views given) taken));
-  limits : l.session.reading.limits ≡ l.initial.session.reading.limits;
+      (λ given. (bytes : List ℕ) → g.R.Read.remaining l.initial.input.reader ≡ Some bytes → SomeTaken bytes (g.R.Read.remaining l.input.reader) (λ taken. StandsAfter told_trees told_trees 1000 l.session (item_views given) taken));
+  limits : l.session.limits ≡ l.initial.session.limits;
   failures : l.input.failures ≡ l.initial.input.failures;
-  taken : l.input.taken ≡ counts_up l.initial.input.taken l.session.reading.taken;
-  within : l.session.reading.taken ≤ l.initial.session.reading.limits.stream;
+  taken : l.input.taken ≡ counts_up l.initial.input.taken l.session.taken;
+  within : l.session.taken ≤ l.initial.session.limits.stream;
 }
 
 abbrev pub decreases-loop-item : goal.decreases-loop-item
-decreases-loop-item g l = l.initial.session.reading.limits.stream - l.session.reading.taken
+decreases-loop-item g l = l.initial.session.limits.stream - l.session.taken

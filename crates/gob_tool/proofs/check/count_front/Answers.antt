@@ -23,11 +23,11 @@ returns-in-Some-clause-counted c = λ bytes h. counts_whole c.in-Some.ensures.pa
 
 pub returns-in_err-step-in-None-clause-counted : goal.returns-in_err-step-in-None-clause-counted
 returns-in_err-step-in-None-clause-counted c = λ bytes h.
-    let s = c.pass_whole.new.self.reading in
+    let s = c.pass_whole.new.self in
     let e = c.in_err-step-in-None.field-0.0 in
     let still = counted_still (c.in-None.ensures.same refl) h in
     counts_front_at _ _ _ _ bytes c.args.piece.now c.from_residual.result e c.from_residual.ensures.1
-    (stops_under _ _ _ e c.in-None.ensures.limits (step_stops s c.step.new.self.reading still.given bytes
+    (stops_under _ _ _ e c.in-None.ensures.limits (step_stops s c.step.new.self still.given bytes
     c.args.piece.now e (c.in_err-step-in-None.ensures.advances still.given bytes still.gave)))
 
 pub returns-in-Some-item-clause-counted : goal.returns-in-Some-item-clause-counted

@@ -5,10 +5,10 @@ use Rattle.gob_tool.proofs.check.count_piece.Given as goal
 
 abbrev pub invariant-loop-rest : goal.invariant-loop-rest
 invariant-loop-rest l =
-    (l.session.reading.limits ≡ l.fn.session.reading.limits)
-    × ((bytes : List ℕ) → HasCounted l.fn.session.reading l.fn.items bytes
-    → CountsUpTo l.session.reading l.items bytes l.piece l.rest)
+    (l.session.limits ≡ l.fn.session.limits)
+    × ((bytes : List ℕ) → HasCounted l.fn.session l.fn.items bytes
+    → CountsUpTo l.session l.items bytes l.piece l.rest)
 
 -- each step takes a byte or counts an item
 abbrev pub decreases-loop-rest : goal.decreases-loop-rest
-decreases-loop-rest l = length l.rest + (l.session.reading.limits.stream + 9 - l.items)
+decreases-loop-rest l = length l.rest + (l.session.limits.stream + 9 - l.items)

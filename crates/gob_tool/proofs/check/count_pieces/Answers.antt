@@ -20,12 +20,12 @@ returns-in_err-finish-in-Ok-eq0-clause-counted g c = λ bytes known.
     let now = g.R.Read.remaining c.pieces.input.reader in
     let next = g.R.Read.remaining c.read.new.self.reader in
     let i = c.pieces.invariant.2 in
-    let M = c.args.session.now.reading.limits in
+    let M = c.args.session.now.limits in
     let none : c.in-Ok-eq0.field-0 ≡ 0 = omega arith in
     let room : 0 < length c.read.new.buf = omega (arith, c.requires.room, c.pieces.auto.buffer, c.read.auto.buf) in
     let e = c.in_err-finish-in-Ok-eq0.field-0.0 in
     counting_at tally_line (no_deeper deepest M) bytes next c.from_residual.result (reading_fault e) c.from_residual.ensures.1
-    (counted_within i M c.finish.new.self.reading next bytes e c.pieces.invariant.0 known
+    (counted_within i M c.finish.new.self next bytes e c.pieces.invariant.0 known
     (read_none now next c.in-Ok-eq0.field-0 c.read.new.buf none c.in-Ok-eq0.ensures.bytes.0)
     (c.in-Ok-eq0.ensures.bytes.1 none room)
     (c.in_err-finish-in-Ok-eq0.ensures.finishes i.given i.taken i.gave))
@@ -35,7 +35,7 @@ returns-in_err-finish-in-Ok-eq0-clause-reads g c =
     let i = c.pieces.invariant.2 in
     let e = c.in_err-finish-in-Ok-eq0.field-0.0 in
     counting_reads_at _ _ c.from_residual.result (reading_fault e) c.from_residual.ensures.1
-    (finish_reads Tally c.pieces.session.reading c.finish.new.self.reading i.given i.taken _ _ e
+    (finish_reads Tally c.pieces.session c.finish.new.self i.given i.taken _ _ e
     (c.in_err-finish-in-Ok-eq0.ensures.finishes i.given i.taken i.gave)
     (c.in-Ok-eq0.ensures.counted.1 ∙ c.pieces.invariant.1))
 
@@ -44,10 +44,10 @@ returns-in-Ok-eq0-clause-counted g c = λ bytes known.
     let now = g.R.Read.remaining c.pieces.input.reader in
     let next = g.R.Read.remaining c.read.new.self.reader in
     let i = c.pieces.invariant.2 in
-    let M = c.args.session.now.reading.limits in
+    let M = c.args.session.now.limits in
     let none : c.in-Ok-eq0.field-0 ≡ 0 = omega arith in
     let room : 0 < length c.read.new.buf = omega (arith, c.requires.room, c.pieces.auto.buffer, c.read.auto.buf) in
-    counted_whole i M c.finish.new.self.reading next bytes tt
+    counted_whole i M c.finish.new.self next bytes tt
     (record { items = c.pieces.items; types = c.count-types.result; bytes = c.pieces.bytes }) c.pieces.invariant.0 known
     (read_none now next c.in-Ok-eq0.field-0 c.read.new.buf none c.in-Ok-eq0.ensures.bytes.0)
     (c.in-Ok-eq0.ensures.bytes.1 none room)
@@ -67,7 +67,7 @@ pub returns-in_err-count_piece-in-Ok-clause-counted : goal.returns-in_err-count_
 returns-in_err-count_piece-in-Ok-clause-counted g c = λ bytes known.
     let next = g.R.Read.remaining c.read.new.self.reader in
     let i = c.pieces.invariant.2 in
-    let M = c.args.session.now.reading.limits in
+    let M = c.args.session.now.limits in
     let piece = take c.in-Ok.count c.read.new.buf in
     let e = c.in_err-count_piece-in-Ok.field-0.0 in
     counting_at tally_line (no_deeper deepest M) bytes next c.from_residual-in_err-count_piece-in-Ok.result
@@ -81,7 +81,7 @@ returns-in_err-count_piece-in-Ok-clause-reads g c =
     let e = c.in_err-count_piece-in-Ok.field-0.0 in
     counting_reads_at _ _ c.from_residual-in_err-count_piece-in-Ok.result (reading_fault e)
     c.from_residual-in_err-count_piece-in-Ok.ensures.1
-    (stop_reads Tally (no_deeper deepest c.pieces.session.reading.limits) (i.taken ++ take c.in-Ok.count c.read.new.buf)
+    (stop_reads Tally (no_deeper deepest c.pieces.session.limits) (i.taken ++ take c.in-Ok.count c.read.new.buf)
     _ _ e (c.in_err-count_piece-in-Ok.ensures.counted i.taken (counted_so i))
     (c.in-Ok.ensures.counted.1 ∙ c.pieces.invariant.1))
 
@@ -123,5 +123,5 @@ pieces-smaller g c =
 pub returns-in-Err-clause-counted : goal.returns-in-Err-clause-counted
 returns-in-Err-clause-counted g c = λ bytes known.
     let next = g.R.Read.remaining c.read.new.self.reader in
-    count_failed c.pieces.invariant.2 c.args.session.now.reading.limits next bytes c.pieces.invariant.0 known
+    count_failed c.pieces.invariant.2 c.args.session.now.limits next bytes c.pieces.invariant.0 known
     c.in-Err.ensures.bytes

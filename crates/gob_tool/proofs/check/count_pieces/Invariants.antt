@@ -5,9 +5,9 @@ use Rattle.gob_tool.proofs.check.count_pieces.Given as goal
 
 abbrev pub invariant-pieces : goal.invariant-pieces
 invariant-pieces g l =
-    (l.session.reading.limits ≡ l.fn.session.reading.limits)
+    (l.session.limits ≡ l.fn.session.limits)
     × (l.input.failures ≡ l.fn.input.failures)
-    × CountsIn l.session.reading (g.R.Read.remaining l.fn.input.reader) (g.R.Read.remaining l.input.reader) l.items l.bytes
+    × CountsIn l.session (g.R.Read.remaining l.fn.input.reader) (g.R.Read.remaining l.input.reader) l.items l.bytes
 
 abbrev pub decreases-pieces : goal.decreases-pieces
-decreases-pieces g l = l.session.reading.limits.stream + 9 - l.session.reading.taken
+decreases-pieces g l = l.session.limits.stream + 9 - l.session.taken

@@ -16,7 +16,7 @@ use Rattle.gob_tool.proofs.large.show_large.Goals as goal
 
 pub returns-in_err-block-clause-shown : goal.returns-in_err-block-clause-shown
 returns-in_err-block-clause-shown g c = λ bytes start b.
-    piece_at (within_trees c.args.session.now.reading.limits) c.args.session.now.reading (bytes ++ c.args.piece.now) start
+    piece_at (within_trees c.args.session.now.limits) c.args.session.now (bytes ++ c.args.piece.now) start
     (g.W.Write.contents c.args.output.now.writer) c.args.lines.now.gathered.items c.from_residual.result fault.Memory
     c.from_residual.ensures.1 (begun_so_far c.args.piece.now b)
 
@@ -25,8 +25,8 @@ pass-requires-clause-item g c = has_item greatest_depth c.requires.depth c.requi
 
 pub returns-in_err-write_to-clause-shown : goal.returns-in_err-write_to-clause-shown
 returns-in_err-write_to-clause-shown g c = λ bytes start b.
-    let limits = c.args.session.now.reading.limits in
-    let s = c.pass.new.self.reading in
+    let limits = c.args.session.now.limits in
+    let s = c.pass.new.self in
     let all = bytes ++ c.args.piece.now in
     let new = g.W.Write.contents c.write_to.new.output.writer in
     let left = c.write_to.new.self.gathered.items in
@@ -39,7 +39,7 @@ returns-in_err-write_to-clause-shown g c = λ bytes start b.
     c.from_residual-in_err-write_to.ensures.1
     (subst (λ f. TakesPiece (within_trees limits) s all start new left (Err f)) (sym failed.0)
     (list_cut c.pass.ensures.limits b c.requires.large.all w new
-    (front_before gathered (line (types c.args.session.now.reading.types) (puts c.args.item.id whole.value)) failed.1)))
+    (front_before gathered (line (types c.args.session.now.types) (puts c.args.item.id whole.value)) failed.1)))
 
 pub send_item-requires-clause-whole : goal.send_item-requires-clause-whole
 send_item-requires-clause-whole g c =
@@ -61,7 +61,7 @@ returns-clause-shown g c = λ bytes start b.
     c.send_item.ensures.sent in
     list_sent c.pass.ensures.limits b c.requires.large.all w new c.write_to.new.self.gathered.items
     c.in_ok-write_to.ensures.empty r
-    (line_behind old mid new gathered (line (types c.args.session.now.reading.types) (puts c.args.item.id whole.value)) r
+    (line_behind old mid new gathered (line (types c.args.session.now.types) (puts c.args.item.id whole.value)) r
     c.in_ok-write_to.ensures.written (sent whole))
 
 pub returns-clause-writes : goal.returns-clause-writes

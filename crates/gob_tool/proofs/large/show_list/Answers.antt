@@ -15,13 +15,13 @@ use Rattle.gob_tool.proofs.large.show_list.Goals as goal
 
 pub returns-in_err-room-clause-shown : goal.returns-in_err-room-clause-shown
 returns-in_err-room-clause-shown g c = λ bytes start b.
-    piece_at (within_trees c.args.session.now.reading.limits) c.args.session.now.reading (bytes ++ c.args.piece.now) start
+    piece_at (within_trees c.args.session.now.limits) c.args.session.now (bytes ++ c.args.piece.now) start
     (g.W.Write.contents c.args.output.now.writer) c.args.lines.now.gathered.items c.from_residual.result fault.Memory
     c.from_residual.ensures.1 (begun_so_far c.args.piece.now b)
 
 pub returns-in_err-push_head-clause-shown : goal.returns-in_err-push_head-clause-shown
 returns-in_err-push_head-clause-shown g c = λ bytes start b.
-    piece_at (within_trees c.args.session.now.reading.limits) c.args.session.now.reading (bytes ++ c.args.piece.now) start
+    piece_at (within_trees c.args.session.now.limits) c.args.session.now (bytes ++ c.args.piece.now) start
     (g.W.Write.contents c.args.output.now.writer) c.push_head.new.self.gathered.items
     c.from_residual-in_err-push_head.result fault.Memory c.from_residual-in_err-push_head.ensures.1
     (rw c.in_err-push_head.ensures.err (begun_so_far c.args.piece.now b))
@@ -31,8 +31,8 @@ pass-requires-clause-item g c = has_item greatest_depth c.requires.depth c.requi
 
 pub returns-in_err-write_to-clause-shown : goal.returns-in_err-write_to-clause-shown
 returns-in_err-write_to-clause-shown g c = λ bytes start b.
-    let limits = c.args.session.now.reading.limits in
-    let s = c.pass.new.self.reading in
+    let limits = c.args.session.now.limits in
+    let s = c.pass.new.self in
     let all = bytes ++ c.args.piece.now in
     let new = g.W.Write.contents c.write_to.new.output.writer in
     let left = c.write_to.new.self.gathered.items in
@@ -61,5 +61,5 @@ returns-clause-shown g c = λ bytes start b.
     c.in_ok-write_to.ensures.empty c.send_integers.result
     (line_out gathered old mid new list c.in_ok-push_head.ensures.ok c.in_ok-write_to.ensures.written
     c.send_integers.result
-    (c.send_integers.ensures.sent (types c.args.session.now.reading.types) list.elem list.values list.ints list.each
+    (c.send_integers.ensures.sent (types c.args.session.now.types) list.elem list.values list.ints list.each
     list.counted))

@@ -16,7 +16,7 @@ pub returns-in-Err-clause-gave : goal.returns-in-Err-clause-gave
 returns-in-Err-clause-gave g c = λ before taken gave.
     let read = g.R.Read.remaining c.args.input.now.reader in
     let now = g.R.Read.remaining c.read.new.self.reader in
-    let s = c.args.session.now.reading in
+    let s = c.args.session.now in
     gives_none s s before taken _ read now (Err reading.Read)
     (ap (λ (l : List (declared.Item Value)). item_views l) c.clear.ensures.items)
     (Consumes-kept read read now [] (Consumes-nil read) c.in-Err.ensures.bytes) refl gave (after_gives gave)
@@ -27,8 +27,8 @@ returns-in_err-finish-in-Ok-eq0-clause-gave g c = λ before taken gave.
     let now = g.R.Read.remaining c.read.new.self.reader in
     let none : c.in-Ok-eq0.field-0 ≡ 0 = omega arith in
     let room : 0 < length c.read.new.buf = omega (arith, c.requires.room, c.read.auto.buf) in
-    let s = c.args.session.now.reading in
-    let s' = c.finish.new.self.reading in
+    let s = c.args.session.now in
+    let s' = c.finish.new.self in
     let e = c.in_err-finish-in-Ok-eq0.field-0.0 in
     let end = c.in-Ok-eq0.ensures.bytes.1 none room in
     piece_at s s' before taken _ read now c.from_residual.result e c.from_residual.ensures.1
@@ -43,7 +43,7 @@ returns-in_err-finish-in-Ok-eq0-clause-reads g c =
     let i = c.requires.stands in
     let e = c.in_err-finish-in-Ok-eq0.field-0.0 in
     counts_piece_at _ _ c.from_residual.result e c.from_residual.ensures.1
-    (finish_unread c.args.session.now.reading c.finish.new.self.reading i.items i.bytes _ _ e
+    (finish_unread c.args.session.now c.finish.new.self i.items i.bytes _ _ e
     (c.in_err-finish-in-Ok-eq0.ensures.finishes i.items i.bytes i.gave) c.in-Ok-eq0.ensures.counted.1)
 
 pub returns-in_ok-finish-in-Ok-eq0-clause-gave : goal.returns-in_ok-finish-in-Ok-eq0-clause-gave
@@ -52,8 +52,8 @@ returns-in_ok-finish-in-Ok-eq0-clause-gave g c = λ before taken gave.
     let now = g.R.Read.remaining c.read.new.self.reader in
     let none : c.in-Ok-eq0.field-0 ≡ 0 = omega arith in
     let room : 0 < length c.read.new.buf = omega (arith, c.requires.room, c.read.auto.buf) in
-    let s = c.args.session.now.reading in
-    let s' = c.finish.new.self.reading in
+    let s = c.args.session.now in
+    let s' = c.finish.new.self in
     let end = c.in-Ok-eq0.ensures.bytes.1 none room in
     gives_none s s' before taken _ read now (Ok false)
     (ap (λ (l : List (declared.Item Value)). item_views l) c.clear.ensures.items)
@@ -65,8 +65,8 @@ pub returns-in_err-feed-in-Ok-clause-gave : goal.returns-in_err-feed-in-Ok-claus
 returns-in_err-feed-in-Ok-clause-gave g c = λ before taken gave.
     let read = g.R.Read.remaining c.args.input.now.reader in
     let now = g.R.Read.remaining c.read.new.self.reader in
-    let s = c.args.session.now.reading in
-    let s' = c.feed.new.self.reading in
+    let s = c.args.session.now in
+    let s' = c.feed.new.self in
     let e = c.in_err-feed-in-Ok.field-0.0 in
     let fed = c.in_err-feed-in-Ok.ensures.fed in
     let given = shown_given c.clear.new.self.items c.feed.new.out.items c.feed.new.out.items fed.given refl fed.appended
@@ -82,15 +82,15 @@ returns-in_err-feed-in-Ok-clause-reads g c =
     let e = c.in_err-feed-in-Ok.field-0.0 in
     let fed = c.in_err-feed-in-Ok.ensures.fed in
     counts_piece_at _ _ c.from_residual-in_err-feed-in-Ok.result e c.from_residual-in_err-feed-in-Ok.ensures.1
-    (feed_unread c.args.session.now.reading c.feed.new.self.reading i.items i.bytes (take c.in-Ok.count c.read.new.buf)
+    (feed_unread c.args.session.now c.feed.new.self i.items i.bytes (take c.in-Ok.count c.read.new.buf)
     fed.given _ _ e (fed.holds i.items i.bytes i.gave) c.in-Ok.ensures.counted.1)
 
 pub returns-in_ok-feed-in-Ok-clause-gave : goal.returns-in_ok-feed-in-Ok-clause-gave
 returns-in_ok-feed-in-Ok-clause-gave g c = λ before taken gave.
     let read = g.R.Read.remaining c.args.input.now.reader in
     let now = g.R.Read.remaining c.read.new.self.reader in
-    let s = c.args.session.now.reading in
-    let s' = c.feed.new.self.reading in
+    let s = c.args.session.now in
+    let s' = c.feed.new.self in
     let fed = c.in_ok-feed-in-Ok.ensures.fed in
     let given = shown_given c.clear.new.self.items c.feed.new.out.items c.feed.new.out.items fed.given refl fed.appended
     c.clear.ensures.items in

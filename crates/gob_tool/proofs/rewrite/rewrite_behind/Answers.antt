@@ -17,8 +17,8 @@ rewrite_ready-requires-clause-so_far g c = let u = c.items.invariant.3 c.require
 pub returns-in_err-used-clause-rewritten : goal.returns-in_err-used-clause-rewritten
 returns-in_err-used-clause-rewritten g c = λ h.
     let f = c.in_err-used.field-0.0 in
-    let M = c.args.session.now.reading.limits in
-    let s = c.rewrite_ready.new.session.reading in
+    let M = c.args.session.now.limits in
+    let s = c.rewrite_ready.new.session in
     let w = c.rewrite_ready.new.rewriter.writer in
     let u = c.items.invariant.3 h in
     keeping_at (no_deeper deepest M) h s w c.items.pending.bytes.items c.args.piece.now _ _ _ _ c.from_residual.result f
@@ -28,8 +28,8 @@ returns-in_err-used-clause-rewritten g c = λ h.
 
 pub returns-in_err-keep-in-None-clause-rewritten : goal.returns-in_err-keep-in-None-clause-rewritten
 returns-in_err-keep-in-None-clause-rewritten g c = λ h.
-    let M = c.args.session.now.reading.limits in
-    let s = c.rewrite_ready.new.session.reading in
+    let M = c.args.session.now.limits in
+    let s = c.rewrite_ready.new.session in
     let w = c.rewrite_ready.new.rewriter.writer in
     let u = c.items.invariant.3 h in
     let kept = subst (λ (o : Option ℕ). MayRewriteFront u.on.next s w c.items.rest.now
@@ -43,7 +43,7 @@ returns-in_err-keep-in-None-clause-rewritten g c = λ h.
 pub returns-in-None-clause-rewritten : goal.returns-in-None-clause-rewritten
 returns-in-None-clause-rewritten g c = λ h.
     let u = c.items.invariant.3 h in
-    let kept = subst (λ (o : Option ℕ). MayRewriteFront u.on.next c.rewrite_ready.new.session.reading
+    let kept = subst (λ (o : Option ℕ). MayRewriteFront u.on.next c.rewrite_ready.new.session
     c.rewrite_ready.new.rewriter.writer c.items.rest.now
     (g.W.Write.contents c.items.output.writer) (g.W.Write.contents c.rewrite_ready.new.output.writer)
     c.items.rewriter.gathered.items c.rewrite_ready.new.rewriter.gathered.items (Ok o)) c.in-None.is
@@ -61,7 +61,7 @@ items-preserved g c =
       c.items.invariant.2,
       λ h.
           let u = c.items.invariant.3 h in
-          let taken = subst (λ (o : Option ℕ). MayRewriteFront u.on.next c.rewrite_ready.new.session.reading
+          let taken = subst (λ (o : Option ℕ). MayRewriteFront u.on.next c.rewrite_ready.new.session
           c.rewrite_ready.new.rewriter.writer rest
           (g.W.Write.contents c.items.output.writer) (g.W.Write.contents c.rewrite_ready.new.output.writer)
           c.items.rewriter.gathered.items c.rewrite_ready.new.rewriter.gathered.items (Ok o)) c.in-Some.is

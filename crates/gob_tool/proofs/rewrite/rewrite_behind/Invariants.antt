@@ -5,11 +5,11 @@ use Rattle.gob_tool.proofs.rewrite.rewrite_behind.Given as goal
 
 abbrev pub invariant-items : goal.invariant-items
 invariant-items g l =
-    (l.session.reading.limits ≡ l.fn.session.reading.limits)
+    (l.session.limits ≡ l.fn.session.limits)
     × (l.output.failures ≡ l.fn.output.failures)
     × (l.pending.bytes.items ≡ [])
-    × ((h : HasRewritten l.fn.session.reading l.fn.rewriter.writer)
-    → RewritesUpTo h l.session.reading l.rewriter.writer l.piece l.rest (g.W.Write.contents l.fn.output.writer)
+    × ((h : HasRewritten l.fn.session l.fn.rewriter.writer)
+    → RewritesUpTo h l.session l.rewriter.writer l.piece l.rest (g.W.Write.contents l.fn.output.writer)
     (g.W.Write.contents l.output.writer) l.fn.rewriter.gathered.items l.rewriter.gathered.items)
 
 abbrev pub decreases-items : goal.decreases-items

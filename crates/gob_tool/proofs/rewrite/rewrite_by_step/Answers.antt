@@ -5,7 +5,7 @@ use Rattle.gob_tool.proofs.rewrite.rewrite_by_step.Goals as goal
 
 pub returns-in_err-used-clause-rewritten : goal.returns-in_err-used-clause-rewritten
 returns-in_err-used-clause-rewritten g c = λ h.
-    let s = c.rewrite_step.new.session.reading in
+    let s = c.rewrite_step.new.session in
     let w = c.rewrite_step.new.rewriter.writer in
     let e = c.in_err-used.field-0.0 in
     used_at h s w c.args.piece.now _ _ _ _ c.from_residual.result (reading_fault e) c.from_residual.ensures.1
@@ -13,7 +13,7 @@ returns-in_err-used-clause-rewritten g c = λ h.
 
 pub returns-in_err-write_many-clause-rewritten : goal.returns-in_err-write_many-clause-rewritten
 returns-in_err-write_many-clause-rewritten g c = λ h.
-    let s = c.rewrite_step.new.session.reading in
+    let s = c.rewrite_step.new.session in
     let w = c.write_many.new.self.writer in
     let f = c.in_err-write_many.field-0.0 in
     let failed = c.in_err-write_many.ensures.passed in

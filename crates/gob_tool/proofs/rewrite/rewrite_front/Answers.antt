@@ -6,12 +6,12 @@ use Rattle.gob_tool.proofs.rewrite.rewrite_front.Goals as goal
 
 pub returns-in_err-used-clause-rewritten : goal.returns-in_err-used-clause-rewritten
 returns-in_err-used-clause-rewritten g c = λ h.
-    used_at h c.rewrite_whole.new.session.reading c.rewrite_whole.new.rewriter.writer c.args.piece.now _ _ _ _
+    used_at h c.rewrite_whole.new.session c.rewrite_whole.new.rewriter.writer c.args.piece.now _ _ _ _
     c.from_residual.result c.in_err-used.field-0.0 c.from_residual.ensures.1 (c.in_err-used.ensures.rewritten h)
 
 pub returns-in-Some-clause-rewritten : goal.returns-in-Some-clause-rewritten
 returns-in-Some-clause-rewritten g c = λ h.
-    let x = subst (λ (o : Option ℕ). MayRewriteWhole h c.rewrite_whole.new.session.reading
+    let x = subst (λ (o : Option ℕ). MayRewriteWhole h c.rewrite_whole.new.session
     c.rewrite_whole.new.rewriter.writer c.args.piece.now (g.W.Write.contents c.args.output.now.writer)
     (g.W.Write.contents c.rewrite_whole.new.output.writer) c.args.rewriter.now.gathered.items
     c.rewrite_whole.new.rewriter.gathered.items (Ok o)) c.in-Some.is (c.in_ok-used.ensures.rewritten h) in
@@ -20,7 +20,7 @@ returns-in-Some-clause-rewritten g c = λ h.
 pub returns-in-Some-clause-used : goal.returns-in-Some-clause-used
 returns-in-Some-clause-used g c =
     let h = c.requires.so_far in
-    let x = subst (λ (o : Option ℕ). MayRewriteWhole h c.rewrite_whole.new.session.reading
+    let x = subst (λ (o : Option ℕ). MayRewriteWhole h c.rewrite_whole.new.session
     c.rewrite_whole.new.rewriter.writer c.args.piece.now (g.W.Write.contents c.args.output.now.writer)
     (g.W.Write.contents c.rewrite_whole.new.output.writer) c.args.rewriter.now.gathered.items
     c.rewrite_whole.new.rewriter.gathered.items (Ok o)) c.in-Some.is (c.in_ok-used.ensures.rewritten h) in
@@ -29,7 +29,7 @@ returns-in-Some-clause-used g c =
 pub rewrite_by_step-requires-clause-so_far : goal.rewrite_by_step-requires-clause-so_far
 rewrite_by_step-requires-clause-so_far g c =
     let h = c.requires.so_far in
-    let x = subst (λ (o : Option ℕ). MayRewriteWhole h c.rewrite_whole.new.session.reading
+    let x = subst (λ (o : Option ℕ). MayRewriteWhole h c.rewrite_whole.new.session
     c.rewrite_whole.new.rewriter.writer c.args.piece.now (g.W.Write.contents c.args.output.now.writer)
     (g.W.Write.contents c.rewrite_whole.new.output.writer) c.args.rewriter.now.gathered.items
     c.rewrite_whole.new.rewriter.gathered.items (Ok o)) c.in-None.is (c.in_ok-used.ensures.rewritten h) in
@@ -37,9 +37,9 @@ rewrite_by_step-requires-clause-so_far g c =
 
 pub returns-in-None-clause-rewritten : goal.returns-in-None-clause-rewritten
 returns-in-None-clause-rewritten g c = λ h.
-    let x = subst (λ (o : Option ℕ). MayRewriteWhole h c.rewrite_whole.new.session.reading
+    let x = subst (λ (o : Option ℕ). MayRewriteWhole h c.rewrite_whole.new.session
     c.rewrite_whole.new.rewriter.writer c.args.piece.now (g.W.Write.contents c.args.output.now.writer)
     (g.W.Write.contents c.rewrite_whole.new.output.writer) c.args.rewriter.now.gathered.items
     c.rewrite_whole.new.rewriter.gathered.items (Ok o)) c.in-None.is (c.in_ok-used.ensures.rewritten h) in
-    still_used c.rewrite_by_step.new.session.reading c.rewrite_by_step.new.rewriter.writer c.args.piece.now _
+    still_used c.rewrite_by_step.new.session c.rewrite_by_step.new.rewriter.writer c.args.piece.now _
     c.rewrite_by_step.new.rewriter.gathered.items c.rewrite_by_step.result x c.rewrite_by_step.ensures.rewritten h

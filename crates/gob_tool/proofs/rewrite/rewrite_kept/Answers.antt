@@ -10,14 +10,14 @@ use Rattle.gob_tool.proofs.rewrite.rewrite_kept.Goals as goal
 pub returns-in_err-keep-clause-rewritten : goal.returns-in_err-keep-clause-rewritten
 returns-in_err-keep-clause-rewritten g c = λ h.
     let all = c.args.pending.now.bytes.items ++ c.args.front.now in
-    piece_at (no_deeper deepest c.args.session.now.reading.limits) h c.args.session.now.reading
+    piece_at (no_deeper deepest c.args.session.now.limits) h c.args.session.now
     c.args.rewriter.now.writer all _ _ _ _ c.from_residual.result fault.Memory c.from_residual.ensures.1
     (memory_kept h all _ _)
 
 pub returns-in_err-rewrite_piece-clause-rewritten : goal.returns-in_err-rewrite_piece-clause-rewritten
 returns-in_err-rewrite_piece-clause-rewritten g c = λ h.
-    let L = no_deeper deepest c.args.session.now.reading.limits in
-    let s = c.rewrite_piece.new.session.reading in
+    let L = no_deeper deepest c.args.session.now.limits in
+    let s = c.rewrite_piece.new.session in
     let w = c.rewrite_piece.new.rewriter.writer in
     let old = g.W.Write.contents c.args.output.now.writer in
     let new = g.W.Write.contents c.rewrite_piece.new.output.writer in
@@ -31,8 +31,8 @@ returns-in_err-rewrite_piece-clause-rewritten g c = λ h.
 
 pub returns-clause-rewritten : goal.returns-clause-rewritten
 returns-clause-rewritten g c = λ h.
-    let L = no_deeper deepest c.args.session.now.reading.limits in
-    let s = c.rewrite_piece.new.session.reading in
+    let L = no_deeper deepest c.args.session.now.limits in
+    let s = c.rewrite_piece.new.session in
     let w = c.rewrite_piece.new.rewriter.writer in
     let old = g.W.Write.contents c.args.output.now.writer in
     let new = g.W.Write.contents c.rewrite_piece.new.output.writer in

@@ -9,7 +9,7 @@ use Rattle.gob_tool.proofs.rewrite.rewrite_next.Goals as goal
 pub returns-in_err-keep-clause-rewritten : goal.returns-in_err-keep-clause-rewritten
 returns-in_err-keep-clause-rewritten g c = λ h.
     let all = c.args.pending.now.bytes.items ++ c.args.piece.now in
-    keeping_at (no_deeper deepest c.args.session.now.reading.limits) h c.args.session.now.reading
+    keeping_at (no_deeper deepest c.args.session.now.limits) h c.args.session.now
     c.args.rewriter.now.writer c.keep.new.self.bytes.items all _ _ _ _ c.from_residual.result fault.Memory
     c.from_residual.ensures.1 (memory_kept h all _ _)
 
@@ -24,8 +24,8 @@ rewrite_behind-requires-clause-so_far g c =
 
 pub returns-in_err-rewrite_kept-clause-rewritten : goal.returns-in_err-rewrite_kept-clause-rewritten
 returns-in_err-rewrite_kept-clause-rewritten g c = λ h.
-    let L = no_deeper deepest c.args.session.now.reading.limits in
-    let s = c.rewrite_kept.new.session.reading in
+    let L = no_deeper deepest c.args.session.now.limits in
+    let s = c.rewrite_kept.new.session in
     let w = c.rewrite_kept.new.rewriter.writer in
     let kept = c.args.pending.now.bytes.items in
     let piece = c.args.piece.now in
@@ -49,7 +49,7 @@ returns-clause-rewritten g c = λ h.
     ∙ ap (λ l. kept ++ l) (front_behind _ piece c.split_at.ensures.front c.split_at.ensures.back) in
     let x = c.in_ok-rewrite_kept.ensures.rewritten h in
     two_keeping h (g.W.Write.contents c.args.output.now.writer) (g.W.Write.contents c.rewrite_kept.new.output.writer)
-    c.args.rewriter.now.gathered.items c.rewrite_kept.new.rewriter.gathered.items x c.args.session.now.reading.limits behind (kept ++ piece) c.rewrite_behind.new.session.reading
+    c.args.rewriter.now.gathered.items c.rewrite_kept.new.rewriter.gathered.items x c.args.session.now.limits behind (kept ++ piece) c.rewrite_behind.new.session
     c.rewrite_behind.new.rewriter.writer c.rewrite_behind.new.pending.bytes.items
     (g.W.Write.contents c.rewrite_behind.new.output.writer) c.rewrite_behind.new.rewriter.gathered.items
     c.rewrite_behind.result c.in_ok-rewrite_kept.ensures.limits whole (c.rewrite_behind.ensures.rewritten x.next)

@@ -16,8 +16,8 @@ rewrite_front-requires-clause-so_far g c =
 pub returns-in_err-used-clause-rewritten : goal.returns-in_err-used-clause-rewritten
 returns-in_err-used-clause-rewritten g c = λ h.
     let f = c.in_err-used.field-0.0 in
-    let M = c.args.session.now.reading.limits in
-    let s = c.rewrite_front.new.session.reading in
+    let M = c.args.session.now.limits in
+    let s = c.rewrite_front.new.session in
     let w = c.rewrite_front.new.rewriter.writer in
     let u = c.loop-rest.invariant.2 h in
     piece_at (no_deeper deepest M) h s w c.args.piece.now _ _ _ _ c.from_residual.result f c.from_residual.ensures.1

@@ -5,10 +5,10 @@ use Rattle.gob_tool.proofs.rewrite.rewrite_piece.Given as goal
 
 abbrev pub invariant-loop-rest : goal.invariant-loop-rest
 invariant-loop-rest g l =
-    (l.session.reading.limits ≡ l.fn.session.reading.limits)
+    (l.session.limits ≡ l.fn.session.limits)
     × (l.output.failures ≡ l.fn.output.failures)
-    × ((h : HasRewritten l.fn.session.reading l.fn.rewriter.writer)
-    → RewritesUpTo h l.session.reading l.rewriter.writer l.piece l.rest (g.W.Write.contents l.fn.output.writer)
+    × ((h : HasRewritten l.fn.session l.fn.rewriter.writer)
+    → RewritesUpTo h l.session l.rewriter.writer l.piece l.rest (g.W.Write.contents l.fn.output.writer)
     (g.W.Write.contents l.output.writer) l.fn.rewriter.gathered.items l.rewriter.gathered.items)
 
 abbrev pub decreases-loop-rest : goal.decreases-loop-rest

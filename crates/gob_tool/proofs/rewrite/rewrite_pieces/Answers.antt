@@ -72,12 +72,12 @@ returns-in_err-rewrite_next-in-Ok-clause-rewritten g c = λ bytes known.
     let new = g.W.Write.contents c.rewrite_next.new.output.writer in
     let after = c.rewrite_next.new.rewriter.gathered.items in
     let piece = take c.in-Ok.count c.read.new.buf in
-    let M = c.args.session.now.reading.limits in
+    let M = c.args.session.now.limits in
     let i = c.pieces.invariant.3 in
     let f = c.in_err-rewrite_next-in-Ok.field-0.0 in
     rewrites_at (no_deeper deepest M) bytes next (Gathered old new after) (AppendsFront old new)
     c.from_residual.result f c.from_residual.ensures.1
-    (rewritten_stopped i.taken M c.rewrite_next.new.session.reading c.rewrite_next.new.rewriter.writer next new after
+    (rewritten_stopped i.taken M c.rewrite_next.new.session c.rewrite_next.new.rewriter.writer next new after
     (c.pieces.pending.bytes.items ++ piece) bytes f c.pieces.invariant.0 known
     (taken_more i next piece c.in-Ok.ensures.bytes.0) (c.in_err-rewrite_next-in-Ok.ensures.rewritten i.taken.so_far))
 
@@ -86,7 +86,7 @@ returns-in_err-rewrite_next-in-Ok-clause-reads g c =
     let i = c.pieces.invariant.3 in
     let f = c.in_err-rewrite_next-in-Ok.field-0.0 in
     reads_at _ _ c.from_residual.result f c.from_residual.ensures.1
-    (piece_reads (no_deeper deepest c.pieces.session.reading.limits) i.taken.so_far c.rewrite_next.new.session.reading
+    (piece_reads (no_deeper deepest c.pieces.session.limits) i.taken.so_far c.rewrite_next.new.session
     c.rewrite_next.new.rewriter.writer (c.pieces.pending.bytes.items ++ take c.in-Ok.count c.read.new.buf) _ _ _ _ _ _ f
     (c.in_err-rewrite_next-in-Ok.ensures.rewritten i.taken.so_far)
     (c.in-Ok.ensures.counted.1 ∙ c.pieces.invariant.1))
@@ -94,5 +94,5 @@ returns-in_err-rewrite_next-in-Ok-clause-reads g c =
 pub returns-in-Err-clause-rewritten : goal.returns-in-Err-clause-rewritten
 returns-in-Err-clause-rewritten g c = λ bytes known.
     let next = g.R.Read.remaining c.read.new.self.reader in
-    unread_keeping c.pieces.invariant.3 c.args.session.now.reading.limits next bytes c.pieces.invariant.0 known
+    unread_keeping c.pieces.invariant.3 c.args.session.now.limits next bytes c.pieces.invariant.0 known
     c.in-Err.ensures.bytes

@@ -8,13 +8,13 @@ use Rattle.gob_tool.proofs.rewrite.rewrite_ready.Goals as goal
 
 pub returns-in_err-used-clause-rewritten : goal.returns-in_err-used-clause-rewritten
 returns-in_err-used-clause-rewritten g c = λ h.
-    front_at h c.rewrite_whole.new.session.reading c.rewrite_whole.new.rewriter.writer c.args.piece.now _ _ _ _
+    front_at h c.rewrite_whole.new.session c.rewrite_whole.new.rewriter.writer c.args.piece.now _ _ _ _
     c.from_residual.result c.in_err-used.field-0.0 c.from_residual.ensures.1 (c.in_err-used.ensures.rewritten h)
 
 pub rewrite_by_step-requires-clause-so_far : goal.rewrite_by_step-requires-clause-so_far
 rewrite_by_step-requires-clause-so_far g c =
     let h = c.requires.so_far in
-    let x = subst (λ (o : Option ℕ). MayRewriteWhole h c.rewrite_whole.new.session.reading
+    let x = subst (λ (o : Option ℕ). MayRewriteWhole h c.rewrite_whole.new.session
     c.rewrite_whole.new.rewriter.writer c.args.piece.now (g.W.Write.contents c.args.output.now.writer)
     (g.W.Write.contents c.rewrite_whole.new.output.writer) c.args.rewriter.now.gathered.items
     c.rewrite_whole.new.rewriter.gathered.items (Ok o)) c.in-None.is (c.in_ok-used.ensures.rewritten h) in
@@ -23,11 +23,11 @@ rewrite_by_step-requires-clause-so_far g c =
 pub returns-in_err-rewrite_by_step-in-None-2-clause-rewritten :
     goal.returns-in_err-rewrite_by_step-in-None-2-clause-rewritten
 returns-in_err-rewrite_by_step-in-None-2-clause-rewritten g c = λ h.
-    let s = c.rewrite_by_step.new.session.reading in
+    let s = c.rewrite_by_step.new.session in
     let w = c.rewrite_by_step.new.rewriter.writer in
     let after = c.rewrite_by_step.new.rewriter.gathered.items in
     let f = c.in_err-rewrite_by_step-in-None-2.field-0.0 in
-    let x = subst (λ (o : Option ℕ). MayRewriteWhole h c.rewrite_whole.new.session.reading
+    let x = subst (λ (o : Option ℕ). MayRewriteWhole h c.rewrite_whole.new.session
     c.rewrite_whole.new.rewriter.writer c.args.piece.now (g.W.Write.contents c.args.output.now.writer)
     (g.W.Write.contents c.rewrite_whole.new.output.writer) c.args.rewriter.now.gathered.items
     c.rewrite_whole.new.rewriter.gathered.items (Ok o)) c.in-None.is (c.in_ok-used.ensures.rewritten h) in
@@ -37,7 +37,7 @@ returns-in_err-rewrite_by_step-in-None-2-clause-rewritten g c = λ h.
 
 pub returns-in-Some-clause-rewritten : goal.returns-in-Some-clause-rewritten
 returns-in-Some-clause-rewritten g c = λ h.
-    let x = subst (λ (o : Option ℕ). MayRewriteWhole h c.rewrite_whole.new.session.reading
+    let x = subst (λ (o : Option ℕ). MayRewriteWhole h c.rewrite_whole.new.session
     c.rewrite_whole.new.rewriter.writer c.args.piece.now (g.W.Write.contents c.args.output.now.writer)
     (g.W.Write.contents c.rewrite_whole.new.output.writer) c.args.rewriter.now.gathered.items
     c.rewrite_whole.new.rewriter.gathered.items (Ok o)) c.in-Some.is (c.in_ok-used.ensures.rewritten h) in
@@ -46,7 +46,7 @@ returns-in-Some-clause-rewritten g c = λ h.
 pub returns-in-Some-clause-used : goal.returns-in-Some-clause-used
 returns-in-Some-clause-used g c =
     let h = c.requires.so_far in
-    let x = subst (λ (o : Option ℕ). MayRewriteWhole h c.rewrite_whole.new.session.reading
+    let x = subst (λ (o : Option ℕ). MayRewriteWhole h c.rewrite_whole.new.session
     c.rewrite_whole.new.rewriter.writer c.args.piece.now (g.W.Write.contents c.args.output.now.writer)
     (g.W.Write.contents c.rewrite_whole.new.output.writer) c.args.rewriter.now.gathered.items
     c.rewrite_whole.new.rewriter.gathered.items (Ok o)) c.in-Some.is (c.in_ok-used.ensures.rewritten h) in
@@ -54,7 +54,7 @@ returns-in-Some-clause-used g c =
 
 pub returns-in-None-clause-rewritten : goal.returns-in-None-clause-rewritten
 returns-in-None-clause-rewritten g c = λ h.
-    let x = subst (λ (o : Option ℕ). MayRewriteWhole h c.rewrite_whole.new.session.reading
+    let x = subst (λ (o : Option ℕ). MayRewriteWhole h c.rewrite_whole.new.session
     c.rewrite_whole.new.rewriter.writer c.args.piece.now (g.W.Write.contents c.args.output.now.writer)
     (g.W.Write.contents c.rewrite_whole.new.output.writer) c.args.rewriter.now.gathered.items
     c.rewrite_whole.new.rewriter.gathered.items (Ok o)) c.in-None.is (c.in_ok-used.ensures.rewritten h) in
@@ -63,10 +63,10 @@ returns-in-None-clause-rewritten g c = λ h.
 pub returns-in_ok-rewrite_by_step-in-None-2-clause-rewritten :
     goal.returns-in_ok-rewrite_by_step-in-None-2-clause-rewritten
 returns-in_ok-rewrite_by_step-in-None-2-clause-rewritten g c = λ h.
-    let s = c.rewrite_by_step.new.session.reading in
+    let s = c.rewrite_by_step.new.session in
     let w = c.rewrite_by_step.new.rewriter.writer in
     let after = c.rewrite_by_step.new.rewriter.gathered.items in
-    let x = subst (λ (o : Option ℕ). MayRewriteWhole h c.rewrite_whole.new.session.reading
+    let x = subst (λ (o : Option ℕ). MayRewriteWhole h c.rewrite_whole.new.session
     c.rewrite_whole.new.rewriter.writer c.args.piece.now (g.W.Write.contents c.args.output.now.writer)
     (g.W.Write.contents c.rewrite_whole.new.output.writer) c.args.rewriter.now.gathered.items
     c.rewrite_whole.new.rewriter.gathered.items (Ok o)) c.in-None.is (c.in_ok-used.ensures.rewritten h) in

@@ -11,7 +11,7 @@ use Rattle.gob_tool.proofs.rewrite.rewrite_step.Goals as goal
 pub returns-in_err-used-clause-rewritten : goal.returns-in_err-used-clause-rewritten
 returns-in_err-used-clause-rewritten c = λ h.
     let e = c.in_err-used.field-0.0 in
-    let s = c.step.new.self.reading in
+    let s = c.step.new.self in
     let w = c.args.rewriter.now.writer in
     some_at h s w c.args.piece.now _ _ c.from_residual.result e c.from_residual.ensures.1
     (step_stops h s w c.args.piece.now e refl (c.in_err-used.ensures.advances h.items h.taken h.gave))
@@ -19,17 +19,17 @@ returns-in_err-used-clause-rewritten c = λ h.
 pub push-requires : goal.push-requires
 push-requires c =
     let h = c.requires.so_far in
-    let g = step_gives h c.step.new.self.reading c.step.ensures.limits c.args.piece.now _
+    let g = step_gives h c.step.new.self c.step.ensures.limits c.args.piece.now _
     (c.in_ok-used.ensures.advances h.items h.taken h.gave) c.in-Some.is in (
-      c.args.session.now.reading,
+      c.args.session.now,
       h,
       subst (λ (T : Table). IsNextTape h T c.in-Some.item) (ap (λ d. types d) (sym c.table.ensures))
-          (given_next h c.step.new.self.reading c.step.ensures.limits c.args.piece.now _ g),
+          (given_next h c.step.new.self c.step.ensures.limits c.args.piece.now _ g),
     )
 
 pub returns-in_err-push-clause-rewritten : goal.returns-in_err-push-clause-rewritten
 returns-in_err-push-clause-rewritten c = λ h.
-    let s = c.step.new.self.reading in
+    let s = c.step.new.self in
     let w = c.push.new.self.writer in
     let g = step_gives h s c.step.ensures.limits c.args.piece.now _
     (c.in_ok-used.ensures.advances h.items h.taken h.gave) c.in-Some.is in
@@ -37,11 +37,11 @@ returns-in_err-push-clause-rewritten c = λ h.
     (given_next h s c.step.ensures.limits c.args.piece.now _ g) in
     some_at h s w c.args.piece.now _ _ c.from_residual-in_err-push.result reading.Memory
     c.from_residual-in_err-push.ensures.1
-    (memory_stops h s w c.args.piece.now (c.in_err-push.ensures c.args.session.now.reading h next))
+    (memory_stops h s w c.args.piece.now (c.in_err-push.ensures c.args.session.now h next))
 
 pub returns-in_ok-push-clause-rewritten : goal.returns-in_ok-push-clause-rewritten
 returns-in_ok-push-clause-rewritten c = λ h.
-    let s = c.step.new.self.reading in
+    let s = c.step.new.self in
     let g = step_gives h s c.step.ensures.limits c.args.piece.now _
     (c.in_ok-used.ensures.advances h.items h.taken h.gave) c.in-Some.is in
     let before = c.args.rewriter.now.gathered.items in
@@ -52,5 +52,5 @@ returns-in_ok-push-clause-rewritten c = λ h.
 
 pub returns-in_default-clause-rewritten : goal.returns-in_default-clause-rewritten
 returns-in_default-clause-rewritten c = λ h.
-    step_without h c.step.new.self.reading c.step.ensures.limits c.args.piece.now _
+    step_without h c.step.new.self c.step.ensures.limits c.args.piece.now _
     (c.in_ok-used.ensures.advances h.items h.taken h.gave) c.in_default.not-Some refl

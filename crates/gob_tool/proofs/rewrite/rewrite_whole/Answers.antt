@@ -12,7 +12,7 @@ use Rattle.gob_tool.proofs.rewrite.rewrite_whole.Goals as goal
 
 pub pass-requires-clause-item : goal.pass-requires-clause-item
 pass-requires-clause-item g c =
-    let limits = c.args.session.now.reading.limits in
+    let limits = c.args.session.now.limits in
     let depth : c.min.result ≡ min limits.depth deepest = cc (c.min.ensures, c.requires.depth) in
     let tidy = subst (λ (T : Table). IsTidyWhole T c.in-Some.whole.id c.min.result c.in-Some.whole.body.now)
     (ap (λ d. types d) c.table.ensures) (c.is_tidy_whole.ensures c.if-not-is_tidy_whole.false) in
@@ -21,11 +21,11 @@ pass-requires-clause-item g c =
 pub push_whole-requires : goal.push_whole-requires
 push_whole-requires g c =
     let h = c.requires.so_far in
-    let limits = c.args.session.now.reading.limits in
+    let limits = c.args.session.now.limits in
     let depth : c.min.result ≡ min limits.depth deepest = cc (c.min.ensures, c.requires.depth) in
     let tidy = subst (λ (T : Table). IsTidyWhole T c.in-Some.whole.id c.min.result c.in-Some.whole.body.now)
     (ap (λ d. types d) c.table.ensures) (c.is_tidy_whole.ensures c.if-not-is_tidy_whole.false) in (
-      c.args.session.now.reading,
+      c.args.session.now,
       h,
       subst (λ (T : Table). IsTidyNext h T c.in-Some.whole.id c.in-Some.whole.body.now)
           (sym (ap (λ d. types d) (c.table-2.ensures ∙ c.pass.ensures.types))) (whole_next h depth c.in-Some.ensures.body tidy),
@@ -33,11 +33,11 @@ push_whole-requires g c =
 
 pub returns-in_err-push_whole-clause-rewritten : goal.returns-in_err-push_whole-clause-rewritten
 returns-in_err-push_whole-clause-rewritten g c = λ h.
-    let limits = c.args.session.now.reading.limits in
+    let limits = c.args.session.now.limits in
     let depth : c.min.result ≡ min limits.depth deepest = cc (c.min.ensures, c.requires.depth) in
     let tidy = subst (λ (T : Table). IsTidyWhole T c.in-Some.whole.id c.min.result c.in-Some.whole.body.now)
     (ap (λ d. types d) c.table.ensures) (c.is_tidy_whole.ensures c.if-not-is_tidy_whole.false) in
-    let s = c.pass.new.self.reading in
+    let s = c.pass.new.self in
     let w = c.push_whole.new.self.writer in
     let old = g.W.Write.contents c.args.output.now.writer in
     let new = g.W.Write.contents c.push_whole.new.output.writer in
@@ -53,11 +53,11 @@ returns-in_err-push_whole-clause-rewritten g c = λ h.
 
 pub returns-clause-rewritten : goal.returns-clause-rewritten
 returns-clause-rewritten g c = λ h.
-    let limits = c.args.session.now.reading.limits in
+    let limits = c.args.session.now.limits in
     let depth : c.min.result ≡ min limits.depth deepest = cc (c.min.ensures, c.requires.depth) in
     let tidy = subst (λ (T : Table). IsTidyWhole T c.in-Some.whole.id c.min.result c.in-Some.whole.body.now)
     (ap (λ d. types d) c.table.ensures) (c.is_tidy_whole.ensures c.if-not-is_tidy_whole.false) in
-    let s = c.pass.new.self.reading in
+    let s = c.pass.new.self in
     let w = c.push_whole.new.self.writer in
     let old = g.W.Write.contents c.args.output.now.writer in
     let new = g.W.Write.contents c.push_whole.new.output.writer in

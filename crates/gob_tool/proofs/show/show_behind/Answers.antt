@@ -12,24 +12,24 @@ use Rattle.gob_tool.proofs.show.show_behind.Goals as goal
 pub returns-in_err-used-clause-shown : goal.returns-in_err-used-clause-shown
 returns-in_err-used-clause-shown g c = λ bytes start b.
     let e = c.in_err-used.field-0.0 in
-    let s = c.show_ready.new.session.reading in
-    let M = c.args.session.now.reading.limits in
+    let s = c.show_ready.new.session in
+    let M = c.args.session.now.limits in
     let now = g.W.Write.contents c.items.output.writer in
     let after = c.show_ready.new.lines.gathered.items in
     let u = c.items.invariant.3 bytes start b in
     keeping_at (within_trees M) s c.items.pending.bytes.items (bytes ++ c.args.piece.now) start now after
     c.from_residual.result (reading_fault e) c.from_residual.ensures.1
-    (rest_stops after c.items.session.reading.limits M s e c.items.invariant.0 u
+    (rest_stops after c.items.session.limits M s e c.items.invariant.0 u
     (c.in_err-used.ensures.shown (bytes ++ u.front) start now u.behind))
 
 pub returns-in_err-keep-in-None-clause-shown : goal.returns-in_err-keep-in-None-clause-shown
 returns-in_err-keep-in-None-clause-shown g c = λ bytes start b.
-    let s = c.show_ready.new.session.reading in
-    let M = c.args.session.now.reading.limits in
+    let s = c.show_ready.new.session in
+    let M = c.args.session.now.limits in
     let now = g.W.Write.contents c.items.output.writer in
     let after = c.show_ready.new.lines.gathered.items in
     let u = c.items.invariant.3 bytes start b in
-    let kept = subst (λ (o : Option ℕ). MayTakeFront (within_trees c.items.session.reading.limits) s (bytes ++ u.front)
+    let kept = subst (λ (o : Option ℕ). MayTakeFront (within_trees c.items.session.limits) s (bytes ++ u.front)
     c.items.rest.now start now after (Ok o)) c.in-None.is
     (c.in_ok-used.ensures.shown (bytes ++ u.front) start now u.behind) in
     keeping_at (within_trees M) s c.keep.new.self.bytes.items (bytes ++ c.args.piece.now) start now after
@@ -38,11 +38,11 @@ returns-in_err-keep-in-None-clause-shown g c = λ bytes start b.
 
 pub returns-in-None-clause-shown : goal.returns-in-None-clause-shown
 returns-in-None-clause-shown g c = λ bytes start b.
-    let s = c.show_ready.new.session.reading in
+    let s = c.show_ready.new.session in
     let now = g.W.Write.contents c.items.output.writer in
     let after = c.show_ready.new.lines.gathered.items in
     let u = c.items.invariant.3 bytes start b in
-    let kept = subst (λ (o : Option ℕ). MayTakeFront (within_trees c.items.session.reading.limits) s (bytes ++ u.front)
+    let kept = subst (λ (o : Option ℕ). MayTakeFront (within_trees c.items.session.limits) s (bytes ++ u.front)
     c.items.rest.now start now after (Ok o)) c.in-None.is
     (c.in_ok-used.ensures.shown (bytes ++ u.front) start now u.behind) in
     keeps_rest u (c.in_ok-keep-in-None.ensures.kept ∙ ap (λ l. l ++ c.items.rest.now) c.items.invariant.2) s kept
@@ -50,14 +50,14 @@ returns-in-None-clause-shown g c = λ bytes start b.
 pub returns-in_err-write_many-in-Some-clause-shown : goal.returns-in_err-write_many-in-Some-clause-shown
 returns-in_err-write_many-in-Some-clause-shown g c = λ bytes start b.
     let f = c.in_err-write_many-in-Some.field-0.0 in
-    let s = c.show_ready.new.session.reading in
-    let M = c.args.session.now.reading.limits in
+    let s = c.show_ready.new.session in
+    let M = c.args.session.now.limits in
     let now = g.W.Write.contents c.items.output.writer in
     let new = g.W.Write.contents c.write_many.new.output.writer in
     let after = c.write_many.new.self.gathered.items in
     let failed = c.in_err-write_many-in-Some.ensures.passed in
     let u = c.items.invariant.3 bytes start b in
-    let taken = subst (λ (o : Option ℕ). MayTakeFront (within_trees c.items.session.reading.limits) s (bytes ++ u.front)
+    let taken = subst (λ (o : Option ℕ). MayTakeFront (within_trees c.items.session.limits) s (bytes ++ u.front)
     c.items.rest.now start now c.show_ready.new.lines.gathered.items (Ok o)) c.in-Some.is
     (c.in_ok-used.ensures.shown (bytes ++ u.front) start now u.behind) in
     keeping_at (within_trees M) s c.items.pending.bytes.items (bytes ++ c.args.piece.now) start new after
@@ -76,8 +76,8 @@ items-preserved g c =
       λ bytes start b.
           let now = g.W.Write.contents c.items.output.writer in
           let u = c.items.invariant.3 bytes start b in
-          let taken = subst (λ (o : Option ℕ). MayTakeFront (within_trees c.items.session.reading.limits)
-          c.show_ready.new.session.reading (bytes ++ u.front) rest start now c.show_ready.new.lines.gathered.items (Ok o))
+          let taken = subst (λ (o : Option ℕ). MayTakeFront (within_trees c.items.session.limits)
+          c.show_ready.new.session (bytes ++ u.front) rest start now c.show_ready.new.lines.gathered.items (Ok o))
           c.in-Some.is (c.in_ok-used.ensures.shown (bytes ++ u.front) start now u.behind) in
           up_to_more n later u taken c.in_ok-write_many-in-Some.ensures.passed,
     )

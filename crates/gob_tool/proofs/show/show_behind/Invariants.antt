@@ -5,12 +5,12 @@ use Rattle.gob_tool.proofs.show.show_behind.Given as goal
 
 abbrev pub invariant-items : goal.invariant-items
 invariant-items g l =
-    (l.session.reading.limits ≡ l.fn.session.reading.limits)
+    (l.session.limits ≡ l.fn.session.limits)
     × (l.output.failures ≡ l.fn.output.failures)
     × (l.pending.bytes.items ≡ [])
     × ((bytes : List ℕ) (start : Option (List ℕ))
-    → StandsBehind l.fn.session.reading bytes start (g.W.Write.contents l.fn.output.writer) l.fn.lines.gathered.items
-    → StandsUpTo l.session.reading bytes l.piece l.rest start (g.W.Write.contents l.output.writer)
+    → StandsBehind l.fn.session bytes start (g.W.Write.contents l.fn.output.writer) l.fn.lines.gathered.items
+    → StandsUpTo l.session bytes l.piece l.rest start (g.W.Write.contents l.output.writer)
     l.lines.gathered.items)
 
 abbrev pub decreases-items : goal.decreases-items

@@ -9,13 +9,13 @@ use Rattle.gob_tool.proofs.show.show_front.Goals as goal
 pub returns-in_err-used-clause-shown : goal.returns-in_err-used-clause-shown
 returns-in_err-used-clause-shown c = λ bytes start now b.
     let piece = c.args.piece.now in
-    front_at (within_trees c.args.session.now.reading.limits) c.show_whole.new.session.reading bytes piece start now
+    front_at (within_trees c.args.session.now.limits) c.show_whole.new.session bytes piece start now
     c.show_whole.new.lines.gathered.items c.from_residual.result reading.Memory c.from_residual.ensures.1
     (memory_stops piece c.in_err-used.ensures.shown.1 b)
 
 pub returns-in-Some-clause-shown : goal.returns-in-Some-clause-shown
 returns-in-Some-clause-shown c = λ bytes start now b.
-    let gathers = subst (λ (o : Option ℕ). MayGatherWhole c.args.session.now.reading c.show_whole.new.session.reading
+    let gathers = subst (λ (o : Option ℕ). MayGatherWhole c.args.session.now c.show_whole.new.session
     c.args.piece.now c.args.lines.now.gathered.items c.show_whole.new.lines.gathered.items (Ok o)) c.in-Some.is
     c.in_ok-used.ensures.shown in
     whole_taken c.show_whole.ensures.limits b gathers

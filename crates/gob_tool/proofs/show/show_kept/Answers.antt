@@ -8,14 +8,14 @@ use Rattle.gob_tool.proofs.show.show_kept.Goals as goal
 
 pub returns-in_err-keep-clause-shown : goal.returns-in_err-keep-clause-shown
 returns-in_err-keep-clause-shown g c = λ bytes start k.
-    piece_at (within_trees c.args.session.now.reading.limits) c.args.session.now.reading (bytes ++ c.args.front.now) start
+    piece_at (within_trees c.args.session.now.limits) c.args.session.now (bytes ++ c.args.front.now) start
     (g.W.Write.contents c.args.output.now.writer) c.args.lines.now.gathered.items c.from_residual.result fault.Memory
     c.from_residual.ensures.1 (keeps_begun c.args.front.now k)
 
 pub returns-in_err-show_item-clause-shown : goal.returns-in_err-show_item-clause-shown
 returns-in_err-show_item-clause-shown g c = λ bytes start k.
-    let M = c.args.session.now.reading.limits in
-    let s = c.show_item.new.session.reading in
+    let M = c.args.session.now.limits in
+    let s = c.show_item.new.session in
     let front = c.args.front.now in
     let new = g.W.Write.contents c.show_item.new.output.writer in
     let after = c.show_item.new.lines.gathered.items in

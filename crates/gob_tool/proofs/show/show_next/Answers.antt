@@ -7,7 +7,7 @@ use Rattle.gob_tool.proofs.show.show_next.Goals as goal
 
 pub returns-in_err-keep-clause-shown : goal.returns-in_err-keep-clause-shown
 returns-in_err-keep-clause-shown g c = λ bytes start k.
-    keeping_at (within_trees c.args.session.now.reading.limits) c.args.session.now.reading c.keep.new.self.bytes.items
+    keeping_at (within_trees c.args.session.now.limits) c.args.session.now c.keep.new.self.bytes.items
     (bytes ++ c.args.piece.now) start (g.W.Write.contents c.args.output.now.writer) c.args.lines.now.gathered.items
     c.from_residual.result fault.Memory c.from_residual.ensures.1 (keeps_begun c.args.piece.now k)
 
@@ -18,8 +18,8 @@ returns-then-piece-missing-clause-shown g c = λ bytes start k.
 
 pub returns-in_err-show_kept-clause-shown : goal.returns-in_err-show_kept-clause-shown
 returns-in_err-show_kept-clause-shown g c = λ bytes start k.
-    let M = c.args.session.now.reading.limits in
-    let s = c.show_kept.new.session.reading in
+    let M = c.args.session.now.limits in
+    let s = c.show_kept.new.session in
     let piece = c.args.piece.now in
     let front = c.split_at.result.0.now in
     let behind = c.split_at.result.1.now in
@@ -37,8 +37,8 @@ pub returns-clause-shown : goal.returns-clause-shown
 returns-clause-shown g c = λ bytes start k.
     let piece = c.args.piece.now in
     let front = c.split_at.result.0.now in
-    keeping_in_two c.show_kept.new.session.reading.limits c.args.session.now.reading.limits
-    c.show_behind.new.session.reading c.show_behind.new.pending.bytes.items bytes front c.split_at.result.1.now piece start
+    keeping_in_two c.show_kept.new.session.limits c.args.session.now.limits
+    c.show_behind.new.session c.show_behind.new.pending.bytes.items bytes front c.split_at.result.1.now piece start
     (g.W.Write.contents c.show_behind.new.output.writer) c.show_behind.new.lines.gathered.items c.show_behind.result
     c.in_ok-show_kept.ensures.limits (front_behind _ piece c.split_at.ensures.front c.split_at.ensures.back)
     (c.show_behind.ensures.shown (bytes ++ front) start (c.in_ok-show_kept.ensures.shown bytes start k))

@@ -10,21 +10,21 @@ use Rattle.gob_tool.proofs.show.show_piece.Goals as goal
 pub returns-in_err-used-clause-shown : goal.returns-in_err-used-clause-shown
 returns-in_err-used-clause-shown g c = λ bytes start b.
     let e = c.in_err-used.field-0.0 in
-    let s = c.show_front.new.session.reading in
-    let M = c.args.session.now.reading.limits in
+    let s = c.show_front.new.session in
+    let M = c.args.session.now.limits in
     let now = g.W.Write.contents c.loop-rest.output.writer in
     let after = c.show_front.new.lines.gathered.items in
     let u = c.loop-rest.invariant.2 bytes start b in
     piece_at (within_trees M) s (bytes ++ c.args.piece.now) start now after c.from_residual.result (reading_fault e)
     c.from_residual.ensures.1
-    (rest_stops after c.loop-rest.session.reading.limits M s e c.loop-rest.invariant.0 u
+    (rest_stops after c.loop-rest.session.limits M s e c.loop-rest.invariant.0 u
     (c.in_err-used.ensures.shown (bytes ++ u.front) start now u.behind))
 
 pub returns-in_err-write_many-clause-shown : goal.returns-in_err-write_many-clause-shown
 returns-in_err-write_many-clause-shown g c = λ bytes start b.
     let f = c.in_err-write_many.field-0.0 in
-    let s = c.show_front.new.session.reading in
-    let M = c.args.session.now.reading.limits in
+    let s = c.show_front.new.session in
+    let M = c.args.session.now.limits in
     let now = g.W.Write.contents c.loop-rest.output.writer in
     let new = g.W.Write.contents c.write_many.new.output.writer in
     let after = c.write_many.new.self.gathered.items in

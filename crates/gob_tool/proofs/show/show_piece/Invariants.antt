@@ -5,11 +5,11 @@ use Rattle.gob_tool.proofs.show.show_piece.Given as goal
 
 abbrev pub invariant-loop-rest : goal.invariant-loop-rest
 invariant-loop-rest g l =
-    (l.session.reading.limits ≡ l.fn.session.reading.limits)
+    (l.session.limits ≡ l.fn.session.limits)
     × (l.output.failures ≡ l.fn.output.failures)
     × ((bytes : List ℕ) (start : Option (List ℕ))
-    → StandsBehind l.fn.session.reading bytes start (g.W.Write.contents l.fn.output.writer) l.fn.lines.gathered.items
-    → StandsUpTo l.session.reading bytes l.piece l.rest start (g.W.Write.contents l.output.writer)
+    → StandsBehind l.fn.session bytes start (g.W.Write.contents l.fn.output.writer) l.fn.lines.gathered.items
+    → StandsUpTo l.session bytes l.piece l.rest start (g.W.Write.contents l.output.writer)
     l.lines.gathered.items)
 
 abbrev pub decreases-loop-rest : goal.decreases-loop-rest

@@ -27,10 +27,10 @@ returns-in-Ok-eq0-clause-shown g c = λ bytes known.
     let i = c.pieces.invariant.3 in
     let none : c.in-Ok-eq0.field-0 ≡ 0 = omega arith in
     let room : 0 < length c.read.new.buf = omega (arith, c.requires.room, c.pieces.auto.buffer, c.read.auto.buf) in
-    let behind = subst (λ l. KeepsBehind c.pieces.session.reading l i.taken old out c.pieces.lines.gathered.items)
+    let behind = subst (λ l. KeepsBehind c.pieces.session l i.taken old out c.pieces.lines.gathered.items)
     (sym c.bytes.ensures) i.behind in
     let new = g.W.Write.contents c.show_end.new.output.writer in
-    end_there c.pieces.session.reading.limits c.args.session.now.reading.limits i.taken bytes next
+    end_there c.pieces.session.limits c.args.session.now.limits i.taken bytes next
     (Gathered old new c.show_end.new.lines.gathered.items) (AppendsFront old new) c.show_end.result
     c.pieces.invariant.0
     (all_taken read now next bytes i.taken known i.input
@@ -42,7 +42,7 @@ returns-in-Ok-eq0-clause-reads g c =
     let old = g.W.Write.contents c.args.output.now.writer in
     let out = g.W.Write.contents c.pieces.output.writer in
     let i = c.pieces.invariant.3 in
-    let behind = subst (λ l. KeepsBehind c.pieces.session.reading l i.taken old out c.pieces.lines.gathered.items)
+    let behind = subst (λ l. KeepsBehind c.pieces.session l i.taken old out c.pieces.lines.gathered.items)
     (sym c.bytes.ensures) i.behind in
     subst (λ n. CountsOnlyReads c.args.input.now.failures n c.show_end.result)
     (sym (c.in-Ok-eq0.ensures.counted.1 ∙ c.pieces.invariant.1))
@@ -54,7 +54,7 @@ pieces-smaller g c =
     let i = c.pieces.invariant.3 in
     let piece = take c.in-Ok.count c.read.new.buf in
     let some : 0 < length piece = omega (arith, length-take c.in-Ok.count c.read.new.buf, c.in-Ok.ensures.bound) in
-    falls_keeping c.pieces.session.reading c.show_next.new.session.reading c.pieces.pending.bytes.items
+    falls_keeping c.pieces.session c.show_next.new.session c.pieces.pending.bytes.items
     c.show_next.new.pending.bytes.items i.taken piece old (g.W.Write.contents c.pieces.output.writer)
     (g.W.Write.contents c.show_next.new.output.writer) c.pieces.lines.gathered.items
     c.show_next.new.lines.gathered.items i.behind
@@ -86,12 +86,12 @@ returns-in_err-show_next-in-Ok-clause-shown g c = λ bytes known.
     let new = g.W.Write.contents c.show_next.new.output.writer in
     let gathered = c.show_next.new.lines.gathered.items in
     let piece = take c.in-Ok.count c.read.new.buf in
-    let M = c.args.session.now.reading.limits in
+    let M = c.args.session.now.limits in
     let i = c.pieces.invariant.3 in
     let f = c.in_err-show_next-in-Ok.field-0.0 in
     runs_at (within_trees M) bytes next (Gathered old new gathered) (AppendsFront old new)
     c.from_residual.result f c.from_residual.ensures.1
-    (stopped c.pieces.session.reading.limits M c.show_next.new.session.reading read next old new bytes gathered
+    (stopped c.pieces.session.limits M c.show_next.new.session read next old new bytes gathered
     (i.taken ++ piece) f c.pieces.invariant.0 known
     (Consumes-trans read now next i.taken piece i.input c.in-Ok.ensures.bytes.0)
     (c.in_err-show_next-in-Ok.ensures.shown i.taken old i.behind))
@@ -103,13 +103,13 @@ returns-in_err-show_next-in-Ok-clause-reads g c =
     let i = c.pieces.invariant.3 in
     let f = c.in_err-show_next-in-Ok.field-0.0 in
     reads_at _ _ c.from_residual.result f c.from_residual.ensures.1
-    (piece_counts (within_trees c.pieces.session.reading.limits) c.show_next.new.session.reading
+    (piece_counts (within_trees c.pieces.session.limits) c.show_next.new.session
     (i.taken ++ take c.in-Ok.count c.read.new.buf) old new c.show_next.new.lines.gathered.items _ _ f
     (c.in_err-show_next-in-Ok.ensures.shown i.taken old i.behind) (c.in-Ok.ensures.counted.1 ∙ c.pieces.invariant.1))
 
 pub returns-in-Err-clause-shown : goal.returns-in-Err-clause-shown
 returns-in-Err-clause-shown g c = λ bytes known.
-    read_failed_keeping c.args.session.now.reading.limits c.pieces.session.reading c.pieces.pending.bytes.items
+    read_failed_keeping c.args.session.now.limits c.pieces.session c.pieces.pending.bytes.items
     (g.R.Read.remaining c.args.input.now.reader) (g.R.Read.remaining c.pieces.input.reader)
     (g.R.Read.remaining c.read.new.self.reader) (g.W.Write.contents c.args.output.now.writer)
     (g.W.Write.contents c.pieces.output.writer) bytes c.pieces.lines.gathered.items c.pieces.invariant.0

@@ -5,13 +5,13 @@ use Rattle.gob_tool.proofs.show.show_pieces.Given as goal
 
 abbrev pub invariant-pieces : goal.invariant-pieces
 invariant-pieces g l =
-    (l.session.reading.limits ≡ l.fn.session.reading.limits)
+    (l.session.limits ≡ l.fn.session.limits)
     × (l.input.failures ≡ l.fn.input.failures)
     × (l.output.failures ≡ l.fn.output.failures)
-    × KeepsIn l.session.reading l.pending.bytes.items (g.R.Read.remaining l.fn.input.reader)
+    × KeepsIn l.session l.pending.bytes.items (g.R.Read.remaining l.fn.input.reader)
     (g.R.Read.remaining l.input.reader) (g.W.Write.contents l.fn.output.writer) (g.W.Write.contents l.output.writer)
     l.lines.gathered.items
 
 abbrev pub decreases-pieces : goal.decreases-pieces
 decreases-pieces g l =
-    l.session.reading.limits.stream + 9 - (l.session.reading.taken + length l.pending.bytes.items)
+    l.session.limits.stream + 9 - (l.session.taken + length l.pending.bytes.items)

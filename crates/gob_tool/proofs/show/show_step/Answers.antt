@@ -11,17 +11,17 @@ use Rattle.gob_tool.proofs.show.show_step.Goals as goal
 pub returns-in_err-step-clause-shown : goal.returns-in_err-step-clause-shown
 returns-in_err-step-clause-shown c = λ bytes start now b.
     let e = c.in_err-step.field-0.0 in
-    let s = c.step.new.self.reading in
+    let s = c.step.new.self in
     let piece = c.args.piece.now in
-    front_at (within_trees c.args.session.now.reading.limits) s bytes piece start now c.args.lines.now.gathered.items
+    front_at (within_trees c.args.session.now.limits) s bytes piece start now c.args.lines.now.gathered.items
     c.from_residual.result e c.from_residual.ensures.1
     (step_stops s piece e b (c.in_err-step.ensures.advances b.items bytes b.gave))
 
 pub returns-in_err-pushed-clause-shown : goal.returns-in_err-pushed-clause-shown
 returns-in_err-pushed-clause-shown c = λ bytes start now b.
-    let s = c.step.new.self.reading in
+    let s = c.step.new.self in
     let piece = c.args.piece.now in
-    front_at (within_trees c.args.session.now.reading.limits) s bytes piece start now
+    front_at (within_trees c.args.session.now.limits) s bytes piece start now
     c.push_given-pushed.new.self.gathered.items c.from_residual-in_err-pushed.result reading.Memory
     c.from_residual-in_err-pushed.ensures.1 (memory_stops piece c.in_err-pushed.ensures.err b)
 

@@ -10,7 +10,7 @@ use Rattle.gob_tool.proofs.show.show_whole.Goals as goal
 
 pub pass-requires-clause-item : goal.pass-requires-clause-item
 pass-requires-clause-item c =
-    let limits = c.args.session.now.reading.limits in
+    let limits = c.args.session.now.limits in
     let depth : c.min-most.result ≡ min limits.depth greatest_depth = cc (c.min-most.ensures, c.requires.depth) in
     let whole = subst (λ (T : Table). LineOfWhole T c.in-Some.whole.id c.min-most.result c.in-Some.whole.body.now
     c.args.lines.now.gathered.items c.push_whole.new.self.gathered.items) (ap (λ d. types d) c.table.ensures)
@@ -19,7 +19,7 @@ pass-requires-clause-item c =
 
 pub returns-clause-shown : goal.returns-clause-shown
 returns-clause-shown c =
-    let limits = c.args.session.now.reading.limits in
+    let limits = c.args.session.now.limits in
     let depth : c.min-most.result ≡ min limits.depth greatest_depth = cc (c.min-most.ensures, c.requires.depth) in
     let whole = subst (λ (T : Table). LineOfWhole T c.in-Some.whole.id c.min-most.result c.in-Some.whole.body.now
     c.args.lines.now.gathered.items c.push_whole.new.self.gathered.items) (ap (λ d. types d) c.table.ensures)

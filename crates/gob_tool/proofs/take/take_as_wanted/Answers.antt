@@ -20,7 +20,7 @@ returns-in-Ok-clause-taken g c = λ wanted_bytes bytes known left.
     let new = g.W.Write.contents c.take_values.new.output.writer in
     let now = g.R.Read.remaining c.take_values.new.input.reader in
     let wanted_now = g.Q.Read.remaining c.read_wanted.new.input.reader in
-    let U = types c.read_wanted.new.session.reading.types in
+    let U = types c.read_wanted.new.session.types in
     takes_behind (found_taken bytes now (types c.table.result.now) (Appends old new) (AppendsFront old new)
     c.take_values.result (subst (λ L. FindsWanted L wanted_bytes wanted_now U (Ok c.in-Ok.id)) (ap (λ L. within_trees L) c.requires.within)
     (c.in-Ok.ensures.found wanted_bytes known)) (ap (λ d. types d) c.table.ensures)

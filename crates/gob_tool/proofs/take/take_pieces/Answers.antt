@@ -48,7 +48,7 @@ pieces-preserved g c =
       c.next_items-more.ensures.limits ∙ c.pieces.invariant.0,
       c.in_ok-more.ensures.reads ∙ c.pieces.invariant.1,
       c.in_ok-take_piece.ensures.writes ∙ c.pieces.invariant.2,
-      takes_on c.args.session.now.reading.limits c.pieces.session.reading c.next_items-more.new.session.reading _ _ _ _
+      takes_on c.args.session.now.limits c.pieces.session c.next_items-more.new.session _ _ _ _
           out (types c.args.wanted.now) c.args.wanted_id before _ c.requires.ready c.pieces.invariant.0 i
           new after c.in_ok-more.field-0 c.if-not-branch.false (c.in_ok-more.ensures.gave i.items i.taken i.gave) taken,
     )
@@ -59,7 +59,7 @@ returns-then-matches-clause-taken g c = λ bytes known.
     let failed : c.next_items-more.result ≡ Err reading.Read = search rules in
     let old = g.W.Write.contents c.args.output.now.writer in
     let out = g.W.Write.contents c.pieces.output.writer in
-    stopped_at_read c.args.session.now.reading.limits c.pieces.session.reading c.next_items-more.new.session.reading _ _
+    stopped_at_read c.args.session.now.limits c.pieces.session c.next_items-more.new.session _ _
     _ old out (types c.args.wanted.now) c.args.wanted_id c.pieces.lines.gathered.items _ c.requires.ready
     c.pieces.invariant.0 i
     bytes c.next_items-more.result (AppendsFront old out) failed known
@@ -74,7 +74,7 @@ returns-in_err-take_piece-clause-taken g c = λ bytes known.
     let out = g.W.Write.contents c.pieces.output.writer in
     let before = c.pieces.lines.gathered.items in
     let after = c.take_piece.new.lines.gathered.items in
-    let M = c.args.session.now.reading.limits in
+    let M = c.args.session.now.limits in
     let next = g.R.Read.remaining c.next_items-more.new.input.reader in
     let taken = takes_of (types c.args.wanted.now) c.args.wanted_id out new before after (Err f)
     (ap (λ d. types d) c.table.ensures)
@@ -83,7 +83,7 @@ returns-in_err-take_piece-clause-taken g c = λ bytes known.
     receiving_at (within_trees M) bytes next (types c.args.wanted.now) c.args.wanted_id
     (λ lines. PassesSome old new lines after) (AppendsFront old new) c.from_residual.result f
     c.from_residual.ensures.1
-    (stopped_at_items M c.pieces.session.reading c.next_items-more.new.session.reading _ _ next old out
+    (stopped_at_items M c.pieces.session c.next_items-more.new.session _ _ next old out
     (types c.args.wanted.now) c.args.wanted_id before _ c.requires.ready c.pieces.invariant.0 i
     (c.next_items-more.ensures.gave i.items i.taken i.gave) bytes new after f known taken)
 
@@ -96,7 +96,7 @@ returns-in_err-more-clause-taken g c = λ bytes known.
     let out = g.W.Write.contents c.pieces.output.writer in
     let before = c.pieces.lines.gathered.items in
     let after = c.take_piece.new.lines.gathered.items in
-    let M = c.args.session.now.reading.limits in
+    let M = c.args.session.now.limits in
     let next = g.R.Read.remaining c.next_items-more.new.input.reader in
     let taken = takes_of (types c.args.wanted.now) c.args.wanted_id out new before after (Ok tt)
     (ap (λ d. types d) c.table.ensures)
@@ -105,7 +105,7 @@ returns-in_err-more-clause-taken g c = λ bytes known.
     receiving_at (within_trees M) bytes next (types c.args.wanted.now) c.args.wanted_id
     (λ lines. PassesSome old new lines after) (AppendsFront old new) c.from_residual-in_err-more.result
     (reading_fault e) c.from_residual-in_err-more.ensures.1
-    (stopped_at_reader M c.pieces.session.reading c.next_items-more.new.session.reading _ _ next old out
+    (stopped_at_reader M c.pieces.session c.next_items-more.new.session _ _ next old out
     (types c.args.wanted.now) c.args.wanted_id before _ c.requires.ready c.pieces.invariant.0 i
     bytes new after (AppendsFront old new) e known (c.in_err-more.ensures.gave i.items i.taken i.gave) taken)
 
@@ -117,13 +117,13 @@ returns-then-not-branch-clause-taken g c = λ bytes known.
     let out = g.W.Write.contents c.pieces.output.writer in
     let before = c.pieces.lines.gathered.items in
     let after = c.take_piece.new.lines.gathered.items in
-    let M = c.args.session.now.reading.limits in
+    let M = c.args.session.now.limits in
     let next = g.R.Read.remaining c.next_items-more.new.input.reader in
     let taken = takes_of (types c.args.wanted.now) c.args.wanted_id out new before after (Ok tt)
     (ap (λ d. types d) c.table.ensures)
     (ap (λ (l : List (declared.Item Value)). item_views l) c.deref.ensures.value)
     c.in_ok-take_piece.ensures.taken in
-    ended_whole M c.pieces.session.reading c.next_items-more.new.session.reading _ _ next old out
+    ended_whole M c.pieces.session c.next_items-more.new.session _ _ next old out
     (types c.args.wanted.now) c.args.wanted_id before _ c.requires.ready c.pieces.invariant.0 i
     bytes new after c.in_ok-more.field-0 c.if-not-branch.true known (c.in_ok-more.ensures.gave i.items i.taken i.gave)
     taken

@@ -8,13 +8,13 @@ use Rattle.gob_tool.proofs.take.take_pieces.Given as goal
 
 abbrev pub invariant-pieces : goal.invariant-pieces
 invariant-pieces g l =
-    (l.session.reading.limits ≡ l.fn.session.reading.limits)
+    (l.session.limits ≡ l.fn.session.limits)
     × (l.input.failures ≡ l.fn.input.failures)
     × (l.output.failures ≡ l.fn.output.failures)
-    × StandsAt l.session.reading (g.R.Read.remaining l.fn.input.reader) (g.R.Read.remaining l.input.reader)
-    (λ items. HasTakenItems (types l.session.reading.types) (types l.wanted) l.fn.wanted_id items
+    × StandsAt l.session (g.R.Read.remaining l.fn.input.reader) (g.R.Read.remaining l.input.reader)
+    (λ items. HasTakenItems (types l.session.types) (types l.wanted) l.fn.wanted_id items
     (λ lines. PassesSome (g.W.Write.contents l.fn.output.writer) (g.W.Write.contents l.output.writer) lines
     l.lines.gathered.items))
 
 abbrev pub decreases-pieces : goal.decreases-pieces
-decreases-pieces g l = unread l.session.reading
+decreases-pieces g l = unread l.session

@@ -24,7 +24,7 @@ pieces-preserved g c =
     c.deref.ensures.value in (
       c.in_ok-more.ensures.limits ∙ c.pieces.invariant.0,
       c.in_ok-more.ensures.reads ∙ c.pieces.invariant.1,
-      finds_on c.args.session.now.reading.limits c.pieces.session.reading c.next_items.new.session.reading _ _ _
+      finds_on c.args.session.now.limits c.pieces.session c.next_items.new.session _ _ _
           c.pieces.first _ c.pieces.invariant.0 i c.first_put-first.result c.in_ok-more.more c.if-not-more.false
           (c.in_ok-more.ensures.gave i.items i.taken i.gave)
           (first_more c.pieces.first c.first_put-first.result i.items (item_views c.next_items.new.items.items)
@@ -35,11 +35,11 @@ pub returns-in_err-more-clause-read : goal.returns-in_err-more-clause-read
 returns-in_err-more-clause-read g c = λ bytes known.
     let i = c.pieces.invariant.2 in
     let e = c.in_err-more.field-0.0 in
-    let M = c.args.session.now.reading.limits in
+    let M = c.args.session.now.limits in
     let next = g.Q.Read.remaining c.next_items.new.input.reader in
-    wanted_at (within_trees M) bytes next (types c.next_items.new.session.reading.types) c.from_residual.result e
+    wanted_at (within_trees M) bytes next (types c.next_items.new.session.types) c.from_residual.result e
     c.from_residual.ensures.1
-    (wanted_stopped M c.pieces.session.reading c.next_items.new.session.reading _ _ next c.pieces.first _
+    (wanted_stopped M c.pieces.session c.next_items.new.session _ _ next c.pieces.first _
     c.pieces.invariant.0 i bytes e known (c.in_err-more.ensures.gave i.items i.taken i.gave))
 
 pub returns-then-not-more-clause-read : goal.returns-then-not-more-clause-read
@@ -48,7 +48,7 @@ returns-then-not-more-clause-read g c = λ bytes given.
     let known = c.first_put-first.ensures
     ∙ ap (λ (l : List (declared.Item Value)). first_type_of c.pieces.first (first_type (item_views l)))
     c.deref.ensures.value in
-    wanted_read c.args.session.now.reading.limits c.pieces.session.reading c.next_items.new.session.reading _ _ _
+    wanted_read c.args.session.now.limits c.pieces.session c.next_items.new.session _ _ _
     c.pieces.first _ c.pieces.invariant.0 i bytes c.first_put-first.result c.in_ok-more.more c.if-not-more.true
     given
     (c.in_ok-more.ensures.gave i.items i.taken i.gave)
@@ -61,7 +61,7 @@ returns-then-not-more-clause-ready g c =
     let known = c.first_put-first.ensures
     ∙ ap (λ (l : List (declared.Item Value)). first_type_of c.pieces.first (first_type (item_views l)))
     c.deref.ensures.value in
-    wanted_ready c.args.session.now.reading.limits c.pieces.session.reading c.next_items.new.session.reading _ _ _
+    wanted_ready c.args.session.now.limits c.pieces.session c.next_items.new.session _ _ _
     c.pieces.first _ c.pieces.invariant.0 i c.first_put-first.result
     (c.in_ok-more.ensures.gave i.items i.taken i.gave)
     (first_more c.pieces.first c.first_put-first.result i.items (item_views c.next_items.new.items.items) i.holds

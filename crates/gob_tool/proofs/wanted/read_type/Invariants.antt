@@ -6,10 +6,10 @@ use Rattle.gob_tool.proofs.wanted.read_type.Given as goal
 
 abbrev pub invariant-pieces : goal.invariant-pieces
 invariant-pieces g l =
-    (l.session.reading.limits ≡ l.fn.session.reading.limits)
+    (l.session.limits ≡ l.fn.session.limits)
     × (l.input.failures ≡ l.fn.input.failures)
-    × StandsAt l.session.reading (g.Q.Read.remaining l.fn.input.reader) (g.Q.Read.remaining l.input.reader)
+    × StandsAt l.session (g.Q.Read.remaining l.fn.input.reader) (g.Q.Read.remaining l.input.reader)
     (λ items. l.first ≡ first_type items)
 
 abbrev pub decreases-pieces : goal.decreases-pieces
-decreases-pieces g l = unread l.session.reading
+decreases-pieces g l = unread l.session

@@ -5,8 +5,8 @@ use Rattle.gob_tool.proofs.wanted.read_wanted.Goals as goal
 
 pub returns-clause-found : goal.returns-clause-found
 returns-clause-found g c = λ bytes known.
-    let L = within_trees c.args.session.now.reading.limits in
-    lacks_as L bytes (g.Q.Read.remaining c.read_type.new.input.reader) (types c.read_type.new.session.reading.types) _
+    let L = within_trees c.args.session.now.limits in
+    lacks_as L bytes (g.Q.Read.remaining c.read_type.new.input.reader) (types c.read_type.new.session.types) _
     c.wanted_fault.result c.wanted_fault.ensures (c.in-Err.ensures.read bytes known)
 
 pub returns-clause-reads : goal.returns-clause-reads

@@ -1,23 +1,77 @@
-use Rattle.std.proofs.Common.{◌≡◌, [], sym, ap, ◌∙◌}
-use Rattle.std.proofs.lemmas.List.{append-nil}
+use Rattle.std.proofs.Common.{◌≡◌, Ok, Err, ◌++◌, ◌∷◌, [], length, arith, sym, ap, ◌∙◌, length-drop}
+use Rattle.std.proofs.lemmas.List.{append-nil, take_rest}
 use Rattle.gob_stream.specs.declared.stage.Stage.TheVariants as stage
 use Rattle.gob_stream.proofs.HonestLaws.{always_feeds_honestly}
 use Rattle.gob_stream.proofs.StageSteps.{parts}
+use Rattle.gob_stream.proofs.FeedSteps.{feed_start, feed_on, feed_item, feed_there, fed_all, feed_no_memory, feed_stops}
+use Rattle.gob_stream.proofs.session.Session.feed.Goals.{in-Failed, in_default, in-Some+in_default-give, in_default-item}
 use Rattle.gob_stream.proofs.session.Session.feed.Goals as goal
-use Rattle.gob_stream.proofs.session.Session.feed.Goals.{in-Failed, in_default}
 
--- a reader that has failed stands after nothing
+-- a session that has failed stands after nothing
 pub returns-then-matches-clause-fed : goal.returns-then-matches-clause-fed
 returns-then-matches-clause-fed g c =
-    let failed : c.args.self.now.reading.stage ≡ stage.Failed =
-    sym (ap (λ s. s.reading.stage) c.self.view_is) ∙ elim c.match-matches.branch [ in-Failed w ↦ w.in-Failed.is | in_default w ↦ let e = w.matches-is in let t = c.if-matches.true in absurd (cc) ] in
-    record { given = []; appended = sym (append-nil c.args.out.now.items); holds = λ items bytes a. absurd (parts failed a.stage) }
-
-pub returns-clause-fed : goal.returns-clause-fed
-returns-clause-fed g c = rw (sym c.self.view_is) c.feed.ensures.fed
+    let failed : c.self.inside.stage ≡ stage.Failed =
+    elim c.match-matches.branch [ in-Failed w ↦ w.in-Failed.is | in_default w ↦ let e = w.matches-is in let t = c.if-matches.true in absurd (cc) ] in
+    record { given = []; appended = sym (append-nil c.args.out.now.items); holds = rw (← c.self.view_is) (λ items bytes a. absurd (parts failed a.stage)) }
 
 pub returns-then-matches-clause-honest : goal.returns-then-matches-clause-honest
 returns-then-matches-clause-honest g c = record { given = []; appended = sym (append-nil c.args.out.now.items); holds = λ items bytes a. tt }
 
+pub steps-init : goal.steps-init
+steps-init g c = feed_start c.args.out.now.items c.args.piece.now
+
+pub returns-then-used-piece-clause-fed : goal.returns-then-used-piece-clause-fed
+returns-then-used-piece-clause-fed g c = fed_all c.steps.invariant (omega arith)
+
+pub returns-then-used-piece-clause-honest : goal.returns-then-used-piece-clause-honest
+returns-then-used-piece-clause-honest g c = always_feeds_honestly _ _ g.B.Builder.means _ _ c.steps.self c.args.piece.now (Ok tt) (returns-then-used-piece-clause-fed g c)
+
+pub step-requires : goal.step-requires
+step-requires g c =
+    let w = c.steps.invariant.within in let n = c.if-used-piece.false in
+    omega (arith, ap length (take_rest c.args.piece.now c.steps.used), length-drop c.steps.used c.args.piece.now)
+
+pub overflow_add-used : goal.overflow_add-used
+overflow_add-used g c =
+    let w = c.steps.invariant.within in let n = c.in-Ok.ensures.used.1 in
+    omega (arith, ap length (take_rest c.args.piece.now c.steps.used), length-drop c.steps.used c.args.piece.now)
+
+pub returns-in-Err-give-clause-fed : goal.returns-in-Err-give-clause-fed
+returns-in-Err-give-clause-fed g c =
+    feed_no_memory c.give.new.self c.steps.invariant
+    (record { some = c.in-Ok.ensures.used; limits = c.in-Ok.ensures.limits; advances = c.in-Ok.ensures.advances })
+    c.in-Some.is c.give.ensures.types c.give.ensures.taken c.in-Err-give.ensures.memory c.in-Err-give.ensures.as_before
+
+pub returns-in-Err-give-clause-honest : goal.returns-in-Err-give-clause-honest
+returns-in-Err-give-clause-honest g c = always_feeds_honestly _ _ g.B.Builder.means _ _ c.give.new.self c.args.piece.now (Err c.in-Err-give.fault) (returns-in-Err-give-clause-fed g c)
+
+pub returns-in-Err-give-clause-limits : goal.returns-in-Err-give-clause-limits
+returns-in-Err-give-clause-limits g c = c.give.ensures.limits ∙ c.step.ensures.limits ∙ c.steps.invariant.limits
+
+pub returns-in-Err-clause-fed : goal.returns-in-Err-clause-fed
+returns-in-Err-clause-fed g c = feed_stops c.in-Err.fault c.step.new.self c.steps.invariant c.in-Err.ensures.types c.in-Err.ensures.taken c.in-Err.ensures.advances
+
+pub returns-in-Err-clause-honest : goal.returns-in-Err-clause-honest
+returns-in-Err-clause-honest g c = always_feeds_honestly _ _ g.B.Builder.means _ _ c.step.new.self c.args.piece.now (Err c.in-Err.fault) (returns-in-Err-clause-fed g c)
+
+pub returns-in-Err-clause-limits : goal.returns-in-Err-clause-limits
+returns-in-Err-clause-limits g c = c.step.ensures.limits ∙ c.steps.invariant.limits
+
+pub steps-preserved : goal.steps-preserved
+steps-preserved g c =
+    elim c.match-step-2.branch [
+      | in-Some+in_default-give w ↦
+          feed_there (w.self-is ∙ w.in_default-give.ensures.kept)
+          (feed_item c.steps.invariant (record { some = c.in-Ok.ensures.used; limits = c.in-Ok.ensures.limits; advances = c.in-Ok.ensures.advances })
+          w.in-Some.is (ap (λ v. v.items) w.out-is ∙ w.in_default-give.ensures.given ∙ ap (λ x. c.steps.out.items ++ x ∷ []) w.in-Some.item-is))
+      | in_default-item w ↦
+          feed_there w.self-is
+          (feed_on c.steps.invariant (record { some = c.in-Ok.ensures.used; limits = c.in-Ok.ensures.limits; advances = c.in-Ok.ensures.advances })
+          w.in_default-item.is (ap (λ v. v.items) w.out-is))
+    ]
+
+pub returns-clause-fed : goal.returns-clause-fed
+returns-clause-fed g c = fed_all c.steps.invariant (let n = c.steps.invariant.onward in omega arith)
+
 pub returns-clause-honest : goal.returns-clause-honest
-returns-clause-honest g c = rw (sym c.self.view_is) (always_feeds_honestly _ _ _ _ _ _ c.args.piece.now _ c.feed.ensures.fed)
+returns-clause-honest g c = always_feeds_honestly _ _ g.B.Builder.means _ _ c.steps.self c.args.piece.now (Ok tt) (returns-clause-fed g c)

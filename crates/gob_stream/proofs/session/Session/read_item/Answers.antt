@@ -1,9 +1,248 @@
-use Rattle.std.proofs.Common.{sym}
+use Rattle.std.proofs.Common.{◌≢◌, ◌<◌, ◌++◌, length, take, drop, Some, Ok, Err, inl, inr, arith, refl, sym, ap, ◌∙◌}
+use Rattle.std.proofs.lemmas.Grind.{common_steps}
+use Rattle.gob_types.specs.Defined.{types}
+use Rattle.gob_stream.specs.declared.stage.Stage.TheVariants as stage
+use Rattle.gob_stream.specs.Reading.{ReadsNext, TakesNext}
+use Rattle.gob_stream.specs.ReadParts.{bytes_wanted}
 use Rattle.gob_stream.proofs.HonestLaws.{reads_honestly}
+use Rattle.gob_stream.proofs.SessionSteps.{told_trees, types_stay, on_err, consumed_nothing, all_taken, somewhere, stood_first, after_room, stood_on, passed_on, IsRead, piece_length, piece_consumed, stepped, stood_before, step_stops, read_stops, end_stops, counts_none, step_unread, end_unread, nothing_more, step_gives, gives_taken, step_taken, item_within, no_less, stood_further, sound_after}
 use Rattle.gob_stream.proofs.session.Session.read_item.Goals as goal
+use Rattle.gob_stream.proofs.session.Session.read_item.Goals.{in-Failed, in_default}
 
-pub returns-clause-read : goal.returns-clause-read
-returns-clause-read g c = rw (sym c.self.view_is) c.read_item.ensures.read
+pub pieces-init : goal.pieces-init
+pieces-init g c =
+    let sound : c.self.inside.stage ≢ stage.Failed = elim c.match-matches.branch [ in-Failed w ↦ (let t = w.matches-is in let f = c.if-matches.false in λ e. cc) | in_default w ↦ w.in_default.not-Failed ] in
+    record {
+      chunk = refl;
+      began = rw (← c.self.view_is) (somewhere c.self.invariant sound);
+      stood = stood_first _;
+      limits = refl;
+      failures = refl;
+      taken = omega (arith, c.args.input.now.taken_fits);
+      grown = inl refl;
+    }
 
-pub returns-clause-honest : goal.returns-clause-honest
-returns-clause-honest g c = rw (sym c.self.view_is) (λ items bytes rest a e. reads_honestly _ _ _ _ _ _ items bytes rest _ _ (c.read_item.ensures.read items bytes rest a e))
+pub returns-in_err-finish-in-Ok-eq0-clause-read : goal.returns-in_err-finish-in-Ok-eq0-clause-read
+returns-in_err-finish-in-Ok-eq0-clause-read g c = λ items bytes rest a e.
+    let some : 0 < length c.read.new.buf = grind (arith, common_steps) in
+    let p = consumed_nothing c.read.new.buf c.in-Ok-eq0.field-0-test c.in-Ok-eq0.ensures.bytes.0 (c.pieces.invariant.stood.each items bytes a) in
+    let all = all_taken e (c.in-Ok-eq0.ensures.bytes.1 c.in-Ok-eq0.field-0-test some) p in
+    passed_on (λ r. ReadsNext g.B.Builder.stands told_trees g.B.Builder.means g.B.Builder.DEPTH c.args.self.now c.finish.new.self items bytes rest (g.R.Read.remaining c.read.new.self.reader) r)
+    c.from_residual.result _ c.from_residual.ensures.1
+    (end_stops g.B.Builder.DEPTH c.pieces.self c.finish.new.self items bytes rest _ c.pieces.invariant.limits all.ended (c.in_err-finish-in-Ok-eq0.ensures.finishes items (bytes ++ rest) all.holds))
+
+pub returns-in_err-finish-in-Ok-eq0-clause-honest : goal.returns-in_err-finish-in-Ok-eq0-clause-honest
+returns-in_err-finish-in-Ok-eq0-clause-honest g c = λ items bytes rest a e.
+    reads_honestly _ _ _ _ _ _ items bytes rest _ _ (returns-in_err-finish-in-Ok-eq0-clause-read g c items bytes rest a e)
+
+pub returns-in_err-finish-in-Ok-eq0-clause-counted : goal.returns-in_err-finish-in-Ok-eq0-clause-counted
+returns-in_err-finish-in-Ok-eq0-clause-counted g c =
+    let w = c.pieces.invariant.began in
+    let p = c.pieces.invariant.stood.each w.items w.bytes w.after in
+    counts_none c.args.input.now.failures c.read.new.self.failures c.from_residual.result _ c.from_residual.ensures.1
+    (end_unread g.B.Builder.DEPTH c.pieces.self c.finish.new.self w.items (w.bytes ++ p.bytes) _ (c.in_err-finish-in-Ok-eq0.ensures.finishes w.items (w.bytes ++ p.bytes) p.holds))
+    (c.in-Ok-eq0.ensures.counted.1 ∙ c.pieces.invariant.failures)
+
+pub returns-in_err-finish-in-Ok-eq0-clause-taken : goal.returns-in_err-finish-in-Ok-eq0-clause-taken
+returns-in_err-finish-in-Ok-eq0-clause-taken g c =
+    let room = after_room (stood_on c.pieces.invariant.began c.pieces.invariant.stood).after in
+    let limit = ap (λ L. L.stream) c.pieces.invariant.limits in
+    let less = no_less c.pieces.invariant.grown in
+    passed_on (λ r. TakesNext c.args.self.now c.finish.new.self c.args.input.now.taken c.read.new.self.taken r) c.from_residual.result _ c.from_residual.ensures.1
+    (omega (arith, room.some, room.within, c.in-Ok-eq0.ensures.counted.0))
+
+pub returns-in-Ok-eq0-clause-read : goal.returns-in-Ok-eq0-clause-read
+returns-in-Ok-eq0-clause-read g c = λ items bytes rest a e.
+    let some : 0 < length c.read.new.buf = grind (arith, common_steps) in
+    let p = consumed_nothing c.read.new.buf c.in-Ok-eq0.field-0-test c.in-Ok-eq0.ensures.bytes.0 (c.pieces.invariant.stood.each items bytes a) in
+    let all = all_taken e (c.in-Ok-eq0.ensures.bytes.1 c.in-Ok-eq0.field-0-test some) p in
+    let f = c.in_ok-finish-in-Ok-eq0.ensures.finishes items (bytes ++ rest) all.holds in
+    let none = nothing_more rest c.pieces.invariant.limits a all.holds f.0 c.pieces.invariant.grown in
+    (none.none, all.ended, none.outcome, f.1 ∙ none.same)
+
+pub returns-in-Ok-eq0-clause-taken : goal.returns-in-Ok-eq0-clause-taken
+returns-in-Ok-eq0-clause-taken g c =
+    let w = c.pieces.invariant.began in
+    let p = c.pieces.invariant.stood.each w.items w.bytes w.after in
+    let f = c.in_ok-finish-in-Ok-eq0.ensures.finishes w.items (w.bytes ++ p.bytes) p.holds in
+    let none = nothing_more p.bytes c.pieces.invariant.limits w.after p.holds f.0 c.pieces.invariant.grown in
+    let same = ap (λ s. s.taken) none.same in
+    omega (arith, c.args.input.now.taken_fits, c.in-Ok-eq0.ensures.counted.0)
+
+pub returns-in_err-step-in-Ok-clause-read : goal.returns-in_err-step-in-Ok-clause-read
+returns-in_err-step-in-Ok-clause-read g c = λ items bytes rest a e.
+    let room = after_room (stood_on c.pieces.invariant.began c.pieces.invariant.stood).after in
+    let read : IsRead c.in-Ok.n (bytes_wanted c.pieces.self.stage c.pieces.self.taken) c.read.new.buf =
+    record { some = grind (arith, common_steps); within = grind (arith, common_steps); few = grind (arith, common_steps) } in
+    let tail = drop c.min-wanted.result c.pieces.chunk in
+    let piece = take c.in-Ok.n (c.read.new.buf ++ tail) in
+    let step = stepped g.B.Builder.stands told_trees g.B.Builder.means g.B.Builder.DEPTH c.pieces.self c.step.new.self tail (Err c.in_err-step-in-Ok.field-0.0) read c.in_err-step-in-Ok.ensures.advances in
+    passed_on (λ r. ReadsNext g.B.Builder.stands told_trees g.B.Builder.means g.B.Builder.DEPTH c.args.self.now c.step.new.self items bytes rest (g.R.Read.remaining c.read.new.self.reader) r)
+    c.from_residual-in_err-step-in-Ok.result _ c.from_residual-in_err-step-in-Ok.ensures.1
+    (step_stops piece _ c.pieces.invariant.limits step (stood_before piece e (piece_consumed (g.R.Read.remaining c.pieces.input.reader) (g.R.Read.remaining c.read.new.self.reader) tail read c.in-Ok.ensures.bytes.0) (c.pieces.invariant.stood.each items bytes a)))
+
+pub returns-in_err-step-in-Ok-clause-honest : goal.returns-in_err-step-in-Ok-clause-honest
+returns-in_err-step-in-Ok-clause-honest g c = λ items bytes rest a e.
+    reads_honestly _ _ _ _ _ _ items bytes rest _ _ (returns-in_err-step-in-Ok-clause-read g c items bytes rest a e)
+
+pub returns-in_err-step-in-Ok-clause-counted : goal.returns-in_err-step-in-Ok-clause-counted
+returns-in_err-step-in-Ok-clause-counted g c =
+    let room = after_room (stood_on c.pieces.invariant.began c.pieces.invariant.stood).after in
+    let read : IsRead c.in-Ok.n (bytes_wanted c.pieces.self.stage c.pieces.self.taken) c.read.new.buf =
+    record { some = grind (arith, common_steps); within = grind (arith, common_steps); few = grind (arith, common_steps) } in
+    let tail = drop c.min-wanted.result c.pieces.chunk in
+    let piece = take c.in-Ok.n (c.read.new.buf ++ tail) in
+    let step = stepped g.B.Builder.stands told_trees g.B.Builder.means g.B.Builder.DEPTH c.pieces.self c.step.new.self tail (Err c.in_err-step-in-Ok.field-0.0) read c.in_err-step-in-Ok.ensures.advances in
+    counts_none c.args.input.now.failures c.read.new.self.failures c.from_residual-in_err-step-in-Ok.result _ c.from_residual-in_err-step-in-Ok.ensures.1
+    (step_unread piece _ (stood_on c.pieces.invariant.began c.pieces.invariant.stood) step) (c.in-Ok.ensures.counted.1 ∙ c.pieces.invariant.failures)
+
+pub returns-in_err-step-in-Ok-clause-taken : goal.returns-in_err-step-in-Ok-clause-taken
+returns-in_err-step-in-Ok-clause-taken g c =
+    let room = after_room (stood_on c.pieces.invariant.began c.pieces.invariant.stood).after in
+    let read : IsRead c.in-Ok.n (bytes_wanted c.pieces.self.stage c.pieces.self.taken) c.read.new.buf =
+    record { some = grind (arith, common_steps); within = grind (arith, common_steps); few = grind (arith, common_steps) } in
+    let tail = drop c.min-wanted.result c.pieces.chunk in
+    let piece = take c.in-Ok.n (c.read.new.buf ++ tail) in
+    let limit = ap (λ L. L.stream) c.pieces.invariant.limits in
+    let less = no_less c.pieces.invariant.grown in
+    passed_on (λ r. TakesNext c.args.self.now c.step.new.self c.args.input.now.taken c.read.new.self.taken r) c.from_residual-in_err-step-in-Ok.result _ c.from_residual-in_err-step-in-Ok.ensures.1
+    (omega (arith, room.some, room.within, read.within, read.few, c.in-Ok.ensures.counted.0))
+
+pub returns-in-Some-clause-read : goal.returns-in-Some-clause-read
+returns-in-Some-clause-read g c = λ items bytes rest a e.
+    let room = after_room (stood_on c.pieces.invariant.began c.pieces.invariant.stood).after in
+    let read : IsRead c.in-Ok.n (bytes_wanted c.pieces.self.stage c.pieces.self.taken) c.read.new.buf =
+    record { some = grind (arith, common_steps); within = grind (arith, common_steps); few = grind (arith, common_steps) } in
+    let tail = drop c.min-wanted.result c.pieces.chunk in
+    let piece = take c.in-Ok.n (c.read.new.buf ++ tail) in
+    let step = stepped g.B.Builder.stands told_trees g.B.Builder.means g.B.Builder.DEPTH c.pieces.self c.step.new.self tail (Ok c.in_ok-step-in-Ok.step) read c.in_ok-step-in-Ok.ensures.advances in
+    let used = c.in_ok-step-in-Ok.ensures.whole step.few in
+    gives_taken piece c.in_ok-step-in-Ok.step step used c.in_ok-step-in-Ok.ensures.between (c.in-Some.is ∙ ap Some (sym c.in-Some.item-is)) (stood_before piece e (piece_consumed (g.R.Read.remaining c.pieces.input.reader) (g.R.Read.remaining c.read.new.self.reader) tail read c.in-Ok.ensures.bytes.0) (c.pieces.invariant.stood.each items bytes a))
+
+pub returns-in-Some-clause-taken : goal.returns-in-Some-clause-taken
+returns-in-Some-clause-taken g c =
+    let room = after_room (stood_on c.pieces.invariant.began c.pieces.invariant.stood).after in
+    let read : IsRead c.in-Ok.n (bytes_wanted c.pieces.self.stage c.pieces.self.taken) c.read.new.buf =
+    record { some = grind (arith, common_steps); within = grind (arith, common_steps); few = grind (arith, common_steps) } in
+    let tail = drop c.min-wanted.result c.pieces.chunk in
+    let piece = take c.in-Ok.n (c.read.new.buf ++ tail) in
+    let step = stepped g.B.Builder.stands told_trees g.B.Builder.means g.B.Builder.DEPTH c.pieces.self c.step.new.self tail (Ok c.in_ok-step-in-Ok.step) read c.in_ok-step-in-Ok.ensures.advances in
+    let used = c.in_ok-step-in-Ok.ensures.whole step.few in
+    let w = stood_on c.pieces.invariant.began c.pieces.invariant.stood in
+    let less = no_less c.pieces.invariant.grown in
+    let limit = ap (λ L. L.stream) (c.in_ok-step-in-Ok.ensures.limits ∙ c.pieces.invariant.limits) in
+    let size = piece_length tail read in
+    let grown = step_taken piece c.in_ok-step-in-Ok.step used w step in
+    let within = item_within (step_gives piece c.in_ok-step-in-Ok.step step used c.in_ok-step-in-Ok.ensures.between c.in-Some.is w.after) in
+    (omega (arith, c.in-Ok.ensures.counted.0, c.args.input.now.taken_fits), omega (arith, read.some), omega arith)
+
+pub pieces-smaller : goal.pieces-smaller
+pieces-smaller g c =
+    let room = after_room (stood_on c.pieces.invariant.began c.pieces.invariant.stood).after in
+    let read : IsRead c.in-Ok.n (bytes_wanted c.pieces.self.stage c.pieces.self.taken) c.read.new.buf =
+    record { some = grind (arith, common_steps); within = grind (arith, common_steps); few = grind (arith, common_steps) } in
+    let tail = drop c.min-wanted.result c.pieces.chunk in
+    let piece = take c.in-Ok.n (c.read.new.buf ++ tail) in
+    let step = stepped g.B.Builder.stands told_trees g.B.Builder.means g.B.Builder.DEPTH c.pieces.self c.step.new.self tail (Ok c.in_ok-step-in-Ok.step) read c.in_ok-step-in-Ok.ensures.advances in
+    let used = c.in_ok-step-in-Ok.ensures.whole step.few in
+    let w = stood_on c.pieces.invariant.began c.pieces.invariant.stood in
+    let size = piece_length tail read in
+    let grown = step_taken piece c.in_ok-step-in-Ok.step used w step in
+    let limit = ap (λ L. L.stream) c.in_ok-step-in-Ok.ensures.limits in
+    let more = read.some in let within = room.within in let some = room.some in
+    omega arith
+
+pub pieces-preserved : goal.pieces-preserved
+pieces-preserved g c =
+    let room = after_room (stood_on c.pieces.invariant.began c.pieces.invariant.stood).after in
+    let read : IsRead c.in-Ok.n (bytes_wanted c.pieces.self.stage c.pieces.self.taken) c.read.new.buf =
+    record { some = grind (arith, common_steps); within = grind (arith, common_steps); few = grind (arith, common_steps) } in
+    let tail = drop c.min-wanted.result c.pieces.chunk in
+    let piece = take c.in-Ok.n (c.read.new.buf ++ tail) in
+    let step = stepped g.B.Builder.stands told_trees g.B.Builder.means g.B.Builder.DEPTH c.pieces.self c.step.new.self tail (Ok c.in_ok-step-in-Ok.step) read c.in_ok-step-in-Ok.ensures.advances in
+    let used = c.in_ok-step-in-Ok.ensures.whole step.few in
+    let w = stood_on c.pieces.invariant.began c.pieces.invariant.stood in
+    let size = piece_length tail read in
+    let grown = step_taken piece c.in_ok-step-in-Ok.step used w step in
+    let less = no_less c.pieces.invariant.grown in
+    let more = read.some in
+    let consumed = piece_consumed (g.R.Read.remaining c.pieces.input.reader) (g.R.Read.remaining c.read.new.self.reader) tail read c.in-Ok.ensures.bytes.0 in
+    let stood = stood_further piece c.in_ok-step-in-Ok.step consumed step used c.in_default-item.is c.pieces.invariant.stood in
+    record {
+      chunk = grind (arith, common_steps);
+      began = c.pieces.invariant.began;
+      stood = stood;
+      limits = c.in_ok-step-in-Ok.ensures.limits ∙ c.pieces.invariant.limits;
+      failures = c.in-Ok.ensures.counted.1 ∙ c.pieces.invariant.failures;
+      taken = omega (arith, c.in-Ok.ensures.counted.0, c.args.input.now.taken_fits);
+      grown = inr (omega arith);
+    }
+
+pub returns-in-Err-clause-read : goal.returns-in-Err-clause-read
+returns-in-Err-clause-read g c = λ items bytes rest a e.
+    read_stops bytes c.pieces.invariant.limits e c.in-Err.ensures.bytes (c.pieces.invariant.stood.each items bytes a)
+
+pub returns-in-Err-clause-taken : goal.returns-in-Err-clause-taken
+returns-in-Err-clause-taken g c =
+    let room = after_room (stood_on c.pieces.invariant.began c.pieces.invariant.stood).after in
+    let limit = ap (λ L. L.stream) c.pieces.invariant.limits in
+    let less = no_less c.pieces.invariant.grown in
+    omega (arith, room.some, room.within, c.in-Err.ensures.counted.0)
+
+pub returns-in_err-finish-in-Ok-eq0-clause-types : goal.returns-in_err-finish-in-Ok-eq0-clause-types
+returns-in_err-finish-in-Ok-eq0-clause-types g c =
+    on_err c.from_residual.result
+    (ap types c.finish.ensures.types ∙ types_stay c.pieces.invariant.limits c.pieces.invariant.began c.pieces.invariant.stood)
+
+pub returns-in_err-step-in-Ok-clause-types : goal.returns-in_err-step-in-Ok-clause-types
+returns-in_err-step-in-Ok-clause-types g c =
+    on_err c.from_residual-in_err-step-in-Ok.result
+    (ap types c.in_err-step-in-Ok.ensures.types ∙ types_stay c.pieces.invariant.limits c.pieces.invariant.began c.pieces.invariant.stood)
+
+pub returns-in-Err-clause-types : goal.returns-in-Err-clause-types
+returns-in-Err-clause-types g c = ap types c.fail.ensures.types ∙ types_stay c.pieces.invariant.limits c.pieces.invariant.began c.pieces.invariant.stood
+
+pub returns-in_err-finish-in-Ok-eq0-clause-failed : goal.returns-in_err-finish-in-Ok-eq0-clause-failed
+returns-in_err-finish-in-Ok-eq0-clause-failed g c = on_err c.from_residual.result c.in_err-finish-in-Ok-eq0.ensures.failed
+
+pub returns-in_err-finish-in-Ok-eq0-clause-stays : goal.returns-in_err-finish-in-Ok-eq0-clause-stays
+returns-in_err-finish-in-Ok-eq0-clause-stays g c = λ f. absurd (sound_after c.pieces.invariant.began.after f)
+
+pub returns-in_err-finish-in-Ok-eq0-clause-limits : goal.returns-in_err-finish-in-Ok-eq0-clause-limits
+returns-in_err-finish-in-Ok-eq0-clause-limits g c = c.in_err-finish-in-Ok-eq0.ensures.limits ∙ c.pieces.invariant.limits
+
+pub returns-in-Ok-eq0-clause-stays : goal.returns-in-Ok-eq0-clause-stays
+returns-in-Ok-eq0-clause-stays g c = λ f. absurd (sound_after c.pieces.invariant.began.after f)
+
+pub returns-in-Ok-eq0-clause-limits : goal.returns-in-Ok-eq0-clause-limits
+returns-in-Ok-eq0-clause-limits g c = c.in_ok-finish-in-Ok-eq0.ensures.limits ∙ c.pieces.invariant.limits
+
+pub returns-in-Ok-eq0-clause-counted : goal.returns-in-Ok-eq0-clause-counted
+returns-in-Ok-eq0-clause-counted g c = c.in-Ok-eq0.ensures.counted.1 ∙ c.pieces.invariant.failures
+
+pub returns-in_err-step-in-Ok-clause-failed : goal.returns-in_err-step-in-Ok-clause-failed
+returns-in_err-step-in-Ok-clause-failed g c = on_err c.from_residual-in_err-step-in-Ok.result c.in_err-step-in-Ok.ensures.failed
+
+pub returns-in_err-step-in-Ok-clause-stays : goal.returns-in_err-step-in-Ok-clause-stays
+returns-in_err-step-in-Ok-clause-stays g c = λ f. absurd (sound_after c.pieces.invariant.began.after f)
+
+pub returns-in_err-step-in-Ok-clause-limits : goal.returns-in_err-step-in-Ok-clause-limits
+returns-in_err-step-in-Ok-clause-limits g c = c.in_err-step-in-Ok.ensures.limits ∙ c.pieces.invariant.limits
+
+pub returns-in-Some-clause-stays : goal.returns-in-Some-clause-stays
+returns-in-Some-clause-stays g c = λ f. absurd (sound_after c.pieces.invariant.began.after f)
+
+pub returns-in-Some-clause-limits : goal.returns-in-Some-clause-limits
+returns-in-Some-clause-limits g c = c.in_ok-step-in-Ok.ensures.limits ∙ c.pieces.invariant.limits
+
+pub returns-in-Some-clause-counted : goal.returns-in-Some-clause-counted
+returns-in-Some-clause-counted g c = c.in-Ok.ensures.counted.1 ∙ c.pieces.invariant.failures
+
+pub returns-in-Err-clause-failed : goal.returns-in-Err-clause-failed
+returns-in-Err-clause-failed g c = c.fail.ensures.failed
+
+pub returns-in-Err-clause-stays : goal.returns-in-Err-clause-stays
+returns-in-Err-clause-stays g c = λ f. absurd (sound_after c.pieces.invariant.began.after f)
+
+pub returns-in-Err-clause-limits : goal.returns-in-Err-clause-limits
+returns-in-Err-clause-limits g c = c.fail.ensures.limits ∙ c.pieces.invariant.limits

@@ -1,10 +1,10 @@
 use Rattle.std.proofs.Common.{arith}
 use Rattle.gob_stream.proofs.WholeSteps.{has_count}
-use Rattle.gob_stream.proofs.reading.Reading.announced.Goals as goal
+use Rattle.gob_stream.proofs.session.Session.announced.Goals as goal
 
 pub returns-clause-count : goal.returns-clause-count
 returns-clause-count g c =
     let room = c.saturating_sub-room.ensures in
     let most = c.stream.ensures.stream in
-    has_count _ _ _ _ c.saturating_sub-room.result _ c.in-Whole.ensures.0 c.in-Whole.ensures.1 (omega arith) (omega arith)
-    (omega arith)
+    rw (← c.self.view_is) (has_count _ _ _ _ c.saturating_sub-room.result _ c.in-Whole.ensures.0 c.in-Whole.ensures.1 (omega arith) (omega arith)
+    (omega arith))

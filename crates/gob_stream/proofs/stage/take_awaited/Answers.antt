@@ -7,7 +7,7 @@ use Rattle.gob_stream.specs.declared.stage.Extent.{Extent}
 use Rattle.gob_stream.specs.declared.stage.Stage.{Stage}
 use Rattle.gob_stream.specs.declared.stage.Stage.TheVariants as stage
 use Rattle.gob_stream.proofs.StageSteps.{parts, count_steps, count_refuses, count_some, value_taken, description_taken, value_some, value_all, description_some, description_all, number_steps, awaits, one_used, rest_left}
-use Rattle.gob_stream.proofs.reading.take_awaited.Goals as goal
+use Rattle.gob_stream.proofs.stage.take_awaited.Goals as goal
 
 -- ---- a reader that awaits something hasn't failed
 count_awaits : {X O : Type 0} {s : Stage X O} {begin : ℕ} {number : List ℕ} → s ≡ stage.Count begin number → s ≢ stage.Failed
