@@ -10,6 +10,7 @@ mod integers;
 mod leaf;
 mod number;
 mod out;
+mod plain;
 mod send;
 mod stop;
 mod value;

@@ -5,8 +5,9 @@ ghost use Rattle.std.specs.Fmt.{decimal};
 ghost use Rattle.serde_json.specs.Written.{comma_if};
 ghost use Rattle.gob_json.specs.TextWhole.{digit_head, field_head};
 
-use super::leaf::{is_plain_ascii, put_natural, put_text};
+use super::leaf::{put_natural, put_text};
 use super::out::TextOut;
+use super::plain::is_plain_ascii;
 
 // What stands before the name of each field with a number of one digit, a comma before it. A piece of the table is put out
 // as it is, where one that were made of bytes would have to wait for them.

@@ -1,18 +1,19 @@
 //! The text of what has no parts: numbers, truth values, bytes and text. Each says how it answers by what the output
 //! says of the text that it was to take.
 
-ghost use Rattle.std.specs.Prelude.{◌≡◌, ◌<◌, ◌≤◌, ◌++◌, IsTrue};
+ghost use Rattle.std.specs.Prelude.{◌≡◌, ◌<◌, ◌≤◌, ◌++◌};
 ghost use Rattle.std.specs.Fmt.{decimal};
 ghost use Rattle.hex.specs.Hex.{encode_lower};
 ghost use Rattle.serde_json.specs.Data.{boolean, null, string};
 ghost use Rattle.serde_json.specs.Written.{compact_text};
-ghost use Rattle.gob_json.specs.Text.{IsPlainAscii, three_digits};
+ghost use Rattle.gob_json.specs.Text.{three_digits};
 ghost use Rattle.gob_json.specs.Json.{hex_json, integer_json, natural_json, opaque_json, pair_json, pattern_json, text_json};
 
 use super::block::DIGITS;
 use super::digits::TRIPLES;
 use super::escape::put_escaped;
 use super::out::TextOut;
+use super::plain::is_plain_ascii;
 use std::str;
 
 const HEX: &[u8; 16] = b"0123456789abcdef";
@@ -206,18 +207,6 @@ pub(crate) fn put_text<O: TextOut>(bytes: &[u8], out: &mut O) -> Result<(), O::F
         Ok(_) => put_string(bytes, out),
         Err(_) => put_digits_between(b"{\"hex\":\"", bytes, b"\"}", out),
     }
-}
-
-/// Whether each byte is an ASCII character that stands for itself in a string. It looks at all of them: a loop that
-/// doesn't end early takes many bytes at once.
-pub(crate) fn is_plain_ascii(bytes: &[u8]) -> bool
-    ensures { IsTrue result → IsPlainAscii bytes.now }
-{
-    let mut plain = true;
-    'bytes: for byte in bytes {
-        plain &= (*byte >= 0x20) & (*byte < 0x80) & (*byte != b'"') & (*byte != b'\\');
-    }
-    plain
 }
 
 // Puts out the bytes as a string.

@@ -1,0 +1,55 @@
+//! Which bytes stand for themselves in a JSON string.
+
+ghost use Rattle.std.specs.Prelude.{IsTrue};
+ghost use Rattle.gob_json.specs.Text.{IsPlainAscii};
+
+// For each byte whether it is an ASCII character that stands for itself: all from the space on but the quote, the
+// backslash and those that are no ASCII.
+static STANDS: [u8; 256] = [
+    0, 0, 0, 0, 0, 0, 0, 0, 0, 0, 0, 0, 0, 0, 0, 0, 0, 0, 0, 0, 0, 0, 0, 0, 0, 0, 0, 0, 0, 0, 0, 0,
+    1, 1, 0, 1, 1, 1, 1, 1, 1, 1, 1, 1, 1, 1, 1, 1, 1, 1, 1, 1, 1, 1, 1, 1, 1, 1, 1, 1, 1, 1, 1, 1,
+    1, 1, 1, 1, 1, 1, 1, 1, 1, 1, 1, 1, 1, 1, 1, 1, 1, 1, 1, 1, 1, 1, 1, 1, 1, 1, 1, 1, 0, 1, 1, 1,
+    1, 1, 1, 1, 1, 1, 1, 1, 1, 1, 1, 1, 1, 1, 1, 1, 1, 1, 1, 1, 1, 1, 1, 1, 1, 1, 1, 1, 1, 1, 1, 1,
+    0, 0, 0, 0, 0, 0, 0, 0, 0, 0, 0, 0, 0, 0, 0, 0, 0, 0, 0, 0, 0, 0, 0, 0, 0, 0, 0, 0, 0, 0, 0, 0,
+    0, 0, 0, 0, 0, 0, 0, 0, 0, 0, 0, 0, 0, 0, 0, 0, 0, 0, 0, 0, 0, 0, 0, 0, 0, 0, 0, 0, 0, 0, 0, 0,
+    0, 0, 0, 0, 0, 0, 0, 0, 0, 0, 0, 0, 0, 0, 0, 0, 0, 0, 0, 0, 0, 0, 0, 0, 0, 0, 0, 0, 0, 0, 0, 0,
+    0, 0, 0, 0, 0, 0, 0, 0, 0, 0, 0, 0, 0, 0, 0, 0, 0, 0, 0, 0, 0, 0, 0, 0, 0, 0, 0, 0, 0, 0, 0, 0,
+];
+
+// Of so few bytes one is looked at behind another, as most names have them.
+const FEW: usize = 16;
+
+/// Whether each byte is an ASCII character that stands for itself in a string.
+#[inline(always)]
+pub(crate) fn is_plain_ascii(bytes: &[u8]) -> bool
+    ensures { IsTrue result → IsPlainAscii bytes.now }
+{
+    if bytes.len() < FEW {
+        return are_few_plain(bytes);
+    }
+    are_all_plain(bytes)
+}
+
+// The same, one byte behind another.
+#[inline(always)]
+fn are_few_plain(bytes: &[u8]) -> bool
+    ensures { IsTrue result → IsPlainAscii bytes.now }
+{
+    'bytes: for byte in bytes {
+        if STANDS[usize::from(*byte)] == 0 {
+            return false;
+        }
+    }
+    true
+}
+
+// The same. It looks at all of them: a loop that doesn't end early takes many bytes at once.
+fn are_all_plain(bytes: &[u8]) -> bool
+    ensures { IsTrue result → IsPlainAscii bytes.now }
+{
+    let mut plain = true;
+    'bytes: for byte in bytes {
+        plain &= (*byte >= 0x20) & (*byte < 0x80) & (*byte != b'"') & (*byte != b'\\');
+    }
+    plain
+}
