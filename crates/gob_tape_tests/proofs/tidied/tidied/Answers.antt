@@ -1,11 +1,10 @@
-use Rattle.std.proofs.Common.{ℕ, List, [], Option}
+use Rattle.std.proofs.Common.{ℕ, List, []}
 use Rattle.gob_types.specs.declared.id.TypeId.{TypeId}
 use Rattle.gob_types.specs.Table.{Table}
 use Rattle.gob_value.specs.Tree.{Tree}
 use Rattle.gob_value.specs.Fits.{Fits}
 use Rattle.gob_value.specs.Top.{SpellsTop, at_once, tagged}
-use Rattle.gob_read.specs.Reader.{EndsBody}
-use Rattle.gob_read.specs.declared.run.Run.{Run}
+use Rattle.gob_read.specs.Reader.{IsMade}
 use Rattle.gob_tape.specs.declared.tape.Tape.{Tape}
 use Rattle.gob_tape.specs.Meaning.{Means, MeansFitting}
 use Rattle.gob_tape_tests.proofs.tidied.tidied.Goals as goal
@@ -15,12 +14,13 @@ top_fits : {T : Table} {t : TypeId} {v : Tree} {b : List ℕ} → SpellsTop T t 
 top_fits (at_once {b = b} h s p) = record { bytes = b; spelled = p }
 top_fits (tagged {b = b} h s p) = record { bytes = b; spelled = p }
 
--- a tape of a whole body means a value of its type
-ends_fitting : {T : Table} {t : TypeId} {limit announced used : ℕ} {X : Type 0} {run : Option (Run X Tape)} {z piece : List ℕ} {out : Tape}
-    → EndsBody T t limit announced Means run z piece out used → MeansFitting T t out
-ends_fitting e = record { value = e.made.value; means = e.made.meant; fits = top_fits e.made.spelled }
+-- a tape that is made of a whole body means a value of its type
+made_fitting : {T : Table} {t : TypeId} {limit announced : ℕ} {z : List ℕ} {out : Tape} → IsMade T t limit announced Means out z
+    → MeansFitting T t out
+made_fitting m = record { value = m.value; means = m.meant; fits = top_fits m.spelled }
 
 pub tidy_tape-requires : goal.tidy_tape-requires
 tidy_tape-requires c =
     let given = c.in_ok-out.ensures.given (record { 0 = c.args.body.now.id }) _ _ [] c.in_ok-reader.ensures in
-    ends_fitting (rw c.in-Done.is at given)
+    let ends = rw c.in-Done.is at given in
+    made_fitting ends.made
