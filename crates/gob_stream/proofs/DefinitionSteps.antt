@@ -1,5 +1,5 @@
 -- What becomes of an item where a piece of its description is taken.
-use Rattle.std.proofs.Common.{◌≡◌, ◌≢◌, ℕ, negsuc, ◌+◌, ◌-◌, ◌≤◌, min, List, [], ◌∷◌, ◌++◌, length, take, Result, Ok, Err, arith, sym, ap, ◌∙◌, subst, append_assoc, length-append}
+use Rattle.std.proofs.Common.{◌≡◌, ◌≢◌, ℕ, negsuc, ◌+◌, ◌-◌, ◌≤◌, min, List, [], ◌∷◌, ◌++◌, length, take, Result, arith, sym, ap, ◌∙◌, subst, length-append}
 use Rattle.std.proofs.lemmas.List.{length-take, append-nil}
 use Rattle.gob_num.specs.Unsigned.{IsUnsigned}
 use Rattle.gob_num.specs.Signed.{IsSigned}
@@ -17,9 +17,7 @@ use Rattle.gob_read.specs.First.{IsFirst}
 use Rattle.gob_read.specs.Reader.{IsMade}
 use Rattle.gob_read.specs.declared.tree_builder.TreeBuilder.{TreeBuilder}
 use Rattle.gob_read.proofs.PublicLaws.{take_whole}
-use Rattle.gob_stream.specs.declared.fault.Refusal.{Refusal}
 use Rattle.gob_stream.specs.declared.fault.Fault.{Fault}
-use Rattle.gob_stream.specs.declared.fault.Fault.TheVariants as fault
 use Rattle.gob_stream.specs.declared.stage.Extent.{Extent}
 use Rattle.gob_stream.specs.declared.stage.Stepped.{Stepped}
 use Rattle.gob_stream.specs.Bounds.{Bounds, greatest_depth}
@@ -27,11 +25,11 @@ use Rattle.gob_stream.specs.Item.{defines, means_definition}
 use Rattle.gob_stream.specs.Body.{definition, MayDefine}
 use Rattle.gob_stream.specs.Stream.{Counted, counted}
 use Rattle.gob_stream.specs.WriterRefusal.{RefusesId, reserved, defined_twice, too_many}
-use Rattle.gob_stream.specs.Refusing.{behind, refuses, RefusesBody, refused_id, refused_description, described_wrongly}
+use Rattle.gob_stream.specs.Refusing.{behind, refuses, RefusesBody, refused_description, described_wrongly}
 use Rattle.gob_stream.specs.Outcome.{RefusesNext, refused_body}
 use Rattle.gob_stream.specs.Standing.{Standing, in_description, IsCount, IsRest, size}
-use Rattle.gob_stream.specs.ReadParts.{HasWireType, IsView, MaybeDefines, may_define, may_not, ReadsDescription, description_goes_on, description_ends, description_refused, describes_nothing, no_memory_for_description, StepsOn, goes_on, gives, refuses_it, no_memory}
-use Rattle.gob_stream.proofs.ValueSteps.{three, take_over, body_there, refused_shown, lies, stands_as, counted_as}
+use Rattle.gob_stream.specs.ReadParts.{HasWireType, IsView, ReadsDescription, description_goes_on, description_ends, description_refused, describes_nothing, no_memory_for_description, StepsOn, goes_on, gives, refuses_it, no_memory}
+use Rattle.gob_stream.proofs.ValueSteps.{three, body_there, refused_shown, lies, stands_as, counted_as}
 use Rattle.gob_stream.proofs.DescriptionSteps.{wire_spelled}
 use Rattle.gob_stream.proofs.DescriptionDepth.{description_first}
 
@@ -94,29 +92,10 @@ description_steps {L = L} {T = T} {offset = offset} {m = m} {rest = rest} c a y 
 description_steps c a y piece k n s r p h w no_memory_for_description = no_memory
 
 -- ---- a description begins
-id_shown : {L : Bounds} {T : Table} {id : TypeId} {r : Reason} → RefusesId base_table L T id r → r ≢ reason.Ended
+pub id_shown : {L : Bounds} {T : Table} {id : TypeId} {r : Reason} → RefusesId base_table L T id r → r ≢ reason.Ended
 id_shown (reserved n) e = cc
 id_shown (defined_twice o n) e = cc
 id_shown (too_many o n r) e = cc
-
-err_injective : {A E : Type 0} {x y : E} → ◌≡◌ {A = Result A E} (Err x) (Err y) → x ≡ y
-err_injective e = cc
-
-pub define_is : {L : Bounds} {T : Table} {id : TypeId} {place seen : ℕ} {r : Result (Unit {0}) Refusal} → MaybeDefines L T id place seen r → r ≡ Ok tt → MayDefine base_table L T id
-define_is (may_define p) e = p
-define_is (may_not r) e = cc
-
-pub define_refused : {X O : Type 0} {stands : Standing X} {trees : Standing TreeBuilder} {means : O → Tree → Type 0} {L : Bounds} {T U : Table} {offset m n : ℕ} {id : TypeId} {body rest : Extent} {r : Result (Unit {0}) Refusal} {R : Refusal} (c a piece : List ℕ)
-    → IsCount L offset m c body → id.0 ≡ n + 1 → IsSigned (negsuc n) a → IsRest body a rest → MaybeDefines L T id body.begin rest.begin r → r ≡ Err R → StepsOn {X = X} {O = O} stands trees means L T offset (c ++ a) piece U (Err (fault.Refused R))
-define_refused c a piece k n s r (may_define p) e = cc
-define_refused {X = X} {O = O} {stands = stands} {trees = trees} {means = means} {L = L} {T = T} {U = U} {offset = offset} {m = m} {body = body} {rest = rest} c a piece k n s r (may_not {r = w} q) e =
-    let lie = lies k r in
-    let there = take_over a piece m lie.within in
-    let refused : RefusesBody base_table L T (offset + length c) m (take m (a ++ piece)) (refuses (offset + length c) (offset + length c + length a) w) = refused_id (take (m - length a) piece) there n s q in
-    let next : RefusesNext base_table L T offset ((c ++ a) ++ piece) (refuses (offset + length c) (offset + length c + length a) w) = refused_body (a ++ piece) (append_assoc c a piece) k.count k.item k.stream refused in
-    let placed = subst (λ n. RefusesNext base_table L T offset ((c ++ a) ++ piece) (refuses n (offset + length c + length a) w)) (sym k.begin) next in
-    let seen = subst (λ n. RefusesNext base_table L T offset ((c ++ a) ++ piece) (refuses body.begin n w)) (sym lie.begins) placed in
-    subst (λ R. StepsOn {X = X} {O = O} stands trees means L T offset (c ++ a) piece U (Err (fault.Refused R))) (err_injective e) (refuses_it seen (id_shown q))
 
 pub description_begins : {X O : Type 0} {stands : Standing X} {trees : Standing TreeBuilder} {means : O → Tree → Type 0} {L : Bounds} {T U : Table} {offset m n limit : ℕ} {id : TypeId} {body rest : Extent} {result : Result (Stepped X O) Fault} (c a piece : List ℕ)
     → IsCount L offset m c body → id.0 ≡ n + 1 → IsSigned (negsuc n) a → IsRest body a rest → MayDefine base_table L T id → HasWireType T → limit ≡ min L.depth greatest_depth → ReadsDescription trees T id limit rest [] piece U result

@@ -23,28 +23,19 @@ use Rattle.gob_stream.specs.declared.item.Item.TheVariants as item
 use Rattle.gob_stream.specs.declared.stage.Stage.{Stage}
 use Rattle.gob_stream.specs.declared.stage.Stage.TheVariants as stage
 use Rattle.gob_stream.specs.Standing.{Standing, size}
-use Rattle.gob_stream.specs.ReadParts.{HasWireType, IsView, IsDescribed, fault_behind, ReadsDescription, description_goes_on, description_ends, description_refused, describes_nothing, no_memory_for_description, defined}
+use Rattle.gob_stream.specs.ReadParts.{HasWireType, IsView, IsDescribed, fault_behind, ReadsDescription, description_goes_on, description_ends, description_refused, describes_nothing, no_memory_for_description}
 use Rattle.gob_stream.proofs.WireLaws.{wire_ready}
 use Rattle.gob_stream.proofs.BodySteps.{not_ended}
 use Rattle.gob_types.specs.declared.id.TypeId.{TypeId}
 use Rattle.gob_types.specs.Table.{Table}
 use Rattle.gob_value.specs.Tree.{Tree}
-use Rattle.gob_value.specs.ShapeFaults.{IsShapeFault}
-use Rattle.gob_value.specs.declared.fault.ShapeFault.{ShapeFault}
-use Rattle.gob_value.specs.declared.fault.ShapeFault.TheVariants as shape
+use Rattle.gob_value.specs.Description.{Misdescribes}
 use Rattle.gob_stream.specs.declared.fault.Fault.{Fault}
 use Rattle.gob_stream.specs.declared.stage.Extent.{Extent}
-use Rattle.gob_stream.specs.ReadParts.{Defines, described_wrongly, no_memory_to_define, shape_fault}
-
-judged : {rest : Extent} {id : TypeId} {v : Tree} {T : Table} (s : ShapeFault) → IsShapeFault id v s → Defines rest id v T T (Err (shape_fault rest s))
-judged shape.KindCount w = described_wrongly w refl
-judged shape.WrongId w = described_wrongly w refl
-judged shape.BadReference w = described_wrongly w refl
-judged shape.BadLength w = described_wrongly w refl
-judged shape.Memory w = no_memory_to_define refl
-
-pub shape_stopped : {rest : Extent} {id : TypeId} {v : Tree} {T : Table} {f : Fault} (s : ShapeFault) → f ≡ shape_fault rest s → IsShapeFault id v s → Defines rest id v T T (Err f)
-shape_stopped {rest = rest} {id = id} {v = v} {T = T} s e w = subst (λ f. Defines rest id v T T (Err f)) (sym e) (judged s w)
+use Rattle.gob_stream.specs.declared.denial.Denial.{Denial}
+use Rattle.gob_stream.specs.declared.denial.Denial.TheVariants as denial
+use Rattle.gob_stream.specs.Denial.{IsDenial, fault_at}
+use Rattle.gob_stream.specs.ReadParts.{Defines}
 
 -- ---- descriptions are spelled as in the base table
 pub wire_spelled : {T : Table} {v : Tree} {z : List ℕ} → HasWireType T → SpellsTop T wire_type v z → Spells T wire_type v z
@@ -76,15 +67,14 @@ description_more {T = T} {limit = limit} {rest = rest} {trees = trees} reader z 
     description_goes_on refl (record { after = g.after; stood = g.stood })
 
 pub description_done : {T U : Table} {id : TypeId} {limit : ℕ} {rest : Extent} {X O : Type 0} {trees : Standing TreeBuilder} {described : Value} {used : ℕ} {st : Stage X O} {z piece : List ℕ} → IsDescribed T limit rest z piece described used
-    → Defines rest id (view described) T U (Ok tt) → st ≡ stage.Count rest.end []
+    → Defines id (view described) T U → st ≡ stage.Count rest.end []
     → ReadsDescription {X = X} {O = O} trees T id limit rest z piece U (Ok (record { used = used; stage = st; item = Some (item.Define id described) }))
-description_done {T = T} {U = U} {id = id} {limit = limit} {rest = rest} {X = X} {O = O} {trees = trees} {described = described} {used = used} {z = z} {piece = piece} d (defined s e) f =
-    subst (λ st. ReadsDescription {X = X} {O = O} trees T id limit rest z piece U (Ok (record { used = used; stage = st; item = Some (item.Define id described) }))) (sym f) (description_ends d s e)
+description_done d given e = rw e (description_ends d given.describes given.behind)
 
-pub description_wrong : {T U : Table} {id : TypeId} {limit : ℕ} {rest : Extent} {X O : Type 0} {trees : Standing TreeBuilder} {described : Value} {used : ℕ} {f : Fault} {z piece : List ℕ} → IsDescribed T limit rest z piece described used
-    → Defines rest id (view described) T U (Err f) → ReadsDescription {X = X} {O = O} trees T id limit rest z piece U (Err f)
-description_wrong d (described_wrongly w e) = describes_nothing e d w
-description_wrong d (no_memory_to_define e) = no_memory_for_description
+pub description_wrong : {T U : Table} {id : TypeId} {limit : ℕ} {rest : Extent} {X O : Type 0} {trees : Standing TreeBuilder} {described : Value} {used : ℕ} {z piece : List ℕ} (d : Denial) → IsDescribed T limit rest z piece described used
+    → IsDenial (Misdescribes id (view described)) d → U ≡ T → ReadsDescription {X = X} {O = O} trees T id limit rest z piece U (Err (fault_at rest.begin rest.end d))
+description_wrong (denial.Refused r) there wrong e = describes_nothing e there wrong
+description_wrong denial.Memory there wrong e = no_memory_for_description
 
 pub description_stopped : {T : Table} {id : TypeId} {limit : ℕ} {rest : Extent} {X O : Type 0} {trees : Standing TreeBuilder} (run : Option (Run TreeBuilder Value)) (z piece : List ℕ) (s : Stop) {f : Fault} → f ≡ fault_behind rest.begin s
     → Stops run (λ refusal. ReaderRefusesBody T trees run piece refusal) s → ReaderStands T wire_type limit (size rest) trees run z → ReadsDescription {X = X} {O = O} trees T id limit rest z piece T (Err f)

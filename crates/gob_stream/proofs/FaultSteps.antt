@@ -1,10 +1,6 @@
 -- How faults and bytes pass from a call to its caller.
 use Rattle.std.proofs.Common.{◌≡◌, ℕ, List, ◌++◌, Result, Ok, Err, IfErr, OnOk, OnErr, IsErrAnd, sym, ap, subst, ◌∙◌, append_assoc}
 use Rattle.gob_num.specs.Spelled.{Appends}
-use Rattle.gob_types.specs.declared.reason.Reason.{Reason}
-use Rattle.gob_stream.specs.declared.fault.WriteFault.{WriteFault}
-use Rattle.gob_stream.specs.declared.fault.WriteFault.TheVariants as fault
-use Rattle.gob_stream.specs.Writing.{IsRefusal}
 
 -- the fault that a `?` returns is the callee's
 pub passed : {A E : Type 0} (r : Result A E) {e : E} (P : E → Type 0) → IsErrAnd r (λ y. y ≡ e) → P e → IfErr r P
@@ -15,13 +11,6 @@ passed (Err y) P is p = subst P (sym is) p
 pub on_any_err : {A E : Type 0} (r : Result A E) {X : Type 0} → X → OnErr r X
 on_any_err (Ok a) x = tt
 on_any_err (Err e) x = x
-
--- what refuses one refuses the other
-pub refusal_weaker : {P Q : Reason → Type 0} (f : WriteFault) → ((r : Reason) → P r → Q r) → IsRefusal P f → IsRefusal Q f
-refusal_weaker (fault.Refused r) weaker p = weaker r p
-refusal_weaker fault.Write weaker p = p
-refusal_weaker fault.Memory weaker p = p
-refusal_weaker fault.Failed weaker p = p
 
 -- bytes behind bytes that were appended
 pub appends_more : {A E : Type 0} (P : List ℕ → Type 0) {Q : List ℕ → Type 0} (r : Result A E) (x : List ℕ) {y : List ℕ} (z a : List ℕ) → y ≡ x ++ a → OnOk r (Appends Q y z)

@@ -4,6 +4,7 @@ pub mod LawsOfStreams
 pub mod WritingLaws
 pub mod WriterSteps
 pub mod FaultSteps
+pub mod DenialLaws
 pub mod StreamSteps
 pub mod RefusalLaws
 pub mod EndLaws

@@ -1,5 +1,5 @@
 -- What becomes of an item where a piece of its value or its description is taken.
-use Rattle.std.proofs.Common.{◌≡◌, ◌≢◌, ℕ, zero, suc, pos, ◌+◌, ◌-◌, ◌≤◌, List, [], ◌∷◌, ◌++◌, length, take, Result, Ok, Err, arith, refl, sym, ap, ◌∙◌, subst, append_assoc, length-append}
+use Rattle.std.proofs.Common.{◌≡◌, ◌≢◌, ℕ, zero, suc, pos, ◌+◌, ◌-◌, ◌≤◌, List, [], ◌∷◌, ◌++◌, length, take, Result, Err, arith, refl, sym, ap, ◌∙◌, subst, append_assoc, length-append}
 use Rattle.std.proofs.lemmas.List.{append-nil}
 use Rattle.gob_types.specs.declared.reason.Reason.{Reason}
 use Rattle.gob_stream.specs.WriterRefusal.{RefusesType, private_type, undefined, bottomless}
@@ -17,18 +17,20 @@ use Rattle.gob_read.specs.First.{IsFirst}
 use Rattle.gob_read.specs.declared.tree_builder.TreeBuilder.{TreeBuilder}
 use Rattle.gob_read.proofs.PublicLaws.{take_whole}
 use Rattle.gob_stream.specs.declared.fault.Fault.{Fault}
-use Rattle.gob_stream.specs.declared.fault.Fault.TheVariants as fault
 use Rattle.gob_stream.specs.declared.stage.Extent.{Extent}
 use Rattle.gob_stream.specs.declared.stage.Stage.{Stage}
 use Rattle.gob_stream.specs.declared.stage.Stepped.{Stepped}
 use Rattle.gob_stream.specs.Bounds.{Bounds}
+use Rattle.gob_stream.specs.declared.denial.Denial.{Denial}
+use Rattle.gob_stream.specs.declared.denial.Denial.TheVariants as denial
+use Rattle.gob_stream.specs.Denial.{IsDenial, fault_at}
 use Rattle.gob_stream.specs.Item.{StreamItem, puts, means_value}
 use Rattle.gob_stream.specs.Body.{value, MayPut}
 use Rattle.gob_stream.specs.Stream.{Counted, counted}
-use Rattle.gob_stream.specs.Refusing.{behind, refuses, RefusesBody, refused_value, refused_type}
+use Rattle.gob_stream.specs.Refusing.{behind, refuses, RefusesBody, refused_value}
 use Rattle.gob_stream.specs.Outcome.{RefusesNext, refused_body}
 use Rattle.gob_stream.specs.Standing.{Standing, StandsIn, in_value, IsCount, IsRest, size}
-use Rattle.gob_stream.specs.ReadParts.{MaybePuts, may_put, may_not_put, no_memory_to_ask, ReadsValueIn, value_goes_on, value_ends, value_refused, no_memory_for_value, StepsOn, goes_on, gives, refuses_it, no_memory}
+use Rattle.gob_stream.specs.ReadParts.{ReadsValueIn, value_goes_on, value_ends, value_refused, no_memory_for_value, StepsOn, goes_on, gives, refuses_it, no_memory}
 
 -- ---- lists
 pub three : (c a y p : List ℕ) → (c ++ (a ++ y)) ++ p ≡ c ++ (a ++ (y ++ p))
@@ -108,34 +110,23 @@ value_steps {stands = stands} {trees = trees} {means = means} {L = L} {T = T} {o
     (refused_shown f.refused)
 value_steps c a y piece k s r p w no_memory_for_value = no_memory
 
--- ---- a value begins
-err_injective : {A E : Type 0} {x y : E} → ◌≡◌ {A = Result A E} (Err x) (Err y) → x ≡ y
-err_injective e = cc
+-- ---- what is denied at the type number
+pub denied_steps : {X O : Type 0} {stands : Standing X} {trees : Standing TreeBuilder} {means : O → Tree → Type 0} {L : Bounds} {T U : Table} {offset m : ℕ} {body rest : Extent} (Refuses : Reason → Type 0) (d : Denial) (c a piece : List ℕ)
+    → IsCount L offset m c body → IsRest body a rest → IsDenial Refuses d → ((r : Reason) → Refuses r → r ≢ reason.Ended)
+    → ((r : Reason) (y z : List ℕ) → Refuses r → y ≡ a ++ z → RefusesBody base_table L T (offset + length c) m y (refuses (offset + length c) (offset + length c + length a) r))
+    → StepsOn {X = X} {O = O} stands trees means L T offset (c ++ a) piece U (Err (fault_at body.begin rest.begin d))
+denied_steps {L = L} {T = T} {offset = offset} {m = m} Refuses (denial.Refused w) c a piece k r q shown refused =
+    let lie = lies k r in
+    let next : RefusesNext base_table L T offset ((c ++ a) ++ piece) (refuses (offset + length c) (offset + length c + length a) w) =
+    refused_body (a ++ piece) (append_assoc c a piece) k.count k.item k.stream (refused w _ _ q (take_over a piece m lie.within)) in
+    rw (k.begin, lie.begins) (refuses_it next (shown w q))
+denied_steps Refuses denial.Memory c a piece k r q shown refused = no_memory
 
-type_shown : {T : Table} {t : TypeId} {r : Reason} → RefusesType T t r → r ≢ reason.Ended
+-- ---- a value begins
+pub type_shown : {T : Table} {t : TypeId} {r : Reason} → RefusesType T t r → r ≢ reason.Ended
 type_shown (private_type p) e = cc
 type_shown (undefined p q n l) e = cc
 type_shown (bottomless p q r n l) e = cc
-
-pub put_is : {T : Table} {t : TypeId} {place seen : ℕ} {r : Result (Unit {0}) Fault} → MaybePuts T t place seen r → r ≡ Ok tt → MayPut T t
-put_is (may_put p) e = p
-put_is (may_not_put r) e = cc
-put_is no_memory_to_ask e = cc
-
-pub put_refused : {X O : Type 0} {stands : Standing X} {trees : Standing TreeBuilder} {means : O → Tree → Type 0} {L : Bounds} {T : Table} {offset m : ℕ} {t : TypeId} {body rest : Extent} {r : Result (Unit {0}) Fault} {f : Fault} (c a piece : List ℕ)
-    → IsCount L offset m c body → IsSigned (pos t.0) a → IsRest body a rest → MaybePuts T t body.begin rest.begin r → r ≡ Err f → StepsOn {X = X} {O = O} stands trees means L T offset (c ++ a) piece T (Err f)
-put_refused c a piece k s r (may_put p) e = cc
-put_refused {X = X} {O = O} {stands = stands} {trees = trees} {means = means} {L = L} {T = T} {offset = offset} {m = m} {body = body} {rest = rest} c a piece k s r (may_not_put {r = w} q) e =
-    let lie = lies k r in
-    let there = take_over a piece m lie.within in
-    let refused : RefusesBody base_table L T (offset + length c) m (take m (a ++ piece)) (refuses (offset + length c) (offset + length c + length a) w) = refused_type (take (m - length a) piece) there s q in
-    let next : RefusesNext base_table L T offset ((c ++ a) ++ piece) (refuses (offset + length c) (offset + length c + length a) w) = refused_body (a ++ piece) (append_assoc c a piece) k.count k.item k.stream refused in
-    let placed = subst (λ n. RefusesNext base_table L T offset ((c ++ a) ++ piece) (refuses n (offset + length c + length a) w)) (sym k.begin) next in
-    let seen = subst (λ n. RefusesNext base_table L T offset ((c ++ a) ++ piece) (refuses body.begin n w)) (sym lie.begins) placed in
-    let same : fault.Refused (refuses body.begin rest.begin w) ≡ _ = err_injective e in
-    subst (λ f. StepsOn {X = X} {O = O} stands trees means L T offset (c ++ a) piece T (Err f)) same (refuses_it seen (type_shown q))
-put_refused {X = X} {O = O} {stands = stands} {trees = trees} {means = means} {L = L} {T = T} {offset = offset} c a piece k s r no_memory_to_ask e =
-    subst (λ f. StepsOn {X = X} {O = O} stands trees means L T offset (c ++ a) piece T (Err f)) (err_injective e) no_memory
 
 pub value_begins : {X O : Type 0} {stands : Standing X} {trees : Standing TreeBuilder} {means : O → Tree → Type 0} {L : Bounds} {T : Table} {offset m : ℕ} {t : TypeId} {body rest : Extent} {result : Result (Stepped X O) Fault} (c a piece : List ℕ)
     → IsCount L offset m c body → IsSigned (pos t.0) a → IsRest body a rest → MayPut T t → ReadsValueIn stands means T t L.depth rest [] piece result → StepsOn stands trees means L T offset (c ++ a) piece T result

@@ -1,5 +1,5 @@
 -- What a writer has written after a call.
-use Rattle.std.proofs.Common.{◌≡◌, ℕ, ◌+◌, List, [], ◌∷◌, ◌++◌, length, true, false, Option, Result, Ok, Err, OnOk, OnErr, IfErr, refl, sym, ap, subst, ◌∙◌, arith, append_assoc, length-append}
+use Rattle.std.proofs.Common.{◌≡◌, ℕ, ◌+◌, List, [], ◌∷◌, ◌++◌, length, true, false, Option, Result, Ok, Err, OnOk, OnErr, IfErr, sym, ap, subst, ◌∙◌, arith, append_assoc, length-append}
 use Rattle.std.specs.Io.KnownBytes.{Appends}
 use Rattle.std.proofs.KnownBytes.{Keeps-refl, Appends-trans}
 use Rattle.gob_types.specs.Table.{Table}
@@ -8,45 +8,28 @@ use Rattle.gob_types.specs.Defined.{types}
 use Rattle.gob_stream.specs.declared.fault.WriteFault.{WriteFault}
 use Rattle.gob_stream.specs.declared.fault.WriteFault.TheVariants as fault
 use Rattle.gob_stream.specs.declared.writer.StreamWriter.{StreamWriter}
+use Rattle.gob_stream.specs.declared.denial.Denial.{Denial}
+use Rattle.gob_stream.specs.declared.denial.Denial.TheVariants as denial
 use Rattle.gob_stream.specs.Bounds.{Bounds, within_trees}
+use Rattle.gob_stream.specs.Denial.{IsDenial, write_fault}
 use Rattle.gob_stream.specs.Laws.{AtLeast}
 use Rattle.gob_stream.specs.Item.{StreamItem}
 use Rattle.gob_stream.specs.Stream.{Stream, Counted}
 use Rattle.gob_stream.specs.WriterRefusal.{RefusesItem}
-use Rattle.gob_types.specs.declared.id.TypeId.{TypeId}
-use Rattle.gob_types.specs.declared.table.DefineFault.{DefineFault}
-use Rattle.gob_types.specs.declared.table.DefineFault.TheVariants as defining
-use Rattle.gob_stream.specs.Writing.{HasWritten, WritesItem, Leaves, IsUnchanged, IsRefusal, SentFront, CountsFault, definition_fault}
+use Rattle.gob_stream.specs.Writing.{HasWritten, WritesItem, Leaves, IsUnchanged, SentFront}
 use Rattle.gob_stream.proofs.StreamLaws.{one_more}
 use Rattle.gob_stream.proofs.LawsOfStreams.{wider_counted}
 
--- a fault before any byte went out is a refusal of the item, or want of memory
-pub refused_writes : (L : Bounds) (w w' : StreamWriter) (items : List StreamItem) (bytes : List ℕ) (T : Table) (i : StreamItem) (out : Option (List ℕ)) (f : WriteFault)
-    → HasWritten w items bytes T → IsRefusal (RefusesItem base_table L (types w.types) w.offset i) f → WritesItem L w w' items bytes T i out out (Err f)
-refused_writes L w w' items bytes T i out (fault.Refused r) written refused = rw (← written.table, ← written.offset) refused
-refused_writes L w w' items bytes T i out fault.Write written refused = absurd refused
-refused_writes L w w' items bytes T i out fault.Memory written refused = tt
-refused_writes L w w' items bytes T i out fault.Failed written refused = absurd refused
+-- what is denied before any byte went out is a fault of the item
+pub denied_writes : (L : Bounds) (w w' : StreamWriter) (items : List StreamItem) (bytes : List ℕ) (T : Table) (i : StreamItem) (out : Option (List ℕ)) (d : Denial)
+    → HasWritten w items bytes T → IsDenial (RefusesItem base_table L (types w.types) w.offset i) d → WritesItem L w w' items bytes T i out out (Err (write_fault d))
+denied_writes L w w' items bytes T i out (denial.Refused r) written refused = rw (← written.table, ← written.offset) refused
+denied_writes L w w' items bytes T i out denial.Memory written refused = tt
 
 -- and leaves all as it was
-pub refused_leaves : (w w' : StreamWriter) (out : Option (List ℕ)) (f : WriteFault) → IsUnchanged w w' → IsRefusal (λ _. Unit {0}) f → Leaves w w' out out (Err f)
-refused_leaves w w' out (fault.Refused r) same early = (same, Keeps-refl out)
-refused_leaves w w' out fault.Write same early = absurd early
-refused_leaves w w' out fault.Memory same early = (same, Keeps-refl out)
-refused_leaves w w' out fault.Failed same early = absurd early
-
-pub definition_early : (t : TypeId) (f : DefineFault) → IsRefusal (λ _. Unit {0}) (definition_fault t f)
-definition_early t defining.ReservedType = tt
-definition_early t defining.DefinedTwice = tt
-definition_early t defining.TooManyTypes = tt
-definition_early t defining.Memory = tt
-
--- and no write was made
-pub early_counts : (count : ℕ) (f : WriteFault) → IsRefusal (λ _. Unit {0}) f → CountsFault count count f
-early_counts count (fault.Refused r) early = refl
-early_counts count fault.Write early = absurd early
-early_counts count fault.Memory early = refl
-early_counts count fault.Failed early = absurd early
+pub denied_leaves : (w w' : StreamWriter) (out : Option (List ℕ)) (d : Denial) → IsUnchanged w w' → Leaves w w' out out (Err (write_fault d))
+denied_leaves w w' out (denial.Refused r) same = (same, Keeps-refl out)
+denied_leaves w w' out denial.Memory same = (same, Keeps-refl out)
 
 -- what trees may be written under is no more than the limits
 pub trees_within : (L : Bounds) → AtLeast (within_trees L) L

@@ -1,97 +1,25 @@
 -- What the writing calls rest on.
-use Rattle.std.proofs.Common.{◌≡◌, ◌≢◌, ℕ, ℤ, negsuc, ◌+◌, ◌^◌, ◌<◌, ◌≤◌, ◌⊎◌, inl, inr, true, false, cond, List, [], ◌∷◌, ◌++◌, length, Option, Some, None, refl, sym, ap, subst, ◌∙◌, arith, append_assoc, append-nil, length-append}
+use Rattle.std.proofs.Common.{◌≡◌, ◌≢◌, ℕ, ℤ, negsuc, ◌+◌, ◌^◌, ◌<◌, ◌≤◌, ◌⊎◌, inl, inr, true, false, cond, List, [], ◌∷◌, ◌++◌, Some, refl, sym, ap, subst, ◌∙◌, arith, append_assoc, append-nil}
 use Rattle.std.specs.Prelude.{◌==◌}
 use Rattle.std.proofs.lemmas.Bool.Decides.{eqb_tells}
 use Rattle.gob_num.specs.Unsigned.{IsUnsigned, short, long}
 use Rattle.gob_num.specs.Signed.{IsSigned}
 use Rattle.gob_types.specs.declared.id.TypeId.{TypeId}
 use Rattle.gob_types.specs.declared.kind.Shape.{Shape}
-use Rattle.gob_types.specs.declared.table.DefineFault.{DefineFault}
-use Rattle.gob_types.specs.declared.table.DefineFault.TheVariants as defining
-use Rattle.gob_types.specs.declared.readiness.NotReady.{NotReady}
-use Rattle.gob_types.specs.declared.readiness.NotReady.TheVariants as unready
 use Rattle.gob_types.specs.Table.{Table, shape_of}
-use Rattle.gob_types.specs.Base.{base_table, wire_type, gob_encoder_type}
-use Rattle.gob_types.specs.Defined.{Defined, types, IsTable, Admits}
-use Rattle.gob_types.specs.Refused.{RefusesToDefine}
+use Rattle.gob_types.specs.Base.{base_table, wire_type}
+use Rattle.gob_types.specs.Defined.{IsTable}
 use Rattle.gob_types.specs.Ready.{IsReady}
-use Rattle.gob_types.specs.Readiness.{IsNotReady}
 use Rattle.gob_types.proofs.PublicLaws.{ready_defined, shape_of-table}
-use Rattle.gob_value.specs.declared.fault.SpellFault.{SpellFault}
-use Rattle.gob_value.specs.declared.fault.SpellFault.TheVariants as spelling
-use Rattle.gob_value.specs.declared.fault.ShapeFault.{ShapeFault}
-use Rattle.gob_value.specs.declared.fault.ShapeFault.TheVariants as describing
 use Rattle.gob_value.specs.Tree.{Tree, depth}
 use Rattle.gob_value.specs.Spelling.{Spells}
-use Rattle.gob_value.specs.Fits.{Fits}
-use Rattle.gob_value.specs.Faults.{IsSpellFault}
-use Rattle.gob_value.specs.ShapeFaults.{IsShapeFault}
-use Rattle.gob_value.specs.Description.{Describes, Misdescribes}
+use Rattle.gob_value.specs.Description.{Describes}
 use Rattle.gob_value.specs.Top.{SpellsTop, at_once, tagged}
 use Rattle.gob_stream.specs.Bounds.{Bounds}
 use Rattle.gob_stream.specs.Item.{StreamItem, defines, puts}
 use Rattle.gob_stream.specs.Body.{Body, definition, value, MayDefine, MayPut}
 use Rattle.gob_stream.specs.Stream.{Counted, counted}
-use Rattle.gob_stream.specs.WriterRefusal.{reserved, defined_twice, too_many, RefusesType, undefined, bottomless, RefusesValue, too_deep, does_not_fit, RefusesItem, refused_id, refused_description, described_wrongly, refused_value}
-use Rattle.gob_stream.specs.Writing.{IsRefusal, IsWholeItem, IsHead, head_of_struct, head_with_tag, spelling_fault, type_fault, definition_fault, description_fault}
-use Rattle.gob_stream.proofs.FaultSteps.{refusal_weaker}
-
--- ---- which ids can be defined
-
-pub may_define : (L : Bounds) (d : Defined) {t : TypeId} → d.most ≡ L.types → Admits d t → MayDefine base_table L (types d) t
-may_define L d most admits = record { own = admits.own; new = admits.new; room = let room = admits.room in omega arith }
-
--- a table is no shorter than the base table
-base_within : {T : Table} → IsTable T → 17 ≤ length T
-base_within table = omega (arith, ap length table.behind_base, length-append base_table table.definitions)
-
-pub id_refusal : (L : Bounds) (d : Defined) (t : TypeId) (v : Tree) (o : ℕ) (f : DefineFault) → IsTable (types d) → d.most ≡ L.types → RefusesToDefine d t f
-    → IsRefusal (RefusesItem base_table L (types d) o (defines t v)) (definition_fault t f)
-id_refusal L d t v o defining.ReservedType table most refused = refused_id (reserved refused)
-id_refusal L d t v o defining.DefinedTwice table most refused =
-    refused_id (defined_twice refused.0 (λ none. let no : None ≡ Some refused.1.0 = sym none ∙ refused.1.1 in cc))
-id_refusal L d t v o defining.TooManyTypes table most refused =
-    refused_id (too_many refused.0 refused.1 (λ room. let full = refused.2 in let some = base_within table in omega arith))
-id_refusal L d t v o defining.Memory table most refused = tt
-
--- ---- which values and descriptions are written
-
-value_refusal : (L : Bounds) (T : Table) (t : TypeId) (v : Tree) (f : SpellFault) → IsSpellFault T t L.depth v f → IsRefusal (RefusesValue L T t v) (spelling_fault f)
-value_refusal L T t v spelling.TooDeep fault = too_deep fault
-value_refusal L T t v spelling.DoesNotFit fault = does_not_fit fault.0 fault.1
-value_refusal L T t v spelling.Memory fault = tt
-
-shape_refusal : (t : TypeId) (v : Tree) (f : ShapeFault) → IsShapeFault t v f → IsRefusal (Misdescribes t v) (description_fault f)
-shape_refusal t v describing.KindCount fault = fault
-shape_refusal t v describing.WrongId fault = fault
-shape_refusal t v describing.BadReference fault = fault
-shape_refusal t v describing.BadLength fault = fault
-shape_refusal t v describing.Memory fault = tt
-
-pub put_refusal : (L : Bounds) {T : Table} (o : ℕ) {t : TypeId} (v : Tree) (f : SpellFault) → MayPut T t → IsSpellFault T t L.depth v f
-    → IsRefusal (RefusesItem base_table L T o (puts t v)) (spelling_fault f)
-put_refusal L o v f may fault = refusal_weaker (spelling_fault f) (λ r. refused_value may) (value_refusal L _ _ v f fault)
-
-pub define_refusal : (L : Bounds) {T : Table} (o : ℕ) {t : TypeId} (v : Tree) (f : SpellFault) → MayDefine base_table L T t → IsSpellFault T wire_type L.depth v f
-    → IsRefusal (RefusesItem base_table L T o (defines t v)) (spelling_fault f)
-define_refusal L o v f may fault = refusal_weaker (spelling_fault f) (λ r. refused_description may) (value_refusal L _ _ v f fault)
-
-pub description_refusal : (L : Bounds) {T : Table} (o : ℕ) {t : TypeId} (v : Tree) (f : ShapeFault) → MayDefine base_table L T t → depth v ≤ L.depth → Fits T wire_type v → IsShapeFault t v f
-    → IsRefusal (RefusesItem base_table L T o (defines t v)) (description_fault f)
-description_refusal L o v f may within fits fault = refusal_weaker (description_fault f) (λ r. described_wrongly may within fits) (shape_refusal _ v f fault)
-
--- ---- which types can be put
-
-not_there : (o : Option Shape) → ¬ ((s : Shape) × (o ≡ Some s)) → o ≡ None
-not_there None never = refl
-not_there (Some s) never = absurd (never (s, refl))
-
-pub type_refusal : (T : Table) (t : TypeId) (f : NotReady) → t ≢ gob_encoder_type → IsNotReady T t f → IsRefusal (RefusesType T t) (type_fault f)
-type_refusal T t (unready.UndefinedType u) public unready =
-    undefined public unready.has.0 (λ defined. let no : None ≡ Some defined.0 = sym unready.has.1 ∙ defined.1 in cc) (λ w reached bad. unready.least w (reached, not_there (shape_of T w) bad))
-type_refusal T t (unready.Bottomless u) public unready =
-    bottomless public unready.0 unready.1.has.0 unready.1.has.1 (λ w reached bad. unready.1.least w (reached, bad))
-type_refusal T t unready.Memory public unready = tt
+use Rattle.gob_stream.specs.Writing.{IsWholeItem, IsHead, head_of_struct, head_with_tag}
 
 -- ---- the ids of defined types are small
 

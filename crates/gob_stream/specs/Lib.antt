@@ -3,6 +3,7 @@ pub mod Item
 pub mod Body
 pub mod Stream
 pub mod Refusing
+pub mod Denial
 pub mod Outcome
 pub mod RefusalText
 pub mod WriterRefusal

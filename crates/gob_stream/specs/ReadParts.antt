@@ -5,10 +5,6 @@ use Rattle.gob_types.specs.declared.id.TypeId.{TypeId}
 use Rattle.gob_types.specs.declared.kind.Shape.{Shape}
 use Rattle.gob_types.specs.declared.reason.Reason.{Reason}
 use Rattle.gob_types.specs.declared.reason.Reason.TheVariants as reason
-use Rattle.gob_types.specs.declared.table.DefineFault.{DefineFault}
-use Rattle.gob_types.specs.declared.table.DefineFault.TheVariants as define
-use Rattle.gob_types.specs.declared.readiness.NotReady.{NotReady}
-use Rattle.gob_types.specs.declared.readiness.NotReady.TheVariants as unready
 use Rattle.gob_types.specs.Table.{Table}
 use Rattle.gob_types.specs.Base.{base_table, wire_type}
 use Rattle.gob_types.specs.Defined.{Defined, types}
@@ -16,8 +12,6 @@ use Rattle.gob_value.specs.Tree.{Tree}
 use Rattle.gob_value.specs.View.{view}
 use Rattle.gob_value.specs.Description.{Describes, Misdescribes}
 use Rattle.gob_value.specs.declared.value.Value.{Value}
-use Rattle.gob_value.specs.declared.fault.ShapeFault.{ShapeFault}
-use Rattle.gob_value.specs.declared.fault.ShapeFault.TheVariants as shape
 use Rattle.gob_read.specs.Refusal as body
 use Rattle.gob_read.specs.First.{IsFirst}
 use Rattle.gob_read.specs.Reader.{ReaderStands, IsMade}
@@ -39,8 +33,6 @@ use Rattle.gob_stream.specs.SessionState.{SessionState}
 use Rattle.gob_stream.specs.declared.session.Step.{Step}
 use Rattle.gob_stream.specs.Bounds.{Bounds, no_deeper}
 use Rattle.gob_stream.specs.Item.{StreamItem, ItemMeans}
-use Rattle.gob_stream.specs.Body.{MayDefine, MayPut}
-use Rattle.gob_stream.specs.WriterRefusal.{RefusesId, RefusesType}
 use Rattle.gob_stream.specs.Stream.{Counted}
 use Rattle.gob_stream.specs.Refusing.{RefusesCount, behind, refuses}
 use Rattle.gob_stream.specs.Outcome.{RefusesNext}
@@ -128,19 +120,11 @@ pub record HasWireType (T : Table) : Type 0 where
   pub more : Table
   pub grown : T ≡ base_table ++ more
 
--- a fault of the description that this part of the stream is
-abbrev pub shape_fault : Extent → ShapeFault → Fault
-shape_fault rest shape.KindCount = fault.Refused (refuses rest.begin rest.end reason.KindCount)
-shape_fault rest shape.WrongId = fault.Refused (refuses rest.begin rest.end reason.WrongId)
-shape_fault rest shape.BadReference = fault.Refused (refuses rest.begin rest.end reason.BadReference)
-shape_fault rest shape.BadLength = fault.Refused (refuses rest.begin rest.end reason.BadLength)
-shape_fault rest shape.Memory = fault.Memory
-
--- what defining a type by its description answers
-pub data Defines (rest : Extent) (id : TypeId) (v : Tree) (T : Table) : Table → Result (Unit {0}) Fault → Type 0 where
-  defined : {s : Shape} {U : Table} → Describes id v s → U ≡ T ++ (id, s) ∷ [] → Defines rest id v T U (Ok tt)
-  described_wrongly : {r : Reason} {U : Table} → Misdescribes id v r → U ≡ T → Defines rest id v T U (Err (fault.Refused (refuses rest.begin rest.end r)))
-  no_memory_to_define : {U : Table} → U ≡ T → Defines rest id v T U (Err fault.Memory)
+-- behind the types of T stands the one that the description gives
+pub record Defines (id : TypeId) (v : Tree) (T U : Table) : Type 0 where
+  pub shape : Shape
+  pub describes : Describes id v shape
+  pub behind : U ≡ T ++ (id, shape) ∷ []
 
 -- what became of a piece behind the bytes z of an item that begins at the offset, where the types were those of T; the
 -- second table is the one behind it
@@ -181,17 +165,6 @@ bytes_wanted (stage.Value t rest reader) taken = rest.end - taken
 bytes_wanted (stage.Description id rest reader) taken = rest.end - taken
 bytes_wanted _ taken = 1
 
--- what asking for leave to define answers
-pub data MaybeDefines (L : Bounds) (T : Table) (id : TypeId) (place seen : ℕ) : Result (Unit {0}) Refusal → Type 0 where
-  may_define : MayDefine base_table L T id → MaybeDefines L T id place seen (Ok tt)
-  may_not : {r : Reason} → RefusesId base_table L T id r → MaybeDefines L T id place seen (Err (refuses place seen r))
-
--- what asking for leave to give a value answers
-pub data MaybePuts (T : Table) (t : TypeId) (place seen : ℕ) : Result (Unit {0}) Fault → Type 0 where
-  may_put : MayPut T t → MaybePuts T t place seen (Ok tt)
-  may_not_put : {r : Reason} → RefusesType T t r → MaybePuts T t place seen (Err (fault.Refused (refuses place seen r)))
-  no_memory_to_ask : MaybePuts T t place seen (Err fault.Memory)
-
 -- the front of the piece was taken, one byte at least, and an item is whole with it or not
 pub data AdvancesOver {X O : Type 0} (stands : Standing X) (trees : Standing TreeBuilder) (means : O → Tree → Type 0) (most : ℕ) (s' : SessionState X O) (items : List StreamItem) (bytes piece : List ℕ) : ℕ → Option (declared.Item O) → Type 0 where
   over_some : {used : ℕ} → 0 < used → used ≤ length piece → StandsAfter stands trees most s' items (bytes ++ take used piece)
@@ -210,16 +183,3 @@ Advances stands trees means most s s' items bytes piece (Err _) = ⊥
 pub data GoesOnIn {X O : Type 0} (body : Extent) (taken : ℕ) (number : List ℕ) (used : ℕ) : Result (Stepped X O) Fault → Type 0 where
   more_of_it : taken < body.end → GoesOnIn body taken number used (Ok (record { used = used; stage = stage.TypeNumber body number; item = None }))
   ends_there : taken ≡ body.end → GoesOnIn body taken number used (Err (fault.Refused (refuses body.end body.end reason.Short)))
-
--- a table's reason to refuse the definition of an id
-abbrev pub define_reason : TypeId → DefineFault → Reason
-define_reason id define.ReservedType = reason.ReservedType id
-define_reason id define.DefinedTwice = reason.DefinedTwice id
-define_reason id define.TooManyTypes = reason.TooManyTypes
-define_reason id define.Memory = reason.TooManyTypes
-
--- why a type isn't ready, as a fault of the type number at the place
-abbrev pub ready_fault : (place seen : ℕ) → NotReady → Fault
-ready_fault place seen (unready.UndefinedType u) = fault.Refused (refuses place seen (reason.UndefinedType u))
-ready_fault place seen (unready.Bottomless u) = fault.Refused (refuses place seen (reason.Bottomless u))
-ready_fault place seen unready.Memory = fault.Memory

@@ -7,21 +7,12 @@ use Rattle.gob_types.specs.Defined.{types}
 use Rattle.gob_num.specs.Unsigned.{IsUnsigned}
 use Rattle.gob_num.specs.Signed.{IsSigned}
 use Rattle.gob_types.specs.declared.id.TypeId.{TypeId}
-use Rattle.gob_types.specs.declared.table.DefineFault.{DefineFault}
-use Rattle.gob_types.specs.declared.table.DefineFault.TheVariants as defining
-use Rattle.gob_types.specs.declared.readiness.NotReady.{NotReady}
-use Rattle.gob_types.specs.declared.readiness.NotReady.TheVariants as unready
 use Rattle.gob_types.specs.declared.reason.Reason.{Reason}
-use Rattle.gob_types.specs.declared.reason.Reason.TheVariants as reason
 use Rattle.gob_types.specs.declared.kind.Shape.{Shape}
 use Rattle.gob_types.specs.Ready.{IsReady}
 use Rattle.gob_value.specs.Tree.{Tree, depth}
 use Rattle.gob_value.specs.Spelling.{Spells}
 use Rattle.gob_value.specs.Top.{IsStruct}
-use Rattle.gob_value.specs.declared.fault.SpellFault.{SpellFault}
-use Rattle.gob_value.specs.declared.fault.SpellFault.TheVariants as spelling
-use Rattle.gob_value.specs.declared.fault.ShapeFault.{ShapeFault}
-use Rattle.gob_value.specs.declared.fault.ShapeFault.TheVariants as describing
 use Rattle.gob_stream.specs.declared.fault.WriteFault.{WriteFault}
 use Rattle.gob_stream.specs.declared.fault.WriteFault.TheVariants as fault
 use Rattle.gob_stream.specs.declared.fault.WriteStop.{WriteStop}
@@ -161,40 +152,6 @@ IsSpelledAs L T t spelling v = IsReady T t → Spells T t v spelling × (depth v
 pub record IsSpelling (L : Bounds) (T : Table) (t : TypeId) (spelling : List ℕ) : Type 0 where
   pub value : Tree
   pub spelled : IsSpelledAs L T t spelling value
-
--- what stops an item before any of its bytes goes out: such a reason, or no memory
-abbrev pub IsRefusal : (Reason → Type 0) → WriteFault → Type 0
-IsRefusal Refuses (fault.Refused r) = Refuses r
-IsRefusal Refuses fault.Write = ⊥
-IsRefusal Refuses fault.Memory = Unit {0}
-IsRefusal Refuses fault.Failed = ⊥
-
--- the fault of a writer whose value isn't spelled
-abbrev pub spelling_fault : SpellFault → WriteFault
-spelling_fault spelling.TooDeep = fault.Refused reason.TooDeep
-spelling_fault spelling.DoesNotFit = fault.Refused reason.DoesNotFit
-spelling_fault spelling.Memory = fault.Memory
-
--- of one whose value's type isn't ready
-abbrev pub type_fault : NotReady → WriteFault
-type_fault (unready.UndefinedType t) = fault.Refused (reason.UndefinedType t)
-type_fault (unready.Bottomless t) = fault.Refused (reason.Bottomless t)
-type_fault unready.Memory = fault.Memory
-
--- of one whose table takes no definition of this id
-abbrev pub definition_fault : TypeId → DefineFault → WriteFault
-definition_fault t defining.ReservedType = fault.Refused (reason.ReservedType t)
-definition_fault t defining.DefinedTwice = fault.Refused (reason.DefinedTwice t)
-definition_fault t defining.TooManyTypes = fault.Refused reason.TooManyTypes
-definition_fault t defining.Memory = fault.Memory
-
--- of one whose description gives no shape
-abbrev pub description_fault : ShapeFault → WriteFault
-description_fault describing.KindCount = fault.Refused reason.KindCount
-description_fault describing.WrongId = fault.Refused reason.WrongId
-description_fault describing.BadReference = fault.Refused reason.BadReference
-description_fault describing.BadLength = fault.Refused reason.BadLength
-description_fault describing.Memory = fault.Memory
 
 -- the items before this one went out whole, and nothing else
 pub record WroteBefore (L : Bounds) (items : List StreamItem) (n : ℕ) (old new : Option (List ℕ)) : Type 0 where

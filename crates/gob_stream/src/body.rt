@@ -7,22 +7,23 @@ ghost use Rattle.gob_types.specs.Defined.{types, Admits};
 ghost use Rattle.gob_types.specs.Definable.{IsDefinable};
 ghost use Rattle.gob_value.specs.View.{view};
 ghost use Rattle.gob_value.specs.Fits.{Fits};
-ghost use Rattle.gob_value.specs.Description.{Describes};
+ghost use Rattle.gob_value.specs.Description.{Misdescribes};
 ghost use Rattle.gob_read.specs.Reader.{ReaderStands};
 ghost use Rattle.gob_stream.specs.Standing.{size};
-ghost use Rattle.gob_stream.specs.ReadParts.{IsBodyUnderWay, ReadsValueIn, ReadsDescription, StopsWithin, shape_fault};
-ghost use Rattle.gob_stream.specs.ReadParts.{fault_behind};
-ghost use Rattle.gob_stream.specs.ReadParts.{Defines, HasWireType};
+ghost use Rattle.gob_stream.specs.ReadParts.{IsBodyUnderWay, ReadsValueIn, ReadsDescription, StopsWithin};
+ghost use Rattle.gob_stream.specs.ReadParts.{fault_behind, Defines, HasWireType};
+ghost use Rattle.gob_stream.specs.Denial.{IsDenial};
 ghost use Rattle.gob_read.specs.UnderWay.{under_way};
 
 use crate::count::refusal;
+use crate::denial::Denial;
 use crate::fault::Fault;
 use crate::item::Item;
 use crate::stage::{Extent, Stage, Stepped};
 use gob_num::Number;
 use gob_read::{BodyReader, Builder, Progress, Stop, TreeBuilder};
-use gob_types::{Reason, Table, TypeId};
-use gob_value::{ShapeFault, Value, shape_from};
+use gob_types::{Table, TypeId};
+use gob_value::{Value, shape_from};
 use std::alloc::Global;
 
 /// Takes bytes of a value of the type.
@@ -80,13 +81,13 @@ pub(crate) fn take_description<B: Builder>(
             stage: Stage::Description { id, rest, reader },
             item: None,
         }),
-        Ok(Progress::Done { out, used }) => match define(alloc, table, id, rest, &out) {
+        Ok(Progress::Done { out, used }) => match define(alloc, table, id, &out) {
             Ok(()) => Ok(Stepped {
                 used,
                 stage: next_count(rest),
                 item: Some(Item::Define { id, described: out }),
             }),
-            Err(fault) => Err(fault),
+            Err(denial) => Err(denial.at(rest.begin, rest.end)),
         },
         Err(stop) => Err(fault_of_stop(rest.begin, stop)),
     }
@@ -103,42 +104,20 @@ fn next_count<B: Builder>(rest: Extent) -> Stage<B>
 }
 
 // Defines the type as it is described.
-fn define(
-    alloc: Global,
-    table: &mut Table,
-    id: TypeId,
-    rest: Extent,
-    described: &Value,
-) -> Result<(), Fault>
+fn define(alloc: Global, table: &mut Table, id: TypeId, described: &Value) -> Result<(), Denial>
     requires fits { Fits base_table wire_type (view described.now) }
     requires admitted { Admits table.old id }
-    ensures defines { Defines rest id (view described.now) (types table.old) (types table.new) result }
+    ensures ok { OnOk result (Defines id (view described.now) (types table.old) (types table.new)) }
+    ensures err { IfErr result (IsDenial (Misdescribes id (view described.now))) }
     ensures most { table.new.most ≡ table.old.most }
     ensures unchanged { OnErr result (table.new ≡ table.old) }
 {
-    let shape = match shape_from(alloc, id, described) {
-        Ok(shape) => shape,
-        Err(fault) => return Err(fault_of(rest, fault)),
-    };
+    let shape = shape_from(alloc, id, described)?;
     match table.define(alloc, id, shape) {
         Ok(()) => Ok(()),
         // the table admits the type, so nothing but memory can be wanting
-        Err(_) => Err(Fault::Memory),
+        Err(_) => Err(Denial::Memory),
     }
-}
-
-// Why the description that is the rest of the body describes no type.
-fn fault_of(rest: Extent, fault: ShapeFault) -> Fault
-    ensures { result ≡ shape_fault rest fault }
-{
-    let reason = match fault {
-        ShapeFault::KindCount => Reason::KindCount,
-        ShapeFault::WrongId => Reason::WrongId,
-        ShapeFault::BadReference => Reason::BadReference,
-        ShapeFault::BadLength => Reason::BadLength,
-        ShapeFault::Memory => return Fault::Memory,
-    };
-    Fault::Refused(refusal(rest.begin, rest.end, reason))
 }
 
 // What stopped the reader of what begins at this offset of the stream.

@@ -2,6 +2,7 @@
 
 use gob_num::Memory;
 use gob_types::Reason;
+use std::alloc::AllocError;
 use std::fmt;
 
 /// Where and why bytes are no stream. Offsets are those of the stream, in bytes from 0.
@@ -94,6 +95,17 @@ impl From<Memory> for WriteFault {
     ghost from_gives = { λ _ fault. fault ≡ Memory };
 
     fn from(_: Memory) -> WriteFault {
+        WriteFault::Memory
+    }
+}
+
+impl From<AllocError> for WriteFault {
+    ghost use Rattle.std.specs.Prelude.{◌≡◌};
+    ghost use Rattle.gob_stream.specs.declared.fault.WriteFault.TheVariants.{Memory};
+
+    ghost from_gives = { λ _ fault. fault ≡ Memory };
+
+    fn from(_: AllocError) -> WriteFault {
         WriteFault::Memory
     }
 }

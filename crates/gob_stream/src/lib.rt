@@ -26,6 +26,7 @@
 
 mod body;
 mod count;
+mod denial;
 mod fault;
 mod input;
 mod item;

@@ -6,98 +6,23 @@ ghost use Rattle.gob_num.specs.Unsigned.{IsUnsigned};
 ghost use Rattle.gob_num.specs.Spelled.{Appends};
 ghost use Rattle.gob_types.specs.Base.{base_table};
 ghost use Rattle.gob_types.specs.Definable.{IsDefinable};
-ghost use Rattle.gob_types.specs.Defined.{types, IsTable};
+ghost use Rattle.gob_types.specs.Defined.{types};
 ghost use Rattle.gob_value.specs.Tree.{Tree};
 ghost use Rattle.gob_value.specs.View.{view};
 ghost use Rattle.gob_stream.specs.Bounds.{Bounds, greatest_depth};
 ghost use Rattle.gob_stream.specs.Item.{defines, puts};
-ghost use Rattle.gob_stream.specs.Body.{Body, MayPut};
+ghost use Rattle.gob_stream.specs.Body.{Body};
+ghost use Rattle.gob_stream.specs.Denial.{IsDenial};
 ghost use Rattle.gob_stream.specs.WriterRefusal.{RefusesItem, RefusesType, WriterRefusesBody};
-ghost use Rattle.gob_stream.specs.Writing.{IsRefusal, IsWholeItem, FitsLimits, definition_fault, HasStructs, IsHead};
-ghost use Rattle.gob_stream.specs.Writing.{IsSpelledAs};
+ghost use Rattle.gob_stream.specs.Writing.{IsWholeItem, FitsLimits, HasStructs, IsHead, IsSpelledAs};
 
-use crate::fault::WriteFault;
+use crate::denial::{Denial, judge_id, judge_type};
 use crate::limits::Limits;
+use crate::type_number::WIRE_TYPE;
 use gob_num::{Memory, write_int, write_uint};
-use gob_types::{DefineFault, Kind, NotReady, Reason, Shape, Shapes, Table, TypeId};
-use gob_value::{ShapeFault, SpellFault, Value, shape_from, spell};
-use std::alloc::{AllocError, Global};
-
-impl From<SpellFault> for WriteFault {
-    ghost use Rattle.std.specs.Prelude.{◌≡◌};
-    ghost use Rattle.gob_stream.specs.Writing.{spelling_fault};
-
-    ghost from_gives = { λ given fault. fault ≡ spelling_fault given };
-
-    fn from(fault: SpellFault) -> WriteFault {
-        match fault {
-            SpellFault::TooDeep => WriteFault::Refused(Reason::TooDeep),
-            SpellFault::DoesNotFit => WriteFault::Refused(Reason::DoesNotFit),
-            SpellFault::Memory => WriteFault::Memory,
-        }
-    }
-}
-
-impl From<ShapeFault> for WriteFault {
-    ghost use Rattle.std.specs.Prelude.{◌≡◌};
-    ghost use Rattle.gob_stream.specs.Writing.{description_fault};
-
-    ghost from_gives = { λ given fault. fault ≡ description_fault given };
-
-    fn from(fault: ShapeFault) -> WriteFault {
-        match fault {
-            ShapeFault::KindCount => WriteFault::Refused(Reason::KindCount),
-            ShapeFault::WrongId => WriteFault::Refused(Reason::WrongId),
-            ShapeFault::BadReference => WriteFault::Refused(Reason::BadReference),
-            ShapeFault::BadLength => WriteFault::Refused(Reason::BadLength),
-            ShapeFault::Memory => WriteFault::Memory,
-        }
-    }
-}
-
-impl From<NotReady> for WriteFault {
-    ghost use Rattle.std.specs.Prelude.{◌≡◌};
-    ghost use Rattle.gob_stream.specs.Writing.{type_fault};
-
-    ghost from_gives = { λ given fault. fault ≡ type_fault given };
-
-    fn from(fault: NotReady) -> WriteFault {
-        match fault {
-            NotReady::UndefinedType(id) => WriteFault::Refused(Reason::UndefinedType(id)),
-            NotReady::Bottomless(id) => WriteFault::Refused(Reason::Bottomless(id)),
-            NotReady::Memory => WriteFault::Memory,
-        }
-    }
-}
-
-impl From<AllocError> for WriteFault {
-    ghost use Rattle.std.specs.Prelude.{◌≡◌};
-    ghost use Rattle.gob_stream.specs.declared.fault.WriteFault.TheVariants.{Memory};
-
-    ghost from_gives = { λ _ fault. fault ≡ Memory };
-
-    fn from(_: AllocError) -> WriteFault {
-        WriteFault::Memory
-    }
-}
-
-/// The fault of a writer whose table takes no definition of this id.
-pub(crate) fn definition_fault(id: TypeId, fault: DefineFault) -> WriteFault
-    ensures { result ≡ definition_fault id fault }
-{
-    match fault {
-        DefineFault::ReservedType => WriteFault::Refused(Reason::ReservedType(id)),
-        DefineFault::DefinedTwice => WriteFault::Refused(Reason::DefinedTwice(id)),
-        DefineFault::TooManyTypes => WriteFault::Refused(Reason::TooManyTypes),
-        DefineFault::Memory => WriteFault::Memory,
-    }
-}
-
-// The type of descriptions, wireType.
-const WIRE_TYPE: TypeId = TypeId(16);
-
-// The type that no value item may be of, gobEncoderType.
-const GOB_ENCODER_TYPE: TypeId = TypeId(24);
+use gob_types::{Kind, Reason, Shape, Shapes, Table, TypeId};
+use gob_value::{Value, shape_from, spell};
+use std::alloc::Global;
 
 /// Spells the body of the item that defines this type, in place of what the vector held, and gives the type's shape:
 /// the id below 0, and the description.
@@ -108,19 +33,15 @@ pub(crate) fn spell_definition(
     id: TypeId,
     described: &Value,
     body: &mut Vec<u8>,
-) -> Result<Shape, WriteFault>
+) -> Result<Shape, Denial>
     requires { limits.now.depth ≤ greatest_depth }
     ensures ok { table.now.most ≡ limits.now.types → IfOk result (λ shape. Body base_table limits.now (types table.now)
         (defines id (view described.now)) body.new.items (types table.now ++ (id, shape) ∷ [])) }
     ensures definable { IfOk result (λ shape. IsDefinable shape) }
-    ensures known { IsTable (types table.now) }
-    ensures err { table.now.most ≡ limits.now.types → (offset : ℕ) → IfErr result (IsRefusal (RefusesItem base_table
+    ensures err { table.now.most ≡ limits.now.types → (offset : ℕ) → IfErr result (IsDenial (RefusesItem base_table
         limits.now (types table.now) offset (defines id (view described.now)))) }
-    ensures early { IfErr result (IsRefusal (λ _. Unit {0})) }
 {
-    if let Err(fault) = table.admits(id) {
-        return Err(definition_fault(id, fault));
-    }
+    judge_id(table, id)?;
     body.clear();
     write_int(alloc, -(id.0 as i64), body)?;
     spell(alloc, table, WIRE_TYPE, described, limits.depth(), body)?;
@@ -137,13 +58,12 @@ pub(crate) fn spell_value(
     id: TypeId,
     value: &Value,
     body: &mut Vec<u8>,
-) -> Result<(), WriteFault>
+) -> Result<(), Denial>
     requires { limits.now.depth ≤ greatest_depth }
     ensures ok { OnOk result (Body base_table limits.now (types table.now) (puts id (view value.now)) body.new.items
         (types table.now)) }
-    ensures err { (offset : ℕ) → IfErr result (IsRefusal (RefusesItem base_table limits.now (types table.now) offset
+    ensures err { (offset : ℕ) → IfErr result (IsDenial (RefusesItem base_table limits.now (types table.now) offset
         (puts id (view value.now)))) }
-    ensures early { IfErr result (IsRefusal (λ _. Unit {0})) }
 {
     judge_type(alloc, table, id)?;
     body.clear();
@@ -159,11 +79,10 @@ pub(crate) fn spell_head(
     table: &Table,
     id: TypeId,
     head: &mut Vec<u8>,
-) -> Result<(), WriteFault>
+) -> Result<(), Denial>
     ensures ok { OnOk result ((L : Bounds) (v : Tree) (spelling : List ℕ) → IsSpelledAs L (types table.now) id spelling v
         → Body base_table L (types table.now) (puts id v) (head.new.items ++ spelling) (types table.now)) }
-    ensures err { IfErr result (IsRefusal (RefusesType (types table.now) id)) }
-    ensures early { IfErr result (IsRefusal (λ _. Unit {0})) }
+    ensures err { IfErr result (IsDenial (RefusesType (types table.now) id)) }
 {
     judge_type(alloc, table, id)?;
     head.clear();
@@ -192,11 +111,10 @@ pub(crate) fn begin_item(
     first: &[u8],
     rest: &[u8],
     item: &mut Vec<u8>,
-) -> Result<(), WriteFault>
+) -> Result<(), Denial>
     ensures ok { OnOk result (IsWholeItem limits.now offset (first.now ++ rest.now) (item.new.items ++ rest.now)) }
     ensures end { OnOk result (offset + length (item.new.items ++ rest.now) < 2 ^ 64) }
-    ensures err { IfErr result (IsRefusal (WriterRefusesBody limits.now offset (first.now ++ rest.now))) }
-    ensures early { IfErr result (IsRefusal (λ _. Unit {0})) }
+    ensures err { IfErr result (IsDenial (WriterRefusesBody limits.now offset (first.now ++ rest.now))) }
 {
     item.clear();
     write_uint(alloc, (first.len() + rest.len()) as u64, item)?;
@@ -212,36 +130,21 @@ fn judge_length(
     count: &[u8],
     first: &[u8],
     rest: &[u8],
-) -> Result<(), WriteFault>
+) -> Result<(), Reason>
     requires { IsUnsigned (length (first.now ++ rest.now)) count.now }
     ensures ok { OnOk result (FitsLimits limits.now offset count.now (first.now ++ rest.now)) }
     ensures end { OnOk result (offset + length (count.now ++ (first.now ++ rest.now)) < 2 ^ 64) }
-    ensures err { IfErr result (IsRefusal (WriterRefusesBody limits.now offset (first.now ++ rest.now))) }
-    ensures early { IfErr result (IsRefusal (λ _. Unit {0})) }
+    ensures err { IfErr result (WriterRefusesBody limits.now offset (first.now ++ rest.now)) }
 {
     let size = (first.len() + rest.len()) as u64;
     if size > limits.item() {
-        return Err(WriteFault::Refused(Reason::ItemTooLong));
+        return Err(Reason::ItemTooLong);
     }
     let room = limits.stream().saturating_sub(offset);
     let count = count.len() as u64;
     if count > room || size > room - count {
-        return Err(WriteFault::Refused(Reason::StreamTooLong));
+        return Err(Reason::StreamTooLong);
     }
-    Ok(())
-}
-
-// Whether values of the type may come now.
-fn judge_type(alloc: Global, table: &Table, id: TypeId) -> Result<(), WriteFault>
-    ensures ok { OnOk result (MayPut (types table.now) id) }
-    ensures small { OnOk result (id.0 < 2 ^ 63) }
-    ensures err { IfErr result (IsRefusal (RefusesType (types table.now) id)) }
-    ensures early { IfErr result (IsRefusal (λ _. Unit {0})) }
-{
-    if id == GOB_ENCODER_TYPE {
-        return Err(WriteFault::Refused(Reason::UndefinedType(id)));
-    }
-    table.ready(alloc, id)?;
     Ok(())
 }
 

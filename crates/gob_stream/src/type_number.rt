@@ -4,26 +4,25 @@ ghost use Rattle.std.specs.Prelude.{◌≡◌, ℕ, ◌+◌, ◌<◌, ◌≤◌,
 ghost use Rattle.gob_num.specs.Signed.{IsSigned};
 ghost use Rattle.gob_num.specs.Unsigned.{IsUnsigned, IsUnsignedFront};
 ghost use Rattle.gob_types.specs.Base.{wire_type};
-ghost use Rattle.gob_types.specs.Defined.{types, Admits};
+ghost use Rattle.gob_types.specs.Defined.{types};
 ghost use Rattle.gob_stream.specs.Bounds.{Bounds, greatest_stream, no_deeper};
 ghost use Rattle.gob_stream.specs.Standing.{IsCount, IsRest};
 ghost use Rattle.gob_stream.specs.declared.stage.Extent.{Extent};
-ghost use Rattle.gob_stream.specs.ReadParts.{AreTypes, HasBodyCount, HasWireType, MaybeDefines, MaybePuts, StepsOn};
-ghost use Rattle.gob_stream.specs.ReadParts.{GoesOnIn};
-ghost use Rattle.gob_stream.specs.ReadParts.{define_reason, ready_fault};
+ghost use Rattle.gob_stream.specs.ReadParts.{AreTypes, GoesOnIn, HasBodyCount, HasWireType, StepsOn};
 
 use crate::body::{take_description, take_value};
 use crate::count::refusal;
-use crate::fault::{Fault, Refusal};
+use crate::denial::{judge_id, judge_type};
+use crate::fault::Fault;
 use crate::limits::Limits;
 use crate::stage::{Extent, Stage, Stepped};
 use gob_num::{Number, Taken, to_signed};
 use gob_read::{BodyReader, Builder, TreeBuilder};
-use gob_types::{DefineFault, NotReady, Reason, Table, TypeId};
+use gob_types::{Reason, Table, TypeId};
 use std::alloc::Global;
 
-// The type of descriptions.
-const WIRE_TYPE: TypeId = TypeId(16);
+/// The type of descriptions.
+pub(crate) const WIRE_TYPE: TypeId = TypeId(16);
 
 /// The type of this project's own for the descriptions of opaque types, which no value item may name.
 pub(crate) const GOB_ENCODER_TYPE: u64 = 24;
@@ -159,9 +158,8 @@ fn begin_description<B: Builder>(
     ensures most { table.new.most ≡ table.old.most }
     ensures unchanged { OnErr result (table.new ≡ table.old) }
 {
-    match admit(table, id, place, rest.begin) {
-        Ok(()) => {}
-        Err(refusal) => return Err(Fault::Refused(refusal)),
+    if let Err(reason) = judge_id(table, id) {
+        return Err(Fault::Refused(refusal(place, rest.begin, reason)));
     }
     match BodyReader::new(alloc, WIRE_TYPE, rest.end - rest.begin, depth) {
         Ok(reader) => take_description(alloc, table, id, rest, reader, piece),
@@ -186,59 +184,11 @@ fn begin_value<B: Builder>(
         → StepsOn B.stands ⟦<TreeBuilder as Builder>⟧.stands B.means L
         (types table.now) offset (c ++ a) piece.now (types table.now) result }
 {
-    match make_ready(alloc, table, id, place, rest.begin) {
-        Ok(()) => {}
-        Err(fault) => return Err(fault),
+    if let Err(denial) = judge_type(alloc, table, id) {
+        return Err(denial.at(place, rest.begin));
     }
     match BodyReader::new(alloc, id, rest.end - rest.begin, depth) {
         Ok(reader) => take_value(alloc, table, id, rest, reader, piece),
         Err(_) => Err(Fault::Memory),
     }
-}
-
-// Whether the type may be defined now.
-fn admit(table: &Table, id: TypeId, place: u64, seen: u64) -> Result<(), Refusal>
-    ensures judged { (L : Bounds) → AreTypes L table.now → MaybeDefines L (types table.now) id place seen result }
-    ensures admitted { OnOk result (Admits table.now id) }
-{
-    match table.admits(id) {
-        Ok(()) => Ok(()),
-        Err(fault) => Err(refusal(place, seen, reason_of(id, fault))),
-    }
-}
-
-// Why a table refuses the definition of this id, which is never for want of memory.
-fn reason_of(id: TypeId, fault: DefineFault) -> Reason
-    ensures { result ≡ define_reason id fault }
-{
-    match fault {
-        DefineFault::ReservedType => Reason::ReservedType(id),
-        DefineFault::DefinedTwice => Reason::DefinedTwice(id),
-        DefineFault::TooManyTypes | DefineFault::Memory => Reason::TooManyTypes,
-    }
-}
-
-// Whether values of the type may come now.
-fn make_ready(alloc: Global, table: &Table, id: TypeId, place: u64, seen: u64) -> Result<(), Fault>
-    ensures { MaybePuts (types table.now) id place seen result }
-{
-    if id.0 == GOB_ENCODER_TYPE {
-        return Err(Fault::Refused(refusal(place, seen, Reason::UndefinedType(id))));
-    }
-    match table.ready(alloc, id) {
-        Ok(()) => Ok(()),
-        Err(fault) => Err(fault_of(fault, place, seen)),
-    }
-}
-
-// Why values of a type can't come, for its number at the place.
-fn fault_of(fault: NotReady, place: u64, seen: u64) -> Fault
-    ensures { result ≡ ready_fault place seen fault }
-{
-    let reason = match fault {
-        NotReady::UndefinedType(undefined) => Reason::UndefinedType(undefined),
-        NotReady::Bottomless(bottomless) => Reason::Bottomless(bottomless),
-        NotReady::Memory => return Fault::Memory,
-    };
-    Fault::Refused(refusal(place, seen, reason))
 }

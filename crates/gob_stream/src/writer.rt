@@ -15,7 +15,7 @@ use crate::item::Item;
 use crate::limits::Limits;
 use crate::output::Output;
 use crate::send::send_all;
-use crate::spelled::{begin_item, definition_fault, spell_definition, spell_head, spell_value};
+use crate::spelled::{begin_item, spell_definition, spell_head, spell_value};
 use gob_num::Memory;
 use gob_types::{Table, TypeId};
 use gob_value::Value;
@@ -95,10 +95,11 @@ impl StreamWriter {
         let limits = self.limits.up_to(Limits::GREATEST_DEPTH);
         let shape = spell_definition(alloc, &self.types, &limits, id, described, &mut self.body)?;
         begin_item(alloc, &limits, self.offset, &self.body, &[], &mut self.item)?;
-        if let Err(fault) = self.types.define(alloc, id, shape) {
-            return Err(definition_fault(id, fault));
+        match self.types.define(alloc, id, shape) {
+            Ok(()) => self.send(output, &[]),
+            // the table admits the type, so nothing but memory can be wanting
+            Err(_) => Err(WriteFault::Memory),
         }
-        self.send(output, &[])
     }
 
     /// Writes a value of a type. Refused, in this order: a type that leads to one that isn't defined, or is 24, as

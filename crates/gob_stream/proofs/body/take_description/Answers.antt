@@ -1,5 +1,6 @@
-use Rattle.std.proofs.Common.{arith}
+use Rattle.std.proofs.Common.{ap, arith}
 use Rattle.gob_types.specs.Base.{wire_type}
+use Rattle.gob_types.specs.Defined.{types}
 use Rattle.gob_stream.specs.Standing.{size}
 use Rattle.gob_stream.proofs.BodySteps.{stops_within}
 use Rattle.gob_stream.proofs.DescriptionSteps.{wire_fits, made_of, description_more, description_done, description_wrong, description_stopped}
@@ -18,11 +19,12 @@ returns-in-Ok-More-clause-read g c = λ limit z s. description_more c.push.new.s
 
 pub returns-in-Ok-clause-read : goal.returns-in-Ok-clause-read
 returns-in-Ok-clause-read g c = λ limit z s.
-    description_done (made_of _ c.push.new.self.run z c.args.piece.now c.in-Ok-Done.field-0-is (c.in-Ok-Done.ensures.given wire_type limit (size c.args.rest) z s)) c.in-Ok.ensures.defines c.next_count.ensures
+    description_done (made_of _ c.push.new.self.run z c.args.piece.now c.in-Ok-Done.field-0-is (c.in-Ok-Done.ensures.given wire_type limit (size c.args.rest) z s)) c.in-Ok.ensures.ok c.next_count.ensures
 
 pub returns-in-Ok-Done-clause-read : goal.returns-in-Ok-Done-clause-read
 returns-in-Ok-Done-clause-read g c = λ limit z s.
-    description_wrong (made_of _ c.push.new.self.run z c.args.piece.now c.in-Ok-Done.field-0-is (c.in-Ok-Done.ensures.given wire_type limit (size c.args.rest) z s)) c.in-Err-define.ensures.defines
+    rw c.at.ensures
+    (description_wrong c.in-Err-define.denial (made_of _ c.push.new.self.run z c.args.piece.now c.in-Ok-Done.field-0-is (c.in-Ok-Done.ensures.given wire_type limit (size c.args.rest) z s)) c.in-Err-define.ensures.err (ap types c.in-Err-define.ensures.unchanged))
 
 pub returns-clause-read : goal.returns-clause-read
 returns-clause-read g c = λ limit z s. description_stopped c.args.reader.run z c.args.piece.now c.in-Err.stop c.fault_of_stop.ensures c.in-Err.ensures.refused s

@@ -2,18 +2,19 @@ use Rattle.std.proofs.Common.{[], refl, ap}
 use Rattle.std.proofs.lemmas.Result.{err_from_is_err_and}
 use Rattle.gob_value.specs.View.{view}
 use Rattle.gob_stream.specs.Bounds.{within_trees}
+use Rattle.gob_stream.specs.declared.denial.Denial.TheVariants as denial
 use Rattle.gob_stream.specs.Item.{defines}
 use Rattle.gob_stream.specs.WriterRefusal.{refused_body}
-use Rattle.gob_stream.proofs.FaultSteps.{refusal_weaker}
-use Rattle.gob_stream.proofs.WritingLaws.{id_refusal, body_alone, whole_item}
-use Rattle.gob_stream.proofs.WriterSteps.{refused_writes, refused_leaves, definition_early, trees_within, sent_writes, sent_leaves}
+use Rattle.gob_stream.proofs.DenialLaws.{denial_weaker}
+use Rattle.gob_stream.proofs.WritingLaws.{body_alone, whole_item}
+use Rattle.gob_stream.proofs.WriterSteps.{denied_writes, denied_leaves, trees_within, sent_writes, sent_leaves}
 use Rattle.gob_stream.proofs.writer.StreamWriter.define.Goals as goal
 
 pub returns-in_err-shape-clause-writes : goal.returns-in_err-shape-clause-writes
 returns-in_err-shape-clause-writes g c = λ items bytes T written.
     let p = err_from_is_err_and c.from_residual.result c.from_residual.ensures.1 in
     let w = c.args.self.now in
-    rw (p.1, p.2) (refused_writes (within_trees w.limits) w (record w { body = c.spell_definition.new.body }) items bytes T (defines c.args.id (view c.args.described.now)) _ c.in_err-shape.field-0.0 written
+    rw (p.1, p.2) (denied_writes (within_trees w.limits) w (record w { body = c.spell_definition.new.body }) items bytes T (defines c.args.id (view c.args.described.now)) _ c.in_err-shape.field-0.0 written
     ((rw c.up_to-limits.ensures at c.in_err-shape.ensures.err) written.room w.offset))
 
 pub returns-in_err-begin_item-clause-writes : goal.returns-in_err-begin_item-clause-writes
@@ -21,45 +22,36 @@ returns-in_err-begin_item-clause-writes g c = λ items bytes T written.
     let p = err_from_is_err_and c.from_residual-in_err-begin_item.result c.from_residual-in_err-begin_item.ensures.1 in
     let w = c.args.self.now in
     let refused = rw (c.deref.ensures.value, c.up_to-limits.ensures) at c.in_err-begin_item.ensures.err in
-    rw (p.1, p.2) (refused_writes (within_trees w.limits) w (record w { body = c.spell_definition.new.body; item = c.begin_item.new.item }) items bytes T (defines c.args.id (view c.args.described.now)) _ c.in_err-begin_item.field-0.0 written
-    (refusal_weaker _ (λ r. refused_body (body_alone ((rw c.up_to-limits.ensures at c.in_ok-shape.ensures.ok) written.room))) refused))
+    rw (p.1, p.2) (denied_writes (within_trees w.limits) w (record w { body = c.spell_definition.new.body; item = c.begin_item.new.item }) items bytes T (defines c.args.id (view c.args.described.now)) _ c.in_err-begin_item.field-0.0 written
+    (denial_weaker _ (λ r. refused_body (body_alone ((rw c.up_to-limits.ensures at c.in_ok-shape.ensures.ok) written.room))) refused))
 
-pub returns-in-Err-clause-writes : goal.returns-in-Err-clause-writes
-returns-in-Err-clause-writes g c = λ items bytes T written.
-    let w = c.args.self.now in
-    let spelled = record w { body = c.spell_definition.new.body; item = c.begin_item.new.item } in
-    rw c.definition_fault.ensures
-    (refused_writes (within_trees w.limits) w (record spelled { types = c.define.new.self }) items bytes T (defines c.args.id (view c.args.described.now)) _ _ written
-    (id_refusal (within_trees w.limits) w.types c.args.id (view c.args.described.now) w.offset c.in-Err.fault c.in_ok-shape.ensures.known written.room c.in-Err.ensures.refused))
-
-pub returns-clause-writes : goal.returns-clause-writes
-returns-clause-writes g c = λ items bytes T written.
+pub returns-in-Ok-clause-writes : goal.returns-in-Ok-clause-writes
+returns-in-Ok-clause-writes g c = λ items bytes T written.
     let w = c.args.self.now in
     let whole = rw (c.deref.ensures.value, c.up_to-limits.ensures) at c.in_ok-begin_item.ensures.ok in
     sent_writes (within_trees w.limits) w (record w { types = c.define.new.self; body = c.spell_definition.new.body; item = c.begin_item.new.item }) c.send.new.self [] items bytes T _ (defines c.args.id (view c.args.described.now)) _ _ c.send.result written
-    (record { limits = refl; within = trees_within w.limits; offset = refl; most = c.in_default.ensures.most; table = c.in_default.ensures.defined; item = whole_item (body_alone ((rw c.up_to-limits.ensures at c.in_ok-shape.ensures.ok) written.room)) whole })
+    (record { limits = refl; within = trees_within w.limits; offset = refl; most = c.in-Ok.ensures.most; table = c.in-Ok.ensures.defined; item = whole_item (body_alone ((rw c.up_to-limits.ensures at c.in_ok-shape.ensures.ok) written.room)) whole })
     c.send.ensures.ok c.send.ensures.behind c.send.ensures.front c.send.ensures.fault
 
 pub returns-in_err-shape-clause-leaves : goal.returns-in_err-shape-clause-leaves
 returns-in_err-shape-clause-leaves g c =
     let p = err_from_is_err_and c.from_residual.result c.from_residual.ensures.1 in
     let w = c.args.self.now in
-    rw (p.1, p.2) (refused_leaves w (record w { body = c.spell_definition.new.body }) _ c.in_err-shape.field-0.0 refl c.in_err-shape.ensures.early)
+    rw (p.1, p.2) (denied_leaves w (record w { body = c.spell_definition.new.body }) _ c.in_err-shape.field-0.0 refl)
 
 pub returns-in_err-begin_item-clause-leaves : goal.returns-in_err-begin_item-clause-leaves
 returns-in_err-begin_item-clause-leaves g c =
     let p = err_from_is_err_and c.from_residual-in_err-begin_item.result c.from_residual-in_err-begin_item.ensures.1 in
     let w = c.args.self.now in
-    rw (p.1, p.2) (refused_leaves w (record w { body = c.spell_definition.new.body; item = c.begin_item.new.item }) _ c.in_err-begin_item.field-0.0 refl c.in_err-begin_item.ensures.early)
+    rw (p.1, p.2) (denied_leaves w (record w { body = c.spell_definition.new.body; item = c.begin_item.new.item }) _ c.in_err-begin_item.field-0.0 refl)
 
 pub returns-in-Err-clause-leaves : goal.returns-in-Err-clause-leaves
 returns-in-Err-clause-leaves g c =
     let w = c.args.self.now in
     let spelled = record w { body = c.spell_definition.new.body; item = c.begin_item.new.item } in
-    rw c.definition_fault.ensures
-    (refused_leaves w (record spelled { types = c.define.new.self }) _ _ (ap (λ t. record spelled { types = t }) c.in-Err.ensures.unchanged) (definition_early c.args.id c.in-Err.fault))
+    denied_leaves w (record spelled { types = c.define.new.self }) _ denial.Memory (ap (λ t. record spelled { types = t }) c.in-Err.ensures.unchanged)
 
-pub returns-clause-leaves : goal.returns-clause-leaves
-returns-clause-leaves g c =
+pub returns-in-Ok-clause-leaves : goal.returns-in-Ok-clause-leaves
+returns-in-Ok-clause-leaves g c =
     let w = c.args.self.now in
     sent_leaves w (record w { types = c.define.new.self; body = c.spell_definition.new.body; item = c.begin_item.new.item }) c.send.new.self _ _ _ c.send.result c.send.ensures.behind c.send.ensures.failed c.send.ensures.fault

@@ -4,16 +4,16 @@ use Rattle.gob_value.specs.View.{view}
 use Rattle.gob_stream.specs.Bounds.{within_trees}
 use Rattle.gob_stream.specs.Item.{puts}
 use Rattle.gob_stream.specs.WriterRefusal.{refused_body}
-use Rattle.gob_stream.proofs.FaultSteps.{refusal_weaker}
+use Rattle.gob_stream.proofs.DenialLaws.{denial_weaker}
 use Rattle.gob_stream.proofs.WritingLaws.{body_alone, whole_item}
-use Rattle.gob_stream.proofs.WriterSteps.{refused_writes, refused_leaves, trees_within, sent_writes, sent_leaves}
+use Rattle.gob_stream.proofs.WriterSteps.{denied_writes, denied_leaves, trees_within, sent_writes, sent_leaves}
 use Rattle.gob_stream.proofs.writer.StreamWriter.put.Goals as goal
 
 pub returns-in_err-spell_value-clause-writes : goal.returns-in_err-spell_value-clause-writes
 returns-in_err-spell_value-clause-writes g c = λ items bytes T written.
     let p = err_from_is_err_and c.from_residual.result c.from_residual.ensures.1 in
     let w = c.args.self.now in
-    rw (p.1, p.2) (refused_writes (within_trees w.limits) w (record w { body = c.spell_value.new.body }) items bytes T (puts c.args.id (view c.args.value.now)) _ c.in_err-spell_value.field-0.0 written
+    rw (p.1, p.2) (denied_writes (within_trees w.limits) w (record w { body = c.spell_value.new.body }) items bytes T (puts c.args.id (view c.args.value.now)) _ c.in_err-spell_value.field-0.0 written
     ((rw c.up_to-limits.ensures at c.in_err-spell_value.ensures.err) w.offset))
 
 pub returns-in_err-begin_item-clause-writes : goal.returns-in_err-begin_item-clause-writes
@@ -21,8 +21,8 @@ returns-in_err-begin_item-clause-writes g c = λ items bytes T written.
     let p = err_from_is_err_and c.from_residual-in_err-begin_item.result c.from_residual-in_err-begin_item.ensures.1 in
     let w = c.args.self.now in
     let refused = rw (c.deref.ensures.value, c.up_to-limits.ensures) at c.in_err-begin_item.ensures.err in
-    rw (p.1, p.2) (refused_writes (within_trees w.limits) w (record w { body = c.spell_value.new.body; item = c.begin_item.new.item }) items bytes T (puts c.args.id (view c.args.value.now)) _ c.in_err-begin_item.field-0.0 written
-    (refusal_weaker _ (λ r. refused_body (body_alone (rw c.up_to-limits.ensures at c.in_ok-spell_value.ensures.ok))) refused))
+    rw (p.1, p.2) (denied_writes (within_trees w.limits) w (record w { body = c.spell_value.new.body; item = c.begin_item.new.item }) items bytes T (puts c.args.id (view c.args.value.now)) _ c.in_err-begin_item.field-0.0 written
+    (denial_weaker _ (λ r. refused_body (body_alone (rw c.up_to-limits.ensures at c.in_ok-spell_value.ensures.ok))) refused))
 
 pub returns-clause-writes : goal.returns-clause-writes
 returns-clause-writes g c = λ items bytes T written.
@@ -36,13 +36,13 @@ pub returns-in_err-spell_value-clause-leaves : goal.returns-in_err-spell_value-c
 returns-in_err-spell_value-clause-leaves g c =
     let p = err_from_is_err_and c.from_residual.result c.from_residual.ensures.1 in
     let w = c.args.self.now in
-    rw (p.1, p.2) (refused_leaves w (record w { body = c.spell_value.new.body }) _ c.in_err-spell_value.field-0.0 refl c.in_err-spell_value.ensures.early)
+    rw (p.1, p.2) (denied_leaves w (record w { body = c.spell_value.new.body }) _ c.in_err-spell_value.field-0.0 refl)
 
 pub returns-in_err-begin_item-clause-leaves : goal.returns-in_err-begin_item-clause-leaves
 returns-in_err-begin_item-clause-leaves g c =
     let p = err_from_is_err_and c.from_residual-in_err-begin_item.result c.from_residual-in_err-begin_item.ensures.1 in
     let w = c.args.self.now in
-    rw (p.1, p.2) (refused_leaves w (record w { body = c.spell_value.new.body; item = c.begin_item.new.item }) _ c.in_err-begin_item.field-0.0 refl c.in_err-begin_item.ensures.early)
+    rw (p.1, p.2) (denied_leaves w (record w { body = c.spell_value.new.body; item = c.begin_item.new.item }) _ c.in_err-begin_item.field-0.0 refl)
 
 pub returns-clause-leaves : goal.returns-clause-leaves
 returns-clause-leaves g c =
