@@ -108,6 +108,7 @@ impl<B: Builder> Session<B> {
     }
 
     /// The count at the front of the piece, where no byte of the item was taken before and the limits allow its length.
+    #[inline(always)]
     fn announced(&self, piece: &[u8]) -> Option<Announced>
         ensures between { IfSome result (λ announced. IsBetweenItems self.now) }
         ensures count { IfSome result (λ announced. HasCount (limits_of self.now) (taken_of self.now)
@@ -176,6 +177,7 @@ impl<B: Builder> Session<B> {
 }
 
 // The type number at the front of what stands behind a count, where values of the type may come now.
+#[inline(always)]
 fn type_of(table: &Table, item: &[u8]) -> Option<Named>
     ensures within { IfSome result (λ named. named.used ≤ length item.now) }
     ensures names { IfSome result (λ named. IsSigned (pos named.id.0) (take named.used item.now)) }
@@ -192,6 +194,7 @@ fn type_of(table: &Table, item: &[u8]) -> Option<Named>
 }
 
 // The type whose number this is, where it is that of a value.
+#[inline(always)]
 fn value_type(number: u64) -> Option<TypeId>
     ensures { IfSome result (λ id. (bytes : List ℕ) → IsUnsigned number bytes → IsSigned (pos id.0) bytes) }
 {
@@ -203,6 +206,7 @@ fn value_type(number: u64) -> Option<TypeId>
 }
 
 // Whether values of the type may come now.
+#[inline(always)]
 fn may_put(table: &Table, id: TypeId) -> bool
     ensures { IsTrue result → MayPut (types table.now) id }
 {

@@ -4,7 +4,7 @@ use Rattle.gob_types.specs.Defined.{types}
 use Rattle.gob_value.specs.Whole.{IsWhole}
 use Rattle.gob_stream.specs.Bounds.{greatest_depth, within_trees}
 use Rattle.gob_stream.specs.Item.{puts}
-use Rattle.gob_stream.proofs.WholeSteps.{has_item}
+use Rattle.gob_stream.proofs.PublicLaws.{has_item}
 use Rattle.gob_tool.specs.declared.fault.ToolFault.TheVariants as fault
 use Rattle.gob_tool.specs.Line.{line}
 use Rattle.gob_tool.specs.Gathering.{TakesPiece, Writes}
