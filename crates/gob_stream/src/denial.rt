@@ -11,7 +11,6 @@ ghost use Rattle.gob_stream.specs.Denial.{IsDenial, fault_at, write_fault, type_
 
 use crate::count::refusal;
 use crate::fault::{Fault, WriteFault};
-use crate::type_number::GOB_ENCODER_TYPE;
 use gob_num::Memory;
 use gob_types::{DefineFault, NotReady, Reason, Table, TypeId};
 use gob_value::{ShapeFault, SpellFault};
@@ -143,7 +142,7 @@ pub(crate) fn judge_type(alloc: Global, table: &Table, id: TypeId) -> Result<(),
         MatchResult result (λ _. MayPut T id) (IsDenial (RefusesType T id)) }
     ensures small { OnOk result (id.0 < 2 ^ 63) }
 {
-    if id.0 == GOB_ENCODER_TYPE {
+    if id.0 == TypeId::GOB_ENCODER_TYPE.0 {
         return Err(Denial::Refused(Reason::UndefinedType(id)));
     }
     table.ready(alloc, id)?;

@@ -18,7 +18,6 @@ ghost use Rattle.gob_stream.specs.Writing.{IsWholeItem, FitsLimits, HasStructs, 
 
 use crate::denial::{Denial, judge_id, judge_type};
 use crate::limits::Limits;
-use crate::type_number::WIRE_TYPE;
 use gob_num::{Memory, write_int, write_uint};
 use gob_types::{Kind, Reason, Shape, Shapes, Table, TypeId};
 use gob_value::{Value, shape_from, spell};
@@ -44,7 +43,7 @@ pub(crate) fn spell_definition(
     judge_id(table, id)?;
     body.clear();
     write_int(alloc, -(id.0 as i64), body)?;
-    spell(alloc, table, WIRE_TYPE, described, limits.depth(), body)?;
+    spell(alloc, table, TypeId::WIRE_TYPE, described, limits.depth(), body)?;
     let shape = shape_from(alloc, id, described)?;
     Ok(shape)
 }

@@ -21,12 +21,6 @@ use gob_read::{BodyReader, Builder, TreeBuilder};
 use gob_types::{Reason, Table, TypeId};
 use std::alloc::Global;
 
-/// The type of descriptions.
-pub(crate) const WIRE_TYPE: TypeId = TypeId(16);
-
-/// The type of this project's own for the descriptions of opaque types, which no value item may name.
-pub(crate) const GOB_ENCODER_TYPE: u64 = 24;
-
 /// Takes bytes of the type number of a body, of which the number has the bytes before the offset `taken`, and where
 /// it is whole, those of what follows it.
 pub(crate) fn take_type_number<B: Builder>(
@@ -161,7 +155,7 @@ fn begin_description<B: Builder>(
     if let Err(reason) = judge_id(table, id) {
         return Err(Fault::Refused(refusal(place, rest.begin, reason)));
     }
-    match BodyReader::new(alloc, WIRE_TYPE, rest.end - rest.begin, depth) {
+    match BodyReader::new(alloc, TypeId::WIRE_TYPE, rest.end - rest.begin, depth) {
         Ok(reader) => take_description(alloc, table, id, rest, reader, piece),
         Err(_) => Err(Fault::Memory),
     }

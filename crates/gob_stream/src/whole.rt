@@ -11,7 +11,6 @@ ghost use Rattle.gob_stream.specs.Whole.{HasCount};
 
 use crate::session::Session;
 use crate::stage::Stage;
-use crate::type_number::GOB_ENCODER_TYPE;
 use gob_num::{Taken, take_uint, to_signed};
 use gob_read::Builder;
 use gob_types::{Table, TypeId};
@@ -210,7 +209,7 @@ fn value_type(number: u64) -> Option<TypeId>
 fn may_put(table: &Table, id: TypeId) -> bool
     ensures { IsTrue result → MayPut (types table.now) id }
 {
-    if id.0 == GOB_ENCODER_TYPE {
+    if id.0 == TypeId::GOB_ENCODER_TYPE.0 {
         return false;
     }
     table.kept(id)

@@ -27,9 +27,6 @@ use std::alloc::Global;
 use std::io::Write;
 use std::mem;
 
-// The type of descriptions, wireType.
-const WIRE_TYPE: TypeId = TypeId(16);
-
 // How many bytes are gathered before they are written.
 const MANY: usize = 65536;
 
@@ -316,7 +313,7 @@ fn write_tidy_definition<W: Write>(
     ensures leaves { Leaves writer.old writer.new
         (W.contents (writer_of output.old)) (W.contents (writer_of output.new)) result }
 {
-    let tidied = tidy(alloc, table, WIRE_TYPE, described)?;
+    let tidied = tidy(alloc, table, TypeId::WIRE_TYPE, described)?;
     let defined = writer.define(alloc, output, id, &tidied);
     drop(tidied);
     defined

@@ -9,27 +9,30 @@ use std::fmt;
 #[derive(Clone, Copy, Debug, PartialEq, Eq, Hash)]
 pub struct TypeId(pub u64);
 
-// The greatest id of a type.
-const GREATEST_ID: u64 = 2147483647;
-
-// The id of this project's own for the descriptions of opaque types, which no stream may name.
-const GOB_ENCODER_TYPE: u64 = 24;
-
 impl TypeId {
     ghost use Rattle.gob_types.specs.Definable.{IsOwnId, IsReference};
+
+    /// The type of descriptions.
+    pub const WIRE_TYPE: TypeId = TypeId(16);
+
+    /// The type of the descriptions of opaque types. Its number is this project's own, and no stream may name it.
+    pub const GOB_ENCODER_TYPE: TypeId = TypeId(24);
+
+    /// The greatest id of a type.
+    pub const GREATEST: TypeId = TypeId(2147483647);
 
     /// Whether a definition may give this id.
     pub(crate) fn is_own(&self) -> bool
         ensures { IsTrue result ↔ IsOwnId self.now }
     {
-        64 <= self.0 && self.0 <= GREATEST_ID
+        64 <= self.0 && self.0 <= Self::GREATEST.0
     }
 
     /// Whether a description may refer to this id.
-    pub(crate) fn is_reference(&self) -> bool
+    pub fn is_reference(&self) -> bool
         ensures { IsTrue result ↔ IsReference self.now }
     {
-        1 <= self.0 && self.0 <= GREATEST_ID && self.0 != GOB_ENCODER_TYPE
+        1 <= self.0 && self.0 <= Self::GREATEST.0 && self.0 != Self::GOB_ENCODER_TYPE.0
     }
 }
 

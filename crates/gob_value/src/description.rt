@@ -3,7 +3,7 @@
 ghost use Rattle.std.specs.Prelude.{◌≡◌, ◌↔◌, ◌<◌, pos, IsTrue, IfOk, IfErr};
 ghost use Rattle.std.specs.Prelude.{MatchOption, MatchResult};
 ghost use Rattle.gob_types.specs.Base.{base_table, wire_type};
-ghost use Rattle.gob_types.specs.Definable.{IsDefinable, IsReference};
+ghost use Rattle.gob_types.specs.Definable.{IsDefinable};
 ghost use Rattle.gob_value.specs.View.{view, views, field_views};
 ghost use Rattle.gob_value.specs.Fits.{Fits};
 ghost use Rattle.gob_value.specs.Description.{said, said_fields, said_struct, Describes};
@@ -18,12 +18,6 @@ use crate::value::Value;
 use gob_num::Memory;
 use gob_types::{Field, Fields, Kind, Marshal, Name, Shape, TypeId};
 use std::alloc::Global;
-
-// The greatest id of a type.
-const GREATEST_ID: u64 = 2147483647;
-
-// The id of gobEncoderType, which no description may refer to.
-const GOB_ENCODER_TYPE: u64 = 24;
 
 // The field of wireType that is present. It tells the kind.
 #[derive(Clone, Copy)]
@@ -215,14 +209,7 @@ fn reference(number: i64) -> Result<TypeId, ShapeFault>
 fn refers(number: i64) -> bool
     ensures { IsTrue result ↔ IsTypeNumber number }
 {
-    number >= 0 && is_reference(TypeId(number as u64))
-}
-
-// Whether a description may refer to this id.
-fn is_reference(id: TypeId) -> bool
-    ensures { IsTrue result ↔ IsReference id }
-{
-    1 <= id.0 && id.0 <= GREATEST_ID && id.0 != GOB_ENCODER_TYPE
+    number >= 0 && TypeId(number as u64).is_reference()
 }
 
 // A name of its own.
