@@ -17,12 +17,12 @@ use Rattle.gob_types.specs.Base as base
 use Rattle.gob_types.specs.Definable.{IsReference, IsDefinable, HasLength, greatest_length}
 use Rattle.gob_types.specs.Ready.{Names, HasFieldOf}
 use Rattle.gob_types.specs.Table.{shape_of}
-use Rattle.gob_value.specs.Tree.{Tree, Fields, no_field, field, tree_count}
+use Rattle.gob_value.specs.Tree.{Tree, Fields, no_field, field, tree_count, trees_depth, fields_depth}
 use Rattle.gob_value.specs.View.{view}
 use Rattle.gob_value.specs.declared.value.Value.{Value}
 use Rattle.gob_value.specs.Spelling.{of_type, of_int, of_text, of_slice, of_struct, no_element, element, end_of_fields}
-use Rattle.gob_value.specs.Spelling.{next_field}
-use Rattle.gob_value.specs.Within.{FitsWithin, AllFitWithin, FieldsFitWithin}
+use Rattle.gob_value.specs.Spelling.{next_field, SpellsEach, SpellsFields}
+use Rattle.gob_value.specs.Within.{FitsWithin, IsSpelledWithin}
 use Rattle.gob_value.specs.Description.{said, present_field, number_in, name_in, elements_in, said_fields, Said, SaidKind}
 use Rattle.gob_value.specs.Description.{said_array, said_slice, said_struct, said_map, said_opaque, RefersTo}
 use Rattle.gob_value.specs.Description.{GivesFields, no_more, and_field, gives_array, gives_slice, gives_struct}
@@ -143,14 +143,14 @@ text_fits s limit h l = let c = unsigned_spelled (length s) h in record
     { bytes = c.bytes ++ s; spelled = of_type refl (of_text c.spelled); within = omega arith }
 
 -- a struct with these fields
-no_fields : {types : List Field} {next limit : ℕ} → FieldsFitWithin base_table types next limit no_field
+no_fields : {types : List Field} {next limit : ℕ} → IsSpelledWithin (SpellsFields base_table types next) fields_depth limit no_field
 no_fields = let s = unsigned_spelled 0 (omega arith) in record
     { bytes = s.bytes; spelled = end_of_fields s.spelled; within = omega arith }
 
 one_more : {types : List Field} {next f limit : ℕ} {e : Field} {v : Tree} {fs : Fields} → next ≤ f → f < 7
     → slice_get types f ≡ Some e → FitsWithin base_table e.id limit v
-    → FieldsFitWithin base_table types (f + 1) limit fs
-    → FieldsFitWithin base_table types next limit (field f v fs)
+    → IsSpelledWithin (SpellsFields base_table types (f + 1)) fields_depth limit fs
+    → IsSpelledWithin (SpellsFields base_table types next) fields_depth limit (field f v fs)
 one_more {next = next} {f = f} l h m p ps =
     let s = unsigned_spelled (f + 1 - next) (omega arith) in let a = p.within in let b = ps.within in
     record {
@@ -161,7 +161,7 @@ one_more {next = next} {f = f} l h m p ps =
     }
 
 struct_fits : {t : TypeId} {s : Shape} {types : List Field} {limit : ℕ} {fs : Fields} → shape_of base_table t ≡ Some s
-    → s.kind ≡ kind.Struct types → FieldsFitWithin base_table types 0 limit fs
+    → s.kind ≡ kind.Struct types → IsSpelledWithin (SpellsFields base_table types 0) fields_depth limit fs
     → FitsWithin base_table t (limit + 1) (Tree.fields fs)
 struct_fits e k p = let w = p.within in record {
   bytes = p.bytes;
@@ -171,7 +171,7 @@ struct_fits e k p = let w = p.within in record {
 
 -- CommonType and fieldType
 names_fit : {a b : List ℕ} (name : List ℕ) (t : TypeId) (limit : ℕ) → IsCountedName name → t.0 < 2 ^ 63 → 0 < limit
-    → FieldsFitWithin base_table (base.field a 6 ∷ base.field b 2 ∷ []) 0 limit (name_and_id name t)
+    → IsSpelledWithin (SpellsFields base_table (base.field a 6 ∷ base.field b 2 ∷ []) 0) fields_depth limit (name_and_id name t)
 names_fit [] t limit c h l = one_more (omega arith) (omega arith) refl (int_fits t.0 limit h l) no_fields
 names_fit (x ∷ xs) t limit c h l = one_more (omega arith) (omega arith) refl (text_fits (x ∷ xs) limit c l)
     (one_more (omega arith) (omega arith) refl (int_fits t.0 limit h l) no_fields)
@@ -194,7 +194,7 @@ field_count [] = refl
 field_count (f ∷ fs) = omega (arith, field_count fs)
 
 elements_fit : (fs : List Field) → AreCounted fs → ((u : TypeId) → HasFieldOf fs u → IsReference u)
-    → AllFitWithin base_table (id 21) 2 (field_types fs)
+    → IsSpelledWithin (SpellsEach base_table (id 21)) trees_depth 2 (field_types fs)
 elements_fit [] c each = record { bytes = []; spelled = no_element; within = omega arith }
 elements_fit (f ∷ fs) c each =
     let reference = each f.id (record { number = 0; field = f; there = refl; type = refl }) in
@@ -226,11 +226,11 @@ fits t s d c h = by s.kind d.length d.references c.fields
 
     -- Len, where it is there
     length_fits : {a b c : List ℕ} (n : ℕ) → n ≤ greatest_length
-        → FieldsFitWithin base_table (base.field a 18 ∷ base.field b 2 ∷ base.field c 2 ∷ []) 2 3 (array_length n)
+        → IsSpelledWithin (SpellsFields base_table (base.field a 18 ∷ base.field b 2 ∷ base.field c 2 ∷ []) 2) fields_depth 3 (array_length n)
     length_fits {a = a} {b = b} {c = c} n l = by (eqb n 0) refl
       where
         by : (z : Bool) → eqb n 0 ≡ z
-            → FieldsFitWithin base_table (base.field a 18 ∷ base.field b 2 ∷ base.field c 2 ∷ []) 2 3 (array_length n)
+            → IsSpelledWithin (SpellsFields base_table (base.field a 18 ∷ base.field b 2 ∷ base.field c 2 ∷ []) 2) fields_depth 3 (array_length n)
         by true e = rw e no_fields
         by false e = rw e (one_more (omega arith) (omega arith) refl (int_fits n 3 (omega arith) (omega arith))
             no_fields)
@@ -238,7 +238,7 @@ fits t s d c h = by s.kind d.length d.references c.fields
     -- Field, where it is there
     list_field_fits : {a b : List ℕ} (fs : List Field) → length fs < 2 ^ 64 → AreCounted fs
         → ((u : TypeId) → HasFieldOf fs u → IsReference u)
-        → FieldsFitWithin base_table (base.field a 18 ∷ base.field b 22 ∷ []) 1 3 (field_list fs)
+        → IsSpelledWithin (SpellsFields base_table (base.field a 18 ∷ base.field b 22 ∷ []) 1) fields_depth 3 (field_list fs)
     list_field_fits [] l n each = no_fields
     list_field_fits (f ∷ fs) l n each = one_more (omega arith) (omega arith) refl (list_fits (f ∷ fs) l n each)
         no_fields

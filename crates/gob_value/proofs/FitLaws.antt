@@ -12,10 +12,11 @@ use Rattle.gob_types.specs.declared.kind.Shape.{Shape}
 use Rattle.gob_types.specs.Table.{Table, shape_of}
 use Rattle.gob_types.proofs.PublicLaws.{some_injective}
 use Rattle.gob_value.specs.Tree.{Tree, Trees, tree, Pairs, pair, Fields, field, tree_count, pair_count}
+use Rattle.gob_value.specs.Tree.{depth, trees_depth, pairs_depth, fields_depth}
 use Rattle.gob_value.specs.View.{view, views, pair_views, field_views}
 use Rattle.gob_value.specs.Elements.{element_type_at}
 use Rattle.gob_value.specs.Fits.{FitsKind}
-use Rattle.gob_value.specs.Within.{FitsWithin, FitsKindWithin, AllFitWithin, PairsFitWithin, FieldsFitWithin}
+use Rattle.gob_value.specs.Within.{FitsWithin, IsSpelledWithin}
 use Rattle.gob_value.specs.Written.{HasParts}
 use Rattle.gob_value.specs.Spelling.{Spells, of_type, SpellsAs, of_slice, of_array, of_map, of_struct, SpellsEach}
 use Rattle.gob_value.specs.Spelling.{no_element, element, SpellsPairs, no_entry, entry, SpellsFields, end_of_fields}
@@ -39,7 +40,7 @@ array_element x n count h = rw (eq-eqb n count (sym h))
 
 module _ (T : Table) where
   pub fits_at : (t : TypeId) (s : Shape) (limit : ℕ) (v : Tree) → shape_of T t ≡ Some s
-      → FitsKindWithin T s.kind limit v ↔ FitsWithin T t limit v
+      → IsSpelledWithin (SpellsAs T s.kind) depth limit v ↔ FitsWithin T t limit v
   fits_at t s limit v e = (
     λ f. record { bytes = f.bytes; spelled = of_type e f.spelled; within = f.within },
     λ f. record
@@ -51,7 +52,7 @@ module _ (T : Table) where
           let one : r ≡ s = some_injective (sym f ∙ e) in subst (λ (s : Shape). SpellsAs T s.kind v b) one p
 
   pub fits_leaf : (k : Kind) (limit : ℕ) (v : Tree) → ¬ HasParts v → 0 < limit → FitsKind [] k v
-      ↔ FitsKindWithin T k limit v
+      ↔ IsSpelledWithin (SpellsAs T k) depth limit v
   fits_leaf k limit v n l = (
     λ f. record { bytes = f.bytes; spelled = leaf_any [] T k v f.bytes n f.spelled; within = leaf_within limit v n l },
     λ f. record { bytes = f.bytes; spelled = leaf_any T [] k v f.bytes n f.spelled },
@@ -59,7 +60,7 @@ module _ (T : Table) where
 
   pub fits_many : (k : Kind) (vs : Trees) (e : TypeId) (limit : ℕ) → element_type_at k (tree_count vs) ≡ Some e
       → tree_count vs < 2 ^ 64 → 0 < limit
-      → AllFitWithin T e (limit - 1) vs ↔ FitsKindWithin T k limit (Tree.many vs)
+      → IsSpelledWithin (SpellsEach T e) trees_depth (limit - 1) vs ↔ IsSpelledWithin (SpellsAs T k) depth limit (Tree.many vs)
   fits_many k vs e limit h l o = (
     λ f. let r = on k vs e h l f.bytes f.spelled in let w = f.within in record
         { bytes = r.bytes; spelled = r.spelled; within = omega arith },
@@ -94,7 +95,7 @@ module _ (T : Table) where
           (c, subst (λ e. SpellsEach T e vs c) (array_length x e n (tree_count vs) h).1 ps)
 
   pub fits_no_list : (k : Kind) (vs : Trees) (limit : ℕ) → element_type_at k (tree_count vs) ≡ None
-      → ¬ FitsKindWithin T k limit (Tree.many vs)
+      → ¬ IsSpelledWithin (SpellsAs T k) depth limit (Tree.many vs)
   fits_no_list k vs limit h f = nowhere f.spelled h
     where
       nowhere : {k : Kind} {vs : Trees} {b : List ℕ} → SpellsAs T k (Tree.many vs) b
@@ -103,7 +104,7 @@ module _ (T : Table) where
       nowhere {vs = vs} (of_array {e = e} {n = n} m p ps) h = let g = array_element e n (tree_count vs) m in cc
 
   pub fits_map : (k e : TypeId) (ps : Pairs) (limit : ℕ) → pair_count ps < 2 ^ 64 → 0 < limit
-      → PairsFitWithin T k e (limit - 1) ps ↔ FitsKindWithin T (kind.Map k e) limit (Tree.pairs ps)
+      → IsSpelledWithin (SpellsPairs T k e) pairs_depth (limit - 1) ps ↔ IsSpelledWithin (SpellsAs T (kind.Map k e)) depth limit (Tree.pairs ps)
   fits_map k e ps limit l o = (
     λ f. let c = unsigned_spelled (pair_count ps) l in let w = f.within in record
         { bytes = c.bytes ++ f.bytes; spelled = of_map c.spelled f.spelled; within = omega arith },
@@ -115,7 +116,7 @@ module _ (T : Table) where
       back (of_map {b = c} p ps) = (c, ps)
 
   pub fits_struct : (types : List Field) (fs : Fields) (limit : ℕ) → 0 < limit
-      → FieldsFitWithin T types 0 (limit - 1) fs ↔ FitsKindWithin T (kind.Struct types) limit (Tree.fields fs)
+      → IsSpelledWithin (SpellsFields T types 0) fields_depth (limit - 1) fs ↔ IsSpelledWithin (SpellsAs T (kind.Struct types)) depth limit (Tree.fields fs)
   fits_struct types fs limit o = (
     λ f. let w = f.within in record { bytes = f.bytes; spelled = of_struct f.spelled; within = omega arith },
     λ f. let w = f.within in record { bytes = f.bytes; spelled = back f.spelled; within = omega arith },
@@ -127,16 +128,16 @@ module _ (T : Table) where
 
   -- an element and the rest
   pub all_fit_item : (e : TypeId) (limit : ℕ) (vs : List Value) (i : ℕ) (v : Value) → v ≡ get_or vs i v → i < length vs
-      → (FitsWithin T e limit (view v) × AllFitWithin T e limit (views (drop (i + 1) vs)))
-      ↔ AllFitWithin T e limit (views (drop i vs))
+      → (FitsWithin T e limit (view v) × IsSpelledWithin (SpellsEach T e) trees_depth limit (views (drop (i + 1) vs)))
+      ↔ IsSpelledWithin (SpellsEach T e) trees_depth limit (views (drop i vs))
   all_fit_item e limit vs i v is h = rw (views_item vs i v is h) (more (view v) (views (drop (i + 1) vs)))
     where
       back : {v : Tree} {vs : Trees} {b : List ℕ} → SpellsEach T e (tree v vs) b → (x : List ℕ) × (y : List ℕ)
           × Spells T e v x × SpellsEach T e vs y
       back (element {b = x} {c = y} p ps) = (x, y, p, ps)
 
-      more : (v : Tree) (vs : Trees) → (FitsWithin T e limit v × AllFitWithin T e limit vs)
-          ↔ AllFitWithin T e limit (tree v vs)
+      more : (v : Tree) (vs : Trees) → (FitsWithin T e limit v × IsSpelledWithin (SpellsEach T e) trees_depth limit vs)
+          ↔ IsSpelledWithin (SpellsEach T e) trees_depth limit (tree v vs)
       more v vs = (
         λ f. let a = f.0.within in let b = f.1.within in record
             { bytes = f.0.bytes ++ f.1.bytes; spelled = element f.0.spelled f.1.spelled; within = omega arith },
@@ -148,15 +149,15 @@ module _ (T : Table) where
       )
 
   pub all_fit_end : (e : TypeId) (limit : ℕ) (vs : List Value) (i : ℕ) → length vs ≤ i
-      → AllFitWithin T e limit (views (drop i vs))
+      → IsSpelledWithin (SpellsEach T e) trees_depth limit (views (drop i vs))
   all_fit_end e limit vs i h = rw (none_left vs i h) (record { bytes = []; spelled = no_element; within = omega arith })
 
   -- a key, its element and the rest
   pub pairs_fit_item : (k e : TypeId) (limit : ℕ) (ps : List (Value × Value)) (i : ℕ) (p : Value × Value)
       → p ≡ get_or ps i p → i < length ps
       → (FitsWithin T k limit (view p.0) × FitsWithin T e limit (view p.1)
-      × PairsFitWithin T k e limit (pair_views (drop (i + 1) ps)))
-      ↔ PairsFitWithin T k e limit (pair_views (drop i ps))
+      × IsSpelledWithin (SpellsPairs T k e) pairs_depth limit (pair_views (drop (i + 1) ps)))
+      ↔ IsSpelledWithin (SpellsPairs T k e) pairs_depth limit (pair_views (drop i ps))
   pairs_fit_item k e limit ps i p is h = rw (pair_item ps i p is h)
       (more (view p.0) (view p.1) (pair_views (drop (i + 1) ps)))
     where
@@ -165,8 +166,8 @@ module _ (T : Table) where
       back (entry {a = a} {b = c} {c = d} p q ps) = (a, c, d, p, q, ps)
 
       more : (x v : Tree) (ps : Pairs)
-          → (FitsWithin T k limit x × FitsWithin T e limit v × PairsFitWithin T k e limit ps)
-          ↔ PairsFitWithin T k e limit (pair x v ps)
+          → (FitsWithin T k limit x × FitsWithin T e limit v × IsSpelledWithin (SpellsPairs T k e) pairs_depth limit ps)
+          ↔ IsSpelledWithin (SpellsPairs T k e) pairs_depth limit (pair x v ps)
       more x v ps = (
         λ f. let a = f.0.within in let b = f.1.within in let c = f.2.within in
             record {
@@ -184,7 +185,7 @@ module _ (T : Table) where
       )
 
   pub pairs_fit_end : (k e : TypeId) (limit : ℕ) (ps : List (Value × Value)) (i : ℕ) → length ps ≤ i
-      → PairsFitWithin T k e limit (pair_views (drop i ps))
+      → IsSpelledWithin (SpellsPairs T k e) pairs_depth limit (pair_views (drop i ps))
   pairs_fit_end k e limit ps i h = rw (none_left ps i h)
       (record { bytes = []; spelled = no_entry; within = omega arith })
 
@@ -192,8 +193,8 @@ module _ (T : Table) where
   module _ (types : List Field) (limit : ℕ) where
     pub field_fits_item : (next : ℕ) (fs : List (ℕ × Value)) (i : ℕ) (f : ℕ × Value) (e : Field) → f ≡ get_or fs i f
         → i < length fs → next ≤ f.0 → f.0 + 1 < 2 ^ 64 → slice_get types f.0 ≡ Some e
-        → (FitsWithin T e.id limit (view f.1) × FieldsFitWithin T types (f.0 + 1) limit (field_views (drop (i + 1) fs)))
-        ↔ FieldsFitWithin T types next limit (field_views (drop i fs))
+        → (FitsWithin T e.id limit (view f.1) × IsSpelledWithin (SpellsFields T types (f.0 + 1)) fields_depth limit (field_views (drop (i + 1) fs)))
+        ↔ IsSpelledWithin (SpellsFields T types next) fields_depth limit (field_views (drop i fs))
     field_fits_item next fs i f e is h l b m = rw (field_item fs i f is h)
         (more next f.0 e (view f.1) (field_views (drop (i + 1) fs)) l b m)
       where
@@ -205,8 +206,8 @@ module _ (T : Table) where
 
         more : (next f : ℕ) (e : Field) (v : Tree) (fs : Fields) → next ≤ f → f + 1 < 2 ^ 64
             → slice_get types f ≡ Some e
-            → (FitsWithin T e.id limit v × FieldsFitWithin T types (f + 1) limit fs)
-            ↔ FieldsFitWithin T types next limit (field f v fs)
+            → (FitsWithin T e.id limit v × IsSpelledWithin (SpellsFields T types (f + 1)) fields_depth limit fs)
+            ↔ IsSpelledWithin (SpellsFields T types next) fields_depth limit (field f v fs)
         more next f e v fs l b m = (
           λ g. let s = unsigned_spelled (f + 1 - next) (omega arith) in let a = g.0.within in let c = g.1.within in
               record {
@@ -223,14 +224,14 @@ module _ (T : Table) where
         )
 
     pub fields_fit_end : (next : ℕ) (fs : List (ℕ × Value)) (i : ℕ) → length fs ≤ i
-        → FieldsFitWithin T types next limit (field_views (drop i fs))
+        → IsSpelledWithin (SpellsFields T types next) fields_depth limit (field_views (drop i fs))
     fields_fit_end next fs i h = rw (none_left fs i h)
         (let s = unsigned_spelled 0 (omega arith) in record
         { bytes = s.bytes; spelled = end_of_fields s.spelled; within = omega arith })
 
     -- a number that isn't above the one before, or of which there is no field
     pub field_low : (next : ℕ) (fs : List (ℕ × Value)) (i : ℕ) (f : ℕ × Value) → f ≡ get_or fs i f → i < length fs
-        → f.0 < next → ¬ FieldsFitWithin T types next limit (field_views (drop i fs))
+        → f.0 < next → ¬ IsSpelledWithin (SpellsFields T types next) fields_depth limit (field_views (drop i fs))
     field_low next fs i f is h l = rw (field_item fs i f is h) (λ g. nowhere g.spelled l)
       where
         nowhere : {next f : ℕ} {v : Tree} {fs : Fields} {b : List ℕ} → SpellsFields T types next (field f v fs) b
@@ -238,7 +239,7 @@ module _ (T : Table) where
         nowhere (next_field l m p q ps) n = omega arith
 
     pub field_past : (next : ℕ) (fs : List (ℕ × Value)) (i : ℕ) (f : ℕ × Value) → f ≡ get_or fs i f → i < length fs
-        → slice_get types f.0 ≡ None → ¬ FieldsFitWithin T types next limit (field_views (drop i fs))
+        → slice_get types f.0 ≡ None → ¬ IsSpelledWithin (SpellsFields T types next) fields_depth limit (field_views (drop i fs))
     field_past next fs i f is h l = rw (field_item fs i f is h) (λ g. nowhere g.spelled l)
       where
         nowhere : {next f : ℕ} {v : Tree} {fs : Fields} {b : List ℕ} → SpellsFields T types next (field f v fs) b
@@ -251,7 +252,7 @@ pub record MapFitted (k : Kind) : Type 0 where
   pub elem : TypeId
   pub is : k ≡ kind.Map key elem
 
-pub map_fitted : {T : Table} {k : Kind} {limit : ℕ} {ps : Pairs} → FitsKindWithin T k limit (Tree.pairs ps)
+pub map_fitted : {T : Table} {k : Kind} {limit : ℕ} {ps : Pairs} → IsSpelledWithin (SpellsAs T k) depth limit (Tree.pairs ps)
     → MapFitted k
 map_fitted f = inside f.spelled
   where
@@ -263,7 +264,7 @@ pub record StructFitted (k : Kind) : Type 0 where
   pub types : List Field
   pub is : k ≡ kind.Struct types
 
-pub struct_fitted : {T : Table} {k : Kind} {limit : ℕ} {fs : Fields} → FitsKindWithin T k limit (Tree.fields fs)
+pub struct_fitted : {T : Table} {k : Kind} {limit : ℕ} {fs : Fields} → IsSpelledWithin (SpellsAs T k) depth limit (Tree.fields fs)
     → StructFitted k
 struct_fitted f = inside f.spelled
   where

@@ -17,7 +17,6 @@ use Rattle.gob_value.specs.Spelling.{Spells, SpellsAs, SpellsEach, SpellsPairs, 
 use Rattle.gob_value.specs.Tidy.{IsZero, IsDropped, zero_basic, empty_slice, Tidies, of_type, TidiesAs, of_basic}
 use Rattle.gob_value.specs.Tidy.{of_opaque, of_slice, of_array, of_map, of_struct, TidiesEach, no_element, element}
 use Rattle.gob_value.specs.Tidy.{TidiesPairs, no_entry, entry, TidiesFields, no_more, dropped, kept, HasTidyForm}
-use Rattle.gob_value.specs.Tidy.{HasTidyFormAs, HaveTidyForms, HaveTidyPairs, HaveTidyFields}
 use Rattle.gob_value.specs.Tidy as tidy
 
 -- ---- whether a field is dropped can be told
@@ -74,10 +73,10 @@ dropped_told (kind.Opaque m) v = inr (λ d. elim d [ ])
 -- ---- a value that fits has a tidy form
 
 mutual
-  pub tidy_form : {T : Table} {t : TypeId} {v : Tree} {b : List ℕ} → Spells T t v b → HasTidyForm T t v
+  pub tidy_form : {T : Table} {t : TypeId} {v : Tree} {b : List ℕ} → Spells T t v b → HasTidyForm (Tidies T t v)
   tidy_form (spelling.of_type e p) = let r = tidy_form_as p in record { tidy = r.tidy; tidies = of_type e r.tidies }
 
-  tidy_form_as : {T : Table} {k : Kind} {v : Tree} {b : List ℕ} → SpellsAs T k v b → HasTidyFormAs T k v
+  tidy_form_as : {T : Table} {k : Kind} {v : Tree} {b : List ℕ} → SpellsAs T k v b → HasTidyForm (TidiesAs T k v)
   tidy_form_as {v = v} (spelling.of_bool p) = record { tidy = v; tidies = of_basic (λ h. h) }
   tidy_form_as {v = v} (spelling.of_int p) = record { tidy = v; tidies = of_basic (λ h. h) }
   tidy_form_as {v = v} (spelling.of_uint p) = record { tidy = v; tidies = of_basic (λ h. h) }
@@ -96,19 +95,19 @@ mutual
   tidy_form_as (spelling.of_struct ps) = let r = tidy_fields ps in record
       { tidy = Value.fields r.tidy; tidies = of_struct r.tidies }
 
-  tidy_forms : {T : Table} {e : TypeId} {vs : Trees} {b : List ℕ} → SpellsEach T e vs b → HaveTidyForms T e vs
+  tidy_forms : {T : Table} {e : TypeId} {vs : Trees} {b : List ℕ} → SpellsEach T e vs b → HasTidyForm (TidiesEach T e vs)
   tidy_forms spelling.no_element = record { tidy = no_tree; tidies = no_element }
   tidy_forms (spelling.element p ps) = let r = tidy_form p in let rs = tidy_forms ps in record
       { tidy = tree r.tidy rs.tidy; tidies = element r.tidies rs.tidies }
 
-  tidy_pairs : {T : Table} {k e : TypeId} {ps : Pairs} {b : List ℕ} → SpellsPairs T k e ps b → HaveTidyPairs T k e ps
+  tidy_pairs : {T : Table} {k e : TypeId} {ps : Pairs} {b : List ℕ} → SpellsPairs T k e ps b → HasTidyForm (TidiesPairs T k e ps)
   tidy_pairs spelling.no_entry = record { tidy = no_pair; tidies = no_entry }
   tidy_pairs (spelling.entry p q ps) =
       let r = tidy_form p in let s = tidy_form q in let rs = tidy_pairs ps in
       record { tidy = pair r.tidy s.tidy rs.tidy; tidies = entry r.tidies s.tidies rs.tidies }
 
   tidy_fields : {T : Table} {types : List Field} {next : ℕ} {fs : Fields} {b : List ℕ} → SpellsFields T types next fs b
-      → HaveTidyFields T types fs
+      → HasTidyForm (TidiesFields T types fs)
   tidy_fields (spelling.end_of_fields p) = record { tidy = no_field; tidies = no_more }
   tidy_fields {fs = field f v fs} (spelling.next_field l m p (spelling.of_type {s = s} e q) ps) =
       let r = tidy_form_as q in let rs = tidy_fields ps in

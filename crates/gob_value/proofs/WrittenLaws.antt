@@ -9,15 +9,14 @@ use Rattle.gob_types.specs.declared.kind.Kind.{Kind}
 use Rattle.gob_types.specs.declared.kind.Kind.TheVariants as kind
 use Rattle.gob_types.specs.declared.kind.Marshal.{Marshal}
 use Rattle.gob_types.specs.Table.{Table}
-use Rattle.gob_value.specs.Tree.{Tree, Trees, Pairs, Fields}
+use Rattle.gob_value.specs.Tree.{Tree, Trees, Pairs, Fields, depth}
 use Rattle.gob_value.specs.Tree as Value
 use Rattle.gob_value.specs.Spelling.{Spells, of_type, SpellsAs, of_bool, of_int, of_uint, of_float, of_complex, of_nil}
 use Rattle.gob_value.specs.Spelling.{of_bytes, of_text, of_opaque, of_slice, of_array, of_map, of_struct, SpellsEach}
 use Rattle.gob_value.specs.Spelling.{no_element, element, SpellsPairs, no_entry, entry, SpellsFields, end_of_fields}
 use Rattle.gob_value.specs.Spelling.{next_field}
-use Rattle.gob_value.specs.Within.{FitsWithin}
+use Rattle.gob_value.specs.Within.{FitsWithin, IsSpelledWithin}
 use Rattle.gob_value.specs.Written.{WrittenBytes, counted, Written, WrittenEach, WrittenPairs, WrittenFields}
-use Rattle.gob_value.specs.Written.{IsWritable}
 use Rattle.gob_value.specs.Written as written
 
 bytes_as : {T : Table} {s b : List ℕ} → WrittenBytes s b → SpellsAs T (kind.Basic basic.Bytes) (Value.bytes s) b
@@ -103,5 +102,5 @@ mutual
 
 -- a value that fits some type can be written
 pub fits_writable : {T : Table} {t : TypeId} {limit : ℕ} {v : Tree} → FitsWithin T t limit v → limit ≤ 1000
-    → IsWritable v
-fits_writable f l = record { bytes = f.bytes; written = spells_written f.spelled; shallow = le_trans f.within l }
+    → IsSpelledWithin Written depth 1000 v
+fits_writable f l = record { bytes = f.bytes; spelled = spells_written f.spelled; within = le_trans f.within l }

@@ -3,34 +3,35 @@ use Rattle.std.proofs.Common.{◌≡◌, ℕ, ◌+◌, ◌-◌, ◌^◌, ◌<◌
 use Rattle.gob_num.specs.Unsigned.{IsUnsigned}
 use Rattle.gob_num.proofs.PublicLaws.{unsigned_fits}
 use Rattle.gob_value.specs.Tree.{Tree, Trees, tree, Pairs, pair, Fields, field, fields_depth}
+use Rattle.gob_value.specs.Tree.{depth, trees_depth, pairs_depth}
 use Rattle.gob_value.specs.View.{view, views, pair_views, field_views}
 use Rattle.gob_value.specs.Written.{Written, of_many, of_pairs, of_fields, WrittenEach, no_element, element}
-use Rattle.gob_value.specs.Written.{WrittenPairs, no_entry, entry, WrittenFields, end_of_fields, next_field, IsWritable}
-use Rattle.gob_value.specs.Written.{AreWritable, PairsWritable, FieldsWritable}
+use Rattle.gob_value.specs.Written.{WrittenPairs, no_entry, entry, WrittenFields, end_of_fields, next_field}
 use Rattle.gob_value.specs.declared.value.Value.{Value}
+use Rattle.gob_value.specs.Within.{IsSpelledWithin}
 use Rattle.gob_value.proofs.AppendedLaws.{Behind}
 use Rattle.gob_value.proofs.TestSteps.{none_left}
 use Rattle.gob_value.proofs.ViewLaws.{views_item, pair_item, field_item}
 
 -- ---- the parts of a value that can be written can be written
 
-pub many_writable : (vs : Trees) → IsWritable (Tree.many vs) → AreWritable vs
-many_writable vs w = let r = inside w.written in let s = w.shallow in record
-    { bytes = r.0; written = r.1; shallow = omega arith }
+pub many_writable : (vs : Trees) → IsSpelledWithin Written depth 1000 (Tree.many vs) → IsSpelledWithin WrittenEach trees_depth 1000 vs
+many_writable vs w = let r = inside w.spelled in let s = w.within in record
+    { bytes = r.0; spelled = r.1; within = omega arith }
   where
     inside : {vs : Trees} {b : List ℕ} → Written (Tree.many vs) b → (c : List ℕ) × WrittenEach vs c
     inside (of_many {b = c} p ps) = (c, ps)
 
-pub pairs_writable : (ps : Pairs) → IsWritable (Tree.pairs ps) → PairsWritable ps
-pairs_writable ps w = let r = inside w.written in let s = w.shallow in record
-    { bytes = r.0; written = r.1; shallow = omega arith }
+pub pairs_writable : (ps : Pairs) → IsSpelledWithin Written depth 1000 (Tree.pairs ps) → IsSpelledWithin WrittenPairs pairs_depth 1000 ps
+pairs_writable ps w = let r = inside w.spelled in let s = w.within in record
+    { bytes = r.0; spelled = r.1; within = omega arith }
   where
     inside : {ps : Pairs} {b : List ℕ} → Written (Tree.pairs ps) b → (c : List ℕ) × WrittenPairs ps c
     inside (of_pairs {b = c} p ps) = (c, ps)
 
-pub fields_writable : (fs : Fields) → IsWritable (Tree.fields fs) → FieldsWritable 0 fs
-fields_writable fs w = let s = w.shallow in record
-    { bytes = w.bytes; written = inside w.written; shallow = omega arith }
+pub fields_writable : (fs : Fields) → IsSpelledWithin Written depth 1000 (Tree.fields fs) → IsSpelledWithin (WrittenFields 0) fields_depth 1000 fs
+fields_writable fs w = let s = w.within in record
+    { bytes = w.bytes; spelled = inside w.spelled; within = omega arith }
   where
     inside : {fs : Fields} {b : List ℕ} → Written (Tree.fields fs) b → WrittenFields 0 fs b
     inside (of_fields ps) = ps
@@ -38,12 +39,12 @@ fields_writable fs w = let s = w.shallow in record
 -- ---- elements
 
 module _ (vs : List Value) (i : ℕ) where
-  pub each_left : (v : Value) → v ≡ get_or vs i v → i < length vs → AreWritable (views (drop i vs))
-      → IsWritable (view v) × AreWritable (views (drop (i + 1) vs))
-  each_left v is h = rw (views_item vs i v is h) (λ w. let r = inside w.written in let s = w.shallow in (
-    record { bytes = r.0; written = r.2; shallow = omega arith },
+  pub each_left : (v : Value) → v ≡ get_or vs i v → i < length vs → IsSpelledWithin WrittenEach trees_depth 1000 (views (drop i vs))
+      → IsSpelledWithin Written depth 1000 (view v) × IsSpelledWithin WrittenEach trees_depth 1000 (views (drop (i + 1) vs))
+  each_left v is h = rw (views_item vs i v is h) (λ w. let r = inside w.spelled in let s = w.within in (
+    record { bytes = r.0; spelled = r.2; within = omega arith },
     record
-        { bytes = r.1; written = r.3; shallow = omega arith },
+        { bytes = r.1; spelled = r.3; within = omega arith },
   ))
     where
       inside : {v : Tree} {vs : Trees} {b : List ℕ} → WrittenEach (tree v vs) b → (x : List ℕ) × (y : List ℕ)
@@ -60,14 +61,14 @@ module _ (vs : List Value) (i : ℕ) where
 -- ---- keys and elements
 
 module _ (ps : List (Value × Value)) (i : ℕ) where
-  pub pairs_left : (p : Value × Value) → p ≡ get_or ps i p → i < length ps → PairsWritable (pair_views (drop i ps))
-      → IsWritable (view p.0) × IsWritable (view p.1) × PairsWritable (pair_views (drop (i + 1) ps))
-  pairs_left p is h = rw (pair_item ps i p is h) (λ w. let r = inside w.written in let s = w.shallow in (
-    record { bytes = r.0; written = r.3; shallow = omega arith },
+  pub pairs_left : (p : Value × Value) → p ≡ get_or ps i p → i < length ps → IsSpelledWithin WrittenPairs pairs_depth 1000 (pair_views (drop i ps))
+      → IsSpelledWithin Written depth 1000 (view p.0) × IsSpelledWithin Written depth 1000 (view p.1) × IsSpelledWithin WrittenPairs pairs_depth 1000 (pair_views (drop (i + 1) ps))
+  pairs_left p is h = rw (pair_item ps i p is h) (λ w. let r = inside w.spelled in let s = w.within in (
+    record { bytes = r.0; spelled = r.3; within = omega arith },
     record
-        { bytes = r.1; written = r.4; shallow = omega arith },
+        { bytes = r.1; spelled = r.4; within = omega arith },
     record
-        { bytes = r.2; written = r.5; shallow = omega arith },
+        { bytes = r.2; spelled = r.5; within = omega arith },
   ))
     where
       inside : {x v : Tree} {ps : Pairs} {b : List ℕ} → WrittenPairs (pair x v ps) b → (a : List ℕ) × (c : List ℕ)
@@ -88,25 +89,25 @@ module _ (ps : List (Value × Value)) (i : ℕ) where
 pub record FieldLeft (next : ℕ) (f : ℕ × Value) (behind : Fields) : Type 0 where
   pub rises : next ≤ f.0
   pub small : f.0 + 1 - next < 2 ^ 64
-  pub value : IsWritable (view f.1)
-  pub rest : FieldsWritable (f.0 + 1) behind
+  pub value : IsSpelledWithin Written depth 1000 (view f.1)
+  pub rest : IsSpelledWithin (WrittenFields (f.0 + 1)) fields_depth 1000 behind
 
 module _ (fs : List (ℕ × Value)) (i : ℕ) where
   pub field_left : (next : ℕ) (f : ℕ × Value) → f ≡ get_or fs i f → i < length fs
-      → FieldsWritable next (field_views (drop i fs)) → FieldLeft next f (field_views (drop (i + 1) fs))
+      → IsSpelledWithin (WrittenFields next) fields_depth 1000 (field_views (drop i fs)) → FieldLeft next f (field_views (drop (i + 1) fs))
   field_left next f is h = rw (field_item fs i f is h)
-      (λ w. let r = inside f.0 (view f.1) w.written w.shallow in record
+      (λ w. let r = inside f.0 (view f.1) w.spelled w.within in record
       { rises = r.0; small = r.1; value = r.2; rest = r.3 })
     where
       inside : {next : ℕ} {fs : Fields} {b : List ℕ} (f : ℕ) (v : Tree) → WrittenFields next (field f v fs) b
           → fields_depth (field f v fs) ≤ 1000
-          → (next ≤ f) × (f + 1 - next < 2 ^ 64) × IsWritable v × FieldsWritable (f + 1) fs
+          → (next ≤ f) × (f + 1 - next < 2 ^ 64) × IsSpelledWithin Written depth 1000 v × IsSpelledWithin (WrittenFields (f + 1)) fields_depth 1000 fs
       inside f v (next_field {b = x} {c = y} l n p ps) s = (
         l,
         unsigned_fits n,
-        record { bytes = x; written = p; shallow = omega arith },
+        record { bytes = x; spelled = p; within = omega arith },
         record
-            { bytes = y; written = ps; shallow = omega arith },
+            { bytes = y; spelled = ps; within = omega arith },
       )
 
   pub field_from : (next : ℕ) (f : ℕ × Value) → f ≡ get_or fs i f → i < length fs → next ≤ f.0 → (b r : List ℕ)

@@ -69,25 +69,7 @@ mutual
         → ¬ IsDropped s.kind v → TidiesAs T s.kind v w → TidiesFields T types fs gs
         → TidiesFields T types (field f v fs) (field f w gs)
 
--- the value has a tidy form at the type
-pub record HasTidyForm (T : Table) (t : TypeId) (v : Tree) : Type 0 where
-  pub tidy : Tree
-  pub tidies : Tidies T t v tidy
-
--- the same at a kind
-pub record HasTidyFormAs (T : Table) (k : Kind) (v : Tree) : Type 0 where
-  pub tidy : Tree
-  pub tidies : TidiesAs T k v tidy
-
--- of elements, entries and fields
-pub record HaveTidyForms (T : Table) (e : TypeId) (vs : Trees) : Type 0 where
-  pub tidy : Trees
-  pub tidies : TidiesEach T e vs tidy
-
-pub record HaveTidyPairs (T : Table) (k e : TypeId) (ps : Pairs) : Type 0 where
-  pub tidy : Pairs
-  pub tidies : TidiesPairs T k e ps tidy
-
-pub record HaveTidyFields (T : Table) (types : List Field) (fs : Fields) : Type 0 where
-  pub tidy : Fields
-  pub tidies : TidiesFields T types fs tidy
+-- a value, elements, entries or fields have a tidy form
+pub record HasTidyForm {V : Type 0} (Tidies : V → Type 0) : Type 0 where
+  pub tidy : V
+  pub tidies : Tidies tidy

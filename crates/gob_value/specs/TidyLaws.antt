@@ -12,7 +12,7 @@ use Rattle.gob_value.specs.Fits.{Fits}
 use Rattle.gob_value.specs.Description.{Describes, Misdescribes}
 use Rattle.gob_value.specs.Described.{described}
 use Rattle.gob_value.specs.Spelling.{Spells}
-use Rattle.gob_value.specs.Tidy.{HasTidyForm}
+use Rattle.gob_value.specs.Tidy.{Tidies, HasTidyForm}
 
 -- a relation of a type's values with others, under a table
 abbrev pub Form : Type 1
@@ -24,7 +24,7 @@ IsOneForm F = (T : Table) (t : TypeId) (v w x : Tree) → F T t v w → F T t v 
 
 -- and each value that fits has one
 abbrev pub HaveTidyForm : Type 0
-HaveTidyForm = (T : Table) (t : TypeId) (v : Tree) → Fits T t v → HasTidyForm T t v
+HaveTidyForm = (T : Table) (t : TypeId) (v : Tree) → Fits T t v → HasTidyForm (Tidies T t v)
 
 -- the form of a form is itself
 abbrev pub IsItsOwnForm : Form → Type 0

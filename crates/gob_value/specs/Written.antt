@@ -5,7 +5,7 @@ use Rattle.gob_num.specs.Unsigned.{IsUnsigned}
 use Rattle.gob_num.specs.Signed.{IsSigned}
 use Rattle.gob_num.specs.Pattern.{IsPattern}
 use Rattle.gob_value.specs.Tree.{Tree, Trees, no_tree, tree, Pairs, no_pair, pair, Fields, no_field, field, tree_count}
-use Rattle.gob_value.specs.Tree.{pair_count, depth, trees_depth, pairs_depth, fields_depth}
+use Rattle.gob_value.specs.Tree.{pair_count}
 use Rattle.gob_value.specs.Tree as Value
 use Rattle.gob_value.specs.Spelling.{truth}
 
@@ -59,24 +59,3 @@ mutual
 abbrev pub next_number : Option ℕ → ℕ
 next_number None = 0
 next_number (Some last) = last + 1
-
--- the value can be written: the numbers of its fields rise, and it is shallow enough for recursion
-pub record IsWritable (v : Tree) : Type 0 where
-  pub bytes : List ℕ
-  pub written : Written v bytes
-  pub shallow : depth v ≤ 1000
-
-pub record AreWritable (vs : Trees) : Type 0 where
-  pub bytes : List ℕ
-  pub written : WrittenEach vs bytes
-  pub shallow : trees_depth vs ≤ 1000
-
-pub record PairsWritable (ps : Pairs) : Type 0 where
-  pub bytes : List ℕ
-  pub written : WrittenPairs ps bytes
-  pub shallow : pairs_depth ps ≤ 1000
-
-pub record FieldsWritable (next : ℕ) (fs : Fields) : Type 0 where
-  pub bytes : List ℕ
-  pub written : WrittenFields next fs bytes
-  pub shallow : fields_depth fs ≤ 1000

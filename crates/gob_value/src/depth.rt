@@ -2,7 +2,7 @@
 
 ghost use Rattle.std.specs.Prelude.{◌↔◌, ◌≤◌, IsTrue};
 ghost use Rattle.gob_value.specs.View.{view, views, pair_views, field_views};
-ghost use Rattle.gob_value.specs.Within.{IsWithin, AreWithin, PairsWithin, FieldsWithin};
+ghost use Rattle.gob_value.specs.Tree.{depth, trees_depth, pairs_depth, fields_depth};
 
 use crate::value::Value;
 
@@ -10,7 +10,7 @@ use crate::value::Value;
 #[cycle(within)]
 pub(crate) fn is_within(value: &Value, limit: u64) -> bool
     requires { limit ≤ 1000 }
-    ensures { IsTrue result ↔ IsWithin limit (view value.now) }
+    ensures { IsTrue result ↔ (depth (view value.now) ≤ limit) }
 {
     if limit == 0 {
         return false;
@@ -26,7 +26,7 @@ pub(crate) fn is_within(value: &Value, limit: u64) -> bool
 #[cycle(within)]
 fn are_within(parts: &[Value], limit: u64) -> bool
     requires { limit ≤ 1000 }
-    ensures { IsTrue result ↔ AreWithin limit (views parts.now) }
+    ensures { IsTrue result ↔ (trees_depth (views parts.now) ≤ limit) }
 {
     for part in parts {
         if !is_within(part, limit) {
@@ -39,7 +39,7 @@ fn are_within(parts: &[Value], limit: u64) -> bool
 #[cycle(within)]
 fn pairs_within(parts: &[(Value, Value)], limit: u64) -> bool
     requires { limit ≤ 1000 }
-    ensures { IsTrue result ↔ PairsWithin limit (pair_views parts.now) }
+    ensures { IsTrue result ↔ (pairs_depth (pair_views parts.now) ≤ limit) }
 {
     for (key, elem) in parts {
         if !is_within(key, limit) {
@@ -55,7 +55,7 @@ fn pairs_within(parts: &[(Value, Value)], limit: u64) -> bool
 #[cycle(within)]
 fn fields_within(parts: &[(u64, Value)], limit: u64) -> bool
     requires { limit ≤ 1000 }
-    ensures { IsTrue result ↔ FieldsWithin limit (field_views parts.now) }
+    ensures { IsTrue result ↔ (fields_depth (field_views parts.now) ≤ limit) }
 {
     for (_, part) in parts {
         if !is_within(part, limit) {

@@ -3,8 +3,9 @@
 ghost use Rattle.std.specs.Prelude.{◌≡◌, ◌↔◌, ◌≤◌, IsTrue, OnOk, IfErr};
 ghost use Rattle.gob_value.specs.View.{view, views, pair_views, field_views};
 ghost use Rattle.gob_value.specs.Elements.{element_type_at};
-ghost use Rattle.gob_value.specs.Within.{FitsWithin, FitsKindWithin};
-ghost use Rattle.gob_value.specs.Within.{AllFitWithin, PairsFitWithin, FieldsFitWithin};
+ghost use Rattle.gob_value.specs.Tree.{depth, trees_depth, pairs_depth, fields_depth};
+ghost use Rattle.gob_value.specs.Spelling.{SpellsAs, SpellsEach, SpellsPairs, SpellsFields};
+ghost use Rattle.gob_value.specs.Within.{FitsWithin, IsSpelledWithin};
 ghost use Rattle.gob_value.specs.Faults.{IsMisfit};
 
 use crate::depth::is_within;
@@ -33,35 +34,35 @@ pub fn fits<S: Shapes>(shapes: &S, id: TypeId, value: &Value, depth: u64) -> Res
 }
 
 #[cycle(fits)]
-fn fits_type<S: Shapes>(shapes: &S, id: TypeId, value: &Value, depth: u64) -> bool
-    requires { depth ≤ 1000 }
-    ensures { IsTrue result ↔ FitsWithin (S.table shapes.now) id depth (view value.now) }
+fn fits_type<S: Shapes>(shapes: &S, id: TypeId, value: &Value, limit: u64) -> bool
+    requires { limit ≤ 1000 }
+    ensures { IsTrue result ↔ FitsWithin (S.table shapes.now) id limit (view value.now) }
 {
     match shapes.shape_of(id) {
-        Some(shape) => fits_kind(shapes, &shape.kind, value, depth),
+        Some(shape) => fits_kind(shapes, &shape.kind, value, limit),
         None => false,
     }
 }
 
 #[cycle(fits)]
-fn fits_kind<S: Shapes>(shapes: &S, kind: &Kind, value: &Value, depth: u64) -> bool
-    requires { depth ≤ 1000 }
-    ensures { IsTrue result ↔ FitsKindWithin (S.table shapes.now) kind.now depth (view value.now) }
+fn fits_kind<S: Shapes>(shapes: &S, kind: &Kind, value: &Value, limit: u64) -> bool
+    requires { limit ≤ 1000 }
+    ensures { IsTrue result ↔ IsSpelledWithin (SpellsAs (S.table shapes.now) kind.now) depth limit (view value.now) }
 {
-    if depth == 0 {
+    if limit == 0 {
         return false;
     }
     match value {
         Value::Many(parts) => match element_of(kind, parts.len() as u64) {
-            Some(elem) => all_fit(shapes, elem, parts, depth - 1),
+            Some(elem) => all_fit(shapes, elem, parts, limit - 1),
             None => false,
         },
         Value::Pairs(parts) => match kind {
-            Kind::Map { key, elem } => pairs_fit(shapes, *key, *elem, parts, depth - 1),
+            Kind::Map { key, elem } => pairs_fit(shapes, *key, *elem, parts, limit - 1),
             _ => false,
         },
         Value::Fields(parts) => match kind {
-            Kind::Struct { fields } => fields_fit(shapes, fields, parts, depth - 1),
+            Kind::Struct { fields } => fields_fit(shapes, fields, parts, limit - 1),
             _ => false,
         },
         _ => fits_leaf(kind, value),
@@ -69,12 +70,12 @@ fn fits_kind<S: Shapes>(shapes: &S, kind: &Kind, value: &Value, depth: u64) -> b
 }
 
 #[cycle(fits)]
-fn all_fit<S: Shapes>(shapes: &S, elem: TypeId, parts: &[Value], depth: u64) -> bool
-    requires { depth ≤ 1000 }
-    ensures { IsTrue result ↔ AllFitWithin (S.table shapes.now) elem depth (views parts.now) }
+fn all_fit<S: Shapes>(shapes: &S, elem: TypeId, parts: &[Value], limit: u64) -> bool
+    requires { limit ≤ 1000 }
+    ensures { IsTrue result ↔ IsSpelledWithin (SpellsEach (S.table shapes.now) elem) trees_depth limit (views parts.now) }
 {
     for part in parts {
-        if !fits_type(shapes, elem, part, depth) {
+        if !fits_type(shapes, elem, part, limit) {
             return false;
         }
     }
@@ -87,16 +88,17 @@ fn pairs_fit<S: Shapes>(
     key: TypeId,
     elem: TypeId,
     parts: &[(Value, Value)],
-    depth: u64,
+    limit: u64,
 ) -> bool
-    requires { depth ≤ 1000 }
-    ensures { IsTrue result ↔ PairsFitWithin (S.table shapes.now) key elem depth (pair_views parts.now) }
+    requires { limit ≤ 1000 }
+    ensures { IsTrue result
+        ↔ IsSpelledWithin (SpellsPairs (S.table shapes.now) key elem) pairs_depth limit (pair_views parts.now) }
 {
     for (k, e) in parts {
-        if !fits_type(shapes, key, k, depth) {
+        if !fits_type(shapes, key, k, limit) {
             return false;
         }
-        if !fits_type(shapes, elem, e, depth) {
+        if !fits_type(shapes, elem, e, limit) {
             return false;
         }
     }
@@ -104,9 +106,10 @@ fn pairs_fit<S: Shapes>(
 }
 
 #[cycle(fits)]
-fn fields_fit<S: Shapes>(shapes: &S, types: &Fields, parts: &[(u64, Value)], depth: u64) -> bool
-    requires { depth ≤ 1000 }
-    ensures { IsTrue result ↔ FieldsFitWithin (S.table shapes.now) types.now 0 depth (field_views parts.now) }
+fn fields_fit<S: Shapes>(shapes: &S, types: &Fields, parts: &[(u64, Value)], limit: u64) -> bool
+    requires { limit ≤ 1000 }
+    ensures { IsTrue result
+        ↔ IsSpelledWithin (SpellsFields (S.table shapes.now) types.now 0) fields_depth limit (field_views parts.now) }
 {
     let mut next = 0;
     for (number, part) in parts {
@@ -116,7 +119,7 @@ fn fields_fit<S: Shapes>(shapes: &S, types: &Fields, parts: &[(u64, Value)], dep
         match types.get(*number) {
             None => return false,
             Some(field) => {
-                if !fits_type(shapes, field.id, part, depth) {
+                if !fits_type(shapes, field.id, part, limit) {
                     return false;
                 }
             }

@@ -2,9 +2,11 @@
 
 ghost use Rattle.std.specs.Prelude.{◌↔◌, IsTrue, IfOk};
 ghost use Rattle.gob_value.specs.View.{view, views, pair_views, field_views};
-ghost use Rattle.gob_value.specs.Tidy.{Tidies, IsZero, IsDropped, HasTidyForm, HasTidyFormAs};
-ghost use Rattle.gob_value.specs.Tidy.{HaveTidyForms, HaveTidyPairs, HaveTidyFields};
-ghost use Rattle.gob_value.specs.Tidied.{IsTidied, IsTidiedAs, AreTidied, PairsTidied, FieldsTidied};
+ghost use Rattle.gob_value.specs.Tidy.{Tidies, TidiesAs, TidiesEach, TidiesPairs, TidiesFields};
+ghost use Rattle.gob_value.specs.Tidy.{IsZero, IsDropped, HasTidyForm};
+ghost use Rattle.gob_value.specs.Tidied.{IsTidied};
+ghost use Rattle.gob_value.specs.TidyLaws.{HasSmallNumbers, AllHaveSmallNumbers, PairsHaveSmallNumbers};
+ghost use Rattle.gob_value.specs.TidyLaws.{FieldsHaveSmallNumbers};
 ghost use Rattle.gob_value.specs.Tree.{depth};
 ghost use Rattle.gob_value.specs.Fits.{Fits};
 ghost use Rattle.gob_value.specs.Within.{FitsWithin};
@@ -35,8 +37,9 @@ fn tidy_type<S: Shapes>(
     id: TypeId,
     value: Value,
 ) -> Result<Value, Memory>
-    requires { HasTidyForm (S.table shapes.now) id (view value) }
-    ensures { IfOk result (λ tidied. IsTidied (S.table shapes.now) id (view value) (view tidied)) }
+    requires { HasTidyForm (Tidies (S.table shapes.now) id (view value)) }
+    ensures { IfOk result
+        (λ tidied. IsTidied (Tidies (S.table shapes.now) id) HasSmallNumbers (view value) (view tidied)) }
 {
     match shapes.shape_of(id) {
         Some(shape) => tidy_kind(alloc, shapes, &shape.kind, value),
@@ -51,8 +54,9 @@ fn tidy_kind<S: Shapes>(
     kind: &Kind,
     value: Value,
 ) -> Result<Value, Memory>
-    requires { HasTidyFormAs (S.table shapes.now) kind.now (view value) }
-    ensures { IfOk result (λ tidied. IsTidiedAs (S.table shapes.now) kind.now (view value) (view tidied)) }
+    requires { HasTidyForm (TidiesAs (S.table shapes.now) kind.now (view value)) }
+    ensures { IfOk result
+        (λ tidied. IsTidied (TidiesAs (S.table shapes.now) kind.now) HasSmallNumbers (view value) (view tidied)) }
 {
     match kind {
         Kind::Basic(_) | Kind::Opaque(_) => Ok(value),
@@ -78,9 +82,10 @@ fn tidy_each<S: Shapes>(
     elem: TypeId,
     parts: Vec<Value>,
 ) -> Result<Vec<Value>, Memory>
-    requires { HaveTidyForms (S.table shapes.now) elem (views parts.items) }
+    requires { HasTidyForm (TidiesEach (S.table shapes.now) elem (views parts.items)) }
     ensures { IfOk result
-        (λ tidied. AreTidied (S.table shapes.now) elem (views parts.items) (views tidied.items)) }
+        (λ tidied. IsTidied (TidiesEach (S.table shapes.now) elem) AllHaveSmallNumbers
+        (views parts.items) (views tidied.items)) }
 {
     let mut tidied = Vec::new(alloc);
     for part in parts {
@@ -97,9 +102,10 @@ fn tidy_pairs<S: Shapes>(
     elem: TypeId,
     parts: Vec<(Value, Value)>,
 ) -> Result<Vec<(Value, Value)>, Memory>
-    requires { HaveTidyPairs (S.table shapes.now) key elem (pair_views parts.items) }
+    requires { HasTidyForm (TidiesPairs (S.table shapes.now) key elem (pair_views parts.items)) }
     ensures { IfOk result
-        (λ tidied. PairsTidied (S.table shapes.now) key elem (pair_views parts.items) (pair_views tidied.items)) }
+        (λ tidied. IsTidied (TidiesPairs (S.table shapes.now) key elem) PairsHaveSmallNumbers
+        (pair_views parts.items) (pair_views tidied.items)) }
 {
     let mut tidied = Vec::new(alloc);
     for (k, e) in parts {
@@ -117,9 +123,10 @@ fn tidy_fields<S: Shapes>(
     types: &Fields,
     parts: Vec<(u64, Value)>,
 ) -> Result<Vec<(u64, Value)>, Memory>
-    requires { HaveTidyFields (S.table shapes.now) types.now (field_views parts.items) }
+    requires { HasTidyForm (TidiesFields (S.table shapes.now) types.now (field_views parts.items)) }
     ensures { IfOk result
-        (λ tidied. FieldsTidied (S.table shapes.now) types.now (field_views parts.items) (field_views tidied.items)) }
+        (λ tidied. IsTidied (TidiesFields (S.table shapes.now) types.now) FieldsHaveSmallNumbers
+        (field_views parts.items) (field_views tidied.items)) }
 {
     let mut tidied = Vec::new(alloc);
     for (number, part) in parts {

@@ -4,10 +4,11 @@ use Rattle.std.proofs.lemmas.Result.{IfOk-from_err}
 use Rattle.gob_types.specs.declared.kind.Kind.TheVariants as kind
 use Rattle.gob_value.specs.Tree.{Tree, depth, trees_depth, pairs_depth, fields_depth}
 use Rattle.gob_value.specs.View.{view, views, pair_views, field_views}
-use Rattle.gob_value.specs.Tidy.{of_map, of_struct, no_element, no_entry, no_more, HasTidyFormAs, HaveTidyForms}
-use Rattle.gob_value.specs.Tidy.{HaveTidyPairs, HaveTidyFields}
-use Rattle.gob_value.specs.Tidied.{AreTidied, PairsTidied, FieldsTidied}
+use Rattle.gob_value.specs.Tidy.{of_map, of_struct, no_element, no_entry, no_more}
+use Rattle.gob_value.specs.Tidy.{TidiesAs, TidiesEach, TidiesPairs, TidiesFields, HasTidyForm}
 use Rattle.gob_value.specs.declared.value.Value.{Value, the_lemmas}
+use Rattle.gob_value.specs.Tidied.{IsTidied}
+use Rattle.gob_value.specs.TidyLaws.{AllHaveSmallNumbers, PairsHaveSmallNumbers, FieldsHaveSmallNumbers}
 use Rattle.gob_value.proofs.TidySteps.{goes_starts, goes_end, each_left, each_on, pairs_left, pairs_on, field_left}
 use Rattle.gob_value.proofs.TidySteps.{field_shallow, field_form, field_dropped, field_kept, many_of_parts}
 use Rattle.gob_value.proofs.TidySteps.{parts_of_many, parts_of_pairs, parts_of_fields, form_at, formless, plain_stays}
@@ -20,7 +21,7 @@ use Rattle.gob_value.proofs.tidying.+tidy.Goals as goal
 pub tidy_each-loop-part-init : goal.tidy_each-loop-part-init
 tidy_each-loop-part-init g t c = (
   goes_starts c.new-tidied.ensures.items (subst
-      (λ (l : List Value). HaveTidyForms (g.S.Shapes.table c.args.shapes.now) c.args.elem (views l))
+      (λ (l : List Value). HasTidyForm (TidiesEach (g.S.Shapes.table c.args.shapes.now) c.args.elem (views l)))
       (sym c.into_iter-part-iterator.ensures.into_iter_gives.0) c.requires),
   omega arith,
 )
@@ -51,7 +52,7 @@ tidy_each-loop-part-preserved g t c =
 pub tidy_each-returns : goal.tidy_each-returns
 tidy_each-returns g t c =
     let none = c.in-None.ensures.steps in
-    subst (λ (l : List Value). AreTidied (g.S.Shapes.table c.args.shapes.now) c.args.elem (views l)
+    subst (λ (l : List Value). IsTidied (TidiesEach (g.S.Shapes.table c.args.shapes.now) c.args.elem) AllHaveSmallNumbers (views l)
     (views c.loop-part.tidied.items)) c.into_iter-part-iterator.ensures.into_iter_gives.0
     (goes_end c.loop-part.invariant.0 (sym c.loop-part.invariant.1 ∙ none.0)
     (record { tidies = no_element; small = tt }))
@@ -61,8 +62,7 @@ tidy_each-returns g t c =
 pub tidy_pairs-loop-k-init : goal.tidy_pairs-loop-k-init
 tidy_pairs-loop-k-init g t c = (
   goes_starts c.new-tidied.ensures.items (subst
-      (λ (l : List (Value × Value)). HaveTidyPairs (g.S.Shapes.table c.args.shapes.now) c.args.key c.args.elem
-      (pair_views l)) (sym c.into_iter-k-iterator.ensures.into_iter_gives.0) c.requires),
+      (λ (l : List (Value × Value)). HasTidyForm (TidiesPairs (g.S.Shapes.table c.args.shapes.now) c.args.key c.args.elem (pair_views l))) (sym c.into_iter-k-iterator.ensures.into_iter_gives.0) c.requires),
   omega arith,
 )
 
@@ -102,7 +102,7 @@ tidy_pairs-loop-k-preserved g t c =
 pub tidy_pairs-returns : goal.tidy_pairs-returns
 tidy_pairs-returns g t c =
     let none = c.in-None.ensures.steps in
-    subst (λ (l : List (Value × Value)). PairsTidied (g.S.Shapes.table c.args.shapes.now) c.args.key c.args.elem
+    subst (λ (l : List (Value × Value)). IsTidied (TidiesPairs (g.S.Shapes.table c.args.shapes.now) c.args.key c.args.elem) PairsHaveSmallNumbers
     (pair_views l) (pair_views c.loop-k.tidied.items)) c.into_iter-k-iterator.ensures.into_iter_gives.0
     (goes_end c.loop-k.invariant.0 (sym c.loop-k.invariant.1 ∙ none.0) (record { tidies = no_entry; small = tt }))
 
@@ -111,7 +111,7 @@ tidy_pairs-returns g t c =
 pub tidy_fields-loop-number-init : goal.tidy_fields-loop-number-init
 tidy_fields-loop-number-init g t c = (
   goes_starts c.new-tidied.ensures.items (subst
-      (λ (l : List (ℕ × Value)). HaveTidyFields (g.S.Shapes.table c.args.shapes.now) c.args.types.now (field_views l))
+      (λ (l : List (ℕ × Value)). HasTidyForm (TidiesFields (g.S.Shapes.table c.args.shapes.now) c.args.types.now (field_views l)))
       (sym c.into_iter-number-iterator.ensures.into_iter_gives.0) c.requires),
   omega arith,
 )
@@ -171,7 +171,7 @@ tidy_fields-loop-number-preserved g t c =
 pub tidy_fields-returns : goal.tidy_fields-returns
 tidy_fields-returns g t c =
     let none = c.in-None.ensures.steps in
-    subst (λ (l : List (ℕ × Value)). FieldsTidied (g.S.Shapes.table c.args.shapes.now) c.args.types.now (field_views l)
+    subst (λ (l : List (ℕ × Value)). IsTidied (TidiesFields (g.S.Shapes.table c.args.shapes.now) c.args.types.now) FieldsHaveSmallNumbers (field_views l)
     (field_views c.loop-number.tidied.items)) c.into_iter-number-iterator.ensures.into_iter_gives.0
     (goes_end c.loop-number.invariant.0 (sym c.loop-number.invariant.1 ∙ none.0)
     (record { tidies = no_more; small = tt }))
@@ -187,7 +187,7 @@ tidy_kind-tidy_each-requires g t c κs within =
       (
         within,
         parts_of_many c.in-Slice.is
-            (subst (λ (v : Tree). HasTidyFormAs (g.S.Shapes.table c.args.shapes.now) c.args.kind.now v) is c.requires),
+            (subst (λ (v : Tree). HasTidyForm (TidiesAs (g.S.Shapes.table c.args.shapes.now) c.args.kind.now v)) is c.requires),
       ),
     )
 
@@ -196,13 +196,12 @@ tidy_kind-tidy_pairs-requires g t c κs within =
     let is : view c.args.value ≡ Tree.pairs (pair_views c.in-Pairs.parts.items) = ap view c.in-Pairs.is
     ∙ view-Pairs c.in-Pairs.parts in
     let deep = ap depth is in
-    let form = subst (λ k. HasTidyFormAs (g.S.Shapes.table c.args.shapes.now) k (view c.args.value)) c.in-Map.is
+    let form = subst (λ k. HasTidyForm (TidiesAs (g.S.Shapes.table c.args.shapes.now) k (view c.args.value))) c.in-Map.is
     c.requires in (
       omega arith,
       (
         within,
-        parts_of_pairs (subst (λ (v : Tree). HasTidyFormAs (g.S.Shapes.table c.args.shapes.now)
-            (kind.Map c.in-Map.key c.in-Map.elem) v) is form),
+        parts_of_pairs (subst (λ (v : Tree). HasTidyForm (TidiesAs (g.S.Shapes.table c.args.shapes.now) (kind.Map c.in-Map.key c.in-Map.elem) v)) is form),
       ),
     )
 
@@ -211,13 +210,13 @@ tidy_kind-tidy_fields-requires g t c κs within =
     let is : view c.args.value ≡ Tree.fields (field_views c.in-Fields.parts.items) = ap view c.in-Fields.is
     ∙ view-Fields c.in-Fields.parts in
     let deep = ap depth is in
-    let form = subst (λ k. HasTidyFormAs (g.S.Shapes.table c.args.shapes.now) k (view c.args.value)) c.in-Struct.is
+    let form = subst (λ k. HasTidyForm (TidiesAs (g.S.Shapes.table c.args.shapes.now) k (view c.args.value))) c.in-Struct.is
     c.requires in (
       omega arith,
       (
         within,
         parts_of_fields (subst
-            (λ (v : Tree). HasTidyFormAs (g.S.Shapes.table c.args.shapes.now) (kind.Struct c.in-Struct.fields) v) is
+            (λ (v : Tree). HasTidyForm (TidiesAs (g.S.Shapes.table c.args.shapes.now) (kind.Struct c.in-Struct.fields) v)) is
             form),
       ),
     )
@@ -242,13 +241,13 @@ tidy_kind-returns-in_err-tidy_fields-in-Fields g t c = IfOk-from_err c.from_resi
 pub tidy_kind-unreachable-requires : goal.tidy_kind-unreachable-requires
 tidy_kind-unreachable-requires g t c =
     let n : IsNoMap (view c.args.value) = search (rules, the_lemmas) in
-    has_map (subst (λ k. HasTidyFormAs (g.S.Shapes.table c.args.shapes.now) k (view c.args.value)) c.in-Map.is
+    has_map (subst (λ k. HasTidyForm (TidiesAs (g.S.Shapes.table c.args.shapes.now) k (view c.args.value))) c.in-Map.is
     c.requires) n
 
 pub tidy_kind-unreachable-requires-in_default-value : goal.tidy_kind-unreachable-requires-in_default-value
 tidy_kind-unreachable-requires-in_default-value g t c =
     let n : IsNoStruct (view c.args.value) = search (rules, the_lemmas) in
-    has_struct (subst (λ k. HasTidyFormAs (g.S.Shapes.table c.args.shapes.now) k (view c.args.value)) c.in-Struct.is
+    has_struct (subst (λ k. HasTidyForm (TidiesAs (g.S.Shapes.table c.args.shapes.now) k (view c.args.value))) c.in-Struct.is
     c.requires) n
 
 pub tidy_kind-unreachable-requires-in_default-value-2 : goal.tidy_kind-unreachable-requires-in_default-value-2

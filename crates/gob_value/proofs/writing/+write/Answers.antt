@@ -2,10 +2,10 @@ use Rattle.std.proofs.Common.{arith, rules, sym, ap, ◌∙◌, subst, ◌≡◌
 use Rattle.std.proofs.lemmas.Result.{on_ok_weaker, on_err_weaker}
 use Rattle.gob_num.specs.Unsigned.{IsUnsigned}
 use Rattle.gob_value.specs.View.{view, views, pair_views, field_views}
-use Rattle.gob_value.specs.Tree.{tree_count, pair_count}
+use Rattle.gob_value.specs.Tree.{tree_count, pair_count, depth, pairs_depth, fields_depth}
 use Rattle.gob_value.specs.Written.{Written, of_many, of_pairs, of_fields, WrittenPairs, WrittenFields, next_number}
-use Rattle.gob_value.specs.Written.{IsWritable, PairsWritable, FieldsWritable}
 use Rattle.gob_value.specs.declared.value.Value.{the_lemmas}
+use Rattle.gob_value.specs.Within.{IsSpelledWithin}
 use Rattle.gob_value.proofs.AppendedLaws.{keeps_all, keeps, keeps_then, keeps_same, then, then_as, Goes, goes_more}
 use Rattle.gob_value.proofs.AppendedLaws.{goes_last, goes_ends, Behind, behind, on_err_any, on_ok_failed}
 use Rattle.gob_value.proofs.WrittenSteps.{many_writable, pairs_writable, fields_writable, each_left, each_from}
@@ -77,7 +77,7 @@ write_pairs-loop-key-preserved t c =
     let rest = (pairs_left ps i p c.loop-key-item.is (omega arith) c.loop-key.invariant.left).2 in
     let first : Goes (WrittenPairs (pair_views ps))
     (Behind (Written (view p.1)) (WrittenPairs (pair_views (drop (i + 1) ps))))
-    (PairsWritable (pair_views (drop (i + 1) ps))) c.args.out.now.items c.write_value.new.out.items =
+    (IsSpelledWithin WrittenPairs pairs_depth 1000 (pair_views (drop (i + 1) ps))) c.args.out.now.items c.write_value.new.out.items =
     goes_more c.loop-key.invariant c.in_ok-write_value.ensures.ok (pairs_from ps i p c.loop-key-item.is (omega arith))
     rest in
     goes_more first c.in_ok-write_value-2.ensures.ok behind rest
@@ -141,7 +141,7 @@ write_fields-loop-number-preserved t c =
     let left = field_left fs i next f c.loop-number-item.is (omega arith) c.loop-number.invariant.left in
     let first : Goes (WrittenFields 0 (field_views fs))
     (Behind (Written (view f.1)) (WrittenFields (f.0 + 1) (field_views (drop (i + 1) fs))))
-    (FieldsWritable (f.0 + 1) (field_views (drop (i + 1) fs))) c.args.out.now.items
+    (IsSpelledWithin (WrittenFields (f.0 + 1)) fields_depth 1000 (field_views (drop (i + 1) fs))) c.args.out.now.items
     c.write_uint.new.out.items =
     goes_more c.loop-number.invariant c.in_ok-write_uint.ensures.ok
     (λ b r n s. field_from fs i next f c.loop-number-item.is (omega arith) left.rises b r
@@ -162,7 +162,7 @@ write_value-write_fields-requires t c =
     let fs = c.in-Fields.parts in (
       search (rules, the_lemmas),
       rw c.deref-in-Fields.ensures.value
-          (fields_writable (field_views fs.items) (subst IsWritable (ap view c.in-Fields.is ∙ view-Fields fs)
+          (fields_writable (field_views fs.items) (subst (IsSpelledWithin Written depth 1000) (ap view c.in-Fields.is ∙ view-Fields fs)
           c.requires.writable)),
     )
 
@@ -211,7 +211,7 @@ write_value-write_each-requires t c =
     let vs = c.in-Many.parts in (
       search (rules, the_lemmas),
       rw c.deref.ensures.value
-          (many_writable (views vs.items) (subst IsWritable (ap view c.in-Many.is ∙ view-Many vs) c.requires.writable)),
+          (many_writable (views vs.items) (subst (IsSpelledWithin Written depth 1000) (ap view c.in-Many.is ∙ view-Many vs) c.requires.writable)),
     )
 
 pub write_value-write_pairs-requires : goal.write_value-write_pairs-requires
@@ -219,7 +219,7 @@ write_value-write_pairs-requires t c =
     let ps = c.in-Pairs.parts in (
       search (rules, the_lemmas),
       rw c.deref-in-Pairs.ensures.value
-          (pairs_writable (pair_views ps.items) (subst IsWritable (ap view c.in-Pairs.is ∙ view-Pairs ps)
+          (pairs_writable (pair_views ps.items) (subst (IsSpelledWithin Written depth 1000) (ap view c.in-Pairs.is ∙ view-Pairs ps)
           c.requires.writable)),
     )
 
