@@ -1,5 +1,5 @@
 -- When a value without parts fits a kind.
-use Rattle.std.proofs.Common.{◌≡◌, ◌↔◌, IsTrue, ℕ, ℤ, ◌^◌, ◌<◌, Bool, true, false, List, ◌++◌, length, arith, refl, sym}
+use Rattle.std.proofs.Common.{◌≡◌, ◌↔◌, IsTrue, ℕ, ℤ, ◌^◌, ◌<◌, Bool, true, false, List, length, arith, refl, sym}
 use Rattle.std.proofs.Common.{subst}
 use Rattle.std.specs.Prelude.{FitsSigned}
 use Rattle.std.specs.Int.{w64}
@@ -37,93 +37,71 @@ leaf_any T U k v b n (of_array m p ps) = absurd (n tt)
 leaf_any T U k v b n (of_map p ps) = absurd (n tt)
 leaf_any T U k v b n (of_struct ps) = absurd (n tt)
 
+-- the kind of a value without parts
+abbrev IsLeafKind : Tree → Kind → Type 0
+IsLeafKind (Tree.bool x) k = k ≡ kind.Basic basic.Bool
+IsLeafKind (Tree.int i) k = k ≡ kind.Basic basic.Int
+IsLeafKind (Tree.uint n) k = k ≡ kind.Basic basic.Uint
+IsLeafKind (Tree.float p) k = k ≡ kind.Basic basic.Float
+IsLeafKind (Tree.complex p q) k = k ≡ kind.Basic basic.Complex
+IsLeafKind Tree.nil k = k ≡ kind.Basic basic.Interface
+IsLeafKind (Tree.bytes s) k = k ≡ kind.Basic basic.Bytes
+IsLeafKind (Tree.text s) k = k ≡ kind.Basic basic.Str
+IsLeafKind _ k = Unit {0}
+
+leaf_kind : {T : Table} {k : Kind} {v : Tree} {b : List ℕ} → SpellsAs T k v b → IsLeafKind v k
+leaf_kind (of_bool p) = refl
+leaf_kind (of_int p) = refl
+leaf_kind (of_uint p) = refl
+leaf_kind (of_float p) = refl
+leaf_kind (of_complex p q) = refl
+leaf_kind (of_nil p) = refl
+leaf_kind (of_bytes p) = refl
+leaf_kind (of_text p) = refl
+leaf_kind (of_opaque p) = tt
+leaf_kind (of_slice p ps) = tt
+leaf_kind (of_array m p ps) = tt
+leaf_kind (of_map p ps) = tt
+leaf_kind (of_struct ps) = tt
+
+fitted : {T : Table} {k : Kind} {v : Tree} {b : List ℕ} → SpellsAs T k v b → FitsKind T k v
+fitted {b = b} p = record { bytes = b; spelled = p }
+
 module _ (T : Table) where
   pub fits_bool : (k : Kind) (x : Bool) → (k ≡ kind.Basic basic.Bool) ↔ FitsKind T k (Tree.bool x)
-  fits_bool k x = (
-    λ e. rw e (let s = unsigned_spelled (truth x) (small x) in record
-        { bytes = s.bytes; spelled = of_bool s.spelled }),
-    λ f. back f.bytes f.spelled,
-  )
+  fits_bool k x =
+      (λ e. rw e (fitted (of_bool (unsigned_spelled (truth x) (small x)).spelled)), λ f. leaf_kind f.spelled)
     where
       small : (x : Bool) → truth x < 2 ^ 64
       small true = omega arith
       small false = omega arith
 
-      back : {k : Kind} {x : Bool} (b : List ℕ) → SpellsAs T k (Tree.bool x) b → k ≡ kind.Basic basic.Bool
-      back b (of_bool p) = refl
-
   pub fits_uint : (k : Kind) (n : ℕ) → n < 2 ^ 64 → (k ≡ kind.Basic basic.Uint) ↔ FitsKind T k (Tree.uint n)
-  fits_uint k n l = (
-    λ e. rw e (let s = unsigned_spelled n l in record
-        { bytes = s.bytes; spelled = of_uint s.spelled }),
-    λ f. back f.bytes f.spelled,
-  )
-    where
-      back : {k : Kind} {n : ℕ} (b : List ℕ) → SpellsAs T k (Tree.uint n) b → k ≡ kind.Basic basic.Uint
-      back b (of_uint p) = refl
+  fits_uint k n l = (λ e. rw e (fitted (of_uint (unsigned_spelled n l).spelled)), λ f. leaf_kind f.spelled)
 
   pub fits_int : (k : Kind) (i : ℤ) → FitsSigned w64 i → (k ≡ kind.Basic basic.Int) ↔ FitsKind T k (Tree.int i)
-  fits_int k i l = (
-    λ e. rw e (let s = signed_spelled i l in record { bytes = s.bytes; spelled = of_int s.spelled }),
-    λ f. back f.bytes f.spelled,
-  )
-    where
-      back : {k : Kind} {i : ℤ} (b : List ℕ) → SpellsAs T k (Tree.int i) b → k ≡ kind.Basic basic.Int
-      back b (of_int p) = refl
+  fits_int k i l = (λ e. rw e (fitted (of_int (signed_spelled i l).spelled)), λ f. leaf_kind f.spelled)
 
   pub fits_float : (k : Kind) (p : ℕ) → p < 2 ^ 64 → (k ≡ kind.Basic basic.Float) ↔ FitsKind T k (Tree.float p)
-  fits_float k p l = (
-    λ e. rw e (let s = pattern_spelled p l in record
-        { bytes = s.bytes; spelled = of_float s.spelled }),
-    λ f. back f.bytes f.spelled,
-  )
-    where
-      back : {k : Kind} {p : ℕ} (b : List ℕ) → SpellsAs T k (Tree.float p) b → k ≡ kind.Basic basic.Float
-      back b (of_float p) = refl
+  fits_float k p l = (λ e. rw e (fitted (of_float (pattern_spelled p l).spelled)), λ f. leaf_kind f.spelled)
 
   pub fits_complex : (k : Kind) (p q : ℕ) → p < 2 ^ 64 → q < 2 ^ 64 → (k ≡ kind.Basic basic.Complex)
       ↔ FitsKind T k (Tree.complex p q)
   fits_complex k p q l m = (
-    λ e. rw e (let s = pattern_spelled p l in let t = pattern_spelled q m in record
-        { bytes = s.bytes ++ t.bytes; spelled = of_complex s.spelled t.spelled }),
-    λ f. back f.bytes f.spelled,
+    λ e. rw e (fitted (of_complex (pattern_spelled p l).spelled (pattern_spelled q m).spelled)),
+    λ f. leaf_kind f.spelled,
   )
-    where
-      back : {k : Kind} {p q : ℕ} (b : List ℕ) → SpellsAs T k (Tree.complex p q) b → k ≡ kind.Basic basic.Complex
-      back b (of_complex p q) = refl
 
   pub fits_nil : (k : Kind) → (k ≡ kind.Basic basic.Interface) ↔ FitsKind T k Tree.nil
-  fits_nil k = (
-    λ e. rw e (let s = unsigned_spelled 0 (omega arith) in record
-        { bytes = s.bytes; spelled = of_nil s.spelled }),
-    λ f. back f.bytes f.spelled,
-  )
-    where
-      back : {k : Kind} (b : List ℕ) → SpellsAs T k Tree.nil b → k ≡ kind.Basic basic.Interface
-      back b (of_nil p) = refl
+  fits_nil k = (λ e. rw e (fitted (of_nil (unsigned_spelled 0 (omega arith)).spelled)), λ f. leaf_kind f.spelled)
 
   pub fits_bytes : (k : Kind) (s : List ℕ) → length s < 2 ^ 64 → (k ≡ kind.Basic basic.Bytes)
       ↔ FitsKind T k (Tree.bytes s)
-  fits_bytes k s l = (
-    λ e. rw e (let c = unsigned_spelled (length s) l in record
-        { bytes = c.bytes ++ s; spelled = of_bytes c.spelled }),
-    λ f. back f.bytes f.spelled,
-  )
-    where
-      back : {k : Kind} {s : List ℕ} (b : List ℕ) → SpellsAs T k (Tree.bytes s) b → k ≡ kind.Basic basic.Bytes
-      back b (of_bytes p) = refl
+  fits_bytes k s l = (λ e. rw e (fitted (of_bytes (unsigned_spelled (length s) l).spelled)), λ f. leaf_kind f.spelled)
 
   pub fits_text : (k : Kind) (s : List ℕ) → length s < 2 ^ 64 → (k ≡ kind.Basic basic.Str) ↔ FitsKind T k (Tree.text s)
-  fits_text k s l = (
-    λ e. rw e (let c = unsigned_spelled (length s) l in record
-        { bytes = c.bytes ++ s; spelled = of_text c.spelled }),
-    λ f. back f.bytes f.spelled,
-  )
-    where
-      back : {k : Kind} {s : List ℕ} (b : List ℕ) → SpellsAs T k (Tree.text s) b → k ≡ kind.Basic basic.Str
-      back b (of_text p) = refl
+  fits_text k s l = (λ e. rw e (fitted (of_text (unsigned_spelled (length s) l).spelled)), λ f. leaf_kind f.spelled)
 
   pub fits_opaque : (k : Kind) (m : Marshal) (s : List ℕ) → length s < 2 ^ 64 → k ≡ kind.Opaque m
       → FitsKind T k (Tree.opaque s)
-  fits_opaque k m s l e = rw e (let c = unsigned_spelled (length s) l in record
-      { bytes = c.bytes ++ s; spelled = of_opaque c.spelled })
+  fits_opaque k m s l e = rw e (fitted (of_opaque (unsigned_spelled (length s) l).spelled))

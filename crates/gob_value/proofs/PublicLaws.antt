@@ -14,5 +14,6 @@ pub use Rattle.gob_value.proofs.TidySteps.{IsNoList, IsNoMap, IsNoStruct}
 pub use Rattle.gob_value.proofs.UniqueLaws.{one_spelling, one_top, written_once}
 pub use Rattle.gob_value.proofs.ViewLaws.{view-Bytes, view-Fields, view-Int, view-Many, view-Opaque, view-Pairs}
 pub use Rattle.gob_value.proofs.ViewLaws.{view-Str}
-pub use Rattle.gob_value.proofs.WholeSteps.{all_three, both, seen}
+pub use Rattle.gob_value.proofs.WholeSteps.{all_three, both, seen, whole_of_two}
+pub use Rattle.gob_value.proofs.WithinLaws.{leaf_within}
 pub use Rattle.gob_value.proofs.WrittenLaws.{spells_written}

@@ -7,6 +7,7 @@ use Rattle.gob_num.specs.Unsigned.{IsUnsigned}
 use Rattle.gob_num.specs.Place.{IsUnsignedAt, AreUnsignedAt, no_number, one_more}
 use Rattle.gob_num.proofs.PublicLaws.{unsigned_signed, unsigned_pattern}
 use Rattle.gob_types.specs.declared.id.TypeId.{TypeId}
+use Rattle.gob_types.specs.declared.basic.Basic.{Basic}
 use Rattle.gob_types.specs.declared.basic.Basic.TheVariants as basic
 use Rattle.gob_types.specs.declared.kind.Field.{Field}
 use Rattle.gob_types.specs.declared.kind.Marshal.{Marshal}
@@ -15,7 +16,7 @@ use Rattle.gob_types.specs.declared.kind.Kind.TheVariants as kind
 use Rattle.gob_types.specs.declared.kind.Shape.{Shape}
 use Rattle.gob_types.specs.Table.{Table, shape_of}
 use Rattle.gob_value.specs.Tree.{Tree, no_tree, tree, no_pair, pair, no_field, field}
-use Rattle.gob_value.specs.Spelling.{of_type, of_bool, of_int, of_uint, of_float, of_complex, of_nil, of_bytes}
+use Rattle.gob_value.specs.Spelling.{SpellsAs, of_type, of_bool, of_int, of_uint, of_float, of_complex, of_nil, of_bytes}
 use Rattle.gob_value.specs.Spelling.{of_text, of_opaque, of_slice, of_array, of_map, of_struct, no_element, element}
 use Rattle.gob_value.specs.Spelling.{no_entry, entry, end_of_fields, next_field}
 use Rattle.gob_value.specs.Tidy.{of_basic, of_opaque, of_slice as slice_tidy, of_array as array_tidy}
@@ -24,6 +25,8 @@ use Rattle.gob_value.specs.Tidy.{no_element as no_element_tidy, element as eleme
 use Rattle.gob_value.specs.Tidy.{entry as entry_tidy, no_more as no_field_tidy, kept as field_tidy}
 use Rattle.gob_value.specs.Whole.{HoldsNumbers, Stands, BeginsKind, BeginsEach, BeginsPairs, BeginsFields, BeginsThisNumber}
 use Rattle.gob_value.specs.Whole.{BeginsRaw, BeginsKept}
+use Rattle.gob_value.specs.Written.{HasParts}
+use Rattle.gob_value.proofs.WithinLaws.{leaf_within}
 
 -- what begins at one place and ends at the next, and what begins there
 pub both : {P Q R : List ℕ → List ℕ → Type 0} {body : List ℕ} {a b c : ℕ} → Stands P body a b → Stands Q body b c
@@ -51,6 +54,10 @@ all_three {body = body} {a = a} {b = b} {c = c} {d = d} p q r f = record {
   inside = r.inside;
   begins = f (drop a body) (drop b body) (drop c body) (drop d body) p.begins q.begins r.begins;
 }
+
+-- two fronts of a piece are one
+pub whole_of_two : (b c z : List ℕ) {x y : List ℕ} → x ≡ b ++ y → y ≡ c ++ z → x ≡ (b ++ c) ++ z
+whole_of_two b c z e f = e ∙ ap (λ r. b ++ r) f ∙ sym (append_assoc b c z)
 
 -- ---- numbers and bytes
 pub number_stands : {n at end : ℕ} {body : List ℕ} → IsUnsignedAt n body at end → Stands (BeginsThisNumber n) body at end
@@ -83,118 +90,57 @@ raw_stands body at behind count p l =
         raw = take count d;
         count = n.bytes;
         counted = subst (λ k. IsUnsigned k n.bytes) (sym size) n.spelled;
-        whole =
-            n.whole ∙ ap (λ r. n.bytes ++ r) rest ∙ sym (append_assoc n.bytes (take count d)
-            (drop (behind + count) body));
+        whole = whole_of_two n.bytes (take count d) (drop (behind + count) body) n.whole rest;
       };
     }
 
 -- ---- values without parts
 module _ (T : Table) (tidy : Bool) where
+  basic_begins : {b : Basic} {x y bytes : List ℕ} (v : Tree) → ¬ HasParts v → SpellsAs T (kind.Basic b) v bytes
+      → x ≡ bytes ++ y → BeginsKind T tidy (kind.Basic b) 1 x y
+  basic_begins {bytes = bytes} v n s e = record {
+    value = v;
+    bytes = bytes;
+    spelled = s;
+    within = leaf_within 1 v n (omega arith);
+    tidied = λ t. of_basic n;
+    whole = e;
+  }
+
   pub int_begins : (n : ℕ) (x y : List ℕ) → BeginsThisNumber n x y → BeginsKind T tidy (kind.Basic basic.Int) 1 x y
   int_begins n x y p =
-      let i = unsigned_signed p.spelled in
-      record {
-        value = Tree.int i.0;
-        bytes = p.bytes;
-        spelled = of_int i.1;
-        within = omega arith;
-        tidied = λ t. of_basic (λ h. h);
-        whole = p.whole;
-      }
+      let i = unsigned_signed p.spelled in basic_begins (Tree.int i.0) (λ h. h) (of_int i.1) p.whole
 
   pub uint_begins : (n : ℕ) (x y : List ℕ) → BeginsThisNumber n x y → BeginsKind T tidy (kind.Basic basic.Uint) 1 x y
-  uint_begins n x y p =
-      record {
-        value = Tree.uint n;
-        bytes = p.bytes;
-        spelled = of_uint p.spelled;
-        within = omega arith;
-        tidied = λ t. of_basic (λ h. h);
-        whole = p.whole;
-      }
+  uint_begins n x y p = basic_begins (Tree.uint n) (λ h. h) (of_uint p.spelled) p.whole
 
   pub float_begins : (n : ℕ) (x y : List ℕ) → BeginsThisNumber n x y → BeginsKind T tidy (kind.Basic basic.Float) 1 x y
   float_begins n x y p =
-      let f = unsigned_pattern p.spelled in
-      record {
-        value = Tree.float f.0;
-        bytes = p.bytes;
-        spelled = of_float f.1;
-        within = omega arith;
-        tidied = λ t. of_basic (λ h. h);
-        whole = p.whole;
-      }
+      let f = unsigned_pattern p.spelled in basic_begins (Tree.float f.0) (λ h. h) (of_float f.1) p.whole
 
   pub complex_begins : (m n : ℕ) (x y z : List ℕ) → BeginsThisNumber m x y → BeginsThisNumber n y z
       → BeginsKind T tidy (kind.Basic basic.Complex) 1 x z
   complex_begins m n x y z p q =
       let f = unsigned_pattern p.spelled in
       let g = unsigned_pattern q.spelled in
-      record {
-        value = Tree.complex f.0 g.0;
-        bytes = p.bytes ++ q.bytes;
-        spelled = of_complex f.1 g.1;
-        within = omega arith;
-        tidied = λ t. of_basic (λ h. h);
-        whole = p.whole ∙ ap (λ r. p.bytes ++ r) q.whole ∙ sym (append_assoc p.bytes q.bytes z);
-      }
+      basic_begins (Tree.complex f.0 g.0) (λ h. h) (of_complex f.1 g.1) (whole_of_two p.bytes q.bytes z p.whole q.whole)
 
   pub bool_begins : (n : ℕ) → n ≤ 1 → (x y : List ℕ) → BeginsThisNumber n x y → BeginsKind T tidy (kind.Basic basic.Bool) 1 x y
-  bool_begins zero l x y p =
-      record {
-        value = Tree.bool false;
-        bytes = p.bytes;
-        spelled = of_bool p.spelled;
-        within = omega arith;
-        tidied = λ t. of_basic (λ h. h);
-        whole = p.whole;
-      }
-  bool_begins (suc zero) l x y p =
-      record {
-        value = Tree.bool true;
-        bytes = p.bytes;
-        spelled = of_bool p.spelled;
-        within = omega arith;
-        tidied = λ t. of_basic (λ h. h);
-        whole = p.whole;
-      }
+  bool_begins zero l x y p = basic_begins (Tree.bool false) (λ h. h) (of_bool p.spelled) p.whole
+  bool_begins (suc zero) l x y p = basic_begins (Tree.bool true) (λ h. h) (of_bool p.spelled) p.whole
   bool_begins (suc (suc n)) l x y p = absurd (omega arith)
 
   pub nil_begins : (n : ℕ) → n ≤ 0 → (x y : List ℕ) → BeginsThisNumber n x y
       → BeginsKind T tidy (kind.Basic basic.Interface) 1 x y
   nil_begins n l x y p =
       let none : n ≡ 0 = omega arith in
-      record {
-        value = Tree.nil;
-        bytes = p.bytes;
-        spelled = of_nil (subst (λ k. IsUnsigned k p.bytes) none p.spelled);
-        within = omega arith;
-        tidied = λ t. of_basic (λ h. h);
-        whole = p.whole;
-      }
+      basic_begins Tree.nil (λ h. h) (of_nil (subst (λ k. IsUnsigned k p.bytes) none p.spelled)) p.whole
 
   pub bytes_begin : (x y : List ℕ) → BeginsRaw x y → BeginsKind T tidy (kind.Basic basic.Bytes) 1 x y
-  bytes_begin x y p =
-      record {
-        value = Tree.bytes p.raw;
-        bytes = p.count ++ p.raw;
-        spelled = of_bytes p.counted;
-        within = omega arith;
-        tidied = λ t. of_basic (λ h. h);
-        whole = p.whole;
-      }
+  bytes_begin x y p = basic_begins (Tree.bytes p.raw) (λ h. h) (of_bytes p.counted) p.whole
 
   pub text_begins : (x y : List ℕ) → BeginsRaw x y → BeginsKind T tidy (kind.Basic basic.Str) 1 x y
-  text_begins x y p =
-      record {
-        value = Tree.text p.raw;
-        bytes = p.count ++ p.raw;
-        spelled = of_text p.counted;
-        within = omega arith;
-        tidied = λ t. of_basic (λ h. h);
-        whole = p.whole;
-      }
+  text_begins x y p = basic_begins (Tree.text p.raw) (λ h. h) (of_text p.counted) p.whole
 
   pub opaque_begins : (m : Marshal) (x y : List ℕ) → BeginsRaw x y → BeginsKind T tidy (kind.Opaque m) 1 x y
   opaque_begins m x y p =
@@ -245,7 +191,7 @@ module _ (T : Table) (tidy : Bool) where
         spelled = of_slice (subst (λ k. IsUnsigned k p.bytes) (sym q.counted) p.spelled) q.spelled;
         within = omega arith;
         tidied = λ t. slice_tidy (q.tidied t);
-        whole = p.whole ∙ ap (λ r. p.bytes ++ r) q.whole ∙ sym (append_assoc p.bytes q.bytes z);
+        whole = whole_of_two p.bytes q.bytes z p.whole q.whole;
       }
 
   pub array_begins : (e : TypeId) (limit n m : ℕ) → 0 < limit → n ≡ m → (x y z : List ℕ) → BeginsThisNumber n x y
@@ -258,7 +204,7 @@ module _ (T : Table) (tidy : Bool) where
         spelled = of_array (q.counted ∙ same) (subst (λ k. IsUnsigned k p.bytes) same p.spelled) q.spelled;
         within = omega arith;
         tidied = λ t. array_tidy (q.tidied t);
-        whole = p.whole ∙ ap (λ r. p.bytes ++ r) q.whole ∙ sym (append_assoc p.bytes q.bytes z);
+        whole = whole_of_two p.bytes q.bytes z p.whole q.whole;
       }
 
   pub map_begins : (k e : TypeId) (limit n : ℕ) → 0 < limit → (x y z : List ℕ) → BeginsThisNumber n x y
@@ -271,7 +217,7 @@ module _ (T : Table) (tidy : Bool) where
         spelled = of_map (subst (λ k. IsUnsigned k p.bytes) (sym q.counted) p.spelled) q.spelled;
         within = omega arith;
         tidied = λ t. map_tidy (q.tidied t);
-        whole = p.whole ∙ ap (λ r. p.bytes ++ r) q.whole ∙ sym (append_assoc p.bytes q.bytes z);
+        whole = whole_of_two p.bytes q.bytes z p.whole q.whole;
       }
 
   pub struct_begins : (types : List Field) (limit : ℕ) → 0 < limit → (x y : List ℕ)
@@ -317,7 +263,7 @@ module _ (T : Table) (tidy : Bool) where
         within = omega arith;
         tidied = λ t. element_tidy (type_tidy f (p.tidied t)) (q.tidied t);
         counted = ap (λ k. k + 1) q.counted ∙ sym more;
-        whole = p.whole ∙ ap (λ r. p.bytes ++ r) q.whole ∙ sym (append_assoc p.bytes q.bytes z);
+        whole = whole_of_two p.bytes q.bytes z p.whole q.whole;
       }
 
   pub number_element : (e : TypeId) (s : Shape) (number n m : ℕ) → shape_of T e ≡ Some s → HoldsNumbers s.kind
@@ -382,9 +328,7 @@ module _ (T : Table) (tidy : Bool) where
         within = omega arith;
         tidied = λ t. entry_tidy (type_tidy f (p.tidied t)) (type_tidy g (q.tidied t)) (r.tidied t);
         counted = ap (λ k. k + 1) r.counted ∙ sym more;
-        whole =
-            p.whole ∙ ap (λ l. p.bytes ++ l) (q.whole ∙ ap (λ l. q.bytes ++ l) r.whole ∙ sym
-            (append_assoc q.bytes r.bytes z)) ∙ sym (append_assoc p.bytes (q.bytes ++ r.bytes) z);
+        whole = whole_of_two p.bytes (q.bytes ++ r.bytes) z p.whole (whole_of_two q.bytes r.bytes z q.whole r.whole);
       }
 
   -- a part that a tidy struct keeps
@@ -428,9 +372,7 @@ module _ (T : Table) (tidy : Bool) where
             r.spelled;
         within = omega arith;
         tidied = λ t. field_tidy here shape (kept.kept t T q.value q.bytes y q.spelled q.whole) (q.tidied t) (r.tidied t);
-        whole =
-            p.whole ∙ ap (λ l. p.bytes ++ l) (q.whole ∙ ap (λ l. q.bytes ++ l) r.whole ∙ sym
-            (append_assoc q.bytes r.bytes z)) ∙ sym (append_assoc p.bytes (q.bytes ++ r.bytes) z);
+        whole = whole_of_two p.bytes (q.bytes ++ r.bytes) z p.whole (whole_of_two q.bytes r.bytes z q.whole r.whole);
       }
 
 -- an answer of a place, if any
