@@ -100,10 +100,8 @@ number_back {fs = fs} p n e there type = by (present_field n fs) refl
 opaque_said : {elem len : ℤ} (a b c : Bool)
     → cond a (Some (said_opaque marshal.Gob)) (cond b (Some (said_opaque marshal.Binary))
     (cond c (Some (said_opaque marshal.Text)) None)) ≡ Some (said_array elem len) → ⊥
-opaque_said true b c h = cc
-opaque_said false true c h = cc
 opaque_said false false true h = cc
-opaque_said false false false h = cc
+opaque_said _ _ _ h = cc
 
 -- an array is what field 0 says
 array_said : (a b c d : Bool) (f : ℕ) (fs : Fields) (elem len : ℤ) → eqb f 0 ≡ a → eqb f 1 ≡ b → eqb f 2 ≡ c
@@ -151,10 +149,7 @@ length_fits v w elem len fit says is =
 has_length : {k : SaidKind} {g : Kind} → GivesKind k g → ((elem len : ℤ) → k ≡ said_array elem len → FitsSigned w64 len)
     → HasLength g
 has_length (gives_array {e = e} {l = l} r n) each = let h = each e l refl in omega (arith, ints)
-has_length (gives_slice r) each = tt
-has_length (gives_struct gs) each = tt
-has_length (gives_map p q) each = tt
-has_length gives_opaque each = tt
+has_length _ each = tt
 
 pub definable : (t : TypeId) (v : Tree) (s : Shape) → Fits base_table wire_type v → Describes t v s → IsDefinable s
 definable t v s fit d = record {

@@ -113,5 +113,4 @@ described_tidy t s d l = by s.kind d.length d.references
         (kept refl refl (number_kept {n = k.0} (omega (arith, first.0))) int_tidy
         (kept refl refl (number_kept {n = e.0} (omega (arith, second.0))) int_tidy no_more)))
     by (kind.Opaque marshal.Gob) h each = in_wire_type refl refl (with_name s.name t l refl no_more)
-    by (kind.Opaque marshal.Binary) h each = in_wire_type refl refl (with_name s.name t l refl no_more)
-    by (kind.Opaque marshal.Text) h each = in_wire_type refl refl (with_name s.name t l refl no_more)
+    by (kind.Opaque _) h each = in_wire_type refl refl (with_name s.name t l refl no_more)

@@ -40,22 +40,10 @@ present_none n fs i h = rw (none_left fs i h) refl
 
 -- a value with no field or with several says nothing
 pub said_none : (v : Tree) (fs : List (ℕ × Value)) → field_views fs ≡ fields_in (Some v) → length fs ≢ 1 → said v ≡ None
-said_none (Tree.fields no_field) fs e n = refl
 said_none (Tree.fields (field f g no_field)) [] e n = cc
 said_none (Tree.fields (field f g no_field)) (x ∷ []) e n = absurd (n refl)
 said_none (Tree.fields (field f g no_field)) (x ∷ y ∷ fs) e n = cc
-said_none (Tree.fields (field f g (field h k gs))) fs e n = refl
-said_none (Tree.bool x) fs e n = refl
-said_none (Tree.int i) fs e n = refl
-said_none (Tree.uint m) fs e n = refl
-said_none (Tree.float p) fs e n = refl
-said_none (Tree.complex p q) fs e n = refl
-said_none (Tree.bytes s) fs e n = refl
-said_none (Tree.text s) fs e n = refl
-said_none Tree.nil fs e n = refl
-said_none (Tree.many vs) fs e n = refl
-said_none (Tree.pairs ps) fs e n = refl
-said_none (Tree.opaque s) fs e n = refl
+said_none _ fs e n = refl
 
 -- a value with one field says what that says
 abbrev pub said_by : ℕ → Fields → Option Said
@@ -70,17 +58,7 @@ said_one v (x ∷ []) f e n is = rw is (from v (sym e))
     from : (v : Tree) → fields_in (Some v) ≡ field x.0 (view x.1) no_field
         → said v ≡ said_by x.0 (fields_in (Some (view x.1)))
     from (Tree.fields fs) e = rw e refl
-    from (Tree.bool b) e = cc
-    from (Tree.int i) e = cc
-    from (Tree.uint m) e = cc
-    from (Tree.float p) e = cc
-    from (Tree.complex p q) e = cc
-    from (Tree.bytes s) e = cc
-    from (Tree.text s) e = cc
-    from Tree.nil e = cc
-    from (Tree.many vs) e = cc
-    from (Tree.pairs ps) e = cc
-    from (Tree.opaque s) e = cc
+    from _ e = cc
 
 -- the fieldTypes of the fields, one by one
 abbrev pub field_type : Field → Tree

@@ -74,26 +74,14 @@ left_of {T = T} {types = types} n e s h i (kept {f = f} {e = x} {s = r} {v = v} 
     ]
 
 number_left : {T : Table} {x y : Option Tree} → Left T (kind.Basic basic.Int) x y → number_in y ≡ number_in x
-number_left absent = refl
 number_left (gone (zero_basic tidy.of_bool)) = refl
-number_left (gone (zero_basic tidy.of_int)) = refl
-number_left (gone (zero_basic tidy.of_uint)) = refl
-number_left (gone (zero_basic tidy.of_float)) = refl
-number_left (gone (zero_basic tidy.of_complex)) = refl
-number_left (gone (zero_basic tidy.of_bytes)) = refl
-number_left (gone (zero_basic tidy.of_text)) = refl
 number_left (there (of_basic n) q) = refl
+number_left _ = refl
 
 name_left : {T : Table} {x y : Option Tree} → Left T (kind.Basic basic.Str) x y → name_in y ≡ name_in x
-name_left absent = refl
 name_left (gone (zero_basic tidy.of_bool)) = refl
-name_left (gone (zero_basic tidy.of_int)) = refl
-name_left (gone (zero_basic tidy.of_uint)) = refl
-name_left (gone (zero_basic tidy.of_float)) = refl
-name_left (gone (zero_basic tidy.of_complex)) = refl
-name_left (gone (zero_basic tidy.of_bytes)) = refl
-name_left (gone (zero_basic tidy.of_text)) = refl
 name_left (there (of_basic n) q) = refl
+name_left _ = refl
 
 -- a struct, or no field where it is absent
 struct_left : {T : Table} {types : List Field} {x y : Option Tree} → Left T (kind.Struct types) x y → (b : List ℕ)

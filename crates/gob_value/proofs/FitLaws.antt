@@ -83,10 +83,7 @@ module _ (T : Table) where
             bytes = c.bytes ++ b;
             spelled = of_array r.0 c.spelled (subst (λ e. SpellsEach T e vs b) (sym r.1) p);
           }
-      on (kind.Basic y) vs e h l b p = cc
-      on (kind.Struct types) vs e h l b p = cc
-      on (kind.Map x y) vs e h l b p = cc
-      on (kind.Opaque m) vs e h l b p = cc
+      on _ vs e h l b p = cc
 
       back : {k : Kind} {vs : Trees} {b : List ℕ} (e : TypeId) → SpellsAs T k (Tree.many vs) b
           → element_type_at k (tree_count vs) ≡ Some e → (c : List ℕ) × SpellsEach T e vs c

@@ -111,10 +111,7 @@ good_references gives_opaque bad = bad
 
 pub good_length : {k : SaidKind} {g : Kind} → GivesKind k g → ¬ HasBadLength k
 good_length (gives_array {e = e} r l) bad = subst (λ l. ¬ HasBadLength (said_array e l)) (sym l) (λ h. h) bad
-good_length (gives_slice r) bad = bad
-good_length (gives_struct g) bad = bad
-good_length (gives_map p q) bad = bad
-good_length gives_opaque bad = bad
+good_length _ bad = bad
 
 -- ---- one shape, or one reason
 

@@ -70,12 +70,7 @@ complex_front (zero_basic z) s = inside z s
         → bytes ≡ 0 ∷ 0 ∷ []
     inside zero_complex (of_complex {b = b} {c = c} s t) =
         ap (λ l. l ++ c) (pattern_spelled s) ∙ ap (λ l. 0 ∷ l) (pattern_spelled t)
-    inside zero_bool s = elim s [ ]
-    inside zero_int s = elim s [ ]
-    inside zero_uint s = elim s [ ]
-    inside zero_float s = elim s [ ]
-    inside zero_bytes s = elim s [ ]
-    inside zero_text s = elim s [ ]
+    inside _ s = elim s [ ]
 
 -- what stands behind a place
 stands_at : (body : List ℕ) (at i : ℕ) → slice_get (drop at body) i ≡ Some 0 → slice_get body (at + i) ≡ Some 0

@@ -32,10 +32,7 @@ leaf_any T U k v b n (of_nil p) = of_nil p
 leaf_any T U k v b n (of_bytes p) = of_bytes p
 leaf_any T U k v b n (of_text p) = of_text p
 leaf_any T U k v b n (of_opaque p) = of_opaque p
-leaf_any T U k v b n (of_slice p ps) = absurd (n tt)
-leaf_any T U k v b n (of_array m p ps) = absurd (n tt)
-leaf_any T U k v b n (of_map p ps) = absurd (n tt)
-leaf_any T U k v b n (of_struct ps) = absurd (n tt)
+leaf_any T U k v b n _ = absurd (n tt)
 
 -- the kind of a value without parts
 abbrev IsLeafKind : Tree → Kind → Type 0
@@ -50,19 +47,12 @@ IsLeafKind (Tree.text s) k = k ≡ kind.Basic basic.Str
 IsLeafKind _ k = Unit {0}
 
 leaf_kind : {T : Table} {k : Kind} {v : Tree} {b : List ℕ} → SpellsAs T k v b → IsLeafKind v k
-leaf_kind (of_bool p) = refl
-leaf_kind (of_int p) = refl
-leaf_kind (of_uint p) = refl
-leaf_kind (of_float p) = refl
-leaf_kind (of_complex p q) = refl
-leaf_kind (of_nil p) = refl
-leaf_kind (of_bytes p) = refl
-leaf_kind (of_text p) = refl
 leaf_kind (of_opaque p) = tt
 leaf_kind (of_slice p ps) = tt
 leaf_kind (of_array m p ps) = tt
 leaf_kind (of_map p ps) = tt
 leaf_kind (of_struct ps) = tt
+leaf_kind _ = refl
 
 fitted : {T : Table} {k : Kind} {v : Tree} {b : List ℕ} → SpellsAs T k v b → FitsKind T k v
 fitted {b = b} p = record { bytes = b; spelled = p }

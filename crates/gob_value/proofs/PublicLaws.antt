@@ -10,10 +10,11 @@ pub use Rattle.gob_value.proofs.StayLaws.{top_back, top_on}
 pub use Rattle.gob_value.proofs.TestSteps.{not_true}
 pub use Rattle.gob_value.proofs.TidyFits.{tidy_fits}
 pub use Rattle.gob_value.proofs.TidyLaws.{no_deeper, no_deeper as tidy_no_deeper, one_tidy, tidy_form}
-pub use Rattle.gob_value.proofs.TidySteps.{IsNoList, IsNoMap, IsNoStruct}
+pub use Rattle.gob_value.proofs.TidySteps.{IsNoList, IsNoMap, IsNoStruct, no_numbers}
 pub use Rattle.gob_value.proofs.UniqueLaws.{one_spelling, one_top, written_once}
 pub use Rattle.gob_value.proofs.ViewLaws.{view-Bytes, view-Fields, view-Int, view-Many, view-Opaque, view-Pairs}
 pub use Rattle.gob_value.proofs.ViewLaws.{view-Str}
+pub use Rattle.gob_value.proofs.WholeLaws.{first_of}
 pub use Rattle.gob_value.proofs.WholeSteps.{all_three, both, seen, whole_of_two}
 pub use Rattle.gob_value.proofs.WithinLaws.{leaf_within}
 pub use Rattle.gob_value.proofs.WrittenLaws.{spells_written}

@@ -29,16 +29,8 @@ mutual
 
   tidy_fits_as : {T : Table} {k : Kind} {v w : Tree} {b : List ℕ} → SpellsAs T k v b → TidiesAs T k v w
       → HasSmallNumbers v → FitsKind T k w
-  tidy_fits_as {b = b} (spelling.of_bool p) (of_basic n) h = record { bytes = b; spelled = spelling.of_bool p }
-  tidy_fits_as {b = b} (spelling.of_int p) (of_basic n) h = record { bytes = b; spelled = spelling.of_int p }
-  tidy_fits_as {b = b} (spelling.of_uint p) (of_basic n) h = record { bytes = b; spelled = spelling.of_uint p }
-  tidy_fits_as {b = b} (spelling.of_float p) (of_basic n) h = record { bytes = b; spelled = spelling.of_float p }
-  tidy_fits_as {b = b} (spelling.of_complex p q) (of_basic n) h = record
-      { bytes = b; spelled = spelling.of_complex p q }
-  tidy_fits_as {b = b} (spelling.of_nil p) (of_basic n) h = record { bytes = b; spelled = spelling.of_nil p }
-  tidy_fits_as {b = b} (spelling.of_bytes p) (of_basic n) h = record { bytes = b; spelled = spelling.of_bytes p }
-  tidy_fits_as {b = b} (spelling.of_text p) (of_basic n) h = record { bytes = b; spelled = spelling.of_text p }
-  tidy_fits_as {b = b} (spelling.of_opaque p) (of_opaque n) h = record { bytes = b; spelled = spelling.of_opaque p }
+  tidy_fits_as {b = b} p (of_basic n) h = record { bytes = b; spelled = p }
+  tidy_fits_as {b = b} p (of_opaque n) h = record { bytes = b; spelled = p }
   tidy_fits_as (spelling.of_slice {c = c} q qs) (of_slice ps) h =
       let r = each_fits qs ps h in
       record {

@@ -1,5 +1,5 @@
 -- The tidy form of a value that fits its type: there is one, it is one alone, its own tidy form, and no deeper.
-use Rattle.std.proofs.Common.{◌≡◌, ℕ, zero, suc, pos, negsuc, ◌≤◌, ◌⊎◌, inl, inr, true, false, List, [], ◌∷◌, Some}
+use Rattle.std.proofs.Common.{◌≡◌, ℕ, zero, pos, ◌≤◌, ◌⊎◌, inl, inr, false, List, [], Some}
 use Rattle.std.proofs.Common.{arith, refl, sym, ap, ◌∙◌, subst}
 use Rattle.std.specs.Prelude.{slice_get}
 use Rattle.gob_types.specs.declared.id.TypeId.{TypeId}
@@ -26,26 +26,13 @@ Told P = P ⊎ (¬ P)
 
 zero_told : (v : Tree) → Told (IsZero v)
 zero_told (Value.bool false) = inl tidy.of_bool
-zero_told (Value.bool true) = inr (λ z. elim z [ ])
 zero_told (Value.int (pos zero)) = inl tidy.of_int
-zero_told (Value.int (pos (suc n))) = inr (λ z. elim z [ ])
-zero_told (Value.int (negsuc n)) = inr (λ z. elim z [ ])
 zero_told (Value.uint zero) = inl tidy.of_uint
-zero_told (Value.uint (suc n)) = inr (λ z. elim z [ ])
 zero_told (Value.float zero) = inl tidy.of_float
-zero_told (Value.float (suc n)) = inr (λ z. elim z [ ])
 zero_told (Value.complex zero zero) = inl tidy.of_complex
-zero_told (Value.complex zero (suc n)) = inr (λ z. elim z [ ])
-zero_told (Value.complex (suc n) q) = inr (λ z. elim z [ ])
 zero_told (Value.bytes []) = inl tidy.of_bytes
-zero_told (Value.bytes (b ∷ s)) = inr (λ z. elim z [ ])
 zero_told (Value.text []) = inl tidy.of_text
-zero_told (Value.text (b ∷ s)) = inr (λ z. elim z [ ])
-zero_told Value.nil = inr (λ z. elim z [ ])
-zero_told (Value.many vs) = inr (λ z. elim z [ ])
-zero_told (Value.pairs ps) = inr (λ z. elim z [ ])
-zero_told (Value.fields fs) = inr (λ z. elim z [ ])
-zero_told (Value.opaque s) = inr (λ z. elim z [ ])
+zero_told _ = inr (λ z. elim z [ ])
 
 dropped_told : (k : Kind) (v : Tree) → Told (IsDropped k v)
 dropped_told (kind.Basic b) v = elim (zero_told v) [ inl z ↦ inl (zero_basic z) | inr n ↦ inr (λ d. n (zero d)) ]
@@ -53,22 +40,7 @@ dropped_told (kind.Basic b) v = elim (zero_told v) [ inl z ↦ inl (zero_basic z
     zero : {v : Tree} → IsDropped (kind.Basic b) v → IsZero v
     zero (zero_basic z) = z
 dropped_told (kind.Slice e) (Value.many no_tree) = inl empty_slice
-dropped_told (kind.Slice e) (Value.many (tree v vs)) = inr (λ d. elim d [ ])
-dropped_told (kind.Slice e) (Value.bool x) = inr (λ d. elim d [ ])
-dropped_told (kind.Slice e) (Value.int i) = inr (λ d. elim d [ ])
-dropped_told (kind.Slice e) (Value.uint n) = inr (λ d. elim d [ ])
-dropped_told (kind.Slice e) (Value.float p) = inr (λ d. elim d [ ])
-dropped_told (kind.Slice e) (Value.complex p q) = inr (λ d. elim d [ ])
-dropped_told (kind.Slice e) (Value.bytes s) = inr (λ d. elim d [ ])
-dropped_told (kind.Slice e) (Value.text s) = inr (λ d. elim d [ ])
-dropped_told (kind.Slice e) Value.nil = inr (λ d. elim d [ ])
-dropped_told (kind.Slice e) (Value.pairs ps) = inr (λ d. elim d [ ])
-dropped_told (kind.Slice e) (Value.fields fs) = inr (λ d. elim d [ ])
-dropped_told (kind.Slice e) (Value.opaque s) = inr (λ d. elim d [ ])
-dropped_told (kind.Array e n) v = inr (λ d. elim d [ ])
-dropped_told (kind.Struct types) v = inr (λ d. elim d [ ])
-dropped_told (kind.Map k e) v = inr (λ d. elim d [ ])
-dropped_told (kind.Opaque m) v = inr (λ d. elim d [ ])
+dropped_told _ _ = inr (λ d. elim d [ ])
 
 -- ---- a value that fits has a tidy form
 
@@ -77,14 +49,6 @@ mutual
   tidy_form (spelling.of_type e p) = let r = tidy_form_as p in record { tidy = r.tidy; tidies = of_type e r.tidies }
 
   tidy_form_as : {T : Table} {k : Kind} {v : Tree} {b : List ℕ} → SpellsAs T k v b → HasTidyForm (TidiesAs T k v)
-  tidy_form_as {v = v} (spelling.of_bool p) = record { tidy = v; tidies = of_basic (λ h. h) }
-  tidy_form_as {v = v} (spelling.of_int p) = record { tidy = v; tidies = of_basic (λ h. h) }
-  tidy_form_as {v = v} (spelling.of_uint p) = record { tidy = v; tidies = of_basic (λ h. h) }
-  tidy_form_as {v = v} (spelling.of_float p) = record { tidy = v; tidies = of_basic (λ h. h) }
-  tidy_form_as {v = v} (spelling.of_complex p q) = record { tidy = v; tidies = of_basic (λ h. h) }
-  tidy_form_as {v = v} (spelling.of_nil p) = record { tidy = v; tidies = of_basic (λ h. h) }
-  tidy_form_as {v = v} (spelling.of_bytes p) = record { tidy = v; tidies = of_basic (λ h. h) }
-  tidy_form_as {v = v} (spelling.of_text p) = record { tidy = v; tidies = of_basic (λ h. h) }
   tidy_form_as {v = v} (spelling.of_opaque p) = record { tidy = v; tidies = of_opaque (λ h. h) }
   tidy_form_as (spelling.of_slice p ps) = let r = tidy_forms ps in record
       { tidy = Value.many r.tidy; tidies = of_slice r.tidies }
@@ -94,6 +58,7 @@ mutual
       { tidy = Value.pairs r.tidy; tidies = of_map r.tidies }
   tidy_form_as (spelling.of_struct ps) = let r = tidy_fields ps in record
       { tidy = Value.fields r.tidy; tidies = of_struct r.tidies }
+  tidy_form_as {v = v} _ = record { tidy = v; tidies = of_basic (λ h. h) }
 
   tidy_forms : {T : Table} {e : TypeId} {vs : Trees} {b : List ℕ} → SpellsEach T e vs b → HasTidyForm (TidiesEach T e vs)
   tidy_forms spelling.no_element = record { tidy = no_tree; tidies = no_element }
@@ -166,10 +131,7 @@ pub dropped_before : {T : Table} {k : Kind} {v w : Tree} → TidiesAs T k v w �
 dropped_before (of_basic n) d = d
 dropped_before (of_opaque n) d = d
 dropped_before (of_slice no_element) d = d
-dropped_before (of_slice (element p ps)) d = elim d [ ]
-dropped_before (of_array ps) d = elim d [ ]
-dropped_before (of_map ps) d = elim d [ ]
-dropped_before (of_struct ps) d = elim d [ ]
+dropped_before _ d = elim d [ ]
 
 mutual
   pub tidy_again : {T : Table} {t : TypeId} {v w : Tree} → Tidies T t v w → Tidies T t w w

@@ -20,7 +20,7 @@ use Rattle.gob_value.specs.TidyLaws.{HasSmallNumbers}
 use Rattle.gob_value.specs.TidyLaws.{AllHaveSmallNumbers, PairsHaveSmallNumbers, FieldsHaveSmallNumbers}
 use Rattle.gob_value.specs.Tidied.{IsTidied}
 use Rattle.gob_value.specs.Written.{HasParts}
-use Rattle.gob_value.specs.Tidy.{Tidies, IsZero, of_bool, of_int, of_uint, of_float, of_complex, of_bytes, of_text}
+use Rattle.gob_value.specs.Tidy.{Tidies, IsZero, of_bool}
 use Rattle.gob_value.specs.Tidy.{IsDropped, zero_basic, empty_slice, of_type, TidiesAs, of_basic, of_opaque, of_slice}
 use Rattle.gob_value.specs.Tidy.{of_array, of_map, of_struct, TidiesEach, element, TidiesPairs, entry, TidiesFields}
 use Rattle.gob_value.specs.Tidy.{dropped, kept, HasTidyForm}
@@ -101,31 +101,18 @@ IsNoStruct _ = Unit {0}
 abbrev pub IsPlain : Kind → Type 0
 IsPlain k = ((b : Basic) × (k ≡ kind.Basic b)) ⊎ ((m : Marshal) × (k ≡ kind.Opaque m))
 
-no_numbers : (v : Tree) → ¬ HasParts v → HasSmallNumbers v
+pub no_numbers : (v : Tree) → ¬ HasParts v → HasSmallNumbers v
 no_numbers (Tree.many vs) n = absurd (n tt)
 no_numbers (Tree.pairs ps) n = absurd (n tt)
 no_numbers (Tree.fields fs) n = absurd (n tt)
-no_numbers (Tree.bool x) n = tt
-no_numbers (Tree.int i) n = tt
-no_numbers (Tree.uint m) n = tt
-no_numbers (Tree.float p) n = tt
-no_numbers (Tree.complex p q) n = tt
-no_numbers (Tree.bytes s) n = tt
-no_numbers (Tree.text s) n = tt
-no_numbers Tree.nil n = tt
-no_numbers (Tree.opaque s) n = tt
+no_numbers _ n = tt
 
 dropped_small : {k : Kind} {v : Tree} → IsDropped k v → HasSmallNumbers v
 dropped_small (zero_basic z) = zero_small z
   where
     zero_small : {v : Tree} → IsZero v → HasSmallNumbers v
     zero_small of_bool = tt
-    zero_small of_int = tt
-    zero_small of_uint = tt
-    zero_small of_float = tt
-    zero_small of_complex = tt
-    zero_small of_bytes = tt
-    zero_small of_text = tt
+    zero_small _ = tt
 dropped_small empty_slice = tt
 
 -- ---- what a loop needs of the next part

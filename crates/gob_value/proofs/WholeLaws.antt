@@ -19,13 +19,9 @@ a_struct k fields e = rw e tt
 
 no_struct : (k : Kind) → ((fields : declared.Fields) → ¬ (k ≡ kind.Struct fields)) → ¬ IsStruct k
 no_struct (kind.Struct fields) n = λ i. n fields refl
-no_struct (kind.Basic b) n = λ i. i
-no_struct (kind.Array e len) n = λ i. i
-no_struct (kind.Slice e) n = λ i. i
-no_struct (kind.Map k e) n = λ i. i
-no_struct (kind.Opaque m) n = λ i. i
+no_struct _ n = λ i. i
 
-first_of : (body : List ℕ) (b : ℕ) → slice_get body 0 ≡ Some b → body ≡ b ∷ drop 1 body
+pub first_of : (body : List ℕ) (b : ℕ) → slice_get body 0 ≡ Some b → body ≡ b ∷ drop 1 body
 first_of [] b e = cc
 first_of (x ∷ body) b e = let same : x ≡ b = cc in ap (λ y. y ∷ body) same
 

@@ -169,16 +169,7 @@ module _ (T : Table) (tidy : Bool) where
   number_begins (kind.Basic basic.Int) a n x y p = int_begins n x y p
   number_begins (kind.Basic basic.Uint) a n x y p = uint_begins n x y p
   number_begins (kind.Basic basic.Float) a n x y p = float_begins n x y p
-  number_begins (kind.Basic basic.Bool) a n x y p = absurd a
-  number_begins (kind.Basic basic.Bytes) a n x y p = absurd a
-  number_begins (kind.Basic basic.Str) a n x y p = absurd a
-  number_begins (kind.Basic basic.Complex) a n x y p = absurd a
-  number_begins (kind.Basic basic.Interface) a n x y p = absurd a
-  number_begins (kind.Array e m) a n x y p = absurd a
-  number_begins (kind.Slice e) a n x y p = absurd a
-  number_begins (kind.Struct types) a n x y p = absurd a
-  number_begins (kind.Map k e) a n x y p = absurd a
-  number_begins (kind.Opaque m) a n x y p = absurd a
+  number_begins _ a n x y p = absurd a
 
   -- ---- values with parts
   pub slice_begins : (e : TypeId) (limit n : ℕ) → 0 < limit → (x y z : List ℕ) → BeginsThisNumber n x y

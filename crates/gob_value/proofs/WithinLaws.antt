@@ -10,31 +10,13 @@ use Rattle.gob_value.proofs.ViewLaws.{views_item, pair_item, field_item}
 -- every value is at least one deep
 pub some_depth : (v : Tree) → 0 < depth v
 some_depth (Tree.bool x) = omega arith
-some_depth (Tree.int i) = omega arith
-some_depth (Tree.uint m) = omega arith
-some_depth (Tree.float p) = omega arith
-some_depth (Tree.complex p q) = omega arith
-some_depth (Tree.bytes s) = omega arith
-some_depth (Tree.text s) = omega arith
-some_depth Tree.nil = omega arith
-some_depth (Tree.many vs) = omega arith
-some_depth (Tree.pairs ps) = omega arith
-some_depth (Tree.fields fs) = omega arith
-some_depth (Tree.opaque s) = omega arith
+some_depth _ = omega arith
 
 pub leaf_within : (limit : ℕ) (v : Tree) → ¬ HasParts v → 0 < limit → depth v ≤ limit
-leaf_within limit (Tree.bool x) n l = omega arith
-leaf_within limit (Tree.int i) n l = omega arith
-leaf_within limit (Tree.uint m) n l = omega arith
-leaf_within limit (Tree.float p) n l = omega arith
-leaf_within limit (Tree.complex p q) n l = omega arith
-leaf_within limit (Tree.bytes s) n l = omega arith
-leaf_within limit (Tree.text s) n l = omega arith
-leaf_within limit Tree.nil n l = omega arith
 leaf_within limit (Tree.many vs) n l = absurd (n tt)
 leaf_within limit (Tree.pairs ps) n l = absurd (n tt)
 leaf_within limit (Tree.fields fs) n l = absurd (n tt)
-leaf_within limit (Tree.opaque s) n l = omega arith
+leaf_within limit _ n l = omega arith
 
 -- the parts are one less deep than the value
 pub parts_inside : (limit : ℕ) (v : Tree) (vs : Trees) → v ≡ Tree.many vs → 0 < limit → (trees_depth vs ≤ limit - 1)
