@@ -205,23 +205,16 @@ kinds_choice _ _ = inr (record { reason = clash.DifferentKind; clash = unlike (�
 pub one_reason : {k l : Kind} {reason other : ClashReason} → KindsClash k l reason → KindsClash k l other
     → reason ≡ other
 one_reason (basics_differ d) (basics_differ e) = refl
-one_reason (basics_differ d) (unlike n) = refl
 one_reason (opaques_differ d) (opaques_differ e) = refl
-one_reason (opaques_differ d) (unlike n) = refl
-one_reason (lengths_differ d) (lengths_differ e) = refl
 one_reason (lengths_differ d) (unlike n) = absurd (n tt)
-one_reason (name_repeated r) (name_repeated s) = refl
 one_reason (name_repeated r) (nothing_in_common d n) = absurd (elim r [ inl h ↦ d.in_stream h | inr h ↦ d.in_wanted h ])
 one_reason (name_repeated r) (unlike n) = absurd (n tt)
 one_reason (nothing_in_common d n) (name_repeated r) = absurd (elim r [ inl h ↦ d.in_stream h | inr h ↦ d.in_wanted h ])
-one_reason (nothing_in_common d n) (nothing_in_common e m) = refl
 one_reason (nothing_in_common d n) (unlike m) = absurd (m tt)
-one_reason (unlike n) (basics_differ d) = refl
-one_reason (unlike n) (opaques_differ d) = refl
 one_reason (unlike n) (lengths_differ d) = absurd (n tt)
 one_reason (unlike n) (name_repeated r) = absurd (n tt)
 one_reason (unlike n) (nothing_in_common d m) = absurd (n tt)
-one_reason (unlike n) (unlike m) = refl
+one_reason _ _ = refl
 
 -- ---- what two kinds name
 

@@ -24,77 +24,26 @@ use Rattle.gob_match.proofs.ConversionLaws.{common_sound, common_whole}
 
 -- ---- shapes of other kinds
 
-pub no_basic : (b : Basic) (l : Kind) → ((c : Basic) → l ≡ kind.Basic c → ⊥)
-    → KindsClash (kind.Basic b) l clash.DifferentKind
-no_basic b l n = unlike (alike l n)
-  where
-    alike : (l : Kind) → ((c : Basic) → l ≡ kind.Basic c → ⊥) → ¬ AreAlike (kind.Basic b) l
-    alike (kind.Basic c) n h = n c refl
-    alike (kind.Opaque m) n h = h
-    alike (kind.Array e m) n h = h
-    alike (kind.Slice e) n h = h
-    alike (kind.Map k e) n h = h
-    alike (kind.Struct fs) n h = h
+-- the second kind is no case of the first one's
+abbrev IsOther : Kind → Kind → Type 0
+IsOther (kind.Basic b) l = (c : Basic) → l ≡ kind.Basic c → ⊥
+IsOther (kind.Opaque m) l = (n : Marshal) → l ≡ kind.Opaque n → ⊥
+IsOther (kind.Array d m) l = (e : TypeId) (n : ℕ) → l ≡ kind.Array e n → ⊥
+IsOther (kind.Slice d) l = (e : TypeId) → l ≡ kind.Slice e → ⊥
+IsOther (kind.Map c d) l = (k e : TypeId) → l ≡ kind.Map k e → ⊥
+IsOther (kind.Struct fs) l = (gs : List Field) → l ≡ kind.Struct gs → ⊥
 
-pub no_opaque : (b : Marshal) (l : Kind) → ((c : Marshal) → l ≡ kind.Opaque c → ⊥)
-    → KindsClash (kind.Opaque b) l clash.DifferentKind
-no_opaque b l n = unlike (alike l n)
+pub others_clash : (k l : Kind) → IsOther k l → KindsClash k l clash.DifferentKind
+others_clash k l n = unlike (alike k l n)
   where
-    alike : (l : Kind) → ((c : Marshal) → l ≡ kind.Opaque c → ⊥) → ¬ AreAlike (kind.Opaque b) l
-    alike (kind.Basic c) n h = h
-    alike (kind.Opaque m) n h = n m refl
-    alike (kind.Array e m) n h = h
-    alike (kind.Slice e) n h = h
-    alike (kind.Map k e) n h = h
-    alike (kind.Struct fs) n h = h
-
-pub no_array : (d : TypeId) (len : ℕ) (l : Kind) → ((e : TypeId) (m : ℕ) → l ≡ kind.Array e m → ⊥)
-    → KindsClash (kind.Array d len) l clash.DifferentKind
-no_array d len l n = unlike (alike l n)
-  where
-    alike : (l : Kind) → ((e : TypeId) (m : ℕ) → l ≡ kind.Array e m → ⊥) → ¬ AreAlike (kind.Array d len) l
-    alike (kind.Basic c) n h = h
-    alike (kind.Opaque m) n h = h
-    alike (kind.Array e m) n h = n e m refl
-    alike (kind.Slice e) n h = h
-    alike (kind.Map k e) n h = h
-    alike (kind.Struct fs) n h = h
-
-pub no_slice : (d : TypeId) (l : Kind) → ((e : TypeId) → l ≡ kind.Slice e → ⊥)
-    → KindsClash (kind.Slice d) l clash.DifferentKind
-no_slice d l n = unlike (alike l n)
-  where
-    alike : (l : Kind) → ((e : TypeId) → l ≡ kind.Slice e → ⊥) → ¬ AreAlike (kind.Slice d) l
-    alike (kind.Basic c) n h = h
-    alike (kind.Opaque m) n h = h
-    alike (kind.Array e m) n h = h
-    alike (kind.Slice e) n h = n e refl
-    alike (kind.Map k e) n h = h
-    alike (kind.Struct fs) n h = h
-
-pub no_map : (c d : TypeId) (l : Kind) → ((k e : TypeId) → l ≡ kind.Map k e → ⊥)
-    → KindsClash (kind.Map c d) l clash.DifferentKind
-no_map c d l n = unlike (alike l n)
-  where
-    alike : (l : Kind) → ((k e : TypeId) → l ≡ kind.Map k e → ⊥) → ¬ AreAlike (kind.Map c d) l
-    alike (kind.Basic c) n h = h
-    alike (kind.Opaque m) n h = h
-    alike (kind.Array e m) n h = h
-    alike (kind.Slice e) n h = h
-    alike (kind.Map k e) n h = n k e refl
-    alike (kind.Struct fs) n h = h
-
-pub no_struct : (fs : List Field) (l : Kind) → ((gs : List Field) → l ≡ kind.Struct gs → ⊥)
-    → KindsClash (kind.Struct fs) l clash.DifferentKind
-no_struct fs l n = unlike (alike l n)
-  where
-    alike : (l : Kind) → ((gs : List Field) → l ≡ kind.Struct gs → ⊥) → ¬ AreAlike (kind.Struct fs) l
-    alike (kind.Basic c) n h = h
-    alike (kind.Opaque m) n h = h
-    alike (kind.Array e m) n h = h
-    alike (kind.Slice e) n h = h
-    alike (kind.Map k e) n h = h
-    alike (kind.Struct gs) n h = n gs refl
+    alike : (k l : Kind) → IsOther k l → ¬ AreAlike k l
+    alike (kind.Basic b) (kind.Basic c) n h = n c refl
+    alike (kind.Opaque b) (kind.Opaque m) n h = n m refl
+    alike (kind.Array d l) (kind.Array e m) n h = n e m refl
+    alike (kind.Slice d) (kind.Slice e) n h = n e refl
+    alike (kind.Map c d) (kind.Map k e) n h = n k e refl
+    alike (kind.Struct fs) (kind.Struct gs) n h = n gs refl
+    alike _ _ n h = h
 
 -- ---- shapes that match
 

@@ -22,7 +22,7 @@ use Rattle.gob_value.specs.Tree.{fields_depth}
 use Rattle.gob_value.specs.Tree as Value
 use Rattle.gob_value.specs.View.{view, views, pair_views, field_views}
 use Rattle.gob_value.specs.Written.{HasParts}
-use Rattle.gob_value.proofs.PublicLaws.{IsNoList, IsNoMap, IsNoStruct, view-Many, view-Pairs, view-Fields}
+use Rattle.gob_value.proofs.PublicLaws.{IsNoList, IsNoMap, IsNoStruct, no_numbers, view-Many, view-Pairs, view-Fields}
 use Rattle.gob_match.specs.declared.common.CommonField.{CommonField}
 use Rattle.gob_match.specs.declared.conversion.Conversion.{Conversion}
 use Rattle.gob_match.specs.declared.conversion.Conversion.TheVariants as conversion
@@ -150,27 +150,12 @@ as_received c r small = record { receives = relation.of_types c.shapes.stream c.
 
 -- ---- values without parts
 
-no_numbers : (v : Tree) → ¬ HasParts v → HasSmallNumbers v
-no_numbers (Value.many vs) n = absurd (n tt)
-no_numbers (Value.pairs ps) n = absurd (n tt)
-no_numbers (Value.fields fs) n = absurd (n tt)
-no_numbers _ n = tt
-
 stays : {T U : Table} {k l : Kind} {v : Tree} {b : List ℕ} → KindsMatch k l → IsConversion k l conversion.Unchanged
     → SpellsAs T k v b → ReceivesAs T U k l v v × ¬ HasParts v
 stays basics kept.of_basics (of_bool h) = (relation.of_basics, λ h. h)
-stays basics kept.of_basics (of_int h) = (relation.of_basics, λ h. h)
-stays basics kept.of_basics (of_uint h) = (relation.of_basics, λ h. h)
-stays basics kept.of_basics (of_float h) = (relation.of_basics, λ h. h)
-stays basics kept.of_basics (of_complex g h) = (relation.of_basics, λ h. h)
-stays basics kept.of_basics (of_nil h) = (relation.of_basics, λ h. h)
-stays basics kept.of_basics (of_bytes h) = (relation.of_basics, λ h. h)
-stays basics kept.of_basics (of_text h) = (relation.of_basics, λ h. h)
+stays basics kept.of_basics _ = (relation.of_basics, λ h. h)
 stays opaques kept.of_opaques (of_opaque h) = (relation.of_opaques, λ h. h)
-stays arrays w h = elim w [ ]
-stays slices w h = elim w [ ]
-stays maps w h = elim w [ ]
-stays (structs d c) w h = elim w [ ]
+stays _ w h = elim w [ ]
 
 leaf_at : {T U : Table} {p : TypePair} {v : Tree} → ConvertsAt T U p conversion.Unchanged → Fits T p.stream v
     → ¬ HasParts v
@@ -223,10 +208,7 @@ elements_as : {T U : Table} {k l : Kind} {q : TypePair} {vs ws : Trees} → Kind
     → ReceivesAs T U k l (Value.many vs) (Value.many ws)
 elements_as arrays kept.of_arrays r = relation.of_arrays r
 elements_as slices kept.of_slices r = relation.of_slices r
-elements_as basics w r = elim w [ ]
-elements_as opaques w r = elim w [ ]
-elements_as maps w r = elim w [ ]
-elements_as (structs d c) w r = elim w [ ]
+elements_as _ w r = elim w [ ]
 
 elements_received : {T U : Table} {p q : TypePair} {vs ws : Trees} → ConvertsAt T U p (conversion.Elements q)
     → AreElementsReceived T U q vs ws → IsReceived T U p (Value.many vs) (Value.many ws)
@@ -289,11 +271,7 @@ entries_as : {T U : Table} {k l : Kind} {x e : TypePair} {ps qs : Pairs} → Kin
     → IsConversion k l (conversion.Entries x e) → relation.ReceivesPairs T U x.stream x.wanted e.stream e.wanted ps qs
     → ReceivesAs T U k l (Value.pairs ps) (Value.pairs qs)
 entries_as maps kept.of_maps r = relation.of_maps r
-entries_as basics w r = elim w [ ]
-entries_as opaques w r = elim w [ ]
-entries_as arrays w r = elim w [ ]
-entries_as slices w r = elim w [ ]
-entries_as (structs d c) w r = elim w [ ]
+entries_as _ w r = elim w [ ]
 
 entries_received : {T U : Table} {p x e : TypePair} {ps qs : Pairs} → ConvertsAt T U p (conversion.Entries x e)
     → PairsReceived T U x e ps qs → IsReceived T U p (Value.pairs ps) (Value.pairs qs)
@@ -396,11 +374,7 @@ fields_as : {T U : Table} {k l : Kind} {cs : Vec CommonField Global} {fs gs : Fi
     → IsConversion k l (conversion.Fields cs) → FieldsReceived T U fs cs.items gs
     → ReceivesAs T U k l (Value.fields fs) (Value.fields gs)
 fields_as (structs d h) (kept.of_structs a) r = relation.of_structs (by_name d.in_stream a r)
-fields_as basics w r = elim w [ ]
-fields_as opaques w r = elim w [ ]
-fields_as arrays w r = elim w [ ]
-fields_as slices w r = elim w [ ]
-fields_as maps w r = elim w [ ]
+fields_as _ w r = elim w [ ]
 
 fields_received : {T U : Table} {p : TypePair} {cs : Vec CommonField Global} {fs gs : Fields}
     → ConvertsAt T U p (conversion.Fields cs) → FieldsReceived T U fs cs.items gs

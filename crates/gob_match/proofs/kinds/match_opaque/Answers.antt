@@ -1,11 +1,11 @@
 use Rattle.std.proofs.Common.{◌∙◌, sym}
 use denote.Enum.Bare.{same_true, same_false}
 use Rattle.gob_types.specs.contracts.kind.Marshal.{the_type}
-use Rattle.gob_match.proofs.KindLaws.{no_opaque, opaques_convert, opaques_clash}
+use Rattle.gob_match.proofs.KindLaws.{others_clash, opaques_convert, opaques_clash}
 use Rattle.gob_match.proofs.kinds.match_opaque.Goals as goal
 
 pub returns-in_default : goal.returns-in_default
-returns-in_default c = no_opaque c.args.marshal c.args.wanted.now c.in_default.not-Opaque
+returns-in_default c = others_clash _ c.args.wanted.now c.in_default.not-Opaque
 
 pub returns-then-eq : goal.returns-then-eq
 returns-then-eq c = opaques_convert c.in-Opaque.is
