@@ -3,6 +3,6 @@ use Rattle.gob_stream.proofs.whole.may_put.Goals as goal
 
 pub returns : goal.returns
 returns c = λ kept. record {
-  public = λ e. c.if-id-eq-GOB_ENCODER_TYPE.false (ap (λ i. i.0) e);
+  public = λ e. c.if-id.false (ap (λ i. i.0) e);
   ready = c.kept.ensures.0 kept;
 }
