@@ -15,20 +15,13 @@ use Rattle.gob_value.specs.Tree.{Tree}
 use Rattle.gob_value.specs.Spelling.{SpellsAs, of_type}
 use Rattle.gob_value.specs.Top.{IsStruct, at_once, tagged}
 use Rattle.gob_json.specs.Json.{value_json, put_json}
+use Rattle.gob_value.proofs.PublicLaws.{first_of}
 use Rattle.gob_value.specs.Whole.{Stands}
 use Rattle.gob_json.specs.TextWhole.{TextOfKind, TextOfWhole, LineOfWhole, IsBehindTag, head_text}
 
 struct_or_not : (k : Kind) → IsStruct k ⊎ (¬ IsStruct k)
 struct_or_not (kind.Struct types) = inl tt
-struct_or_not (kind.Basic b) = inr (λ i. i)
-struct_or_not (kind.Array e n) = inr (λ i. i)
-struct_or_not (kind.Slice e) = inr (λ i. i)
-struct_or_not (kind.Map k e) = inr (λ i. i)
-struct_or_not (kind.Opaque m) = inr (λ i. i)
-
-first_of : (body : List ℕ) (b : ℕ) → slice_get body 0 ≡ Some b → body ≡ b ∷ drop 1 body
-first_of [] b e = cc
-first_of (x ∷ body) b e = let same : x ≡ b = cc in ap (λ y. y ∷ body) same
+struct_or_not _ = inr (λ i. i)
 
 -- a value that stands up to the end, with its text, is the whole body
 pub whole_text : (T : Table) (t : TypeId) (s : Shape) (limit most begin end : ℕ) (body old new : List ℕ)

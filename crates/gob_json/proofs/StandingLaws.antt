@@ -363,11 +363,7 @@ struct_begins s types f is (tagged {s = r} g other p) =
 
 no_struct : (k : Kind) → ((types : List Field) → k ≡ kind.Struct types → ⊥) → IsStruct k → ⊥
 no_struct (kind.Struct types) not is = not types refl
-no_struct (kind.Basic b) not is = is
-no_struct (kind.Array e n) not is = is
-no_struct (kind.Slice e) not is = is
-no_struct (kind.Map k e) not is = is
-no_struct (kind.Opaque m) not is = is
+no_struct _ not is = is
 
 pub tagged_begins : {T : Table} {t : TypeId} {v : Tree} {body : List ℕ} (s : Shape) (begin : ℕ) → shape_of T t ≡ Some s
     → ((types : List Field) → s.kind ≡ kind.Struct types → ⊥) → (0 < length body → begin ≡ 1) → SpellsTop T t v body

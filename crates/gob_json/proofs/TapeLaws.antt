@@ -53,16 +53,10 @@ leaf_shown : (T : Table) (t : TypeId) (v : Tree) → (kind_of v ≢ kind.Many) �
     → leaf_json (kind_of v) (numbers_of v).0 (numbers_of v).1 (bytes_of v) ≡ value_json T t v
 leaf_shown T t (Value.bool x) m p f = ap Rattle.serde_json.specs.Data.boolean (truth_shown x)
 leaf_shown T t (Value.int i) m p f = ap integer_json (signed_unsigned i)
-leaf_shown T t (Value.uint n) m p f = refl
-leaf_shown T t (Value.float q) m p f = refl
-leaf_shown T t (Value.complex q r) m p f = refl
-leaf_shown T t (Value.bytes s) m p f = refl
-leaf_shown T t (Value.text s) m p f = refl
-leaf_shown T t Value.nil m p f = refl
 leaf_shown T t (Value.many vs) m p f = absurd (m refl)
 leaf_shown T t (Value.pairs ps) m p f = absurd (p refl)
 leaf_shown T t (Value.fields fs) m p f = absurd (f refl)
-leaf_shown T t (Value.opaque s) m p f = refl
+leaf_shown T t _ m p f = refl
 
 -- what a view shows of a part without parts
 pub leaf_seen : (T : Table) (t : TypeId) (v : Tree) (k : ValueKind) (n : ℕ × ℕ) (s : List ℕ) → k ≡ kind_of v
@@ -75,80 +69,32 @@ leaf_seen T t v k n s e q r m p f =
 
 -- ---- which value has parts of which kind
 
-abbrev IsMany : ValueKind → Type 0
-IsMany kind.Many = Unit {0}
-IsMany _ = ⊥
+-- the value is made of parts
+pub record IsMadeOf {P : Type 0} (made : P → Tree) (v : Tree) : Type 0 where
+  pub parts : P
+  pub is : v ≡ made parts
 
-abbrev IsPairs : ValueKind → Type 0
-IsPairs kind.Pairs = Unit {0}
-IsPairs _ = ⊥
+-- what a value that is seen as this kind is made of, if it has parts
+abbrev Made : Tree → ValueKind → Type 0
+Made v kind.Many = IsMadeOf Value.many v
+Made v kind.Pairs = IsMadeOf Value.pairs v
+Made v kind.Fields = IsMadeOf Value.fields v
+Made v _ = Unit {0}
 
-abbrev IsFields : ValueKind → Type 0
-IsFields kind.Fields = Unit {0}
-IsFields _ = ⊥
+made : (v : Tree) → Made v (kind_of v)
+made (Value.many vs) = record { parts = vs; is = refl }
+made (Value.pairs ps) = record { parts = ps; is = refl }
+made (Value.fields fs) = record { parts = fs; is = refl }
+made _ = tt
 
-pub record AsMany (v : Tree) : Type 0 where
-  pub parts : Trees
-  pub is : v ≡ Value.many parts
+pub as_many : (v : Tree) → kind.Many ≡ kind_of v → IsMadeOf Value.many v
+as_many v e = subst (Made v) (sym e) (made v)
 
-pub record AsPairs (v : Tree) : Type 0 where
-  pub parts : Pairs
-  pub is : v ≡ Value.pairs parts
+pub as_pairs : (v : Tree) → kind.Pairs ≡ kind_of v → IsMadeOf Value.pairs v
+as_pairs v e = subst (Made v) (sym e) (made v)
 
-pub record AsFields (v : Tree) : Type 0 where
-  pub parts : Fields
-  pub is : v ≡ Value.fields parts
-
-pub as_many : (v : Tree) → kind.Many ≡ kind_of v → AsMany v
-as_many v e = by v (subst IsMany e tt)
-  where
-    by : (v : Tree) → IsMany (kind_of v) → AsMany v
-    by (Value.many vs) h = record { parts = vs; is = refl }
-    by (Value.bool x) h = absurd h
-    by (Value.int x) h = absurd h
-    by (Value.uint x) h = absurd h
-    by (Value.float x) h = absurd h
-    by (Value.complex x y) h = absurd h
-    by (Value.bytes x) h = absurd h
-    by (Value.text x) h = absurd h
-    by Value.nil h = absurd h
-    by (Value.pairs x) h = absurd h
-    by (Value.fields x) h = absurd h
-    by (Value.opaque x) h = absurd h
-
-pub as_pairs : (v : Tree) → kind.Pairs ≡ kind_of v → AsPairs v
-as_pairs v e = by v (subst IsPairs e tt)
-  where
-    by : (v : Tree) → IsPairs (kind_of v) → AsPairs v
-    by (Value.pairs ps) h = record { parts = ps; is = refl }
-    by (Value.bool x) h = absurd h
-    by (Value.int x) h = absurd h
-    by (Value.uint x) h = absurd h
-    by (Value.float x) h = absurd h
-    by (Value.complex x y) h = absurd h
-    by (Value.bytes x) h = absurd h
-    by (Value.text x) h = absurd h
-    by Value.nil h = absurd h
-    by (Value.many x) h = absurd h
-    by (Value.fields x) h = absurd h
-    by (Value.opaque x) h = absurd h
-
-pub as_fields : (v : Tree) → kind.Fields ≡ kind_of v → AsFields v
-as_fields v e = by v (subst IsFields e tt)
-  where
-    by : (v : Tree) → IsFields (kind_of v) → AsFields v
-    by (Value.fields fs) h = record { parts = fs; is = refl }
-    by (Value.bool x) h = absurd h
-    by (Value.int x) h = absurd h
-    by (Value.uint x) h = absurd h
-    by (Value.float x) h = absurd h
-    by (Value.complex x y) h = absurd h
-    by (Value.bytes x) h = absurd h
-    by (Value.text x) h = absurd h
-    by Value.nil h = absurd h
-    by (Value.many x) h = absurd h
-    by (Value.pairs x) h = absurd h
-    by (Value.opaque x) h = absurd h
+pub as_fields : (v : Tree) → kind.Fields ≡ kind_of v → IsMadeOf Value.fields v
+as_fields v e = subst (Made v) (sym e) (made v)
 
 -- ---- elements
 

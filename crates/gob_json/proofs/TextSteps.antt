@@ -20,7 +20,7 @@ use Rattle.gob_types.specs.declared.kind.Kind.TheVariants as kind
 use Rattle.gob_types.specs.declared.kind.Shape.{Shape}
 use Rattle.gob_types.specs.Table.{Table, shape_of}
 use Rattle.gob_value.specs.Tree.{Tree, no_tree, tree, no_pair, pair, no_field, field}
-use Rattle.gob_value.specs.Spelling.{of_type, of_bool, of_int, of_uint}
+use Rattle.gob_value.specs.Spelling.{SpellsAs, of_type, of_bool, of_int, of_uint}
 use Rattle.gob_value.specs.Spelling.{of_float, of_complex, of_nil, of_bytes, of_text}
 use Rattle.gob_value.specs.Spelling.{of_opaque, of_slice, of_array, of_map, of_struct, no_element, element, no_entry}
 use Rattle.gob_value.specs.Spelling.{entry, end_of_fields, next_field}
@@ -30,6 +30,8 @@ use Rattle.gob_json.specs.Json.{field_name, field_type, integer_json}
 use Rattle.gob_json.specs.Json.{natural_json, pattern_json, pair_json, triple_json}
 use Rattle.gob_json.specs.Json.{hex_json, text_json, opaque_json}
 use Rattle.gob_value.specs.Whole.{Stands, BeginsThisNumber}
+use Rattle.gob_value.specs.Written.{HasParts}
+use Rattle.gob_value.proofs.PublicLaws.{leaf_within, whole_of_two}
 use Rattle.gob_json.specs.TextWhole.{TextOfKind, TextOfEach, TextOfPairs, TextOfFields, BeginsThese, field_head}
 
 -- an answer of a place, if any
@@ -55,135 +57,67 @@ these_stand body at begin count p l =
       begins = record {
         count = n.bytes;
         counted = subst (λ k. IsUnsigned k n.bytes) (sym size) n.spelled;
-        whole = n.whole ∙ ap (λ r. n.bytes ++ r) rest
-            ∙ sym (append_assoc n.bytes (take count d) (drop (begin + count) body));
+        whole = whole_of_two n.bytes (take count d) (drop (begin + count) body) n.whole rest;
       };
     } in
     subst (λ k. Stands (BeginsThese (take k d)) body at (begin + count)) (sym same) found
 
 -- ---- values without parts
 module _ (T : Table) (old new : List ℕ) where
+  leaf_text : {k : Kind} {x y bytes : List ℕ} (v : Tree) → ¬ HasParts v → SpellsAs T k v bytes
+      → ((t : TypeId) → new ≡ old ++ compact_text (value_json T t v)) → x ≡ bytes ++ y → TextOfKind T k 1 old new x y
+  leaf_text {bytes = bytes} v n s e w = record {
+    value = v;
+    bytes = bytes;
+    spelled = s;
+    within = leaf_within 1 v n (omega arith);
+    whole = w;
+    text = λ t k. e t;
+  }
+
   pub int_text : (n : ℕ) (i : ℤ) → ((bytes : List ℕ) → IsUnsigned n bytes → IsSigned i bytes)
       → new ≡ old ++ compact_text (integer_json i) → (x y : List ℕ) → BeginsThisNumber n x y
       → TextOfKind T (kind.Basic basic.Int) 1 old new x y
-  int_text n i means e x y p = record {
-    value = Tree.int i;
-    bytes = p.bytes;
-    spelled = of_int (means p.bytes p.spelled);
-    within = omega arith;
-    whole = p.whole;
-    text = λ t k. e;
-  }
+  int_text n i means e x y p = leaf_text (Tree.int i) (λ h. h) (of_int (means p.bytes p.spelled)) (λ t. e) p.whole
 
   pub uint_text : (n : ℕ) → new ≡ old ++ compact_text (natural_json n) → (x y : List ℕ) → BeginsThisNumber n x y
       → TextOfKind T (kind.Basic basic.Uint) 1 old new x y
-  uint_text n e x y p = record {
-    value = Tree.uint n;
-    bytes = p.bytes;
-    spelled = of_uint p.spelled;
-    within = omega arith;
-    whole = p.whole;
-    text = λ t k. e;
-  }
+  uint_text n e x y p = leaf_text (Tree.uint n) (λ h. h) (of_uint p.spelled) (λ t. e) p.whole
 
   pub float_text : (n f : ℕ) → ((bytes : List ℕ) → IsUnsigned n bytes → IsPattern f bytes)
       → new ≡ old ++ compact_text (pattern_json f) → (x y : List ℕ) → BeginsThisNumber n x y
       → TextOfKind T (kind.Basic basic.Float) 1 old new x y
-  float_text n f means e x y p = record {
-    value = Tree.float f;
-    bytes = p.bytes;
-    spelled = of_float (means p.bytes p.spelled);
-    within = omega arith;
-    whole = p.whole;
-    text = λ t k. e;
-  }
+  float_text n f means e x y p = leaf_text (Tree.float f) (λ h. h) (of_float (means p.bytes p.spelled)) (λ t. e) p.whole
 
   pub complex_text : (m n f g : ℕ) → ((bytes : List ℕ) → IsUnsigned m bytes → IsPattern f bytes)
       → ((bytes : List ℕ) → IsUnsigned n bytes → IsPattern g bytes)
       → new ≡ old ++ compact_text (pair_json (pattern_json f) (pattern_json g)) → (x y z : List ℕ)
       → BeginsThisNumber m x y → BeginsThisNumber n y z → TextOfKind T (kind.Basic basic.Complex) 1 old new x z
-  complex_text m n f g one two e x y z p q = record {
-    value = Tree.complex f g;
-    bytes = p.bytes ++ q.bytes;
-    spelled = of_complex (one p.bytes p.spelled) (two q.bytes q.spelled);
-    within = omega arith;
-    whole = p.whole ∙ ap (λ r. p.bytes ++ r) q.whole ∙ sym (append_assoc p.bytes q.bytes z);
-    text = λ t k. e;
-  }
-
-  false_text : (n : ℕ) → n ≡ 0 → new ≡ old ++ compact_text (boolean false) → (x y : List ℕ) → BeginsThisNumber n x y
-      → TextOfKind T (kind.Basic basic.Bool) 1 old new x y
-  false_text n is e x y p = record {
-    value = Tree.bool false;
-    bytes = p.bytes;
-    spelled = of_bool (subst (λ k. IsUnsigned k p.bytes) is p.spelled);
-    within = omega arith;
-    whole = p.whole;
-    text = λ t k. e;
-  }
-
-  true_text : (n : ℕ) → n ≡ 1 → new ≡ old ++ compact_text (boolean true) → (x y : List ℕ) → BeginsThisNumber n x y
-      → TextOfKind T (kind.Basic basic.Bool) 1 old new x y
-  true_text n is e x y p = record {
-    value = Tree.bool true;
-    bytes = p.bytes;
-    spelled = of_bool (subst (λ k. IsUnsigned k p.bytes) is p.spelled);
-    within = omega arith;
-    whole = p.whole;
-    text = λ t k. e;
-  }
+  complex_text m n f g one two e x y z p q = leaf_text (Tree.complex f g) (λ h. h) (of_complex (one p.bytes p.spelled) (two q.bytes q.spelled)) (λ t. e) (whole_of_two p.bytes q.bytes z p.whole q.whole)
 
   pub bool_text : (n : ℕ) → n ≤ 1 → new ≡ old ++ compact_text (boolean (n == 1)) → (x y : List ℕ)
       → BeginsThisNumber n x y → TextOfKind T (kind.Basic basic.Bool) 1 old new x y
-  bool_text zero l e x y p = false_text zero refl e x y p
-  bool_text (suc zero) l e x y p = true_text (suc zero) refl e x y p
+  bool_text zero l e x y p = leaf_text (Tree.bool false) (λ h. h) (of_bool p.spelled) (λ t. e) p.whole
+  bool_text (suc zero) l e x y p = leaf_text (Tree.bool true) (λ h. h) (of_bool p.spelled) (λ t. e) p.whole
   bool_text (suc (suc n)) l e x y p = absurd (omega arith)
 
   pub nil_text : (n : ℕ) → n ≤ 0 → new ≡ old ++ compact_text null → (x y : List ℕ) → BeginsThisNumber n x y
       → TextOfKind T (kind.Basic basic.Interface) 1 old new x y
   nil_text n l e x y p =
       let none : n ≡ 0 = omega arith in
-      record {
-        value = Tree.nil;
-        bytes = p.bytes;
-        spelled = of_nil (subst (λ k. IsUnsigned k p.bytes) none p.spelled);
-        within = omega arith;
-        whole = p.whole;
-        text = λ t k. e;
-      }
+      leaf_text Tree.nil (λ h. h) (of_nil (subst (λ k. IsUnsigned k p.bytes) none p.spelled)) (λ t. e) p.whole
 
   pub bytes_text : (raw : List ℕ) → new ≡ old ++ compact_text (hex_json raw) → (x y : List ℕ) → BeginsThese raw x y
       → TextOfKind T (kind.Basic basic.Bytes) 1 old new x y
-  bytes_text raw e x y p = record {
-    value = Tree.bytes raw;
-    bytes = p.count ++ raw;
-    spelled = of_bytes p.counted;
-    within = omega arith;
-    whole = p.whole;
-    text = λ t k. e;
-  }
+  bytes_text raw e x y p = leaf_text (Tree.bytes raw) (λ h. h) (of_bytes p.counted) (λ t. e) p.whole
 
   pub string_text : (raw : List ℕ) → new ≡ old ++ compact_text (text_json raw) → (x y : List ℕ) → BeginsThese raw x y
       → TextOfKind T (kind.Basic basic.Str) 1 old new x y
-  string_text raw e x y p = record {
-    value = Tree.text raw;
-    bytes = p.count ++ raw;
-    spelled = of_text p.counted;
-    within = omega arith;
-    whole = p.whole;
-    text = λ t k. e;
-  }
+  string_text raw e x y p = leaf_text (Tree.text raw) (λ h. h) (of_text p.counted) (λ t. e) p.whole
 
   pub opaque_text : (m : Marshal) (raw : List ℕ) → new ≡ old ++ compact_text (opaque_json raw) → (x y : List ℕ)
       → BeginsThese raw x y → TextOfKind T (kind.Opaque m) 1 old new x y
-  opaque_text m raw e x y p = record {
-    value = Tree.opaque raw;
-    bytes = p.count ++ raw;
-    spelled = of_opaque p.counted;
-    within = omega arith;
-    whole = p.whole;
-    text = λ t k. e;
-  }
+  opaque_text m raw e x y p = leaf_text (Tree.opaque raw) (λ h. h) (of_opaque p.counted) (λ t. e) p.whole
 
   pub deeper_text : {k : Kind} {a b : ℕ} → a ≤ b → (x y : List ℕ) → TextOfKind T k a old new x y
       → TextOfKind T k b old new x y
@@ -229,7 +163,7 @@ module _ (T : Table) (old pushed new : List ℕ) (begun : pushed ≡ old ++ 91 �
         bytes = p.bytes ++ q.bytes;
         spelled = of_slice (subst (λ k. IsUnsigned k p.bytes) (sym q.counted) p.spelled) q.spelled;
         within = omega arith;
-        whole = p.whole ∙ ap (λ r. p.bytes ++ r) q.whole ∙ sym (append_assoc p.bytes q.bytes z);
+        whole = whole_of_two p.bytes q.bytes z p.whole q.whole;
         text = λ t k. opened old pushed new _ begun q.text
             ∙ ap (λ u. old ++ compact_text (array (elements_json T u q.values)))
             (sym (ap element_type k.found ∙ slice_element k.shape e k.same));
@@ -244,7 +178,7 @@ module _ (T : Table) (old pushed new : List ℕ) (begun : pushed ≡ old ++ 91 �
         bytes = p.bytes ++ q.bytes;
         spelled = of_array (q.counted ∙ same) (subst (λ k. IsUnsigned k p.bytes) same p.spelled) q.spelled;
         within = omega arith;
-        whole = p.whole ∙ ap (λ r. p.bytes ++ r) q.whole ∙ sym (append_assoc p.bytes q.bytes z);
+        whole = whole_of_two p.bytes q.bytes z p.whole q.whole;
         text = λ t k. opened old pushed new _ begun q.text
             ∙ ap (λ u. old ++ compact_text (array (elements_json T u q.values)))
             (sym (ap element_type k.found ∙ array_element k.shape e m k.same));
@@ -259,7 +193,7 @@ module _ (T : Table) (old pushed new : List ℕ) (begun : pushed ≡ old ++ 91 �
         bytes = p.bytes ++ q.bytes;
         spelled = of_map (subst (λ k. IsUnsigned k p.bytes) (sym q.counted) p.spelled) q.spelled;
         within = omega arith;
-        whole = p.whole ∙ ap (λ r. p.bytes ++ r) q.whole ∙ sym (append_assoc p.bytes q.bytes z);
+        whole = whole_of_two p.bytes q.bytes z p.whole q.whole;
         text = λ t k. opened old pushed new _ begun q.text
             ∙ ap (λ u. old ++ compact_text (array (pairs_json T u e q.pairs)))
             (sym (ap key_type k.found ∙ map_key k.shape j e k.same))
@@ -321,7 +255,7 @@ module _ (T : Table) where
         spelled = element (of_type f p.spelled) q.spelled;
         within = omega arith;
         counted = ap (λ k. k + 1) q.counted ∙ sym more;
-        whole = p.whole ∙ ap (λ r. p.bytes ++ r) q.whole ∙ sym (append_assoc p.bytes q.bytes z);
+        whole = whole_of_two p.bytes q.bytes z p.whole q.whole;
         text = others ∙ ap (λ l. l ++ rest) (own ∙ ap (λ l. l ++ value) comma)
             ∙ simp append_assoc;
       }
@@ -365,9 +299,7 @@ module _ (T : Table) where
         spelled = entry (of_type f p.spelled) (of_type g q.spelled) r.spelled;
         within = omega arith;
         counted = ap (λ k. k + 1) r.counted ∙ sym more;
-        whole = p.whole ∙ ap (λ l. p.bytes ++ l)
-            (q.whole ∙ ap (λ l. q.bytes ++ l) r.whole ∙ sym (append_assoc q.bytes r.bytes z))
-            ∙ sym (append_assoc p.bytes (q.bytes ++ r.bytes) z);
+        whole = whole_of_two p.bytes (q.bytes ++ r.bytes) z p.whole (whole_of_two q.bytes r.bytes z q.whole r.whole);
         text = others ∙ ap (λ l. l ++ rest)
             (close ∙ ap (λ l. l ++ 93 ∷ [])
             (second ∙ ap (λ l. l ++ value)
@@ -416,9 +348,7 @@ module _ (T : Table) where
         spelled = next_field (omega arith) here (subst (λ k. IsUnsigned k p.bytes) up p.spelled)
             (of_type shape q.spelled) r.spelled;
         within = omega arith;
-        whole = p.whole ∙ ap (λ l. p.bytes ++ l)
-            (q.whole ∙ ap (λ l. q.bytes ++ l) r.whole ∙ sym (append_assoc q.bytes r.bytes z))
-            ∙ sym (append_assoc p.bytes (q.bytes ++ r.bytes) z);
+        whole = whole_of_two p.bytes (q.bytes ++ r.bytes) z p.whole (whole_of_two q.bytes r.bytes z q.whole r.whole);
         text = whole
             ∙ ap (λ g. old ++ (comma_if later ++ (compact_text (shown g) ++ rest))) (sym here);
       }
