@@ -1,10 +1,18 @@
--- What the trait `Builder` asks, in words of the relation between a builder and the lists of tellings that it stands for.
+-- What builders are, and what the trait `Builder` asks, in words of the relation between a builder and the lists of tellings
+-- that it stands for.
 -- (docs/FORMAT.md, Tellings.)
-use Rattle.std.specs.Prelude.{◌+◌, ◌^◌, ◌<◌, List, [], ◌∷◌, ◌++◌}
+use Rattle.std.specs.Prelude.{ℕ, ◌+◌, ◌^◌, ◌<◌, List, [], ◌∷◌, ◌++◌}
 use Rattle.gob_value.specs.Tree.{Tree}
 use Rattle.gob_read.specs.Telling.{Telling, Tells}
 use Rattle.gob_read.specs.WellFormed.{IsWellFormed}
 use Rattle.gob_read.specs.Weight.{parts_told, raw_told}
+
+-- a builder that makes something of values no deeper than this
+pub record Building (X O : Type 0) (most : ℕ) : Type 1 where
+  -- the builder stands for this list of tellings
+  pub stands : X → List Telling → Type 0
+  -- what was made stands for this value
+  pub means : O → Tree → Type 0
 
 -- the parts and raw bytes that are told can be counted in 64 bits
 pub record HasRoomFor (us : List Telling) : Type 0 where

@@ -16,12 +16,13 @@ pub mod Steps
 pub mod Running
 pub mod Plain
 pub mod Reader
-pub mod UnderWay
-pub mod ReaderLaws
 pub mod Counted
 pub mod Built
 pub mod Stack
 pub mod Standing
+pub mod Builders
 pub mod BuilderLaws
 pub mod Laws
 pub mod Honest
+pub mod UnderWay
+pub mod ReaderLaws

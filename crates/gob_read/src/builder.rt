@@ -4,7 +4,7 @@ ghost use Rattle.std.specs.Prelude.{◌≡◌, ℕ, List, [], OnOk, IfOk, IsTrue
 ghost use Rattle.gob_value.specs.Tree.{Tree};
 ghost use Rattle.gob_read.specs.Telling as telling;
 ghost use Rattle.gob_read.specs.Telling.{Telling, Tells};
-ghost use Rattle.gob_read.specs.Building.{CanTell, IsTold, IsComplete};
+ghost use Rattle.gob_read.specs.Building.{Building, CanTell, IsTold, IsComplete};
 ghost use Rattle.gob_read.specs.Weight.{parts_told, raw_told};
 ghost use Rattle.gob_read.specs.Held.{held_of};
 ghost use Rattle.gob_read.specs.declared.builder.Stores.{Stores};
@@ -44,58 +44,55 @@ pub trait Builder: Drop {
     /// What is kept of the parts that are told.
     const STORES: Stores;
 
-    // The builder stands for this list of tellings.
-    ghost stands: { Self → List Telling → Type 0 };
-
-    // What was made stands for this value.
-    ghost means: { Self.Out → Tree → Type 0 };
+    // The tellings that the builder stands for, and the value that its product stands for.
+    ghost building: { Building Self Self.Out DEPTH };
 
     /// A builder that was told of no part yet.
     fn fresh(alloc: Global) -> Result<Self, Memory>
-        ensures { IfOk result (λ builder. stands builder []) };
+        ensures { IfOk result (λ builder. building.stands builder []) };
 
     /// One whole part of a basic type whose parts are no raw bytes. For a float and a complex number these are the
     /// patterns, else the first is the unsigned number as spelled. A number that isn't used is 0.
     fn number(&mut self, kind: Basic, first: u64, second: u64) -> Result<(), Memory>
-        requires { CanTell stands self.old (telling.number kind first second) }
-        ensures { OnOk result (IsTold stands self.old self.new (telling.number kind first second)) };
+        requires { CanTell building.stands self.old (telling.number kind first second) }
+        ensures { OnOk result (IsTold building.stands self.old self.new (telling.number kind first second)) };
 
     /// A part of raw bytes begins.
     fn raw_start(&mut self, kind: RawKind) -> Result<(), Memory>
-        requires { CanTell stands self.old (telling.raw_start kind) }
-        ensures { OnOk result (IsTold stands self.old self.new (telling.raw_start kind)) };
+        requires { CanTell building.stands self.old (telling.raw_start kind) }
+        ensures { OnOk result (IsTold building.stands self.old self.new (telling.raw_start kind)) };
 
     /// These bytes follow in it.
     fn raw_more(&mut self, bytes: &[u8]) -> Result<(), Memory>
-        requires { CanTell stands self.old (telling.raw_more bytes.now) }
-        ensures { OnOk result (IsTold stands self.old self.new (telling.raw_more bytes.now)) };
+        requires { CanTell building.stands self.old (telling.raw_more bytes.now) }
+        ensures { OnOk result (IsTold building.stands self.old self.new (telling.raw_more bytes.now)) };
 
     /// A part that has parts begins.
     fn enter(&mut self, kind: GroupKind) -> Result<(), Memory>
-        requires { CanTell stands self.old (telling.enter kind) }
-        ensures { OnOk result (IsTold stands self.old self.new (telling.enter kind)) };
+        requires { CanTell building.stands self.old (telling.enter kind) }
+        ensures { OnOk result (IsTold building.stands self.old self.new (telling.enter kind)) };
 
     /// The number of the next part of the open struct.
     fn field(&mut self, number: u64) -> Result<(), Memory>
-        requires { CanTell stands self.old (telling.field number) }
-        ensures { OnOk result (IsTold stands self.old self.new (telling.field number)) };
+        requires { CanTell building.stands self.old (telling.field number) }
+        ensures { OnOk result (IsTold building.stands self.old self.new (telling.field number)) };
 
     /// The open part ends.
     fn leave(&mut self) -> Result<(), Memory>
-        requires { CanTell stands self.old telling.leave }
-        ensures { OnOk result (IsTold stands self.old self.new telling.leave) };
+        requires { CanTell building.stands self.old telling.leave }
+        ensures { OnOk result (IsTold building.stands self.old self.new telling.leave) };
 
     /// Whether the builder makes the same of whatever it is told, so that parts may be left untold.
     fn may_skip(&self) -> bool
-        ensures { IsTrue result → (us : List Telling) → stands self.now us };
+        ensures { IsTrue result → (us : List Telling) → building.stands self.now us };
 
     /// How much is kept of the parts told: the parts and the raw bytes, the parts, or nothing.
     fn held(&self) -> u64
-        ensures { (us : List Telling) → stands self.now us
+        ensures { (us : List Telling) → building.stands self.now us
             → result ≡ held_of STORES (parts_told us) (raw_told us) };
 
     /// What was made of the whole value that was told.
     fn take(self) -> Self::Out
-        requires { IsComplete stands self }
-        ensures { (us : List Telling) (v : Tree) → stands self us → Tells v us → means result v };
+        requires { IsComplete building.stands self }
+        ensures { (us : List Telling) (v : Tree) → building.stands self us → Tells v us → building.means result v };
 }

@@ -37,7 +37,7 @@ impl CheckBuilder {
 impl Builder for CheckBuilder {
     type Out = Counts;
 
-    ghost use Rattle.gob_read.specs.Counted.{AreTold, AreCountsOf};
+    ghost use Rattle.gob_read.specs.Builders.{check_building};
     ghost use Rattle.gob_read.specs.declared.builder.Stores.TheVariants.{Parts};
 
     ghost DEPTH = { 65536 };
@@ -48,9 +48,7 @@ impl Builder for CheckBuilder {
 
     const STORES: Stores = Stores::Parts;
 
-    ghost stands = { λ builder us. AreTold builder.counts us };
-
-    ghost means = { λ counts v. AreCountsOf counts v };
+    ghost building = { check_building };
 
     fn fresh(_alloc: Global) -> Result<Self, Memory> {
         Ok(CheckBuilder {

@@ -25,8 +25,8 @@ impl<B: Builder> State<B> {
         fields: &Fields,
         n: u64,
     ) -> Result<bool, Fault>
-        requires { CanBeginStruct B.stands self.old id fields.now n }
-        ensures ok { IfOk result (λ whole. BeginsStruct B.stands self.old self.new id fields.now n whole) }
+        requires { CanBeginStruct B.building.stands self.old id fields.now n }
+        ensures ok { IfOk result (λ whole. BeginsStruct B.building.stands self.old self.new id fields.now n whole) }
         ensures refused { IfErr result (Blames (λ reason. LeadsNowhere fields.now 0 n reason)) }
     {
         self.builder.enter(GroupKind::Fields)?;
@@ -37,9 +37,9 @@ impl<B: Builder> State<B> {
     /// Takes the delta behind a field of the innermost open struct.
     #[inline(always)]
     pub(crate) fn take_delta<S: Shapes>(&mut self, shapes: &S, n: u64) -> Result<bool, Fault>
-        requires { CanTake (S.table shapes.now) B.stands self.old Item.Delta n }
-        ensures ok { IfOk result (λ whole. StepTakes (S.table shapes.now) B.stands self.old self.new n whole) }
-        ensures refused { IfErr result (Blames (λ reason. StepRefuses (S.table shapes.now) B.stands self.old n reason)) }
+        requires { CanTake (S.table shapes.now) B.building.stands self.old Item.Delta n }
+        ensures ok { IfOk result (λ whole. StepTakes (S.table shapes.now) B.building.stands self.old self.new n whole) }
+        ensures refused { IfErr result (Blames (λ reason. StepRefuses (S.table shapes.now) B.building.stands self.old n reason)) }
     {
         let Some(frame) = self.stack.innermost() else {
             unreachable!()
@@ -60,8 +60,8 @@ impl<B: Builder> State<B> {
     /// has the number `next` or a greater one.
     #[inline(always)]
     fn take_field(&mut self, id: TypeId, next: u64, fields: &Fields, n: u64) -> Result<bool, Fault>
-        requires { CanGoOn B.stands self.old id fields.now next n }
-        ensures ok { IfOk result (λ whole. StepGoesOn B.stands self.old self.new id fields.now next n whole) }
+        requires { CanGoOn B.building.stands self.old id fields.now next n }
+        ensures ok { IfOk result (λ whole. StepGoesOn B.building.stands self.old self.new id fields.now next n whole) }
         ensures refused { IfErr result (Blames (λ reason. LeadsNowhere fields.now next n reason)) }
     {
         if n == 0 {
@@ -79,10 +79,10 @@ impl<B: Builder> State<B> {
     /// part.
     #[inline(always)]
     pub(crate) fn name_field(&mut self, id: TypeId, number: u64, part: TypeId) -> Result<(), Memory>
-        requires named { CanTell B.stands self.old.builder (telling.field number) }
+        requires named { CanTell B.building.stands self.old.builder (telling.field number) }
         requires inside { 0 < length self.old.stack }
         requires small { number + 1 < 2 ^ 64 }
-        ensures { OnOk result (NamesField B.stands self.old self.new id number part) }
+        ensures { OnOk result (NamesField B.building.stands self.old self.new id number part) }
     {
         self.builder.field(number)?;
         self.stack.replace(Frame::Fields {
@@ -96,8 +96,8 @@ impl<B: Builder> State<B> {
     /// Ends the innermost open struct, and answers whether the value is whole then.
     #[inline(always)]
     pub(crate) fn end_fields(&mut self) -> Result<bool, Memory>
-        requires { CanEndFields B.stands self.old }
-        ensures { IfOk result (λ whole. EndsFields B.stands self.old self.new whole) }
+        requires { CanEndFields B.building.stands self.old }
+        ensures { IfOk result (λ whole. EndsFields B.building.stands self.old self.new whole) }
     {
         self.stack.close();
         self.builder.leave()?;

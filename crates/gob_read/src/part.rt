@@ -23,9 +23,9 @@ impl<B: Builder> State<B> {
         id: TypeId,
         n: u64,
     ) -> Result<bool, Fault>
-        requires { CanTakeFirst (S.table shapes.now) B.stands self.old id n }
-        ensures ok { IfOk result (λ whole. TakesFirst (S.table shapes.now) B.stands self.old self.new id n whole) }
-        ensures refused { IfErr result (Blames (λ reason. RefusesFirst (S.table shapes.now) B.stands
+        requires { CanTakeFirst (S.table shapes.now) B.building.stands self.old id n }
+        ensures ok { IfOk result (λ whole. TakesFirst (S.table shapes.now) B.building.stands self.old self.new id n whole) }
+        ensures refused { IfErr result (Blames (λ reason. RefusesFirst (S.table shapes.now) B.building.stands
             self.old id n reason)) }
     {
         let Some(shape) = shapes.shape_of(id) else {
@@ -57,8 +57,8 @@ impl<B: Builder> State<B> {
     /// Takes the first number of a part of a basic type.
     #[inline(always)]
     fn take_basic(&mut self, basic: Basic, n: u64) -> Result<bool, Fault>
-        requires { CanBegin B.stands self.old (λ k. k ≡ kind.Basic basic) n }
-        ensures ok { IfOk result (λ whole. StepBegins B.stands self.old self.new (λ k. k ≡ kind.Basic basic) n whole) }
+        requires { CanBegin B.building.stands self.old (λ k. k ≡ kind.Basic basic) n }
+        ensures ok { IfOk result (λ whole. StepBegins B.building.stands self.old self.new (λ k. k ≡ kind.Basic basic) n whole) }
         ensures refused { IfErr result (Blames (λ reason. IsNoFirst (kind.Basic basic) n reason)) }
     {
         match basic {
@@ -91,8 +91,8 @@ impl<B: Builder> State<B> {
     /// Takes a part that the number `n` spells, and tells it as `told`.
     #[inline(always)]
     fn take_number(&mut self, basic: Basic, n: u64, told: u64) -> Result<bool, Memory>
-        requires { CanBegin B.stands self.old (λ k. IsScalar k n basic told) n }
-        ensures { IfOk result (λ whole. StepBegins B.stands self.old self.new (λ k. IsScalar k n basic told) n whole) }
+        requires { CanBegin B.building.stands self.old (λ k. IsScalar k n basic told) n }
+        ensures { IfOk result (λ whole. StepBegins B.building.stands self.old self.new (λ k. IsScalar k n basic told) n whole) }
     {
         self.builder.number(basic, told, 0)?;
         self.after_part()
@@ -101,8 +101,8 @@ impl<B: Builder> State<B> {
     /// Takes how many raw bytes the part has.
     #[inline(always)]
     fn take_length(&mut self, kind: RawKind, n: u64) -> Result<bool, Memory>
-        requires { CanBegin B.stands self.old (λ k. IsRawKind k kind) n }
-        ensures { IfOk result (λ whole. StepBegins B.stands self.old self.new (λ k. IsRawKind k kind) n whole) }
+        requires { CanBegin B.building.stands self.old (λ k. IsRawKind k kind) n }
+        ensures { IfOk result (λ whole. StepBegins B.building.stands self.old self.new (λ k. IsRawKind k kind) n whole) }
     {
         self.builder.raw_start(kind)?;
         if n == 0 {
@@ -116,8 +116,8 @@ impl<B: Builder> State<B> {
     /// Takes how many elements a list has.
     #[inline(always)]
     fn take_elements(&mut self, elem: TypeId, n: u64) -> Result<bool, Memory>
-        requires { CanBegin B.stands self.old (λ k. IsList k n elem) n }
-        ensures { IfOk result (λ whole. StepBegins B.stands self.old self.new (λ k. IsList k n elem) n whole) }
+        requires { CanBegin B.building.stands self.old (λ k. IsList k n elem) n }
+        ensures { IfOk result (λ whole. StepBegins B.building.stands self.old self.new (λ k. IsList k n elem) n whole) }
     {
         let first = Frame::Many {
             elem,
@@ -129,8 +129,8 @@ impl<B: Builder> State<B> {
     /// Takes how many elements or pairs a part has. `first` is open while the first of them is read.
     #[inline(always)]
     fn take_count(&mut self, group: GroupKind, first: Frame, n: u64) -> Result<bool, Memory>
-        requires { CanBegin B.stands self.old (λ k. IsGroup k n group first) n }
-        ensures { IfOk result (λ whole. StepBegins B.stands self.old self.new (λ k. IsGroup k n group first) n whole) }
+        requires { CanBegin B.building.stands self.old (λ k. IsGroup k n group first) n }
+        ensures { IfOk result (λ whole. StepBegins B.building.stands self.old self.new (λ k. IsGroup k n group first) n whole) }
     {
         self.builder.enter(group)?;
         if n == 0 {

@@ -34,8 +34,8 @@ impl<B: Builder> State<B> {
     /// numbers, isn't allowed or goes on behind the piece.
     #[inline(always)]
     fn tell_plain(&mut self, basic: Basic, n: u64, more: &[u8]) -> Result<Option<usize>, Memory>
-        requires { CanTellPlain B.stands self.old basic n more.now }
-        ensures { IfOk result (λ used. TellsPlain B.stands self.old self.new basic n more.now used) }
+        requires { CanTellPlain B.building.stands self.old basic n more.now }
+        ensures { IfOk result (λ used. TellsPlain B.building.stands self.old self.new basic n more.now used) }
     {
         match basic {
             Basic::Int => self.tell_number(basic, n, n, more),
@@ -56,9 +56,9 @@ impl<B: Builder> State<B> {
         told: u64,
         more: &[u8],
     ) -> Result<Option<usize>, Memory>
-        requires can { CanTellPlain B.stands self.old basic n more.now }
+        requires can { CanTellPlain B.building.stands self.old basic n more.now }
         requires scalar { IsScalar (kind.Basic basic) n basic told }
-        ensures { IfOk result (λ used. TellsPlain B.stands self.old self.new basic n more.now used) }
+        ensures { IfOk result (λ used. TellsPlain B.building.stands self.old self.new basic n more.now used) }
     {
         self.builder.number(basic, told, 0)?;
         Ok(Some(0))
@@ -73,9 +73,9 @@ impl<B: Builder> State<B> {
         n: u64,
         more: &[u8],
     ) -> Result<Option<usize>, Memory>
-        requires can { CanTellPlain B.stands self.old basic n more.now }
+        requires can { CanTellPlain B.building.stands self.old basic n more.now }
         requires told { IsRawKind (kind.Basic basic) raw }
-        ensures { IfOk result (λ used. TellsPlain B.stands self.old self.new basic n more.now used) }
+        ensures { IfOk result (λ used. TellsPlain B.building.stands self.old self.new basic n more.now used) }
     {
         if n == 0 || n > more.len() as u64 {
             return Ok(None);
@@ -99,14 +99,14 @@ impl<B: Builder> Run<B> {
         rest: &[u8],
     ) -> Result<Stepped, Stop>
         requires awaited { self.old.state.awaited ≡ Awaited.Number (Item.Part id) }
-        requires stands { IsOpenSomewhere (S.table shapes.now) B.stands self.old }
+        requires stands { IsOpenSomewhere (S.table shapes.now) B.building.stands self.old }
         requires some { 0 < length rest.now }
         requires room { self.old.taken + length rest.now ≤ self.old.length }
         ensures used { IfOk result (λ stepped. (0 < stepped.used) × (stepped.used ≤ length rest.now)) }
         ensures more { IfOk result (λ stepped. TakesMore self.old self.new stepped.used) }
-        ensures ok { IfOk result (λ stepped. Steps (S.table shapes.now) B.stands self.old self.new
+        ensures ok { IfOk result (λ stepped. Steps (S.table shapes.now) B.building.stands self.old self.new
             (take stepped.used rest.now) stepped.whole) }
-        ensures refused { IfErr result (StopsFor (λ refusal. RefusesAt (S.table shapes.now) B.stands
+        ensures refused { IfErr result (StopsFor (λ refusal. RefusesAt (S.table shapes.now) B.building.stands
             self.old rest.now refusal)) }
     {
         let stepped = self.step_plain(shapes, id, rest)?;
@@ -126,10 +126,10 @@ impl<B: Builder> Run<B> {
         rest: &[u8],
     ) -> Result<Stepped, Memory>
         requires awaited { self.old.state.awaited ≡ Awaited.Number (Item.Part id) }
-        requires stands { IsOpenSomewhere (S.table shapes.now) B.stands self.old }
+        requires stands { IsOpenSomewhere (S.table shapes.now) B.building.stands self.old }
         requires some { 0 < length rest.now }
         requires room { self.old.taken + length rest.now ≤ self.old.length }
-        ensures { IfOk result (λ stepped. StepsPlain (S.table shapes.now) B.stands self.old self.new rest.now stepped) }
+        ensures { IfOk result (λ stepped. StepsPlain (S.table shapes.now) B.building.stands self.old self.new rest.now stepped) }
     {
         if self.start != self.taken {
             return Ok(Stepped::NONE);
@@ -153,10 +153,10 @@ impl<B: Builder> Run<B> {
     ) -> Result<Stepped, Memory>
         requires awaited { self.old.state.awaited ≡ Awaited.Number (Item.Part id) }
         requires inside { IsInFields of next self.old.state.stack }
-        requires stands { IsOpenSomewhere (S.table shapes.now) B.stands self.old }
+        requires stands { IsOpenSomewhere (S.table shapes.now) B.building.stands self.old }
         requires fresh { self.old.start ≡ self.old.taken }
         requires room { self.old.taken + length rest.now ≤ self.old.length }
-        ensures { IfOk result (λ stepped. StepsPlain (S.table shapes.now) B.stands self.old self.new rest.now stepped) }
+        ensures { IfOk result (λ stepped. StepsPlain (S.table shapes.now) B.building.stands self.old self.new rest.now stepped) }
     {
         let used = self.take_plain_field(shapes, id, of, next, rest)?;
         if used == 0 || used == rest.len() {
@@ -181,14 +181,14 @@ impl<B: Builder> Run<B> {
     ) -> Result<Stepped, Memory>
         requires awaited { self.old.state.awaited ≡ Awaited.Number Item.Delta }
         requires inside { IsInFields of next self.old.state.stack }
-        requires stands { IsOpenSomewhere (S.table shapes.now) B.stands self.old }
+        requires stands { IsOpenSomewhere (S.table shapes.now) B.building.stands self.old }
         requires fresh { self.old.start ≡ self.old.taken }
         requires deep { length self.old.state.stack < self.old.depth }
         requires some { 0 < length rest.now }
         requires room { self.old.taken + length rest.now ≤ self.old.length }
         ensures used { IfOk result (λ stepped. stepped.used ≤ length rest.now) }
         ensures more { IfOk result (λ stepped. TakesMore self.old self.new stepped.used) }
-        ensures ok { IfOk result (λ stepped. Steps (S.table shapes.now) B.stands self.old self.new
+        ensures ok { IfOk result (λ stepped. Steps (S.table shapes.now) B.building.stands self.old self.new
             (take stepped.used rest.now) stepped.whole) }
     {
         let mut next = next;
@@ -239,11 +239,11 @@ impl<B: Builder> Run<B> {
     ) -> Result<Stepped, Memory>
         requires awaited { self.old.state.awaited ≡ Awaited.Number (Item.Part elem) }
         requires inside { IsInList elem left self.old.state.stack }
-        requires stands { IsOpenSomewhere (S.table shapes.now) B.stands self.old }
+        requires stands { IsOpenSomewhere (S.table shapes.now) B.building.stands self.old }
         requires fresh { self.old.start ≡ self.old.taken }
         requires some { 0 < length rest.now }
         requires room { self.old.taken + length rest.now ≤ self.old.length }
-        ensures { IfOk result (λ stepped. StepsPlain (S.table shapes.now) B.stands self.old self.new rest.now stepped) }
+        ensures { IfOk result (λ stepped. StepsPlain (S.table shapes.now) B.building.stands self.old self.new rest.now stepped) }
     {
         let Some(basic) = basic_of(shapes, elem) else {
             return Ok(Stepped::NONE);
@@ -276,10 +276,10 @@ impl<B: Builder> Run<B> {
     ) -> Result<usize, Memory>
         requires awaited { self.old.state.awaited ≡ Awaited.Number (Item.Part id) }
         requires inside { IsInFields of next self.old.state.stack }
-        requires stands { IsOpenSomewhere (S.table shapes.now) B.stands self.old }
+        requires stands { IsOpenSomewhere (S.table shapes.now) B.building.stands self.old }
         requires fresh { self.old.start ≡ self.old.taken }
         requires room { self.old.taken + length rest.now ≤ self.old.length }
-        ensures { IfOk result (λ used. TakesPlain (S.table shapes.now) B.stands self.old self.new
+        ensures { IfOk result (λ used. TakesPlain (S.table shapes.now) B.building.stands self.old self.new
             (Frame.Fields of next) rest.now used) }
     {
         let Some(basic) = basic_of(shapes, id) else {
@@ -302,10 +302,10 @@ impl<B: Builder> Run<B> {
         requires awaited { self.old.state.awaited ≡ Awaited.Number (Item.Part id) }
         requires kind_ { HasKind (S.table _shapes.now) id (kind.Basic basic) }
         requires inside { IsFollowedBy next self.old.state.stack }
-        requires stands { IsOpenSomewhere (S.table _shapes.now) B.stands self.old }
+        requires stands { IsOpenSomewhere (S.table _shapes.now) B.building.stands self.old }
         requires fresh { self.old.start ≡ self.old.taken }
         requires room { self.old.taken + length rest.now ≤ self.old.length }
-        ensures { IfOk result (λ used. TakesPlain (S.table _shapes.now) B.stands self.old self.new
+        ensures { IfOk result (λ used. TakesPlain (S.table _shapes.now) B.building.stands self.old self.new
             next rest.now used) }
     {
         let Taken::Whole { number, used } = take_uint(rest) else {
@@ -334,10 +334,10 @@ impl<B: Builder> Run<B> {
         requires awaited { self.old.state.awaited ≡ Awaited.Number Item.Delta }
         requires inside { IsInFields of next self.old.state.stack }
         requires struct_ { HasKind (S.table _shapes.now) of (kind.Struct fields.now) }
-        requires stands { IsOpenSomewhere (S.table _shapes.now) B.stands self.old }
+        requires stands { IsOpenSomewhere (S.table _shapes.now) B.building.stands self.old }
         requires fresh { self.old.start ≡ self.old.taken }
         requires some { 0 < n }
-        ensures { IfOk result (λ entered. TakesName (S.table _shapes.now) B.stands self.old self.new n of entered) }
+        ensures { IfOk result (λ entered. TakesName (S.table _shapes.now) B.building.stands self.old self.new n of entered) }
     {
         let number = next.saturating_add(u64::from(n) - 1);
         if n > 127 {
@@ -359,10 +359,10 @@ impl<B: Builder> Run<B> {
     #[inline(always)]
     fn take_end(&mut self) -> Result<bool, Memory>
         requires awaited { self.old.state.awaited ≡ Awaited.Number Item.Delta }
-        requires stands { IsOpenIn B.stands self.old }
+        requires stands { IsOpenIn B.building.stands self.old }
         requires fresh { self.old.start ≡ self.old.taken }
         ensures more { OnOk result (TakesMore self.old self.new 1) }
-        ensures ok { IfOk result (λ whole. (T : Table) → Steps T B.stands self.old self.new (0 ∷ []) whole) }
+        ensures ok { IfOk result (λ whole. (T : Table) → Steps T B.building.stands self.old self.new (0 ∷ []) whole) }
     {
         let whole = self.state.end_fields()?;
         self.taken += 1;

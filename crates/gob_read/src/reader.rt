@@ -4,10 +4,8 @@ ghost use Rattle.std.specs.Prelude.{◌≡◌, ℕ, [], IfOk, IfErr, OnErr, Err,
 ghost use Rattle.gob_types.specs.declared.id.TypeId.{TypeId};
 ghost use Rattle.gob_types.specs.Table.{Table};
 ghost use Rattle.gob_types.specs.Ready.{IsReady};
-ghost use Rattle.gob_read.specs.Reader.{ReaderStands, IsUsableReader, ReaderGives, ReaderRefusesBody, Stops};
-ghost use Rattle.gob_read.specs.UnderWay.{under_way, HasEnded};
+ghost use Rattle.gob_read.specs.UnderWay.{HasReadBody, HasEnded, FitsTable, PushGives, PushStops, PushStopsHonestly};
 ghost use Rattle.gob_read.specs.Held.{IsHeld};
-ghost use Rattle.gob_read.specs.Honest.{RefusesHonestly};
 
 use crate::builder::Builder;
 use crate::run::Run;
@@ -47,7 +45,7 @@ impl<B: Builder> BodyReader<B> {
     /// be deeper than `depth`, or than the builder takes.
     pub fn new(alloc: Global, id: TypeId, length: u64, depth: u64) -> Result<BodyReader<B>, Memory>
         ensures { IfOk result (λ reader. (T : Table) → IsReady T id
-            → ReaderStands T id (min depth B.DEPTH) length B.stands (under_way reader) []) }
+            → HasReadBody B.building T id (min depth B.DEPTH) length reader []) }
     {
         let run = Run::new(alloc, id, length, depth.min(B::DEPTH))?;
         Ok(BodyReader { run: Some(run) })
@@ -63,14 +61,10 @@ impl<B: Builder> BodyReader<B> {
         shapes: &S,
         piece: &[u8],
     ) -> Result<Progress<B::Out>, Stop>
-        requires { IsUsableReader (S.table shapes.now) B.stands (under_way self.old) }
-        ensures given { IfOk result (λ progress. (t : TypeId) (limit announced : ℕ) (z : List ℕ)
-            → ReaderStands (S.table shapes.now) t limit announced B.stands (under_way self.old) z
-            → ReaderGives (S.table shapes.now) t limit announced B.stands B.means (under_way self.new) z piece.now progress) }
-        ensures refused { IfErr result (Stops (under_way self.old) (λ refusal. ReaderRefusesBody (S.table shapes.now)
-            B.stands (under_way self.old) piece.now refusal)) }
-        ensures honest { IfErr result (Stops (under_way self.old) (λ refusal. RefusesHonestly (S.table shapes.now)
-            B.stands (under_way self.old) piece.now refusal)) }
+        requires { FitsTable B.building (S.table shapes.now) self.old }
+        ensures given { IfOk result (PushGives B.building (S.table shapes.now) self.old self.new piece.now) }
+        ensures refused { IfErr result (PushStops B.building (S.table shapes.now) self.old piece.now) }
+        ensures honest { IfErr result (PushStopsHonestly B.building (S.table shapes.now) self.old piece.now) }
         ensures failed { HasEnded self.old → result ≡ Err Stop.Failed }
         ensures ended { OnErr result (HasEnded self.new) }
     {
@@ -100,7 +94,7 @@ impl<B: Builder> BodyReader<B> {
     /// It is at most the number of bytes taken, and 0 once the reader has ended.
     pub fn held(&self) -> u64
         ensures held { (T : Table) (t : TypeId) (limit announced : ℕ) (z : List ℕ)
-            → ReaderStands T t limit announced B.stands (under_way self.now) z → IsHeld T t B.STORES z result }
+            → HasReadBody B.building T t limit announced self.now z → IsHeld T t B.STORES z result }
         ensures ended { HasEnded self.now → result ≡ 0 }
     {
         match &self.run {

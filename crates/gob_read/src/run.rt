@@ -89,7 +89,7 @@ impl<B: Builder> Run<B> {
 
     /// A reader of a value of the type that has taken nothing.
     pub(crate) fn new(alloc: Global, id: TypeId, length: u64, depth: u64) -> Result<Run<B>, Memory>
-        ensures new { IfOk result (λ run. (T : Table) → IsReady T id → IsNewRun T id B.stands run) }
+        ensures new { IfOk result (λ run. (T : Table) → IsReady T id → IsNewRun T id B.building.stands run) }
         ensures length { IfOk result (λ run. run.length ≡ length) }
         ensures depth { IfOk result (λ run. run.depth ≡ depth) }
     {
@@ -114,13 +114,13 @@ impl<B: Builder> Run<B> {
         shapes: &S,
         piece: &[u8],
     ) -> Result<Option<usize>, Stop>
-        requires stands { IsReachedSomewhere (S.table shapes.now) B.stands self.old }
+        requires stands { IsReachedSomewhere (S.table shapes.now) B.building.stands self.old }
         requires room { self.old.taken + length piece.now ≤ self.old.length }
-        ensures more { IfOk result (λ done. IfNone done (RunGoesOn (S.table shapes.now) B.stands self.old
+        ensures more { IfOk result (λ done. IfNone done (RunGoesOn (S.table shapes.now) B.building.stands self.old
             self.new piece.now)) }
-        ensures done { IfOk result (λ done. IfSome done (λ used. RunFinishes (S.table shapes.now) B.stands
+        ensures done { IfOk result (λ done. IfSome done (λ used. RunFinishes (S.table shapes.now) B.building.stands
             self.old self.new piece.now used)) }
-        ensures refused { IfErr result (StopsFor (λ refusal. RefusesPiece (S.table shapes.now) B.stands
+        ensures refused { IfErr result (StopsFor (λ refusal. RefusesPiece (S.table shapes.now) B.building.stands
             self.old piece.now refusal)) }
         ensures length_kept { OnOk result (self.new.length ≡ self.old.length) }
         ensures depth_kept { OnOk result (self.new.depth ≡ self.old.depth) }
@@ -155,7 +155,7 @@ impl<B: Builder> Run<B> {
 
     /// What is kept of the parts that have begun, and of their raw bytes.
     pub(crate) fn held(&self) -> u64
-        ensures { (T : Table) (t : TypeId) (z : List ℕ) → HasTaken T t B.stands self.now z
+        ensures { (T : Table) (t : TypeId) (z : List ℕ) → HasTaken T t B.building.stands self.now z
             → IsHeld T t B.STORES z result }
     {
         let _taken = self.taken;
@@ -184,8 +184,8 @@ impl<B: Builder> Run<B> {
     #[inline(always)]
     fn judge(&self) -> Result<(), Stop>
         requires { self.now.taken ≤ self.now.length }
-        ensures ok { OnOk result ((T : Table) → MayGoOn T B.stands self.now) }
-        ensures refused { IfErr result (StopsFor (λ refusal. (T : Table) → JudgesFor T B.stands self.now refusal)) }
+        ensures ok { OnOk result ((T : Table) → MayGoOn T B.building.stands self.now) }
+        ensures refused { IfErr result (StopsFor (λ refusal. (T : Table) → JudgesFor T B.building.stands self.now refusal)) }
     {
         if self.depth_now() > self.depth {
             return Err(self.refuse(self.taken, Reason::TooDeep));
@@ -200,7 +200,7 @@ impl<B: Builder> Run<B> {
     fn finish(&self) -> Result<(), Stop>
         requires { self.now.taken ≤ self.now.length }
         ensures ok { OnOk result (self.now.taken ≡ self.now.length) }
-        ensures refused { IfErr result (StopsFor (λ refusal. EndsFor B.stands self.now refusal)) }
+        ensures refused { IfErr result (StopsFor (λ refusal. EndsFor B.building.stands self.now refusal)) }
     {
         if self.taken < self.length {
             return Err(self.refuse(self.taken, Reason::Extra));
@@ -238,14 +238,14 @@ impl<B: Builder> Run<B> {
     /// Takes the next item, or as much of it as there is, or parts that stand whole.
     #[inline(always)]
     fn step<S: Shapes>(&mut self, shapes: &S, rest: &[u8], cut: &mut bool) -> Result<Stepped, Stop>
-        requires stands { IsOpenSomewhere (S.table shapes.now) B.stands self.old }
+        requires stands { IsOpenSomewhere (S.table shapes.now) B.building.stands self.old }
         requires some { 0 < length rest.now }
         requires room { self.old.taken + length rest.now ≤ self.old.length }
         ensures used { IfOk result (λ stepped. (0 < stepped.used) × (stepped.used ≤ length rest.now)) }
         ensures more { IfOk result (λ stepped. TakesMore self.old self.new stepped.used) }
-        ensures ok { IfOk result (λ stepped. Steps (S.table shapes.now) B.stands self.old self.new
+        ensures ok { IfOk result (λ stepped. Steps (S.table shapes.now) B.building.stands self.old self.new
             (take stepped.used rest.now) stepped.whole) }
-        ensures refused { IfErr result (StopsFor (λ refusal. RefusesAt (S.table shapes.now) B.stands
+        ensures refused { IfErr result (StopsFor (λ refusal. RefusesAt (S.table shapes.now) B.building.stands
             self.old rest.now refusal)) }
     {
         match self.state.awaited {
@@ -265,14 +265,14 @@ impl<B: Builder> Run<B> {
         rest: &[u8],
     ) -> Result<Stepped, Stop>
         requires awaited { self.old.state.awaited ≡ Awaited.Number item }
-        requires stands { IsOpenSomewhere (S.table shapes.now) B.stands self.old }
+        requires stands { IsOpenSomewhere (S.table shapes.now) B.building.stands self.old }
         requires some { 0 < length rest.now }
         requires room { self.old.taken + length rest.now ≤ self.old.length }
         ensures used { IfOk result (λ stepped. (0 < stepped.used) × (stepped.used ≤ length rest.now)) }
         ensures more { IfOk result (λ stepped. TakesMore self.old self.new stepped.used) }
-        ensures ok { IfOk result (λ stepped. Steps (S.table shapes.now) B.stands self.old self.new
+        ensures ok { IfOk result (λ stepped. Steps (S.table shapes.now) B.building.stands self.old self.new
             (take stepped.used rest.now) stepped.whole) }
-        ensures refused { IfErr result (StopsFor (λ refusal. RefusesAt (S.table shapes.now) B.stands
+        ensures refused { IfErr result (StopsFor (λ refusal. RefusesAt (S.table shapes.now) B.building.stands
             self.old rest.now refusal)) }
     {
         if self.start == self.taken {
@@ -292,13 +292,13 @@ impl<B: Builder> Run<B> {
     /// Takes as many of the awaited raw bytes as there are.
     fn step_raw(&mut self, left: u64, rest: &[u8]) -> Result<Stepped, Memory>
         requires awaited { self.old.state.awaited ≡ Awaited.Raw left }
-        requires stands { IsOpenIn B.stands self.old }
+        requires stands { IsOpenIn B.building.stands self.old }
         requires some { 0 < length rest.now }
         requires room { self.old.taken + length rest.now ≤ self.old.length }
         ensures used { IfOk result (λ stepped. (0 < stepped.used) × (stepped.used ≤ length rest.now)) }
         ensures more { IfOk result (λ stepped. TakesMore self.old self.new stepped.used) }
         ensures ok { IfOk result (λ stepped. (T : Table)
-            → Steps T B.stands self.old self.new (take stepped.used rest.now) stepped.whole) }
+            → Steps T B.building.stands self.old self.new (take stepped.used rest.now) stepped.whole) }
     {
         let used = left.min(rest.len() as u64) as usize;
         let whole = self.take_chunk(left, &rest[..used])?;
@@ -308,11 +308,11 @@ impl<B: Builder> Run<B> {
     /// Takes raw bytes, and answers whether the value is whole then.
     fn take_chunk(&mut self, left: u64, bytes: &[u8]) -> Result<bool, Memory>
         requires awaited { self.old.state.awaited ≡ Awaited.Raw left }
-        requires stands { IsOpenIn B.stands self.old }
+        requires stands { IsOpenIn B.building.stands self.old }
         requires few { length bytes.now ≤ left }
         requires room { self.old.taken + length bytes.now ≤ self.old.length }
         ensures more { OnOk result (TakesMore self.old self.new (length bytes.now)) }
-        ensures ok { IfOk result (λ whole. (T : Table) → Steps T B.stands self.old self.new bytes.now whole) }
+        ensures ok { IfOk result (λ whole. (T : Table) → Steps T B.building.stands self.old self.new bytes.now whole) }
     {
         let whole = self.state.take_raw(left, bytes)?;
         self.taken += bytes.len() as u64;
@@ -332,13 +332,13 @@ impl<B: Builder> Run<B> {
         front: &[u8],
     ) -> Result<bool, Stop>
         requires awaited { self.old.state.awaited ≡ Awaited.Number item }
-        requires stands { IsOpenSomewhere (S.table shapes.now) B.stands self.old }
+        requires stands { IsOpenSomewhere (S.table shapes.now) B.building.stands self.old }
         requires fresh { self.old.start ≡ self.old.taken }
         requires spelled { IsUnsigned n front.now }
         requires room { self.old.taken + length front.now ≤ self.old.length }
         ensures more { OnOk result (TakesMore self.old self.new (length front.now)) }
-        ensures ok { IfOk result (λ whole. Steps (S.table shapes.now) B.stands self.old self.new front.now whole) }
-        ensures refused { IfErr result (StopsFor (λ refusal. RefusesAt (S.table shapes.now) B.stands
+        ensures ok { IfOk result (λ whole. Steps (S.table shapes.now) B.building.stands self.old self.new front.now whole) }
+        ensures refused { IfErr result (StopsFor (λ refusal. RefusesAt (S.table shapes.now) B.building.stands
             self.old front.now refusal)) }
     {
         self.taken += front.len() as u64;
@@ -349,11 +349,11 @@ impl<B: Builder> Run<B> {
     #[inline(never)]
     fn take_byte<S: Shapes>(&mut self, shapes: &S, item: Item, b: u8) -> Result<bool, Stop>
         requires awaited { self.old.state.awaited ≡ Awaited.Number item }
-        requires stands { IsOpenSomewhere (S.table shapes.now) B.stands self.old }
+        requires stands { IsOpenSomewhere (S.table shapes.now) B.building.stands self.old }
         requires room { self.old.taken + 1 ≤ self.old.length }
         ensures more { OnOk result (TakesMore self.old self.new 1) }
-        ensures ok { IfOk result (λ whole. Steps (S.table shapes.now) B.stands self.old self.new (b ∷ []) whole) }
-        ensures refused { IfErr result (StopsFor (λ refusal. RefusesAt (S.table shapes.now) B.stands
+        ensures ok { IfOk result (λ whole. Steps (S.table shapes.now) B.building.stands self.old self.new (b ∷ []) whole) }
+        ensures refused { IfErr result (StopsFor (λ refusal. RefusesAt (S.table shapes.now) B.building.stands
             self.old (b ∷ []) refusal)) }
     {
         self.taken += 1;
@@ -368,9 +368,9 @@ impl<B: Builder> Run<B> {
     /// Takes the awaited number, whose last byte was taken, and answers whether the value is whole then.
     #[inline(always)]
     fn take<S: Shapes>(&mut self, shapes: &S, item: Item, n: u64) -> Result<bool, Stop>
-        requires { CanTake (S.table shapes.now) B.stands self.old.state item n }
-        ensures ok { IfOk result (λ whole. TakesNumber (S.table shapes.now) B.stands self.old self.new n whole) }
-        ensures refused { IfErr result (StopsFor (λ refusal. RefusesNumber (S.table shapes.now) B.stands
+        requires { CanTake (S.table shapes.now) B.building.stands self.old.state item n }
+        ensures ok { IfOk result (λ whole. TakesNumber (S.table shapes.now) B.building.stands self.old self.new n whole) }
+        ensures refused { IfErr result (StopsFor (λ refusal. RefusesNumber (S.table shapes.now) B.building.stands
             self.old n refusal)) }
     {
         match self.state.take(shapes, item, n) {

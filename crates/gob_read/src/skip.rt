@@ -26,14 +26,14 @@ impl<B: Builder> Run<B> {
         cut: &mut bool,
     ) -> Result<Stepped, Stop>
         requires awaited { self.old.state.awaited ≡ Awaited.Number (Item.Part id) }
-        requires stands { IsOpenSomewhere (S.table shapes.now) B.stands self.old }
+        requires stands { IsOpenSomewhere (S.table shapes.now) B.building.stands self.old }
         requires some { 0 < length rest.now }
         requires room { self.old.taken + length rest.now ≤ self.old.length }
         ensures used { IfOk result (λ stepped. (0 < stepped.used) × (stepped.used ≤ length rest.now)) }
         ensures more { IfOk result (λ stepped. TakesMore self.old self.new stepped.used) }
-        ensures ok { IfOk result (λ stepped. Steps (S.table shapes.now) B.stands self.old self.new
+        ensures ok { IfOk result (λ stepped. Steps (S.table shapes.now) B.building.stands self.old self.new
             (take stepped.used rest.now) stepped.whole) }
-        ensures refused { IfErr result (StopsFor (λ refusal. RefusesAt (S.table shapes.now) B.stands
+        ensures refused { IfErr result (StopsFor (λ refusal. RefusesAt (S.table shapes.now) B.building.stands
             self.old rest.now refusal)) }
     {
         let stepped = self.skip_parts(shapes, id, rest, cut);
@@ -54,9 +54,9 @@ impl<B: Builder> Run<B> {
         cut: &mut bool,
     ) -> Stepped
         requires awaited { self.old.state.awaited ≡ Awaited.Number (Item.Part id) }
-        requires stands { IsOpenSomewhere (S.table shapes.now) B.stands self.old }
+        requires stands { IsOpenSomewhere (S.table shapes.now) B.building.stands self.old }
         requires room { self.old.taken + length rest.now ≤ self.old.length }
-        ensures { StepsPlain (S.table shapes.now) B.stands self.old self.new rest.now result }
+        ensures { StepsPlain (S.table shapes.now) B.building.stands self.old self.new rest.now result }
     {
         if *cut || self.start != self.taken || !self.state.builder.may_skip() {
             return Stepped::NONE;
@@ -82,11 +82,11 @@ impl<B: Builder> Run<B> {
     ) -> Stepped
         requires awaited { self.old.state.awaited ≡ Awaited.Number (Item.Part elem) }
         requires inside { IsInList elem left self.old.state.stack }
-        requires untold { (us : List Telling) → B.stands self.old.state.builder us }
-        requires stands { IsOpenSomewhere (S.table shapes.now) B.stands self.old }
+        requires untold { (us : List Telling) → B.building.stands self.old.state.builder us }
+        requires stands { IsOpenSomewhere (S.table shapes.now) B.building.stands self.old }
         requires fresh { self.old.start ≡ self.old.taken }
         requires room { self.old.taken + length rest.now ≤ self.old.length }
-        ensures { StepsPlain (S.table shapes.now) B.stands self.old self.new rest.now result }
+        ensures { StepsPlain (S.table shapes.now) B.building.stands self.old self.new rest.now result }
     {
         let depth = self.depth - self.state.stack.depth();
         let elements = whole_elements(shapes, elem, left, rest, depth);
@@ -119,11 +119,11 @@ impl<B: Builder> Run<B> {
     ) -> Stepped
         requires awaited { self.old.state.awaited ≡ Awaited.Number (Item.Part key) }
         requires inside { IsInMap key elem left self.old.state.stack }
-        requires untold { (us : List Telling) → B.stands self.old.state.builder us }
-        requires stands { IsOpenSomewhere (S.table shapes.now) B.stands self.old }
+        requires untold { (us : List Telling) → B.building.stands self.old.state.builder us }
+        requires stands { IsOpenSomewhere (S.table shapes.now) B.building.stands self.old }
         requires fresh { self.old.start ≡ self.old.taken }
         requires room { self.old.taken + length rest.now ≤ self.old.length }
-        ensures { StepsPlain (S.table shapes.now) B.stands self.old self.new rest.now result }
+        ensures { StepsPlain (S.table shapes.now) B.building.stands self.old self.new rest.now result }
     {
         let depth = self.depth - self.state.stack.depth();
         let entries = whole_entries(shapes, key, elem, left, rest, depth);

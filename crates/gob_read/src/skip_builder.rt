@@ -16,6 +16,7 @@ pub struct SkipBuilder {}
 impl Builder for SkipBuilder {
     type Out = ();
 
+    ghost use Rattle.gob_read.specs.Builders.{skip_building};
     ghost use Rattle.gob_read.specs.declared.builder.Stores.TheVariants.{Nothing};
 
     ghost DEPTH = { 65536 };
@@ -26,10 +27,7 @@ impl Builder for SkipBuilder {
 
     const STORES: Stores = Stores::Nothing;
 
-    // Any list of tellings leaves it as it is.
-    ghost stands = { λ builder us. Unit {0} };
-
-    ghost means = { λ out v. Unit {0} };
+    ghost building = { skip_building };
 
     fn fresh(_alloc: Global) -> Result<Self, Memory> {
         Ok(SkipBuilder {})

@@ -67,8 +67,8 @@ impl<B: Builder> State<B> {
     /// After a whole part: goes on to what is awaited behind it, or answers true where it was the outermost one.
     #[inline(always)]
     pub(crate) fn after_part(&mut self) -> Result<bool, Memory>
-        requires { CanEnd B.stands self.old }
-        ensures { IfOk result (λ whole. StepEnds B.stands self.old self.new whole) }
+        requires { CanEnd B.building.stands self.old }
+        ensures { IfOk result (λ whole. StepEnds B.building.stands self.old self.new whole) }
     {
         'opens: loop {
             let Some(frame) = self.stack.innermost() else {
@@ -87,9 +87,9 @@ impl<B: Builder> State<B> {
     /// Takes the awaited number, and answers whether the value is whole then.
     #[inline(always)]
     pub(crate) fn take<S: Shapes>(&mut self, shapes: &S, item: Item, n: u64) -> Result<bool, Fault>
-        requires { CanTake (S.table shapes.now) B.stands self.old item n }
-        ensures ok { IfOk result (λ whole. StepTakes (S.table shapes.now) B.stands self.old self.new n whole) }
-        ensures refused { IfErr result (Blames (λ reason. StepRefuses (S.table shapes.now) B.stands self.old n reason)) }
+        requires { CanTake (S.table shapes.now) B.building.stands self.old item n }
+        ensures ok { IfOk result (λ whole. StepTakes (S.table shapes.now) B.building.stands self.old self.new n whole) }
+        ensures refused { IfErr result (Blames (λ reason. StepRefuses (S.table shapes.now) B.building.stands self.old n reason)) }
     {
         match item {
             Item::Tag { id } => self.take_tag(id, n),
@@ -102,8 +102,8 @@ impl<B: Builder> State<B> {
     /// Takes the tag before the body's value, which is of this type.
     #[inline(always)]
     fn take_tag(&mut self, id: TypeId, n: u64) -> Result<bool, Fault>
-        requires { CanTakeTag B.stands self.old id n }
-        ensures ok { IfOk result (λ whole. TakesHere B.stands self.old self.new n whole) }
+        requires { CanTakeTag B.building.stands self.old id n }
+        ensures ok { IfOk result (λ whole. TakesHere B.building.stands self.old self.new n whole) }
         ensures refused { IfErr result (Blames (λ reason. IsWrongTag n reason)) }
     {
         if n != 0 {
@@ -115,8 +115,8 @@ impl<B: Builder> State<B> {
 
     /// Takes the imaginary part of a complex number, behind the pattern of its real part.
     fn take_second(&mut self, pattern: u64, n: u64) -> Result<bool, Memory>
-        requires { CanTakeSecond B.stands self.old pattern n }
-        ensures { IfOk result (λ whole. TakesHere B.stands self.old self.new n whole) }
+        requires { CanTakeSecond B.building.stands self.old pattern n }
+        ensures { IfOk result (λ whole. TakesHere B.building.stands self.old self.new n whole) }
     {
         self.builder.number(Basic::Complex, pattern, to_pattern(n))?;
         self.after_part()
@@ -124,8 +124,8 @@ impl<B: Builder> State<B> {
 
     /// Takes raw bytes of the part that is read, and answers whether the value is whole then.
     pub(crate) fn take_raw(&mut self, left: u64, bytes: &[u8]) -> Result<bool, Memory>
-        requires { CanTakeRaw B.stands self.old left bytes.now }
-        ensures { IfOk result (λ whole. TakesRaw B.stands self.old self.new left bytes.now whole) }
+        requires { CanTakeRaw B.building.stands self.old left bytes.now }
+        ensures { IfOk result (λ whole. TakesRaw B.building.stands self.old self.new left bytes.now whole) }
     {
         self.builder.raw_more(bytes)?;
         let rest = left - bytes.len() as u64;

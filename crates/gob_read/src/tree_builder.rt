@@ -50,10 +50,7 @@ fn basic_value(kind: Basic, first: u64, second: u64) -> Value
 impl Builder for TreeBuilder {
     type Out = Value;
 
-    ghost use Rattle.std.specs.Prelude.{◌≡◌};
-    ghost use Rattle.gob_value.specs.View.{view};
-    ghost use Rattle.gob_read.specs.Stack.{work_of};
-    ghost use Rattle.gob_read.specs.Standing.{AreBuilt};
+    ghost use Rattle.gob_read.specs.Builders.{tree_building};
     ghost use Rattle.gob_read.specs.declared.builder.Stores.TheVariants.{PartsAndRaw};
 
     ghost DEPTH = { 1000 };
@@ -64,9 +61,7 @@ impl Builder for TreeBuilder {
 
     const STORES: Stores = Stores::PartsAndRaw;
 
-    ghost stands = { λ builder us. AreBuilt (work_of builder.work) builder.held us };
-
-    ghost means = { λ value v. view value ≡ v };
+    ghost building = { tree_building };
 
     fn fresh(alloc: Global) -> Result<Self, Memory> {
         Ok(TreeBuilder {

@@ -4,6 +4,6 @@ use Rattle.gob_read.proofs.run.Run.advance.Given as goal
 
 abbrev pub invariant-items : goal.invariant-items
 invariant-items g l = record {
-  come : HasCome (g.S.Shapes.table l.shapes) g.B.Builder.stands l.fn.self l.self l.piece l.used l.counter;
-  opens : Opens (g.S.Shapes.table l.shapes) g.B.Builder.stands l.self;
+  come : HasCome (g.S.Shapes.table l.shapes) g.B.Builder.building.stands l.fn.self l.self l.piece l.used l.counter;
+  opens : Opens (g.S.Shapes.table l.shapes) g.B.Builder.building.stands l.self;
 }

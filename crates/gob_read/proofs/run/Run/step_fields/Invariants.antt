@@ -6,6 +6,6 @@ use Rattle.gob_read.proofs.run.Run.step_fields.Given as goal
 
 abbrev pub invariant-fields : goal.invariant-fields
 invariant-fields g l = record {
-  at : AtItem (g.S.Shapes.table l.shapes) g.B.Builder.stands l.fn.self l.self l.rest l.used l.counter Delta (frame.Fields l.of l.next);
+  at : AtItem (g.S.Shapes.table l.shapes) g.B.Builder.building.stands l.fn.self l.self l.rest l.used l.counter Delta (frame.Fields l.of l.next);
   some : l.used < length l.rest;
 }

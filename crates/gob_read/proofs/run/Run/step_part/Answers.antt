@@ -11,8 +11,8 @@ pub step_number-requires-clause-awaited : goal.step_number-requires-clause-await
 step_number-requires-clause-awaited g c = ap (λ r. r.state.awaited) (stepped_none c.in_ok-stepped.ensures (omega arith)) ∙ c.requires.awaited
 
 pub step_number-requires-clause-stands : goal.step_number-requires-clause-stands
-step_number-requires-clause-stands g c = subst (IsOpenSomewhere (g.S.Shapes.table c.args.shapes.now) g.B.Builder.stands) (sym (stepped_none c.in_ok-stepped.ensures (omega arith))) c.requires.stands
+step_number-requires-clause-stands g c = subst (IsOpenSomewhere (g.S.Shapes.table c.args.shapes.now) g.B.Builder.building.stands) (sym (stepped_none c.in_ok-stepped.ensures (omega arith))) c.requires.stands
 
 pub returns-clause-ok : goal.returns-clause-ok
 returns-clause-ok g c =
-    subst (λ r. IfOk c.step_number.result (λ stepped. Steps (g.S.Shapes.table c.args.shapes.now) g.B.Builder.stands r c.step_number.new.self (take stepped.used c.args.rest.now) stepped.whole)) (stepped_none c.in_ok-stepped.ensures (omega arith)) c.step_number.ensures.ok
+    subst (λ r. IfOk c.step_number.result (λ stepped. Steps (g.S.Shapes.table c.args.shapes.now) g.B.Builder.building.stands r c.step_number.new.self (take stepped.used c.args.rest.now) stepped.whole)) (stepped_none c.in_ok-stepped.ensures (omega arith)) c.step_number.ensures.ok
