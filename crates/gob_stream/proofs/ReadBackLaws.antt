@@ -4,6 +4,8 @@ use Rattle.std.proofs.lemmas.List.{append-nil, take-append-le}
 use Rattle.gob_types.specs.Table.{Table}
 use Rattle.gob_types.specs.Base.{base_table}
 use Rattle.gob_value.specs.Tree.{Tree}
+use Rattle.gob_read.specs.Builders.{tree_building}
+use Rattle.gob_read.specs.Building.{Building}
 use Rattle.gob_read.specs.declared.tree_builder.TreeBuilder.{TreeBuilder}
 use Rattle.gob_stream.specs.declared.fault.Refusal.{Refusal}
 use Rattle.gob_stream.specs.declared.fault.Fault.{Fault}
@@ -92,9 +94,9 @@ finished_back most s s' items before bytes (Err fault.Read) w f = absurd f
 finished_back most s s' items before bytes (Err fault.Memory) w f = absurd f
 finished_back most s s' items before bytes (Err fault.Failed) w f = absurd f
 
-pub read_back_in_pieces : {X O : Type 0} (stands : Standing X) (trees : Standing TreeBuilder) (means : O → Tree → Type 0) (most : ℕ) → AreReadBackInPieces stands trees means most
-read_back_in_pieces stands trees means most = record {
-  fed = fed_back stands trees means most;
+pub read_back_in_pieces : {X O : Type 0} {most : ℕ} (building : Building X O most) → AreReadBackInPieces building
+read_back_in_pieces {most = most} building = record {
+  fed = fed_back building.stands tree_building.stands building.means most;
   given = λ s items before bytes w a. give_one_list base_table (no_deeper most s.limits) bytes before items (after_gives a) (written_ends w).gives;
   finished = finished_back most;
 }

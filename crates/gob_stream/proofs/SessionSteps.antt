@@ -12,7 +12,7 @@ use Rattle.gob_types.specs.Table.{Table}
 use Rattle.gob_types.specs.Base.{base_table}
 use Rattle.gob_types.specs.Defined.{types}
 use Rattle.gob_value.specs.Tree.{Tree}
-use Rattle.gob_read.specs.contracts.tree_builder.TreeBuilderBuilder.TheImpl as tree_builder
+use Rattle.gob_read.specs.Builders.{tree_building}
 use Rattle.gob_read.specs.declared.tree_builder.TreeBuilder.{TreeBuilder}
 use Rattle.gob_read.proofs.PublicLaws.{take_whole}
 use Rattle.gob_stream.specs.declared.fault.Refusal.{Refusal}
@@ -42,7 +42,7 @@ use Rattle.gob_stream.proofs.UnderWayLaws.{refused_later, after_gives, front_sho
 
 -- the tellings that a builder of trees stands for
 abbrev pub told_trees : Standing TreeBuilder
-told_trees = tree_builder.stands-value.it
+told_trees = tree_building.stands
 
 -- the reading met no fault
 abbrev pub IsSound : {X O : Type 0} → SessionState X O → Type 0

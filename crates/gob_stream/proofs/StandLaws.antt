@@ -4,6 +4,7 @@ use Rattle.std.proofs.lemmas.List.{append-nil}
 use Rattle.gob_types.specs.Base.{base_table}
 use Rattle.gob_types.specs.Defined.{types}
 use Rattle.gob_types.specs.Table.{Table}
+use Rattle.gob_read.specs.Building.{Building}
 use Rattle.gob_read.specs.declared.tree_builder.TreeBuilder.{TreeBuilder}
 use Rattle.gob_stream.specs.declared.fault.Refusal.{Refusal}
 use Rattle.gob_stream.specs.SessionState.{SessionState}
@@ -45,8 +46,8 @@ unrefused {most = most} {s = s} {items = items} {others = others} {bytes = bytes
     let there = refused_there [] a (subst (λ b. IsShown L b items R) (sym (append-nil bytes)) here) in
     stands_unrefused a.stage (subst (λ z. RefusesNext base_table L (types s.types) (length a.front) z R) (append-nil a.under_way) there)
 
-pub gives_what_stands : {X : Type 0} (O : Type 0) (stands : Standing X) (trees : Standing TreeBuilder) (most : ℕ) → GivesWhatStands O stands trees most
-gives_what_stands O stands trees most = record {
+pub gives_what_stands : {X O : Type 0} {most : ℕ} (building : Building X O most) → GivesWhatStands building
+gives_what_stands building = record {
   items = λ s items bytes a. after_gives a;
   unrefused = λ s items others bytes R a. unrefused a;
   types_behind = λ s items bytes a. stands_types a;

@@ -1,12 +1,12 @@
 -- What contracts see of a session: the items that it has read of the bytes so far, its types and its limits. Each word takes
--- what a builder stands for and how deep it goes, where it speaks of items.
+-- what its builder is, where it speaks of items.
 use Rattle.std.specs.Prelude.{◌≡◌, ℕ, ◌++◌, ◌∷◌, [], List, Option, Result, length}
 use Rattle.gob_types.specs.Base.{base_table}
 use Rattle.gob_types.specs.Defined.{Defined, types}
 use Rattle.gob_types.specs.Table.{Table}
 use Rattle.gob_types.specs.declared.id.TypeId.{TypeId}
-use Rattle.gob_value.specs.Tree.{Tree}
-use Rattle.gob_read.specs.contracts.tree_builder.TreeBuilderBuilder.TheImpl as tree_builder
+use Rattle.gob_read.specs.Builders.{tree_building}
+use Rattle.gob_read.specs.Building.{Building}
 use Rattle.gob_stream.specs.declared.fault.Fault.{Fault}
 use Rattle.gob_stream.specs.declared.item.Item as declared
 use Rattle.gob_stream.specs.SessionState.{SessionState}
@@ -17,13 +17,13 @@ use Rattle.gob_stream.specs.Honest.{FeedsHonestly, ReadsHonestly}
 use Rattle.gob_stream.specs.Item.{StreamItem}
 use Rattle.gob_stream.specs.ReadParts.{Advances, bytes_wanted}
 use Rattle.gob_stream.specs.Reading.{Feeds, ReadingFinishes, ReadsNext, TakesNext}
-use Rattle.gob_stream.specs.Standing.{Standing, StandsAfter}
+use Rattle.gob_stream.specs.Standing.{StandsAfter}
 use Rattle.gob_stream.specs.Stream.{Counted}
 use Rattle.gob_stream.specs.Whole.{IsBetween, HasBody, HasBegun, HasItem, PassesItem}
 
 -- the session has given these items, and taken these bytes
-abbrev pub HasRead : {X O : Type 0} → Standing X → (most : ℕ) → SessionState X O → List StreamItem → List ℕ → Type 0
-HasRead stands most s items bytes = StandsAfter stands tree_builder.stands-value.it most s items bytes
+abbrev pub HasRead : {X O : Type 0} {most : ℕ} → Building X O most → SessionState X O → List StreamItem → List ℕ → Type 0
+HasRead {most = most} building s items bytes = StandsAfter building.stands tree_building.stands most s items bytes
 
 -- it has met a fault, behind which it reads no more
 abbrev pub HasFailed : {X O : Type 0} → SessionState X O → Type 0
@@ -55,25 +55,24 @@ abbrev pub StaysAsItWas : {X O : Type 0} → (s s' : SessionState X O) → Type 
 StaysAsItWas s s' = s' ≡ s
 
 -- what the calls answer, to a session that had given the items, of these bytes
-abbrev pub FeedAnswers : {X O : Type 0} → Standing X → (means : O → Tree → Type 0) → (most : ℕ) → (s s' : SessionState X O)
-    → List StreamItem → (bytes piece : List ℕ) → List (declared.Item O) → Result (Unit {0}) Fault → Type 0
-FeedAnswers stands means most s s' items bytes piece given result =
-    Feeds stands tree_builder.stands-value.it means most s s' items bytes piece given result
+abbrev pub FeedAnswers : {X O : Type 0} {most : ℕ} → Building X O most → (s s' : SessionState X O) → List StreamItem
+    → (bytes piece : List ℕ) → List (declared.Item O) → Result (Unit {0}) Fault → Type 0
+FeedAnswers {most = most} building s s' items bytes piece given result =
+    Feeds building.stands tree_building.stands building.means most s s' items bytes piece given result
 
-abbrev pub FinishAnswers : {X O : Type 0} → (most : ℕ) → (s s' : SessionState X O) → List StreamItem → List ℕ
-    → Result (Unit {0}) Fault → Type 0
-FinishAnswers most s s' items bytes result = ReadingFinishes most s s' items bytes result
+abbrev pub FinishAnswers : {X O : Type 0} {most : ℕ} → Building X O most → (s s' : SessionState X O) → List StreamItem
+    → List ℕ → Result (Unit {0}) Fault → Type 0
+FinishAnswers {most = most} building s s' items bytes result = ReadingFinishes most s s' items bytes result
 
-abbrev pub StepAnswers : {X O : Type 0} → Standing X → (means : O → Tree → Type 0) → (most : ℕ) → (s s' : SessionState X O)
-    → List StreamItem → (bytes piece : List ℕ) → Result (Step O) Fault → Type 0
-StepAnswers stands means most s s' items bytes piece result =
-    Advances stands tree_builder.stands-value.it means most s s' items bytes piece result
+abbrev pub StepAnswers : {X O : Type 0} {most : ℕ} → Building X O most → (s s' : SessionState X O) → List StreamItem
+    → (bytes piece : List ℕ) → Result (Step O) Fault → Type 0
+StepAnswers {most = most} building s s' items bytes piece result =
+    Advances building.stands tree_building.stands building.means most s s' items bytes piece result
 
-abbrev pub ReadItemAnswers : {X O : Type 0} → Standing X → (means : O → Tree → Type 0) → (most : ℕ)
-    → (s s' : SessionState X O) → List StreamItem → (bytes rest : List ℕ) → Option (List ℕ)
-    → Result (Option (declared.Item O)) Fault → Type 0
-ReadItemAnswers stands means most s s' items bytes rest now result =
-    ReadsNext stands tree_builder.stands-value.it means most s s' items bytes rest now result
+abbrev pub ReadItemAnswers : {X O : Type 0} {most : ℕ} → Building X O most → (s s' : SessionState X O) → List StreamItem
+    → (bytes rest : List ℕ) → Option (List ℕ) → Result (Option (declared.Item O)) Fault → Type 0
+ReadItemAnswers {most = most} building s s' items bytes rest now result =
+    ReadsNext building.stands tree_building.stands building.means most s s' items bytes rest now result
 
 -- how many bytes of its input the reading of an item takes
 abbrev pub ReadItemTakes : {X O : Type 0} → (s s' : SessionState X O) → (taken taken' : ℕ)
@@ -81,13 +80,15 @@ abbrev pub ReadItemTakes : {X O : Type 0} → (s s' : SessionState X O) → (tak
 ReadItemTakes s s' taken taken' result = TakesNext s s' taken taken' result
 
 -- the place of a refusal is honest
-abbrev pub FeedsHonestlyFrom : {X O : Type 0} → (means : O → Tree → Type 0) → (most : ℕ) → SessionState X O
-    → List StreamItem → (bytes : List ℕ) → List (declared.Item O) → Result (Unit {0}) Fault → Type 0
-FeedsHonestlyFrom means most s items bytes given result = FeedsHonestly means (no_deeper most (limits_of s)) items bytes given result
+abbrev pub FeedsHonestlyFrom : {X O : Type 0} {most : ℕ} → Building X O most → SessionState X O → List StreamItem
+    → (bytes : List ℕ) → List (declared.Item O) → Result (Unit {0}) Fault → Type 0
+FeedsHonestlyFrom {most = most} building s items bytes given result =
+    FeedsHonestly building.means (no_deeper most (limits_of s)) items bytes given result
 
-abbrev pub ReadsHonestlyFrom : {X O A : Type 0} → (most : ℕ) → SessionState X O → List StreamItem → (bytes rest : List ℕ)
-    → Option (List ℕ) → Result A Fault → Type 0
-ReadsHonestlyFrom most s items bytes rest now result = ReadsHonestly (no_deeper most (limits_of s)) items bytes rest now result
+abbrev pub ReadsHonestlyFrom : {X O A : Type 0} {most : ℕ} → Building X O most → SessionState X O → List StreamItem
+    → (bytes rest : List ℕ) → Option (List ℕ) → Result A Fault → Type 0
+ReadsHonestlyFrom {most = most} building s items bytes rest now result =
+    ReadsHonestly (no_deeper most (limits_of s)) items bytes rest now result
 
 -- the first bytes of the piece are the next item, of a value of the type with this body
 abbrev pub HasBodyNext : {X O : Type 0} → SessionState X O → TypeId → (body : List ℕ) → (used : ℕ) → (piece : List ℕ) → Type 0
@@ -98,18 +99,19 @@ abbrev pub HasBegunNext : {X O : Type 0} → SessionState X O → TypeId → (he
 HasBegunNext s id head size piece = HasBegun (limits_of s) (types_of s) (taken_of s) id head size piece
 
 -- so many bytes may be the next item, which defines nothing
-abbrev pub HasItemNext : {X O : Type 0} → (most : ℕ) → SessionState X O → (used : ℕ) → Type 0
-HasItemNext most s used = HasItem (no_deeper most (limits_of s)) (types_of s) (taken_of s) used
+abbrev pub HasItemNext : {X O : Type 0} {most : ℕ} → Building X O most → SessionState X O → (used : ℕ) → Type 0
+HasItemNext {most = most} building s used = HasItem (no_deeper most (limits_of s)) (types_of s) (taken_of s) used
 
 -- it has read such an item
-abbrev pub ReadsOn : {X O : Type 0} → Standing X → (most : ℕ) → (s s' : SessionState X O) → (used : ℕ) → Type 0
-ReadsOn stands most s s' used = (items : List StreamItem) (bytes : List ℕ) (item : StreamItem) (z : List ℕ)
-    → HasRead stands most s items bytes
+abbrev pub ReadsOn : {X O : Type 0} {most : ℕ} → Building X O most → (s s' : SessionState X O) → (used : ℕ) → Type 0
+ReadsOn {most = most} building s s' used = (items : List StreamItem) (bytes : List ℕ) (item : StreamItem) (z : List ℕ)
+    → HasRead building s items bytes
     → Counted base_table (no_deeper most (limits_of s)) (types_of s) (taken_of s) item z (types_of s)
     → length z ≡ used
-    → HasRead stands most s' (items ++ item ∷ []) (bytes ++ z)
+    → HasRead building s' (items ++ item ∷ []) (bytes ++ z)
 
 -- it has read the item of a value of the type, the first bytes of the piece
-abbrev pub ReadsValue : {X O : Type 0} → Standing X → (most : ℕ) → (s s' : SessionState X O) → TypeId → (used : ℕ)
+abbrev pub ReadsValue : {X O : Type 0} {most : ℕ} → Building X O most → (s s' : SessionState X O) → TypeId → (used : ℕ)
     → (piece : List ℕ) → Type 0
-ReadsValue stands most s s' id used piece = PassesItem stands tree_builder.stands-value.it most s s' id used piece
+ReadsValue {most = most} building s s' id used piece =
+    PassesItem building.stands tree_building.stands most s s' id used piece

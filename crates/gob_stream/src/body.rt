@@ -8,6 +8,7 @@ ghost use Rattle.gob_types.specs.Definable.{IsDefinable};
 ghost use Rattle.gob_value.specs.View.{view};
 ghost use Rattle.gob_value.specs.Fits.{Fits};
 ghost use Rattle.gob_value.specs.Description.{Misdescribes};
+ghost use Rattle.gob_read.specs.Builders.{tree_building};
 ghost use Rattle.gob_read.specs.Reader.{ReaderStands};
 ghost use Rattle.gob_stream.specs.Standing.{size};
 ghost use Rattle.gob_stream.specs.ReadParts.{IsBodyUnderWay, ReadsValueIn, ReadsDescription, StopsWithin};
@@ -35,10 +36,10 @@ pub(crate) fn take_value<B: Builder>(
     mut reader: BodyReader<B>,
     piece: &[u8],
 ) -> Result<Stepped<B>, Fault>
-    requires stands { IsBodyUnderWay (types table.now) id rest B.stands (under_way reader) }
+    requires stands { IsBodyUnderWay (types table.now) id rest B.building.stands (under_way reader) }
     requires order { rest.begin ≤ rest.end }
-    ensures { (limit : ℕ) (z : List ℕ) → ReaderStands (types table.now) id limit (size rest) B.stands (under_way reader) z
-        → ReadsValueIn B.stands B.means (types table.now) id limit rest z piece.now result }
+    ensures { (limit : ℕ) (z : List ℕ) → ReaderStands (types table.now) id limit (size rest) B.building.stands (under_way reader) z
+        → ReadsValueIn B.building.stands B.building.means (types table.now) id limit rest z piece.now result }
 {
     match reader.push(alloc, table, piece) {
         Ok(Progress::More) => Ok(Stepped {
@@ -64,13 +65,13 @@ pub(crate) fn take_description<B: Builder>(
     mut reader: BodyReader<TreeBuilder>,
     piece: &[u8],
 ) -> Result<Stepped<B>, Fault>
-    requires stands { IsBodyUnderWay (types table.old) wire_type rest ⟦<TreeBuilder as Builder>⟧.stands (under_way reader) }
+    requires stands { IsBodyUnderWay (types table.old) wire_type rest tree_building.stands (under_way reader) }
     requires order { rest.begin ≤ rest.end }
     requires admitted { Admits table.old id }
     requires keeps { HasWireType (types table.old) }
     ensures read { (limit : ℕ) (z : List ℕ)
-        → ReaderStands (types table.old) wire_type limit (size rest) ⟦<TreeBuilder as Builder>⟧.stands (under_way reader) z
-        → ReadsDescription ⟦<TreeBuilder as Builder>⟧.stands (types table.old) id limit rest z piece.now
+        → ReaderStands (types table.old) wire_type limit (size rest) tree_building.stands (under_way reader) z
+        → ReadsDescription tree_building.stands (types table.old) id limit rest z piece.now
         (types table.new) result }
     ensures most { table.new.most ≡ table.old.most }
     ensures unchanged { OnErr result (table.new ≡ table.old) }

@@ -7,7 +7,7 @@ ghost use Rattle.gob_stream.specs.Laws.{AreReadBack, ShowNoRefusal, AreReadBackI
 ghost use Rattle.gob_stream.specs.Honest.{OutcomesAreHonest};
 ghost use Rattle.gob_stream.specs.WriterRefusal.{WritersHaveOneReason, AreNotCounted};
 
-use gob_read::{Builder, TreeBuilder};
+use gob_read::Builder;
 
 /// A stream has one list of items, and one table of types behind it.
 pub fn streams_have_one_reading()
@@ -37,7 +37,7 @@ pub fn streams_are_read_back()
 /// the writer's and with a builder that takes values as deep: no feed is refused, behind the last byte those items
 /// were given, and finishing answers Ok.
 pub fn streams_are_read_back_in_pieces<B: Builder>()
-    ensures { AreReadBackInPieces B.stands ⟦<TreeBuilder as Builder>⟧.stands B.means B.DEPTH }
+    ensures { AreReadBackInPieces B.building }
 {}
 
 /// There is one reason at most for which an item isn't written, and none where some bytes are the item.
@@ -49,7 +49,7 @@ pub fn one_refusal()
 /// What a session has given are the items that the grammar finds in the bytes so far, which show no refusal; its types
 /// are those behind the items.
 pub fn sessions_give_what_stands<B: Builder>()
-    ensures { GivesWhatStands B.Out B.stands ⟦<TreeBuilder as Builder>⟧.stands B.DEPTH }
+    ensures { GivesWhatStands B.building }
 {}
 
 /// Behind the items with which bytes begin there is one table of types.

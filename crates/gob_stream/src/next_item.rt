@@ -29,14 +29,13 @@ impl<B: Builder> Session<B> {
         input: &mut Input<R>,
     ) -> Result<Option<Item<B::Out>>, Fault>
         ensures read { (items : List StreamItem) (bytes rest : List ℕ)
-            → HasRead B.stands B.DEPTH self.old items bytes
+            → HasRead B.building self.old items bytes
             → R.remaining (reader_of input.old) ≡ Some rest
-            → ReadItemAnswers B.stands B.means B.DEPTH self.old self.new
-            items bytes rest (R.remaining (reader_of input.new)) result }
+            → ReadItemAnswers B.building self.old self.new items bytes rest (R.remaining (reader_of input.new)) result }
         ensures honest { (items : List StreamItem) (bytes rest : List ℕ)
-            → HasRead B.stands B.DEPTH self.old items bytes
+            → HasRead B.building self.old items bytes
             → R.remaining (reader_of input.old) ≡ Some rest
-            → ReadsHonestlyFrom B.DEPTH self.old items bytes rest (R.remaining (reader_of input.new)) result }
+            → ReadsHonestlyFrom B.building self.old items bytes rest (R.remaining (reader_of input.new)) result }
         ensures failed { OnErr result (HasFailed self.new) }
         ensures stays { HasFailed self.old
             → (result ≡ Err Fault.Failed) × StaysAsItWas self.old self.new × (input.new ≡ input.old) }

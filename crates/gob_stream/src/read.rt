@@ -1,12 +1,13 @@
 //! Reading all items of a stream.
 
 ghost use Rattle.std.specs.Prelude.{◌≡◌, ℕ, ◌+◌, ◌≤◌, List, [], Some};
+ghost use Rattle.gob_read.specs.Builders.{tree_building};
 ghost use Rattle.gob_stream.specs.Bounds.{within_trees};
 ghost use Rattle.gob_stream.specs.Ends.{bytes_read, failed_reads, reader_of};
 ghost use Rattle.gob_stream.specs.Item.{item_views};
-ghost use Rattle.gob_stream.specs.Standing.{StandsAfter};
 ghost use Rattle.gob_stream.specs.Honest.{IsHonest, OfRefusal};
 ghost use Rattle.gob_stream.specs.Reading.{ReadsStream, Given, CountsReads};
+ghost use Rattle.gob_stream.specs.Session.{HasRead};
 
 use crate::fault::Fault;
 use crate::input::Input;
@@ -14,7 +15,7 @@ use crate::item::Item;
 use crate::limits::Limits;
 use crate::session::Session;
 use gob_num::Memory;
-use gob_read::{Builder, TreeBuilder};
+use gob_read::TreeBuilder;
 use gob_value::Value;
 use std::alloc::Global;
 use std::io::Read;
@@ -48,8 +49,7 @@ fn read_items<R: Read>(
     session: &mut Session<TreeBuilder>,
     out: &mut Vec<Item<Value>>,
 ) -> Result<(), Fault>
-    requires stands { StandsAfter ⟦<TreeBuilder as Builder>⟧.stands ⟦<TreeBuilder as Builder>⟧.stands 1000
-        session.old [] [] }
+    requires stands { HasRead tree_building session.old [] [] }
     requires new { session.old.taken ≡ 0 }
     ensures items { Given out.old.items out.new.items (λ given. (bytes : List ℕ)
         → R.remaining (reader_of input.old) ≡ Some bytes

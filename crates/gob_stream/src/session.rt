@@ -6,7 +6,7 @@ use crate::item::Item;
 use crate::limits::Limits;
 use crate::stage::{Extent, Stage, take_awaited};
 use gob_num::{Memory, Number};
-use gob_read::{Builder, TreeBuilder};
+use gob_read::Builder;
 use gob_types::{Reason, Table};
 use std::alloc::Global;
 use std::marker::Model;
@@ -48,6 +48,7 @@ impl<B: Builder> Drop for Session<B> {
 impl<B: Builder> Model for Session<B> {
     ghost use Rattle.std.specs.Coded.{codes};
     ghost use Rattle.gob_value.specs.contracts.value.Value as value;
+    ghost use Rattle.gob_read.specs.Builders.{tree_building};
     ghost use Rattle.gob_stream.specs.SessionState.{SessionState};
     ghost use Rattle.gob_stream.specs.Standing.{IsUsable};
 
@@ -63,7 +64,7 @@ impl<B: Builder> Model for Session<B> {
     } };
 
     // It has read some bytes, or has failed.
-    ghost invariant = { λ session. IsUsable B.stands ⟦<TreeBuilder as Builder>⟧.stands B.DEPTH (record {
+    ghost invariant = { λ session. IsUsable B.building.stands tree_building.stands B.DEPTH (record {
       limits = session.limits;
       types = session.types;
       taken = session.taken;
@@ -83,8 +84,7 @@ impl<B: Builder> Session<B> {
 
     /// A reader that has taken no byte. No value may be deeper than these limits allow, or than the builder takes.
     pub fn new(alloc: Global, limits: Limits) -> Result<Session<B>, Memory>
-        ensures stands { IfOk result (λ session.
-            HasRead B.stands B.DEPTH session [] []) }
+        ensures stands { IfOk result (λ session. HasRead B.building session [] []) }
         ensures taken { IfOk result (λ session. taken_of session ≡ 0) }
         ensures limits { IfOk result (λ session. limits_of session ≡ limits) }
         ensures allowed { AreLimits deepest limits }
@@ -112,11 +112,11 @@ impl<B: Builder> Session<B> {
         out: &mut Vec<Item<B::Out>>,
     ) -> Result<(), Fault>
         ensures fed { Given out.old.items out.new.items (λ given. (items : List StreamItem) (bytes : List ℕ)
-            → HasRead B.stands B.DEPTH self.old items bytes
-            → FeedAnswers B.stands B.means B.DEPTH self.old self.new items bytes piece.now given result) }
+            → HasRead B.building self.old items bytes
+            → FeedAnswers B.building self.old self.new items bytes piece.now given result) }
         ensures honest { Given out.old.items out.new.items (λ given. (items : List StreamItem) (bytes : List ℕ)
-            → HasRead B.stands B.DEPTH self.old items bytes
-            → FeedsHonestlyFrom B.means B.DEPTH self.old items (bytes ++ piece.now) given result) }
+            → HasRead B.building self.old items bytes
+            → FeedsHonestlyFrom B.building self.old items (bytes ++ piece.now) given result) }
         ensures failed { OnErr result (HasFailed self.new) }
         ensures stays { HasFailed self.old
             → (result ≡ Err Fault.Failed) × StaysAsItWas self.old self.new × (out.new ≡ out.old) }
@@ -151,8 +151,8 @@ impl<B: Builder> Session<B> {
     pub fn step(&mut self, alloc: Global, piece: &[u8]) -> Result<Step<B::Out>, Fault>
         requires { 0 < length piece.now }
         ensures advances { (items : List StreamItem) (bytes : List ℕ)
-            → HasRead B.stands B.DEPTH self.old items bytes
-            → StepAnswers B.stands B.means B.DEPTH self.old self.new items bytes piece.now result }
+            → HasRead B.building self.old items bytes
+            → StepAnswers B.building self.old self.new items bytes piece.now result }
         ensures used { IfOk result (λ step. (0 < step.used) × (step.used ≤ length piece.now)) }
         ensures whole { length piece.now ≤ wanted_of self.old → IfOk result (λ step. step.used ≡ length piece.now) }
         ensures between { IfOk result (λ step. IfSome step.item (λ _. IsBetweenItems self.new)) }
@@ -189,8 +189,8 @@ impl<B: Builder> Session<B> {
     /// [`Fault::Failed`].
     pub fn finish(&mut self) -> Result<(), Fault>
         ensures finishes { (items : List StreamItem) (bytes : List ℕ)
-            → HasRead B.stands B.DEPTH self.old items bytes
-            → FinishAnswers B.DEPTH self.old self.new items bytes result }
+            → HasRead B.building self.old items bytes
+            → FinishAnswers B.building self.old self.new items bytes result }
         ensures failed { OnErr result (HasFailed self.new) }
         ensures stays { HasFailed self.old → (result ≡ Err Fault.Failed)
             × StaysAsItWas self.old self.new }

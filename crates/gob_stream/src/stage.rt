@@ -2,6 +2,7 @@
 
 ghost use Rattle.std.specs.Prelude.{◌≡◌, ℕ, ◌<◌, ◌≤◌, List, length, Err, IfOk, OnErr};
 ghost use Rattle.gob_types.specs.Defined.{types};
+ghost use Rattle.gob_read.specs.Builders.{tree_building};
 ghost use Rattle.gob_stream.specs.Bounds.{AreLimits, deepest, no_deeper};
 ghost use Rattle.gob_stream.specs.Standing.{StandsIn};
 ghost use Rattle.gob_stream.specs.ReadParts.{StepsOn, IsWithinItem, bytes_wanted};
@@ -86,12 +87,12 @@ pub(crate) fn take_awaited<B: Builder>(
     piece: &[u8],
 ) -> Result<Stepped<B>, Fault>
     requires stands { ¬ (stage ≡ Stage.Failed)
-        → IsWithinItem B.stands ⟦<TreeBuilder as Builder>⟧.stands (no_deeper B.DEPTH limits) table.old taken stage }
+        → IsWithinItem B.building.stands tree_building.stands (no_deeper B.DEPTH limits) table.old taken stage }
     requires some { 0 < length piece.now }
     ensures steps { (offset : ℕ) (z : List ℕ)
-        → StandsIn B.stands ⟦<TreeBuilder as Builder>⟧.stands (no_deeper B.DEPTH limits)
+        → StandsIn B.building.stands tree_building.stands (no_deeper B.DEPTH limits)
         (types table.old) offset stage z
-        → StepsOn B.stands ⟦<TreeBuilder as Builder>⟧.stands B.means (no_deeper B.DEPTH limits)
+        → StepsOn B.building.stands tree_building.stands B.building.means (no_deeper B.DEPTH limits)
         (types table.old) offset z piece.now (types table.new) result }
     ensures some { IfOk result (λ stepped. 0 < stepped.used) }
     ensures whole { length piece.now ≤ bytes_wanted stage taken

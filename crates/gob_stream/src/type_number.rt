@@ -5,6 +5,7 @@ ghost use Rattle.gob_num.specs.Signed.{IsSigned};
 ghost use Rattle.gob_num.specs.Unsigned.{IsUnsigned, IsUnsignedFront};
 ghost use Rattle.gob_types.specs.Base.{wire_type};
 ghost use Rattle.gob_types.specs.Defined.{types};
+ghost use Rattle.gob_read.specs.Builders.{tree_building};
 ghost use Rattle.gob_stream.specs.Bounds.{Bounds, greatest_stream, no_deeper};
 ghost use Rattle.gob_stream.specs.Standing.{IsCount, IsRest};
 ghost use Rattle.gob_stream.specs.declared.stage.Extent.{Extent};
@@ -40,7 +41,7 @@ pub(crate) fn take_type_number<B: Builder>(
     requires front { IsUnsignedFront number }
     requires some { 0 < length piece.now }
     ensures read { (offset m : ℕ) (c : List ℕ) → IsCount (no_deeper B.DEPTH limits) offset m c body
-        → StepsOn B.stands ⟦<TreeBuilder as Builder>⟧.stands B.means (no_deeper B.DEPTH limits)
+        → StepsOn B.building.stands tree_building.stands B.building.means (no_deeper B.DEPTH limits)
         (types table.old) offset (c ++ number) piece.now (types table.new) result }
     ensures some { IfOk result (λ stepped. 0 < stepped.used) }
     ensures most { table.new.most ≡ table.old.most }
@@ -117,7 +118,7 @@ fn begin_rest<B: Builder>(
     ensures read { (offset m : ℕ) (c a : List ℕ) (body : Extent)
         → IsCount (no_deeper B.DEPTH limits) offset m c body → body.begin ≡ place → IsUnsigned number a
         → IsRest body a rest
-        → StepsOn B.stands ⟦<TreeBuilder as Builder>⟧.stands B.means (no_deeper B.DEPTH limits)
+        → StepsOn B.building.stands tree_building.stands B.building.means (no_deeper B.DEPTH limits)
         (types table.old) offset (c ++ a) piece.now (types table.new) result }
     ensures most { table.new.most ≡ table.old.most }
     ensures unchanged { OnErr result (table.new ≡ table.old) }
@@ -147,7 +148,7 @@ fn begin_description<B: Builder>(
     ensures read { (L : Bounds) (offset m n : ℕ) (c a : List ℕ) (body : Extent) → L.depth ≡ depth
         → AreTypes L table.old → IsCount L offset m c body → body.begin ≡ place
         → id.0 ≡ n + 1 → IsSigned (negsuc n) a → IsRest body a rest
-        → StepsOn B.stands ⟦<TreeBuilder as Builder>⟧.stands B.means L
+        → StepsOn B.building.stands tree_building.stands B.building.means L
         (types table.old) offset (c ++ a) piece.now (types table.new) result }
     ensures most { table.new.most ≡ table.old.most }
     ensures unchanged { OnErr result (table.new ≡ table.old) }
@@ -175,7 +176,7 @@ fn begin_value<B: Builder>(
     ensures { (L : Bounds) (offset m : ℕ) (c a : List ℕ) (body : Extent) → L.depth ≡ min depth B.DEPTH
         → IsCount L offset m c body → body.begin ≡ place
         → IsSigned (pos id.0) a → IsRest body a rest
-        → StepsOn B.stands ⟦<TreeBuilder as Builder>⟧.stands B.means L
+        → StepsOn B.building.stands tree_building.stands B.building.means L
         (types table.now) offset (c ++ a) piece.now (types table.now) result }
 {
     if let Err(denial) = judge_type(alloc, table, id) {

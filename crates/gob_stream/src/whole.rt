@@ -136,8 +136,7 @@ impl<B: Builder> Session<B> {
     /// takes no memory. None says nothing of the piece, and then nothing has changed: [`Session::step`] reads on, and
     /// refuses what is to be refused.
     pub fn pass_whole(&mut self, piece: &[u8]) -> Option<Passed>
-        ensures passed { IfSome result (λ item. ReadsValue B.stands B.DEPTH self.old self.new
-            item.id item.used piece.now) }
+        ensures passed { IfSome result (λ item. ReadsValue B.building self.old self.new item.id item.used piece.now) }
         ensures same { result ≡ None → self.new ≡ self.old }
         ensures between { IfSome result (λ item. IsBetweenItems self.new) }
         ensures taken { IfSome result (λ item. taken_of self.new ≡ taken_of self.old + item.used) }
@@ -159,8 +158,8 @@ impl<B: Builder> Session<B> {
     /// Goes past so many bytes, which the caller has found to be an item that defines nothing.
     pub fn pass(&mut self, used: usize)
         requires between { IsBetweenItems self.old }
-        requires item { HasItemNext B.DEPTH self.old used }
-        ensures passed { ReadsOn B.stands B.DEPTH self.old self.new used }
+        requires item { HasItemNext B.building self.old used }
+        ensures passed { ReadsOn B.building self.old self.new used }
         ensures between { IsBetweenItems self.new }
         ensures taken { taken_of self.new ≡ taken_of self.old + used }
         ensures types { table_of self.new ≡ table_of self.old }

@@ -22,7 +22,7 @@ pub returns-in-Ok : goal.returns-in-Ok
 returns-in-Ok g c = λ L offset m d a body e k b s r.
     let p = c.in_default.ensures.judged in
     value_begins d a c.args.piece.now k s r p
-    (subst (λ n. ReadsValueIn g.B.Builder.stands g.B.Builder.means (types c.args.table.now) c.args.id n c.args.rest [] c.args.piece.now c.take_value.result) (sym e)
+    (subst (λ n. ReadsValueIn g.B.Builder.building.stands g.B.Builder.building.means (types c.args.table.now) c.args.id n c.args.rest [] c.args.piece.now c.take_value.result) (sym e)
     (c.take_value.ensures (min c.args.depth g.B.Builder.DEPTH) [] (c.in-Ok.ensures (types c.args.table.now) p.ready)))
 
 pub returns-in-Err-new : goal.returns-in-Err-new

@@ -24,7 +24,7 @@ pub returns-then-used-piece-clause-fed : goal.returns-then-used-piece-clause-fed
 returns-then-used-piece-clause-fed g c = fed_all c.steps.invariant (omega arith)
 
 pub returns-then-used-piece-clause-honest : goal.returns-then-used-piece-clause-honest
-returns-then-used-piece-clause-honest g c = always_feeds_honestly _ _ g.B.Builder.means _ _ c.steps.self c.args.piece.now (Ok tt) (returns-then-used-piece-clause-fed g c)
+returns-then-used-piece-clause-honest g c = always_feeds_honestly _ _ g.B.Builder.building.means _ _ c.steps.self c.args.piece.now (Ok tt) (returns-then-used-piece-clause-fed g c)
 
 pub step-requires : goal.step-requires
 step-requires g c =
@@ -43,7 +43,7 @@ returns-in-Err-give-clause-fed g c =
     c.in-Some.is c.give.ensures.types c.give.ensures.taken c.in-Err-give.ensures.memory c.in-Err-give.ensures.as_before
 
 pub returns-in-Err-give-clause-honest : goal.returns-in-Err-give-clause-honest
-returns-in-Err-give-clause-honest g c = always_feeds_honestly _ _ g.B.Builder.means _ _ c.give.new.self c.args.piece.now (Err c.in-Err-give.fault) (returns-in-Err-give-clause-fed g c)
+returns-in-Err-give-clause-honest g c = always_feeds_honestly _ _ g.B.Builder.building.means _ _ c.give.new.self c.args.piece.now (Err c.in-Err-give.fault) (returns-in-Err-give-clause-fed g c)
 
 pub returns-in-Err-give-clause-limits : goal.returns-in-Err-give-clause-limits
 returns-in-Err-give-clause-limits g c = c.give.ensures.limits ∙ c.step.ensures.limits ∙ c.steps.invariant.limits
@@ -52,7 +52,7 @@ pub returns-in-Err-clause-fed : goal.returns-in-Err-clause-fed
 returns-in-Err-clause-fed g c = feed_stops c.in-Err.fault c.step.new.self c.steps.invariant c.in-Err.ensures.types c.in-Err.ensures.taken c.in-Err.ensures.advances
 
 pub returns-in-Err-clause-honest : goal.returns-in-Err-clause-honest
-returns-in-Err-clause-honest g c = always_feeds_honestly _ _ g.B.Builder.means _ _ c.step.new.self c.args.piece.now (Err c.in-Err.fault) (returns-in-Err-clause-fed g c)
+returns-in-Err-clause-honest g c = always_feeds_honestly _ _ g.B.Builder.building.means _ _ c.step.new.self c.args.piece.now (Err c.in-Err.fault) (returns-in-Err-clause-fed g c)
 
 pub returns-in-Err-clause-limits : goal.returns-in-Err-clause-limits
 returns-in-Err-clause-limits g c = c.step.ensures.limits ∙ c.steps.invariant.limits
@@ -74,4 +74,4 @@ pub returns-clause-fed : goal.returns-clause-fed
 returns-clause-fed g c = fed_all c.steps.invariant (let n = c.steps.invariant.onward in omega arith)
 
 pub returns-clause-honest : goal.returns-clause-honest
-returns-clause-honest g c = always_feeds_honestly _ _ g.B.Builder.means _ _ c.steps.self c.args.piece.now (Ok tt) (returns-clause-fed g c)
+returns-clause-honest g c = always_feeds_honestly _ _ g.B.Builder.building.means _ _ c.steps.self c.args.piece.now (Ok tt) (returns-clause-fed g c)

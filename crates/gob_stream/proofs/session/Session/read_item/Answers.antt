@@ -27,7 +27,7 @@ returns-in_err-finish-in-Ok-eq0-clause-read g c = λ items bytes rest a e.
     let some : 0 < length c.read.new.buf = grind (arith, common_steps) in
     let p = consumed_nothing c.read.new.buf c.in-Ok-eq0.field-0-test c.in-Ok-eq0.ensures.bytes.0 (c.pieces.invariant.stood.each items bytes a) in
     let all = all_taken e (c.in-Ok-eq0.ensures.bytes.1 c.in-Ok-eq0.field-0-test some) p in
-    passed_on (λ r. ReadsNext g.B.Builder.stands told_trees g.B.Builder.means g.B.Builder.DEPTH c.args.self.now c.finish.new.self items bytes rest (g.R.Read.remaining c.read.new.self.reader) r)
+    passed_on (λ r. ReadsNext g.B.Builder.building.stands told_trees g.B.Builder.building.means g.B.Builder.DEPTH c.args.self.now c.finish.new.self items bytes rest (g.R.Read.remaining c.read.new.self.reader) r)
     c.from_residual.result _ c.from_residual.ensures.1
     (end_stops g.B.Builder.DEPTH c.pieces.self c.finish.new.self items bytes rest _ c.pieces.invariant.limits all.ended (c.in_err-finish-in-Ok-eq0.ensures.finishes items (bytes ++ rest) all.holds))
 
@@ -76,8 +76,8 @@ returns-in_err-step-in-Ok-clause-read g c = λ items bytes rest a e.
     record { some = grind (arith, common_steps); within = grind (arith, common_steps); few = grind (arith, common_steps) } in
     let tail = drop c.min-wanted.result c.pieces.chunk in
     let piece = take c.in-Ok.n (c.read.new.buf ++ tail) in
-    let step = stepped g.B.Builder.stands told_trees g.B.Builder.means g.B.Builder.DEPTH c.pieces.self c.step.new.self tail (Err c.in_err-step-in-Ok.field-0.0) read c.in_err-step-in-Ok.ensures.advances in
-    passed_on (λ r. ReadsNext g.B.Builder.stands told_trees g.B.Builder.means g.B.Builder.DEPTH c.args.self.now c.step.new.self items bytes rest (g.R.Read.remaining c.read.new.self.reader) r)
+    let step = stepped g.B.Builder.building.stands told_trees g.B.Builder.building.means g.B.Builder.DEPTH c.pieces.self c.step.new.self tail (Err c.in_err-step-in-Ok.field-0.0) read c.in_err-step-in-Ok.ensures.advances in
+    passed_on (λ r. ReadsNext g.B.Builder.building.stands told_trees g.B.Builder.building.means g.B.Builder.DEPTH c.args.self.now c.step.new.self items bytes rest (g.R.Read.remaining c.read.new.self.reader) r)
     c.from_residual-in_err-step-in-Ok.result _ c.from_residual-in_err-step-in-Ok.ensures.1
     (step_stops piece _ c.pieces.invariant.limits step (stood_before piece e (piece_consumed (g.R.Read.remaining c.pieces.input.reader) (g.R.Read.remaining c.read.new.self.reader) tail read c.in-Ok.ensures.bytes.0) (c.pieces.invariant.stood.each items bytes a)))
 
@@ -92,7 +92,7 @@ returns-in_err-step-in-Ok-clause-counted g c =
     record { some = grind (arith, common_steps); within = grind (arith, common_steps); few = grind (arith, common_steps) } in
     let tail = drop c.min-wanted.result c.pieces.chunk in
     let piece = take c.in-Ok.n (c.read.new.buf ++ tail) in
-    let step = stepped g.B.Builder.stands told_trees g.B.Builder.means g.B.Builder.DEPTH c.pieces.self c.step.new.self tail (Err c.in_err-step-in-Ok.field-0.0) read c.in_err-step-in-Ok.ensures.advances in
+    let step = stepped g.B.Builder.building.stands told_trees g.B.Builder.building.means g.B.Builder.DEPTH c.pieces.self c.step.new.self tail (Err c.in_err-step-in-Ok.field-0.0) read c.in_err-step-in-Ok.ensures.advances in
     counts_none c.args.input.now.failures c.read.new.self.failures c.from_residual-in_err-step-in-Ok.result _ c.from_residual-in_err-step-in-Ok.ensures.1
     (step_unread piece _ (stood_on c.pieces.invariant.began c.pieces.invariant.stood) step) (c.in-Ok.ensures.counted.1 ∙ c.pieces.invariant.failures)
 
@@ -115,7 +115,7 @@ returns-in-Some-clause-read g c = λ items bytes rest a e.
     record { some = grind (arith, common_steps); within = grind (arith, common_steps); few = grind (arith, common_steps) } in
     let tail = drop c.min-wanted.result c.pieces.chunk in
     let piece = take c.in-Ok.n (c.read.new.buf ++ tail) in
-    let step = stepped g.B.Builder.stands told_trees g.B.Builder.means g.B.Builder.DEPTH c.pieces.self c.step.new.self tail (Ok c.in_ok-step-in-Ok.step) read c.in_ok-step-in-Ok.ensures.advances in
+    let step = stepped g.B.Builder.building.stands told_trees g.B.Builder.building.means g.B.Builder.DEPTH c.pieces.self c.step.new.self tail (Ok c.in_ok-step-in-Ok.step) read c.in_ok-step-in-Ok.ensures.advances in
     let used = c.in_ok-step-in-Ok.ensures.whole step.few in
     gives_taken piece c.in_ok-step-in-Ok.step step used c.in_ok-step-in-Ok.ensures.between (c.in-Some.is ∙ ap Some (sym c.in-Some.item-is)) (stood_before piece e (piece_consumed (g.R.Read.remaining c.pieces.input.reader) (g.R.Read.remaining c.read.new.self.reader) tail read c.in-Ok.ensures.bytes.0) (c.pieces.invariant.stood.each items bytes a))
 
@@ -126,7 +126,7 @@ returns-in-Some-clause-taken g c =
     record { some = grind (arith, common_steps); within = grind (arith, common_steps); few = grind (arith, common_steps) } in
     let tail = drop c.min-wanted.result c.pieces.chunk in
     let piece = take c.in-Ok.n (c.read.new.buf ++ tail) in
-    let step = stepped g.B.Builder.stands told_trees g.B.Builder.means g.B.Builder.DEPTH c.pieces.self c.step.new.self tail (Ok c.in_ok-step-in-Ok.step) read c.in_ok-step-in-Ok.ensures.advances in
+    let step = stepped g.B.Builder.building.stands told_trees g.B.Builder.building.means g.B.Builder.DEPTH c.pieces.self c.step.new.self tail (Ok c.in_ok-step-in-Ok.step) read c.in_ok-step-in-Ok.ensures.advances in
     let used = c.in_ok-step-in-Ok.ensures.whole step.few in
     let w = stood_on c.pieces.invariant.began c.pieces.invariant.stood in
     let less = no_less c.pieces.invariant.grown in
@@ -143,7 +143,7 @@ pieces-smaller g c =
     record { some = grind (arith, common_steps); within = grind (arith, common_steps); few = grind (arith, common_steps) } in
     let tail = drop c.min-wanted.result c.pieces.chunk in
     let piece = take c.in-Ok.n (c.read.new.buf ++ tail) in
-    let step = stepped g.B.Builder.stands told_trees g.B.Builder.means g.B.Builder.DEPTH c.pieces.self c.step.new.self tail (Ok c.in_ok-step-in-Ok.step) read c.in_ok-step-in-Ok.ensures.advances in
+    let step = stepped g.B.Builder.building.stands told_trees g.B.Builder.building.means g.B.Builder.DEPTH c.pieces.self c.step.new.self tail (Ok c.in_ok-step-in-Ok.step) read c.in_ok-step-in-Ok.ensures.advances in
     let used = c.in_ok-step-in-Ok.ensures.whole step.few in
     let w = stood_on c.pieces.invariant.began c.pieces.invariant.stood in
     let size = piece_length tail read in
@@ -159,7 +159,7 @@ pieces-preserved g c =
     record { some = grind (arith, common_steps); within = grind (arith, common_steps); few = grind (arith, common_steps) } in
     let tail = drop c.min-wanted.result c.pieces.chunk in
     let piece = take c.in-Ok.n (c.read.new.buf ++ tail) in
-    let step = stepped g.B.Builder.stands told_trees g.B.Builder.means g.B.Builder.DEPTH c.pieces.self c.step.new.self tail (Ok c.in_ok-step-in-Ok.step) read c.in_ok-step-in-Ok.ensures.advances in
+    let step = stepped g.B.Builder.building.stands told_trees g.B.Builder.building.means g.B.Builder.DEPTH c.pieces.self c.step.new.self tail (Ok c.in_ok-step-in-Ok.step) read c.in_ok-step-in-Ok.ensures.advances in
     let used = c.in_ok-step-in-Ok.ensures.whole step.few in
     let w = stood_on c.pieces.invariant.began c.pieces.invariant.stood in
     let size = piece_length tail read in

@@ -6,8 +6,8 @@ use Rattle.gob_stream.proofs.session.Session.read_item.Given as goal
 abbrev pub invariant-pieces : goal.invariant-pieces
 invariant-pieces g l = record {
   chunk : length l.chunk ≡ 1024;
-  began : StandsSomewhere g.B.Builder.stands told_trees g.B.Builder.DEPTH l.initial.self;
-  stood : StoodOn g.B.Builder.stands told_trees g.B.Builder.DEPTH l.initial.self l.self (g.R.Read.remaining l.initial.input.reader) (g.R.Read.remaining l.input.reader);
+  began : StandsSomewhere g.B.Builder.building.stands told_trees g.B.Builder.DEPTH l.initial.self;
+  stood : StoodOn g.B.Builder.building.stands told_trees g.B.Builder.DEPTH l.initial.self l.self (g.R.Read.remaining l.initial.input.reader) (g.R.Read.remaining l.input.reader);
   limits : l.self.limits ≡ l.initial.self.limits;
   failures : l.input.failures ≡ l.initial.input.failures;
   taken : l.input.taken ≡ counts_up l.initial.input.taken (l.self.taken - l.initial.self.taken);

@@ -47,8 +47,8 @@ returns-in-Ok-clause-limits g c = rw (← c.self.view_is) refl
 pub returns-in-Err-clause-advances : goal.returns-in-Err-clause-advances
 returns-in-Err-clause-advances g c =
     let fault = c.in-Err.fault in
-    subst (λ s. (items : List StreamItem) (bytes : List ℕ) → HasRead g.B.Builder.stands g.B.Builder.DEPTH s items bytes
-    → StepAnswers g.B.Builder.stands g.B.Builder.means g.B.Builder.DEPTH s c.args.self.now items bytes c.args.piece.now (Err fault))
+    subst (λ s. (items : List StreamItem) (bytes : List ℕ) → HasRead g.B.Builder.building s items bytes
+    → StepAnswers g.B.Builder.building s c.args.self.now items bytes c.args.piece.now (Err fault))
     c.self.view_is
     (λ items bytes a. stopped_by {U = types c.take_awaited.new.table} c.args.self.now a (c.in-Err.ensures.steps (length a.front) a.under_way (stands_there c.replace-stage.ensures.value a.stage)))
 
