@@ -4,3 +4,4 @@ pub mod Meaning
 pub mod Seeing
 pub mod Laws
 pub mod Machine
+pub mod Builder

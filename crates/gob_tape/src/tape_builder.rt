@@ -155,11 +155,7 @@ impl TapeBuilder {
 impl Builder for TapeBuilder {
     type Out = Tape;
 
-    ghost use Rattle.std.specs.Prelude.{◌≡◌};
-    ghost use Rattle.gob_tape.specs.Meaning.{Means};
-    ghost use Rattle.gob_tape.specs.declared.node.Node.{Node};
-    ghost use Rattle.gob_tape.specs.Machine.View.{state_of};
-    ghost use Rattle.gob_tape.specs.Machine.Standing.{AreTaped};
+    ghost use Rattle.gob_tape.specs.Builder.{tape_building};
     ghost use Rattle.gob_read.specs.declared.builder.Stores.TheVariants.{PartsAndRaw};
 
     ghost DEPTH = { 65536 };
@@ -170,9 +166,7 @@ impl Builder for TapeBuilder {
 
     const STORES: Stores = Stores::PartsAndRaw;
 
-    ghost stands = { λ builder us. AreTaped (state_of builder) builder.held us };
-
-    ghost means = { λ tape v. Means tape v };
+    ghost building = { tape_building };
 
     fn fresh(alloc: Global) -> Result<Self, Memory> {
         Ok(TapeBuilder {
