@@ -5,7 +5,7 @@ use Rattle.std.specs.Result.{IsErrAnd}
 use Rattle.std.proofs.lemmas.List.{take_more, take-append-le, take-append-drop}
 use Rattle.gob_types.specs.Base.{base_table}
 use Rattle.gob_value.specs.declared.value.Value.{Value}
-use Rattle.gob_read.specs.contracts.tree_builder.TreeBuilderBuilder.TheImpl as tree_builder
+use Rattle.gob_read.specs.Builders.{tree_building}
 use Rattle.gob_read.specs.declared.tree_builder.TreeBuilder.{TreeBuilder}
 use Rattle.gob_stream.specs.declared.fault.Refusal.{Refusal}
 use Rattle.gob_stream.specs.declared.fault.Fault.{Fault}
@@ -16,8 +16,8 @@ use Rattle.gob_stream.specs.Bounds.{Bounds, no_deeper}
 use Rattle.gob_stream.specs.Item.{StreamItem, item_views}
 use Rattle.gob_stream.specs.Laws.{WrittenWithin, ReadsThese, StreamsStayShown}
 use Rattle.gob_stream.specs.Outcome.{BeginsWith, Outcome, refused}
-use Rattle.gob_stream.specs.Reading.{Given, IsShown, Feeds, ReadingFinishes}
-use Rattle.gob_stream.specs.Standing.{StandsAfter}
+use Rattle.gob_stream.specs.Reading.{Given, IsShown, ReadingFinishes}
+use Rattle.gob_stream.specs.Session.{HasRead, FeedAnswers}
 use Rattle.gob_stream.specs.Stream.{no_more}
 use Rattle.gob_stream.specs.Writing.{WritesStream}
 use Rattle.gob_stream.proofs.PublicLaws.{views_behind}
@@ -35,10 +35,10 @@ never_refused given items f R e h = subst (λ f. ReadsThese given items (Err f))
 -- ---- read in pieces
 -- the session of trees has given these, of these bytes
 abbrev pub HasGiven : SessionState TreeBuilder Value → List (declared.Item Value) → List ℕ → Type 0
-HasGiven s given bytes = StandsAfter tree_builder.stands-value.it tree_builder.stands-value.it 1000 s (item_views given) bytes
+HasGiven s given bytes = HasRead tree_building s (item_views given) bytes
 
 abbrev pub FeedsTrees : (s s' : SessionState TreeBuilder Value) → List StreamItem → (bytes piece : List ℕ) → List (declared.Item Value) → Result (Unit {0}) Fault → Type 0
-FeedsTrees s s' items bytes piece given result = Feeds tree_builder.stands-value.it tree_builder.stands-value.it tree_builder.means-value.it 1000 s s' items bytes piece given result
+FeedsTrees s s' items bytes piece given result = FeedAnswers tree_building s s' items bytes piece given result
 
 -- the fault that a `?` returns is the callee's
 pub passed_on : {A E : Type 0} (Q : Result A E → Type 0) (r : Result A E) (e : E) → IsErrAnd r (λ y. y ≡ e) → Q (Err e) → Q r
@@ -89,7 +89,7 @@ stops_so law L s s' before given bytes piece rest fault.Failed l e h = h
 -- a piece that is refused, or for which no memory was had
 pub piece_stops : StreamsStayShown → (L : Bounds) (s s' : SessionState TreeBuilder Value) {out out' out'' : List (declared.Item Value)} (pieces : List (Vec ℕ)) (n : ℕ) (piece : Vec ℕ) (taken : List ℕ) (r : Result (Unit {0}) Fault) (f : Fault) → taken ≡ piece.items → IsErrAnd r (λ y. y ≡ f) → no_deeper 1000 s.limits ≡ L → piece ≡ get_or pieces n piece → n < length pieces
     → Given out out' (λ given. HasGiven s given (joined (take n pieces)))
-    → Given out' out'' (λ given. (items : List StreamItem) (bytes : List ℕ) → StandsAfter tree_builder.stands-value.it tree_builder.stands-value.it 1000 s items bytes → FeedsTrees s s' items bytes taken given (Err f))
+    → Given out' out'' (λ given. (items : List StreamItem) (bytes : List ℕ) → HasRead tree_building s items bytes → FeedsTrees s s' items bytes taken given (Err f))
     → Given out out'' (λ given. HasOutcome L (joined pieces) (item_views given) r)
 piece_stops law L s s' {out = out} pieces n piece taken r f same e l is within h k = record {
   given = h.given ++ k.given;
@@ -102,11 +102,11 @@ piece_stops law L s s' {out = out} pieces n piece taken r f same e l is within h
 -- or that is taken
 pub piece_taken : (s s' : SessionState TreeBuilder Value) {out out' out'' : List (declared.Item Value)} (pieces : List (Vec ℕ)) (n : ℕ) (piece : Vec ℕ) (u : Unit {0}) → piece ≡ get_or pieces n piece → n < length pieces
     → Given out out' (λ given. HasGiven s given (joined (take n pieces)))
-    → Given out' out'' (λ given. (items : List StreamItem) (bytes : List ℕ) → StandsAfter tree_builder.stands-value.it tree_builder.stands-value.it 1000 s items bytes → FeedsTrees s s' items bytes piece.items given (Ok u))
+    → Given out' out'' (λ given. (items : List StreamItem) (bytes : List ℕ) → HasRead tree_building s items bytes → FeedsTrees s s' items bytes piece.items given (Ok u))
     → Given out out'' (λ given. HasGiven s' given (joined (take (n + 1) pieces)))
 piece_taken s s' {out = out} pieces n piece u is within h k =
     let f = k.holds (item_views h.given) (joined (take n pieces)) h.holds in
-    let S : List StreamItem → List ℕ → Type 0 = λ items bytes. StandsAfter tree_builder.stands-value.it tree_builder.stands-value.it 1000 s' items bytes in
+    let S : List StreamItem → List ℕ → Type 0 = λ items bytes. HasRead tree_building s' items bytes in
     record {
       given = h.given ++ k.given;
       appended = k.appended ∙ ap (λ x. x ++ k.given) h.appended ∙ append_assoc out h.given k.given;
@@ -123,7 +123,7 @@ finishes_so L s s' items bytes (Err fault.Failed) l h = h
 
 pub pieces_end : (L : Bounds) (s s' : SessionState TreeBuilder Value) {out out' : List (declared.Item Value)} (pieces : List (Vec ℕ)) (n : ℕ) (r : Result (Unit {0}) Fault) → no_deeper 1000 s.limits ≡ L → length pieces ≤ n
     → Given out out' (λ given. HasGiven s given (joined (take n pieces)))
-    → ((items : List StreamItem) (bytes : List ℕ) → StandsAfter tree_builder.stands-value.it tree_builder.stands-value.it 1000 s items bytes → ReadingFinishes 1000 s s' items bytes r)
+    → ((items : List StreamItem) (bytes : List ℕ) → HasRead tree_building s items bytes → ReadingFinishes 1000 s s' items bytes r)
     → Given out out' (λ given. HasOutcome L (joined pieces) (item_views given) r)
 pieces_end L s s' pieces n r l past h k = record {
   given = h.given;
