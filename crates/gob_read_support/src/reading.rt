@@ -2,8 +2,7 @@
 
 ghost use Rattle.std.specs.Prelude.{[], IfOk, min};
 ghost use Rattle.gob_types.specs.Defined.{types};
-ghost use Rattle.gob_read.specs.Reader.{ReaderStands};
-ghost use Rattle.gob_read.specs.UnderWay.{under_way};
+ghost use Rattle.gob_read.specs.UnderWay.{HasReadBody};
 
 use crate::body::Body;
 use gob_read::{BodyReader, Builder, Progress, Stop};
@@ -12,7 +11,8 @@ use std::alloc::Global;
 
 /// A reader of the body.
 pub fn reader<B: Builder>(alloc: Global, table: &Table, body: &Body) -> Result<BodyReader<B>, Stop>
-    ensures { IfOk result (λ reader. ReaderStands (types table.now) (record { 0 = body.now.id }) (min body.now.depth B.DEPTH) body.now.length B.stands (under_way reader) []) }
+    ensures { IfOk result (λ reader. HasReadBody B.building (types table.now) (record { 0 = body.now.id })
+        (min body.now.depth B.DEPTH) body.now.length reader []) }
 {
     let id = TypeId(body.id);
     match table.ready(alloc, id) {

@@ -2,8 +2,7 @@
 
 ghost use Rattle.std.specs.Prelude.{OnOk};
 ghost use Rattle.gob_types.specs.Defined.{types};
-ghost use Rattle.gob_read.specs.Reader.{IsUsableReader};
-ghost use Rattle.gob_read.specs.UnderWay.{under_way};
+ghost use Rattle.gob_read.specs.UnderWay.{FitsTable};
 
 use crate::row::{body_of, numbers};
 use crate::types::table;
@@ -47,8 +46,8 @@ fn held_after_each<B: Builder>(
     reader: &mut BodyReader<B>,
     bytes: &[u8],
 ) -> Result<Vec<u64>, Memory>
-    requires { IsUsableReader (types table.now) B.stands (under_way reader.old) }
-    ensures { OnOk result (IsUsableReader (types table.now) B.stands (under_way reader.new)) }
+    requires { FitsTable B.building (types table.now) reader.old }
+    ensures { OnOk result (FitsTable B.building (types table.now) reader.new) }
 {
     let mut held = Vec::new(alloc);
     'bytes: for byte in bytes {
