@@ -9,8 +9,7 @@ use Rattle.gob_types.specs.Base.{base_table}
 use Rattle.gob_types.specs.Defined.{types, definition_count}
 use Rattle.gob_types.specs.Table.{Table}
 use Rattle.gob_types.specs.declared.id.TypeId.{TypeId}
-use Rattle.gob_read.specs.contracts.skip_builder.SkipBuilderBuilder.TheImpl as skip_builder
-use Rattle.gob_read.specs.contracts.tree_builder.TreeBuilderBuilder.TheImpl as tree_builder
+use Rattle.gob_read.specs.Builders.{skip_building, tree_building}
 use Rattle.gob_read.specs.declared.skip_builder.SkipBuilder.{SkipBuilder}
 use Rattle.gob_stream.specs.declared.fault.Fault.{Fault}
 use Rattle.gob_stream.specs.declared.fault.Fault.TheVariants as reading
@@ -20,10 +19,10 @@ use Rattle.gob_stream.specs.Body.{Body, definition, value}
 use Rattle.gob_stream.specs.Bounds.{Bounds, AreLimits, deepest, no_deeper}
 use Rattle.gob_stream.specs.Item.{StreamItem, puts}
 use Rattle.gob_stream.specs.Outcome.{Outcome, refused}
-use Rattle.gob_stream.specs.ReadParts.{Advances, AdvancesOver, over_some, over_item}
+use Rattle.gob_stream.specs.ReadParts.{AdvancesOver, over_some, over_item}
 use Rattle.gob_stream.specs.Reading.{Taken, ReadingFinishes}
+use Rattle.gob_stream.specs.Session.{ReadsValue, StepAnswers}
 use Rattle.gob_stream.specs.Stream.{Stream, Continues, no_more, and_then, counted}
-use Rattle.gob_stream.specs.Whole.{PassesItem}
 use Rattle.gob_stream.proofs.PublicLaws.{after_gives, stands_within}
 use Rattle.gob_tool.specs.declared.check.Tally.{Tally}
 use Rattle.gob_tool.specs.declared.fault.ToolFault.{ToolFault}
@@ -166,7 +165,7 @@ items_end h = let bound = stands_within h.gave in let few = items_within h.gave 
 
 -- the item of a value that stands whole
 pub counts_whole : {s s' : SessionState SkipBuilder (Unit {0})} {id : TypeId} {used n n' : ℕ} {piece : List ℕ}
-    → PassesItem skip_builder.stands-value.it tree_builder.stands-value.it deepest s s' id used piece → n' ≡ n + 1
+    → ReadsValue skip_building s s' id used piece → n' ≡ n + 1
     → (bytes : List ℕ) → HasCounted s n bytes → CountsOn s' n n' bytes piece used
 counts_whole {id = id} p e bytes h = record {
   within = p.within;
@@ -182,7 +181,7 @@ counts_whole {id = id} p e bytes h = record {
 pub counts_item : {s s' : SessionState SkipBuilder (Unit {0})} {used n n' : ℕ} {bytes piece : List ℕ}
     {o : Option (declared.Item (Unit {0}))} {given : declared.Item (Unit {0})} → o ≡ Some given → n' ≡ n + 1
     → (h : HasCounted s n bytes)
-    → AdvancesOver skip_builder.stands-value.it tree_builder.stands-value.it skip_builder.means-value.it deepest s'
+    → AdvancesOver skip_building.stands tree_building.stands skip_building.means deepest s'
     h.given bytes piece used o → CountsOn s' n n' bytes piece used
 counts_item f e h (over_some l w a) = cc
 counts_item f e h (over_item {i = i} l w m a) = record {
@@ -198,7 +197,7 @@ counts_item f e h (over_item {i = i} l w m a) = record {
 -- or none is
 pub counts_none : {s s' : SessionState SkipBuilder (Unit {0})} {used n : ℕ} {bytes piece : List ℕ}
     {o : Option (declared.Item (Unit {0}))} → o ≡ None → (h : HasCounted s n bytes)
-    → AdvancesOver skip_builder.stands-value.it tree_builder.stands-value.it skip_builder.means-value.it deepest s'
+    → AdvancesOver skip_building.stands tree_building.stands skip_building.means deepest s'
     h.given bytes piece used o → CountsOn s' n n bytes piece used
 counts_none f h (over_some l w a) = record {
   within = w;
@@ -209,7 +208,7 @@ counts_none f h (over_item l w m a) = cc
 
 -- a step was refused
 pub step_stops : (s s' : SessionState SkipBuilder (Unit {0})) (items : List StreamItem) (bytes piece : List ℕ) (e : Fault)
-    → Advances skip_builder.stands-value.it tree_builder.stands-value.it skip_builder.means-value.it deepest s s'
+    → StepAnswers skip_building s s'
     items bytes piece (Err e) → StopsCounting (no_deeper deepest s.limits) (bytes ++ piece) e
 step_stops s s' items bytes piece (reading.Refused R) f = (items, f.0)
 step_stops s s' items bytes piece reading.Read f = absurd f

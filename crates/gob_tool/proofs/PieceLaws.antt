@@ -6,7 +6,7 @@ use Rattle.std.specs.Io.KnownBytes.{Consumes, IsAtEnd}
 use Rattle.gob_types.specs.Base.{base_table}
 use Rattle.gob_types.specs.Defined.{Defined, types}
 use Rattle.gob_value.specs.declared.value.Value.{Value}
-use Rattle.gob_read.specs.contracts.tree_builder.TreeBuilderBuilder.TheImpl as tree_builder
+use Rattle.gob_read.specs.Builders.{tree_building}
 use Rattle.gob_read.specs.declared.tree_builder.TreeBuilder.{TreeBuilder}
 use Rattle.gob_stream.specs.declared.fault.Fault.{Fault}
 use Rattle.gob_stream.specs.declared.fault.Fault.TheVariants as reading
@@ -15,7 +15,8 @@ use Rattle.gob_stream.specs.SessionState.{SessionState}
 use Rattle.gob_stream.specs.Bounds.{Bounds, greatest_depth, within_trees}
 use Rattle.gob_stream.specs.Item.{StreamItem, item_views}
 use Rattle.gob_stream.specs.Stream.{Stream}
-use Rattle.gob_stream.specs.Reading.{Feeds, ReadingFinishes}
+use Rattle.gob_stream.specs.Reading.{ReadingFinishes}
+use Rattle.gob_stream.specs.Session.{FeedAnswers}
 use Rattle.gob_stream.proofs.PublicLaws.{views_meant}
 use Rattle.gob_tool.specs.Gathering.{GaveItems}
 use Rattle.gob_tool.specs.Pieces.{TypesBehind, EndsPiece, GivesPiece, CountsPiece}
@@ -107,8 +108,7 @@ module _ (s s' : SessionState TreeBuilder Value) (items : List StreamItem) (take
     unfed = λ e. absurd (other e);
   }
 
-  pub gives_fed : (u : Unit {0}) → Feeds tree_builder.stands-value.it tree_builder.stands-value.it
-      tree_builder.means-value.it greatest_depth s s' items taken piece given (Ok u) → 0 < length piece
+  pub gives_fed : (u : Unit {0}) → FeedAnswers tree_building s s' items taken piece given (Ok u) → 0 < length piece
       → GivesPiece s s' items taken (item_views new) read now (Ok true)
   gives_fed u f some =
       let t = types_behind (record {
@@ -121,8 +121,7 @@ module _ (s s' : SessionState TreeBuilder Value) (items : List StreamItem) (take
       with_types f.more (Ok true) (λ e. cc) (views_meant f.mean) t
       (f.holds, falls s s' items (items ++ f.more) taken piece gave f.holds same some)
 
-  pub gives_stopped : (e : Fault) → Feeds tree_builder.stands-value.it tree_builder.stands-value.it
-      tree_builder.means-value.it greatest_depth s s' items taken piece given (Err e)
+  pub gives_stopped : (e : Fault) → FeedAnswers tree_building s s' items taken piece given (Err e)
       → GivesPiece s s' items taken (item_views new) read now (Err e)
   gives_stopped (reading.Refused R) f = with_types f.0.more (Err (reading.Refused R)) (λ e. cc) (views_meant f.0.mean)
       (types_behind f.0.holds.1) (f.0.holds.0.outcome, inl f.0.holds.0.shown)
@@ -133,7 +132,7 @@ module _ (s s' : SessionState TreeBuilder Value) (items : List StreamItem) (take
 
 pub feed_unread : (s s' : SessionState TreeBuilder Value) (items : List StreamItem) (taken piece : List ℕ)
     (given : List (declared.Item Value)) (failures failures' : ℕ) (e : Fault)
-    → Feeds tree_builder.stands-value.it tree_builder.stands-value.it tree_builder.means-value.it greatest_depth s s'
+    → FeedAnswers tree_building s s'
     items taken piece given (Err e) → failures' ≡ failures → CountsPiece {A = Bool} failures failures' (Err e)
 feed_unread s s' items taken piece given failures failures' (reading.Refused R) f h = h
 feed_unread s s' items taken piece given failures failures' reading.Read f h = absurd f

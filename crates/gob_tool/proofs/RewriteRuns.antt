@@ -10,7 +10,7 @@ use Rattle.gob_types.specs.declared.reason.Reason.TheVariants as reason
 use Rattle.gob_types.specs.Base.{base_table}
 use Rattle.gob_types.specs.Defined.{types}
 use Rattle.gob_types.specs.Table.{Table}
-use Rattle.gob_read.specs.contracts.tree_builder.TreeBuilderBuilder.TheImpl as tree_builder
+use Rattle.gob_read.specs.Builders.{tree_building}
 use Rattle.gob_stream.specs.declared.fault.Fault.{Fault}
 use Rattle.gob_stream.specs.declared.fault.Fault.TheVariants as reading
 use Rattle.gob_stream.specs.declared.fault.Refusal.{Refusal}
@@ -20,13 +20,14 @@ use Rattle.gob_stream.specs.declared.writer.StreamWriter.{StreamWriter}
 use Rattle.gob_stream.specs.Bounds.{Bounds, AreLimits, deepest, no_deeper}
 use Rattle.gob_stream.specs.Item.{StreamItem, ItemMeans}
 use Rattle.gob_stream.specs.Outcome.{BeginsWith, Outcome, refused}
-use Rattle.gob_stream.specs.ReadParts.{Advances, AdvancesOver, over_some, over_item}
+use Rattle.gob_stream.specs.ReadParts.{AdvancesOver, over_some, over_item}
 use Rattle.gob_stream.specs.Reading.{ReadingFinishes, SomeTaken}
+use Rattle.gob_stream.specs.Session.{StepAnswers}
 use Rattle.gob_stream.specs.Stream.{Stream, Continues, no_more, and_then, Counted}
 use Rattle.gob_stream.specs.Writing.{HasWritten, IsNew}
 use Rattle.gob_stream.proofs.PublicLaws.{after_gives, one_table, limits_stay}
 use Rattle.gob_stream.proofs.PublicLaws.{one_front}
-use Rattle.gob_tape.specs.contracts.tape_builder.TapeBuilderBuilder.TheImpl as tape_builder
+use Rattle.gob_tape.specs.Builder.{tape_building}
 use Rattle.gob_tape.specs.declared.tape.Tape.{Tape}
 use Rattle.gob_tape.specs.declared.tape_builder.TapeBuilder.{TapeBuilder}
 use Rattle.gob_tool.specs.declared.fault.ToolFault.{ToolFault}
@@ -249,7 +250,7 @@ module _ {s : SessionState TapeBuilder Tape} {w : StreamWriter} (h : HasRewritte
   -- a step was refused
   pub step_stops : (s' : SessionState TapeBuilder Tape) (w' : StreamWriter) (piece : List ℕ) {before after : List ℕ} (e : Fault)
       → after ≡ before
-      → Advances tape_builder.stands-value.it tree_builder.stands-value.it tape_builder.means-value.it deepest s s' h.items
+      → StepAnswers tape_building s s' h.items
       h.taken piece (Err e) → RewritesSome h s' w' piece before after (Err e)
   step_stops s' w' piece {before = before} {after = after} (reading.Refused R) e f =
       let shown = f.0 in (
@@ -264,7 +265,7 @@ module _ {s : SessionState TapeBuilder Tape} {w : StreamWriter} (h : HasRewritte
 module _ {s : SessionState TapeBuilder Tape} {w : StreamWriter} (h : HasRewritten s w) (s' : SessionState TapeBuilder Tape)
     (same : s'.limits ≡ s.limits) (piece : List ℕ) (used : ℕ) where
   pub step_without : {o : Option (declared.Item Tape)} {before after : List ℕ}
-      → AdvancesOver tape_builder.stands-value.it tree_builder.stands-value.it tape_builder.means-value.it deepest s'
+      → AdvancesOver tape_building.stands tree_building.stands tape_building.means deepest s'
       h.items h.taken piece used o → ((given : declared.Item Tape) → ¬ (o ≡ Some given)) → after ≡ before
       → RewritesOn h s' w (take used piece) (λ more. after ≡ before ++ more)
   step_without {before = before} {after = after} (over_some l k a) none e =
@@ -278,7 +279,7 @@ module _ {s : SessionState TapeBuilder Tape} {w : StreamWriter} (h : HasRewritte
     pub comes : ComesWith s' h (take used piece) same item
 
   pub step_gives : {o : Option (declared.Item Tape)} {given : declared.Item Tape}
-      → AdvancesOver tape_builder.stands-value.it tree_builder.stands-value.it tape_builder.means-value.it deepest s'
+      → AdvancesOver tape_building.stands tree_building.stands tape_building.means deepest s'
       h.items h.taken piece used o → o ≡ Some given → StepGives given
   step_gives (over_some l k a) is = absurd (cc is)
   step_gives {given = given} (over_item {given = g} {i = i} l k m a) is =

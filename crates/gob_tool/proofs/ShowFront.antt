@@ -6,7 +6,7 @@ use Rattle.std.proofs.KnownBytes.{Appends-trans}
 use Rattle.gob_types.specs.Base.{base_table}
 use Rattle.gob_types.specs.Defined.{types}
 use Rattle.gob_value.specs.declared.value.Value.{Value}
-use Rattle.gob_read.specs.contracts.tree_builder.TreeBuilderBuilder.TheImpl as tree_builder
+use Rattle.gob_read.specs.Builders.{tree_building}
 use Rattle.gob_read.specs.declared.tree_builder.TreeBuilder.{TreeBuilder}
 use Rattle.gob_stream.specs.declared.fault.Fault.{Fault}
 use Rattle.gob_stream.specs.declared.fault.Fault.TheVariants as reading
@@ -14,7 +14,8 @@ use Rattle.gob_stream.specs.declared.item.Item as declared
 use Rattle.gob_stream.specs.SessionState.{SessionState}
 use Rattle.gob_stream.specs.Bounds.{Bounds, greatest_depth, within_trees}
 use Rattle.gob_stream.specs.Item.{StreamItem, item_view, mean_none, mean_more}
-use Rattle.gob_stream.specs.ReadParts.{Advances, AdvancesOver, over_some, over_item}
+use Rattle.gob_stream.specs.ReadParts.{AdvancesOver, over_some, over_item}
+use Rattle.gob_stream.specs.Session.{StepAnswers}
 use Rattle.gob_stream.specs.Stream.{Stream}
 use Rattle.gob_stream.proofs.PublicLaws.{views_meant}
 use Rattle.gob_tool.specs.declared.fault.ToolFault.{ToolFault}
@@ -122,7 +123,7 @@ module _ {s s' : SessionState TreeBuilder Value} {bytes : List ℕ} {old new : O
 
   -- the bytes of a step
   pub step_taken : {piece after : List ℕ} {used : ℕ} {o : Option (declared.Item Value)}
-      → AdvancesOver tree_builder.stands-value.it tree_builder.stands-value.it tree_builder.means-value.it
+      → AdvancesOver tree_building.stands tree_building.stands tree_building.means
       greatest_depth s' b.items bytes piece used o → GathersGiven (types s'.types) o gathered after
       → StandsBehind s' (bytes ++ take used piece) old new after
   step_taken {piece = piece} {used = used} (over_some l w a) e =
@@ -144,7 +145,7 @@ memory_stops {s = s} {bytes = bytes} {old = old} {new = new} piece e b =
 -- a step was refused
 pub step_stops : {s : SessionState TreeBuilder Value} {bytes : List ℕ} {old new : Option (List ℕ)} {gathered : List ℕ}
     (s' : SessionState TreeBuilder Value) (piece : List ℕ) (e : Fault) (b : StandsBehind s bytes old new gathered)
-    → Advances tree_builder.stands-value.it tree_builder.stands-value.it tree_builder.means-value.it greatest_depth s s'
+    → StepAnswers tree_building s s'
     b.items bytes piece (Err e) → StopsShowing (within_trees s.limits) (bytes ++ piece) old new gathered e
 step_stops {s = s} {bytes = bytes} {old = old} {new = new} {gathered = gathered} s' piece (reading.Refused R) b f =
     let shown = f.0 in (

@@ -1,17 +1,16 @@
 -- Where a run stands that counts what it reads. For private clauses.
 use Rattle.std.specs.Prelude.{◌≡◌, ℕ, ◌+◌, ◌<◌, ◌≤◌, List, ◌++◌, length, take, Option, Result, Ok, Err}
 use Rattle.std.specs.Io.KnownBytes.{Consumes}
-use Rattle.gob_read.specs.contracts.skip_builder.SkipBuilderBuilder.TheImpl as skip_builder
-use Rattle.gob_read.specs.contracts.tree_builder.TreeBuilderBuilder.TheImpl as tree_builder
+use Rattle.gob_read.specs.Builders.{skip_building}
 use Rattle.gob_read.specs.declared.skip_builder.SkipBuilder.{SkipBuilder}
 use Rattle.gob_stream.specs.declared.fault.Fault.{Fault}
 use Rattle.gob_stream.specs.declared.fault.Fault.TheVariants as reading
 use Rattle.gob_stream.specs.SessionState.{SessionState}
-use Rattle.gob_stream.specs.Bounds.{Bounds, deepest}
+use Rattle.gob_stream.specs.Bounds.{Bounds}
 use Rattle.gob_stream.specs.Devices.{counts_up}
 use Rattle.gob_stream.specs.Item.{StreamItem}
 use Rattle.gob_stream.specs.Reading.{IsShown}
-use Rattle.gob_stream.specs.Standing.{StandsAfter}
+use Rattle.gob_stream.specs.Session.{HasRead}
 use Rattle.gob_tool.specs.declared.check.Tally.{Tally}
 use Rattle.gob_tool.specs.declared.fault.ToolFault.{ToolFault}
 use Rattle.gob_tool.specs.declared.fault.ToolFault.TheVariants as fault
@@ -19,7 +18,7 @@ use Rattle.gob_tool.specs.Checking.{IsCountedStream, IsNoStream, counts_line}
 
 -- the reader that counts has taken these bytes, and given the items
 abbrev pub GaveCounts : SessionState SkipBuilder (Unit {0}) → List StreamItem → List ℕ → Type 0
-GaveCounts s items bytes = StandsAfter skip_builder.stands-value.it tree_builder.stands-value.it deepest s items bytes
+GaveCounts s items bytes = HasRead skip_building s items bytes
 
 -- what was consumed of the input was taken, and counted
 pub record CountsIn (s : SessionState SkipBuilder (Unit {0})) (read now : Option (List ℕ)) (items bytes : ℕ) : Type 0 where

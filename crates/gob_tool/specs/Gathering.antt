@@ -7,16 +7,16 @@ use Rattle.gob_types.specs.declared.reason.Reason.TheVariants as reason
 use Rattle.gob_types.specs.Defined.{types}
 use Rattle.gob_types.specs.Table.{Table}
 use Rattle.gob_value.specs.declared.value.Value.{Value}
-use Rattle.gob_read.specs.contracts.tree_builder.TreeBuilderBuilder.TheImpl as tree_builder
+use Rattle.gob_read.specs.Builders.{tree_building}
 use Rattle.gob_read.specs.declared.tree_builder.TreeBuilder.{TreeBuilder}
 use Rattle.gob_stream.specs.declared.fault.Fault.{Fault}
 use Rattle.gob_stream.specs.declared.fault.Fault.TheVariants as reading
 use Rattle.gob_stream.specs.declared.item.Item as declared
 use Rattle.gob_stream.specs.SessionState.{SessionState}
-use Rattle.gob_stream.specs.Bounds.{Bounds, greatest_depth}
+use Rattle.gob_stream.specs.Bounds.{Bounds}
 use Rattle.gob_stream.specs.Item.{StreamItem, item_view}
 use Rattle.gob_stream.specs.Devices.{counts_up}
-use Rattle.gob_stream.specs.Standing.{StandsAfter}
+use Rattle.gob_stream.specs.Session.{HasRead}
 use Rattle.gob_tool.specs.declared.fault.ToolFault.{ToolFault}
 use Rattle.gob_tool.specs.declared.fault.ToolFault.TheVariants as fault
 use Rattle.gob_tool.specs.Line.{line, lines}
@@ -30,8 +30,7 @@ pub record Gathered (old new : Option (List ℕ)) (gathered : List ℕ) (all : L
 
 -- the reader of trees has given the items, of these bytes
 abbrev pub GaveItems : SessionState TreeBuilder Value → List StreamItem → List ℕ → Type 0
-GaveItems s items bytes = StandsAfter tree_builder.stands-value.it tree_builder.stands-value.it greatest_depth s items
-    bytes
+GaveItems s items bytes = HasRead tree_building s items bytes
 
 -- the reader has taken these bytes, and the lines of the items that it gave went out or are gathered
 pub record StandsBehind (s : SessionState TreeBuilder Value) (bytes : List ℕ) (old new : Option (List ℕ)) (gathered : List ℕ)

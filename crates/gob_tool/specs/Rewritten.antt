@@ -12,7 +12,6 @@ use Rattle.gob_value.specs.Fits.{Fits}
 use Rattle.gob_value.specs.Tidy.{Tidies}
 use Rattle.gob_value.specs.Top.{SpellsTop}
 use Rattle.gob_value.specs.Tree.{Tree}
-use Rattle.gob_read.specs.contracts.tree_builder.TreeBuilderBuilder.TheImpl as tree_builder
 use Rattle.gob_stream.specs.declared.fault.WriteFault.{WriteFault}
 use Rattle.gob_stream.specs.declared.fault.Fault.{Fault}
 use Rattle.gob_stream.specs.declared.fault.Fault.TheVariants as reading
@@ -21,10 +20,10 @@ use Rattle.gob_stream.specs.SessionState.{SessionState}
 use Rattle.gob_stream.specs.declared.writer.StreamWriter.{StreamWriter}
 use Rattle.gob_stream.specs.Bounds.{Bounds, AreLimits, deepest, no_deeper, within_trees}
 use Rattle.gob_stream.specs.Item.{StreamItem, defines, puts, ItemMeans}
-use Rattle.gob_stream.specs.Standing.{StandsAfter}
+use Rattle.gob_stream.specs.Session.{HasRead}
 use Rattle.gob_stream.specs.Stream.{Counted, Continues, Stream}
 use Rattle.gob_stream.specs.Writing.{HasWritten, WritesNext}
-use Rattle.gob_tape.specs.contracts.tape_builder.TapeBuilderBuilder.TheImpl as tape_builder
+use Rattle.gob_tape.specs.Builder.{tape_building}
 use Rattle.gob_tape.specs.declared.tape.Tape.{Tape}
 use Rattle.gob_tape.specs.declared.tape_builder.TapeBuilder.{TapeBuilder}
 use Rattle.gob_tape.specs.Meaning.{Means}
@@ -37,7 +36,7 @@ use Rattle.gob_tool.specs.Showing.{AppendsFront}
 
 -- the reader of tapes has given the items, of these bytes
 abbrev pub GaveTapes : SessionState TapeBuilder Tape → List StreamItem → List ℕ → Type 0
-GaveTapes s items bytes = StandsAfter tape_builder.stands-value.it tree_builder.stands-value.it deepest s items bytes
+GaveTapes s items bytes = HasRead tape_building s items bytes
 
 -- a tape was made of a value
 abbrev pub IsTape : Tape → Tree → Type 0
