@@ -9,9 +9,11 @@ use Rattle.gob_types.specs.Table.{Table}
 use Rattle.gob_value.specs.Tree.{Tree}
 use Rattle.gob_read.specs.declared.tree_builder.TreeBuilder.{TreeBuilder}
 use Rattle.gob_stream.specs.declared.fault.Fault.{Fault}
+use Rattle.gob_stream.specs.declared.fault.Fault.TheVariants as fault
 use Rattle.gob_stream.specs.declared.item.Item as declared
 use Rattle.gob_stream.specs.declared.stage.Stage.{Stage}
 use Rattle.gob_stream.specs.declared.stage.Stage.TheVariants as stage
+use Rattle.gob_stream.specs.Stages.{count_at}
 use Rattle.gob_stream.specs.declared.stage.Stepped.{Stepped}
 use Rattle.gob_stream.specs.SessionState.{SessionState}
 use Rattle.gob_stream.specs.Bounds.{Bounds, no_deeper}
@@ -20,10 +22,11 @@ use Rattle.gob_stream.specs.Body.{Body, definition, value}
 use Rattle.gob_stream.specs.Stream.{Counted, counted, Continues, no_more, and_then, Stream}
 use Rattle.gob_stream.specs.Standing.{Standing, StandsIn, in_count, in_type_number, in_value, in_description, StandsAfter, IsUsable, has_failed, stands_after}
 use Rattle.gob_stream.specs.Whole.{IsBetween}
-use Rattle.gob_stream.specs.ReadParts.{IsWithinItem, StepsOn, goes_on, gives, refuses_it, no_memory, AdvancesOver, over_some, over_item, Advances}
+use Rattle.gob_stream.specs.ReadParts.{IsWithinItem, StepsOn, goes_on, gives, refuses_it, no_memory, TakesOn, StageAnswers, takes, fails, bytes_wanted, AdvancesOver, over_some, over_item, Advances}
 use Rattle.gob_stream.proofs.StreamLaws.{one_more}
 use Rattle.gob_stream.proofs.ValueSteps.{lies}
 use Rattle.gob_stream.proofs.UnderWayLaws.{after_refused}
+use Rattle.gob_stream.proofs.StageSteps.{parts}
 
 -- ---- what a stream leaves behind it
 record Grown (T U : Table) : Type 0 where
@@ -72,27 +75,22 @@ in_bound (in_description {c = c} {a = a} {z = z} k n s r p b) l =
     let lie = lies k r in let n = lie.size_is in let w = lie.within in let room = b.stood.room in let s = k.stream in
     omega (arith, length-append c (a ++ z), length-append a z)
 
-pub step_bound : {X O : Type 0} {stands : Standing X} {trees : Standing TreeBuilder} {means : O → Tree → Type 0} {L : Bounds} {T U : Table} {offset taken : ℕ} {stepped : Stepped X O} (z piece : List ℕ) → offset ≤ L.stream → taken ≡ offset + length z
-    → StepsOn stands trees means L T offset z piece U (Ok stepped) → taken + stepped.used ≤ L.stream + 9
+pub step_bound : {X O : Type 0} {stands : Standing X} {trees : Standing TreeBuilder} {means : O → Tree → Type 0} {L : Bounds} {d d' : Defined} {offset taken : ℕ} {stepped : Stepped X O} (z piece : List ℕ) → offset ≤ L.stream → taken ≡ offset + length z
+    → StepsOn stands trees means L d offset z piece d' (Ok stepped) → taken + stepped.used ≤ L.stream + 9
 step_bound z piece l t (goes_on {used = used} e k s) = let n = in_bound s l in omega (arith, length-append z (take used piece), length-take used piece)
-step_bound z piece l t (gives {used = used} k q w m) = let n = item_ends q in omega (arith, length-append z (take used piece), length-take used piece)
+step_bound z piece l t (gives {used = used} e k q w m) = let n = item_ends q in omega (arith, length-append z (take used piece), length-take used piece)
   where
     item_ends : {L : Bounds} {T U : Table} {offset : ℕ} {i : StreamItem} {b : List ℕ} → Counted base_table L T offset i b U → offset + length b ≤ L.stream
     item_ends (counted u k s p) = s
 
-pub step_few : {X O : Type 0} {stands : Standing X} {trees : Standing TreeBuilder} {means : O → Tree → Type 0} {L : Bounds} {T U : Table} {offset : ℕ} {z piece : List ℕ} {stepped : Stepped X O}
-    → StepsOn stands trees means L T offset z piece U (Ok stepped) → stepped.used ≤ length piece
-step_few (goes_on e k s) = k
-step_few (gives k q w n) = k
-
 -- behind an item no byte of the next one was taken
-pub step_between : {X O : Type 0} {stands : Standing X} {trees : Standing TreeBuilder} {means : O → Tree → Type 0} {L : Bounds} {T U : Table} {offset taken : ℕ} {stepped : Stepped X O} (K : Bounds) (d : Defined) (z piece : List ℕ) → taken ≡ offset + length z
-    → StepsOn stands trees means L T offset z piece U (Ok stepped)
-    → IfSome stepped.item (λ _. IsBetween {X = X} {O = O} (record { limits = K; types = d; taken = taken + stepped.used; stage = stepped.stage }))
-step_between K d z piece t (goes_on e k s) = tt
-step_between {taken = taken} K d z piece t (gives {used = used} {next = next} k q w n) =
+pub step_between : {X O : Type 0} {stands : Standing X} {trees : Standing TreeBuilder} {means : O → Tree → Type 0} {L : Bounds} {d d' : Defined} {offset taken : ℕ} {stepped : Stepped X O} (K : Bounds) (now : Defined) (z piece : List ℕ) → taken ≡ offset + length z
+    → StepsOn stands trees means L d offset z piece d' (Ok stepped)
+    → IfSome stepped.item (λ _. IsBetween {X = X} {O = O} (record { limits = K; types = now; taken = taken + stepped.used; stage = stepped.stage }))
+step_between K now z piece t (goes_on e k s) = tt
+step_between {taken = taken} K now z piece t (gives {used = used} {next = next} e k q w n) =
     let here : next ≡ taken + used = omega (arith, length-append z (take used piece), length-take used piece) in
-    record { number = []; stage = ap (λ n. stage.Count n []) here }
+    record { number = []; stage = ap (λ n. count_at n []) here }
 
 -- ---- the reader moves on
 no_bytes : IsUnsignedFront []
@@ -103,30 +101,30 @@ abbrev pub moved : {X O : Type 0} → SessionState X O → Defined → Stepped X
 moved s d stepped = record { limits = s.limits; types = d; taken = s.taken + stepped.used; stage = stepped.stage }
 
 pub advanced : {X O : Type 0} {stands : Standing X} {trees : Standing TreeBuilder} {means : O → Tree → Type 0} {most : ℕ} {s : SessionState X O} {d : Defined} {items : List StreamItem} {bytes piece : List ℕ} {stepped : Stepped X O} (a : StandsAfter stands trees most s items bytes)
-    → StepsOn stands trees means (no_deeper most s.limits) (types s.types) (length a.front) a.under_way piece (types d) (Ok stepped) → d.most ≡ s.types.most → 0 < stepped.used
+    → StepsOn stands trees means (no_deeper most s.limits) s.types (length a.front) a.under_way piece d (Ok stepped) → 0 < stepped.used
     → AdvancesOver stands trees means most (moved s d stepped) items bytes piece stepped.used stepped.item
-advanced {stands = stands} {trees = trees} {most = most} {s = s} {d = d} {items = items} {bytes = bytes} {piece = piece} a (goes_on {awaits = awaits} {used = used} e k st) m some =
-    let t = a.taken in
+advanced {stands = stands} {trees = trees} {most = most} {s = s} {d = d} {items = items} {bytes = bytes} {piece = piece} a (goes_on {awaits = awaits} {used = used} e k st) some =
+    let t = a.taken in let same = ap types e in
     over_some some k (record {
       front = a.front;
       under_way = a.under_way ++ take used piece;
       whole = ap (λ l. l ++ take used piece) a.whole ∙ append_assoc a.front a.under_way (take used piece);
-      stream = subst (λ (T : Table). Stream base_table (no_deeper most s.limits) items a.front T) (sym e) a.stream;
-      stage = subst (λ (T : Table). StandsIn stands trees (no_deeper most s.limits) T (length a.front) awaits (a.under_way ++ take used piece)) (sym e) st;
+      stream = subst (λ (T : Table). Stream base_table (no_deeper most s.limits) items a.front T) (sym same) a.stream;
+      stage = subst (λ (T : Table). StandsIn stands trees (no_deeper most s.limits) T (length a.front) awaits (a.under_way ++ take used piece)) (sym same) st;
       taken = omega (arith, length-append bytes (take used piece), length-take used piece);
-      room = m ∙ a.room;
+      room = ap (λ d. d.most) e ∙ a.room;
     })
-advanced {X = X} {O = O} {stands = stands} {trees = trees} {most = most} {s = s} {d = d} {bytes = bytes} {piece = piece} a (gives {used = used} {next = next} k q w n) m some =
+advanced {X = X} {O = O} {stands = stands} {trees = trees} {most = most} {s = s} {d = d} {bytes = bytes} {piece = piece} a (gives {used = used} {next = next} m k q w n) some =
     let t = a.taken in
     let all = a.front ++ (a.under_way ++ take used piece) in
     let here : next ≡ length (a.front ++ (a.under_way ++ take used piece)) = omega (arith, length-append a.front (a.under_way ++ take used piece)) in
-    let behind : StandsIn {X = X} {O = O} stands trees (no_deeper most s.limits) (types d) (length all) (stage.Count (length all) []) [] = in_count no_bytes in
+    let behind : StandsIn {X = X} {O = O} stands trees (no_deeper most s.limits) (types d) (length all) (count_at (length all) []) [] = in_count no_bytes in
     over_item some k w (record {
       front = all;
       under_way = [];
       whole = ap (λ l. l ++ take used piece) a.whole ∙ append_assoc a.front a.under_way (take used piece) ∙ sym (append-nil all);
       stream = one_more a.stream (omega arith) q;
-      stage = subst (λ n. StandsIn {X = X} {O = O} stands trees (no_deeper most s.limits) (types d) (length all) (stage.Count n []) []) (sym here) behind;
+      stage = subst (λ n. StandsIn {X = X} {O = O} stands trees (no_deeper most s.limits) (types d) (length all) (count_at n []) []) (sym here) behind;
       taken = omega (arith, length-append bytes (take used piece), length-take used piece);
       room = m ∙ a.room;
     })
@@ -141,10 +139,10 @@ usable_on {stands = stands} {trees = trees} {means = means} {most = most} {s' = 
     over (over_item p l w b) = stands_after b
 
 -- or stops
-pub stopped_by : {X O : Type 0} {stands : Standing X} {trees : Standing TreeBuilder} {means : O → Tree → Type 0} {most : ℕ} {s : SessionState X O} {items : List StreamItem} {bytes piece : List ℕ} {U : Table} {f : Fault} (s' : SessionState X O) (a : StandsAfter stands trees most s items bytes)
-    → StepsOn {X = X} {O = O} stands trees means (no_deeper most s.limits) (types s.types) (length a.front) a.under_way piece U (Err f) → Advances stands trees means most s s' items bytes piece (Err f)
-stopped_by {piece = piece} s' a (refuses_it q n) = let r = after_refused piece a q in (record { outcome = r.0; shown = n }, r.1)
-stopped_by s' a no_memory = tt
+pub stopped_by : {X O : Type 0} {stands : Standing X} {trees : Standing TreeBuilder} {means : O → Tree → Type 0} {most : ℕ} {s : SessionState X O} {items : List StreamItem} {bytes piece : List ℕ} {d : Defined} {f : Fault} (s' : SessionState X O) (a : StandsAfter stands trees most s items bytes)
+    → StepsOn {X = X} {O = O} stands trees means (no_deeper most s.limits) s.types (length a.front) a.under_way piece d (Err f) → Advances stands trees means most s s' items bytes piece (Err f)
+stopped_by {piece = piece} s' a (refuses_it e q n) = let r = after_refused piece a q in (record { outcome = r.0; shown = n }, r.1)
+stopped_by s' a (no_memory e) = tt
 
 -- what has neither grown nor moved is as it was
 pub stays_there : {X O : Type 0} {s t : SessionState X O} {d : Defined} {awaits : Stage X O} → d ≡ s.types → awaits ≡ s.stage → s ≡ t
@@ -154,14 +152,37 @@ stays_there {X = X} {O = O} {s = s} {awaits = awaits} e f there =
     let with_stage : Stage X O → SessionState X O = λ st. record { limits = s.limits; types = s.types; taken = s.taken; stage = st } in
     ap with_types e ∙ ap with_stage f ∙ there
 
-pub not_err : {A E : Type 0} {r : Result A E} {a : A} {e : E} → r ≡ Ok a → r ≡ Err e → ⊥
-not_err p q = let e : Ok _ ≡ Err _ = sym p ∙ q in cc
-
-pub same_fault : {A E : Type 0} {r : Result A E} {e f : E} → r ≡ Err e → r ≡ Err f → e ≡ f
-same_fault p q = let e : Err _ ≡ Err _ = sym p ∙ q in cc
-
 pub stands_there : {X O : Type 0} {stands : Standing X} {trees : Standing TreeBuilder} {L : Bounds} {T : Table} {offset : ℕ} {old now : Stage X O} {z : List ℕ} → now ≡ old → StandsIn stands trees L T offset old z → StandsIn stands trees L T offset now z
 stands_there {stands = stands} {trees = trees} {L = L} {T = T} {offset = offset} {z = z} e s = subst (λ st. StandsIn stands trees L T offset st z) (sym e) s
 
 pub within_there : {X O : Type 0} {stands : Standing X} {trees : Standing TreeBuilder} {L : Bounds} {d : Defined} {taken : ℕ} {old now : Stage X O} → now ≡ old → IsWithinItem stands trees L d taken old → IsWithinItem stands trees L d taken now
 within_there {stands = stands} {trees = trees} {L = L} {d = d} {taken = taken} e s = subst (λ st. IsWithinItem stands trees L d taken st) (sym e) s
+
+-- ---- what a step answers, by what was awaited
+module _ {X O : Type 0} {stands : Standing X} {trees : Standing TreeBuilder} {means : O → Tree → Type 0} where
+  -- behind some bytes of an item
+  pub takes_on : {L : Bounds} {d d' : Defined} {taken offset : ℕ} {old now : Stage X O} {z piece : List ℕ} {result : Result (Stepped X O) Fault} → now ≡ old → StageAnswers stands trees means L d taken now piece d' result → StandsIn stands trees L (types d) offset old z
+      → TakesOn stands trees means L d offset z piece (bytes_wanted now taken) d' result
+  takes_on e (takes n r) s = r _ _ (stands_there e s)
+  takes_on e (fails f r k) s = absurd (parts f (stands_there e s))
+
+  -- behind a fault
+  pub failed_answers : {L : Bounds} {d d' : Defined} {taken : ℕ} {awaits : Stage X O} {piece : List ℕ} {f : Fault} → awaits ≡ stage.Failed → StageAnswers stands trees means L d taken awaits piece d' (Err f)
+      → (f ≡ fault.Failed) × (d' ≡ d)
+  failed_answers e (takes n r) = absurd (n e)
+  failed_answers e (fails q r k) = ((cc), k)
+
+  -- a step that takes something isn't behind one
+  pub takes_sound : {L : Bounds} {d d' : Defined} {taken : ℕ} {awaits : Stage X O} {piece : List ℕ} {stepped : Stepped X O} → StageAnswers stands trees means L d taken awaits piece d' (Ok stepped) → awaits ≢ stage.Failed
+  takes_sound (takes n r) e = n e
+  takes_sound (fails f r k) e = cc
+
+  -- one that stops leaves the types as they were
+  stops_alike : {L : Bounds} {d d' : Defined} {offset : ℕ} {z piece : List ℕ} {f : Fault} → StepsOn {X = X} {O = O} stands trees means L d offset z piece d' (Err f) → d' ≡ d
+  stops_alike (refuses_it e q n) = e
+  stops_alike (no_memory e) = e
+
+  pub stops_with_types : {most : ℕ} {s : SessionState X O} {d' : Defined} {now : Stage X O} {piece : List ℕ} {f : Fault} → IsUsable stands trees most s → now ≡ s.stage
+      → StageAnswers stands trees means (no_deeper most s.limits) s.types s.taken now piece d' (Err f) → d' ≡ s.types
+  stops_with_types (has_failed f) e r = (failed_answers (e ∙ f) r).1
+  stops_with_types (stands_after a) e r = stops_alike (takes_on e r a.stage).steps

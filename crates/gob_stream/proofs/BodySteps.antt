@@ -17,9 +17,9 @@ use Rattle.gob_read.specs.declared.reader.Progress.{Progress}
 use Rattle.gob_read.specs.declared.reader.Progress.TheVariants as progress
 use Rattle.gob_stream.specs.declared.item.Item.TheVariants as item
 use Rattle.gob_stream.specs.declared.stage.Stage.{Stage}
-use Rattle.gob_stream.specs.declared.stage.Stage.TheVariants as stage
 use Rattle.gob_stream.specs.declared.fault.Fault.{Fault}
 use Rattle.gob_stream.specs.declared.stage.Extent.{Extent}
+use Rattle.gob_stream.specs.Stages.{count_at, value_in}
 use Rattle.gob_stream.specs.Standing.{Standing, size}
 use Rattle.gob_stream.specs.ReadParts.{IsBodyUnderWay, StopsWithin, fault_behind, ReadsValueIn, value_goes_on, value_ends, value_refused, no_memory_for_value}
 
@@ -66,13 +66,13 @@ value_stopped {T = T} {t = t} {limit = limit} {rest = rest} {X = X} {O = O} {sta
 value_stopped {T = T} {t = t} {limit = limit} {rest = rest} {stands = stands} run z piece stop.Failed e r s = absurd (not_ended T t limit (size rest) stands run z s r)
 
 pub value_more : {T : Table} {t : TypeId} {limit : ℕ} {rest : Extent} {X O : Type 0} {stands : Standing X} {means : O → Tree → Type 0} {p : Progress O} (reader : BodyReader X O) (z piece : List ℕ) → p ≡ progress.More
-    → ReaderGives T t limit (size rest) stands means reader.run z piece p → ReadsValueIn stands means T t limit rest z piece (Ok (record { used = length piece; stage = stage.Value t rest reader; item = None }))
+    → ReaderGives T t limit (size rest) stands means reader.run z piece p → ReadsValueIn stands means T t limit rest z piece (Ok (record { used = length piece; stage = value_in t rest reader; item = None }))
 value_more {T = T} {t = t} {limit = limit} {rest = rest} {stands = stands} {means = means} reader z piece e h =
     let g = subst (λ p. ReaderGives T t limit (size rest) stands means reader.run z piece p) e h in
     value_goes_on (record { after = g.after; stood = g.stood })
 
 pub value_done : {T : Table} {t : TypeId} {limit : ℕ} {rest : Extent} {X O : Type 0} {stands : Standing X} {means : O → Tree → Type 0} {p : Progress O} {out : O} {used : ℕ} {st : Stage X O} (run : Option (Run X O)) (z piece : List ℕ) → p ≡ progress.Done out used
-    → ReaderGives T t limit (size rest) stands means run z piece p → st ≡ stage.Count rest.end [] → ReadsValueIn stands means T t limit rest z piece (Ok (record { used = used; stage = st; item = Some (item.Put t out) }))
+    → ReaderGives T t limit (size rest) stands means run z piece p → st ≡ count_at rest.end [] → ReadsValueIn stands means T t limit rest z piece (Ok (record { used = used; stage = st; item = Some (item.Put t out) }))
 value_done {T = T} {t = t} {limit = limit} {rest = rest} {stands = stands} {means = means} {out = out} {used = used} run z piece e h f =
     let g = subst (λ p. ReaderGives T t limit (size rest) stands means run z piece p) e h in
     subst (λ st. ReadsValueIn stands means T t limit rest z piece (Ok (record { used = used; stage = st; item = Some (item.Put t out) }))) (sym f) (value_ends g.within g.made)

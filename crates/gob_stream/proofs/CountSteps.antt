@@ -4,8 +4,8 @@ use Rattle.std.proofs.lemmas.List.{take-append-drop, length-take}
 use Rattle.gob_num.specs.Unsigned.{IsUnsigned, IsUnsignedFront, IsBadHead, IsNotMinimal}
 use Rattle.gob_types.specs.declared.reason.Reason.TheVariants as reason
 use Rattle.gob_stream.specs.declared.fault.Refusal.{Refusal}
-use Rattle.gob_stream.specs.declared.stage.Stage.TheVariants as stage
 use Rattle.gob_stream.specs.declared.stage.Extent.{Extent}
+use Rattle.gob_stream.specs.Stages.{count_at, type_number_in}
 use Rattle.gob_stream.specs.Bounds.{Bounds}
 use Rattle.gob_stream.specs.Refusing.{refuses, RefusesCount, item_too_long, stream_too_long}
 use Rattle.gob_stream.specs.Refusing as refusing
@@ -41,16 +41,16 @@ count_at_end {used = used} number piece l t u j =
 
 pub count_whole : {L : Bounds} {begin taken m used : ℕ} {now : List ℕ} {body : Extent} (number piece : List ℕ) → used ≤ length piece → taken ≡ begin + length number → IsUnsigned m (number ++ take used piece) → now ≡ []
     → (0 < m) × (m ≤ L.item) × (taken + used + m ≤ L.stream) × (body.begin ≡ taken + used) × (body.end ≡ taken + used + m)
-    → {X O : Type 0} → CountGoesOn {X = X} {O = O} L begin number piece (record { used = used; stage = stage.TypeNumber body now; item = None })
+    → {X O : Type 0} → CountGoesOn {X = X} {O = O} L begin number piece (record { used = used; stage = type_number_in body now; item = None })
 count_whole {L = L} {begin = begin} {m = m} {used = used} {body = body} number piece l t u e j {X = X} {O = O} =
     let n = cut_length number piece used l in
-    subst (λ now. CountGoesOn {X = X} {O = O} L begin number piece (record { used = used; stage = stage.TypeNumber body now; item = None })) (sym e)
+    subst (λ now. CountGoesOn {X = X} {O = O} L begin number piece (record { used = used; stage = type_number_in body now; item = None })) (sym e)
     (whole_count l (record { count = u; item = j.1; stream = omega arith; begin = omega arith; end = omega arith }) j.0)
 
 pub count_more : {L : Bounds} {begin : ℕ} {now : List ℕ} (number piece : List ℕ) → IsUnsignedFront (number ++ piece) → now ≡ number ++ piece
-    → {X O : Type 0} → CountGoesOn {X = X} {O = O} L begin number piece (record { used = length piece; stage = stage.Count begin now; item = None })
+    → {X O : Type 0} → CountGoesOn {X = X} {O = O} L begin number piece (record { used = length piece; stage = count_at begin now; item = None })
 count_more {L = L} {begin = begin} number piece h e {X = X} {O = O} =
-    subst (λ now. CountGoesOn {X = X} {O = O} L begin number piece (record { used = length piece; stage = stage.Count begin now; item = None })) (sym e) (more_of_count h)
+    subst (λ now. CountGoesOn {X = X} {O = O} L begin number piece (record { used = length piece; stage = count_at begin now; item = None })) (sym e) (more_of_count h)
 
 pub count_bad : {L : Bounds} {begin : ℕ} {z : List ℕ} {R : Refusal} → IsBadHead z → R ≡ refuses begin (begin + 1) reason.BadHead → IsCountRefused L begin z R
 count_bad {L = L} {begin = begin} {z = z} h e = subst (λ R. IsCountRefused L begin z R) (sym e) (count_refused (refusing.RefusesCount.bad_head h))

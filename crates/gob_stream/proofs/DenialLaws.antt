@@ -1,5 +1,5 @@
 -- What denies is what the grammar refuses.
-use Rattle.std.proofs.Common.{◌≡◌, ◌≢◌, ◌≤◌, Option, Some, None, length, refl, sym, ap, ◌∙◌, arith, length-append}
+use Rattle.std.proofs.Common.{◌≡◌, ◌≢◌, ◌≤◌, Option, Some, None, Result, Ok, Err, length, refl, sym, ap, ◌∙◌, arith, length-append}
 use Rattle.std.proofs.lemmas.Option.{none-some}
 use Rattle.gob_types.specs.declared.id.TypeId.{TypeId}
 use Rattle.gob_types.specs.declared.kind.Shape.{Shape}
@@ -20,12 +20,13 @@ use Rattle.gob_value.specs.declared.fault.SpellFault.{SpellFault}
 use Rattle.gob_value.specs.declared.fault.SpellFault.TheVariants as spelling
 use Rattle.gob_value.specs.Faults.{IsSpellFault}
 use Rattle.gob_value.specs.ShapeFaults.{IsShapeFault}
-use Rattle.gob_value.specs.Description.{Misdescribes}
+use Rattle.gob_value.specs.Description.{Describes, Misdescribes}
 use Rattle.gob_stream.specs.declared.denial.Denial.{Denial}
 use Rattle.gob_stream.specs.declared.denial.Denial.TheVariants as denial
 use Rattle.gob_stream.specs.Bounds.{Bounds}
 use Rattle.gob_stream.specs.Body.{MayDefine}
-use Rattle.gob_stream.specs.Denial.{IsDenial, type_denial, description_denial, value_denial}
+use Rattle.gob_stream.specs.ReadParts.{DefineAnswers}
+use Rattle.gob_stream.specs.Denial.{IsDenial, AddAnswers, type_denial, description_denial, value_denial}
 use Rattle.gob_stream.specs.WriterRefusal.{RefusesId, defined_twice, too_many, RefusesType, undefined, bottomless, RefusesValue, too_deep, does_not_fit}
 
 -- what refuses one refuses the other
@@ -71,3 +72,8 @@ pub value_denied : (L : Bounds) (T : Table) (t : TypeId) (v : Tree) (f : SpellFa
 value_denied L T t v spelling.TooDeep fault = too_deep fault
 value_denied L T t v spelling.DoesNotFit fault = does_not_fit fault.0 fault.1
 value_denied L T t v spelling.Memory fault = tt
+
+-- ---- a type that is described is added to the table
+pub defines_as : (id : TypeId) (v : Tree) (s : Shape) (d d' : Defined) (r : Result (Unit {0}) Denial) → Describes id v s → AddAnswers id s d d' r → DefineAnswers id v d d' r
+defines_as id v s d d' (Ok done) describes a = record { shape = s; describes = describes; behind = a.0; most = a.1 }
+defines_as id v s d d' (Err why) describes a = (rw a.0 tt, a.1)

@@ -21,13 +21,14 @@ use Rattle.gob_read.specs.declared.reader.Progress.TheVariants as progress
 use Rattle.gob_read.specs.declared.tree_builder.TreeBuilder.{TreeBuilder}
 use Rattle.gob_stream.specs.declared.item.Item.TheVariants as item
 use Rattle.gob_stream.specs.declared.stage.Stage.{Stage}
-use Rattle.gob_stream.specs.declared.stage.Stage.TheVariants as stage
+use Rattle.gob_stream.specs.Stages.{count_at, description_in}
 use Rattle.gob_stream.specs.Standing.{Standing, size}
 use Rattle.gob_stream.specs.ReadParts.{HasWireType, IsView, IsDescribed, fault_behind, ReadsDescription, description_goes_on, description_ends, description_refused, describes_nothing, no_memory_for_description}
 use Rattle.gob_stream.proofs.WireLaws.{wire_ready}
 use Rattle.gob_stream.proofs.BodySteps.{not_ended}
 use Rattle.gob_types.specs.declared.id.TypeId.{TypeId}
 use Rattle.gob_types.specs.Table.{Table}
+use Rattle.gob_types.specs.Defined.{Defined, types}
 use Rattle.gob_value.specs.Tree.{Tree}
 use Rattle.gob_value.specs.Description.{Misdescribes}
 use Rattle.gob_stream.specs.declared.fault.Fault.{Fault}
@@ -59,27 +60,25 @@ pub made_of : {T : Table} {limit : ℕ} {rest : Extent} {p : Progress Value} {de
 made_of {T = T} {limit = limit} {rest = rest} trees run z piece e h =
     let g = subst (λ p. ReaderGives T wire_type limit (size rest) trees IsView run z piece p) e h in record { within = g.within; made = g.made }
 
-pub description_more : {T : Table} {id : TypeId} {limit : ℕ} {rest : Extent} {X O : Type 0} {trees : Standing TreeBuilder} {p : Progress Value} (reader : BodyReader TreeBuilder Value) (z piece : List ℕ) → p ≡ progress.More
-    → ReaderGives T wire_type limit (size rest) trees IsView reader.run z piece p
-    → ReadsDescription {X = X} {O = O} trees T id limit rest z piece T (Ok (record { used = length piece; stage = stage.Description id rest reader; item = None }))
-description_more {T = T} {limit = limit} {rest = rest} {trees = trees} reader z piece e h =
-    let g = subst (λ p. ReaderGives T wire_type limit (size rest) trees IsView reader.run z piece p) e h in
+pub description_more : {d : Defined} {id : TypeId} {limit : ℕ} {rest : Extent} {X O : Type 0} {trees : Standing TreeBuilder} {p : Progress Value} (reader : BodyReader TreeBuilder Value) (z piece : List ℕ) → p ≡ progress.More
+    → ReaderGives (types d) wire_type limit (size rest) trees IsView reader.run z piece p
+    → ReadsDescription {X = X} {O = O} trees d id limit rest z piece d (Ok (record { used = length piece; stage = description_in id rest reader; item = None }))
+description_more {d = d} {limit = limit} {rest = rest} {trees = trees} reader z piece e h =
+    let g = subst (λ p. ReaderGives (types d) wire_type limit (size rest) trees IsView reader.run z piece p) e h in
     description_goes_on refl (record { after = g.after; stood = g.stood })
 
-pub description_done : {T U : Table} {id : TypeId} {limit : ℕ} {rest : Extent} {X O : Type 0} {trees : Standing TreeBuilder} {described : Value} {used : ℕ} {st : Stage X O} {z piece : List ℕ} → IsDescribed T limit rest z piece described used
-    → Defines id (view described) T U → st ≡ stage.Count rest.end []
-    → ReadsDescription {X = X} {O = O} trees T id limit rest z piece U (Ok (record { used = used; stage = st; item = Some (item.Define id described) }))
-description_done d given e = rw e (description_ends d given.describes given.behind)
+pub description_done : {d d' : Defined} {id : TypeId} {limit : ℕ} {rest : Extent} {X O : Type 0} {trees : Standing TreeBuilder} {described : Value} {used : ℕ} {st : Stage X O} {z piece : List ℕ} → IsDescribed (types d) limit rest z piece described used
+    → Defines id (view described) d d' → st ≡ count_at rest.end []
+    → ReadsDescription {X = X} {O = O} trees d id limit rest z piece d' (Ok (record { used = used; stage = st; item = Some (item.Define id described) }))
+description_done there given e = rw e (description_ends there given)
 
-pub description_wrong : {T U : Table} {id : TypeId} {limit : ℕ} {rest : Extent} {X O : Type 0} {trees : Standing TreeBuilder} {described : Value} {used : ℕ} {z piece : List ℕ} (d : Denial) → IsDescribed T limit rest z piece described used
-    → IsDenial (Misdescribes id (view described)) d → U ≡ T → ReadsDescription {X = X} {O = O} trees T id limit rest z piece U (Err (fault_at rest.begin rest.end d))
-description_wrong (denial.Refused r) there wrong e = describes_nothing e there wrong
-description_wrong denial.Memory there wrong e = no_memory_for_description
+pub description_wrong : {d d' : Defined} {id : TypeId} {limit : ℕ} {rest : Extent} {X O : Type 0} {trees : Standing TreeBuilder} {described : Value} {used : ℕ} {z piece : List ℕ} (why : Denial) → IsDescribed (types d) limit rest z piece described used
+    → IsDenial (Misdescribes id (view described)) why × (d' ≡ d) → ReadsDescription {X = X} {O = O} trees d id limit rest z piece d' (Err (fault_at rest.begin rest.end why))
+description_wrong (denial.Refused r) there wrong = describes_nothing wrong.1 there wrong.0
+description_wrong denial.Memory there wrong = no_memory_for_description wrong.1
 
-pub description_stopped : {T : Table} {id : TypeId} {limit : ℕ} {rest : Extent} {X O : Type 0} {trees : Standing TreeBuilder} (run : Option (Run TreeBuilder Value)) (z piece : List ℕ) (s : Stop) {f : Fault} → f ≡ fault_behind rest.begin s
-    → Stops run (λ refusal. ReaderRefusesBody T trees run piece refusal) s → ReaderStands T wire_type limit (size rest) trees run z → ReadsDescription {X = X} {O = O} trees T id limit rest z piece T (Err f)
-description_stopped {T = T} {id = id} {limit = limit} {rest = rest} {X = X} {O = O} {trees = trees} run z piece (stop.Refused place seen reason) e r s =
-    subst (λ f. ReadsDescription {X = X} {O = O} trees T id limit rest z piece T (Err f)) (sym e) (description_refused refl (r.each wire_type limit (size rest) z s))
-description_stopped {T = T} {id = id} {limit = limit} {rest = rest} {X = X} {O = O} {trees = trees} run z piece stop.Memory e r s =
-    subst (λ f. ReadsDescription {X = X} {O = O} trees T id limit rest z piece T (Err f)) (sym e) no_memory_for_description
-description_stopped {T = T} {limit = limit} {rest = rest} {trees = trees} run z piece stop.Failed e r s = absurd (not_ended T wire_type limit (size rest) trees run z s r)
+pub description_stopped : {d : Defined} {id : TypeId} {limit : ℕ} {rest : Extent} {X O : Type 0} {trees : Standing TreeBuilder} (run : Option (Run TreeBuilder Value)) (z piece : List ℕ) (s : Stop) {f : Fault} → f ≡ fault_behind rest.begin s
+    → Stops run (λ refusal. ReaderRefusesBody (types d) trees run piece refusal) s → ReaderStands (types d) wire_type limit (size rest) trees run z → ReadsDescription {X = X} {O = O} trees d id limit rest z piece d (Err f)
+description_stopped {limit = limit} {rest = rest} run z piece (stop.Refused place seen reason) e r s = rw e (description_refused refl (r.each wire_type limit (size rest) z s))
+description_stopped run z piece stop.Memory e r s = rw e (no_memory_for_description refl)
+description_stopped {d = d} {limit = limit} {rest = rest} {trees = trees} run z piece stop.Failed e r s = absurd (not_ended (types d) wire_type limit (size rest) trees run z s r)

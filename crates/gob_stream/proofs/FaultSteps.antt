@@ -1,16 +1,11 @@
 -- How faults and bytes pass from a call to its caller.
-use Rattle.std.proofs.Common.{◌≡◌, ℕ, List, ◌++◌, Result, Ok, Err, IfErr, OnOk, OnErr, IsErrAnd, sym, ap, subst, ◌∙◌, append_assoc}
+use Rattle.std.proofs.Common.{◌≡◌, ℕ, List, ◌++◌, Result, Ok, Err, IfErr, OnOk, IsErrAnd, sym, ap, subst, ◌∙◌, append_assoc}
 use Rattle.gob_num.specs.Spelled.{Appends}
 
 -- the fault that a `?` returns is the callee's
 pub passed : {A E : Type 0} (r : Result A E) {e : E} (P : E → Type 0) → IsErrAnd r (λ y. y ≡ e) → P e → IfErr r P
 passed (Ok a) P is p = absurd is
 passed (Err y) P is p = subst P (sym is) p
-
--- what holds anyway holds after an error
-pub on_any_err : {A E : Type 0} (r : Result A E) {X : Type 0} → X → OnErr r X
-on_any_err (Ok a) x = tt
-on_any_err (Err e) x = x
 
 -- bytes behind bytes that were appended
 pub appends_more : {A E : Type 0} (P : List ℕ → Type 0) {Q : List ℕ → Type 0} (r : Result A E) (x : List ℕ) {y : List ℕ} (z a : List ℕ) → y ≡ x ++ a → OnOk r (Appends Q y z)

@@ -5,7 +5,10 @@ use Rattle.gob_types.specs.Base.{base_table}
 use Rattle.gob_read.specs.declared.tree_builder.TreeBuilder.{TreeBuilder}
 use Rattle.gob_stream.specs.declared.fault.Refusal.{Refusal}
 use Rattle.gob_stream.specs.SessionState.{SessionState}
+use Rattle.gob_stream.specs.declared.count.CountStage.{CountStage}
+use Rattle.gob_stream.specs.declared.stage.Stage.{Stage}
 use Rattle.gob_stream.specs.declared.stage.Stage.TheVariants as stage
+use Rattle.gob_stream.specs.Stages.{count_at}
 use Rattle.gob_stream.specs.Item.{StreamItem}
 use Rattle.gob_stream.specs.Refusing.{refuses}
 use Rattle.gob_stream.specs.Outcome.{Outcome, refused}
@@ -13,9 +16,16 @@ use Rattle.gob_stream.specs.Standing.{Standing, StandsAfter}
 use Rattle.gob_stream.specs.Bounds.{no_deeper}
 use Rattle.gob_stream.proofs.UnderWayLaws.{after_some, none_awaits_count}
 
+-- what is awaited is one count
+pub begins_at : {X O : Type 0} {awaits : Stage X O} {at : CountStage} {n : ℕ} → awaits ≡ stage.Count at → awaits ≡ count_at n [] → at.begin ≡ n
+begins_at {at = at} {n = n} i e =
+    let same : stage.Count at ≡ count_at n [] = sym i ∙ e in
+    let one : at ≡ record { begin = n; number = [] } = cc in
+    ap (λ (at : CountStage). at.begin) one
+
 -- where the count of the next item is not awaited from there on, the bytes end within an item
 pub ended_within : {X O : Type 0} {stands : Standing X} {trees : Standing TreeBuilder} {most : ℕ} {s : SessionState X O} {items : List StreamItem} {bytes : List ℕ} {R : Refusal}
-    → StandsAfter stands trees most s items bytes → s.stage ≢ stage.Count s.taken [] → R ≡ refuses s.taken s.taken reason.Ended
+    → StandsAfter stands trees most s items bytes → s.stage ≢ count_at s.taken [] → R ≡ refuses s.taken s.taken reason.Ended
     → Outcome base_table (no_deeper most s.limits) bytes items (refused R) × (R.reason ≡ reason.Ended)
 ended_within {most = most} {s = s} {items = items} {bytes = bytes} a n e =
     let here = e ∙ ap (λ m. refuses m m reason.Ended) a.taken in

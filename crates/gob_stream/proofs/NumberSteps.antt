@@ -5,21 +5,21 @@ use Rattle.gob_num.specs.Unsigned.{IsUnsigned, IsUnsignedFront}
 use Rattle.gob_num.proofs.PublicLaws.{front_not_whole}
 use Rattle.gob_types.specs.declared.reason.Reason.TheVariants as reason
 use Rattle.gob_types.specs.Base.{base_table}
-use Rattle.gob_types.specs.Table.{Table}
+use Rattle.gob_types.specs.Defined.{Defined, types}
 use Rattle.gob_value.specs.Tree.{Tree}
 use Rattle.gob_read.specs.declared.tree_builder.TreeBuilder.{TreeBuilder}
 use Rattle.gob_read.proofs.PublicLaws.{take_and_drop, take_fewer, take_whole}
 use Rattle.gob_stream.specs.declared.fault.Refusal.{Refusal}
 use Rattle.gob_stream.specs.declared.fault.Fault.{Fault}
 use Rattle.gob_stream.specs.declared.fault.Fault.TheVariants as fault
-use Rattle.gob_stream.specs.declared.stage.Stage.TheVariants as stage
 use Rattle.gob_stream.specs.declared.stage.Extent.{Extent}
 use Rattle.gob_stream.specs.declared.stage.Stepped.{Stepped}
+use Rattle.gob_stream.specs.Stages.{type_number_in}
 use Rattle.gob_stream.specs.Bounds.{Bounds}
 use Rattle.gob_stream.specs.Refusing.{refuses, RefusesBody, short}
 use Rattle.gob_stream.specs.Outcome.{RefusesNext, refused_body}
 use Rattle.gob_stream.specs.Standing.{Standing, StandsIn, in_type_number, IsCount, IsRest}
-use Rattle.gob_stream.specs.ReadParts.{GoesOnIn, more_of_it, ends_there, StepsOn, goes_on, gives, refuses_it, no_memory}
+use Rattle.gob_stream.specs.ReadParts.{GoesOnIn, more_of_it, ends_there, StepsOn, goes_on, gives, refuses_it, no_memory, TakesOn}
 use Rattle.gob_stream.proofs.ValueSteps.{take_over, stands_as, counted_as}
 
 -- ---- lists
@@ -50,24 +50,24 @@ room_there number piece m room l e =
     take_over number piece m l ∙ ap (λ p. number ++ p) (sym (take_min (m - length number) piece) ∙ ap (λ n. take n piece) (sym e))
 
 -- ---- the type number is refused, or goes on
-pub number_refused : {X O : Type 0} {stands : Standing X} {trees : Standing TreeBuilder} {means : O → Tree → Type 0} {L : Bounds} {T U : Table} {offset m room : ℕ} {body : Extent} {R S : Refusal} (c number piece : List ℕ)
-    → IsCount L offset m c body → length number ≤ m → room ≡ min (m - length number) (length piece) → RefusesBody base_table L T body.begin m (number ++ take room piece) S → S.reason ≢ reason.Ended → R ≡ S
-    → StepsOn {X = X} {O = O} stands trees means L T offset (c ++ number) piece U (Err (fault.Refused R))
-number_refused {X = X} {O = O} {stands = stands} {trees = trees} {means = means} {L = L} {T = T} {U = U} {offset = offset} {m = m} {body = body} {S = S} c number piece k l e q n same =
-    let there = subst (λ y. RefusesBody base_table L T body.begin m y S) (sym (room_there number piece m _ l e)) q in
-    let here = subst (λ n. RefusesBody base_table L T n m (take m (number ++ piece)) S) k.begin there in
-    let next : RefusesNext base_table L T offset ((c ++ number) ++ piece) S = refused_body (number ++ piece) (append_assoc c number piece) k.count k.item k.stream here in
-    subst (λ R. StepsOn {X = X} {O = O} stands trees means L T offset (c ++ number) piece U (Err (fault.Refused R))) (sym same) (refuses_it next n)
+pub number_refused : {X O : Type 0} {stands : Standing X} {trees : Standing TreeBuilder} {means : O → Tree → Type 0} {L : Bounds} {d : Defined} {offset m room : ℕ} {body : Extent} {R S : Refusal} (c number piece : List ℕ)
+    → IsCount L offset m c body → length number ≤ m → room ≡ min (m - length number) (length piece) → RefusesBody base_table L (types d) body.begin m (number ++ take room piece) S → S.reason ≢ reason.Ended → R ≡ S
+    → StepsOn {X = X} {O = O} stands trees means L d offset (c ++ number) piece d (Err (fault.Refused R))
+number_refused {L = L} {d = d} {offset = offset} {m = m} {body = body} {S = S} c number piece k l e q n same =
+    let there = subst (λ y. RefusesBody base_table L (types d) body.begin m y S) (sym (room_there number piece m _ l e)) q in
+    let here = subst (λ n. RefusesBody base_table L (types d) n m (take m (number ++ piece)) S) k.begin there in
+    let next : RefusesNext base_table L (types d) offset ((c ++ number) ++ piece) S = refused_body (number ++ piece) (append_assoc c number piece) k.count k.item k.stream here in
+    rw same (refuses_it refl next n)
 
-pub number_goes_on : {X O : Type 0} {stands : Standing X} {trees : Standing TreeBuilder} {means : O → Tree → Type 0} {L : Bounds} {T : Table} {offset m taken room : ℕ} {body : Extent} {now : List ℕ} {result : Result (Stepped X O) Fault} (c number piece : List ℕ)
+pub number_goes_on : {X O : Type 0} {stands : Standing X} {trees : Standing TreeBuilder} {means : O → Tree → Type 0} {L : Bounds} {d : Defined} {offset m taken room : ℕ} {body : Extent} {now : List ℕ} {result : Result (Stepped X O) Fault} (c number piece : List ℕ)
     → IsCount L offset m c body → length number < m → room ≡ min (m - length number) (length piece) → taken ≡ body.begin + length number + room → IsUnsignedFront (number ++ take room piece) → now ≡ number ++ take room piece
-    → GoesOnIn body taken now room result → StepsOn stands trees means L T offset (c ++ number) piece T result
-number_goes_on {X = X} {O = O} {stands = stands} {trees = trees} {means = means} {L = L} {T = T} {offset = offset} {m = m} {room = room} {body = body} c number piece k l e t f same (more_of_it w) =
+    → GoesOnIn body taken now room result → StepsOn stands trees means L d offset (c ++ number) piece d result
+number_goes_on {X = X} {O = O} {stands = stands} {trees = trees} {L = L} {d = d} {offset = offset} {m = m} {room = room} {body = body} c number piece k l e t f same (more_of_it w) =
     let z1 = k.end in
     let few : length (number ++ take room piece) < m = omega (arith, length-append number (take room piece), length-take room piece) in
     goes_on refl (omega arith)
-    (subst (λ n. StandsIn {X = X} {O = O} stands trees L T offset (stage.TypeNumber body n) ((c ++ number) ++ take room piece)) (sym same) (stands_as (append_assoc c number (take room piece)) (in_type_number k f few)))
-number_goes_on {L = L} {T = T} {m = m} {room = room} {body = body} c number piece k l e t f same (ends_there w) =
+    (subst (λ n. StandsIn {X = X} {O = O} stands trees L (types d) offset (type_number_in body n) ((c ++ number) ++ take room piece)) (sym same) (stands_as (append_assoc c number (take room piece)) (in_type_number k f few)))
+number_goes_on {m = m} {room = room} {body = body} c number piece k l e t f same (ends_there w) =
     let z1 = k.end in
     let all : length (number ++ take room piece) ≡ m = omega (arith, length-append number (take room piece), length-take room piece) in
     let there : body.end ≡ body.begin + m = k.end in
@@ -83,23 +83,23 @@ number_taken {number = number} {n = n} piece zero f u = absurd (front_not_whole 
 number_taken piece (suc used) f u = omega arith
 
 -- ---- a step further behind the first bytes of a piece
-pub steps_further : {X O : Type 0} {stands : Standing X} {trees : Standing TreeBuilder} {means : O → Tree → Type 0} {L : Bounds} {T U : Table} {offset : ℕ} {stepped : Stepped X O} (z piece : List ℕ) (used : ℕ) → used ≤ length piece
-    → StepsOn stands trees means L T offset (z ++ take used piece) (drop used piece) U (Ok stepped)
-    → StepsOn stands trees means L T offset z piece U (Ok (record { used = used + stepped.used; stage = stepped.stage; item = stepped.item }))
+pub steps_further : {X O : Type 0} {stands : Standing X} {trees : Standing TreeBuilder} {means : O → Tree → Type 0} {L : Bounds} {d d' : Defined} {offset : ℕ} {stepped : Stepped X O} (z piece : List ℕ) (used : ℕ) → used ≤ length piece
+    → StepsOn stands trees means L d offset (z ++ take used piece) (drop used piece) d' (Ok stepped)
+    → StepsOn stands trees means L d offset z piece d' (Ok (record { used = used + stepped.used; stage = stepped.stage; item = stepped.item }))
 steps_further z piece used l (goes_on {used = more} e k s) = goes_on e (omega (arith, length-drop used piece)) (stands_as (further_on z piece used more) s)
-steps_further z piece used l (gives {used = more} k q w n) =
+steps_further z piece used l (gives {used = more} e k q w n) =
     let same = ap length (further_on z piece used more) in
-    gives (omega (arith, length-drop used piece)) (counted_as (further_on z piece used more) q) w (omega arith)
+    gives e (omega (arith, length-drop used piece)) (counted_as (further_on z piece used more) q) w (omega arith)
 
-pub steps_stop : {X O : Type 0} {stands : Standing X} {trees : Standing TreeBuilder} {means : O → Tree → Type 0} {L : Bounds} {T U : Table} {offset : ℕ} {f : Fault} (z piece : List ℕ) (used : ℕ)
-    → StepsOn {X = X} {O = O} stands trees means L T offset (z ++ take used piece) (drop used piece) U (Err f) → StepsOn {X = X} {O = O} stands trees means L T offset z piece U (Err f)
-steps_stop {L = L} {T = T} {offset = offset} z piece used (refuses_it {R = R} q n) = refuses_it (subst (λ l. RefusesNext base_table L T offset l R) (sym (all_there z piece used)) q) n
-steps_stop z piece used no_memory = no_memory
+pub steps_stop : {X O : Type 0} {stands : Standing X} {trees : Standing TreeBuilder} {means : O → Tree → Type 0} {L : Bounds} {d d' : Defined} {offset : ℕ} {f : Fault} (z piece : List ℕ) (used : ℕ)
+    → StepsOn {X = X} {O = O} stands trees means L d offset (z ++ take used piece) (drop used piece) d' (Err f) → StepsOn {X = X} {O = O} stands trees means L d offset z piece d' (Err f)
+steps_stop {L = L} {d = d} {offset = offset} z piece used (refuses_it {R = R} e q n) = refuses_it e (subst (λ l. RefusesNext base_table L (types d) offset l R) (sym (all_there z piece used)) q) n
+steps_stop z piece used (no_memory e) = no_memory e
 
-pub steps_few : {X O : Type 0} {stands : Standing X} {trees : Standing TreeBuilder} {means : O → Tree → Type 0} {L : Bounds} {T U : Table} {offset : ℕ} {z piece : List ℕ} {stepped : Stepped X O}
-    → StepsOn stands trees means L T offset z piece U (Ok stepped) → stepped.used ≤ length piece
+pub steps_few : {X O : Type 0} {stands : Standing X} {trees : Standing TreeBuilder} {means : O → Tree → Type 0} {L : Bounds} {d d' : Defined} {offset : ℕ} {z piece : List ℕ} {stepped : Stepped X O}
+    → StepsOn stands trees means L d offset z piece d' (Ok stepped) → stepped.used ≤ length piece
 steps_few (goes_on e k s) = k
-steps_few (gives k q w n) = k
+steps_few (gives e k q w n) = k
 
 -- ---- the type number is whole
 pub rest_of : {body : Extent} {taken room used : ℕ} (number piece : List ℕ) → body.begin + length number ≡ taken → taken + room ≤ body.end → room ≤ length piece → used ≤ length (take room piece)
@@ -113,3 +113,15 @@ pub number_there : (c number piece : List ℕ) (used room : ℕ) → used ≤ le
 number_there c number piece used room l =
     let n = length-take room piece in
     ap (λ l. c ++ (number ++ l)) (take_fewer piece used room (omega arith)) ∙ sym (append_assoc c number (take used piece))
+
+-- a number wants one byte at a time
+pub one_used : {X O : Type 0} {stands : Standing X} {trees : Standing TreeBuilder} {means : O → Tree → Type 0} {L : Bounds} {d d' : Defined} {offset : ℕ} {z piece : List ℕ} {result : Result (Stepped X O) Fault}
+    → StepsOn stands trees means L d offset z piece d' result → IfOk result (λ stepped. 0 < stepped.used) → TakesOn stands trees means L d offset z piece 1 d' result
+one_used s n = record { steps = s; some = n; whole = λ l. all l n s }
+  where
+    all : {X O : Type 0} {stands : Standing X} {trees : Standing TreeBuilder} {means : O → Tree → Type 0} {L : Bounds} {d d' : Defined} {offset : ℕ} {z piece : List ℕ} {result : Result (Stepped X O) Fault} → length piece ≤ 1
+        → IfOk result (λ stepped. 0 < stepped.used) → StepsOn stands trees means L d offset z piece d' result → IfOk result (λ stepped. stepped.used ≡ length piece)
+    all l n (goes_on e k s) = omega arith
+    all l n (gives e k q w m) = omega arith
+    all l n (refuses_it e q w) = tt
+    all l n (no_memory e) = tt

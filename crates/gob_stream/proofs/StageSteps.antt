@@ -7,12 +7,11 @@ use Rattle.gob_num.proofs.PublicLaws.{begins_front}
 use Rattle.gob_types.specs.declared.id.TypeId.{TypeId}
 use Rattle.gob_types.specs.declared.reason.Reason.TheVariants as reason
 use Rattle.gob_types.specs.Base.{base_table, wire_type}
+use Rattle.gob_types.specs.Defined.{Defined, types}
 use Rattle.gob_types.specs.Table.{Table}
 use Rattle.gob_value.specs.Tree.{Tree}
-use Rattle.gob_value.specs.declared.value.Value.{Value}
 use Rattle.gob_read.specs.Stood.{IsStood}
 use Rattle.gob_read.specs.Reader.{ReaderStands, IsMade}
-use Rattle.gob_read.specs.declared.reader.BodyReader.{BodyReader}
 use Rattle.gob_read.specs.declared.tree_builder.TreeBuilder.{TreeBuilder}
 use Rattle.gob_read.proofs.PublicLaws.{take_whole}
 use Rattle.gob_stream.specs.declared.fault.Refusal.{Refusal}
@@ -21,6 +20,10 @@ use Rattle.gob_stream.specs.declared.fault.Fault.TheVariants as fault
 use Rattle.gob_stream.specs.declared.stage.Stage.{Stage}
 use Rattle.gob_stream.specs.declared.stage.Stage.TheVariants as stage
 use Rattle.gob_stream.specs.declared.stage.Extent.{Extent}
+use Rattle.gob_stream.specs.declared.count.CountStage.{CountStage}
+use Rattle.gob_stream.specs.declared.type_number.TypeNumberStage.{TypeNumberStage}
+use Rattle.gob_stream.specs.declared.body.ValueStage.{ValueStage}
+use Rattle.gob_stream.specs.declared.body.DescriptionStage.{DescriptionStage}
 use Rattle.gob_stream.specs.declared.stage.Stepped.{Stepped}
 use Rattle.gob_stream.specs.Bounds.{Bounds, greatest_depth}
 use Rattle.gob_stream.specs.Body.{MayDefine, MayPut}
@@ -28,39 +31,39 @@ use Rattle.gob_stream.specs.Refusing.{refuses, RefusesCount, item_too_long, stre
 use Rattle.gob_stream.specs.Refusing as refusing
 use Rattle.gob_stream.specs.Outcome.{RefusesNext, refused_count, refused_body}
 use Rattle.gob_stream.specs.Standing.{Standing, StandsIn, in_count, in_type_number, in_value, in_description, IsCount, IsRest, IsBehind, size}
-use Rattle.gob_stream.specs.ReadParts.{CountGoesOn, more_of_count, whole_count, IsCountRefused, count_refused, empty_body, HasWireType, ReadsValueIn, value_goes_on, value_ends, value_refused, no_memory_for_value, ReadsDescription, description_goes_on, description_ends, description_refused, describes_nothing, no_memory_for_description, StepsOn, goes_on, gives, refuses_it, no_memory}
+use Rattle.gob_stream.specs.ReadParts.{CountGoesOn, more_of_count, whole_count, IsCountRefused, count_refused, empty_body, CountAnswers, AreTypes, IsWithinItem, HasWireType, ReadsValueIn, value_goes_on, value_ends, value_refused, no_memory_for_value, ReadsDescription, description_goes_on, description_ends, description_refused, describes_nothing, no_memory_for_description, StepsOn, goes_on, refuses_it, TakesOn, StageAnswers, takes}
 use Rattle.gob_stream.proofs.ValueSteps.{stands_as, lies, value_steps}
 use Rattle.gob_stream.proofs.DefinitionSteps.{description_steps}
 use Rattle.gob_stream.proofs.NumberSteps.{number_taken}
 
 -- ---- what is known by what is awaited
-pub record CountParts (offset begin : ℕ) (number z : List ℕ) : Type 0 where
-  pub begins : offset ≡ begin
-  pub bytes : z ≡ number
-  pub front : IsUnsignedFront number
+pub record CountParts (offset : ℕ) (at : CountStage) (z : List ℕ) : Type 0 where
+  pub begins : offset ≡ at.begin
+  pub bytes : z ≡ at.number
+  pub front : IsUnsignedFront at.number
 
-pub record NumberParts (L : Bounds) (offset : ℕ) (body : Extent) (number z : List ℕ) : Type 0 where
+pub record NumberParts (L : Bounds) (offset : ℕ) (at : TypeNumberStage) (z : List ℕ) : Type 0 where
   pub m : ℕ
   pub c : List ℕ
-  pub count : IsCount L offset m c body
-  pub front : IsUnsignedFront number
-  pub room : length number < m
-  pub whole : z ≡ c ++ number
+  pub count : IsCount L offset m c at.body
+  pub front : IsUnsignedFront at.number
+  pub room : length at.number < m
+  pub whole : z ≡ c ++ at.number
 
-pub record ValueParts {X O : Type 0} (stands : Standing X) (L : Bounds) (T : Table) (offset : ℕ) (t : TypeId) (rest : Extent) (reader : BodyReader X O) (z : List ℕ) : Type 0 where
+pub record ValueParts {X O : Type 0} (stands : Standing X) (L : Bounds) (T : Table) (offset : ℕ) (at : ValueStage X O) (z : List ℕ) : Type 0 where
   pub m : ℕ
   pub c : List ℕ
   pub a : List ℕ
   pub y : List ℕ
   pub body : Extent
   pub count : IsCount L offset m c body
-  pub number : IsSigned (pos t.0) a
-  pub rest_is : IsRest body a rest
-  pub may : MayPut T t
-  pub behind : IsBehind T t L.depth rest stands reader y
+  pub number : IsSigned (pos at.id.0) a
+  pub rest_is : IsRest body a at.rest
+  pub may : MayPut T at.id
+  pub behind : IsBehind T at.id L.depth at.rest stands at.reader y
   pub whole : z ≡ c ++ (a ++ y)
 
-pub record DescriptionParts (trees : Standing TreeBuilder) (L : Bounds) (T : Table) (offset : ℕ) (id : TypeId) (rest : Extent) (reader : BodyReader TreeBuilder Value) (z : List ℕ) : Type 0 where
+pub record DescriptionParts (trees : Standing TreeBuilder) (L : Bounds) (T : Table) (offset : ℕ) (at : DescriptionStage) (z : List ℕ) : Type 0 where
   pub m : ℕ
   pub n : ℕ
   pub c : List ℕ
@@ -68,18 +71,18 @@ pub record DescriptionParts (trees : Standing TreeBuilder) (L : Bounds) (T : Tab
   pub y : List ℕ
   pub body : Extent
   pub count : IsCount L offset m c body
-  pub below : id.0 ≡ n + 1
+  pub below : at.id.0 ≡ n + 1
   pub number : IsSigned (negsuc n) a
-  pub rest_is : IsRest body a rest
-  pub may : MayDefine base_table L T id
-  pub behind : IsBehind T wire_type (min L.depth greatest_depth) rest trees reader y
+  pub rest_is : IsRest body a at.rest
+  pub may : MayDefine base_table L T at.id
+  pub behind : IsBehind T wire_type (min L.depth greatest_depth) at.rest trees at.reader y
   pub whole : z ≡ c ++ (a ++ y)
 
 abbrev pub PartsOf : {X O : Type 0} → (stands : Standing X) (trees : Standing TreeBuilder) (L : Bounds) (T : Table) (offset : ℕ) → Stage X O → List ℕ → Type 0
-PartsOf stands trees L T offset (stage.Count begin number) z = CountParts offset begin number z
-PartsOf stands trees L T offset (stage.TypeNumber body number) z = NumberParts L offset body number z
-PartsOf stands trees L T offset (stage.Value t rest reader) z = ValueParts stands L T offset t rest reader z
-PartsOf stands trees L T offset (stage.Description id rest reader) z = DescriptionParts trees L T offset id rest reader z
+PartsOf stands trees L T offset (stage.Count at) z = CountParts offset at z
+PartsOf stands trees L T offset (stage.TypeNumber at) z = NumberParts L offset at z
+PartsOf stands trees L T offset (stage.Value at) z = ValueParts stands L T offset at z
+PartsOf stands trees L T offset (stage.Description at) z = DescriptionParts trees L T offset at z
 PartsOf stands trees L T offset stage.Failed z = ⊥
 
 parts_of : {X O : Type 0} {stands : Standing X} {trees : Standing TreeBuilder} {L : Bounds} {T : Table} {offset : ℕ} {awaits : Stage X O} {z : List ℕ} → StandsIn stands trees L T offset awaits z → PartsOf stands trees L T offset awaits z
@@ -90,6 +93,35 @@ parts_of (in_description k n s r p b) = record { m = _; n = _; c = _; a = _; y =
 
 pub parts : {X O : Type 0} {stands : Standing X} {trees : Standing TreeBuilder} {L : Bounds} {T : Table} {offset : ℕ} {awaits now : Stage X O} {z : List ℕ} → awaits ≡ now → StandsIn stands trees L T offset awaits z → PartsOf stands trees L T offset now z
 parts {stands = stands} {trees = trees} {L = L} {T = T} {offset = offset} {z = z} e s = subst (λ awaits. PartsOf stands trees L T offset awaits z) e (parts_of s)
+
+-- ---- what is known of a reader that hasn't failed
+-- some bytes of an item were taken, with which it awaits this, and so many bytes of the stream
+pub record UnderWay {X O : Type 0} (stands : Standing X) (trees : Standing TreeBuilder) (L : Bounds) (d : Defined) (taken : ℕ) (awaits : Stage X O) : Type 0 where
+  pub offset : ℕ
+  pub bytes : List ℕ
+  pub parts : PartsOf stands trees L (types d) offset awaits bytes
+  pub taken_is : taken ≡ offset + length bytes
+  pub within : offset ≤ L.stream
+  pub known : AreTypes L d
+
+under_way : {X O : Type 0} {stands : Standing X} {trees : Standing TreeBuilder} {L : Bounds} {d : Defined} {taken : ℕ} {awaits now : Stage X O} → awaits ≡ now → now ≢ stage.Failed
+    → (awaits ≢ stage.Failed → IsWithinItem stands trees L d taken awaits) → UnderWay stands trees L d taken now
+under_way e n within =
+    let w = within (λ f. n (sym e ∙ f)) in
+    record { offset = w.offset; bytes = w.bytes; parts = parts e w.in_item; taken_is = w.taken_is; within = w.within; known = w.known }
+
+module _ {X O : Type 0} {stands : Standing X} {trees : Standing TreeBuilder} {L : Bounds} {d : Defined} {taken : ℕ} {awaits : Stage X O} where
+  pub count_under_way : {at : CountStage} → awaits ≡ stage.Count at → (awaits ≢ stage.Failed → IsWithinItem stands trees L d taken awaits) → UnderWay {X = X} {O = O} stands trees L d taken (stage.Count at)
+  count_under_way e w = under_way e (λ f. cc) w
+
+  pub number_under_way : {at : TypeNumberStage} → awaits ≡ stage.TypeNumber at → (awaits ≢ stage.Failed → IsWithinItem stands trees L d taken awaits) → UnderWay {X = X} {O = O} stands trees L d taken (stage.TypeNumber at)
+  number_under_way e w = under_way e (λ f. cc) w
+
+  pub value_under_way : {at : ValueStage X O} → awaits ≡ stage.Value at → (awaits ≢ stage.Failed → IsWithinItem stands trees L d taken awaits) → UnderWay stands trees L d taken (stage.Value at)
+  value_under_way e w = under_way e (λ f. cc) w
+
+  pub description_under_way : {at : DescriptionStage} → awaits ≡ stage.Description at → (awaits ≢ stage.Failed → IsWithinItem stands trees L d taken awaits) → UnderWay {X = X} {O = O} stands trees L d taken (stage.Description at)
+  description_under_way e w = under_way e (λ f. cc) w
 
 -- ---- a count
 no_bytes : IsUnsignedFront []
@@ -116,54 +148,7 @@ count_shown (refusing.RefusesCount.not_minimal h) e = cc
 count_shown (item_too_long r e u l) f = cc
 count_shown (stream_too_long r e u l k) f = cc
 
-count_here : {X O : Type 0} {stands : Standing X} {trees : Standing TreeBuilder} {means : O → Tree → Type 0} {L M : Bounds} {begin : ℕ} {T : Table} {number piece : List ℕ} {stepped : Stepped X O} → SameRoom L M → CountGoesOn L begin number piece stepped
-    → StepsOn stands trees means M T begin number piece T (Ok stepped)
-count_here {number = number} {piece = piece} w (more_of_count f) =
-    goes_on refl (omega arith) (stands_as (ap (λ l. number ++ l) (take_whole piece (length piece) (omega arith))) (in_count f))
-count_here {number = number} {piece = piece} w (whole_count {used = used} l k p) =
-    goes_on refl l (stands_as (sym (append-nil (number ++ take used piece))) (in_type_number (same_count w k) no_bytes p))
-
-count_stops : {X O : Type 0} {stands : Standing X} {trees : Standing TreeBuilder} {means : O → Tree → Type 0} {L M : Bounds} {begin : ℕ} {T : Table} {number piece : List ℕ} {R : Refusal} → SameRoom L M → IsCountRefused L begin (number ++ piece) R
-    → StepsOn {X = X} {O = O} stands trees means M T begin number piece T (Err (fault.Refused R))
-count_stops w (count_refused q) = refuses_it (refused_count (same_refusal w q)) (count_shown q)
-count_stops {M = M} {begin = begin} {T = T} {number = number} {piece = piece} w (empty_body {c = c} r e u l) =
-    let s = w.stream in
-    let none : begin + length c + 0 ≡ begin + length c = omega arith in
-    let next : RefusesNext base_table M T begin (number ++ piece) (refuses (begin + length c + 0) (begin + length c + 0) reason.Short) =
-    refused_body r e u (omega arith) (omega arith) (short refl no_bytes) in
-    refuses_it (subst (λ n. RefusesNext base_table M T begin (number ++ piece) (refuses n n reason.Short)) none next) (λ e. cc)
-
-there : {X O : Type 0} {stands : Standing X} {trees : Standing TreeBuilder} {means : O → Tree → Type 0} {L : Bounds} {T U : Table} {offset begin : ℕ} {number z piece : List ℕ} {result : Result (Stepped X O) Fault} → CountParts offset begin number z
-    → StepsOn stands trees means L T begin number piece U result → StepsOn stands trees means L T offset z piece U result
-there {stands = stands} {trees = trees} {means = means} {L = L} {T = T} {U = U} {begin = begin} {z = z} {piece = piece} {result = result} p s =
-    subst (λ o. StepsOn stands trees means L T o z piece U result) (sym p.begins) (subst (λ z. StepsOn stands trees means L T begin z piece U result) (sym p.bytes) s)
-
-pub count_steps : {X O : Type 0} {stands : Standing X} {trees : Standing TreeBuilder} {means : O → Tree → Type 0} {L M : Bounds} {offset begin : ℕ} {T : Table} {number z piece : List ℕ} {stepped : Stepped X O} → SameRoom L M → CountParts offset begin number z
-    → CountGoesOn L begin number piece stepped → StepsOn stands trees means M T offset z piece T (Ok stepped)
-count_steps w p s = there p (count_here w s)
-
-pub count_refuses : {X O : Type 0} {stands : Standing X} {trees : Standing TreeBuilder} {means : O → Tree → Type 0} {L M : Bounds} {offset begin : ℕ} {T : Table} {number z piece : List ℕ} {R : Refusal} → SameRoom L M → CountParts offset begin number z
-    → IsCountRefused L begin (number ++ piece) R → StepsOn {X = X} {O = O} stands trees means M T offset z piece T (Err (fault.Refused R))
-count_refuses w p s = there p (count_stops w s)
-
-pub count_some : {X O : Type 0} {L : Bounds} {begin : ℕ} {number piece : List ℕ} {stepped : Stepped X O} → IsUnsignedFront number → 0 < length piece → CountGoesOn L begin number piece stepped → (0 < stepped.used) × (stepped.used ≤ length piece)
-count_some f l (more_of_count g) = (l, omega arith)
-count_some {piece = piece} f l (whole_count {used = used} w k p) = (number_taken piece used f k.count, w)
-
--- ---- a value
-pub value_taken : {X O : Type 0} {stands : Standing X} {trees : Standing TreeBuilder} {means : O → Tree → Type 0} {L : Bounds} {T : Table} {offset : ℕ} {t : TypeId} {rest : Extent} {reader : BodyReader X O} {z piece : List ℕ} {result : Result (Stepped X O) Fault}
-    → ValueParts stands L T offset t rest reader z → ((limit : ℕ) (y : List ℕ) → ReaderStands T t limit (size rest) stands reader.run y → ReadsValueIn stands means T t limit rest y piece result) → StepsOn stands trees means L T offset z piece T result
-value_taken {stands = stands} {trees = trees} {means = means} {L = L} {T = T} {offset = offset} {piece = piece} {result = result} p r =
-    subst (λ z. StepsOn stands trees means L T offset z piece T result) (sym p.whole)
-    (value_steps p.c p.a p.y piece p.count p.number p.rest_is p.may (let room = p.behind.stood.room in omega arith) (r L.depth p.y p.behind.after))
-
-pub description_taken : {X O : Type 0} {stands : Standing X} {trees : Standing TreeBuilder} {means : O → Tree → Type 0} {L : Bounds} {T U : Table} {offset : ℕ} {id : TypeId} {rest : Extent} {reader : BodyReader TreeBuilder Value} {z piece : List ℕ} {result : Result (Stepped X O) Fault}
-    → HasWireType T → DescriptionParts trees L T offset id rest reader z → ((limit : ℕ) (y : List ℕ) → ReaderStands T wire_type limit (size rest) trees reader.run y → ReadsDescription trees T id limit rest y piece U result)
-    → StepsOn stands trees means L T offset z piece U result
-description_taken {stands = stands} {trees = trees} {means = means} {L = L} {T = T} {U = U} {offset = offset} {piece = piece} {result = result} h p r =
-    subst (λ z. StepsOn stands trees means L T offset z piece U result) (sym p.whole)
-    (description_steps p.c p.a p.y piece p.count p.below p.number p.rest_is p.may h (let room = p.behind.stood.room in omega arith) (r (min L.depth greatest_depth) p.y p.behind.after))
-
+-- ---- how much of a piece is taken
 -- bytes that stand don't end the body, so more of them are taken, and all of a piece that isn't longer than the rest
 ended_some : {T : Table} {t : TypeId} {limit announced : ℕ} {O : Type 0} {means : O → Tree → Type 0} {out : O} {y : List ℕ} {used : ℕ} (piece : List ℕ) → IsStood T t limit announced y → used ≤ length piece
     → IsMade T t limit announced means out (y ++ take used piece) → announced ≡ length y + used
@@ -171,59 +156,143 @@ ended_some {announced = announced} {y = y} {used = used} piece i k made =
     let all : length (y ++ take used piece) ≡ announced = made.all in
     omega (arith, length-append y (take used piece), length-take used piece)
 
-pub value_some : {X O : Type 0} {stands : Standing X} {means : O → Tree → Type 0} {T : Table} {t : TypeId} {limit : ℕ} {rest : Extent} {y piece : List ℕ} {result : Result (Stepped X O) Fault} → IsStood T t limit (size rest) y → 0 < length piece
+-- what is left of the body, by how much of the stream was taken
+rest_left : {L : Bounds} {offset m taken : ℕ} {c a z : List ℕ} {body rest : Extent} (y : List ℕ) → IsCount L offset m c body → IsRest body a rest → z ≡ c ++ (a ++ y) → taken ≡ offset + length z → rest.end - taken ≡ size rest - length y
+rest_left {c = c} {a = a} y k r e t =
+    let lie = lies k r in let b = lie.begins in let f = lie.ends in
+    omega (arith, ap length e, length-append c (a ++ y), length-append a y)
+
+count_some : {X O : Type 0} {L : Bounds} {begin : ℕ} {number piece : List ℕ} {stepped : Stepped X O} → IsUnsignedFront number → 0 < length piece → CountGoesOn L begin number piece stepped → (0 < stepped.used) × (stepped.used ≤ length piece)
+count_some f l (more_of_count g) = (l, omega arith)
+count_some {piece = piece} f l (whole_count {used = used} w k p) = (number_taken piece used f k.count, w)
+
+value_some : {X O : Type 0} {stands : Standing X} {means : O → Tree → Type 0} {T : Table} {t : TypeId} {limit : ℕ} {rest : Extent} {y piece : List ℕ} {result : Result (Stepped X O) Fault} → IsStood T t limit (size rest) y → 0 < length piece
     → ReadsValueIn stands means T t limit rest y piece result → IfOk result (λ stepped. 0 < stepped.used)
 value_some i l (value_goes_on b) = l
 value_some {piece = piece} i l (value_ends k made) = let n = ended_some piece i k made in let room = i.room in omega arith
 value_some i l (value_refused f) = tt
 value_some i l no_memory_for_value = tt
 
-pub value_all : {X O : Type 0} {stands : Standing X} {means : O → Tree → Type 0} {T : Table} {t : TypeId} {limit : ℕ} {rest : Extent} {y piece : List ℕ} {result : Result (Stepped X O) Fault} → IsStood T t limit (size rest) y
+value_all : {X O : Type 0} {stands : Standing X} {means : O → Tree → Type 0} {T : Table} {t : TypeId} {limit : ℕ} {rest : Extent} {y piece : List ℕ} {result : Result (Stepped X O) Fault} → IsStood T t limit (size rest) y
     → length piece ≤ size rest - length y → ReadsValueIn stands means T t limit rest y piece result → IfOk result (λ stepped. stepped.used ≡ length piece)
 value_all i l (value_goes_on b) = refl
 value_all {piece = piece} i l (value_ends k made) = let n = ended_some piece i k made in omega arith
 value_all i l (value_refused f) = tt
 value_all i l no_memory_for_value = tt
 
-pub description_some : {X O : Type 0} {trees : Standing TreeBuilder} {T U : Table} {id : TypeId} {limit : ℕ} {rest : Extent} {y piece : List ℕ} {result : Result (Stepped X O) Fault} → IsStood T wire_type limit (size rest) y → 0 < length piece
-    → ReadsDescription {X = X} {O = O} trees T id limit rest y piece U result → IfOk result (λ stepped. 0 < stepped.used)
+description_some : {X O : Type 0} {trees : Standing TreeBuilder} {d d' : Defined} {id : TypeId} {limit : ℕ} {rest : Extent} {y piece : List ℕ} {result : Result (Stepped X O) Fault} → IsStood (types d) wire_type limit (size rest) y → 0 < length piece
+    → ReadsDescription {X = X} {O = O} trees d id limit rest y piece d' result → IfOk result (λ stepped. 0 < stepped.used)
 description_some i l (description_goes_on e b) = l
-description_some {piece = piece} i l (description_ends d ds e) = let n = ended_some piece i d.within d.made in let room = i.room in omega arith
+description_some {piece = piece} i l (description_ends there given) = let n = ended_some piece i there.within there.made in let room = i.room in omega arith
 description_some i l (description_refused e f) = tt
-description_some i l (describes_nothing e d x) = tt
-description_some i l no_memory_for_description = tt
+description_some i l (describes_nothing e there x) = tt
+description_some i l (no_memory_for_description e) = tt
 
-pub description_all : {X O : Type 0} {trees : Standing TreeBuilder} {T U : Table} {id : TypeId} {limit : ℕ} {rest : Extent} {y piece : List ℕ} {result : Result (Stepped X O) Fault} → IsStood T wire_type limit (size rest) y
-    → length piece ≤ size rest - length y → ReadsDescription {X = X} {O = O} trees T id limit rest y piece U result → IfOk result (λ stepped. stepped.used ≡ length piece)
+description_all : {X O : Type 0} {trees : Standing TreeBuilder} {d d' : Defined} {id : TypeId} {limit : ℕ} {rest : Extent} {y piece : List ℕ} {result : Result (Stepped X O) Fault} → IsStood (types d) wire_type limit (size rest) y
+    → length piece ≤ size rest - length y → ReadsDescription {X = X} {O = O} trees d id limit rest y piece d' result → IfOk result (λ stepped. stepped.used ≡ length piece)
 description_all i l (description_goes_on e b) = refl
-description_all {piece = piece} i l (description_ends d ds e) = let n = ended_some piece i d.within d.made in let k = d.within in omega arith
+description_all {piece = piece} i l (description_ends there given) = let n = ended_some piece i there.within there.made in let k = there.within in omega arith
 description_all i l (description_refused e f) = tt
-description_all i l (describes_nothing e d x) = tt
-description_all i l no_memory_for_description = tt
+description_all i l (describes_nothing e there x) = tt
+description_all i l (no_memory_for_description e) = tt
 
--- ---- what the answers say of it
-pub awaits : {X O : Type 0} {old now : Stage X O} → old ≡ now → now ≢ stage.Failed → old ≢ stage.Failed
-awaits e n f = n (sym e ∙ f)
+-- ---- what a step answers
+module _ {X O : Type 0} {stands : Standing X} {trees : Standing TreeBuilder} {means : O → Tree → Type 0} where
+  -- told by what was awaited
+  answers_by : {L : Bounds} {d d' : Defined} {taken : ℕ} {awaits now : Stage X O} {piece : List ℕ} {result : Result (Stepped X O) Fault} → awaits ≡ now
+      → StageAnswers stands trees means L d taken now piece d' result → StageAnswers stands trees means L d taken awaits piece d' result
+  answers_by {L = L} {d = d} {d' = d'} {taken = taken} {piece = piece} {result = result} e s = subst (λ awaits. StageAnswers stands trees means L d taken awaits piece d' result) (sym e) s
 
-pub number_steps : {X O : Type 0} {stands : Standing X} {trees : Standing TreeBuilder} {means : O → Tree → Type 0} {L : Bounds} {T U : Table} {offset : ℕ} {body : Extent} {number z piece : List ℕ} {result : Result (Stepped X O) Fault} (p : NumberParts L offset body number z)
-    → StepsOn stands trees means L T offset (p.c ++ number) piece U result → StepsOn stands trees means L T offset z piece U result
-number_steps {stands = stands} {trees = trees} {means = means} {L = L} {T = T} {U = U} {offset = offset} {piece = piece} {result = result} p s = subst (λ z. StepsOn stands trees means L T offset z piece U result) (sym p.whole) s
+  -- a count
+  count_here : {L M : Bounds} {begin : ℕ} {d : Defined} {number piece : List ℕ} {stepped : Stepped X O} → SameRoom L M → CountGoesOn L begin number piece stepped
+      → StepsOn stands trees means M d begin number piece d (Ok stepped)
+  count_here {number = number} {piece = piece} w (more_of_count f) =
+      goes_on refl (omega arith) (stands_as (ap (λ l. number ++ l) (take_whole piece (length piece) (omega arith))) (in_count f))
+  count_here {number = number} {piece = piece} w (whole_count {used = used} l k p) =
+      goes_on refl l (stands_as (sym (append-nil (number ++ take used piece))) (in_type_number (same_count w k) no_bytes p))
 
-pub one_used : {X O : Type 0} {stands : Standing X} {trees : Standing TreeBuilder} {means : O → Tree → Type 0} {L : Bounds} {T U : Table} {offset : ℕ} {z piece : List ℕ} {result : Result (Stepped X O) Fault} → length piece ≤ 1
-    → IfOk result (λ stepped. 0 < stepped.used) → StepsOn stands trees means L T offset z piece U result → IfOk result (λ stepped. stepped.used ≡ length piece)
-one_used l n (goes_on e k s) = omega arith
-one_used l n (gives k q w m) = omega arith
-one_used l n (refuses_it q w) = tt
-one_used l n no_memory = tt
+  count_stops : {L M : Bounds} {begin : ℕ} {d : Defined} {number piece : List ℕ} {R : Refusal} → SameRoom L M → IsCountRefused L begin (number ++ piece) R
+      → StepsOn {X = X} {O = O} stands trees means M d begin number piece d (Err (fault.Refused R))
+  count_stops w (count_refused q) = refuses_it refl (refused_count (same_refusal w q)) (count_shown q)
+  count_stops {M = M} {begin = begin} {d = d} {number = number} {piece = piece} w (empty_body {c = c} r e u l) =
+      let s = w.stream in
+      let none : begin + length c + 0 ≡ begin + length c = omega arith in
+      let next : RefusesNext base_table M (types d) begin (number ++ piece) (refuses (begin + length c + 0) (begin + length c + 0) reason.Short) =
+      refused_body r e u (omega arith) (omega arith) (short refl no_bytes) in
+      refuses_it refl (subst (λ n. RefusesNext base_table M (types d) begin (number ++ piece) (refuses n n reason.Short)) none next) (λ e. cc)
 
--- what is left of the body, by how much of the stream was taken
-pub rest_left : {L : Bounds} {offset m taken : ℕ} {c a z : List ℕ} {body rest : Extent} (y : List ℕ) → IsCount L offset m c body → IsRest body a rest → z ≡ c ++ (a ++ y) → taken ≡ offset + length z → rest.end - taken ≡ size rest - length y
-rest_left {c = c} {a = a} y k r e t =
-    let lie = lies k r in let b = lie.begins in let f = lie.ends in
-    omega (arith, ap length e, length-append c (a ++ y), length-append a y)
+  there : {L : Bounds} {d : Defined} {offset : ℕ} {at : CountStage} {z piece : List ℕ} {result : Result (Stepped X O) Fault} → CountParts offset at z
+      → StepsOn stands trees means L d at.begin at.number piece d result → StepsOn stands trees means L d offset z piece d result
+  there p s = rw (p.begins, p.bytes) s
 
--- where a body is under way, bytes of it are to come
-pub rest_some : {L : Bounds} {offset m taken : ℕ} {c a z : List ℕ} {body rest : Extent} (y : List ℕ) → IsCount L offset m c body → IsRest body a rest → z ≡ c ++ (a ++ y) → taken ≡ offset + length z → length y < size rest → taken < rest.end
-rest_some {c = c} {a = a} y k r e t l =
-    let lie = lies k r in let b = lie.begins in let f = lie.ends in
-    omega (arith, ap length e, length-append c (a ++ y), length-append a y)
+  count_takes : {L M : Bounds} {offset : ℕ} {d : Defined} {at : CountStage} {z piece : List ℕ} {result : Result (Stepped X O) Fault} → SameRoom L M → 0 < length piece
+      → CountAnswers L at.begin at.number piece result → CountParts offset at z → TakesOn stands trees means M d offset z piece 1 d result
+  count_takes {result = Ok stepped} w l s p = let n = count_some p.front l s in record { steps = there p (count_here w s); some = n.0; whole = λ few. omega arith }
+  count_takes {result = Err (fault.Refused R)} w l s p = record { steps = there p (count_stops w s); some = tt; whole = λ few. tt }
+  count_takes {result = Err fault.Read} w l s p = absurd s
+  count_takes {result = Err fault.Memory} w l s p = absurd s
+  count_takes {result = Err fault.Failed} w l s p = absurd s
+
+  pub count_answers : {L M : Bounds} {d : Defined} {taken : ℕ} {awaits : Stage X O} {at : CountStage} {piece : List ℕ} {result : Result (Stepped X O) Fault} → awaits ≡ stage.Count at
+      → SameRoom L M → 0 < length piece → CountAnswers L at.begin at.number piece result → StageAnswers stands trees means M d taken awaits piece d result
+  count_answers e w l s = answers_by e (takes (λ f. cc) (λ offset z t. count_takes w l s (parts refl t)))
+
+  -- a type number
+  number_takes : {L : Bounds} {d d' : Defined} {offset : ℕ} {at : TypeNumberStage} {z piece : List ℕ} {result : Result (Stepped X O) Fault}
+      → ((offset m : ℕ) (c : List ℕ) → IsCount L offset m c at.body → TakesOn stands trees means L d offset (c ++ at.number) piece 1 d' result) → NumberParts L offset at z → TakesOn stands trees means L d offset z piece 1 d' result
+  number_takes {offset = offset} r p = rw p.whole (r offset p.m p.c p.count)
+
+  pub number_answers : {L : Bounds} {d d' : Defined} {taken : ℕ} {awaits : Stage X O} {at : TypeNumberStage} {piece : List ℕ} {result : Result (Stepped X O) Fault} → awaits ≡ stage.TypeNumber at
+      → ((offset m : ℕ) (c : List ℕ) → IsCount L offset m c at.body → TakesOn stands trees means L d offset (c ++ at.number) piece 1 d' result) → StageAnswers stands trees means L d taken awaits piece d' result
+  number_answers e r = answers_by e (takes (λ f. cc) (λ offset z t. number_takes r (parts refl t)))
+
+  -- a value
+  value_taken : {L : Bounds} {d : Defined} {offset : ℕ} {at : ValueStage X O} {z piece : List ℕ} {result : Result (Stepped X O) Fault}
+      → ((limit : ℕ) (y : List ℕ) → ReaderStands (types d) at.id limit (size at.rest) stands at.reader.run y → ReadsValueIn stands means (types d) at.id limit at.rest y piece result) → ValueParts stands L (types d) offset at z
+      → StepsOn stands trees means L d offset z piece d result
+  value_taken {L = L} {piece = piece} r p =
+      rw p.whole (value_steps p.c p.a p.y piece p.count p.number p.rest_is p.may (let room = p.behind.stood.room in omega arith) (r L.depth p.y p.behind.after))
+
+  -- a description
+  description_taken : {L : Bounds} {d d' : Defined} {offset : ℕ} {at : DescriptionStage} {z piece : List ℕ} {result : Result (Stepped X O) Fault}
+      → HasWireType (types d) → ((limit : ℕ) (y : List ℕ) → ReaderStands (types d) wire_type limit (size at.rest) trees at.reader.run y → ReadsDescription trees d at.id limit at.rest y piece d' result) → DescriptionParts trees L (types d) offset at z
+      → StepsOn stands trees means L d offset z piece d' result
+  description_taken {L = L} {piece = piece} h r p =
+      rw p.whole (description_steps p.c p.a p.y piece p.count p.below p.number p.rest_is p.may h (let room = p.behind.stood.room in omega arith) (r (min L.depth greatest_depth) p.y p.behind.after))
+
+  -- all of what is left, where the piece isn't longer
+  value_takes : {L : Bounds} {d : Defined} {offset taken : ℕ} {at : ValueStage X O} {z piece : List ℕ} {result : Result (Stepped X O) Fault}
+      → UnderWay stands trees L d taken (stage.Value at) → 0 < length piece
+      → ((limit : ℕ) (y : List ℕ) → ReaderStands (types d) at.id limit (size at.rest) stands at.reader.run y → ReadsValueIn stands means (types d) at.id limit at.rest y piece result)
+      → ValueParts stands L (types d) offset at z → TakesOn stands trees means L d offset z piece (at.rest.end - taken) d result
+  value_takes {L = L} {taken = taken} {at = at} w l r p =
+      let q = w.parts in
+      let read = r L.depth q.y q.behind.after in
+      record {
+        steps = value_taken r p;
+        some = value_some q.behind.stood l read;
+        whole = λ few. value_all q.behind.stood (let n = rest_left q.y q.count q.rest_is q.whole w.taken_is in omega arith) read;
+      }
+
+  description_takes : {L : Bounds} {d d' : Defined} {offset taken : ℕ} {at : DescriptionStage} {z piece : List ℕ} {result : Result (Stepped X O) Fault}
+      → UnderWay {X = X} {O = O} stands trees L d taken (stage.Description at) → 0 < length piece
+      → ((limit : ℕ) (y : List ℕ) → ReaderStands (types d) wire_type limit (size at.rest) trees at.reader.run y → ReadsDescription trees d at.id limit at.rest y piece d' result)
+      → DescriptionParts trees L (types d) offset at z → TakesOn stands trees means L d offset z piece (at.rest.end - taken) d' result
+  description_takes {L = L} {taken = taken} {at = at} w l r p =
+      let q = w.parts in
+      let read = r (min L.depth greatest_depth) q.y q.behind.after in
+      record {
+        steps = description_taken w.known.base r p;
+        some = description_some q.behind.stood l read;
+        whole = λ few. description_all q.behind.stood (let n = rest_left q.y q.count q.rest_is q.whole w.taken_is in omega arith) read;
+      }
+
+  pub value_answers : {L : Bounds} {d : Defined} {taken : ℕ} {awaits : Stage X O} {at : ValueStage X O} {piece : List ℕ} {result : Result (Stepped X O) Fault} → awaits ≡ stage.Value at
+      → UnderWay stands trees L d taken (stage.Value at) → 0 < length piece
+      → ((limit : ℕ) (y : List ℕ) → ReaderStands (types d) at.id limit (size at.rest) stands at.reader.run y → ReadsValueIn stands means (types d) at.id limit at.rest y piece result) → StageAnswers stands trees means L d taken awaits piece d result
+  value_answers e w l r = answers_by e (takes (λ f. cc) (λ offset z t. value_takes w l r (parts refl t)))
+
+  pub description_answers : {L : Bounds} {d d' : Defined} {taken : ℕ} {awaits : Stage X O} {at : DescriptionStage} {piece : List ℕ} {result : Result (Stepped X O) Fault} → awaits ≡ stage.Description at
+      → UnderWay {X = X} {O = O} stands trees L d taken (stage.Description at) → 0 < length piece
+      → ((limit : ℕ) (y : List ℕ) → ReaderStands (types d) wire_type limit (size at.rest) trees at.reader.run y → ReadsDescription trees d at.id limit at.rest y piece d' result) → StageAnswers stands trees means L d taken awaits piece d' result
+  description_answers e w l r = answers_by e (takes (λ f. cc) (λ offset z t. description_takes w l r (parts refl t)))

@@ -1,11 +1,12 @@
 -- Where a reader of items stands.
-use Rattle.std.proofs.Common.{◌≡◌, ℕ, List, [], refl, sym, subst}
+use Rattle.std.proofs.Common.{◌≡◌, ℕ, [], refl, sym, subst}
 use Rattle.gob_num.specs.Unsigned.{IsUnsignedFront}
 use Rattle.gob_num.proofs.PublicLaws.{begins_front}
 use Rattle.gob_types.specs.Base.{base_table}
 use Rattle.gob_types.specs.Defined.{Defined, types}
 use Rattle.gob_types.specs.Table.{Table}
 use Rattle.gob_read.specs.declared.tree_builder.TreeBuilder.{TreeBuilder}
+use Rattle.gob_stream.specs.declared.count.CountStage.{CountStage}
 use Rattle.gob_stream.specs.declared.stage.Stage.TheVariants as stage
 use Rattle.gob_stream.specs.Bounds.{Bounds, no_deeper}
 use Rattle.gob_stream.specs.Stream.{Stream, no_more}
@@ -14,14 +15,14 @@ use Rattle.gob_stream.specs.Standing.{Standing, StandsIn, in_count, StandsAfter}
 no_bytes : IsUnsignedFront []
 no_bytes = begins_front {bytes = []} tt
 
-pub new_stands : {X O : Type 0} {stands : Standing X} {trees : Standing TreeBuilder} {most : ℕ} {L : Bounds} {d : Defined} {number : List ℕ} → types d ≡ base_table → d.most ≡ L.types → number ≡ []
-    → StandsAfter {X = X} {O = O} stands trees most (record { limits = L; types = d; taken = 0; stage = stage.Count 0 number }) [] []
+pub new_stands : {X O : Type 0} {stands : Standing X} {trees : Standing TreeBuilder} {most : ℕ} {L : Bounds} {d : Defined} {first : CountStage} → types d ≡ base_table → d.most ≡ L.types → first ≡ record { begin = 0; number = [] }
+    → StandsAfter {X = X} {O = O} stands trees most (record { limits = L; types = d; taken = 0; stage = stage.Count first }) [] []
 new_stands {X = X} {O = O} {stands = stands} {trees = trees} {most = most} {L = L} {d = d} e m f = record {
   front = [];
   under_way = [];
   whole = refl;
   stream = subst (λ (T : Table). Stream base_table (no_deeper most L) [] [] T) (sym e) no_more;
-  stage = subst (λ n. StandsIn {X = X} {O = O} stands trees (no_deeper most L) (types d) 0 (stage.Count 0 n) []) (sym f) (in_count no_bytes);
+  stage = subst (λ n. StandsIn {X = X} {O = O} stands trees (no_deeper most L) (types d) 0 (stage.Count n) []) (sym f) (in_count no_bytes);
   taken = refl;
   room = m;
 }

@@ -16,6 +16,8 @@ use Rattle.gob_read.proofs.PublicLaws.{front_not_number, nothing_yet}
 use Rattle.gob_stream.specs.declared.fault.Refusal.{Refusal}
 use Rattle.gob_stream.specs.declared.stage.Stage.{Stage}
 use Rattle.gob_stream.specs.declared.stage.Stage.TheVariants as stage
+use Rattle.gob_stream.specs.declared.count.CountStage.{CountStage}
+use Rattle.gob_stream.specs.Stages.{count_at}
 use Rattle.gob_stream.specs.declared.stage.Extent.{Extent}
 use Rattle.gob_stream.specs.SessionState.{SessionState}
 use Rattle.gob_stream.specs.Bounds.{Bounds, no_deeper}
@@ -32,6 +34,7 @@ use Rattle.gob_stream.proofs.RefusalLaws.{id_met, type_met}
 use Rattle.gob_stream.proofs.RefusingLaws.{is_whole, whole, one_start, RefusesDefinition, by_id, by_first, by_description, RefusesPut, by_type, by_value, RefusesFrom, from_definition, from_value, started, count_not}
 use Rattle.gob_stream.proofs.OutcomeLaws.{outcome_refused, outcome_within}
 use Rattle.gob_stream.proofs.ShownLaws.{goes_on_behind, take_past, body_seen_behind, next_seen}
+use Rattle.gob_stream.proofs.StageSteps.{parts}
 
 -- ---- how much of a body is left
 pub rest_size : {body rest : Extent} {a : List ℕ} (m : ℕ) → IsRest body a rest → body.end ≡ body.begin + m → size rest ≡ m - length a
@@ -203,31 +206,24 @@ no_number : {n : ℕ} {c : List ℕ} (w : List ℕ) → IsUnsigned n c → c ++ 
 no_number {c = c} w u e = let some = (unsigned_length u).0 in omega (arith, ap length e, length-append c w)
 
 awaits_count : {X O : Type 0} {stands : Standing X} {trees : Standing TreeBuilder} {L : Bounds} {T : Table} {offset : ℕ} {awaits : Stage X O} {z : List ℕ}
-    → StandsIn stands trees L T offset awaits z → z ≡ [] → awaits ≡ stage.Count offset []
-awaits_count {offset = offset} (in_count f) e = ap (λ n. stage.Count offset n) e
+    → StandsIn stands trees L T offset awaits z → z ≡ [] → awaits ≡ count_at offset []
+awaits_count {offset = offset} (in_count f) e = ap (λ n. count_at offset n) e
 awaits_count (in_type_number {number = number} k f l) e = absurd (no_number number k.count e)
 awaits_count (in_value {a = a} {z = z} k s r p w) e = absurd (no_number (a ++ z) k.count e)
 awaits_count (in_description {a = a} {z = z} k n s r p w) e = absurd (no_number (a ++ z) k.count e)
 
-begins_there : {X O : Type 0} {stands : Standing X} {trees : Standing TreeBuilder} {L : Bounds} {T : Table} {offset begin : ℕ} {awaits : Stage X O} {z number : List ℕ}
-    → StandsIn stands trees L T offset awaits z → awaits ≡ stage.Count begin number → begin ≡ offset
-begins_there (in_count f) e = cc
-begins_there (in_type_number k f l) e = absurd (cc)
-begins_there (in_value k s r p w) e = absurd (cc)
-begins_there (in_description k n s r p w) e = absurd (cc)
-
 -- between two items the count of the next one is awaited
 pub none_awaits_count : {X O : Type 0} {stands : Standing X} {trees : Standing TreeBuilder} {most : ℕ} {s : SessionState X O} {items : List StreamItem} {bytes : List ℕ} (a : StandsAfter stands trees most s items bytes)
-    → a.under_way ≡ [] → s.stage ≡ stage.Count s.taken []
+    → a.under_way ≡ [] → s.stage ≡ count_at s.taken []
 none_awaits_count {s = s} a e =
     let t : s.taken ≡ length a.front = a.taken ∙ ap length (a.whole ∙ ap (λ l. a.front ++ l) e ∙ append-nil a.front) in
-    awaits_count a.stage e ∙ ap (λ n. stage.Count n []) (sym t)
+    awaits_count a.stage e ∙ ap (λ n. count_at n []) (sym t)
 
 -- and where that begins behind all bytes that were taken, no item is under way
-pub count_begins_here : {X O : Type 0} {stands : Standing X} {trees : Standing TreeBuilder} {most : ℕ} {s : SessionState X O} {items : List StreamItem} {bytes number : List ℕ} {begin : ℕ} (a : StandsAfter stands trees most s items bytes)
-    → s.stage ≡ stage.Count begin number → begin ≡ s.taken → a.under_way ≡ []
-count_begins_here {s = s} {begin = begin} a e f =
-    let b : begin ≡ length a.front = begins_there a.stage e in
+pub count_begins_here : {X O : Type 0} {stands : Standing X} {trees : Standing TreeBuilder} {most : ℕ} {s : SessionState X O} {items : List StreamItem} {bytes : List ℕ} {at : CountStage} (a : StandsAfter stands trees most s items bytes)
+    → s.stage ≡ stage.Count at → at.begin ≡ s.taken → a.under_way ≡ []
+count_begins_here {s = s} {at = at} a e f =
+    let b = (parts e a.stage).begins in
     none a.under_way (let t = a.taken in omega (arith, ap length a.whole, length-append a.front a.under_way))
   where
     none : (z : List ℕ) → length z ≡ 0 → z ≡ []

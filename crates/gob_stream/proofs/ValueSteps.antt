@@ -9,6 +9,7 @@ use Rattle.gob_types.specs.declared.id.TypeId.{TypeId}
 use Rattle.gob_types.specs.declared.reason.Reason.TheVariants as reason
 use Rattle.gob_types.specs.Base.{base_table}
 use Rattle.gob_types.specs.Table.{Table}
+use Rattle.gob_types.specs.Defined.{Defined, types}
 use Rattle.gob_value.specs.Tree.{Tree}
 use Rattle.gob_read.specs.Refusal as body
 use Rattle.gob_read.specs.Refusal.{Refused, extra, too_deep, short_of, bad_head_at, not_minimal_at, not_allowed}
@@ -84,43 +85,43 @@ pub counted_as : {L : Bounds} {T U : Table} {offset : ℕ} {i : StreamItem} {z w
 counted_as {L = L} {T = T} {U = U} {offset = offset} {i = i} e h = subst (λ z. Counted base_table L T offset i z U) (sym e) h
 
 -- ---- values
-pub value_steps : {X O : Type 0} {stands : Standing X} {trees : Standing TreeBuilder} {means : O → Tree → Type 0} {L : Bounds} {T : Table} {offset m : ℕ} {t : TypeId} {body rest : Extent} {result : Result (Stepped X O) Fault} (c a y piece : List ℕ)
-    → IsCount L offset m c body → IsSigned (pos t.0) a → IsRest body a rest → MayPut T t → length y ≤ size rest → ReadsValueIn stands means T t L.depth rest y piece result
-    → StepsOn stands trees means L T offset (c ++ (a ++ y)) piece T result
-value_steps {stands = stands} {trees = trees} {L = L} {T = T} {offset = offset} c a y piece k s r p w (value_goes_on b) =
+pub value_steps : {X O : Type 0} {stands : Standing X} {trees : Standing TreeBuilder} {means : O → Tree → Type 0} {L : Bounds} {d : Defined} {offset m : ℕ} {t : TypeId} {body rest : Extent} {result : Result (Stepped X O) Fault} (c a y piece : List ℕ)
+    → IsCount L offset m c body → IsSigned (pos t.0) a → IsRest body a rest → MayPut (types d) t → length y ≤ size rest → ReadsValueIn stands means (types d) t L.depth rest y piece result
+    → StepsOn stands trees means L d offset (c ++ (a ++ y)) piece d result
+value_steps {stands = stands} {trees = trees} {L = L} {d = d} {offset = offset} c a y piece k s r p w (value_goes_on b) =
     let there : (c ++ (a ++ y)) ++ take (length piece) piece ≡ c ++ (a ++ (y ++ piece)) = ap (λ l. (c ++ (a ++ y)) ++ l) (take_whole piece (length piece) (omega arith)) ∙ three c a y piece in
     goes_on refl (omega arith) (stands_as there (in_value k s r p b))
-value_steps {L = L} {T = T} {offset = offset} {m = m} {t = t} {rest = rest} c a y piece k s r p w (value_ends {used = used} l made) =
+value_steps {L = L} {d = d} {offset = offset} {m = m} {t = t} {rest = rest} c a y piece k s r p w (value_ends {used = used} l made) =
     let lie = lies k r in
     let all = made.all in let z1 = lie.size_is in let z2 = lie.within in let z3 = lie.ends in let z4 = k.stream in
     let long : length (a ++ (y ++ take used piece)) ≡ m = omega (arith, length-append a (y ++ take used piece)) in
     let whole : length (c ++ (a ++ (y ++ take used piece))) ≡ length c + m = omega (arith, length-append c (a ++ (y ++ take used piece))) in
-    let item : Counted base_table L T offset (puts t made.value) (c ++ (a ++ (y ++ take used piece))) T = counted (subst (λ n. IsUnsigned n c) (sym long) k.count) (let i = k.item in omega arith) (omega arith) (value p made.not_deep s made.spelled) in
+    let item : Counted base_table L (types d) offset (puts t made.value) (c ++ (a ++ (y ++ take used piece))) (types d) = counted (subst (λ n. IsUnsigned n c) (sym long) k.count) (let i = k.item in omega arith) (omega arith) (value p made.not_deep s made.spelled) in
     let there = three c a y (take used piece) in
     let n = ap length there in
-    gives l (counted_as there item) (means_value made.meant) (omega arith)
-value_steps {stands = stands} {trees = trees} {means = means} {L = L} {T = T} {offset = offset} {m = m} {t = t} {rest = rest} c a y piece k s r p w (value_refused {R = R} f) =
+    gives refl l (counted_as there item) (means_value made.meant) (omega arith)
+value_steps {L = L} {d = d} {offset = offset} {m = m} {t = t} {rest = rest} c a y piece k s r p w (value_refused {R = R} f) =
     let lie = lies k r in
     let there = body_there a y piece m (size rest) lie.within lie.size_is w in
-    let first = subst (λ n. IsFirst T t L.depth n (y ++ take (size rest - length y) piece) R) lie.size_is f in
-    let refused : RefusesBody base_table L T (offset + length c) m (take m (a ++ (y ++ piece))) (behind (offset + length c + length a) R) = refused_value (y ++ take (size rest - length y) piece) there s p first in
-    refuses_it
-    (subst (λ n. RefusesNext base_table L T offset ((c ++ (a ++ y)) ++ piece) (behind n R)) (sym lie.begins)
+    let first = subst (λ n. IsFirst (types d) t L.depth n (y ++ take (size rest - length y) piece) R) lie.size_is f in
+    let refused : RefusesBody base_table L (types d) (offset + length c) m (take m (a ++ (y ++ piece))) (behind (offset + length c + length a) R) = refused_value (y ++ take (size rest - length y) piece) there s p first in
+    refuses_it refl
+    (subst (λ n. RefusesNext base_table L (types d) offset ((c ++ (a ++ y)) ++ piece) (behind n R)) (sym lie.begins)
     (refused_body (a ++ (y ++ piece)) (three c a y piece) k.count k.item k.stream refused))
     (refused_shown f.refused)
-value_steps c a y piece k s r p w no_memory_for_value = no_memory
+value_steps c a y piece k s r p w no_memory_for_value = no_memory refl
 
 -- ---- what is denied at the type number
-pub denied_steps : {X O : Type 0} {stands : Standing X} {trees : Standing TreeBuilder} {means : O → Tree → Type 0} {L : Bounds} {T U : Table} {offset m : ℕ} {body rest : Extent} (Refuses : Reason → Type 0) (d : Denial) (c a piece : List ℕ)
-    → IsCount L offset m c body → IsRest body a rest → IsDenial Refuses d → ((r : Reason) → Refuses r → r ≢ reason.Ended)
-    → ((r : Reason) (y z : List ℕ) → Refuses r → y ≡ a ++ z → RefusesBody base_table L T (offset + length c) m y (refuses (offset + length c) (offset + length c + length a) r))
-    → StepsOn {X = X} {O = O} stands trees means L T offset (c ++ a) piece U (Err (fault_at body.begin rest.begin d))
-denied_steps {L = L} {T = T} {offset = offset} {m = m} Refuses (denial.Refused w) c a piece k r q shown refused =
+pub denied_steps : {X O : Type 0} {stands : Standing X} {trees : Standing TreeBuilder} {means : O → Tree → Type 0} {L : Bounds} {d : Defined} {offset m : ℕ} {body rest : Extent} (Refuses : Reason → Type 0) (why : Denial) (c a piece : List ℕ)
+    → IsCount L offset m c body → IsRest body a rest → IsDenial Refuses why → ((r : Reason) → Refuses r → r ≢ reason.Ended)
+    → ((r : Reason) (y z : List ℕ) → Refuses r → y ≡ a ++ z → RefusesBody base_table L (types d) (offset + length c) m y (refuses (offset + length c) (offset + length c + length a) r))
+    → StepsOn {X = X} {O = O} stands trees means L d offset (c ++ a) piece d (Err (fault_at body.begin rest.begin why))
+denied_steps {L = L} {d = d} {offset = offset} {m = m} Refuses (denial.Refused w) c a piece k r q shown refused =
     let lie = lies k r in
-    let next : RefusesNext base_table L T offset ((c ++ a) ++ piece) (refuses (offset + length c) (offset + length c + length a) w) =
+    let next : RefusesNext base_table L (types d) offset ((c ++ a) ++ piece) (refuses (offset + length c) (offset + length c + length a) w) =
     refused_body (a ++ piece) (append_assoc c a piece) k.count k.item k.stream (refused w _ _ q (take_over a piece m lie.within)) in
-    rw (k.begin, lie.begins) (refuses_it next (shown w q))
-denied_steps Refuses denial.Memory c a piece k r q shown refused = no_memory
+    rw (k.begin, lie.begins) (refuses_it refl next (shown w q))
+denied_steps Refuses denial.Memory c a piece k r q shown refused = no_memory refl
 
 -- ---- a value begins
 pub type_shown : {T : Table} {t : TypeId} {r : Reason} → RefusesType T t r → r ≢ reason.Ended
@@ -128,7 +129,7 @@ type_shown (private_type p) e = cc
 type_shown (undefined p q n l) e = cc
 type_shown (bottomless p q r n l) e = cc
 
-pub value_begins : {X O : Type 0} {stands : Standing X} {trees : Standing TreeBuilder} {means : O → Tree → Type 0} {L : Bounds} {T : Table} {offset m : ℕ} {t : TypeId} {body rest : Extent} {result : Result (Stepped X O) Fault} (c a piece : List ℕ)
-    → IsCount L offset m c body → IsSigned (pos t.0) a → IsRest body a rest → MayPut T t → ReadsValueIn stands means T t L.depth rest [] piece result → StepsOn stands trees means L T offset (c ++ a) piece T result
-value_begins {stands = stands} {trees = trees} {means = means} {L = L} {T = T} {offset = offset} {result = result} c a piece k s r p q =
-    subst (λ l. StepsOn stands trees means L T offset (c ++ l) piece T result) (append-nil a) (value_steps c a [] piece k s r p (omega arith) q)
+pub value_begins : {X O : Type 0} {stands : Standing X} {trees : Standing TreeBuilder} {means : O → Tree → Type 0} {L : Bounds} {d : Defined} {offset m : ℕ} {t : TypeId} {body rest : Extent} {result : Result (Stepped X O) Fault} (c a piece : List ℕ)
+    → IsCount L offset m c body → IsSigned (pos t.0) a → IsRest body a rest → MayPut (types d) t → ReadsValueIn stands means (types d) t L.depth rest [] piece result → StepsOn stands trees means L d offset (c ++ a) piece d result
+value_begins {stands = stands} {trees = trees} {means = means} {L = L} {d = d} {offset = offset} {result = result} c a piece k s r p q =
+    subst (λ l. StepsOn stands trees means L d offset (c ++ l) piece d result) (append-nil a) (value_steps c a [] piece k s r p (omega arith) q)

@@ -12,7 +12,9 @@ use Rattle.gob_types.specs.Table.{Table}
 use Rattle.gob_types.specs.Base.{base_table}
 use Rattle.gob_types.specs.Defined.{types}
 use Rattle.gob_read.specs.declared.tree_builder.TreeBuilder.{TreeBuilder}
+use Rattle.gob_stream.specs.declared.count.CountStage.{CountStage}
 use Rattle.gob_stream.specs.declared.stage.Stage.TheVariants as stage
+use Rattle.gob_stream.specs.Stages.{count_at}
 use Rattle.gob_stream.specs.SessionState.{SessionState}
 use Rattle.gob_stream.specs.Bounds.{Bounds, no_deeper}
 use Rattle.gob_stream.specs.Item.{StreamItem, puts}
@@ -127,21 +129,25 @@ has_item {id = id} {used = used} {piece = piece} most e b w =
           b.within;
     }
 
+-- ---- between two items
+pub between_at : {X O : Type 0} {s : SessionState X O} {at : CountStage} → s.stage ≡ stage.Count at → at.begin ≡ s.taken → IsBetween s
+between_at {at = at} e b = record { number = at.number; stage = e ∙ ap (λ n. count_at n at.number) b }
+
 -- ---- going past an item
 module _ {X O : Type 0} {stands : Standing X} {trees : Standing TreeBuilder} {most : ℕ} where
-  pub passed : {s s' : SessionState X O} {begin used : ℕ} {number : List ℕ} → IsBetween s
-      → s.stage ≡ stage.Count begin number
-      → s' ≡ record s { taken = s.taken + used; stage = stage.Count (s.taken + used) number }
+  pub passed : {s s' : SessionState X O} {at : CountStage} {used : ℕ} → IsBetween s
+      → s.stage ≡ stage.Count at
+      → s' ≡ record s { taken = s.taken + used; stage = stage.Count (record at { begin = s.taken + used }) }
       → (items : List StreamItem) (bytes : List ℕ) (item : StreamItem) (z : List ℕ)
       → StandsAfter stands trees most s items bytes
       → Counted base_table (no_deeper most s.limits) (types s.types) s.taken item z (types s.types)
       → length z ≡ used → StandsAfter stands trees most s' (items ++ item ∷ []) (bytes ++ z)
   passed {s =
-      s} {s' = s'} {begin = begin} {used = used} {number = number} between is e items bytes item z a there size =
+      s} {s' = s'} {at = at} {used = used} between is e items bytes item z a there size =
       let none : a.under_way ≡ [] = count_begins_here a between.stage refl in
-      let at = none_awaits_count a none in
-      let same : stage.Count begin number ≡ stage.Count s.taken [] = sym is ∙ at in
-      let empty : number ≡ [] = cc in
+      let same : stage.Count at ≡ count_at s.taken [] = sym is ∙ none_awaits_count a none in
+      let first : at ≡ record { begin = s.taken; number = [] } = cc in
+      let empty : at.number ≡ [] = ap (λ (at : CountStage). at.number) first in
       let front : bytes ≡ a.front = a.whole ∙ ap (λ y. a.front ++ y) none ∙ append-nil a.front in
       let here : s.taken ≡ length a.front = a.taken ∙ ap length front in
       let long : length (a.front ++ z) ≡ s.taken + used = omega (arith, length-append a.front z) in
@@ -152,9 +158,9 @@ module _ {X O : Type 0} {stands : Standing X} {trees : Standing TreeBuilder} {mo
         stream = one_more a.stream (omega arith) there;
         stage =
             subst (λ n. StandsIn {X = X} {O = O} stands trees (no_deeper most s.limits) (types s.types)
-            (length (a.front ++ z)) (stage.Count (s.taken + used) n) []) (sym empty)
+            (length (a.front ++ z)) (count_at (s.taken + used) n) []) (sym empty)
             (subst (λ n. StandsIn {X = X} {O = O} stands trees (no_deeper most s.limits) (types s.types)
-            (length (a.front ++ z)) (stage.Count n []) []) long (in_count (begins_front {bytes = []} tt)));
+            (length (a.front ++ z)) (count_at n []) []) long (in_count (begins_front {bytes = []} tt)));
         taken = sym (ap (λ y. length (y ++ z)) front ∙ long);
         room = a.room;
       })
@@ -185,7 +191,7 @@ module _ {X O : Type 0} {stands : Standing X} {trees : Standing TreeBuilder} {mo
       → length z ≡ used → StandsAfter stands trees most s' (items ++ item ∷ []) (bytes ++ z))
       → IsUsable stands trees most s → IsUsable stands trees most s'
   usable_behind {s =
-      s} b h f (has_failed e) = let n : stage.Failed ≡ stage.Count s.taken b.number = sym e ∙ b.stage in cc
+      s} b h f (has_failed e) = let n : stage.Failed ≡ count_at s.taken b.number = sym e ∙ b.stage in cc
   usable_behind b h f (stands_after {items =
       items} {bytes = bytes} a) = stands_after (f items bytes h.item h.bytes a h.counted h.size)
 

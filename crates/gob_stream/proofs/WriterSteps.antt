@@ -1,12 +1,11 @@
 -- What a writer has written after a call.
-use Rattle.std.proofs.Common.{◌≡◌, ℕ, ◌+◌, List, [], ◌∷◌, ◌++◌, length, true, false, Option, Result, Ok, Err, OnOk, OnErr, IfErr, sym, ap, subst, ◌∙◌, arith, append_assoc, length-append}
+use Rattle.std.proofs.Common.{◌≡◌, ℕ, ◌+◌, List, [], ◌∷◌, ◌++◌, length, Option, Result, Ok, Err, sym, ap, subst, ◌∙◌, arith, append_assoc, length-append}
 use Rattle.std.specs.Io.KnownBytes.{Appends}
 use Rattle.std.proofs.KnownBytes.{Keeps-refl, Appends-trans}
 use Rattle.gob_types.specs.Table.{Table}
 use Rattle.gob_types.specs.Base.{base_table}
 use Rattle.gob_types.specs.Defined.{types}
 use Rattle.gob_stream.specs.declared.fault.WriteFault.{WriteFault}
-use Rattle.gob_stream.specs.declared.fault.WriteFault.TheVariants as fault
 use Rattle.gob_stream.specs.declared.writer.StreamWriter.{StreamWriter}
 use Rattle.gob_stream.specs.declared.denial.Denial.{Denial}
 use Rattle.gob_stream.specs.declared.denial.Denial.TheVariants as denial
@@ -16,7 +15,7 @@ use Rattle.gob_stream.specs.Laws.{AtLeast}
 use Rattle.gob_stream.specs.Item.{StreamItem}
 use Rattle.gob_stream.specs.Stream.{Stream, Counted}
 use Rattle.gob_stream.specs.WriterRefusal.{RefusesItem}
-use Rattle.gob_stream.specs.Writing.{HasWritten, WritesItem, Leaves, IsUnchanged, SentFront}
+use Rattle.gob_stream.specs.Writing.{HasWritten, WritesItem, Leaves, IsUnchanged, SentFront, SendAnswers}
 use Rattle.gob_stream.proofs.StreamLaws.{one_more}
 use Rattle.gob_stream.proofs.LawsOfStreams.{wider_counted}
 
@@ -51,18 +50,17 @@ pub record HasItem (L : Bounds) (w ready : StreamWriter) (rest : List ℕ) (i : 
 -- the item's bytes went out, or a front of them
 pub sent_writes : (L : Bounds) (w ready w' : StreamWriter) (rest : List ℕ) (items : List StreamItem) (bytes : List ℕ) (T U : Table) (i : StreamItem) (old new : Option (List ℕ))
     (r : Result (Unit {0}) WriteFault) → HasWritten w items bytes T → HasItem L w ready rest i U
-    → OnOk r (Appends old new (ready.item.items ++ rest)) → OnOk r (w' ≡ record ready { offset = ready.offset + length (ready.item.items ++ rest); failed = false })
-    → OnErr r (SentFront (ready.item.items ++ rest) old new) → IfErr r (λ f. f ≡ fault.Write)
+    → SendAnswers ready w' (ready.item.items ++ rest) old new r
     → WritesItem L w w' items bytes T i old new r
-sent_writes L w ready w' rest items bytes T U i old new (Ok u) written has out behind front is =
-    let all = ready.item.items ++ rest in
+sent_writes L w ready w' rest items bytes T U i old new (Ok u) written has sent =
+    let all = ready.item.items ++ rest in let behind = sent.1 in
     let here : Counted base_table L T (length bytes) i all U = rw (← written.table, ← written.offset) has.item in
     let limits : w'.limits ≡ w.limits = ap (λ x. x.limits) behind ∙ has.limits in
     record {
       more = all;
       table = U;
       item = here;
-      out = out;
+      out = sent.0;
       limits = limits;
       written = record {
         stream = subst (λ M. Stream base_table M (items ++ i ∷ []) (bytes ++ all) U) (sym limits) (one_more written.stream (omega arith) (wider_counted has.within here));
@@ -72,9 +70,10 @@ sent_writes L w ready w' rest items bytes T U i old new (Ok u) written has out b
         sound = ap (λ x. x.failed) behind;
       };
     }
-sent_writes L w ready w' rest items bytes T U i old new (Err f) written has out behind front is =
+sent_writes L w ready w' rest items bytes T U i old new (Err f) written has sent =
     let here : Counted base_table L T (length bytes) i (ready.item.items ++ rest) U = rw (← written.table, ← written.offset) has.item in
-    subst (λ g. WritesItem L w w' items bytes T i old new (Err g)) (sym is)
+    let front = sent.0 in
+    subst (λ g. WritesItem L w w' items bytes T i old new (Err g)) (sym sent.2)
     (record { front = front.front; rest = front.rest; table = U; item = subst (λ b. Counted base_table L T (length bytes) i b U) front.whole here; out = front.out })
 
 -- a front of these bytes is one of more
@@ -91,7 +90,6 @@ front_behind a out sent = record {
 }
 
 -- a writer whose send failed writes no more
-pub sent_leaves : (w ready w' : StreamWriter) (old new : Option (List ℕ)) (offset : ℕ) (r : Result (Unit {0}) WriteFault)
-    → OnOk r (w' ≡ record ready { offset = offset; failed = false }) → OnErr r (w' ≡ record ready { failed = true }) → IfErr r (λ f. f ≡ fault.Write) → Leaves w w' old new r
-sent_leaves w ready w' old new offset (Ok u) behind failed is = ap (λ x. x.failed) behind
-sent_leaves w ready w' old new offset (Err f) behind failed is = subst (λ g. Leaves w w' old new (Err g)) (sym is) (ap (λ x. x.failed) failed)
+pub sent_leaves : (w ready w' : StreamWriter) (bytes : List ℕ) (old new : Option (List ℕ)) (r : Result (Unit {0}) WriteFault) → SendAnswers ready w' bytes old new r → Leaves w w' old new r
+sent_leaves w ready w' bytes old new (Ok u) sent = ap (λ x. x.failed) sent.1
+sent_leaves w ready w' bytes old new (Err f) sent = subst (λ g. Leaves w w' old new (Err g)) (sym sent.2) (ap (λ x. x.failed) sent.1)

@@ -1,5 +1,8 @@
 -- Why an item isn't read, or isn't written: what each fault is as a denial, and a denial as a fault.
-use Rattle.std.specs.Prelude.{ℕ}
+use Rattle.std.specs.Prelude.{◌≡◌, ℕ, [], ◌∷◌, ◌++◌, Result, Ok, Err}
+use Rattle.gob_types.specs.declared.id.TypeId.{TypeId}
+use Rattle.gob_types.specs.declared.kind.Shape.{Shape}
+use Rattle.gob_types.specs.Defined.{Defined, types}
 use Rattle.gob_types.specs.declared.reason.Reason.{Reason}
 use Rattle.gob_types.specs.declared.reason.Reason.TheVariants as reason
 use Rattle.gob_types.specs.declared.readiness.NotReady.{NotReady}
@@ -20,6 +23,11 @@ use Rattle.gob_stream.specs.Refusing.{refuses}
 abbrev pub IsDenial : (Reason → Type 0) → Denial → Type 0
 IsDenial Refuses (denial.Refused r) = Refuses r
 IsDenial Refuses denial.Memory = Unit {0}
+
+-- what adding a type to the table answers
+abbrev pub AddAnswers : TypeId → Shape → (d d' : Defined) → Result (Unit {0}) Denial → Type 0
+AddAnswers id shape d d' (Ok _) = (types d' ≡ types d ++ (id, shape) ∷ []) × (d'.most ≡ d.most)
+AddAnswers id shape d d' (Err why) = (why ≡ denial.Memory) × (d' ≡ d)
 
 -- the fault of a reader that meets it at the place, shown by so many bytes
 abbrev pub fault_at : (place seen : ℕ) → Denial → Fault

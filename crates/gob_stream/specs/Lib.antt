@@ -10,6 +10,7 @@ pub mod WriterRefusal
 pub mod Devices
 pub mod Ends
 pub mod SessionState
+pub mod Stages
 pub mod Standing
 pub mod Reading
 pub mod Whole

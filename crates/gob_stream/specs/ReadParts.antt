@@ -1,5 +1,5 @@
 -- What the parts of a reader answer: a count, a type number, what follows it, an item.
-use Rattle.std.specs.Prelude.{◌≡◌, ◌≢◌, ℕ, ◌+◌, ◌-◌, ◌^◌, ◌<◌, ◌≤◌, List, [], ◌∷◌, ◌++◌, length, take, Option, Some, None, Result, Ok, Err}
+use Rattle.std.specs.Prelude.{◌≡◌, ◌≢◌, ℕ, ◌+◌, ◌-◌, ◌^◌, ◌<◌, ◌≤◌, List, [], ◌∷◌, ◌++◌, length, take, Option, Some, None, Result, Ok, Err, IfOk}
 use Rattle.gob_num.specs.Unsigned.{IsUnsigned, IsUnsignedFront}
 use Rattle.gob_types.specs.declared.id.TypeId.{TypeId}
 use Rattle.gob_types.specs.declared.kind.Shape.{Shape}
@@ -23,12 +23,15 @@ use Rattle.gob_read.specs.declared.tree_builder.TreeBuilder.{TreeBuilder}
 use Rattle.gob_stream.specs.declared.fault.Refusal.{Refusal}
 use Rattle.gob_stream.specs.declared.fault.Fault.{Fault}
 use Rattle.gob_stream.specs.declared.fault.Fault.TheVariants as fault
+use Rattle.gob_stream.specs.declared.denial.Denial.{Denial}
 use Rattle.gob_stream.specs.declared.item.Item as declared
 use Rattle.gob_stream.specs.declared.item.Item.TheVariants as item
 use Rattle.gob_stream.specs.declared.stage.Stage.{Stage}
 use Rattle.gob_stream.specs.declared.stage.Stage.TheVariants as stage
 use Rattle.gob_stream.specs.declared.stage.Stepped.{Stepped}
 use Rattle.gob_stream.specs.declared.stage.Extent.{Extent}
+use Rattle.gob_stream.specs.Denial.{IsDenial}
+use Rattle.gob_stream.specs.Stages.{count_at, type_number_in, value_in, description_in}
 use Rattle.gob_stream.specs.SessionState.{SessionState}
 use Rattle.gob_stream.specs.declared.session.Step.{Step}
 use Rattle.gob_stream.specs.Bounds.{Bounds, no_deeper}
@@ -41,9 +44,9 @@ use Rattle.gob_stream.specs.Reading.{IsShown}
 
 -- more of the count was taken, or all of it
 pub data CountGoesOn {X O : Type 0} (L : Bounds) (begin : ℕ) (number piece : List ℕ) : Stepped X O → Type 0 where
-  more_of_count : IsUnsignedFront (number ++ piece) → CountGoesOn L begin number piece (record { used = length piece; stage = stage.Count begin (number ++ piece); item = None })
+  more_of_count : IsUnsignedFront (number ++ piece) → CountGoesOn L begin number piece (record { used = length piece; stage = count_at begin (number ++ piece); item = None })
   whole_count : {m used : ℕ} {body : Extent} → used ≤ length piece → IsCount L begin m (number ++ take used piece) body → 0 < m
-      → CountGoesOn L begin number piece (record { used = used; stage = stage.TypeNumber body []; item = None })
+      → CountGoesOn L begin number piece (record { used = used; stage = type_number_in body []; item = None })
 
 -- the count is refused, or the empty body behind it
 pub data IsCountRefused (L : Bounds) (begin : ℕ) (z : List ℕ) : Refusal → Type 0 where
@@ -58,9 +61,10 @@ pub data CountJudged (L : Bounds) (begin end count : ℕ) : Refusal → Type 0 w
   no_body : count ≡ 0 → end ≤ L.stream → CountJudged L begin end count (refuses end end reason.Short)
 
 -- what taking bytes of a count answers, of which the number came before
-abbrev pub CountSteps : {X O : Type 0} → Bounds → (begin : ℕ) → (number piece : List ℕ) → Result (Stepped X O) Refusal → Type 0
-CountSteps L begin number piece (Ok stepped) = CountGoesOn L begin number piece stepped
-CountSteps L begin number piece (Err R) = IsCountRefused L begin (number ++ piece) R
+abbrev pub CountAnswers : {X O : Type 0} → Bounds → (begin : ℕ) → (number piece : List ℕ) → Result (Stepped X O) Fault → Type 0
+CountAnswers L begin number piece (Ok stepped) = CountGoesOn L begin number piece stepped
+CountAnswers L begin number piece (Err (fault.Refused R)) = IsCountRefused L begin (number ++ piece) R
+CountAnswers L begin number piece (Err _) = ⊥
 
 -- what judging a count from `begin` to `end` answers
 abbrev pub JudgesCount : Bounds → (begin end count : ℕ) → Result Extent Refusal → Type 0
@@ -87,9 +91,9 @@ fault_behind begin stop.Failed = fault.Failed
 -- what became of a piece, where z was read of a value of the type
 pub data ReadsValueIn {X O : Type 0} (stands : Standing X) (means : O → Tree → Type 0) (T : Table) (t : TypeId) (limit : ℕ) (rest : Extent) (z piece : List ℕ) : Result (Stepped X O) Fault → Type 0 where
   value_goes_on : {reader : BodyReader X O} → IsBehind T t limit rest stands reader (z ++ piece)
-      → ReadsValueIn stands means T t limit rest z piece (Ok (record { used = length piece; stage = stage.Value t rest reader; item = None }))
+      → ReadsValueIn stands means T t limit rest z piece (Ok (record { used = length piece; stage = value_in t rest reader; item = None }))
   value_ends : {out : O} {used : ℕ} → used ≤ length piece → IsMade T t limit (size rest) means out (z ++ take used piece)
-      → ReadsValueIn stands means T t limit rest z piece (Ok (record { used = used; stage = stage.Count rest.end []; item = Some (item.Put t out) }))
+      → ReadsValueIn stands means T t limit rest z piece (Ok (record { used = used; stage = count_at rest.end []; item = Some (item.Put t out) }))
   value_refused : {R : body.Refusal} → IsFirst T t limit (size rest) (z ++ take (size rest - length z) piece) R
       → ReadsValueIn stands means T t limit rest z piece (Err (fault.Refused (behind rest.begin R)))
   no_memory_for_value : ReadsValueIn stands means T t limit rest z piece (Err fault.Memory)
@@ -103,40 +107,53 @@ pub record IsDescribed (T : Table) (limit : ℕ) (rest : Extent) (z piece : List
   pub within : used ≤ length piece
   pub made : IsMade T wire_type limit (size rest) IsView described (z ++ take used piece)
 
--- what became of a piece, where z was read of the description of the type; the second table is the one behind it
-pub data ReadsDescription {X O : Type 0} (trees : Standing TreeBuilder) (T : Table) (id : TypeId) (limit : ℕ) (rest : Extent) (z piece : List ℕ) : Table → Result (Stepped X O) Fault → Type 0 where
-  description_goes_on : {reader : BodyReader TreeBuilder Value} {U : Table} → U ≡ T → IsBehind T wire_type limit rest trees reader (z ++ piece)
-      → ReadsDescription trees T id limit rest z piece U (Ok (record { used = length piece; stage = stage.Description id rest reader; item = None }))
-  description_ends : {described : Value} {s : Shape} {U : Table} {used : ℕ} → IsDescribed T limit rest z piece described used → Describes id (view described) s → U ≡ T ++ (id, s) ∷ []
-      → ReadsDescription trees T id limit rest z piece U (Ok (record { used = used; stage = stage.Count rest.end []; item = Some (item.Define id described) }))
-  description_refused : {R : body.Refusal} {U : Table} → U ≡ T → IsFirst T wire_type limit (size rest) (z ++ take (size rest - length z) piece) R
-      → ReadsDescription trees T id limit rest z piece U (Err (fault.Refused (behind rest.begin R)))
-  describes_nothing : {described : Value} {used : ℕ} {r : Reason} {U : Table} → U ≡ T → IsDescribed T limit rest z piece described used → Misdescribes id (view described) r
-      → ReadsDescription trees T id limit rest z piece U (Err (fault.Refused (refuses rest.begin rest.end r)))
-  no_memory_for_description : {U : Table} → ReadsDescription trees T id limit rest z piece U (Err fault.Memory)
+-- behind the types of d stands the one that the description gives
+pub record Defines (id : TypeId) (v : Tree) (d d' : Defined) : Type 0 where
+  pub shape : Shape
+  pub describes : Describes id v shape
+  pub behind : types d' ≡ types d ++ (id, shape) ∷ []
+  pub most : d'.most ≡ d.most
+
+-- what defining a type as it is described answers
+abbrev pub DefineAnswers : TypeId → Tree → (d d' : Defined) → Result (Unit {0}) Denial → Type 0
+DefineAnswers id v d d' (Ok _) = Defines id v d d'
+DefineAnswers id v d d' (Err denial) = IsDenial (Misdescribes id v) denial × (d' ≡ d)
+
+-- what became of a piece, where z was read of the description of the type and the table was d; the second table is the
+-- one behind it
+pub data ReadsDescription {X O : Type 0} (trees : Standing TreeBuilder) (d : Defined) (id : TypeId) (limit : ℕ) (rest : Extent) (z piece : List ℕ) : Defined → Result (Stepped X O) Fault → Type 0 where
+  description_goes_on : {reader : BodyReader TreeBuilder Value} {d' : Defined} → d' ≡ d → IsBehind (types d) wire_type limit rest trees reader (z ++ piece)
+      → ReadsDescription trees d id limit rest z piece d' (Ok (record { used = length piece; stage = description_in id rest reader; item = None }))
+  description_ends : {described : Value} {d' : Defined} {used : ℕ} → IsDescribed (types d) limit rest z piece described used → Defines id (view described) d d'
+      → ReadsDescription trees d id limit rest z piece d' (Ok (record { used = used; stage = count_at rest.end []; item = Some (item.Define id described) }))
+  description_refused : {R : body.Refusal} {d' : Defined} → d' ≡ d → IsFirst (types d) wire_type limit (size rest) (z ++ take (size rest - length z) piece) R
+      → ReadsDescription trees d id limit rest z piece d' (Err (fault.Refused (behind rest.begin R)))
+  describes_nothing : {described : Value} {used : ℕ} {r : Reason} {d' : Defined} → d' ≡ d → IsDescribed (types d) limit rest z piece described used → Misdescribes id (view described) r
+      → ReadsDescription trees d id limit rest z piece d' (Err (fault.Refused (refuses rest.begin rest.end r)))
+  no_memory_for_description : {d' : Defined} → d' ≡ d → ReadsDescription trees d id limit rest z piece d' (Err fault.Memory)
 
 -- descriptions are spelled as in the base table
 pub record HasWireType (T : Table) : Type 0 where
   pub more : Table
   pub grown : T ≡ base_table ++ more
 
--- behind the types of T stands the one that the description gives
-pub record Defines (id : TypeId) (v : Tree) (T U : Table) : Type 0 where
-  pub shape : Shape
-  pub describes : Describes id v shape
-  pub behind : U ≡ T ++ (id, shape) ∷ []
-
--- what became of a piece behind the bytes z of an item that begins at the offset, where the types were those of T; the
--- second table is the one behind it
-pub data StepsOn {X O : Type 0} (stands : Standing X) (trees : Standing TreeBuilder) (means : O → Tree → Type 0) (L : Bounds) (T : Table) (offset : ℕ) (z piece : List ℕ) : Table → Result (Stepped X O) Fault → Type 0 where
-  goes_on : {awaits : Stage X O} {U : Table} {used : ℕ} → U ≡ T → used ≤ length piece → StandsIn stands trees L T offset awaits (z ++ take used piece)
-      → StepsOn stands trees means L T offset z piece U (Ok (record { used = used; stage = awaits; item = None }))
-  gives : {given : declared.Item O} {i : StreamItem} {U : Table} {used next : ℕ} → used ≤ length piece → Counted base_table L T offset i (z ++ take used piece) U
+-- what became of a piece behind the bytes z of an item that begins at the offset, where the table was d; the second
+-- table is the one behind it
+pub data StepsOn {X O : Type 0} (stands : Standing X) (trees : Standing TreeBuilder) (means : O → Tree → Type 0) (L : Bounds) (d : Defined) (offset : ℕ) (z piece : List ℕ) : Defined → Result (Stepped X O) Fault → Type 0 where
+  goes_on : {awaits : Stage X O} {d' : Defined} {used : ℕ} → d' ≡ d → used ≤ length piece → StandsIn stands trees L (types d) offset awaits (z ++ take used piece)
+      → StepsOn stands trees means L d offset z piece d' (Ok (record { used = used; stage = awaits; item = None }))
+  gives : {given : declared.Item O} {i : StreamItem} {d' : Defined} {used next : ℕ} → d'.most ≡ d.most → used ≤ length piece → Counted base_table L (types d) offset i (z ++ take used piece) (types d')
       → ItemMeans means given i → next ≡ offset + length (z ++ take used piece)
-      → StepsOn stands trees means L T offset z piece U (Ok (record { used = used; stage = stage.Count next []; item = Some given }))
-  refuses_it : {R : Refusal} {U : Table} → RefusesNext base_table L T offset (z ++ piece) R → R.reason ≢ reason.Ended
-      → StepsOn stands trees means L T offset z piece U (Err (fault.Refused R))
-  no_memory : {U : Table} → StepsOn stands trees means L T offset z piece U (Err fault.Memory)
+      → StepsOn stands trees means L d offset z piece d' (Ok (record { used = used; stage = count_at next []; item = Some given }))
+  refuses_it : {R : Refusal} {d' : Defined} → d' ≡ d → RefusesNext base_table L (types d) offset (z ++ piece) R → R.reason ≢ reason.Ended
+      → StepsOn stands trees means L d offset z piece d' (Err (fault.Refused R))
+  no_memory : {d' : Defined} → d' ≡ d → StepsOn stands trees means L d offset z piece d' (Err fault.Memory)
+
+-- and some of the piece was taken, all of it where so many bytes are sure to be of the item
+pub record TakesOn {X O : Type 0} (stands : Standing X) (trees : Standing TreeBuilder) (means : O → Tree → Type 0) (L : Bounds) (d : Defined) (offset : ℕ) (z piece : List ℕ) (wanted : ℕ) (d' : Defined) (result : Result (Stepped X O) Fault) : Type 0 where
+  pub steps : StepsOn stands trees means L d offset z piece d' result
+  pub some : IfOk result (λ stepped. 0 < stepped.used)
+  pub whole : length piece ≤ wanted → IfOk result (λ stepped. stepped.used ≡ length piece)
 
 -- the body of some item, as its count says
 pub record HasBodyCount (L : Bounds) (body : Extent) : Type 0 where
@@ -161,9 +178,16 @@ pub record IsWithinItem {X O : Type 0} (stands : Standing X) (trees : Standing T
 
 -- how many bytes are sure to be of the item under way, where so many of the stream were taken
 abbrev pub bytes_wanted : {X O : Type 0} → Stage X O → (taken : ℕ) → ℕ
-bytes_wanted (stage.Value t rest reader) taken = rest.end - taken
-bytes_wanted (stage.Description id rest reader) taken = rest.end - taken
+bytes_wanted (stage.Value value) taken = value.rest.end - taken
+bytes_wanted (stage.Description description) taken = description.rest.end - taken
 bytes_wanted _ taken = 1
+
+-- what a step over a piece answers, where this was awaited behind so many bytes of the stream
+pub data StageAnswers {X O : Type 0} (stands : Standing X) (trees : Standing TreeBuilder) (means : O → Tree → Type 0) (L : Bounds) (d : Defined) (taken : ℕ) (awaits : Stage X O) (piece : List ℕ) (d' : Defined) (result : Result (Stepped X O) Fault) : Type 0 where
+  takes : awaits ≢ stage.Failed → ((offset : ℕ) (z : List ℕ) → StandsIn stands trees L (types d) offset awaits z → TakesOn stands trees means L d offset z piece (bytes_wanted awaits taken) d' result)
+      → StageAnswers stands trees means L d taken awaits piece d' result
+  -- there was a fault, so there is another one, and nothing has changed
+  fails : awaits ≡ stage.Failed → result ≡ Err fault.Failed → d' ≡ d → StageAnswers stands trees means L d taken awaits piece d' result
 
 -- the front of the piece was taken, one byte at least, and an item is whole with it or not
 pub data AdvancesOver {X O : Type 0} (stands : Standing X) (trees : Standing TreeBuilder) (means : O → Tree → Type 0) (most : ℕ) (s' : SessionState X O) (items : List StreamItem) (bytes piece : List ℕ) : ℕ → Option (declared.Item O) → Type 0 where
@@ -181,5 +205,5 @@ Advances stands trees means most s s' items bytes piece (Err _) = ⊥
 
 -- the type number goes on where the body does
 pub data GoesOnIn {X O : Type 0} (body : Extent) (taken : ℕ) (number : List ℕ) (used : ℕ) : Result (Stepped X O) Fault → Type 0 where
-  more_of_it : taken < body.end → GoesOnIn body taken number used (Ok (record { used = used; stage = stage.TypeNumber body number; item = None }))
+  more_of_it : taken < body.end → GoesOnIn body taken number used (Ok (record { used = used; stage = type_number_in body number; item = None }))
   ends_there : taken ≡ body.end → GoesOnIn body taken number used (Err (fault.Refused (refuses body.end body.end reason.Short)))

@@ -16,6 +16,7 @@ use Rattle.gob_value.specs.declared.value.Value.{Value}
 use Rattle.gob_stream.specs.declared.stage.Stage.{Stage}
 use Rattle.gob_stream.specs.declared.stage.Stage.TheVariants as stage
 use Rattle.gob_stream.specs.declared.stage.Extent.{Extent}
+use Rattle.gob_stream.specs.Stages.{count_at, type_number_in, value_in, description_in}
 use Rattle.gob_stream.specs.SessionState.{SessionState}
 use Rattle.gob_stream.specs.Bounds.{Bounds, greatest_depth, no_deeper}
 use Rattle.gob_stream.specs.Item.{StreamItem}
@@ -51,15 +52,15 @@ pub record IsBehind (T : Table) (t : TypeId) (limit : ℕ) (rest : Extent) {X O 
 
 -- the reader stands behind these bytes of an item that begins at the offset, where the types are those of T
 pub data StandsIn {X O : Type 0} (stands : Standing X) (trees : Standing TreeBuilder) (L : Bounds) (T : Table) (offset : ℕ) : Stage X O → List ℕ → Type 0 where
-  in_count : {number : List ℕ} → IsUnsignedFront number → StandsIn stands trees L T offset (stage.Count offset number) number
+  in_count : {number : List ℕ} → IsUnsignedFront number → StandsIn stands trees L T offset (count_at offset number) number
   in_type_number : {m : ℕ} {c number : List ℕ} {body : Extent} → IsCount L offset m c body → IsUnsignedFront number → length number < m
-      → StandsIn stands trees L T offset (stage.TypeNumber body number) (c ++ number)
+      → StandsIn stands trees L T offset (type_number_in body number) (c ++ number)
   in_value : {m : ℕ} {c a z : List ℕ} {body rest : Extent} {t : TypeId} {reader : BodyReader X O} → IsCount L offset m c body → IsSigned (pos t.0) a → IsRest body a rest
-      → MayPut T t → IsBehind T t L.depth rest stands reader z → StandsIn stands trees L T offset (stage.Value t rest reader) (c ++ (a ++ z))
+      → MayPut T t → IsBehind T t L.depth rest stands reader z → StandsIn stands trees L T offset (value_in t rest reader) (c ++ (a ++ z))
   -- a description is read as a tree
   in_description : {m n : ℕ} {c a z : List ℕ} {body rest : Extent} {id : TypeId} {reader : BodyReader TreeBuilder Value} → IsCount L offset m c body
       → id.0 ≡ n + 1 → IsSigned (negsuc n) a → IsRest body a rest → MayDefine base_table L T id → IsBehind T wire_type (min L.depth greatest_depth) rest trees reader z
-      → StandsIn stands trees L T offset (stage.Description id rest reader) (c ++ (a ++ z))
+      → StandsIn stands trees L T offset (description_in id rest reader) (c ++ (a ++ z))
 
 -- the reader has given the items, and taken these bytes
 pub record StandsAfter {X O : Type 0} (stands : Standing X) (trees : Standing TreeBuilder) (most : ℕ) (s : SessionState X O) (items : List StreamItem) (bytes : List ℕ) : Type 0 where

@@ -7,7 +7,7 @@ use Rattle.gob_types.specs.Base.{base_table}
 use Rattle.gob_types.specs.Table.{Table}
 use Rattle.gob_value.specs.Tree.{Tree}
 use Rattle.gob_read.specs.declared.tree_builder.TreeBuilder.{TreeBuilder}
-use Rattle.gob_stream.specs.declared.stage.Stage.TheVariants as stage
+use Rattle.gob_stream.specs.Stages.{count_at}
 use Rattle.gob_stream.specs.SessionState.{SessionState}
 use Rattle.gob_stream.specs.Bounds.{Bounds}
 use Rattle.gob_stream.specs.Item.{StreamItem, puts}
@@ -18,7 +18,7 @@ use Rattle.gob_stream.specs.Standing.{Standing, StandsAfter}
 -- no byte of the next item was taken
 pub record IsBetween {X O : Type 0} (s : SessionState X O) : Type 0 where
   pub number : List ℕ
-  pub stage : s.stage ≡ stage.Count s.taken number
+  pub stage : s.stage ≡ count_at s.taken number
 
 -- at this offset the first bytes of the piece are the count of an item, the number of a type whose values may come, and
 -- this body

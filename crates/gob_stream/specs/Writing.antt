@@ -121,6 +121,11 @@ pub record SentFront (bytes : List ℕ) (old new : Option (List ℕ)) : Type 0 w
   pub whole : bytes ≡ front ++ rest
   pub out : Appends old new front
 
+-- what sending these bytes answers: the writer stands behind them, or writes no more, and a front of them is out
+abbrev pub SendAnswers : (w w' : StreamWriter) → List ℕ → (old new : Option (List ℕ)) → Result (Unit {0}) WriteFault → Type 0
+SendAnswers w w' bytes old new (Ok _) = Appends old new bytes × (w' ≡ record w { offset = w.offset + length bytes; failed = false })
+SendAnswers w w' bytes old new (Err f) = SentFront bytes old new × (w' ≡ record w { failed = true }) × (f ≡ fault.Write)
+
 -- the limits admit an item of this count and body at the offset
 pub record FitsLimits (L : Bounds) (offset : ℕ) (count body : List ℕ) : Type 0 where
   pub item : length body ≤ L.item

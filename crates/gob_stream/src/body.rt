@@ -1,124 +1,140 @@
 //! What follows the type number of a body: a value, or the description of a type.
 
-ghost use Rattle.std.specs.Prelude.{◌≡◌, ℕ, ◌+◌, ◌<◌, ◌≤◌, ◌^◌, ◌++◌, ◌∷◌, [], List, OnOk, OnErr, IfOk, IfErr};
-ghost use Rattle.std.specs.Prelude.{MatchResult};
+ghost use Rattle.std.specs.Prelude.{◌≡◌, ℕ, ◌≤◌, List, []};
 ghost use Rattle.gob_types.specs.Base.{base_table, wire_type};
 ghost use Rattle.gob_types.specs.Defined.{types, Admits};
-ghost use Rattle.gob_types.specs.Definable.{IsDefinable};
 ghost use Rattle.gob_value.specs.View.{view};
 ghost use Rattle.gob_value.specs.Fits.{Fits};
-ghost use Rattle.gob_value.specs.Description.{Misdescribes};
-ghost use Rattle.gob_read.specs.Builders.{tree_building};
 ghost use Rattle.gob_read.specs.Reader.{ReaderStands};
+ghost use Rattle.gob_read.specs.Builders.{tree_building};
 ghost use Rattle.gob_stream.specs.Standing.{size};
 ghost use Rattle.gob_stream.specs.ReadParts.{IsBodyUnderWay, ReadsValueIn, ReadsDescription, StopsWithin};
-ghost use Rattle.gob_stream.specs.ReadParts.{fault_behind, Defines, HasWireType};
-ghost use Rattle.gob_stream.specs.Denial.{IsDenial};
+ghost use Rattle.gob_stream.specs.ReadParts.{fault_behind, DefineAnswers, HasWireType};
 ghost use Rattle.gob_read.specs.UnderWay.{under_way};
 
-use crate::count::refusal;
-use crate::denial::Denial;
+use crate::count::{CountStage, refusal};
+use crate::denial::{Denial, define_admitted};
 use crate::fault::Fault;
 use crate::item::Item;
-use crate::stage::{Extent, Stage, Stepped};
-use gob_num::Number;
+use crate::stage::{Around, Extent, Stage, Stepped};
 use gob_read::{BodyReader, Builder, Progress, Stop, TreeBuilder};
 use gob_types::{Table, TypeId};
 use gob_value::{Value, shape_from};
 use std::alloc::Global;
 
-/// Takes bytes of a value of the type.
-pub(crate) fn take_value<B: Builder>(
-    alloc: Global,
-    table: &Table,
-    id: TypeId,
-    rest: Extent,
-    mut reader: BodyReader<B>,
-    piece: &[u8],
-) -> Result<Stepped<B>, Fault>
-    requires stands { IsBodyUnderWay (types table.now) id rest B.building.stands (under_way reader) }
-    requires order { rest.begin ≤ rest.end }
-    ensures { (limit : ℕ) (z : List ℕ) → ReaderStands (types table.now) id limit (size rest) B.building.stands (under_way reader) z
-        → ReadsValueIn B.building.stands B.building.means (types table.now) id limit rest z piece.now result }
-{
-    match reader.push(alloc, table, piece) {
-        Ok(Progress::More) => Ok(Stepped {
-            used: piece.len(),
-            stage: Stage::Value { id, rest, reader },
-            item: None,
-        }),
-        Ok(Progress::Done { out, used }) => Ok(Stepped {
-            used,
-            stage: next_count(rest),
-            item: Some(Item::Put { id, value: out }),
-        }),
-        Err(stop) => Err(fault_of_stop(rest.begin, stop)),
+/// How far into a value a reader is.
+#[derive(Drop)]
+pub(crate) struct ValueStage<B: Builder> {
+    /// The id of its type.
+    pub(crate) id: TypeId,
+    /// The body behind the type number.
+    pub(crate) rest: Extent,
+    /// What reads it.
+    pub(crate) reader: BodyReader<B>,
+}
+
+/// How far into a description a reader is.
+#[derive(Drop)]
+pub(crate) struct DescriptionStage {
+    /// The id that is defined.
+    pub(crate) id: TypeId,
+    /// The body behind the type number.
+    pub(crate) rest: Extent,
+    /// What reads it.
+    pub(crate) reader: BodyReader<TreeBuilder>,
+}
+
+impl<B: Builder> ValueStage<B> {
+    /// Takes bytes of the value from the front of the piece.
+    pub(crate) fn take(
+        self,
+        around: &Around,
+        table: &Table,
+        piece: &[u8],
+    ) -> Result<Stepped<B>, Fault>
+        requires stands { IsBodyUnderWay (types table.now) self.id self.rest B.building.stands (under_way self.reader) }
+        requires order { self.rest.begin ≤ self.rest.end }
+        ensures { (limit : ℕ) (z : List ℕ)
+            → ReaderStands (types table.now) self.id limit (size self.rest) B.building.stands (under_way self.reader) z
+            → ReadsValueIn B.building.stands B.building.means (types table.now) self.id limit self.rest z piece.now result }
+    {
+        let ValueStage {
+            id,
+            rest,
+            mut reader,
+        } = self;
+        match reader.push(around.alloc, table, piece) {
+            Ok(Progress::More) => Ok(Stepped {
+                used: piece.len(),
+                stage: Stage::Value(ValueStage { id, rest, reader }),
+                item: None,
+            }),
+            Ok(Progress::Done { out, used }) => Ok(Stepped {
+                used,
+                stage: next_count(rest),
+                item: Some(Item::Put { id, value: out }),
+            }),
+            Err(stop) => Err(fault_of_stop(rest.begin, stop)),
+        }
     }
 }
 
-/// Takes bytes of the description of the type, and where it is whole, defines it.
-pub(crate) fn take_description<B: Builder>(
-    alloc: Global,
-    table: &mut Table,
-    id: TypeId,
-    rest: Extent,
-    mut reader: BodyReader<TreeBuilder>,
-    piece: &[u8],
-) -> Result<Stepped<B>, Fault>
-    requires stands { IsBodyUnderWay (types table.old) wire_type rest tree_building.stands (under_way reader) }
-    requires order { rest.begin ≤ rest.end }
-    requires admitted { Admits table.old id }
-    requires keeps { HasWireType (types table.old) }
-    ensures read { (limit : ℕ) (z : List ℕ)
-        → ReaderStands (types table.old) wire_type limit (size rest) tree_building.stands (under_way reader) z
-        → ReadsDescription tree_building.stands (types table.old) id limit rest z piece.now
-        (types table.new) result }
-    ensures most { table.new.most ≡ table.old.most }
-    ensures unchanged { OnErr result (table.new ≡ table.old) }
-{
-    match reader.push(alloc, table, piece) {
-        Ok(Progress::More) => Ok(Stepped {
-            used: piece.len(),
-            stage: Stage::Description { id, rest, reader },
-            item: None,
-        }),
-        Ok(Progress::Done { out, used }) => match define(alloc, table, id, &out) {
-            Ok(()) => Ok(Stepped {
-                used,
-                stage: next_count(rest),
-                item: Some(Item::Define { id, described: out }),
+impl DescriptionStage {
+    /// Takes bytes of the description from the front of the piece, and where it is whole, defines the type.
+    pub(crate) fn take<B: Builder>(
+        self,
+        around: &Around,
+        table: &mut Table,
+        piece: &[u8],
+    ) -> Result<Stepped<B>, Fault>
+        requires stands { IsBodyUnderWay (types table.old) wire_type self.rest tree_building.stands (under_way self.reader) }
+        requires order { self.rest.begin ≤ self.rest.end }
+        requires admitted { Admits table.old self.id }
+        requires keeps { HasWireType (types table.old) }
+        ensures { (limit : ℕ) (z : List ℕ) → ReaderStands (types table.old) wire_type limit (size self.rest)
+            tree_building.stands (under_way self.reader) z
+            → ReadsDescription tree_building.stands table.old self.id limit self.rest z piece.now
+            table.new result }
+    {
+        let DescriptionStage {
+            id,
+            rest,
+            mut reader,
+        } = self;
+        match reader.push(around.alloc, table, piece) {
+            Ok(Progress::More) => Ok(Stepped {
+                used: piece.len(),
+                stage: Stage::Description(DescriptionStage { id, rest, reader }),
+                item: None,
             }),
-            Err(denial) => Err(denial.at(rest.begin, rest.end)),
-        },
-        Err(stop) => Err(fault_of_stop(rest.begin, stop)),
+            Ok(Progress::Done { out, used }) => match define(around.alloc, table, id, &out) {
+                Ok(()) => Ok(Stepped {
+                    used,
+                    stage: next_count(rest),
+                    item: Some(Item::Define { id, described: out }),
+                }),
+                Err(denial) => Err(denial.at(rest.begin, rest.end)),
+            },
+            Err(stop) => Err(fault_of_stop(rest.begin, stop)),
+        }
     }
 }
 
 // The count of the item behind the body that ends there.
 fn next_count<B: Builder>(rest: Extent) -> Stage<B>
-    ensures { result ≡ Stage.Count rest.end [] }
+    ensures { result ≡ Stage.Count (record { begin = rest.end; number = [] }) }
 {
-    Stage::Count {
-        begin: rest.end,
-        number: Number::new(),
-    }
+    Stage::Count(CountStage::new(rest.end))
 }
 
 // Defines the type as it is described.
 fn define(alloc: Global, table: &mut Table, id: TypeId, described: &Value) -> Result<(), Denial>
     requires fits { Fits base_table wire_type (view described.now) }
     requires admitted { Admits table.old id }
-    ensures ok { OnOk result (Defines id (view described.now) (types table.old) (types table.new)) }
-    ensures err { IfErr result (IsDenial (Misdescribes id (view described.now))) }
-    ensures most { table.new.most ≡ table.old.most }
-    ensures unchanged { OnErr result (table.new ≡ table.old) }
+    ensures { DefineAnswers id (view described.now) table.old table.new result }
 {
     let shape = shape_from(alloc, id, described)?;
-    match table.define(alloc, id, shape) {
-        Ok(()) => Ok(()),
-        // the table admits the type, so nothing but memory can be wanting
-        Err(_) => Err(Denial::Memory),
-    }
+    define_admitted(alloc, table, id, shape)
 }
 
 // What stopped the reader of what begins at this offset of the stream.

@@ -1,59 +1,73 @@
 //! The count at which an item begins.
 
-ghost use Rattle.std.specs.Prelude.{◌≡◌, ℕ, ◌+◌, ◌<◌, ◌≤◌, ◌++◌, [], List, Ok, Err, MatchResult, length};
-ghost use Rattle.gob_num.specs.Unsigned.{IsUnsigned, IsUnsignedFront};
-ghost use Rattle.gob_types.specs.Base.{base_table};
-ghost use Rattle.gob_read.specs.Telling.{Telling};
+ghost use Rattle.std.specs.Prelude.{◌≡◌, ◌+◌, ◌≤◌, [], length};
+ghost use Rattle.gob_num.specs.Unsigned.{IsUnsignedFront};
 ghost use Rattle.gob_stream.specs.Bounds.{greatest_stream};
-ghost use Rattle.gob_stream.specs.Refusing.{RefusesCount, refuses};
-ghost use Rattle.gob_stream.specs.ReadParts.{CountSteps, JudgesCount};
+ghost use Rattle.gob_stream.specs.Refusing.{refuses};
+ghost use Rattle.gob_stream.specs.ReadParts.{CountAnswers, JudgesCount};
 
-use crate::fault::Refusal;
+use crate::fault::{Fault, Refusal};
 use crate::limits::Limits;
-use crate::stage::{Extent, Stage, Stepped};
+use crate::stage::{Around, Extent, Stage, Stepped};
+use crate::type_number::TypeNumberStage;
 use gob_num::{Number, Taken};
 use gob_read::Builder;
 use gob_types::Reason;
 
-/// Takes bytes of the count of the item that begins at this offset, of which the number has the bytes before the
-/// offset `taken`.
-pub(crate) fn take_count<B: Builder>(
-    limits: Limits,
-    begin: u64,
-    taken: u64,
-    mut number: Number,
-    piece: &[u8],
-) -> Result<Stepped<B>, Refusal>
-    requires offset { begin ≤ greatest_stream }
-    requires taken { taken ≡ begin + length number }
-    requires front { IsUnsignedFront number }
-    ensures { CountSteps limits begin number piece.now result }
-{
-    match number.take(piece) {
-        Taken::More => Ok(Stepped {
-            used: piece.len(),
-            stage: Stage::Count { begin, number },
-            item: None,
-        }),
-        Taken::Whole {
-            number: count,
-            used,
-        } => match body_of(limits, begin, taken + used as u64, count) {
-            Ok(body) => Ok(Stepped {
-                used,
-                stage: Stage::TypeNumber { body, number },
+/// How far into the count of an item a reader is.
+#[derive(Drop)]
+pub(crate) struct CountStage {
+    /// Where the item begins.
+    pub(crate) begin: u64,
+    /// The count, as far as its bytes came.
+    pub(crate) number: Number,
+}
+
+impl CountStage {
+    /// Before the first byte of the item that begins there.
+    pub(crate) fn new(begin: u64) -> CountStage
+        ensures { result ≡ record { begin = begin; number = [] } }
+    {
+        CountStage {
+            begin,
+            number: Number::new(),
+        }
+    }
+
+    /// Takes bytes of the count from the front of the piece.
+    pub(crate) fn take<B: Builder>(self, around: &Around, piece: &[u8]) -> Result<Stepped<B>, Fault>
+        requires offset { self.begin ≤ greatest_stream }
+        requires taken { around.now.taken ≡ self.begin + length self.number }
+        requires front { IsUnsignedFront self.number }
+        ensures { CountAnswers around.now.limits self.begin self.number piece.now result }
+    {
+        let CountStage { begin, mut number } = self;
+        match number.take(piece) {
+            Taken::More => Ok(Stepped {
+                used: piece.len(),
+                stage: Stage::Count(CountStage { begin, number }),
                 item: None,
             }),
-            Err(refusal) => Err(refusal),
-        },
-        Taken::BadHead => Err(refusal(begin, begin + 1, Reason::BadHead)),
-        Taken::NotMinimal => Err(refusal(begin, begin + 2, Reason::NotMinimal)),
+            Taken::Whole {
+                number: count,
+                used,
+            } => match body_of(&around.limits, begin, around.taken + used as u64, count) {
+                Ok(body) => Ok(Stepped {
+                    used,
+                    stage: Stage::TypeNumber(TypeNumberStage { body, number }),
+                    item: None,
+                }),
+                Err(refusal) => Err(Fault::Refused(refusal)),
+            },
+            Taken::BadHead => Err(Fault::Refused(refusal(begin, begin + 1, Reason::BadHead))),
+            Taken::NotMinimal => Err(Fault::Refused(refusal(begin, begin + 2, Reason::NotMinimal))),
+        }
     }
 }
 
 /// The body of so many bytes behind the count from `begin` to `end`, where the limits allow the item.
-pub(crate) fn body_of(limits: Limits, begin: u64, end: u64, count: u64) -> Result<Extent, Refusal>
-    ensures { JudgesCount limits begin end count result }
+pub(crate) fn body_of(limits: &Limits, begin: u64, end: u64, count: u64) -> Result<Extent, Refusal>
+    ensures { JudgesCount limits.now begin end count result }
 {
     let stream = limits.stream();
     if count > limits.item() {

@@ -2,17 +2,19 @@
 
 ghost use Rattle.std.specs.Prelude.{◌≡◌, ◌^◌, ◌<◌, OnOk, MatchResult};
 ghost use Rattle.gob_types.specs.Base.{base_table};
+ghost use Rattle.gob_types.specs.Definable.{IsDefinable};
 ghost use Rattle.gob_types.specs.Defined.{types, IsTable, Admits};
 ghost use Rattle.gob_stream.specs.Bounds.{Bounds};
 ghost use Rattle.gob_stream.specs.Body.{MayDefine, MayPut};
 ghost use Rattle.gob_stream.specs.WriterRefusal.{RefusesId, RefusesType};
 ghost use Rattle.gob_stream.specs.declared.denial.Denial.{Denial};
+ghost use Rattle.gob_stream.specs.Denial.{AddAnswers};
 ghost use Rattle.gob_stream.specs.Denial.{IsDenial, fault_at, write_fault, type_denial, description_denial, value_denial};
 
 use crate::count::refusal;
 use crate::fault::{Fault, WriteFault};
 use gob_num::Memory;
-use gob_types::{DefineFault, NotReady, Reason, Table, TypeId};
+use gob_types::{DefineFault, NotReady, Reason, Shape, Table, TypeId};
 use gob_value::{ShapeFault, SpellFault};
 use std::alloc::{AllocError, Global};
 
@@ -133,6 +135,25 @@ pub(crate) fn judge_id(table: &Table, id: TypeId) -> Result<(), Reason>
         Err(DefineFault::TooManyTypes) => Err(Reason::TooManyTypes),
         // the question takes no memory
         Err(DefineFault::Memory) => unreachable!(),
+    }
+}
+
+/// Defines a type that the table admits, so that nothing but memory can be wanting.
+pub(crate) fn define_admitted(
+    alloc: Global,
+    table: &mut Table,
+    id: TypeId,
+    shape: Shape,
+) -> Result<(), Denial>
+    requires definable { IsDefinable shape }
+    requires admitted { Admits table.old id }
+    ensures { AddAnswers id shape table.old table.new result }
+{
+    match table.define(alloc, id, shape) {
+        Ok(()) => Ok(()),
+        Err(DefineFault::Memory) => Err(Denial::Memory),
+        // the table admits the type
+        Err(_) => unreachable!(),
     }
 }
 

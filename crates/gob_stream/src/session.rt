@@ -1,11 +1,11 @@
 //! Reading a stream.
 
-use crate::count::refusal;
+use crate::count::{CountStage, refusal};
 use crate::fault::Fault;
 use crate::item::Item;
 use crate::limits::Limits;
-use crate::stage::{Extent, Stage, take_awaited};
-use gob_num::{Memory, Number};
+use crate::stage::{Around, Extent, Stage};
+use gob_num::Memory;
 use gob_read::Builder;
 use gob_types::{Reason, Table};
 use std::alloc::Global;
@@ -94,10 +94,7 @@ impl<B: Builder> Session<B> {
             limits,
             types,
             taken: 0,
-            stage: Stage::Count {
-                begin: 0,
-                number: Number::new(),
-            },
+            stage: Stage::Count(CountStage::new(0)),
         })
     }
 
@@ -163,15 +160,15 @@ impl<B: Builder> Session<B> {
         ensures taken { OnErr result (taken_of self.new ≡ taken_of self.old) }
         ensures limits { limits_of self.new ≡ limits_of self.old }
     {
-        let stage = mem::replace(&mut self.stage, Stage::Failed);
-        match take_awaited(
+        // its contract says that no stream is so long that the sum wraps
+        let _most = self.limits.stream();
+        let around = Around {
             alloc,
-            self.limits,
-            &mut self.types,
-            self.taken,
-            stage,
-            piece,
-        ) {
+            limits: self.limits,
+            taken: self.taken,
+        };
+        let stage = mem::replace(&mut self.stage, Stage::Failed);
+        match stage.take(&around, &mut self.types, piece) {
             Ok(stepped) => {
                 self.taken += stepped.used as u64;
                 self.stage = stepped.stage;
@@ -197,9 +194,9 @@ impl<B: Builder> Session<B> {
         ensures types { table_of self.new ≡ table_of self.old }
         ensures limits { limits_of self.new ≡ limits_of self.old }
     {
-        match self.stage {
+        match &self.stage {
             Stage::Failed => Err(Fault::Failed),
-            Stage::Count { begin, number: _ } if begin == self.taken => Ok(()),
+            Stage::Count(count) if count.begin == self.taken => Ok(()),
             _ => {
                 let ended = refusal(self.taken, self.taken, Reason::Ended);
                 self.fail();
@@ -249,8 +246,8 @@ impl<B: Builder> Session<B> {
         ensures some { 0 < result }
     {
         match &self.stage {
-            Stage::Value { rest, .. } => self.left(*rest),
-            Stage::Description { rest, .. } => self.left(*rest),
+            Stage::Value(value) => self.left(value.rest),
+            Stage::Description(description) => self.left(description.rest),
             _ => 1,
         }
     }

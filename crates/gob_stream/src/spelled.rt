@@ -6,7 +6,7 @@ ghost use Rattle.gob_num.specs.Unsigned.{IsUnsigned};
 ghost use Rattle.gob_num.specs.Spelled.{Appends};
 ghost use Rattle.gob_types.specs.Base.{base_table};
 ghost use Rattle.gob_types.specs.Definable.{IsDefinable};
-ghost use Rattle.gob_types.specs.Defined.{types};
+ghost use Rattle.gob_types.specs.Defined.{types, Admits};
 ghost use Rattle.gob_value.specs.Tree.{Tree};
 ghost use Rattle.gob_value.specs.View.{view};
 ghost use Rattle.gob_stream.specs.Bounds.{Bounds, greatest_depth};
@@ -37,13 +37,21 @@ pub(crate) fn spell_definition(
     ensures ok { table.now.most ≡ limits.now.types → IfOk result (λ shape. Body base_table limits.now (types table.now)
         (defines id (view described.now)) body.new.items (types table.now ++ (id, shape) ∷ [])) }
     ensures definable { IfOk result (λ shape. IsDefinable shape) }
+    ensures admitted { OnOk result (Admits table.now id) }
     ensures err { table.now.most ≡ limits.now.types → (offset : ℕ) → IfErr result (IsDenial (RefusesItem base_table
         limits.now (types table.now) offset (defines id (view described.now)))) }
 {
     judge_id(table, id)?;
     body.clear();
     write_int(alloc, -(id.0 as i64), body)?;
-    spell(alloc, table, TypeId::WIRE_TYPE, described, limits.depth(), body)?;
+    spell(
+        alloc,
+        table,
+        TypeId::WIRE_TYPE,
+        described,
+        limits.depth(),
+        body,
+    )?;
     let shape = shape_from(alloc, id, described)?;
     Ok(shape)
 }

@@ -1,21 +1,18 @@
 //! How far into an item a reader is.
 
-ghost use Rattle.std.specs.Prelude.{◌≡◌, ℕ, ◌<◌, ◌≤◌, List, length, Err, IfOk, OnErr};
-ghost use Rattle.gob_types.specs.Defined.{types};
+ghost use Rattle.std.specs.Prelude.{◌≡◌, ◌<◌, length};
 ghost use Rattle.gob_read.specs.Builders.{tree_building};
-ghost use Rattle.gob_stream.specs.Bounds.{AreLimits, deepest, no_deeper};
-ghost use Rattle.gob_stream.specs.Standing.{StandsIn};
-ghost use Rattle.gob_stream.specs.ReadParts.{StepsOn, IsWithinItem, bytes_wanted};
+ghost use Rattle.gob_stream.specs.Bounds.{no_deeper};
+ghost use Rattle.gob_stream.specs.ReadParts.{IsWithinItem, StageAnswers};
 
-use crate::body::{take_description, take_value};
-use crate::count::take_count;
+use crate::body::{DescriptionStage, ValueStage};
+use crate::count::CountStage;
 use crate::fault::Fault;
 use crate::item::Item;
 use crate::limits::Limits;
-use crate::type_number::take_type_number;
-use gob_num::Number;
-use gob_read::{BodyReader, Builder, TreeBuilder};
-use gob_types::{Table, TypeId};
+use crate::type_number::TypeNumberStage;
+use gob_read::Builder;
+use gob_types::Table;
 use std::alloc::Global;
 
 /// A part of the stream, by the offsets of its first byte and of what follows it.
@@ -27,41 +24,28 @@ pub(crate) struct Extent {
     pub(crate) end: u64,
 }
 
+/// What a step is taken in. The types of the stream aren't part of it, since a step adds to them.
+#[derive(Clone, Copy)]
+pub(crate) struct Around {
+    /// Where memory comes from.
+    pub(crate) alloc: Global,
+    /// The limits of the stream.
+    pub(crate) limits: Limits,
+    /// How many bytes of the stream were taken.
+    pub(crate) taken: u64,
+}
+
 /// What a reader of items awaits.
 #[derive(Drop)]
 pub(crate) enum Stage<B: Builder> {
-    /// The count of the item that begins at this offset.
-    Count {
-        /// Where the item begins.
-        begin: u64,
-        /// The count, as far as its bytes came.
-        number: Number,
-    },
+    /// The count of an item.
+    Count(CountStage),
     /// The type number.
-    TypeNumber {
-        /// The body, with which the type number begins.
-        body: Extent,
-        /// The type number, as far as its bytes came.
-        number: Number,
-    },
+    TypeNumber(TypeNumberStage),
     /// A value.
-    Value {
-        /// The id of its type.
-        id: TypeId,
-        /// The body behind the type number.
-        rest: Extent,
-        /// What reads it.
-        reader: BodyReader<B>,
-    },
+    Value(ValueStage<B>),
     /// A description.
-    Description {
-        /// The id that is defined.
-        id: TypeId,
-        /// The body behind the type number.
-        rest: Extent,
-        /// What reads it.
-        reader: BodyReader<TreeBuilder>,
-    },
+    Description(DescriptionStage),
     /// Nothing more, since there was a fault.
     Failed,
 }
@@ -77,43 +61,28 @@ pub(crate) struct Stepped<B: Builder> {
     pub(crate) item: Option<Item<B::Out>>,
 }
 
-/// Takes some bytes of what is awaited from the front of the piece, where so many bytes of the stream were taken.
-pub(crate) fn take_awaited<B: Builder>(
-    alloc: Global,
-    limits: Limits,
-    table: &mut Table,
-    taken: u64,
-    stage: Stage<B>,
-    piece: &[u8],
-) -> Result<Stepped<B>, Fault>
-    requires stands { ¬ (stage ≡ Stage.Failed)
-        → IsWithinItem B.building.stands tree_building.stands (no_deeper B.DEPTH limits) table.old taken stage }
-    requires some { 0 < length piece.now }
-    ensures steps { (offset : ℕ) (z : List ℕ)
-        → StandsIn B.building.stands tree_building.stands (no_deeper B.DEPTH limits)
-        (types table.old) offset stage z
-        → StepsOn B.building.stands tree_building.stands B.building.means (no_deeper B.DEPTH limits)
-        (types table.old) offset z piece.now (types table.new) result }
-    ensures some { IfOk result (λ stepped. 0 < stepped.used) }
-    ensures whole { length piece.now ≤ bytes_wanted stage taken
-        → IfOk result (λ stepped. stepped.used ≡ length piece.now) }
-    ensures failed { stage ≡ Stage.Failed → result ≡ Err Fault.Failed }
-    ensures most { table.new.most ≡ table.old.most }
-    ensures unchanged { OnErr result (table.new ≡ table.old) }
-    ensures limits { AreLimits deepest limits }
-{
-    match stage {
-        Stage::Count { begin, number } => match take_count(limits, begin, taken, number, piece) {
-            Ok(stepped) => Ok(stepped),
-            Err(refusal) => Err(Fault::Refused(refusal)),
-        },
-        Stage::TypeNumber { body, number } => {
-            take_type_number(alloc, limits, table, body, taken, number, piece)
+impl<B: Builder> Stage<B> {
+    /// Takes some bytes of what is awaited from the front of the piece.
+    pub(crate) fn take(
+        self,
+        around: &Around,
+        table: &mut Table,
+        piece: &[u8],
+    ) -> Result<Stepped<B>, Fault>
+        requires stands { ¬ (self ≡ Stage.Failed) → IsWithinItem B.building.stands tree_building.stands
+            (no_deeper B.DEPTH around.now.limits) table.old around.now.taken self }
+        requires some { 0 < length piece.now }
+        ensures { StageAnswers B.building.stands tree_building.stands B.building.means
+            (no_deeper B.DEPTH around.now.limits) table.old around.now.taken self piece.now table.new result }
+    {
+        // its contract says that an offset up to the limit, and a count behind it, don't wrap
+        let _most = around.limits.stream();
+        match self {
+            Stage::Count(count) => count.take(around, piece),
+            Stage::TypeNumber(type_number) => type_number.take(around, table, piece),
+            Stage::Value(value) => value.take(around, table, piece),
+            Stage::Description(description) => description.take(around, table, piece),
+            Stage::Failed => Err(Fault::Failed),
         }
-        Stage::Value { id, rest, reader } => take_value(alloc, table, id, rest, reader, piece),
-        Stage::Description { id, rest, reader } => {
-            take_description(alloc, table, id, rest, reader, piece)
-        }
-        Stage::Failed => Err(Fault::Failed),
     }
 }

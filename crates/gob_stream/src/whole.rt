@@ -115,7 +115,7 @@ impl<B: Builder> Session<B> {
         ensures fits { IfSome result (λ announced. announced.used + announced.count < 2 ^ 64) }
     {
         match &self.stage {
-            Stage::Count { begin, .. } if *begin == self.taken => {}
+            Stage::Count(count) if count.begin == self.taken => {}
             _ => return None,
         }
         let Taken::Whole {
@@ -168,8 +168,8 @@ impl<B: Builder> Session<B> {
         // its contract says that no stream is so long that the sum wraps
         let _most = self.limits.stream();
         self.taken += used as u64;
-        if let Stage::Count { begin, .. } = &mut self.stage {
-            *begin = self.taken;
+        if let Stage::Count(count) = &mut self.stage {
+            count.begin = self.taken;
         }
     }
 }

@@ -1,15 +1,15 @@
 //! Writing a stream item by item.
 
-ghost use Rattle.std.specs.Prelude.{true, false, ◌≡◌, ◌+◌, ◌^◌, ◌<◌, ◌++◌, length, IfOk, IfErr, OnOk, OnErr};
-ghost use Rattle.std.specs.Io.KnownBytes.{Appends};
+ghost use Rattle.std.specs.Prelude.{◌+◌, ◌^◌, ◌<◌, ◌++◌, length, IfOk};
 ghost use Rattle.gob_value.specs.Tree.{Tree};
 ghost use Rattle.gob_value.specs.View.{view};
 ghost use Rattle.gob_stream.specs.Bounds.{within_trees};
 ghost use Rattle.gob_stream.specs.Ends.{failed_writes, writer_of};
 ghost use Rattle.gob_stream.specs.Item.{defines, puts, item_view};
-ghost use Rattle.gob_stream.specs.Writing.{IsNew, WritesNext, Leaves, AnswersFailed, CountsWriterFaults, SentFront};
+ghost use Rattle.gob_stream.specs.Writing.{IsNew, WritesNext, Leaves, AnswersFailed, CountsWriterFaults, SendAnswers};
 ghost use Rattle.gob_stream.specs.Writing.{IsSpelling, IsSpelledAs, HasWriterFailed, writer_limits, writer_types};
 
+use crate::denial::define_admitted;
 use crate::fault::WriteFault;
 use crate::item::Item;
 use crate::limits::Limits;
@@ -95,11 +95,8 @@ impl StreamWriter {
         let limits = self.limits.up_to(Limits::GREATEST_DEPTH);
         let shape = spell_definition(alloc, &self.types, &limits, id, described, &mut self.body)?;
         begin_item(alloc, &limits, self.offset, &self.body, &[], &mut self.item)?;
-        match self.types.define(alloc, id, shape) {
-            Ok(()) => self.send(output, &[]),
-            // the table admits the type, so nothing but memory can be wanting
-            Err(_) => Err(WriteFault::Memory),
-        }
+        define_admitted(alloc, &mut self.types, id, shape)?;
+        self.send(output, &[])
     }
 
     /// Writes a value of a type. Refused, in this order: a type that leads to one that isn't defined, or is 24, as
@@ -195,16 +192,8 @@ impl StreamWriter {
     // until the last of them is out.
     fn send<W: Write>(&mut self, output: &mut Output<W>, rest: &[u8]) -> Result<(), WriteFault>
         requires { self.old.offset + length (self.old.item.items ++ rest.now) < 2 ^ 64 }
-        ensures ok { OnOk result (Appends (W.contents (writer_of output.old)) (W.contents (writer_of output.new))
-            (self.old.item.items ++ rest.now)) }
-        ensures behind { OnOk result (self.new ≡ record self.old {
-          offset = self.old.offset + length (self.old.item.items ++ rest.now);
-          failed = false;
-        }) }
-        ensures front { OnErr result (SentFront (self.old.item.items ++ rest.now)
-            (W.contents (writer_of output.old)) (W.contents (writer_of output.new))) }
-        ensures failed { OnErr result (self.new ≡ record self.old { failed = true }) }
-        ensures fault { IfErr result (λ fault. fault ≡ WriteFault.Write) }
+        ensures sends { SendAnswers self.old self.new (self.old.item.items ++ rest.now)
+            (W.contents (writer_of output.old)) (W.contents (writer_of output.new)) result }
         ensures counted { CountsWriterFaults (failed_writes output.old) (failed_writes output.new) result }
     {
         self.failed = true;

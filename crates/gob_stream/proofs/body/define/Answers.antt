@@ -1,11 +1,13 @@
+use Rattle.std.proofs.Common.{refl}
+use Rattle.std.proofs.lemmas.Result.{err_from_is_err_and}
 use Rattle.gob_value.specs.View.{view}
-use Rattle.gob_stream.proofs.DenialLaws.{description_denied}
-use Rattle.gob_stream.proofs.FaultSteps.{passed}
+use Rattle.gob_stream.proofs.DenialLaws.{description_denied, defines_as}
 use Rattle.gob_stream.proofs.body.define.Goals as goal
 
-pub returns-in_err-shape-clause-err : goal.returns-in_err-shape-clause-err
-returns-in_err-shape-clause-err c =
-    passed c.from_residual.result _ c.from_residual.ensures.1 (description_denied c.args.id (view c.args.described.now) c.in_err-shape.field-0.0 c.in_err-shape.ensures.fault)
+pub returns-in_err-shape : goal.returns-in_err-shape
+returns-in_err-shape c =
+    let p = err_from_is_err_and c.from_residual.result c.from_residual.ensures.1 in
+    rw (p.1, p.2) (description_denied c.args.id (view c.args.described.now) c.in_err-shape.field-0.0 c.in_err-shape.ensures.fault, refl)
 
-pub returns-in-Ok-clause-ok : goal.returns-in-Ok-clause-ok
-returns-in-Ok-clause-ok c = record { shape = c.in_ok-shape.shape; describes = c.in_ok-shape.ensures.shape; behind = c.in-Ok.ensures.defined }
+pub returns : goal.returns
+returns c = defines_as c.args.id (view c.args.described.now) c.in_ok-shape.shape c.args.table.now c.define_admitted.new.table c.define_admitted.result c.in_ok-shape.ensures.shape c.define_admitted.ensures

@@ -1,6 +1,9 @@
 use Rattle.std.proofs.Common.{arith}
-use Rattle.gob_stream.proofs.WholeSteps.{has_count}
+use Rattle.gob_stream.proofs.WholeSteps.{between_at, has_count}
 use Rattle.gob_stream.proofs.session.Session.announced.Goals as goal
+
+pub returns-clause-between : goal.returns-clause-between
+returns-clause-between g c = rw (← c.self.view_is) (between_at c.in-Count.is c.if-count-self.true)
 
 pub returns-clause-count : goal.returns-clause-count
 returns-clause-count g c =

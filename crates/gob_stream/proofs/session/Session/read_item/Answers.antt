@@ -1,13 +1,36 @@
-use Rattle.std.proofs.Common.{◌≢◌, ◌<◌, ◌++◌, length, take, drop, Some, Ok, Err, inl, inr, arith, refl, sym, ap, ◌∙◌}
+use Rattle.std.proofs.Common.{◌≢◌, ℕ, List, ◌<◌, ◌++◌, length, take, drop, Some, Ok, Err, inl, inr, arith, refl, sym, ap, ◌∙◌}
 use Rattle.std.proofs.lemmas.Grind.{common_steps}
+use Rattle.std.specs.Io.KnownBytes.{Consumes}
 use Rattle.gob_types.specs.Defined.{types}
 use Rattle.gob_stream.specs.declared.stage.Stage.TheVariants as stage
 use Rattle.gob_stream.specs.Reading.{ReadsNext, TakesNext}
 use Rattle.gob_stream.specs.ReadParts.{bytes_wanted}
 use Rattle.gob_stream.proofs.HonestLaws.{reads_honestly}
-use Rattle.gob_stream.proofs.SessionSteps.{told_trees, types_stay, on_err, consumed_nothing, all_taken, somewhere, stood_first, after_room, stood_on, passed_on, IsRead, piece_length, piece_consumed, stepped, stood_before, step_stops, read_stops, end_stops, counts_none, step_unread, end_unread, nothing_more, step_gives, gives_taken, step_taken, item_within, no_less, stood_further, sound_after}
+use Rattle.gob_stream.proofs.SessionSteps.{told_trees, types_stay, on_err, consumed_nothing, all_taken, somewhere, stood_first, after_room, stood_on, passed_on, IsRead, piece_length, piece_consumed, Stepped, stepped, stood_before, step_stops, read_stops, end_stops, counts_none, step_unread, end_unread, nothing_more, step_gives, gives_taken, step_taken, item_within, no_less, stood_further, sound_after}
+use Rattle.gob_stream.proofs.session.Session.read_item.Given as given
 use Rattle.gob_stream.proofs.session.Session.read_item.Goals as goal
-use Rattle.gob_stream.proofs.session.Session.read_item.Goals.{in-Failed, in_default}
+use Rattle.gob_stream.proofs.session.Session.read_item.Goals.{in-Failed, in_default, In-Ok, In_err-step-in-Ok, In_ok-step-in-Ok}
+
+-- so many bytes were read, and no more than are wanted
+read_some : (g : given.Over) (c : goal.In-Ok g) → IsRead c.in-Ok.n (bytes_wanted c.pieces.self.stage c.pieces.self.taken) c.read.new.buf
+read_some g c =
+    let room = after_room (stood_on c.pieces.invariant.began c.pieces.invariant.stood).after in
+    record { some = grind (arith, common_steps); within = grind (arith, common_steps); few = grind (arith, common_steps) }
+
+-- what was read, and what the step over it answered
+abbrev piece_of : (g : given.Over) (c : goal.In-Ok g) → List ℕ
+piece_of g c = take c.in-Ok.n (c.read.new.buf ++ drop c.min-wanted.result c.pieces.chunk)
+
+consumed : (g : given.Over) (c : goal.In-Ok g) → Consumes (g.R.Read.remaining c.pieces.input.reader) (g.R.Read.remaining c.read.new.self.reader) (piece_of g c)
+consumed g c = piece_consumed (g.R.Read.remaining c.pieces.input.reader) (g.R.Read.remaining c.read.new.self.reader) (drop c.min-wanted.result c.pieces.chunk) (read_some g c) c.in-Ok.ensures.bytes.0
+
+refused_step : (g : given.Over) (c : goal.In_err-step-in-Ok g) → IsRead c.in-Ok.n (bytes_wanted c.pieces.self.stage c.pieces.self.taken) c.read.new.buf
+    → Stepped g.B.Builder.building.stands told_trees g.B.Builder.building.means g.B.Builder.DEPTH c.pieces.self c.step.new.self (take c.in-Ok.n (c.read.new.buf ++ drop c.min-wanted.result c.pieces.chunk)) (Err c.in_err-step-in-Ok.field-0.0)
+refused_step g c read = stepped g.B.Builder.building.stands told_trees g.B.Builder.building.means g.B.Builder.DEPTH c.pieces.self c.step.new.self (drop c.min-wanted.result c.pieces.chunk) (Err c.in_err-step-in-Ok.field-0.0) read c.in_err-step-in-Ok.ensures.advances
+
+taken_step : (g : given.Over) (c : goal.In_ok-step-in-Ok g) → IsRead c.in-Ok.n (bytes_wanted c.pieces.self.stage c.pieces.self.taken) c.read.new.buf
+    → Stepped g.B.Builder.building.stands told_trees g.B.Builder.building.means g.B.Builder.DEPTH c.pieces.self c.step.new.self (take c.in-Ok.n (c.read.new.buf ++ drop c.min-wanted.result c.pieces.chunk)) (Ok c.in_ok-step-in-Ok.step)
+taken_step g c read = stepped g.B.Builder.building.stands told_trees g.B.Builder.building.means g.B.Builder.DEPTH c.pieces.self c.step.new.self (drop c.min-wanted.result c.pieces.chunk) (Ok c.in_ok-step-in-Ok.step) read c.in_ok-step-in-Ok.ensures.advances
 
 pub pieces-init : goal.pieces-init
 pieces-init g c =
@@ -71,15 +94,11 @@ returns-in-Ok-eq0-clause-taken g c =
 
 pub returns-in_err-step-in-Ok-clause-read : goal.returns-in_err-step-in-Ok-clause-read
 returns-in_err-step-in-Ok-clause-read g c = λ items bytes rest a e.
-    let room = after_room (stood_on c.pieces.invariant.began c.pieces.invariant.stood).after in
-    let read : IsRead c.in-Ok.n (bytes_wanted c.pieces.self.stage c.pieces.self.taken) c.read.new.buf =
-    record { some = grind (arith, common_steps); within = grind (arith, common_steps); few = grind (arith, common_steps) } in
-    let tail = drop c.min-wanted.result c.pieces.chunk in
-    let piece = take c.in-Ok.n (c.read.new.buf ++ tail) in
-    let step = stepped g.B.Builder.building.stands told_trees g.B.Builder.building.means g.B.Builder.DEPTH c.pieces.self c.step.new.self tail (Err c.in_err-step-in-Ok.field-0.0) read c.in_err-step-in-Ok.ensures.advances in
+    let read = read_some g (goal.at.returns-in_err-step-in-Ok-clause-read g c).In-Ok in
+    let step = refused_step g (goal.at.returns-in_err-step-in-Ok-clause-read g c).In_err-step-in-Ok read in
     passed_on (λ r. ReadsNext g.B.Builder.building.stands told_trees g.B.Builder.building.means g.B.Builder.DEPTH c.args.self.now c.step.new.self items bytes rest (g.R.Read.remaining c.read.new.self.reader) r)
     c.from_residual-in_err-step-in-Ok.result _ c.from_residual-in_err-step-in-Ok.ensures.1
-    (step_stops piece _ c.pieces.invariant.limits step (stood_before piece e (piece_consumed (g.R.Read.remaining c.pieces.input.reader) (g.R.Read.remaining c.read.new.self.reader) tail read c.in-Ok.ensures.bytes.0) (c.pieces.invariant.stood.each items bytes a)))
+    (step_stops _ _ c.pieces.invariant.limits step (stood_before _ e (consumed g (goal.at.returns-in_err-step-in-Ok-clause-read g c).In-Ok) (c.pieces.invariant.stood.each items bytes a)))
 
 pub returns-in_err-step-in-Ok-clause-honest : goal.returns-in_err-step-in-Ok-clause-honest
 returns-in_err-step-in-Ok-clause-honest g c = λ items bytes rest a e.
@@ -87,22 +106,15 @@ returns-in_err-step-in-Ok-clause-honest g c = λ items bytes rest a e.
 
 pub returns-in_err-step-in-Ok-clause-counted : goal.returns-in_err-step-in-Ok-clause-counted
 returns-in_err-step-in-Ok-clause-counted g c =
-    let room = after_room (stood_on c.pieces.invariant.began c.pieces.invariant.stood).after in
-    let read : IsRead c.in-Ok.n (bytes_wanted c.pieces.self.stage c.pieces.self.taken) c.read.new.buf =
-    record { some = grind (arith, common_steps); within = grind (arith, common_steps); few = grind (arith, common_steps) } in
-    let tail = drop c.min-wanted.result c.pieces.chunk in
-    let piece = take c.in-Ok.n (c.read.new.buf ++ tail) in
-    let step = stepped g.B.Builder.building.stands told_trees g.B.Builder.building.means g.B.Builder.DEPTH c.pieces.self c.step.new.self tail (Err c.in_err-step-in-Ok.field-0.0) read c.in_err-step-in-Ok.ensures.advances in
+    let read = read_some g (goal.at.returns-in_err-step-in-Ok-clause-counted g c).In-Ok in
+    let step = refused_step g (goal.at.returns-in_err-step-in-Ok-clause-counted g c).In_err-step-in-Ok read in
     counts_none c.args.input.now.failures c.read.new.self.failures c.from_residual-in_err-step-in-Ok.result _ c.from_residual-in_err-step-in-Ok.ensures.1
-    (step_unread piece _ (stood_on c.pieces.invariant.began c.pieces.invariant.stood) step) (c.in-Ok.ensures.counted.1 ∙ c.pieces.invariant.failures)
+    (step_unread _ _ (stood_on c.pieces.invariant.began c.pieces.invariant.stood) step) (c.in-Ok.ensures.counted.1 ∙ c.pieces.invariant.failures)
 
 pub returns-in_err-step-in-Ok-clause-taken : goal.returns-in_err-step-in-Ok-clause-taken
 returns-in_err-step-in-Ok-clause-taken g c =
     let room = after_room (stood_on c.pieces.invariant.began c.pieces.invariant.stood).after in
-    let read : IsRead c.in-Ok.n (bytes_wanted c.pieces.self.stage c.pieces.self.taken) c.read.new.buf =
-    record { some = grind (arith, common_steps); within = grind (arith, common_steps); few = grind (arith, common_steps) } in
-    let tail = drop c.min-wanted.result c.pieces.chunk in
-    let piece = take c.in-Ok.n (c.read.new.buf ++ tail) in
+    let read = read_some g (goal.at.returns-in_err-step-in-Ok-clause-taken g c).In-Ok in
     let limit = ap (λ L. L.stream) c.pieces.invariant.limits in
     let less = no_less c.pieces.invariant.grown in
     passed_on (λ r. TakesNext c.args.self.now c.step.new.self c.args.input.now.taken c.read.new.self.taken r) c.from_residual-in_err-step-in-Ok.result _ c.from_residual-in_err-step-in-Ok.ensures.1
@@ -110,64 +122,49 @@ returns-in_err-step-in-Ok-clause-taken g c =
 
 pub returns-in-Some-clause-read : goal.returns-in-Some-clause-read
 returns-in-Some-clause-read g c = λ items bytes rest a e.
-    let room = after_room (stood_on c.pieces.invariant.began c.pieces.invariant.stood).after in
-    let read : IsRead c.in-Ok.n (bytes_wanted c.pieces.self.stage c.pieces.self.taken) c.read.new.buf =
-    record { some = grind (arith, common_steps); within = grind (arith, common_steps); few = grind (arith, common_steps) } in
-    let tail = drop c.min-wanted.result c.pieces.chunk in
-    let piece = take c.in-Ok.n (c.read.new.buf ++ tail) in
-    let step = stepped g.B.Builder.building.stands told_trees g.B.Builder.building.means g.B.Builder.DEPTH c.pieces.self c.step.new.self tail (Ok c.in_ok-step-in-Ok.step) read c.in_ok-step-in-Ok.ensures.advances in
+    let read = read_some g (goal.at.returns-in-Some-clause-read g c).In-Ok in
+    let step = taken_step g (goal.at.returns-in-Some-clause-read g c).In_ok-step-in-Ok read in
     let used = c.in_ok-step-in-Ok.ensures.whole step.few in
-    gives_taken piece c.in_ok-step-in-Ok.step step used c.in_ok-step-in-Ok.ensures.between (c.in-Some.is ∙ ap Some (sym c.in-Some.item-is)) (stood_before piece e (piece_consumed (g.R.Read.remaining c.pieces.input.reader) (g.R.Read.remaining c.read.new.self.reader) tail read c.in-Ok.ensures.bytes.0) (c.pieces.invariant.stood.each items bytes a))
+    gives_taken _ c.in_ok-step-in-Ok.step step used c.in_ok-step-in-Ok.ensures.between (c.in-Some.is ∙ ap Some (sym c.in-Some.item-is)) (stood_before _ e (consumed g (goal.at.returns-in-Some-clause-read g c).In-Ok) (c.pieces.invariant.stood.each items bytes a))
 
 pub returns-in-Some-clause-taken : goal.returns-in-Some-clause-taken
 returns-in-Some-clause-taken g c =
-    let room = after_room (stood_on c.pieces.invariant.began c.pieces.invariant.stood).after in
-    let read : IsRead c.in-Ok.n (bytes_wanted c.pieces.self.stage c.pieces.self.taken) c.read.new.buf =
-    record { some = grind (arith, common_steps); within = grind (arith, common_steps); few = grind (arith, common_steps) } in
-    let tail = drop c.min-wanted.result c.pieces.chunk in
-    let piece = take c.in-Ok.n (c.read.new.buf ++ tail) in
-    let step = stepped g.B.Builder.building.stands told_trees g.B.Builder.building.means g.B.Builder.DEPTH c.pieces.self c.step.new.self tail (Ok c.in_ok-step-in-Ok.step) read c.in_ok-step-in-Ok.ensures.advances in
+    let read = read_some g (goal.at.returns-in-Some-clause-taken g c).In-Ok in
+    let step = taken_step g (goal.at.returns-in-Some-clause-taken g c).In_ok-step-in-Ok read in
     let used = c.in_ok-step-in-Ok.ensures.whole step.few in
     let w = stood_on c.pieces.invariant.began c.pieces.invariant.stood in
     let less = no_less c.pieces.invariant.grown in
     let limit = ap (λ L. L.stream) (c.in_ok-step-in-Ok.ensures.limits ∙ c.pieces.invariant.limits) in
-    let size = piece_length tail read in
-    let grown = step_taken piece c.in_ok-step-in-Ok.step used w step in
-    let within = item_within (step_gives piece c.in_ok-step-in-Ok.step step used c.in_ok-step-in-Ok.ensures.between c.in-Some.is w.after) in
+    let size = piece_length (drop c.min-wanted.result c.pieces.chunk) read in
+    let grown = step_taken _ c.in_ok-step-in-Ok.step used w step in
+    let within = item_within (step_gives _ c.in_ok-step-in-Ok.step step used c.in_ok-step-in-Ok.ensures.between c.in-Some.is w.after) in
     (omega (arith, c.in-Ok.ensures.counted.0, c.args.input.now.taken_fits), omega (arith, read.some), omega arith)
 
 pub pieces-smaller : goal.pieces-smaller
 pieces-smaller g c =
     let room = after_room (stood_on c.pieces.invariant.began c.pieces.invariant.stood).after in
-    let read : IsRead c.in-Ok.n (bytes_wanted c.pieces.self.stage c.pieces.self.taken) c.read.new.buf =
-    record { some = grind (arith, common_steps); within = grind (arith, common_steps); few = grind (arith, common_steps) } in
-    let tail = drop c.min-wanted.result c.pieces.chunk in
-    let piece = take c.in-Ok.n (c.read.new.buf ++ tail) in
-    let step = stepped g.B.Builder.building.stands told_trees g.B.Builder.building.means g.B.Builder.DEPTH c.pieces.self c.step.new.self tail (Ok c.in_ok-step-in-Ok.step) read c.in_ok-step-in-Ok.ensures.advances in
+    let read = read_some g (goal.at.pieces-smaller g c).In-Ok in
+    let step = taken_step g (goal.at.pieces-smaller g c).In_ok-step-in-Ok read in
     let used = c.in_ok-step-in-Ok.ensures.whole step.few in
     let w = stood_on c.pieces.invariant.began c.pieces.invariant.stood in
-    let size = piece_length tail read in
-    let grown = step_taken piece c.in_ok-step-in-Ok.step used w step in
+    let size = piece_length (drop c.min-wanted.result c.pieces.chunk) read in
+    let grown = step_taken _ c.in_ok-step-in-Ok.step used w step in
     let limit = ap (λ L. L.stream) c.in_ok-step-in-Ok.ensures.limits in
     let more = read.some in let within = room.within in let some = room.some in
     omega arith
 
 pub pieces-preserved : goal.pieces-preserved
 pieces-preserved g c =
-    let room = after_room (stood_on c.pieces.invariant.began c.pieces.invariant.stood).after in
-    let read : IsRead c.in-Ok.n (bytes_wanted c.pieces.self.stage c.pieces.self.taken) c.read.new.buf =
-    record { some = grind (arith, common_steps); within = grind (arith, common_steps); few = grind (arith, common_steps) } in
-    let tail = drop c.min-wanted.result c.pieces.chunk in
-    let piece = take c.in-Ok.n (c.read.new.buf ++ tail) in
-    let step = stepped g.B.Builder.building.stands told_trees g.B.Builder.building.means g.B.Builder.DEPTH c.pieces.self c.step.new.self tail (Ok c.in_ok-step-in-Ok.step) read c.in_ok-step-in-Ok.ensures.advances in
+    let read = read_some g (goal.at.pieces-preserved g c).In-Ok in
+    let step = taken_step g (goal.at.pieces-preserved g c).In_ok-step-in-Ok read in
     let used = c.in_ok-step-in-Ok.ensures.whole step.few in
     let w = stood_on c.pieces.invariant.began c.pieces.invariant.stood in
-    let size = piece_length tail read in
-    let grown = step_taken piece c.in_ok-step-in-Ok.step used w step in
+    let size = piece_length (drop c.min-wanted.result c.pieces.chunk) read in
+    let grown = step_taken _ c.in_ok-step-in-Ok.step used w step in
     let less = no_less c.pieces.invariant.grown in
     let more = read.some in
-    let consumed = piece_consumed (g.R.Read.remaining c.pieces.input.reader) (g.R.Read.remaining c.read.new.self.reader) tail read c.in-Ok.ensures.bytes.0 in
-    let stood = stood_further piece c.in_ok-step-in-Ok.step consumed step used c.in_default-item.is c.pieces.invariant.stood in
+    let taken = consumed g (goal.at.pieces-preserved g c).In-Ok in
+    let stood = stood_further _ c.in_ok-step-in-Ok.step taken step used c.in_default-item.is c.pieces.invariant.stood in
     record {
       chunk = grind (arith, common_steps);
       began = c.pieces.invariant.began;

@@ -2,7 +2,6 @@ use Rattle.std.proofs.Common.{[], refl, ap}
 use Rattle.std.proofs.lemmas.Result.{err_from_is_err_and}
 use Rattle.gob_value.specs.View.{view}
 use Rattle.gob_stream.specs.Bounds.{within_trees}
-use Rattle.gob_stream.specs.declared.denial.Denial.TheVariants as denial
 use Rattle.gob_stream.specs.Item.{defines}
 use Rattle.gob_stream.specs.WriterRefusal.{refused_body}
 use Rattle.gob_stream.proofs.DenialLaws.{denial_weaker}
@@ -25,13 +24,19 @@ returns-in_err-begin_item-clause-writes g c = λ items bytes T written.
     rw (p.1, p.2) (denied_writes (within_trees w.limits) w (record w { body = c.spell_definition.new.body; item = c.begin_item.new.item }) items bytes T (defines c.args.id (view c.args.described.now)) _ c.in_err-begin_item.field-0.0 written
     (denial_weaker _ (λ r. refused_body (body_alone ((rw c.up_to-limits.ensures at c.in_ok-shape.ensures.ok) written.room))) refused))
 
-pub returns-in-Ok-clause-writes : goal.returns-in-Ok-clause-writes
-returns-in-Ok-clause-writes g c = λ items bytes T written.
+pub returns-in_err-define_admitted-clause-writes : goal.returns-in_err-define_admitted-clause-writes
+returns-in_err-define_admitted-clause-writes g c = λ items bytes T written.
+    let p = err_from_is_err_and c.from_residual-in_err-define_admitted.result c.from_residual-in_err-define_admitted.ensures.1 in
+    rw (p.1, p.2, c.in_err-define_admitted.ensures.0) tt
+
+pub returns-clause-writes : goal.returns-clause-writes
+returns-clause-writes g c = λ items bytes T written.
     let w = c.args.self.now in
     let whole = rw (c.deref.ensures.value, c.up_to-limits.ensures) at c.in_ok-begin_item.ensures.ok in
-    sent_writes (within_trees w.limits) w (record w { types = c.define.new.self; body = c.spell_definition.new.body; item = c.begin_item.new.item }) c.send.new.self [] items bytes T _ (defines c.args.id (view c.args.described.now)) _ _ c.send.result written
-    (record { limits = refl; within = trees_within w.limits; offset = refl; most = c.in-Ok.ensures.most; table = c.in-Ok.ensures.defined; item = whole_item (body_alone ((rw c.up_to-limits.ensures at c.in_ok-shape.ensures.ok) written.room)) whole })
-    c.send.ensures.ok c.send.ensures.behind c.send.ensures.front c.send.ensures.fault
+    let added = c.in_ok-define_admitted.ensures in
+    sent_writes (within_trees w.limits) w (record w { types = c.define_admitted.new.table; body = c.spell_definition.new.body; item = c.begin_item.new.item }) c.send.new.self [] items bytes T _ (defines c.args.id (view c.args.described.now)) _ _ c.send.result written
+    (record { limits = refl; within = trees_within w.limits; offset = refl; most = added.1; table = added.0; item = whole_item (body_alone ((rw c.up_to-limits.ensures at c.in_ok-shape.ensures.ok) written.room)) whole })
+    c.send.ensures.sends
 
 pub returns-in_err-shape-clause-leaves : goal.returns-in_err-shape-clause-leaves
 returns-in_err-shape-clause-leaves g c =
@@ -45,13 +50,14 @@ returns-in_err-begin_item-clause-leaves g c =
     let w = c.args.self.now in
     rw (p.1, p.2) (denied_leaves w (record w { body = c.spell_definition.new.body; item = c.begin_item.new.item }) _ c.in_err-begin_item.field-0.0 refl)
 
-pub returns-in-Err-clause-leaves : goal.returns-in-Err-clause-leaves
-returns-in-Err-clause-leaves g c =
+pub returns-in_err-define_admitted-clause-leaves : goal.returns-in_err-define_admitted-clause-leaves
+returns-in_err-define_admitted-clause-leaves g c =
+    let p = err_from_is_err_and c.from_residual-in_err-define_admitted.result c.from_residual-in_err-define_admitted.ensures.1 in
     let w = c.args.self.now in
     let spelled = record w { body = c.spell_definition.new.body; item = c.begin_item.new.item } in
-    denied_leaves w (record spelled { types = c.define.new.self }) _ denial.Memory (ap (λ t. record spelled { types = t }) c.in-Err.ensures.unchanged)
+    rw (p.1, p.2) (denied_leaves w (record spelled { types = c.define_admitted.new.table }) _ c.in_err-define_admitted.field-0.0 (ap (λ t. record spelled { types = t }) c.in_err-define_admitted.ensures.1))
 
-pub returns-in-Ok-clause-leaves : goal.returns-in-Ok-clause-leaves
-returns-in-Ok-clause-leaves g c =
+pub returns-clause-leaves : goal.returns-clause-leaves
+returns-clause-leaves g c =
     let w = c.args.self.now in
-    sent_leaves w (record w { types = c.define.new.self; body = c.spell_definition.new.body; item = c.begin_item.new.item }) c.send.new.self _ _ _ c.send.result c.send.ensures.behind c.send.ensures.failed c.send.ensures.fault
+    sent_leaves w (record w { types = c.define_admitted.new.table; body = c.spell_definition.new.body; item = c.begin_item.new.item }) c.send.new.self _ _ _ c.send.result c.send.ensures.sends

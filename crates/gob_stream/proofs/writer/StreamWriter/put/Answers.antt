@@ -30,7 +30,7 @@ returns-clause-writes g c = λ items bytes T written.
     let whole = rw (c.deref.ensures.value, c.up_to-limits.ensures) at c.in_ok-begin_item.ensures.ok in
     sent_writes (within_trees w.limits) w (record w { body = c.spell_value.new.body; item = c.begin_item.new.item }) c.send.new.self [] items bytes T _ (puts c.args.id (view c.args.value.now)) _ _ c.send.result written
     (record { limits = refl; within = trees_within w.limits; offset = refl; most = refl; table = refl; item = whole_item (body_alone (rw c.up_to-limits.ensures at c.in_ok-spell_value.ensures.ok)) whole })
-    c.send.ensures.ok c.send.ensures.behind c.send.ensures.front c.send.ensures.fault
+    c.send.ensures.sends
 
 pub returns-in_err-spell_value-clause-leaves : goal.returns-in_err-spell_value-clause-leaves
 returns-in_err-spell_value-clause-leaves g c =
@@ -47,4 +47,4 @@ returns-in_err-begin_item-clause-leaves g c =
 pub returns-clause-leaves : goal.returns-clause-leaves
 returns-clause-leaves g c =
     let w = c.args.self.now in
-    sent_leaves w (record w { body = c.spell_value.new.body; item = c.begin_item.new.item }) c.send.new.self _ _ _ c.send.result c.send.ensures.behind c.send.ensures.failed c.send.ensures.fault
+    sent_leaves w (record w { body = c.spell_value.new.body; item = c.begin_item.new.item }) c.send.new.self _ _ _ c.send.result c.send.ensures.sends

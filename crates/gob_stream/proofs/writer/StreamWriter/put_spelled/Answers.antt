@@ -28,7 +28,7 @@ returns-clause-writes g c = λ v spelled items bytes T written.
     let whole = rw c.deref.ensures.value at c.in_ok-begin_item.ensures.ok in
     sent_writes w.limits w (record w { body = c.spell_head.new.head; item = c.begin_item.new.item }) c.send.new.self c.args.spelling.now items bytes T _ (puts c.args.id v) _ _ c.send.result written
     (record { limits = refl; within = all_within w.limits; offset = refl; most = refl; table = refl; item = whole_item (c.in_ok-spell_head.ensures.ok w.limits v c.args.spelling.now spelled) whole })
-    c.send.ensures.ok c.send.ensures.behind c.send.ensures.front c.send.ensures.fault
+    c.send.ensures.sends
 
 pub returns-in_err-spell_head-clause-leaves : goal.returns-in_err-spell_head-clause-leaves
 returns-in_err-spell_head-clause-leaves g c =
@@ -45,4 +45,4 @@ returns-in_err-begin_item-clause-leaves g c =
 pub returns-clause-leaves : goal.returns-clause-leaves
 returns-clause-leaves g c =
     let w = c.args.self.now in
-    sent_leaves w (record w { body = c.spell_head.new.head; item = c.begin_item.new.item }) c.send.new.self _ _ _ c.send.result c.send.ensures.behind c.send.ensures.failed c.send.ensures.fault
+    sent_leaves w (record w { body = c.spell_head.new.head; item = c.begin_item.new.item }) c.send.new.self _ _ _ c.send.result c.send.ensures.sends
