@@ -18,7 +18,9 @@ use Rattle.gob_types.specs.declared.kind.Marshal.{Marshal}
 use Rattle.gob_types.specs.declared.kind.Kind.{Kind}
 use Rattle.gob_types.specs.declared.kind.Kind.TheVariants as kind
 use Rattle.gob_types.specs.declared.kind.Shape.{Shape}
-use Rattle.gob_types.specs.Table.{Table, shape_of}
+use Rattle.gob_types.specs.declared.basic.Basic.{Basic}
+use Rattle.gob_types.specs.Table.{Table, shape_of, basic_of}
+use Rattle.gob_types.proofs.PublicLaws.{basic_shape_of}
 use Rattle.gob_value.specs.Tree.{Tree, no_tree, tree, no_pair, pair, no_field, field}
 use Rattle.gob_value.specs.Spelling.{SpellsAs, of_type, of_bool, of_int, of_uint}
 use Rattle.gob_value.specs.Spelling.{of_float, of_complex, of_nil, of_bytes, of_text}
@@ -32,7 +34,7 @@ use Rattle.gob_json.specs.Json.{hex_json, text_json, opaque_json}
 use Rattle.gob_value.specs.Whole.{Stands, BeginsThisNumber}
 use Rattle.gob_value.specs.Written.{HasParts}
 use Rattle.gob_value.proofs.PublicLaws.{leaf_within, whole_of_two}
-use Rattle.gob_json.specs.TextWhole.{TextOfKind, TextOfEach, TextOfPairs, TextOfFields, BeginsThese, field_head}
+use Rattle.gob_json.specs.TextWhole.{TextOfKind, TextOfType, TextOfEach, TextOfPairs, TextOfFields, BeginsThese, field_head}
 
 -- an answer of a place, if any
 pub if_ok : {A E : Type 0} {P Q : A → Type 0} (r : Result A E) → ((x : A) → P x → Q x) → IfOk r P → IfOk r Q
@@ -320,20 +322,33 @@ module _ (T : Table) where
     text = closed;
   }
 
-  pub field_text : (types : List Field) (next limit delta f : ℕ) (e : Field) (s : Shape) (later after : Bool)
+  -- the text of a value of a basic type
+  pub basic_text : {t : TypeId} {b : Basic} {limit : ℕ} {old new : List ℕ} → 0 < limit → basic_of T t ≡ Some b
+      → (x y : List ℕ) → TextOfKind T (kind.Basic b) 1 old new x y → TextOfType T t limit old new x y
+  basic_text {t = t} {limit = limit} {old = old} {new = new} some is x y p =
+      let (s, known, basic) = basic_shape_of T t is in
+      record {
+        shape = s;
+        known = known;
+        of_kind = subst (λ k. TextOfKind T k limit old new x y) (sym basic) (deeper_text T old new some x y p);
+      }
+
+  pub field_text : (types : List Field) (next limit delta f : ℕ) (e : Field) (later after : Bool)
       (old two three four new : List ℕ) → 0 < delta → f + 1 ≡ next + delta → slice_get types f ≡ Some e
-      → shape_of T e.id ≡ Some s → after ≡ true → two ≡ old ++ field_head later f e.name
+      → after ≡ true → two ≡ old ++ field_head later f e.name
       → four ≡ three ++ 93 ∷ [] → (x a y z : List ℕ) → BeginsThisNumber delta x a
-      → TextOfKind T s.kind limit two three a y → TextOfFields T types (f + 1) limit after four new y z
+      → TextOfType T e.id limit two three a y → TextOfFields T types (f + 1) limit after four new y z
       → TextOfFields T types next limit later old new x z
-  field_text types next limit delta f e s later after old two three four new o is here shape true_after head
-      close x a y z p q r =
+  field_text types next limit delta f e later after old two three four new o is here true_after head
+      close x a y z p typed r =
+      let shape = typed.known in
+      let q = typed.of_kind in
       let v = q.within in
       let w = r.within in
       let up : delta ≡ f + 1 - next = omega arith in
       let value = compact_text (value_json T e.id q.value) in
       let rest = items_text true (fields_json T types r.fields) in
-      let own = q.text e.id (record { shape = s; found = shape; same = refl }) in
+      let own = q.text e.id (record { shape = typed.shape; found = shape; same = refl }) in
       let others = r.text ∙ ap (λ b. four ++ items_text b (fields_json T types r.fields)) true_after in
       let shown : Option Field → Data = λ g. triple_json (natural_json f) (text_json (field_name g))
       (value_json T (field_type g) q.value) in

@@ -30,6 +30,12 @@ pub record TextOfKind (T : Table) (k : Kind) (limit : ℕ) (old new piece rest :
   pub whole : piece ≡ bytes ++ rest
   pub text : (t : TypeId) → IsOfKind T t k → new ≡ old ++ compact_text (value_json T t value)
 
+-- the same of a type
+pub record TextOfType (T : Table) (t : TypeId) (limit : ℕ) (old new piece rest : List ℕ) : Type 0 where
+  pub shape : Shape
+  pub known : shape_of T t ≡ Some shape
+  pub of_kind : TextOfKind T shape.kind limit old new piece rest
+
 -- with so many elements, whose text is behind that of others or not, and has the bracket that closes it
 pub record TextOfEach (T : Table) (e : TypeId) (limit count : ℕ) (later : Bool) (old new piece rest : List ℕ)
     : Type 0 where

@@ -2,8 +2,9 @@
 use Rattle.std.proofs.Common.{◌≡◌, ℕ, pos, ◌+◌, ◌-◌, ◌<◌, ◌≤◌, List, [], ◌∷◌, ◌++◌, length, take, drop, min, arith, refl}
 use Rattle.std.proofs.Common.{sym, ap, ◌∙◌, subst, append_assoc, length-append, length-drop}
 use Rattle.std.proofs.Math.Seq.{take-add, take_all}
-use Rattle.std.proofs.lemmas.List.{length-take-le, take-append-drop, append-nil}
+use Rattle.std.proofs.lemmas.List.{length-take-le, take-append-drop, append-nil, drop-drop}
 use Rattle.gob_num.specs.Unsigned.{IsUnsigned}
+use Rattle.gob_num.specs.Place.{IsUnsignedAt}
 use Rattle.gob_num.specs.Signed.{IsSigned}
 use Rattle.gob_num.proofs.PublicLaws.{begins_front}
 use Rattle.gob_num.proofs.PublicLaws.{unsigned_length, unsigned_prefix}
@@ -22,84 +23,80 @@ use Rattle.gob_stream.specs.Body.{MayPut, value}
 use Rattle.gob_stream.specs.Stream.{Counted, counted}
 use Rattle.gob_stream.specs.Standing.{Standing, StandsIn, in_count, StandsAfter, IsUsable, has_failed, stands_after}
 use Rattle.gob_value.specs.Whole.{IsWhole}
-use Rattle.gob_stream.specs.Whole.{IsBetween, HasBody, HasBegun, HasCount, HasItem, PassesItem}
+use Rattle.gob_stream.specs.Whole.{IsBetween, HasBody, HasBegun, HasCount, HasItem, NamesTypeAt, PassesItem}
 use Rattle.gob_stream.specs.Outcome.{GivesItems}
 use Rattle.gob_stream.proofs.StreamLaws.{NoNext, gives_items, one_more}
 use Rattle.gob_stream.proofs.UnderWayLaws.{count_begins_here, none_awaits_count}
 
--- the piece without its front, cut to a length
-cut : (h m : ℕ) (piece : List ℕ) → m ≤ length piece - h → length (take m (drop h piece)) ≡ m
-cut h m piece l = length-take-le m (drop h piece) (omega (arith, length-drop h piece))
+-- the number of a type that stands there, from that number
+pub type_at : {n : ℕ} {id : TypeId} {piece : List ℕ} {at end : ℕ} → IsUnsignedAt n piece at end
+    → ((bytes : List ℕ) → IsUnsigned n bytes → IsSigned (pos id.0) bytes) → NamesTypeAt id piece at end
+type_at p named = record { order = p.order; inside = p.inside; names = named _ p.spelled }
 
--- a list in two
-in_two : (n : ℕ) (z : List ℕ) → take n z ++ take (length z - n) (drop n z) ≡ z
-in_two n z =
-    ap (λ y. take n z ++ y) (take_all (length z - n) (drop n z) (omega (arith, length-drop n z))) ∙ take-append-drop n z
-
-pub has_body : (L : Bounds) (T : Table) (offset : ℕ) (id : TypeId) (piece : List ℕ) (head count behind : ℕ)
-    → HasCount L offset count head piece → count ≤ length piece - head
-    → IsSigned (pos id.0) (take behind (take (head + count - head) (drop head piece))) → MayPut T id
-    → HasBody L T offset id (take (length (take (head + count - head) (drop head piece)) - behind)
-    (drop behind (take (head + count - head) (drop head piece)))) (head + count) piece
-has_body L T offset id piece head count behind a enough names may =
-    let counts = a.counts in
+pub has_body : (L : Bounds) (T : Table) (offset : ℕ) (id : TypeId) (piece : List ℕ) (head count end : ℕ)
+    → HasCount L offset count head piece → count ≤ length piece - head → NamesTypeAt id piece head end
+    → end ≤ head + count → MayPut T id
+    → HasBody L T offset id (take (head + count - end) (drop end piece)) (head + count) piece
+has_body L T offset id piece head count end a enough named within may =
     let inside = a.within in
-    let m = head + count - head in
-    let same : m ≡ count = omega arith in
-    let z = take m (drop head piece) in
-    let size : length z ≡ m = cut head m piece (omega arith) in
+    let order = named.order in
+    let number = take (end - head) (drop head piece) in
+    let body = take (head + count - end) (drop end piece) in
+    let parts : end - head + (head + count - end) ≡ count = omega arith in
+    let behind : drop (end - head) (drop head piece) ≡ drop end piece =
+    drop-drop (end - head) head piece ∙ ap (λ i. drop i piece) (omega arith) in
+    let both : number ++ body ≡ take count (drop head piece) =
+    ap (λ r. number ++ take (head + count - end) r) (sym behind)
+    ∙ sym (take-add (end - head) (head + count - end) (drop head piece)) ∙ ap (λ n. take n (drop head piece)) parts in
+    let size : length (number ++ body) ≡ count =
+    ap length both ∙ length-take-le count (drop head piece) (omega (arith, length-drop head piece)) in
     let first : length (take head piece) ≡ head = length-take-le head piece inside in
-    let both : take behind z ++ take (length z - behind) (drop behind z) ≡ z = in_two behind z in
-    let all : length (take head piece ++ (take behind z ++ take (length z - behind) (drop behind z))) ≡ head + count =
-    length-append (take head piece) (take behind z ++ take (length z - behind) (drop behind z)) ∙ omega
-    (arith, ap length both) in
-    let body_size : length (take behind z ++ take (length z - behind) (drop behind z)) ≡ count = ap length both ∙ size
-    ∙ same in
+    let all : length (take head piece ++ (number ++ body)) ≡ head + count =
+    length-append (take head piece) (number ++ body) ∙ omega arith in
     record {
       count = take head piece;
-      number = take behind z;
-      counts = subst (λ n. IsUnsigned n (take head piece)) (sym body_size) counts;
+      number = number;
+      counts = subst (λ n. IsUnsigned n (take head piece)) (sym size) a.counts;
       item = omega (arith, a.item);
       stream = omega (arith, a.stream);
-      names = names;
+      names = named.names;
       may = may;
       within = omega arith;
-      whole =
-          take-add head count piece ∙ ap (λ n. take head piece ++ take n (drop head piece)) (sym same) ∙ ap
-          (λ y. take head piece ++ y) (sym both);
+      whole = take-add head count piece ∙ ap (λ y. take head piece ++ y) (sym both);
     }
 
 -- the count that stands at the front
-pub has_count : (L : Bounds) (offset count used room : ℕ) (piece : List ℕ) → used ≤ length piece
-    → IsUnsigned count (take used piece) → count ≤ L.item → room ≡ L.stream - offset → used + count ≤ room
-    → HasCount L offset count used piece
-has_count L offset count used room piece inside counts item is_room fits =
-    let some = (unsigned_length counts).0 in
-    let first : length (take used piece) ≡ used = length-take-le used piece inside in
-    record { counts = counts; within = inside; item = item; stream = omega arith }
+pub has_count : (L : Bounds) (offset count used room : ℕ) (piece : List ℕ) → IsUnsignedAt count piece 0 used
+    → count ≤ L.item → room ≡ L.stream - offset → used + count ≤ room → HasCount L offset count used piece
+has_count L offset count used room piece p item is_room fits =
+    let order = p.order in
+    record {
+      counts = subst (λ n. IsUnsigned count (take n piece)) (omega arith) p.spelled;
+      within = p.inside;
+      item = item;
+      stream = omega arith;
+    }
 
 -- an item has begun where its count and its type number are there and a byte is missing
-pub has_begun : (L : Bounds) (T : Table) (offset : ℕ) (id : TypeId) (piece : List ℕ) (used count behind : ℕ)
-    → HasCount L offset count used piece → length piece - used < count
-    → behind ≤ length (take (length piece - used) (drop used piece))
-    → IsSigned (pos id.0) (take behind (take (length piece - used) (drop used piece))) → MayPut T id
-    → HasBegun L T offset id (used + behind) (used + count) piece
-has_begun L T offset id piece used count behind a few inside names may =
-    let z = take (length piece - used) (drop used piece) in
+pub has_begun : (L : Bounds) (T : Table) (offset : ℕ) (id : TypeId) (piece : List ℕ) (used count end : ℕ)
+    → HasCount L offset count used piece → length piece - used < count → NamesTypeAt id piece used end → MayPut T id
+    → HasBegun L T offset id end (used + count) piece
+has_begun L T offset id piece used count end a few named may =
     let inner = a.within in
+    let order = named.order in
+    let inside = named.inside in
     let first : length (take used piece) ≡ used = length-take-le used piece inner in
-    let second : length (take behind z) ≡ behind = length-take-le behind z inside in
-    let same : z ≡ drop used piece = take_all (length piece - used) (drop used piece)
-    (omega (arith, length-drop used piece)) in
+    let second : length (take (end - used) (drop used piece)) ≡ end - used =
+    length-take-le (end - used) (drop used piece) (omega (arith, length-drop used piece)) in
     record {
       announced = count;
       count = take used piece;
-      number = take behind z;
-      rest = drop behind z;
+      number = take (end - used) (drop used piece);
+      rest = drop (end - used) (drop used piece);
       counts = a.counts;
-      names = names;
+      names = named.names;
       whole = sym (take-append-drop used piece)
-          ∙ ap (λ y. take used piece ++ y) (sym same ∙ sym (take-append-drop behind z));
+          ∙ ap (λ y. take used piece ++ y) (sym (take-append-drop (end - used) (drop used piece)));
       before = omega arith;
       all = omega arith;
       stream = omega (arith, a.stream);

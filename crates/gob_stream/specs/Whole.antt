@@ -1,5 +1,5 @@
 -- Items of values that stand whole at the front of a piece, between two items.
-use Rattle.std.specs.Prelude.{◌≡◌, ℕ, pos, ◌+◌, ◌<◌, ◌≤◌, List, [], ◌∷◌, ◌++◌, length, take}
+use Rattle.std.specs.Prelude.{◌≡◌, ℕ, pos, ◌+◌, ◌-◌, ◌<◌, ◌≤◌, List, [], ◌∷◌, ◌++◌, length, take, drop}
 use Rattle.gob_num.specs.Unsigned.{IsUnsigned}
 use Rattle.gob_num.specs.Signed.{IsSigned}
 use Rattle.gob_types.specs.declared.id.TypeId.{TypeId}
@@ -40,6 +40,12 @@ pub record HasCount (L : Bounds) (offset count used : ℕ) (piece : List ℕ) : 
   pub within : used ≤ length piece
   pub item : count ≤ L.item
   pub stream : offset + (used + count) ≤ L.stream
+
+-- the bytes of the piece from one place up to the other are the number of the type, as that of a value
+pub record NamesTypeAt (id : TypeId) (piece : List ℕ) (at end : ℕ) : Type 0 where
+  pub order : at < end
+  pub inside : end ≤ length piece
+  pub names : IsSigned (pos id.0) (take (end - at) (drop at piece))
 
 -- at this offset the piece is the first bytes of an item of so many bytes, and not all of them: its count, and in its head
 -- the number of a type whose values may come

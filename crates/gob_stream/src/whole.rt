@@ -1,17 +1,17 @@
 //! Items of values that stand whole at the front of a piece.
 
-ghost use Rattle.std.specs.Prelude.{◌≡◌, ◌+◌, ◌^◌, ◌<◌, ◌≤◌, ℕ, List, pos, None, IsTrue, IfSome, length, take};
+ghost use Rattle.std.specs.Prelude.{◌≡◌, ◌+◌, ◌^◌, ◌<◌, ℕ, List, pos, None, IsTrue, IfSome};
 ghost use Rattle.gob_num.specs.Unsigned.{IsUnsigned};
 ghost use Rattle.gob_num.specs.Signed.{IsSigned};
 ghost use Rattle.gob_types.specs.Defined.{types};
 ghost use Rattle.gob_stream.specs.Body.{MayPut};
 ghost use Rattle.gob_stream.specs.Session.{IsBetweenItems, table_of, taken_of, limits_of};
 ghost use Rattle.gob_stream.specs.Session.{HasBodyNext, HasBegunNext, HasItemNext, ReadsOn, ReadsValue};
-ghost use Rattle.gob_stream.specs.Whole.{HasCount};
+ghost use Rattle.gob_stream.specs.Whole.{HasCount, NamesTypeAt};
 
 use crate::session::Session;
 use crate::stage::Stage;
-use gob_num::{Taken, take_uint, to_signed};
+use gob_num::{to_signed, uint_at};
 use gob_read::Builder;
 use gob_types::{Table, TypeId};
 use gob_value::is_whole;
@@ -58,7 +58,8 @@ struct Announced {
 #[derive(Clone, Copy)]
 struct Named {
     id: TypeId,
-    used: usize,
+    // Where the type number ends.
+    end: usize,
 }
 
 impl<B: Builder> Session<B> {
@@ -76,11 +77,13 @@ impl<B: Builder> Session<B> {
             return None;
         }
         let used = head + announced.count as usize;
-        let item = &piece[head..used];
-        let named = type_of(&self.types, item)?;
+        let named = type_of(&self.types, piece, head)?;
+        if named.end > used {
+            return None;
+        }
         Some(Whole {
             id: named.id,
-            body: &item[named.used..],
+            body: &piece[named.end..used],
             used,
         })
     }
@@ -98,10 +101,10 @@ impl<B: Builder> Session<B> {
         if announced.count <= (piece.len() - count_end) as u64 {
             return None;
         }
-        let named = type_of(&self.types, &piece[count_end..])?;
+        let named = type_of(&self.types, piece, count_end)?;
         Some(Awaited {
             id: named.id,
-            head: count_end + named.used,
+            head: named.end,
             size: count_end as u64 + announced.count,
         })
     }
@@ -118,13 +121,7 @@ impl<B: Builder> Session<B> {
             Stage::Count(count) if count.begin == self.taken => {}
             _ => return None,
         }
-        let Taken::Whole {
-            number: count,
-            used,
-        } = take_uint(piece)
-        else {
-            return None;
-        };
+        let (count, used) = uint_at(piece, 0)?;
         let room = self.limits.stream().saturating_sub(self.taken);
         if count > self.limits.item() || count > room || used as u64 > room - count {
             return None;
@@ -174,21 +171,19 @@ impl<B: Builder> Session<B> {
     }
 }
 
-// The type number at the front of what stands behind a count, where values of the type may come now.
+// The type number that stands in the piece from the place on, where values of the type may come now. It is looked for in the
+// piece, and not in the item alone: near the end of its bytes a number is found byte by byte.
 #[inline(always)]
-fn type_of(table: &Table, item: &[u8]) -> Option<Named>
-    ensures within { IfSome result (λ named. named.used ≤ length item.now) }
-    ensures names { IfSome result (λ named. IsSigned (pos named.id.0) (take named.used item.now)) }
+fn type_of(table: &Table, piece: &[u8], at: usize) -> Option<Named>
+    ensures names { IfSome result (λ named. NamesTypeAt named.id piece.now at named.end) }
     ensures may { IfSome result (λ named. MayPut (types table.now) named.id) }
 {
-    let Taken::Whole { number, used } = take_uint(item) else {
-        return None;
-    };
+    let (number, end) = uint_at(piece, at)?;
     let id = value_type(number)?;
     if !may_put(table, id) {
         return None;
     }
-    Some(Named { id, used })
+    Some(Named { id, end })
 }
 
 // The type whose number this is, where it is that of a value.

@@ -3,6 +3,7 @@ pub mod GrowthLaws
 pub mod RankLaws
 pub mod FirstLaws
 pub mod TableLaws
+pub mod BasicLaws
 pub mod SetLaws
 pub mod LeastLaws
 pub mod WalkLaws

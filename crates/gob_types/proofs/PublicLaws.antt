@@ -4,3 +4,4 @@ pub use Rattle.gob_types.proofs.GrowthLaws.{Keeps, extends_keeps, names_ready, r
 pub use Rattle.gob_types.proofs.GrowthLaws.{ready_grounded, ready_on, shape_back, shape_of-append, shape_of-append_new}
 pub use Rattle.gob_types.proofs.GrowthLaws.{some_injective}
 pub use Rattle.gob_types.proofs.TableLaws.{base_is_table, shape_of-table, table-push}
+pub use Rattle.gob_types.proofs.BasicLaws.{basic_shape_of}

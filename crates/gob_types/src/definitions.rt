@@ -9,6 +9,7 @@ ghost use Rattle.gob_types.specs.Refused.{RefusesToDefine};
 ghost use Rattle.gob_types.specs.Kept.{front};
 
 use crate::base::enter_base;
+use crate::basic::Basic;
 use crate::entries::Entries;
 use crate::id::TypeId;
 use crate::kind::Shape;
@@ -145,6 +146,12 @@ impl Shapes for Definitions {
     #[inline]
     fn shape_of(&self, id: TypeId) -> Option<&Shape> {
         self.entries.shape_of(id)
+    }
+
+    #[inline]
+    fn basic_of(&self, id: TypeId) -> Option<Basic> {
+        self.learn();
+        id.basic()
     }
 }
 

@@ -1,7 +1,8 @@
 //! Type ids.
 
-ghost use Rattle.std.specs.Prelude.{◌↔◌, IsTrue};
+ghost use Rattle.std.specs.Prelude.{◌≡◌, ◌↔◌, IsTrue};
 
+use crate::basic::Basic;
 use std::fmt;
 
 /// The number of a type in a stream. The ids 1 to 8 and 16 to 24 are those of the base table, and a stream
@@ -10,7 +11,27 @@ use std::fmt;
 pub struct TypeId(pub u64);
 
 impl TypeId {
+    ghost use Rattle.gob_types.specs.Base.{base_table};
     ghost use Rattle.gob_types.specs.Definable.{IsOwnId, IsReference};
+    ghost use Rattle.gob_types.specs.Table.{basic_of};
+
+    /// The basic type of this id, where it is one's: the same in each stream.
+    #[inline]
+    pub(crate) fn basic(self) -> Option<Basic>
+        ensures { result ≡ basic_of base_table self }
+    {
+        match self.0 {
+            1 => Some(Basic::Bool),
+            2 => Some(Basic::Int),
+            3 => Some(Basic::Uint),
+            4 => Some(Basic::Float),
+            5 => Some(Basic::Bytes),
+            6 => Some(Basic::Str),
+            7 => Some(Basic::Complex),
+            8 => Some(Basic::Interface),
+            _ => None,
+        }
+    }
 
     /// The type of descriptions.
     pub const WIRE_TYPE: TypeId = TypeId(16);

@@ -8,6 +8,7 @@ ghost use Rattle.gob_types.specs.Ready.{IsReady};
 ghost use Rattle.gob_types.specs.Kept.{IsKeptReadiness};
 ghost use Rattle.gob_types.specs.Readiness.{IsNotReady};
 
+use crate::basic::Basic;
 use crate::definitions::Definitions;
 use crate::id::TypeId;
 use crate::kind::Shape;
@@ -191,5 +192,10 @@ impl Shapes for Table {
     #[inline]
     fn shape_of(&self, id: TypeId) -> Option<&Shape> {
         self.definitions.shape_of(id)
+    }
+
+    #[inline]
+    fn basic_of(&self, id: TypeId) -> Option<Basic> {
+        self.definitions.basic_of(id)
     }
 }

@@ -14,7 +14,9 @@ use Rattle.gob_types.specs.declared.kind.Marshal.{Marshal}
 use Rattle.gob_types.specs.declared.kind.Kind.{Kind}
 use Rattle.gob_types.specs.declared.kind.Kind.TheVariants as kind
 use Rattle.gob_types.specs.declared.kind.Shape.{Shape}
-use Rattle.gob_types.specs.Table.{Table, shape_of}
+use Rattle.gob_types.specs.Table.{Table, shape_of, basic_of}
+use Rattle.gob_types.specs.declared.basic.Basic.{Basic}
+use Rattle.gob_types.proofs.PublicLaws.{basic_shape_of}
 use Rattle.gob_value.specs.Tree.{Tree, no_tree, tree, no_pair, pair, no_field, field}
 use Rattle.gob_value.specs.Spelling.{SpellsAs, of_type, of_bool, of_int, of_uint, of_float, of_complex, of_nil, of_bytes}
 use Rattle.gob_value.specs.Spelling.{of_text, of_opaque, of_slice, of_array, of_map, of_struct, no_element, element}
@@ -24,7 +26,7 @@ use Rattle.gob_value.specs.Tidy.{of_map as map_tidy, of_struct as struct_tidy, o
 use Rattle.gob_value.specs.Tidy.{no_element as no_element_tidy, element as element_tidy, no_entry as no_entry_tidy}
 use Rattle.gob_value.specs.Tidy.{entry as entry_tidy, no_more as no_field_tidy, kept as field_tidy}
 use Rattle.gob_value.specs.Whole.{HoldsNumbers, Stands, BeginsKind, BeginsEach, BeginsPairs, BeginsFields, BeginsThisNumber}
-use Rattle.gob_value.specs.Whole.{BeginsRaw, BeginsKept}
+use Rattle.gob_value.specs.Whole.{BeginsField, BeginsRaw, BeginsKept}
 use Rattle.gob_value.specs.Written.{HasParts}
 use Rattle.gob_value.proofs.WithinLaws.{leaf_within}
 
@@ -322,15 +324,24 @@ module _ (T : Table) (tidy : Bool) where
         whole = whole_of_two p.bytes (q.bytes ++ r.bytes) z p.whole (whole_of_two q.bytes r.bytes z q.whole r.whole);
       }
 
-  -- a part that a tidy struct keeps
-  pub record KeptPart (k : Kind) (limit : ℕ) (piece rest : List ℕ) : Type 0 where
-    pub part : BeginsKind T tidy k limit piece rest
-    pub kept : IsTrue tidy → BeginsKept k piece
+  -- the value of a field that a tidy struct keeps
+  pub kept_part : {e : TypeId} {s : Shape} {limit : ℕ} {body : List ℕ} {a b : ℕ} → shape_of T e ≡ Some s
+      → Stands (BeginsKind T tidy s.kind limit) body a b → (IsTrue tidy → BeginsKept s.kind (drop a body))
+      → Stands (BeginsField T tidy e limit) body a b
+  kept_part {s = s} known p kept = record {
+    order = p.order;
+    inside = p.inside;
+    begins = record { shape = s; known = known; part = p.begins; kept = kept };
+  }
 
-  pub kept_part : {k : Kind} {limit : ℕ} {body : List ℕ} {a b : ℕ} → Stands (BeginsKind T tidy k limit) body a b
-      → (IsTrue tidy → BeginsKept k (drop a body)) → Stands (KeptPart k limit) body a b
-  kept_part p kept =
-      record { order = p.order; inside = p.inside; begins = record { part = p.begins; kept = kept } }
+  -- the same where its type is basic
+  pub basic_part : {e : TypeId} {b : Basic} {limit : ℕ} {body : List ℕ} {x y : ℕ} → 0 < limit → basic_of T e ≡ Some b
+      → Stands (BeginsKind T tidy (kind.Basic b) 1) body x y → (IsTrue tidy → BeginsKept (kind.Basic b) (drop x body))
+      → Stands (BeginsField T tidy e limit) body x y
+  basic_part {e = e} {limit = limit} {body = body} {x = x} {y = y} some is p kept =
+      let (s, known, basic) = basic_shape_of T e is in
+      kept_part known (seen (subst (λ k. Stands (BeginsKind T tidy k 1) body x y) (sym basic) p)
+      (λ u v q. deeper some u v q)) (λ t. subst (λ k. BeginsKept k (drop x body)) (sym basic) (kept t))
 
   pub fields_end : (types : List Field) (next limit n : ℕ) → n ≡ 0 → (x y : List ℕ) → BeginsThisNumber n x y
       → BeginsFields T tidy types next limit x y
@@ -346,11 +357,12 @@ module _ (T : Table) (tidy : Bool) where
         whole = p.whole;
       }
 
-  pub field_begins : (types : List Field) (next limit delta f : ℕ) (e : Field) (s : Shape) → 0 < delta
-      → f + 1 ≡ next + delta → slice_get types f ≡ Some e → shape_of T e.id ≡ Some s
-      → (x a y z : List ℕ) → BeginsThisNumber delta x a → KeptPart s.kind limit a y
+  pub field_begins : (types : List Field) (next limit delta f : ℕ) (e : Field) → 0 < delta
+      → f + 1 ≡ next + delta → slice_get types f ≡ Some e
+      → (x a y z : List ℕ) → BeginsThisNumber delta x a → BeginsField T tidy e.id limit a y
       → BeginsFields T tidy types (f + 1) limit y z → BeginsFields T tidy types next limit x z
-  field_begins types next limit delta f e s o is here shape x a y z p kept r =
+  field_begins types next limit delta f e o is here x a y z p kept r =
+      let shape = kept.known in
       let q = kept.part in
       let v = q.within in
       let w = r.within in

@@ -1,13 +1,14 @@
 -- Values that stand whole at the front of a piece of a stream, no deeper than a limit, and what stands behind them.
 -- (docs/FORMAT.md, Values; Depth.)
-use Rattle.std.specs.Prelude.{◌≡◌, ℕ, ◌≤◌, Bool, IsTrue, List, ◌++◌, length, drop}
+use Rattle.std.specs.Prelude.{◌≡◌, ℕ, ◌≤◌, Bool, IsTrue, List, ◌++◌, length, drop, Some}
 use Rattle.gob_num.specs.Unsigned.{IsUnsigned}
 use Rattle.gob_types.specs.declared.id.TypeId.{TypeId}
 use Rattle.gob_types.specs.declared.basic.Basic.TheVariants as basic
 use Rattle.gob_types.specs.declared.kind.Field.{Field}
 use Rattle.gob_types.specs.declared.kind.Kind.{Kind}
 use Rattle.gob_types.specs.declared.kind.Kind.TheVariants as kind
-use Rattle.gob_types.specs.Table.{Table}
+use Rattle.gob_types.specs.declared.kind.Shape.{Shape}
+use Rattle.gob_types.specs.Table.{Table, shape_of}
 use Rattle.gob_value.specs.Tree.{Tree, Trees, Pairs, Fields, depth, trees_depth, pairs_depth, fields_depth}
 use Rattle.gob_value.specs.Tree.{tree_count, pair_count}
 use Rattle.gob_value.specs.Spelling.{SpellsAs, SpellsEach, SpellsPairs, SpellsFields}
@@ -83,6 +84,13 @@ pub record BeginsFields (T : Table) (tidy : Bool) (types : List Field) (next lim
 abbrev pub BeginsKept : Kind → List ℕ → Type 0
 BeginsKept k piece = (T : Table) (v : Tree) (bytes rest : List ℕ) → SpellsAs T k v bytes → piece ≡ bytes ++ rest
     → ¬ IsDropped k v
+
+-- with the value of a field of the type, which a tidy struct keeps where one is asked for
+pub record BeginsField (T : Table) (tidy : Bool) (t : TypeId) (limit : ℕ) (piece rest : List ℕ) : Type 0 where
+  pub shape : Shape
+  pub known : shape_of T t ≡ Some shape
+  pub part : BeginsKind T tidy shape.kind limit piece rest
+  pub kept : IsTrue tidy → BeginsKept shape.kind piece
 
 -- with this number
 pub record BeginsThisNumber (n : ℕ) (piece rest : List ℕ) : Type 0 where

@@ -8,7 +8,7 @@ ghost use Rattle.gob_types.specs.declared.kind.Kind.TheVariants as kind;
 ghost use Rattle.gob_types.specs.declared.id.TypeId.{TypeId};
 ghost use Rattle.gob_types.specs.declared.kind.Shape.{Shape};
 ghost use Rattle.gob_value.specs.Whole.{IsWhole, IsTidyWhole, IsWholeSo, HoldsNumbers, Stands, BeginsKind, BeginsEach};
-ghost use Rattle.gob_value.specs.Whole.{BeginsPairs, BeginsFields, BeginsRaw, BeginsKept};
+ghost use Rattle.gob_value.specs.Whole.{BeginsPairs, BeginsFields, BeginsField, BeginsRaw, BeginsKept};
 
 use crate::number::{field_number, number_at, number_end};
 use gob_num::uints_end;
@@ -198,12 +198,39 @@ fn fields_end<S: Shapes, const TIDY: bool>(
         }
         let number = field_number(next, delta)?;
         let field = types.get(number)?;
-        let shape = shapes.shape_of(field.id)?;
-        if TIDY && is_dropped_at(&shape.kind, body, behind) {
-            return None;
-        }
-        at = part_end::<S, TIDY>(shapes, &shape.kind, body, behind, depth)?;
+        at = field_end::<S, TIDY>(shapes, field.id, body, behind, depth)?;
         next = number + 1;
+    }
+}
+
+// Where the value of a field of this type ends, one that a tidy struct keeps. Where the type is basic, it isn't looked up.
+#[cycle(whole)]
+#[inline(always)]
+fn field_end<S: Shapes, const TIDY: bool>(
+    shapes: &S,
+    id: TypeId,
+    body: &[u8],
+    at: usize,
+    depth: u64,
+) -> Option<usize>
+    requires depth { depth ≤ 1000 }
+    requires place { at ≤ length body.now }
+    ensures { IfSome result (λ end. Stands (BeginsField (S.table shapes.now) TIDY id depth) body.now at end) }
+{
+    match shapes.basic_of(id) {
+        Some(basic) if depth > 0 => {
+            if TIDY && is_basic_dropped_at(basic, body, at) {
+                return None;
+            }
+            basic_end(basic, body, at)
+        }
+        _ => {
+            let shape = shapes.shape_of(id)?;
+            if TIDY && is_dropped_at(&shape.kind, body, at) {
+                return None;
+            }
+            value_end::<S, TIDY>(shapes, &shape.kind, body, at, depth)
+        }
     }
 }
 

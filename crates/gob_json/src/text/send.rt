@@ -118,10 +118,7 @@ fn send_part<S: Shapes, O: TextOut>(
 fn basic_of<S: Shapes>(shapes: &S, id: TypeId) -> Option<Basic>
     ensures { IfSome result (λ basic. IsOfKind (S.table shapes.now) id (kinds.Basic basic)) }
 {
-    match &shapes.shape_of(id)?.kind {
-        Kind::Basic(basic) => Some(*basic),
-        _ => None,
-    }
+    shapes.basic_of(id)
 }
 
 // Puts out the text of the pairs of a key and an element that stand behind their count.

@@ -6,7 +6,7 @@ ghost use Rattle.gob_types.specs.declared.kind.Kind.TheVariants as kind;
 ghost use Rattle.gob_value.specs.Tree.{Tree};
 ghost use Rattle.gob_json.specs.Json.{text_json};
 ghost use Rattle.gob_value.specs.Whole.{Stands};
-ghost use Rattle.gob_json.specs.TextWhole.{TextOfKind, TextOfEach, TextOfPairs, TextOfFields};
+ghost use Rattle.gob_json.specs.TextWhole.{TextOfKind, TextOfType, TextOfEach, TextOfPairs, TextOfFields};
 ghost use Rattle.gob_types.specs.declared.kind.Marshal.{Marshal};
 ghost use Rattle.gob_types.specs.Table.{Table};
 
@@ -187,13 +187,36 @@ fn put_fields<S: Shapes>(
         let Some(field) = types.get(number) else {
             return Err(Stop::NotWhole);
         };
-        let Some(shape) = shapes.shape_of(field.id) else {
-            return Err(Stop::NotWhole);
-        };
         put_field_head(next > 0, number, field.name.as_bytes(), out)?;
-        at = put_part(shapes, &shape.kind, body, behind, depth, out)?;
+        at = put_typed(shapes, field.id, body, behind, depth, out)?;
         out.push(b']')?;
         next = number + 1;
+    }
+}
+
+// Appends the text of the value of this type that stands in the body from the place on, and tells where it ends. Where the
+// type is basic, it isn't looked up.
+#[cycle(text)]
+#[inline(always)]
+fn put_typed<S: Shapes>(
+    shapes: &S,
+    id: TypeId,
+    body: &[u8],
+    at: usize,
+    depth: u64,
+    out: &mut Vec<u8>,
+) -> Result<usize, Stop>
+    requires depth { depth ≤ 1000 }
+    requires place { at ≤ length body.now }
+    ensures { IfOk result (λ end.
+        Stands (TextOfType (S.table shapes.now) id depth out.old.items out.new.items) body.now at end) }
+{
+    match shapes.basic_of(id) {
+        Some(basic) if depth > 0 => put_basic(basic, body, at, out),
+        _ => match shapes.shape_of(id) {
+            Some(shape) => put_value(shapes, &shape.kind, body, at, depth, out),
+            None => Err(Stop::NotWhole),
+        },
     }
 }
 

@@ -1,10 +1,10 @@
-use Rattle.std.proofs.Common.{◌≡◌, ℕ, arith, sym, subst, true, false, IsTrue}
+use Rattle.std.proofs.Common.{◌≡◌, ◌∙◌, ℕ, arith, sym, subst, true, false, IsTrue}
 use Rattle.gob_value.proofs.WholeSteps.{if_some, seen, both, all_three, deeper, opaque_begins, slice_begins}
 use Rattle.gob_value.proofs.WholeSteps.{array_begins, map_begins, struct_begins, none_stand, element_begins}
-use Rattle.gob_value.proofs.WholeSteps.{no_pairs_stand, pair_begins, fields_end, field_begins, kept_part}
+use Rattle.gob_value.proofs.WholeSteps.{no_pairs_stand, pair_begins, fields_end, field_begins, kept_part, basic_part}
 use Rattle.gob_value.proofs.whole.+whole.Invariants.{is_tidy}
 use Rattle.gob_value.proofs.whole.+whole.Goals as goal
-use Rattle.gob_value.proofs.whole.+whole.Goals.{fields_end-else-this-ne0-via-then-this-ne0+else-is_dropped_at, fields_end-else-this-ne0-via-else-this-ne0}
+use Rattle.gob_value.proofs.whole.+whole.Goals.{field_end-else-this-ne0-via-then-this-ne0+else-is_basic_dropped_at, field_end-else-this-ne0-via-else-this-ne0}
 
 not_asked : {n : ℕ} → n ≡ 0 → ¬ IsTrue (is_tidy n)
 not_asked e tidy = let told : false ≡ true = subst (λ n. IsTrue (is_tidy n)) e tidy in cc
@@ -47,13 +47,18 @@ fields_end-returns-then-delta-eq0 g t c =
 pub fields_end-fields-preserved : goal.fields_end-fields-preserved
 fields_end-fields-preserved g t c = record {
   inside = c.in_ok-at.ensures.inside;
-  parts = λ end s. c.fields.invariant.parts end (all_three c.in_ok-delta.ensures.stands (kept_part _ _ c.in_ok-at.ensures (elim c.else-this-ne0.branch [
-    | fields_end-else-this-ne0-via-then-this-ne0+else-is_dropped_at w ↦ λ tidy. w.is_dropped_at.ensures w.if-is_dropped_at.false
-    | fields_end-else-this-ne0-via-else-this-ne0 w ↦ λ tidy. absurd (not_asked w.if-this-ne0.false tidy)
-  ])) s
-      (field_begins _ _ _ _ _ _ _ c.in_ok-field.field.now c.in_ok-shape.shape.now (omega arith) c.in_ok-number.ensures.found
-      (sym c.in_ok-field.ensures.found) (sym c.in_ok-shape.ensures)));
+  parts = λ end s. c.fields.invariant.parts end (all_three c.in_ok-delta.ensures.stands c.in_ok-at.ensures s
+      (field_begins _ _ _ _ _ _ _ c.in_ok-field.field.now (omega arith) c.in_ok-number.ensures.found
+      (sym c.in_ok-field.ensures.found)));
 }
+
+pub field_end-returns-else-this-ne0 : goal.field_end-returns-else-this-ne0
+field_end-returns-else-this-ne0 g t c =
+    if_some c.basic_end.result (λ end s. basic_part _ _ c.if-depth-gt0.true (sym c.basic_of.ensures ∙ c.in-Some.is) (s _ _)
+    (elim c.else-this-ne0.branch [
+      | field_end-else-this-ne0-via-then-this-ne0+else-is_basic_dropped_at w ↦ λ tidy. w.is_basic_dropped_at.ensures w.if-is_basic_dropped_at.false
+      | field_end-else-this-ne0-via-else-this-ne0 w ↦ λ tidy. absurd (not_asked w.if-this-ne0.false tidy)
+    ])) c.basic_end.ensures
 
 pub value_end-returns-in-Opaque : goal.value_end-returns-in-Opaque
 value_end-returns-in-Opaque g t c =

@@ -12,6 +12,9 @@ decreases-value_end g l = 3 * l.depth
 abbrev pub decreases-part_end : goal.decreases-part_end
 decreases-part_end g l = 3 * l.depth + 1
 
+abbrev pub decreases-field_end : goal.decreases-field_end
+decreases-field_end g l = 3 * l.depth + 1
+
 abbrev pub decreases-elements_end : goal.decreases-elements_end
 decreases-elements_end g l = 3 * l.depth + 2
 

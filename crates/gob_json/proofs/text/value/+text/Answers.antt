@@ -3,7 +3,7 @@ use Rattle.std.proofs.Common.{◌++◌, ◌∙◌, ap, arith, nat_lt, sym}
 use Rattle.gob_json.specs.TextWhole.{field_head}
 use Rattle.gob_value.proofs.PublicLaws.{seen, both, all_three}
 use Rattle.gob_json.proofs.TextSteps.{if_ok, deeper_text, slice_text, array_text, map_text, struct_text, later_on, no_element_text}
-use Rattle.gob_json.proofs.TextSteps.{element_text, no_pair_text, pair_text, fields_end_text, field_text}
+use Rattle.gob_json.proofs.TextSteps.{element_text, no_pair_text, pair_text, fields_end_text, field_text, basic_text}
 use Rattle.gob_json.proofs.text.value.+text.Goals as goal
 
 pub put_elements-elements-preserved : goal.put_elements-elements-preserved
@@ -47,8 +47,8 @@ put_fields-fields-preserved g t c =
       inside = c.in_ok-at.ensures.inside;
       parts = λ end new s. c.fields.invariant.parts end new
           (all_three c.in_ok-delta.ensures.stands c.in_ok-at.ensures s
-          (field_text _ _ _ _ _ _ c.in-Some.field.now c.in-Some-shape_of.shape.now _ _ _ _ _ _ _ (omega arith)
-          c.in_ok-number.ensures (sym c.in-Some.ensures.found) (sym c.in-Some-shape_of.ensures)
+          (field_text _ _ _ _ _ _ c.in-Some.field.now _ _ _ _ _ _ _ (omega arith)
+          c.in_ok-number.ensures (sym c.in-Some.ensures.found)
           (later_on c.in_ok-number.number) head c.in_ok-push-2.ensures.items));
     }
 
@@ -80,3 +80,8 @@ put_value-returns-in_ok-push-in-Map g t c =
     rw c.in-Map.is (if_ok c.put_pairs.result
     (λ end s. both c.in_ok-count-in-Map.ensures.stands s (map_text _ _ _ _ c.in_ok-push-in-Map.ensures.items
     c.in-Map.key c.in-Map.elem c.args.depth _ (omega arith))) c.put_pairs.ensures)
+
+pub put_typed-returns-in-Some : goal.put_typed-returns-in-Some
+put_typed-returns-in-Some g t c =
+    if_ok c.put_basic.result (λ end s. seen (s _)
+    (basic_text _ c.if-depth-gt0.true (sym c.basic_of.ensures ∙ c.in-Some.is))) c.put_basic.ensures

@@ -10,6 +10,9 @@ decreases-put_value g l = 3 * l.depth
 abbrev pub decreases-put_part : goal.decreases-put_part
 decreases-put_part g l = 3 * l.depth + 1
 
+abbrev pub decreases-put_typed : goal.decreases-put_typed
+decreases-put_typed g l = 3 * l.depth + 1
+
 abbrev pub decreases-put_elements : goal.decreases-put_elements
 decreases-put_elements g l = 3 * l.depth + 2
 
