@@ -6,7 +6,7 @@ use Rattle.gob_tool.specs.declared.words.Order.{Order}
 use Rattle.gob_tool.specs.declared.words.OrderFault.{OrderFault}
 use Rattle.gob_tool.specs.declared.words.OrderFault.TheVariants as order_fault
 use Rattle.gob_tool.specs.Fault.{fault_status, fault_line}
-use Rattle.gob_tool.specs.Running.{Does}
+use Rattle.gob_tool.specs.Running.{OrderAnswers}
 use Rattle.gob_tool.specs.Words.{order_limits, order_line, order_status}
 use Rattle.gob.specs.declared.Stop.{Stop}
 use Rattle.gob.specs.declared.Stop.TheVariants.{Words, Run, Unread}
@@ -49,4 +49,4 @@ pub record EndsRun (order : Order) (wanted bytes : List ℕ) (old : Option (List
   pub wanted_now : Option (List ℕ)
   pub now : Option (List ℕ)
   pub new : Option (List ℕ)
-  pub does : Does order.command (order_limits order) wanted bytes wanted_now now old new answer
+  pub does : OrderAnswers order.command (order_limits order) wanted bytes wanted_now now old new answer

@@ -1,5 +1,5 @@
 mod WiderLaws
 mod WiderSpelled
-mod WiderAwaits
+mod WiderExpects
 mod WiderRefused
 mod WiderStreams

@@ -8,22 +8,22 @@ use Rattle.gob_types.specs.declared.reason.Reason.{Reason}
 use Rattle.gob_types.specs.declared.reason.Reason.TheVariants as reason
 use Rattle.gob_types.specs.Table.{Table}
 use Rattle.gob_value.specs.Top.{SpellsTop}
-use Rattle.gob_read.specs.Awaited.{Allowed, Allows, Awaited, a_number, delta, reason_of, EndsWithin, within_number}
-use Rattle.gob_read.specs.Awaits.{AwaitsTop}
+use Rattle.gob_read.specs.Expected.{Allowed, Allows, Expected, a_number, delta, reason_of, EndsWithin, within_number}
+use Rattle.gob_read.specs.Expects.{ExpectsTop}
 use Rattle.gob_read.specs.Refusal.{Refusal, Refused, extra, too_deep, short_of, bad_head_at, not_minimal_at, not_allowed}
 use Rattle.gob_read.specs.First.{NotAfter, fewer, same, end_last, IsFirst}
-use Rattle.gob_read.specs.Stood.{IsShallow}
-use Rattle.gob_read.proofs.PublicLaws.{awaits_once, ends_number, not_allowed_first, bad_head_first, not_minimal_first, short_first, too_deep_first, extra_first, next_below}
+use Rattle.gob_read.specs.Viable.{IsShallow}
+use Rattle.gob_read.proofs.PublicLaws.{expects_once, ends_number, not_allowed_first, bad_head_first, not_minimal_first, short_first, too_deep_first, extra_first, next_below}
 use Rattle.gob_earlier.specs.Earlier.{BeginsPartTop, refused_delta, IsLaterField}
 use Rattle.gob_earlier.proofs.WiderLaws.{IsWider}
 use Rattle.gob_earlier.proofs.WiderSpelled.{longer}
-use Rattle.gob_earlier.proofs.WiderAwaits.{run_awaits, run_more, run_later, top_awaits, begins_top_later, NextDelta, awaits_top_later, top_later, Before, just_this, fewer_deltas, LeadsTop, awaits_top_earlier, top_earlier}
+use Rattle.gob_earlier.proofs.WiderExpects.{run_expects, run_more, run_later, top_expects, begins_top_later, NextDelta, expects_top_later, top_later, Before, just_this, fewer_deltas, LeadsTop, expects_top_earlier, top_earlier}
 
 -- ---- the refusal of a delta that leads to a later field
 
 pub leads_refused : {T U : Table} {t : TypeId} {limit announced : ℕ} {z : List ℕ} → IsWider T U → (l : LeadsTop T t z) → Refused T t limit announced z (refused_delta l.around l.fields l.delta)
 leads_refused {T = T} {t = t} {limit = limit} {announced = announced} {z = z} w l =
-    let a = top_awaits l.begins w.before (run_awaits l.run) in
+    let a = top_expects l.begins w.before (run_expects l.run) in
     let below : l.next ≤ 5 = next_below l.run (omega arith) in
     let refused : Refused T t limit announced z (record { place = length (l.around ++ l.fields); seen = length (l.around ++ l.fields) + length l.delta; reason = reason.FieldNumber }) =
     not_allowed l.rest a.1 (l.whole ∙ sym (append_assoc l.around l.fields (l.delta ++ l.rest))) l.spelled (λ few. beyond l.next l.number l.later below few) in
@@ -35,32 +35,32 @@ leads_refused {T = T} {t = t} {limit = limit} {announced = announced} {z = z} w 
 
 -- ---- on to the later fields
 
-number_is : {a b : Allowed} → ◌≡◌ {A = Awaited} (a_number a) (a_number b) → a ≡ b
+number_is : {a b : Allowed} → ◌≡◌ {A = Expected} (a_number a) (a_number b) → a ≡ b
 number_is e = cc
 
 pub refused_later : {T U : Table} {t : TypeId} {limit announced : ℕ} {z : List ℕ} {R : Refusal} → IsWider T U → Refused T t limit announced z R → Refused U t limit announced z R ⊎ IsLaterField T t z R
 refused_later w (extra r p e l) = inl (extra r (top_later w p) e l)
-refused_later {T = T} {U = U} {t = t} {limit = limit} {announced = announced} {z = z} w (too_deep {p = p} r {w = v} {d = d} a e l) = inl (by (awaits_top_later w a))
+refused_later {T = T} {U = U} {t = t} {limit = limit} {announced = announced} {z = z} w (too_deep {p = p} r {w = v} {d = d} a e l) = inl (by (expects_top_later w a))
   where
-    by : AwaitsTop U t p v d ⊎ NextDelta T (BeginsPartTop T t) p v (λ v. AwaitsTop U t p v d) → Refused U t limit announced z (record { place = length p; seen = length p; reason = reason.TooDeep })
+    by : ExpectsTop U t p v d ⊎ NextDelta T (BeginsPartTop T t) p v (λ v. ExpectsTop U t p v d) → Refused U t limit announced z (record { place = length p; seen = length p; reason = reason.TooDeep })
     by (inl b) = too_deep r b e l
     by (inr x) = too_deep r x.now e l
-refused_later {T = T} {U = U} {t = t} {limit = limit} {announced = announced} {z = z} w (short_of {p = p} r {w = v} {d = d} a e n h) = inl (by (awaits_top_later w a))
+refused_later {T = T} {U = U} {t = t} {limit = limit} {announced = announced} {z = z} w (short_of {p = p} r {w = v} {d = d} a e n h) = inl (by (expects_top_later w a))
   where
-    by : AwaitsTop U t p v d ⊎ NextDelta T (BeginsPartTop T t) p v (λ v. AwaitsTop U t p v d) → Refused U t limit announced z (record { place = announced; seen = announced; reason = reason.Short })
+    by : ExpectsTop U t p v d ⊎ NextDelta T (BeginsPartTop T t) p v (λ v. ExpectsTop U t p v d) → Refused U t limit announced z (record { place = announced; seen = announced; reason = reason.Short })
     by (inl b) = short_of r b e n h
     by (inr x) = short_of r x.now e n (within_number (ends_number (subst (λ v. EndsWithin v r) x.is h)))
-refused_later {T = T} {U = U} {t = t} {limit = limit} {announced = announced} {z = z} w (bad_head_at {p = p} r {a = v} {d = d} a e h) = inl (by (awaits_top_later w a))
+refused_later {T = T} {U = U} {t = t} {limit = limit} {announced = announced} {z = z} w (bad_head_at {p = p} r {a = v} {d = d} a e h) = inl (by (expects_top_later w a))
   where
-    by : AwaitsTop U t p (a_number v) d ⊎ NextDelta T (BeginsPartTop T t) p (a_number v) (λ v. AwaitsTop U t p v d) → Refused U t limit announced z (record { place = length p; seen = length p + 1; reason = reason.BadHead })
+    by : ExpectsTop U t p (a_number v) d ⊎ NextDelta T (BeginsPartTop T t) p (a_number v) (λ v. ExpectsTop U t p v d) → Refused U t limit announced z (record { place = length p; seen = length p + 1; reason = reason.BadHead })
     by (inl b) = bad_head_at r b e h
     by (inr x) = bad_head_at r x.now e h
-refused_later {T = T} {U = U} {t = t} {limit = limit} {announced = announced} {z = z} w (not_minimal_at {p = p} r {a = v} {d = d} a e h) = inl (by (awaits_top_later w a))
+refused_later {T = T} {U = U} {t = t} {limit = limit} {announced = announced} {z = z} w (not_minimal_at {p = p} r {a = v} {d = d} a e h) = inl (by (expects_top_later w a))
   where
-    by : AwaitsTop U t p (a_number v) d ⊎ NextDelta T (BeginsPartTop T t) p (a_number v) (λ v. AwaitsTop U t p v d) → Refused U t limit announced z (record { place = length p; seen = length p + 2; reason = reason.NotMinimal })
+    by : ExpectsTop U t p (a_number v) d ⊎ NextDelta T (BeginsPartTop T t) p (a_number v) (λ v. ExpectsTop U t p v d) → Refused U t limit announced z (record { place = length p; seen = length p + 2; reason = reason.NotMinimal })
     by (inl b) = not_minimal_at r b e h
     by (inr x) = not_minimal_at r x.now e h
-refused_later {T = T} {U = U} {t = t} {limit = limit} {announced = announced} {z = z} w (not_allowed {p = p} {c = c} r {a = v} {d = d} {n = n} a e u h) = by (awaits_top_later w a)
+refused_later {T = T} {U = U} {t = t} {limit = limit} {announced = announced} {z = z} w (not_allowed {p = p} {c = c} r {a = v} {d = d} {n = n} a e u h) = by (expects_top_later w a)
   where
     R : Refusal
     R = record { place = length p; seen = length p + length c; reason = reason_of v }
@@ -71,7 +71,7 @@ refused_later {T = T} {U = U} {t = t} {limit = limit} {announced = announced} {z
         at_least : (next n : ℕ) → next ≤ 5 → ¬ (n ≤ 5 - next) → 6 ≤ next + n
         at_least next n below more = elim (cases_lt (5 - next) n) [ inl l ↦ omega arith | inr l ↦ absurd (more l) ]
 
-    next_is : NextDelta T (BeginsPartTop T t) p (a_number v) (λ v. AwaitsTop U t p v d) → Refused U t limit announced z R ⊎ IsLaterField T t z R
+    next_is : NextDelta T (BeginsPartTop T t) p (a_number v) (λ v. ExpectsTop U t p v d) → Refused U t limit announced z R ⊎ IsLaterField T t z R
     next_is x =
         let is : v ≡ delta (5 - x.next) = number_is x.is in
         let why : reason_of v ≡ reason.FieldNumber = ap reason_of is in
@@ -99,7 +99,7 @@ refused_later {T = T} {U = U} {t = t} {limit = limit} {announced = announced} {z
         same_refusal {k = k} {q = q} f g =
             ap (λ (m : ℕ). record { place = m; seen = m + length c; reason = q }) f ∙ ap (λ (q : Reason). record { place = k; seen = k + length c; reason = q }) g
 
-    by : AwaitsTop U t p (a_number v) d ⊎ NextDelta T (BeginsPartTop T t) p (a_number v) (λ v. AwaitsTop U t p v d) → Refused U t limit announced z R ⊎ IsLaterField T t z R
+    by : ExpectsTop U t p (a_number v) d ⊎ NextDelta T (BeginsPartTop T t) p (a_number v) (λ v. ExpectsTop U t p v d) → Refused U t limit announced z R ⊎ IsLaterField T t z R
     by (inl b) = inl (not_allowed r b e u h)
     by (inr x) = next_is x
 
@@ -134,33 +134,33 @@ refused_earlier {T = T} {t = t} {limit = limit} {announced = announced} {z = z} 
     by : SpellsTop T t v f ⊎ LeadsTop T t f → Refused T t limit announced z (record { place = length f; seen = length f; reason = reason.Extra }) ⊎ LeadsWithin T t z (length f)
     by (inl q) = inl (extra r q e l)
     by (inr x) = inr (leads_front r e (omega arith) x)
-refused_earlier {T = T} {t = t} {limit = limit} {announced = announced} {z = z} w (too_deep {p = p} r {w = v} {d = d} a e l) = by (awaits_top_earlier w a)
+refused_earlier {T = T} {t = t} {limit = limit} {announced = announced} {z = z} w (too_deep {p = p} r {w = v} {d = d} a e l) = by (expects_top_earlier w a)
   where
-    by : Before (λ v. AwaitsTop T t p v d) v ⊎ LeadsTop T t p → Refused T t limit announced z (record { place = length p; seen = length p; reason = reason.TooDeep }) ⊎ LeadsWithin T t z (length p)
+    by : Before (λ v. ExpectsTop T t p v d) v ⊎ LeadsTop T t p → Refused T t limit announced z (record { place = length p; seen = length p; reason = reason.TooDeep }) ⊎ LeadsWithin T t z (length p)
     by (inl (just_this b)) = inl (too_deep r b e l)
     by (inl (fewer_deltas next below i b)) = inl (too_deep r b e l)
     by (inr x) = inr (leads_front r e (omega arith) x)
-refused_earlier {T = T} {t = t} {limit = limit} {announced = announced} {z = z} w (short_of {p = p} r {w = v} {d = d} a e n h) = by (awaits_top_earlier w a)
+refused_earlier {T = T} {t = t} {limit = limit} {announced = announced} {z = z} w (short_of {p = p} r {w = v} {d = d} a e n h) = by (expects_top_earlier w a)
   where
-    by : Before (λ v. AwaitsTop T t p v d) v ⊎ LeadsTop T t p → Refused T t limit announced z (record { place = announced; seen = announced; reason = reason.Short }) ⊎ LeadsWithin T t z announced
+    by : Before (λ v. ExpectsTop T t p v d) v ⊎ LeadsTop T t p → Refused T t limit announced z (record { place = announced; seen = announced; reason = reason.Short }) ⊎ LeadsWithin T t z announced
     by (inl (just_this b)) = inl (short_of r b e n h)
     by (inl (fewer_deltas next below i b)) = inl (short_of r b e n (within_number (ends_number (subst (λ v. EndsWithin v r) i h))))
     by (inr x) = inr (leads_front r e (omega (arith, ap length e, length-append p r)) x)
-refused_earlier {T = T} {t = t} {limit = limit} {announced = announced} {z = z} w (bad_head_at {p = p} r {a = v} {d = d} a e h) = by (awaits_top_earlier w a)
+refused_earlier {T = T} {t = t} {limit = limit} {announced = announced} {z = z} w (bad_head_at {p = p} r {a = v} {d = d} a e h) = by (expects_top_earlier w a)
   where
-    by : Before (λ v. AwaitsTop T t p v d) (a_number v) ⊎ LeadsTop T t p → Refused T t limit announced z (record { place = length p; seen = length p + 1; reason = reason.BadHead }) ⊎ LeadsWithin T t z (length p + 1)
+    by : Before (λ v. ExpectsTop T t p v d) (a_number v) ⊎ LeadsTop T t p → Refused T t limit announced z (record { place = length p; seen = length p + 1; reason = reason.BadHead }) ⊎ LeadsWithin T t z (length p + 1)
     by (inl (just_this b)) = inl (bad_head_at r b e h)
     by (inl (fewer_deltas next below i b)) = inl (bad_head_at r b e h)
     by (inr x) = inr (leads_front r e (omega arith) x)
-refused_earlier {T = T} {t = t} {limit = limit} {announced = announced} {z = z} w (not_minimal_at {p = p} r {a = v} {d = d} a e h) = by (awaits_top_earlier w a)
+refused_earlier {T = T} {t = t} {limit = limit} {announced = announced} {z = z} w (not_minimal_at {p = p} r {a = v} {d = d} a e h) = by (expects_top_earlier w a)
   where
-    by : Before (λ v. AwaitsTop T t p v d) (a_number v) ⊎ LeadsTop T t p → Refused T t limit announced z (record { place = length p; seen = length p + 2; reason = reason.NotMinimal }) ⊎ LeadsWithin T t z (length p + 2)
+    by : Before (λ v. ExpectsTop T t p v d) (a_number v) ⊎ LeadsTop T t p → Refused T t limit announced z (record { place = length p; seen = length p + 2; reason = reason.NotMinimal }) ⊎ LeadsWithin T t z (length p + 2)
     by (inl (just_this b)) = inl (not_minimal_at r b e h)
     by (inl (fewer_deltas next below i b)) = inl (not_minimal_at r b e h)
     by (inr x) = inr (leads_front r e (omega arith) x)
-refused_earlier {T = T} {t = t} {limit = limit} {announced = announced} {z = z} w (not_allowed {p = p} {c = c} r {a = v} {d = d} {n = n} a e u h) = by (awaits_top_earlier w a)
+refused_earlier {T = T} {t = t} {limit = limit} {announced = announced} {z = z} w (not_allowed {p = p} {c = c} r {a = v} {d = d} {n = n} a e u h) = by (expects_top_earlier w a)
   where
-    by : Before (λ v. AwaitsTop T t p v d) (a_number v) ⊎ LeadsTop T t p → Refused T t limit announced z (record { place = length p; seen = length p + length c; reason = reason_of v }) ⊎ LeadsWithin T t z (length p + length c)
+    by : Before (λ v. ExpectsTop T t p v d) (a_number v) ⊎ LeadsTop T t p → Refused T t limit announced z (record { place = length p; seen = length p + length c; reason = reason_of v }) ⊎ LeadsWithin T t z (length p + length c)
     by (inl (just_this b)) = inl (not_allowed r b e u h)
     by (inl (fewer_deltas next below i b)) =
         let is : v ≡ delta (7 - next) = number_is i in
@@ -178,12 +178,12 @@ not_refused w x (bad_head_at r a e h) = let f = ap (λ (R : Refusal). R.reason) 
 not_refused w x (not_minimal_at r a e h) = let f = ap (λ (R : Refusal). R.reason) x.refusal in cc
 not_refused {U = U} {t = t} w x (not_allowed {p = p} {c = c} r {a = v} {d = d} {n = n} a e u h) =
     let l = x.leads in
-    let now = top_awaits (begins_top_later w l.begins) w.now (run_awaits (run_more (run_later w l.run))) in
+    let now = top_expects (begins_top_later w l.begins) w.now (run_expects (run_more (run_later w l.run))) in
     let place : length p ≡ length (l.around ++ l.fields) = ap (λ (R : Refusal). R.place) x.refusal ∙ sym (length-append l.around l.fields) in
     let parts = append_split p (l.around ++ l.fields) (c ++ r) (l.delta ++ l.rest) place (sym e ∙ l.whole ∙ sym (append_assoc l.around l.fields (l.delta ++ l.rest))) in
     let one = unsigned_prefix r l.rest u l.spelled parts.1 in
-    let here = subst (λ p. AwaitsTop U t p (a_number v) d) parts.0 a in
-    let is : v ≡ delta (7 - l.next) = number_is (awaits_once here now.1).0 in
+    let here = subst (λ p. ExpectsTop U t p (a_number v) d) parts.0 a in
+    let is : v ≡ delta (7 - l.next) = number_is (expects_once here now.1).0 in
     h (subst (λ v. Allows v n) (sym is) (within l.next l.number n l.later one.value))
   where
     within : (next m n : ℕ) → (next + m ≡ 6) ⊎ (next + m ≡ 7) → n ≡ m → n ≤ 7 - next
@@ -215,7 +215,7 @@ first_later {T = T} {U = U} {t = t} {limit = limit} {announced = announced} {z =
 
 -- ---- where something is refused, some refusal is given
 
-deep_somehow : {T : Table} {t : TypeId} {limit announced d : ℕ} {z q : List ℕ} {v : Awaited} (n : ℕ) (r : List ℕ) → length q ≤ n → AwaitsTop T t q v d → limit < d → z ≡ q ++ r → ((R : Refusal) → ¬ IsFirst T t limit announced z R) → ⊥
+deep_somehow : {T : Table} {t : TypeId} {limit announced d : ℕ} {z q : List ℕ} {v : Expected} (n : ℕ) (r : List ℕ) → length q ≤ n → ExpectsTop T t q v d → limit < d → z ≡ q ++ r → ((R : Refusal) → ¬ IsFirst T t limit announced z R) → ⊥
 deep_somehow zero r few a l e none = none _ (too_deep_first r a l (record { each = λ q s u c b f m. absurd (m (no_bytes q s f few)) }) e)
   where
     no_bytes : {p : List ℕ} (q s : List ℕ) → p ≡ q ++ s → length p ≤ 0 → s ≡ []

@@ -13,8 +13,8 @@ use Rattle.gob_earlier.specs.BaseTable.{earlier_wire_type_fields}
 use Rattle.gob_types.specs.Table.{Table, shape_of}
 use Rattle.gob_value.specs.Tree.{Tree, Trees, no_tree, tree, Pairs, pair, Fields, tree_count, pair_count}
 use Rattle.gob_value.specs.Spelling.{Spells, of_type, SpellsAs, of_bool, of_int, of_uint, of_float, of_complex, of_nil, of_bytes, of_text, of_opaque, of_slice, of_array, of_map, of_struct, SpellsEach, no_element, element, SpellsPairs, no_entry, entry, SpellsFields, end_of_fields, next_field}
-use Rattle.gob_read.specs.Awaits.{FieldsRun, no_fields, field_then, Enters, slice_element, array_element, next_key, next_value}
-use Rattle.gob_read.specs.Awaits as awaits
+use Rattle.gob_read.specs.Expects.{FieldsRun, no_fields, field_then, Enters, slice_element, array_element, next_key, next_value}
+use Rattle.gob_read.specs.Expects as expects
 use Rattle.gob_earlier.specs.Earlier.{BeginsPart, itself, one_in, LeadsOn}
 use Rattle.gob_earlier.proofs.WiderLaws.{IsWider, Later, same_shape, wire_shape, later, Earlier, same_before, wire_before, earlier, earlier_wire, later_wire, field_later, field_earlier}
 
@@ -237,7 +237,7 @@ field_part x = record {
   type = x.field.id;
   part = x.part;
   rest = x.rest;
-  enters = awaits.next_field x.run x.above x.there x.spelled;
+  enters = expects.next_field x.run x.above x.there x.spelled;
   leads = x.leads;
   whole = x.whole ∙ sym (append_assoc x.before x.delta (x.part ++ x.rest));
 }
@@ -325,11 +325,11 @@ run_then {next = next} {f = f} {a = a} {d = d} r l h p =
 
 -- a part of wireType is entered by one of the earlier fields, or by a later one
 pub enters_fewer : {T : Table} {q : List ℕ} {u : TypeId} → Enters T later_wire.kind q u → Enters T earlier_wire.kind q u ⊎ RunLeads T 0 q
-enters_fewer {T = T} (awaits.next_field {next = next} {f = f} {e = e} {a = a} {b = b} r l m p) = by (field_earlier f e m) (run_fewer r)
+enters_fewer {T = T} (expects.next_field {next = next} {f = f} {e = e} {a = a} {b = b} r l m p) = by (field_earlier f e m) (run_fewer r)
   where
     by : (slice_get earlier_wire_type_fields f ≡ Some e) ⊎ ((f ≡ 5) ⊎ (f ≡ 6)) → FieldsRun T earlier_wire_type_fields 0 next a ⊎ RunLeads T 0 a → Enters T earlier_wire.kind (a ++ b) e.id ⊎ RunLeads T 0 (a ++ b)
     by h (inr x) = inr (run_longer b x)
-    by (inl g) (inl s) = inl (awaits.next_field s l g p)
+    by (inl g) (inl s) = inl (expects.next_field s l g p)
     by (inr h) (inl s) = inr (run_then s l h p)
 
 -- so is a value of it

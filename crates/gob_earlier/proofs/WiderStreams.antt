@@ -15,18 +15,18 @@ use Rattle.gob_stream.specs.declared.fault.Refusal.{Refusal}
 use Rattle.gob_stream.specs.Bounds.{Bounds}
 use Rattle.gob_stream.specs.Item.{StreamItem, defines, puts}
 use Rattle.gob_stream.specs.Body.{Body, definition, value, MayDefine, MayPut}
-use Rattle.gob_stream.specs.Stream.{Counted, counted, Continues, no_more, and_then, Stream}
+use Rattle.gob_stream.specs.Stream.{IsItem, counted, AreItems, no_more, and_then, Stream}
 use Rattle.gob_stream.specs.WriterRefusal.{RefusesId, reserved, defined_twice, too_many, RefusesType, private_type, undefined, bottomless}
 use Rattle.gob_stream.specs.Refusing.{behind, refuses, RefusesBody, short, refused_id, refused_type, refused_value, refused_description, described_wrongly}
 use Rattle.gob_stream.specs.Refusing as refusing
-use Rattle.gob_stream.specs.Outcome.{BeginsWith, GivesItems, RefusesNext, refused_count, refused_body, Ending, the_end, refused, EndsSo, at_the_end, next_refused, within_an_item, Outcome}
+use Rattle.gob_stream.specs.Outcome.{BeginsWithStream, LongestStream, RefusesNext, refused_count, refused_body, Ending, the_end, refused, EndsSo, at_the_end, next_refused, within_an_item, Outcome}
 use Rattle.gob_earlier.specs.Earlier.{IsLaterField, RefusesLater, in_value, in_description, EndsAtLater, at_later}
 use Rattle.gob_stream.proofs.PublicLaws.{NoNext, gives_items, one_more, counted_some}
 use Rattle.gob_stream.proofs.PublicLaws.{take_front}
 use Rattle.gob_stream.proofs.PublicLaws.{outcome_refused, outcome_within}
 use Rattle.gob_earlier.proofs.WiderLaws.{IsWider, base_wider, more_wider, none_later, none_earlier, defined_later, defined_earlier, reaches_later, reaches_earlier, grounded_later, grounded_earlier, ready_later, ready_earlier}
 use Rattle.gob_earlier.proofs.WiderSpelled.{spells_later, spells_earlier, LeadsIn}
-use Rattle.gob_earlier.proofs.WiderAwaits.{top_later, top_earlier, LeadsTop, leads_struct}
+use Rattle.gob_earlier.proofs.WiderExpects.{top_later, top_earlier, LeadsTop, leads_struct}
 use Rattle.gob_earlier.proofs.WiderRefused.{leads_refused, refused_earlier, first_later, first_somehow}
 
 -- ---- items on to the later fields
@@ -50,10 +50,10 @@ body_later {U = U} w (value m l a p) = record { table = U; body = value (may_put
 
 pub record LaterStream (L : Bounds) (U : Table) (offset : ℕ) (items : List StreamItem) (b : List ℕ) (V : Table) : Type 0 where
   pub table : Table
-  pub stream : Continues base_table L U offset items b table
+  pub stream : AreItems base_table L U offset items b table
   pub wider : IsWider V table
 
-pub continues_later : {L : Bounds} {T U V : Table} {offset : ℕ} {items : List StreamItem} {b : List ℕ} → IsWider T U → Continues earlier_base_table L T offset items b V → LaterStream L U offset items b V
+pub continues_later : {L : Bounds} {T U V : Table} {offset : ℕ} {items : List StreamItem} {b : List ℕ} → IsWider T U → AreItems earlier_base_table L T offset items b V → LaterStream L U offset items b V
 continues_later {U = U} w no_more = record { table = U; stream = no_more; wider = w }
 continues_later w (and_then (counted u l s p) e r) =
     let d = body_later w p in
@@ -186,9 +186,9 @@ body_earlier {L = L} {T = T} w none (value {t = t} {v = v} {a = a} {b = b} p l k
 
 record EarlierItem (L : Bounds) (T : Table) (offset : ℕ) (i : StreamItem) (b : List ℕ) : Type 0 where
   table : Table
-  item : Counted earlier_base_table L T offset i b table
+  item : IsItem earlier_base_table L T offset i b table
 
-counted_earlier : {L : Bounds} {T U V : Table} {offset : ℕ} {i : StreamItem} {z b : List ℕ} (y : List ℕ) → IsWider T U → NextUnrefused L T offset z → Counted base_table L U offset i b V → z ≡ b ++ y → EarlierItem L T offset i b
+counted_earlier : {L : Bounds} {T U V : Table} {offset : ℕ} {i : StreamItem} {z b : List ℕ} (y : List ℕ) → IsWider T U → NextUnrefused L T offset z → IsItem base_table L U offset i b V → z ≡ b ++ y → EarlierItem L T offset i b
 counted_earlier {L = L} {T = T} {offset = offset} {z = z} y w none (counted {c = c} {d = d} u l s p) e =
     let same : d ≡ take (length d) (d ++ y) = sym (take_front d y) in
     let h = body_earlier {offset = offset + length c} {m = length d} w (λ R q. none R (refused_body (d ++ y) (e ∙ append_assoc c d y) u l (omega (arith, s, length-append c d))
@@ -201,7 +201,7 @@ nothing_next : {base : Table} {L : Bounds} {T : Table} {offset : ℕ} → NoNext
 nothing_next i U b y q e = let some = counted_some q in absurd (omega (arith, ap length e, length-append b y))
 
 -- no item stands next where the bytes give no more items by the earlier base table
-no_item_next : {L : Bounds} {T U : Table} {items : List StreamItem} {bytes f z : List ℕ} → IsWider T U → Stream earlier_base_table L items f T → bytes ≡ f ++ z → ((others : List StreamItem) → BeginsWith earlier_base_table L bytes others → length others ≤ length items)
+no_item_next : {L : Bounds} {T U : Table} {items : List StreamItem} {bytes f z : List ℕ} → IsWider T U → Stream earlier_base_table L items f T → bytes ≡ f ++ z → ((others : List StreamItem) → BeginsWithStream earlier_base_table L bytes others → length others ≤ length items)
     → NextUnrefused L T (length f) z → NoNext base_table L U (length f) z
 no_item_next {items = items} {f = f} {z = z} w p e longest none i V b y q g =
     let h = counted_earlier y w none q g in
@@ -214,7 +214,7 @@ outcomes_stay L bytes items e o = by e o.ends
     by : (e : Ending) → EndsSo earlier_base_table L bytes items e → Outcome base_table L bytes items e ⊎ EndsAtLater L bytes items e
     by the_end (at_the_end p) =
         let c = continues_later base_wider p in
-        inl (record { gives = subst (λ b. GivesItems base_table L b items) (append-nil bytes) (gives_items [] c.stream nothing_next); ends = at_the_end c.stream })
+        inl (record { gives = subst (λ b. LongestStream base_table L b items) (append-nil bytes) (gives_items [] c.stream nothing_next); ends = at_the_end c.stream })
     by (refused R) (next_refused {f = f} {T = T} z p g r) = next (continues_later base_wider p)
       where
         next : LaterStream L base_table 0 items f T → Outcome base_table L bytes items (refused R) ⊎ EndsAtLater L bytes items (refused R)

@@ -10,7 +10,7 @@ use Rattle.gob_types.specs.Table.{Table, shape_of}
 use Rattle.gob_types.specs.Base.{base_table, wire_type}
 use Rattle.gob_earlier.specs.BaseTable.{earlier_base_table, earlier_wire_type_fields}
 use Rattle.gob_value.specs.Top.{IsStruct}
-use Rattle.gob_read.specs.Awaits.{FieldsRun, Enters}
+use Rattle.gob_read.specs.Expects.{FieldsRun, Enters}
 use Rattle.gob_read.specs.Refusal as body
 use Rattle.gob_stream.specs.declared.fault.Refusal.{Refusal}
 use Rattle.gob_stream.specs.Bounds.{Bounds}

@@ -1,5 +1,5 @@
-//! What the two later fields of wireType changed, for types that marshal themselves as binary or as text: nothing, but that
-//! deltas which lead to them are refused no more. No code rests on it, so it is a crate of its own.
+//! What the two later fields of wireType changed, for types that marshal themselves as binary or as text: nothing, but
+//! that deltas which lead to them are refused no more. No code rests on it, so it is a crate of its own.
 //!
 //! ```text
 //! 10 ff 81 05 01 01 04 ..     a wireType whose first delta leads to field 4, in both

@@ -11,12 +11,12 @@ use Rattle.gob_stream.specs.declared.fault.Refusal.{Refusal}
 use Rattle.gob_stream.specs.declared.fault.Fault.{Fault}
 use Rattle.gob_stream.specs.declared.fault.Fault.TheVariants as fault
 use Rattle.gob_stream.specs.declared.item.Item as declared
-use Rattle.gob_stream.specs.SessionState.{SessionState}
+use Rattle.gob_stream.specs.Machine.SessionState.{SessionState}
 use Rattle.gob_stream.specs.Bounds.{Bounds, no_deeper}
 use Rattle.gob_stream.specs.Item.{StreamItem, item_views}
 use Rattle.gob_stream.specs.Laws.{WrittenWithin, ReadsThese, StreamsStayShown}
-use Rattle.gob_stream.specs.Outcome.{BeginsWith, Outcome, refused}
-use Rattle.gob_stream.specs.Reading.{Given, IsShown, ReadingFinishes}
+use Rattle.gob_stream.specs.Outcome.{BeginsWithStream, Outcome, refused}
+use Rattle.gob_stream.specs.Reading.{Given, ShowsRefusal, ReadingFinishes}
 use Rattle.gob_stream.specs.Session.{HasRead, FeedAnswers}
 use Rattle.gob_stream.specs.Stream.{no_more}
 use Rattle.gob_stream.specs.Writing.{WritesStream}
@@ -45,7 +45,7 @@ pub passed_on : {A E : Type 0} (Q : Result A E → Type 0) (r : Result A E) (e :
 passed_on Q (Ok x) e p q = absurd p
 passed_on Q (Err y) e p q = subst (λ e. Q (Err e)) (sym p) q
 
-pub begins_with_none : (L : Bounds) (bytes : List ℕ) → BeginsWith base_table L bytes []
+pub begins_with_none : (L : Bounds) (bytes : List ℕ) → BeginsWithStream base_table L bytes []
 begins_with_none L bytes = record { front = []; rest = bytes; table = base_table; stream = no_more; whole = refl }
 
 -- the pieces up to one, that one, and those behind it
@@ -62,7 +62,7 @@ joined_all : (pieces : List (Vec ℕ)) (n : ℕ) → joined pieces ≡ joined (t
 joined_all pieces n = ap (λ l. joined l) (sym (take-append-drop n pieces)) ∙ joined_append (take n pieces) (drop n pieces)
 
 -- a refusal that some of the bytes show is that of all
-shown_of_all : StreamsStayShown → (L : Bounds) (front rest : List ℕ) {bytes : List ℕ} (items : List StreamItem) (R : Refusal) → bytes ≡ front ++ rest → IsShown L front items R → Outcome base_table L bytes items (refused R)
+shown_of_all : StreamsStayShown → (L : Bounds) (front rest : List ℕ) {bytes : List ℕ} (items : List StreamItem) (R : Refusal) → bytes ≡ front ++ rest → ShowsRefusal L front items R → Outcome base_table L bytes items (refused R)
 shown_of_all law L front rest {bytes = bytes} items R e h =
     let seen = (law L front front items R h refl).0 in
     (law L front bytes items R h (ap (λ b. take R.seen b) e ∙ take-append-le R.seen front rest seen)).1.outcome
@@ -70,12 +70,12 @@ shown_of_all law L front rest {bytes = bytes} items R e h =
 stops_so : StreamsStayShown → (L : Bounds) (s s' : SessionState TreeBuilder Value) (before given : List (declared.Item Value)) (bytes piece rest : List ℕ) {all : List ℕ} (f : Fault) → no_deeper 1000 s.limits ≡ L → all ≡ (bytes ++ piece) ++ rest
     → FeedsTrees s s' (item_views before) bytes piece given (Err f) → HasOutcome L all (item_views (before ++ given)) (Err f)
 stops_so law L s s' before given bytes piece rest {all = all} (fault.Refused R) l e h =
-    let shown = subst (λ L. IsShown L (bytes ++ piece) (item_views before ++ h.0.more) R) l h.0.holds.0 in
+    let shown = subst (λ L. ShowsRefusal L (bytes ++ piece) (item_views before ++ h.0.more) R) l h.0.holds.0 in
     subst (λ i. Outcome base_table L all i (refused R)) (sym (views_behind before h.0.mean)) (shown_of_all law L (bytes ++ piece) rest (item_views before ++ h.0.more) R e shown)
 stops_so law L s s' before given bytes piece rest {all = all} fault.Memory l e h =
     let t = h.holds.0 in
-    let b = subst (λ L. BeginsWith base_table L t.front (item_views before ++ h.more)) l t.given.begins in
-    subst (λ i. BeginsWith base_table L all i) (sym (views_behind before h.mean))
+    let b = subst (λ L. BeginsWithStream base_table L t.front (item_views before ++ h.more)) l t.given.begins in
+    subst (λ i. BeginsWithStream base_table L all i) (sym (views_behind before h.mean))
     (record {
       front = b.front;
       rest = b.rest ++ (t.rest ++ rest);

@@ -11,8 +11,8 @@ use gob_stream::{Fault, Item, Limits, Session, laws};
 use gob_value::Value;
 use std::alloc::Global;
 
-/// Reads a stream that comes in these pieces, and appends its items. The outcome is that of all the bytes, wherever they
-/// are cut, under a depth of at most 1000.
+/// Reads a stream that comes in these pieces, and appends its items. The outcome is that of all the bytes, wherever
+/// they are cut, under a depth of at most 1000.
 pub fn read_pieces(
     alloc: Global,
     pieces: &[Vec<u8>],

@@ -10,7 +10,7 @@ use Rattle.std.proofs.lemmas.Grind.{take-set_at}
 use Rattle.std.proofs.lemmas.Fmt.{decimal_digit, decimal_step}
 use Rattle.std.specs.Fmt.{decimal}
 use Rattle.gob_json.proofs.RowLaws.{row}
-use Rattle.gob_json.specs.Text.{three_digits}
+use Rattle.gob_json.specs.Machine.Digits.{three_digits}
 use Rattle.gob_json.specs.declared.text.digits.TheConstants.{TRIPLES}
 
 -- ---- the table

@@ -6,8 +6,8 @@ use Rattle.std.specs.Fmt.{decimal}
 use Rattle.std.proofs.lemmas.Fmt.{decimal_digit}
 use Rattle.serde_json.specs.Written.{comma_if, compact_text}
 use Rattle.gob_json.specs.Json.{text_json}
-use Rattle.gob_json.specs.Text.{IsPlainAscii}
-use Rattle.gob_json.specs.TextWhole.{digit_head, field_head}
+use Rattle.gob_json.specs.Machine.Digits.{IsPlainAscii}
+use Rattle.gob_json.specs.Machine.TextParts.{digit_head, field_head}
 use Rattle.gob_json.specs.declared.text.between.TheConstants.{HEADS}
 use Rattle.gob_json.proofs.LeafLaws.{plain_text}
 use Rattle.gob_json.proofs.RowLaws.{row}

@@ -18,7 +18,7 @@ use Rattle.json.proofs.Printed.Plain.{escape_on_plain}
 use Rattle.serde_json.specs.Data.{string}
 use Rattle.serde_json.specs.Written.{compact_text}
 use Rattle.gob_json.specs.Json.{text_json, pair_json, pattern_json}
-use Rattle.gob_json.specs.Text.{IsPlainAscii}
+use Rattle.gob_json.specs.Machine.Digits.{IsPlainAscii}
 use Rattle.gob_json.proofs.TextLaws.{utf8_json}
 
 -- three appends, one after another

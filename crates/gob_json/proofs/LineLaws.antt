@@ -15,8 +15,9 @@ use Rattle.gob_value.specs.Spelling.{SpellsAs, of_type}
 use Rattle.gob_value.specs.Top.{IsStruct, at_once, tagged}
 use Rattle.gob_json.specs.Json.{value_json, put_json}
 use Rattle.gob_value.proofs.PublicLaws.{first_of}
-use Rattle.gob_value.specs.Whole.{Stands}
-use Rattle.gob_json.specs.TextWhole.{TextOfKind, TextOfWhole, LineOfWhole, IsBehindTag, head_text}
+use Rattle.gob_value.specs.Whole.{HoldsBetween}
+use Rattle.gob_json.specs.TextWhole.{TextOfWhole, LineOfWhole, head_text}
+use Rattle.gob_json.specs.Machine.TextParts.{TextOfKind, IsBehindTag}
 
 struct_or_not : (k : Kind) → IsStruct k ⊎ (¬ IsStruct k)
 struct_or_not (kind.Struct types) = inl tt
@@ -25,7 +26,7 @@ struct_or_not _ = inr (λ i. i)
 -- a value that stands up to the end, with its text, is the whole body
 pub whole_text : (T : Table) (t : TypeId) (s : Shape) (limit most begin end : ℕ) (body old new : List ℕ)
     → shape_of T t ≡ Some s → IsBehindTag s.kind body begin → end ≡ length body → most ≤ limit
-    → Stands (TextOfKind T s.kind most old new) body begin end → TextOfWhole T t limit body old new
+    → HoldsBetween (TextOfKind T s.kind most old new) body begin end → TextOfWhole T t limit body old new
 whole_text T t s limit most begin end body old new f tag last deep p =
     let b = p.begins in
     let w = b.within in

@@ -21,9 +21,9 @@ use Rattle.gob_value.specs.Spelling.{truth, SpellsAs, SpellsEach, SpellsPairs, n
 use Rattle.gob_json.specs.Json.{value_json, elements_json, pairs_json, fields_json, element_type, key_type, struct_fields}
 use Rattle.gob_json.specs.Json.{field_name, field_type, hex_json, integer_json, natural_json, opaque_json, pair_json}
 use Rattle.gob_json.specs.Json.{pattern_json, text_json, triple_json}
-use Rattle.gob_json.specs.TextWhole.{field_head}
-use Rattle.gob_json.specs.TextSent.{HoldsKind, HoldsValue, BeginsElements, BeginsList, BeginsEntries, BeginsMap, BeginsEntry}
-use Rattle.gob_json.specs.TextSent.{BeginsPresent, IsNextField, NumberFrom, BytesFrom, Sends, without_end}
+use Rattle.gob_json.specs.Machine.TextParts.{field_head}
+use Rattle.gob_json.specs.Machine.TextSent.{HoldsKind, HoldsValue, BeginsElements, BeginsList, BeginsEntries, BeginsMap, BeginsEntry}
+use Rattle.gob_json.specs.Machine.TextSent.{BeginsPresent, IsNextField, NumberFrom, BytesFrom, Sends, without_end}
 use Rattle.gob_json.proofs.TextSteps.{slice_element, array_element, map_element, map_key, struct_types}
 use Rattle.gob_json.proofs.StandingLaws.{bool_parts, int_parts, uint_parts, float_parts, complex_parts, nil_parts, bytes_parts}
 use Rattle.gob_json.proofs.StandingLaws.{text_parts, opaque_parts, these_begin, value_as, slice_parts, array_parts, list_begins}

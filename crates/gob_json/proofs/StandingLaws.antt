@@ -23,13 +23,13 @@ use Rattle.gob_value.specs.Spelling.{truth, Spells, SpellsAs, SpellsEach, Spells
 use Rattle.gob_value.specs.Spelling.{of_float, of_complex, of_nil, of_bytes, of_text, of_opaque, of_slice, of_array, of_map, of_struct}
 use Rattle.gob_value.specs.Spelling.{no_element, element, no_entry, entry, end_of_fields, next_field}
 use Rattle.gob_value.specs.Top.{IsStruct, SpellsTop, at_once, tagged}
-use Rattle.gob_value.specs.Whole.{Stands, BeginsThisNumber}
-use Rattle.gob_json.specs.TextWhole.{BeginsThese}
-use Rattle.gob_json.specs.TextSent.{HoldsKind, HoldsValue, BeginsElements, BeginsList, BeginsEntries, BeginsMap, BeginsEntry}
-use Rattle.gob_json.specs.TextSent.{BeginsPresent, IsNextField, NumberFrom, BytesFrom}
+use Rattle.gob_value.specs.Whole.{HoldsBetween, BeginsThisNumber}
+use Rattle.gob_json.specs.Machine.TextParts.{BeginsThese}
+use Rattle.gob_json.specs.Machine.TextSent.{HoldsKind, HoldsValue, BeginsElements, BeginsList, BeginsEntries, BeginsMap, BeginsEntry}
+use Rattle.gob_json.specs.Machine.TextSent.{BeginsPresent, IsNextField, NumberFrom, BytesFrom}
 
 -- ---- numbers and bytes
-pub number_found : {body : List ℕ} {m at end : ℕ} → Stands (BeginsThisNumber m) body at end → NumberFrom body at m end
+pub number_found : {body : List ℕ} {m at end : ℕ} → HoldsBetween (BeginsThisNumber m) body at end → NumberFrom body at m end
 number_found {body = body} {end = end} s n rest p =
     let one = unsigned_prefix (drop end body) rest s.begins.spelled p.spelled (sym s.begins.whole ∙ p.whole) in
     (one.value, one.rest)

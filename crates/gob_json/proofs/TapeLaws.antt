@@ -13,7 +13,7 @@ use Rattle.gob_types.specs.Table.{Table}
 use Rattle.gob_value.specs.Tree.{Tree, Trees, no_tree, tree, Pairs, no_pair, pair, Fields, no_field, field}
 use Rattle.gob_value.specs.Tree as Value
 use Rattle.gob_value.specs.Spelling.{truth}
-use Rattle.gob_read.specs.Built.{signed_of}
+use Rattle.gob_read.specs.Leaf.{signed_of}
 use Rattle.gob_tape.specs.declared.kind.ValueKind.{ValueKind}
 use Rattle.gob_tape.specs.declared.kind.ValueKind.TheVariants as kind
 use Rattle.gob_tape.specs.declared.view.View.{View}

@@ -31,10 +31,10 @@ use Rattle.gob_json.specs.Json.{fields_json, element_type, key_type, struct_fiel
 use Rattle.gob_json.specs.Json.{field_name, field_type, integer_json}
 use Rattle.gob_json.specs.Json.{natural_json, pattern_json, pair_json, triple_json}
 use Rattle.gob_json.specs.Json.{hex_json, text_json, opaque_json}
-use Rattle.gob_value.specs.Whole.{Stands, BeginsThisNumber}
+use Rattle.gob_value.specs.Whole.{HoldsBetween, BeginsThisNumber}
 use Rattle.gob_value.specs.Written.{HasParts}
 use Rattle.gob_value.proofs.PublicLaws.{leaf_within, whole_of_two}
-use Rattle.gob_json.specs.TextWhole.{TextOfKind, TextOfType, TextOfEach, TextOfPairs, TextOfFields, BeginsThese, field_head}
+use Rattle.gob_json.specs.Machine.TextParts.{TextOfKind, TextOfType, TextOfEach, TextOfPairs, TextOfFields, BeginsThese, field_head}
 
 -- an answer of a place, if any
 pub if_ok : {A E : Type 0} {P Q : A → Type 0} (r : Result A E) → ((x : A) → P x → Q x) → IfOk r P → IfOk r Q
@@ -42,9 +42,9 @@ if_ok (Ok x) f p = f x p
 if_ok (Err e) f p = tt
 
 -- ---- bytes behind their count
-pub these_stand : (body : List ℕ) (at begin count : ℕ) → Stands (BeginsThisNumber count) body at begin
+pub these_stand : (body : List ℕ) (at begin count : ℕ) → HoldsBetween (BeginsThisNumber count) body at begin
     → count ≤ length body - begin
-    → Stands (BeginsThese (take (begin + count - begin) (drop begin body))) body at (begin + count)
+    → HoldsBetween (BeginsThese (take (begin + count - begin) (drop begin body))) body at (begin + count)
 these_stand body at begin count p l =
     let d = drop begin body in
     let n = p.begins in
@@ -53,7 +53,7 @@ these_stand body at begin count p l =
     let size : length (take count d) ≡ count = length-take-le count d (omega (arith, length-drop begin body)) in
     let rest : d ≡ take count d ++ drop (begin + count) body =
     sym (take-append-drop count d) ∙ ap (λ r. take count d ++ r) (drop-drop count begin body) in
-    let found : Stands (BeginsThese (take count d)) body at (begin + count) = record {
+    let found : HoldsBetween (BeginsThese (take count d)) body at (begin + count) = record {
       order = omega (arith, p.order);
       inside = omega (arith, p.inside);
       begins = record {
@@ -62,7 +62,7 @@ these_stand body at begin count p l =
         whole = whole_of_two n.bytes (take count d) (drop (begin + count) body) n.whole rest;
       };
     } in
-    subst (λ k. Stands (BeginsThese (take k d)) body at (begin + count)) (sym same) found
+    subst (λ k. HoldsBetween (BeginsThese (take k d)) body at (begin + count)) (sym same) found
 
 -- ---- values without parts
 module _ (T : Table) (old new : List ℕ) where
@@ -225,7 +225,7 @@ later_on n = lt-ltb 0 (n + 1) (omega arith)
 
 module _ (T : Table) where
   pub no_element_text : (e : TypeId) (limit n : ℕ) (later : Bool) (old new body : List ℕ) (at : ℕ) → n ≡ 0
-      → at ≤ length body → new ≡ old ++ 93 ∷ [] → Stands (TextOfEach T e limit n later old new) body at at
+      → at ≤ length body → new ≡ old ++ 93 ∷ [] → HoldsBetween (TextOfEach T e limit n later old new) body at at
   no_element_text e limit n later old new body at none l closed = record {
     order = omega arith;
     inside = l;
@@ -263,7 +263,7 @@ module _ (T : Table) where
       }
 
   pub no_pair_text : (k e : TypeId) (limit n : ℕ) (later : Bool) (old new body : List ℕ) (at : ℕ) → n ≡ 0
-      → at ≤ length body → new ≡ old ++ 93 ∷ [] → Stands (TextOfPairs T k e limit n later old new) body at at
+      → at ≤ length body → new ≡ old ++ 93 ∷ [] → HoldsBetween (TextOfPairs T k e limit n later old new) body at at
   no_pair_text k e limit n later old new body at none l closed = record {
     order = omega arith;
     inside = l;

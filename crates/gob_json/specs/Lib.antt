@@ -1,7 +1,5 @@
 pub mod Json
 pub mod DefinitionJson
 pub mod TapeJson
-pub mod Text
-pub mod Appended
 pub mod TextWhole
-pub mod TextSent
+pub mod Machine

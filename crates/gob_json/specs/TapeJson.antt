@@ -2,7 +2,7 @@
 -- (docs/FORMAT.md, The JSON lines: this project's own.)
 use Rattle.std.specs.Prelude.{ℕ, List, ◌==◌}
 use Rattle.serde_json.specs.Data.{Data, null, boolean}
-use Rattle.gob_read.specs.Built.{signed_of}
+use Rattle.gob_read.specs.Leaf.{signed_of}
 use Rattle.gob_tape.specs.declared.kind.ValueKind.{ValueKind}
 use Rattle.gob_tape.specs.declared.kind.ValueKind.TheVariants as kind
 use Rattle.gob_json.specs.Json.{hex_json, text_json, opaque_json, pattern_json, pair_json, natural_json, integer_json}

@@ -6,7 +6,7 @@ use Rattle.std.proofs.lemmas.List.{take-append-drop, length-drop}
 use Rattle.std.proofs.Math.Nat.{pow-suc, pow-succ', pow-le-pow_right, div-add-mod}
 use Rattle.std.proofs.lemmas.Nat.{mul-add-lt, same_from_place, div-mul-add, mod-mul-add, div_below, mod_below, pow-add}
 use Rattle.gob_num.specs.Unsigned.{big_endian, AreBytes}
-use Rattle.gob_num.specs.Pushed.{digits}
+use Rattle.gob_num.specs.Machine.Counters.{digits}
 
 pub pow256_pos : (k : ℕ) → 0 < 256 ^ k
 pow256_pos zero = omega arith

@@ -6,7 +6,7 @@ use Rattle.gob_num.specs.Pattern.{AreEightBytes, IsPattern}
 use Rattle.gob_num.specs.Spelled.{IsSpelled, Same}
 use Rattle.gob_num.proofs.DigitLaws.{bytes-append, big_endian_below, digits_injective, length-digits, digits-bytes}
 use Rattle.gob_num.proofs.DigitLaws.{big_endian-digits}
-use Rattle.gob_num.specs.Pushed.{digits}
+use Rattle.gob_num.specs.Machine.Counters.{digits}
 use Rattle.gob_num.proofs.UnsignedLaws.{unsigned_prefix, unsigned_unique, unsigned_spelled}
 
 pub reverse-bytes : (bytes : List ℕ) → AreBytes bytes → AreBytes (reverse bytes)

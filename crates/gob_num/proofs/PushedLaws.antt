@@ -5,7 +5,7 @@ use Rattle.std.proofs.Math.Nat.{pow-succ'}
 use Rattle.std.proofs.lemmas.Bool.{cases_lt}
 use Rattle.std.proofs.lemmas.Nat.{mul-add-lt}
 use Rattle.gob_num.specs.Unsigned.{big_endian, IsUnsigned, IsUnsignedFront, BeginsNumber, IsNotMinimal}
-use Rattle.gob_num.specs.Pushed.{digits, pushed, AreCounters}
+use Rattle.gob_num.specs.Machine.Counters.{digits, pushed, AreCounters}
 use Rattle.gob_num.proofs.DigitLaws.{pow256_mono, bytes-append, big_endian-snoc, two_digits, length-digits}
 use Rattle.gob_num.proofs.DigitLaws.{big_endian-digits, digits-step, no_digits}
 use Rattle.gob_num.proofs.FrontLaws.{counted, begins_front}

@@ -4,7 +4,7 @@ use Rattle.std.proofs.Common.{sym, ap, ◌∙◌}
 use Rattle.std.proofs.lemmas.Bool.{cases_lt}
 use Rattle.gob_num.specs.Unsigned.{big_endian, AreBytes, IsUnsigned, short, long}
 use Rattle.gob_num.specs.Spelled.{IsSpelled, Same}
-use Rattle.gob_num.specs.Pushed.{digits}
+use Rattle.gob_num.specs.Machine.Counters.{digits}
 use Rattle.gob_num.proofs.DigitLaws.{pow256_mono, append_split, big_endian_below, digits_injective, length-digits}
 use Rattle.gob_num.proofs.DigitLaws.{digits-bytes, big_endian-digits}
 

@@ -7,7 +7,7 @@ use Rattle.std.specs.Int.Count.{count_leading_zeros}
 use Rattle.std.proofs.Math.Seq.{drop-append_seam, take-append_seam, take-length}
 use Rattle.std.proofs.lemmas.List.{append-nil}
 use Rattle.gob_num.specs.Unsigned.{IsUnsigned}
-use Rattle.gob_num.specs.Pushed.{digits}
+use Rattle.gob_num.specs.Machine.Counters.{digits}
 use Rattle.gob_num.proofs.DigitLaws.{length-digits, bits_of_digits}
 use Rattle.gob_num.proofs.UnsignedLaws.{counted_digits}
 

@@ -3,7 +3,7 @@ pub mod Signed
 pub mod Pattern
 pub mod Spelled
 pub mod Laws
-pub mod Pushed
 pub mod Step
 pub mod Taken
 pub mod Place
+pub mod Machine

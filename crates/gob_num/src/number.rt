@@ -28,7 +28,7 @@ pub struct Number {
 
 impl Model for Number {
     ghost use Rattle.std.specs.Prelude.{ℕ, List};
-    ghost use Rattle.gob_num.specs.Pushed.{pushed, AreCounters};
+    ghost use Rattle.gob_num.specs.Machine.Counters.{pushed, AreCounters};
 
     ghost Value = { List ℕ };
 

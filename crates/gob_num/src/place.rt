@@ -6,8 +6,8 @@ ghost use Rattle.gob_num.specs.Taken.{TakesUnsigned};
 use crate::number::Number;
 use crate::unsigned::{LEAST_HEAD, Taken, digits_after, is_padded, take_digits};
 
-/// The number that stands whole at the place of the bytes, and where it ends. None says that none stands there: the bytes
-/// end before it does, or begin no spelling, as [`take_uint`](crate::take_uint) judges.
+/// The number that stands whole at the place of the bytes, and where it ends. None says that none stands there: the
+/// bytes end before it does, or begin no spelling, as [`take_uint`](crate::take_uint) judges.
 #[inline(always)]
 pub fn uint_at(bytes: &[u8], at: usize) -> Option<(u64, usize)>
     ensures found { IfSome result (λ found. IsUnsignedAt found.0 bytes.now at found.1) }
@@ -37,8 +37,8 @@ pub fn uint_end(bytes: &[u8], at: usize) -> Option<usize>
     last.end_of_next(bytes, at)
 }
 
-// Takes a number of which the last byte may be missing. It stands near the end of the bytes, and so is no part of the loops
-// over those before.
+// Takes a number of which the last byte may be missing. It stands near the end of the bytes, and so is no part of the
+// loops over those before.
 #[inline(never)]
 fn take_near_the_end(piece: &[u8]) -> Taken
     ensures { TakesUnsigned piece.now result }
@@ -46,8 +46,8 @@ fn take_near_the_end(piece: &[u8]) -> Taken
     Number::new().take_by_bytes(piece)
 }
 
-/// Where so many numbers end that stand whole one behind another, the first of them at the place of the bytes. None says that
-/// no so many stand there.
+/// Where so many numbers end that stand whole one behind another, the first of them at the place of the bytes. None
+/// says that no so many stand there.
 #[inline(never)]
 pub fn uints_end(bytes: &[u8], begin: usize, count: u64) -> Option<usize>
     ensures found { IfSome result (λ end. AreUnsignedAt bytes.now count begin end) }
@@ -61,8 +61,8 @@ pub fn uints_end(bytes: &[u8], begin: usize, count: u64) -> Option<usize>
     Some(at)
 }
 
-// The head of the last number of more than one byte, if there was one, and how many digits it counts. Lists have runs of
-// numbers of one size: so where the next ends is mostly there before its head is read.
+// The head of the last number of more than one byte, if there was one, and how many digits it counts. Lists have runs
+// of numbers of one size: so where the next ends is mostly there before its head is read.
 #[derive(Clone, Copy)]
 struct Counted {
     head: u8,

@@ -1,6 +1,6 @@
 -- How much is held of a body of which only the first bytes came: each part from its first byte on, and of its raw bytes
 -- those that came, as far as either is stored.
--- (docs/FORMAT.md, Tellings: What is held.)
+-- (docs/FORMAT.md, Events: What is held.)
 use Rattle.std.specs.Prelude.{◌≡◌, ℕ, ◌+◌, ◌-◌, ◌<◌, ◌≤◌, List, [], ◌∷◌, ◌++◌, length, Some, slice_get}
 use Rattle.gob_num.specs.Unsigned.{IsUnsigned, IsUnsignedFront}
 use Rattle.gob_num.specs.Pattern.{IsPattern}
@@ -18,7 +18,7 @@ use Rattle.gob_value.specs.Spelling.{Spells, SpellsEach, SpellsPairs}
 use Rattle.gob_value.specs.Top.{IsStruct}
 use Rattle.gob_read.specs.declared.builder.Stores.{Stores}
 use Rattle.gob_read.specs.declared.builder.Stores.TheVariants.{PartsAndRaw, Parts, Nothing}
-use Rattle.gob_read.specs.Stood.{IsStood}
+use Rattle.gob_read.specs.Viable.{IsViable}
 use Rattle.gob_read.specs.Weight.{part_count, raw_count, parts_of_all, raw_of_all, parts_of_pairs, raw_of_pairs, parts_of_fields, raw_of_fields}
 
 -- whole fields, each behind its delta, from one field number on to another
@@ -83,8 +83,8 @@ pub record IsHeld (T : Table) (t : TypeId) (stores : Stores) (z : List ℕ) (hel
   pub held_is : held ≡ held_of stores parts raws
 
 -- of bytes that stand so many parts and raw bytes came
-abbrev pub StandingArePartial : Type 0
-StandingArePartial = (T : Table) (t : TypeId) (limit announced : ℕ) (z : List ℕ) → IsStood T t limit announced z → (parts : ℕ) × (raws : ℕ) × PartialBody T t z parts raws
+abbrev pub ViableArePartial : Type 0
+ViableArePartial = (T : Table) (t : TypeId) (limit announced : ℕ) (z : List ℕ) → IsViable T t limit announced z → (parts : ℕ) × (raws : ℕ) × PartialBody T t z parts raws
 
 -- and no others, so that one number is held
 abbrev pub HoldOnce : Type 0

@@ -12,20 +12,20 @@ use Rattle.gob_types.specs.Ready.{IsReady}
 use Rattle.gob_value.specs.Tree.{Tree, depth}
 use Rattle.gob_value.specs.Top.{SpellsTop}
 use Rattle.gob_num.specs.Unsigned.{IsUnsigned}
-use Rattle.gob_read.specs.Awaited.{Allowed, Allows, Awaited, a_number, raw}
-use Rattle.gob_read.specs.Awaits.{AwaitsTop}
+use Rattle.gob_read.specs.Expected.{Allowed, Allows, Expected, a_number, raw}
+use Rattle.gob_read.specs.Expects.{ExpectsTop}
 use Rattle.gob_read.specs.Refusal.{Refusal, Refused}
 use Rattle.gob_read.specs.First.{IsFirst}
-use Rattle.gob_read.specs.Stood.{IsStood}
+use Rattle.gob_read.specs.Viable.{IsViable}
 use Rattle.gob_read.specs.Begins.{BeginsValue, BeginsNone, IsProperFront, BeginsOnlyDeep}
 
--- what is awaited after bytes, in a part of which depth
+-- what is expected after bytes, in a part of which depth
 abbrev pub Places : Type 1
-Places = Table → TypeId → List ℕ → Awaited → ℕ → Type 0
+Places = Table → TypeId → List ℕ → Expected → ℕ → Type 0
 
--- after the same bytes one thing is awaited, at one depth
+-- after the same bytes one thing is expected, at one depth
 abbrev pub StopOnce : Places → Type 0
-StopOnce P = (T : Table) (t : TypeId) (p : List ℕ) (w u : Awaited) (d e : ℕ) → P T t p w d → P T t p u e → (w ≡ u) × (d ≡ e)
+StopOnce P = (T : Table) (t : TypeId) (p : List ℕ) (w u : Expected) (d e : ℕ) → P T t p w d → P T t p u e → (w ≡ u) × (d ≡ e)
 
 -- the refusal of a body that goes on behind its value
 abbrev pub extra_behind : List ℕ → Refusal
@@ -57,25 +57,25 @@ abbrev pub BodiesStayShown : Type 0
 BodiesStayShown = (T : Table) (t : TypeId) (limit announced : ℕ) (z y : List ℕ) (R : Refusal) → IsFirst T t limit announced z R → length z ≤ announced → length y ≤ announced → take R.seen y ≡ take R.seen z
     → (R.seen ≤ length z) × IsFirst T t limit announced y R
 
--- where bytes stand, each refusal is shown by more bytes, whatever they are
-abbrev pub StandPromptly : Type 0
-StandPromptly = (T : Table) (t : TypeId) (limit announced : ℕ) (z x : List ℕ) (S : Refusal) → IsStood T t limit announced z → Refused T t limit announced (z ++ x) S → length z < S.seen
+-- where bytes are viable, each refusal is shown by more bytes, whatever they are
+abbrev pub RefusesPromptly : Type 0
+RefusesPromptly = (T : Table) (t : TypeId) (limit announced : ℕ) (z x : List ℕ) (S : Refusal) → IsViable T t limit announced z → Refused T t limit announced (z ++ x) S → length z < S.seen
 
 -- and no value is whole
-abbrev pub StandBeforeTheEnd : Type 0
-StandBeforeTheEnd = (T : Table) (t : TypeId) (limit announced : ℕ) (z b r : List ℕ) (v : Tree) → IsStood T t limit announced z → SpellsTop T t v b → z ≢ b ++ r
+abbrev pub ViableBeforeTheEnd : Type 0
+ViableBeforeTheEnd = (T : Table) (t : TypeId) (limit announced : ℕ) (z b r : List ℕ) (v : Tree) → IsViable T t limit announced z → SpellsTop T t v b → z ≢ b ++ r
 
--- what bytes await stays when the table grows
-abbrev pub StayAwaited : Type 0
-StayAwaited = (T U : Table) (t : TypeId) (p : List ℕ) (w : Awaited) (d : ℕ) → Extends T U → AwaitsTop T t p w d → AwaitsTop U t p w d
+-- what bytes expect stays when the table grows
+abbrev pub StayExpected : Type 0
+StayExpected = (T U : Table) (t : TypeId) (p : List ℕ) (w : Expected) (d : ℕ) → Extends T U → ExpectsTop T t p w d → ExpectsTop U t p w d
 
--- and a ready type awaits nothing else then
-abbrev pub AwaitNoMore : Type 0
-AwaitNoMore = (T U : Table) (t : TypeId) (p : List ℕ) (w : Awaited) (d : ℕ) → Extends T U → IsReady T t → AwaitsTop U t p w d → AwaitsTop T t p w d
+-- and a ready type expects nothing else then
+abbrev pub ExpectNoMore : Type 0
+ExpectNoMore = (T U : Table) (t : TypeId) (p : List ℕ) (w : Expected) (d : ℕ) → Extends T U → IsReady T t → ExpectsTop U t p w d → ExpectsTop T t p w d
 
--- bytes of a ready type stand as they stood
-abbrev pub StayStanding : Type 0
-StayStanding = (T U : Table) (t : TypeId) (limit announced : ℕ) (z : List ℕ) → Extends T U → IsReady T t → IsStood T t limit announced z → IsStood U t limit announced z
+-- bytes of a ready type that are viable stay so
+abbrev pub StayViable : Type 0
+StayViable = (T U : Table) (t : TypeId) (limit announced : ℕ) (z : List ℕ) → Extends T U → IsReady T t → IsViable T t limit announced z → IsViable U t limit announced z
 
 -- and the same refusal is given
 abbrev pub StayRefused : Type 0
@@ -107,9 +107,9 @@ DeepBeginDeep = (T : Table) (t : TypeId) (limit announced : ℕ) (z : List ℕ) 
 pub record HasCountedArrays (T : Table) : Type 0 where
   pub counted : (t : TypeId) (s : Shape) (e : TypeId) (n : ℕ) → shape_of T t ≡ Some s → s.kind ≡ kind.Array e n → n < 2 ^ 64
 
--- where bytes of a ready type await something, they are a proper front of a spelling
-abbrev pub AwaitedGoOn : Type 0
-AwaitedGoOn = (T : Table) (t : TypeId) (p : List ℕ) (w : Awaited) (d : ℕ) → HasCountedArrays T → IsReady T t → AwaitsTop T t p w d → IsProperFront T t p
+-- where bytes of a ready type expect something, they are a proper front of a spelling
+abbrev pub ExpectingGoesOn : Type 0
+ExpectingGoesOn = (T : Table) (t : TypeId) (p : List ℕ) (w : Expected) (d : ℕ) → HasCountedArrays T → IsReady T t → ExpectsTop T t p w d → IsProperFront T t p
 
 -- the bytes before the place of a refusal begin a value, unless the body ends too early
 abbrev pub PlacesBegin : Type 0
@@ -119,30 +119,30 @@ PlacesBegin = (T : Table) (t : TypeId) (limit announced : ℕ) (z : List ℕ) (R
 abbrev pub TablesCountArrays : Type 0
 TablesCountArrays = (T : Table) → IsTable T → HasCountedArrays T
 
--- a whole item of what is awaited
-pub data IsItem : Awaited → List ℕ → Type 0 where
-  is_number : {a : Allowed} {n : ℕ} {c : List ℕ} → Allows a n → IsUnsigned n c → IsItem (a_number a) c
-  is_raw : {n : ℕ} {c : List ℕ} → length c ≡ n → IsItem (raw n) c
+-- a whole item of what is expected
+pub data IsExpected : Expected → List ℕ → Type 0 where
+  is_number : {a : Allowed} {n : ℕ} {c : List ℕ} → Allows a n → IsUnsigned n c → IsExpected (a_number a) c
+  is_raw : {n : ℕ} {c : List ℕ} → length c ≡ n → IsExpected (raw n) c
 
 -- which the bytes begin, without reaching its end
-pub record BeginsItem (w : Awaited) (r : List ℕ) : Type 0 where
+pub record BeginsExpected (w : Expected) (r : List ℕ) : Type 0 where
   pub rest : List ℕ
   pub more : rest ≢ []
-  pub item : IsItem w (r ++ rest)
+  pub item : IsExpected w (r ++ rest)
 
--- after the first of the bytes something is awaited, and the others begin it
-pub record StandsInValue (T : Table) (t : TypeId) (z : List ℕ) : Type 0 where
+-- after the first of the bytes something is expected, and the others begin it
+pub record ExpectsMore (T : Table) (t : TypeId) (z : List ℕ) : Type 0 where
   pub before : List ℕ
   pub under_way : List ℕ
-  pub awaited : Awaited
+  pub expected : Expected
   pub depth : ℕ
-  pub awaits : AwaitsTop T t before awaited depth
+  pub expects : ExpectsTop T t before expected depth
   pub whole : z ≡ before ++ under_way
-  pub begun : BeginsItem awaited under_way
+  pub begun : BeginsExpected expected under_way
 
--- each proper front of a spelling stands so, and no other bytes of a ready type do
-abbrev pub FrontsStand : Type 0
-FrontsStand = (T : Table) (t : TypeId) (z : List ℕ) → IsProperFront T t z → StandsInValue T t z
+-- more is expected behind each proper front of a spelling, and behind no other bytes of a ready type
+abbrev pub FrontsExpectMore : Type 0
+FrontsExpectMore = (T : Table) (t : TypeId) (z : List ℕ) → IsProperFront T t z → ExpectsMore T t z
 
-abbrev pub StandingAreFronts : Type 0
-StandingAreFronts = (T : Table) (t : TypeId) (z : List ℕ) → HasCountedArrays T → IsReady T t → StandsInValue T t z → IsProperFront T t z
+abbrev pub ExpectingAreFronts : Type 0
+ExpectingAreFronts = (T : Table) (t : TypeId) (z : List ℕ) → HasCountedArrays T → IsReady T t → ExpectsMore T t z → IsProperFront T t z

@@ -7,8 +7,8 @@ use Rattle.gob_read.specs.UnderWay.{HasReadBody, FitsTable}
 use Rattle.gob_read.specs.declared.reader.BodyReader.{BodyReader}
 
 -- where the reader stands under a table, it stands when the table grows
-abbrev pub StaysStanding : {X O : Type 0} {most : ℕ} → Building X O most → BodyReader X O → Type 0
-StaysStanding building reader = (T U : Table) (t : TypeId) (limit announced : ℕ) (z : List ℕ) → Extends T U
+abbrev pub StaysRead : {X O : Type 0} {most : ℕ} → Building X O most → BodyReader X O → Type 0
+StaysRead building reader = (T U : Table) (t : TypeId) (limit announced : ℕ) (z : List ℕ) → Extends T U
     → HasReadBody building T t limit announced reader z → HasReadBody building U t limit announced reader z
 
 -- and it stays of use

@@ -8,8 +8,8 @@ use Rattle.gob_types.specs.declared.reason.Reason.TheVariants as reason
 use Rattle.gob_types.specs.Table.{Table}
 use Rattle.gob_value.specs.Tree.{Tree}
 use Rattle.gob_value.specs.Top.{SpellsTop}
-use Rattle.gob_read.specs.Awaited.{Allowed, Awaited, a_number, Allows, reason_of, EndsWithin}
-use Rattle.gob_read.specs.Awaits.{AwaitsTop}
+use Rattle.gob_read.specs.Expected.{Allowed, Expected, a_number, Allows, reason_of, EndsWithin}
+use Rattle.gob_read.specs.Expects.{ExpectsTop}
 
 -- place and seen count bytes from the first one behind the type number: where the first refused byte is, and how many
 -- bytes show the refusal
@@ -23,13 +23,13 @@ pub record Refusal : Type 0 where
 pub data Refused (T : Table) (t : TypeId) (limit announced : ℕ) (z : List ℕ) : Refusal → Type 0 where
   extra : {v : Tree} {f : List ℕ} (r : List ℕ) → SpellsTop T t v f → z ≡ f ++ r → length f < announced
       → Refused T t limit announced z (record { place = length f; seen = length f; reason = reason.Extra })
-  too_deep : {p : List ℕ} (r : List ℕ) {w : Awaited} {d : ℕ} → AwaitsTop T t p w d → z ≡ p ++ r → limit < d
+  too_deep : {p : List ℕ} (r : List ℕ) {w : Expected} {d : ℕ} → ExpectsTop T t p w d → z ≡ p ++ r → limit < d
       → Refused T t limit announced z (record { place = length p; seen = length p; reason = reason.TooDeep })
-  short_of : {p : List ℕ} (r : List ℕ) {w : Awaited} {d : ℕ} → AwaitsTop T t p w d → z ≡ p ++ r → length z ≡ announced → EndsWithin w r
+  short_of : {p : List ℕ} (r : List ℕ) {w : Expected} {d : ℕ} → ExpectsTop T t p w d → z ≡ p ++ r → length z ≡ announced → EndsWithin w r
       → Refused T t limit announced z (record { place = announced; seen = announced; reason = reason.Short })
-  bad_head_at : {p : List ℕ} (r : List ℕ) {a : Allowed} {d : ℕ} → AwaitsTop T t p (a_number a) d → z ≡ p ++ r → IsBadHead r
+  bad_head_at : {p : List ℕ} (r : List ℕ) {a : Allowed} {d : ℕ} → ExpectsTop T t p (a_number a) d → z ≡ p ++ r → IsBadHead r
       → Refused T t limit announced z (record { place = length p; seen = length p + 1; reason = reason.BadHead })
-  not_minimal_at : {p : List ℕ} (r : List ℕ) {a : Allowed} {d : ℕ} → AwaitsTop T t p (a_number a) d → z ≡ p ++ r → IsNotMinimal r
+  not_minimal_at : {p : List ℕ} (r : List ℕ) {a : Allowed} {d : ℕ} → ExpectsTop T t p (a_number a) d → z ≡ p ++ r → IsNotMinimal r
       → Refused T t limit announced z (record { place = length p; seen = length p + 2; reason = reason.NotMinimal })
-  not_allowed : {p c : List ℕ} (r : List ℕ) {a : Allowed} {d n : ℕ} → AwaitsTop T t p (a_number a) d → z ≡ p ++ (c ++ r) → IsUnsigned n c → ¬ Allows a n
+  not_allowed : {p c : List ℕ} (r : List ℕ) {a : Allowed} {d n : ℕ} → ExpectsTop T t p (a_number a) d → z ≡ p ++ (c ++ r) → IsUnsigned n c → ¬ Allows a n
       → Refused T t limit announced z (record { place = length p; seen = length p + length c; reason = reason_of a })

@@ -1,9 +1,9 @@
 -- What a value costs at least: its parts, itself included, and its raw bytes; and how many of either are told.
--- (docs/FORMAT.md, Tellings.)
+-- (docs/FORMAT.md, Events.)
 use Rattle.std.specs.Prelude.{ℕ, ◌+◌, List, [], ◌∷◌, length}
 use Rattle.gob_value.specs.Tree.{Tree, Trees, no_tree, tree, Pairs, no_pair, pair, Fields, no_field}
 use Rattle.gob_value.specs.Tree as Value
-use Rattle.gob_read.specs.Telling.{Telling, number, raw_start, raw_more, enter, field, leave}
+use Rattle.gob_read.specs.Event.{Event, number, raw_start, raw_more, enter, field, leave}
 
 -- the parts of a value, itself included
 abbrev mutual
@@ -51,8 +51,8 @@ abbrev mutual
 abbrev pub weight : Tree → ℕ
 weight v = part_count v + raw_count v
 
--- the parts that the tellings begin
-abbrev pub parts_told : List Telling → ℕ
+-- the parts that the events begin
+abbrev pub parts_told : List Event → ℕ
 parts_told [] = 0
 parts_told (number k a b ∷ us) = parts_told us + 1
 parts_told (raw_start k ∷ us) = parts_told us + 1
@@ -61,8 +61,8 @@ parts_told (enter k ∷ us) = parts_told us + 1
 parts_told (field f ∷ us) = parts_told us
 parts_told (leave ∷ us) = parts_told us
 
--- the raw bytes that the tellings bring
-abbrev pub raw_told : List Telling → ℕ
+-- the raw bytes that the events bring
+abbrev pub raw_told : List Event → ℕ
 raw_told [] = 0
 raw_told (raw_more s ∷ us) = raw_told us + length s
 raw_told (_ ∷ us) = raw_told us

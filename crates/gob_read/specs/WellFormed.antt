@@ -1,13 +1,13 @@
--- Which lists of tellings are well formed, said by a fold over the parts that are open.
--- (docs/FORMAT.md, Tellings.)
+-- Which lists of events are well formed, said by a fold over the parts that are open.
+-- (docs/FORMAT.md, Events.)
 use Rattle.std.specs.Prelude.{◌≡◌, ℕ, ◌+◌, ◌≤◌, List, [], ◌∷◌}
 use Rattle.gob_types.specs.declared.basic.Basic.{Basic}
 use Rattle.gob_types.specs.declared.basic.Basic.TheVariants as basic
-use Rattle.gob_read.specs.declared.telling.RawKind.{RawKind}
-use Rattle.gob_read.specs.declared.telling.GroupKind.TheVariants as group
-use Rattle.gob_read.specs.Telling.{Telling, number, raw_start, raw_more, enter, field, leave}
+use Rattle.gob_read.specs.declared.event.RawKind.{RawKind}
+use Rattle.gob_read.specs.declared.event.GroupKind.TheVariants as group
+use Rattle.gob_read.specs.Event.{Event, number, raw_start, raw_more, enter, field, leave}
 
--- where a list of tellings stands: before or behind the whole value, or in an open part, with the place behind that part
+-- where a list of events stands: before or behind the whole value, or in an open part, with the place behind that part
 pub data Place : Type 0 where
   at_start : Place
   at_end : Place
@@ -37,8 +37,8 @@ pub data AreNumbers : Basic → ℕ → ℕ → Type 0 where
   of_complex : {a b : ℕ} → AreNumbers basic.Complex a b
   of_nil : AreNumbers basic.Interface 0 0
 
--- the telling may come at the first place, and leads to the second
-pub data Follows : Place → Telling → Place → Type 0 where
+-- the event may come at the first place, and leads to the second
+pub data Follows : Place → Event → Place → Type 0 where
   a_number : {p q : Place} {k : Basic} {a b : ℕ} → BeginsPlace p q → AreNumbers k a b → Follows p (number k a b) q
   a_raw_part : {p q : Place} {k : RawKind} → BeginsPlace p q → Follows p (raw_start k) (in_raw q)
   raw_bytes : {p : Place} {s : List ℕ} → Follows (in_raw p) (raw_more s) (in_raw p)
@@ -51,11 +51,11 @@ pub data Follows : Place → Telling → Place → Type 0 where
   end_of_map : {p : Place} → Follows (before_key p) leave p
   end_of_struct : {next : ℕ} {p : Place} → Follows (before_field next p) leave p
 
--- the tellings may come one after another
-pub data FollowsAll : Place → List Telling → Place → Type 0 where
-  no_telling : {p : Place} → FollowsAll p [] p
-  telling : {p q r : Place} {t : Telling} {us : List Telling} → Follows p t q → FollowsAll q us r → FollowsAll p (t ∷ us) r
+-- the events may come one after another
+pub data FollowsAll : Place → List Event → Place → Type 0 where
+  no_event : {p : Place} → FollowsAll p [] p
+  event : {p q r : Place} {t : Event} {us : List Event} → Follows p t q → FollowsAll q us r → FollowsAll p (t ∷ us) r
 
-pub record IsWellFormed (us : List Telling) : Type 0 where
+pub record IsWellFormed (us : List Event) : Type 0 where
   pub place : Place
   pub follows : FollowsAll at_start us place

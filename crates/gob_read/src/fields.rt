@@ -1,18 +1,18 @@
 //! The deltas of a struct.
 
 ghost use Rattle.std.specs.Prelude.{◌≡◌, ◌+◌, ◌^◌, ◌<◌, ◌≤◌, IfOk, IfErr, OnOk, length};
-ghost use Rattle.gob_read.specs.Telling as telling;
-ghost use Rattle.gob_read.specs.Building.{CanTell};
-ghost use Rattle.gob_read.specs.Plain.{NamesField, CanEndFields, EndsFields};
-ghost use Rattle.gob_read.specs.Steps.{CanBeginStruct, BeginsStruct, CanGoOn, StepGoesOn, LeadsNowhere, CanTake, StepTakes};
-ghost use Rattle.gob_read.specs.Steps.{StepRefuses, Blames};
+ghost use Rattle.gob_read.specs.Event as event;
+ghost use Rattle.gob_read.specs.Building.{MayTakeEvent};
+ghost use Rattle.gob_read.specs.Machine.Plain.{NamesField, CanEndFields, EndsFields};
+ghost use Rattle.gob_read.specs.Machine.Steps.{CanBeginStruct, BeginsStruct, CanGoOn, StepGoesOn, LeadsNowhere, CanTake, StepTakes};
+ghost use Rattle.gob_read.specs.Machine.Steps.{StepRefuses, Blames};
 
-use crate::awaited::{Awaited, Item};
 use crate::builder::Builder;
+use crate::event::GroupKind;
 use crate::frame::Frame;
+use crate::next::{Next, NextNumber};
 use crate::state::State;
-use crate::stop::Fault;
-use crate::telling::GroupKind;
+use crate::stop::Denial;
 use gob_num::Memory;
 use gob_types::{Fields, Kind, Reason, Shapes, TypeId};
 
@@ -24,9 +24,9 @@ impl<B: Builder> State<B> {
         id: TypeId,
         fields: &Fields,
         n: u64,
-    ) -> Result<bool, Fault>
-        requires { CanBeginStruct B.building.stands self.old id fields.now n }
-        ensures ok { IfOk result (λ whole. BeginsStruct B.building.stands self.old self.new id fields.now n whole) }
+    ) -> Result<bool, Denial>
+        requires { CanBeginStruct B.building.received self.old id fields.now n }
+        ensures ok { IfOk result (λ whole. BeginsStruct B.building.received self.old self.new id fields.now n whole) }
         ensures refused { IfErr result (Blames (λ reason. LeadsNowhere fields.now 0 n reason)) }
     {
         self.builder.enter(GroupKind::Fields)?;
@@ -36,10 +36,10 @@ impl<B: Builder> State<B> {
 
     /// Takes the delta behind a field of the innermost open struct.
     #[inline(always)]
-    pub(crate) fn take_delta<S: Shapes>(&mut self, shapes: &S, n: u64) -> Result<bool, Fault>
-        requires { CanTake (S.table shapes.now) B.building.stands self.old Item.Delta n }
-        ensures ok { IfOk result (λ whole. StepTakes (S.table shapes.now) B.building.stands self.old self.new n whole) }
-        ensures refused { IfErr result (Blames (λ reason. StepRefuses (S.table shapes.now) B.building.stands self.old n reason)) }
+    pub(crate) fn take_delta<S: Shapes>(&mut self, shapes: &S, n: u64) -> Result<bool, Denial>
+        requires { CanTake (S.table shapes.now) B.building.received self.old NextNumber.Delta n }
+        ensures ok { IfOk result (λ whole. StepTakes (S.table shapes.now) B.building.received self.old self.new n whole) }
+        ensures refused { IfErr result (Blames (λ reason. StepRefuses (S.table shapes.now) B.building.received self.old n reason)) }
     {
         let Some(frame) = self.stack.innermost() else {
             unreachable!()
@@ -59,9 +59,9 @@ impl<B: Builder> State<B> {
     /// Takes a delta of the innermost open struct, which is of this type and has these fields, of which the next
     /// has the number `next` or a greater one.
     #[inline(always)]
-    fn take_field(&mut self, id: TypeId, next: u64, fields: &Fields, n: u64) -> Result<bool, Fault>
-        requires { CanGoOn B.building.stands self.old id fields.now next n }
-        ensures ok { IfOk result (λ whole. StepGoesOn B.building.stands self.old self.new id fields.now next n whole) }
+    fn take_field(&mut self, id: TypeId, next: u64, fields: &Fields, n: u64) -> Result<bool, Denial>
+        requires { CanGoOn B.building.received self.old id fields.now next n }
+        ensures ok { IfOk result (λ whole. StepGoesOn B.building.received self.old self.new id fields.now next n whole) }
         ensures refused { IfErr result (Blames (λ reason. LeadsNowhere fields.now next n reason)) }
     {
         if n == 0 {
@@ -69,7 +69,7 @@ impl<B: Builder> State<B> {
         }
         let number = next.saturating_add(n - 1);
         let Some(field) = fields.get(number) else {
-            return Err(Fault::Refused(Reason::FieldNumber));
+            return Err(Denial::Refused(Reason::FieldNumber));
         };
         self.name_field(id, number, field.id)?;
         Ok(false)
@@ -79,25 +79,25 @@ impl<B: Builder> State<B> {
     /// part.
     #[inline(always)]
     pub(crate) fn name_field(&mut self, id: TypeId, number: u64, part: TypeId) -> Result<(), Memory>
-        requires named { CanTell B.building.stands self.old.builder (telling.field number) }
+        requires named { MayTakeEvent B.building.received self.old.builder (event.field number) }
         requires inside { 0 < length self.old.stack }
         requires small { number + 1 < 2 ^ 64 }
-        ensures { OnOk result (NamesField B.building.stands self.old self.new id number part) }
+        ensures { OnOk result (NamesField B.building.received self.old self.new id number part) }
     {
         self.builder.field(number)?;
         self.stack.replace(Frame::Fields {
             id,
             next: number + 1,
         });
-        self.awaited = Awaited::Number(Item::Part { id: part });
+        self.expected = Next::Number(NextNumber::Part { id: part });
         Ok(())
     }
 
     /// Ends the innermost open struct, and answers whether the value is whole then.
     #[inline(always)]
     pub(crate) fn end_fields(&mut self) -> Result<bool, Memory>
-        requires { CanEndFields B.building.stands self.old }
-        ensures { IfOk result (λ whole. EndsFields B.building.stands self.old self.new whole) }
+        requires { CanEndFields B.building.received self.old }
+        ensures { IfOk result (λ whole. EndsFields B.building.received self.old self.new whole) }
     {
         self.stack.close();
         self.builder.leave()?;

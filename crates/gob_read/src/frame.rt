@@ -1,6 +1,6 @@
 //! The open parts of a value.
 
-use crate::awaited::Item;
+use crate::next::NextNumber;
 use gob_types::TypeId;
 
 /// A part that has begun and has parts, as far as its reader needs to know it.
@@ -42,7 +42,7 @@ pub(crate) enum Frame {
 
 impl Frame {
     ghost use Rattle.std.specs.Prelude.{◌≡◌, MatchOption};
-    ghost use Rattle.gob_read.specs.Frames.{IsOver, FrameGoesOn, item_of};
+    ghost use Rattle.gob_read.specs.Machine.Frames.{IsOver, FrameGoesOn, item_of};
 
     /// The open part behind the part that is read, where another part, or the end of the fields, is to come there.
     #[inline(always)]
@@ -74,24 +74,24 @@ impl Frame {
         }
     }
 
-    /// The number that is awaited where the next part in this one is to come.
+    /// The number that is expected where the next part in this one is to come.
     #[inline(always)]
-    pub(crate) fn item(self) -> Item
+    pub(crate) fn item(self) -> NextNumber
         ensures { result ≡ item_of self }
     {
         match self {
-            Frame::Many { elem, left: _ } => Item::Part { id: elem },
+            Frame::Many { elem, left: _ } => NextNumber::Part { id: elem },
             Frame::Key {
                 key,
                 elem: _,
                 left: _,
-            } => Item::Part { id: key },
+            } => NextNumber::Part { id: key },
             Frame::Elem {
                 key: _,
                 elem,
                 left: _,
-            } => Item::Part { id: elem },
-            Frame::Fields { id: _, next: _ } => Item::Delta,
+            } => NextNumber::Part { id: elem },
+            Frame::Fields { id: _, next: _ } => NextNumber::Delta,
         }
     }
 }

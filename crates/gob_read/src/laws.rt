@@ -1,19 +1,19 @@
 //! Laws of bodies, of what stands in an item behind its type number. Each function does nothing: its contract
 //! is a law that is proved here, once.
 
-ghost use Rattle.gob_read.specs.Awaits.{Awaits, AwaitsTop};
+ghost use Rattle.gob_read.specs.Expects.{Expects, ExpectsTop};
 ghost use Rattle.gob_read.specs.Laws.{StopOnce, WholeIsExtraAlone, ExtraIsGiven, WholeIsAccepted, DeepIsRefused};
-ghost use Rattle.gob_read.specs.Laws.{GiveOne, BodiesStayShown, StandPromptly, StandBeforeTheEnd};
-ghost use Rattle.gob_read.specs.Laws.{StayAwaited, AwaitNoMore, StayStanding, StayRefused, RefuseNoMore};
-ghost use Rattle.gob_read.specs.Laws.{SeenBeginNone, DeepBeginDeep, PlacesBegin, AwaitedGoOn, TablesCountArrays};
-ghost use Rattle.gob_read.specs.Laws.{FrontsStand, StandingAreFronts};
+ghost use Rattle.gob_read.specs.Laws.{GiveOne, BodiesStayShown, RefusesPromptly, ViableBeforeTheEnd};
+ghost use Rattle.gob_read.specs.Laws.{StayExpected, ExpectNoMore, StayViable, StayRefused, RefuseNoMore};
+ghost use Rattle.gob_read.specs.Laws.{SeenBeginNone, DeepBeginDeep, PlacesBegin, ExpectingGoesOn, TablesCountArrays};
+ghost use Rattle.gob_read.specs.Laws.{FrontsExpectMore, ExpectingAreFronts};
 ghost use Rattle.gob_read.specs.Honest.{FirstIsHonest};
-ghost use Rattle.gob_read.specs.Held.{StandingArePartial, HoldOnce, HoldAtMostTheirLength};
+ghost use Rattle.gob_read.specs.Held.{ViableArePartial, HoldOnce, HoldAtMostTheirLength};
 
 /// After the same bytes one thing comes next, in a part of one depth.
 pub fn bytes_stop_once()
-    ensures value { StopOnce Awaits }
-    ensures top { StopOnce AwaitsTop }
+    ensures value { StopOnce Expects }
+    ensures top { StopOnce ExpectsTop }
 {}
 
 /// Bytes that spell a value, no deeper than the limit, are refused only where the body announces more: it goes
@@ -37,16 +37,16 @@ pub fn refusals_stay_shown()
 
 /// Where bytes stand, nothing that they show is refused, whatever follows; nor do they hold a whole value.
 pub fn refusals_are_prompt()
-    ensures prompt { StandPromptly }
-    ensures not_whole { StandBeforeTheEnd }
+    ensures prompt { RefusesPromptly }
+    ensures not_whole { ViableBeforeTheEnd }
 {}
 
-/// What bytes of a ready type await, whether they stand and why they are refused is the same in a table that has
+/// What bytes of a ready type expect, whether they stand and why they are refused is the same in a table that has
 /// grown.
 pub fn bodies_stay()
-    ensures awaited { StayAwaited }
-    ensures no_more { AwaitNoMore }
-    ensures standing { StayStanding }
+    ensures expected { StayExpected }
+    ensures no_more { ExpectNoMore }
+    ensures viable { StayViable }
     ensures refused { StayRefused }
     ensures refused_before { RefuseNoMore }
 {}
@@ -61,22 +61,22 @@ pub fn places_begin_values()
     ensures honest { FirstIsHonest }
 {}
 
-/// Where something is awaited, the bytes before it are a proper front of a spelling.
-pub fn awaited_places_go_on()
-    ensures { AwaitedGoOn }
+/// Where something is expected, the bytes before it are a proper front of a spelling.
+pub fn expecting_goes_on()
+    ensures { ExpectingGoesOn }
 {}
 
-/// A proper front of a spelling stands in a value: after its first bytes something is awaited, and the others
+/// A proper front of a spelling stands in a value: after its first bytes something is expected, and the others
 /// begin an allowed item of it. Bytes of a ready type that stand so are a proper front of a spelling.
-pub fn fronts_stand_in_values()
-    ensures stand { FrontsStand }
-    ensures front { StandingAreFronts }
+pub fn fronts_expect_more()
+    ensures more { FrontsExpectMore }
+    ensures front { ExpectingAreFronts }
 {}
 
 /// Of bytes that stand one number of parts and raw bytes is held, and at most as many as there are bytes, whatever
 /// counts they announce.
 pub fn held_is_one()
-    ensures some { StandingArePartial }
+    ensures some { ViableArePartial }
     ensures one { HoldOnce }
     ensures few { HoldAtMostTheirLength }
 {}

@@ -1,12 +1,12 @@
 //! Laws of readers of bodies. Each function does nothing: its contract is a law that is proved here, once.
 
-ghost use Rattle.gob_read.specs.ReaderLaws.{StaysStanding, StaysUsable};
+ghost use Rattle.gob_read.specs.ReaderLaws.{StaysRead, StaysUsable};
 
 use crate::builder::Builder;
 use crate::reader::BodyReader;
 
 /// A reader stands after the same bytes when the table of types grows.
 pub fn readers_stay<B: Builder>(reader: &BodyReader<B>)
-    ensures stand { StaysStanding B.building reader.now }
+    ensures read { StaysRead B.building reader.now }
     ensures usable { StaysUsable B.building reader.now }
 {}

@@ -19,18 +19,19 @@
 //!   only announced.
 //! - A [`Builder`] makes something of what is told: [`TreeBuilder`] the value, [`CheckBuilder`] its [`Counts`],
 //!   and [`SkipBuilder`] nothing.
-//! - [`laws`] has the laws of bodies that readers and writers rely on; [`readers_stay`] and the laws of tellings
+//! - [`laws`] has the laws of bodies that readers and writers rely on; [`readers_stay`] and the laws of events
 //!   and weights stand beside it.
 #![tactic(auto)]
 
-mod awaited;
 mod builder;
 mod check_builder;
+mod event;
 mod fields;
 mod frame;
 pub mod laws;
 mod laws_builder;
 mod laws_reader;
+mod next;
 mod open;
 mod part;
 mod plain;
@@ -41,19 +42,18 @@ mod skip_builder;
 mod stack;
 mod state;
 mod stop;
-mod telling;
 mod tree_builder;
 mod work;
 
 pub use builder::{Builder, Stores};
 pub use check_builder::{CheckBuilder, Counts};
+pub use event::{GroupKind, RawKind};
 pub use laws_builder::{
-    counts_are_the_weight, tellings_are_well_formed, tellings_have_the_weight,
-    tellings_tell_one_value, weights_are_within_spellings,
+    counts_are_the_weight, events_are_well_formed, events_have_one_value, events_have_the_weight,
+    weights_are_within_spellings,
 };
 pub use laws_reader::readers_stay;
 pub use reader::{BodyReader, Progress};
 pub use skip_builder::SkipBuilder;
 pub use stop::Stop;
-pub use telling::{GroupKind, RawKind};
 pub use tree_builder::TreeBuilder;

@@ -2,11 +2,12 @@
 
 ghost use Rattle.std.specs.Prelude.{◌≡◌, OnOk};
 ghost use Rattle.gob_value.specs.View.{view};
-ghost use Rattle.gob_read.specs.Built.{opened_part, closed, added_part, with_bytes, with_number, raw_tree};
-ghost use Rattle.gob_read.specs.Built as built;
-ghost use Rattle.gob_read.specs.Stack.{part_view};
+ghost use Rattle.gob_read.specs.Machine.Built.{opened_part, closed, added_part, with_bytes, with_number};
+ghost use Rattle.gob_read.specs.Leaf.{raw_tree};
+ghost use Rattle.gob_read.specs.Machine.Built as built;
+ghost use Rattle.gob_read.specs.Machine.Stack.{part_view};
 
-use crate::telling::{GroupKind, RawKind};
+use crate::event::{GroupKind, RawKind};
 use gob_num::Memory;
 use gob_value::Value;
 use std::alloc::Global;

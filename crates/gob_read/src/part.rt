@@ -2,15 +2,15 @@
 
 ghost use Rattle.std.specs.Prelude.{◌≡◌, ◌<◌, ◌≤◌, IfOk, IfErr, length};
 ghost use Rattle.gob_types.specs.declared.kind.Kind.TheVariants as kind;
-ghost use Rattle.gob_read.specs.Kinds.{IsScalar, IsRawKind, IsList, IsGroup};
-ghost use Rattle.gob_read.specs.Steps.{CanBegin, StepBegins, CanTakeFirst, TakesFirst, RefusesFirst, IsNoFirst, Blames};
+ghost use Rattle.gob_read.specs.Machine.Kinds.{IsScalar, IsRawKind, IsList, IsGroup};
+ghost use Rattle.gob_read.specs.Machine.Steps.{CanBegin, StepBegins, CanTakeFirst, TakesFirst, RefusesFirst, IsNoFirst, Blames};
 
-use crate::awaited::{Awaited, Item};
 use crate::builder::Builder;
+use crate::event::{GroupKind, RawKind};
 use crate::frame::Frame;
+use crate::next::{Next, NextNumber};
 use crate::state::State;
-use crate::stop::Fault;
-use crate::telling::{GroupKind, RawKind};
+use crate::stop::Denial;
 use gob_num::{Memory, to_pattern};
 use gob_types::{Basic, Kind, Reason, Shapes, TypeId};
 
@@ -22,10 +22,10 @@ impl<B: Builder> State<B> {
         shapes: &S,
         id: TypeId,
         n: u64,
-    ) -> Result<bool, Fault>
-        requires { CanTakeFirst (S.table shapes.now) B.building.stands self.old id n }
-        ensures ok { IfOk result (λ whole. TakesFirst (S.table shapes.now) B.building.stands self.old self.new id n whole) }
-        ensures refused { IfErr result (Blames (λ reason. RefusesFirst (S.table shapes.now) B.building.stands
+    ) -> Result<bool, Denial>
+        requires { CanTakeFirst (S.table shapes.now) B.building.received self.old id n }
+        ensures ok { IfOk result (λ whole. TakesFirst (S.table shapes.now) B.building.received self.old self.new id n whole) }
+        ensures refused { IfErr result (Blames (λ reason. RefusesFirst (S.table shapes.now) B.building.received
             self.old id n reason)) }
     {
         let Some(shape) = shapes.shape_of(id) else {
@@ -47,7 +47,7 @@ impl<B: Builder> State<B> {
             Kind::Slice { elem } => Ok(self.take_elements(*elem, n)?),
             Kind::Array { elem, len } => {
                 if n != *len {
-                    return Err(Fault::Refused(Reason::ArrayCount));
+                    return Err(Denial::Refused(Reason::ArrayCount));
                 }
                 Ok(self.take_elements(*elem, n)?)
             }
@@ -56,15 +56,15 @@ impl<B: Builder> State<B> {
 
     /// Takes the first number of a part of a basic type.
     #[inline(always)]
-    fn take_basic(&mut self, basic: Basic, n: u64) -> Result<bool, Fault>
-        requires { CanBegin B.building.stands self.old (λ k. k ≡ kind.Basic basic) n }
-        ensures ok { IfOk result (λ whole. StepBegins B.building.stands self.old self.new (λ k. k ≡ kind.Basic basic) n whole) }
+    fn take_basic(&mut self, basic: Basic, n: u64) -> Result<bool, Denial>
+        requires { CanBegin B.building.received self.old (λ k. k ≡ kind.Basic basic) n }
+        ensures ok { IfOk result (λ whole. StepBegins B.building.received self.old self.new (λ k. k ≡ kind.Basic basic) n whole) }
         ensures refused { IfErr result (Blames (λ reason. IsNoFirst (kind.Basic basic) n reason)) }
     {
         match basic {
             Basic::Bool => {
                 if n > 1 {
-                    return Err(Fault::Refused(Reason::Bool));
+                    return Err(Denial::Refused(Reason::Bool));
                 }
                 Ok(self.take_number(basic, n, n)?)
             }
@@ -74,14 +74,14 @@ impl<B: Builder> State<B> {
             Basic::Bytes => Ok(self.take_length(RawKind::Bytes, n)?),
             Basic::Str => Ok(self.take_length(RawKind::Str, n)?),
             Basic::Complex => {
-                self.awaited = Awaited::Number(Item::Second {
+                self.expected = Next::Number(NextNumber::Second {
                     pattern: to_pattern(n),
                 });
                 Ok(false)
             }
             Basic::Interface => {
                 if n != 0 {
-                    return Err(Fault::Refused(Reason::InterfaceValue));
+                    return Err(Denial::Refused(Reason::InterfaceValue));
                 }
                 Ok(self.take_number(basic, n, n)?)
             }
@@ -91,8 +91,8 @@ impl<B: Builder> State<B> {
     /// Takes a part that the number `n` spells, and tells it as `told`.
     #[inline(always)]
     fn take_number(&mut self, basic: Basic, n: u64, told: u64) -> Result<bool, Memory>
-        requires { CanBegin B.building.stands self.old (λ k. IsScalar k n basic told) n }
-        ensures { IfOk result (λ whole. StepBegins B.building.stands self.old self.new (λ k. IsScalar k n basic told) n whole) }
+        requires { CanBegin B.building.received self.old (λ k. IsScalar k n basic told) n }
+        ensures { IfOk result (λ whole. StepBegins B.building.received self.old self.new (λ k. IsScalar k n basic told) n whole) }
     {
         self.builder.number(basic, told, 0)?;
         self.after_part()
@@ -101,23 +101,23 @@ impl<B: Builder> State<B> {
     /// Takes how many raw bytes the part has.
     #[inline(always)]
     fn take_length(&mut self, kind: RawKind, n: u64) -> Result<bool, Memory>
-        requires { CanBegin B.building.stands self.old (λ k. IsRawKind k kind) n }
-        ensures { IfOk result (λ whole. StepBegins B.building.stands self.old self.new (λ k. IsRawKind k kind) n whole) }
+        requires { CanBegin B.building.received self.old (λ k. IsRawKind k kind) n }
+        ensures { IfOk result (λ whole. StepBegins B.building.received self.old self.new (λ k. IsRawKind k kind) n whole) }
     {
         self.builder.raw_start(kind)?;
         if n == 0 {
             self.builder.leave()?;
             return self.after_part();
         }
-        self.awaited = Awaited::Raw { left: n };
+        self.expected = Next::Raw { left: n };
         Ok(false)
     }
 
     /// Takes how many elements a list has.
     #[inline(always)]
     fn take_elements(&mut self, elem: TypeId, n: u64) -> Result<bool, Memory>
-        requires { CanBegin B.building.stands self.old (λ k. IsList k n elem) n }
-        ensures { IfOk result (λ whole. StepBegins B.building.stands self.old self.new (λ k. IsList k n elem) n whole) }
+        requires { CanBegin B.building.received self.old (λ k. IsList k n elem) n }
+        ensures { IfOk result (λ whole. StepBegins B.building.received self.old self.new (λ k. IsList k n elem) n whole) }
     {
         let first = Frame::Many {
             elem,
@@ -129,8 +129,8 @@ impl<B: Builder> State<B> {
     /// Takes how many elements or pairs a part has. `first` is open while the first of them is read.
     #[inline(always)]
     fn take_count(&mut self, group: GroupKind, first: Frame, n: u64) -> Result<bool, Memory>
-        requires { CanBegin B.building.stands self.old (λ k. IsGroup k n group first) n }
-        ensures { IfOk result (λ whole. StepBegins B.building.stands self.old self.new (λ k. IsGroup k n group first) n whole) }
+        requires { CanBegin B.building.received self.old (λ k. IsGroup k n group first) n }
+        ensures { IfOk result (λ whole. StepBegins B.building.received self.old self.new (λ k. IsGroup k n group first) n whole) }
     {
         self.builder.enter(group)?;
         if n == 0 {
@@ -138,7 +138,7 @@ impl<B: Builder> State<B> {
             return self.after_part();
         }
         self.stack.open(first)?;
-        self.awaited = Awaited::Number(first.item());
+        self.expected = Next::Number(first.item());
         Ok(false)
     }
 }

@@ -1,21 +1,21 @@
 //! Parts of basic types that stand whole in a piece. Those of a struct or of a list are taken one behind another,
-//! without a look at what is awaited in between.
+//! without a look at what is expected in between.
 
 ghost use Rattle.std.specs.Prelude.{◌≡◌, ◌+◌, ◌<◌, ◌≤◌, IfOk, IfErr, IfSome, OnOk, [], ◌∷◌, length, take};
 ghost use Rattle.gob_types.specs.Table.{Table};
 ghost use Rattle.gob_types.specs.declared.kind.Kind.TheVariants as kind;
-ghost use Rattle.gob_read.specs.Kinds.{HasKind, IsScalar, IsRawKind};
-ghost use Rattle.gob_read.specs.Running.{IsOpenSomewhere, IsOpenIn, TakesMore, Steps, StopsFor, RefusesAt};
-ghost use Rattle.gob_read.specs.Plain.{CanTellPlain, TellsPlain, IsInFields, IsInList, IsFollowedBy, TakesPlain, TakesName};
-ghost use Rattle.gob_read.specs.Plain.{StepsPlain};
+ghost use Rattle.gob_read.specs.Machine.Kinds.{HasKind, IsScalar, IsRawKind};
+ghost use Rattle.gob_read.specs.Machine.Running.{IsOpenSomewhere, IsOpenIn, TakesMore, Steps, StopsFor, RefusesAt};
+ghost use Rattle.gob_read.specs.Machine.Plain.{MayTakePlainEvents, TakesPlainEvents, IsInFields, IsInList, IsFollowedBy, TakesPlain, TakesName};
+ghost use Rattle.gob_read.specs.Machine.Plain.{StepsPlain};
 
-use crate::awaited::{Awaited, Item};
 use crate::builder::Builder;
+use crate::event::RawKind;
 use crate::frame::Frame;
-use crate::run::{Run, Stepped};
+use crate::next::{Next, NextNumber};
+use crate::run::{Moved, Run};
 use crate::state::State;
 use crate::stop::Stop;
-use crate::telling::RawKind;
 use gob_num::{Memory, Taken, take_uint, to_pattern};
 use gob_types::{Basic, Fields, Kind, Shapes, TypeId};
 
@@ -34,8 +34,8 @@ impl<B: Builder> State<B> {
     /// numbers, isn't allowed or goes on behind the piece.
     #[inline(always)]
     fn tell_plain(&mut self, basic: Basic, n: u64, more: &[u8]) -> Result<Option<usize>, Memory>
-        requires { CanTellPlain B.building.stands self.old basic n more.now }
-        ensures { IfOk result (λ used. TellsPlain B.building.stands self.old self.new basic n more.now used) }
+        requires { MayTakePlainEvents B.building.received self.old basic n more.now }
+        ensures { IfOk result (λ used. TakesPlainEvents B.building.received self.old self.new basic n more.now used) }
     {
         match basic {
             Basic::Int => self.tell_number(basic, n, n, more),
@@ -56,9 +56,9 @@ impl<B: Builder> State<B> {
         told: u64,
         more: &[u8],
     ) -> Result<Option<usize>, Memory>
-        requires can { CanTellPlain B.building.stands self.old basic n more.now }
+        requires can { MayTakePlainEvents B.building.received self.old basic n more.now }
         requires scalar { IsScalar (kind.Basic basic) n basic told }
-        ensures { IfOk result (λ used. TellsPlain B.building.stands self.old self.new basic n more.now used) }
+        ensures { IfOk result (λ used. TakesPlainEvents B.building.received self.old self.new basic n more.now used) }
     {
         self.builder.number(basic, told, 0)?;
         Ok(Some(0))
@@ -73,9 +73,9 @@ impl<B: Builder> State<B> {
         n: u64,
         more: &[u8],
     ) -> Result<Option<usize>, Memory>
-        requires can { CanTellPlain B.building.stands self.old basic n more.now }
+        requires can { MayTakePlainEvents B.building.received self.old basic n more.now }
         requires told { IsRawKind (kind.Basic basic) raw }
-        ensures { IfOk result (λ used. TellsPlain B.building.stands self.old self.new basic n more.now used) }
+        ensures { IfOk result (λ used. TakesPlainEvents B.building.received self.old self.new basic n more.now used) }
     {
         if n == 0 || n > more.len() as u64 {
             return Ok(None);
@@ -89,7 +89,7 @@ impl<B: Builder> State<B> {
 }
 
 impl<B: Builder> Run<B> {
-    /// Takes the awaited part, or the next byte of its first number. In a struct it takes what stands whole behind it
+    /// Takes the expected part, or the next byte of its first number. In a struct it takes what stands whole behind it
     /// too.
     #[inline(always)]
     pub(crate) fn step_part<S: Shapes>(
@@ -97,26 +97,26 @@ impl<B: Builder> Run<B> {
         shapes: &S,
         id: TypeId,
         rest: &[u8],
-    ) -> Result<Stepped, Stop>
-        requires awaited { self.old.state.awaited ≡ Awaited.Number (Item.Part id) }
-        requires stands { IsOpenSomewhere (S.table shapes.now) B.building.stands self.old }
+    ) -> Result<Moved, Stop>
+        requires expected { self.old.state.expected ≡ Next.Number (NextNumber.Part id) }
+        requires has_read { IsOpenSomewhere (S.table shapes.now) B.building.received self.old }
         requires some { 0 < length rest.now }
         requires room { self.old.taken + length rest.now ≤ self.old.length }
         ensures used { IfOk result (λ stepped. (0 < stepped.used) × (stepped.used ≤ length rest.now)) }
         ensures more { IfOk result (λ stepped. TakesMore self.old self.new stepped.used) }
-        ensures ok { IfOk result (λ stepped. Steps (S.table shapes.now) B.building.stands self.old self.new
+        ensures ok { IfOk result (λ stepped. Steps (S.table shapes.now) B.building.received self.old self.new
             (take stepped.used rest.now) stepped.whole) }
-        ensures refused { IfErr result (StopsFor (λ refusal. RefusesAt (S.table shapes.now) B.building.stands
+        ensures refused { IfErr result (StopsFor (λ refusal. RefusesAt (S.table shapes.now) B.building.received
             self.old rest.now refusal)) }
     {
         let stepped = self.step_plain(shapes, id, rest)?;
         if stepped.used > 0 {
             return Ok(stepped);
         }
-        self.step_number(shapes, Item::Part { id }, rest)
+        self.step_number(shapes, NextNumber::Part { id }, rest)
     }
 
-    /// Takes the awaited part and what stands whole behind it in its struct or list, if it is in one and no byte of it
+    /// Takes the expected part and what stands whole behind it in its struct or list, if it is in one and no byte of it
     /// was taken before. Where it isn't taken, nothing is done.
     #[inline(always)]
     fn step_plain<S: Shapes>(
@@ -124,24 +124,24 @@ impl<B: Builder> Run<B> {
         shapes: &S,
         id: TypeId,
         rest: &[u8],
-    ) -> Result<Stepped, Memory>
-        requires awaited { self.old.state.awaited ≡ Awaited.Number (Item.Part id) }
-        requires stands { IsOpenSomewhere (S.table shapes.now) B.building.stands self.old }
+    ) -> Result<Moved, Memory>
+        requires expected { self.old.state.expected ≡ Next.Number (NextNumber.Part id) }
+        requires has_read { IsOpenSomewhere (S.table shapes.now) B.building.received self.old }
         requires some { 0 < length rest.now }
         requires room { self.old.taken + length rest.now ≤ self.old.length }
-        ensures { IfOk result (λ stepped. StepsPlain (S.table shapes.now) B.building.stands self.old self.new rest.now stepped) }
+        ensures { IfOk result (λ stepped. StepsPlain (S.table shapes.now) B.building.received self.old self.new rest.now stepped) }
     {
         if self.start != self.taken {
-            return Ok(Stepped::NONE);
+            return Ok(Moved::NONE);
         }
         match self.state.stack.innermost() {
             Some(Frame::Fields { id: of, next }) => self.step_parts(shapes, of, next, id, rest),
             Some(Frame::Many { elem, left }) => self.step_elements(shapes, elem, left, rest),
-            _ => Ok(Stepped::NONE),
+            _ => Ok(Moved::NONE),
         }
     }
 
-    /// Takes the awaited part of the innermost open struct, and what stands whole behind it there.
+    /// Takes the expected part of the innermost open struct, and what stands whole behind it there.
     #[inline(never)]
     fn step_parts<S: Shapes>(
         &mut self,
@@ -150,20 +150,20 @@ impl<B: Builder> Run<B> {
         next: u64,
         id: TypeId,
         rest: &[u8],
-    ) -> Result<Stepped, Memory>
-        requires awaited { self.old.state.awaited ≡ Awaited.Number (Item.Part id) }
+    ) -> Result<Moved, Memory>
+        requires expected { self.old.state.expected ≡ Next.Number (NextNumber.Part id) }
         requires inside { IsInFields of next self.old.state.stack }
-        requires stands { IsOpenSomewhere (S.table shapes.now) B.building.stands self.old }
+        requires has_read { IsOpenSomewhere (S.table shapes.now) B.building.received self.old }
         requires fresh { self.old.start ≡ self.old.taken }
         requires room { self.old.taken + length rest.now ≤ self.old.length }
-        ensures { IfOk result (λ stepped. StepsPlain (S.table shapes.now) B.building.stands self.old self.new rest.now stepped) }
+        ensures { IfOk result (λ stepped. StepsPlain (S.table shapes.now) B.building.received self.old self.new rest.now stepped) }
     {
         let used = self.take_plain_field(shapes, id, of, next, rest)?;
         if used == 0 || used == rest.len() {
-            return Ok(Stepped { used, whole: false });
+            return Ok(Moved { used, whole: false });
         }
         let more = self.step_fields(shapes, of, next, &rest[used..])?;
-        Ok(Stepped {
+        Ok(Moved {
             used: used + more.used,
             whole: more.whole,
         })
@@ -178,38 +178,38 @@ impl<B: Builder> Run<B> {
         of: TypeId,
         next: u64,
         rest: &[u8],
-    ) -> Result<Stepped, Memory>
-        requires awaited { self.old.state.awaited ≡ Awaited.Number Item.Delta }
+    ) -> Result<Moved, Memory>
+        requires expected { self.old.state.expected ≡ Next.Number NextNumber.Delta }
         requires inside { IsInFields of next self.old.state.stack }
-        requires stands { IsOpenSomewhere (S.table shapes.now) B.building.stands self.old }
+        requires has_read { IsOpenSomewhere (S.table shapes.now) B.building.received self.old }
         requires fresh { self.old.start ≡ self.old.taken }
         requires deep { length self.old.state.stack < self.old.depth }
         requires some { 0 < length rest.now }
         requires room { self.old.taken + length rest.now ≤ self.old.length }
         ensures used { IfOk result (λ stepped. stepped.used ≤ length rest.now) }
         ensures more { IfOk result (λ stepped. TakesMore self.old self.new stepped.used) }
-        ensures ok { IfOk result (λ stepped. Steps (S.table shapes.now) B.building.stands self.old self.new
+        ensures ok { IfOk result (λ stepped. Steps (S.table shapes.now) B.building.received self.old self.new
             (take stepped.used rest.now) stepped.whole) }
     {
         let mut next = next;
         let mut used = 0;
         let Some(fields) = fields_of(shapes, of) else {
-            return Ok(Stepped { used, whole: false });
+            return Ok(Moved { used, whole: false });
         };
         'fields: for _ in 0..rest.len() {
             if rest[used] == 0 {
                 let whole = self.take_end()?;
-                return Ok(Stepped {
+                return Ok(Moved {
                     used: used + 1,
                     whole,
                 });
             }
             let Some(entered) = self.take_name(shapes, of, fields, next, rest[used])? else {
-                return Ok(Stepped { used, whole: false });
+                return Ok(Moved { used, whole: false });
             };
             used += 1;
             if used == rest.len() {
-                return Ok(Stepped { used, whole: false });
+                return Ok(Moved { used, whole: false });
             }
             let taken = self.take_plain_field(
                 shapes,
@@ -220,14 +220,14 @@ impl<B: Builder> Run<B> {
             )?;
             used += taken;
             if taken == 0 || used == rest.len() {
-                return Ok(Stepped { used, whole: false });
+                return Ok(Moved { used, whole: false });
             }
             next = entered.next;
         }
-        Ok(Stepped { used, whole: false })
+        Ok(Moved { used, whole: false })
     }
 
-    /// Takes the awaited element of the innermost open list, and those behind it, as long as they are of a basic type
+    /// Takes the expected element of the innermost open list, and those behind it, as long as they are of a basic type
     /// and stand whole in the piece. The last one of the list isn't taken, since the list ends with it.
     #[inline(never)]
     fn step_elements<S: Shapes>(
@@ -236,17 +236,17 @@ impl<B: Builder> Run<B> {
         elem: TypeId,
         left: u64,
         rest: &[u8],
-    ) -> Result<Stepped, Memory>
-        requires awaited { self.old.state.awaited ≡ Awaited.Number (Item.Part elem) }
+    ) -> Result<Moved, Memory>
+        requires expected { self.old.state.expected ≡ Next.Number (NextNumber.Part elem) }
         requires inside { IsInList elem left self.old.state.stack }
-        requires stands { IsOpenSomewhere (S.table shapes.now) B.building.stands self.old }
+        requires has_read { IsOpenSomewhere (S.table shapes.now) B.building.received self.old }
         requires fresh { self.old.start ≡ self.old.taken }
         requires some { 0 < length rest.now }
         requires room { self.old.taken + length rest.now ≤ self.old.length }
-        ensures { IfOk result (λ stepped. StepsPlain (S.table shapes.now) B.building.stands self.old self.new rest.now stepped) }
+        ensures { IfOk result (λ stepped. StepsPlain (S.table shapes.now) B.building.received self.old self.new rest.now stepped) }
     {
         let Some(basic) = basic_of(shapes, elem) else {
-            return Ok(Stepped::NONE);
+            return Ok(Moved::NONE);
         };
         let mut used = 0;
         'elements: for index in 0..left {
@@ -257,13 +257,13 @@ impl<B: Builder> Run<B> {
             let taken = self.take_plain(shapes, elem, basic, next, &rest[used..])?;
             used += taken;
             if taken == 0 || used == rest.len() {
-                return Ok(Stepped { used, whole: false });
+                return Ok(Moved { used, whole: false });
             }
         }
-        Ok(Stepped { used, whole: false })
+        Ok(Moved { used, whole: false })
     }
 
-    /// Takes the awaited part of a struct, if it is of a basic type and stands whole in the piece. It answers how many
+    /// Takes the expected part of a struct, if it is of a basic type and stands whole in the piece. It answers how many
     /// bytes it has, and 0 where it isn't taken.
     #[inline(always)]
     fn take_plain_field<S: Shapes>(
@@ -274,12 +274,12 @@ impl<B: Builder> Run<B> {
         next: u64,
         rest: &[u8],
     ) -> Result<usize, Memory>
-        requires awaited { self.old.state.awaited ≡ Awaited.Number (Item.Part id) }
+        requires expected { self.old.state.expected ≡ Next.Number (NextNumber.Part id) }
         requires inside { IsInFields of next self.old.state.stack }
-        requires stands { IsOpenSomewhere (S.table shapes.now) B.building.stands self.old }
+        requires has_read { IsOpenSomewhere (S.table shapes.now) B.building.received self.old }
         requires fresh { self.old.start ≡ self.old.taken }
         requires room { self.old.taken + length rest.now ≤ self.old.length }
-        ensures { IfOk result (λ used. TakesPlain (S.table shapes.now) B.building.stands self.old self.new
+        ensures { IfOk result (λ used. TakesPlain (S.table shapes.now) B.building.received self.old self.new
             (Frame.Fields of next) rest.now used) }
     {
         let Some(basic) = basic_of(shapes, id) else {
@@ -288,7 +288,7 @@ impl<B: Builder> Run<B> {
         self.take_plain(shapes, id, basic, Frame::Fields { id: of, next }, rest)
     }
 
-    /// Takes the awaited part, which is of the basic type, if it stands whole in the piece. Behind it `next` is the
+    /// Takes the expected part, which is of the basic type, if it stands whole in the piece. Behind it `next` is the
     /// innermost open part. It answers how many bytes the part has, and 0 where it isn't taken.
     #[inline(always)]
     fn take_plain<S: Shapes>(
@@ -299,13 +299,13 @@ impl<B: Builder> Run<B> {
         next: Frame,
         rest: &[u8],
     ) -> Result<usize, Memory>
-        requires awaited { self.old.state.awaited ≡ Awaited.Number (Item.Part id) }
+        requires expected { self.old.state.expected ≡ Next.Number (NextNumber.Part id) }
         requires kind_ { HasKind (S.table _shapes.now) id (kind.Basic basic) }
         requires inside { IsFollowedBy next self.old.state.stack }
-        requires stands { IsOpenSomewhere (S.table _shapes.now) B.building.stands self.old }
+        requires has_read { IsOpenSomewhere (S.table _shapes.now) B.building.received self.old }
         requires fresh { self.old.start ≡ self.old.taken }
         requires room { self.old.taken + length rest.now ≤ self.old.length }
-        ensures { IfOk result (λ used. TakesPlain (S.table _shapes.now) B.building.stands self.old self.new
+        ensures { IfOk result (λ used. TakesPlain (S.table _shapes.now) B.building.received self.old self.new
             next rest.now used) }
     {
         let Taken::Whole { number, used } = take_uint(rest) else {
@@ -315,7 +315,7 @@ impl<B: Builder> Run<B> {
             return Ok(0);
         };
         self.state.stack.replace(next);
-        self.state.awaited = Awaited::Number(next.item());
+        self.state.expected = Next::Number(next.item());
         self.taken += (used + more) as u64;
         self.start = self.taken;
         Ok(used + more)
@@ -331,13 +331,13 @@ impl<B: Builder> Run<B> {
         next: u64,
         n: u8,
     ) -> Result<Option<Entered>, Memory>
-        requires awaited { self.old.state.awaited ≡ Awaited.Number Item.Delta }
+        requires expected { self.old.state.expected ≡ Next.Number NextNumber.Delta }
         requires inside { IsInFields of next self.old.state.stack }
         requires struct_ { HasKind (S.table _shapes.now) of (kind.Struct fields.now) }
-        requires stands { IsOpenSomewhere (S.table _shapes.now) B.building.stands self.old }
+        requires has_read { IsOpenSomewhere (S.table _shapes.now) B.building.received self.old }
         requires fresh { self.old.start ≡ self.old.taken }
         requires some { 0 < n }
-        ensures { IfOk result (λ entered. TakesName (S.table _shapes.now) B.building.stands self.old self.new n of entered) }
+        ensures { IfOk result (λ entered. TakesName (S.table _shapes.now) B.building.received self.old self.new n of entered) }
     {
         let number = next.saturating_add(u64::from(n) - 1);
         if n > 127 {
@@ -358,11 +358,11 @@ impl<B: Builder> Run<B> {
     /// Takes the delta 0 of the innermost open struct, and answers whether the value is whole then.
     #[inline(always)]
     fn take_end(&mut self) -> Result<bool, Memory>
-        requires awaited { self.old.state.awaited ≡ Awaited.Number Item.Delta }
-        requires stands { IsOpenIn B.building.stands self.old }
+        requires expected { self.old.state.expected ≡ Next.Number NextNumber.Delta }
+        requires has_read { IsOpenIn B.building.received self.old }
         requires fresh { self.old.start ≡ self.old.taken }
         ensures more { OnOk result (TakesMore self.old self.new 1) }
-        ensures ok { IfOk result (λ whole. (T : Table) → Steps T B.building.stands self.old self.new (0 ∷ []) whole) }
+        ensures ok { IfOk result (λ whole. (T : Table) → Steps T B.building.received self.old self.new (0 ∷ []) whole) }
     {
         let whole = self.state.end_fields()?;
         self.taken += 1;

@@ -6,20 +6,20 @@ ghost use Rattle.gob_num.specs.Unsigned.{IsUnsigned};
 ghost use Rattle.gob_types.specs.declared.id.TypeId.{TypeId};
 ghost use Rattle.gob_types.specs.Table.{Table};
 ghost use Rattle.gob_types.specs.Ready.{IsReady};
-ghost use Rattle.gob_read.specs.Steps.{CanTake};
-ghost use Rattle.gob_read.specs.Running.{IsReachedSomewhere, IsOpenSomewhere, TakesMore, Steps, StopsFor};
-ghost use Rattle.gob_read.specs.Running.{Opens as MayGoOn};
-ghost use Rattle.gob_read.specs.Running.{TakesNumber, RefusesNumber, RefusesAt, JudgesFor, EndsFor, RunGoesOn, RunFinishes};
-ghost use Rattle.gob_read.specs.Running.{RefusesPiece};
-ghost use Rattle.gob_read.specs.Running.{IsNewRun, IsOpenIn, depth_of, begun_parts};
-ghost use Rattle.gob_read.specs.Reader.{HasTaken};
+ghost use Rattle.gob_read.specs.Machine.Steps.{CanTake};
+ghost use Rattle.gob_read.specs.Machine.Running.{IsReachedSomewhere, IsOpenSomewhere, TakesMore, Steps, StopsFor};
+ghost use Rattle.gob_read.specs.Machine.Running.{Opens as MayGoOn};
+ghost use Rattle.gob_read.specs.Machine.Running.{TakesNumber, RefusesNumber, RefusesAt, JudgesFor, EndsFor, RunGoesOn, RunFinishes};
+ghost use Rattle.gob_read.specs.Machine.Running.{RefusesPiece};
+ghost use Rattle.gob_read.specs.Machine.Running.{IsNewRun, IsOpenIn, depth_of, begun_parts};
+ghost use Rattle.gob_read.specs.Reader.{HasReadSoFar};
 ghost use Rattle.gob_read.specs.Held.{IsHeld, counted_of};
 
-use crate::awaited::{Awaited, Item};
 use crate::builder::{Builder, Stores};
+use crate::next::{Next, NextNumber};
 use crate::stack::Opens;
 use crate::state::State;
-use crate::stop::{Fault, Stop};
+use crate::stop::{Denial, Stop};
 use gob_num::{Memory, Number, Step, Taken, take_uint};
 use gob_types::{Reason, Shapes, TypeId};
 use std::alloc::Global;
@@ -28,9 +28,9 @@ use std::alloc::Global;
 pub(crate) struct Run<B: Builder> {
     /// What it knows between two items.
     pub(crate) state: State<B>,
-    /// The awaited number, as far as its bytes came.
+    /// The expected number, as far as its bytes came.
     pub(crate) number: Number,
-    /// The offset of the awaited item's first byte.
+    /// The offset of the expected item's first byte.
     pub(crate) start: u64,
     /// How many bytes were taken.
     pub(crate) taken: u64,
@@ -56,16 +56,16 @@ impl<B: Builder> Drop for Run<B> {
 
 /// What became of the front of a piece.
 #[derive(Clone, Copy, Debug, PartialEq, Eq)]
-pub(crate) struct Stepped {
+pub(crate) struct Moved {
     /// How many bytes were taken.
     pub(crate) used: usize,
     /// Whether the value is whole with them.
     pub(crate) whole: bool,
 }
 
-impl Stepped {
+impl Moved {
     /// Nothing of the piece.
-    pub(crate) const NONE: Stepped = Stepped {
+    pub(crate) const NONE: Moved = Moved {
         used: 0,
         whole: false,
     };
@@ -89,7 +89,7 @@ impl<B: Builder> Run<B> {
 
     /// A reader of a value of the type that has taken nothing.
     pub(crate) fn new(alloc: Global, id: TypeId, length: u64, depth: u64) -> Result<Run<B>, Memory>
-        ensures new { IfOk result (λ run. (T : Table) → IsReady T id → IsNewRun T id B.building.stands run) }
+        ensures new { IfOk result (λ run. (T : Table) → IsReady T id → IsNewRun T id B.building.received run) }
         ensures length { IfOk result (λ run. run.length ≡ length) }
         ensures depth { IfOk result (λ run. run.depth ≡ depth) }
     {
@@ -98,7 +98,7 @@ impl<B: Builder> Run<B> {
             state: State {
                 builder,
                 stack: Opens::new(alloc),
-                awaited: Awaited::Top { id },
+                expected: Next::Top { id },
             },
             number: Number::new(),
             start: 0,
@@ -114,13 +114,13 @@ impl<B: Builder> Run<B> {
         shapes: &S,
         piece: &[u8],
     ) -> Result<Option<usize>, Stop>
-        requires stands { IsReachedSomewhere (S.table shapes.now) B.building.stands self.old }
+        requires has_read { IsReachedSomewhere (S.table shapes.now) B.building.received self.old }
         requires room { self.old.taken + length piece.now ≤ self.old.length }
-        ensures more { IfOk result (λ done. IfNone done (RunGoesOn (S.table shapes.now) B.building.stands self.old
+        ensures more { IfOk result (λ done. IfNone done (RunGoesOn (S.table shapes.now) B.building.received self.old
             self.new piece.now)) }
-        ensures done { IfOk result (λ done. IfSome done (λ used. RunFinishes (S.table shapes.now) B.building.stands
+        ensures done { IfOk result (λ done. IfSome done (λ used. RunFinishes (S.table shapes.now) B.building.received
             self.old self.new piece.now used)) }
-        ensures refused { IfErr result (StopsFor (λ refusal. RefusesPiece (S.table shapes.now) B.building.stands
+        ensures refused { IfErr result (StopsFor (λ refusal. RefusesPiece (S.table shapes.now) B.building.received
             self.old piece.now refusal)) }
         ensures length_kept { OnOk result (self.new.length ≡ self.old.length) }
         ensures depth_kept { OnOk result (self.new.depth ≡ self.old.depth) }
@@ -155,7 +155,7 @@ impl<B: Builder> Run<B> {
 
     /// What is kept of the parts that have begun, and of their raw bytes.
     pub(crate) fn held(&self) -> u64
-        ensures { (T : Table) (t : TypeId) (z : List ℕ) → HasTaken T t B.building.stands self.now z
+        ensures { (T : Table) (t : TypeId) (z : List ℕ) → HasReadSoFar T t B.building.received self.now z
             → IsHeld T t B.STORES z result }
     {
         let _taken = self.taken;
@@ -165,18 +165,18 @@ impl<B: Builder> Run<B> {
     /// The parts that have begun, and that the builder isn't told of yet, if it stores parts.
     fn begun(&self) -> u64
         ensures { (r : List ℕ) → self.now.taken ≡ self.now.start + length r
-            → result ≡ counted_of B.STORES (begun_parts self.now.state.awaited r) }
+            → result ≡ counted_of B.STORES (begun_parts self.now.state.expected r) }
     {
         if matches!(B::STORES, Stores::Nothing) {
             return 0;
         }
-        match self.state.awaited {
-            Awaited::Top { id: _ } => 0,
-            Awaited::Number(Item::Tag { id: _ }) => 0,
-            Awaited::Number(Item::Part { id: _ }) => u64::from(self.start < self.taken),
-            Awaited::Number(Item::Second { pattern: _ }) => 1,
-            Awaited::Number(Item::Delta) => 0,
-            Awaited::Raw { left: _ } => 0,
+        match self.state.expected {
+            Next::Top { id: _ } => 0,
+            Next::Number(NextNumber::Tag { id: _ }) => 0,
+            Next::Number(NextNumber::Part { id: _ }) => u64::from(self.start < self.taken),
+            Next::Number(NextNumber::Second { pattern: _ }) => 1,
+            Next::Number(NextNumber::Delta) => 0,
+            Next::Raw { left: _ } => 0,
         }
     }
 
@@ -184,8 +184,8 @@ impl<B: Builder> Run<B> {
     #[inline(always)]
     fn judge(&self) -> Result<(), Stop>
         requires { self.now.taken ≤ self.now.length }
-        ensures ok { OnOk result ((T : Table) → MayGoOn T B.building.stands self.now) }
-        ensures refused { IfErr result (StopsFor (λ refusal. (T : Table) → JudgesFor T B.building.stands self.now refusal)) }
+        ensures ok { OnOk result ((T : Table) → MayGoOn T B.building.received self.now) }
+        ensures refused { IfErr result (StopsFor (λ refusal. (T : Table) → JudgesFor T B.building.received self.now refusal)) }
     {
         if self.depth_now() > self.depth {
             return Err(self.refuse(self.taken, Reason::TooDeep));
@@ -200,7 +200,7 @@ impl<B: Builder> Run<B> {
     fn finish(&self) -> Result<(), Stop>
         requires { self.now.taken ≤ self.now.length }
         ensures ok { OnOk result (self.now.taken ≡ self.now.length) }
-        ensures refused { IfErr result (StopsFor (λ refusal. EndsFor B.building.stands self.now refusal)) }
+        ensures refused { IfErr result (StopsFor (λ refusal. EndsFor B.building.received self.now refusal)) }
     {
         if self.taken < self.length {
             return Err(self.refuse(self.taken, Reason::Extra));
@@ -219,100 +219,100 @@ impl<B: Builder> Run<B> {
         }
     }
 
-    /// The depth of the part that the awaited item is in.
+    /// The depth of the part that the expected item is in.
     #[inline(always)]
     fn depth_now(&self) -> u64
-        ensures { result ≡ depth_of self.now.state.awaited self.now.state.stack }
+        ensures { result ≡ depth_of self.now.state.expected self.now.state.stack }
     {
         let opens = self.state.stack.depth();
-        match self.state.awaited {
-            Awaited::Top { id: _ } => 0,
-            Awaited::Number(Item::Tag { id: _ }) => 0,
-            Awaited::Number(Item::Delta) => opens,
-            Awaited::Number(Item::Part { id: _ }) => opens + 1,
-            Awaited::Number(Item::Second { pattern: _ }) => opens + 1,
-            Awaited::Raw { left: _ } => opens + 1,
+        match self.state.expected {
+            Next::Top { id: _ } => 0,
+            Next::Number(NextNumber::Tag { id: _ }) => 0,
+            Next::Number(NextNumber::Delta) => opens,
+            Next::Number(NextNumber::Part { id: _ }) => opens + 1,
+            Next::Number(NextNumber::Second { pattern: _ }) => opens + 1,
+            Next::Raw { left: _ } => opens + 1,
         }
     }
 
     /// Takes the next item, or as much of it as there is, or parts that stand whole.
     #[inline(always)]
-    fn step<S: Shapes>(&mut self, shapes: &S, rest: &[u8], cut: &mut bool) -> Result<Stepped, Stop>
-        requires stands { IsOpenSomewhere (S.table shapes.now) B.building.stands self.old }
+    fn step<S: Shapes>(&mut self, shapes: &S, rest: &[u8], cut: &mut bool) -> Result<Moved, Stop>
+        requires has_read { IsOpenSomewhere (S.table shapes.now) B.building.received self.old }
         requires some { 0 < length rest.now }
         requires room { self.old.taken + length rest.now ≤ self.old.length }
         ensures used { IfOk result (λ stepped. (0 < stepped.used) × (stepped.used ≤ length rest.now)) }
         ensures more { IfOk result (λ stepped. TakesMore self.old self.new stepped.used) }
-        ensures ok { IfOk result (λ stepped. Steps (S.table shapes.now) B.building.stands self.old self.new
+        ensures ok { IfOk result (λ stepped. Steps (S.table shapes.now) B.building.received self.old self.new
             (take stepped.used rest.now) stepped.whole) }
-        ensures refused { IfErr result (StopsFor (λ refusal. RefusesAt (S.table shapes.now) B.building.stands
+        ensures refused { IfErr result (StopsFor (λ refusal. RefusesAt (S.table shapes.now) B.building.received
             self.old rest.now refusal)) }
     {
-        match self.state.awaited {
-            Awaited::Top { id: _ } => unreachable!(),
-            Awaited::Number(Item::Part { id }) => self.step_over(shapes, id, rest, cut),
-            Awaited::Number(item) => self.step_number(shapes, item, rest),
-            Awaited::Raw { left } => Ok(self.step_raw(left, rest)?),
+        match self.state.expected {
+            Next::Top { id: _ } => unreachable!(),
+            Next::Number(NextNumber::Part { id }) => self.step_over(shapes, id, rest, cut),
+            Next::Number(item) => self.step_number(shapes, item, rest),
+            Next::Raw { left } => Ok(self.step_raw(left, rest)?),
         }
     }
 
-    /// Takes the awaited number, or the next byte of it.
+    /// Takes the expected number, or the next byte of it.
     #[inline(always)]
     pub(crate) fn step_number<S: Shapes>(
         &mut self,
         shapes: &S,
-        item: Item,
+        item: NextNumber,
         rest: &[u8],
-    ) -> Result<Stepped, Stop>
-        requires awaited { self.old.state.awaited ≡ Awaited.Number item }
-        requires stands { IsOpenSomewhere (S.table shapes.now) B.building.stands self.old }
+    ) -> Result<Moved, Stop>
+        requires expected { self.old.state.expected ≡ Next.Number item }
+        requires has_read { IsOpenSomewhere (S.table shapes.now) B.building.received self.old }
         requires some { 0 < length rest.now }
         requires room { self.old.taken + length rest.now ≤ self.old.length }
         ensures used { IfOk result (λ stepped. (0 < stepped.used) × (stepped.used ≤ length rest.now)) }
         ensures more { IfOk result (λ stepped. TakesMore self.old self.new stepped.used) }
-        ensures ok { IfOk result (λ stepped. Steps (S.table shapes.now) B.building.stands self.old self.new
+        ensures ok { IfOk result (λ stepped. Steps (S.table shapes.now) B.building.received self.old self.new
             (take stepped.used rest.now) stepped.whole) }
-        ensures refused { IfErr result (StopsFor (λ refusal. RefusesAt (S.table shapes.now) B.building.stands
+        ensures refused { IfErr result (StopsFor (λ refusal. RefusesAt (S.table shapes.now) B.building.received
             self.old rest.now refusal)) }
     {
         if self.start == self.taken {
             if let Taken::Whole { number, used } = take_uint(rest) {
                 return match self.take_whole(shapes, item, number, &rest[..used]) {
-                    Ok(whole) => Ok(Stepped { used, whole }),
+                    Ok(whole) => Ok(Moved { used, whole }),
                     Err(stop) => Err(stop),
                 };
             }
         }
         match self.take_byte(shapes, item, rest[0]) {
-            Ok(whole) => Ok(Stepped { used: 1, whole }),
+            Ok(whole) => Ok(Moved { used: 1, whole }),
             Err(stop) => Err(stop),
         }
     }
 
-    /// Takes as many of the awaited raw bytes as there are.
-    fn step_raw(&mut self, left: u64, rest: &[u8]) -> Result<Stepped, Memory>
-        requires awaited { self.old.state.awaited ≡ Awaited.Raw left }
-        requires stands { IsOpenIn B.building.stands self.old }
+    /// Takes as many of the expected raw bytes as there are.
+    fn step_raw(&mut self, left: u64, rest: &[u8]) -> Result<Moved, Memory>
+        requires expected { self.old.state.expected ≡ Next.Raw left }
+        requires has_read { IsOpenIn B.building.received self.old }
         requires some { 0 < length rest.now }
         requires room { self.old.taken + length rest.now ≤ self.old.length }
         ensures used { IfOk result (λ stepped. (0 < stepped.used) × (stepped.used ≤ length rest.now)) }
         ensures more { IfOk result (λ stepped. TakesMore self.old self.new stepped.used) }
         ensures ok { IfOk result (λ stepped. (T : Table)
-            → Steps T B.building.stands self.old self.new (take stepped.used rest.now) stepped.whole) }
+            → Steps T B.building.received self.old self.new (take stepped.used rest.now) stepped.whole) }
     {
         let used = left.min(rest.len() as u64) as usize;
         let whole = self.take_chunk(left, &rest[..used])?;
-        Ok(Stepped { used, whole })
+        Ok(Moved { used, whole })
     }
 
     /// Takes raw bytes, and answers whether the value is whole then.
     fn take_chunk(&mut self, left: u64, bytes: &[u8]) -> Result<bool, Memory>
-        requires awaited { self.old.state.awaited ≡ Awaited.Raw left }
-        requires stands { IsOpenIn B.building.stands self.old }
+        requires expected { self.old.state.expected ≡ Next.Raw left }
+        requires has_read { IsOpenIn B.building.received self.old }
         requires few { length bytes.now ≤ left }
         requires room { self.old.taken + length bytes.now ≤ self.old.length }
         ensures more { OnOk result (TakesMore self.old self.new (length bytes.now)) }
-        ensures ok { IfOk result (λ whole. (T : Table) → Steps T B.building.stands self.old self.new bytes.now whole) }
+        ensures ok { IfOk result (λ whole. (T : Table) → Steps T B.building.received self.old self.new bytes.now whole) }
     {
         let whole = self.state.take_raw(left, bytes)?;
         self.taken += bytes.len() as u64;
@@ -327,18 +327,18 @@ impl<B: Builder> Run<B> {
     fn take_whole<S: Shapes>(
         &mut self,
         shapes: &S,
-        item: Item,
+        item: NextNumber,
         n: u64,
         front: &[u8],
     ) -> Result<bool, Stop>
-        requires awaited { self.old.state.awaited ≡ Awaited.Number item }
-        requires stands { IsOpenSomewhere (S.table shapes.now) B.building.stands self.old }
+        requires expected { self.old.state.expected ≡ Next.Number item }
+        requires has_read { IsOpenSomewhere (S.table shapes.now) B.building.received self.old }
         requires fresh { self.old.start ≡ self.old.taken }
         requires spelled { IsUnsigned n front.now }
         requires room { self.old.taken + length front.now ≤ self.old.length }
         ensures more { OnOk result (TakesMore self.old self.new (length front.now)) }
-        ensures ok { IfOk result (λ whole. Steps (S.table shapes.now) B.building.stands self.old self.new front.now whole) }
-        ensures refused { IfErr result (StopsFor (λ refusal. RefusesAt (S.table shapes.now) B.building.stands
+        ensures ok { IfOk result (λ whole. Steps (S.table shapes.now) B.building.received self.old self.new front.now whole) }
+        ensures refused { IfErr result (StopsFor (λ refusal. RefusesAt (S.table shapes.now) B.building.received
             self.old front.now refusal)) }
     {
         self.taken += front.len() as u64;
@@ -347,13 +347,13 @@ impl<B: Builder> Run<B> {
 
     /// Takes the next byte of a number, and answers whether the value is whole then.
     #[inline(never)]
-    fn take_byte<S: Shapes>(&mut self, shapes: &S, item: Item, b: u8) -> Result<bool, Stop>
-        requires awaited { self.old.state.awaited ≡ Awaited.Number item }
-        requires stands { IsOpenSomewhere (S.table shapes.now) B.building.stands self.old }
+    fn take_byte<S: Shapes>(&mut self, shapes: &S, item: NextNumber, b: u8) -> Result<bool, Stop>
+        requires expected { self.old.state.expected ≡ Next.Number item }
+        requires has_read { IsOpenSomewhere (S.table shapes.now) B.building.received self.old }
         requires room { self.old.taken + 1 ≤ self.old.length }
         ensures more { OnOk result (TakesMore self.old self.new 1) }
-        ensures ok { IfOk result (λ whole. Steps (S.table shapes.now) B.building.stands self.old self.new (b ∷ []) whole) }
-        ensures refused { IfErr result (StopsFor (λ refusal. RefusesAt (S.table shapes.now) B.building.stands
+        ensures ok { IfOk result (λ whole. Steps (S.table shapes.now) B.building.received self.old self.new (b ∷ []) whole) }
+        ensures refused { IfErr result (StopsFor (λ refusal. RefusesAt (S.table shapes.now) B.building.received
             self.old (b ∷ []) refusal)) }
     {
         self.taken += 1;
@@ -365,12 +365,12 @@ impl<B: Builder> Run<B> {
         }
     }
 
-    /// Takes the awaited number, whose last byte was taken, and answers whether the value is whole then.
+    /// Takes the expected number, whose last byte was taken, and answers whether the value is whole then.
     #[inline(always)]
-    fn take<S: Shapes>(&mut self, shapes: &S, item: Item, n: u64) -> Result<bool, Stop>
-        requires { CanTake (S.table shapes.now) B.building.stands self.old.state item n }
-        ensures ok { IfOk result (λ whole. TakesNumber (S.table shapes.now) B.building.stands self.old self.new n whole) }
-        ensures refused { IfErr result (StopsFor (λ refusal. RefusesNumber (S.table shapes.now) B.building.stands
+    fn take<S: Shapes>(&mut self, shapes: &S, item: NextNumber, n: u64) -> Result<bool, Stop>
+        requires { CanTake (S.table shapes.now) B.building.received self.old.state item n }
+        ensures ok { IfOk result (λ whole. TakesNumber (S.table shapes.now) B.building.received self.old self.new n whole) }
+        ensures refused { IfErr result (StopsFor (λ refusal. RefusesNumber (S.table shapes.now) B.building.received
             self.old n refusal)) }
     {
         match self.state.take(shapes, item, n) {
@@ -378,8 +378,8 @@ impl<B: Builder> Run<B> {
                 self.start = self.taken;
                 Ok(whole)
             }
-            Err(Fault::Memory) => Err(Stop::Memory),
-            Err(Fault::Refused(reason)) => Err(self.refuse(self.start, reason)),
+            Err(Denial::Memory) => Err(Stop::Memory),
+            Err(Denial::Refused(reason)) => Err(self.refuse(self.start, reason)),
         }
     }
 }

@@ -1,20 +1,20 @@
 //! Elements and entries that stand whole in a piece, gone over without being told.
 
 ghost use Rattle.std.specs.Prelude.{◌≡◌, ◌+◌, ◌<◌, ◌≤◌, IfOk, IfErr, List, length, take};
-ghost use Rattle.gob_read.specs.Running.{IsOpenSomewhere, TakesMore, Steps, StopsFor, RefusesAt};
-ghost use Rattle.gob_read.specs.Plain.{IsInList, IsInMap, StepsPlain};
-ghost use Rattle.gob_read.specs.Telling.{Telling};
+ghost use Rattle.gob_read.specs.Machine.Running.{IsOpenSomewhere, TakesMore, Steps, StopsFor, RefusesAt};
+ghost use Rattle.gob_read.specs.Machine.Plain.{IsInList, IsInMap, StepsPlain};
+ghost use Rattle.gob_read.specs.Event.{Event};
 
-use crate::awaited::{Awaited, Item};
 use crate::builder::Builder;
 use crate::frame::Frame;
-use crate::run::{Run, Stepped};
+use crate::next::{Next, NextNumber};
+use crate::run::{Moved, Run};
 use crate::stop::Stop;
 use gob_types::{Shapes, TypeId};
 use gob_value::{whole_elements, whole_entries};
 
 impl<B: Builder> Run<B> {
-    /// Takes the awaited part, or the next byte of its first number. Where the builder needn't be told, it takes the
+    /// Takes the expected part, or the next byte of its first number. Where the builder needn't be told, it takes the
     /// elements or entries that stand whole in the piece at once. Where one of them doesn't it says so, `cut`: then
     /// the piece isn't tried again, so that each byte of it is looked at twice at most.
     #[inline(always)]
@@ -24,16 +24,16 @@ impl<B: Builder> Run<B> {
         id: TypeId,
         rest: &[u8],
         cut: &mut bool,
-    ) -> Result<Stepped, Stop>
-        requires awaited { self.old.state.awaited ≡ Awaited.Number (Item.Part id) }
-        requires stands { IsOpenSomewhere (S.table shapes.now) B.building.stands self.old }
+    ) -> Result<Moved, Stop>
+        requires expected { self.old.state.expected ≡ Next.Number (NextNumber.Part id) }
+        requires has_read { IsOpenSomewhere (S.table shapes.now) B.building.received self.old }
         requires some { 0 < length rest.now }
         requires room { self.old.taken + length rest.now ≤ self.old.length }
         ensures used { IfOk result (λ stepped. (0 < stepped.used) × (stepped.used ≤ length rest.now)) }
         ensures more { IfOk result (λ stepped. TakesMore self.old self.new stepped.used) }
-        ensures ok { IfOk result (λ stepped. Steps (S.table shapes.now) B.building.stands self.old self.new
+        ensures ok { IfOk result (λ stepped. Steps (S.table shapes.now) B.building.received self.old self.new
             (take stepped.used rest.now) stepped.whole) }
-        ensures refused { IfErr result (StopsFor (λ refusal. RefusesAt (S.table shapes.now) B.building.stands
+        ensures refused { IfErr result (StopsFor (λ refusal. RefusesAt (S.table shapes.now) B.building.received
             self.old rest.now refusal)) }
     {
         let stepped = self.skip_parts(shapes, id, rest, cut);
@@ -43,7 +43,7 @@ impl<B: Builder> Run<B> {
         self.step_part(shapes, id, rest)
     }
 
-    /// Goes over the parts of the innermost open list or map that stand whole in the piece, if the awaited one is the
+    /// Goes over the parts of the innermost open list or map that stand whole in the piece, if the expected one is the
     /// next of them and no byte of it was taken before. Where there are none, nothing is done.
     #[inline(always)]
     fn skip_parts<S: Shapes>(
@@ -52,21 +52,21 @@ impl<B: Builder> Run<B> {
         id: TypeId,
         rest: &[u8],
         cut: &mut bool,
-    ) -> Stepped
-        requires awaited { self.old.state.awaited ≡ Awaited.Number (Item.Part id) }
-        requires stands { IsOpenSomewhere (S.table shapes.now) B.building.stands self.old }
+    ) -> Moved
+        requires expected { self.old.state.expected ≡ Next.Number (NextNumber.Part id) }
+        requires has_read { IsOpenSomewhere (S.table shapes.now) B.building.received self.old }
         requires room { self.old.taken + length rest.now ≤ self.old.length }
-        ensures { StepsPlain (S.table shapes.now) B.building.stands self.old self.new rest.now result }
+        ensures { StepsPlain (S.table shapes.now) B.building.received self.old self.new rest.now result }
     {
         if *cut || self.start != self.taken || !self.state.builder.may_skip() {
-            return Stepped::NONE;
+            return Moved::NONE;
         }
         match self.state.stack.innermost() {
             Some(Frame::Many { elem, left }) => self.skip_elements(shapes, elem, left, rest, cut),
             Some(Frame::Key { key, elem, left }) => {
                 self.skip_entries(shapes, key, elem, left, rest, cut)
             }
-            _ => Stepped::NONE,
+            _ => Moved::NONE,
         }
     }
 
@@ -79,20 +79,20 @@ impl<B: Builder> Run<B> {
         left: u64,
         rest: &[u8],
         cut: &mut bool,
-    ) -> Stepped
-        requires awaited { self.old.state.awaited ≡ Awaited.Number (Item.Part elem) }
+    ) -> Moved
+        requires expected { self.old.state.expected ≡ Next.Number (NextNumber.Part elem) }
         requires inside { IsInList elem left self.old.state.stack }
-        requires untold { (us : List Telling) → B.building.stands self.old.state.builder us }
-        requires stands { IsOpenSomewhere (S.table shapes.now) B.building.stands self.old }
+        requires untold { (us : List Event) → B.building.received self.old.state.builder us }
+        requires has_read { IsOpenSomewhere (S.table shapes.now) B.building.received self.old }
         requires fresh { self.old.start ≡ self.old.taken }
         requires room { self.old.taken + length rest.now ≤ self.old.length }
-        ensures { StepsPlain (S.table shapes.now) B.building.stands self.old self.new rest.now result }
+        ensures { StepsPlain (S.table shapes.now) B.building.received self.old self.new rest.now result }
     {
         let depth = self.depth - self.state.stack.depth();
         let elements = whole_elements(shapes, elem, left, rest, depth);
         *cut = elements.count < left;
         if elements.end == 0 {
-            return Stepped::NONE;
+            return Moved::NONE;
         }
         self.state.stack.replace(Frame::Many {
             elem,
@@ -100,7 +100,7 @@ impl<B: Builder> Run<B> {
         });
         self.taken += elements.end as u64;
         self.start = self.taken;
-        Stepped {
+        Moved {
             used: elements.end,
             whole: false,
         }
@@ -116,20 +116,20 @@ impl<B: Builder> Run<B> {
         left: u64,
         rest: &[u8],
         cut: &mut bool,
-    ) -> Stepped
-        requires awaited { self.old.state.awaited ≡ Awaited.Number (Item.Part key) }
+    ) -> Moved
+        requires expected { self.old.state.expected ≡ Next.Number (NextNumber.Part key) }
         requires inside { IsInMap key elem left self.old.state.stack }
-        requires untold { (us : List Telling) → B.building.stands self.old.state.builder us }
-        requires stands { IsOpenSomewhere (S.table shapes.now) B.building.stands self.old }
+        requires untold { (us : List Event) → B.building.received self.old.state.builder us }
+        requires has_read { IsOpenSomewhere (S.table shapes.now) B.building.received self.old }
         requires fresh { self.old.start ≡ self.old.taken }
         requires room { self.old.taken + length rest.now ≤ self.old.length }
-        ensures { StepsPlain (S.table shapes.now) B.building.stands self.old self.new rest.now result }
+        ensures { StepsPlain (S.table shapes.now) B.building.received self.old self.new rest.now result }
     {
         let depth = self.depth - self.state.stack.depth();
         let entries = whole_entries(shapes, key, elem, left, rest, depth);
         *cut = entries.count < left;
         if entries.end == 0 {
-            return Stepped::NONE;
+            return Moved::NONE;
         }
         self.state.stack.replace(Frame::Key {
             key,
@@ -138,7 +138,7 @@ impl<B: Builder> Run<B> {
         });
         self.taken += entries.end as u64;
         self.start = self.taken;
-        Stepped {
+        Moved {
             used: entries.end,
             whole: false,
         }

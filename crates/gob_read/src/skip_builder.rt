@@ -3,7 +3,7 @@
 ghost use Rattle.std.specs.Prelude.{ℕ};
 
 use crate::builder::{Builder, Stores};
-use crate::telling::{GroupKind, RawKind};
+use crate::event::{GroupKind, RawKind};
 use gob_num::Memory;
 use gob_types::Basic;
 use std::alloc::Global;

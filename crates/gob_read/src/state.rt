@@ -1,26 +1,26 @@
 //! A reader between two items.
 
 ghost use Rattle.std.specs.Prelude.{◌≡◌, ◌-◌, ◌<◌, ◌≤◌, ◌↔◌, IfOk, IfErr, IsTrue, length};
-ghost use Rattle.gob_read.specs.Steps.{CanEnd, StepEnds, CanTake, StepTakes, StepRefuses, CanTakeRaw, TakesRaw, Blames};
-ghost use Rattle.gob_read.specs.Steps.{CanTakeTag, IsWrongTag, CanTakeSecond, TakesHere};
-ghost use Rattle.gob_read.specs.Kinds.{IsStructType, BeginsAs};
+ghost use Rattle.gob_read.specs.Machine.Steps.{CanEnd, StepEnds, CanTake, StepTakes, StepRefuses, CanTakeRaw, TakesRaw, Blames};
+ghost use Rattle.gob_read.specs.Machine.Steps.{CanTakeTag, IsWrongTag, CanTakeSecond, TakesHere};
+ghost use Rattle.gob_read.specs.Machine.Kinds.{IsStructType, BeginsAs};
 
-use crate::awaited::{Awaited, Item};
 use crate::builder::Builder;
+use crate::next::{Next, NextNumber};
 use crate::stack::Opens;
-use crate::stop::Fault;
+use crate::stop::Denial;
 use gob_num::{Memory, to_pattern};
 use gob_types::{Basic, Kind, Reason, Shapes, TypeId};
 
 /// What a reader knows between two items: what is made of the parts so far, which parts are open, and what is
-/// awaited. After a fault it is of no more use.
+/// expected. After a fault it is of no more use.
 pub(crate) struct State<B: Builder> {
     /// What was told of each part so far.
     pub(crate) builder: B,
     /// The open parts.
     pub(crate) stack: Opens,
     /// What comes next.
-    pub(crate) awaited: Awaited,
+    pub(crate) expected: Next,
 }
 
 // Not derived, so that a drop is one call in the proofs of what owns one.
@@ -29,7 +29,7 @@ impl<B: Builder> Drop for State<B> {
         let State {
             builder: _,
             stack: _,
-            awaited: _,
+            expected: _,
         } = self;
     }
 }
@@ -42,33 +42,33 @@ impl<B: Builder> State<B> {
         let State {
             builder,
             stack: _,
-            awaited: _,
+            expected: _,
         } = self;
         builder
     }
 
     /// Before the first byte: finds what a body of the type begins with.
     pub(crate) fn begin<S: Shapes>(&mut self, shapes: &S)
-        ensures begun { BeginsAs (S.table shapes.now) self.old.awaited self.new.awaited }
+        ensures begun { BeginsAs (S.table shapes.now) self.old.expected self.new.expected }
         ensures builder { self.new.builder ≡ self.old.builder }
         ensures stack { self.new.stack ≡ self.old.stack }
     {
-        let Awaited::Top { id } = self.awaited else {
+        let Next::Top { id } = self.expected else {
             return;
         };
         let item = if is_struct(shapes, id) {
-            Item::Part { id }
+            NextNumber::Part { id }
         } else {
-            Item::Tag { id }
+            NextNumber::Tag { id }
         };
-        self.awaited = Awaited::Number(item);
+        self.expected = Next::Number(item);
     }
 
-    /// After a whole part: goes on to what is awaited behind it, or answers true where it was the outermost one.
+    /// After a whole part: goes on to what is expected behind it, or answers true where it was the outermost one.
     #[inline(always)]
     pub(crate) fn after_part(&mut self) -> Result<bool, Memory>
-        requires { CanEnd B.building.stands self.old }
-        ensures { IfOk result (λ whole. StepEnds B.building.stands self.old self.new whole) }
+        requires { CanEnd B.building.received self.old }
+        ensures { IfOk result (λ whole. StepEnds B.building.received self.old self.new whole) }
     {
         'opens: loop {
             let Some(frame) = self.stack.innermost() else {
@@ -76,7 +76,7 @@ impl<B: Builder> State<B> {
             };
             if let Some(next) = frame.next() {
                 self.stack.replace(next);
-                self.awaited = Awaited::Number(next.item());
+                self.expected = Next::Number(next.item());
                 return Ok(false);
             }
             self.stack.close();
@@ -84,39 +84,44 @@ impl<B: Builder> State<B> {
         }
     }
 
-    /// Takes the awaited number, and answers whether the value is whole then.
+    /// Takes the expected number, and answers whether the value is whole then.
     #[inline(always)]
-    pub(crate) fn take<S: Shapes>(&mut self, shapes: &S, item: Item, n: u64) -> Result<bool, Fault>
-        requires { CanTake (S.table shapes.now) B.building.stands self.old item n }
-        ensures ok { IfOk result (λ whole. StepTakes (S.table shapes.now) B.building.stands self.old self.new n whole) }
-        ensures refused { IfErr result (Blames (λ reason. StepRefuses (S.table shapes.now) B.building.stands self.old n reason)) }
+    pub(crate) fn take<S: Shapes>(
+        &mut self,
+        shapes: &S,
+        item: NextNumber,
+        n: u64,
+    ) -> Result<bool, Denial>
+        requires { CanTake (S.table shapes.now) B.building.received self.old item n }
+        ensures ok { IfOk result (λ whole. StepTakes (S.table shapes.now) B.building.received self.old self.new n whole) }
+        ensures refused { IfErr result (Blames (λ reason. StepRefuses (S.table shapes.now) B.building.received self.old n reason)) }
     {
         match item {
-            Item::Tag { id } => self.take_tag(id, n),
-            Item::Part { id } => self.take_first(shapes, id, n),
-            Item::Second { pattern } => Ok(self.take_second(pattern, n)?),
-            Item::Delta => self.take_delta(shapes, n),
+            NextNumber::Tag { id } => self.take_tag(id, n),
+            NextNumber::Part { id } => self.take_first(shapes, id, n),
+            NextNumber::Second { pattern } => Ok(self.take_second(pattern, n)?),
+            NextNumber::Delta => self.take_delta(shapes, n),
         }
     }
 
     /// Takes the tag before the body's value, which is of this type.
     #[inline(always)]
-    fn take_tag(&mut self, id: TypeId, n: u64) -> Result<bool, Fault>
-        requires { CanTakeTag B.building.stands self.old id n }
-        ensures ok { IfOk result (λ whole. TakesHere B.building.stands self.old self.new n whole) }
+    fn take_tag(&mut self, id: TypeId, n: u64) -> Result<bool, Denial>
+        requires { CanTakeTag B.building.received self.old id n }
+        ensures ok { IfOk result (λ whole. TakesHere B.building.received self.old self.new n whole) }
         ensures refused { IfErr result (Blames (λ reason. IsWrongTag n reason)) }
     {
         if n != 0 {
-            return Err(Fault::Refused(Reason::SingleTag));
+            return Err(Denial::Refused(Reason::SingleTag));
         }
-        self.awaited = Awaited::Number(Item::Part { id });
+        self.expected = Next::Number(NextNumber::Part { id });
         Ok(false)
     }
 
     /// Takes the imaginary part of a complex number, behind the pattern of its real part.
     fn take_second(&mut self, pattern: u64, n: u64) -> Result<bool, Memory>
-        requires { CanTakeSecond B.building.stands self.old pattern n }
-        ensures { IfOk result (λ whole. TakesHere B.building.stands self.old self.new n whole) }
+        requires { CanTakeSecond B.building.received self.old pattern n }
+        ensures { IfOk result (λ whole. TakesHere B.building.received self.old self.new n whole) }
     {
         self.builder.number(Basic::Complex, pattern, to_pattern(n))?;
         self.after_part()
@@ -124,8 +129,8 @@ impl<B: Builder> State<B> {
 
     /// Takes raw bytes of the part that is read, and answers whether the value is whole then.
     pub(crate) fn take_raw(&mut self, left: u64, bytes: &[u8]) -> Result<bool, Memory>
-        requires { CanTakeRaw B.building.stands self.old left bytes.now }
-        ensures { IfOk result (λ whole. TakesRaw B.building.stands self.old self.new left bytes.now whole) }
+        requires { CanTakeRaw B.building.received self.old left bytes.now }
+        ensures { IfOk result (λ whole. TakesRaw B.building.received self.old self.new left bytes.now whole) }
     {
         self.builder.raw_more(bytes)?;
         let rest = left - bytes.len() as u64;
@@ -133,7 +138,7 @@ impl<B: Builder> State<B> {
             self.builder.leave()?;
             return self.after_part();
         }
-        self.awaited = Awaited::Raw { left: rest };
+        self.expected = Next::Raw { left: rest };
         Ok(false)
     }
 }

@@ -2,11 +2,11 @@
 
 ghost use Rattle.std.specs.Prelude.{◌≡◌, ◌+◌, ◌^◌, ◌<◌};
 ghost use Rattle.gob_value.specs.View.{view};
-ghost use Rattle.gob_read.specs.Built.{number_tree};
+ghost use Rattle.gob_read.specs.Leaf.{number_tree};
 
 use crate::builder::{Builder, Stores};
+use crate::event::{GroupKind, RawKind};
 use crate::open::Open;
-use crate::telling::{GroupKind, RawKind};
 use crate::work::Work;
 use gob_num::{Memory, to_signed};
 use gob_types::Basic;
@@ -46,7 +46,7 @@ fn basic_value(kind: Basic, first: u64, second: u64) -> Value
     }
 }
 
-#[tactic(auto, using(crate::proofs::CountLaws::counting))]
+#[tactic(auto, using(crate::proofs::Events::CountLaws::counting))]
 impl Builder for TreeBuilder {
     type Out = Value;
 

@@ -3,8 +3,8 @@
 ghost use Rattle.std.specs.Prelude.{◌≡◌, OnOk, Some};
 ghost use Rattle.gob_value.specs.Tree.{Tree};
 ghost use Rattle.gob_value.specs.View.{view};
-ghost use Rattle.gob_read.specs.Built as built;
-ghost use Rattle.gob_read.specs.Stack.{part_view, work_of};
+ghost use Rattle.gob_read.specs.Machine.Built as built;
+ghost use Rattle.gob_read.specs.Machine.Stack.{part_view, work_of};
 
 use crate::open::Open;
 use gob_num::Memory;

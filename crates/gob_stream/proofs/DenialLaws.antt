@@ -25,8 +25,8 @@ use Rattle.gob_stream.specs.declared.denial.Denial.{Denial}
 use Rattle.gob_stream.specs.declared.denial.Denial.TheVariants as denial
 use Rattle.gob_stream.specs.Bounds.{Bounds}
 use Rattle.gob_stream.specs.Body.{MayDefine}
-use Rattle.gob_stream.specs.ReadParts.{DefineAnswers}
-use Rattle.gob_stream.specs.Denial.{IsDenial, AddAnswers, type_denial, description_denial, value_denial}
+use Rattle.gob_stream.specs.Machine.ReadParts.{DefineAnswers}
+use Rattle.gob_stream.specs.Machine.Denial.{IsDenial, AddAnswers, type_denial, description_denial, value_denial}
 use Rattle.gob_stream.specs.WriterRefusal.{RefusesId, defined_twice, too_many, RefusesType, undefined, bottomless, RefusesValue, too_deep, does_not_fit}
 
 -- what refuses one refuses the other

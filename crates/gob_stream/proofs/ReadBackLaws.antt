@@ -11,19 +11,19 @@ use Rattle.gob_stream.specs.declared.fault.Refusal.{Refusal}
 use Rattle.gob_stream.specs.declared.fault.Fault.{Fault}
 use Rattle.gob_stream.specs.declared.fault.Fault.TheVariants as fault
 use Rattle.gob_stream.specs.declared.item.Item as declared
-use Rattle.gob_stream.specs.SessionState.{SessionState}
+use Rattle.gob_stream.specs.Machine.SessionState.{SessionState}
 use Rattle.gob_stream.specs.Bounds.{Bounds, no_deeper}
 use Rattle.gob_stream.specs.Item.{StreamItem}
 use Rattle.gob_stream.specs.Stream.{Stream}
-use Rattle.gob_stream.specs.Outcome.{BeginsWith, GivesItems, the_end, refused, at_the_end, Outcome}
-use Rattle.gob_stream.specs.Standing.{Standing}
-use Rattle.gob_stream.specs.Reading.{IsShown, ReadsStream, Feeds, ReadingFinishes}
+use Rattle.gob_stream.specs.Outcome.{BeginsWithStream, LongestStream, the_end, refused, at_the_end, Outcome}
+use Rattle.gob_stream.specs.Machine.HasRead.{Received}
+use Rattle.gob_stream.specs.Reading.{ShowsRefusal, ReadsStream, Feeds, ReadingFinishes}
 use Rattle.gob_stream.specs.Laws.{ItemsGoOn, WrittenWithin, ReadsThese, AreReadBackInPieces}
-use Rattle.gob_stream.proofs.StreamLaws.{counted_some, more_items, NoNext, gives_items}
-use Rattle.gob_stream.proofs.LawsOfStreams.{one_reading, begin_one_another, all_of, give_one_list, wider}
-use Rattle.gob_stream.proofs.OutcomeLaws.{outcome_once}
-use Rattle.gob_stream.proofs.UnderWayLaws.{after_gives}
-use Rattle.gob_stream.proofs.StayLaws.{shown_there, shown_refusal_stays}
+use Rattle.gob_stream.proofs.Stream.StreamLaws.{counted_some, more_items, NoNext, gives_items}
+use Rattle.gob_stream.proofs.Stream.LawsOfStreams.{one_reading, begin_one_another, all_of, give_one_list, wider}
+use Rattle.gob_stream.proofs.Stream.OutcomeLaws.{outcome_once}
+use Rattle.gob_stream.proofs.Reader.UnderWayLaws.{after_gives}
+use Rattle.gob_stream.proofs.Stream.StayLaws.{shown_there, shown_refusal_stays}
 
 -- ---- what was written is a stream, and its end
 record IsStreamOf (M : Bounds) (items : List StreamItem) (bytes : List ℕ) : Type 0 where
@@ -41,7 +41,7 @@ none_behind = λ i U b y q e. let some = counted_some q in omega (arith, ap leng
 written_ends : {M : Bounds} {items : List StreamItem} {bytes : List ℕ} → WrittenWithin M items bytes → Outcome base_table M bytes items the_end
 written_ends {M = M} {items = items} {bytes = bytes} w =
     let s = written_stream w in
-    record { gives = subst (λ b. GivesItems base_table M b items) (append-nil bytes) (gives_items [] s.stream none_behind); ends = at_the_end s.stream }
+    record { gives = subst (λ b. LongestStream base_table M b items) (append-nil bytes) (gives_items [] s.stream none_behind); ends = at_the_end s.stream }
 
 not_refused : {M : Bounds} {items given : List StreamItem} {bytes : List ℕ} {R : Refusal} → WrittenWithin M items bytes → Outcome base_table M bytes given (refused R) → ⊥
 not_refused {M = M} {items = items} {given = given} {bytes = bytes} {R = R} w h =
@@ -49,7 +49,7 @@ not_refused {M = M} {items = items} {given = given} {bytes = bytes} {R = R} w h 
 
 -- ---- by a reader of streams
 -- a front of the bytes of the stream of the items gives a front of them
-front_of : {base : Table} {L : Bounds} {items given : List StreamItem} {bytes : List ℕ} {T : Table} → Stream base L items bytes T → BeginsWith base L bytes given → ItemsGoOn given items
+front_of : {base : Table} {L : Bounds} {items given : List StreamItem} {bytes : List ℕ} {T : Table} → Stream base L items bytes T → BeginsWithStream base L bytes given → ItemsGoOn given items
 front_of {base = base} {L = L} {items = items} {given = given} {bytes = bytes} {T = T} p q =
     elim (begin_one_another base L bytes given items q (record { front = bytes; rest = []; table = T; stream = p; whole = sym (append-nil bytes) })) [
       | inl g ↦ g
@@ -60,7 +60,7 @@ front_of {base = base} {L = L} {items = items} {given = given} {bytes = bytes} {
     shorter [] p r e = let same = (one_reading r p (sym (e ∙ append-nil _))).0 in omega (arith, ap length same)
     shorter (d ∷ rest) p r e = let more = more_items (d ∷ rest) r p (sym e) (λ z. cc) in omega arith
 
-begins_more : {base : Table} {L : Bounds} {items : List StreamItem} {bytes taken : List ℕ} (left : List ℕ) → BeginsWith base L taken items → bytes ≡ taken ++ left → BeginsWith base L bytes items
+begins_more : {base : Table} {L : Bounds} {items : List StreamItem} {bytes taken : List ℕ} (left : List ℕ) → BeginsWithStream base L taken items → bytes ≡ taken ++ left → BeginsWithStream base L bytes items
 begins_more left b e =
     record { front = b.front; rest = b.rest ++ left; table = b.table; stream = b.stream; whole = e ∙ ap (λ l. l ++ left) b.whole ∙ append_assoc b.front b.rest left }
 
@@ -72,19 +72,19 @@ read_back M items given bytes now (Err fault.Read) w r = front_of (written_strea
 read_back M items given bytes now (Err fault.Memory) w r = front_of (written_stream w).stream (begins_more r.taken.left r.holds.begins r.taken.whole)
 read_back M items given bytes now (Err fault.Failed) w r = absurd r
 
-pub shows_no_refusal : (M : Bounds) (items given : List StreamItem) (front rest : List ℕ) (R : Refusal) → WrittenWithin M items (front ++ rest) → ¬ IsShown M front given R
+pub shows_no_refusal : (M : Bounds) (items given : List StreamItem) (front rest : List ℕ) (R : Refusal) → WrittenWithin M items (front ++ rest) → ¬ ShowsRefusal M front given R
 shows_no_refusal M items given front rest R w h =
     not_refused w (shown_refusal_stays M front (front ++ rest) given R h (take-append-le R.seen front rest (shown_there h))).1.outcome
 
 -- ---- by a session, in any pieces
-fed_back : {X O : Type 0} (stands : Standing X) (trees : Standing TreeBuilder) (means : O → Tree → Type 0) (most : ℕ) (s s' : SessionState X O) (items before : List StreamItem) (bytes piece rest : List ℕ) (given : List (declared.Item O)) (result : Result (Unit {0}) Fault)
-    → WrittenWithin (no_deeper most s.limits) items ((bytes ++ piece) ++ rest) → Feeds stands trees means most s s' before bytes piece given result → (result ≡ Ok tt) ⊎ (result ≡ Err fault.Memory)
-fed_back stands trees means most s s' items before bytes piece rest given (Ok u) w f = inl refl
-fed_back stands trees means most s s' items before bytes piece rest given (Err (fault.Refused R)) w f =
+fed_back : {X O : Type 0} (received : Received X) (trees : Received TreeBuilder) (means : O → Tree → Type 0) (most : ℕ) (s s' : SessionState X O) (items before : List StreamItem) (bytes piece rest : List ℕ) (given : List (declared.Item O)) (result : Result (Unit {0}) Fault)
+    → WrittenWithin (no_deeper most s.limits) items ((bytes ++ piece) ++ rest) → Feeds received trees means most s s' before bytes piece given result → (result ≡ Ok tt) ⊎ (result ≡ Err fault.Memory)
+fed_back received trees means most s s' items before bytes piece rest given (Ok u) w f = inl refl
+fed_back received trees means most s s' items before bytes piece rest given (Err (fault.Refused R)) w f =
     absurd (shows_no_refusal (no_deeper most s.limits) items (before ++ f.0.more) (bytes ++ piece) rest R w f.0.holds.0)
-fed_back stands trees means most s s' items before bytes piece rest given (Err fault.Read) w f = absurd f
-fed_back stands trees means most s s' items before bytes piece rest given (Err fault.Memory) w f = inr refl
-fed_back stands trees means most s s' items before bytes piece rest given (Err fault.Failed) w f = absurd f
+fed_back received trees means most s s' items before bytes piece rest given (Err fault.Read) w f = absurd f
+fed_back received trees means most s s' items before bytes piece rest given (Err fault.Memory) w f = inr refl
+fed_back received trees means most s s' items before bytes piece rest given (Err fault.Failed) w f = absurd f
 
 finished_back : {X O : Type 0} (most : ℕ) (s s' : SessionState X O) (items before : List StreamItem) (bytes : List ℕ) (result : Result (Unit {0}) Fault)
     → WrittenWithin (no_deeper most s.limits) items bytes → ReadingFinishes most s s' before bytes result → result ≡ Ok tt
@@ -96,7 +96,7 @@ finished_back most s s' items before bytes (Err fault.Failed) w f = absurd f
 
 pub read_back_in_pieces : {X O : Type 0} {most : ℕ} (building : Building X O most) → AreReadBackInPieces building
 read_back_in_pieces {most = most} building = record {
-  fed = fed_back building.stands tree_building.stands building.means most;
+  fed = fed_back building.received tree_building.received building.means most;
   given = λ s items before bytes w a. give_one_list base_table (no_deeper most s.limits) bytes before items (after_gives a) (written_ends w).gives;
   finished = finished_back most;
 }

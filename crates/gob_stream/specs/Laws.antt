@@ -9,12 +9,12 @@ use Rattle.gob_stream.specs.declared.fault.Refusal.{Refusal}
 use Rattle.gob_stream.specs.declared.fault.Fault.{Fault}
 use Rattle.gob_stream.specs.declared.fault.Fault.TheVariants as fault
 use Rattle.gob_stream.specs.declared.item.Item as declared
-use Rattle.gob_stream.specs.SessionState.{SessionState}
+use Rattle.gob_stream.specs.Machine.SessionState.{SessionState}
 use Rattle.gob_stream.specs.Bounds.{Bounds, no_deeper}
 use Rattle.gob_stream.specs.Item.{StreamItem}
-use Rattle.gob_stream.specs.Stream.{Counted, Stream}
-use Rattle.gob_stream.specs.Outcome.{BeginsWith, GivesItems, RefusesNext, Ending, Outcome}
-use Rattle.gob_stream.specs.Reading.{IsShown, HasTypesBehind, ReadsStream}
+use Rattle.gob_stream.specs.Stream.{IsItem, Stream}
+use Rattle.gob_stream.specs.Outcome.{BeginsWithStream, LongestStream, RefusesNext, Ending, Outcome}
+use Rattle.gob_stream.specs.Reading.{ShowsRefusal, HasTypesBehind, ReadsStream}
 use Rattle.gob_stream.specs.Session.{HasRead, FeedAnswers, FinishAnswers}
 use Rattle.gob_stream.specs.Writing.{WritesStream}
 
@@ -31,12 +31,12 @@ pub record ItemsGoOn (items others : List StreamItem) : Type 0 where
 -- of two streams with which bytes begin, one begins the other
 abbrev pub BeginOneAnother : Type 0
 BeginOneAnother = (base : Table) (L : Bounds) (bytes : List ℕ) (items others : List StreamItem)
-    → BeginsWith base L bytes items → BeginsWith base L bytes others → ItemsGoOn items others ⊎ ItemsGoOn others items
+    → BeginsWithStream base L bytes items → BeginsWithStream base L bytes others → ItemsGoOn items others ⊎ ItemsGoOn others items
 
 -- bytes give one list of items
 abbrev pub GiveOneList : Type 0
 GiveOneList = (base : Table) (L : Bounds) (bytes : List ℕ) (items others : List StreamItem)
-    → GivesItems base L bytes items → GivesItems base L bytes others → items ≡ others
+    → LongestStream base L bytes items → LongestStream base L bytes others → items ≡ others
 
 -- each of the second limits is at least the first
 pub record AtLeast (L M : Bounds) : Type 0 where
@@ -72,7 +72,7 @@ AreReadBack = (M : Bounds) (items given : List StreamItem) (bytes : List ℕ) (n
 
 -- nor does any front of it show a refusal
 abbrev pub ShowNoRefusal : Type 0
-ShowNoRefusal = (M : Bounds) (items given : List StreamItem) (front rest : List ℕ) (R : Refusal) → WrittenWithin M items (front ++ rest) → ¬ IsShown M front given R
+ShowNoRefusal = (M : Bounds) (items given : List StreamItem) (front rest : List ℕ) (R : Refusal) → WrittenWithin M items (front ++ rest) → ¬ ShowsRefusal M front given R
 
 -- in whatever pieces what is written is fed to a session, under limits that are each at least the writer's
 pub record AreReadBackInPieces {X O : Type 0} {most : ℕ} (building : Building X O most) : Type 0 where
@@ -86,12 +86,12 @@ pub record AreReadBackInPieces {X O : Type 0} {most : ℕ} (building : Building 
   pub finished : (s s' : SessionState X O) (items before : List StreamItem) (bytes : List ℕ) (result : Result (Unit {0}) Fault)
       → WrittenWithin (no_deeper most s.limits) items bytes → FinishAnswers building s s' before bytes result → result ≡ Ok tt
 
--- what a session stands for that has given the items, of these bytes, under its limits and no deeper than its builder goes
-pub record GivesWhatStands {X O : Type 0} {most : ℕ} (building : Building X O most) : Type 0 where
+-- what a session has read that has given the items, of these bytes, under its limits and no deeper than its builder goes
+pub record GivesWhatItRead {X O : Type 0} {most : ℕ} (building : Building X O most) : Type 0 where
   -- the items are those that the grammar finds in the bytes
-  pub items : (s : SessionState X O) (items : List StreamItem) (bytes : List ℕ) → HasRead building s items bytes → GivesItems base_table (no_deeper most s.limits) bytes items
+  pub items : (s : SessionState X O) (items : List StreamItem) (bytes : List ℕ) → HasRead building s items bytes → LongestStream base_table (no_deeper most s.limits) bytes items
   -- which show no refusal
-  pub unrefused : (s : SessionState X O) (items others : List StreamItem) (bytes : List ℕ) (R : Refusal) → HasRead building s items bytes → ¬ IsShown (no_deeper most s.limits) bytes others R
+  pub unrefused : (s : SessionState X O) (items others : List StreamItem) (bytes : List ℕ) (R : Refusal) → HasRead building s items bytes → ¬ ShowsRefusal (no_deeper most s.limits) bytes others R
   -- its types are those behind the items
   pub types_behind : (s : SessionState X O) (items : List StreamItem) (bytes : List ℕ) → HasRead building s items bytes → HasTypesBehind (no_deeper most s.limits) bytes items (types s.types)
   -- and a count is the most that it takes beyond the limit for the stream
@@ -117,9 +117,9 @@ HaveAnOutcome = (L : Bounds) (bytes : List ℕ) → ¬ ((items : List StreamItem
 -- what is refused behind a stream is no item
 abbrev pub RefuseNoItem : Type 0
 RefuseNoItem = (L : Bounds) (items : List StreamItem) (front z : List ℕ) (T : Table) (R : Refusal) → Stream base_table L items front T → RefusesNext base_table L T (length front) z R
-    → (i : StreamItem) (b y : List ℕ) (U : Table) → Counted base_table L T (length front) i b U → ¬ (z ≡ b ++ y)
+    → (i : StreamItem) (b y : List ℕ) (U : Table) → IsItem base_table L T (length front) i b U → ¬ (z ≡ b ++ y)
 
 -- the bytes that show a refusal are there, and it is the one of all bytes that begin with them
 abbrev pub StreamsStayShown : Type 0
-StreamsStayShown = (L : Bounds) (bytes others : List ℕ) (items : List StreamItem) (R : Refusal) → IsShown L bytes items R → take R.seen others ≡ take R.seen bytes
-    → (R.seen ≤ length bytes) × IsShown L others items R
+StreamsStayShown = (L : Bounds) (bytes others : List ℕ) (items : List StreamItem) (R : Refusal) → ShowsRefusal L bytes items R → take R.seen others ≡ take R.seen bytes
+    → (R.seen ≤ length bytes) × ShowsRefusal L others items R

@@ -11,7 +11,7 @@ use Rattle.gob_stream.specs.Stream.{Stream}
 use Rattle.gob_stream.specs.Refusing.{RefusesCount, RefusesBody, refuses}
 
 -- the bytes begin with the stream of the items
-pub record BeginsWith (base : Table) (L : Bounds) (bytes : List ℕ) (items : List StreamItem) : Type 0 where
+pub record BeginsWithStream (base : Table) (L : Bounds) (bytes : List ℕ) (items : List StreamItem) : Type 0 where
   pub front : List ℕ
   pub rest : List ℕ
   pub table : Table
@@ -19,14 +19,14 @@ pub record BeginsWith (base : Table) (L : Bounds) (bytes : List ℕ) (items : Li
   pub whole : bytes ≡ front ++ rest
 
 -- and with no longer one
-pub record GivesItems (base : Table) (L : Bounds) (bytes : List ℕ) (items : List StreamItem) : Type 0 where
-  pub begins : BeginsWith base L bytes items
-  pub longest : (others : List StreamItem) → BeginsWith base L bytes others → length others ≤ length items
+pub record LongestStream (base : Table) (L : Bounds) (bytes : List ℕ) (items : List StreamItem) : Type 0 where
+  pub begins : BeginsWithStream base L bytes items
+  pub longest : (others : List StreamItem) → BeginsWithStream base L bytes others → length others ≤ length items
 
 -- or with none that has more than one item more: of the items that they give, these are all but the last at most
-pub record GivesButLast (base : Table) (L : Bounds) (bytes : List ℕ) (items : List StreamItem) : Type 0 where
-  pub begins : BeginsWith base L bytes items
-  pub but_last : (others : List StreamItem) → BeginsWith base L bytes others → length others ≤ length items + 1
+pub record LongestButLast (base : Table) (L : Bounds) (bytes : List ℕ) (items : List StreamItem) : Type 0 where
+  pub begins : BeginsWithStream base L bytes items
+  pub but_last : (others : List StreamItem) → BeginsWithStream base L bytes others → length others ≤ length items + 1
 
 -- z is what is there behind the stream: the next item is refused for what these bytes show
 pub data RefusesNext (base : Table) (L : Bounds) (T : Table) (offset : ℕ) (z : List ℕ) : Refusal → Type 0 where
@@ -48,5 +48,5 @@ pub data EndsSo (base : Table) (L : Bounds) (bytes : List ℕ) (items : List Str
 
 -- what the bytes give, and how they end
 pub record Outcome (base : Table) (L : Bounds) (bytes : List ℕ) (items : List StreamItem) (e : Ending) : Type 0 where
-  pub gives : GivesItems base L bytes items
+  pub gives : LongestStream base L bytes items
   pub ends : EndsSo base L bytes items e

@@ -11,13 +11,13 @@ use Rattle.gob_stream.specs.declared.fault.Refusal.{Refusal}
 use Rattle.gob_stream.specs.declared.fault.Fault.{Fault}
 use Rattle.gob_stream.specs.declared.fault.Fault.TheVariants as fault
 use Rattle.gob_stream.specs.declared.item.Item as declared
-use Rattle.gob_stream.specs.SessionState.{SessionState}
+use Rattle.gob_stream.specs.Machine.SessionState.{SessionState}
 use Rattle.gob_stream.specs.Bounds.{Bounds, no_deeper}
 use Rattle.gob_stream.specs.Devices.{counts_up, Rose}
 use Rattle.gob_stream.specs.Item.{StreamItem, ItemsMean, ItemMeans}
 use Rattle.gob_stream.specs.Stream.{Stream}
-use Rattle.gob_stream.specs.Outcome.{GivesItems, GivesButLast, Outcome, the_end, refused}
-use Rattle.gob_stream.specs.Standing.{Standing, StandsAfter}
+use Rattle.gob_stream.specs.Outcome.{LongestStream, LongestButLast, Outcome, the_end, refused}
+use Rattle.gob_stream.specs.Machine.HasRead.{Received, SessionHasRead}
 
 -- of the bytes that were left, some were taken and these are left now
 pub record Taken (before : List ℕ) (now : Option (List ℕ)) (taken : List ℕ) : Type 0 where
@@ -44,7 +44,7 @@ pub record GivesOn {O : Type 0} (means : O → Tree → Type 0) (given : List (d
   pub holds : P (before ++ more)
 
 -- the bytes are refused so, for another reason than that they end
-pub record IsShown (L : Bounds) (bytes : List ℕ) (items : List StreamItem) (R : Refusal) : Type 0 where
+pub record ShowsRefusal (L : Bounds) (bytes : List ℕ) (items : List StreamItem) (R : Refusal) : Type 0 where
   pub outcome : Outcome base_table L bytes items (refused R)
   pub shown : R.reason ≢ reason.Ended
 
@@ -67,17 +67,17 @@ pub record GivesOfTaken (L : Bounds) (taken : ℕ) (bytes : List ℕ) (items : L
   pub rest : List ℕ
   pub whole : bytes ≡ front ++ rest
   pub taken_is : taken ≡ length front
-  pub given : GivesButLast base_table L front items
+  pub given : LongestButLast base_table L front items
 
 -- what feeding a piece answers, where the items were given, to a session that had given the items before, of these bytes
-abbrev pub Feeds : {X O : Type 0} → (stands : Standing X) (trees : Standing TreeBuilder) (means : O → Tree → Type 0) (most : ℕ) (s s' : SessionState X O) → List StreamItem → (bytes piece : List ℕ) → List (declared.Item O) → Result (Unit {0}) Fault → Type 0
-Feeds stands trees means most s s' items bytes piece given (Ok _) = GivesOn means given items (λ all. StandsAfter stands trees most s' all (bytes ++ piece))
-Feeds stands trees means most s s' items bytes piece given (Err (fault.Refused R)) =
-    GivesOn means given items (λ all. IsShown (no_deeper most s.limits) (bytes ++ piece) all R × HasTypesBehind (no_deeper most s.limits) (bytes ++ piece) all (types s'.types)) × (length bytes < R.seen)
-Feeds stands trees means most s s' items bytes piece given (Err fault.Read) = ⊥
-Feeds stands trees means most s s' items bytes piece given (Err fault.Memory) =
+abbrev pub Feeds : {X O : Type 0} → (received : Received X) (trees : Received TreeBuilder) (means : O → Tree → Type 0) (most : ℕ) (s s' : SessionState X O) → List StreamItem → (bytes piece : List ℕ) → List (declared.Item O) → Result (Unit {0}) Fault → Type 0
+Feeds received trees means most s s' items bytes piece given (Ok _) = GivesOn means given items (λ all. SessionHasRead received trees most s' all (bytes ++ piece))
+Feeds received trees means most s s' items bytes piece given (Err (fault.Refused R)) =
+    GivesOn means given items (λ all. ShowsRefusal (no_deeper most s.limits) (bytes ++ piece) all R × HasTypesBehind (no_deeper most s.limits) (bytes ++ piece) all (types s'.types)) × (length bytes < R.seen)
+Feeds received trees means most s s' items bytes piece given (Err fault.Read) = ⊥
+Feeds received trees means most s s' items bytes piece given (Err fault.Memory) =
     GivesOn means given items (λ all. GivesOfTaken (no_deeper most s.limits) s'.taken (bytes ++ piece) all × HasTypesBeyond (no_deeper most s.limits) (bytes ++ piece) all (types s'.types))
-Feeds stands trees means most s s' items bytes piece given (Err fault.Failed) = ⊥
+Feeds received trees means most s s' items bytes piece given (Err fault.Failed) = ⊥
 
 -- what finishing answers: nothing has changed at the end of a stream, else the bytes end within an item
 abbrev pub ReadingFinishes : {X O : Type 0} → ℕ → (s s' : SessionState X O) → List StreamItem → List ℕ → Result (Unit {0}) Fault → Type 0
@@ -101,29 +101,29 @@ pub record EndsInItem (L : Bounds) (bytes : List ℕ) (items : List StreamItem) 
   pub no_further : IsNoFurther L (length front) item R
 
 -- an item was given with the last of the bytes, which are the stream of this item behind the others
-pub record ReadingGivesNext {X O : Type 0} (stands : Standing X) (trees : Standing TreeBuilder) (means : O → Tree → Type 0) (most : ℕ) (s' : SessionState X O) (given : declared.Item O) (items : List StreamItem) (bytes : List ℕ) : Type 0 where
+pub record ReadingGivesNext {X O : Type 0} (received : Received X) (trees : Received TreeBuilder) (means : O → Tree → Type 0) (most : ℕ) (s' : SessionState X O) (given : declared.Item O) (items : List StreamItem) (bytes : List ℕ) : Type 0 where
   pub item : StreamItem
   pub meant : ItemMeans means given item
-  pub after : StandsAfter stands trees most s' (items ++ item ∷ []) bytes
+  pub after : SessionHasRead received trees most s' (items ++ item ∷ []) bytes
   pub stream : Stream base_table (no_deeper most s'.limits) (items ++ item ∷ []) bytes (types s'.types)
 
 -- the next item is refused: for what the bytes show with some of the rest, or since all of it ends within the item
 pub data RefusesNextItem (L : Bounds) (items : List StreamItem) (bytes rest : List ℕ) (now : Option (List ℕ)) (R : Refusal) : Type 0 where
-  shown : SomeTaken rest now (λ taken. IsShown L (bytes ++ taken) items R × EndsInItem L (bytes ++ taken) items R) → RefusesNextItem L items bytes rest now R
+  shown : SomeTaken rest now (λ taken. ShowsRefusal L (bytes ++ taken) items R × EndsInItem L (bytes ++ taken) items R) → RefusesNextItem L items bytes rest now R
   ended : now ≡ Some [] → Outcome base_table L (bytes ++ rest) items (refused R) → R.reason ≡ reason.Ended → RefusesNextItem L items bytes rest now R
 
 -- what stops a session that had given the items, of these bytes, over a reader with the rest left
 abbrev pub StopsNext : Bounds → List StreamItem → (bytes rest : List ℕ) → Option (List ℕ) → Fault → Type 0
 StopsNext L items bytes rest now (fault.Refused R) = RefusesNextItem L items bytes rest now R
-StopsNext L items bytes rest now fault.Read = SomeTaken rest now (λ taken. GivesItems base_table L (bytes ++ taken) items)
-StopsNext L items bytes rest now fault.Memory = SomeTaken rest now (λ taken. GivesButLast base_table L (bytes ++ taken) items)
+StopsNext L items bytes rest now fault.Read = SomeTaken rest now (λ taken. LongestStream base_table L (bytes ++ taken) items)
+StopsNext L items bytes rest now fault.Memory = SomeTaken rest now (λ taken. LongestButLast base_table L (bytes ++ taken) items)
 StopsNext L items bytes rest now fault.Failed = ⊥
 
 -- what reading the next item answers
-abbrev pub ReadsNext : {X O : Type 0} → (stands : Standing X) (trees : Standing TreeBuilder) (means : O → Tree → Type 0) (most : ℕ) (s s' : SessionState X O) → List StreamItem → (bytes rest : List ℕ) → Option (List ℕ) → Result (Option (declared.Item O)) Fault → Type 0
-ReadsNext stands trees means most s s' items bytes rest now (Ok (Some given)) = SomeTaken rest now (λ taken. ReadingGivesNext stands trees means most s' given items (bytes ++ taken))
-ReadsNext stands trees means most s s' items bytes rest now (Ok None) = (rest ≡ []) × (now ≡ Some []) × Outcome base_table (no_deeper most s.limits) bytes items the_end × (s' ≡ s)
-ReadsNext stands trees means most s s' items bytes rest now (Err e) = StopsNext (no_deeper most s.limits) items bytes rest now e
+abbrev pub ReadsNext : {X O : Type 0} → (received : Received X) (trees : Received TreeBuilder) (means : O → Tree → Type 0) (most : ℕ) (s s' : SessionState X O) → List StreamItem → (bytes rest : List ℕ) → Option (List ℕ) → Result (Option (declared.Item O)) Fault → Type 0
+ReadsNext received trees means most s s' items bytes rest now (Ok (Some given)) = SomeTaken rest now (λ taken. ReadingGivesNext received trees means most s' given items (bytes ++ taken))
+ReadsNext received trees means most s s' items bytes rest now (Ok None) = (rest ≡ []) × (now ≡ Some []) × Outcome base_table (no_deeper most s.limits) bytes items the_end × (s' ≡ s)
+ReadsNext received trees means most s s' items bytes rest now (Err e) = StopsNext (no_deeper most s.limits) items bytes rest now e
 
 -- how many bytes reading an item takes: those up to its end, within the limit, and before a fault no more than the limit
 -- leaves and a count
@@ -136,8 +136,8 @@ TakesNext s s' taken taken' (Err e) = taken' ≤ taken + (s.limits.stream + 9 - 
 abbrev pub ReadsStream : Bounds → List ℕ → Option (List ℕ) → List StreamItem → Result (Unit {0}) Fault → Type 0
 ReadsStream L bytes now items (Ok _) = (T : Table) × Stream base_table L items bytes T × (now ≡ Some [])
 ReadsStream L bytes now items (Err (fault.Refused R)) = Outcome base_table L bytes items (refused R)
-ReadsStream L bytes now items (Err fault.Read) = SomeTaken bytes now (λ taken. GivesItems base_table L taken items)
-ReadsStream L bytes now items (Err fault.Memory) = SomeTaken bytes now (λ taken. GivesButLast base_table L taken items)
+ReadsStream L bytes now items (Err fault.Read) = SomeTaken bytes now (λ taken. LongestStream base_table L taken items)
+ReadsStream L bytes now items (Err fault.Memory) = SomeTaken bytes now (λ taken. LongestButLast base_table L taken items)
 ReadsStream L bytes now items (Err fault.Failed) = ⊥
 
 -- a call answers `Read` exactly where a read failed in it, which ended the call

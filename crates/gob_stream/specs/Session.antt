@@ -9,21 +9,22 @@ use Rattle.gob_read.specs.Builders.{tree_building}
 use Rattle.gob_read.specs.Building.{Building}
 use Rattle.gob_stream.specs.declared.fault.Fault.{Fault}
 use Rattle.gob_stream.specs.declared.item.Item as declared
-use Rattle.gob_stream.specs.SessionState.{SessionState}
+use Rattle.gob_stream.specs.Machine.SessionState.{SessionState}
 use Rattle.gob_stream.specs.declared.session.Step.{Step}
 use Rattle.gob_stream.specs.declared.stage.Stage.TheVariants as stage
 use Rattle.gob_stream.specs.Bounds.{Bounds, no_deeper}
 use Rattle.gob_stream.specs.Honest.{FeedsHonestly, ReadsHonestly}
 use Rattle.gob_stream.specs.Item.{StreamItem}
-use Rattle.gob_stream.specs.ReadParts.{Advances, bytes_wanted}
+use Rattle.gob_stream.specs.Machine.ReadParts.{Advances, bytes_wanted}
 use Rattle.gob_stream.specs.Reading.{Feeds, ReadingFinishes, ReadsNext, TakesNext}
-use Rattle.gob_stream.specs.Standing.{StandsAfter}
-use Rattle.gob_stream.specs.Stream.{Counted}
-use Rattle.gob_stream.specs.Whole.{IsBetween, HasBody, HasBegun, HasItem, PassesItem}
+use Rattle.gob_stream.specs.Machine.HasRead.{SessionHasRead}
+use Rattle.gob_stream.specs.Stream.{IsItem}
+use Rattle.gob_stream.specs.Whole.{HasBody, HasBegun, HasItem}
+use Rattle.gob_stream.specs.Machine.Between.{IsBetween, PassesItem}
 
 -- the session has given these items, and taken these bytes
 abbrev pub HasRead : {X O : Type 0} {most : ℕ} → Building X O most → SessionState X O → List StreamItem → List ℕ → Type 0
-HasRead {most = most} building s items bytes = StandsAfter building.stands tree_building.stands most s items bytes
+HasRead {most = most} building s items bytes = SessionHasRead building.received tree_building.received most s items bytes
 
 -- it has met a fault, behind which it reads no more
 abbrev pub HasFailed : {X O : Type 0} → SessionState X O → Type 0
@@ -58,7 +59,7 @@ StaysAsItWas s s' = s' ≡ s
 abbrev pub FeedAnswers : {X O : Type 0} {most : ℕ} → Building X O most → (s s' : SessionState X O) → List StreamItem
     → (bytes piece : List ℕ) → List (declared.Item O) → Result (Unit {0}) Fault → Type 0
 FeedAnswers {most = most} building s s' items bytes piece given result =
-    Feeds building.stands tree_building.stands building.means most s s' items bytes piece given result
+    Feeds building.received tree_building.received building.means most s s' items bytes piece given result
 
 abbrev pub FinishAnswers : {X O : Type 0} {most : ℕ} → Building X O most → (s s' : SessionState X O) → List StreamItem
     → List ℕ → Result (Unit {0}) Fault → Type 0
@@ -67,12 +68,12 @@ FinishAnswers {most = most} building s s' items bytes result = ReadingFinishes m
 abbrev pub StepAnswers : {X O : Type 0} {most : ℕ} → Building X O most → (s s' : SessionState X O) → List StreamItem
     → (bytes piece : List ℕ) → Result (Step O) Fault → Type 0
 StepAnswers {most = most} building s s' items bytes piece result =
-    Advances building.stands tree_building.stands building.means most s s' items bytes piece result
+    Advances building.received tree_building.received building.means most s s' items bytes piece result
 
 abbrev pub ReadItemAnswers : {X O : Type 0} {most : ℕ} → Building X O most → (s s' : SessionState X O) → List StreamItem
     → (bytes rest : List ℕ) → Option (List ℕ) → Result (Option (declared.Item O)) Fault → Type 0
 ReadItemAnswers {most = most} building s s' items bytes rest now result =
-    ReadsNext building.stands tree_building.stands building.means most s s' items bytes rest now result
+    ReadsNext building.received tree_building.received building.means most s s' items bytes rest now result
 
 -- how many bytes of its input the reading of an item takes
 abbrev pub ReadItemTakes : {X O : Type 0} → (s s' : SessionState X O) → (taken taken' : ℕ)
@@ -106,7 +107,7 @@ HasItemNext {most = most} building s used = HasItem (no_deeper most (limits_of s
 abbrev pub ReadsOn : {X O : Type 0} {most : ℕ} → Building X O most → (s s' : SessionState X O) → (used : ℕ) → Type 0
 ReadsOn {most = most} building s s' used = (items : List StreamItem) (bytes : List ℕ) (item : StreamItem) (z : List ℕ)
     → HasRead building s items bytes
-    → Counted base_table (no_deeper most (limits_of s)) (types_of s) (taken_of s) item z (types_of s)
+    → IsItem base_table (no_deeper most (limits_of s)) (types_of s) (taken_of s) item z (types_of s)
     → length z ≡ used
     → HasRead building s' (items ++ item ∷ []) (bytes ++ z)
 
@@ -114,4 +115,4 @@ ReadsOn {most = most} building s s' used = (items : List StreamItem) (bytes : Li
 abbrev pub ReadsValue : {X O : Type 0} {most : ℕ} → Building X O most → (s s' : SessionState X O) → TypeId → (used : ℕ)
     → (piece : List ℕ) → Type 0
 ReadsValue {most = most} building s s' id used piece =
-    PassesItem building.stands tree_building.stands most s s' id used piece
+    PassesItem building.received tree_building.received most s s' id used piece

@@ -1,24 +1,14 @@
 -- Items of values that stand whole at the front of a piece, between two items.
-use Rattle.std.specs.Prelude.{◌≡◌, ℕ, pos, ◌+◌, ◌-◌, ◌<◌, ◌≤◌, List, [], ◌∷◌, ◌++◌, length, take, drop}
+use Rattle.std.specs.Prelude.{◌≡◌, ℕ, pos, ◌+◌, ◌-◌, ◌<◌, ◌≤◌, List, ◌++◌, length, take, drop}
 use Rattle.gob_num.specs.Unsigned.{IsUnsigned}
 use Rattle.gob_num.specs.Signed.{IsSigned}
 use Rattle.gob_types.specs.declared.id.TypeId.{TypeId}
 use Rattle.gob_types.specs.Base.{base_table}
 use Rattle.gob_types.specs.Table.{Table}
-use Rattle.gob_value.specs.Tree.{Tree}
-use Rattle.gob_read.specs.declared.tree_builder.TreeBuilder.{TreeBuilder}
-use Rattle.gob_stream.specs.Stages.{count_at}
-use Rattle.gob_stream.specs.SessionState.{SessionState}
 use Rattle.gob_stream.specs.Bounds.{Bounds}
-use Rattle.gob_stream.specs.Item.{StreamItem, puts}
+use Rattle.gob_stream.specs.Item.{StreamItem}
 use Rattle.gob_stream.specs.Body.{MayPut}
-use Rattle.gob_stream.specs.Stream.{Counted}
-use Rattle.gob_stream.specs.Standing.{Standing, StandsAfter}
-
--- no byte of the next item was taken
-pub record IsBetween {X O : Type 0} (s : SessionState X O) : Type 0 where
-  pub number : List ℕ
-  pub stage : s.stage ≡ count_at s.taken number
+use Rattle.gob_stream.specs.Stream.{IsItem}
 
 -- at this offset the first bytes of the piece are the count of an item, the number of a type whose values may come, and
 -- this body
@@ -67,13 +57,5 @@ pub record HasBegun (L : Bounds) (T : Table) (offset : ℕ) (id : TypeId) (head 
 pub record HasItem (L : Bounds) (T : Table) (offset used : ℕ) : Type 0 where
   pub item : StreamItem
   pub bytes : List ℕ
-  pub counted : Counted base_table L T offset item bytes T
+  pub counted : IsItem base_table L T offset item bytes T
   pub size : length bytes ≡ used
-
--- behind this item, a value of the type, the first bytes of the piece
-pub record PassesItem {X O : Type 0} (stands : Standing X) (trees : Standing TreeBuilder) (most : ℕ)
-    (s s' : SessionState X O) (id : TypeId) (used : ℕ) (piece : List ℕ) : Type 0 where
-  pub value : Tree
-  pub within : used ≤ length piece
-  pub passed : (items : List StreamItem) (bytes : List ℕ) → StandsAfter stands trees most s items bytes
-      → StandsAfter stands trees most s' (items ++ puts id value ∷ []) (bytes ++ take used piece)

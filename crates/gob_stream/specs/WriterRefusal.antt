@@ -15,7 +15,7 @@ use Rattle.gob_value.specs.Description.{Misdescribes}
 use Rattle.gob_stream.specs.Bounds.{Bounds}
 use Rattle.gob_stream.specs.Item.{StreamItem, defines, puts}
 use Rattle.gob_stream.specs.Body.{Body, HasRoom, MayDefine, MayPut}
-use Rattle.gob_stream.specs.Stream.{Counted}
+use Rattle.gob_stream.specs.Stream.{IsItem}
 
 -- why the id can't be defined now
 pub data RefusesId (base : Table) (L : Bounds) (T : Table) (id : TypeId) : Reason → Type 0 where
@@ -59,5 +59,5 @@ abbrev pub WritersHaveOneReason : Type 0
 WritersHaveOneReason = (base : Table) (L : Bounds) (T : Table) (offset : ℕ) (i : StreamItem) (r s : Reason) → RefusesItem base L T offset i r → RefusesItem base L T offset i s → r ≡ s
 
 -- and no bytes are that item there
-abbrev pub AreNotCounted : Type 0
-AreNotCounted = (base : Table) (L : Bounds) (T U : Table) (offset : ℕ) (i : StreamItem) (r : Reason) (b : List ℕ) → RefusesItem base L T offset i r → ¬ Counted base L T offset i b U
+abbrev pub AreNoItem : Type 0
+AreNoItem = (base : Table) (L : Bounds) (T U : Table) (offset : ℕ) (i : StreamItem) (r : Reason) (b : List ℕ) → RefusesItem base L T offset i r → ¬ IsItem base L T offset i b U

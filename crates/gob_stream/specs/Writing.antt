@@ -20,7 +20,7 @@ use Rattle.gob_stream.specs.declared.writer.StreamWriter.{StreamWriter}
 use Rattle.gob_stream.specs.Bounds.{Bounds}
 use Rattle.gob_stream.specs.Devices.{counts_up}
 use Rattle.gob_stream.specs.Item.{StreamItem}
-use Rattle.gob_stream.specs.Stream.{Stream, HasStream, Counted}
+use Rattle.gob_stream.specs.Stream.{Stream, HasStream, IsItem}
 use Rattle.gob_stream.specs.WriterRefusal.{RefusesItem}
 
 -- ---- what contracts see of a writer
@@ -48,14 +48,14 @@ pub record WroteFront (L : Bounds) (T : Table) (offset : ℕ) (i : StreamItem) (
   pub front : List ℕ
   pub rest : List ℕ
   pub table : Table
-  pub item : Counted base_table L T offset i (front ++ rest) table
+  pub item : IsItem base_table L T offset i (front ++ rest) table
   pub out : Appends old new front
 
 -- the bytes of this item went out, and the writer stands behind them
 pub record WroteItem (L : Bounds) (w w' : StreamWriter) (items : List StreamItem) (bytes : List ℕ) (T : Table) (i : StreamItem) (old new : Option (List ℕ)) : Type 0 where
   pub more : List ℕ
   pub table : Table
-  pub item : Counted base_table L T (length bytes) i more table
+  pub item : IsItem base_table L T (length bytes) i more table
   pub out : Appends old new more
   pub limits : w'.limits ≡ w.limits
   pub written : HasWritten w' (items ++ i ∷ []) (bytes ++ more) table
@@ -188,7 +188,7 @@ pub record CutThere (L : Bounds) (items : List StreamItem) (n : ℕ) (old new : 
   pub before : Stream base_table L (take n items) bytes table
   pub out : Appends old new (bytes ++ front)
   pub at : slice_get items n ≡ Some item
-  pub counted : Counted base_table L table (length bytes) item (front ++ rest) last
+  pub counted : IsItem base_table L table (length bytes) item (front ++ rest) last
 
 -- what stopped the writing of a list of items, at this one
 abbrev pub StoppedAt : Bounds → List StreamItem → ℕ → (old new : Option (List ℕ)) → WriteFault → Type 0

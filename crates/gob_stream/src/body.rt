@@ -5,11 +5,11 @@ ghost use Rattle.gob_types.specs.Base.{base_table, wire_type};
 ghost use Rattle.gob_types.specs.Defined.{types, Admits};
 ghost use Rattle.gob_value.specs.View.{view};
 ghost use Rattle.gob_value.specs.Fits.{Fits};
-ghost use Rattle.gob_read.specs.Reader.{ReaderStands};
+ghost use Rattle.gob_read.specs.Reader.{ReaderHasRead};
 ghost use Rattle.gob_read.specs.Builders.{tree_building};
-ghost use Rattle.gob_stream.specs.Standing.{size};
-ghost use Rattle.gob_stream.specs.ReadParts.{IsBodyUnderWay, ReadsValueIn, ReadsDescription, StopsWithin};
-ghost use Rattle.gob_stream.specs.ReadParts.{fault_behind, DefineAnswers, HasWireType};
+ghost use Rattle.gob_stream.specs.Machine.HasRead.{size};
+ghost use Rattle.gob_stream.specs.Machine.ReadParts.{IsBodyUnderWay, ReadsValueIn, ReadsDescription, StopsWithin};
+ghost use Rattle.gob_stream.specs.Machine.ReadParts.{fault_behind, DefineAnswers, HasWireType};
 ghost use Rattle.gob_read.specs.UnderWay.{under_way};
 
 use crate::count::{CountStage, refusal};
@@ -52,11 +52,11 @@ impl<B: Builder> ValueStage<B> {
         table: &Table,
         piece: &[u8],
     ) -> Result<Stepped<B>, Fault>
-        requires stands { IsBodyUnderWay (types table.now) self.id self.rest B.building.stands (under_way self.reader) }
+        requires has_read { IsBodyUnderWay (types table.now) self.id self.rest B.building.received (under_way self.reader) }
         requires order { self.rest.begin ≤ self.rest.end }
         ensures { (limit : ℕ) (z : List ℕ)
-            → ReaderStands (types table.now) self.id limit (size self.rest) B.building.stands (under_way self.reader) z
-            → ReadsValueIn B.building.stands B.building.means (types table.now) self.id limit self.rest z piece.now result }
+            → ReaderHasRead (types table.now) self.id limit (size self.rest) B.building.received (under_way self.reader) z
+            → ReadsValueIn B.building.received B.building.means (types table.now) self.id limit self.rest z piece.now result }
     {
         let ValueStage {
             id,
@@ -87,13 +87,13 @@ impl DescriptionStage {
         table: &mut Table,
         piece: &[u8],
     ) -> Result<Stepped<B>, Fault>
-        requires stands { IsBodyUnderWay (types table.old) wire_type self.rest tree_building.stands (under_way self.reader) }
+        requires has_read { IsBodyUnderWay (types table.old) wire_type self.rest tree_building.received (under_way self.reader) }
         requires order { self.rest.begin ≤ self.rest.end }
         requires admitted { Admits table.old self.id }
         requires keeps { HasWireType (types table.old) }
-        ensures { (limit : ℕ) (z : List ℕ) → ReaderStands (types table.old) wire_type limit (size self.rest)
-            tree_building.stands (under_way self.reader) z
-            → ReadsDescription tree_building.stands table.old self.id limit self.rest z piece.now
+        ensures { (limit : ℕ) (z : List ℕ) → ReaderHasRead (types table.old) wire_type limit (size self.rest)
+            tree_building.received (under_way self.reader) z
+            → ReadsDescription tree_building.received table.old self.id limit self.rest z piece.now
             table.new result }
     {
         let DescriptionStage {

@@ -4,7 +4,7 @@ ghost use Rattle.std.specs.Prelude.{◌≡◌, ◌+◌, ◌≤◌, [], length};
 ghost use Rattle.gob_num.specs.Unsigned.{IsUnsignedFront};
 ghost use Rattle.gob_stream.specs.Bounds.{greatest_stream};
 ghost use Rattle.gob_stream.specs.Refusing.{refuses};
-ghost use Rattle.gob_stream.specs.ReadParts.{CountAnswers, JudgesCount};
+ghost use Rattle.gob_stream.specs.Machine.ReadParts.{CountAnswers, JudgesCount};
 
 use crate::fault::{Fault, Refusal};
 use crate::limits::Limits;

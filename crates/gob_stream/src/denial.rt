@@ -8,8 +8,8 @@ ghost use Rattle.gob_stream.specs.Bounds.{Bounds};
 ghost use Rattle.gob_stream.specs.Body.{MayDefine, MayPut};
 ghost use Rattle.gob_stream.specs.WriterRefusal.{RefusesId, RefusesType};
 ghost use Rattle.gob_stream.specs.declared.denial.Denial.{Denial};
-ghost use Rattle.gob_stream.specs.Denial.{AddAnswers};
-ghost use Rattle.gob_stream.specs.Denial.{IsDenial, fault_at, write_fault, type_denial, description_denial, value_denial};
+ghost use Rattle.gob_stream.specs.Machine.Denial.{AddAnswers};
+ghost use Rattle.gob_stream.specs.Machine.Denial.{IsDenial, fault_at, write_fault, type_denial, description_denial, value_denial};
 
 use crate::count::refusal;
 use crate::fault::{Fault, WriteFault};

@@ -2,10 +2,10 @@
 
 ghost use Rattle.gob_stream.specs.Laws.{HaveOneReading, BeginOneAnother, GiveOneList};
 ghost use Rattle.gob_stream.specs.Laws.{StayStreams, HaveOneOutcome, HaveAnOutcome, RefuseNoItem, StreamsStayShown};
-ghost use Rattle.gob_stream.specs.Laws.{GivesWhatStands, HaveOneTable, StayLimits};
+ghost use Rattle.gob_stream.specs.Laws.{GivesWhatItRead, HaveOneTable, StayLimits};
 ghost use Rattle.gob_stream.specs.Laws.{AreReadBack, ShowNoRefusal, AreReadBackInPieces};
 ghost use Rattle.gob_stream.specs.Honest.{OutcomesAreHonest};
-ghost use Rattle.gob_stream.specs.WriterRefusal.{WritersHaveOneReason, AreNotCounted};
+ghost use Rattle.gob_stream.specs.WriterRefusal.{WritersHaveOneReason, AreNoItem};
 
 use gob_read::Builder;
 
@@ -43,13 +43,13 @@ pub fn streams_are_read_back_in_pieces<B: Builder>()
 /// There is one reason at most for which an item isn't written, and none where some bytes are the item.
 pub fn one_refusal()
     ensures reason { WritersHaveOneReason }
-    ensures not_counted { AreNotCounted }
+    ensures not_counted { AreNoItem }
 {}
 
 /// What a session has given are the items that the grammar finds in the bytes so far, which show no refusal; its types
 /// are those behind the items.
-pub fn sessions_give_what_stands<B: Builder>()
-    ensures { GivesWhatStands B.building }
+pub fn sessions_give_what_they_read<B: Builder>()
+    ensures { GivesWhatItRead B.building }
 {}
 
 /// Behind the items with which bytes begin there is one table of types.

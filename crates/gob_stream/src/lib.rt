@@ -19,7 +19,7 @@
 //!   their items, and how they end.
 //! - [`laws::shown_refusals_stay`], [`laws::refused_bytes_are_no_item`]: a refusal is the same whatever follows, and
 //!   right.
-//! - [`laws::sessions_give_what_stands`], [`laws::items_have_one_table`], [`laws::limits_stay`]: what a session
+//! - [`laws::sessions_give_what_they_read`], [`laws::items_have_one_table`], [`laws::limits_stay`]: what a session
 //!   stands for.
 //! - [`laws::streams_stay`], [`laws::one_refusal`]: of limits, and of what isn't written.
 #![tactic(auto)]

@@ -49,7 +49,7 @@ fn read_items<R: Read>(
     session: &mut Session<TreeBuilder>,
     out: &mut Vec<Item<Value>>,
 ) -> Result<(), Fault>
-    requires stands { HasRead tree_building session.old [] [] }
+    requires has_read { HasRead tree_building session.old [] [] }
     requires new { session.old.taken ≡ 0 }
     ensures items { Given out.old.items out.new.items (λ given. (bytes : List ℕ)
         → R.remaining (reader_of input.old) ≡ Some bytes

@@ -20,7 +20,7 @@ pub struct Session<B: Builder> {
     pub(crate) types: Table,
     // How many bytes of it were taken.
     pub(crate) taken: u64,
-    // What is awaited.
+    // What is expected.
     pub(crate) stage: Stage<B>,
 }
 
@@ -49,8 +49,8 @@ impl<B: Builder> Model for Session<B> {
     ghost use Rattle.std.specs.Coded.{codes};
     ghost use Rattle.gob_value.specs.contracts.value.Value as value;
     ghost use Rattle.gob_read.specs.Builders.{tree_building};
-    ghost use Rattle.gob_stream.specs.SessionState.{SessionState};
-    ghost use Rattle.gob_stream.specs.Standing.{IsUsable};
+    ghost use Rattle.gob_stream.specs.Machine.SessionState.{SessionState};
+    ghost use Rattle.gob_stream.specs.Machine.HasRead.{IsUsable};
 
     ghost Value = { SessionState B B.Out };
 
@@ -64,7 +64,7 @@ impl<B: Builder> Model for Session<B> {
     } };
 
     // It has read some bytes, or has failed.
-    ghost invariant = { λ session. IsUsable B.building.stands tree_building.stands B.DEPTH (record {
+    ghost invariant = { λ session. IsUsable B.building.received tree_building.received B.DEPTH (record {
       limits = session.limits;
       types = session.types;
       taken = session.taken;
@@ -84,7 +84,7 @@ impl<B: Builder> Session<B> {
 
     /// A reader that has taken no byte. No value may be deeper than these limits allow, or than the builder takes.
     pub fn new(alloc: Global, limits: Limits) -> Result<Session<B>, Memory>
-        ensures stands { IfOk result (λ session. HasRead B.building session [] []) }
+        ensures has_read { IfOk result (λ session. HasRead B.building session [] []) }
         ensures taken { IfOk result (λ session. taken_of session ≡ 0) }
         ensures limits { IfOk result (λ session. limits_of session ≡ limits) }
         ensures allowed { AreLimits deepest limits }

@@ -12,7 +12,7 @@ ghost use Rattle.gob_value.specs.View.{view};
 ghost use Rattle.gob_stream.specs.Bounds.{Bounds, greatest_depth};
 ghost use Rattle.gob_stream.specs.Item.{defines, puts};
 ghost use Rattle.gob_stream.specs.Body.{Body};
-ghost use Rattle.gob_stream.specs.Denial.{IsDenial};
+ghost use Rattle.gob_stream.specs.Machine.Denial.{IsDenial};
 ghost use Rattle.gob_stream.specs.WriterRefusal.{RefusesItem, RefusesType, WriterRefusesBody};
 ghost use Rattle.gob_stream.specs.Writing.{IsWholeItem, FitsLimits, HasStructs, IsHead, IsSpelledAs};
 

@@ -3,7 +3,7 @@
 ghost use Rattle.std.specs.Prelude.{◌≡◌, ◌<◌, length};
 ghost use Rattle.gob_read.specs.Builders.{tree_building};
 ghost use Rattle.gob_stream.specs.Bounds.{no_deeper};
-ghost use Rattle.gob_stream.specs.ReadParts.{IsWithinItem, StageAnswers};
+ghost use Rattle.gob_stream.specs.Machine.ReadParts.{IsWithinItem, StageAnswers};
 
 use crate::body::{DescriptionStage, ValueStage};
 use crate::count::CountStage;
@@ -35,7 +35,7 @@ pub(crate) struct Around {
     pub(crate) taken: u64,
 }
 
-/// What a reader of items awaits.
+/// What a reader of items expects.
 #[derive(Drop)]
 pub(crate) enum Stage<B: Builder> {
     /// The count of an item.
@@ -55,24 +55,24 @@ pub(crate) enum Stage<B: Builder> {
 pub(crate) struct Stepped<B: Builder> {
     /// How many bytes of the piece were taken.
     pub(crate) used: usize,
-    /// What is awaited behind them.
+    /// What is expected behind them.
     pub(crate) stage: Stage<B>,
     /// The item that is whole with them.
     pub(crate) item: Option<Item<B::Out>>,
 }
 
 impl<B: Builder> Stage<B> {
-    /// Takes some bytes of what is awaited from the front of the piece.
+    /// Takes some bytes of what is expected from the front of the piece.
     pub(crate) fn take(
         self,
         around: &Around,
         table: &mut Table,
         piece: &[u8],
     ) -> Result<Stepped<B>, Fault>
-        requires stands { ¬ (self ≡ Stage.Failed) → IsWithinItem B.building.stands tree_building.stands
+        requires has_read { ¬ (self ≡ Stage.Failed) → IsWithinItem B.building.received tree_building.received
             (no_deeper B.DEPTH around.now.limits) table.old around.now.taken self }
         requires some { 0 < length piece.now }
-        ensures { StageAnswers B.building.stands tree_building.stands B.building.means
+        ensures { StageAnswers B.building.received tree_building.received B.building.means
             (no_deeper B.DEPTH around.now.limits) table.old around.now.taken self piece.now table.new result }
     {
         // its contract says that an offset up to the limit, and a count behind it, don't wrap

@@ -6,9 +6,9 @@ ghost use Rattle.gob_num.specs.Unsigned.{IsUnsigned, IsUnsignedFront};
 ghost use Rattle.gob_types.specs.Defined.{types};
 ghost use Rattle.gob_read.specs.Builders.{tree_building};
 ghost use Rattle.gob_stream.specs.Bounds.{greatest_stream, no_deeper};
-ghost use Rattle.gob_stream.specs.Standing.{IsCount, IsRest};
+ghost use Rattle.gob_stream.specs.Machine.HasRead.{IsCount, IsRest};
 ghost use Rattle.gob_stream.specs.declared.stage.Extent.{Extent};
-ghost use Rattle.gob_stream.specs.ReadParts.{AreTypes, GoesOnIn, HasBodyCount, StepsOn, TakesOn};
+ghost use Rattle.gob_stream.specs.Machine.ReadParts.{AreTypes, GoesOnIn, HasBodyCount, StepsOn, TakesOn};
 
 use crate::body::{DescriptionStage, ValueStage};
 use crate::count::refusal;
@@ -45,7 +45,7 @@ impl TypeNumberStage {
         requires some { 0 < length piece.now }
         ensures { let L = no_deeper B.DEPTH around.now.limits in (offset m : ℕ) (c : List ℕ)
             → IsCount L offset m c self.body
-            → TakesOn B.building.stands tree_building.stands B.building.means L table.old offset
+            → TakesOn B.building.received tree_building.received B.building.means L table.old offset
             (c ++ self.number) piece.now 1 table.new result }
     {
         let TypeNumberStage { body, mut number } = self;
@@ -117,7 +117,7 @@ fn begin_rest<B: Builder>(
     requires end { rest.end ≤ greatest_stream }
     ensures { let L = no_deeper B.DEPTH around.now.limits in (offset m : ℕ) (c a : List ℕ) (body : Extent)
         → IsCount L offset m c body → body.begin ≡ place → IsUnsigned number a → IsRest body a rest
-        → StepsOn B.building.stands tree_building.stands B.building.means L table.old offset
+        → StepsOn B.building.received tree_building.received B.building.means L table.old offset
         (c ++ a) piece.now table.new result }
 {
     let number = to_signed(number);
@@ -142,7 +142,7 @@ fn begin_description<B: Builder>(
     ensures { let L = no_deeper B.DEPTH around.now.limits in (offset m n : ℕ) (c a : List ℕ) (body : Extent)
         → IsCount L offset m c body → body.begin ≡ place
         → id.0 ≡ n + 1 → IsSigned (negsuc n) a → IsRest body a rest
-        → StepsOn B.building.stands tree_building.stands B.building.means L table.old offset
+        → StepsOn B.building.received tree_building.received B.building.means L table.old offset
         (c ++ a) piece.now table.new result }
 {
     if let Err(reason) = judge_id(table, id) {
@@ -174,7 +174,7 @@ fn begin_value<B: Builder>(
     ensures { let L = no_deeper B.DEPTH around.now.limits in (offset m : ℕ) (c a : List ℕ) (body : Extent)
         → IsCount L offset m c body → body.begin ≡ place
         → IsSigned (pos id.0) a → IsRest body a rest
-        → StepsOn B.building.stands tree_building.stands B.building.means L table.now offset
+        → StepsOn B.building.received tree_building.received B.building.means L table.now offset
         (c ++ a) piece.now table.now result }
 {
     if let Err(denial) = judge_type(around.alloc, table, id) {

@@ -171,8 +171,8 @@ impl<B: Builder> Session<B> {
     }
 }
 
-// The type number that stands in the piece from the place on, where values of the type may come now. It is looked for in the
-// piece, and not in the item alone: near the end of its bytes a number is found byte by byte.
+// The type number that stands in the piece from the place on, where values of the type may come now. It is looked for
+// in the piece, and not in the item alone: near the end of its bytes a number is found byte by byte.
 #[inline(always)]
 fn type_of(table: &Table, piece: &[u8], at: usize) -> Option<Named>
     ensures names { IfSome result (λ named. NamesTypeAt named.id piece.now at named.end) }

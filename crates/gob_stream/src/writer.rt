@@ -31,8 +31,8 @@ pub struct StreamWriter {
     // How many bytes of the stream are out.
     offset: u64,
     failed: bool,
-    // Where the body of an item is spelled, and then the item, both without a spelling that the caller has: kept from one
-    // item to the next.
+    // Where the body of an item is spelled, and then the item, both without a spelling that the caller has: kept from
+    // one item to the next.
     body: Vec<u8>,
     item: Vec<u8>,
 }
@@ -188,8 +188,8 @@ impl StreamWriter {
         }
     }
 
-    // Sends the item that was begun, and behind it the rest of its bytes, which are the caller's. The writer counts as failed
-    // until the last of them is out.
+    // Sends the item that was begun, and behind it the rest of its bytes, which are the caller's. The writer counts as
+    // failed until the last of them is out.
     fn send<W: Write>(&mut self, output: &mut Output<W>, rest: &[u8]) -> Result<(), WriteFault>
         requires { self.old.offset + length (self.old.item.items ++ rest.now) < 2 ^ 64 }
         ensures sends { SendAnswers self.old self.new (self.old.item.items ++ rest.now)

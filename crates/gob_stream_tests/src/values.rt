@@ -90,8 +90,8 @@ pub(crate) fn is_written_spelled(
     is_right(answer, &small, bytes)
 }
 
-/// Whether the writing of the value of this row by its spelling, a byte at a time, ends with the write behind so many of
-/// these bytes, which goes wrong so and is counted. None goes wrong behind all of them.
+/// Whether the writing of the value of this row by its spelling, a byte at a time, ends with the write behind so many
+/// of these bytes, which goes wrong so and is counted. None goes wrong behind all of them.
 pub(crate) fn is_cut_spelled(
     alloc: Global,
     row: usize,

@@ -9,12 +9,13 @@ use Rattle.gob_types.specs.declared.basic.Basic.{Basic}
 use Rattle.gob_types.specs.declared.basic.Basic.TheVariants as basic
 use Rattle.gob_value.specs.Tree.{Tree, tree_count, pair_count, depth, trees_depth, pairs_depth, fields_depth}
 use Rattle.gob_value.specs.View.{trees_of, pairs_of, fields_of}
-use Rattle.gob_read.specs.declared.telling.RawKind.{RawKind}
-use Rattle.gob_read.specs.declared.telling.RawKind.TheVariants as kind
-use Rattle.gob_read.specs.declared.telling.GroupKind.{GroupKind}
-use Rattle.gob_read.specs.declared.telling.GroupKind.TheVariants as group
+use Rattle.gob_read.specs.declared.event.RawKind.{RawKind}
+use Rattle.gob_read.specs.declared.event.RawKind.TheVariants as kind
+use Rattle.gob_read.specs.declared.event.GroupKind.{GroupKind}
+use Rattle.gob_read.specs.declared.event.GroupKind.TheVariants as group
 use Rattle.gob_read.specs.WellFormed.{AreNumbers}
-use Rattle.gob_read.specs.Built.{number_tree, raw_tree, Part, raw, fields, closed, opened_part, put_in}
+use Rattle.gob_read.specs.Machine.Built.{Part, raw, fields, closed, opened_part, put_in}
+use Rattle.gob_read.specs.Leaf.{number_tree, raw_tree}
 use Rattle.gob_tape.specs.declared.node.Content.{Content}
 use Rattle.gob_tape.specs.declared.node.Content.TheVariants as content
 use Rattle.gob_tape.specs.declared.node.Node.{Node}
@@ -24,8 +25,8 @@ use Rattle.gob_tape.specs.Machine.Coming.{IsFree, at_top, in_list, in_map, in_st
 use Rattle.gob_tape.specs.Machine.Opened.{MeansKey, no_key, a_key, key_count, IsOpenPart, open_raw, open_list, open_map, open_struct, AreOpen, no_open, in_part}
 use Rattle.gob_tape.specs.Machine.State.{State, count_of, ended, counted, added_node}
 use Rattle.gob_tape.specs.Machine.State as state
-use Rattle.gob_tape.specs.Machine.Standing.{key_depth, part_depth, parts_depth, ShowsTree, under_way, whole}
-use Rattle.gob_tape.specs.Machine.Standing as standing
+use Rattle.gob_tape.specs.Machine.Received.{key_depth, part_depth, parts_depth, ShowsTree, under_way, whole}
+use Rattle.gob_tape.specs.Machine.Received as standing
 use Rattle.gob_tape.proofs.MeaningLaws.{Kept, at_rises, each_rises, pairs_rise, fields_rise, at_kept, each_kept, pairs_kept, fields_kept}
 
 -- ---- nodes that stay
@@ -145,7 +146,7 @@ put_shown {s = s} {v = v} (in_part {ps = ps} a g (open_struct {fs = fs} t c ms))
     (rw b (in_part a g (open_struct t (counted_once c (omega (arith, fields_rise ms, at_rises m, fields_length fs)) ∙ sym (length-append fs ((f, v) ∷ []))) (fields_more fs ms m))))
     e (omega (arith, d, fields_deeper fs f v))
 
--- ---- each telling
+-- ---- each event
 
 free_field : {ps : List Part} {whole : Option Tree} {f : Option ℕ} → IsFree ps whole f → standing.next_field ps ≡ f
 free_field at_top = refl

@@ -7,11 +7,12 @@ use Rattle.gob_types.specs.declared.basic.Basic.{Basic}
 use Rattle.gob_types.specs.declared.basic.Basic.TheVariants as basic
 use Rattle.gob_value.specs.Tree.{Tree, Trees, Pairs, Fields}
 use Rattle.gob_value.specs.Spelling.{truth}
-use Rattle.gob_read.specs.declared.telling.RawKind.{RawKind}
-use Rattle.gob_read.specs.declared.telling.RawKind.TheVariants as raw
-use Rattle.gob_read.specs.declared.telling.GroupKind.{GroupKind}
-use Rattle.gob_read.specs.declared.telling.GroupKind.TheVariants as group
-use Rattle.gob_read.specs.Built.{signed_of, number_tree, raw_tree, opened_part, closed}
+use Rattle.gob_read.specs.declared.event.RawKind.{RawKind}
+use Rattle.gob_read.specs.declared.event.RawKind.TheVariants as raw
+use Rattle.gob_read.specs.declared.event.GroupKind.{GroupKind}
+use Rattle.gob_read.specs.declared.event.GroupKind.TheVariants as group
+use Rattle.gob_read.specs.Machine.Built.{opened_part, closed}
+use Rattle.gob_read.specs.Leaf.{signed_of, number_tree, raw_tree}
 use Rattle.gob_read.specs.WellFormed.{AreNumbers, of_bool, of_int, of_uint, of_float, of_complex, of_nil}
 use Rattle.gob_tape.specs.declared.node.Content.{Content}
 use Rattle.gob_tape.specs.declared.node.Content.TheVariants as content

@@ -23,15 +23,15 @@ use Rattle.gob_value.specs.Tidy.{no_more}
 use Rattle.gob_value.specs.Tidy as tidy
 use Rattle.gob_value.specs.TidyLaws.{HasSmallNumbers, AllHaveSmallNumbers, PairsHaveSmallNumbers}
 use Rattle.gob_value.specs.TidyLaws.{FieldsHaveSmallNumbers}
-use Rattle.gob_read.specs.declared.telling.RawKind.{RawKind}
-use Rattle.gob_read.specs.declared.telling.RawKind.TheVariants as raw
-use Rattle.gob_read.specs.declared.telling.GroupKind.TheVariants as group
-use Rattle.gob_read.specs.Telling.{Telling, number, raw_start, raw_more, enter, leave, TellsRaw, no_bytes, more_bytes}
-use Rattle.gob_read.specs.Telling.{Tells, tell_bool, tell_not_negative, tell_negative, tell_uint, tell_float}
-use Rattle.gob_read.specs.Telling.{tell_complex, tell_nil, tell_bytes, tell_text, tell_opaque, tell_many, tell_pairs}
-use Rattle.gob_read.specs.Telling.{tell_fields, TellsEach, tell_none, tell_each, TellsPairs, tell_no_pair, tell_pair}
-use Rattle.gob_read.specs.Telling.{TellsFields, tell_no_field, tell_field}
-use Rattle.gob_read.specs.Built.{number_tree, raw_tree}
+use Rattle.gob_read.specs.declared.event.RawKind.{RawKind}
+use Rattle.gob_read.specs.declared.event.RawKind.TheVariants as raw
+use Rattle.gob_read.specs.declared.event.GroupKind.TheVariants as group
+use Rattle.gob_read.specs.Event.{Event, number, raw_start, raw_more, enter, leave, HasRawEvents, no_bytes, more_bytes}
+use Rattle.gob_read.specs.Event.{HasEvents, tell_bool, tell_not_negative, tell_negative, tell_uint, tell_float}
+use Rattle.gob_read.specs.Event.{tell_complex, tell_nil, tell_bytes, tell_text, tell_opaque, tell_many, tell_pairs}
+use Rattle.gob_read.specs.Event.{tell_fields, HaveEvents, tell_none, tell_each, PairsHaveEvents, tell_no_pair, tell_pair}
+use Rattle.gob_read.specs.Event.{FieldsHaveEvents, tell_no_field, tell_field}
+use Rattle.gob_read.specs.Leaf.{number_tree, raw_tree}
 use Rattle.gob_read.specs.WellFormed.{AreNumbers}
 use Rattle.gob_read.specs.WellFormed as formed
 use Rattle.gob_tape.specs.declared.node.Content.{Content}
@@ -45,35 +45,35 @@ use Rattle.gob_tape.specs.Meaning.{end_of_fields, next_field}
 use Rattle.gob_tape.specs.Meaning.{node, a_number, raw_bytes, a_list, a_map, a_struct}
 use Rattle.gob_tape.specs.Seeing.{unsigned_of}
 use Rattle.gob_tape.specs.Machine.State.{State}
-use Rattle.gob_tape.specs.Machine.Standing.{IsTapeOf, TapeGoesOn}
-use Rattle.gob_tape.specs.Machine.Tidying.{tellings, each_told, pairs_told, fields_told, name_told, content_told}
+use Rattle.gob_tape.specs.Machine.Received.{IsTapeOf, TapeGoesOn}
+use Rattle.gob_tape.specs.Machine.Tidying.{events, each_told, pairs_told, fields_told, name_told, content_told}
 use Rattle.gob_tape.specs.Machine.Tidying.{IsZeroContent, IsDroppedContent, IsPooled, open_to, innermost, has_field}
 use Rattle.gob_tape.specs.Machine.Tidying.{IsNextType, the_whole, an_element, a_key_or_element, a_field, turned, advanced}
-use Rattle.gob_tape.specs.Machine.Tidying.{types_in, entered_as, entered_open, HasOpenEnd, TellsPart, Due, none_due, element}
+use Rattle.gob_tape.specs.Machine.Tidying.{types_in, entered_as, entered_open, HasOpenEnd, PartHasEvents, Due, none_due, element}
 use Rattle.gob_tape.specs.Machine.Tidying.{key_or_element, dropped, kept, Left, at_end, at_start, in_part, IsInsideOpen}
-use Rattle.gob_tape.specs.Machine.Tidying.{TidyGoes, TidyEnds, none_ends, one_ends, TidyEnded, TidyEnding, TidyUpTo, TidyReaches, IsAllTold}
+use Rattle.gob_tape.specs.Machine.Tidying.{TidyGoes, TidyEnds, none_ends, one_ends, TidyEnded, TidyEnding, TidyUpTo, TidyReaches, TakesEvents}
 use Rattle.gob_tape.specs.Machine.Tidying.{HasSmallNumber}
 use Rattle.gob_tape.proofs.BegunLaws.{last_first, last_changed}
 use Rattle.gob_tape.proofs.MeaningLaws.{at_rises, at_within, Says, node_says, has_node}
 use Rattle.gob_tape.proofs.SeeingLaws.{unsigned_signed, truth_number}
-use Rattle.gob_tape.proofs.StandingLaws.{IsWhole, whole_told}
+use Rattle.gob_tape.proofs.ReceivedLaws.{IsWhole, whole_told}
 use Rattle.gob_tape.proofs.WritingLaws.{last_is, none_is}
 
--- ---- tellings behind tellings
+-- ---- events behind events
 
-pub goes_then : {a b c : State} {xs ys : List Telling} → TapeGoesOn a b xs → TapeGoesOn b c ys → TapeGoesOn a c (xs ++ ys)
+pub goes_then : {a b c : State} {xs ys : List Event} → TapeGoesOn a b xs → TapeGoesOn b c ys → TapeGoesOn a c (xs ++ ys)
 goes_then {c = c} {xs = xs} {ys = ys} g h us t = subst (IsTapeOf c) (append_assoc us xs ys) (h (us ++ xs) (g us t))
 
 pub goes_none : {a b : State} → b ≡ a → TapeGoesOn a b []
 goes_none {a = a} e us t = rw e (subst (IsTapeOf a) (sym (append-nil us)) t)
 
--- ---- the tellings of a value tell it
+-- ---- the events of a value tell it
 
-raw_tells : (s : List ℕ) → TellsRaw s (raw_more s ∷ [])
+raw_tells : (s : List ℕ) → HasRawEvents s (raw_more s ∷ [])
 raw_tells s = more_bytes s no_bytes
 
 mutual
-  pub tells : (v : Tree) → Tells v (tellings v)
+  pub tells : (v : Tree) → HasEvents v (events v)
   tells (Value.bool b) = tell_bool
   tells (Value.int (pos n)) = tell_not_negative
   tells (Value.int (negsuc n)) = tell_negative
@@ -88,30 +88,30 @@ mutual
   tells (Value.pairs ps) = tell_pairs (pairs_tell ps)
   tells (Value.fields fs) = tell_fields (fields_tell fs)
 
-  each_tells : (vs : Trees) → TellsEach vs (each_told vs)
+  each_tells : (vs : Trees) → HaveEvents vs (each_told vs)
   each_tells no_tree = tell_none
   each_tells (tree v vs) = tell_each (tells v) (each_tells vs)
 
-  pairs_tell : (ps : Pairs) → TellsPairs ps (pairs_told ps)
+  pairs_tell : (ps : Pairs) → PairsHaveEvents ps (pairs_told ps)
   pairs_tell no_pair = tell_no_pair
   pairs_tell (pair k e ps) = tell_pair (tells k) (tells e) (pairs_tell ps)
 
-  fields_tell : (fs : Fields) → TellsFields fs (fields_told fs)
+  fields_tell : (fs : Fields) → FieldsHaveEvents fs (fields_told fs)
   fields_tell no_field = tell_no_field
   fields_tell (field f v fs) = tell_field (tells v) (fields_tell fs)
 
-number_tellings : {k : Basic} {a b : ℕ} → AreNumbers k a b → tellings (number_tree k a b) ≡ number k a b ∷ []
-number_tellings (formed.of_bool {a = a} l) = ap (λ n. number basic.Bool n 0 ∷ []) (truth_number a l)
-number_tellings (formed.of_int {a = a}) = ap (λ n. number basic.Int n 0 ∷ []) (unsigned_signed a)
-number_tellings formed.of_uint = refl
-number_tellings formed.of_float = refl
-number_tellings formed.of_complex = refl
-number_tellings formed.of_nil = refl
+number_events : {k : Basic} {a b : ℕ} → AreNumbers k a b → events (number_tree k a b) ≡ number k a b ∷ []
+number_events (formed.of_bool {a = a} l) = ap (λ n. number basic.Bool n 0 ∷ []) (truth_number a l)
+number_events (formed.of_int {a = a}) = ap (λ n. number basic.Int n 0 ∷ []) (unsigned_signed a)
+number_events formed.of_uint = refl
+number_events formed.of_float = refl
+number_events formed.of_complex = refl
+number_events formed.of_nil = refl
 
-raw_tellings : (k : RawKind) (s : List ℕ) → tellings (raw_tree k s) ≡ raw_start k ∷ (raw_more s ∷ (leave ∷ []))
-raw_tellings raw.Bytes s = refl
-raw_tellings raw.Str s = refl
-raw_tellings raw.Opaque s = refl
+raw_events : (k : RawKind) (s : List ℕ) → events (raw_tree k s) ≡ raw_start k ∷ (raw_more s ∷ (leave ∷ []))
+raw_events raw.Bytes s = refl
+raw_events raw.Str s = refl
+raw_events raw.Opaque s = refl
 
 -- ---- what is dropped is seen at its node
 
@@ -363,7 +363,7 @@ mutual
 -- ---- what is due
 
 module _ {T : Table} {nodes : List Node} {pool : List ℕ} where
-  pub due_rises : {i j : ℕ} {ts : Types} {us : List Telling} → Due T nodes pool i j ts us → i ≤ j
+  pub due_rises : {i j : ℕ} {ts : Types} {us : List Event} → Due T nodes pool i j ts us → i ≤ j
   due_rises none_due = omega arith
   due_rises (element m p d) = omega (arith, at_rises m, due_rises d)
   due_rises (key_or_element m p d) = omega (arith, at_rises m, due_rises d)
@@ -390,58 +390,58 @@ module _ {T : Table} {nodes : List Node} {pool : List ℕ} where
 -- ---- the next part
 
 -- the next part is dropped, or stays with its tidy form
-data Next (T : Table) (t : TypeId) (nodes : List Node) (pool : List ℕ) : ℕ → List Open → List Telling → Type 0 where
-  next_dropped : {i j f : ℕ} {e : TypeId} {s : Shape} {v : Tree} {os : List Open} {us : List Telling}
+data Next (T : Table) (t : TypeId) (nodes : List Node) (pool : List ℕ) : ℕ → List Open → List Event → Type 0 where
+  next_dropped : {i j f : ℕ} {e : TypeId} {s : Shape} {v : Tree} {os : List Open} {us : List Event}
       → IsNextType T t (innermost os) (Some f) e → shape_of T e ≡ Some s → IsDropped s.kind v
       → MeansAt nodes pool i j (Some f) v → Left T t nodes pool j (advanced os) us → Next T t nodes pool i os us
-  next_kept : {i j : ℕ} {f : Option ℕ} {e : TypeId} {s : Shape} {v w : Tree} {os : List Open} {us : List Telling}
+  next_kept : {i j : ℕ} {f : Option ℕ} {e : TypeId} {s : Shape} {v w : Tree} {os : List Open} {us : List Event}
       → IsNextType T t (innermost os) f e → shape_of T e ≡ Some s
       → ((n : ℕ) → f ≡ Some n → ¬ IsDropped s.kind v) → TidiesAs T s.kind v w → MeansAt nodes pool i j f v
       → Left T t nodes pool j (advanced os) us
-      → Next T t nodes pool i os (name_told f ++ (tellings w ++ us))
+      → Next T t nodes pool i os (name_told f ++ (events w ++ us))
 
--- what is left behind some tellings
+-- what is left behind some events
 record Split (T : Table) (t : TypeId) (nodes : List Node) (pool : List ℕ) (i : ℕ) (os : List Open)
-    (told due : List Telling) : Type 0 where
-  left : List Telling
+    (told due : List Event) : Type 0 where
+  left : List Event
   splits : due ≡ told ++ left
   more : Left T t nodes pool i os left
 
 record EndSplit (T : Table) (t : TypeId) (nodes : List Node) (pool : List ℕ) (i : ℕ) (os : List Open)
-    (told due : List Telling) : Type 0 where
-  left : List Telling
+    (told due : List Event) : Type 0 where
+  left : List Event
   splits : due ≡ told ++ left
   inside : IsInsideOpen i os
   more : Left T t nodes pool i os left
 
 module _ {T : Table} {t : TypeId} {nodes : List Node} {pool : List ℕ} where
-  left_within : {i : ℕ} {os : List Open} {us : List Telling} → Left T t nodes pool i os us → i ≤ length nodes
+  left_within : {i : ℕ} {os : List Open} {us : List Event} → Left T t nodes pool i os us → i ≤ length nodes
   left_within (at_end e) = omega arith
   left_within (at_start m p) = omega (arith, at_rises m)
   left_within (in_part d q) = omega (arith, due_rises d, left_within q)
 
-  next : {i : ℕ} {os : List Open} {us : List Telling} → Left T t nodes pool i os us → i < length nodes
+  next : {i : ℕ} {os : List Open} {us : List Event} → Left T t nodes pool i os us → i < length nodes
       → IsInsideOpen i os → Next T t nodes pool i os us
   next (at_end e) l h = absurd (omega arith)
-  next {i = i} (at_start {w = w} m (of_type e p)) l h = subst (Next T t nodes pool i []) (append-nil (tellings w))
+  next {i = i} (at_start {w = w} m (of_type e p)) l h = subst (Next T t nodes pool i []) (append-nil (events w))
       (next_kept the_whole e (λ n f. absurd (cc)) p m (at_end refl))
   next (in_part none_due q) l h = absurd (omega arith)
   next {i = i} {os = os} (in_part {ws = ws} (element {w = w} {us = us} m (of_type e p) d) q) l h =
-      subst (Next T t nodes pool i os) (sym (append_assoc (tellings w) us (leave ∷ ws))) (next_kept an_element e
+      subst (Next T t nodes pool i os) (sym (append_assoc (events w) us (leave ∷ ws))) (next_kept an_element e
       (λ n f. absurd (cc)) p m (in_part d q))
   next {i = i} {os = os} (in_part {ws = ws} (key_or_element {w = w} {us = us} m (of_type e p) d) q) l h =
-      subst (Next T t nodes pool i os) (sym (append_assoc (tellings w) us (leave ∷ ws))) (next_kept a_key_or_element e
+      subst (Next T t nodes pool i os) (sym (append_assoc (events w) us (leave ∷ ws))) (next_kept a_key_or_element e
       (λ n f. absurd (cc)) p m (in_part d q))
   next (in_part (dropped m h e z d) q) l i = next_dropped (a_field h) e z m (in_part d q)
   next {i = i} {os = os} (in_part {ws = ws} (kept {f = f} {w = w} {us = us} m g e z p d) q) l h =
-      subst (λ x. Next T t nodes pool i os (Rattle.gob_read.specs.Telling.field f ∷ x)) (sym (append_assoc
-      (tellings w) us (leave ∷ ws))) (next_kept (a_field g) e (λ n f. z) p m (in_part d q))
+      subst (λ x. Next T t nodes pool i os (Rattle.gob_read.specs.Event.field f ∷ x)) (sym (append_assoc
+      (events w) us (leave ∷ ws))) (next_kept (a_field g) e (λ n f. z) p m (in_part d q))
 
   -- ---- what is left behind a part's beginning
 
-  list_goes : (i : ℕ) {j end : ℕ} (e : TypeId) {k : Kind} {vs : Trees} {w : Tree} {os : List Open} {r : List Telling}
+  list_goes : (i : ℕ) {j end : ℕ} (e : TypeId) {k : Kind} {vs : Trees} {w : Tree} {os : List Open} {r : List Event}
       → TidiesAs T k (Value.many vs) w → MeansEach nodes pool (i + 1) j vs → j ≡ end → Left T t nodes pool j os r
-      → Split T t nodes pool (i + 1) (entered_as end (types_in k e) os) (enter group.Many ∷ []) (tellings w ++ r)
+      → Split T t nodes pool (i + 1) (entered_as end (types_in k e) os) (enter group.Many ∷ []) (events w ++ r)
   list_goes i e {os = os} {r = r} (of_slice {e = x} {ws = ws} p) m h q = record {
     left = each_told ws ++ leave ∷ r;
     splits = ap (λ l. enter group.Many ∷ l) (append_assoc (each_told ws) (leave ∷ []) r);
@@ -457,9 +457,9 @@ module _ {T : Table} {t : TypeId} {nodes : List Node} {pool : List ℕ} where
   list_goes i e (of_basic n) m h q = absurd (n tt)
   list_goes i e (of_opaque n) m h q = absurd (n tt)
 
-  map_goes : (i : ℕ) {j end : ℕ} (e : TypeId) {k : Kind} {vs : Pairs} {w : Tree} {os : List Open} {r : List Telling}
+  map_goes : (i : ℕ) {j end : ℕ} (e : TypeId) {k : Kind} {vs : Pairs} {w : Tree} {os : List Open} {r : List Event}
       → TidiesAs T k (Value.pairs vs) w → MeansPairs nodes pool (i + 1) j vs → j ≡ end → Left T t nodes pool j os r
-      → Split T t nodes pool (i + 1) (entered_as end (types_in k e) os) (enter group.Pairs ∷ []) (tellings w ++ r)
+      → Split T t nodes pool (i + 1) (entered_as end (types_in k e) os) (enter group.Pairs ∷ []) (events w ++ r)
   map_goes i e {os = os} {r = r} (of_map {k = x} {e = y} {qs = ws} p) m h q = record {
     left = pairs_told ws ++ leave ∷ r;
     splits = ap (λ l. enter group.Pairs ∷ l) (append_assoc (pairs_told ws) (leave ∷ []) r);
@@ -470,10 +470,10 @@ module _ {T : Table} {t : TypeId} {nodes : List Node} {pool : List ℕ} where
   map_goes i e (of_opaque n) m h q = absurd (n tt)
 
   struct_goes : (i : ℕ) {j end : ℕ}
-      (e : TypeId) {k : Kind} {s : Shape} {vs : Fields} {w : Tree} {os : List Open} {r : List Telling}
+      (e : TypeId) {k : Kind} {s : Shape} {vs : Fields} {w : Tree} {os : List Open} {r : List Event}
       → shape_of T e ≡ Some s → s.kind ≡ k
       → TidiesAs T k (Value.fields vs) w → MeansFields nodes pool (i + 1) j vs → j ≡ end → Left T t nodes pool j os r
-      → Split T t nodes pool (i + 1) (entered_as end (types_in k e) os) (enter group.Fields ∷ []) (tellings w ++ r)
+      → Split T t nodes pool (i + 1) (entered_as end (types_in k e) os) (enter group.Fields ∷ []) (events w ++ r)
   struct_goes i e {os = os} {r = r} f g (of_struct {gs = ws} p) m h q = record {
     left = fields_told ws ++ leave ∷ r;
     splits = ap (λ l. enter group.Fields ∷ l) (append_assoc (fields_told ws) (leave ∷ []) r);
@@ -483,16 +483,16 @@ module _ {T : Table} {t : TypeId} {nodes : List Node} {pool : List ℕ} where
   struct_goes i e f g (of_basic n) m h q = absurd (n tt)
   struct_goes i e f g (of_opaque n) m h q = absurd (n tt)
 
-  part_goes : (i : ℕ) {j : ℕ} (e : TypeId) (of : Shape) {v w : Tree} {os : List Open} {r : List Telling}
+  part_goes : (i : ℕ) {j : ℕ} (e : TypeId) (of : Shape) {v w : Tree} {os : List Open} {r : List Event}
       (c : Content) → Says nodes pool c i j v → shape_of T e ≡ Some of → TidiesAs T of.kind v w
       → Left T t nodes pool j os r
-      → Split T t nodes pool (i + 1) (entered_open i c of.kind e os) (content_told pool c) (tellings w ++ r)
+      → Split T t nodes pool (i + 1) (entered_open i c of.kind e os) (content_told pool c) (events w ++ r)
   part_goes i e of {w = w} {os = os} {r = r} (content.Number k a b) s h p q =
       let same = leaf_stays (subst (λ v. TidiesAs T of.kind v w) s.value p) (number_leaf k a b) in
       record {
         left = r;
-        splits = ap (λ l. l ++ r) (ap tellings same
-            ∙ number_tellings s.numbers);
+        splits = ap (λ l. l ++ r) (ap events same
+            ∙ number_events s.numbers);
         more = subst (λ j. Left T t nodes pool j os r) s.end q;
       }
   part_goes i e of {w = w} {os = os} {r = r} (content.Raw k start count) s h p q =
@@ -500,8 +500,8 @@ module _ {T : Table} {t : TypeId} {nodes : List Node} {pool : List ℕ} where
       let same = leaf_stays (subst (λ v. TidiesAs T of.kind v w) s.value p) (raw_leaf k bytes) in
       record {
         left = r;
-        splits = ap (λ l. l ++ r) (ap tellings same
-            ∙ raw_tellings k bytes);
+        splits = ap (λ l. l ++ r) (ap events same
+            ∙ raw_events k bytes);
         more = subst (λ j. Left T t nodes pool j os r) s.end q;
       }
   part_goes i e of {w = w} (content.Group group.Many count extent) s h p q = list_goes i e (subst
@@ -513,7 +513,7 @@ module _ {T : Table} {t : TypeId} {nodes : List Node} {pool : List ℕ} where
 
   -- ---- the ends of parts
 
-  one_end : {i : ℕ} {o : Open} {os : List Open} {r : List Telling} → o.end ≡ i → Left T t nodes pool i (o ∷ os) r
+  one_end : {i : ℕ} {o : Open} {os : List Open} {r : List Event} → o.end ≡ i → Left T t nodes pool i (o ∷ os) r
       → Split T t nodes pool i os (leave ∷ []) r
   one_end {i = i} {os = os} e (in_part {ws = ws} none_due q) = record { left = ws; splits = refl; more = q }
   one_end e (in_part (element m p d) q) = absurd (omega (arith, at_rises m, due_rises d))
@@ -521,12 +521,12 @@ module _ {T : Table} {t : TypeId} {nodes : List Node} {pool : List ℕ} where
   one_end e (in_part (dropped m h f z d) q) = absurd (omega (arith, at_rises m, due_rises d))
   one_end e (in_part (kept m h f z p d) q) = absurd (omega (arith, at_rises m, due_rises d))
 
-  inside_of : {i : ℕ} {r : List Telling} (os : List Open) → ((o : Open) (rest : List Open) → os ≡ o ∷ rest
+  inside_of : {i : ℕ} {r : List Event} (os : List Open) → ((o : Open) (rest : List Open) → os ≡ o ∷ rest
       → o.end ≢ i) → Left T t nodes pool i os r → IsInsideOpen i os
   inside_of [] n q = tt
   inside_of (o ∷ os) n (in_part d q) = let apart = n o os refl in omega (arith, due_rises d)
 
-  all_end : {i : ℕ} {os after : List Open} {r x : List Telling} → TidyEnds i os x after → Left T t nodes pool i os r
+  all_end : {i : ℕ} {os after : List Open} {r x : List Event} → TidyEnds i os x after → Left T t nodes pool i os r
       → EndSplit T t nodes pool i after x r
   all_end {os = os} {r = r} (none_ends n) q = record { left = r; splits = refl; inside = inside_of os n q; more = q }
   all_end {i = i} (one_ends {us = us} e d) q =
@@ -536,10 +536,10 @@ module _ {T : Table} {t : TypeId} {nodes : List Node} {pool : List ℕ} where
 
   -- ---- a node
 
-  pub node_tells : {i : ℕ} {os mid after : List Open} {old told new : State} {due : List Telling} (x : Node)
+  pub node_tells : {i : ℕ} {os mid after : List Open} {old told new : State} {due : List Event} (x : Node)
       → length nodes < 2 ^ 64 → slice_get nodes i ≡ Some x → IsInsideOpen i os
       → ((e : TypeId) (s : Shape) → IsNextType T t (innermost os) x.field e → shape_of T e ≡ Some s
-      → HasSmallNumber x × TellsPart i x s.kind e pool (advanced os) mid old told)
+      → HasSmallNumber x × PartHasEvents i x s.kind e pool (advanced os) mid old told)
       → TidyEnded (i + 1) mid after told new
       → Left T t nodes pool i os due → TidyGoes T t nodes pool i after old new due
   node_tells {i = i} {os = os} {mid = mid} {after = after} {old = old} {told = told} {new = new} x n h inside g z q =
@@ -548,9 +548,9 @@ module _ {T : Table} {t : TypeId} {nodes : List Node} {pool : List ℕ} where
       is_small : {y : Node} → slice_get nodes i ≡ Some y → HasSmallNumber x → HasSmallNumber y
       is_small {y = y} there = subst HasSmallNumber (same_Some x y (sym h ∙ there))
 
-      by : {os : List Open} {due : List Telling} → IsInsideOpen i os → ((e : TypeId) (s : Shape)
+      by : {os : List Open} {due : List Event} → IsInsideOpen i os → ((e : TypeId) (s : Shape)
           → IsNextType T t (innermost os) x.field e → shape_of T e ≡ Some s
-          → HasSmallNumber x × TellsPart i x s.kind e pool (advanced os) mid old told)
+          → HasSmallNumber x × PartHasEvents i x s.kind e pool (advanced os) mid old told)
           → Next T t nodes pool i os due → TidyGoes T t nodes pool i after old new due
       by {os = os} {due = due} inside g (next_dropped {j = j} {f = f} {e = e} {s = s} {v = v} a b d m r) =
           let w = node_says x.content h m in
@@ -582,7 +582,7 @@ module _ {T : Table} {t : TypeId} {nodes : List Node} {pool : List ℕ} where
             told = front ++ z.told;
             left = k.left;
             splits =
-                ap (λ f. name_told f ++ (tellings u ++ us)) (sym w.0) ∙ ap (λ l. name_told x.field ++ l) (y.splits
+                ap (λ f. name_told f ++ (events u ++ us)) (sym w.0) ∙ ap (λ l. name_told x.field ++ l) (y.splits
                 ∙ ap (λ l. content_told pool x.content ++ l) k.splits)
                 ∙ sym (append_assoc (name_told x.field) (content_told pool x.content) (z.told ++ k.left))
                 ∙ sym (append_assoc front z.told k.left);
@@ -594,7 +594,7 @@ module _ {T : Table} {t : TypeId} {nodes : List Node} {pool : List ℕ} where
 
   -- ---- the whole tape
 
-  left_none : {i : ℕ} {os : List Open} {us : List Telling} → Left T t nodes pool i os us → i ≡ length nodes
+  left_none : {i : ℕ} {os : List Open} {us : List Event} → Left T t nodes pool i os us → i ≡ length nodes
       → IsInsideOpen i os → us ≡ []
   left_none (at_end e) l h = refl
   left_none (at_start m p) l h = absurd (omega (arith, at_rises m))
@@ -603,7 +603,7 @@ module _ {T : Table} {t : TypeId} {nodes : List Node} {pool : List ℕ} where
   pub nothing_told : {os : List Open} {now : State} → os ≡ [] → IsTapeOf now [] → TidyReaches T t nodes pool 0 os now
   nothing_told e s v w m p = rw e (record {
     told = [];
-    left = tellings w;
+    left = events w;
     splits = refl;
     stands = s;
     inside = tt;
@@ -612,11 +612,11 @@ module _ {T : Table} {t : TypeId} {nodes : List Node} {pool : List ℕ} where
   })
 
   pub node_reached : {i : ℕ} {os after : List Open} {old new : State} → TidyReaches T t nodes pool i os old
-      → ((due : List Telling) → IsInsideOpen i os → Left T t nodes pool i os due
+      → ((due : List Event) → IsInsideOpen i os → Left T t nodes pool i os due
       → TidyGoes T t nodes pool i after old new due) → TidyReaches T t nodes pool (i + 1) after new
   node_reached {i = i} {os = os} {after = after} {old = old} {new = new} r g v w m p = on (r v w m p)
     where
-      on : {due : List Telling} → TidyUpTo T t nodes pool i os old due → TidyUpTo T t nodes pool (i + 1) after new due
+      on : {due : List Event} → TidyUpTo T t nodes pool i os old due → TidyUpTo T t nodes pool (i + 1) after new due
       on u =
           let d = g u.left u.inside u.more in
           record {
@@ -634,7 +634,7 @@ module _ {T : Table} {t : TypeId} {nodes : List Node} {pool : List ℕ} where
           }
 
   pub all_told_of : {i : ℕ} {os : List Open} {now : State} → length nodes ≤ i → TidyReaches T t nodes pool i os now
-      → (v w : Tree) → MeansAt nodes pool 0 (length nodes) None v → Tidies T t v w → IsAllTold v w now
+      → (v w : Tree) → MeansAt nodes pool 0 (length nodes) None v → Tidies T t v w → TakesEvents v w now
   all_told_of {now = now} l r v w m p =
       let u = r v w m p in
       let within = left_within u.more in
@@ -644,8 +644,8 @@ module _ {T : Table} {t : TypeId} {nodes : List Node} {pool : List ℕ} where
         small = at_small (λ k x h. u.small k x (let there = slice_get_within nodes k x h in omega arith) h) m;
       }
 
--- a tape of all tellings of a value means it
-pub tape_whole : {s : State} (v : Tree) → IsTapeOf s (tellings v) → IsWhole s v
+-- a tape of all events of a value means it
+pub tape_whole : {s : State} (v : Tree) → IsTapeOf s (events v) → IsWhole s v
 tape_whole v t = whole_told t.taped (tells v)
 
 -- ---- the stack

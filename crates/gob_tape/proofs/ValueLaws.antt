@@ -10,9 +10,9 @@ use Rattle.gob_value.specs.Tree.{Tree, Trees, no_tree, tree, Pairs, no_pair, pai
 use Rattle.gob_value.specs.Tree as Value
 use Rattle.gob_value.specs.View.{view, views, pair_views, field_views}
 use Rattle.gob_value.proofs.PublicLaws.{view-Many, view-Pairs, view-Fields}
-use Rattle.gob_read.specs.declared.telling.RawKind.{RawKind}
-use Rattle.gob_read.specs.declared.telling.GroupKind.TheVariants as group
-use Rattle.gob_read.specs.Built.{number_tree, raw_tree}
+use Rattle.gob_read.specs.declared.event.RawKind.{RawKind}
+use Rattle.gob_read.specs.declared.event.GroupKind.TheVariants as group
+use Rattle.gob_read.specs.Leaf.{number_tree, raw_tree}
 use Rattle.gob_tape.specs.declared.node.Content.{Content}
 use Rattle.gob_tape.specs.declared.node.Content.TheVariants as content
 use Rattle.gob_tape.specs.declared.node.Node.{Node}

@@ -13,10 +13,10 @@ use Rattle.gob_value.specs.Tree as Value
 use Rattle.gob_value.specs.Written.{WrittenBytes, counted, Written, of_bool, of_int, of_uint, of_float, of_complex, of_nil, of_bytes, of_text, of_opaque, of_many, of_pairs, of_fields, WrittenEach, no_element, element, WrittenPairs, WrittenFields, next_number}
 use Rattle.gob_value.specs.Written as written
 use Rattle.gob_value.proofs.PublicLaws.{keeps_then, written_once}
-use Rattle.gob_read.specs.declared.telling.RawKind.{RawKind}
-use Rattle.gob_read.specs.declared.telling.RawKind.TheVariants as kind
-use Rattle.gob_read.specs.declared.telling.GroupKind.TheVariants as group
-use Rattle.gob_read.specs.Built.{signed_of, number_tree, raw_tree}
+use Rattle.gob_read.specs.declared.event.RawKind.{RawKind}
+use Rattle.gob_read.specs.declared.event.RawKind.TheVariants as kind
+use Rattle.gob_read.specs.declared.event.GroupKind.TheVariants as group
+use Rattle.gob_read.specs.Leaf.{signed_of, number_tree, raw_tree}
 use Rattle.gob_read.specs.WellFormed.{AreNumbers}
 use Rattle.gob_read.specs.WellFormed as formed
 use Rattle.gob_tape.specs.declared.node.Content.{Content}

@@ -1,14 +1,14 @@
--- The builder of tapes: which tellings it stands for, and what it makes of them.
+-- The builder of tapes: which events it stands for, and what it makes of them.
 -- (docs/FORMAT.md, Tapes.)
 use Rattle.gob_read.specs.Building.{Building}
 use Rattle.gob_tape.specs.Meaning.{Means}
-use Rattle.gob_tape.specs.Machine.Standing.{AreTaped}
+use Rattle.gob_tape.specs.Machine.Received.{AreTaped}
 use Rattle.gob_tape.specs.Machine.View.{state_of}
 use Rattle.gob_tape.specs.declared.tape.Tape.{Tape}
 use Rattle.gob_tape.specs.declared.tape_builder.TapeBuilder.{TapeBuilder}
 
 abbrev pub tape_building : Building TapeBuilder Tape 65536
 tape_building = record {
-  stands = λ builder us. AreTaped (state_of builder) builder.held us;
+  received = λ builder us. AreTaped (state_of builder) builder.held us;
   means = λ tape v. Means tape v;
 }

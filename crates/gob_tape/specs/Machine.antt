@@ -2,7 +2,7 @@
 pub mod Coming
 pub mod Opened
 pub mod State
-pub mod Standing
+pub mod Received
 pub mod View
 pub mod Writing
 pub mod Values

@@ -1,7 +1,8 @@
 //! The kinds of values.
 
 ghost use Rattle.std.specs.Prelude.{◌≡◌, []};
-ghost use Rattle.gob_read.specs.Built.{number_tree, raw_tree, opened_part, closed};
+ghost use Rattle.gob_read.specs.Machine.Built.{opened_part, closed};
+ghost use Rattle.gob_read.specs.Leaf.{number_tree, raw_tree};
 ghost use Rattle.gob_tape.specs.Seeing.{kind_of};
 
 use gob_read::{GroupKind, RawKind};

@@ -1,8 +1,8 @@
 //! Building the tape of a value.
 
 ghost use Rattle.std.specs.Prelude.{◌≡◌, ℕ, ◌+◌, ◌<◌, ◌^◌, List, [], ◌∷◌, ◌++◌, OnOk, Some, length, reverse, slice_get};
-ghost use Rattle.gob_read.specs.Telling.{Telling, raw_start, raw_more, leave};
-ghost use Rattle.gob_tape.specs.Machine.Standing.{AreTaped, TapeGoesOn};
+ghost use Rattle.gob_read.specs.Event.{Event, raw_start, raw_more, leave};
+ghost use Rattle.gob_tape.specs.Machine.Received.{AreTaped, TapeGoesOn};
 ghost use Rattle.gob_tape.specs.Machine.Tidying.{name_told, content_told, IsPooled};
 ghost use Rattle.gob_tape.specs.Machine.State.{pushed_node, opened_node, added_node, with_begun, counted, ended_in};
 ghost use Rattle.gob_tape.specs.declared.node.Node.{Node};
@@ -93,7 +93,7 @@ impl TapeBuilder {
 
     /// The innermost open part ends.
     pub(crate) fn close(&mut self)
-        ensures told { (us : List Telling) (held : ℕ) → AreTaped (state_of self.old) held us
+        ensures told { (us : List Event) (held : ℕ) → AreTaped (state_of self.old) held us
             → AreTaped (state_of self.new) held (us ++ leave ∷ []) }
         ensures held { self.new.held ≡ self.old.held }
     {

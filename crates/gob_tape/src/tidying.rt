@@ -12,12 +12,12 @@ ghost use Rattle.gob_types.specs.Table.{shape_of};
 ghost use Rattle.gob_value.specs.Tree.{Tree, depth};
 ghost use Rattle.gob_value.specs.Within.{FitsWithin};
 ghost use Rattle.gob_value.specs.Tidy.{Tidies};
-ghost use Rattle.gob_read.specs.Telling.{Telling};
+ghost use Rattle.gob_read.specs.Event.{Event};
 ghost use Rattle.gob_tape.specs.declared.node.Node.{Node};
 ghost use Rattle.gob_tape.specs.Meaning.{MeansAt, Means, MeansFitting};
-ghost use Rattle.gob_tape.specs.Machine.Tidying.{IsAllTold, HasSmallNumber, IsZeroContent, IsDroppedContent};
+ghost use Rattle.gob_tape.specs.Machine.Tidying.{TakesEvents, HasSmallNumber, IsZeroContent, IsDroppedContent};
 ghost use Rattle.gob_tape.specs.Machine.Tidying.{HasFieldType, IsNextType, advanced, HasOpenEnd, entered_open, Entered};
-ghost use Rattle.gob_tape.specs.Machine.Tidying.{innermost, TellsPart};
+ghost use Rattle.gob_tape.specs.Machine.Tidying.{innermost, PartHasEvents};
 ghost use Rattle.gob_tape.specs.Machine.Tidying.{Left, IsInsideOpen, TidyGoes, TidyEnded};
 ghost use Rattle.gob_tape.specs.Machine.Tidying as tidying;
 ghost use Rattle.gob_tape.specs.Machine.View.{state_of};
@@ -180,7 +180,7 @@ fn tell_part(
     stack: &mut Vec<Open>,
     builder: &mut TapeBuilder,
 ) -> Result<(), Memory>
-    ensures { OnOk result (TellsPart place node kind.now id pool.now
+    ensures { OnOk result (PartHasEvents place node kind.now id pool.now
         (reverse stack.old.items) (reverse stack.new.items) (state_of builder.old) (state_of builder.new)) }
 {
     if node.field().is_some() && is_dropped(kind, node.content()) {
@@ -204,7 +204,7 @@ fn tell_node<S: Shapes>(
     ensures { OnOk result ((e : TypeId) (s : Shape)
         → IsNextType (S.table shapes.now) id (innermost (reverse stack.old.items)) node.field e
         → shape_of (S.table shapes.now) e ≡ Some s
-        → HasSmallNumber node × TellsPart place node s.kind e pool.now (advanced (reverse stack.old.items))
+        → HasSmallNumber node × PartHasEvents place node s.kind e pool.now (advanced (reverse stack.old.items))
         (reverse stack.new.items) (state_of builder.old) (state_of builder.new)) }
 {
     let Some(id) = next_type(shapes, id, stack.last().copied(), node.field()) else {
@@ -228,7 +228,7 @@ fn tidy_node<S: Shapes>(
     builder: &mut TapeBuilder,
 ) -> Result<(), Memory>
     requires { place + 1 < 2 ^ 64 }
-    ensures { OnOk result ((nodes : List Node) (due : List Telling) → length nodes < 2 ^ 64
+    ensures { OnOk result ((nodes : List Node) (due : List Event) → length nodes < 2 ^ 64
         → slice_get nodes place ≡ Some node → IsInsideOpen place (reverse stack.old.items)
         → Left (S.table shapes.now) id nodes pool.now place (reverse stack.old.items) due
         → TidyGoes (S.table shapes.now) id nodes pool.now place (reverse stack.new.items)
@@ -248,7 +248,7 @@ fn tidy_nodes<S: Shapes>(
     pool: &[u8],
 ) -> Result<TapeBuilder, Memory>
     ensures { IfOk result (λ builder. (v w : Tree) → MeansAt nodes.now pool.now 0 (length nodes.now) None v
-        → Tidies (S.table shapes.now) id v w → IsAllTold v w (state_of builder)) }
+        → Tidies (S.table shapes.now) id v w → TakesEvents v w (state_of builder)) }
 {
     let mut builder = TapeBuilder::fresh(alloc)?;
     let mut stack = Vec::new(alloc);

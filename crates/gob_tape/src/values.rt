@@ -6,7 +6,7 @@
 ghost use Rattle.std.specs.Prelude.{◌≡◌, ℕ, List, ◌∷◌, Option, IfOk, length};
 ghost use Rattle.gob_value.specs.Tree.{Tree};
 ghost use Rattle.gob_value.specs.View.{view};
-ghost use Rattle.gob_read.specs.Built.{number_tree, raw_tree};
+ghost use Rattle.gob_read.specs.Leaf.{number_tree, raw_tree};
 ghost use Rattle.gob_tape.specs.Seeing.{AreParts};
 ghost use Rattle.gob_tape.specs.declared.node.Content.TheVariants.{Group};
 ghost use Rattle.gob_tape.specs.Machine.Values.{parts_on, TakesPart, TakesElements, TakesPairs, TakesFields};

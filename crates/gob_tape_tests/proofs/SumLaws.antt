@@ -11,7 +11,7 @@ use Rattle.gob_tape.specs.declared.kind.ValueKind.{ValueKind}
 use Rattle.gob_tape.specs.declared.kind.ValueKind.TheVariants as kind
 use Rattle.gob_tape.specs.declared.view.View.{View}
 use Rattle.gob_tape.specs.declared.view.Children.{Children}
-use Rattle.gob_read.specs.Built.{signed_of}
+use Rattle.gob_read.specs.Leaf.{signed_of}
 use Rattle.gob_tape.specs.Seeing.{kind_of, numbers_of, unsigned_of, Sees, Gives, GivesNext, gives_one, elements}
 use Rattle.gob_tape_tests.specs.Sums.{sum_of}
 

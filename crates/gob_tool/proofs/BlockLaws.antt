@@ -6,8 +6,8 @@ use Rattle.std.proofs.KnownBytes.{Appends-trans}
 use Rattle.gob_stream.specs.Devices.{counts_up}
 use Rattle.gob_tool.specs.declared.fault.ToolFault.{ToolFault}
 use Rattle.gob_tool.specs.declared.blocks.Unwritten.{Unwritten}
-use Rattle.gob_tool.specs.Blocks.{told}
-use Rattle.gob_tool.specs.Gathering.{CountsWrites, Passes, PassesSome, Writes}
+use Rattle.gob_tool.specs.Machine.Blocks.{told}
+use Rattle.gob_tool.specs.Machine.Gathering.{CountsWrites, Passes, PassesSome, Writes}
 use Rattle.gob_tool.specs.Showing.{AppendsFront}
 
 -- what waited did not go out

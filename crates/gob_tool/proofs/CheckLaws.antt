@@ -14,23 +14,23 @@ use Rattle.gob_read.specs.declared.skip_builder.SkipBuilder.{SkipBuilder}
 use Rattle.gob_stream.specs.declared.fault.Fault.{Fault}
 use Rattle.gob_stream.specs.declared.fault.Fault.TheVariants as reading
 use Rattle.gob_stream.specs.declared.item.Item as declared
-use Rattle.gob_stream.specs.SessionState.{SessionState}
+use Rattle.gob_stream.specs.Machine.SessionState.{SessionState}
 use Rattle.gob_stream.specs.Body.{Body, definition, value}
 use Rattle.gob_stream.specs.Bounds.{Bounds, AreLimits, deepest, no_deeper}
 use Rattle.gob_stream.specs.Item.{StreamItem, puts}
 use Rattle.gob_stream.specs.Outcome.{Outcome, refused}
-use Rattle.gob_stream.specs.ReadParts.{AdvancesOver, over_some, over_item}
+use Rattle.gob_stream.specs.Machine.ReadParts.{AdvancesOver, over_some, over_item}
 use Rattle.gob_stream.specs.Reading.{Taken, ReadingFinishes}
 use Rattle.gob_stream.specs.Session.{ReadsValue, StepAnswers}
-use Rattle.gob_stream.specs.Stream.{Stream, Continues, no_more, and_then, counted}
+use Rattle.gob_stream.specs.Stream.{Stream, AreItems, no_more, and_then, counted}
 use Rattle.gob_stream.proofs.PublicLaws.{after_gives, stands_within}
 use Rattle.gob_tool.specs.declared.check.Tally.{Tally}
 use Rattle.gob_tool.specs.declared.fault.ToolFault.{ToolFault}
 use Rattle.gob_tool.specs.declared.fault.ToolFault.TheVariants as fault
-use Rattle.gob_tool.specs.Checking.{definitions_in, counts_line, IsCountedStream, IsNoStream, Checks, is_cut}
+use Rattle.gob_tool.specs.Checking.{definitions_in, counts_line, IsCountedStream, IsNoStream, CheckAnswers, is_cut}
 use Rattle.gob_tool.specs.Showing.{AppendsFront}
-use Rattle.gob_tool.specs.Counting.{GaveCounts, CountsIn, EndsCounting, CountsCounting, tally_line, HasCounted}
-use Rattle.gob_tool.specs.Counting.{CountsOn, CountsUpTo, StopsCounting, CountsFront, CountsAll}
+use Rattle.gob_tool.specs.Machine.Counting.{GaveCounts, CountsIn, EndsCounting, CountsCounting, tally_line, HasCounted}
+use Rattle.gob_tool.specs.Machine.Counting.{CountsOn, CountsUpTo, StopsCounting, CountsFront, CountsAll}
 use Rattle.gob_tool.specs.Fault.{reading_fault}
 use Rattle.gob_tool.proofs.PieceRuns.{shown_more, items_within}
 use Rattle.gob_tool.proofs.ShowLaws.{known_taken, all_taken, whole_stream}
@@ -48,7 +48,7 @@ one_first (StreamItem.puts id v) items = omega arith
 
 -- a stream defines so many types
 stream_defines : {base : Table} {L : Bounds} {T U : Table} {offset : ℕ} {items : List StreamItem} {b : List ℕ}
-    → Continues base L T offset items b U → length U ≡ length T + definitions_in items
+    → AreItems base L T offset items b U → length U ≡ length T + definitions_in items
 stream_defines no_more = omega arith
 stream_defines (and_then {i = i} {items = items} (counted u l s p) e r) =
     let one = body_defines p in
@@ -181,7 +181,7 @@ counts_whole {id = id} p e bytes h = record {
 pub counts_item : {s s' : SessionState SkipBuilder (Unit {0})} {used n n' : ℕ} {bytes piece : List ℕ}
     {o : Option (declared.Item (Unit {0}))} {given : declared.Item (Unit {0})} → o ≡ Some given → n' ≡ n + 1
     → (h : HasCounted s n bytes)
-    → AdvancesOver skip_building.stands tree_building.stands skip_building.means deepest s'
+    → AdvancesOver skip_building.received tree_building.received skip_building.means deepest s'
     h.given bytes piece used o → CountsOn s' n n' bytes piece used
 counts_item f e h (over_some l w a) = cc
 counts_item f e h (over_item {i = i} l w m a) = record {
@@ -197,7 +197,7 @@ counts_item f e h (over_item {i = i} l w m a) = record {
 -- or none is
 pub counts_none : {s s' : SessionState SkipBuilder (Unit {0})} {used n : ℕ} {bytes piece : List ℕ}
     {o : Option (declared.Item (Unit {0}))} → o ≡ None → (h : HasCounted s n bytes)
-    → AdvancesOver skip_building.stands tree_building.stands skip_building.means deepest s'
+    → AdvancesOver skip_building.received tree_building.received skip_building.means deepest s'
     h.given bytes piece used o → CountsOn s' n n bytes piece used
 counts_none f h (over_some l w a) = record {
   within = w;
@@ -324,7 +324,7 @@ written_as Q text out c same q = counted_as c (λ line e. subst Q (same ∙ e) q
 
 pub checks_cut : (L : Bounds) (bytes : List ℕ) (now old new : Option (List ℕ)) (r : Result (Unit {0}) ToolFault)
     (f : ToolFault) → IsErrAnd r (λ e. e ≡ f) → f ≡ fault.Write → IsCountedStream L bytes now (AppendsFront old new)
-    → Checks L bytes now old new r
+    → CheckAnswers L bytes now old new r
 checks_cut L bytes now old new (Ok u) f e write h = absurd e
-checks_cut L bytes now old new (Err g) f e write h = subst (λ f. Checks L bytes now old new (Err f)) (sym (e ∙ write))
+checks_cut L bytes now old new (Err g) f e write h = subst (λ f. CheckAnswers L bytes now old new (Err f)) (sym (e ∙ write))
     (is_cut h)

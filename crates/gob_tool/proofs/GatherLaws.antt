@@ -9,7 +9,7 @@ use Rattle.gob_stream.specs.declared.item.Item as declared
 use Rattle.gob_stream.specs.Item.{StreamItem, item_view, item_views}
 use Rattle.gob_tool.specs.Line.{line, lines}
 use Rattle.gob_tool.specs.Showing.{AppendsFront}
-use Rattle.gob_tool.specs.Gathering.{PassesSome}
+use Rattle.gob_tool.specs.Machine.Gathering.{PassesSome}
 
 -- ---- lines of lists
 pub lines_append : (T : Table) (items others : List StreamItem) → lines T (items ++ others)

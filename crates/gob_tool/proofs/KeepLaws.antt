@@ -11,20 +11,21 @@ use Rattle.gob_types.specs.Defined.{types}
 use Rattle.gob_value.specs.declared.value.Value.{Value}
 use Rattle.gob_read.specs.declared.tree_builder.TreeBuilder.{TreeBuilder}
 use Rattle.gob_stream.specs.declared.fault.Fault.{Fault}
-use Rattle.gob_stream.specs.SessionState.{SessionState}
+use Rattle.gob_stream.specs.Machine.SessionState.{SessionState}
 use Rattle.gob_stream.specs.Bounds.{Bounds, greatest_depth, within_trees}
 use Rattle.gob_stream.specs.Item.{StreamItem}
-use Rattle.gob_stream.specs.Outcome.{GivesItems}
+use Rattle.gob_stream.specs.Outcome.{LongestStream}
 use Rattle.gob_stream.specs.Reading.{SomeTaken, ReadingFinishes}
-use Rattle.gob_stream.specs.Whole.{IsBetween, HasBegun}
+use Rattle.gob_stream.specs.Whole.{HasBegun}
+use Rattle.gob_stream.specs.Machine.Between.{IsBetween}
 use Rattle.gob_stream.proofs.PublicLaws.{after_gives, begun_gives, stands_within}
 use Rattle.gob_tool.specs.declared.fault.ToolFault.{ToolFault}
 use Rattle.gob_tool.specs.declared.fault.ToolFault.TheVariants as fault
 use Rattle.gob_tool.specs.Fault.{reading_fault}
-use Rattle.gob_tool.specs.Showing.{EndsWhole, GivesOutcome, BeginsOutcome, Runs, AppendsFront}
-use Rattle.gob_tool.specs.Gathering.{Gathered, GaveItems, StandsBehind, StandsGathered, StandsUpTo, TakesPiece}
-use Rattle.gob_tool.specs.Gathering.{StopsShowing, TakesFront}
-use Rattle.gob_tool.specs.Keeping.{Lacks, IsKeptFront, none_kept, some_kept, KeepsBehind, KeepsIn, TakesKeeping, MayTakeFront}
+use Rattle.gob_tool.specs.Showing.{EndsWhole, GivesOutcome, BeginsOutcome, RunAnswers, AppendsFront}
+use Rattle.gob_tool.specs.Machine.Gathering.{Gathered, GaveItems, StandsBehind, StandsGathered, StandsUpTo, TakesPiece}
+use Rattle.gob_tool.specs.Machine.Gathering.{StopsShowing, TakesFront}
+use Rattle.gob_tool.specs.Machine.Keeping.{Lacks, IsKeptFront, none_kept, some_kept, KeepsBehind, KeepsIn, TakesKeeping, MayTakeFront}
 use Rattle.gob_tool.proofs.ShowLaws.{ended, ended_within, stopped, gave_lines, known_taken, begins_more, refused_more}
 use Rattle.gob_tool.proofs.ShowLaws.{reads_first}
 use Rattle.gob_tool.proofs.ShowFront.{begun_so_far, front_under, stands_still}
@@ -205,9 +206,9 @@ front_behind {behind = behind} n piece e f = ap (λ (l : List ℕ). l ++ behind)
 -- ---- the ends
 -- what was kept isn't whole, so the items that were given are all
 pub kept_gives : {s : SessionState TreeBuilder Value} {kept bytes : List ℕ} {items : List StreamItem} → GaveItems s items bytes
-    → IsKeptFront s kept → GivesItems base_table (within_trees s.limits) (bytes ++ kept) items
+    → IsKeptFront s kept → LongestStream base_table (within_trees s.limits) (bytes ++ kept) items
 kept_gives {s = s} {bytes = bytes} {items = items} a (none_kept e) =
-    subst (λ (l : List ℕ). GivesItems base_table (within_trees s.limits) l items)
+    subst (λ (l : List ℕ). LongestStream base_table (within_trees s.limits) l items)
     (sym (append-nil bytes) ∙ ap (λ (l : List ℕ). bytes ++ l) (sym e)) (after_gives a)
 kept_gives a (some_kept missing l) = begun_gives a l.between l.begun
 
@@ -218,8 +219,8 @@ pub read_failed_keeping : (M : Bounds) (s : SessionState TreeBuilder Value) (kep
     → SomeTaken bytes next (λ taken. GivesOutcome (within_trees M) taken (Gathered old new gathered))
 read_failed_keeping M s kept read now next old new bytes gathered same i known k =
     let b = i.behind.behind in
-    let g : GivesItems base_table (within_trees s.limits) i.taken b.items =
-    subst (λ (l : List ℕ). GivesItems base_table (within_trees s.limits) l b.items) (sym i.behind.whole)
+    let g : LongestStream base_table (within_trees s.limits) i.taken b.items =
+    subst (λ (l : List ℕ). LongestStream base_table (within_trees s.limits) l b.items) (sym i.behind.whole)
     (kept_gives b.gave i.behind.is_kept) in
     subst (λ (L : Bounds). SomeTaken bytes next (λ taken. GivesOutcome (within_trees L) taken (Gathered old new gathered)))
     same (record {
@@ -240,7 +241,7 @@ stands_there {bytes = bytes} b = record { taken = bytes; input = sym (append-nil
 
 pub end_stopped : (L : Bounds) (s : SessionState TreeBuilder Value) (old new : Option (List ℕ)) (bytes gathered : List ℕ)
     (f : ToolFault) → TakesPiece (within_trees L) s bytes old new gathered (Err f)
-    → Runs (within_trees L) bytes (Some []) (Gathered old new gathered) (AppendsFront old new) (Err f)
+    → RunAnswers (within_trees L) bytes (Some []) (Gathered old new gathered) (AppendsFront old new) (Err f)
 end_stopped L s old new bytes gathered f t =
     stopped L L s (Some bytes) (Some []) old new bytes gathered bytes f refl refl (sym (append-nil bytes)) t
 
@@ -256,7 +257,7 @@ pub end_within : (M : Bounds) (s s' : SessionState TreeBuilder Value) (old new :
     (C : List ℕ → Type 0) (e : Fault) → s.limits ≡ M → StandsBehind s bytes old new gathered
     → ((items : List StreamItem) (taken : List ℕ) → GaveItems s items taken
     → ReadingFinishes greatest_depth s s' items taken (Err e))
-    → Runs (within_trees M) bytes (Some []) (Gathered old new gathered) C (Err (reading_fault e))
+    → RunAnswers (within_trees M) bytes (Some []) (Gathered old new gathered) C (Err (reading_fault e))
 end_within M s s' old new bytes gathered C e same b finish =
     ended_within M s s' (Some bytes) (Some []) (Some []) old new bytes gathered C e same (stands_there b) refl refl refl
     finish
@@ -264,11 +265,11 @@ end_within M s s' old new bytes gathered C e same b finish =
 -- the end of the input is there
 pub end_there : (L M : Bounds) (taken bytes : List ℕ) (next : Option (List ℕ)) (P C : List ℕ → Type 0)
     (r : Result (Unit {0}) ToolFault) → L ≡ M → (taken ≡ bytes) × (next ≡ Some [])
-    → Runs (within_trees L) taken (Some []) P C r → Runs (within_trees M) bytes next P C r
+    → RunAnswers (within_trees L) taken (Some []) P C r → RunAnswers (within_trees M) bytes next P C r
 end_there L M taken bytes next P C r same all h =
-    subst (λ (n : Option (List ℕ)). Runs (within_trees M) bytes n P C r) (sym all.1)
-    (subst (λ (l : List ℕ). Runs (within_trees M) l (Some []) P C r) all.0
-    (subst (λ (L : Bounds). Runs (within_trees L) taken (Some []) P C r) same h))
+    subst (λ (n : Option (List ℕ)). RunAnswers (within_trees M) bytes n P C r) (sym all.1)
+    (subst (λ (l : List ℕ). RunAnswers (within_trees M) l (Some []) P C r) all.0
+    (subst (λ (L : Bounds). RunAnswers (within_trees L) taken (Some []) P C r) same h))
 
 -- ---- from piece to piece
 pub keeps_first : (s : SessionState TreeBuilder Value) (kept : List ℕ) (read out : Option (List ℕ)) (gathered : List ℕ)

@@ -22,7 +22,7 @@ use Rattle.gob_value.specs.Spelling.{of_bytes, of_text, of_opaque, of_slice, of_
 use Rattle.gob_value.specs.Top.{IsStruct, SpellsTop, at_once, tagged}
 use Rattle.gob_value.specs.Whole.{IsWhole}
 use Rattle.gob_read.specs.declared.tree_builder.TreeBuilder.{TreeBuilder}
-use Rattle.gob_stream.specs.SessionState.{SessionState}
+use Rattle.gob_stream.specs.Machine.SessionState.{SessionState}
 use Rattle.gob_stream.specs.Bounds.{within_trees}
 use Rattle.gob_stream.specs.Item.{puts}
 use Rattle.gob_tool.specs.declared.fault.ToolFault.{ToolFault}
@@ -31,9 +31,9 @@ use Rattle.gob_json.specs.Json.{elements_json, element_type, value_json}
 use Rattle.gob_tool.specs.Line.{line}
 use Rattle.gob_tool.specs.Showing.{AppendsFront, BeginsOutcome}
 use Rattle.gob_stream.specs.Devices.{counts_up}
-use Rattle.gob_tool.specs.Gathering.{Writes, StandsBehind, TakesPiece, GathersWhole, CountsWrites, CountsOnlyWrites}
+use Rattle.gob_tool.specs.Machine.Gathering.{Writes, StandsBehind, TakesPiece, GathersWhole, CountsWrites, CountsOnlyWrites}
 use Rattle.gob_json.specs.TextWhole.{IsOfKind, LineOfWhole, head_text}
-use Rattle.gob_tool.specs.Large.{IsListOf, ListsIntegers}
+use Rattle.gob_tool.specs.Machine.Large.{IsListOf, ListsIntegers}
 use Rattle.gob_json.proofs.PublicLaws.{line_text}
 use Rattle.gob_tool.proofs.ShowFront.{stands_on, cut_so_far, whole_taken}
 

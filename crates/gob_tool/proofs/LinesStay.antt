@@ -20,7 +20,7 @@ use Rattle.gob_value.specs.Top.{SpellsTop, at_once, tagged}
 use Rattle.gob_stream.specs.Bounds.{Bounds}
 use Rattle.gob_stream.specs.Item.{StreamItem, defines, puts}
 use Rattle.gob_stream.specs.Body.{Body, definition, value}
-use Rattle.gob_stream.specs.Stream.{counted, Continues, no_more, and_then}
+use Rattle.gob_stream.specs.Stream.{counted, AreItems, no_more, and_then}
 use Rattle.gob_json.specs.Json.{element_type, key_type, struct_fields, field_type, id_json, value_json, elements_json}
 use Rattle.gob_json.specs.Json.{pairs_json, fields_json}
 use Rattle.gob_json.specs.DefinitionJson.{definition_json}
@@ -143,13 +143,13 @@ body_types (value p l n k) = spelled_there k
 
 -- a stream keeps the types before it
 pub stream_keeps : {base : Table} {L : Bounds} {T U : Table} {offset : ℕ} {items : List StreamItem} {b : List ℕ}
-    → Continues base L T offset items b U → Keeps T U
+    → AreItems base L T offset items b U → Keeps T U
 stream_keeps {T = T} no_more = keeps_itself T
 stream_keeps (and_then (counted u l s p) e r) = keeps_on (body_keeps p) (stream_keeps r)
 
 -- the lines of the items, by the types behind them, stay
 pub lines_stay : {base : Table} {L : Bounds} {T U V : Table} {offset : ℕ} {items : List StreamItem} {b : List ℕ}
-    → Continues base L T offset items b U → Keeps U V → lines V items ≡ lines U items
+    → AreItems base L T offset items b U → Keeps U V → lines V items ≡ lines U items
 lines_stay no_more keeps = refl
 lines_stay (and_then (counted u l s p) e r) keeps =
     let behind = stream_keeps r in
@@ -164,13 +164,13 @@ pub record BeginsThere (base : Table) (L : Bounds) (T : Table) (offset : ℕ) (i
   pub front : List ℕ
   pub rest : List ℕ
   pub table : Table
-  pub stream : Continues base L T offset items front table
+  pub stream : AreItems base L T offset items front table
   pub keeps : Keeps table V
   pub whole : b ≡ front ++ rest
 
 -- the stream of some items and others begins with the stream of the first
 pub first_items : {base : Table} {L : Bounds} {T V : Table} {offset : ℕ} {b : List ℕ} (items others : List StreamItem)
-    → Continues base L T offset (items ++ others) b V → BeginsThere base L T offset items b V
+    → AreItems base L T offset (items ++ others) b V → BeginsThere base L T offset items b V
 first_items {T = T} {b = b} [] others p = record
     { front = []; rest = b; table = T; stream = no_more; keeps = stream_keeps p; whole = refl }
 first_items (i ∷ items) others (and_then {b = a} {c = c} q e r) =

@@ -11,15 +11,15 @@ use Rattle.gob_read.specs.declared.tree_builder.TreeBuilder.{TreeBuilder}
 use Rattle.gob_stream.specs.declared.fault.Fault.{Fault}
 use Rattle.gob_stream.specs.declared.fault.Fault.TheVariants as reading
 use Rattle.gob_stream.specs.declared.item.Item as declared
-use Rattle.gob_stream.specs.SessionState.{SessionState}
+use Rattle.gob_stream.specs.Machine.SessionState.{SessionState}
 use Rattle.gob_stream.specs.Bounds.{Bounds, greatest_depth, within_trees}
 use Rattle.gob_stream.specs.Item.{StreamItem, item_views}
 use Rattle.gob_stream.specs.Stream.{Stream}
 use Rattle.gob_stream.specs.Reading.{ReadingFinishes}
 use Rattle.gob_stream.specs.Session.{FeedAnswers}
 use Rattle.gob_stream.proofs.PublicLaws.{views_meant}
-use Rattle.gob_tool.specs.Gathering.{GaveItems}
-use Rattle.gob_tool.specs.Pieces.{TypesBehind, EndsPiece, GivesPiece, CountsPiece}
+use Rattle.gob_tool.specs.Machine.Gathering.{GaveItems}
+use Rattle.gob_tool.specs.Machine.Pieces.{TypesBehind, EndsPiece, GivesPiece, CountsPiece}
 use Rattle.gob_tool.proofs.ShowLaws.{types_behind, types_beyond, falls}
 
 -- the same at the error that a `?` returns

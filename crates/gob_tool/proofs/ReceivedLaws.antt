@@ -17,10 +17,10 @@ use Rattle.gob_match.proofs.PublicLaws.{match_on, match_back, receives_on, recei
 use Rattle.gob_stream.specs.Bounds.{Bounds}
 use Rattle.gob_stream.specs.Item.{StreamItem, puts}
 use Rattle.gob_stream.specs.Body.{definition as of_definition, value as of_value}
-use Rattle.gob_stream.specs.Outcome.{BeginsWith}
-use Rattle.gob_stream.specs.Stream.{counted, Continues, no_more, and_then, Stream}
+use Rattle.gob_stream.specs.Outcome.{BeginsWithStream}
+use Rattle.gob_stream.specs.Stream.{counted, AreItems, no_more, and_then, Stream}
 use Rattle.gob_stream.proofs.PublicLaws.{one_table}
-use Rattle.gob_tool.specs.Pieces.{TypesBehind, AreSent, none_sent, defined, sent, ReceivesFirst, ClashesNext}
+use Rattle.gob_tool.specs.Machine.Pieces.{TypesBehind, AreSent, none_sent, defined, sent, ReceivesFirst, ClashesNext}
 use Rattle.gob_tool.specs.Taking.{AreReceived, no_item, definition, value, HasTakenItems, ReceivesFront, ClashesBehind}
 use Rattle.gob_tool.proofs.LinesStay.{stream_keeps, keeps_on, first_items}
 
@@ -34,7 +34,7 @@ fits_on keeps f = record { bytes = f.bytes; spelled = spells_on keeps f.spelled;
 
 -- each value of a stream is of a type that is ready, and fits it
 pub stream_sent : {base : Table} {L : Bounds} {T V W : Table} {offset : ℕ} {items : List StreamItem} {b : List ℕ}
-    → L.depth ≤ 1000 → Continues base L T offset items b V → Keeps V W → AreSent W items
+    → L.depth ≤ 1000 → AreItems base L T offset items b V → Keeps V W → AreSent W items
 stream_sent deep no_more keeps = none_sent
 stream_sent deep (and_then (counted u l s (of_definition p d x n q k)) e r) keeps = defined (stream_sent deep r keeps)
 stream_sent deep (and_then (counted u l s (of_value p d n k)) e r) keeps =
@@ -53,7 +53,7 @@ sent_later (i ∷ items) others (sent r f s) = sent_later items others s
 
 -- the type of a stream's last value is ready
 last_ready : {base : Table} {L : Bounds} {T V : Table} {offset : ℕ} {b : List ℕ} {t : TypeId} (v : Tree)
-    (items : List StreamItem) → Continues base L T offset (items ++ puts t v ∷ []) b V → IsReady V t
+    (items : List StreamItem) → AreItems base L T offset (items ++ puts t v ∷ []) b V → IsReady V t
 last_ready v [] (and_then (counted u l s (of_value p d n k)) e r) = ready_on (stream_keeps r) p.ready
 last_ready v (i ∷ items) (and_then q e r) = last_ready v items r
 
@@ -64,7 +64,7 @@ fits_there keeps (tagged e s p) = record { bytes = _; spelled = spells_on keeps 
 -- ---- what is received
 module _ {U : Table} {u : TypeId} (wanted : IsReady U u) where
   pub received_on : {base : Table} {L : Bounds} {T V W : Table} {offset : ℕ} {items : List StreamItem}
-      {b lines : List ℕ} → Continues base L T offset items b V → Keeps V W → AreReceived V U u items lines
+      {b lines : List ℕ} → AreItems base L T offset items b V → Keeps V W → AreReceived V U u items lines
       → AreReceived W U u items lines
   received_on no_more keeps no_item = no_item
   received_on (and_then (counted x l s (of_definition p d y n q k)) e r) keeps (definition h) = definition
@@ -73,7 +73,7 @@ module _ {U : Table} {u : TypeId} (wanted : IsReady U u) where
       value (match_on keeps (ready_on (stream_keeps r) p.ready) wanted m) (receives_on keeps w) (received_on r keeps h)
 
   pub received_back : {base : Table} {L : Bounds} {T V W : Table} {offset : ℕ} {items : List StreamItem}
-      {b lines : List ℕ} → Continues base L T offset items b V → Keeps V W → AreReceived W U u items lines
+      {b lines : List ℕ} → AreItems base L T offset items b V → Keeps V W → AreReceived W U u items lines
       → AreReceived V U u items lines
   received_back no_more keeps no_item = no_item
   received_back (and_then (counted x l s (of_definition p d y n q k)) e r) keeps (definition h) = definition
@@ -86,7 +86,7 @@ module _ {U : Table} {u : TypeId} (wanted : IsReady U u) where
 -- ---- the first of the items that known bytes begin with
 -- the bytes begin with their stream, whose types stay
 pub record BeginsSo (L : Bounds) (bytes : List ℕ) (items : List StreamItem) (T : Table) : Type 0 where
-  pub begins : BeginsWith base_table L bytes items
+  pub begins : BeginsWithStream base_table L bytes items
   pub keeps : Keeps begins.table T
 
 pub first_begins : {L : Bounds} {bytes : List ℕ} {T : Table} {items : List StreamItem} (first left : List StreamItem)
@@ -109,7 +109,7 @@ first_begins {L = L} {T = T} first left whole t =
 
 -- all that begin so have the same types
 pub keeps_of : {L : Bounds} {bytes : List ℕ} {T : Table} {items : List StreamItem} → TypesBehind L bytes items T
-    → (b : BeginsWith base_table L bytes items) → Keeps b.table T
+    → (b : BeginsWithStream base_table L bytes items) → Keeps b.table T
 keeps_of {L = L} {bytes = bytes} {T = T} {items = items} t b =
     let f = first_begins items [] (sym (append-nil items)) t in
     let a = f.begins in
@@ -121,7 +121,7 @@ keeps_of {L = L} {bytes = bytes} {T = T} {items = items} t b =
 module _ {L : Bounds} {bytes : List ℕ} {T U : Table} {u : TypeId} (wanted : IsReady U u) where
   -- the lines are the same by the types of any stream of the items
   pub received_begins : {items : List StreamItem} {P : List ℕ → Type 0} → TypesBehind L bytes items T
-      → (b : BeginsWith base_table L bytes items) → HasTakenItems T U u items P → HasTakenItems b.table U u items P
+      → (b : BeginsWithStream base_table L bytes items) → HasTakenItems T U u items P → HasTakenItems b.table U u items P
   received_begins t b h = record
       { lines = h.lines; received = received_back wanted b.stream (keeps_of t b) h.received; holds = h.holds }
 

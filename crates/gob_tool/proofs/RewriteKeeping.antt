@@ -8,10 +8,10 @@ use Rattle.gob_types.specs.Base.{base_table}
 use Rattle.gob_types.specs.Defined.{types}
 use Rattle.gob_types.specs.Table.{Table}
 use Rattle.gob_stream.specs.declared.fault.Fault.{Fault}
-use Rattle.gob_stream.specs.SessionState.{SessionState}
+use Rattle.gob_stream.specs.Machine.SessionState.{SessionState}
 use Rattle.gob_stream.specs.declared.writer.StreamWriter.{StreamWriter}
 use Rattle.gob_stream.specs.Bounds.{Bounds, AreLimits, deepest, no_deeper}
-use Rattle.gob_stream.specs.Outcome.{GivesItems}
+use Rattle.gob_stream.specs.Outcome.{LongestStream}
 use Rattle.gob_stream.specs.Reading.{SomeTaken}
 use Rattle.gob_stream.specs.Writing.{IsNew}
 use Rattle.gob_stream.proofs.PublicLaws.{after_gives, begun_gives, stands_within, one_table}
@@ -19,12 +19,12 @@ use Rattle.gob_tape.specs.declared.tape.Tape.{Tape}
 use Rattle.gob_tape.specs.declared.tape_builder.TapeBuilder.{TapeBuilder}
 use Rattle.gob_tool.specs.declared.fault.ToolFault.{ToolFault}
 use Rattle.gob_tool.specs.declared.fault.ToolFault.TheVariants as fault
-use Rattle.gob_tool.specs.Gathering.{Gathered, PassesSome}
-use Rattle.gob_tool.specs.Keeping.{Lacks, IsKeptFront, none_kept, some_kept}
+use Rattle.gob_tool.specs.Machine.Gathering.{Gathered, PassesSome}
+use Rattle.gob_tool.specs.Machine.Keeping.{Lacks, IsKeptFront, none_kept, some_kept}
 use Rattle.gob_tool.specs.Showing.{AppendsFront}
 use Rattle.gob_tool.specs.Rewriting.{RewritesToRefusal, RewritesGiven, RewritesFront, HasTidyStream}
-use Rattle.gob_tool.specs.Rewritten.{GaveTapes, HasRewritten, Adds, RewritesOn, RewritesUpTo, RewritesPiece}
-use Rattle.gob_tool.specs.Rewritten.{RewritesKeeping, RewritesKept, MayRewriteFront, StandsStill}
+use Rattle.gob_tool.specs.Machine.Rewritten.{GaveTapes, HasRewritten, Adds, RewritesOn, RewritesUpTo, RewritesPiece}
+use Rattle.gob_tool.specs.Machine.Rewritten.{RewritesKeeping, RewritesKept, MayRewriteFront, StandsStill}
 use Rattle.gob_tool.proofs.ShowLaws.{gathered_grown, front_grown, known_taken}
 use Rattle.gob_tool.proofs.KeepLaws.{lacks_still}
 use Rattle.gob_tool.proofs.RewriteRuns.{tidy_there, front_there, tidy_as, front_more, refused_more, rewrites_first}
@@ -206,14 +206,14 @@ module _ {s : SessionState TapeBuilder Tape} {w : StreamWriter} (h : HasRewritte
 
   -- what was kept isn't whole, so the items that were given are all
   kept_gives : {kept : List ℕ} → IsKeptFront s kept
-      → GivesItems base_table (no_deeper deepest s.limits) (h.taken ++ kept) h.items
+      → LongestStream base_table (no_deeper deepest s.limits) (h.taken ++ kept) h.items
   kept_gives (none_kept e) =
-      subst (λ (l : List ℕ). GivesItems base_table (no_deeper deepest s.limits) l h.items)
+      subst (λ (l : List ℕ). LongestStream base_table (no_deeper deepest s.limits) l h.items)
       (sym (append-nil h.taken) ∙ ap (λ (l : List ℕ). h.taken ++ l) (sym e)) (after_gives h.gave)
   kept_gives (some_kept missing l) = begun_gives h.gave l.between l.begun
 
   given_there : (more : List ℕ) (P : List ℕ → Type 0) → P h.written
-      → GivesItems base_table (no_deeper deepest s.limits) (h.taken ++ more) h.items
+      → LongestStream base_table (no_deeper deepest s.limits) (h.taken ++ more) h.items
       → RewritesGiven (no_deeper deepest s.limits) (h.taken ++ more) P
   given_there more P holds g =
       let L = no_deeper deepest s.limits in

@@ -25,12 +25,12 @@ use Rattle.gob_stream.specs.declared.fault.WriteFault.{WriteFault}
 use Rattle.gob_stream.specs.declared.fault.WriteFault.TheVariants as write
 use Rattle.gob_stream.specs.declared.item.Item as declared
 use Rattle.gob_stream.specs.declared.item.Item.TheVariants as variant
-use Rattle.gob_stream.specs.SessionState.{SessionState}
+use Rattle.gob_stream.specs.Machine.SessionState.{SessionState}
 use Rattle.gob_stream.specs.declared.writer.StreamWriter.{StreamWriter}
 use Rattle.gob_stream.specs.Body.{definition, value}
 use Rattle.gob_stream.specs.Bounds.{Bounds, deepest, no_deeper, within_trees}
 use Rattle.gob_stream.specs.Item.{StreamItem, defines, puts, ItemMeans, means_definition, means_value}
-use Rattle.gob_stream.specs.Stream.{no_more, and_then, Counted, counted, Stream}
+use Rattle.gob_stream.specs.Stream.{no_more, and_then, IsItem, counted, Stream}
 use Rattle.gob_stream.specs.Writing.{HasWritten, WritesNext, Leaves, IsSpelledAs, IsSpelling}
 use Rattle.gob_stream.proofs.PublicLaws.{not_counted, one_counted}
 use Rattle.gob_stream.proofs.PublicLaws.{counted_prefix, one_more}
@@ -39,14 +39,14 @@ use Rattle.gob_tape.specs.declared.tape.Tape.{Tape}
 use Rattle.gob_tape.specs.declared.tape_builder.TapeBuilder.{TapeBuilder}
 use Rattle.gob_tape.specs.Meaning.{Means, MeansFitting}
 use Rattle.gob_tool.specs.Rewriting.{content, content_type, with_content, AreItemsTidied, no_item, and_item}
-use Rattle.gob_tool.specs.Rewritten.{IsTape, bounds_for, StandsThere, IsOfStream, WritesForm, HasRewritten, ComesNext}
-use Rattle.gob_tool.specs.Rewritten.{IsNextTape, SpellsTidy, Pushes, GoesOnRewriting, IsTidiedItem}
+use Rattle.gob_tool.specs.Machine.Rewritten.{IsTape, bounds_for, StandsThere, IsOfStream, WritesForm, HasRewritten, ComesNext}
+use Rattle.gob_tool.specs.Machine.Rewritten.{IsNextTape, SpellsTidy, Pushes, GoesOnRewriting, IsTidiedItem}
 use Rattle.gob_tool.specs.Showing.{AppendsFront}
 use Rattle.gob_tool.proofs.LinesStay.{stream_keeps, keeps_on}
 use Rattle.gob_tool.proofs.TidyStays.{tidies_on, tidies_back, CountedShort, form_counted}
 
 -- ---- where an item stands
-pub item_keeps : {L : Bounds} {T V : Table} {o : ℕ} {i : StreamItem} {b : List ℕ} → Counted base_table L T o i b V
+pub item_keeps : {L : Bounds} {T V : Table} {o : ℕ} {i : StreamItem} {b : List ℕ} → IsItem base_table L T o i b V
     → Keeps T V
 item_keeps q = stream_keeps (and_then q refl no_more)
 
@@ -62,7 +62,7 @@ top_fits (at_once e s p) = record { bytes = _; spelled = p }
 top_fits (tagged e s p) = record { bytes = _; spelled = p }
 
 described_fits : {L : Bounds} {T V : Table} {o : ℕ} {id : TypeId} {v : Tree} {b : List ℕ}
-    → Counted base_table L T o (defines id v) b V → Fits T wire_type v
+    → IsItem base_table L T o (defines id v) b V → Fits T wire_type v
 described_fits (counted u l s (definition may deep describes e n k)) = record { bytes = _; spelled = k }
 
 -- a value that was sent
@@ -72,7 +72,7 @@ record IsSent (L : Bounds) (T : Table) (t : TypeId) (v : Tree) : Type 0 where
   deep : depth v ≤ L.depth
 
 value_sent : {L : Bounds} {T V : Table} {o : ℕ} {t : TypeId} {v : Tree} {b : List ℕ}
-    → Counted base_table L T o (puts t v) b V → IsSent L T t v
+    → IsItem base_table L T o (puts t v) b V → IsSent L T t v
 value_sent (counted u l s (value may deep n k)) = record { ready = may.ready; fits = top_fits k; deep = deep }
 
 -- ---- a definition
@@ -176,7 +176,7 @@ value_meant (means_value {id = t} {out = out} {v = v} m) e =
 
 -- ---- from item to item
 pub keeps_to : {L : Bounds} {T V : Table} {o : ℕ} {i : StreamItem} {b : List ℕ} {items others : List StreamItem}
-    → Counted base_table L T o i b V → AreItemsTidied T items others → AreItemsTidied V items others
+    → IsItem base_table L T o i b V → AreItemsTidied T items others → AreItemsTidied V items others
 keeps_to q no_item = no_item
 keeps_to q (and_item p ps) = and_item (tidies_on (item_keeps q) p) (keeps_to q ps)
 

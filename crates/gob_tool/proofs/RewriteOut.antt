@@ -11,7 +11,7 @@ use Rattle.gob_types.specs.Table.{Table}
 use Rattle.gob_value.specs.Tree.{Tree}
 use Rattle.gob_stream.specs.declared.fault.WriteFault.{WriteFault}
 use Rattle.gob_stream.specs.declared.fault.WriteFault.TheVariants as write
-use Rattle.gob_stream.specs.SessionState.{SessionState}
+use Rattle.gob_stream.specs.Machine.SessionState.{SessionState}
 use Rattle.gob_stream.specs.declared.writer.StreamWriter.{StreamWriter}
 use Rattle.gob_stream.specs.Bounds.{Bounds}
 use Rattle.gob_stream.specs.Item.{StreamItem, puts}
@@ -21,8 +21,8 @@ use Rattle.gob_tape.specs.declared.tape.Tape.{Tape}
 use Rattle.gob_tape.specs.declared.tape_builder.TapeBuilder.{TapeBuilder}
 use Rattle.gob_tool.specs.declared.fault.ToolFault.{ToolFault}
 use Rattle.gob_tool.specs.declared.fault.ToolFault.TheVariants as fault
-use Rattle.gob_tool.specs.Gathering.{PassesSome, Passes, Writes, CountsOnlyWrites}
-use Rattle.gob_tool.specs.Rewritten.{HasRewritten, ComesNext, GoesOnRewriting, Pushes, IsTidyNext, IsTidiedItem, PutsOut, PushesOut}
+use Rattle.gob_tool.specs.Machine.Gathering.{PassesSome, Passes, Writes, CountsOnlyWrites}
+use Rattle.gob_tool.specs.Machine.Rewritten.{HasRewritten, ComesNext, GoesOnRewriting, Pushes, IsTidyNext, IsTidiedItem, PutsOut, PushesOut}
 use Rattle.gob_tool.specs.Showing.{AppendsFront}
 use Rattle.gob_tool.proofs.RewriteLaws.{WritesIt, cut_out}
 

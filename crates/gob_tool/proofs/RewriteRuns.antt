@@ -15,15 +15,15 @@ use Rattle.gob_stream.specs.declared.fault.Fault.{Fault}
 use Rattle.gob_stream.specs.declared.fault.Fault.TheVariants as reading
 use Rattle.gob_stream.specs.declared.fault.Refusal.{Refusal}
 use Rattle.gob_stream.specs.declared.item.Item as declared
-use Rattle.gob_stream.specs.SessionState.{SessionState}
+use Rattle.gob_stream.specs.Machine.SessionState.{SessionState}
 use Rattle.gob_stream.specs.declared.writer.StreamWriter.{StreamWriter}
 use Rattle.gob_stream.specs.Bounds.{Bounds, AreLimits, deepest, no_deeper}
 use Rattle.gob_stream.specs.Item.{StreamItem, ItemMeans}
-use Rattle.gob_stream.specs.Outcome.{BeginsWith, Outcome, refused}
-use Rattle.gob_stream.specs.ReadParts.{AdvancesOver, over_some, over_item}
+use Rattle.gob_stream.specs.Outcome.{BeginsWithStream, Outcome, refused}
+use Rattle.gob_stream.specs.Machine.ReadParts.{AdvancesOver, over_some, over_item}
 use Rattle.gob_stream.specs.Reading.{ReadingFinishes, SomeTaken}
 use Rattle.gob_stream.specs.Session.{StepAnswers}
-use Rattle.gob_stream.specs.Stream.{Stream, Continues, no_more, and_then, Counted}
+use Rattle.gob_stream.specs.Stream.{Stream, AreItems, no_more, and_then, IsItem}
 use Rattle.gob_stream.specs.Writing.{HasWritten, IsNew}
 use Rattle.gob_stream.proofs.PublicLaws.{after_gives, one_table, limits_stay}
 use Rattle.gob_stream.proofs.PublicLaws.{one_front}
@@ -33,12 +33,12 @@ use Rattle.gob_tape.specs.declared.tape_builder.TapeBuilder.{TapeBuilder}
 use Rattle.gob_tool.specs.declared.fault.ToolFault.{ToolFault}
 use Rattle.gob_tool.specs.declared.fault.ToolFault.TheVariants as fault
 use Rattle.gob_tool.specs.Fault.{reading_fault}
-use Rattle.gob_tool.specs.Gathering.{Gathered, PassesSome, CountsOnlyReads}
+use Rattle.gob_tool.specs.Machine.Gathering.{Gathered, PassesSome, CountsOnlyReads}
 use Rattle.gob_tool.specs.Showing.{AppendsFront}
 use Rattle.gob_tool.specs.Rewriting.{AreItemsTidied, no_item, HasTidyStream, RewritesWhole, RewritesToRefusal, RewritesGiven}
 use Rattle.gob_tool.specs.Rewriting.{RewritesFront, RewritesSo}
-use Rattle.gob_tool.specs.Rewritten.{GaveTapes, IsTape, HasRewritten, ComesNext, IsNextTape, GoesOnRewriting, Pushes, Adds, RewritesOn}
-use Rattle.gob_tool.specs.Rewritten.{RewritesSome, RewritesUpTo, RewritesPiece, RewritesIn, RewritesUsed, StandsStill}
+use Rattle.gob_tool.specs.Machine.Rewritten.{GaveTapes, IsTape, HasRewritten, ComesNext, IsNextTape, GoesOnRewriting, Pushes, Adds, RewritesOn}
+use Rattle.gob_tool.specs.Machine.Rewritten.{RewritesSome, RewritesUpTo, RewritesPiece, RewritesIn, RewritesUsed, StandsStill}
 use Rattle.gob_tool.proofs.PieceRuns.{shown_more, nearer}
 use Rattle.gob_tool.proofs.ShowLaws.{gathered_grown, front_grown, known_taken, all_taken, whole_stream}
 
@@ -47,12 +47,12 @@ record Splits (L : Bounds) (T : Table) (offset : ℕ) (items others : List Strea
   front : List ℕ
   rest : List ℕ
   table : Table
-  first : Continues base_table L T offset items front table
-  later : Continues base_table L table (offset + length front) others rest V
+  first : AreItems base_table L T offset items front table
+  later : AreItems base_table L table (offset + length front) others rest V
   whole : b ≡ front ++ rest
 
 split : {L : Bounds} {T V : Table} {b : List ℕ} {offset : ℕ} (items others : List StreamItem)
-    → Continues base_table L T offset (items ++ others) b V → Splits L T offset items others b V
+    → AreItems base_table L T offset (items ++ others) b V → Splits L T offset items others b V
 split {L = L} {T = T} {V = V} {b = b} {offset = offset} [] others p =
     let at : offset ≡ offset + 0 = omega arith in
     record {
@@ -60,7 +60,7 @@ split {L = L} {T = T} {V = V} {b = b} {offset = offset} [] others p =
       rest = b;
       table = T;
       first = no_more;
-      later = subst (λ (n : ℕ). Continues base_table L T n others b V) at p;
+      later = subst (λ (n : ℕ). AreItems base_table L T n others b V) at p;
       whole = refl;
     }
 split {L = L} {V = V} {offset = offset} (i ∷ items) others (and_then {next = next} {b = a} q e r) =
@@ -71,7 +71,7 @@ split {L = L} {V = V} {offset = offset} (i ∷ items) others (and_then {next = n
       rest = s.rest;
       table = s.table;
       first = and_then q e s.first;
-      later = subst (λ (n : ℕ). Continues base_table L s.table n others s.rest V) at s.later;
+      later = subst (λ (n : ℕ). AreItems base_table L s.table n others s.rest V) at s.later;
       whole = ap (λ (l : List ℕ). a ++ l) s.whole ∙ sym (append_assoc a s.front s.rest);
     }
 
@@ -80,23 +80,23 @@ pub same_bounds : {L : Bounds} → AreLimits deepest L → no_deeper deepest L �
 same_bounds {L = L} a = limits_stay deepest L a.depth
 
 ends_there : {L : Bounds} {T U : Table} {o : ℕ} {items : List StreamItem} {rest : List ℕ}
-    → Continues base_table L T o items rest U → items ≡ [] → T ≡ U
+    → AreItems base_table L T o items rest U → items ≡ [] → T ≡ U
 ends_there no_more e = refl
 ends_there (and_then q f r) e = absurd (cc e)
 
 -- one item that follows
 record Follows (L : Bounds) (T : Table) (o : ℕ) (i : StreamItem) (rest : List ℕ) (U : Table) : Type 0 where
   bytes : List ℕ
-  counted : Counted base_table L T o i bytes U
+  counted : IsItem base_table L T o i bytes U
   whole : rest ≡ bytes
 
 follows : {L : Bounds} {T U : Table} {o : ℕ} {i : StreamItem} {items : List StreamItem} {rest : List ℕ}
-    → Continues base_table L T o (i ∷ items) rest U → items ≡ [] → Follows L T o i rest U
+    → AreItems base_table L T o (i ∷ items) rest U → items ≡ [] → Follows L T o i rest U
 follows {L = L} {T = T} {o = o} {i = i} (and_then {b = b} q f r) e =
     let done = nothing_more r e in
-    record { bytes = b; counted = subst (λ (U : Table). Counted base_table L T o i b U) done.0 q; whole = ap (λ (l : List ℕ). b ++ l) done.1 ∙ append-nil b }
+    record { bytes = b; counted = subst (λ (U : Table). IsItem base_table L T o i b U) done.0 q; whole = ap (λ (l : List ℕ). b ++ l) done.1 ∙ append-nil b }
   where
-    nothing_more : {V W : Table} {next : ℕ} {items : List StreamItem} {c : List ℕ} → Continues base_table L V next items c W
+    nothing_more : {V W : Table} {next : ℕ} {items : List StreamItem} {c : List ℕ} → AreItems base_table L V next items c W
         → items ≡ [] → (V ≡ W) × (c ≡ [])
     nothing_more no_more e = (refl, refl)
     nothing_more (and_then q f r) e = absurd (cc e)
@@ -114,7 +114,7 @@ module _ {s : SessionState TapeBuilder Tape} {w : StreamWriter} (h : HasRewritte
     holds = holds;
   }
 
-  begins_there : (more : List ℕ) → BeginsWith base_table (no_deeper deepest s.limits) (h.taken ++ more) h.items
+  begins_there : (more : List ℕ) → BeginsWithStream base_table (no_deeper deepest s.limits) (h.taken ++ more) h.items
   begins_there more = record {
     front = h.gave.front;
     rest = h.gave.under_way ++ more;
@@ -199,8 +199,8 @@ module _ {s : SessionState TapeBuilder Tape} {w : StreamWriter} (s' : SessionSta
         gave = a;
         next = record {
           bytes = f.bytes;
-          counted = subst (λ (T : Table). Counted base_table L T (length h.gave.front) i f.bytes (types s'.types)) (sym o.table)
-              (subst (λ (n : ℕ). Counted base_table L p.table n i f.bytes (types s'.types)) at f.counted);
+          counted = subst (λ (T : Table). IsItem base_table L T (length h.gave.front) i f.bytes (types s'.types)) (sym o.table)
+              (subst (λ (n : ℕ). IsItem base_table L p.table n i f.bytes (types s'.types)) at f.counted);
         };
         front = p.whole ∙ ap (λ (l : List ℕ). l ++ p.rest) (sym o.front) ∙ ap (λ (l : List ℕ). h.gave.front ++ l) f.whole;
       }
@@ -265,7 +265,7 @@ module _ {s : SessionState TapeBuilder Tape} {w : StreamWriter} (h : HasRewritte
 module _ {s : SessionState TapeBuilder Tape} {w : StreamWriter} (h : HasRewritten s w) (s' : SessionState TapeBuilder Tape)
     (same : s'.limits ≡ s.limits) (piece : List ℕ) (used : ℕ) where
   pub step_without : {o : Option (declared.Item Tape)} {before after : List ℕ}
-      → AdvancesOver tape_building.stands tree_building.stands tape_building.means deepest s'
+      → AdvancesOver tape_building.received tree_building.received tape_building.means deepest s'
       h.items h.taken piece used o → ((given : declared.Item Tape) → ¬ (o ≡ Some given)) → after ≡ before
       → RewritesOn h s' w (take used piece) (λ more. after ≡ before ++ more)
   step_without {before = before} {after = after} (over_some l k a) none e =
@@ -279,7 +279,7 @@ module _ {s : SessionState TapeBuilder Tape} {w : StreamWriter} (h : HasRewritte
     pub comes : ComesWith s' h (take used piece) same item
 
   pub step_gives : {o : Option (declared.Item Tape)} {given : declared.Item Tape}
-      → AdvancesOver tape_building.stands tree_building.stands tape_building.means deepest s'
+      → AdvancesOver tape_building.received tree_building.received tape_building.means deepest s'
       h.items h.taken piece used o → o ≡ Some given → StepGives given
   step_gives (over_some l k a) is = absurd (cc is)
   step_gives {given = given} (over_item {given = g} {i = i} l k m a) is =
@@ -542,7 +542,7 @@ module _ {s : SessionState TapeBuilder Tape} {w : StreamWriter} {read now old mi
 
   -- the tidy stream of what was given
   tidy_so : (P : List ℕ → Type 0) → P i.so_far.written
-      → (b : BeginsWith base_table (no_deeper deepest s.limits) i.so_far.taken i.so_far.items)
+      → (b : BeginsWithStream base_table (no_deeper deepest s.limits) i.so_far.taken i.so_far.items)
       → HasTidyStream (no_deeper deepest s.limits) b.table i.so_far.items P
   tidy_so P holds b =
       let h = i.so_far in

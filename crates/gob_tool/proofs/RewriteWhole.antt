@@ -8,21 +8,21 @@ use Rattle.gob_types.specs.Base.{base_table}
 use Rattle.gob_types.specs.Defined.{types}
 use Rattle.gob_types.specs.Table.{Table}
 use Rattle.gob_value.specs.Whole.{IsWhole, IsTidyWhole}
-use Rattle.gob_stream.specs.SessionState.{SessionState}
+use Rattle.gob_stream.specs.Machine.SessionState.{SessionState}
 use Rattle.gob_stream.specs.declared.writer.StreamWriter.{StreamWriter}
 use Rattle.gob_stream.specs.Bounds.{Bounds, deepest, no_deeper}
 use Rattle.gob_stream.specs.Item.{StreamItem, puts}
-use Rattle.gob_stream.specs.Stream.{Counted, counted, Stream}
+use Rattle.gob_stream.specs.Stream.{IsItem, counted, Stream}
 use Rattle.gob_stream.specs.Whole.{HasBody}
 use Rattle.gob_stream.proofs.PublicLaws.{whole_item}
 use Rattle.gob_tape.specs.declared.tape.Tape.{Tape}
 use Rattle.gob_tape.specs.declared.tape_builder.TapeBuilder.{TapeBuilder}
 use Rattle.gob_tool.specs.declared.fault.ToolFault.{ToolFault}
 use Rattle.gob_tool.specs.declared.fault.ToolFault.TheVariants as fault
-use Rattle.gob_tool.specs.Gathering.{PassesSome}
+use Rattle.gob_tool.specs.Machine.Gathering.{PassesSome}
 use Rattle.gob_tool.specs.Rewriting.{RewritesFront}
-use Rattle.gob_tool.specs.Rewritten.{GaveTapes, HasRewritten, SpellsTidy, IsTidyNext, IsTidiedItem, Adds, RewritesItem}
-use Rattle.gob_tool.specs.Rewritten.{MayRewriteWhole, RewritesPiece}
+use Rattle.gob_tool.specs.Machine.Rewritten.{GaveTapes, HasRewritten, SpellsTidy, IsTidyNext, IsTidiedItem, Adds, RewritesItem}
+use Rattle.gob_tool.specs.Machine.Rewritten.{MayRewriteWhole, RewritesPiece}
 use Rattle.gob_tool.specs.Showing.{AppendsFront}
 use Rattle.gob_tool.proofs.RewriteOut.{EachPushesOut}
 use Rattle.gob_tool.proofs.RewriteRuns.{comes_with, one_rewritten, front_there, same_bounds}
@@ -33,8 +33,8 @@ pub whole_of : {T : Table} {t : TypeId} {limit : ℕ} {bytes : List ℕ} → IsT
 whole_of v = record { value = v.value; spelled = v.spelled; within = v.within }
 
 -- what is an item at an offset is one at any before it
-sooner : {L : Bounds} {T U : Table} {o n : ℕ} {i : StreamItem} {b : List ℕ} → n ≤ o → Counted base_table L T o i b U
-    → Counted base_table L T n i b U
+sooner : {L : Bounds} {T U : Table} {o n : ℕ} {i : StreamItem} {b : List ℕ} → n ≤ o → IsItem base_table L T o i b U
+    → IsItem base_table L T n i b U
 sooner l (counted u k s b) = counted u k (omega arith) b
 
 module _ {s : SessionState TapeBuilder Tape} {w : StreamWriter} (h : HasRewritten s w) {id : TypeId} {body : List ℕ}
@@ -59,7 +59,7 @@ module _ {s : SessionState TapeBuilder Tape} {w : StreamWriter} (h : HasRewritte
   module _ (s' : SessionState TapeBuilder Tape) (w' : StreamWriter) (old new : Option (List ℕ)) (before after : List ℕ)
       (limits : s'.limits ≡ s.limits) (same : s'.types ≡ s.types)
       (passed : (items : List StreamItem) (bytes : List ℕ) (item : StreamItem) (z : List ℕ) → GaveTapes s items bytes
-      → Counted base_table (no_deeper deepest s.limits) (types s.types) s.taken item z (types s.types)
+      → IsItem base_table (no_deeper deepest s.limits) (types s.types) s.taken item z (types s.types)
       → length z ≡ used → GaveTapes s' (items ++ item ∷ []) (bytes ++ z)) where
     gave_whole : GaveTapes s' (h.items ++ puts id v.value ∷ []) (h.taken ++ take used piece)
     unfolding whole_of

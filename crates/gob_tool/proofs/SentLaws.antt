@@ -22,7 +22,7 @@ use Rattle.gob_value.specs.Tree.{Tree, Trees, no_tree, tree, tree_count}
 use Rattle.gob_value.specs.Spelling.{SpellsAs, SpellsEach, of_type, of_int, no_element, element}
 use Rattle.gob_tool.specs.declared.fault.ToolFault.{ToolFault}
 use Rattle.gob_tool.specs.declared.fault.ToolFault.TheVariants as fault
-use Rattle.gob_tool.specs.Gathering.{Gathered, Writes}
+use Rattle.gob_tool.specs.Machine.Gathering.{Gathered, Writes}
 use Rattle.gob_json.specs.Json.{elements_json, integer_json}
 use Rattle.gob_tool.specs.Showing.{AppendsFront}
 use Rattle.gob_json.specs.TextWhole.{IsOfKind}

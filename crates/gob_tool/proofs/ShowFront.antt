@@ -11,10 +11,10 @@ use Rattle.gob_read.specs.declared.tree_builder.TreeBuilder.{TreeBuilder}
 use Rattle.gob_stream.specs.declared.fault.Fault.{Fault}
 use Rattle.gob_stream.specs.declared.fault.Fault.TheVariants as reading
 use Rattle.gob_stream.specs.declared.item.Item as declared
-use Rattle.gob_stream.specs.SessionState.{SessionState}
+use Rattle.gob_stream.specs.Machine.SessionState.{SessionState}
 use Rattle.gob_stream.specs.Bounds.{Bounds, greatest_depth, within_trees}
 use Rattle.gob_stream.specs.Item.{StreamItem, item_view, mean_none, mean_more}
-use Rattle.gob_stream.specs.ReadParts.{AdvancesOver, over_some, over_item}
+use Rattle.gob_stream.specs.Machine.ReadParts.{AdvancesOver, over_some, over_item}
 use Rattle.gob_stream.specs.Session.{StepAnswers}
 use Rattle.gob_stream.specs.Stream.{Stream}
 use Rattle.gob_stream.proofs.PublicLaws.{views_meant}
@@ -22,10 +22,10 @@ use Rattle.gob_tool.specs.declared.fault.ToolFault.{ToolFault}
 use Rattle.gob_tool.specs.declared.fault.ToolFault.TheVariants as fault
 use Rattle.gob_tool.specs.Fault.{reading_fault}
 use Rattle.gob_tool.specs.Line.{line, lines}
-use Rattle.gob_tool.specs.Pieces.{TypesBehind}
+use Rattle.gob_tool.specs.Machine.Pieces.{TypesBehind}
 use Rattle.gob_tool.specs.Showing.{AppendsFront, BeginsOutcome}
-use Rattle.gob_tool.specs.Gathering.{Gathered, GaveItems, StandsBehind, PassesSome, TakesPiece, CountsOnlyWrites}
-use Rattle.gob_tool.specs.Gathering.{GathersWhole, GathersGiven, StopsShowing, TakesFront, StandsUpTo}
+use Rattle.gob_tool.specs.Machine.Gathering.{Gathered, GaveItems, StandsBehind, PassesSome, TakesPiece, CountsOnlyWrites}
+use Rattle.gob_tool.specs.Machine.Gathering.{GathersWhole, GathersGiven, StopsShowing, TakesFront, StandsUpTo}
 use Rattle.gob_tool.proofs.GatherLaws.{lines_append}
 use Rattle.gob_tool.proofs.ShowLaws.{lines_once, same_lines, types_behind, begins_lines, begins_at, front_out}
 
@@ -123,7 +123,7 @@ module _ {s s' : SessionState TreeBuilder Value} {bytes : List ℕ} {old new : O
 
   -- the bytes of a step
   pub step_taken : {piece after : List ℕ} {used : ℕ} {o : Option (declared.Item Value)}
-      → AdvancesOver tree_building.stands tree_building.stands tree_building.means
+      → AdvancesOver tree_building.received tree_building.received tree_building.means
       greatest_depth s' b.items bytes piece used o → GathersGiven (types s'.types) o gathered after
       → StandsBehind s' (bytes ++ take used piece) old new after
   step_taken {piece = piece} {used = used} (over_some l w a) e =

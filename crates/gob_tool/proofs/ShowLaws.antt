@@ -14,22 +14,22 @@ use Rattle.gob_read.specs.declared.tree_builder.TreeBuilder.{TreeBuilder}
 use Rattle.gob_stream.specs.declared.fault.Refusal.{Refusal}
 use Rattle.gob_stream.specs.declared.fault.Fault.{Fault}
 use Rattle.gob_stream.specs.declared.fault.Fault.TheVariants as reading
-use Rattle.gob_stream.specs.SessionState.{SessionState}
+use Rattle.gob_stream.specs.Machine.SessionState.{SessionState}
 use Rattle.gob_stream.specs.Bounds.{Bounds, greatest_depth, within_trees}
 use Rattle.gob_stream.specs.Item.{StreamItem}
 use Rattle.gob_stream.specs.Stream.{Stream, no_more}
-use Rattle.gob_stream.specs.Outcome.{BeginsWith, the_end, EndsSo, at_the_end}
-use Rattle.gob_stream.specs.Reading.{SomeTaken, Taken, HasTypesBehind, HasTypesBeyond, IsShown}
+use Rattle.gob_stream.specs.Outcome.{BeginsWithStream, the_end, EndsSo, at_the_end}
+use Rattle.gob_stream.specs.Reading.{SomeTaken, Taken, HasTypesBehind, HasTypesBeyond, ShowsRefusal}
 use Rattle.gob_stream.specs.Reading.{ReadingFinishes}
 use Rattle.gob_stream.proofs.PublicLaws.{after_gives, one_table, shown_there, shown_refusal_stays, stands_within}
 use Rattle.gob_tool.specs.declared.fault.ToolFault.{ToolFault}
 use Rattle.gob_tool.specs.declared.fault.ToolFault.TheVariants as fault
 use Rattle.gob_tool.specs.Line.{lines}
 use Rattle.gob_tool.specs.Fault.{reading_fault}
-use Rattle.gob_tool.specs.Showing.{EndsWhole, IsRefused, GivesOutcome, BeginsOutcome, Runs, AppendsFront}
-use Rattle.gob_tool.specs.Gathering.{Gathered, GaveItems, PassesSome, StandsBehind, StandsGathered, TakesPiece}
-use Rattle.gob_tool.specs.Gathering.{CountsOnlyReads}
-use Rattle.gob_tool.specs.Pieces.{TypesBehind}
+use Rattle.gob_tool.specs.Showing.{EndsWhole, IsRefused, GivesOutcome, BeginsOutcome, RunAnswers, AppendsFront}
+use Rattle.gob_tool.specs.Machine.Gathering.{Gathered, GaveItems, PassesSome, StandsBehind, StandsGathered, TakesPiece}
+use Rattle.gob_tool.specs.Machine.Gathering.{CountsOnlyReads}
+use Rattle.gob_tool.specs.Machine.Pieces.{TypesBehind}
 use Rattle.gob_tool.proofs.LinesStay.{lines_stay, first_items}
 
 -- ---- lines of the items of a stream
@@ -73,7 +73,7 @@ types_beyond t = record {
 
 -- the lines by the types that are behind some items of a stream and more
 pub begins_lines : {L : Bounds} {bytes : List ℕ} {items : List StreamItem} {T : Table} → TypesBehind L bytes items T
-    → (b : BeginsWith base_table L bytes items) → lines T items ≡ lines b.table items
+    → (b : BeginsWithStream base_table L bytes items) → lines T items ≡ lines b.table items
 begins_lines {items = items} t b = same_lines items t.more b.rest t.rest b.stream t.stream (sym b.whole ∙ t.whole)
 
 -- ---- what goes out, and what is gathered
@@ -119,7 +119,7 @@ pub begins_at : {L : Bounds} {bytes : List ℕ} {items : List StreamItem} {T : T
     → TypesBehind L bytes items T → P (lines T items) → BeginsOutcome L bytes P
 begins_at {L = L} {bytes = bytes} {items = items} P t h =
     let f = first_items items t.more t.stream in
-    let b : BeginsWith base_table L bytes items =
+    let b : BeginsWithStream base_table L bytes items =
     record {
       front = f.front;
       rest = f.rest ++ t.rest;
@@ -180,7 +180,7 @@ all_taken read now next bytes taken known c d h =
 
 -- the lines of what a session gave, by the types behind the items of any stream with which the bytes begin
 pub gave_lines : {s : SessionState TreeBuilder Value} {items : List StreamItem} {taken bytes : List ℕ} (more : List ℕ) → bytes
-    ≡ taken ++ more → GaveItems s items taken → (b : BeginsWith base_table (within_trees s.limits) bytes items)
+    ≡ taken ++ more → GaveItems s items taken → (b : BeginsWithStream base_table (within_trees s.limits) bytes items)
     → lines (types s.types) items ≡ lines b.table items
 gave_lines {items = items} more e a b =
     lines_once items b.rest (a.under_way ++ more) b.stream a.stream
@@ -206,7 +206,7 @@ ended M s s' read now next old new bytes gathered u same i known c h finish =
     let b = i.behind in
     let o = (finish b.items i.taken b.gave).0 in
     let w = whole_stream o.ends in
-    let begins : BeginsWith base_table (within_trees s.limits) i.taken b.items = record
+    let begins : BeginsWithStream base_table (within_trees s.limits) i.taken b.items = record
     { front = i.taken; rest = []; table = w.table; stream = w.stream; whole = sym (append-nil i.taken) } in
     subst (λ (L : Bounds). EndsWhole (within_trees L) bytes next (Gathered old new gathered)) same (record {
       items = b.items;
@@ -223,7 +223,7 @@ pub ended_within : (M : Bounds) (s s' : SessionState TreeBuilder Value) (read no
     → (i : StandsGathered s read now old new gathered) → read ≡ Some bytes → Consumes now next [] → IsAtEnd next
     → ((items : List StreamItem) (taken : List ℕ) → GaveItems s items taken
     → ReadingFinishes greatest_depth s s' items taken (Err e))
-    → Runs (within_trees M) bytes next (Gathered old new gathered) C (Err (reading_fault e))
+    → RunAnswers (within_trees M) bytes next (Gathered old new gathered) C (Err (reading_fault e))
 ended_within M s s' read now next old new bytes gathered C (reading.Refused R) same i known c h finish =
     let all = all_taken read now next bytes i.taken known i.input c h in
     let b = i.behind in
@@ -283,7 +283,7 @@ begins_more more e b =
 pub refused_more : {L : Bounds} {bytes all : List ℕ} {R : Refusal} {P : List ℕ → Type 0} (more : List ℕ) → all
     ≡ bytes ++ more → R.reason ≢ reason.Ended → IsRefused L bytes R P → IsRefused L all R P
 refused_more {L = L} {bytes = bytes} {all = all} {R = R} {P = P} more e n b =
-    let shown : IsShown L bytes b.items R = record { outcome = b.outcome; shown = n } in
+    let shown : ShowsRefusal L bytes b.items R = record { outcome = b.outcome; shown = n } in
     let there = shown_there shown in
     let same : take R.seen all ≡ take R.seen bytes = ap (λ (l : List ℕ). take R.seen l) e
     ∙ take-append-le R.seen bytes more there in
@@ -302,7 +302,7 @@ refused_more {L = L} {bytes = bytes} {all = all} {R = R} {P = P} more e n b =
 stopped_there : (L : Bounds) (s : SessionState TreeBuilder Value) (read next old new : Option (List ℕ))
     (bytes gathered taken : List ℕ) (f : ToolFault) → read ≡ Some bytes → Consumes read next taken
     → TakesPiece L s taken old new gathered (Err f)
-    → Runs L bytes next (Gathered old new gathered) (AppendsFront old new) (Err f)
+    → RunAnswers L bytes next (Gathered old new gathered) (AppendsFront old new) (Err f)
 stopped_there L s read next old new bytes gathered taken (fault.Refused R) known c h = let t = known_taken read next
     bytes taken known c in refused_more t.left t.whole h.1 h.0
 stopped_there L s read next old new bytes gathered taken (fault.Wanted R) known c h = absurd h
@@ -317,9 +317,9 @@ stopped_there L s read next old new bytes gathered taken fault.Memory known c h 
 pub stopped : (L M : Bounds) (s : SessionState TreeBuilder Value) (read next old new : Option (List ℕ))
     (bytes gathered taken : List ℕ) (f : ToolFault) → L ≡ M → read ≡ Some bytes → Consumes read next taken
     → TakesPiece (within_trees L) s taken old new gathered (Err f)
-    → Runs (within_trees M) bytes next (Gathered old new gathered) (AppendsFront old new) (Err f)
+    → RunAnswers (within_trees M) bytes next (Gathered old new gathered) (AppendsFront old new) (Err f)
 stopped L M s read next old new bytes gathered taken f same known c h =
-    subst (λ (L : Bounds). Runs (within_trees L) bytes next (Gathered old new gathered) (AppendsFront old new) (Err f))
+    subst (λ (L : Bounds). RunAnswers (within_trees L) bytes next (Gathered old new gathered) (AppendsFront old new) (Err f))
     same (stopped_there (within_trees L) s read next old new bytes gathered taken f known c h)
 
 -- no bytes were read
@@ -366,16 +366,16 @@ falls s s' items others taken piece a b same some =
 -- ---- the run
 -- how the run ends at the error that a `?` returns
 pub runs_at : (L : Bounds) (bytes : List ℕ) (now : Option (List ℕ)) (P C : List ℕ → Type 0)
-    (r : Result (Unit {0}) ToolFault) (f : ToolFault) → IsErrAnd r (λ e. e ≡ f) → Runs L bytes now P C (Err f)
-    → Runs L bytes now P C r
+    (r : Result (Unit {0}) ToolFault) (f : ToolFault) → IsErrAnd r (λ e. e ≡ f) → RunAnswers L bytes now P C (Err f)
+    → RunAnswers L bytes now P C r
 runs_at L bytes now P C (Ok u) f e h = absurd e
-runs_at L bytes now P C (Err g) f e h = subst (λ f. Runs L bytes now P C (Err f)) (sym e) h
+runs_at L bytes now P C (Err g) f e h = subst (λ f. RunAnswers L bytes now P C (Err f)) (sym e) h
 
 pub runs_cut : (L : Bounds) (bytes : List ℕ) (now : Option (List ℕ)) (P C : List ℕ → Type 0)
     (r : Result (Unit {0}) ToolFault) (f : ToolFault) → IsErrAnd r (λ e. e ≡ f) → f ≡ fault.Write → BeginsOutcome L bytes C
-    → Runs L bytes now P C r
+    → RunAnswers L bytes now P C r
 runs_cut L bytes now P C r f e write h = runs_at L bytes now P C r f e
-    (subst (λ f. Runs L bytes now P C (Err f)) (sym write) h)
+    (subst (λ f. RunAnswers L bytes now P C (Err f)) (sym write) h)
 
 -- no memory was had before the first item
 pub begun_first : (L : Bounds) (bytes : List ℕ) (out : Option (List ℕ)) (gathered : List ℕ) → gathered ≡ []
@@ -393,7 +393,7 @@ begun_as L bytes P Q b f = record { items = b.items; begins = b.begins; holds = 
 
 -- the lines before any end but a failed write
 pub begun_before : (L : Bounds) (bytes : List ℕ) (now : Option (List ℕ)) (P C : List ℕ → Type 0)
-    (r : Result (Unit {0}) ToolFault) → Runs L bytes now P C r → (r ≡ Err fault.Write → ⊥) → BeginsOutcome L bytes P
+    (r : Result (Unit {0}) ToolFault) → RunAnswers L bytes now P C r → (r ≡ Err fault.Write → ⊥) → BeginsOutcome L bytes P
 begun_before L bytes now P C (Ok u) e other = record {
   items = e.items;
   begins = record { front = bytes; rest = []; table = e.table; stream = e.stream; whole = sym (append-nil bytes) };
@@ -411,8 +411,8 @@ begun_before L bytes now P C (Err fault.Write) e other = absurd (other refl)
 begun_before L bytes now P C (Err fault.Memory) e other = e
 
 pub runs_as : (L : Bounds) (bytes : List ℕ) (now : Option (List ℕ)) (P Q C D : List ℕ → Type 0)
-    (r : Result (Unit {0}) ToolFault) → Runs L bytes now P C r → (r ≡ Err fault.Write → ⊥)
-    → ((all : List ℕ) → P all → Q all) → Runs L bytes now Q D r
+    (r : Result (Unit {0}) ToolFault) → RunAnswers L bytes now P C r → (r ≡ Err fault.Write → ⊥)
+    → ((all : List ℕ) → P all → Q all) → RunAnswers L bytes now Q D r
 runs_as L bytes now P Q C D (Ok u) e other f = record
     { items = e.items; table = e.table; stream = e.stream; end = e.end; holds = f _ e.holds }
 runs_as L bytes now P Q C D (Err (fault.Refused R)) e other f = record

@@ -9,14 +9,14 @@ use Rattle.gob_types.specs.Defined.{types}
 use Rattle.gob_value.specs.declared.value.Value.{Value}
 use Rattle.gob_value.specs.Whole.{IsWhole}
 use Rattle.gob_read.specs.declared.tree_builder.TreeBuilder.{TreeBuilder}
-use Rattle.gob_stream.specs.SessionState.{SessionState}
+use Rattle.gob_stream.specs.Machine.SessionState.{SessionState}
 use Rattle.gob_stream.specs.Bounds.{Bounds, no_deeper, greatest_depth}
 use Rattle.gob_stream.specs.Item.{StreamItem, puts}
-use Rattle.gob_stream.specs.Stream.{Counted}
+use Rattle.gob_stream.specs.Stream.{IsItem}
 use Rattle.gob_stream.specs.Whole.{HasBody}
 use Rattle.gob_stream.proofs.PublicLaws.{whole_item}
 use Rattle.gob_json.specs.TextWhole.{LineOfWhole}
-use Rattle.gob_tool.specs.Gathering.{GaveItems, GathersWhole}
+use Rattle.gob_tool.specs.Machine.Gathering.{GaveItems, GathersWhole}
 
 pub whole_of : {T : Table} {t : TypeId} {limit : ℕ} {bytes old new : List ℕ} → LineOfWhole T t limit bytes old new
     → IsWhole T t limit bytes
@@ -34,7 +34,7 @@ pub gathers_whole : {s s' : SessionState TreeBuilder Value} {id : TypeId} {body 
     → HasBody s.limits (types s.types) s.taken id body used piece → LineOfWhole (types s.types) id d body before after
     → s'.types ≡ s.types
     → ((items : List StreamItem) (bytes : List ℕ) (item : StreamItem) (z : List ℕ) → GaveItems s items bytes
-    → Counted base_table (no_deeper greatest_depth s.limits) (types s.types) s.taken item z (types s.types)
+    → IsItem base_table (no_deeper greatest_depth s.limits) (types s.types) s.taken item z (types s.types)
     → length z ≡ used → GaveItems s' (items ++ item ∷ []) (bytes ++ z))
     → GathersWhole s s' piece before after used
 unfolding whole_of

@@ -20,9 +20,9 @@ use Rattle.gob_stream.specs.Item.{StreamItem, defines, puts, item_view, item_vie
 use Rattle.gob_tool.specs.declared.fault.ToolFault.{ToolFault}
 use Rattle.gob_tool.specs.declared.fault.ToolFault.TheVariants as fault
 use Rattle.gob_tool.specs.Fault.{matching_fault}
-use Rattle.gob_tool.specs.Gathering.{PassesSome, Passes}
+use Rattle.gob_tool.specs.Machine.Gathering.{PassesSome, Passes}
 use Rattle.gob_tool.specs.Line.{line}
-use Rattle.gob_tool.specs.Pieces.{AreSent, none_sent, defined, sent, TakesItems}
+use Rattle.gob_tool.specs.Machine.Pieces.{AreSent, none_sent, defined, sent, TakesItems}
 use Rattle.gob_tool.specs.Showing.{AppendsFront}
 use Rattle.gob_tool.specs.Taking.{AreReceived, no_item, definition, value, HasTakenItems}
 use Rattle.gob_tool.proofs.GatherLaws.{passes_on, front_on, views_append, views_in_two}

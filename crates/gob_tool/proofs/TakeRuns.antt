@@ -17,18 +17,18 @@ use Rattle.gob_read.specs.declared.tree_builder.TreeBuilder.{TreeBuilder}
 use Rattle.gob_stream.specs.declared.fault.Refusal.{Refusal}
 use Rattle.gob_stream.specs.declared.fault.Fault.{Fault}
 use Rattle.gob_stream.specs.declared.fault.Fault.TheVariants as reading
-use Rattle.gob_stream.specs.SessionState.{SessionState}
+use Rattle.gob_stream.specs.Machine.SessionState.{SessionState}
 use Rattle.gob_stream.specs.Bounds.{Bounds, within_trees}
 use Rattle.gob_stream.specs.Item.{StreamItem, puts}
-use Rattle.gob_stream.specs.Outcome.{Outcome, BeginsWith, refused}
-use Rattle.gob_stream.specs.Reading.{IsShown, Taken}
+use Rattle.gob_stream.specs.Outcome.{Outcome, BeginsWithStream, refused}
+use Rattle.gob_stream.specs.Reading.{ShowsRefusal, Taken}
 use Rattle.gob_stream.specs.Stream.{Stream, no_more}
 use Rattle.gob_stream.proofs.PublicLaws.{shown_there, shown_refusal_stays}
 use Rattle.gob_tool.specs.declared.fault.ToolFault.{ToolFault}
 use Rattle.gob_tool.specs.declared.fault.ToolFault.TheVariants as fault
 use Rattle.gob_tool.specs.Fault.{reading_fault}
-use Rattle.gob_tool.specs.Gathering.{GaveItems, PassesSome}
-use Rattle.gob_tool.specs.Pieces.{TypesBehind, EndsPiece, GivesPiece, StandsAt, AreSent, TakesItems, unread}
+use Rattle.gob_tool.specs.Machine.Gathering.{GaveItems, PassesSome}
+use Rattle.gob_tool.specs.Machine.Pieces.{TypesBehind, EndsPiece, GivesPiece, StandsAt, AreSent, TakesItems, unread}
 use Rattle.gob_tool.specs.Showing.{AppendsFront}
 use Rattle.gob_tool.specs.Taking.{no_item, HasTakenItems, ReceivesWhole, ReceivesFront, Receiving}
 use Rattle.gob_tool.proofs.LinesStay.{keeps_itself}
@@ -95,7 +95,7 @@ refused_more : {L : Bounds} {bytes all : List ℕ} {items : List StreamItem} {R 
     ≡ bytes ++ more → R.reason ≢ reason.Ended → Outcome base_table L bytes items (refused R)
     → Outcome base_table L all items (refused R)
 refused_more {L = L} {bytes = bytes} {all = all} {items = items} {R = R} more e n o =
-    let shown : IsShown L bytes items R = record { outcome = o; shown = n } in
+    let shown : ShowsRefusal L bytes items R = record { outcome = o; shown = n } in
     let there = shown_there shown in
     let same : take R.seen all ≡ take R.seen bytes = ap (λ (l : List ℕ). take R.seen l) e
     ∙ take-append-le R.seen bytes more there in
@@ -183,7 +183,7 @@ module _ (L : Bounds) (bytes : List ℕ) (next : Option (List ℕ)) (T U : Table
       → EndsPiece L s s' items taken next (Ok false) → ReceivesWhole L bytes next U u P
   ends_there s s' items taken P k t h ends =
       let a = all_known s s' k ends in
-      let b : BeginsWith base_table L bytes items = record
+      let b : BeginsWithStream base_table L bytes items = record
       { front = bytes; rest = []; table = a.table; stream = a.stream; whole = sym (append-nil bytes) } in
       record {
         items = items;

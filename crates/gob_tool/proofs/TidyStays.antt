@@ -28,10 +28,10 @@ use Rattle.gob_value.proofs.PublicLaws.{tidy_form, one_tidy, no_deeper as tidy_n
 use Rattle.gob_stream.specs.Body.{Body, definition, value}
 use Rattle.gob_stream.specs.Bounds.{Bounds, deepest, no_deeper}
 use Rattle.gob_stream.specs.Item.{StreamItem}
-use Rattle.gob_stream.specs.Stream.{Counted, counted}
+use Rattle.gob_stream.specs.Stream.{IsItem, counted}
 use Rattle.gob_stream.proofs.PublicLaws.{wire_ready}
 use Rattle.gob_tool.specs.Rewriting.{content, content_type, with_content}
-use Rattle.gob_tool.specs.Rewritten.{bounds_for}
+use Rattle.gob_tool.specs.Machine.Rewritten.{bounds_for}
 
 mutual
   pub tidies_on : {T U : Table} {t : TypeId} {v w : Tree} → Keeps T U → Tidies T t v w → Tidies U t v w
@@ -171,7 +171,7 @@ no_longer_number (long {digits = ds} r) (long {digits = es} q) l =
 -- the item of a body that is no longer stands no further on
 pub record CountedShort (L : Bounds) (T : Table) (offset : ℕ) (i : StreamItem) (V : Table) (most : ℕ) : Type 0 where
   pub bytes : List ℕ
-  pub counted : Counted base_table L T offset i bytes V
+  pub counted : IsItem base_table L T offset i bytes V
   pub no_longer : length bytes ≤ most
 
 counted_short : {T V : Table} {i : StreamItem} (L M : Bounds) (offset low : ℕ) (c d e : List ℕ) → M.item ≡ L.item
@@ -204,7 +204,7 @@ top_form (tagged e s q) p f =
 
 -- an item's tidy form can stand where the item does, or before
 pub form_counted : (L : Bounds) {T V : Table} {i : StreamItem} {offset : ℕ} {bytes : List ℕ} (low : ℕ) (form : Tree)
-    → Counted base_table (no_deeper deepest L) T offset i bytes V → Keeps base_table T
+    → IsItem base_table (no_deeper deepest L) T offset i bytes V → Keeps base_table T
     → Tidies T (content_type i) (content i) form → Fits T (content_type i) form → low ≤ offset
     → CountedShort (bounds_for L i) T low (with_content i form) V (length bytes)
 form_counted L {offset = offset} low form (counted {c = c} u l s (value {v = v} {a = a} {b = b} may deep n k)) base p f before =

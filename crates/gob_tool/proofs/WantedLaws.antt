@@ -13,23 +13,23 @@ use Rattle.gob_value.specs.declared.value.Value.{Value}
 use Rattle.gob_read.specs.declared.tree_builder.TreeBuilder.{TreeBuilder}
 use Rattle.gob_stream.specs.declared.fault.Fault.{Fault}
 use Rattle.gob_stream.specs.declared.fault.Fault.TheVariants as reading
-use Rattle.gob_stream.specs.SessionState.{SessionState}
+use Rattle.gob_stream.specs.Machine.SessionState.{SessionState}
 use Rattle.gob_stream.specs.Bounds.{Bounds, within_trees}
 use Rattle.gob_stream.specs.Devices.{FlushCounted}
 use Rattle.gob_stream.specs.Item.{StreamItem, defines, puts}
-use Rattle.gob_stream.specs.Outcome.{GivesItems}
+use Rattle.gob_stream.specs.Outcome.{LongestStream}
 use Rattle.gob_stream.specs.Stream.{Stream}
 use Rattle.gob_stream.specs.Reading.{Taken, HasTypesBehind}
 use Rattle.gob_stream.proofs.PublicLaws.{one_table}
 use Rattle.gob_tool.specs.declared.fault.ToolFault.{ToolFault}
 use Rattle.gob_tool.specs.declared.fault.ToolFault.TheVariants as fault
-use Rattle.gob_tool.specs.Gathering.{GaveItems}
+use Rattle.gob_tool.specs.Machine.Gathering.{GaveItems}
 use Rattle.gob_tool.specs.Fault.{wanted_fault}
-use Rattle.gob_tool.specs.Pieces.{EndsPiece, GivesPiece, StandsAt, AreSent, sent, defined, ReadsWanted, CountsPiece}
-use Rattle.gob_tool.specs.Pieces.{TypesBehind, first_type_of}
+use Rattle.gob_tool.specs.Machine.Pieces.{EndsPiece, GivesPiece, StandsAt, AreSent, sent, defined, ReadsWanted, CountsPiece}
+use Rattle.gob_tool.specs.Machine.Pieces.{TypesBehind, first_type_of}
 use Rattle.gob_tool.specs.Showing.{CountsWriteFaults, MayCount}
 use Rattle.gob_tool.specs.Taking.{first_type, HasWanted, LacksWanted, Receiving}
-use Rattle.gob_tool.specs.Wanting.{CountsWanted}
+use Rattle.gob_tool.specs.Machine.Wanting.{CountsWanted}
 use Rattle.gob_tool.proofs.LinesStay.{keeps_itself}
 use Rattle.gob_tool.proofs.ShowLaws.{known_taken, whole_stream}
 use Rattle.gob_tool.proofs.ReceivedLaws.{stream_sent, sent_first}
@@ -64,7 +64,7 @@ none_more items [] h = refl
 none_more items (i ∷ more) h = absurd (omega (arith, length-append items (i ∷ more)))
 
 only_these : {L : Bounds} {bytes : List ℕ} {items : List StreamItem} {T : Table} → TypesBehind L bytes items T
-    → GivesItems base_table L bytes items → HasTypesBehind L bytes items T
+    → LongestStream base_table L bytes items → HasTypesBehind L bytes items T
 only_these {L = L} {items = items} {T = T} t g =
     let none = none_more items t.more
     (g.longest (items ++ t.more) (record

@@ -7,7 +7,7 @@ use Rattle.gob_types.specs.Base.{base_table}
 use Rattle.gob_types.specs.Table.{Table}
 use Rattle.gob_stream.specs.Bounds.{Bounds}
 use Rattle.gob_stream.specs.Item.{StreamItem, defines, puts}
-use Rattle.gob_stream.specs.Outcome.{GivesItems, Outcome, refused}
+use Rattle.gob_stream.specs.Outcome.{LongestStream, Outcome, refused}
 use Rattle.gob_stream.specs.Reading.{SomeTaken}
 use Rattle.gob_stream.specs.Stream.{Stream}
 use Rattle.gob_tool.specs.declared.fault.ToolFault.{ToolFault}
@@ -38,7 +38,7 @@ pub record IsCountedStream (L : Bounds) (bytes : List ℕ) (now : Option (List �
 abbrev pub IsNoStream : Bounds → (bytes : List ℕ) → (now : Option (List ℕ)) → ToolFault → Type 0
 IsNoStream L bytes now (fault.Refused R) = (items : List StreamItem) × Outcome base_table L bytes items (refused R)
 IsNoStream L bytes now fault.Read = SomeTaken bytes now
-    (λ taken. (items : List StreamItem) × GivesItems base_table L taken items)
+    (λ taken. (items : List StreamItem) × LongestStream base_table L taken items)
 IsNoStream L bytes now fault.Memory = Unit {0}
 IsNoStream L bytes now fault.Write = ⊥
 IsNoStream L bytes now (fault.Wanted R) = ⊥
@@ -47,8 +47,8 @@ IsNoStream L bytes now (fault.Clash path reason) = ⊥
 
 -- how the run ends, over an input with these bytes left and an output with the old bytes: the line of the whole stream
 -- went out, or a front of it where the output failed; or nothing was written
-pub data Checks (L : Bounds) (bytes : List ℕ) (now old new : Option (List ℕ)) : Result (Unit {0}) ToolFault → Type 0
+pub data CheckAnswers (L : Bounds) (bytes : List ℕ) (now old new : Option (List ℕ)) : Result (Unit {0}) ToolFault → Type 0
   where
-    is_accepted : {u : Unit {0}} → IsCountedStream L bytes now (Appends old new) → Checks L bytes now old new (Ok u)
-    is_cut : IsCountedStream L bytes now (AppendsFront old new) → Checks L bytes now old new (Err fault.Write)
-    is_stopped : {f : ToolFault} → IsNoStream L bytes now f → Appends old new [] → Checks L bytes now old new (Err f)
+    is_accepted : {u : Unit {0}} → IsCountedStream L bytes now (Appends old new) → CheckAnswers L bytes now old new (Ok u)
+    is_cut : IsCountedStream L bytes now (AppendsFront old new) → CheckAnswers L bytes now old new (Err fault.Write)
+    is_stopped : {f : ToolFault} → IsNoStream L bytes now f → Appends old new [] → CheckAnswers L bytes now old new (Err f)

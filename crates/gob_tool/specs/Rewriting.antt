@@ -10,7 +10,7 @@ use Rattle.gob_value.specs.Tree.{Tree}
 use Rattle.gob_stream.specs.declared.fault.Refusal.{Refusal}
 use Rattle.gob_stream.specs.Bounds.{Bounds}
 use Rattle.gob_stream.specs.Item.{StreamItem, defines, puts}
-use Rattle.gob_stream.specs.Outcome.{BeginsWith, GivesItems, Outcome, refused}
+use Rattle.gob_stream.specs.Outcome.{BeginsWithStream, LongestStream, Outcome, refused}
 use Rattle.gob_stream.specs.Reading.{SomeTaken}
 use Rattle.gob_stream.specs.Stream.{Stream}
 use Rattle.gob_tool.specs.declared.fault.ToolFault.{ToolFault}
@@ -64,13 +64,13 @@ pub record RewritesToRefusal (L : Bounds) (bytes : List ℕ) (R : Refusal) (P : 
 -- this holds of the tidy stream of the items of the longest stream that the bytes begin with
 pub record RewritesGiven (L : Bounds) (bytes : List ℕ) (P : List ℕ → Type 0) : Type 0 where
   pub items : List StreamItem
-  pub given : GivesItems base_table L bytes items
+  pub given : LongestStream base_table L bytes items
   pub tidy : HasTidyStream L given.begins.table items P
 
 -- this holds of the tidy stream of the items of some stream that the bytes begin with
 pub record RewritesFront (L : Bounds) (bytes : List ℕ) (P : List ℕ → Type 0) : Type 0 where
   pub items : List StreamItem
-  pub begins : BeginsWith base_table L bytes items
+  pub begins : BeginsWithStream base_table L bytes items
   pub tidy : HasTidyStream L begins.table items P
 
 -- how the run ends, over an input with these bytes left, where `Whole` holds of the bytes that were to go out, or `Cut`
@@ -87,5 +87,5 @@ RewritesSo L bytes now Whole Cut (Err fault.NoWantedType) = ⊥
 RewritesSo L bytes now Whole Cut (Err (fault.Clash path reason)) = ⊥
 
 -- over an output with the old bytes: the tidy stream went out, and nothing else, or after a failed write a front of it
-abbrev pub Rewrites : Bounds → (bytes : List ℕ) → (now old new : Option (List ℕ)) → Result (Unit {0}) ToolFault → Type 0
-Rewrites L bytes now old new result = RewritesSo L bytes now (Appends old new) (AppendsFront old new) result
+abbrev pub RewriteAnswers : Bounds → (bytes : List ℕ) → (now old new : Option (List ℕ)) → Result (Unit {0}) ToolFault → Type 0
+RewriteAnswers L bytes now old new result = RewritesSo L bytes now (Appends old new) (AppendsFront old new) result

@@ -4,15 +4,15 @@ use Rattle.gob_stream.specs.Bounds.{Bounds}
 use Rattle.gob_tool.specs.declared.fault.ToolFault.{ToolFault}
 use Rattle.gob_tool.specs.declared.words.Chosen.{Chosen}
 use Rattle.gob_tool.specs.declared.words.Chosen.TheVariants as chosen
-use Rattle.gob_tool.specs.Checking.{Checks}
-use Rattle.gob_tool.specs.Rewriting.{Rewrites}
-use Rattle.gob_tool.specs.Showing.{Shows}
-use Rattle.gob_tool.specs.Taking.{Takes}
+use Rattle.gob_tool.specs.Checking.{CheckAnswers}
+use Rattle.gob_tool.specs.Rewriting.{RewriteAnswers}
+use Rattle.gob_tool.specs.Showing.{ShowAnswers}
+use Rattle.gob_tool.specs.Taking.{TakeAnswers}
 
 -- how it ends, over a wanted stream and an input with these bytes left, and an output with the old bytes
-abbrev pub Does : Chosen → Bounds → (wanted bytes : List ℕ) → (wanted_now now old new : Option (List ℕ))
+abbrev pub OrderAnswers : Chosen → Bounds → (wanted bytes : List ℕ) → (wanted_now now old new : Option (List ℕ))
     → Result (Unit {0}) ToolFault → Type 0
-Does chosen.Show L wanted bytes wanted_now now old new result = Shows L bytes now old new result
-Does chosen.Check L wanted bytes wanted_now now old new result = Checks L bytes now old new result
-Does chosen.Rewrite L wanted bytes wanted_now now old new result = Rewrites L bytes now old new result
-Does chosen.Take L wanted bytes wanted_now now old new result = Takes L wanted bytes wanted_now now old new result
+OrderAnswers chosen.Show L wanted bytes wanted_now now old new result = ShowAnswers L bytes now old new result
+OrderAnswers chosen.Check L wanted bytes wanted_now now old new result = CheckAnswers L bytes now old new result
+OrderAnswers chosen.Rewrite L wanted bytes wanted_now now old new result = RewriteAnswers L bytes now old new result
+OrderAnswers chosen.Take L wanted bytes wanted_now now old new result = TakeAnswers L wanted bytes wanted_now now old new result

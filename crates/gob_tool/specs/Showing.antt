@@ -8,7 +8,7 @@ use Rattle.gob_stream.specs.declared.fault.Refusal.{Refusal}
 use Rattle.gob_stream.specs.Bounds.{Bounds}
 use Rattle.gob_stream.specs.Item.{StreamItem}
 use Rattle.gob_stream.specs.Stream.{Stream}
-use Rattle.gob_stream.specs.Outcome.{BeginsWith, GivesItems, Outcome, refused}
+use Rattle.gob_stream.specs.Outcome.{BeginsWithStream, LongestStream, Outcome, refused}
 use Rattle.gob_stream.specs.Devices.{counts_up}
 use Rattle.gob_stream.specs.Reading.{SomeTaken}
 use Rattle.gob_tool.specs.declared.fault.ToolFault.{ToolFault}
@@ -33,27 +33,27 @@ pub record IsRefused (L : Bounds) (bytes : List ℕ) (R : Refusal) (P : List ℕ
 -- this holds of the lines of the items of the longest stream that the bytes begin with
 pub record GivesOutcome (L : Bounds) (bytes : List ℕ) (P : List ℕ → Type 0) : Type 0 where
   pub items : List StreamItem
-  pub given : GivesItems base_table L bytes items
+  pub given : LongestStream base_table L bytes items
   pub holds : P (lines given.begins.table items)
 
 -- this holds of the lines of the items of some stream that the bytes begin with
 pub record BeginsOutcome (L : Bounds) (bytes : List ℕ) (P : List ℕ → Type 0) : Type 0 where
   pub items : List StreamItem
-  pub begins : BeginsWith base_table L bytes items
+  pub begins : BeginsWithStream base_table L bytes items
   pub holds : P (lines begins.table items)
 
 -- how a run over an input with these bytes left ends, where `Whole` holds of the lines that were to go out, or `Cut`
 -- after a failed write
-abbrev pub Runs : Bounds → (bytes : List ℕ) → (now : Option (List ℕ)) → (Whole Cut : List ℕ → Type 0)
+abbrev pub RunAnswers : Bounds → (bytes : List ℕ) → (now : Option (List ℕ)) → (Whole Cut : List ℕ → Type 0)
     → Result (Unit {0}) ToolFault → Type 0
-Runs L bytes now Whole Cut (Ok _) = EndsWhole L bytes now Whole
-Runs L bytes now Whole Cut (Err (fault.Refused R)) = IsRefused L bytes R Whole
-Runs L bytes now Whole Cut (Err fault.Read) = SomeTaken bytes now (λ taken. GivesOutcome L taken Whole)
-Runs L bytes now Whole Cut (Err fault.Write) = BeginsOutcome L bytes Cut
-Runs L bytes now Whole Cut (Err fault.Memory) = BeginsOutcome L bytes Whole
-Runs L bytes now Whole Cut (Err (fault.Wanted R)) = ⊥
-Runs L bytes now Whole Cut (Err fault.NoWantedType) = ⊥
-Runs L bytes now Whole Cut (Err (fault.Clash path reason)) = ⊥
+RunAnswers L bytes now Whole Cut (Ok _) = EndsWhole L bytes now Whole
+RunAnswers L bytes now Whole Cut (Err (fault.Refused R)) = IsRefused L bytes R Whole
+RunAnswers L bytes now Whole Cut (Err fault.Read) = SomeTaken bytes now (λ taken. GivesOutcome L taken Whole)
+RunAnswers L bytes now Whole Cut (Err fault.Write) = BeginsOutcome L bytes Cut
+RunAnswers L bytes now Whole Cut (Err fault.Memory) = BeginsOutcome L bytes Whole
+RunAnswers L bytes now Whole Cut (Err (fault.Wanted R)) = ⊥
+RunAnswers L bytes now Whole Cut (Err fault.NoWantedType) = ⊥
+RunAnswers L bytes now Whole Cut (Err (fault.Clash path reason)) = ⊥
 
 -- known bytes grow by a front of these
 pub record AppendsFront (old new : Option (List ℕ)) (bytes : List ℕ) : Type 0 where
@@ -64,8 +64,8 @@ pub record AppendsFront (old new : Option (List ℕ)) (bytes : List ℕ) : Type 
 
 -- how the run that shows a stream ends, over an input with these bytes left and an output with the old bytes: the lines
 -- went out, and nothing else, or after a failed write a front of them
-abbrev pub Shows : Bounds → (bytes : List ℕ) → (now old new : Option (List ℕ)) → Result (Unit {0}) ToolFault → Type 0
-Shows L bytes now old new result = Runs L bytes now (Appends old new) (AppendsFront old new) result
+abbrev pub ShowAnswers : Bounds → (bytes : List ℕ) → (now old new : Option (List ℕ)) → Result (Unit {0}) ToolFault → Type 0
+ShowAnswers L bytes now old new result = RunAnswers L bytes now (Appends old new) (AppendsFront old new) result
 
 -- the count is the same, or one higher
 abbrev pub MayCount : (failures failures' : ℕ) → Type 0

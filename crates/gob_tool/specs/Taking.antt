@@ -15,7 +15,7 @@ use Rattle.gob_stream.specs.declared.fault.Refusal.{Refusal}
 use Rattle.gob_stream.specs.Bounds.{Bounds}
 use Rattle.gob_stream.specs.Devices.{counts_up}
 use Rattle.gob_stream.specs.Item.{StreamItem, defines, puts}
-use Rattle.gob_stream.specs.Outcome.{BeginsWith, GivesItems, Outcome, refused}
+use Rattle.gob_stream.specs.Outcome.{BeginsWithStream, LongestStream, Outcome, refused}
 use Rattle.gob_stream.specs.Reading.{SomeTaken}
 use Rattle.gob_stream.specs.Stream.{Stream}
 use Rattle.gob_tool.specs.declared.fault.ToolFault.{ToolFault}
@@ -81,20 +81,20 @@ pub record ClashesBehind (L : Bounds) (bytes : List ℕ) (U : Table) (u : TypeId
   pub items : List StreamItem
   pub id : TypeId
   pub value : Tree
-  pub begins : BeginsWith base_table L bytes (items ++ puts id value ∷ [])
+  pub begins : BeginsWithStream base_table L bytes (items ++ puts id value ∷ [])
   pub received : HasTakenItems begins.table U u items P
   pub clash : IsLeastClash begins.table U id u path reason
 
 -- this holds of the lines of the items of the longest stream that the bytes begin with
 pub record ReceivesGiven (L : Bounds) (bytes : List ℕ) (U : Table) (u : TypeId) (P : List ℕ → Type 0) : Type 0 where
   pub items : List StreamItem
-  pub given : GivesItems base_table L bytes items
+  pub given : LongestStream base_table L bytes items
   pub received : HasTakenItems given.begins.table U u items P
 
 -- this holds of the lines of the items of some stream that the bytes begin with
 pub record ReceivesFront (L : Bounds) (bytes : List ℕ) (U : Table) (u : TypeId) (P : List ℕ → Type 0) : Type 0 where
   pub items : List StreamItem
-  pub begins : BeginsWith base_table L bytes items
+  pub begins : BeginsWithStream base_table L bytes items
   pub received : HasTakenItems begins.table U u items P
 
 -- how the part of the run behind the wanted stream ends, over an input with these bytes left, where `Whole` holds of
@@ -122,7 +122,7 @@ LacksWanted L bytes now (fault.Wanted R) = (items : List StreamItem) × Outcome 
 LacksWanted L bytes now fault.NoWantedType = (items : List StreamItem) × (T : Table) × Stream base_table L items bytes T
     × (now ≡ Some []) × (first_type items ≡ None)
 LacksWanted L bytes now fault.Read = SomeTaken bytes now
-    (λ taken. (items : List StreamItem) × GivesItems base_table L taken items)
+    (λ taken. (items : List StreamItem) × LongestStream base_table L taken items)
 LacksWanted L bytes now fault.Memory = Unit {0}
 LacksWanted L bytes now (fault.Refused R) = ⊥
 LacksWanted L bytes now (fault.Clash path reason) = ⊥
@@ -132,13 +132,13 @@ LacksWanted L bytes now fault.Write = ⊥
 -- wanted
 -- stream has no wanted type, and nothing else is done; or the lines of what is received went out, and nothing else, or
 -- after a failed write a front of them
-pub data Takes (L : Bounds) (wanted bytes : List ℕ) (wanted_now now old new : Option (List ℕ)) : Result (Unit {0})
+pub data TakeAnswers (L : Bounds) (wanted bytes : List ℕ) (wanted_now now old new : Option (List ℕ)) : Result (Unit {0})
     ToolFault → Type 0 where
   stops_at_wanted : {f : ToolFault} → LacksWanted L wanted wanted_now f → Untouched bytes now old new
-      → Takes L wanted bytes wanted_now now old new (Err f)
+      → TakeAnswers L wanted bytes wanted_now now old new (Err f)
   takes_behind : {r : Result (Unit {0}) ToolFault}
       → HasWanted L wanted wanted_now (λ U u. Receiving L bytes now U u (Appends old new) (AppendsFront old new) r)
-      → Takes L wanted bytes wanted_now now old new r
+      → TakeAnswers L wanted bytes wanted_now now old new r
 
 -- a read of the one input or of the other failed where the fault is `Read`, and else only before a failed write
 abbrev pub CountsTakeReads : (wanted wanted' failures failures' : ℕ) → Result (Unit {0}) ToolFault → Type 0

@@ -17,7 +17,7 @@ pub(crate) struct Block {
 }
 
 impl Block {
-    ghost use Rattle.gob_tool.specs.Block.{waiting};
+    ghost use Rattle.gob_tool.specs.Machine.Block.{waiting};
 
     /// Room for 64 KiB.
     pub(crate) fn new(alloc: Global) -> Result<Block, Memory>

@@ -4,10 +4,10 @@ ghost use Rattle.std.specs.Prelude.{◌≡◌, ◌++◌, ◌≤◌, []};
 ghost use Rattle.gob_value.specs.Whole.{IsWhole};
 ghost use Rattle.gob_stream.specs.Ends.{failed_writes, writer_of};
 ghost use Rattle.gob_stream.specs.Item.{puts};
-ghost use Rattle.gob_tool.specs.Gathering.{CountsWrites, Writes};
+ghost use Rattle.gob_tool.specs.Machine.Gathering.{CountsWrites, Writes};
 ghost use Rattle.gob_tool.specs.Line.{line};
-ghost use Rattle.gob_tool.specs.Block.{waiting};
-ghost use Rattle.gob_tool.specs.Blocks.{told};
+ghost use Rattle.gob_tool.specs.Machine.Block.{waiting};
+ghost use Rattle.gob_tool.specs.Machine.Blocks.{told};
 
 use crate::block::Block;
 use crate::fault::ToolFault;
@@ -43,8 +43,8 @@ fn write_out<W: Write>(bytes: &[u8], output: &mut Output<W>) -> Result<(), Unwri
     }
 }
 
-// An output that is written to in blocks. It is taken apart in the end, and not dropped: so what it did to the output is
-// known.
+// An output that is written to in blocks. It is taken apart in the end, and not dropped: so what it did to the output
+// is known.
 struct Blocks<'a, W: Write> {
     block: Block,
     output: &'a mut Output<W>,
@@ -89,8 +89,8 @@ impl<W: Write> Blocks<'_, W> {
 }
 
 impl<W: Write> TextOut for Blocks<'_, W> {
-    ghost use Rattle.gob_tool.specs.Gathering.{Passes};
-    ghost use Rattle.gob_tool.specs.Blocks.{passes_nothing, passes_both, passes_more, counts_both};
+    ghost use Rattle.gob_tool.specs.Machine.Gathering.{Passes};
+    ghost use Rattle.gob_tool.specs.Machine.Blocks.{passes_nothing, passes_both, passes_more, counts_both};
     ghost use Rattle.gob_tool.specs.declared.fault.ToolFault.TheVariants as fault;
     ghost use Rattle.std.proofs.Common.{refl, ◌∙◌};
 
@@ -131,8 +131,8 @@ impl<W: Write> TextOut for Blocks<'_, W> {
     ) };
 }
 
-/// Writes the line of the item that puts the value of the type that the body spells, as is known of it, in blocks of the
-/// size of the room. After an error a front of the line is written.
+/// Writes the line of the item that puts the value of the type that the body spells, as is known of it, in blocks of
+/// the size of the room. After an error a front of the line is written.
 pub(crate) fn send_item<S: Shapes, W: Write>(
     shapes: &S,
     id: TypeId,

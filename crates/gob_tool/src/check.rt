@@ -4,9 +4,9 @@ ghost use Rattle.std.specs.Prelude.{◌≡◌, ◌<◌, ◌≤◌, ℕ, List, []
 ghost use Rattle.gob_stream.specs.Bounds.{AreLimits, deepest, no_deeper};
 ghost use Rattle.gob_stream.specs.Ends.{failed_reads, failed_writes, reader_of, writer_of};
 ghost use Rattle.gob_stream.specs.Session.{limits_of};
-ghost use Rattle.gob_tool.specs.Checking.{Checks};
-ghost use Rattle.gob_tool.specs.Counting.{GaveCounts, EndsCounting, CountsCounting, tally_line};
-ghost use Rattle.gob_tool.specs.Counting.{HasCounted, CountsAll, CountsFront};
+ghost use Rattle.gob_tool.specs.Checking.{CheckAnswers};
+ghost use Rattle.gob_tool.specs.Machine.Counting.{GaveCounts, EndsCounting, CountsCounting, tally_line};
+ghost use Rattle.gob_tool.specs.Machine.Counting.{HasCounted, CountsAll, CountsFront};
 ghost use Rattle.gob_tool.specs.Showing.{CountsReadFaults, CountsWriteFaults};
 
 use crate::fault::ToolFault;
@@ -41,7 +41,7 @@ pub fn run_check<R: Read, W: Write>(
     limits: Limits,
 ) -> Result<(), ToolFault>
     ensures checked { (bytes : List ℕ) → R.remaining (reader_of input.old) ≡ Some bytes
-        → Checks (no_deeper deepest limits) bytes (R.remaining (reader_of input.new))
+        → CheckAnswers (no_deeper deepest limits) bytes (R.remaining (reader_of input.new))
         (W.contents (writer_of output.old)) (W.contents (writer_of output.new)) result }
     ensures reads { CountsReadFaults (failed_reads input.old) (failed_reads input.new) result }
     ensures writes { CountsWriteFaults (failed_writes output.old) (failed_writes output.new) result }
@@ -111,7 +111,7 @@ fn count_pieces<R: Read>(
     session: &mut Session<SkipBuilder>,
     buffer: &mut [u8],
 ) -> Result<Tally, ToolFault>
-    requires stands { GaveCounts session.old [] [] }
+    requires has_read { GaveCounts session.old [] [] }
     requires limits { AreLimits deepest (limits_of session.old) }
     requires room { 0 < length buffer.old }
     ensures counted { (bytes : List ℕ) → R.remaining (reader_of input.old) ≡ Some bytes

@@ -4,8 +4,8 @@ ghost use Rattle.std.specs.Prelude.{◌≡◌, List, ℕ, min, Option, IfSome, �
 ghost use Rattle.gob_stream.specs.Bounds.{greatest_depth, within_trees};
 ghost use Rattle.gob_stream.specs.Ends.{failed_writes, writer_of};
 ghost use Rattle.gob_stream.specs.Session.{limits_of};
-ghost use Rattle.gob_tool.specs.Gathering.{CountsOnlyWrites, StandsBehind, TakesPiece};
-ghost use Rattle.gob_tool.specs.Large.{IsLargeItem, IsLargeList};
+ghost use Rattle.gob_tool.specs.Machine.Gathering.{CountsOnlyWrites, StandsBehind, TakesPiece};
+ghost use Rattle.gob_tool.specs.Machine.Large.{IsLargeItem, IsLargeList};
 
 use crate::block::Block;
 use crate::blocks::send_item;
@@ -94,8 +94,8 @@ pub(crate) fn large_item<'a>(
     Some(item)
 }
 
-/// Takes the item, and writes the lines that are gathered and its own. What it takes in memory is taken before the first
-/// byte of its line is written.
+/// Takes the item, and writes the lines that are gathered and its own. What it takes in memory is taken before the
+/// first byte of its line is written.
 pub(crate) fn show_large<W: Write>(
     alloc: Global,
     piece: &[u8],

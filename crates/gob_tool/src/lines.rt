@@ -5,7 +5,7 @@ ghost use Rattle.gob_stream.specs.Ends.{failed_writes, writer_of};
 ghost use Rattle.gob_stream.specs.Item.{item_view};
 ghost use Rattle.gob_tool.specs.Line.{line};
 ghost use Rattle.gob_json.specs.TextWhole.{LineOfWhole, head_text};
-ghost use Rattle.gob_tool.specs.Gathering.{Writes, Passes, GathersGiven, CountsWrites};
+ghost use Rattle.gob_tool.specs.Machine.Gathering.{Writes, Passes, GathersGiven, CountsWrites};
 
 use crate::fault::ToolFault;
 use crate::item_json::write_item;

@@ -1,7 +1,7 @@
 //! The bytes of an item that isn't whole yet.
 
 ghost use Rattle.std.specs.Prelude.{◌≡◌, ◌++◌, ◌<◌, [], length, false, IsTrue, OnOk, OnErr};
-ghost use Rattle.gob_tool.specs.Keeping.{Lacks, IsKeptFront};
+ghost use Rattle.gob_tool.specs.Machine.Keeping.{Lacks, IsKeptFront};
 
 use gob_num::Memory;
 use gob_read::Builder;

@@ -4,8 +4,8 @@ ghost use Rattle.std.specs.Prelude.{◌≡◌, ◌<◌, ℕ, List, length};
 ghost use Rattle.gob_stream.specs.Ends.{failed_reads, reader_of};
 ghost use Rattle.gob_stream.specs.Item.{StreamItem, item_views};
 ghost use Rattle.gob_stream.specs.Session.{limits_of};
-ghost use Rattle.gob_tool.specs.Gathering.{GaveItems};
-ghost use Rattle.gob_tool.specs.Pieces.{HasGiven, GivesPiece, CountsPiece};
+ghost use Rattle.gob_tool.specs.Machine.Gathering.{GaveItems};
+ghost use Rattle.gob_tool.specs.Machine.Pieces.{HasGiven, GivesPiece, CountsPiece};
 
 use gob_read::TreeBuilder;
 use gob_stream::{Fault, Input, Item, Session};
@@ -22,7 +22,7 @@ pub(crate) fn next_items<R: Read>(
     buffer: &mut [u8],
     items: &mut Vec<Item<Value>>,
 ) -> Result<bool, Fault>
-    requires stands { HasGiven session.old }
+    requires has_read { HasGiven session.old }
     requires room { 0 < length buffer.old }
     ensures gave { (before : List StreamItem) (taken : List ℕ) → GaveItems session.old before taken
         → GivesPiece session.old session.new before taken (item_views items.new.items)

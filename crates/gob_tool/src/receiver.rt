@@ -8,7 +8,7 @@ ghost use Rattle.gob_value.specs.Within.{FitsWithin};
 ghost use Rattle.gob_match.specs.Matching.{Match};
 ghost use Rattle.gob_match.specs.Received.{Receives};
 ghost use Rattle.gob_match.specs.Faults.{IsMatchFault};
-ghost use Rattle.gob_tool.specs.Receiver.{IsReceiver, IsSameReceiver};
+ghost use Rattle.gob_tool.specs.Machine.Receiver.{IsReceiver, IsSameReceiver};
 
 use gob_match::{MatchFault, Matched, match_types, receive};
 use gob_types::{Table, TypeId};

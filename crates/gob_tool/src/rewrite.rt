@@ -6,11 +6,11 @@ ghost use Rattle.gob_stream.specs.Bounds.{AreLimits, deepest, no_deeper};
 ghost use Rattle.gob_stream.specs.Ends.{failed_reads, failed_writes, reader_of, writer_of};
 ghost use Rattle.gob_stream.specs.Session.{limits_of};
 ghost use Rattle.gob_stream.specs.Writing.{IsNew};
-ghost use Rattle.gob_tool.specs.Gathering.{Gathered, CountsOnlyReads, CountsOnlyWrites};
-ghost use Rattle.gob_tool.specs.Rewriting.{Rewrites, RewritesSo};
-ghost use Rattle.gob_tool.specs.Rewritten.{GaveTapes, HasRewritten, RewritesPiece, RewritesSome, RewritesUsed};
-ghost use Rattle.gob_tool.specs.Rewritten.{MayRewriteWhole};
-ghost use Rattle.gob_tool.specs.Rewritten.{RewritesIn, RewritesKeeping, MayRewriteFront};
+ghost use Rattle.gob_tool.specs.Machine.Gathering.{Gathered, CountsOnlyReads, CountsOnlyWrites};
+ghost use Rattle.gob_tool.specs.Rewriting.{RewriteAnswers, RewritesSo};
+ghost use Rattle.gob_tool.specs.Machine.Rewritten.{GaveTapes, HasRewritten, RewritesPiece, RewritesSome, RewritesUsed};
+ghost use Rattle.gob_tool.specs.Machine.Rewritten.{MayRewriteWhole};
+ghost use Rattle.gob_tool.specs.Machine.Rewritten.{RewritesIn, RewritesKeeping, MayRewriteFront};
 ghost use Rattle.gob_tool.specs.Showing.{AppendsFront, CountsReadFaults, CountsWriteFaults};
 
 use crate::fault::ToolFault;
@@ -39,7 +39,7 @@ pub fn run_rewrite<R: Read, W: Write>(
     limits: Limits,
 ) -> Result<(), ToolFault>
     ensures rewritten { (bytes : List ℕ) → R.remaining (reader_of input.old) ≡ Some bytes
-        → Rewrites (no_deeper deepest limits) bytes (R.remaining (reader_of input.new))
+        → RewriteAnswers (no_deeper deepest limits) bytes (R.remaining (reader_of input.new))
         (W.contents (writer_of output.old)) (W.contents (writer_of output.new)) result }
     ensures reads { CountsReadFaults (failed_reads input.old) (failed_reads input.new) result }
     ensures writes { CountsWriteFaults (failed_writes output.old) (failed_writes output.new) result }
@@ -67,7 +67,7 @@ fn rewrite_and_flush<R: Read, W: Write>(
     requires new { IsNew rewriter.old.writer limits }
     requires empty { rewriter.old.gathered.items ≡ [] }
     ensures rewritten { (bytes : List ℕ) → R.remaining (reader_of input.old) ≡ Some bytes
-        → Rewrites (no_deeper deepest limits) bytes (R.remaining (reader_of input.new))
+        → RewriteAnswers (no_deeper deepest limits) bytes (R.remaining (reader_of input.new))
         (W.contents (writer_of output.old)) (W.contents (writer_of output.new)) result }
     ensures reads { CountsReadFaults (failed_reads input.old) (failed_reads input.new) result }
     ensures writes { CountsWriteFaults (failed_writes output.old) (failed_writes output.new) result }
@@ -126,7 +126,7 @@ fn rewrite_pieces<R: Read, W: Write>(
     buffer: &mut [u8],
     rewriter: &mut Rewriter,
 ) -> Result<(), ToolFault>
-    requires stands { GaveTapes session.old [] [] }
+    requires has_read { GaveTapes session.old [] [] }
     requires depth { depth ≡ (limits_of session.old).depth }
     requires limits { AreLimits deepest (limits_of session.old) }
     requires new { IsNew rewriter.old.writer (limits_of session.old) }
@@ -264,8 +264,8 @@ fn rewrite_behind<W: Write>(
     }
 }
 
-/// Takes bytes from the front of the piece as [`rewrite_front`] does. None where the piece is the first bytes of an item
-/// of a value, or empty, and then nothing has changed.
+/// Takes bytes from the front of the piece as [`rewrite_front`] does. None where the piece is the first bytes of an
+/// item of a value, or empty, and then nothing has changed.
 fn rewrite_ready<W: Write>(
     alloc: Global,
     piece: &[u8],

@@ -7,14 +7,14 @@ ghost use Rattle.gob_value.specs.Top.{SpellsTop};
 ghost use Rattle.gob_value.specs.Tree.{Tree};
 ghost use Rattle.gob_value.specs.View.{view};
 ghost use Rattle.gob_stream.specs.Ends.{failed_writes, writer_of};
-ghost use Rattle.gob_stream.specs.SessionState.{SessionState};
+ghost use Rattle.gob_stream.specs.Machine.SessionState.{SessionState};
 ghost use Rattle.gob_stream.specs.Bounds.{deepest, no_deeper};
 ghost use Rattle.gob_tape.specs.declared.tape_builder.TapeBuilder.{TapeBuilder};
 ghost use Rattle.gob_stream.specs.Item.{StreamItem, ItemMeans, defines, puts};
 ghost use Rattle.gob_stream.specs.Writing.{IsNew, Leaves, CountsWriterFaults};
-ghost use Rattle.gob_tool.specs.Gathering.{Passes, Writes, CountsWrites, CountsOnlyWrites};
-ghost use Rattle.gob_tool.specs.Rewritten.{IsTape, StandsThere, IsOfStream, WritesForm, HasRewritten, IsNextTape};
-ghost use Rattle.gob_tool.specs.Rewritten.{SpellsTidy, IsTidyNext, Pushes, PushesOut, PutsOut};
+ghost use Rattle.gob_tool.specs.Machine.Gathering.{Passes, Writes, CountsWrites, CountsOnlyWrites};
+ghost use Rattle.gob_tool.specs.Machine.Rewritten.{IsTape, StandsThere, IsOfStream, WritesForm, HasRewritten, IsNextTape};
+ghost use Rattle.gob_tool.specs.Machine.Rewritten.{SpellsTidy, IsTidyNext, Pushes, PushesOut, PutsOut};
 
 use crate::fault::ToolFault;
 use crate::lines::write_whole;
@@ -99,9 +99,9 @@ impl Rewriter {
     }
 
     /// The same of the item that puts the value which the body spells and which is its own tidy form: its bytes are
-    /// written as they stand. What is gathered is written if it is enough to be worth a write, and an item that is large
-    /// itself isn't gathered, but written behind it. After a failed write a front of what was gathered is written, or all of
-    /// it and a front of the item; after another error nothing of the item is written or gathered.
+    /// written as they stand. What is gathered is written if it is enough to be worth a write, and an item that is
+    /// large itself isn't gathered, but written behind it. After a failed write a front of what was gathered is
+    /// written, or all of it and a front of the item; after another error nothing of the item is written or gathered.
     pub(crate) fn push_whole<W: Write>(
         &mut self,
         alloc: Global,

@@ -3,7 +3,7 @@
 ghost use Rattle.std.specs.Prelude.{◌≡◌, ℕ, List, Some, false};
 ghost use Rattle.gob_tool.specs.Depths.{wants_type};
 ghost use Rattle.gob_tool.specs.Words.{order_limits};
-ghost use Rattle.gob_tool.specs.Running.{Does};
+ghost use Rattle.gob_tool.specs.Running.{OrderAnswers};
 ghost use Rattle.gob_tool.specs.Showing.{CountsWriteFaults};
 ghost use Rattle.gob_tool.specs.Taking.{CountsTakeReads};
 ghost use Rattle.gob_stream.specs.Ends.{failed_reads, failed_writes, reader_of, writer_of};
@@ -29,7 +29,7 @@ pub fn run_order<Q: Read, R: Read, W: Write>(
 ) -> Result<(), ToolFault>
     ensures does { (wanted_bytes bytes : List ℕ) → Q.remaining (reader_of wanted.old) ≡ Some wanted_bytes
         → R.remaining (reader_of input.old) ≡ Some bytes
-        → Does order.now.command (order_limits order.now) wanted_bytes bytes (Q.remaining (reader_of wanted.new))
+        → OrderAnswers order.now.command (order_limits order.now) wanted_bytes bytes (Q.remaining (reader_of wanted.new))
         (R.remaining (reader_of input.new)) (W.contents (writer_of output.old)) (W.contents (writer_of output.new)) result }
     ensures unread { wants_type order.now.command ≡ false → wanted.new ≡ wanted.old }
     ensures reads { CountsTakeReads (failed_reads wanted.old) (failed_reads wanted.new)

@@ -8,10 +8,10 @@ ghost use Rattle.gob_types.specs.declared.kind.Kind.TheVariants as kinds;
 ghost use Rattle.gob_types.specs.Table.{Table};
 ghost use Rattle.gob_value.specs.Tree.{Trees, tree_count};
 ghost use Rattle.gob_value.specs.Spelling.{SpellsEach};
-ghost use Rattle.gob_tool.specs.Gathering.{CountsWrites, Writes};
+ghost use Rattle.gob_tool.specs.Machine.Gathering.{CountsWrites, Writes};
 ghost use Rattle.gob_json.specs.Json.{elements_json};
 ghost use Rattle.gob_json.specs.TextWhole.{IsOfKind};
-ghost use Rattle.gob_tool.specs.Large.{IsListOf, ListsIntegers};
+ghost use Rattle.gob_tool.specs.Machine.Large.{IsListOf, ListsIntegers};
 ghost use Rattle.gob_stream.specs.Ends.{failed_writes, writer_of};
 
 use crate::fault::ToolFault;
@@ -81,8 +81,8 @@ fn is_integer(kind: &Kind) -> bool
 }
 
 /// Writes the text of so many ints that stand in the body from the place on, the bracket that closes it and the end of
-/// the line, in blocks of the size of the room. Where the body spells something else the text ends early. After an error
-/// a front of the text is written.
+/// the line, in blocks of the size of the room. Where the body spells something else the text ends early. After an
+/// error a front of the text is written.
 pub(crate) fn send_integers<W: Write>(
     list: Integers,
     body: &[u8],

@@ -3,14 +3,14 @@
 ghost use Rattle.std.specs.Prelude.{◌≡◌, ◌≢◌, ℕ, ◌<◌, ◌≤◌, List, [], ◌++◌, length, Option, Some, IfOk, IfSome, OnOk};
 ghost use Rattle.gob_stream.specs.Ends.{failed_reads, failed_writes, reader_of, writer_of};
 ghost use Rattle.gob_stream.specs.Session.{limits_of};
-ghost use Rattle.gob_stream.specs.SessionState.{SessionState};
+ghost use Rattle.gob_stream.specs.Machine.SessionState.{SessionState};
 ghost use Rattle.gob_stream.specs.Item.{StreamItem};
-ghost use Rattle.gob_tool.specs.Showing.{Runs, Shows, AppendsFront, CountsReadFaults, CountsWriteFaults};
+ghost use Rattle.gob_tool.specs.Showing.{RunAnswers, ShowAnswers, AppendsFront, CountsReadFaults, CountsWriteFaults};
 ghost use Rattle.gob_stream.specs.Bounds.{within_trees};
-ghost use Rattle.gob_tool.specs.Gathering.{Gathered, GaveItems, StandsBehind, TakesPiece};
-ghost use Rattle.gob_tool.specs.Gathering.{CountsOnlyReads, CountsOnlyWrites};
-ghost use Rattle.gob_tool.specs.Gathering.{MayGatherWhole, TakesFront};
-ghost use Rattle.gob_tool.specs.Keeping.{KeepsBehind, TakesKeeping, MayTakeFront};
+ghost use Rattle.gob_tool.specs.Machine.Gathering.{Gathered, GaveItems, StandsBehind, TakesPiece};
+ghost use Rattle.gob_tool.specs.Machine.Gathering.{CountsOnlyReads, CountsOnlyWrites};
+ghost use Rattle.gob_tool.specs.Machine.Gathering.{MayGatherWhole, TakesFront};
+ghost use Rattle.gob_tool.specs.Machine.Keeping.{KeepsBehind, TakesKeeping, MayTakeFront};
 
 use crate::fault::ToolFault;
 use crate::large::{large_item, large_list, show_large, show_list};
@@ -37,7 +37,7 @@ pub fn run_show<R: Read, W: Write>(
     limits: Limits,
 ) -> Result<(), ToolFault>
     ensures shown { (bytes : List ℕ) → R.remaining (reader_of input.old) ≡ Some bytes
-        → Shows (within_trees limits) bytes (R.remaining (reader_of input.new))
+        → ShowAnswers (within_trees limits) bytes (R.remaining (reader_of input.new))
         (W.contents (writer_of output.old)) (W.contents (writer_of output.new)) result }
     ensures reads { CountsReadFaults (failed_reads input.old) (failed_reads input.new) result }
     ensures writes { CountsWriteFaults (failed_writes output.old) (failed_writes output.new) result }
@@ -65,7 +65,7 @@ fn show_items<R: Read, W: Write>(
 ) -> Result<(), ToolFault>
     requires { lines.old.gathered.items ≡ [] }
     ensures shown { (bytes : List ℕ) → R.remaining (reader_of input.old) ≡ Some bytes
-        → Runs (within_trees limits) bytes (R.remaining (reader_of input.new))
+        → RunAnswers (within_trees limits) bytes (R.remaining (reader_of input.new))
         (Gathered (W.contents (writer_of output.old)) (W.contents (writer_of output.new)) lines.new.gathered.items)
         (AppendsFront (W.contents (writer_of output.old)) (W.contents (writer_of output.new))) result }
     ensures reads { CountsOnlyReads (failed_reads input.old) (failed_reads input.new) result }
@@ -96,12 +96,12 @@ fn show_pieces<R: Read, W: Write>(
     buffer: &mut [u8],
     lines: &mut Lines,
 ) -> Result<(), ToolFault>
-    requires stands { GaveItems session.old [] [] }
+    requires has_read { GaveItems session.old [] [] }
     requires depth { depth ≡ (limits_of session.old).depth }
     requires room { 0 < length buffer.old }
     requires lines { lines.old.gathered.items ≡ [] }
     ensures shown { (bytes : List ℕ) → R.remaining (reader_of input.old) ≡ Some bytes
-        → Runs (within_trees (limits_of session.old)) bytes (R.remaining (reader_of input.new))
+        → RunAnswers (within_trees (limits_of session.old)) bytes (R.remaining (reader_of input.new))
         (Gathered (W.contents (writer_of output.old)) (W.contents (writer_of output.new)) lines.new.gathered.items)
         (AppendsFront (W.contents (writer_of output.old)) (W.contents (writer_of output.new))) result }
     ensures reads { CountsOnlyReads (failed_reads input.old) (failed_reads input.new) result }
@@ -132,7 +132,7 @@ fn show_end<W: Write>(
     requires depth { depth ≡ (limits_of session.old).depth }
     ensures shown { (bytes : List ℕ) (start : Option (List ℕ))
         → KeepsBehind session.old kept.now bytes start (W.contents (writer_of output.old)) lines.old.gathered.items
-        → Runs (within_trees (limits_of session.old)) bytes (Some [])
+        → RunAnswers (within_trees (limits_of session.old)) bytes (Some [])
         (Gathered start (W.contents (writer_of output.new)) lines.new.gathered.items)
         (AppendsFront start (W.contents (writer_of output.new))) result }
     ensures reads { (bytes : List ℕ) (start : Option (List ℕ)) (failures : ℕ)
@@ -199,8 +199,8 @@ fn show_kept<W: Write>(
     Ok(())
 }
 
-/// The same as [`show_piece`] of a piece that may be one large item, whose line goes out while it is made. A list of ints
-/// has a way of its own, which is faster.
+/// The same as [`show_piece`] of a piece that may be one large item, whose line goes out while it is made. A list of
+/// ints has a way of its own, which is faster.
 fn show_item<W: Write>(
     alloc: Global,
     piece: &[u8],
@@ -279,8 +279,8 @@ fn show_behind<W: Write>(
     }
 }
 
-/// Takes bytes from the front of the piece as [`show_front`] does. None where the piece is the first bytes of an item of
-/// a value, or empty, and then nothing has changed.
+/// Takes bytes from the front of the piece as [`show_front`] does. None where the piece is the first bytes of an item
+/// of a value, or empty, and then nothing has changed.
 fn show_ready(
     alloc: Global,
     piece: &[u8],

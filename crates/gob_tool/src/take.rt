@@ -8,11 +8,11 @@ ghost use Rattle.gob_stream.specs.Ends.{failed_reads, failed_writes, reader_of, 
 ghost use Rattle.gob_stream.specs.Item.{item_view, item_views};
 ghost use Rattle.gob_stream.specs.Bounds.{within_trees};
 ghost use Rattle.gob_stream.specs.Session.{limits_of};
-ghost use Rattle.gob_tool.specs.Gathering.{GaveItems, PassesSome, CountsOnlyReads, CountsOnlyWrites};
-ghost use Rattle.gob_tool.specs.Pieces.{AreSent, TakesItems};
-ghost use Rattle.gob_tool.specs.Receiver.{IsReceiver, IsSameReceiver};
+ghost use Rattle.gob_tool.specs.Machine.Gathering.{GaveItems, PassesSome, CountsOnlyReads, CountsOnlyWrites};
+ghost use Rattle.gob_tool.specs.Machine.Pieces.{AreSent, TakesItems};
+ghost use Rattle.gob_tool.specs.Machine.Receiver.{IsReceiver, IsSameReceiver};
 ghost use Rattle.gob_tool.specs.Showing.{AppendsFront, CountsReadFaults, CountsWriteFaults};
-ghost use Rattle.gob_tool.specs.Taking.{Takes, Receiving, CountsTakeReads};
+ghost use Rattle.gob_tool.specs.Taking.{TakeAnswers, Receiving, CountsTakeReads};
 
 use crate::fault::ToolFault;
 use crate::lines::Lines;
@@ -47,7 +47,7 @@ pub fn run_take<Q: Read, R: Read, W: Write>(
 ) -> Result<(), ToolFault>
     ensures taken { (wanted_bytes bytes : List ℕ) → Q.remaining (reader_of wanted.old) ≡ Some wanted_bytes
         → R.remaining (reader_of input.old) ≡ Some bytes
-        → Takes (within_trees limits) wanted_bytes bytes (Q.remaining (reader_of wanted.new))
+        → TakeAnswers (within_trees limits) wanted_bytes bytes (Q.remaining (reader_of wanted.new))
         (R.remaining (reader_of input.new))
         (W.contents (writer_of output.old)) (W.contents (writer_of output.new)) result }
     ensures reads { CountsTakeReads (failed_reads wanted.old) (failed_reads wanted.new)
@@ -77,11 +77,11 @@ fn take_as_wanted<Q: Read, R: Read, W: Write>(
     output: &mut Output<W>,
     limits: Limits,
 ) -> Result<(), ToolFault>
-    requires stands { GaveItems session.old [] [] }
+    requires has_read { GaveItems session.old [] [] }
     requires within { limits_of session.old ≡ limits }
     ensures taken { (wanted_bytes bytes : List ℕ) → Q.remaining (reader_of wanted.old) ≡ Some wanted_bytes
         → R.remaining (reader_of input.old) ≡ Some bytes
-        → Takes (within_trees limits) wanted_bytes bytes (Q.remaining (reader_of wanted.new))
+        → TakeAnswers (within_trees limits) wanted_bytes bytes (Q.remaining (reader_of wanted.new))
         (R.remaining (reader_of input.new))
         (W.contents (writer_of output.old)) (W.contents (writer_of output.new)) result }
     ensures reads { CountsTakeReads (failed_reads wanted.old) (failed_reads wanted.new)
@@ -176,7 +176,7 @@ fn take_pieces<R: Read, W: Write>(
     lines: &mut Lines,
 ) -> Result<(), ToolFault>
     requires ready { IsReady (types wanted.now) wanted_id }
-    requires stands { GaveItems session.old [] [] }
+    requires has_read { GaveItems session.old [] [] }
     requires room { 0 < length buffer.old }
     requires lines { lines.old.gathered.items ≡ [] }
     ensures taken { (bytes : List ℕ) → R.remaining (reader_of input.old) ≡ Some bytes

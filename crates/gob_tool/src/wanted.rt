@@ -6,10 +6,10 @@ ghost use Rattle.gob_stream.specs.Ends.{failed_reads, reader_of};
 ghost use Rattle.gob_stream.specs.Item.{item_views};
 ghost use Rattle.gob_stream.specs.Bounds.{within_trees};
 ghost use Rattle.gob_stream.specs.Session.{limits_of, types_of};
-ghost use Rattle.gob_tool.specs.Gathering.{GaveItems};
-ghost use Rattle.gob_tool.specs.Pieces.{ReadsWanted, CountsPiece, first_type_of};
+ghost use Rattle.gob_tool.specs.Machine.Gathering.{GaveItems};
+ghost use Rattle.gob_tool.specs.Machine.Pieces.{ReadsWanted, CountsPiece, first_type_of};
 ghost use Rattle.gob_tool.specs.Taking.{first_type};
-ghost use Rattle.gob_tool.specs.Wanting.{FindsWanted, CountsWanted};
+ghost use Rattle.gob_tool.specs.Machine.Wanting.{FindsWanted, CountsWanted};
 
 use crate::fault::{ToolFault, wanted_fault};
 use crate::pieces::next_items;
@@ -31,7 +31,7 @@ pub(crate) fn read_wanted<Q: Read>(
     input: &mut Input<Q>,
     session: &mut Session<TreeBuilder>,
 ) -> Result<TypeId, ToolFault>
-    requires stands { GaveItems session.old [] [] }
+    requires has_read { GaveItems session.old [] [] }
     ensures found { (bytes : List ℕ) → Q.remaining (reader_of input.old) ≡ Some bytes
         → FindsWanted (within_trees (limits_of session.old)) bytes (Q.remaining (reader_of input.new))
         (types_of session.new) result }
@@ -53,7 +53,7 @@ fn read_type<Q: Read>(
     session: &mut Session<TreeBuilder>,
     buffer: &mut [u8],
 ) -> Result<Option<TypeId>, Fault>
-    requires stands { GaveItems session.old [] [] }
+    requires has_read { GaveItems session.old [] [] }
     requires room { 0 < length buffer.old }
     ensures read { (bytes : List ℕ) → Q.remaining (reader_of input.old) ≡ Some bytes
         → ReadsWanted (within_trees (limits_of session.old)) bytes (Q.remaining (reader_of input.new))

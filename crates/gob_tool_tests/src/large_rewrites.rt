@@ -31,8 +31,8 @@ fn a_tidy_one_stays(rt: HostRuntime) -> Result<(), Fail> {
     Ok(())
 }
 
-// The definition of a struct of an int and of bytes, and what stands before the bytes where the int is 0: written, and left
-// out as it is in the tidy form.
+// The definition of a struct of an int and of bytes, and what stands before the bytes where the int is 0: written, and
+// left out as it is in the tidy form.
 const UNTIDY: &[u8] = b"\x1f\xff\x81\x03\x01\x01\x05\x50\x6f\x69\x6e\x74\x01\xff\x82\x00\
     \x01\x02\x01\x01\x58\x01\x04\x00\x01\x01\x59\x01\x0a\x00\x00\x00\
     \xfd\x03\x0d\x4a\xff\x82\x01\x00\x01\xfd\x03\x0d\x40";

@@ -48,6 +48,7 @@ basic_shape_of T t {b = b} e = by (shape_of T t) refl e
     of_kind (kind.Struct c) f = absurd (none-some _ f)
     of_kind (kind.Map c d) f = absurd (none-some _ f)
     of_kind (kind.Opaque c) f = absurd (none-some _ f)
+
     by : (o : Option Shape) → shape_of T t ≡ o → basic_shape o ≡ Some b → (s : Shape) × (shape_of T t ≡ Some s) × (s.kind ≡ kind.Basic b)
     by None g f = absurd (none-some _ f)
     by (Some s) g f = (s, g, of_kind s.kind f)

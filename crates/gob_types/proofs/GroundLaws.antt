@@ -5,7 +5,7 @@ use Rattle.gob_types.specs.declared.id.TypeId.{TypeId}
 use Rattle.gob_types.specs.Table.{Table, IsDefined}
 use Rattle.gob_types.specs.Ready.{IsGrounded}
 use Rattle.gob_types.specs.Readiness.{IsAllDefined}
-use Rattle.gob_types.specs.Walk.{AddsAll, IsFilledOf, IsFilledIn, KnowsGrounds, EndsWell, WalksOn}
+use Rattle.gob_types.specs.Machine.Walk.{AddsAll, IsFilledOf, IsFilledIn, KnowsGrounds, EndsWell, WalksOn}
 use Rattle.gob_types.proofs.GrowthLaws.{reaches_itself}
 use Rattle.gob_types.proofs.RankLaws.{filled_leads, filled_grounded, closed_bottomless}
 use Rattle.gob_types.proofs.SetLaws.{adds_keeps}

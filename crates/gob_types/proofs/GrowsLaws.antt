@@ -1,7 +1,7 @@
 -- Lists of ids that grow at their end.
 use Rattle.std.proofs.Common.{◌≡◌, List, [], ◌++◌, sym, ap, ◌∙◌, append_assoc, append-nil}
 use Rattle.gob_types.specs.declared.id.TypeId.{TypeId}
-use Rattle.gob_types.specs.Walk.{AddsAll, Grows}
+use Rattle.gob_types.specs.Machine.Walk.{AddsAll, Grows}
 
 pub grows_by : {old new : List TypeId} {P : TypeId → Type 0} → AddsAll old new P → Grows old new
 grows_by a = record { more = a.more; grown = a.grown }

@@ -11,10 +11,10 @@ use Rattle.gob_types.specs.declared.id.TypeId.{TypeId}
 use Rattle.gob_types.specs.declared.kind.Shape.{Shape}
 use Rattle.gob_types.specs.Table.{Table, shape_of, IsDefined}
 use Rattle.gob_types.specs.Ready.{Names, Leads, here, onward, Reaches, HasRank, plain, filled, IsGrounded, IsReady}
-use Rattle.gob_types.specs.Entered.{same_id}
+use Rattle.gob_types.specs.Machine.Entered.{same_id}
 use Rattle.gob_types.specs.Readiness.{IsAllDefined}
-use Rattle.gob_types.specs.Walk.{AddsAll, AddsOne, KnowsGrounds, Grows, AreAmong}
-use Rattle.gob_types.specs.Kept.{AreNamedBy, IsHopeless, AreReady, NamesAmong, MetPast, front}
+use Rattle.gob_types.specs.Machine.Walk.{AddsAll, AddsOne, KnowsGrounds, Grows, AreAmong}
+use Rattle.gob_types.specs.Machine.Kept.{AreNamedBy, IsHopeless, AreReady, NamesAmong, MetPast, front}
 use Rattle.gob_types.proofs.GrowthLaws.{Keeps, some_injective, reaches_itself, reaches_onward, reaches_on, ready_defined, ready_grounded}
 use Rattle.gob_types.proofs.FirstLaws.{slice_get-append_left, FirstAre, none_first, more_first, first_grown, first_as, all_first, contains_read}
 use Rattle.gob_types.proofs.SetLaws.{same_laws, same_exact, adds_keeps, adds_one}

@@ -2,7 +2,7 @@
 use Rattle.std.proofs.Common.{◌≡◌, ℕ, ◌+◌, ◌≤◌, ◌⊎◌, inl, inr, List, length, Contains, Option, Some, None, arith, sym, subst}
 use Rattle.std.specs.Prelude.{slice_get, IfSome}
 use Rattle.gob_types.specs.declared.id.TypeId.{TypeId}
-use Rattle.gob_types.specs.Walk.{IsLeastBad}
+use Rattle.gob_types.specs.Machine.Walk.{IsLeastBad}
 use Rattle.gob_types.proofs.GrowthLaws.{some_injective}
 use Rattle.gob_types.proofs.FirstLaws.{FirstAre, more_first, first_as, all_first, contains_read}
 

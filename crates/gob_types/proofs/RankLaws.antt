@@ -6,7 +6,7 @@ use Rattle.gob_types.specs.declared.kind.Shape.{Shape}
 use Rattle.std.specs.Prelude.{MatchOption}
 use Rattle.gob_types.specs.Table.{Table, shape_of, IsDefined}
 use Rattle.gob_types.specs.Ready.{Names, Reaches, IsFilledArray, HasRank, plain, filled, IsGrounded}
-use Rattle.gob_types.specs.Walk.{IsFilledOf, IsFilledIn}
+use Rattle.gob_types.specs.Machine.Walk.{IsFilledOf, IsFilledIn}
 use Rattle.gob_types.proofs.GrowthLaws.{some_injective, reaches_onward}
 
 -- the array's rank is one above its element's

@@ -14,8 +14,8 @@ use Rattle.std.proofs.lemmas.Map.Views.{Contains-from_any, list_any-from_Contain
 use Rattle.gob_types.proofs.GrowthLaws.{some_injective}
 use borrow.Author.Tests.{eqb-true}
 use Rattle.gob_types.specs.declared.id.TypeId.{TypeId}
-use Rattle.gob_types.specs.Entered.{same_id}
-use Rattle.gob_types.specs.Walk.{AddsAll, AddsOne}
+use Rattle.gob_types.specs.Machine.Entered.{same_id}
+use Rattle.gob_types.specs.Machine.Walk.{AddsAll, AddsOne}
 
 -- equality of ids is that of their numbers
 pub same_laws : IsEquivalence same_id

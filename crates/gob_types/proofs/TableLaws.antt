@@ -11,8 +11,8 @@ use Rattle.gob_types.specs.Table.{Table, shape_of, IsDefined, HasDistinctIds, Ex
 use Rattle.gob_types.specs.Base.{base_table}
 use Rattle.gob_types.specs.Definable.{IsOwnId, IsDefinable}
 use Rattle.gob_types.specs.Defined.{Defined, types, without, first_entries, IsTable, AreDefinitions, definition_count}
-use Rattle.gob_types.specs.Distinct.{distinct-types}
-use Rattle.gob_types.specs.Entered.{same_id, with_entry}
+use Rattle.gob_types.specs.Machine.Distinct.{distinct-types}
+use Rattle.gob_types.specs.Machine.Entered.{same_id, with_entry}
 use Rattle.gob_types.proofs.GrowthLaws.{some_injective, shape_of-append_new}
 use Rattle.gob_types.proofs.FirstLaws.{FirstAre, all_first, contains_read}
 

@@ -8,11 +8,11 @@ use Rattle.std.proofs.lemmas.Bool.Decides.{eqb_tells}
 use Rattle.std.proofs.lemmas.List.Elements.{Contains-append_left, Contains-push_cases}
 use Rattle.gob_types.specs.declared.id.TypeId.{TypeId}
 use Rattle.gob_types.specs.declared.kind.Shape.{Shape}
-use Rattle.gob_types.specs.Entered.{same_id}
+use Rattle.gob_types.specs.Machine.Entered.{same_id}
 use Rattle.gob_types.specs.Table.{Table, shape_of, IsDefined}
 use Rattle.gob_types.specs.Ready.{Reaches, IsReady}
-use Rattle.gob_types.specs.Walk.{AddsAll, AddsOne, Grows}
-use Rattle.gob_types.specs.Kept.{AreReady, Sets, IsIn, KeepsSets, IsSet, AwaitedTypes, Waiting, KnowsUsers, WaitsFor, here, onward, Redirects, AreLed, IsHopeless, IsLost, LeadsAway, ends, further, AreSettled, IsOpenType, IsLearning, IsLooking, IsJudged, IsKeptReadiness, WasKept, AreNamedBy, HandsOn, AreAdded, AddsWaiting}
+use Rattle.gob_types.specs.Machine.Walk.{AddsAll, AddsOne, Grows}
+use Rattle.gob_types.specs.Machine.Kept.{AreReady, Sets, IsIn, KeepsSets, IsSet, AwaitedTypes, Waiting, KnowsUsers, WaitsFor, here, onward, Redirects, AreLed, IsHopeless, IsLost, LeadsAway, ends, further, AreSettled, IsOpenType, IsLearning, IsLooking, IsJudged, IsKeptReadiness, WasKept, AreNamedBy, HandsOn, AreAdded, AddsWaiting}
 use Rattle.gob_types.proofs.GrowthLaws.{Keeps, some_injective, reaches_itself, reaches_on, ready_defined, ready_on, shape_of-append, shape_of-append_new}
 use Rattle.gob_types.proofs.FirstLaws.{slice_get-append_left, FirstAre, none_first, more_first, first_grown, first_as, all_first, contains_read}
 use Rattle.gob_types.proofs.SetLaws.{same_exact, adds_keeps, adds_one}

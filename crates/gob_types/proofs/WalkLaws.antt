@@ -8,7 +8,7 @@ use Rattle.gob_types.specs.declared.kind.Shape.{Shape}
 use Rattle.gob_types.specs.Table.{Table, shape_of, IsDefined}
 use Rattle.gob_types.specs.Ready.{Names, Leads, here, onward, Reaches, IsGrounded, IsReady}
 use Rattle.gob_types.specs.Readiness.{IsLeast, IsAllDefined}
-use Rattle.gob_types.specs.Walk.{AddsAll, IsReach}
+use Rattle.gob_types.specs.Machine.Walk.{AddsAll, IsReach}
 use Rattle.gob_types.proofs.GrowthLaws.{some_injective, reaches_itself, reaches_onward}
 use Rattle.gob_types.proofs.FirstLaws.{slice_get-append_left, FirstAre, none_first, more_first, first_grown, first_as, all_first, contains_read}
 use Rattle.gob_types.proofs.SetLaws.{adds_keeps}

@@ -4,10 +4,7 @@ pub mod Base
 pub mod Ready
 pub mod Definable
 pub mod Defined
-pub mod Distinct
 pub mod Refused
 pub mod Readiness
-pub mod Walk
-pub mod Kept
-pub mod Entered
 pub mod Laws
+pub mod Machine

@@ -2,7 +2,7 @@
 ghost use Rattle.std.specs.Prelude.{◌≡◌, ℕ, [], ◌++◌, ◌∷◌, IfOk, OnOk, map, take};
 ghost use Rattle.gob_types.specs.declared.id.TypeId.{TypeId};
 ghost use Rattle.gob_types.specs.Base.{base_table, field, entry, id};
-ghost use Rattle.gob_types.specs.Entered.{with_entry};
+ghost use Rattle.gob_types.specs.Machine.Entered.{with_entry};
 
 use crate::basic::Basic;
 use crate::entries::Entries;

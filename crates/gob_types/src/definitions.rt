@@ -6,7 +6,7 @@ ghost use Rattle.gob_types.specs.Base.{base_table};
 ghost use Rattle.gob_types.specs.Definable.{IsDefinable};
 ghost use Rattle.gob_types.specs.Defined.{IsTable, Admits, types, definition_count};
 ghost use Rattle.gob_types.specs.Refused.{RefusesToDefine};
-ghost use Rattle.gob_types.specs.Kept.{front};
+ghost use Rattle.gob_types.specs.Machine.Kept.{front};
 
 use crate::base::enter_base;
 use crate::basic::Basic;
@@ -137,7 +137,7 @@ impl Definitions {
 
 impl Shapes for Definitions {
     ghost use Rattle.gob_types.specs.Defined.{types};
-    ghost use Rattle.gob_types.specs.Distinct.{distinct-types};
+    ghost use Rattle.gob_types.specs.Machine.Distinct.{distinct-types};
 
     ghost table = { types };
 

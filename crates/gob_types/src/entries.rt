@@ -3,7 +3,7 @@ ghost use Rattle.std.specs.Prelude.{◌≡◌, [], OnOk, OnErr, IfOk, Contains, 
 ghost use Rattle.gob_types.specs.declared.id.TypeId.{TypeId};
 ghost use Rattle.std.specs.Option.{option_copied};
 ghost use Rattle.gob_types.specs.Table.{shape_of, IsDefined};
-ghost use Rattle.gob_types.specs.Entered.{with_entry};
+ghost use Rattle.gob_types.specs.Machine.Entered.{with_entry};
 
 use crate::id::TypeId;
 use crate::kind::Shape;

@@ -8,7 +8,7 @@ ghost use Rattle.gob_types.specs.Table.{IsDefined};
 ghost use Rattle.gob_types.specs.Defined.{types};
 ghost use Rattle.gob_types.specs.Ready.{IsGrounded, IsFilledArray};
 ghost use Rattle.gob_types.specs.Readiness.{IsAllDefined};
-ghost use Rattle.gob_types.specs.Walk.{IsFilledOf, KnowsGrounds, EndsWell, WalksOn};
+ghost use Rattle.gob_types.specs.Machine.Walk.{IsFilledOf, KnowsGrounds, EndsWell, WalksOn};
 
 use crate::definitions::Definitions;
 use crate::id::TypeId;

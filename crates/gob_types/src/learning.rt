@@ -1,20 +1,21 @@
 //! Which types of a table are ready, found from those that are known to be.
 //!
-//! What is ready stays ready when the table grows. A type that isn't waits for one that it leads to (`waits.rt`), and is
-//! looked at when it is defined, and when what it waited for became ready. It then goes on through the types that it leads
-//! to from where it stopped, and drops those that are ready. One that waits for the type itself is of its component, and
-//! what it had still to look at is looked at too. For any other it waits. So each name is looked at once; where none is
-//! left, one walk past the ready types shows the whole component to be ready, or that no definition can make it so.
+//! What is ready stays ready when the table grows. A type that isn't waits for one that it leads to (`waits.rt`), and
+//! is looked at when it is defined, and when what it waited for became ready. It then goes on through the types that
+//! it leads to from where it stopped, and drops those that are ready. One that waits for the type itself is of its
+//! component, and what it had still to look at is looked at too. For any other it waits. So each name is looked at
+//! once; where none is left, one walk past the ready types shows the whole component to be ready, or that no
+//! definition can make it so.
 ghost use Rattle.std.specs.Prelude.{◌≡◌, [], IfOk, OnOk, IfSome, Contains, MatchBool, Some};
 ghost use Rattle.std.specs.Map.{lookup};
 ghost use Rattle.gob_types.specs.declared.id.TypeId.{TypeId};
-ghost use Rattle.gob_types.specs.Entered.{same_id};
+ghost use Rattle.gob_types.specs.Machine.Entered.{same_id};
 ghost use Rattle.gob_types.specs.Table.{Table};
 ghost use Rattle.gob_types.specs.Defined.{types};
 ghost use Rattle.gob_types.specs.Ready.{Reaches};
-ghost use Rattle.gob_types.specs.Walk.{Grows};
-ghost use Rattle.gob_types.specs.Kept.{AreReady, AreLed, Redirects, WaitsFor, IsHopeless, MetPast, AreAdded};
-ghost use Rattle.gob_types.specs.Kept.{IsLooking, IsLearning, AreSettled, WasKept, IsJudged};
+ghost use Rattle.gob_types.specs.Machine.Walk.{Grows};
+ghost use Rattle.gob_types.specs.Machine.Kept.{AreReady, AreLed, Redirects, WaitsFor, IsHopeless, MetPast, AreAdded};
+ghost use Rattle.gob_types.specs.Machine.Kept.{IsLooking, IsLearning, AreSettled, WasKept, IsJudged};
 
 use crate::definitions::Definitions;
 use crate::grounds::Grounds;
@@ -102,8 +103,8 @@ fn is_judged(ready: &TypeSet, waits: &Waits, id: TypeId) -> bool
     }
 }
 
-// Looks at a type: it waits for another then, or no definition can make it ready, or it is ready, and what waits for it or
-// for another that became ready with it is in the queue.
+// Looks at a type: it waits for another then, or no definition can make it ready, or it is ready, and what waits for
+// it or for another that became ready with it is in the queue.
 fn look(
     table: &Definitions,
     alloc: Global,

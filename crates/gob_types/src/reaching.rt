@@ -3,7 +3,7 @@ ghost use Rattle.std.specs.Prelude.{◌≡◌, [], None, IfOk, MatchOption};
 ghost use Rattle.gob_types.specs.Table.{shape_of};
 ghost use Rattle.gob_types.specs.Defined.{types};
 ghost use Rattle.gob_types.specs.Ready.{Reaches};
-ghost use Rattle.gob_types.specs.Kept.{MetPast};
+ghost use Rattle.gob_types.specs.Machine.Kept.{MetPast};
 
 use crate::definitions::Definitions;
 use crate::id::TypeId;
@@ -12,8 +12,8 @@ use crate::shapes::Shapes;
 use crate::type_set::TypeSet;
 use gob_num::Memory;
 
-/// Meets the types that this type leads to, itself among them, where no step leads on from a known one. It ends early at
-/// one that isn't defined, and answers it.
+/// Meets the types that this type leads to, itself among them, where no step leads on from a known one. It ends early
+/// at one that isn't defined, and answers it.
 pub(crate) fn reached_past(
     table: &Definitions,
     known: &TypeSet,

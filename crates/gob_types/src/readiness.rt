@@ -5,8 +5,8 @@ ghost use Rattle.gob_types.specs.Table.{shape_of, IsDefined};
 ghost use Rattle.gob_types.specs.Defined.{types, IsTable};
 ghost use Rattle.gob_types.specs.Ready.{Names, HasFieldOf, IsGrounded, IsReady};
 ghost use Rattle.gob_types.specs.Readiness.{IsNotReady, IsAllDefined};
-ghost use Rattle.gob_types.specs.Walk.{AddsAll, IsReach, IsFilledOf, IsLeastBad};
-ghost use Rattle.gob_types.specs.Kept.{AreNamedBy};
+ghost use Rattle.gob_types.specs.Machine.Walk.{AddsAll, IsReach, IsFilledOf, IsLeastBad};
+ghost use Rattle.gob_types.specs.Machine.Kept.{AreNamedBy};
 
 use crate::definitions::Definitions;
 use crate::grounds::Grounds;

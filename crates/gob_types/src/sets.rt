@@ -2,8 +2,8 @@
 ghost use Rattle.std.specs.Prelude.{◌≡◌, [], OnOk, Contains, IfSome, is_some};
 ghost use Rattle.std.specs.Map.{lookup};
 ghost use Rattle.gob_types.specs.declared.id.TypeId.{TypeId};
-ghost use Rattle.gob_types.specs.Entered.{same_id};
-ghost use Rattle.gob_types.specs.Kept.{IsIn, KeepsSets, IsSet};
+ghost use Rattle.gob_types.specs.Machine.Entered.{same_id};
+ghost use Rattle.gob_types.specs.Machine.Kept.{IsIn, KeepsSets, IsSet};
 
 use crate::id::TypeId;
 use crate::type_set::TypeSet;
@@ -26,7 +26,7 @@ impl Drop for Sets {
 }
 
 impl Model for Sets {
-    ghost use Rattle.gob_types.specs.Kept.{Sets as IdSets};
+    ghost use Rattle.gob_types.specs.Machine.Kept.{Sets as IdSets};
 
     ghost Value = { IdSets };
 

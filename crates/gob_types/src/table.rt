@@ -5,7 +5,7 @@ ghost use Rattle.gob_types.specs.Definable.{IsDefinable};
 ghost use Rattle.gob_types.specs.Defined.{IsTable, Admits, types, definition_count};
 ghost use Rattle.gob_types.specs.Refused.{RefusesToDefine};
 ghost use Rattle.gob_types.specs.Ready.{IsReady};
-ghost use Rattle.gob_types.specs.Kept.{IsKeptReadiness};
+ghost use Rattle.gob_types.specs.Machine.Kept.{IsKeptReadiness};
 ghost use Rattle.gob_types.specs.Readiness.{IsNotReady};
 
 use crate::basic::Basic;
@@ -73,7 +73,7 @@ impl Drop for Table {
 
 impl Model for Table {
     ghost use Rattle.gob_types.specs.Defined.{Defined, types};
-    ghost use Rattle.gob_types.specs.Kept.{IsKeptReadiness};
+    ghost use Rattle.gob_types.specs.Machine.Kept.{IsKeptReadiness};
 
     ghost Value = { Defined };
 
@@ -183,7 +183,7 @@ fn keep_places(places: &mut Places, ids: &TypeSet, from: usize) {
 
 impl Shapes for Table {
     ghost use Rattle.gob_types.specs.Defined.{types};
-    ghost use Rattle.gob_types.specs.Distinct.{distinct-types};
+    ghost use Rattle.gob_types.specs.Machine.Distinct.{distinct-types};
 
     ghost table = { types };
 

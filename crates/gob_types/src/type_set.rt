@@ -1,7 +1,7 @@
 //! Sets of type ids.
 ghost use Rattle.std.specs.Prelude.{◌≡◌, ◌^◌, ◌<◌, ◌↔◌, [], IsTrue, IfOk, IfSome, OnOk, OnErr, Contains, length, take, ◌++◌, ◌∷◌, ◌⊎◌, MatchOption};
 ghost use Rattle.gob_types.specs.declared.id.TypeId.{TypeId};
-ghost use Rattle.gob_types.specs.Walk.{AddsAll, AddsOne, AreAmong, Grows};
+ghost use Rattle.gob_types.specs.Machine.Walk.{AddsAll, AddsOne, AreAmong, Grows};
 
 use crate::id::TypeId;
 use gob_num::Memory;

@@ -1,15 +1,15 @@
 //! What types that aren't ready wait for.
 //!
-//! Each waits for one that it leads to. That one isn't defined, or waits itself, or no definition can make it ready; so
-//! the ways of waiting come to an end, and what waits isn't ready. Types that lead to one another are one component: they
-//! wait for one of them, and what they had still to look at is its.
+//! Each waits for one that it leads to. That one isn't defined, or waits itself, or no definition can make it ready;
+//! so the ways of waiting come to an end, and what waits isn't ready. Types that lead to one another are one
+//! component: they wait for one of them, and what they had still to look at is its.
 ghost use Rattle.std.specs.Prelude.{◌≡◌, ◌⊎◌, [], OnOk, IfOk, IfSome, Contains, MatchBool, Some, is_some, IsTrue, ◌↔◌};
 ghost use Rattle.std.specs.Map.{lookup};
 ghost use Rattle.gob_types.specs.declared.id.TypeId.{TypeId};
-ghost use Rattle.gob_types.specs.Entered.{same_id};
+ghost use Rattle.gob_types.specs.Machine.Entered.{same_id};
 ghost use Rattle.gob_types.specs.Table.{Table};
 ghost use Rattle.gob_types.specs.Ready.{Reaches};
-ghost use Rattle.gob_types.specs.Kept.{IsIn, KeepsSets, IsSet, Waiting, WaitsFor, AreLed, Redirects, AddsWaiting};
+ghost use Rattle.gob_types.specs.Machine.Kept.{IsIn, KeepsSets, IsSet, Waiting, WaitsFor, AreLed, Redirects, AddsWaiting};
 
 use crate::id::TypeId;
 use crate::sets::Sets;
@@ -41,7 +41,7 @@ impl Drop for Waits {
 }
 
 impl Model for Waits {
-    ghost use Rattle.gob_types.specs.Kept.{Waiting, KnowsUsers};
+    ghost use Rattle.gob_types.specs.Machine.Kept.{Waiting, KnowsUsers};
 
     ghost Value = { Waiting };
 
@@ -116,8 +116,8 @@ impl Waits {
 
     /// Whether the one type is the other, waits for it, or waits for one that does.
     ///
-    /// It is asked from both sides in turn, with twice as many steps each time: so it takes about the fewer of the types on
-    /// the way from the one, and of those that wait for the other.
+    /// It is asked from both sides in turn, with twice as many steps each time: so it takes about the fewer of the
+    /// types on the way from the one, and of those that wait for the other.
     pub(crate) fn leads_to(&self, alloc: Global, from: TypeId, id: TypeId) -> Result<bool, Memory>
         ensures { IfOk result (λ yes. MatchBool yes (WaitsFor self.now.awaited from id) (¬ WaitsFor self.now.awaited from id)) }
     {
@@ -202,8 +202,8 @@ impl Waits {
         }
     }
 
-    /// Lets each type on the way of waiting from the one to the other wait for the other, which takes over what they had
-    /// still to look at.
+    /// Lets each type on the way of waiting from the one to the other wait for the other, which takes over what they
+    /// had still to look at.
     pub(crate) fn take_over(
         &mut self,
         alloc: Global,

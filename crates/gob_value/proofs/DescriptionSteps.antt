@@ -15,7 +15,7 @@ use Rattle.gob_value.specs.Described.{name_and_id, field_types}
 use Rattle.gob_value.specs.Description.{present_field, said, said_with, said_kind, said_fields, fields_in, number_in, name_in}
 use Rattle.gob_value.specs.Description.{RefersTo, Said, GivesFields, no_more, and_field}
 use Rattle.gob_value.specs.DescriptionLaws.{IsCountedName, AreCounted}
-use Rattle.gob_value.specs.Saying.{IsTypeNumber, HaveTypes, no_type, and_type}
+use Rattle.gob_value.specs.Machine.Saying.{IsTypeNumber, HaveTypes, no_type, and_type}
 use Rattle.gob_value.specs.declared.value.Value.{Value}
 use Rattle.gob_value.proofs.ViewLaws.{field_item, views_item}
 use Rattle.gob_value.proofs.TestSteps.{none_left}

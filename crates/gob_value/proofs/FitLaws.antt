@@ -14,7 +14,7 @@ use Rattle.gob_types.proofs.PublicLaws.{some_injective}
 use Rattle.gob_value.specs.Tree.{Tree, Trees, tree, Pairs, pair, Fields, field, tree_count, pair_count}
 use Rattle.gob_value.specs.Tree.{depth, trees_depth, pairs_depth, fields_depth}
 use Rattle.gob_value.specs.View.{view, views, pair_views, field_views}
-use Rattle.gob_value.specs.Elements.{element_type_at}
+use Rattle.gob_value.specs.Machine.Elements.{element_type_at}
 use Rattle.gob_value.specs.Fits.{FitsKind}
 use Rattle.gob_value.specs.Within.{FitsWithin, IsSpelledWithin}
 use Rattle.gob_value.specs.Written.{HasParts}

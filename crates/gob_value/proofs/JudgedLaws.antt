@@ -20,7 +20,7 @@ use Rattle.gob_value.specs.Description.{gives_slice, gives_struct, gives_map, gi
 use Rattle.gob_value.specs.Description.{HasBadField, this_field, later_field, HasBadReference, HasBadLength}
 use Rattle.gob_value.specs.Description.{Misdescribes, kind_count, wrong_id, bad_reference, bad_length}
 use Rattle.gob_value.specs.DescriptionLaws.{IsRefusedDescription}
-use Rattle.gob_value.specs.Saying.{IsTypeNumber, HaveTypes, no_type, and_type}
+use Rattle.gob_value.specs.Machine.Saying.{IsTypeNumber, HaveTypes, no_type, and_type}
 use Rattle.gob_value.specs.ShapeFaults.{IsDescription, IsShapeFault, IsKind, IsKindFault}
 use Rattle.gob_value.specs.declared.fault.ShapeFault.{ShapeFault}
 use Rattle.gob_value.specs.declared.fault.ShapeFault.TheVariants as fault

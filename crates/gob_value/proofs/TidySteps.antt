@@ -18,7 +18,7 @@ use Rattle.gob_value.specs.Tree.{fields_depth}
 use Rattle.gob_value.specs.View.{view, views, pair_views, field_views}
 use Rattle.gob_value.specs.TidyLaws.{HasSmallNumbers}
 use Rattle.gob_value.specs.TidyLaws.{AllHaveSmallNumbers, PairsHaveSmallNumbers, FieldsHaveSmallNumbers}
-use Rattle.gob_value.specs.Tidied.{IsTidied}
+use Rattle.gob_value.specs.Machine.Tidied.{IsTidied}
 use Rattle.gob_value.specs.Written.{HasParts}
 use Rattle.gob_value.specs.Tidy.{Tidies, IsZero, of_bool}
 use Rattle.gob_value.specs.Tidy.{IsDropped, zero_basic, empty_slice, of_type, TidiesAs, of_basic, of_opaque, of_slice}

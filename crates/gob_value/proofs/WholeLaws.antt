@@ -12,7 +12,7 @@ use Rattle.gob_types.specs.Table.{Table, shape_of}
 use Rattle.gob_value.specs.Spelling.{SpellsAs, of_type}
 use Rattle.gob_value.specs.Top.{IsStruct, at_once, tagged}
 use Rattle.gob_value.specs.Tidy.{of_type as type_tidy}
-use Rattle.gob_value.specs.Whole.{IsWhole, IsTidyWhole, IsWholeSo, Stands, BeginsKind}
+use Rattle.gob_value.specs.Whole.{IsWhole, IsTidyWhole, IsWholeSo, HoldsBetween, BeginsKind}
 
 a_struct : (k : Kind) (fields : declared.Fields) → k ≡ kind.Struct fields → IsStruct k
 a_struct k fields e = rw e tt
@@ -42,13 +42,13 @@ tidy_whole w = record { value = w.value; spelled = w.spelled; within = w.within;
 
 -- a value that stands up to the end
 up_to_end : (T : Table) (tidy : Bool) (k : Kind) (limit : ℕ) (body : List ℕ) (at end : ℕ) → end ≡ length body
-    → Stands (BeginsKind T tidy k limit) body at end → BeginsKind T tidy k limit (drop at body) []
+    → HoldsBetween (BeginsKind T tidy k limit) body at end → BeginsKind T tidy k limit (drop at body) []
 up_to_end T tidy k limit body at end e s =
     subst (BeginsKind T tidy k limit (drop at body)) (ap (λ n. drop n body) e ∙ drop-length body) s.begins
 
 module _ (T : Table) (tidy : Bool) (t : TypeId) (s : Shape) (limit : ℕ) (body : List ℕ) where
   pub struct_whole : (fields : declared.Fields) (at end : ℕ) → shape_of T t ≡ Some s → s.kind ≡ kind.Struct fields
-      → at ≡ 0 → end ≡ length body → Stands (BeginsKind T tidy s.kind limit) body at end → IsWholeSo T tidy t limit body
+      → at ≡ 0 → end ≡ length body → HoldsBetween (BeginsKind T tidy s.kind limit) body at end → IsWholeSo T tidy t limit body
   struct_whole fields at end f k first last p =
       let b = up_to_end T tidy s.kind limit body at end last p in
       let all : body ≡ b.bytes = ap (λ n. drop n body) (sym first) ∙ b.whole ∙ append-nil b.bytes in
@@ -58,7 +58,7 @@ module _ (T : Table) (tidy : Bool) (t : TypeId) (s : Shape) (limit : ℕ) (body 
   pub tagged_whole : (at end : ℕ) → shape_of T t ≡ Some s
       → ((fields : declared.Fields) → ¬ (s.kind ≡ kind.Struct fields)) → slice_get body 0 ≡ Some 0 → at ≡ 1
       → end ≡ length body
-      → Stands (BeginsKind T tidy s.kind limit) body at end → IsWholeSo T tidy t limit body
+      → HoldsBetween (BeginsKind T tidy s.kind limit) body at end → IsWholeSo T tidy t limit body
   tagged_whole at end f k tag first last p =
       let b = up_to_end T tidy s.kind limit body at end last p in
       let rest : drop 1 body ≡ b.bytes = ap (λ n. drop n body) (sym first) ∙ b.whole ∙ append-nil b.bytes in

@@ -5,7 +5,7 @@ use Rattle.std.proofs.Math.Seq.{take-append_seam}
 use Rattle.gob_types.specs.declared.id.TypeId.{TypeId}
 use Rattle.gob_types.specs.Table.{Table}
 use Rattle.gob_value.specs.Spelling.{SpellsEach, SpellsPairs}
-use Rattle.gob_value.specs.Whole.{Stands, BeginsEach, BeginsPairs}
+use Rattle.gob_value.specs.Whole.{HoldsBetween, BeginsEach, BeginsPairs}
 use Rattle.gob_value.proofs.WholeSteps.{none_stand, no_pairs_stand}
 use Rattle.gob_value.specs.WholeParts.{HasElements, HasEntries}
 
@@ -16,7 +16,7 @@ front_is bytes front end l e =
     let size : length front ≡ end = omega (arith, length-append front (drop end bytes), length-drop end bytes) in
     sym (ap (λ k. take k bytes) (sym size) ∙ ap (λ (b : List ℕ). take (length front) b) e ∙ take-append_seam front (drop end bytes))
 
-pub has_elements : {T : Table} {e : TypeId} {a b count : ℕ} {bytes : List ℕ} {end : ℕ} → a ≤ b → Stands (BeginsEach T false e a count) bytes 0 end → HasElements T e b count bytes end
+pub has_elements : {T : Table} {e : TypeId} {a b count : ℕ} {bytes : List ℕ} {end : ℕ} → a ≤ b → HoldsBetween (BeginsEach T false e a count) bytes 0 end → HasElements T e b count bytes end
 has_elements {T = T} {e = e} {bytes = bytes} {end = end} l s =
     let g = s.begins in
     let w = g.within in
@@ -28,7 +28,7 @@ has_elements {T = T} {e = e} {bytes = bytes} {end = end} l s =
       inside = s.inside;
     }
 
-pub has_entries : {T : Table} {k e : TypeId} {a b count : ℕ} {bytes : List ℕ} {end : ℕ} → a ≤ b → Stands (BeginsPairs T false k e a count) bytes 0 end → HasEntries T k e b count bytes end
+pub has_entries : {T : Table} {k e : TypeId} {a b count : ℕ} {bytes : List ℕ} {end : ℕ} → a ≤ b → HoldsBetween (BeginsPairs T false k e a count) bytes 0 end → HasEntries T k e b count bytes end
 has_entries {T = T} {k = k} {e = e} {bytes = bytes} {end = end} l s =
     let g = s.begins in
     let w = g.within in

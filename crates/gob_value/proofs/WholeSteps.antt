@@ -25,22 +25,22 @@ use Rattle.gob_value.specs.Tidy.{of_basic, of_opaque, of_slice as slice_tidy, of
 use Rattle.gob_value.specs.Tidy.{of_map as map_tidy, of_struct as struct_tidy, of_type as type_tidy}
 use Rattle.gob_value.specs.Tidy.{no_element as no_element_tidy, element as element_tidy, no_entry as no_entry_tidy}
 use Rattle.gob_value.specs.Tidy.{entry as entry_tidy, no_more as no_field_tidy, kept as field_tidy}
-use Rattle.gob_value.specs.Whole.{HoldsNumbers, Stands, BeginsKind, BeginsEach, BeginsPairs, BeginsFields, BeginsThisNumber}
+use Rattle.gob_value.specs.Whole.{HoldsNumbers, HoldsBetween, BeginsKind, BeginsEach, BeginsPairs, BeginsFields, BeginsThisNumber}
 use Rattle.gob_value.specs.Whole.{BeginsField, BeginsRaw, BeginsKept}
 use Rattle.gob_value.specs.Written.{HasParts}
 use Rattle.gob_value.proofs.WithinLaws.{leaf_within}
 
 -- what begins at one place and ends at the next, and what begins there
-pub both : {P Q R : List ℕ → List ℕ → Type 0} {body : List ℕ} {a b c : ℕ} → Stands P body a b → Stands Q body b c
-    → ((x y z : List ℕ) → P x y → Q y z → R x z) → Stands R body a c
+pub both : {P Q R : List ℕ → List ℕ → Type 0} {body : List ℕ} {a b c : ℕ} → HoldsBetween P body a b → HoldsBetween Q body b c
+    → ((x y z : List ℕ) → P x y → Q y z → R x z) → HoldsBetween R body a c
 both {body = body} {a = a} {b = b} {c = c} p q f = record {
   order = omega (arith, p.order, q.order);
   inside = q.inside;
   begins = f (drop a body) (drop b body) (drop c body) p.begins q.begins;
 }
 
-pub seen : {P Q : List ℕ → List ℕ → Type 0} {body : List ℕ} {a b : ℕ} → Stands P body a b
-    → ((x y : List ℕ) → P x y → Q x y) → Stands Q body a b
+pub seen : {P Q : List ℕ → List ℕ → Type 0} {body : List ℕ} {a b : ℕ} → HoldsBetween P body a b
+    → ((x y : List ℕ) → P x y → Q x y) → HoldsBetween Q body a b
 seen {body = body} {a = a} {b = b} p f = record {
   order = p.order;
   inside = p.inside;
@@ -48,9 +48,9 @@ seen {body = body} {a = a} {b = b} p f = record {
 }
 
 -- the same of three
-pub all_three : {P Q R S : List ℕ → List ℕ → Type 0} {body : List ℕ} {a b c d : ℕ} → Stands P body a b
-    → Stands Q body b c → Stands R body c d
-    → ((x y z w : List ℕ) → P x y → Q y z → R z w → S x w) → Stands S body a d
+pub all_three : {P Q R S : List ℕ → List ℕ → Type 0} {body : List ℕ} {a b c d : ℕ} → HoldsBetween P body a b
+    → HoldsBetween Q body b c → HoldsBetween R body c d
+    → ((x y z w : List ℕ) → P x y → Q y z → R z w → S x w) → HoldsBetween S body a d
 all_three {body = body} {a = a} {b = b} {c = c} {d = d} p q r f = record {
   order = omega (arith, p.order, q.order, r.order);
   inside = r.inside;
@@ -62,7 +62,7 @@ pub whole_of_two : (b c z : List ℕ) {x y : List ℕ} → x ≡ b ++ y → y �
 whole_of_two b c z e f = e ∙ ap (λ r. b ++ r) f ∙ sym (append_assoc b c z)
 
 -- ---- numbers and bytes
-pub number_stands : {n at end : ℕ} {body : List ℕ} → IsUnsignedAt n body at end → Stands (BeginsThisNumber n) body at end
+pub number_stands : {n at end : ℕ} {body : List ℕ} → IsUnsignedAt n body at end → HoldsBetween (BeginsThisNumber n) body at end
 number_stands {at = at} {end = end} {body = body} p =
     let up : at + (end - at) ≡ end = let o = p.order in omega arith in
     record {
@@ -76,8 +76,8 @@ number_stands {at = at} {end = end} {body = body} p =
       };
     }
 
-pub raw_stands : (body : List ℕ) (at behind count : ℕ) → Stands (BeginsThisNumber count) body at behind
-    → count ≤ length body - behind → Stands BeginsRaw body at (behind + count)
+pub raw_stands : (body : List ℕ) (at behind count : ℕ) → HoldsBetween (BeginsThisNumber count) body at behind
+    → count ≤ length body - behind → HoldsBetween BeginsRaw body at (behind + count)
 raw_stands body at behind count p l =
     let d = drop behind body in
     let n = p.begins in
@@ -228,7 +228,7 @@ module _ (T : Table) (tidy : Bool) where
 
   -- ---- parts
   pub none_stand : (e : TypeId) (limit n : ℕ) (body : List ℕ) (at : ℕ) → n ≡ 0 → at ≤ length body
-      → Stands (BeginsEach T tidy e limit n) body at at
+      → HoldsBetween (BeginsEach T tidy e limit n) body at at
   none_stand e limit n body at none l =
       record {
         order = omega arith;
@@ -266,7 +266,7 @@ module _ (T : Table) (tidy : Bool) where
 
   -- numbers one behind another
   pub numbers_stand : (e : TypeId) (s : Shape) → shape_of T e ≡ Some s → HoldsNumbers s.kind → {body : List ℕ} {count at end : ℕ}
-      → at ≤ length body → AreUnsignedAt body count at end → Stands (BeginsEach T tidy e 1 count) body at end
+      → at ≤ length body → AreUnsignedAt body count at end → HoldsBetween (BeginsEach T tidy e 1 count) body at end
   numbers_stand e s f a {body = body} {at = at} l (no_number) = none_stand e 1 0 body at refl l
   numbers_stand e s f a l (one_more {n = n} {count = k} p q) =
       both (number_stands p) (numbers_stand e s f a p.inside q) (number_element e s n (suc k) k f a (omega arith))
@@ -290,7 +290,7 @@ module _ (T : Table) (tidy : Bool) where
       }
 
   pub no_pairs_stand : (k e : TypeId) (limit n : ℕ) (body : List ℕ) (at : ℕ) → n ≡ 0 → at ≤ length body
-      → Stands (BeginsPairs T tidy k e limit n) body at at
+      → HoldsBetween (BeginsPairs T tidy k e limit n) body at at
   no_pairs_stand k e limit n body at none l =
       record {
         order = omega arith;
@@ -326,8 +326,8 @@ module _ (T : Table) (tidy : Bool) where
 
   -- the value of a field that a tidy struct keeps
   pub kept_part : {e : TypeId} {s : Shape} {limit : ℕ} {body : List ℕ} {a b : ℕ} → shape_of T e ≡ Some s
-      → Stands (BeginsKind T tidy s.kind limit) body a b → (IsTrue tidy → BeginsKept s.kind (drop a body))
-      → Stands (BeginsField T tidy e limit) body a b
+      → HoldsBetween (BeginsKind T tidy s.kind limit) body a b → (IsTrue tidy → BeginsKept s.kind (drop a body))
+      → HoldsBetween (BeginsField T tidy e limit) body a b
   kept_part {s = s} known p kept = record {
     order = p.order;
     inside = p.inside;
@@ -336,11 +336,11 @@ module _ (T : Table) (tidy : Bool) where
 
   -- the same where its type is basic
   pub basic_part : {e : TypeId} {b : Basic} {limit : ℕ} {body : List ℕ} {x y : ℕ} → 0 < limit → basic_of T e ≡ Some b
-      → Stands (BeginsKind T tidy (kind.Basic b) 1) body x y → (IsTrue tidy → BeginsKept (kind.Basic b) (drop x body))
-      → Stands (BeginsField T tidy e limit) body x y
+      → HoldsBetween (BeginsKind T tidy (kind.Basic b) 1) body x y → (IsTrue tidy → BeginsKept (kind.Basic b) (drop x body))
+      → HoldsBetween (BeginsField T tidy e limit) body x y
   basic_part {e = e} {limit = limit} {body = body} {x = x} {y = y} some is p kept =
       let (s, known, basic) = basic_shape_of T e is in
-      kept_part known (seen (subst (λ k. Stands (BeginsKind T tidy k 1) body x y) (sym basic) p)
+      kept_part known (seen (subst (λ k. HoldsBetween (BeginsKind T tidy k 1) body x y) (sym basic) p)
       (λ u v q. deeper some u v q)) (λ t. subst (λ k. BeginsKept k (drop x body)) (sym basic) (kept t))
 
   pub fields_end : (types : List Field) (next limit n : ℕ) → n ≡ 0 → (x y : List ℕ) → BeginsThisNumber n x y

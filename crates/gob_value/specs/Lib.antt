@@ -6,16 +6,14 @@ pub mod Fits
 pub mod Within
 pub mod Whole
 pub mod WholeParts
-pub mod Elements
 pub mod Written
 pub mod Faults
 pub mod Laws
 pub mod Bytes
 pub mod Description
 pub mod Described
-pub mod Saying
 pub mod ShapeFaults
 pub mod DescriptionLaws
 pub mod Tidy
 pub mod TidyLaws
-pub mod Tidied
+pub mod Machine

@@ -99,7 +99,7 @@ pub record BeginsThisNumber (n : ℕ) (piece rest : List ℕ) : Type 0 where
   pub whole : piece ≡ bytes ++ rest
 
 -- the relation holds of what stands in the body from one place on and what stands behind the other
-pub record Stands (Begins : List ℕ → List ℕ → Type 0) (body : List ℕ) (at end : ℕ) : Type 0 where
+pub record HoldsBetween (Begins : List ℕ → List ℕ → Type 0) (body : List ℕ) (at end : ℕ) : Type 0 where
   pub order : at ≤ end
   pub inside : end ≤ length body
   pub begins : Begins (drop at body) (drop end body)

@@ -9,7 +9,7 @@ ghost use Rattle.gob_value.specs.Fits.{Fits};
 ghost use Rattle.gob_value.specs.Description.{said, said_fields, said_struct, Describes};
 ghost use Rattle.gob_value.specs.Description.{present_field, number_in, name_in};
 ghost use Rattle.gob_value.specs.Description.{RefersTo, IsBadReference, GivesFields, GivesKind};
-ghost use Rattle.gob_value.specs.Saying.{kind_said, what_said, wire_number, IsTypeNumber, HaveTypes};
+ghost use Rattle.gob_value.specs.Machine.Saying.{kind_said, what_said, wire_number, IsTypeNumber, HaveTypes};
 ghost use Rattle.gob_value.specs.ShapeFaults.{IsShapeFault, IsKindFault};
 
 use crate::fault::ShapeFault;

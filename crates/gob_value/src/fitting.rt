@@ -2,7 +2,7 @@
 
 ghost use Rattle.std.specs.Prelude.{◌≡◌, ◌↔◌, ◌≤◌, IsTrue, OnOk, IfErr};
 ghost use Rattle.gob_value.specs.View.{view, views, pair_views, field_views};
-ghost use Rattle.gob_value.specs.Elements.{element_type_at};
+ghost use Rattle.gob_value.specs.Machine.Elements.{element_type_at};
 ghost use Rattle.gob_value.specs.Tree.{depth, trees_depth, pairs_depth, fields_depth};
 ghost use Rattle.gob_value.specs.Spelling.{SpellsAs, SpellsEach, SpellsPairs, SpellsFields};
 ghost use Rattle.gob_value.specs.Within.{FitsWithin, IsSpelledWithin};

@@ -14,11 +14,11 @@
 //! - [`fits`] says whether a value is one of a type, and shallow enough.
 //! - [`spell`] appends the one spelling of a value that is.
 //! - [`shape_from`] gives the shape that a description gives, and [`describe`] a description of a shape.
-//! - [`is_whole`] says whether bytes are a value of a type, and keeps nothing of it. [`is_tidy_whole`] says so of one that
-//!   is its own tidy form. [`whole_elements`] and [`whole_entries`] say how much of a list or a map stands whole in a
-//!   piece of it.
-//! - [`number_at`] reads a number where it stands in a body, [`number_end`] says where it ends, and [`field_number`] tells
-//!   the field by the delta.
+//! - [`is_whole`] says whether bytes are a value of a type, and keeps nothing of it. [`is_tidy_whole`] says so of one
+//!   that is its own tidy form. [`whole_elements`] and [`whole_entries`] say how much of a list or a map stands whole
+//!   in a piece of it.
+//! - [`number_at`] reads a number where it stands in a body, [`number_end`] says where it ends, and [`field_number`]
+//!   tells the field by the delta.
 //! - [`tidy`] leaves out of each struct the fields that Go's encoder leaves out.
 //! - [`spellings_begin_no_other`], [`spellings_are_unique`], [`spellings_tell_the_value`],
 //!   [`spellings_are_bytes`] and [`spellings_stay`] are laws, which readers and writers rely on. So are those of

@@ -4,7 +4,7 @@ ghost use Rattle.std.specs.Prelude.{◌↔◌, IsTrue, IfOk};
 ghost use Rattle.gob_value.specs.View.{view, views, pair_views, field_views};
 ghost use Rattle.gob_value.specs.Tidy.{Tidies, TidiesAs, TidiesEach, TidiesPairs, TidiesFields};
 ghost use Rattle.gob_value.specs.Tidy.{IsZero, IsDropped, HasTidyForm};
-ghost use Rattle.gob_value.specs.Tidied.{IsTidied};
+ghost use Rattle.gob_value.specs.Machine.Tidied.{IsTidied};
 ghost use Rattle.gob_value.specs.TidyLaws.{HasSmallNumbers, AllHaveSmallNumbers, PairsHaveSmallNumbers};
 ghost use Rattle.gob_value.specs.TidyLaws.{FieldsHaveSmallNumbers};
 ghost use Rattle.gob_value.specs.Tree.{depth};

@@ -7,7 +7,7 @@ ghost use Rattle.gob_types.specs.Table.{Table, shape_of};
 ghost use Rattle.gob_types.specs.declared.kind.Kind.TheVariants as kind;
 ghost use Rattle.gob_types.specs.declared.id.TypeId.{TypeId};
 ghost use Rattle.gob_types.specs.declared.kind.Shape.{Shape};
-ghost use Rattle.gob_value.specs.Whole.{IsWhole, IsTidyWhole, IsWholeSo, HoldsNumbers, Stands, BeginsKind, BeginsEach};
+ghost use Rattle.gob_value.specs.Whole.{IsWhole, IsTidyWhole, IsWholeSo, HoldsNumbers, HoldsBetween, BeginsKind, BeginsEach};
 ghost use Rattle.gob_value.specs.Whole.{BeginsPairs, BeginsFields, BeginsField, BeginsRaw, BeginsKept};
 
 use crate::number::{field_number, number_at, number_end};
@@ -64,7 +64,7 @@ fn value_end<S: Shapes, const TIDY: bool>(
 ) -> Option<usize>
     requires depth { depth ≤ 1000 }
     requires place { at ≤ length body.now }
-    ensures { IfSome result (λ end. Stands (BeginsKind (S.table shapes.now) TIDY kind.now depth) body.now at end) }
+    ensures { IfSome result (λ end. HoldsBetween (BeginsKind (S.table shapes.now) TIDY kind.now depth) body.now at end) }
 {
     if depth == 0 {
         return None;
@@ -103,7 +103,7 @@ pub(crate) fn part_end<S: Shapes, const TIDY: bool>(
 ) -> Option<usize>
     requires depth { depth ≤ 1000 }
     requires place { at ≤ length body.now }
-    ensures { IfSome result (λ end. Stands (BeginsKind (S.table shapes.now) TIDY kind.now depth) body.now at end) }
+    ensures { IfSome result (λ end. HoldsBetween (BeginsKind (S.table shapes.now) TIDY kind.now depth) body.now at end) }
 {
     match kind {
         Kind::Basic(basic) if depth > 0 => basic_end(*basic, body, at),
@@ -124,7 +124,7 @@ fn elements_end<S: Shapes, const TIDY: bool>(
 ) -> Option<usize>
     requires depth { depth ≤ 1000 }
     requires place { begin ≤ length body.now }
-    ensures { IfSome result (λ end. Stands (BeginsEach (S.table shapes.now) TIDY elem depth count) body.now begin end) }
+    ensures { IfSome result (λ end. HoldsBetween (BeginsEach (S.table shapes.now) TIDY elem depth count) body.now begin end) }
 {
     if count == 0 {
         return Some(begin);
@@ -160,7 +160,7 @@ fn pairs_end<S: Shapes, const TIDY: bool>(
 ) -> Option<usize>
     requires depth { depth ≤ 1000 }
     requires place { begin ≤ length body.now }
-    ensures { IfSome result (λ end. Stands (BeginsPairs (S.table shapes.now) TIDY key elem depth count) body.now begin end) }
+    ensures { IfSome result (λ end. HoldsBetween (BeginsPairs (S.table shapes.now) TIDY key elem depth count) body.now begin end) }
 {
     if count == 0 {
         return Some(begin);
@@ -187,7 +187,7 @@ fn fields_end<S: Shapes, const TIDY: bool>(
 ) -> Option<usize>
     requires depth { depth ≤ 1000 }
     requires place { begin ≤ length body.now }
-    ensures { IfSome result (λ end. Stands (BeginsFields (S.table shapes.now) TIDY types.now 0 depth) body.now begin end) }
+    ensures { IfSome result (λ end. HoldsBetween (BeginsFields (S.table shapes.now) TIDY types.now 0 depth) body.now begin end) }
 {
     let mut next = 0;
     let mut at = begin;
@@ -203,7 +203,8 @@ fn fields_end<S: Shapes, const TIDY: bool>(
     }
 }
 
-// Where the value of a field of this type ends, one that a tidy struct keeps. Where the type is basic, it isn't looked up.
+// Where the value of a field of this type ends, one that a tidy struct keeps. Where the type is basic, it isn't looked
+// up.
 #[cycle(whole)]
 #[inline(always)]
 fn field_end<S: Shapes, const TIDY: bool>(
@@ -215,7 +216,7 @@ fn field_end<S: Shapes, const TIDY: bool>(
 ) -> Option<usize>
     requires depth { depth ≤ 1000 }
     requires place { at ≤ length body.now }
-    ensures { IfSome result (λ end. Stands (BeginsField (S.table shapes.now) TIDY id depth) body.now at end) }
+    ensures { IfSome result (λ end. HoldsBetween (BeginsField (S.table shapes.now) TIDY id depth) body.now at end) }
 {
     match shapes.basic_of(id) {
         Some(basic) if depth > 0 => {
@@ -280,7 +281,7 @@ pub(crate) fn are_numbers(basic: Basic) -> bool
 fn basics_end(basic: Basic, count: u64, body: &[u8], begin: usize) -> Option<usize>
     requires { begin ≤ length body.now }
     ensures { IfSome result (λ end. (T : Table) (tidy : Bool) (e : TypeId) (s : Shape) → shape_of T e ≡ Some s
-        → s.kind ≡ kind.Basic basic → Stands (BeginsEach T tidy e 1 count) body.now begin end) }
+        → s.kind ≡ kind.Basic basic → HoldsBetween (BeginsEach T tidy e 1 count) body.now begin end) }
 {
     let mut at = begin;
     'basics: for _ in 0..count {
@@ -293,7 +294,7 @@ fn basics_end(basic: Basic, count: u64, body: &[u8], begin: usize) -> Option<usi
 fn numbers_end(count: u64, body: &[u8], begin: usize) -> Option<usize>
     requires { begin ≤ length body.now }
     ensures { IfSome result (λ end. (T : Table) (tidy : Bool) (e : TypeId) (s : Shape) → shape_of T e ≡ Some s
-        → HoldsNumbers s.kind → Stands (BeginsEach T tidy e 1 count) body.now begin end) }
+        → HoldsNumbers s.kind → HoldsBetween (BeginsEach T tidy e 1 count) body.now begin end) }
 {
     uints_end(body, begin, count)
 }
@@ -302,7 +303,7 @@ fn numbers_end(count: u64, body: &[u8], begin: usize) -> Option<usize>
 #[inline(always)]
 fn basic_end(basic: Basic, body: &[u8], at: usize) -> Option<usize>
     requires { at ≤ length body.now }
-    ensures { IfSome result (λ end. (T : Table) (tidy : Bool) → Stands (BeginsKind T tidy (kind.Basic basic) 1) body.now at end) }
+    ensures { IfSome result (λ end. (T : Table) (tidy : Bool) → HoldsBetween (BeginsKind T tidy (kind.Basic basic) 1) body.now at end) }
 {
     match basic {
         Basic::Int | Basic::Uint | Basic::Float => number_end(body, at),
@@ -326,7 +327,7 @@ fn basic_end(basic: Basic, body: &[u8], at: usize) -> Option<usize>
 #[inline(always)]
 fn raw_end(body: &[u8], at: usize) -> Option<usize>
     requires { at ≤ length body.now }
-    ensures { IfSome result (λ end. Stands BeginsRaw body.now at end) }
+    ensures { IfSome result (λ end. HoldsBetween BeginsRaw body.now at end) }
 {
     let (count, behind) = number_at(body, at)?;
     if count > (body.len() - behind) as u64 {

@@ -1,6 +1,6 @@
 -- What is left of the inputs, and what the output has, is what the run left.
 use Rattle.std.proofs.Common.{◌∙◌, ap, subst}
-use Rattle.gob_tool.specs.Running.{Does}
+use Rattle.gob_tool.specs.Running.{OrderAnswers}
 use Rattle.gob_tool.specs.Words.{order_limits}
 use Rattle.gob.proofs.carry_out.Goals as goal
 
@@ -19,6 +19,6 @@ returns g c = λ wanted_bytes bytes sought known.
       wanted_now = wanted_now;
       now = now;
       new = new;
-      does = subst (λ w. Does order.command (order_limits order) wanted_bytes bytes wanted_now now (g.W.Write.contents w) new
+      does = subst (λ w. OrderAnswers order.command (order_limits order) wanted_bytes bytes wanted_now now (g.W.Write.contents w) new
           c.run_order-answer.result) (ap (λ pipe. pipe.writer) c.new-output.ensures.writer ∙ c.new.ensures.writer) does;
     }

@@ -4,8 +4,8 @@ ghost use Rattle.std.specs.Prelude.{◌≤◌, IfOk, length};
 ghost use Rattle.gob_types.specs.Table.{Table};
 ghost use Rattle.gob_types.specs.declared.basic.Basic.TheVariants as basic;
 ghost use Rattle.gob_types.specs.declared.kind.Kind.TheVariants as kind;
-ghost use Rattle.gob_value.specs.Whole.{Stands};
-ghost use Rattle.gob_json.specs.TextWhole.{TextOfKind};
+ghost use Rattle.gob_value.specs.Whole.{HoldsBetween};
+ghost use Rattle.gob_json.specs.Machine.TextParts.{TextOfKind};
 
 use super::leaf::{
     put_complex, put_hex, put_integer, put_natural, put_null, put_pattern, put_text, put_truth,
@@ -26,7 +26,7 @@ pub(crate) fn put_basic(
 ) -> Result<usize, Stop>
     requires { at ≤ length body.now }
     ensures { IfOk result (λ end. (T : Table)
-        → Stands (TextOfKind T (kind.Basic basic) 1 out.old.items out.new.items) body.now at end) }
+        → HoldsBetween (TextOfKind T (kind.Basic basic) 1 out.old.items out.new.items) body.now at end) }
 {
     match basic {
         Basic::Bool => put_truth_at(body, at, out),
@@ -45,7 +45,7 @@ pub(crate) fn put_basic(
 fn put_truth_at(body: &[u8], at: usize, out: &mut Vec<u8>) -> Result<usize, Stop>
     requires { at ≤ length body.now }
     ensures { IfOk result (λ end. (T : Table)
-        → Stands (TextOfKind T (kind.Basic basic.Bool) 1 out.old.items out.new.items) body.now at end) }
+        → HoldsBetween (TextOfKind T (kind.Basic basic.Bool) 1 out.old.items out.new.items) body.now at end) }
 {
     let (number, end) = number_at(body, at)?;
     if number > 1 {
@@ -60,7 +60,7 @@ fn put_truth_at(body: &[u8], at: usize, out: &mut Vec<u8>) -> Result<usize, Stop
 fn put_integer_at(body: &[u8], at: usize, out: &mut Vec<u8>) -> Result<usize, Stop>
     requires { at ≤ length body.now }
     ensures { IfOk result (λ end. (T : Table)
-        → Stands (TextOfKind T (kind.Basic basic.Int) 1 out.old.items out.new.items) body.now at end) }
+        → HoldsBetween (TextOfKind T (kind.Basic basic.Int) 1 out.old.items out.new.items) body.now at end) }
 {
     let (number, end) = number_at(body, at)?;
     put_integer(to_signed(number), out)?;
@@ -72,7 +72,7 @@ fn put_integer_at(body: &[u8], at: usize, out: &mut Vec<u8>) -> Result<usize, St
 fn put_natural_at(body: &[u8], at: usize, out: &mut Vec<u8>) -> Result<usize, Stop>
     requires { at ≤ length body.now }
     ensures { IfOk result (λ end. (T : Table)
-        → Stands (TextOfKind T (kind.Basic basic.Uint) 1 out.old.items out.new.items) body.now at end) }
+        → HoldsBetween (TextOfKind T (kind.Basic basic.Uint) 1 out.old.items out.new.items) body.now at end) }
 {
     let (number, end) = number_at(body, at)?;
     put_natural(number, out)?;
@@ -84,7 +84,7 @@ fn put_natural_at(body: &[u8], at: usize, out: &mut Vec<u8>) -> Result<usize, St
 fn put_float_at(body: &[u8], at: usize, out: &mut Vec<u8>) -> Result<usize, Stop>
     requires { at ≤ length body.now }
     ensures { IfOk result (λ end. (T : Table)
-        → Stands (TextOfKind T (kind.Basic basic.Float) 1 out.old.items out.new.items) body.now at end) }
+        → HoldsBetween (TextOfKind T (kind.Basic basic.Float) 1 out.old.items out.new.items) body.now at end) }
 {
     let (number, end) = number_at(body, at)?;
     put_pattern(to_pattern(number), out)?;
@@ -96,7 +96,7 @@ fn put_float_at(body: &[u8], at: usize, out: &mut Vec<u8>) -> Result<usize, Stop
 fn put_bytes_at(body: &[u8], at: usize, out: &mut Vec<u8>) -> Result<usize, Stop>
     requires { at ≤ length body.now }
     ensures { IfOk result (λ end. (T : Table)
-        → Stands (TextOfKind T (kind.Basic basic.Bytes) 1 out.old.items out.new.items) body.now at end) }
+        → HoldsBetween (TextOfKind T (kind.Basic basic.Bytes) 1 out.old.items out.new.items) body.now at end) }
 {
     let (bytes, end) = bytes_at(body, at)?;
     put_hex(bytes, out)?;
@@ -108,7 +108,7 @@ fn put_bytes_at(body: &[u8], at: usize, out: &mut Vec<u8>) -> Result<usize, Stop
 fn put_text_at(body: &[u8], at: usize, out: &mut Vec<u8>) -> Result<usize, Stop>
     requires { at ≤ length body.now }
     ensures { IfOk result (λ end. (T : Table)
-        → Stands (TextOfKind T (kind.Basic basic.Str) 1 out.old.items out.new.items) body.now at end) }
+        → HoldsBetween (TextOfKind T (kind.Basic basic.Str) 1 out.old.items out.new.items) body.now at end) }
 {
     let (bytes, end) = bytes_at(body, at)?;
     put_text(bytes, out)?;
@@ -120,7 +120,7 @@ fn put_text_at(body: &[u8], at: usize, out: &mut Vec<u8>) -> Result<usize, Stop>
 fn put_complex_at(body: &[u8], at: usize, out: &mut Vec<u8>) -> Result<usize, Stop>
     requires { at ≤ length body.now }
     ensures { IfOk result (λ end. (T : Table)
-        → Stands (TextOfKind T (kind.Basic basic.Complex) 1 out.old.items out.new.items) body.now at end) }
+        → HoldsBetween (TextOfKind T (kind.Basic basic.Complex) 1 out.old.items out.new.items) body.now at end) }
 {
     let (real, behind) = number_at(body, at)?;
     let (imaginary, end) = number_at(body, behind)?;
@@ -133,7 +133,7 @@ fn put_complex_at(body: &[u8], at: usize, out: &mut Vec<u8>) -> Result<usize, St
 fn put_nil_at(body: &[u8], at: usize, out: &mut Vec<u8>) -> Result<usize, Stop>
     requires { at ≤ length body.now }
     ensures { IfOk result (λ end. (T : Table)
-        → Stands (TextOfKind T (kind.Basic basic.Interface) 1 out.old.items out.new.items) body.now at end) }
+        → HoldsBetween (TextOfKind T (kind.Basic basic.Interface) 1 out.old.items out.new.items) body.now at end) }
 {
     let (number, end) = number_at(body, at)?;
     if number > 0 {

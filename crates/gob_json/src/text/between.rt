@@ -3,14 +3,14 @@
 ghost use Rattle.std.specs.Prelude.{◌<◌, ◌++◌, ◌∷◌, []};
 ghost use Rattle.std.specs.Fmt.{decimal};
 ghost use Rattle.serde_json.specs.Written.{comma_if};
-ghost use Rattle.gob_json.specs.TextWhole.{digit_head, field_head};
+ghost use Rattle.gob_json.specs.Machine.TextParts.{digit_head, field_head};
 
 use super::leaf::{put_natural, put_text};
 use super::out::TextOut;
 use super::plain::is_plain_ascii;
 
-// What stands before the name of each field with a number of one digit, a comma before it. A piece of the table is put out
-// as it is, where one that were made of bytes would have to wait for them.
+// What stands before the name of each field with a number of one digit, a comma before it. A piece of the table is put
+// out as it is, where one that were made of bytes would have to wait for them.
 static HEADS: [u8; 50] = *b",[0,\",[1,\",[2,\",[3,\",[4,\",[5,\",[6,\",[7,\",[8,\",[9,\"";
 
 /// Puts out the comma that stands before each part but the first.

@@ -4,7 +4,7 @@ ghost use Rattle.std.specs.Prelude.{◌≡◌, ◌+◌, ◌/◌, ◌%◌, ◌<�
 ghost use Rattle.std.specs.Fmt.{decimal};
 ghost use Rattle.serde_json.specs.Written.{comma_if, compact_text};
 ghost use Rattle.gob_json.specs.Json.{integer_json};
-ghost use Rattle.gob_json.specs.Text.{three_digits};
+ghost use Rattle.gob_json.specs.Machine.Digits.{three_digits};
 
 use super::digits::TRIPLES;
 

@@ -1,7 +1,7 @@
 //! The digits of numbers, from a table.
 
-/// The three digits of each number below 1000, and a blank behind them: a store may take four bytes at once, of which it counts
-/// those that are digits of the number. (The last three blanks are there to be loaded.)
+/// The three digits of each number below 1000, and a blank behind them: a store may take four bytes at once, of which
+/// it counts those that are digits of the number. (The last three blanks are there to be loaded.)
 #[rattlefmt::skip]
 pub(crate) static TRIPLES: [u8; 4003] = *b"000 001 002 003 004 005 006 007 008 009 010 011 012 013 014 015 016 017 018 019 020 021 022 023 024 \
     025 026 027 028 029 030 031 032 033 034 035 036 037 038 039 040 041 042 043 044 045 046 047 048 049 \

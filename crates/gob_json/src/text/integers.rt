@@ -5,8 +5,9 @@ ghost use Rattle.gob_types.specs.declared.id.TypeId.{TypeId};
 ghost use Rattle.gob_types.specs.declared.basic.Basic.TheVariants as basic;
 ghost use Rattle.gob_types.specs.declared.kind.Kind.TheVariants as kind;
 ghost use Rattle.gob_types.specs.Table.{Table};
-ghost use Rattle.gob_value.specs.Whole.{Stands};
-ghost use Rattle.gob_json.specs.TextWhole.{IsOfKind, TextOfEach};
+ghost use Rattle.gob_value.specs.Whole.{HoldsBetween};
+ghost use Rattle.gob_json.specs.TextWhole.{IsOfKind};
+ghost use Rattle.gob_json.specs.Machine.TextParts.{TextOfEach};
 
 use super::block::{comma_at, integer_at};
 use super::number::number_at;
@@ -28,7 +29,7 @@ pub(crate) fn put_integers(
 ) -> Result<usize, Stop>
     requires { begin ≤ length body.now }
     ensures { IfOk result (λ end. (T : Table) (e : TypeId) → IsOfKind T e (kind.Basic basic.Int)
-        → Stands (TextOfEach T e 1 count false out.old.items out.new.items) body.now begin end) }
+        → HoldsBetween (TextOfEach T e 1 count false out.old.items out.new.items) body.now begin end) }
 {
     let mut block = [0; BLOCK];
     let mut len = 0;

@@ -6,7 +6,7 @@ ghost use Rattle.std.specs.Fmt.{decimal};
 ghost use Rattle.hex.specs.Hex.{encode_lower};
 ghost use Rattle.serde_json.specs.Data.{boolean, null, string};
 ghost use Rattle.serde_json.specs.Written.{compact_text};
-ghost use Rattle.gob_json.specs.Text.{three_digits};
+ghost use Rattle.gob_json.specs.Machine.Digits.{three_digits};
 ghost use Rattle.gob_json.specs.Json.{hex_json, integer_json, natural_json, opaque_json, pair_json, pattern_json, text_json};
 
 use super::block::DIGITS;

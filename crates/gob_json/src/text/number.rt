@@ -1,9 +1,9 @@
 //! Numbers and bytes that stand at a place of a body.
 
 ghost use Rattle.std.specs.Prelude.{◌≡◌, ◌+◌, ◌<◌, ◌≤◌, IfOk, length};
-ghost use Rattle.gob_value.specs.Whole.{Stands, BeginsThisNumber};
-ghost use Rattle.gob_json.specs.TextWhole.{BeginsThese};
-ghost use Rattle.gob_json.specs.TextSent.{NumberFrom, BytesFrom};
+ghost use Rattle.gob_value.specs.Whole.{HoldsBetween, BeginsThisNumber};
+ghost use Rattle.gob_json.specs.Machine.TextParts.{BeginsThese};
+ghost use Rattle.gob_json.specs.Machine.TextSent.{NumberFrom, BytesFrom};
 
 use super::stop::Stop;
 
@@ -11,7 +11,7 @@ use super::stop::Stop;
 #[inline(always)]
 pub(crate) fn number_at(body: &[u8], at: usize) -> Result<(u64, usize), Stop>
     requires { at ≤ length body.now }
-    ensures stands { IfOk result (λ found. Stands (BeginsThisNumber found.0) body.now at found.1) }
+    ensures stands { IfOk result (λ found. HoldsBetween (BeginsThisNumber found.0) body.now at found.1) }
     ensures onward { IfOk result (λ found. at < found.1) }
 {
     match gob_value::number_at(body, at) {
@@ -24,7 +24,7 @@ pub(crate) fn number_at(body: &[u8], at: usize) -> Result<(u64, usize), Stop>
 #[inline(always)]
 pub(crate) fn bytes_at(body: &[u8], at: usize) -> Result<(&[u8], usize), Stop>
     requires { at ≤ length body.now }
-    ensures { IfOk result (λ found. Stands (BeginsThese found.0.now) body.now at found.1) }
+    ensures { IfOk result (λ found. HoldsBetween (BeginsThese found.0.now) body.now at found.1) }
 {
     let (count, begin) = number_at(body, at)?;
     if count > (body.len() - begin) as u64 {

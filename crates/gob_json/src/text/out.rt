@@ -30,7 +30,7 @@ pub trait TextOut {
 impl TextOut for Vec<u8> {
     ghost use Rattle.std.specs.Prelude.{◌≡◌, ◌++◌, OnOk};
     ghost use Rattle.std.proofs.Common.{sym, append-nil};
-    ghost use Rattle.gob_json.specs.Appended.{appended_behind};
+    ghost use Rattle.gob_json.specs.Machine.Appended.{appended_behind};
 
     type Fault = Memory;
 

@@ -1,7 +1,7 @@
 //! Which bytes stand for themselves in a JSON string.
 
 ghost use Rattle.std.specs.Prelude.{IsTrue};
-ghost use Rattle.gob_json.specs.Text.{IsPlainAscii};
+ghost use Rattle.gob_json.specs.Machine.Digits.{IsPlainAscii};
 
 // For each byte whether it is an ASCII character that stands for itself: all from the space on but the quote, the
 // backslash and those that are no ASCII.

@@ -12,8 +12,8 @@ ghost use Rattle.gob_types.specs.Table.{Table};
 ghost use Rattle.gob_value.specs.Tree.{Tree, Trees, Pairs, Fields};
 ghost use Rattle.gob_json.specs.Json.{elements_json, fields_json, natural_json, pair_json, pairs_json, text_json};
 ghost use Rattle.gob_json.specs.Json.{triple_json, value_json};
-ghost use Rattle.gob_json.specs.TextSent.{HoldsKind, HoldsValue, BeginsList, BeginsMap, BeginsEntry, BeginsPresent};
-ghost use Rattle.gob_json.specs.TextSent.{IsNextField, Sends};
+ghost use Rattle.gob_json.specs.Machine.TextSent.{HoldsKind, HoldsValue, BeginsList, BeginsMap, BeginsEntry, BeginsPresent};
+ghost use Rattle.gob_json.specs.Machine.TextSent.{IsNextField, Sends};
 ghost use Rattle.gob_json.specs.TextWhole.{IsOfKind};
 
 use super::between::{put_comma, put_field_head};
@@ -26,9 +26,9 @@ use super::out::TextOut;
 use gob_num::{to_pattern, to_signed};
 use gob_types::{Basic, Field, Fields as Types, Kind, Shapes, TypeId};
 
-/// Puts out the text of the value of the type that stands in the body from the place on, and tells where it ends. A value
-/// that is no deeper than `depth` is known to stand there: else the text may end early. It calls itself as deep as the
-/// value is.
+/// Puts out the text of the value of the type that stands in the body from the place on, and tells where it ends. A
+/// value that is no deeper than `depth` is known to stand there: else the text may end early. It calls itself as deep
+/// as the value is.
 #[cycle(sent)]
 pub(crate) fn send_value<S: Shapes, O: TextOut>(
     shapes: &S,

@@ -5,8 +5,8 @@ ghost use Rattle.serde_json.specs.Written.{comma_if, compact_text};
 ghost use Rattle.gob_types.specs.declared.kind.Kind.TheVariants as kind;
 ghost use Rattle.gob_value.specs.Tree.{Tree};
 ghost use Rattle.gob_json.specs.Json.{text_json};
-ghost use Rattle.gob_value.specs.Whole.{Stands};
-ghost use Rattle.gob_json.specs.TextWhole.{TextOfKind, TextOfType, TextOfEach, TextOfPairs, TextOfFields};
+ghost use Rattle.gob_value.specs.Whole.{HoldsBetween};
+ghost use Rattle.gob_json.specs.Machine.TextParts.{TextOfKind, TextOfType, TextOfEach, TextOfPairs, TextOfFields};
 ghost use Rattle.gob_types.specs.declared.kind.Marshal.{Marshal};
 ghost use Rattle.gob_types.specs.Table.{Table};
 
@@ -32,7 +32,7 @@ pub(crate) fn put_value<S: Shapes>(
     requires depth { depth ≤ 1000 }
     requires place { at ≤ length body.now }
     ensures { IfOk result (λ end.
-        Stands (TextOfKind (S.table shapes.now) kind.now depth out.old.items out.new.items) body.now at end) }
+        HoldsBetween (TextOfKind (S.table shapes.now) kind.now depth out.old.items out.new.items) body.now at end) }
 {
     if depth == 0 {
         return Err(Stop::NotWhole);
@@ -79,7 +79,7 @@ fn put_part<S: Shapes>(
     requires depth { depth ≤ 1000 }
     requires place { at ≤ length body.now }
     ensures { IfOk result (λ end.
-        Stands (TextOfKind (S.table shapes.now) kind.now depth out.old.items out.new.items) body.now at end) }
+        HoldsBetween (TextOfKind (S.table shapes.now) kind.now depth out.old.items out.new.items) body.now at end) }
 {
     match kind {
         Kind::Basic(basic) if depth > 0 => put_basic(*basic, body, at, out),
@@ -101,7 +101,7 @@ fn put_elements<S: Shapes>(
 ) -> Result<usize, Stop>
     requires depth { depth ≤ 1000 }
     requires place { begin ≤ length body.now }
-    ensures { IfOk result (λ end. Stands
+    ensures { IfOk result (λ end. HoldsBetween
         (TextOfEach (S.table shapes.now) elem depth count false out.old.items out.new.items) body.now begin end) }
 {
     let Some(shape) = shapes.shape_of(elem) else {
@@ -135,7 +135,7 @@ fn put_pairs<S: Shapes>(
 ) -> Result<usize, Stop>
     requires depth { depth ≤ 1000 }
     requires place { begin ≤ length body.now }
-    ensures { IfOk result (λ end. Stands
+    ensures { IfOk result (λ end. HoldsBetween
         (TextOfPairs (S.table shapes.now) key elem depth count false out.old.items out.new.items)
         body.now begin end) }
 {
@@ -171,7 +171,7 @@ fn put_fields<S: Shapes>(
 ) -> Result<usize, Stop>
     requires depth { depth ≤ 1000 }
     requires place { begin ≤ length body.now }
-    ensures { IfOk result (λ end. Stands
+    ensures { IfOk result (λ end. HoldsBetween
         (TextOfFields (S.table shapes.now) types.now 0 depth false out.old.items out.new.items)
         body.now begin end) }
 {
@@ -194,8 +194,8 @@ fn put_fields<S: Shapes>(
     }
 }
 
-// Appends the text of the value of this type that stands in the body from the place on, and tells where it ends. Where the
-// type is basic, it isn't looked up.
+// Appends the text of the value of this type that stands in the body from the place on, and tells where it ends. Where
+// the type is basic, it isn't looked up.
 #[cycle(text)]
 #[inline(always)]
 fn put_typed<S: Shapes>(
@@ -209,7 +209,7 @@ fn put_typed<S: Shapes>(
     requires depth { depth ≤ 1000 }
     requires place { at ≤ length body.now }
     ensures { IfOk result (λ end.
-        Stands (TextOfType (S.table shapes.now) id depth out.old.items out.new.items) body.now at end) }
+        HoldsBetween (TextOfType (S.table shapes.now) id depth out.old.items out.new.items) body.now at end) }
 {
     match shapes.basic_of(id) {
         Some(basic) if depth > 0 => put_basic(basic, body, at, out),
@@ -224,7 +224,7 @@ fn put_typed<S: Shapes>(
 fn put_opaque_at(body: &[u8], at: usize, out: &mut Vec<u8>) -> Result<usize, Stop>
     requires { at ≤ length body.now }
     ensures { IfOk result (λ end. (T : Table) (m : Marshal)
-        → Stands (TextOfKind T (kind.Opaque m) 1 out.old.items out.new.items) body.now at end) }
+        → HoldsBetween (TextOfKind T (kind.Opaque m) 1 out.old.items out.new.items) body.now at end) }
 {
     let (bytes, end) = bytes_at(body, at)?;
     put_opaque(bytes, out)?;

@@ -6,7 +6,8 @@ ghost use Rattle.gob_value.specs.Spelling.{Spells};
 ghost use Rattle.gob_value.specs.Top.{SpellsTop};
 ghost use Rattle.gob_value.specs.Tree.{Tree, depth as DepthOf};
 ghost use Rattle.gob_json.specs.Json.{put_json};
-ghost use Rattle.gob_json.specs.TextWhole.{TextOfWhole, LineOfWhole, IsBehindTag, head_text};
+ghost use Rattle.gob_json.specs.TextWhole.{TextOfWhole, LineOfWhole, head_text};
+ghost use Rattle.gob_json.specs.Machine.TextParts.{IsBehindTag};
 
 use super::leaf::put_natural;
 use super::out::TextOut;

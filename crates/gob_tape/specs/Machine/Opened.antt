@@ -3,9 +3,9 @@
 use Rattle.std.specs.Prelude.{◌≡◌, ℕ, ◌+◌, ◌*◌, ◌≤◌, List, [], ◌∷◌, Option, Some, None, length, drop, slice_get}
 use Rattle.gob_value.specs.Tree.{Tree}
 use Rattle.gob_value.specs.View.{trees_of, pairs_of, fields_of}
-use Rattle.gob_read.specs.declared.telling.RawKind.{RawKind}
-use Rattle.gob_read.specs.declared.telling.GroupKind.TheVariants as group
-use Rattle.gob_read.specs.Built.{Part, raw, many, pairs, fields}
+use Rattle.gob_read.specs.declared.event.RawKind.{RawKind}
+use Rattle.gob_read.specs.declared.event.GroupKind.TheVariants as group
+use Rattle.gob_read.specs.Machine.Built.{Part, raw, many, pairs, fields}
 use Rattle.gob_tape.specs.declared.node.Content.TheVariants as content
 use Rattle.gob_tape.specs.declared.node.Node.{Node}
 use Rattle.gob_tape.specs.declared.node.Begun.{Begun}

@@ -14,9 +14,9 @@ use Rattle.gob_value.specs.Tree as Value
 use Rattle.gob_value.specs.Spelling.{truth}
 use Rattle.gob_value.specs.Tidy.{IsDropped, Tidies, TidiesAs}
 use Rattle.gob_value.specs.TidyLaws.{HasSmallNumbers}
-use Rattle.gob_read.specs.declared.telling.RawKind.TheVariants as raw
-use Rattle.gob_read.specs.declared.telling.GroupKind.TheVariants as group
-use Rattle.gob_read.specs.Telling.{Telling, number, raw_start, raw_more, enter, field, leave}
+use Rattle.gob_read.specs.declared.event.RawKind.TheVariants as raw
+use Rattle.gob_read.specs.declared.event.GroupKind.TheVariants as group
+use Rattle.gob_read.specs.Event.{Event, number, raw_start, raw_more, enter, field, leave}
 use Rattle.gob_tape.specs.declared.node.Content.{Content}
 use Rattle.gob_tape.specs.declared.node.Content.TheVariants as content
 use Rattle.gob_tape.specs.declared.node.Node.{Node}
@@ -26,42 +26,42 @@ use Rattle.gob_tape.specs.declared.tidying.Types.TheVariants as types
 use Rattle.gob_tape.specs.Meaning.{MeansAt}
 use Rattle.gob_tape.specs.Seeing.{unsigned_of}
 use Rattle.gob_tape.specs.Machine.State.{State}
-use Rattle.gob_tape.specs.Machine.Standing.{TapeGoesOn, IsTapeOf}
+use Rattle.gob_tape.specs.Machine.Received.{TapeGoesOn, IsTapeOf}
 
 -- what a builder is told of a value, the raw bytes of each part in one piece
 abbrev mutual
-  pub tellings : Tree → List Telling
-  tellings (Value.bool b) = number basic.Bool (truth b) 0 ∷ []
-  tellings (Value.int i) = number basic.Int (unsigned_of i) 0 ∷ []
-  tellings (Value.uint n) = number basic.Uint n 0 ∷ []
-  tellings (Value.float p) = number basic.Float p 0 ∷ []
-  tellings (Value.complex p q) = number basic.Complex p q ∷ []
-  tellings (Value.bytes s) = raw_start raw.Bytes ∷ (raw_more s ∷ (leave ∷ []))
-  tellings (Value.text s) = raw_start raw.Str ∷ (raw_more s ∷ (leave ∷ []))
-  tellings (Value.opaque s) = raw_start raw.Opaque ∷ (raw_more s ∷ (leave ∷ []))
-  tellings Value.nil = number basic.Interface 0 0 ∷ []
-  tellings (Value.many vs) = enter group.Many ∷ (each_told vs ++ leave ∷ [])
-  tellings (Value.pairs ps) = enter group.Pairs ∷ (pairs_told ps ++ leave ∷ [])
-  tellings (Value.fields fs) = enter group.Fields ∷ (fields_told fs ++ leave ∷ [])
+  pub events : Tree → List Event
+  events (Value.bool b) = number basic.Bool (truth b) 0 ∷ []
+  events (Value.int i) = number basic.Int (unsigned_of i) 0 ∷ []
+  events (Value.uint n) = number basic.Uint n 0 ∷ []
+  events (Value.float p) = number basic.Float p 0 ∷ []
+  events (Value.complex p q) = number basic.Complex p q ∷ []
+  events (Value.bytes s) = raw_start raw.Bytes ∷ (raw_more s ∷ (leave ∷ []))
+  events (Value.text s) = raw_start raw.Str ∷ (raw_more s ∷ (leave ∷ []))
+  events (Value.opaque s) = raw_start raw.Opaque ∷ (raw_more s ∷ (leave ∷ []))
+  events Value.nil = number basic.Interface 0 0 ∷ []
+  events (Value.many vs) = enter group.Many ∷ (each_told vs ++ leave ∷ [])
+  events (Value.pairs ps) = enter group.Pairs ∷ (pairs_told ps ++ leave ∷ [])
+  events (Value.fields fs) = enter group.Fields ∷ (fields_told fs ++ leave ∷ [])
 
-  pub each_told : Trees → List Telling
+  pub each_told : Trees → List Event
   each_told no_tree = []
-  each_told (tree v vs) = tellings v ++ each_told vs
+  each_told (tree v vs) = events v ++ each_told vs
 
-  pub pairs_told : Pairs → List Telling
+  pub pairs_told : Pairs → List Event
   pairs_told no_pair = []
-  pairs_told (pair k e ps) = tellings k ++ (tellings e ++ pairs_told ps)
+  pairs_told (pair k e ps) = events k ++ (events e ++ pairs_told ps)
 
-  pub fields_told : Fields → List Telling
+  pub fields_told : Fields → List Event
   fields_told no_field = []
-  fields_told (Value.field f v fs) = field f ∷ (tellings v ++ fields_told fs)
+  fields_told (Value.field f v fs) = field f ∷ (events v ++ fields_told fs)
 
 -- of the number of a part, and of the beginning of a part with this content
-abbrev pub name_told : Option ℕ → List Telling
+abbrev pub name_told : Option ℕ → List Event
 name_told None = []
 name_told (Some f) = field f ∷ []
 
-abbrev pub content_told : List ℕ → Content → List Telling
+abbrev pub content_told : List ℕ → Content → List Event
 content_told pool (content.Number k a b) = number k a b ∷ []
 content_told pool (content.Raw k start count) = raw_start k ∷ (raw_more (take count (drop start pool)) ∷ (leave ∷ []))
 content_told pool (content.Group k count extent) = enter k ∷ []
@@ -157,7 +157,7 @@ pub record Entered (i : ℕ) (x : Node) (k : Kind) (t : TypeId) (pool : List ℕ
   pub stands : TapeGoesOn old new (name_told x.field ++ content_told pool x.content)
 
 -- the part was told as far as its beginning, unless a struct drops it
-pub record TellsPart (i : ℕ) (x : Node) (k : Kind) (t : TypeId) (pool : List ℕ) (before after : List Open)
+pub record PartHasEvents (i : ℕ) (x : Node) (k : Kind) (t : TypeId) (pool : List ℕ) (before after : List Open)
     (old new : State) : Type 0 where
   pub drops : (f : ℕ) → x.field ≡ Some f → IsDroppedContent k x.content → (after ≡ before) × (new ≡ old)
   pub keeps : IsKeptPart x.field k x.content → IsPooled pool x.content → Entered i x k t pool before after old new
@@ -165,28 +165,28 @@ pub record TellsPart (i : ℕ) (x : Node) (k : Kind) (t : TypeId) (pool : List �
 -- ---- what is left to tell
 
 -- of the parts with these types that the nodes from the first place up to the second are
-pub data Due (T : Table) (nodes : List Node) (pool : List ℕ) : ℕ → ℕ → Types → List Telling → Type 0 where
+pub data Due (T : Table) (nodes : List Node) (pool : List ℕ) : ℕ → ℕ → Types → List Event → Type 0 where
   none_due : {i : ℕ} {ts : Types} → Due T nodes pool i i ts []
-  element : {i j k : ℕ} {e : TypeId} {v w : Tree} {us : List Telling} → MeansAt nodes pool i j None v → Tidies T e v w
-      → Due T nodes pool j k (types.Elements e) us → Due T nodes pool i k (types.Elements e) (tellings w ++ us)
-  key_or_element : {i j k : ℕ} {a b : TypeId} {v w : Tree} {us : List Telling} → MeansAt nodes pool i j None v
+  element : {i j k : ℕ} {e : TypeId} {v w : Tree} {us : List Event} → MeansAt nodes pool i j None v → Tidies T e v w
+      → Due T nodes pool j k (types.Elements e) us → Due T nodes pool i k (types.Elements e) (events w ++ us)
+  key_or_element : {i j k : ℕ} {a b : TypeId} {v w : Tree} {us : List Event} → MeansAt nodes pool i j None v
       → Tidies T a v w
       → Due T nodes pool j k (types.Alternating b a) us → Due T nodes pool i k (types.Alternating a b)
-      (tellings w ++ us)
-  dropped : {i j k f : ℕ} {r e : TypeId} {s : Shape} {v : Tree} {us : List Telling}
+      (events w ++ us)
+  dropped : {i j k f : ℕ} {r e : TypeId} {s : Shape} {v : Tree} {us : List Event}
       → MeansAt nodes pool i j (Some f) v → HasFieldType T r f e → shape_of T e ≡ Some s
       → IsDropped s.kind v → Due T nodes pool j k (types.Fields r) us → Due T nodes pool i k (types.Fields r) us
-  kept : {i j k f : ℕ} {r e : TypeId} {s : Shape} {v w : Tree} {us : List Telling}
+  kept : {i j k f : ℕ} {r e : TypeId} {s : Shape} {v w : Tree} {us : List Event}
       → MeansAt nodes pool i j (Some f) v → HasFieldType T r f e → shape_of T e ≡ Some s
       → ¬ IsDropped s.kind v → TidiesAs T s.kind v w → Due T nodes pool j k (types.Fields r) us
-      → Due T nodes pool i k (types.Fields r) (field f ∷ (tellings w ++ us))
+      → Due T nodes pool i k (types.Fields r) (field f ∷ (events w ++ us))
 
 -- from a place on, in these open parts; the whole value has this type
-pub data Left (T : Table) (t : TypeId) (nodes : List Node) (pool : List ℕ) : ℕ → List Open → List Telling → Type 0 where
+pub data Left (T : Table) (t : TypeId) (nodes : List Node) (pool : List ℕ) : ℕ → List Open → List Event → Type 0 where
   at_end : {i : ℕ} → i ≡ length nodes → Left T t nodes pool i [] []
   at_start : {i : ℕ} {v w : Tree} → MeansAt nodes pool i (length nodes) None v → Tidies T t v w
-      → Left T t nodes pool i [] (tellings w)
-  in_part : {i j : ℕ} {ts : Types} {os : List Open} {us ws : List Telling} → Due T nodes pool i j ts us
+      → Left T t nodes pool i [] (events w)
+  in_part : {i j : ℕ} {ts : Types} {os : List Open} {us ws : List Event} → Due T nodes pool i j ts us
       → Left T t nodes pool j os ws
       → Left T t nodes pool i (open_to j ts ∷ os) (us ++ leave ∷ ws)
 
@@ -197,9 +197,9 @@ IsInsideOpen i (o ∷ os) = i < o.end
 
 -- from one place to the next, this was told
 pub record TidyGoes (T : Table) (t : TypeId) (nodes : List Node) (pool : List ℕ) (i : ℕ) (after : List Open)
-    (old new : State) (due : List Telling) : Type 0 where
-  pub told : List Telling
-  pub left : List Telling
+    (old new : State) (due : List Event) : Type 0 where
+  pub told : List Event
+  pub left : List Event
   pub splits : due ≡ told ++ left
   pub stands : TapeGoesOn old new told
   pub inside : IsInsideOpen (i + 1) after
@@ -207,27 +207,27 @@ pub record TidyGoes (T : Table) (t : TypeId) (nodes : List Node) (pool : List �
   pub small : (x : Node) → slice_get nodes i ≡ Some x → HasSmallNumber x
 
 -- the ends of the parts whose nodes end at this place
-pub data TidyEnds (i : ℕ) : List Open → List Telling → List Open → Type 0 where
+pub data TidyEnds (i : ℕ) : List Open → List Event → List Open → Type 0 where
   none_ends : {os : List Open} → ((o : Open) (rest : List Open) → os ≡ o ∷ rest → o.end ≢ i) → TidyEnds i os [] os
-  one_ends : {o : Open} {os after : List Open} {us : List Telling} → o.end ≡ i → TidyEnds i os us after
+  one_ends : {o : Open} {os after : List Open} {us : List Event} → o.end ≡ i → TidyEnds i os us after
       → TidyEnds i (o ∷ os) (leave ∷ us) after
 
 pub record TidyEnded (i : ℕ) (before after : List Open) (old new : State) : Type 0 where
-  pub told : List Telling
+  pub told : List Event
   pub ends : TidyEnds i before told after
   pub stands : TapeGoesOn old new told
 
 -- some of them
 pub record TidyEnding (i : ℕ) (before now : List Open) (old new : State) : Type 0 where
-  pub told : List Telling
-  pub completes : (us : List Telling) (after : List Open) → TidyEnds i now us after → TidyEnds i before (told ++ us) after
+  pub told : List Event
+  pub completes : (us : List Event) (after : List Open) → TidyEnds i now us after → TidyEnds i before (told ++ us) after
   pub stands : TapeGoesOn old new told
 
 -- the nodes before this place are told of: of each value that they all mean, with its tidy form
 pub record TidyUpTo (T : Table) (t : TypeId) (nodes : List Node) (pool : List ℕ) (i : ℕ) (os : List Open) (now : State)
-    (due : List Telling) : Type 0 where
-  pub told : List Telling
-  pub left : List Telling
+    (due : List Event) : Type 0 where
+  pub told : List Event
+  pub left : List Event
   pub splits : due ≡ told ++ left
   pub stands : IsTapeOf now told
   pub inside : IsInsideOpen i os
@@ -236,9 +236,9 @@ pub record TidyUpTo (T : Table) (t : TypeId) (nodes : List Node) (pool : List �
 
 abbrev pub TidyReaches : Table → TypeId → List Node → List ℕ → ℕ → List Open → State → Type 0
 TidyReaches T t nodes pool i os now = (v w : Tree) → MeansAt nodes pool 0 (length nodes) None v → Tidies T t v w
-    → TidyUpTo T t nodes pool i os now (tellings w)
+    → TidyUpTo T t nodes pool i os now (events w)
 
 -- all of the tidy form was told, and the numbers of all fields are small
-pub record IsAllTold (v w : Tree) (now : State) : Type 0 where
-  pub stands : IsTapeOf now (tellings w)
+pub record TakesEvents (v w : Tree) (now : State) : Type 0 where
+  pub stands : IsTapeOf now (events w)
   pub small : HasSmallNumbers v

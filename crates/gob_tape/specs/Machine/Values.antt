@@ -5,8 +5,8 @@ use Rattle.gob_value.specs.declared.value.Value.{Value}
 use Rattle.gob_value.specs.Tree.{Tree, Trees, Pairs, Fields, tree_count, pair_count}
 use Rattle.gob_value.specs.Tree as tree
 use Rattle.gob_value.specs.View.{view, views, pair_views, field_views}
-use Rattle.gob_read.specs.declared.telling.GroupKind.TheVariants as group
-use Rattle.gob_read.specs.Built.{number_tree, raw_tree}
+use Rattle.gob_read.specs.declared.event.GroupKind.TheVariants as group
+use Rattle.gob_read.specs.Leaf.{number_tree, raw_tree}
 use Rattle.gob_tape.specs.declared.node.Content.{Content}
 use Rattle.gob_tape.specs.declared.node.Content.TheVariants as content
 use Rattle.gob_tape.specs.Meaning.{field_count}

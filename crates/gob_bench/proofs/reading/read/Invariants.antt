@@ -6,5 +6,5 @@ abbrev pub invariant-loop-piece : goal.invariant-loop-piece
 invariant-loop-piece g l = record {
   next : (goal.iterator-loop-piece g).can_next l.piece-iterator;
   finite : (goal.iterator-loop-piece g).is_finite l.piece-iterator;
-  pushed : IsPushed (types l.types) l.fn.id g.B.Builder.building.stands l.reader.run;
+  pushed : IsPushed (types l.types) l.fn.id g.B.Builder.building.received l.reader.run;
 }

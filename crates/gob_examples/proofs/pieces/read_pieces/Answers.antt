@@ -15,7 +15,7 @@ returns-in_err-session c = record {
 pub loop-piece-init : goal.loop-piece-init
 loop-piece-init c = record {
   limits = c.in_ok-session.ensures.limits;
-  given = record { given = []; appended = sym (append-nil c.args.out.now.items); holds = c.in_ok-session.ensures.stands };
+  given = record { given = []; appended = sym (append-nil c.args.out.now.items); holds = c.in_ok-session.ensures.has_read };
 }
 
 pub returns-in_err-feed : goal.returns-in_err-feed

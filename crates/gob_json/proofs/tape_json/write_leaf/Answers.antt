@@ -5,7 +5,7 @@ use Rattle.std.proofs.lemmas.Result.{on_ok_weaker}
 use Rattle.json.specs.Token.{Token}
 use Rattle.json.specs.Tree.{json_tokens}
 use Rattle.serde_json.specs.Written.{outline}
-use Rattle.gob_read.specs.Built.{signed_of}
+use Rattle.gob_read.specs.Leaf.{signed_of}
 use Rattle.gob_read.proofs.PublicLaws.{signed_is}
 use Rattle.gob_json.specs.Json.{integer_json}
 use Rattle.gob_json.specs.TapeJson.{leaf_json}

@@ -1,11 +1,11 @@
 use Rattle.std.proofs.Common.{sym, subst}
-use Rattle.gob_read.proofs.HeldLaws.{body_came, held_once, held_few}
+use Rattle.gob_read.proofs.Grammar.HeldLaws.{body_came, held_once, held_few}
 use Rattle.gob_read.specs.Held.{PartialBody}
 use Rattle.gob_read.proofs.laws.held_is_one.Goals as goal
 
 pub returns-clause-some : goal.returns-clause-some
 returns-clause-some c T t limit announced z s =
-    let b = body_came s.awaits s.within in
+    let b = body_came s.expects s.within in
     (b.parts, b.raws, subst (λ z. PartialBody T t z b.parts b.raws) (sym s.whole) b.holds)
 
 pub returns-clause-one : goal.returns-clause-one

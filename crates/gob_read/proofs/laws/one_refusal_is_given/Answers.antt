@@ -1,4 +1,4 @@
-use Rattle.gob_read.proofs.Seen.{given_once}
+use Rattle.gob_read.proofs.Grammar.Seen.{given_once}
 use Rattle.gob_read.proofs.laws.one_refusal_is_given.Goals as goal
 
 pub returns : goal.returns

@@ -1,4 +1,4 @@
-use Rattle.gob_read.proofs.Honest.{begins_none, begins_deep, place_begins, first_honest}
+use Rattle.gob_read.proofs.Grammar.Honest.{begins_none, begins_deep, place_begins, first_honest}
 use Rattle.gob_read.proofs.laws.places_begin_values.Goals as goal
 
 pub returns-clause-place : goal.returns-clause-place

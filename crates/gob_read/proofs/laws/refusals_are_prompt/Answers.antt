@@ -1,5 +1,5 @@
-use Rattle.gob_read.proofs.Onward.{nothing_yet}
-use Rattle.gob_read.proofs.Seen.{stood_not_whole}
+use Rattle.gob_read.proofs.Grammar.Onward.{nothing_yet}
+use Rattle.gob_read.proofs.Grammar.Seen.{stood_not_whole}
 use Rattle.gob_read.proofs.laws.refusals_are_prompt.Goals as goal
 
 pub returns-clause-prompt : goal.returns-clause-prompt

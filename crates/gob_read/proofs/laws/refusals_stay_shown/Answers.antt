@@ -1,4 +1,4 @@
-use Rattle.gob_read.proofs.Seen.{seen_within, shown_stays}
+use Rattle.gob_read.proofs.Grammar.Seen.{seen_within, shown_stays}
 use Rattle.gob_read.proofs.laws.refusals_stay_shown.Goals as goal
 
 pub returns : goal.returns

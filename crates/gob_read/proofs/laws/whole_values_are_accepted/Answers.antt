@@ -1,10 +1,10 @@
 use Rattle.std.proofs.Common.{ℕ, List, [], length, arith, refl, sym, subst}
 use Rattle.gob_read.specs.Refusal.{Refused}
-use Rattle.gob_read.proofs.Firsts.{extra_first}
-use Rattle.gob_read.proofs.Deep.{within_shallow}
-use Rattle.gob_read.proofs.Fronts.{append_nil}
-use Rattle.gob_read.proofs.Seen.{only_extra}
-use Rattle.gob_read.proofs.Honest.{deep_refused}
+use Rattle.gob_read.proofs.Grammar.Firsts.{extra_first}
+use Rattle.gob_read.proofs.Grammar.Deep.{within_shallow}
+use Rattle.gob_read.proofs.Grammar.Fronts.{append_nil}
+use Rattle.gob_read.proofs.Grammar.Seen.{only_extra}
+use Rattle.gob_read.proofs.Grammar.Honest.{deep_refused}
 use Rattle.gob_read.proofs.laws.whole_values_are_accepted.Goals as goal
 
 pub returns-clause-extra : goal.returns-clause-extra

@@ -1,4 +1,4 @@
-use Rattle.gob_read.proofs.CheckedLaws.{counts_weight}
+use Rattle.gob_read.proofs.Events.CheckedLaws.{counts_weight}
 use Rattle.gob_read.proofs.laws_builder.counts_are_the_weight.Goals as goal
 
 pub returns : goal.returns

@@ -1,4 +1,4 @@
-use Rattle.gob_read.proofs.WeightLaws.{weight_within, weight_within_top}
+use Rattle.gob_read.proofs.Events.WeightLaws.{weight_within, weight_within_top}
 use Rattle.gob_read.proofs.laws_builder.weights_are_within_spellings.Goals as goal
 
 pub returns-clause-value : goal.returns-clause-value

@@ -4,8 +4,8 @@ use Rattle.gob_value.specs.Tree.{Tree}
 use Rattle.gob_value.specs.View.{view}
 use Rattle.gob_value.specs.declared.value.Value.{Int}
 use Rattle.gob_value.proofs.PublicLaws.{view-Int}
-use Rattle.gob_read.specs.Built.{number_tree}
-use Rattle.gob_read.proofs.BuiltLaws.{signed_is}
+use Rattle.gob_read.specs.Leaf.{number_tree}
+use Rattle.gob_read.proofs.Events.BuiltLaws.{signed_is}
 use Rattle.gob_read.proofs.tree_builder.basic_value.Goals as goal
 
 pub returns-in-Int : goal.returns-in-Int

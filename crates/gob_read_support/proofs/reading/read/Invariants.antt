@@ -6,5 +6,5 @@ use Rattle.gob_read_support.proofs.reading.read.Given as goal
 abbrev pub invariant-pieces : goal.invariant-pieces
 invariant-pieces g l = record {
   within : l.taken ≤ length l.bytes;
-  pushed : IsPushed (types l.table) (record { 0 = l.fn.body.id }) g.B.Builder.building.stands l.reader.run;
+  pushed : IsPushed (types l.table) (record { 0 = l.fn.body.id }) g.B.Builder.building.received l.reader.run;
 }

@@ -1,5 +1,5 @@
 use Rattle.std.proofs.Common.{arith}
-use Rattle.gob_stream.proofs.CountSteps.{judged_item, judged_stream, judged_empty}
+use Rattle.gob_stream.proofs.Reader.CountSteps.{judged_item, judged_stream, judged_empty}
 use Rattle.gob_stream.proofs.count.body_of.Goals as goal
 use Rattle.gob_stream.proofs.count.body_of.Goals.{then-end-stream-via-then-end-stream, then-end-stream-via-else-end-stream+then-count-stream}
 

@@ -1,9 +1,9 @@
 use Rattle.std.proofs.Common.{ap}
 use Rattle.std.proofs.lemmas.Result.{err_from_is_err_and}
 use Rattle.gob_stream.specs.WriterRefusal.{private_type}
-use Rattle.gob_stream.proofs.StreamLaws.{same_id}
+use Rattle.gob_stream.proofs.Stream.StreamLaws.{same_id}
 use Rattle.gob_stream.proofs.DenialLaws.{type_denied}
-use Rattle.gob_stream.proofs.WritingLaws.{ready_small}
+use Rattle.gob_stream.proofs.Written.WritingLaws.{ready_small}
 use Rattle.gob_stream.proofs.denial.judge_type.Goals as goal
 
 pub returns-then-id-clause-judged : goal.returns-then-id-clause-judged

@@ -1,5 +1,5 @@
-use Rattle.gob_stream.proofs.OutcomeLaws.{outcome_once}
-use Rattle.gob_stream.proofs.SomeOutcome.{outcome_somehow}
+use Rattle.gob_stream.proofs.Stream.OutcomeLaws.{outcome_once}
+use Rattle.gob_stream.proofs.Stream.SomeOutcome.{outcome_somehow}
 use Rattle.gob_stream.proofs.laws.bytes_have_one_outcome.Goals as goal
 
 pub returns-clause-one : goal.returns-clause-one

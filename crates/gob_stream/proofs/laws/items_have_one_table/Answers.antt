@@ -1,4 +1,4 @@
-use Rattle.gob_stream.proofs.StandLaws.{one_table}
+use Rattle.gob_stream.proofs.Reader.HasReadLaws.{one_table}
 use Rattle.gob_stream.proofs.laws.items_have_one_table.Goals as goal
 
 pub returns : goal.returns

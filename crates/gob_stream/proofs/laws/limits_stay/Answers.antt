@@ -1,4 +1,4 @@
-use Rattle.gob_stream.proofs.StandLaws.{limits_stay}
+use Rattle.gob_stream.proofs.Reader.HasReadLaws.{limits_stay}
 use Rattle.gob_stream.proofs.laws.limits_stay.Goals as goal
 
 pub returns : goal.returns

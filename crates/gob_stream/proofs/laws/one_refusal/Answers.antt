@@ -1,4 +1,4 @@
-use Rattle.gob_stream.proofs.RefusalLaws.{one_reason, not_counted}
+use Rattle.gob_stream.proofs.Stream.RefusalLaws.{one_reason, not_counted}
 use Rattle.gob_stream.proofs.laws.one_refusal.Goals as goal
 
 pub returns-clause-reason : goal.returns-clause-reason

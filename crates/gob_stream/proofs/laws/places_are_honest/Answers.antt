@@ -1,4 +1,4 @@
-use Rattle.gob_stream.proofs.HonestLaws.{outcome_honest}
+use Rattle.gob_stream.proofs.Reader.HonestLaws.{outcome_honest}
 use Rattle.gob_stream.proofs.laws.places_are_honest.Goals as goal
 
 pub returns : goal.returns

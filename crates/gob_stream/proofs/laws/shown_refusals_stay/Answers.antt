@@ -1,4 +1,4 @@
-use Rattle.gob_stream.proofs.StayLaws.{shown_refusal_stays}
+use Rattle.gob_stream.proofs.Stream.StayLaws.{shown_refusal_stays}
 use Rattle.gob_stream.proofs.laws.shown_refusals_stay.Goals as goal
 
 pub returns : goal.returns

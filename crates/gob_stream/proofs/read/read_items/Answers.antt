@@ -3,15 +3,15 @@ use Rattle.std.proofs.lemmas.Grind.{common_steps}
 use Rattle.gob_stream.specs.Item.{item_views}
 use Rattle.gob_stream.specs.Bounds.{no_deeper, within_trees}
 use Rattle.gob_stream.specs.Reading.{ReadsStream}
-use Rattle.gob_stream.proofs.SessionSteps.{passed_on, known_taken, stood_first}
-use Rattle.gob_stream.proofs.StreamReadSteps.{given_none, given_as, given_more, given_still, item_lost, stream_stops, stands_next, stream_ends, item_taken}
+use Rattle.gob_stream.proofs.Reader.SessionSteps.{passed_on, known_taken, stood_first}
+use Rattle.gob_stream.proofs.Reader.ReadStreamSteps.{given_none, given_as, given_more, given_still, item_lost, stream_stops, stands_next, stream_ends, item_taken}
 use Rattle.gob_stream.proofs.read.read_items.Goals as goal
 
 pub loop-item-init : goal.loop-item-init
 loop-item-init g c =
     let begun = c.requires.new in
     record {
-      given = given_none (λ bytes e. known_taken e ((stood_first (g.R.Read.remaining c.args.input.now.reader)).each [] [] c.requires.stands));
+      given = given_none (λ bytes e. known_taken e ((stood_first (g.R.Read.remaining c.args.input.now.reader)).each [] [] c.requires.has_read));
       limits = refl;
       failures = refl;
       taken = omega (arith, c.args.input.now.taken_fits);

@@ -2,9 +2,9 @@ use Rattle.std.proofs.Common.{[], sym}
 use Rattle.gob_stream.specs.Bounds.{within_trees}
 use Rattle.gob_stream.specs.Honest.{IsHonest, OfRefusal}
 use Rattle.gob_stream.specs.Reading.{ReadsStream}
-use Rattle.gob_stream.proofs.HonestLaws.{stream_honestly}
-use Rattle.gob_stream.proofs.SessionSteps.{passed_on}
-use Rattle.gob_stream.proofs.StreamReadSteps.{given_as, given_none, took_nothing}
+use Rattle.gob_stream.proofs.Reader.HonestLaws.{stream_honestly}
+use Rattle.gob_stream.proofs.Reader.SessionSteps.{passed_on}
+use Rattle.gob_stream.proofs.Reader.ReadStreamSteps.{given_as, given_none, took_nothing}
 use Rattle.gob_stream.proofs.read.read_stream.Goals as goal
 
 pub returns-in_err-session-clause-items : goal.returns-in_err-session-clause-items

@@ -2,10 +2,10 @@ use Rattle.std.proofs.Common.{◌≡◌, negsuc, ◌+◌, ◌-◌, ◌≤◌, ar
 use Rattle.std.proofs.lemmas.Int.{ints}
 use Rattle.gob_value.specs.Tree.{depth}
 use Rattle.gob_value.specs.View.{view}
-use Rattle.gob_stream.proofs.WireLaws.{fits_base}
+use Rattle.gob_stream.proofs.Stream.WireLaws.{fits_base}
 use Rattle.gob_stream.specs.WriterRefusal.{refused_id, refused_description, described_wrongly}
 use Rattle.gob_stream.proofs.DenialLaws.{denial_weaker, description_denied, value_denied}
-use Rattle.gob_stream.proofs.WritingLaws.{appended_two, signed_as, definition_body}
+use Rattle.gob_stream.proofs.Written.WritingLaws.{appended_two, signed_as, definition_body}
 use Rattle.gob_stream.proofs.FaultSteps.{passed}
 use Rattle.gob_stream.proofs.spelled.spell_definition.Goals as goal
 

@@ -1,5 +1,5 @@
 use Rattle.std.proofs.Common.{◌++◌, ap, ◌∙◌}
-use Rattle.gob_stream.proofs.WritingLaws.{value_body}
+use Rattle.gob_stream.proofs.Written.WritingLaws.{value_body}
 use Rattle.gob_stream.proofs.FaultSteps.{passed}
 use Rattle.gob_stream.proofs.spelled.spell_head.Goals as goal
 

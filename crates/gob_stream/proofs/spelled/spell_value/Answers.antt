@@ -3,7 +3,7 @@ use Rattle.gob_value.specs.Tree.{depth}
 use Rattle.gob_value.specs.View.{view}
 use Rattle.gob_stream.specs.WriterRefusal.{refused_type, refused_value}
 use Rattle.gob_stream.proofs.DenialLaws.{denial_weaker, value_denied}
-use Rattle.gob_stream.proofs.WritingLaws.{appended_two, value_body}
+use Rattle.gob_stream.proofs.Written.WritingLaws.{appended_two, value_body}
 use Rattle.gob_stream.proofs.FaultSteps.{passed}
 use Rattle.gob_stream.proofs.spelled.spell_value.Goals as goal
 

@@ -3,12 +3,12 @@ use Rattle.gob_types.specs.Base.{base_table}
 use Rattle.gob_types.specs.Defined.{types}
 use Rattle.gob_stream.specs.declared.denial.Denial.TheVariants as denial
 use Rattle.gob_stream.specs.Bounds.{no_deeper}
-use Rattle.gob_stream.specs.ReadParts.{no_memory}
+use Rattle.gob_stream.specs.Machine.ReadParts.{no_memory}
 use Rattle.gob_stream.specs.Refusing.{refused_id}
 use Rattle.gob_stream.specs.WriterRefusal.{RefusesId}
-use Rattle.gob_stream.proofs.DescriptionSteps.{wire_ready_in}
-use Rattle.gob_stream.proofs.ValueSteps.{denied_steps}
-use Rattle.gob_stream.proofs.DefinitionSteps.{id_shown, description_begins}
+use Rattle.gob_stream.proofs.Reader.DescriptionSteps.{wire_ready_in}
+use Rattle.gob_stream.proofs.Reader.ValueSteps.{denied_steps}
+use Rattle.gob_stream.proofs.Reader.DefinitionSteps.{id_shown, description_begins}
 use Rattle.gob_stream.proofs.type_number.begin_description.Goals as goal
 
 pub returns-in-Err : goal.returns-in-Err
@@ -17,8 +17,8 @@ returns-in-Err g c = λ offset m n d a body k b i s r.
     rw (c.refusal.ensures, ← b) (denied_steps (RefusesId base_table L (types c.args.table.now) c.args.id) (denial.Refused c.in-Err.reason) d a c.args.piece.now k r (c.in-Err.ensures.judged L c.requires.known.most)
     (λ w. id_shown) (λ w y z q there. refused_id z there i s q))
 
-pub take-requires-clause-stands : goal.take-requires-clause-stands
-take-requires-clause-stands g c = record {
+pub take-requires-clause-has_read : goal.take-requires-clause-has_read
+take-requires-clause-has_read g c = record {
   limit = min c.min-depth.result 1000;
   bytes = [];
   after = c.in-Ok.ensures (types c.args.table.now) (wire_ready_in c.requires.known.base);

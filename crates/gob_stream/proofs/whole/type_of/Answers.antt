@@ -1,4 +1,4 @@
-use Rattle.gob_stream.proofs.WholeSteps.{type_at}
+use Rattle.gob_stream.proofs.Reader.WholeSteps.{type_at}
 use Rattle.gob_stream.proofs.whole.type_of.Goals as goal
 
 pub returns-clause-names : goal.returns-clause-names

@@ -4,8 +4,8 @@ use Rattle.gob_stream.specs.Stream.{no_more}
 use Rattle.gob_stream.specs.Bounds.{greatest_depth, within_trees}
 use Rattle.gob_stream.specs.Item.{item_view, item_views}
 use Rattle.gob_types.specs.Base.{base_table}
-use Rattle.gob_stream.proofs.StandLaws.{limits_stay}
-use Rattle.gob_stream.proofs.StreamSteps.{wrote_none, wrote_more, wrote_all, stopped, item_at}
+use Rattle.gob_stream.proofs.Reader.HasReadLaws.{limits_stay}
+use Rattle.gob_stream.proofs.Written.WriteStreamSteps.{wrote_none, wrote_more, wrote_all, stopped, item_at}
 use Rattle.gob_stream.proofs.writing.write_stream.Goals as goal
 
 pub returns-in_default-clause-writes : goal.returns-in_default-clause-writes

@@ -2,7 +2,7 @@
 use Rattle.std.proofs.Common.{◌≡◌}
 use Rattle.gob_stream.specs.Bounds.{within_trees}
 use Rattle.gob_stream.specs.Item.{item_views}
-use Rattle.gob_stream.proofs.StreamSteps.{WroteSome}
+use Rattle.gob_stream.proofs.Written.WriteStreamSteps.{WroteSome}
 use Rattle.gob_stream.proofs.writing.write_stream.Given as goal
 
 abbrev pub invariant-loop-i : goal.invariant-loop-i

@@ -1,8 +1,8 @@
 use Rattle.std.proofs.Common.{◌≡◌, ◌-◌, length, take, ap, ◌∙◌, Some, None, [], ◌∷◌}
 use Rattle.std.specs.Prelude.{slice_get}
-use Rattle.gob_read.specs.Telling.{leave}
+use Rattle.gob_read.specs.Event.{leave}
 use Rattle.gob_tape.specs.Machine.View.{state_of}
-use Rattle.gob_tape.specs.Machine.Standing.{TapeGoesOn}
+use Rattle.gob_tape.specs.Machine.Received.{TapeGoesOn}
 use Rattle.gob_tape.proofs.TidyingLaws.{one_ended, ended_apart, ended_all}
 use Rattle.gob_tape.proofs.tidying.end_parts.Goals as goal
 

@@ -4,7 +4,7 @@ use Rattle.std.proofs.lemmas.Option.{same_Some}
 use Rattle.std.proofs.lemmas.Result.{on_ok_weaker}
 use Rattle.gob_types.specs.declared.kind.Shape.{Shape}
 use Rattle.gob_types.specs.Table.{shape_of}
-use Rattle.gob_tape.specs.Machine.Tidying.{IsNextType, TellsPart}
+use Rattle.gob_tape.specs.Machine.Tidying.{IsNextType, PartHasEvents}
 use Rattle.gob_tape.specs.Machine.View.{state_of}
 use Rattle.gob_tape.proofs.TidyingLaws.{innermost_is}
 use Rattle.gob_tape.proofs.tidying.tell_node.Goals as goal
@@ -28,11 +28,11 @@ returns g c =
     let shape : c.in-Some-shape_of.shape.now ≡ s = same_Some c.in-Some-shape_of.shape.now s (there
     ∙ ap (shape_of T) type ∙ h) in (
       λ f h. c.next_type.ensures.small e f due (c.field.ensures ∙ h),
-      subst (λ before. TellsPart c.args.place c.args.node s.kind e c.args.pool.now before after old new)
+      subst (λ before. PartHasEvents c.args.place c.args.node s.kind e c.args.pool.now before after old new)
           c.advance.ensures
-          (subst (λ (s : Shape). TellsPart c.args.place c.args.node s.kind e c.args.pool.now
+          (subst (λ (s : Shape). PartHasEvents c.args.place c.args.node s.kind e c.args.pool.now
           (reverse c.advance.new.stack.items) after old new) shape
-          (subst (λ e. TellsPart c.args.place c.args.node c.in-Some-shape_of.shape.now.kind e c.args.pool.now
+          (subst (λ e. PartHasEvents c.args.place c.args.node c.in-Some-shape_of.shape.now.kind e c.args.pool.now
           (reverse c.advance.new.stack.items) after old new) type d)),
     ))
     c.tell_part.ensures

@@ -4,7 +4,7 @@ use Rattle.gob_value.specs.Tree.{Tree}
 use Rattle.gob_value.specs.View.{view}
 use Rattle.gob_value.specs.declared.value.Value.{Int}
 use Rattle.gob_value.proofs.PublicLaws.{view-Int}
-use Rattle.gob_read.specs.Built.{number_tree}
+use Rattle.gob_read.specs.Leaf.{number_tree}
 use Rattle.gob_read.proofs.PublicLaws.{signed_is}
 use Rattle.gob_tape.proofs.values.number_value.Goals as goal
 

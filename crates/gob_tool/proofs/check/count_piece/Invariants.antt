@@ -1,6 +1,6 @@
 -- The items of the piece so far were counted.
 use Rattle.std.proofs.Common.{◌≡◌, ◌+◌, ◌-◌, ℕ, List, length}
-use Rattle.gob_tool.specs.Counting.{HasCounted, CountsUpTo}
+use Rattle.gob_tool.specs.Machine.Counting.{HasCounted, CountsUpTo}
 use Rattle.gob_tool.proofs.check.count_piece.Given as goal
 
 abbrev pub invariant-loop-rest : goal.invariant-loop-rest

@@ -3,7 +3,7 @@ use Rattle.std.proofs.Common.{◌≡◌, ◌<◌, ◌∙◌, ◌++◌, length, t
 use Rattle.gob_types.specs.Defined.{types, definition_count}
 use Rattle.gob_stream.specs.Bounds.{deepest, no_deeper}
 use Rattle.gob_tool.specs.declared.check.Tally.{Tally}
-use Rattle.gob_tool.specs.Counting.{tally_line}
+use Rattle.gob_tool.specs.Machine.Counting.{tally_line}
 use Rattle.gob_tool.specs.Fault.{reading_fault}
 use Rattle.gob_tool.proofs.CheckLaws.{counts_first, counts_on, bytes_fit, counted_whole, counted_within, counted_so}
 use Rattle.gob_tool.proofs.CheckLaws.{count_failed, count_stopped, counting_at, counting_reads_at, finish_reads}
@@ -13,7 +13,7 @@ use Rattle.gob_tool.proofs.ShowLaws.{read_none}
 use Rattle.gob_tool.proofs.check.count_pieces.Goals as goal
 
 pub pieces-init : goal.pieces-init
-pieces-init g c = (refl, refl, counts_first _ _ c.requires.stands)
+pieces-init g c = (refl, refl, counts_first _ _ c.requires.has_read)
 
 pub returns-in_err-finish-in-Ok-eq0-clause-counted : goal.returns-in_err-finish-in-Ok-eq0-clause-counted
 returns-in_err-finish-in-Ok-eq0-clause-counted g c = λ bytes known.

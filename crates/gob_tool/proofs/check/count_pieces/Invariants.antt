@@ -1,6 +1,6 @@
 -- The session stands behind what was read, and all of it was counted.
 use Rattle.std.proofs.Common.{◌≡◌, ◌+◌, ◌-◌}
-use Rattle.gob_tool.specs.Counting.{CountsIn}
+use Rattle.gob_tool.specs.Machine.Counting.{CountsIn}
 use Rattle.gob_tool.proofs.check.count_pieces.Given as goal
 
 abbrev pub invariant-pieces : goal.invariant-pieces

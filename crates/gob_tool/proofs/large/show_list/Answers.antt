@@ -6,7 +6,7 @@ use Rattle.gob_stream.specs.Item.{puts}
 use Rattle.gob_stream.proofs.PublicLaws.{has_item}
 use Rattle.gob_tool.specs.declared.fault.ToolFault.TheVariants as fault
 use Rattle.gob_tool.specs.Line.{line}
-use Rattle.gob_tool.specs.Gathering.{TakesPiece}
+use Rattle.gob_tool.specs.Machine.Gathering.{TakesPiece}
 use Rattle.gob_tool.proofs.ShowLaws.{piece_at}
 use Rattle.gob_tool.proofs.ShowFront.{begun_so_far}
 use Rattle.gob_tool.proofs.ShowWhole.{gathers_whole}

@@ -40,7 +40,7 @@ returns-in_err-finish-in-Ok-eq0-clause-gave g c = λ before taken gave.
 
 pub returns-in_err-finish-in-Ok-eq0-clause-reads : goal.returns-in_err-finish-in-Ok-eq0-clause-reads
 returns-in_err-finish-in-Ok-eq0-clause-reads g c =
-    let i = c.requires.stands in
+    let i = c.requires.has_read in
     let e = c.in_err-finish-in-Ok-eq0.field-0.0 in
     counts_piece_at _ _ c.from_residual.result e c.from_residual.ensures.1
     (finish_unread c.args.session.now c.finish.new.self i.items i.bytes _ _ e
@@ -78,7 +78,7 @@ returns-in_err-feed-in-Ok-clause-gave g c = λ before taken gave.
 
 pub returns-in_err-feed-in-Ok-clause-reads : goal.returns-in_err-feed-in-Ok-clause-reads
 returns-in_err-feed-in-Ok-clause-reads g c =
-    let i = c.requires.stands in
+    let i = c.requires.has_read in
     let e = c.in_err-feed-in-Ok.field-0.0 in
     let fed = c.in_err-feed-in-Ok.ensures.fed in
     counts_piece_at _ _ c.from_residual-in_err-feed-in-Ok.result e c.from_residual-in_err-feed-in-Ok.ensures.1

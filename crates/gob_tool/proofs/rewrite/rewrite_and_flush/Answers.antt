@@ -4,7 +4,7 @@ use Rattle.std.specs.Io.KnownBytes.{Appends}
 use Rattle.std.proofs.KnownBytes.{Appends-kept}
 use Rattle.gob_tool.specs.declared.fault.ToolFault.TheVariants as fault
 use Rattle.gob_stream.specs.Bounds.{deepest, no_deeper}
-use Rattle.gob_tool.specs.Gathering.{Gathered}
+use Rattle.gob_tool.specs.Machine.Gathering.{Gathered}
 use Rattle.gob_tool.specs.Showing.{AppendsFront}
 use Rattle.gob_tool.proofs.RewriteRuns.{rewritten_before, front_as, rewrites_cut, rewrites_as}
 use Rattle.gob_tool.proofs.ShowLaws.{front_out, all_out, whole_front}

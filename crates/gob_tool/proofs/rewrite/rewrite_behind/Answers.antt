@@ -3,7 +3,7 @@ use Rattle.std.proofs.Common.{◌≡◌, [], Err, ◌-◌, ◌∙◌, ◌++◌, 
 use Rattle.std.proofs.Math.Seq.{take-length}
 use Rattle.gob_tool.specs.declared.fault.ToolFault.TheVariants as fault
 use Rattle.gob_stream.specs.Bounds.{deepest, no_deeper}
-use Rattle.gob_tool.specs.Rewritten.{MayRewriteFront}
+use Rattle.gob_tool.specs.Machine.Rewritten.{MayRewriteFront}
 use Rattle.gob_tool.proofs.RewriteRuns.{up_to_none, up_to_more}
 use Rattle.gob_tool.proofs.RewriteKeeping.{keeping_at, rest_kept, rest_begun, two_keeping}
 use Rattle.gob_tool.proofs.rewrite.rewrite_behind.Goals as goal

@@ -1,6 +1,6 @@
 -- The front of the piece was rewritten, and what was written of it went out or is gathered; nothing is kept yet.
 use Rattle.std.proofs.Common.{◌≡◌, [], length}
-use Rattle.gob_tool.specs.Rewritten.{HasRewritten, RewritesUpTo}
+use Rattle.gob_tool.specs.Machine.Rewritten.{HasRewritten, RewritesUpTo}
 use Rattle.gob_tool.proofs.rewrite.rewrite_behind.Given as goal
 
 abbrev pub invariant-items : goal.invariant-items

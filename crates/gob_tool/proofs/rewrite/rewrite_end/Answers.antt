@@ -3,7 +3,7 @@ use Rattle.std.proofs.Common.{refl}
 use Rattle.std.proofs.KnownBytes.{Consumes-nil}
 use Rattle.gob_stream.specs.Bounds.{deepest, no_deeper}
 use Rattle.gob_tool.specs.Fault.{reading_fault}
-use Rattle.gob_tool.specs.Gathering.{Gathered}
+use Rattle.gob_tool.specs.Machine.Gathering.{Gathered}
 use Rattle.gob_tool.specs.Showing.{AppendsFront}
 use Rattle.gob_tool.proofs.ShowLaws.{reads_at}
 use Rattle.gob_tool.proofs.RewriteRuns.{rewrites_at, rewrites_on, rewritten_stopped, rewritten_within, rewritten_whole}

@@ -1,6 +1,6 @@
 -- What is tidy already is written as it stands, and anything else is read on with a step.
 use Rattle.std.proofs.Common.{ℕ, Option, Ok, subst}
-use Rattle.gob_tool.specs.Rewritten.{MayRewriteWhole}
+use Rattle.gob_tool.specs.Machine.Rewritten.{MayRewriteWhole}
 use Rattle.gob_tool.proofs.RewriteRuns.{used_at, stands_still, still_used}
 use Rattle.gob_tool.proofs.rewrite.rewrite_front.Goals as goal
 

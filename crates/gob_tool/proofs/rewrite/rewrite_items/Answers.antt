@@ -4,7 +4,7 @@ use Rattle.std.proofs.KnownBytes.{Appends-nil}
 use Rattle.gob_tool.specs.declared.fault.ToolFault.TheVariants as fault
 use Rattle.gob_stream.specs.Bounds.{deepest, no_deeper}
 use Rattle.gob_stream.specs.Writing.{IsNew}
-use Rattle.gob_tool.specs.Gathering.{Gathered}
+use Rattle.gob_tool.specs.Machine.Gathering.{Gathered}
 use Rattle.gob_tool.specs.Rewriting.{RewritesSo}
 use Rattle.gob_tool.specs.Showing.{AppendsFront}
 use Rattle.gob_tool.proofs.CheckLaws.{limits_as}

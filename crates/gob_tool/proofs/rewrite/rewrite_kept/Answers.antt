@@ -2,7 +2,7 @@
 use Rattle.std.proofs.Common.{Ok, Err, ◌++◌, ◌∙◌, subst}
 use Rattle.gob_tool.specs.declared.fault.ToolFault.TheVariants as fault
 use Rattle.gob_stream.specs.Bounds.{deepest, no_deeper}
-use Rattle.gob_tool.specs.Rewritten.{RewritesPiece}
+use Rattle.gob_tool.specs.Machine.Rewritten.{RewritesPiece}
 use Rattle.gob_tool.proofs.RewriteRuns.{piece_at}
 use Rattle.gob_tool.proofs.RewriteKeeping.{memory_kept}
 use Rattle.gob_tool.proofs.rewrite.rewrite_kept.Goals as goal

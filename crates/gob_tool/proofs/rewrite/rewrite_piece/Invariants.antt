@@ -1,6 +1,6 @@
 -- The front of the piece was rewritten, and what was written of it went out or is gathered.
 use Rattle.std.proofs.Common.{◌≡◌, length}
-use Rattle.gob_tool.specs.Rewritten.{HasRewritten, RewritesUpTo}
+use Rattle.gob_tool.specs.Machine.Rewritten.{HasRewritten, RewritesUpTo}
 use Rattle.gob_tool.proofs.rewrite.rewrite_piece.Given as goal
 
 abbrev pub invariant-loop-rest : goal.invariant-loop-rest

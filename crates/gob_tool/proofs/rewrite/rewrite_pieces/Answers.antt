@@ -2,7 +2,7 @@
 use Rattle.std.proofs.Common.{◌≡◌, ◌<◌, ◌∙◌, ◌++◌, length, take, arith, refl, sym, subst, length-take}
 use Rattle.std.specs.Io.KnownBytes.{Consumes}
 use Rattle.gob_stream.specs.Bounds.{Bounds, deepest, no_deeper}
-use Rattle.gob_tool.specs.Gathering.{Gathered, CountsOnlyReads}
+use Rattle.gob_tool.specs.Machine.Gathering.{Gathered, CountsOnlyReads}
 use Rattle.gob_tool.specs.Rewriting.{RewritesSo}
 use Rattle.gob_tool.specs.Showing.{AppendsFront}
 use Rattle.gob_tool.proofs.RewriteRuns.{rewritten_stopped, piece_reads, rewrites_at}
@@ -15,7 +15,7 @@ pieces-init g c = (
   refl,
   refl,
   refl,
-  keeps_first _ _ _ _ _ _ c.requires.stands c.requires.limits c.requires.new c.requires.empty c.new-pending.ensures,
+  keeps_first _ _ _ _ _ _ c.requires.has_read c.requires.limits c.requires.new c.requires.empty c.new-pending.ensures,
 )
 
 pub rewrite_end-requires-clause-so_far : goal.rewrite_end-requires-clause-so_far

@@ -1,6 +1,6 @@
 -- The session stands behind what was read and isn't kept, and the tidy stream of it went out or is gathered.
 use Rattle.std.proofs.Common.{◌≡◌, ◌+◌, ◌-◌, length}
-use Rattle.gob_tool.specs.Rewritten.{RewritesKept}
+use Rattle.gob_tool.specs.Machine.Rewritten.{RewritesKept}
 use Rattle.gob_tool.proofs.rewrite.rewrite_pieces.Given as goal
 
 abbrev pub invariant-pieces : goal.invariant-pieces

@@ -1,7 +1,7 @@
 -- What is tidy already is written as it stands, the first bytes of an item are left, and anything else is read on with
 -- a step.
 use Rattle.std.proofs.Common.{ℕ, Option, Ok, Err, subst}
-use Rattle.gob_tool.specs.Rewritten.{MayRewriteWhole}
+use Rattle.gob_tool.specs.Machine.Rewritten.{MayRewriteWhole}
 use Rattle.gob_tool.proofs.RewriteRuns.{stands_still, still_used}
 use Rattle.gob_tool.proofs.RewriteKeeping.{front_at}
 use Rattle.gob_tool.proofs.rewrite.rewrite_ready.Goals as goal

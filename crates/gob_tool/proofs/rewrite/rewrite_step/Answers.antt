@@ -3,7 +3,7 @@ use Rattle.std.proofs.Common.{Ok, ap, sym, subst, refl}
 use Rattle.gob_types.specs.Defined.{types}
 use Rattle.gob_types.specs.Table.{Table}
 use Rattle.gob_stream.specs.declared.fault.Fault.TheVariants as reading
-use Rattle.gob_tool.specs.Rewritten.{IsNextTape}
+use Rattle.gob_tool.specs.Machine.Rewritten.{IsNextTape}
 use Rattle.gob_tool.proofs.RewriteRuns.{some_at, memory_stops, step_stops, step_without, step_gives, given_next}
 use Rattle.gob_tool.proofs.RewriteRuns.{step_pushed, pushes_by}
 use Rattle.gob_tool.proofs.rewrite.rewrite_step.Goals as goal

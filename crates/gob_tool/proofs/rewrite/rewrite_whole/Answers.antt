@@ -5,7 +5,7 @@ use Rattle.gob_types.specs.Table.{Table}
 use Rattle.gob_value.specs.Whole.{IsTidyWhole}
 use Rattle.gob_stream.specs.Bounds.{deepest}
 use Rattle.gob_stream.proofs.PublicLaws.{has_item}
-use Rattle.gob_tool.specs.Rewritten.{IsTidyNext}
+use Rattle.gob_tool.specs.Machine.Rewritten.{IsTidyNext}
 use Rattle.gob_tool.proofs.RewriteOut.{EachPushesOut}
 use Rattle.gob_tool.proofs.RewriteWhole.{whole_of, whole_next, whole_rewritten, whole_stops, may_at}
 use Rattle.gob_tool.proofs.rewrite.rewrite_whole.Goals as goal

@@ -2,7 +2,7 @@ use Rattle.std.proofs.Common.{sym, subst}
 use Rattle.gob_types.specs.Defined.{types}
 use Rattle.gob_stream.specs.Bounds.{deepest, no_deeper}
 use Rattle.gob_stream.specs.Item.{StreamItem}
-use Rattle.gob_tool.specs.Rewritten.{StandsThere, WritesForm}
+use Rattle.gob_tool.specs.Machine.Rewritten.{StandsThere, WritesForm}
 use Rattle.gob_tool.proofs.RewriteLaws.{definition_meant, value_meant}
 use Rattle.gob_tool.proofs.rewriter.write_tidy.Goals as goal
 

@@ -3,7 +3,7 @@ use Rattle.std.proofs.Common.{◌≡◌, ◌≤◌, ap, sym, subst, min, arith}
 use Rattle.gob_stream.specs.Bounds.{no_deeper}
 use Rattle.gob_tool.specs.Depths.{most_depth}
 use Rattle.gob_tool.specs.Words.{order_limits}
-use Rattle.gob_tool.specs.Running.{Does}
+use Rattle.gob_tool.specs.Running.{OrderAnswers}
 use Rattle.gob_tool.specs.declared.words.Chosen.{Chosen}
 use Rattle.gob_tool.specs.declared.words.Order.{Order}
 use Rattle.gob_tool.proofs.run.run_order.Goals as goal
@@ -24,7 +24,7 @@ returns-in-Show-clause-does g c = λ wanted_bytes bytes known left.
     let kept = g.Q.Read.remaining c.args.wanted.now.reader in
     let order = c.args.order.now in
     let shown = rw (c.limits-limits.ensures, within_order order _ c.in-Show.is) at c.run_show.ensures.shown in
-    subst (λ x. Does x (order_limits order) wanted_bytes bytes kept next old new c.run_show.result) (sym c.in-Show.is)
+    subst (λ x. OrderAnswers x (order_limits order) wanted_bytes bytes kept next old new c.run_show.result) (sym c.in-Show.is)
     (shown bytes left)
 
 pub returns-in-Check-clause-does : goal.returns-in-Check-clause-does
@@ -35,7 +35,7 @@ returns-in-Check-clause-does g c = λ wanted_bytes bytes known left.
     let kept = g.Q.Read.remaining c.args.wanted.now.reader in
     let order = c.args.order.now in
     let checked = rw (c.limits-limits.ensures, within_order order _ c.in-Check.is) at c.run_check.ensures.checked in
-    subst (λ x. Does x (order_limits order) wanted_bytes bytes kept next old new c.run_check.result) (sym c.in-Check.is)
+    subst (λ x. OrderAnswers x (order_limits order) wanted_bytes bytes kept next old new c.run_check.result) (sym c.in-Check.is)
     (checked bytes left)
 
 pub returns-in-Rewrite-clause-does : goal.returns-in-Rewrite-clause-does
@@ -46,7 +46,7 @@ returns-in-Rewrite-clause-does g c = λ wanted_bytes bytes known left.
     let kept = g.Q.Read.remaining c.args.wanted.now.reader in
     let order = c.args.order.now in
     let rewritten = rw (c.limits-limits.ensures, within_order order _ c.in-Rewrite.is) at c.run_rewrite.ensures.rewritten in
-    subst (λ x. Does x (order_limits order) wanted_bytes bytes kept next old new c.run_rewrite.result) (sym c.in-Rewrite.is)
+    subst (λ x. OrderAnswers x (order_limits order) wanted_bytes bytes kept next old new c.run_rewrite.result) (sym c.in-Rewrite.is)
     (rewritten bytes left)
 
 pub returns-in-Take-clause-does : goal.returns-in-Take-clause-does
@@ -57,5 +57,5 @@ returns-in-Take-clause-does g c = λ wanted_bytes bytes known left.
     let wanted_next = g.Q.Read.remaining c.run_take.new.wanted.reader in
     let order = c.args.order.now in
     let taken = rw (c.limits-limits.ensures, within_order order _ c.in-Take.is) at c.run_take.ensures.taken in
-    subst (λ x. Does x (order_limits order) wanted_bytes bytes wanted_next next old new c.run_take.result) (sym c.in-Take.is)
+    subst (λ x. OrderAnswers x (order_limits order) wanted_bytes bytes wanted_next next old new c.run_take.result) (sym c.in-Take.is)
     (taken wanted_bytes bytes known left)

@@ -4,8 +4,8 @@ use Rattle.std.specs.Io.KnownBytes.{Appends}
 use Rattle.std.proofs.KnownBytes.{Appends-kept}
 use Rattle.gob_tool.specs.declared.fault.ToolFault.TheVariants as fault
 use Rattle.gob_stream.specs.Bounds.{within_trees}
-use Rattle.gob_tool.specs.Gathering.{Gathered}
-use Rattle.gob_tool.specs.Showing.{AppendsFront, Shows}
+use Rattle.gob_tool.specs.Machine.Gathering.{Gathered}
+use Rattle.gob_tool.specs.Showing.{AppendsFront, ShowAnswers}
 use Rattle.gob_tool.proofs.ShowLaws.{begun_before, begun_as, runs_cut, runs_as, front_out, all_out, whole_front}
 use Rattle.gob_tool.proofs.show.run_show.Goals as goal
 use Rattle.gob_tool.proofs.show.run_show.Goals.{in_default-shown-2, in_default-shown}
@@ -56,8 +56,8 @@ returns-clause-shown g c = λ bytes known.
     (λ all h. Appends-kept old new end all (all_out old mid new gathered all h c.in_ok-write_to.ensures.written)
     c.flush-flushed.ensures.bytes) in
     elim c.match-shown-3.branch [
-      | in_default-shown-2 w ↦ subst (λ r. Shows (within_trees c.args.limits) bytes next old end r)
+      | in_default-shown-2 w ↦ subst (λ r. ShowAnswers (within_trees c.args.limits) bytes next old end r)
           (sym w.result-is) whole
-      | in_default-shown w ↦ subst (λ r. Shows (within_trees c.args.limits) bytes next old end r)
+      | in_default-shown w ↦ subst (λ r. ShowAnswers (within_trees c.args.limits) bytes next old end r)
           (sym w.result-is) whole
     ]

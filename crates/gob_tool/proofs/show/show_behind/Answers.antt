@@ -4,7 +4,7 @@ use Rattle.std.proofs.Math.Seq.{take-length}
 use Rattle.gob_tool.specs.declared.fault.ToolFault.TheVariants as fault
 use Rattle.gob_tool.specs.Fault.{reading_fault}
 use Rattle.gob_stream.specs.Bounds.{within_trees}
-use Rattle.gob_tool.specs.Keeping.{MayTakeFront}
+use Rattle.gob_tool.specs.Machine.Keeping.{MayTakeFront}
 use Rattle.gob_tool.proofs.ShowFront.{up_to_more, rest_stops, rest_cut}
 use Rattle.gob_tool.proofs.KeepLaws.{keeping_at, keeps_rest, rest_begun}
 use Rattle.gob_tool.proofs.show.show_behind.Goals as goal

@@ -1,6 +1,6 @@
 -- The front of the piece was taken, and the lines of its items went out or are gathered; nothing is kept yet.
 use Rattle.std.proofs.Common.{◌≡◌, ℕ, List, [], Option, length}
-use Rattle.gob_tool.specs.Gathering.{StandsBehind, StandsUpTo}
+use Rattle.gob_tool.specs.Machine.Gathering.{StandsBehind, StandsUpTo}
 use Rattle.gob_tool.proofs.show.show_behind.Given as goal
 
 abbrev pub invariant-items : goal.invariant-items

@@ -2,7 +2,7 @@
 use Rattle.std.proofs.Common.{Some, [], Err, sym, subst, refl}
 use Rattle.gob_tool.specs.Fault.{reading_fault}
 use Rattle.gob_stream.specs.Bounds.{within_trees}
-use Rattle.gob_tool.specs.Gathering.{Gathered, StandsBehind, TakesPiece}
+use Rattle.gob_tool.specs.Machine.Gathering.{Gathered, StandsBehind, TakesPiece}
 use Rattle.gob_tool.specs.Showing.{AppendsFront}
 use Rattle.gob_tool.proofs.ShowLaws.{runs_at, reads_at, piece_counts, finish_counts}
 use Rattle.gob_tool.proofs.KeepLaws.{end_stopped, end_within, end_whole}

@@ -2,7 +2,7 @@
 use Rattle.std.proofs.Common.{ℕ, Option, Ok, subst}
 use Rattle.gob_stream.specs.declared.fault.Fault.TheVariants as reading
 use Rattle.gob_stream.specs.Bounds.{within_trees}
-use Rattle.gob_tool.specs.Gathering.{MayGatherWhole}
+use Rattle.gob_tool.specs.Machine.Gathering.{MayGatherWhole}
 use Rattle.gob_tool.proofs.ShowFront.{front_at, memory_stops, whole_taken}
 use Rattle.gob_tool.proofs.show.show_front.Goals as goal
 

@@ -2,8 +2,8 @@
 use Rattle.std.proofs.Common.{ap, subst}
 use Rattle.gob_tool.specs.declared.fault.ToolFault.TheVariants as fault
 use Rattle.gob_stream.specs.Bounds.{within_trees}
-use Rattle.gob_tool.specs.Gathering.{Gathered}
-use Rattle.gob_tool.specs.Showing.{Runs, AppendsFront}
+use Rattle.gob_tool.specs.Machine.Gathering.{Gathered}
+use Rattle.gob_tool.specs.Showing.{RunAnswers, AppendsFront}
 use Rattle.gob_tool.proofs.ShowLaws.{begun_first, runs_at}
 use Rattle.gob_tool.proofs.show.show_items.Goals as goal
 
@@ -30,5 +30,5 @@ returns-clause-shown g c = λ bytes known.
     let new = g.W.Write.contents c.show_pieces-shown.new.output.writer in
     let next = g.R.Read.remaining c.show_pieces-shown.new.input.reader in
     let limits = ap (λ L. within_trees L) c.in_ok-session.ensures.limits in
-    subst (λ L. Runs L bytes next (Gathered old new c.show_pieces-shown.new.lines.gathered.items) (AppendsFront old new)
+    subst (λ L. RunAnswers L bytes next (Gathered old new c.show_pieces-shown.new.lines.gathered.items) (AppendsFront old new)
     c.show_pieces-shown.result) limits (c.show_pieces-shown.ensures.shown bytes known)

@@ -2,8 +2,8 @@
 use Rattle.std.proofs.Common.{◌≡◌, ◌<◌, ◌∙◌, ◌++◌, length, take, arith, refl, sym, subst, length-take}
 use Rattle.std.proofs.KnownBytes.{Consumes-trans}
 use Rattle.gob_stream.specs.Bounds.{within_trees}
-use Rattle.gob_tool.specs.Gathering.{Gathered, CountsOnlyReads}
-use Rattle.gob_tool.specs.Keeping.{KeepsBehind}
+use Rattle.gob_tool.specs.Machine.Gathering.{Gathered, CountsOnlyReads}
+use Rattle.gob_tool.specs.Machine.Keeping.{KeepsBehind}
 use Rattle.gob_tool.specs.Showing.{AppendsFront}
 use Rattle.gob_tool.proofs.ShowLaws.{all_taken, stopped, runs_at, read_none, piece_counts, reads_at}
 use Rattle.gob_tool.proofs.KeepLaws.{keeps_first, keeps_on, end_there, read_failed_keeping, falls_keeping}
@@ -14,7 +14,7 @@ pieces-init g c = (
   refl,
   refl,
   refl,
-  keeps_first _ _ _ _ _ c.requires.stands c.requires.lines c.new-pending.ensures,
+  keeps_first _ _ _ _ _ c.requires.has_read c.requires.lines c.new-pending.ensures,
 )
 
 pub returns-in-Ok-eq0-clause-shown : goal.returns-in-Ok-eq0-clause-shown

@@ -1,6 +1,6 @@
 -- The session stands behind what was read and isn't kept, and the lines of the items so far went out or are gathered.
 use Rattle.std.proofs.Common.{◌≡◌, ◌+◌, ◌-◌, length}
-use Rattle.gob_tool.specs.Keeping.{KeepsIn}
+use Rattle.gob_tool.specs.Machine.Keeping.{KeepsIn}
 use Rattle.gob_tool.proofs.show.show_pieces.Given as goal
 
 abbrev pub invariant-pieces : goal.invariant-pieces

@@ -4,7 +4,7 @@ use Rattle.gob_types.specs.Defined.{types}
 use Rattle.gob_types.specs.Table.{Table}
 use Rattle.gob_stream.specs.declared.fault.Fault.TheVariants as reading
 use Rattle.gob_stream.specs.Bounds.{within_trees}
-use Rattle.gob_tool.specs.Gathering.{GathersGiven}
+use Rattle.gob_tool.specs.Machine.Gathering.{GathersGiven}
 use Rattle.gob_tool.proofs.ShowFront.{front_at, step_stops, memory_stops, step_taken}
 use Rattle.gob_tool.proofs.show.show_step.Goals as goal
 

@@ -6,7 +6,7 @@ use Rattle.gob_types.specs.Defined.{types}
 use Rattle.gob_stream.specs.Bounds.{within_trees}
 use Rattle.gob_tool.specs.Showing.{AppendsFront}
 use Rattle.gob_tool.specs.Taking.{LacksWanted, stops_at_wanted, takes_behind}
-use Rattle.gob_tool.specs.Wanting.{FindsWanted}
+use Rattle.gob_tool.specs.Machine.Wanting.{FindsWanted}
 use Rattle.gob_tool.proofs.TakeLaws.{ready_as}
 use Rattle.gob_tool.proofs.WantedLaws.{found_taken, flushed_behind}
 use Rattle.gob_tool.proofs.take.take_as_wanted.Goals as goal

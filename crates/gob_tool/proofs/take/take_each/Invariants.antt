@@ -2,8 +2,8 @@
 use Rattle.std.proofs.Common.{◌≡◌, ◌++◌, take}
 use Rattle.gob_types.specs.Defined.{types}
 use Rattle.gob_stream.specs.Item.{item_views}
-use Rattle.gob_tool.specs.Gathering.{PassesSome}
-use Rattle.gob_tool.specs.Receiver.{IsReceiver, IsSameReceiver}
+use Rattle.gob_tool.specs.Machine.Gathering.{PassesSome}
+use Rattle.gob_tool.specs.Machine.Receiver.{IsReceiver, IsSameReceiver}
 use Rattle.gob_tool.specs.Taking.{HasTakenItems}
 use Rattle.gob_tool.proofs.take.take_each.Given as goal
 

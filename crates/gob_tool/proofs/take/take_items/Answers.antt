@@ -3,7 +3,7 @@ use Rattle.std.proofs.Common.{ap, subst}
 use Rattle.gob_types.specs.Defined.{types}
 use Rattle.gob_tool.specs.declared.fault.ToolFault.TheVariants as fault
 use Rattle.gob_stream.specs.Bounds.{within_trees}
-use Rattle.gob_tool.specs.Gathering.{PassesSome}
+use Rattle.gob_tool.specs.Machine.Gathering.{PassesSome}
 use Rattle.gob_tool.specs.Showing.{AppendsFront}
 use Rattle.gob_tool.specs.Taking.{Receiving}
 use Rattle.gob_tool.proofs.TakeRuns.{received_first, receiving_at}

@@ -7,7 +7,7 @@ use Rattle.gob_stream.specs.declared.item.Item as declared
 use Rattle.gob_stream.specs.Item.{item_views}
 use Rattle.gob_tool.specs.Fault.{reading_fault}
 use Rattle.gob_stream.specs.Bounds.{within_trees}
-use Rattle.gob_tool.specs.Gathering.{PassesSome}
+use Rattle.gob_tool.specs.Machine.Gathering.{PassesSome}
 use Rattle.gob_tool.specs.Showing.{AppendsFront}
 use Rattle.gob_tool.proofs.TakeRuns.{piece_sent, takes_first, takes_on, nearer, takes_of, sent_of, receiving_at}
 use Rattle.gob_tool.proofs.TakeRuns.{stopped_at_items, stopped_at_read, stopped_at_reader, ended_whole}
@@ -18,7 +18,7 @@ pieces-init g c = (
   refl,
   refl,
   refl,
-  takes_first _ _ (types c.args.wanted.now) c.args.wanted_id _ _ c.requires.stands
+  takes_first _ _ (types c.args.wanted.now) c.args.wanted_id _ _ c.requires.has_read
       c.requires.lines,
 )
 

@@ -1,8 +1,8 @@
 -- The session stands behind what was read, and the lines of what was received so far went out or are gathered.
 use Rattle.std.proofs.Common.{◌≡◌}
 use Rattle.gob_types.specs.Defined.{types}
-use Rattle.gob_tool.specs.Gathering.{PassesSome}
-use Rattle.gob_tool.specs.Pieces.{StandsAt, unread}
+use Rattle.gob_tool.specs.Machine.Gathering.{PassesSome}
+use Rattle.gob_tool.specs.Machine.Pieces.{StandsAt, unread}
 use Rattle.gob_tool.specs.Taking.{HasTakenItems}
 use Rattle.gob_tool.proofs.take.take_pieces.Given as goal
 

@@ -5,7 +5,7 @@ use Rattle.gob_value.specs.declared.value.Value.{Value}
 use Rattle.gob_stream.specs.declared.item.Item as declared
 use Rattle.gob_stream.specs.Item.{item_views}
 use Rattle.gob_stream.specs.Bounds.{within_trees}
-use Rattle.gob_tool.specs.Pieces.{first_type_of}
+use Rattle.gob_tool.specs.Machine.Pieces.{first_type_of}
 use Rattle.gob_tool.specs.Taking.{first_type}
 use Rattle.gob_tool.proofs.TakeRuns.{nearer}
 use Rattle.gob_tool.proofs.WantedLaws.{first_more, wanted_ready, finds_on, wanted_read, wanted_stopped, wanted_at}

@@ -1,6 +1,6 @@
 -- The session stands behind what was read, and the first value so far is known.
 use Rattle.std.proofs.Common.{◌≡◌}
-use Rattle.gob_tool.specs.Pieces.{StandsAt, unread}
+use Rattle.gob_tool.specs.Machine.Pieces.{StandsAt, unread}
 use Rattle.gob_tool.specs.Taking.{first_type}
 use Rattle.gob_tool.proofs.wanted.read_type.Given as goal
 

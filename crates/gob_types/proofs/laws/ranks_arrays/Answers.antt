@@ -1,5 +1,5 @@
 use Rattle.gob_types.proofs.GrowthLaws.{ready_grounded}
-use Rattle.gob_types.specs.Walk.{IsFilledOf}
+use Rattle.gob_types.specs.Machine.Walk.{IsFilledOf}
 use Rattle.gob_types.proofs.RankLaws.{rank_below, rank_above, one_rank}
 use Rattle.gob_types.proofs.laws.ranks_arrays.Goals as goal
 

@@ -2,7 +2,7 @@ use Rattle.std.proofs.Common.{List, Contains, subst}
 use Rattle.std.proofs.lemmas.Option.{slice_get-get_or}
 use Rattle.std.proofs.lemmas.Result.{IfOk-from_err}
 use Rattle.gob_types.specs.declared.id.TypeId.{TypeId}
-use Rattle.gob_types.specs.Walk.{AddsOne, AddsAll}
+use Rattle.gob_types.specs.Machine.Walk.{AddsOne, AddsAll}
 use Rattle.gob_types.proofs.FirstLaws.{contains_read, contains_at}
 use Rattle.gob_types.proofs.SetLaws.{adds_next, adds_one, adds_each}
 use Rattle.gob_types.proofs.GrowsLaws.{grows_then, grows_by, grows_as}

@@ -1,7 +1,7 @@
 use Rattle.std.proofs.Common.{Contains}
 use Rattle.gob_types.specs.declared.id.TypeId.{TypeId}
-use Rattle.gob_types.specs.Walk.{AddsAll, Grows}
-use Rattle.gob_types.specs.Kept.{HandsOn}
+use Rattle.gob_types.specs.Machine.Walk.{AddsAll, Grows}
+use Rattle.gob_types.specs.Machine.Kept.{HandsOn}
 use Rattle.gob_types.proofs.SetLaws.{IsAmongFirst}
 use Rattle.gob_types.proofs.learning.add_ready.Given as goal
 

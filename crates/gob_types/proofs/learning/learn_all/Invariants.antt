@@ -1,6 +1,6 @@
 use Rattle.gob_types.specs.Defined.{types}
-use Rattle.gob_types.specs.Walk.{Grows}
-use Rattle.gob_types.specs.Kept.{IsLearning}
+use Rattle.gob_types.specs.Machine.Walk.{Grows}
+use Rattle.gob_types.specs.Machine.Kept.{IsLearning}
 use Rattle.gob_types.proofs.learning.learn_all.Given as goal
 
 abbrev pub invariant-loop : goal.invariant-loop

@@ -6,7 +6,7 @@ use Rattle.std.proofs.lemmas.Result.{on_ok_weaker, IfOk-from_err}
 use Rattle.gob_types.specs.Defined.{types}
 use Rattle.gob_types.specs.Table.{shape_of}
 use Rattle.gob_types.specs.Ready.{Reaches}
-use Rattle.gob_types.specs.Kept.{WaitsFor, MetPast}
+use Rattle.gob_types.specs.Machine.Kept.{WaitsFor, MetPast}
 use Rattle.gob_types.proofs.GrowsLaws.{grows_not}
 use Rattle.gob_types.proofs.WaitLaws.{looking_on, redirects_same, some_of, learning_waits, learning_missing, learning_hopeless, learning_ready}
 use Rattle.gob_types.proofs.learning.look.Goals as goal

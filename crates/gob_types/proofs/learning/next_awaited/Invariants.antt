@@ -1,5 +1,5 @@
 use Rattle.gob_types.specs.Table.{Table}
-use Rattle.gob_types.specs.Kept.{AreLed, Redirects}
+use Rattle.gob_types.specs.Machine.Kept.{AreLed, Redirects}
 use Rattle.gob_types.proofs.learning.next_awaited.Given as goal
 
 -- some were taken over

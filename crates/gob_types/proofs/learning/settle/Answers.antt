@@ -1,7 +1,7 @@
 use Rattle.std.proofs.Common.{Option, subst}
 use Rattle.std.proofs.lemmas.Result.{IfOk-from_err}
 use Rattle.gob_types.specs.Defined.{types}
-use Rattle.gob_types.specs.Kept.{Waiting, WasKept}
+use Rattle.gob_types.specs.Machine.Kept.{Waiting, WasKept}
 use Rattle.gob_types.proofs.GrowsLaws.{grows_then}
 use Rattle.gob_types.proofs.WaitLaws.{was_ready, was_apart, was_looking}
 use Rattle.gob_types.proofs.learning.settle.Goals as goal

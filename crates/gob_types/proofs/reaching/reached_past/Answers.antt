@@ -1,7 +1,7 @@
 use Rattle.std.proofs.Common.{◌≡◌, length, ap, sym, subst, arith}
 use Rattle.std.proofs.lemmas.Result.{IfOk-from_err}
 use Rattle.gob_types.specs.Defined.{types}
-use Rattle.gob_types.specs.Walk.{AddsAll}
+use Rattle.gob_types.specs.Machine.Walk.{AddsAll}
 use Rattle.gob_types.proofs.FirstLaws.{contains_read, read_at, next_less}
 use Rattle.gob_types.proofs.SetLaws.{adds_one}
 use Rattle.gob_types.proofs.KeptLaws.{past_start, past_known, past_names, past_all}

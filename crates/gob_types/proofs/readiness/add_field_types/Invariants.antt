@@ -1,5 +1,5 @@
 use Rattle.gob_types.specs.declared.kind.Field.{Field}
-use Rattle.gob_types.specs.Walk.{AddsAll}
+use Rattle.gob_types.specs.Machine.Walk.{AddsAll}
 use Rattle.gob_types.proofs.SetLaws.{IsAmongFirst}
 use Rattle.gob_types.proofs.readiness.add_field_types.Given as goal
 

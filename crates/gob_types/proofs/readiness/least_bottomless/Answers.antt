@@ -5,7 +5,7 @@ use Rattle.std.proofs.lemmas.Result.{IfOk-from_err}
 use Rattle.gob_types.specs.declared.id.TypeId.{TypeId}
 use Rattle.gob_types.specs.Defined.{types}
 use Rattle.gob_types.specs.Ready.{IsGrounded}
-use Rattle.gob_types.specs.Walk.{IsLeastBad}
+use Rattle.gob_types.specs.Machine.Walk.{IsLeastBad}
 use Rattle.gob_types.proofs.FirstLaws.{contains_read, read_at}
 use Rattle.gob_types.proofs.LeastLaws.{least_pass, least_take, least_end}
 use Rattle.gob_types.proofs.readiness.least_bottomless.Goals as goal

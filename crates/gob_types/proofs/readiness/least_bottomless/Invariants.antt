@@ -1,6 +1,6 @@
 use Rattle.gob_types.specs.Defined.{types}
 use Rattle.gob_types.specs.Ready.{IsGrounded}
-use Rattle.gob_types.specs.Walk.{KnowsGrounds}
+use Rattle.gob_types.specs.Machine.Walk.{KnowsGrounds}
 use Rattle.gob_types.proofs.LeastLaws.{LeastSoFar}
 use Rattle.gob_types.proofs.readiness.least_bottomless.Given as goal
 

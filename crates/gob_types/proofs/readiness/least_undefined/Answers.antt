@@ -2,7 +2,7 @@ use Rattle.std.proofs.Common.{◌≡◌, None, sym, subst, ◌∙◌}
 use Rattle.std.proofs.lemmas.Option.{slice_get-get_or}
 use Rattle.gob_types.specs.Table.{shape_of, IsDefined}
 use Rattle.gob_types.specs.Defined.{types}
-use Rattle.gob_types.specs.Walk.{IsLeastBad}
+use Rattle.gob_types.specs.Machine.Walk.{IsLeastBad}
 use Rattle.gob_types.proofs.WalkLaws.{told_some, told_none}
 use Rattle.gob_types.proofs.LeastLaws.{least_pass, least_take, least_end}
 use Rattle.gob_types.proofs.readiness.least_undefined.Goals as goal

@@ -1,6 +1,6 @@
 use Rattle.std.proofs.Common.{sym, subst}
 use Rattle.std.proofs.lemmas.Result.{IfOk-from_err}
-use Rattle.gob_types.specs.Walk.{AddsAll}
+use Rattle.gob_types.specs.Machine.Walk.{AddsAll}
 use Rattle.gob_types.specs.Ready.{Names}
 use Rattle.gob_types.proofs.KeptLaws.{names_none, names_all}
 use Rattle.gob_types.proofs.readiness.names_of.Goals as goal

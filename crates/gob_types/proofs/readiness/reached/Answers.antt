@@ -1,7 +1,7 @@
 use Rattle.std.proofs.Common.{◌≡◌, sym, subst, arith}
 use Rattle.std.proofs.lemmas.Result.{IfOk-from_err}
 use Rattle.gob_types.specs.Defined.{types}
-use Rattle.gob_types.specs.Walk.{AddsAll}
+use Rattle.gob_types.specs.Machine.Walk.{AddsAll}
 use Rattle.gob_types.proofs.FirstLaws.{read_at}
 use Rattle.gob_types.proofs.SetLaws.{adds_one}
 use Rattle.gob_types.proofs.WalkLaws.{met_start, met_undefined, met_names, met_all}

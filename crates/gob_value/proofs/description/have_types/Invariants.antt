@@ -1,7 +1,7 @@
 use Rattle.std.proofs.Common.{◌↔◌, drop}
 use Rattle.gob_value.specs.View.{views}
 use Rattle.gob_value.specs.Description.{said_fields}
-use Rattle.gob_value.specs.Saying.{HaveTypes}
+use Rattle.gob_value.specs.Machine.Saying.{HaveTypes}
 use Rattle.gob_value.proofs.description.have_types.Given as goal
 
 -- it is the rest that tells

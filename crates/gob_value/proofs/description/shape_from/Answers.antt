@@ -2,7 +2,7 @@ use Rattle.std.proofs.Common.{rules, refl, sym, ap, ◌∙◌, w64}
 use Rattle.std.proofs.lemmas.Int.{to_z-of_z}
 use Rattle.gob_value.specs.View.{view, field_views}
 use Rattle.gob_value.specs.Description.{present_field, number_in, name_in, kind_count, wrong_id}
-use Rattle.gob_value.specs.Saying.{what_said}
+use Rattle.gob_value.specs.Machine.Saying.{what_said}
 use Rattle.gob_value.specs.ShapeFaults.{IsShapeFault}
 use Rattle.gob_value.specs.declared.fault.ShapeFault.TheVariants as fault
 use Rattle.gob_value.proofs.TestSteps.{not_true}

@@ -1,6 +1,6 @@
 use Rattle.std.proofs.Common.{arith, rules, sym, ap, ◌∙◌, ◌≡◌}
 use Rattle.gob_value.specs.View.{view, views, pair_views, field_views}
-use Rattle.gob_value.specs.Elements.{element_type_at}
+use Rattle.gob_value.specs.Machine.Elements.{element_type_at}
 use Rattle.gob_value.specs.Tree.{tree_count}
 use Rattle.gob_value.specs.declared.value.Value.{the_lemmas}
 use Rattle.gob_value.proofs.TestSteps.{through, never, always, keep, stop, stop_first, stop_second, keep_both, not_true}

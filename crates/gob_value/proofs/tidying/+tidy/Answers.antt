@@ -7,7 +7,7 @@ use Rattle.gob_value.specs.View.{view, views, pair_views, field_views}
 use Rattle.gob_value.specs.Tidy.{of_map, of_struct, no_element, no_entry, no_more}
 use Rattle.gob_value.specs.Tidy.{TidiesAs, TidiesEach, TidiesPairs, TidiesFields, HasTidyForm}
 use Rattle.gob_value.specs.declared.value.Value.{Value, the_lemmas}
-use Rattle.gob_value.specs.Tidied.{IsTidied}
+use Rattle.gob_value.specs.Machine.Tidied.{IsTidied}
 use Rattle.gob_value.specs.TidyLaws.{AllHaveSmallNumbers, PairsHaveSmallNumbers, FieldsHaveSmallNumbers}
 use Rattle.gob_value.proofs.TidySteps.{goes_starts, goes_end, each_left, each_on, pairs_left, pairs_on, field_left}
 use Rattle.gob_value.proofs.TidySteps.{field_shallow, field_form, field_dropped, field_kept, many_of_parts}

@@ -1,11 +1,11 @@
 use Rattle.std.proofs.Common.{◌≡◌, ℕ, ◌+◌, ◌≤◌, length, false}
-use Rattle.gob_value.specs.Whole.{Stands, BeginsEach}
+use Rattle.gob_value.specs.Whole.{HoldsBetween, BeginsEach}
 use Rattle.gob_value.proofs.whole_parts.whole_elements.Given as goal
 
 abbrev pub invariant-elements : goal.invariant-elements
 invariant-elements g l = record {
   inside : l.found.end ≤ length l.bytes;
   count : l.found.count ≡ l.counter;
-  parts : (n m end : ℕ) → m ≡ l.found.count + n → Stands (BeginsEach (g.S.Shapes.table l.shapes) false l.fn.elem l.depth n) l.bytes l.found.end end
-      → Stands (BeginsEach (g.S.Shapes.table l.shapes) false l.fn.elem l.depth m) l.bytes 0 end;
+  parts : (n m end : ℕ) → m ≡ l.found.count + n → HoldsBetween (BeginsEach (g.S.Shapes.table l.shapes) false l.fn.elem l.depth n) l.bytes l.found.end end
+      → HoldsBetween (BeginsEach (g.S.Shapes.table l.shapes) false l.fn.elem l.depth m) l.bytes 0 end;
 }

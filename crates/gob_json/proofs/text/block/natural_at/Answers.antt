@@ -1,6 +1,6 @@
 -- Three digits at a time.
 use Rattle.std.proofs.Common.{ℕ, List, ap, sym, ◌∙◌, ◌++◌, ◌/◌, ◌%◌, arith, take, append_assoc}
-use Rattle.gob_json.specs.Text.{three_digits}
+use Rattle.gob_json.specs.Machine.Digits.{three_digits}
 use Rattle.std.specs.Fmt.{decimal}
 use Rattle.gob_json.proofs.DigitLaws.{decimal_thousands, decimal_millions}
 use Rattle.gob_json.proofs.text.block.natural_at.Goals as goal

@@ -3,7 +3,7 @@ use Rattle.std.proofs.Common.{◌≡◌, [], ◌∷◌, ◌++◌, ◌∙◌, ap,
 use Rattle.serde_json.specs.Written.{comma_if, compact_text}
 use Rattle.gob_value.proofs.PublicLaws.{both}
 use Rattle.gob_json.specs.Json.{integer_json}
-use Rattle.gob_json.specs.TextWhole.{TextOfKind}
+use Rattle.gob_json.specs.Machine.TextParts.{TextOfKind}
 use Rattle.gob_json.proofs.TextSteps.{int_text, later_on, no_element_text, element_text}
 use Rattle.gob_json.proofs.text.integers.put_integers.Goals as goal
 

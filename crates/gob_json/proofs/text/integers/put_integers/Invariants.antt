@@ -4,8 +4,9 @@ use Rattle.gob_types.specs.declared.id.TypeId.{TypeId}
 use Rattle.gob_types.specs.declared.basic.Basic.TheVariants as basic
 use Rattle.gob_types.specs.declared.kind.Kind.TheVariants as kind
 use Rattle.gob_types.specs.Table.{Table}
-use Rattle.gob_value.specs.Whole.{Stands}
-use Rattle.gob_json.specs.TextWhole.{IsOfKind, TextOfEach}
+use Rattle.gob_value.specs.Whole.{HoldsBetween}
+use Rattle.gob_json.specs.TextWhole.{IsOfKind}
+use Rattle.gob_json.specs.Machine.TextParts.{TextOfEach}
 use Rattle.gob_json.proofs.text.integers.put_integers.Given as goal
 
 abbrev pub invariant-integers : goal.invariant-integers
@@ -13,7 +14,7 @@ invariant-integers l = record {
   inside : l.at ≤ length l.body;
   held : l.len ≤ 256;
   parts : (T : Table) (e : TypeId) → IsOfKind T e (kind.Basic basic.Int) → (end : ℕ) (new : List ℕ)
-      → Stands (TextOfEach T e 1 (l.count - l.index) (nat_lt 0 l.index) (l.out.items ++ take l.len l.block) new)
+      → HoldsBetween (TextOfEach T e 1 (l.count - l.index) (nat_lt 0 l.index) (l.out.items ++ take l.len l.block) new)
       l.body l.at end
-      → Stands (TextOfEach T e 1 l.count false l.fn.out.items new) l.body l.begin end;
+      → HoldsBetween (TextOfEach T e 1 l.count false l.fn.out.items new) l.body l.begin end;
 }

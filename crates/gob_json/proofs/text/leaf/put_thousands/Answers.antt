@@ -1,6 +1,6 @@
 -- Three digits at a time.
 use Rattle.std.proofs.Common.{List, ℕ, ◌++◌, ◌/◌, ◌%◌, arith, sym, subst}
-use Rattle.gob_json.specs.Text.{three_digits}
+use Rattle.gob_json.specs.Machine.Digits.{three_digits}
 use Rattle.gob_json.proofs.DigitLaws.{decimal_thousands, decimal_millions}
 use Rattle.gob_json.proofs.OutLaws.{piece_failed}
 use Rattle.gob_json.proofs.text.leaf.put_thousands.Goals as goal

@@ -4,7 +4,7 @@ use Rattle.serde_json.specs.Written.{compact_text, items_text}
 use Rattle.gob_types.specs.declared.basic.Basic.{Basic}
 use Rattle.gob_types.specs.declared.kind.Kind.TheVariants as kind
 use Rattle.gob_json.specs.Json.{elements_json, pairs_json, fields_json, value_json}
-use Rattle.gob_json.specs.TextSent.{HoldsKind, HoldsValue}
+use Rattle.gob_json.specs.Machine.TextSent.{HoldsKind, HoldsValue}
 use Rattle.gob_json.specs.TextWhole.{IsOfKind}
 use Rattle.gob_json.proofs.TextSteps.{later_on}
 use Rattle.gob_json.proofs.StandingLaws.{value_as}

@@ -3,7 +3,7 @@ use Rattle.std.proofs.Common.{ℕ, List, ◌∷◌, ◌+◌, ◌-◌, ◌*◌, �
 use Rattle.serde_json.specs.Written.{items_text}
 use Rattle.gob_value.specs.Tree.{Trees, Pairs, Fields}
 use Rattle.gob_json.specs.Json.{elements_json, fields_json, pairs_json}
-use Rattle.gob_json.specs.TextSent.{BeginsList, BeginsMap, BeginsPresent}
+use Rattle.gob_json.specs.Machine.TextSent.{BeginsList, BeginsMap, BeginsPresent}
 use Rattle.gob_json.proofs.SendLaws.{ElementsLeft, EntriesLeft, PresentLeft}
 use Rattle.gob_json.proofs.text.send.+sent.Given as goal
 

@@ -1,6 +1,6 @@
 -- Part by part the text grows, and what is left shrinks.
 use Rattle.std.proofs.Common.{◌++◌, ◌∙◌, ap, arith, nat_lt, sym}
-use Rattle.gob_json.specs.TextWhole.{field_head}
+use Rattle.gob_json.specs.Machine.TextParts.{field_head}
 use Rattle.gob_value.proofs.PublicLaws.{seen, both, all_three}
 use Rattle.gob_json.proofs.TextSteps.{if_ok, deeper_text, slice_text, array_text, map_text, struct_text, later_on, no_element_text}
 use Rattle.gob_json.proofs.TextSteps.{element_text, no_pair_text, pair_text, fields_end_text, field_text, basic_text}

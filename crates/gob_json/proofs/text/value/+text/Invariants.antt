@@ -1,7 +1,7 @@
 -- What the parts behind the place are with those before it, and their text with that of those before it.
 use Rattle.std.proofs.Common.{ℕ, List, ◌+◌, ◌-◌, ◌*◌, ◌≤◌, false, length, nat_lt}
-use Rattle.gob_value.specs.Whole.{Stands}
-use Rattle.gob_json.specs.TextWhole.{TextOfEach, TextOfPairs, TextOfFields}
+use Rattle.gob_value.specs.Whole.{HoldsBetween}
+use Rattle.gob_json.specs.Machine.TextParts.{TextOfEach, TextOfPairs, TextOfFields}
 use Rattle.gob_json.proofs.text.value.+text.Given as goal
 
 abbrev pub decreases-put_value : goal.decreases-put_value
@@ -26,9 +26,9 @@ abbrev pub invariant-put_elements-elements : goal.invariant-put_elements-element
 invariant-put_elements-elements g l = record {
   inside : l.at ≤ length l.body;
   parts : (end : ℕ) (new : List ℕ)
-      → Stands (TextOfEach (g.S.Shapes.table l.shapes) l.fn.elem l.depth (l.count - l.index) (nat_lt 0 l.index)
+      → HoldsBetween (TextOfEach (g.S.Shapes.table l.shapes) l.fn.elem l.depth (l.count - l.index) (nat_lt 0 l.index)
       l.out.items new) l.body l.at end
-      → Stands (TextOfEach (g.S.Shapes.table l.shapes) l.fn.elem l.depth l.count false l.fn.out.items new) l.body
+      → HoldsBetween (TextOfEach (g.S.Shapes.table l.shapes) l.fn.elem l.depth l.count false l.fn.out.items new) l.body
       l.begin end;
 }
 
@@ -36,9 +36,9 @@ abbrev pub invariant-put_pairs-pairs : goal.invariant-put_pairs-pairs
 invariant-put_pairs-pairs g l = record {
   inside : l.at ≤ length l.body;
   parts : (end : ℕ) (new : List ℕ)
-      → Stands (TextOfPairs (g.S.Shapes.table l.shapes) l.fn.key l.fn.elem l.depth (l.count - l.index)
+      → HoldsBetween (TextOfPairs (g.S.Shapes.table l.shapes) l.fn.key l.fn.elem l.depth (l.count - l.index)
       (nat_lt 0 l.index) l.out.items new) l.body l.at end
-      → Stands (TextOfPairs (g.S.Shapes.table l.shapes) l.fn.key l.fn.elem l.depth l.count false l.fn.out.items new)
+      → HoldsBetween (TextOfPairs (g.S.Shapes.table l.shapes) l.fn.key l.fn.elem l.depth l.count false l.fn.out.items new)
       l.body l.begin end;
 }
 
@@ -46,9 +46,9 @@ abbrev pub invariant-put_fields-fields : goal.invariant-put_fields-fields
 invariant-put_fields-fields g l = record {
   inside : l.at ≤ length l.body;
   parts : (end : ℕ) (new : List ℕ)
-      → Stands (TextOfFields (g.S.Shapes.table l.shapes) l.types l.next l.depth (nat_lt 0 l.next) l.out.items new)
+      → HoldsBetween (TextOfFields (g.S.Shapes.table l.shapes) l.types l.next l.depth (nat_lt 0 l.next) l.out.items new)
       l.body l.at end
-      → Stands (TextOfFields (g.S.Shapes.table l.shapes) l.types 0 l.depth false l.fn.out.items new) l.body l.begin
+      → HoldsBetween (TextOfFields (g.S.Shapes.table l.shapes) l.types 0 l.depth false l.fn.out.items new) l.body l.begin
       end;
 }
 

@@ -2,7 +2,7 @@
 use Rattle.std.proofs.Common.{ℕ, List, [], ◌∷◌, ◌++◌, append-nil, drop, subst, sym}
 use Rattle.serde_json.specs.Written.{compact_text}
 use Rattle.gob_json.specs.Json.{value_json}
-use Rattle.gob_json.specs.TextSent.{HoldsValue}
+use Rattle.gob_json.specs.Machine.TextSent.{HoldsValue}
 use Rattle.gob_json.proofs.LineLaws.{line_parts}
 use Rattle.gob_json.proofs.OutLaws.{piece_failed}
 use Rattle.gob_json.proofs.text.whole.send_line.Goals as goal

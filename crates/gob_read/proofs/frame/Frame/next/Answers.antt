@@ -1,4 +1,4 @@
-use Rattle.gob_read.proofs.FrameLaws.{over_list, over_map, list_on, map_on, key_on, fields_on}
+use Rattle.gob_read.proofs.Machine.FrameLaws.{over_list, over_map, list_on, map_on, key_on, fields_on}
 use Rattle.gob_read.proofs.frame.Frame.next.Goals as goal
 
 pub returns-then-left-eq0 : goal.returns-then-left-eq0

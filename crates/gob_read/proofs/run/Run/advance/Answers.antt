@@ -1,5 +1,5 @@
 use Rattle.std.proofs.Common.{arith}
-use Rattle.gob_read.proofs.Pieces.{come_start, steps_on, come_on, come_end, come_open, come_all, ended_all, judge_stops, step_stops, end_stops}
+use Rattle.gob_read.proofs.Machine.Pieces.{come_start, steps_on, come_on, come_end, come_open, come_all, ended_all, judge_stops, step_stops, end_stops}
 use Rattle.gob_read.proofs.run.Run.advance.Goals as goal
 
 pub returns-in-Err-clause-refused : goal.returns-in-Err-clause-refused
@@ -8,8 +8,8 @@ returns-in-Err-clause-refused g c = judge_stops _ _ _ _ c.in-Err.stop (come_star
 pub returns-then-used-piece-clause-more : goal.returns-then-used-piece-clause-more
 returns-then-used-piece-clause-more g c = come_all c.items.invariant.come c.items.invariant.opens (omega arith)
 
-pub step-requires-clause-stands : goal.step-requires-clause-stands
-step-requires-clause-stands g c = come_open c.requires.stands c.items.invariant.come c.items.invariant.opens
+pub step-requires-clause-has_read : goal.step-requires-clause-has_read
+step-requires-clause-has_read g c = come_open c.requires.has_read c.items.invariant.come c.items.invariant.opens
 
 pub returns-in-Ok-finish-clause-done : goal.returns-in-Ok-finish-clause-done
 returns-in-Ok-finish-clause-done g c =

@@ -1,4 +1,4 @@
-use Rattle.gob_read.proofs.Runs.{finished_extra}
+use Rattle.gob_read.proofs.Machine.Runs.{finished_extra}
 use Rattle.gob_read.proofs.run.Run.finish.Goals as goal
 
 pub returns-then-self-clause-refused : goal.returns-then-self-clause-refused

@@ -1,5 +1,5 @@
 use Rattle.std.proofs.Common.{arith}
-use Rattle.gob_read.proofs.Held.{held_is}
+use Rattle.gob_read.proofs.Machine.Held.{held_is}
 use Rattle.gob_read.proofs.run.Run.held.Goals as goal
 
 pub returns : goal.returns

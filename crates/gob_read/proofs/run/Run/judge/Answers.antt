@@ -1,5 +1,5 @@
 use Rattle.std.proofs.Common.{arith}
-use Rattle.gob_read.proofs.Runs.{judged_deep, judged_short}
+use Rattle.gob_read.proofs.Machine.Runs.{judged_deep, judged_short}
 use Rattle.gob_read.proofs.run.Run.judge.Goals as goal
 
 pub returns-then-depth_now-self-clause-refused : goal.returns-then-depth_now-self-clause-refused

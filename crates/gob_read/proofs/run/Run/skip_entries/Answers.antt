@@ -1,9 +1,9 @@
 use Rattle.std.proofs.Common.{arith, refl}
-use Rattle.gob_read.proofs.Skips.{entries_skipped}
+use Rattle.gob_read.proofs.Machine.Skips.{entries_skipped}
 use Rattle.gob_read.proofs.run.Run.skip_entries.Goals as goal
 
 pub returns : goal.returns
 returns g c =
     let whole = c.whole_entries-entries.ensures in
-    entries_skipped c.args.rest.now c.requires.awaited c.requires.inside c.replace.ensures refl c.requires.untold c.requires.stands c.requires.fresh
+    entries_skipped c.args.rest.now c.requires.expected c.requires.inside c.replace.ensures refl c.requires.untold c.requires.has_read c.requires.fresh
     (record { taken = refl; start = refl; number = refl; length_is = refl; depth_is = refl }) whole.few (let d = c.depth.ensures.count in omega arith) whole.whole (omega arith) refl refl

@@ -1,7 +1,7 @@
 use Rattle.std.proofs.Common.{◌-◌, arith, refl}
 use Rattle.gob_read.specs.declared.frame.Frame.TheVariants as frame
-use Rattle.gob_read.specs.Plain.{not_stepped}
-use Rattle.gob_read.proofs.PlainSteps.{item_start, item_open, item_stepped, taken_stepped, taken_some, plain_on, goes_to_element, part_deep, rest_some}
+use Rattle.gob_read.specs.Machine.Plain.{not_stepped}
+use Rattle.gob_read.proofs.Machine.PlainSteps.{item_start, item_open, item_stepped, taken_stepped, taken_some, plain_on, goes_to_element, part_deep, rest_some}
 use Rattle.gob_read.proofs.run.Run.step_elements.Goals as goal
 
 pub returns-in_default : goal.returns-in_default
@@ -9,11 +9,11 @@ returns-in_default g c = not_stepped refl refl
 
 pub elements-init : goal.elements-init
 elements-init g c =
-    let d = part_deep c.requires.awaited c.requires.stands in
+    let d = part_deep c.requires.expected c.requires.has_read in
     record {
       left = c.args.left;
       count = omega arith;
-      at = item_start c.args.rest.now c.requires.awaited c.requires.inside c.requires.fresh (omega arith);
+      at = item_start c.args.rest.now c.requires.expected c.requires.inside c.requires.fresh (omega arith);
       some = c.requires.some;
       same = λ z. refl;
     }
@@ -23,8 +23,8 @@ take_plain-requires-clause-inside g c =
     let i = c.elements.invariant in let n = i.count in let l = c.elements-test.true in
     record { frame = frame.Many c.args.elem i.left; innermost = i.at.inside; goes_on = goes_to_element i.left (c.args.left - 1 - c.elements.index) (omega arith) }
 
-pub take_plain-requires-clause-stands : goal.take_plain-requires-clause-stands
-take_plain-requires-clause-stands g c = item_open c.elements.invariant.at c.requires.stands (omega arith) c.requires.room c.elements.invariant.some
+pub take_plain-requires-clause-has_read : goal.take_plain-requires-clause-has_read
+take_plain-requires-clause-has_read g c = item_open c.elements.invariant.at c.requires.has_read (omega arith) c.requires.room c.elements.invariant.some
 
 pub returns-then-taken-eq0 : goal.returns-then-taken-eq0
 returns-then-taken-eq0 g c = taken_stepped c.elements.invariant.at c.elements.invariant.same c.requires.room c.elements.invariant.some c.in_ok-taken.ensures

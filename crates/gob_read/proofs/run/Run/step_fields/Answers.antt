@@ -1,21 +1,21 @@
 use Rattle.std.proofs.Common.{◌+◌, arith}
-use Rattle.gob_read.proofs.PlainSteps.{item_open, item_passed, same_passed, unnamed, named_as, named_on, plain_on, plain_passed, taken_some, taken_within, fewer, end_on, rest_some}
+use Rattle.gob_read.proofs.Machine.PlainSteps.{item_open, item_passed, same_passed, unnamed, named_as, named_on, plain_on, plain_passed, taken_some, taken_within, fewer, end_on, rest_some}
 use Rattle.gob_read.proofs.run.Run.step_fields.Goals as goal
 
-pub take_end-requires-clause-awaited : goal.take_end-requires-clause-awaited
-take_end-requires-clause-awaited g c = c.fields.invariant.at.awaited
+pub take_end-requires-clause-expected : goal.take_end-requires-clause-expected
+take_end-requires-clause-expected g c = c.fields.invariant.at.expected
 
 pub take_end-requires-clause-fresh : goal.take_end-requires-clause-fresh
 take_end-requires-clause-fresh g c = c.fields.invariant.at.fresh
 
-pub take_end-requires-clause-stands : goal.take_end-requires-clause-stands
-take_end-requires-clause-stands g c = record { table = g.S.Shapes.table c.args.shapes.now; open_ = item_open c.fields.invariant.at c.requires.stands (omega arith) c.requires.room c.fields.invariant.some }
+pub take_end-requires-clause-has_read : goal.take_end-requires-clause-has_read
+take_end-requires-clause-has_read g c = record { table = g.S.Shapes.table c.args.shapes.now; open_ = item_open c.fields.invariant.at c.requires.has_read (omega arith) c.requires.room c.fields.invariant.some }
 
 pub returns-then-rest-used-eq0-clause-ok : goal.returns-then-rest-used-eq0-clause-ok
 returns-then-rest-used-eq0-clause-ok g c = end_on c.fields.invariant.at c.requires.room c.fields.invariant.some c.if-rest-used-eq0.true (c.in_ok-whole.ensures.ok (g.S.Shapes.table c.args.shapes.now))
 
-pub take_name-requires-clause-awaited : goal.take_name-requires-clause-awaited
-take_name-requires-clause-awaited g c = c.fields.invariant.at.awaited
+pub take_name-requires-clause-expected : goal.take_name-requires-clause-expected
+take_name-requires-clause-expected g c = c.fields.invariant.at.expected
 
 pub take_name-requires-clause-inside : goal.take_name-requires-clause-inside
 take_name-requires-clause-inside g c = c.fields.invariant.at.inside
@@ -23,8 +23,8 @@ take_name-requires-clause-inside g c = c.fields.invariant.at.inside
 pub take_name-requires-clause-fresh : goal.take_name-requires-clause-fresh
 take_name-requires-clause-fresh g c = c.fields.invariant.at.fresh
 
-pub take_name-requires-clause-stands : goal.take_name-requires-clause-stands
-take_name-requires-clause-stands g c = item_open c.fields.invariant.at c.requires.stands (omega arith) c.requires.room c.fields.invariant.some
+pub take_name-requires-clause-has_read : goal.take_name-requires-clause-has_read
+take_name-requires-clause-has_read g c = item_open c.fields.invariant.at c.requires.has_read (omega arith) c.requires.room c.fields.invariant.some
 
 pub returns-in_default-2-clause-more : goal.returns-in_default-2-clause-more
 returns-in_default-2-clause-more g c = (same_passed (unnamed c.in_default-2.is c.in_ok-entered.ensures) (item_passed c.fields.invariant.at)).more
@@ -38,8 +38,8 @@ returns-then-used-rest-clause-more g c = (item_passed (named_on c.fields.invaria
 pub returns-then-used-rest-clause-ok : goal.returns-then-used-rest-clause-ok
 returns-then-used-rest-clause-ok g c = (item_passed (named_on c.fields.invariant.at c.requires.room c.fields.invariant.some (named_as c.in-Some-2.is c.in_ok-entered.ensures))).steps
 
-pub take_plain_field-requires-clause-awaited : goal.take_plain_field-requires-clause-awaited
-take_plain_field-requires-clause-awaited g c = (named_as c.in-Some-2.is c.in_ok-entered.ensures).awaited
+pub take_plain_field-requires-clause-expected : goal.take_plain_field-requires-clause-expected
+take_plain_field-requires-clause-expected g c = (named_as c.in-Some-2.is c.in_ok-entered.ensures).expected
 
 pub take_plain_field-requires-clause-inside : goal.take_plain_field-requires-clause-inside
 take_plain_field-requires-clause-inside g c = (named_as c.in-Some-2.is c.in_ok-entered.ensures).inside
@@ -47,8 +47,8 @@ take_plain_field-requires-clause-inside g c = (named_as c.in-Some-2.is c.in_ok-e
 pub take_plain_field-requires-clause-fresh : goal.take_plain_field-requires-clause-fresh
 take_plain_field-requires-clause-fresh g c = (named_as c.in-Some-2.is c.in_ok-entered.ensures).passes.fresh
 
-pub take_plain_field-requires-clause-stands : goal.take_plain_field-requires-clause-stands
-take_plain_field-requires-clause-stands g c = item_open (named_on c.fields.invariant.at c.requires.room c.fields.invariant.some (named_as c.in-Some-2.is c.in_ok-entered.ensures)) c.requires.stands (omega arith) c.requires.room (omega arith)
+pub take_plain_field-requires-clause-has_read : goal.take_plain_field-requires-clause-has_read
+take_plain_field-requires-clause-has_read g c = item_open (named_on c.fields.invariant.at c.requires.room c.fields.invariant.some (named_as c.in-Some-2.is c.in_ok-entered.ensures)) c.requires.has_read (omega arith) c.requires.room (omega arith)
 
 pub overflow_add-used-in-fields : goal.overflow_add-used-in-fields
 overflow_add-used-in-fields g c = let w = taken_within c.in_ok-taken.ensures in omega (arith, rest_some c.args.rest.now (c.fields.used + 1))

@@ -1,11 +1,11 @@
 use Rattle.std.proofs.Common.{◌<◌, length}
-use Rattle.gob_read.specs.declared.awaited.Item.TheVariants.{Delta}
+use Rattle.gob_read.specs.declared.next.NextNumber.TheVariants.{Delta}
 use Rattle.gob_read.specs.declared.frame.Frame.TheVariants as frame
-use Rattle.gob_read.proofs.PlainSteps.{AtItem}
+use Rattle.gob_read.proofs.Machine.PlainSteps.{AtItem}
 use Rattle.gob_read.proofs.run.Run.step_fields.Given as goal
 
 abbrev pub invariant-fields : goal.invariant-fields
 invariant-fields g l = record {
-  at : AtItem (g.S.Shapes.table l.shapes) g.B.Builder.building.stands l.fn.self l.self l.rest l.used l.counter Delta (frame.Fields l.of l.next);
+  at : AtItem (g.S.Shapes.table l.shapes) g.B.Builder.building.received l.fn.self l.self l.rest l.used l.counter Delta (frame.Fields l.of l.next);
   some : l.used < length l.rest;
 }

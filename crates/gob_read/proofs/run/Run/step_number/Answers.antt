@@ -1,5 +1,5 @@
 use Rattle.std.proofs.Common.{drop}
-use Rattle.gob_read.proofs.Runs.{refused_further, head_and_rest, take_and_drop}
+use Rattle.gob_read.proofs.Machine.Runs.{refused_further, head_and_rest, take_and_drop}
 use Rattle.gob_read.proofs.run.Run.step_number.Goals as goal
 
 pub returns-in-Err-clause-refused : goal.returns-in-Err-clause-refused

@@ -1,6 +1,6 @@
 use Rattle.std.proofs.Common.{Some, refl, sym, ap, ◌∙◌}
-use Rattle.gob_read.specs.Plain.{not_stepped}
-use Rattle.gob_read.proofs.PlainSteps.{element_is}
+use Rattle.gob_read.specs.Machine.Plain.{not_stepped}
+use Rattle.gob_read.proofs.Machine.PlainSteps.{element_is}
 use Rattle.gob_read.proofs.run.Run.step_plain.Goals as goal
 
 pub returns-then-self : goal.returns-then-self
@@ -9,5 +9,5 @@ returns-then-self g c = not_stepped refl refl
 pub returns-in_default : goal.returns-in_default
 returns-in_default g c = not_stepped refl refl
 
-pub step_elements-requires-clause-awaited : goal.step_elements-requires-clause-awaited
-step_elements-requires-clause-awaited g c = element_is c.requires.awaited c.requires.stands (sym c.innermost.ensures ∙ (c.in-Some-Many.is ∙ ap Some c.in-Some-Many.field-0-is))
+pub step_elements-requires-clause-expected : goal.step_elements-requires-clause-expected
+step_elements-requires-clause-expected g c = element_is c.requires.expected c.requires.has_read (sym c.innermost.ensures ∙ (c.in-Some-Many.is ∙ ap Some c.in-Some-Many.field-0-is))

@@ -1,20 +1,20 @@
 use Rattle.std.proofs.Common.{refl, arith}
-use Rattle.gob_read.proofs.Runs.{raw_can_take, raw_stepped}
+use Rattle.gob_read.proofs.Machine.Runs.{raw_can_take, raw_stepped}
 use Rattle.gob_read.proofs.run.Run.take_chunk.Goals as goal
 
 pub take_raw-requires : goal.take_raw-requires
-take_raw-requires g c = raw_can_take c.args.bytes.now c.requires.awaited c.requires.stands c.requires.few (omega arith)
+take_raw-requires g c = raw_can_take c.args.bytes.now c.requires.expected c.requires.has_read c.requires.few (omega arith)
 
 pub returns-then-bytes-left-clause-more : goal.returns-then-bytes-left-clause-more
 returns-then-bytes-left-clause-more g c = record { taken = refl; length_is = refl; depth_is = refl }
 
 pub returns-then-bytes-left-clause-ok : goal.returns-then-bytes-left-clause-ok
 returns-then-bytes-left-clause-ok g c = λ T.
-    raw_stepped c.args.left c.args.bytes.now c.requires.awaited c.requires.few refl refl refl (λ _. refl) (λ k. absurd (omega arith)) c.in_ok-whole.ensures
+    raw_stepped c.args.left c.args.bytes.now c.requires.expected c.requires.few refl refl refl (λ _. refl) (λ k. absurd (omega arith)) c.in_ok-whole.ensures
 
 pub returns-else-bytes-left-clause-more : goal.returns-else-bytes-left-clause-more
 returns-else-bytes-left-clause-more g c = record { taken = refl; length_is = refl; depth_is = refl }
 
 pub returns-else-bytes-left-clause-ok : goal.returns-else-bytes-left-clause-ok
 returns-else-bytes-left-clause-ok g c = λ T.
-    raw_stepped c.args.left c.args.bytes.now c.requires.awaited c.requires.few refl refl refl (λ k. absurd (c.if-bytes-left.false k)) (λ _. refl) c.in_ok-whole.ensures
+    raw_stepped c.args.left c.args.bytes.now c.requires.expected c.requires.few refl refl refl (λ k. absurd (c.if-bytes-left.false k)) (λ _. refl) c.in_ok-whole.ensures

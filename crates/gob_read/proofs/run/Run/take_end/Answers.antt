@@ -1,9 +1,9 @@
 use Rattle.std.proofs.Common.{arith, refl}
-use Rattle.gob_read.proofs.PlainSteps.{can_end_fields, end_steps}
+use Rattle.gob_read.proofs.Machine.PlainSteps.{can_end_fields, end_steps}
 use Rattle.gob_read.proofs.run.Run.take_end.Goals as goal
 
 pub end_fields-requires : goal.end_fields-requires
-end_fields-requires g c = can_end_fields c.requires.awaited c.requires.stands c.requires.fresh (omega arith)
+end_fields-requires g c = can_end_fields c.requires.expected c.requires.has_read c.requires.fresh (omega arith)
 
 pub returns-clause-ok : goal.returns-clause-ok
-returns-clause-ok g c = end_steps c.requires.awaited c.requires.stands c.requires.fresh c.in_ok-whole.ensures (record { taken = refl; start = refl; number = refl; length_is = refl; depth_is = refl })
+returns-clause-ok g c = end_steps c.requires.expected c.requires.has_read c.requires.fresh c.in_ok-whole.ensures (record { taken = refl; start = refl; number = refl; length_is = refl; depth_is = refl })

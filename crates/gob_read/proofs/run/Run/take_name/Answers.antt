@@ -1,7 +1,7 @@
 use Rattle.std.proofs.Common.{arith, refl, sym}
-use Rattle.gob_read.specs.Plain.{not_named, named}
-use Rattle.gob_read.proofs.FieldSteps.{can_name}
-use Rattle.gob_read.proofs.PlainSteps.{can_go_on, name_takes}
+use Rattle.gob_read.specs.Machine.Plain.{not_named, named}
+use Rattle.gob_read.proofs.Machine.FieldSteps.{can_name}
+use Rattle.gob_read.proofs.Machine.PlainSteps.{can_go_on, name_takes}
 use Rattle.gob_read.proofs.run.Run.take_name.Goals as goal
 
 pub returns-then-n-gt127 : goal.returns-then-n-gt127
@@ -12,10 +12,10 @@ returns-in_default g c = not_named refl
 
 pub name_field-requires-clause-named : goal.name_field-requires-clause-named
 name_field-requires-clause-named g c =
-    let r = c.requires.stands.open_.room in
-    can_name c.saturating_add-number.result (can_go_on {n = c.args.n} c.requires.awaited c.requires.inside c.requires.struct_ c.requires.stands c.requires.fresh (omega arith) (omega arith)) (let h = c.saturating_add-number.ensures in let s = c.in-Some.ensures.small in omega arith)
+    let r = c.requires.has_read.open_.room in
+    can_name c.saturating_add-number.result (can_go_on {n = c.args.n} c.requires.expected c.requires.inside c.requires.struct_ c.requires.has_read c.requires.fresh (omega arith) (omega arith)) (let h = c.saturating_add-number.ensures in let s = c.in-Some.ensures.small in omega arith)
 
 pub returns : goal.returns
 returns g c =
     let h = c.saturating_add-number.ensures in let s = c.in-Some.ensures.small in let n = c.requires.some in
-    named (name_takes c.requires.awaited c.requires.inside c.requires.struct_ c.requires.stands c.requires.fresh (omega arith) (omega arith) (omega arith) (sym c.in-Some.ensures.found) c.in_ok-name_field.ensures (record { taken = refl; start = refl; number = refl; length_is = refl; depth_is = refl }))
+    named (name_takes c.requires.expected c.requires.inside c.requires.struct_ c.requires.has_read c.requires.fresh (omega arith) (omega arith) (omega arith) (sym c.in-Some.ensures.found) c.in_ok-name_field.ensures (record { taken = refl; start = refl; number = refl; length_is = refl; depth_is = refl }))

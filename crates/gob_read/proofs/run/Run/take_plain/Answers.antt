@@ -1,16 +1,16 @@
 use Rattle.std.proofs.Common.{◌+◌, ◌≤◌, ◌∙◌, arith, refl, ap, length, length-take}
 use Rattle.std.specs.Prelude.{slice_get}
-use Rattle.gob_read.specs.declared.awaited.Awaited.TheVariants.{Number}
-use Rattle.gob_read.specs.Plain.{not_taken}
-use Rattle.gob_read.proofs.ToldLaws.{some}
-use Rattle.gob_read.proofs.PlainSteps.{can_tell_plain, plain_takes, untold, told_as, told_within, rest_some, told_stack, frame_some}
+use Rattle.gob_read.specs.declared.next.Next.TheVariants.{Number}
+use Rattle.gob_read.specs.Machine.Plain.{not_taken}
+use Rattle.gob_read.proofs.Machine.ToldLaws.{some}
+use Rattle.gob_read.proofs.Machine.PlainSteps.{can_tell_plain, plain_takes, untold, told_as, told_within, rest_some, told_stack, frame_some}
 use Rattle.gob_read.proofs.run.Run.take_plain.Goals as goal
 
 pub returns-in_default : goal.returns-in_default
 returns-in_default g c = not_taken refl
 
 pub tell_plain-requires : goal.tell_plain-requires
-tell_plain-requires g c = can_tell_plain c.args.rest.now c.requires.awaited c.requires.stands c.requires.fresh (omega arith) c.requires.kind_ c.in-Whole.ensures.0 c.in-Whole.ensures.1
+tell_plain-requires g c = can_tell_plain c.args.rest.now c.requires.expected c.requires.has_read c.requires.fresh (omega arith) c.requires.kind_ c.in-Whole.ensures.0 c.in-Whole.ensures.1
 
 pub returns-in_default-2 : goal.returns-in_default-2
 returns-in_default-2 g c =
@@ -27,5 +27,5 @@ overflow_add-self-2 g c =
 
 pub returns : goal.returns
 returns g c =
-    plain_takes c.args.rest.now c.requires.awaited c.requires.inside c.requires.stands c.requires.fresh c.requires.room c.requires.kind_ c.in-Whole.ensures.0 (omega (arith, some c.in-Whole.ensures.1, length-take c.in-Whole.used c.args.rest.now)) c.in-Whole.ensures.1
+    plain_takes c.args.rest.now c.requires.expected c.requires.inside c.requires.has_read c.requires.fresh c.requires.room c.requires.kind_ c.in-Whole.ensures.0 (omega (arith, some c.in-Whole.ensures.1, length-take c.in-Whole.used c.args.rest.now)) c.in-Whole.ensures.1
     (told_as c.in-Some.is c.in_ok-more.ensures) refl c.replace.ensures (ap Number c.item.ensures) (record { taken = refl; start = refl; number = refl; length_is = refl; depth_is = refl })

@@ -1,6 +1,6 @@
 use Rattle.std.proofs.Common.{refl}
-use Rattle.gob_read.specs.Plain.{not_taken}
-use Rattle.gob_read.specs.Frames.{to_delta}
+use Rattle.gob_read.specs.Machine.Plain.{not_taken}
+use Rattle.gob_read.specs.Machine.Frames.{to_delta}
 use Rattle.gob_read.proofs.run.Run.take_plain_field.Goals as goal
 
 pub returns-in_default : goal.returns-in_default

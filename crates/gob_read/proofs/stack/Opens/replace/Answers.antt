@@ -1,6 +1,6 @@
 use Rattle.std.proofs.Common.{arith, ap, drop, ◌∙◌, ◌∷◌, ◌-◌, length}
 use Rattle.std.proofs.lemmas.List.{length-reverse}
-use Rattle.gob_read.proofs.FrameLaws.{reverse_set}
+use Rattle.gob_read.proofs.Machine.FrameLaws.{reverse_set}
 use Rattle.gob_read.proofs.stack.Opens.replace.Goals as goal
 
 pub returns : goal.returns

@@ -1,6 +1,6 @@
 use Rattle.std.proofs.Common.{refl, sym, ap}
-use Rattle.gob_read.specs.declared.awaited.Awaited.TheVariants.{Number}
-use Rattle.gob_read.proofs.Parts.{ended_none, ended_on, ended_over, can_leave, over_can_end}
+use Rattle.gob_read.specs.declared.next.Next.TheVariants.{Number}
+use Rattle.gob_read.proofs.Machine.Parts.{ended_none, ended_on, ended_over, can_leave, over_can_end}
 use Rattle.gob_read.proofs.state.State.after_part.Goals as goal
 
 pub returns-in_default : goal.returns-in_default

@@ -1,10 +1,10 @@
 use Rattle.std.proofs.Common.{refl}
-use Rattle.gob_read.proofs.ItemSteps.{begins_struct, begins_tagged, begun_stays}
+use Rattle.gob_read.proofs.Machine.ItemSteps.{begins_struct, begins_tagged, begun_stays}
 use Rattle.gob_read.proofs.state.State.begin.Goals as goal
 use Rattle.gob_read.proofs.state.State.begin.Goals.{then-is_struct, else-is_struct}
 
 pub returns-in_default : goal.returns-in_default
-returns-in_default g c = record { begun = begun_stays c.args.self.now.awaited c.in_default.not-Top; builder = refl; stack = refl }
+returns-in_default g c = record { begun = begun_stays c.args.self.now.expected c.in_default.not-Top; builder = refl; stack = refl }
 
 pub returns-clause-begun : goal.returns-clause-begun
 returns-clause-begun g c =

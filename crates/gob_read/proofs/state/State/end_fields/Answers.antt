@@ -1,6 +1,6 @@
 use Rattle.std.proofs.Common.{refl}
-use Rattle.gob_read.proofs.Parts.{if_ok}
-use Rattle.gob_read.proofs.FieldSteps.{can_end_struct, struct_can_end, struct_goes_on}
+use Rattle.gob_read.proofs.Machine.Parts.{if_ok}
+use Rattle.gob_read.proofs.Machine.FieldSteps.{can_end_struct, struct_can_end, struct_goes_on}
 use Rattle.gob_read.proofs.state.State.end_fields.Goals as goal
 
 pub leave-requires : goal.leave-requires

@@ -1,7 +1,7 @@
 use Rattle.std.proofs.Common.{arith, refl}
 use Rattle.gob_types.specs.declared.basic.Basic.TheVariants as basic
-use Rattle.gob_read.specs.Kinds.{is_bytes, is_text, of_bool, of_int, of_uint, of_float, of_nil}
-use Rattle.gob_read.proofs.FirstSteps.{can_begin_as, begins_as, as_scalar, as_raw, no_first, second_placed}
+use Rattle.gob_read.specs.Machine.Kinds.{is_bytes, is_text, of_bool, of_int, of_uint, of_float, of_nil}
+use Rattle.gob_read.proofs.Machine.FirstSteps.{can_begin_as, begins_as, as_scalar, as_raw, no_first, second_placed}
 use Rattle.gob_read.proofs.state.State.take_basic.Goals as goal
 
 pub returns-then-n-gt1-clause-refused : goal.returns-then-n-gt1-clause-refused

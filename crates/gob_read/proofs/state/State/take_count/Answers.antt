@@ -1,7 +1,7 @@
 use Rattle.std.proofs.Common.{refl, ap}
-use Rattle.gob_read.specs.declared.awaited.Awaited.TheVariants.{Number}
-use Rattle.gob_read.proofs.Parts.{if_ok, begins_ended, begins_can_end}
-use Rattle.gob_read.proofs.FirstSteps.{can_enter, can_end_group, count_ended, count_placed}
+use Rattle.gob_read.specs.declared.next.Next.TheVariants.{Number}
+use Rattle.gob_read.proofs.Machine.Parts.{if_ok, begins_ended, begins_can_end}
+use Rattle.gob_read.proofs.Machine.FirstSteps.{can_enter, can_end_group, count_ended, count_placed}
 use Rattle.gob_read.proofs.state.State.take_count.Goals as goal
 
 pub enter-requires : goal.enter-requires

@@ -1,6 +1,6 @@
-use Rattle.gob_read.specs.Kinds.{of_list}
-use Rattle.gob_read.proofs.Parts.{if_ok}
-use Rattle.gob_read.proofs.FirstSteps.{can_begin_as, begins_as}
+use Rattle.gob_read.specs.Machine.Kinds.{of_list}
+use Rattle.gob_read.proofs.Machine.Parts.{if_ok}
+use Rattle.gob_read.proofs.Machine.FirstSteps.{can_begin_as, begins_as}
 use Rattle.gob_read.proofs.state.State.take_elements.Goals as goal
 
 pub take_count-requires : goal.take_count-requires

@@ -1,6 +1,6 @@
 use Rattle.std.proofs.Common.{arith, refl, sym}
-use Rattle.gob_read.proofs.FieldSteps.{can_name, field_placed, past_end}
-use Rattle.gob_read.proofs.PlainSteps.{go_on_ends, ends_go_on}
+use Rattle.gob_read.proofs.Machine.FieldSteps.{can_name, field_placed, past_end}
+use Rattle.gob_read.proofs.Machine.PlainSteps.{go_on_ends, ends_go_on}
 use Rattle.gob_read.proofs.state.State.take_field.Goals as goal
 
 pub end_fields-requires : goal.end_fields-requires
@@ -23,4 +23,4 @@ pub returns-clause-ok : goal.returns-clause-ok
 returns-clause-ok g c =
     let h = c.saturating_add-number.ensures in let s = c.in-Some.ensures.small in let z = c.if-n-eq0.false in
     let n = c.in_ok-name_field.ensures in
-    record { each = field_placed c.saturating_add-number.result n.stack n.awaited n.told (omega arith) (omega arith) (sym c.in-Some.ensures.found) }
+    record { each = field_placed c.saturating_add-number.result n.stack n.expected n.told (omega arith) (omega arith) (sym c.in-Some.ensures.found) }

@@ -1,8 +1,8 @@
 use Rattle.std.proofs.Common.{refl, sym}
-use Rattle.gob_read.specs.Kinds.{is_opaque, is_slice, of_map}
-use Rattle.gob_read.proofs.Parts.{if_ok}
-use Rattle.gob_read.proofs.FieldSteps.{struct_no_first}
-use Rattle.gob_read.proofs.ItemSteps.{if_err, blames, first_can, first_takes, first_refuses, first_defined, count_no_first, struct_can, struct_takes, array_is}
+use Rattle.gob_read.specs.Machine.Kinds.{is_opaque, is_slice, of_map}
+use Rattle.gob_read.proofs.Machine.Parts.{if_ok}
+use Rattle.gob_read.proofs.Machine.FieldSteps.{struct_no_first}
+use Rattle.gob_read.proofs.Machine.ItemSteps.{if_err, blames, first_can, first_takes, first_refuses, first_defined, count_no_first, struct_can, struct_takes, array_is}
 use Rattle.gob_read.proofs.state.State.take_first.Goals as goal
 
 pub take_basic-requires : goal.take_basic-requires

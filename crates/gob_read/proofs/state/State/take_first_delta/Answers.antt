@@ -1,11 +1,11 @@
 use Rattle.std.proofs.Common.{refl}
-use Rattle.gob_read.specs.Telling.{enter}
+use Rattle.gob_read.specs.Event.{enter}
 use Rattle.gob_read.specs.WellFormed.{a_struct}
-use Rattle.gob_read.specs.declared.telling.GroupKind.TheVariants as group
-use Rattle.gob_read.proofs.ToldLaws.{begins_in}
-use Rattle.gob_read.proofs.Parts.{if_ok}
-use Rattle.gob_read.proofs.FirstSteps.{can_start}
-use Rattle.gob_read.proofs.FieldSteps.{can_begin_struct, struct_can_go_on, struct_begins}
+use Rattle.gob_read.specs.declared.event.GroupKind.TheVariants as group
+use Rattle.gob_read.proofs.Machine.ToldLaws.{begins_in}
+use Rattle.gob_read.proofs.Machine.Parts.{if_ok}
+use Rattle.gob_read.proofs.Machine.FirstSteps.{can_start}
+use Rattle.gob_read.proofs.Machine.FieldSteps.{can_begin_struct, struct_can_go_on, struct_begins}
 use Rattle.gob_read.proofs.state.State.take_first_delta.Goals as goal
 
 pub enter-requires : goal.enter-requires

@@ -1,9 +1,9 @@
 use Rattle.std.proofs.Common.{refl}
-use Rattle.gob_read.specs.Telling.{raw_start}
+use Rattle.gob_read.specs.Event.{raw_start}
 use Rattle.gob_read.specs.WellFormed.{a_raw_part, end_of_raw}
-use Rattle.gob_read.proofs.ToldLaws.{begins_in}
-use Rattle.gob_read.proofs.Parts.{if_ok, begins_ended, begins_can_end}
-use Rattle.gob_read.proofs.FirstSteps.{can_start, can_stop, length_ended, length_placed}
+use Rattle.gob_read.proofs.Machine.ToldLaws.{begins_in}
+use Rattle.gob_read.proofs.Machine.Parts.{if_ok, begins_ended, begins_can_end}
+use Rattle.gob_read.proofs.Machine.FirstSteps.{can_start, can_stop, length_ended, length_placed}
 use Rattle.gob_read.proofs.state.State.take_length.Goals as goal
 
 pub raw_start-requires : goal.raw_start-requires

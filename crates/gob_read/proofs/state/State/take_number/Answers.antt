@@ -1,9 +1,9 @@
 use Rattle.std.proofs.Common.{refl}
-use Rattle.gob_read.specs.Telling.{number}
+use Rattle.gob_read.specs.Event.{number}
 use Rattle.gob_read.specs.WellFormed.{a_number}
-use Rattle.gob_read.proofs.ToldLaws.{begins_in}
-use Rattle.gob_read.proofs.Parts.{if_ok, begins_ended, begins_can_end}
-use Rattle.gob_read.proofs.FirstSteps.{can_start, numbers, number_ended}
+use Rattle.gob_read.proofs.Machine.ToldLaws.{begins_in}
+use Rattle.gob_read.proofs.Machine.Parts.{if_ok, begins_ended, begins_can_end}
+use Rattle.gob_read.proofs.Machine.FirstSteps.{can_start, numbers, number_ended}
 use Rattle.gob_read.proofs.state.State.take_number.Goals as goal
 
 pub number-requires : goal.number-requires

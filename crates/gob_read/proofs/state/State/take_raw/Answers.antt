@@ -1,6 +1,6 @@
 use Rattle.std.proofs.Common.{arith, refl}
-use Rattle.gob_read.proofs.Parts.{if_ok}
-use Rattle.gob_read.proofs.ItemSteps.{can_tell_more, can_end_raw, raw_can_end, raw_ended, raw_goes_on}
+use Rattle.gob_read.proofs.Machine.Parts.{if_ok}
+use Rattle.gob_read.proofs.Machine.ItemSteps.{can_tell_more, can_end_raw, raw_can_end, raw_ended, raw_goes_on}
 use Rattle.gob_read.proofs.state.State.take_raw.Goals as goal
 
 pub raw_more-requires : goal.raw_more-requires
@@ -14,7 +14,7 @@ after_part-requires g c = raw_can_end c.args.bytes.now refl c.in_ok-raw_more.ens
 
 pub returns-then-rest-eq0 : goal.returns-then-rest-eq0
 returns-then-rest-eq0 g c = if_ok c.after_part.result (λ whole h. record {
-  last = λ T t p r b e. h.each T t _ (raw_ended c.args.bytes.now c.requires.awaited refl c.in_ok-raw_more.ensures c.in_ok-leave.ensures e b);
+  last = λ T t p r b e. h.each T t _ (raw_ended c.args.bytes.now c.requires.expected refl c.in_ok-raw_more.ensures c.in_ok-leave.ensures e b);
   other = λ T t p r b l. absurd (omega arith);
 }) c.after_part.ensures
 
@@ -23,8 +23,8 @@ returns g c = record {
   last = λ T t p r b e. absurd (omega arith);
   other = λ T t p r b l. record {
     more = refl;
-    awaited = refl;
+    expected = refl;
     stack = refl;
-    placed = raw_goes_on c.args.bytes.now c.requires.awaited refl refl c.in_ok-raw_more.ensures (omega arith) (omega arith) b;
+    placed = raw_goes_on c.args.bytes.now c.requires.expected refl refl c.in_ok-raw_more.ensures (omega arith) (omega arith) b;
   };
 }

@@ -1,6 +1,6 @@
 use Rattle.std.proofs.Common.{refl}
-use Rattle.gob_read.proofs.Parts.{if_ok}
-use Rattle.gob_read.proofs.ItemSteps.{can_tell_second, second_ended, second_can_end}
+use Rattle.gob_read.proofs.Machine.Parts.{if_ok}
+use Rattle.gob_read.proofs.Machine.ItemSteps.{can_tell_second, second_ended, second_can_end}
 use Rattle.gob_read.proofs.state.State.take_second.Goals as goal
 
 pub number-requires : goal.number-requires
@@ -10,4 +10,4 @@ pub after_part-requires : goal.after_part-requires
 after_part-requires g c = second_can_end refl c.in_ok-number.ensures c.to_pattern.ensures c.requires
 
 pub returns : goal.returns
-returns g c = if_ok c.after_part.result (λ whole h. record { each = λ T t p r d b n. h.each T t _ (second_ended c.requires.awaited refl c.in_ok-number.ensures c.to_pattern.ensures T t p r d b n) }) c.after_part.ensures
+returns g c = if_ok c.after_part.result (λ whole h. record { each = λ T t p r d b n. h.each T t _ (second_ended c.requires.expected refl c.in_ok-number.ensures c.to_pattern.ensures T t p r d b n) }) c.after_part.ensures

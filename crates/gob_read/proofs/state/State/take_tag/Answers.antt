@@ -1,6 +1,6 @@
 use Rattle.std.proofs.Common.{refl, arith}
-use Rattle.gob_read.proofs.ItemSteps.{tag_placed}
+use Rattle.gob_read.proofs.Machine.ItemSteps.{tag_placed}
 use Rattle.gob_read.proofs.state.State.take_tag.Goals as goal
 
 pub returns-clause-ok : goal.returns-clause-ok
-returns-clause-ok g c = record { each = tag_placed c.requires.awaited (omega arith) refl refl refl }
+returns-clause-ok g c = record { each = tag_placed c.requires.expected (omega arith) refl refl refl }

@@ -1,8 +1,8 @@
 use Rattle.std.proofs.Common.{refl}
 use Rattle.gob_types.specs.declared.basic.Basic.TheVariants as basic
-use Rattle.gob_read.specs.Kinds.{of_int, of_uint, of_float, is_bytes, is_text}
-use Rattle.gob_read.specs.Plain.{told_nothing}
-use Rattle.gob_read.proofs.FirstSteps.{as_scalar, as_raw}
+use Rattle.gob_read.specs.Machine.Kinds.{of_int, of_uint, of_float, is_bytes, is_text}
+use Rattle.gob_read.specs.Machine.Plain.{told_nothing}
+use Rattle.gob_read.proofs.Machine.FirstSteps.{as_scalar, as_raw}
 use Rattle.gob_read.proofs.state.State.tell_plain.Goals as goal
 
 pub tell_number-requires-clause-scalar : goal.tell_number-requires-clause-scalar

@@ -1,8 +1,8 @@
 use Rattle.std.proofs.Common.{arith, ap, ◌∙◌}
-use Rattle.gob_read.specs.Stack.{work_of}
-use Rattle.gob_read.specs.Built.{begun}
-use Rattle.gob_read.specs.Telling.{enter}
-use Rattle.gob_read.proofs.BuiltLaws.{told_more}
+use Rattle.gob_read.specs.Machine.Stack.{work_of}
+use Rattle.gob_read.specs.Machine.Built.{begun}
+use Rattle.gob_read.specs.Event.{enter}
+use Rattle.gob_read.proofs.Events.BuiltLaws.{told_more}
 use Rattle.gob_read.proofs.tree_builder.TreeBuilderBuilder.enter.Goals as goal
 
 pub returns : goal.returns

@@ -1,7 +1,7 @@
 use Rattle.std.proofs.Common.{arith}
-use Rattle.gob_read.specs.Stack.{work_of}
-use Rattle.gob_read.specs.Telling.{leave}
-use Rattle.gob_read.proofs.BuiltLaws.{told_more}
+use Rattle.gob_read.specs.Machine.Stack.{work_of}
+use Rattle.gob_read.specs.Event.{leave}
+use Rattle.gob_read.proofs.Events.BuiltLaws.{told_more}
 use Rattle.gob_read.proofs.tree_builder.TreeBuilderBuilder.leave.Goals as goal
 
 pub returns : goal.returns

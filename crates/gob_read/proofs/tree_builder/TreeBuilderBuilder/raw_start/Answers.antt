@@ -1,8 +1,8 @@
 use Rattle.std.proofs.Common.{arith, ap, ◌∙◌}
-use Rattle.gob_read.specs.Stack.{work_of}
-use Rattle.gob_read.specs.Built.{begun, raw}
-use Rattle.gob_read.specs.Telling.{raw_start}
-use Rattle.gob_read.proofs.BuiltLaws.{told_more}
+use Rattle.gob_read.specs.Machine.Stack.{work_of}
+use Rattle.gob_read.specs.Machine.Built.{begun, raw}
+use Rattle.gob_read.specs.Event.{raw_start}
+use Rattle.gob_read.proofs.Events.BuiltLaws.{told_more}
 use Rattle.gob_read.proofs.tree_builder.TreeBuilderBuilder.raw_start.Goals as goal
 
 pub returns : goal.returns

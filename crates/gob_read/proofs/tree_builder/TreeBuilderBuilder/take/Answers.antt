@@ -1,4 +1,4 @@
-use Rattle.gob_read.proofs.BuiltLaws.{built_value}
+use Rattle.gob_read.proofs.Events.BuiltLaws.{built_value}
 use Rattle.gob_read.proofs.tree_builder.TreeBuilderBuilder.take.Goals as goal
 
 pub returns : goal.returns

@@ -1,8 +1,8 @@
 use Rattle.std.proofs.Common.{arith, rules, ◌<◌, ap, ◌-◌, vec_len}
 use Rattle.std.specs.Option.{option_map}
 use Rattle.gob_value.specs.View.{view}
-use Rattle.gob_read.specs.Built.{with_bytes}
-use Rattle.gob_read.proofs.StackLaws.{work, stack_changed}
+use Rattle.gob_read.specs.Machine.Built.{with_bytes}
+use Rattle.gob_read.proofs.Events.StackLaws.{work, stack_changed}
 use Rattle.gob_read.proofs.work.Work.add_bytes.Goals as goal
 
 pub returns-in_ok-add_bytes : goal.returns-in_ok-add_bytes

@@ -1,8 +1,8 @@
 use Rattle.std.proofs.Common.{arith, rules, ◌<◌, ap, ◌-◌, vec_len}
 use Rattle.std.specs.Option.{option_map}
 use Rattle.gob_value.specs.View.{view}
-use Rattle.gob_read.specs.Built.{with_number}
-use Rattle.gob_read.proofs.StackLaws.{work, stack_changed}
+use Rattle.gob_read.specs.Machine.Built.{with_number}
+use Rattle.gob_read.proofs.Events.StackLaws.{work, stack_changed}
 use Rattle.gob_read.proofs.work.Work.name.Goals as goal
 
 pub returns-in-Some : goal.returns-in-Some

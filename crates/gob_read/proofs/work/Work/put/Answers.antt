@@ -1,7 +1,7 @@
 use Rattle.std.proofs.Common.{arith, rules, ◌<◌, ◌-◌, vec_len}
 use Rattle.std.specs.Option.{option_map}
 use Rattle.gob_value.specs.View.{view}
-use Rattle.gob_read.proofs.StackLaws.{put_last}
+use Rattle.gob_read.proofs.Events.StackLaws.{put_last}
 use Rattle.gob_read.proofs.work.Work.put.Goals as goal
 
 pub returns-in_ok-add-in-Some : goal.returns-in_ok-add-in-Some

@@ -1,17 +1,17 @@
 use Rattle.std.proofs.Common.{arith}
 use Rattle.gob_types.specs.Base.{wire_type}
-use Rattle.gob_stream.specs.Standing.{size}
-use Rattle.gob_stream.proofs.BodySteps.{stops_within}
-use Rattle.gob_stream.proofs.DescriptionSteps.{wire_fits, made_of, description_more, description_done, description_wrong, description_stopped}
+use Rattle.gob_stream.specs.Machine.HasRead.{size}
+use Rattle.gob_stream.proofs.Reader.BodySteps.{stops_within}
+use Rattle.gob_stream.proofs.Reader.DescriptionSteps.{wire_fits, made_of, description_more, description_done, description_wrong, description_stopped}
 use Rattle.gob_stream.proofs.body.DescriptionStage.take.Goals as goal
 
 pub define-requires-clause-fits : goal.define-requires-clause-fits
 define-requires-clause-fits g c =
-    let u = c.requires.stands in
+    let u = c.requires.has_read in
     wire_fits c.requires.keeps (made_of {rest = c.args.self.rest} _ c.push.new.self.run u.bytes c.args.piece.now c.in-Ok-Done.field-0-is (c.in-Ok-Done.ensures.given wire_type u.limit (size c.args.self.rest) u.bytes u.after)).made
 
 pub fault_of_stop-requires : goal.fault_of_stop-requires
-fault_of_stop-requires g c = stops_within c.args.self.reader.run c.args.piece.now c.in-Err.stop c.requires.stands c.requires.order (omega arith) c.in-Err.ensures.refused
+fault_of_stop-requires g c = stops_within c.args.self.reader.run c.args.piece.now c.in-Err.stop c.requires.has_read c.requires.order (omega arith) c.in-Err.ensures.refused
 
 pub returns-in-Ok-More : goal.returns-in-Ok-More
 returns-in-Ok-More g c = λ limit z s. description_more c.push.new.self z c.args.piece.now c.in-Ok-More.field-0-is (c.in-Ok-More.ensures.given wire_type limit (size c.args.self.rest) z s)

@@ -1,10 +1,10 @@
 use Rattle.std.proofs.Common.{arith}
-use Rattle.gob_stream.proofs.BodySteps.{stops_within, value_stopped, value_more, value_done}
-use Rattle.gob_stream.specs.Standing.{size}
+use Rattle.gob_stream.proofs.Reader.BodySteps.{stops_within, value_stopped, value_more, value_done}
+use Rattle.gob_stream.specs.Machine.HasRead.{size}
 use Rattle.gob_stream.proofs.body.ValueStage.take.Goals as goal
 
 pub fault_of_stop-requires : goal.fault_of_stop-requires
-fault_of_stop-requires g c = stops_within c.args.self.reader.run c.args.piece.now c.in-Err.stop c.requires.stands c.requires.order (omega arith) c.in-Err.ensures.refused
+fault_of_stop-requires g c = stops_within c.args.self.reader.run c.args.piece.now c.in-Err.stop c.requires.has_read c.requires.order (omega arith) c.in-Err.ensures.refused
 
 pub returns-in-Ok-More : goal.returns-in-Ok-More
 returns-in-Ok-More g c = λ limit z s. value_more c.push.new.self z c.args.piece.now c.in-Ok-More.field-0-is (c.in-Ok-More.ensures.given c.args.self.id limit (size c.args.self.rest) z s)

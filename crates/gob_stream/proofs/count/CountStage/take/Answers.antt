@@ -1,4 +1,4 @@
-use Rattle.gob_stream.proofs.CountSteps.{count_at_end, count_whole, count_more, count_bad, count_padded}
+use Rattle.gob_stream.proofs.Reader.CountSteps.{count_at_end, count_whole, count_more, count_bad, count_padded}
 use Rattle.gob_stream.proofs.count.CountStage.take.Goals as goal
 
 pub returns-in-More : goal.returns-in-More

@@ -1,5 +1,5 @@
 use Rattle.std.proofs.Common.{arith}
-use Rattle.gob_stream.proofs.WholeSteps.{between_at, has_count}
+use Rattle.gob_stream.proofs.Reader.WholeSteps.{between_at, has_count}
 use Rattle.gob_stream.proofs.session.Session.announced.Goals as goal
 
 pub returns-clause-between : goal.returns-clause-between

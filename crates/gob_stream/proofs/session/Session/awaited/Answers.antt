@@ -1,5 +1,5 @@
 use Rattle.std.proofs.Common.{arith, ap}
-use Rattle.gob_stream.proofs.WholeSteps.{has_begun}
+use Rattle.gob_stream.proofs.Reader.WholeSteps.{has_begun}
 use Rattle.gob_stream.proofs.session.Session.awaited.Goals as goal
 
 pub returns-clause-begun : goal.returns-clause-begun

@@ -1,9 +1,9 @@
 use Rattle.std.proofs.Common.{◌≡◌, Ok, Err, ◌++◌, ◌∷◌, [], length, arith, sym, ap, ◌∙◌, length-drop}
 use Rattle.std.proofs.lemmas.List.{append-nil, take_rest}
 use Rattle.gob_stream.specs.declared.stage.Stage.TheVariants as stage
-use Rattle.gob_stream.proofs.HonestLaws.{always_feeds_honestly}
-use Rattle.gob_stream.proofs.StageSteps.{parts}
-use Rattle.gob_stream.proofs.FeedSteps.{feed_start, feed_on, feed_item, feed_there, fed_all, feed_no_memory, feed_stops}
+use Rattle.gob_stream.proofs.Reader.HonestLaws.{always_feeds_honestly}
+use Rattle.gob_stream.proofs.Reader.StageSteps.{parts}
+use Rattle.gob_stream.proofs.Reader.FeedSteps.{feed_start, feed_on, feed_item, feed_there, fed_all, feed_no_memory, feed_stops}
 use Rattle.gob_stream.proofs.session.Session.feed.Goals.{in-Failed, in_default, in-Some+in_default-give, in_default-item}
 use Rattle.gob_stream.proofs.session.Session.feed.Goals as goal
 

@@ -1,6 +1,6 @@
 use Rattle.std.proofs.Common.{◌≡◌, refl}
-use Rattle.gob_stream.proofs.UnderWayLaws.{after_none, count_begins_here}
-use Rattle.gob_stream.proofs.FinishSteps.{begins_at, ended_within}
+use Rattle.gob_stream.proofs.Reader.UnderWayLaws.{after_none, count_begins_here}
+use Rattle.gob_stream.proofs.Reader.FinishSteps.{begins_at, ended_within}
 use Rattle.gob_stream.proofs.session.Session.finish.Goals.{in_default-via-in-Count+else-count-self, in_default-via-in_default}
 use Rattle.gob_stream.proofs.session.Session.finish.Goals as goal
 

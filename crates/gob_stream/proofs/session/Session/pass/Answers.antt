@@ -1,5 +1,5 @@
 use Rattle.std.proofs.Common.{refl}
-use Rattle.gob_stream.proofs.WholeSteps.{passed, usable_behind}
+use Rattle.gob_stream.proofs.Reader.WholeSteps.{passed, usable_behind}
 use Rattle.gob_stream.proofs.session.Session.pass.Goals.{in-Count, in_default}
 use Rattle.gob_stream.proofs.session.Session.pass.Goals as goal
 

@@ -1,5 +1,5 @@
 use Rattle.std.proofs.Common.{◌≡◌, min, ap, ◌∙◌}
-use Rattle.gob_stream.proofs.WholeSteps.{has_item, passes_item}
+use Rattle.gob_stream.proofs.Reader.WholeSteps.{has_item, passes_item}
 use Rattle.gob_stream.proofs.session.Session.pass_whole.Goals as goal
 
 pub pass-requires-clause-item : goal.pass-requires-clause-item

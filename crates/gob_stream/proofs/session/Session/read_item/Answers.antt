@@ -4,9 +4,9 @@ use Rattle.std.specs.Io.KnownBytes.{Consumes}
 use Rattle.gob_types.specs.Defined.{types}
 use Rattle.gob_stream.specs.declared.stage.Stage.TheVariants as stage
 use Rattle.gob_stream.specs.Reading.{ReadsNext, TakesNext}
-use Rattle.gob_stream.specs.ReadParts.{bytes_wanted}
-use Rattle.gob_stream.proofs.HonestLaws.{reads_honestly}
-use Rattle.gob_stream.proofs.SessionSteps.{told_trees, types_stay, on_err, consumed_nothing, all_taken, somewhere, stood_first, after_room, stood_on, passed_on, IsRead, piece_length, piece_consumed, Stepped, stepped, stood_before, step_stops, read_stops, end_stops, counts_none, step_unread, end_unread, nothing_more, step_gives, gives_taken, step_taken, item_within, no_less, stood_further, sound_after}
+use Rattle.gob_stream.specs.Machine.ReadParts.{bytes_wanted}
+use Rattle.gob_stream.proofs.Reader.HonestLaws.{reads_honestly}
+use Rattle.gob_stream.proofs.Reader.SessionSteps.{told_trees, types_stay, on_err, consumed_nothing, all_taken, somewhere, stood_first, after_room, stood_on, passed_on, IsRead, piece_length, piece_consumed, Stepped, stepped, stood_before, step_stops, read_stops, end_stops, counts_none, step_unread, end_unread, nothing_more, step_gives, gives_taken, step_taken, item_within, no_less, stood_further, sound_after}
 use Rattle.gob_stream.proofs.session.Session.read_item.Given as given
 use Rattle.gob_stream.proofs.session.Session.read_item.Goals as goal
 use Rattle.gob_stream.proofs.session.Session.read_item.Goals.{in-Failed, in_default, In-Ok, In_err-step-in-Ok, In_ok-step-in-Ok}
@@ -25,12 +25,12 @@ consumed : (g : given.Over) (c : goal.In-Ok g) → Consumes (g.R.Read.remaining 
 consumed g c = piece_consumed (g.R.Read.remaining c.pieces.input.reader) (g.R.Read.remaining c.read.new.self.reader) (drop c.min-wanted.result c.pieces.chunk) (read_some g c) c.in-Ok.ensures.bytes.0
 
 refused_step : (g : given.Over) (c : goal.In_err-step-in-Ok g) → IsRead c.in-Ok.n (bytes_wanted c.pieces.self.stage c.pieces.self.taken) c.read.new.buf
-    → Stepped g.B.Builder.building.stands told_trees g.B.Builder.building.means g.B.Builder.DEPTH c.pieces.self c.step.new.self (take c.in-Ok.n (c.read.new.buf ++ drop c.min-wanted.result c.pieces.chunk)) (Err c.in_err-step-in-Ok.field-0.0)
-refused_step g c read = stepped g.B.Builder.building.stands told_trees g.B.Builder.building.means g.B.Builder.DEPTH c.pieces.self c.step.new.self (drop c.min-wanted.result c.pieces.chunk) (Err c.in_err-step-in-Ok.field-0.0) read c.in_err-step-in-Ok.ensures.advances
+    → Stepped g.B.Builder.building.received told_trees g.B.Builder.building.means g.B.Builder.DEPTH c.pieces.self c.step.new.self (take c.in-Ok.n (c.read.new.buf ++ drop c.min-wanted.result c.pieces.chunk)) (Err c.in_err-step-in-Ok.field-0.0)
+refused_step g c read = stepped g.B.Builder.building.received told_trees g.B.Builder.building.means g.B.Builder.DEPTH c.pieces.self c.step.new.self (drop c.min-wanted.result c.pieces.chunk) (Err c.in_err-step-in-Ok.field-0.0) read c.in_err-step-in-Ok.ensures.advances
 
 taken_step : (g : given.Over) (c : goal.In_ok-step-in-Ok g) → IsRead c.in-Ok.n (bytes_wanted c.pieces.self.stage c.pieces.self.taken) c.read.new.buf
-    → Stepped g.B.Builder.building.stands told_trees g.B.Builder.building.means g.B.Builder.DEPTH c.pieces.self c.step.new.self (take c.in-Ok.n (c.read.new.buf ++ drop c.min-wanted.result c.pieces.chunk)) (Ok c.in_ok-step-in-Ok.step)
-taken_step g c read = stepped g.B.Builder.building.stands told_trees g.B.Builder.building.means g.B.Builder.DEPTH c.pieces.self c.step.new.self (drop c.min-wanted.result c.pieces.chunk) (Ok c.in_ok-step-in-Ok.step) read c.in_ok-step-in-Ok.ensures.advances
+    → Stepped g.B.Builder.building.received told_trees g.B.Builder.building.means g.B.Builder.DEPTH c.pieces.self c.step.new.self (take c.in-Ok.n (c.read.new.buf ++ drop c.min-wanted.result c.pieces.chunk)) (Ok c.in_ok-step-in-Ok.step)
+taken_step g c read = stepped g.B.Builder.building.received told_trees g.B.Builder.building.means g.B.Builder.DEPTH c.pieces.self c.step.new.self (drop c.min-wanted.result c.pieces.chunk) (Ok c.in_ok-step-in-Ok.step) read c.in_ok-step-in-Ok.ensures.advances
 
 pub pieces-init : goal.pieces-init
 pieces-init g c =
@@ -50,7 +50,7 @@ returns-in_err-finish-in-Ok-eq0-clause-read g c = λ items bytes rest a e.
     let some : 0 < length c.read.new.buf = grind (arith, common_steps) in
     let p = consumed_nothing c.read.new.buf c.in-Ok-eq0.field-0-test c.in-Ok-eq0.ensures.bytes.0 (c.pieces.invariant.stood.each items bytes a) in
     let all = all_taken e (c.in-Ok-eq0.ensures.bytes.1 c.in-Ok-eq0.field-0-test some) p in
-    passed_on (λ r. ReadsNext g.B.Builder.building.stands told_trees g.B.Builder.building.means g.B.Builder.DEPTH c.args.self.now c.finish.new.self items bytes rest (g.R.Read.remaining c.read.new.self.reader) r)
+    passed_on (λ r. ReadsNext g.B.Builder.building.received told_trees g.B.Builder.building.means g.B.Builder.DEPTH c.args.self.now c.finish.new.self items bytes rest (g.R.Read.remaining c.read.new.self.reader) r)
     c.from_residual.result _ c.from_residual.ensures.1
     (end_stops g.B.Builder.DEPTH c.pieces.self c.finish.new.self items bytes rest _ c.pieces.invariant.limits all.ended (c.in_err-finish-in-Ok-eq0.ensures.finishes items (bytes ++ rest) all.holds))
 
@@ -96,7 +96,7 @@ pub returns-in_err-step-in-Ok-clause-read : goal.returns-in_err-step-in-Ok-claus
 returns-in_err-step-in-Ok-clause-read g c = λ items bytes rest a e.
     let read = read_some g (goal.at.returns-in_err-step-in-Ok-clause-read g c).In-Ok in
     let step = refused_step g (goal.at.returns-in_err-step-in-Ok-clause-read g c).In_err-step-in-Ok read in
-    passed_on (λ r. ReadsNext g.B.Builder.building.stands told_trees g.B.Builder.building.means g.B.Builder.DEPTH c.args.self.now c.step.new.self items bytes rest (g.R.Read.remaining c.read.new.self.reader) r)
+    passed_on (λ r. ReadsNext g.B.Builder.building.received told_trees g.B.Builder.building.means g.B.Builder.DEPTH c.args.self.now c.step.new.self items bytes rest (g.R.Read.remaining c.read.new.self.reader) r)
     c.from_residual-in_err-step-in-Ok.result _ c.from_residual-in_err-step-in-Ok.ensures.1
     (step_stops _ _ c.pieces.invariant.limits step (stood_before _ e (consumed g (goal.at.returns-in_err-step-in-Ok-clause-read g c).In-Ok) (c.pieces.invariant.stood.each items bytes a)))
 

@@ -1,12 +1,12 @@
 use Rattle.std.proofs.Common.{ℕ, List, Err, ◌∙◌, arith, refl, sym, ap, subst}
 use Rattle.gob_stream.specs.Item.{StreamItem}
 use Rattle.gob_stream.specs.Session.{HasRead, StepAnswers}
-use Rattle.gob_stream.proofs.AdvanceSteps.{usable_item, step_bound, step_between, advanced, usable_on, stopped_by, stays_there, within_there, takes_on, takes_sound, failed_answers, stops_with_types}
-use Rattle.gob_stream.proofs.NumberSteps.{steps_few}
+use Rattle.gob_stream.proofs.Reader.AdvanceSteps.{usable_item, step_bound, step_between, advanced, usable_on, stopped_by, stays_there, within_there, takes_on, takes_sound, failed_answers, stops_with_types}
+use Rattle.gob_stream.proofs.Reader.NumberSteps.{steps_few}
 use Rattle.gob_stream.proofs.session.Session.step.Goals as goal
 
-pub take-requires-clause-stands : goal.take-requires-clause-stands
-take-requires-clause-stands g c = λ n. within_there c.replace-stage.ensures.value (usable_item c.self.invariant (λ e. n (c.replace-stage.ensures.value ∙ e)))
+pub take-requires-clause-has_read : goal.take-requires-clause-has_read
+take-requires-clause-has_read g c = λ n. within_there c.replace-stage.ensures.value (usable_item c.self.invariant (λ e. n (c.replace-stage.ensures.value ∙ e)))
 
 pub overflow_add-self : goal.overflow_add-self
 overflow_add-self g c =

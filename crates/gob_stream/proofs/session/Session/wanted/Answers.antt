@@ -1,5 +1,5 @@
 use Rattle.std.proofs.Common.{arith, ap}
-use Rattle.gob_stream.proofs.WantedSteps.{value_left, description_left}
+use Rattle.gob_stream.proofs.Reader.WantedSteps.{value_left, description_left}
 use Rattle.gob_stream.proofs.session.Session.wanted.Goals as goal
 
 pub left-requires : goal.left-requires

@@ -1,5 +1,5 @@
 use Rattle.std.proofs.Common.{arith, ap}
-use Rattle.gob_stream.proofs.WholeSteps.{has_body}
+use Rattle.gob_stream.proofs.Reader.WholeSteps.{has_body}
 use Rattle.gob_stream.proofs.session.Session.whole_value.Goals as goal
 
 pub returns-clause-body : goal.returns-clause-body

@@ -1,7 +1,7 @@
 use Rattle.std.proofs.Common.{◌++◌, ◌≤◌, take, length, arith, refl}
 use Rattle.std.proofs.lemmas.List.{length-take}
 use Rattle.gob_stream.specs.Refusing as refusing
-use Rattle.gob_stream.proofs.NumberSteps.{number_refused, number_goes_on, goes_on_some, number_taken, steps_further, steps_stop, steps_few, number_there, rest_of, slice_rest, one_used}
+use Rattle.gob_stream.proofs.Reader.NumberSteps.{number_refused, number_goes_on, goes_on_some, number_taken, steps_further, steps_stop, steps_few, number_there, rest_of, slice_rest, one_used}
 use Rattle.gob_stream.proofs.type_number.TypeNumberStage.take.Goals as goal
 
 pub overflow_add-result : goal.overflow_add-result

@@ -5,8 +5,8 @@ use Rattle.gob_stream.specs.Bounds.{within_trees}
 use Rattle.gob_stream.specs.Item.{puts}
 use Rattle.gob_stream.specs.WriterRefusal.{refused_body}
 use Rattle.gob_stream.proofs.DenialLaws.{denial_weaker}
-use Rattle.gob_stream.proofs.WritingLaws.{body_alone, whole_item}
-use Rattle.gob_stream.proofs.WriterSteps.{denied_writes, denied_leaves, trees_within, sent_writes, sent_leaves}
+use Rattle.gob_stream.proofs.Written.WritingLaws.{body_alone, whole_item}
+use Rattle.gob_stream.proofs.Written.WriterSteps.{denied_writes, denied_leaves, trees_within, sent_writes, sent_leaves}
 use Rattle.gob_stream.proofs.writer.StreamWriter.put.Goals as goal
 
 pub returns-in_err-spell_value-clause-writes : goal.returns-in_err-spell_value-clause-writes

@@ -3,8 +3,8 @@ use Rattle.std.proofs.lemmas.Result.{err_from_is_err_and}
 use Rattle.gob_stream.specs.Item.{puts}
 use Rattle.gob_stream.specs.WriterRefusal.{refused_type, refused_body}
 use Rattle.gob_stream.proofs.DenialLaws.{denial_weaker}
-use Rattle.gob_stream.proofs.WritingLaws.{whole_item}
-use Rattle.gob_stream.proofs.WriterSteps.{denied_writes, denied_leaves, all_within, sent_writes, sent_leaves}
+use Rattle.gob_stream.proofs.Written.WritingLaws.{whole_item}
+use Rattle.gob_stream.proofs.Written.WriterSteps.{denied_writes, denied_leaves, all_within, sent_writes, sent_leaves}
 use Rattle.gob_stream.proofs.writer.StreamWriter.put_spelled.Goals as goal
 
 pub returns-in_err-spell_head-clause-writes : goal.returns-in_err-spell_head-clause-writes

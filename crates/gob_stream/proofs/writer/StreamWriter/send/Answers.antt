@@ -1,6 +1,6 @@
 use Rattle.std.proofs.Common.{refl}
 use Rattle.std.proofs.lemmas.Result.{err_from_is_err_and}
-use Rattle.gob_stream.proofs.WriterSteps.{front_of_more, front_behind}
+use Rattle.gob_stream.proofs.Written.WriterSteps.{front_of_more, front_behind}
 use Rattle.gob_stream.proofs.writer.StreamWriter.send.Goals as goal
 
 pub returns-in_err-send_all-clause-sends : goal.returns-in_err-send_all-clause-sends

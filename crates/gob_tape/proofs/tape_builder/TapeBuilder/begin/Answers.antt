@@ -1,6 +1,6 @@
 use Rattle.std.proofs.Common.{◌+◌, refl}
 use Rattle.std.proofs.lemmas.Result.{on_ok_weaker}
-use Rattle.gob_tape.proofs.StandingLaws.{number_told, group_told}
+use Rattle.gob_tape.proofs.ReceivedLaws.{number_told, group_told}
 use Rattle.gob_tape.proofs.tape_builder.TapeBuilder.begin.Goals as goal
 
 pub returns-in-Number : goal.returns-in-Number

@@ -2,7 +2,7 @@ use Rattle.std.proofs.lemmas.List.{reverse-append, append-nil, length-reverse}
 use Rattle.std.proofs.Common.{arith, ap, reverse, ◌∙◌, sym, refl, ◌∷◌, []}
 use Rattle.gob_tape.specs.Machine.View.{state_of}
 use Rattle.gob_tape.specs.Machine.State.{with_begun, counted}
-use Rattle.gob_tape.proofs.StandingLaws.{leave_told, none_left}
+use Rattle.gob_tape.proofs.ReceivedLaws.{leave_told, none_left}
 use Rattle.gob_tape.proofs.tape_builder.TapeBuilder.close.Goals as goal
 
 pub returns-in-Some-clause-told : goal.returns-in-Some-clause-told

@@ -1,10 +1,10 @@
 use Rattle.std.proofs.Common.{◌≡◌, ◌∙◌, ◌+◌, ◌∷◌, [], ◌++◌, length, ap, refl, subst, append_assoc}
-use Rattle.gob_read.specs.Telling.{raw_start, raw_more, leave}
+use Rattle.gob_read.specs.Event.{raw_start, raw_more, leave}
 use Rattle.std.proofs.lemmas.Result.{IfOk-from_err}
 use Rattle.gob_tape.specs.Machine.View.{state_of}
 use Rattle.gob_tape.specs.Machine.State.{with_pool}
-use Rattle.gob_tape.specs.Machine.Standing.{IsTapeOf}
-use Rattle.gob_tape.proofs.StandingLaws.{start_told, more_told}
+use Rattle.gob_tape.specs.Machine.Received.{IsTapeOf}
+use Rattle.gob_tape.proofs.ReceivedLaws.{start_told, more_told}
 use Rattle.gob_tape.proofs.tape_builder.TapeBuilder.copy_raw.Goals as goal
 
 pub returns : goal.returns

@@ -1,4 +1,4 @@
-use Rattle.gob_tape.proofs.StandingLaws.{field_told}
+use Rattle.gob_tape.proofs.ReceivedLaws.{field_told}
 use Rattle.gob_tape.proofs.tape_builder.TapeBuilder.name.Goals as goal
 
 pub returns-in-Some : goal.returns-in-Some

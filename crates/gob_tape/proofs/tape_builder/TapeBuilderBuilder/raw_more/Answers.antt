@@ -1,7 +1,7 @@
 use Rattle.std.proofs.Common.{arith, ap}
 use Rattle.gob_tape.specs.Machine.View.{state_of}
 use Rattle.gob_tape.specs.Machine.State.{with_pool}
-use Rattle.gob_tape.proofs.StandingLaws.{more_told}
+use Rattle.gob_tape.proofs.ReceivedLaws.{more_told}
 use Rattle.gob_tape.proofs.tape_builder.TapeBuilderBuilder.raw_more.Goals as goal
 
 pub returns : goal.returns

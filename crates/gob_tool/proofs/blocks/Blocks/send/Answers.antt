@@ -1,8 +1,8 @@
 -- The line goes out, and what waits of it.
 use Rattle.std.proofs.Common.{◌∙◌}
 use Rattle.gob_stream.specs.Ends.{failed_writes, writer_of}
-use Rattle.gob_tool.specs.Block.{waiting}
-use Rattle.gob_tool.specs.Blocks.{counts_both, told}
+use Rattle.gob_tool.specs.Machine.Block.{waiting}
+use Rattle.gob_tool.specs.Machine.Blocks.{counts_both, told}
 use Rattle.gob_tool.proofs.BlockLaws.{begun_out, counts_failed, whole_out}
 use Rattle.gob_tool.proofs.blocks.Blocks.send.Goals as goal
 

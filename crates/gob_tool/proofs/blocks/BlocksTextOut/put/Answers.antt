@@ -2,8 +2,8 @@
 use Rattle.std.proofs.Common.{ℕ, List, ◌∙◌, subst}
 use Rattle.std.specs.Io.KnownBytes.{Appends}
 use Rattle.gob_stream.specs.Ends.{writer_of}
-use Rattle.gob_tool.specs.Block.{waiting}
-use Rattle.gob_tool.specs.Blocks.{counts_both, told}
+use Rattle.gob_tool.specs.Machine.Block.{waiting}
+use Rattle.gob_tool.specs.Machine.Blocks.{counts_both, told}
 use Rattle.gob_tool.proofs.BlockLaws.{waiting_failed, counts_failed, straight_out}
 use Rattle.gob_tool.proofs.blocks.BlocksTextOut.put.Goals as goal
 

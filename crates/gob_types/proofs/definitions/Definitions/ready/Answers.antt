@@ -4,7 +4,7 @@ use Rattle.gob_types.specs.Table.{shape_of}
 use Rattle.gob_types.specs.Ready.{IsGrounded}
 use Rattle.gob_types.specs.Readiness.{IsLeast}
 use Rattle.gob_types.specs.Defined.{types}
-use Rattle.gob_types.specs.Walk.{IsLeastBad}
+use Rattle.gob_types.specs.Machine.Walk.{IsLeastBad}
 use Rattle.gob_types.proofs.WalkLaws.{complete_within, ready_within, least_reached}
 use Rattle.gob_types.proofs.definitions.Definitions.ready.Goals as goal
 

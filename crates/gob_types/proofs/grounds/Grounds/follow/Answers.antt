@@ -1,7 +1,7 @@
 use Rattle.std.proofs.Common.{sym, subst}
 use Rattle.std.proofs.lemmas.Result.{IfOk-from_err}
 use Rattle.gob_types.specs.Defined.{types}
-use Rattle.gob_types.specs.Walk.{AddsOne, WalksOn, EndsWell}
+use Rattle.gob_types.specs.Machine.Walk.{AddsOne, WalksOn, EndsWell}
 use Rattle.gob_types.proofs.SetLaws.{added_less}
 use Rattle.gob_types.proofs.GroundLaws.{Following, follow_start, follow_known, follow_bottomless, follow_round, follow_end, follow_on}
 use Rattle.gob_types.proofs.grounds.Grounds.follow.Goals as goal

@@ -1,7 +1,7 @@
 use Rattle.std.proofs.Common.{subst, Contains}
 use Rattle.std.proofs.lemmas.Bool.Decides.{when_true, when_false}
 use Rattle.std.proofs.lemmas.Result.{IfOk-from_err}
-use Rattle.gob_types.specs.Walk.{AddsAll}
+use Rattle.gob_types.specs.Machine.Walk.{AddsAll}
 use Rattle.gob_types.proofs.GroundLaws.{knows_more, knows_endless, goes_on_bottomless}
 use Rattle.gob_types.proofs.grounds.Grounds.judge.Goals as goal
 

@@ -3,8 +3,8 @@ use Rattle.std.proofs.lemmas.Option.{none-some}
 use Rattle.std.specs.HashMap.{get}
 use Rattle.std.proofs.lemmas.Result.{IfOk-from_err}
 use Rattle.gob_types.specs.declared.id.TypeId.{TypeId}
-use Rattle.gob_types.specs.Entered.{same_id}
-use Rattle.gob_types.specs.Kept.{Sets, KeepsSets, IsSet}
+use Rattle.gob_types.specs.Machine.Entered.{same_id}
+use Rattle.gob_types.specs.Machine.Kept.{Sets, KeepsSets, IsSet}
 use Rattle.gob_types.proofs.WaitLaws.{in_set, keeps_grown, in_found}
 use Rattle.gob_types.proofs.SetLaws.{adds_one, adds_keeps}
 use Rattle.gob_types.proofs.sets.Sets.add.Goals as goal

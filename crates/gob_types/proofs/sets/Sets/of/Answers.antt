@@ -1,6 +1,6 @@
 use Rattle.std.proofs.Common.{ap, Some, sym, subst, ◌∙◌}
 use Rattle.std.proofs.lemmas.Option.{none-some}
-use Rattle.gob_types.specs.Kept.{Sets, IsIn}
+use Rattle.gob_types.specs.Machine.Kept.{Sets, IsIn}
 use Rattle.gob_types.proofs.WaitLaws.{in_found}
 use Rattle.gob_types.proofs.sets.Sets.of.Goals as goal
 

@@ -1,5 +1,5 @@
 use Rattle.std.proofs.Common.{subst, rules}
-use Rattle.gob_types.specs.Kept.{Sets, KeepsSets, IsSet}
+use Rattle.gob_types.specs.Machine.Kept.{Sets, KeepsSets, IsSet}
 use Rattle.gob_types.proofs.WaitLaws.{keeps_less, found_in, popped_less}
 use Rattle.gob_types.proofs.sets.Sets.pop.Goals as goal
 

@@ -1,6 +1,6 @@
 use Rattle.std.proofs.Common.{subst}
 use Rattle.std.proofs.lemmas.Result.{IfOk-from_err}
-use Rattle.gob_types.specs.Kept.{Sets, IsSet}
+use Rattle.gob_types.specs.Machine.Kept.{Sets, IsSet}
 use Rattle.gob_types.proofs.sets.Sets.put.Goals as goal
 
 pub returns-in_err-insert : goal.returns-in_err-insert

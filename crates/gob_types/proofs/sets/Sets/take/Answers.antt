@@ -1,6 +1,6 @@
 use Rattle.std.proofs.Common.{List, Contains, subst, rules, ◌∙◌, arith}
 use Rattle.gob_types.specs.declared.id.TypeId.{TypeId}
-use Rattle.gob_types.specs.Kept.{Sets, IsIn, KeepsSets, IsSet}
+use Rattle.gob_types.specs.Machine.Kept.{Sets, IsIn, KeepsSets, IsSet}
 use Rattle.gob_types.proofs.WaitLaws.{keeps_less, found_in}
 use Rattle.gob_types.proofs.sets.Sets.take.Goals as goal
 

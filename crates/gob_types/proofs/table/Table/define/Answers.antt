@@ -1,7 +1,7 @@
 use Rattle.std.proofs.Common.{ap, sym, subst, ◌∙◌, ◌++◌, ◌∷◌, []}
 use Rattle.std.proofs.lemmas.Result.{IfOk-from_err}
 use Rattle.gob_types.specs.Defined.{Defined, Admits, first_entries, types}
-use Rattle.gob_types.specs.Kept.{IsKeptReadiness}
+use Rattle.gob_types.specs.Machine.Kept.{IsKeptReadiness}
 use Rattle.gob_types.proofs.KeptLaws.{front_entries, same_defined, cut_back}
 use Rattle.gob_types.proofs.WaitLaws.{kept_back, settled_kept}
 use Rattle.gob_types.proofs.table.Table.define.Goals as goal

@@ -1,6 +1,6 @@
 use Rattle.std.proofs.Common.{subst, nat_lt}
 use Rattle.std.proofs.lemmas.Result.{IfOk-from_err}
-use Rattle.gob_types.specs.Walk.{AddsOne}
+use Rattle.gob_types.specs.Machine.Walk.{AddsOne}
 use Rattle.gob_types.proofs.SetLaws.{added_told}
 use Rattle.gob_types.proofs.type_set.TypeSet.add.Goals as goal
 

@@ -1,5 +1,5 @@
 use Rattle.gob_types.specs.declared.id.TypeId.{TypeId}
-use Rattle.gob_types.specs.Walk.{AddsAll}
+use Rattle.gob_types.specs.Machine.Walk.{AddsAll}
 use Rattle.gob_types.proofs.SetLaws.{IsAmongFirst}
 use Rattle.gob_types.proofs.type_set.TypeSet.add_all.Given as goal
 

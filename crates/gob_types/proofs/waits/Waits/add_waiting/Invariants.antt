@@ -1,8 +1,8 @@
 use Rattle.std.proofs.Common.{◌≡◌, ◌⊎◌, Some, Contains}
 use Rattle.std.specs.Map.{lookup}
 use Rattle.gob_types.specs.declared.id.TypeId.{TypeId}
-use Rattle.gob_types.specs.Entered.{same_id}
-use Rattle.gob_types.specs.Walk.{Grows}
+use Rattle.gob_types.specs.Machine.Entered.{same_id}
+use Rattle.gob_types.specs.Machine.Walk.{Grows}
 use Rattle.gob_types.proofs.FirstLaws.{FirstAre}
 use Rattle.gob_types.proofs.waits.Waits.add_waiting.Given as goal
 

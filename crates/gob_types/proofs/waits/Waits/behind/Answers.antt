@@ -1,6 +1,6 @@
 use Rattle.std.proofs.Common.{◌≡◌, subst, arith}
 use Rattle.std.proofs.lemmas.Result.{IfOk-from_err}
-use Rattle.gob_types.specs.Walk.{AddsAll}
+use Rattle.gob_types.specs.Machine.Walk.{AddsAll}
 use Rattle.gob_types.proofs.FirstLaws.{read_at}
 use Rattle.gob_types.proofs.SetLaws.{adds_one}
 use Rattle.gob_types.proofs.WaitLaws.{back_start, back_next, back_all, told_both}

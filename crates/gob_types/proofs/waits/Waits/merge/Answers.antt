@@ -1,6 +1,6 @@
 use Rattle.std.proofs.Common.{subst}
 use Rattle.std.proofs.lemmas.Result.{on_ok_weaker, IfOk-from_err}
-use Rattle.gob_types.specs.Kept.{Waiting, IsIn, KeepsSets}
+use Rattle.gob_types.specs.Machine.Kept.{Waiting, IsIn, KeepsSets}
 use Rattle.gob_types.specs.declared.id.TypeId.{TypeId}
 use Rattle.std.proofs.Common.{Contains}
 use Rattle.gob_types.proofs.WaitLaws.{merged_in}

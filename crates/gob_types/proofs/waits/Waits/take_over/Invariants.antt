@@ -1,6 +1,6 @@
 use Rattle.gob_types.specs.Table.{Table}
 use Rattle.gob_types.specs.Ready.{Reaches}
-use Rattle.gob_types.specs.Kept.{AreLed, Redirects, WaitsFor}
+use Rattle.gob_types.specs.Machine.Kept.{AreLed, Redirects, WaitsFor}
 use Rattle.gob_types.proofs.waits.Waits.take_over.Given as goal
 
 -- the way has come to this type

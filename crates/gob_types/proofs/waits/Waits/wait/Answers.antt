@@ -1,6 +1,6 @@
 use Rattle.std.proofs.Common.{subst}
 use Rattle.std.proofs.lemmas.Result.{IfOk-from_err}
-use Rattle.gob_types.specs.Kept.{Waiting, IsSet}
+use Rattle.gob_types.specs.Machine.Kept.{Waiting, IsSet}
 use Rattle.gob_types.proofs.WaitLaws.{knows_on, knows_set}
 use Rattle.gob_types.proofs.waits.Waits.wait.Goals as goal
 

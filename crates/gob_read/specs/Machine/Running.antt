@@ -1,0 +1,159 @@
+-- Where a reader stands, by its parts.
+-- It describes the reader's stack.
+use Rattle.std.specs.Prelude.{◌≡◌, ℕ, ◌+◌, ◌<◌, ◌≤◌, List, [], ◌∷◌, ◌++◌, length, take, Bool, true, false}
+use Rattle.gob_num.specs.Unsigned.{BeginsNumber}
+use Rattle.gob_types.specs.declared.id.TypeId.{TypeId}
+use Rattle.gob_types.specs.Table.{Table}
+use Rattle.gob_types.specs.Ready.{IsReady}
+use Rattle.gob_read.specs.Refusal.{Refusal}
+use Rattle.gob_read.specs.First.{IsFirst}
+use Rattle.gob_read.specs.Viable.{IsShallow, IsViable}
+use Rattle.gob_read.specs.Event.{Event}
+use Rattle.gob_read.specs.Machine.Steps.{IsPlaced, IsRead, StepTakes, StepRefuses}
+use Rattle.gob_read.specs.declared.stop.Stop.{Stop}
+use Rattle.gob_read.specs.declared.stop.Stop.TheVariants.{Refused, Memory, Failed}
+use Rattle.gob_read.specs.declared.frame.Frame.{Frame}
+use Rattle.gob_read.specs.declared.next.Next.{Next}
+use Rattle.gob_read.specs.declared.next.Next.TheVariants.{Top, Number, Raw}
+use Rattle.gob_read.specs.declared.next.NextNumber.{NextNumber}
+use Rattle.gob_read.specs.declared.next.NextNumber.TheVariants.{Tag, Part, Second, Delta}
+use Rattle.gob_read.specs.declared.run.Run.{Run}
+
+-- the bytes of the expected item that came
+abbrev pub IsUnderWayAt : Next → List ℕ → List ℕ → Type 0
+IsUnderWayAt (Top t) number r = (number ≡ []) × (r ≡ [])
+IsUnderWayAt (Number item) number r = (number ≡ r) × BeginsNumber r
+IsUnderWayAt (Raw left) number r = number ≡ []
+
+-- how deep the expected item's part lies, where so many parts are open; a tag is in no part
+abbrev pub item_depth : NextNumber → ℕ → ℕ
+item_depth (Tag t) count = 0
+item_depth (Part u) count = count + 1
+item_depth (Second q) count = count + 1
+item_depth Delta count = count
+
+abbrev pub depth_of : Next → List Frame → ℕ
+depth_of (Top t) stack = 0
+depth_of (Number item) stack = item_depth item (length stack)
+depth_of (Raw left) stack = length stack + 1
+
+-- the parts that have begun with these bytes of the expected item, before the builder is told of them
+abbrev pub begun_parts : Next → List ℕ → ℕ
+begun_parts (Number (Part u)) (b ∷ r) = 1
+begun_parts (Number (Second q)) r = 1
+begun_parts _ r = 0
+
+-- the reader has come so far
+pub record IsReached (T : Table) (t : TypeId) {X O : Type 0} (received : X → List Event → Type 0) (run : Run X O) (z : List ℕ) : Type 0 where
+  pub ready : IsReady T t
+  pub before : List ℕ
+  pub under_way : List ℕ
+  pub placed : IsPlaced T t received run.state before under_way
+  pub whole : z ≡ before ++ under_way
+  pub number_is : IsUnderWayAt run.state.expected run.number under_way
+  pub start_is : run.start ≡ length before
+  pub taken_is : run.taken ≡ length z
+  pub shallow : IsShallow T t run.depth before
+  pub judged : 0 < length under_way → depth_of run.state.expected run.state.stack ≤ run.depth
+
+-- and may take more
+pub record IsOpenRun (T : Table) (t : TypeId) {X O : Type 0} (received : X → List Event → Type 0) (run : Run X O) (z : List ℕ) : Type 0 where
+  pub reached : IsReached T t received run z
+  pub not_deep : depth_of run.state.expected run.state.stack ≤ run.depth
+  pub room : run.taken < run.length
+
+-- it stands so after some bytes
+pub record IsReachedSomewhere (T : Table) {X O : Type 0} (received : X → List Event → Type 0) (run : Run X O) : Type 0 where
+  pub type : TypeId
+  pub bytes : List ℕ
+  pub reached : IsReached T type received run bytes
+
+pub record IsOpenSomewhere (T : Table) {X O : Type 0} (received : X → List Event → Type 0) (run : Run X O) : Type 0 where
+  pub type : TypeId
+  pub bytes : List ℕ
+  pub open_ : IsOpenRun T type received run bytes
+
+-- the same under some table
+pub record IsOpenIn {X O : Type 0} (received : X → List Event → Type 0) (run : Run X O) : Type 0 where
+  pub table : Table
+  pub open_ : IsOpenSomewhere table received run
+
+-- the reader has taken nothing, and looked nothing up
+pub record IsNewRun (T : Table) (t : TypeId) {X O : Type 0} (received : X → List Event → Type 0) (run : Run X O) : Type 0 where
+  pub ready : IsReady T t
+  pub expected : run.state.expected ≡ Top t
+  pub stack : run.state.stack ≡ []
+  pub told : received run.state.builder []
+  pub number_is : run.number ≡ []
+  pub start_is : run.start ≡ 0
+  pub taken_is : run.taken ≡ 0
+
+-- the value is whole
+pub record IsFinished (T : Table) (t : TypeId) {X O : Type 0} (received : X → List Event → Type 0) (run : Run X O) (z : List ℕ) : Type 0 where
+  pub read : IsRead T t received run.state z
+  pub taken_is : run.taken ≡ length z
+  pub shallow : IsShallow T t run.depth z
+
+abbrev pub IsStepped : (T : Table) (t : TypeId) {X O : Type 0} (received : X → List Event → Type 0) (run : Run X O) (z : List ℕ) → Bool → Type 0
+IsStepped T t received run z true = IsFinished T t received run z
+IsStepped T t received run z false = IsReached T t received run z
+
+-- what holds of the refusal, if there is one; a reader under way has not ended before
+abbrev pub StopsFor : (Refusal → Type 0) → Stop → Type 0
+StopsFor why (Refused place seen reason) = why (record { place = place; seen = seen; reason = reason })
+StopsFor why Memory = Unit {0}
+StopsFor why Failed = ⊥
+
+-- so many more bytes are taken, of a body as long and no deeper
+pub record TakesMore {X O : Type 0} (old new : Run X O) (count : ℕ) : Type 0 where
+  pub taken : new.taken ≡ old.taken + count
+  pub length_is : new.length ≡ old.length
+  pub depth_is : new.depth ≡ old.depth
+
+-- wherever the reader may take more, it has stepped over these bytes
+pub record Steps (T : Table) {X O : Type 0} (received : X → List Event → Type 0) (old new : Run X O) (bytes : List ℕ) (whole : Bool) : Type 0 where
+  pub each : (t : TypeId) (z : List ℕ) → IsOpenRun T t received old z → IsStepped T t received new (z ++ bytes) whole
+
+-- wherever the reader may take more, this is the refusal that is given, whatever follows the bytes
+pub record RefusesAt (T : Table) {X O : Type 0} (received : X → List Event → Type 0) (run : Run X O) (bytes : List ℕ) (refusal : Refusal) : Type 0 where
+  pub each : (t : TypeId) (z x : List ℕ) → IsOpenRun T t received run z → IsFirst T t run.depth run.length (z ++ (bytes ++ x)) refusal
+
+-- a number is taken, and the next item begins behind it
+pub record TakesNumber (T : Table) {X O : Type 0} (received : X → List Event → Type 0) (old new : Run X O) (n : ℕ) (whole : Bool) : Type 0 where
+  pub takes : StepTakes T received old.state new.state n whole
+  pub start_is : new.start ≡ old.taken
+  pub number_is : new.number ≡ old.number
+  pub more : TakesMore old new 0
+
+-- the number isn't allowed where it stands
+pub record RefusesNumber (T : Table) {X O : Type 0} (received : X → List Event → Type 0) (run : Run X O) (n : ℕ) (refusal : Refusal) : Type 0 where
+  pub refuses : StepRefuses T received run.state n refusal.reason
+  pub place_is : refusal.place ≡ run.start
+  pub seen_is : refusal.seen ≡ run.taken
+
+-- the reader may take more
+pub record Opens (T : Table) {X O : Type 0} (received : X → List Event → Type 0) (run : Run X O) : Type 0 where
+  pub each : (t : TypeId) (z : List ℕ) → IsReached T t received run z → IsOpenRun T t received run z
+
+-- where it stands, this is the refusal that is given, whatever follows within the body
+pub record JudgesFor (T : Table) {X O : Type 0} (received : X → List Event → Type 0) (run : Run X O) (refusal : Refusal) : Type 0 where
+  pub each : (t : TypeId) (z x : List ℕ) → IsReached T t received run z → length (z ++ x) ≤ run.length → IsFirst T t run.depth run.length (z ++ x) refusal
+
+-- where the value is whole, this is the refusal that is given, whatever follows
+pub record EndsFor {X O : Type 0} (received : X → List Event → Type 0) (run : Run X O) (refusal : Refusal) : Type 0 where
+  pub each : (T : Table) (t : TypeId) (z x : List ℕ) → IsFinished T t received run z → IsFirst T t run.depth run.length (z ++ x) refusal
+
+-- wherever the reader stood, the piece is taken and nothing is refused
+pub record RunGoesOn (T : Table) {X O : Type 0} (received : X → List Event → Type 0) (old new : Run X O) (piece : List ℕ) : Type 0 where
+  pub reached : (t : TypeId) (z : List ℕ) → IsReached T t received old z → IsReached T t received new (z ++ piece)
+  pub viable : (t : TypeId) (z : List ℕ) → IsReached T t received old z → IsViable T t old.depth old.length (z ++ piece)
+
+-- wherever the reader stood, the value and the body end behind so many bytes of the piece
+pub record RunFinishes (T : Table) {X O : Type 0} (received : X → List Event → Type 0) (old new : Run X O) (piece : List ℕ) (used : ℕ) : Type 0 where
+  pub within : used ≤ length piece
+  pub finished : (t : TypeId) (z : List ℕ) → IsReached T t received old z → IsFinished T t received new (z ++ take used piece)
+  pub all : (t : TypeId) (z : List ℕ) → IsReached T t received old z → length (z ++ take used piece) ≡ old.length
+
+-- wherever the reader stood, this is the refusal that is given of the piece
+pub record RefusesPiece (T : Table) {X O : Type 0} (received : X → List Event → Type 0) (run : Run X O) (piece : List ℕ) (refusal : Refusal) : Type 0 where
+  pub each : (t : TypeId) (z : List ℕ) → IsReached T t received run z → IsFirst T t run.depth run.length (z ++ piece) refusal

@@ -1,0 +1,188 @@
+-- A step of a reader over the front of a piece.
+use Rattle.std.proofs.Common.{◌≡◌, ◌≢◌, ℕ, ◌+◌, ◌<◌, ◌≤◌, List, [], ◌++◌, length, take, Option, IfSome, Result, Ok, Err, arith, refl, sym, ap, ◌∙◌, subst, append_assoc, length-append}
+use Rattle.std.proofs.lemmas.List.{append-nil, length-take}
+use Rattle.gob_num.specs.Unsigned.{IsUnsignedFront}
+use Rattle.gob_num.proofs.PublicLaws.{begins_front, unsigned_length}
+use Rattle.gob_types.specs.Base.{base_table}
+use Rattle.gob_types.specs.Defined.{Defined, types}
+use Rattle.gob_types.specs.Table.{Table}
+use Rattle.gob_value.specs.Tree.{Tree}
+use Rattle.gob_read.specs.declared.tree_builder.TreeBuilder.{TreeBuilder}
+use Rattle.gob_stream.specs.declared.fault.Fault.{Fault}
+use Rattle.gob_stream.specs.declared.fault.Fault.TheVariants as fault
+use Rattle.gob_stream.specs.declared.item.Item as declared
+use Rattle.gob_stream.specs.declared.stage.Stage.{Stage}
+use Rattle.gob_stream.specs.declared.stage.Stage.TheVariants as stage
+use Rattle.gob_stream.specs.Machine.Stages.{count_at}
+use Rattle.gob_stream.specs.declared.stage.Stepped.{Stepped}
+use Rattle.gob_stream.specs.Machine.SessionState.{SessionState}
+use Rattle.gob_stream.specs.Bounds.{Bounds, no_deeper}
+use Rattle.gob_stream.specs.Item.{StreamItem}
+use Rattle.gob_stream.specs.Body.{Body, definition, value}
+use Rattle.gob_stream.specs.Stream.{IsItem, counted, AreItems, no_more, and_then, Stream}
+use Rattle.gob_stream.specs.Machine.HasRead.{Received, StageHasRead, in_count, in_type_number, in_value, in_description, SessionHasRead, IsUsable, has_failed, stands_after}
+use Rattle.gob_stream.specs.Machine.Between.{IsBetween}
+use Rattle.gob_stream.specs.Machine.ReadParts.{IsWithinItem, StepsOn, goes_on, gives, refuses_it, no_memory, TakesOn, StageAnswers, takes, fails, bytes_wanted, AdvancesOver, over_some, over_item, Advances}
+use Rattle.gob_stream.proofs.Stream.StreamLaws.{one_more}
+use Rattle.gob_stream.proofs.Reader.ValueSteps.{lies}
+use Rattle.gob_stream.proofs.Reader.UnderWayLaws.{after_refused}
+use Rattle.gob_stream.proofs.Reader.StageSteps.{parts}
+
+-- ---- what a stream leaves behind it
+record Grown (T U : Table) : Type 0 where
+  more : Table
+  grown : U ≡ T ++ more
+
+body_grows : {L : Bounds} {T U : Table} {i : StreamItem} {d : List ℕ} → Body base_table L T i d U → Grown T U
+body_grows (definition p l s x n q) = record { more = _; grown = refl }
+body_grows {T = T} (value p l n q) = record { more = []; grown = sym (append-nil T) }
+
+grows : {L : Bounds} {T U : Table} {offset : ℕ} {items : List StreamItem} {b : List ℕ} → AreItems base_table L T offset items b U → Grown T U
+grows {T = T} no_more = record { more = []; grown = sym (append-nil T) }
+grows {T = T} (and_then (counted u l s p) e r) =
+    let first = body_grows p in let rest = grows r in
+    record { more = first.more ++ rest.more; grown = rest.grown ∙ ap (λ T. T ++ rest.more) first.grown ∙ append_assoc T first.more rest.more }
+
+pub ends_within : {L : Bounds} {T U : Table} {offset : ℕ} {items : List StreamItem} {b : List ℕ} → AreItems base_table L T offset items b U → offset ≤ L.stream → offset + length b ≤ L.stream
+ends_within no_more l = omega arith
+ends_within (and_then {b = b} {c = c} (counted u k s p) e r) l = let n = ends_within r (omega arith) in omega (arith, length-append b c)
+
+pub item_of : {X O : Type 0} {received : Received X} {trees : Received TreeBuilder} {most : ℕ} {s : SessionState X O} {items : List StreamItem} {bytes : List ℕ} → SessionHasRead received trees most s items bytes
+    → IsWithinItem received trees (no_deeper most s.limits) s.types s.taken s.stage
+item_of a =
+    let t = a.taken in let g = grows a.stream in
+    record {
+      offset = length a.front;
+      bytes = a.under_way;
+      in_item = a.stage;
+      taken_is = omega (arith, ap length a.whole, length-append a.front a.under_way);
+      within = (let n = ends_within a.stream (omega arith) in omega arith);
+      known = record { base = record { more = g.more; grown = g.grown }; most = a.room };
+    }
+
+pub usable_item : {X O : Type 0} {received : Received X} {trees : Received TreeBuilder} {most : ℕ} {s : SessionState X O} → IsUsable received trees most s → s.stage ≢ stage.Failed → IsWithinItem received trees (no_deeper most s.limits) s.types s.taken s.stage
+usable_item (has_failed e) n = absurd (n e)
+usable_item (stands_after a) n = item_of a
+
+-- ---- the bytes of an item end within the limit, but for a count's
+pub in_bound : {X O : Type 0} {received : Received X} {trees : Received TreeBuilder} {L : Bounds} {T : Table} {offset : ℕ} {expects : Stage X O} {z : List ℕ} → StageHasRead received trees L T offset expects z → offset ≤ L.stream → offset + length z ≤ L.stream + 9
+in_bound (in_count {number = number} f) l = let n = (unsigned_length f.spelled).1 in omega (arith, length-append number f.rest)
+in_bound (in_type_number {c = c} {number = number} k f w) l = let s = k.stream in omega (arith, length-append c number)
+in_bound (in_value {c = c} {a = a} {z = z} k s r p b) l =
+    let lie = lies k r in let n = lie.size_is in let w = lie.within in let room = b.viable.room in let s = k.stream in
+    omega (arith, length-append c (a ++ z), length-append a z)
+in_bound (in_description {c = c} {a = a} {z = z} k n s r p b) l =
+    let lie = lies k r in let n = lie.size_is in let w = lie.within in let room = b.viable.room in let s = k.stream in
+    omega (arith, length-append c (a ++ z), length-append a z)
+
+pub step_bound : {X O : Type 0} {received : Received X} {trees : Received TreeBuilder} {means : O → Tree → Type 0} {L : Bounds} {d d' : Defined} {offset taken : ℕ} {stepped : Stepped X O} (z piece : List ℕ) → offset ≤ L.stream → taken ≡ offset + length z
+    → StepsOn received trees means L d offset z piece d' (Ok stepped) → taken + stepped.used ≤ L.stream + 9
+step_bound z piece l t (goes_on {used = used} e k s) = let n = in_bound s l in omega (arith, length-append z (take used piece), length-take used piece)
+step_bound z piece l t (gives {used = used} e k q w m) = let n = item_ends q in omega (arith, length-append z (take used piece), length-take used piece)
+  where
+    item_ends : {L : Bounds} {T U : Table} {offset : ℕ} {i : StreamItem} {b : List ℕ} → IsItem base_table L T offset i b U → offset + length b ≤ L.stream
+    item_ends (counted u k s p) = s
+
+-- behind an item no byte of the next one was taken
+pub step_between : {X O : Type 0} {received : Received X} {trees : Received TreeBuilder} {means : O → Tree → Type 0} {L : Bounds} {d d' : Defined} {offset taken : ℕ} {stepped : Stepped X O} (K : Bounds) (now : Defined) (z piece : List ℕ) → taken ≡ offset + length z
+    → StepsOn received trees means L d offset z piece d' (Ok stepped)
+    → IfSome stepped.item (λ _. IsBetween {X = X} {O = O} (record { limits = K; types = now; taken = taken + stepped.used; stage = stepped.stage }))
+step_between K now z piece t (goes_on e k s) = tt
+step_between {taken = taken} K now z piece t (gives {used = used} {next = next} e k q w n) =
+    let here : next ≡ taken + used = omega (arith, length-append z (take used piece), length-take used piece) in
+    record { number = []; stage = ap (λ n. count_at n []) here }
+
+-- ---- the reader moves on
+no_bytes : IsUnsignedFront []
+no_bytes = begins_front {bytes = []} tt
+
+-- the reader that has moved on so
+abbrev pub moved : {X O : Type 0} → SessionState X O → Defined → Stepped X O → SessionState X O
+moved s d stepped = record { limits = s.limits; types = d; taken = s.taken + stepped.used; stage = stepped.stage }
+
+pub advanced : {X O : Type 0} {received : Received X} {trees : Received TreeBuilder} {means : O → Tree → Type 0} {most : ℕ} {s : SessionState X O} {d : Defined} {items : List StreamItem} {bytes piece : List ℕ} {stepped : Stepped X O} (a : SessionHasRead received trees most s items bytes)
+    → StepsOn received trees means (no_deeper most s.limits) s.types (length a.front) a.under_way piece d (Ok stepped) → 0 < stepped.used
+    → AdvancesOver received trees means most (moved s d stepped) items bytes piece stepped.used stepped.item
+advanced {received = received} {trees = trees} {most = most} {s = s} {d = d} {items = items} {bytes = bytes} {piece = piece} a (goes_on {expects = expects} {used = used} e k st) some =
+    let t = a.taken in let same = ap types e in
+    over_some some k (record {
+      front = a.front;
+      under_way = a.under_way ++ take used piece;
+      whole = ap (λ l. l ++ take used piece) a.whole ∙ append_assoc a.front a.under_way (take used piece);
+      stream = subst (λ (T : Table). Stream base_table (no_deeper most s.limits) items a.front T) (sym same) a.stream;
+      stage = subst (λ (T : Table). StageHasRead received trees (no_deeper most s.limits) T (length a.front) expects (a.under_way ++ take used piece)) (sym same) st;
+      taken = omega (arith, length-append bytes (take used piece), length-take used piece);
+      room = ap (λ d. d.most) e ∙ a.room;
+    })
+advanced {X = X} {O = O} {received = received} {trees = trees} {most = most} {s = s} {d = d} {bytes = bytes} {piece = piece} a (gives {used = used} {next = next} m k q w n) some =
+    let t = a.taken in
+    let all = a.front ++ (a.under_way ++ take used piece) in
+    let here : next ≡ length (a.front ++ (a.under_way ++ take used piece)) = omega (arith, length-append a.front (a.under_way ++ take used piece)) in
+    let behind : StageHasRead {X = X} {O = O} received trees (no_deeper most s.limits) (types d) (length all) (count_at (length all) []) [] = in_count no_bytes in
+    over_item some k w (record {
+      front = all;
+      under_way = [];
+      whole = ap (λ l. l ++ take used piece) a.whole ∙ append_assoc a.front a.under_way (take used piece) ∙ sym (append-nil all);
+      stream = one_more a.stream (omega arith) q;
+      stage = subst (λ n. StageHasRead {X = X} {O = O} received trees (no_deeper most s.limits) (types d) (length all) (count_at n []) []) (sym here) behind;
+      taken = omega (arith, length-append bytes (take used piece), length-take used piece);
+      room = m ∙ a.room;
+    })
+
+pub usable_on : {X O : Type 0} {received : Received X} {trees : Received TreeBuilder} {means : O → Tree → Type 0} {most : ℕ} {s s' : SessionState X O} {piece : List ℕ} {used : ℕ} {given : Option (declared.Item O)} → IsUsable received trees most s → s.stage ≢ stage.Failed
+    → ((items : List StreamItem) (bytes : List ℕ) → SessionHasRead received trees most s items bytes → AdvancesOver received trees means most s' items bytes piece used given) → IsUsable received trees most s'
+usable_on (has_failed e) n f = absurd (n e)
+usable_on {received = received} {trees = trees} {means = means} {most = most} {s' = s'} {piece = piece} (stands_after {items = items} {bytes = bytes} a) n f = over (f items bytes a)
+  where
+    over : {used : ℕ} {given : Option (declared.Item _)} → AdvancesOver received trees means most s' items bytes piece used given → IsUsable received trees most s'
+    over (over_some p l b) = stands_after b
+    over (over_item p l w b) = stands_after b
+
+-- or stops
+pub stopped_by : {X O : Type 0} {received : Received X} {trees : Received TreeBuilder} {means : O → Tree → Type 0} {most : ℕ} {s : SessionState X O} {items : List StreamItem} {bytes piece : List ℕ} {d : Defined} {f : Fault} (s' : SessionState X O) (a : SessionHasRead received trees most s items bytes)
+    → StepsOn {X = X} {O = O} received trees means (no_deeper most s.limits) s.types (length a.front) a.under_way piece d (Err f) → Advances received trees means most s s' items bytes piece (Err f)
+stopped_by {piece = piece} s' a (refuses_it e q n) = let r = after_refused piece a q in (record { outcome = r.0; shown = n }, r.1)
+stopped_by s' a (no_memory e) = tt
+
+-- what has neither grown nor moved is as it was
+pub stays_there : {X O : Type 0} {s t : SessionState X O} {d : Defined} {expects : Stage X O} → d ≡ s.types → expects ≡ s.stage → s ≡ t
+    → record { limits = s.limits; types = d; taken = s.taken; stage = expects } ≡ t
+stays_there {X = X} {O = O} {s = s} {expects = expects} e f there =
+    let with_types : Defined → SessionState X O = λ d. record { limits = s.limits; types = d; taken = s.taken; stage = expects } in
+    let with_stage : Stage X O → SessionState X O = λ st. record { limits = s.limits; types = s.types; taken = s.taken; stage = st } in
+    ap with_types e ∙ ap with_stage f ∙ there
+
+pub stands_there : {X O : Type 0} {received : Received X} {trees : Received TreeBuilder} {L : Bounds} {T : Table} {offset : ℕ} {old now : Stage X O} {z : List ℕ} → now ≡ old → StageHasRead received trees L T offset old z → StageHasRead received trees L T offset now z
+stands_there {received = received} {trees = trees} {L = L} {T = T} {offset = offset} {z = z} e s = subst (λ st. StageHasRead received trees L T offset st z) (sym e) s
+
+pub within_there : {X O : Type 0} {received : Received X} {trees : Received TreeBuilder} {L : Bounds} {d : Defined} {taken : ℕ} {old now : Stage X O} → now ≡ old → IsWithinItem received trees L d taken old → IsWithinItem received trees L d taken now
+within_there {received = received} {trees = trees} {L = L} {d = d} {taken = taken} e s = subst (λ st. IsWithinItem received trees L d taken st) (sym e) s
+
+-- ---- what a step answers, by what was expected
+module _ {X O : Type 0} {received : Received X} {trees : Received TreeBuilder} {means : O → Tree → Type 0} where
+  -- behind some bytes of an item
+  pub takes_on : {L : Bounds} {d d' : Defined} {taken offset : ℕ} {old now : Stage X O} {z piece : List ℕ} {result : Result (Stepped X O) Fault} → now ≡ old → StageAnswers received trees means L d taken now piece d' result → StageHasRead received trees L (types d) offset old z
+      → TakesOn received trees means L d offset z piece (bytes_wanted now taken) d' result
+  takes_on e (takes n r) s = r _ _ (stands_there e s)
+  takes_on e (fails f r k) s = absurd (parts f (stands_there e s))
+
+  -- behind a fault
+  pub failed_answers : {L : Bounds} {d d' : Defined} {taken : ℕ} {expects : Stage X O} {piece : List ℕ} {f : Fault} → expects ≡ stage.Failed → StageAnswers received trees means L d taken expects piece d' (Err f)
+      → (f ≡ fault.Failed) × (d' ≡ d)
+  failed_answers e (takes n r) = absurd (n e)
+  failed_answers e (fails q r k) = ((cc), k)
+
+  -- a step that takes something isn't behind one
+  pub takes_sound : {L : Bounds} {d d' : Defined} {taken : ℕ} {expects : Stage X O} {piece : List ℕ} {stepped : Stepped X O} → StageAnswers received trees means L d taken expects piece d' (Ok stepped) → expects ≢ stage.Failed
+  takes_sound (takes n r) e = n e
+  takes_sound (fails f r k) e = cc
+
+  -- one that stops leaves the types as they were
+  stops_alike : {L : Bounds} {d d' : Defined} {offset : ℕ} {z piece : List ℕ} {f : Fault} → StepsOn {X = X} {O = O} received trees means L d offset z piece d' (Err f) → d' ≡ d
+  stops_alike (refuses_it e q n) = e
+  stops_alike (no_memory e) = e
+
+  pub stops_with_types : {most : ℕ} {s : SessionState X O} {d' : Defined} {now : Stage X O} {piece : List ℕ} {f : Fault} → IsUsable received trees most s → now ≡ s.stage
+      → StageAnswers received trees means (no_deeper most s.limits) s.types s.taken now piece d' (Err f) → d' ≡ s.types
+  stops_with_types (has_failed f) e r = (failed_answers (e ∙ f) r).1
+  stops_with_types (stands_after a) e r = stops_alike (takes_on e r a.stage).steps

@@ -1,0 +1,95 @@
+-- What a writer has written after a call.
+use Rattle.std.proofs.Common.{◌≡◌, ℕ, ◌+◌, List, [], ◌∷◌, ◌++◌, length, Option, Result, Ok, Err, sym, ap, subst, ◌∙◌, arith, append_assoc, length-append}
+use Rattle.std.specs.Io.KnownBytes.{Appends}
+use Rattle.std.proofs.KnownBytes.{Keeps-refl, Appends-trans}
+use Rattle.gob_types.specs.Table.{Table}
+use Rattle.gob_types.specs.Base.{base_table}
+use Rattle.gob_types.specs.Defined.{types}
+use Rattle.gob_stream.specs.declared.fault.WriteFault.{WriteFault}
+use Rattle.gob_stream.specs.declared.writer.StreamWriter.{StreamWriter}
+use Rattle.gob_stream.specs.declared.denial.Denial.{Denial}
+use Rattle.gob_stream.specs.declared.denial.Denial.TheVariants as denial
+use Rattle.gob_stream.specs.Bounds.{Bounds, within_trees}
+use Rattle.gob_stream.specs.Machine.Denial.{IsDenial, write_fault}
+use Rattle.gob_stream.specs.Laws.{AtLeast}
+use Rattle.gob_stream.specs.Item.{StreamItem}
+use Rattle.gob_stream.specs.Stream.{Stream, IsItem}
+use Rattle.gob_stream.specs.WriterRefusal.{RefusesItem}
+use Rattle.gob_stream.specs.Writing.{HasWritten, WritesItem, Leaves, IsUnchanged, SentFront, SendAnswers}
+use Rattle.gob_stream.proofs.Stream.StreamLaws.{one_more}
+use Rattle.gob_stream.proofs.Stream.LawsOfStreams.{wider_counted}
+
+-- what is denied before any byte went out is a fault of the item
+pub denied_writes : (L : Bounds) (w w' : StreamWriter) (items : List StreamItem) (bytes : List ℕ) (T : Table) (i : StreamItem) (out : Option (List ℕ)) (d : Denial)
+    → HasWritten w items bytes T → IsDenial (RefusesItem base_table L (types w.types) w.offset i) d → WritesItem L w w' items bytes T i out out (Err (write_fault d))
+denied_writes L w w' items bytes T i out (denial.Refused r) written refused = rw (← written.table, ← written.offset) refused
+denied_writes L w w' items bytes T i out denial.Memory written refused = tt
+
+-- and leaves all as it was
+pub denied_leaves : (w w' : StreamWriter) (out : Option (List ℕ)) (d : Denial) → IsUnchanged w w' → Leaves w w' out out (Err (write_fault d))
+denied_leaves w w' out (denial.Refused r) same = (same, Keeps-refl out)
+denied_leaves w w' out denial.Memory same = (same, Keeps-refl out)
+
+-- what trees may be written under is no more than the limits
+pub trees_within : (L : Bounds) → AtLeast (within_trees L) L
+trees_within L = record { item = omega arith; depth = omega arith; types = omega arith; stream = omega arith }
+
+-- nor are the limits more than themselves
+pub all_within : (L : Bounds) → AtLeast L L
+all_within L = record { item = omega arith; depth = omega arith; types = omega arith; stream = omega arith }
+
+-- the writer has begun this item, as these limits admit it, whose bytes end with the rest, and has the types behind it
+pub record HasItem (L : Bounds) (w ready : StreamWriter) (rest : List ℕ) (i : StreamItem) (U : Table) : Type 0 where
+  pub limits : ready.limits ≡ w.limits
+  pub offset : ready.offset ≡ w.offset
+  pub most : ready.types.most ≡ w.types.most
+  pub table : types ready.types ≡ U
+  pub within : AtLeast L w.limits
+  pub item : IsItem base_table L (types w.types) w.offset i (ready.item.items ++ rest) U
+
+-- the item's bytes went out, or a front of them
+pub sent_writes : (L : Bounds) (w ready w' : StreamWriter) (rest : List ℕ) (items : List StreamItem) (bytes : List ℕ) (T U : Table) (i : StreamItem) (old new : Option (List ℕ))
+    (r : Result (Unit {0}) WriteFault) → HasWritten w items bytes T → HasItem L w ready rest i U
+    → SendAnswers ready w' (ready.item.items ++ rest) old new r
+    → WritesItem L w w' items bytes T i old new r
+sent_writes L w ready w' rest items bytes T U i old new (Ok u) written has sent =
+    let all = ready.item.items ++ rest in let behind = sent.1 in
+    let here : IsItem base_table L T (length bytes) i all U = rw (← written.table, ← written.offset) has.item in
+    let limits : w'.limits ≡ w.limits = ap (λ x. x.limits) behind ∙ has.limits in
+    record {
+      more = all;
+      table = U;
+      item = here;
+      out = sent.0;
+      limits = limits;
+      written = record {
+        stream = subst (λ M. Stream base_table M (items ++ i ∷ []) (bytes ++ all) U) (sym limits) (one_more written.stream (omega arith) (wider_counted has.within here));
+        table = ap (λ x. types x.types) behind ∙ has.table;
+        room = ap (λ x. x.types.most) behind ∙ has.most ∙ written.room ∙ ap (λ L. L.types) (sym limits);
+        offset = ap (λ x. x.offset) behind ∙ ap (λ o. o + length all) (has.offset ∙ written.offset) ∙ sym (length-append bytes all);
+        sound = ap (λ x. x.failed) behind;
+      };
+    }
+sent_writes L w ready w' rest items bytes T U i old new (Err f) written has sent =
+    let here : IsItem base_table L T (length bytes) i (ready.item.items ++ rest) U = rw (← written.table, ← written.offset) has.item in
+    let front = sent.0 in
+    subst (λ g. WritesItem L w w' items bytes T i old new (Err g)) (sym sent.2)
+    (record { front = front.front; rest = front.rest; table = U; item = subst (λ b. IsItem base_table L T (length bytes) i b U) front.whole here; out = front.out })
+
+-- a front of these bytes is one of more
+pub front_of_more : {a : List ℕ} (b : List ℕ) {old new : Option (List ℕ)} → SentFront a old new → SentFront (a ++ b) old new
+front_of_more b sent = record { front = sent.front; rest = sent.rest ++ b; whole = ap (λ l. l ++ b) sent.whole ∙ append_assoc sent.front sent.rest b; out = sent.out }
+
+-- and a front of what follows them, where they are out
+pub front_behind : (a : List ℕ) {b : List ℕ} {old between new : Option (List ℕ)} → Appends old between a → SentFront b between new → SentFront (a ++ b) old new
+front_behind a out sent = record {
+  front = a ++ sent.front;
+  rest = sent.rest;
+  whole = ap (λ l. a ++ l) sent.whole ∙ sym (append_assoc a sent.front sent.rest);
+  out = Appends-trans _ _ _ _ _ out sent.out;
+}
+
+-- a writer whose send failed writes no more
+pub sent_leaves : (w ready w' : StreamWriter) (bytes : List ℕ) (old new : Option (List ℕ)) (r : Result (Unit {0}) WriteFault) → SendAnswers ready w' bytes old new r → Leaves w w' old new r
+sent_leaves w ready w' bytes old new (Ok u) sent = ap (λ x. x.failed) sent.1
+sent_leaves w ready w' bytes old new (Err f) sent = subst (λ g. Leaves w w' old new (Err g)) (sym sent.2) (ap (λ x. x.failed) sent.1)

@@ -1,0 +1,11 @@
+-- Where a run stands, piece by piece, and what is gathered or kept then. No clause of a public call names these.
+pub mod Gathering
+pub mod Keeping
+pub mod Large
+pub mod Block
+pub mod Blocks
+pub mod Pieces
+pub mod Wanting
+pub mod Receiver
+pub mod Counting
+pub mod Rewritten
