@@ -14,7 +14,7 @@
 
 mod definition_json;
 mod leaf;
-mod parts;
+mod part_types;
 mod tape_json;
 mod text;
 mod value_json;

@@ -13,7 +13,7 @@ ghost use Rattle.gob_types.specs.Defined.{types};
 ghost use Rattle.gob_json.specs.TapeJson.{leaf_json};
 
 use crate::leaf::{write_complex, write_hex, write_opaque, write_pattern, write_text};
-use crate::parts::{element_of, fields_of, key_of, name_at, type_at};
+use crate::part_types::{element_of, fields_of, key_of, name_at, type_at};
 use gob_num::to_signed;
 use gob_tape::{Children, Tape, ValueKind, View};
 use gob_types::{Field, Shapes, Table, TypeId};

@@ -8,7 +8,7 @@ ghost use Rattle.gob_value.specs.View.{view, views, pair_views, field_views};
 ghost use Rattle.gob_json.specs.Json.{value_json, elements_json, pairs_json, fields_json, put_json};
 
 use crate::leaf::{write_complex, write_hex, write_opaque, write_pattern, write_text};
-use crate::parts::{element_of, fields_of, key_of, name_at, type_at};
+use crate::part_types::{element_of, fields_of, key_of, name_at, type_at};
 use gob_types::{Field, Shapes, TypeId};
 use gob_value::Value;
 use json::Writer;

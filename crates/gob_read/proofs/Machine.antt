@@ -7,7 +7,7 @@ pub mod Places
 pub mod Parts
 pub mod Runs
 pub mod Pieces
-pub mod PlainSteps
+pub mod BasicPartSteps
 pub mod Bodies
 pub mod Held
 pub mod Grown

@@ -4,7 +4,7 @@ pub mod Kinds
 pub mod OpenPath
 pub mod Steps
 pub mod Running
-pub mod Plain
+pub mod BasicParts
 pub mod Built
 pub mod Stack
 pub mod Received

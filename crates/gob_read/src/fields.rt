@@ -3,7 +3,7 @@
 ghost use Rattle.std.specs.Prelude.{◌≡◌, ◌+◌, ◌^◌, ◌<◌, ◌≤◌, IfOk, IfErr, OnOk, length};
 ghost use Rattle.gob_read.specs.Event as event;
 ghost use Rattle.gob_read.specs.Building.{MayTakeEvent};
-ghost use Rattle.gob_read.specs.Machine.Plain.{NamesField, CanEndFields, EndsFields};
+ghost use Rattle.gob_read.specs.Machine.BasicParts.{NamesField, CanEndFields, EndsFields};
 ghost use Rattle.gob_read.specs.Machine.Steps.{CanBeginStruct, BeginsStruct, CanGoOn, StepGoesOn, LeadsNowhere, CanTake, StepTakes};
 ghost use Rattle.gob_read.specs.Machine.Steps.{StepRefuses, Blames};
 

@@ -23,27 +23,27 @@
 //!   and weights stand beside it.
 #![tactic(auto)]
 
+mod basic_parts;
 mod builder;
 mod check_builder;
 mod event;
 mod fields;
 mod frame;
+mod frames;
 pub mod laws;
 mod laws_builder;
 mod laws_reader;
 mod next;
-mod open;
 mod part;
-mod plain;
 mod reader;
 mod run;
 mod skip;
 mod skip_builder;
-mod stack;
 mod state;
 mod stop;
 mod tree_builder;
-mod work;
+mod tree_part;
+mod tree_stack;
 
 pub use builder::{Builder, Stores};
 pub use check_builder::{CheckBuilder, Counts};

@@ -8,7 +8,7 @@ ghost use Rattle.gob_types.specs.Table.{Table};
 ghost use Rattle.gob_types.specs.Ready.{IsReady};
 ghost use Rattle.gob_read.specs.Machine.Steps.{CanTake};
 ghost use Rattle.gob_read.specs.Machine.Running.{IsReachedSomewhere, IsOpenSomewhere, TakesMore, Steps, StopsFor};
-ghost use Rattle.gob_read.specs.Machine.Running.{Opens as MayGoOn};
+ghost use Rattle.gob_read.specs.Machine.Running.{MayGoOn};
 ghost use Rattle.gob_read.specs.Machine.Running.{TakesNumber, RefusesNumber, RefusesAt, JudgesFor, EndsFor, RunGoesOn, RunFinishes};
 ghost use Rattle.gob_read.specs.Machine.Running.{RefusesPiece};
 ghost use Rattle.gob_read.specs.Machine.Running.{IsNewRun, IsOpenIn, depth_of, begun_parts};
@@ -16,8 +16,8 @@ ghost use Rattle.gob_read.specs.Reader.{HasReadSoFar};
 ghost use Rattle.gob_read.specs.Held.{IsHeld, counted_of};
 
 use crate::builder::{Builder, Stores};
+use crate::frames::Frames;
 use crate::next::{Next, NextNumber};
-use crate::stack::Opens;
 use crate::state::State;
 use crate::stop::{Denial, Stop};
 use gob_num::{Memory, Number, Step, Taken, take_uint};
@@ -97,7 +97,7 @@ impl<B: Builder> Run<B> {
         Ok(Run {
             state: State {
                 builder,
-                stack: Opens::new(alloc),
+                stack: Frames::new(alloc),
                 expected: Next::Top { id },
             },
             number: Number::new(),

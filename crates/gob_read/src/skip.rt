@@ -2,7 +2,7 @@
 
 ghost use Rattle.std.specs.Prelude.{◌≡◌, ◌+◌, ◌<◌, ◌≤◌, IfOk, IfErr, List, length, take};
 ghost use Rattle.gob_read.specs.Machine.Running.{IsOpenSomewhere, TakesMore, Steps, StopsFor, RefusesAt};
-ghost use Rattle.gob_read.specs.Machine.Plain.{IsInList, IsInMap, StepsPlain};
+ghost use Rattle.gob_read.specs.Machine.BasicParts.{IsInList, IsInMap, StepsBasicParts};
 ghost use Rattle.gob_read.specs.Event.{Event};
 
 use crate::builder::Builder;
@@ -56,7 +56,7 @@ impl<B: Builder> Run<B> {
         requires expected { self.old.state.expected ≡ Next.Number (NextNumber.Part id) }
         requires has_read { IsOpenSomewhere (S.table shapes.now) B.building.received self.old }
         requires room { self.old.taken + length rest.now ≤ self.old.length }
-        ensures { StepsPlain (S.table shapes.now) B.building.received self.old self.new rest.now result }
+        ensures { StepsBasicParts (S.table shapes.now) B.building.received self.old self.new rest.now result }
     {
         if *cut || self.start != self.taken || !self.state.builder.may_skip() {
             return Moved::NONE;
@@ -86,7 +86,7 @@ impl<B: Builder> Run<B> {
         requires has_read { IsOpenSomewhere (S.table shapes.now) B.building.received self.old }
         requires fresh { self.old.start ≡ self.old.taken }
         requires room { self.old.taken + length rest.now ≤ self.old.length }
-        ensures { StepsPlain (S.table shapes.now) B.building.received self.old self.new rest.now result }
+        ensures { StepsBasicParts (S.table shapes.now) B.building.received self.old self.new rest.now result }
     {
         let depth = self.depth - self.state.stack.depth();
         let elements = whole_elements(shapes, elem, left, rest, depth);
@@ -123,7 +123,7 @@ impl<B: Builder> Run<B> {
         requires has_read { IsOpenSomewhere (S.table shapes.now) B.building.received self.old }
         requires fresh { self.old.start ≡ self.old.taken }
         requires room { self.old.taken + length rest.now ≤ self.old.length }
-        ensures { StepsPlain (S.table shapes.now) B.building.received self.old self.new rest.now result }
+        ensures { StepsBasicParts (S.table shapes.now) B.building.received self.old self.new rest.now result }
     {
         let depth = self.depth - self.state.stack.depth();
         let entries = whole_entries(shapes, key, elem, left, rest, depth);

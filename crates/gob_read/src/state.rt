@@ -6,8 +6,8 @@ ghost use Rattle.gob_read.specs.Machine.Steps.{CanTakeTag, IsWrongTag, CanTakeSe
 ghost use Rattle.gob_read.specs.Machine.Kinds.{IsStructType, BeginsAs};
 
 use crate::builder::Builder;
+use crate::frames::Frames;
 use crate::next::{Next, NextNumber};
-use crate::stack::Opens;
 use crate::stop::Denial;
 use gob_num::{Memory, to_pattern};
 use gob_types::{Basic, Kind, Reason, Shapes, TypeId};
@@ -18,7 +18,7 @@ pub(crate) struct State<B: Builder> {
     /// What was told of each part so far.
     pub(crate) builder: B,
     /// The open parts.
-    pub(crate) stack: Opens,
+    pub(crate) stack: Frames,
     /// What comes next.
     pub(crate) expected: Next,
 }

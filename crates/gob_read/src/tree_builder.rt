@@ -6,8 +6,8 @@ ghost use Rattle.gob_read.specs.Leaf.{number_tree};
 
 use crate::builder::{Builder, Stores};
 use crate::event::{GroupKind, RawKind};
-use crate::open::Open;
-use crate::work::Work;
+use crate::tree_part::TreePart;
+use crate::tree_stack::TreeStack;
 use gob_num::{Memory, to_signed};
 use gob_types::Basic;
 use gob_value::Value;
@@ -17,7 +17,7 @@ use std::alloc::Global;
 /// takes no more of the machine's stack than a flat one.
 pub struct TreeBuilder {
     alloc: Global,
-    work: Work,
+    work: TreeStack,
     held: u64,
 }
 
@@ -66,7 +66,7 @@ impl Builder for TreeBuilder {
     fn fresh(alloc: Global) -> Result<Self, Memory> {
         Ok(TreeBuilder {
             alloc,
-            work: Work::new(alloc),
+            work: TreeStack::new(alloc),
             held: 0,
         })
     }
@@ -79,7 +79,7 @@ impl Builder for TreeBuilder {
 
     fn raw_start(&mut self, kind: RawKind) -> Result<(), Memory> {
         self.held += 1;
-        self.work.begin(Open::Raw(kind, Vec::new(self.alloc)))?;
+        self.work.begin(TreePart::Raw(kind, Vec::new(self.alloc)))?;
         Ok(())
     }
 
@@ -91,7 +91,7 @@ impl Builder for TreeBuilder {
 
     fn enter(&mut self, kind: GroupKind) -> Result<(), Memory> {
         self.held += 1;
-        self.work.begin(Open::group(self.alloc, kind))?;
+        self.work.begin(TreePart::group(self.alloc, kind))?;
         Ok(())
     }
 

@@ -1,4 +1,5 @@
 -- The laws that the proofs of other crates cite, in one place; src/laws.rt says each of them. Declares nothing.
+pub use Rattle.gob_stream.proofs.Stream.DescriptionDepth.{FieldsAll, IsFlat, PartsAll, ShapeAll, field_all}
 pub use Rattle.gob_stream.proofs.Stream.OutcomeLaws.{one_front, outcome_once, outcome_refused, outcome_within}
 pub use Rattle.gob_stream.proofs.ReadBackLaws.{read_back}
 pub use Rattle.gob_stream.proofs.Stream.RefusalLaws.{not_counted, one_counted}

@@ -19,8 +19,7 @@ use Rattle.gob_stream.specs.Outcome.{BeginsWithStream, LongestStream, the_end, r
 use Rattle.gob_stream.specs.Machine.HasRead.{Received}
 use Rattle.gob_stream.specs.Reading.{ShowsRefusal, ReadsStream, Feeds, ReadingFinishes}
 use Rattle.gob_stream.specs.Laws.{ItemsGoOn, WrittenWithin, ReadsThese, AreReadBackInPieces}
-use Rattle.gob_stream.proofs.Stream.StreamLaws.{counted_some, more_items, NoNext, gives_items}
-use Rattle.gob_stream.proofs.Stream.LawsOfStreams.{one_reading, begin_one_another, all_of, give_one_list, wider}
+use Rattle.gob_stream.proofs.Stream.StreamLaws.{counted_some, more_items, NoNext, gives_items, one_reading, begin_one_another, all_of, give_one_list, wider}
 use Rattle.gob_stream.proofs.Stream.OutcomeLaws.{outcome_once}
 use Rattle.gob_stream.proofs.Reader.UnderWayLaws.{after_gives}
 use Rattle.gob_stream.proofs.Stream.StayLaws.{shown_there, shown_refusal_stays}

@@ -6,12 +6,10 @@ pub mod UnderWayLaws
 pub mod HasReadLaws
 pub mod HonestLaws
 pub mod CountSteps
-pub mod TypeNumberSteps
 pub mod BodySteps
 pub mod DescriptionSteps
 pub mod ValueSteps
 pub mod DefinitionSteps
-pub mod HasReadSteps
 pub mod SessionSteps
 pub mod WholeSteps
 pub mod ReadStreamSteps

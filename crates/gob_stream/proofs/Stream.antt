@@ -1,6 +1,5 @@
 -- What follows from the definition of a stream and of its refusals.
 pub mod StreamLaws
-pub mod LawsOfStreams
 pub mod RefusalLaws
 pub mod WireLaws
 pub mod DefinableLaws

@@ -2,4 +2,3 @@
 pub mod WritingLaws
 pub mod WriterSteps
 pub mod WriteStreamSteps
-pub mod EndLaws

@@ -16,7 +16,7 @@ use Rattle.gob_value.specs.Top.{IsStruct}
 use Rattle.gob_stream.specs.declared.fault.WriteFault.{WriteFault}
 use Rattle.gob_stream.specs.declared.fault.WriteFault.TheVariants as fault
 use Rattle.gob_stream.specs.declared.fault.WriteStop.{WriteStop}
-use Rattle.gob_stream.specs.declared.writer.StreamWriter.{StreamWriter}
+use Rattle.gob_stream.specs.declared.stream_writer.StreamWriter.{StreamWriter}
 use Rattle.gob_stream.specs.Bounds.{Bounds}
 use Rattle.gob_stream.specs.Devices.{counts_up}
 use Rattle.gob_stream.specs.Item.{StreamItem}

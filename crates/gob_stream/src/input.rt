@@ -19,11 +19,13 @@ pub struct Input<R> {
 }
 
 impl<R> Input<R> {
+    ghost use Rattle.gob_stream.specs.Ends.{bytes_read, failed_reads, reader_of};
+
     /// Over this reader, of which nothing is taken yet.
     pub fn new(reader: R) -> Input<R>
-        ensures reader { result.reader ≡ reader }
-        ensures taken { result.taken ≡ 0 }
-        ensures failures { result.failures ≡ 0 }
+        ensures reader { reader_of result ≡ reader }
+        ensures taken { bytes_read result ≡ 0 }
+        ensures failures { failed_reads result ≡ 0 }
     {
         Input {
             reader,
@@ -34,33 +36,36 @@ impl<R> Input<R> {
 
     /// The reader, as the reads so far left it.
     pub fn into_inner(self) -> R
-        ensures { result ≡ self.reader }
+        ensures { result ≡ reader_of self }
     {
         self.reader
     }
 
     /// How many bytes were read so far. It stays at 2^64-1 once there.
     pub fn taken(&self) -> u64
-        ensures { result ≡ self.now.taken }
+        ensures { result ≡ bytes_read self.now }
     {
         self.taken
     }
 
     /// How many reads failed so far. It stays at 2^64-1 once there.
     pub fn failures(&self) -> u64
-        ensures { result ≡ self.now.failures }
+        ensures { result ≡ failed_reads self.now }
     {
         self.failures
     }
 }
 
 impl<R: Read> Read for Input<R> {
-    ghost remaining = { λ s. R.remaining s.reader };
+    ghost use Rattle.gob_stream.specs.Ends.{bytes_read, failed_reads, reader_of};
+
+    ghost remaining = { λ s. R.remaining (reader_of s) };
 
     fn read(&mut self, buf: &mut [u8]) -> io::Result<usize>
         ensures bound { ReadsAtMost result buf.new }
-        ensures bytes { ReadConsumes (R.remaining self.old.reader) (R.remaining self.new.reader) result buf.new }
-        ensures counted { ReadCounted self.old.taken self.old.failures self.new.taken self.new.failures result }
+        ensures bytes { ReadConsumes (R.remaining (reader_of self.old)) (R.remaining (reader_of self.new)) result buf.new }
+        ensures counted { ReadCounted (bytes_read self.old) (failed_reads self.old) (bytes_read self.new)
+            (failed_reads self.new) result }
     {
         let result = self.reader.read(buf);
         match &result {

@@ -1,11 +1,13 @@
 //! A writer that counts its failed calls.
 
-ghost use Rattle.std.specs.Prelude.{◌≡◌};
+ghost use Rattle.std.specs.Prelude.{◌≡◌, OnOk, OnErr, IfErr};
 ghost use Rattle.gob_stream.specs.Devices.{WriteCounted, FlushCounted, counts_up};
 ghost use Rattle.gob_stream.specs.Ends.{failed_writes, writer_of};
-ghost use Rattle.std.specs.Io.KnownBytes.{WriteAppends, Keeps};
+ghost use Rattle.gob_stream.specs.Writing.{SentFront, CountsWriterFaults};
+ghost use Rattle.std.specs.Io.KnownBytes.{Appends, WriteAppends, Keeps};
 ghost use Rattle.std.specs.Io.{WritesAtMost};
 
+use crate::fault::WriteFault;
 use std::io;
 use std::io::Write;
 
@@ -51,8 +53,28 @@ impl<W> Output<W> {
     }
 }
 
+impl<W: Write> Output<W> {
+    /// Sends all the bytes, in as many writes as the writer wants. It stops at the first write that fails, with
+    /// `Write`; a front of the bytes is then out. A write that was interrupted is one that failed.
+    pub fn send_all(&mut self, bytes: &[u8]) -> Result<(), WriteFault>
+        ensures ok { OnOk result (Appends (W.contents (writer_of self.old)) (W.contents (writer_of self.new)) bytes.now) }
+        ensures front { OnErr result (SentFront bytes.now (W.contents (writer_of self.old)) (W.contents (writer_of self.new))) }
+        ensures fault { IfErr result (λ fault. fault ≡ WriteFault.Write) }
+        ensures counted { CountsWriterFaults (failed_writes self.old) (failed_writes self.new) result }
+    {
+        let mut sent = 0;
+        while sent < bytes.len() {
+            match self.write(&bytes[sent..]) {
+                Ok(n) if n > 0 => sent += n,
+                _ => return Err(WriteFault::Write),
+            }
+        }
+        Ok(())
+    }
+}
+
 impl<W: Write> Write for Output<W> {
-    ghost contents = { λ s. W.contents s.writer };
+    ghost contents = { λ s. W.contents (writer_of s) };
 
     fn write(&mut self, buf: &[u8]) -> io::Result<usize>
         ensures bound { WritesAtMost result buf.now }

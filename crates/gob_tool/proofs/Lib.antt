@@ -2,7 +2,6 @@ pub mod BlockLaws
 pub mod SentLaws
 pub mod PrintLaws
 pub mod WordLaws
-pub mod FrontLaws
 pub mod LinesStay
 pub mod GatherLaws
 pub mod ShowLaws

@@ -9,7 +9,7 @@ use Rattle.gob_types.specs.Defined.{types}
 use Rattle.gob_types.specs.Table.{Table}
 use Rattle.gob_stream.specs.declared.fault.Fault.{Fault}
 use Rattle.gob_stream.specs.Machine.SessionState.{SessionState}
-use Rattle.gob_stream.specs.declared.writer.StreamWriter.{StreamWriter}
+use Rattle.gob_stream.specs.declared.stream_writer.StreamWriter.{StreamWriter}
 use Rattle.gob_stream.specs.Bounds.{Bounds, AreLimits, deepest, no_deeper}
 use Rattle.gob_stream.specs.Outcome.{LongestStream}
 use Rattle.gob_stream.specs.Reading.{SomeTaken}

@@ -16,7 +16,7 @@ use Rattle.gob_stream.specs.declared.fault.Fault.TheVariants as reading
 use Rattle.gob_stream.specs.declared.fault.Refusal.{Refusal}
 use Rattle.gob_stream.specs.declared.item.Item as declared
 use Rattle.gob_stream.specs.Machine.SessionState.{SessionState}
-use Rattle.gob_stream.specs.declared.writer.StreamWriter.{StreamWriter}
+use Rattle.gob_stream.specs.declared.stream_writer.StreamWriter.{StreamWriter}
 use Rattle.gob_stream.specs.Bounds.{Bounds, AreLimits, deepest, no_deeper}
 use Rattle.gob_stream.specs.Item.{StreamItem, ItemMeans}
 use Rattle.gob_stream.specs.Outcome.{BeginsWithStream, Outcome, refused}

@@ -29,7 +29,7 @@ use Rattle.gob_stream.specs.Body.{Body, definition, value}
 use Rattle.gob_stream.specs.Bounds.{Bounds, deepest, no_deeper}
 use Rattle.gob_stream.specs.Item.{StreamItem}
 use Rattle.gob_stream.specs.Stream.{IsItem, counted}
-use Rattle.gob_stream.proofs.PublicLaws.{wire_ready}
+use Rattle.gob_stream.proofs.PublicLaws.{FieldsAll, IsFlat, PartsAll, ShapeAll, field_all, wire_ready}
 use Rattle.gob_tool.specs.Rewriting.{content, content_type, with_content}
 use Rattle.gob_tool.specs.Machine.Rewritten.{bounds_for}
 
@@ -68,32 +68,6 @@ tidies_back {T = T} {t = t} {v = v} s q p =
     subst (λ (x : Tree). Tidies T t v x) (one_tidy (tidies_on s f.tidies) p) f.tidies
 
 -- ---- types whose values are no deeper than a number
-abbrev FieldsAll : (TypeId → Type 0) → List Field → Type 0
-FieldsAll P [] = Unit {0}
-FieldsAll P (f ∷ fs) = P f.id × FieldsAll P fs
-
-abbrev PartsAll : (TypeId → Type 0) → Kind → Type 0
-PartsAll P (kind.Basic b) = Unit {0}
-PartsAll P (kind.Array e n) = P e
-PartsAll P (kind.Slice e) = P e
-PartsAll P (kind.Struct fs) = FieldsAll P fs
-PartsAll P (kind.Map k e) = P k × P e
-PartsAll P (kind.Opaque m) = Unit {0}
-
-abbrev ShapeAll : (TypeId → Type 0) → Option Shape → Type 0
-ShapeAll P None = ⊥
-ShapeAll P (Some s) = PartsAll P s.kind
-
-abbrev IsFlat : Table → ℕ → TypeId → Type 0
-IsFlat T zero t = ⊥
-IsFlat T (suc n) t = ShapeAll (IsFlat T n) (shape_of T t)
-
-field_all : (P : TypeId → Type 0) (fs : List Field) (n : ℕ) {f : Field} → FieldsAll P fs → slice_get fs n ≡ Some f
-    → P f.id
-field_all P [] n all at = absurd (cc at)
-field_all P (g ∷ fs) zero all at = subst (λ (h : Field). P h.id) (some_injective at) all.0
-field_all P (g ∷ fs) (suc n) all at = field_all P fs n all.1 at
-
 mutual
   flat : {T : Table} {t : TypeId} {v : Tree} {b : List ℕ} (n : ℕ) → IsFlat T n t → Spells T t v b → depth v ≤ n
   flat zero none p = absurd none

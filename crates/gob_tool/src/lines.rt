@@ -141,12 +141,8 @@ pub(crate) fn write_whole<W: Write>(bytes: &[u8], output: &mut Output<W>) -> Res
     ensures written { Writes (W.contents (writer_of output.old)) (W.contents (writer_of output.new)) bytes.now result }
     ensures counted { CountsWrites (failed_writes output.old) (failed_writes output.new) result }
 {
-    let mut rest = bytes;
-    while !rest.is_empty() {
-        match output.write(rest) {
-            Ok(count) if count > 0 => rest = &rest[count..],
-            _ => return Err(ToolFault::Write),
-        }
+    match output.send_all(bytes) {
+        Ok(()) => Ok(()),
+        Err(_) => Err(ToolFault::Write),
     }
-    Ok(())
 }

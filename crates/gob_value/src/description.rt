@@ -1,220 +1,143 @@
-//! The shape that a description gives.
+//! The description of a shape.
 
-ghost use Rattle.std.specs.Prelude.{◌≡◌, ◌↔◌, ◌<◌, pos, IsTrue, IfOk, IfErr};
-ghost use Rattle.std.specs.Prelude.{MatchOption, MatchResult};
+ghost use Rattle.std.specs.Prelude.{◌≡◌, ◌^◌, ◌<◌, ◌≤◌, IfOk, OnOk, pos};
+ghost use Rattle.gob_types.specs.declared.id.TypeId.{TypeId};
 ghost use Rattle.gob_types.specs.Base.{base_table, wire_type};
-ghost use Rattle.gob_types.specs.Definable.{IsDefinable};
+ghost use Rattle.gob_types.specs.Definable.{IsDefinable, IsReference, greatest_length};
+ghost use Rattle.gob_types.specs.Ready.{HasFieldOf};
+ghost use Rattle.gob_value.specs.Tree.{int, fields};
 ghost use Rattle.gob_value.specs.View.{view, views, field_views};
-ghost use Rattle.gob_value.specs.Fits.{Fits};
-ghost use Rattle.gob_value.specs.Description.{said, said_fields, said_struct, Describes};
-ghost use Rattle.gob_value.specs.Description.{present_field, number_in, name_in};
-ghost use Rattle.gob_value.specs.Description.{RefersTo, IsBadReference, GivesFields, GivesKind};
-ghost use Rattle.gob_value.specs.Machine.Saying.{kind_said, what_said, wire_number, IsTypeNumber, HaveTypes};
-ghost use Rattle.gob_value.specs.ShapeFaults.{IsShapeFault, IsKindFault};
+ghost use Rattle.gob_value.specs.Described.{described, described_kind, wire_type_of};
+ghost use Rattle.gob_value.specs.Described.{name_and_id, field_types};
+ghost use Rattle.gob_value.specs.DescriptionLaws.{IsCountedName, AreCounted, HasCountedFields};
+ghost use Rattle.gob_value.specs.Within.{FitsWithin};
 
-use crate::fault::ShapeFault;
-use crate::parts::{fields_within, list_of, number_of, struct_of, text_of};
 use crate::value::Value;
 use gob_num::Memory;
 use gob_types::{Field, Fields, Kind, Marshal, Name, Shape, TypeId};
 use std::alloc::Global;
 
-// The field of wireType that is present. It tells the kind.
-#[derive(Clone, Copy)]
-enum WireField {
-    ArrayT,
-    SliceT,
-    StructT,
-    MapT,
-    GobEncoderT,
-    BinaryMarshalerT,
-    TextMarshalerT,
+/// The description of a shape that a description can give, for the type of this id: CommonType, Id, Elem and
+/// Key always, Name, Len and Field only where they aren't empty or 0. No definition is of an id from 2^63
+/// on; it is described as 2^63-1. (Go's encoding/gob documentation, Encoding Details, on wireType.)
+pub fn describe(alloc: Global, id: TypeId, shape: &Shape) -> Result<Value, Memory>
+    requires { IsDefinable shape.now }
+    ensures described { IfOk result (λ value. id.0 < 2 ^ 63 → view value ≡ described id shape.now) }
+    ensures fits { IfOk result (λ value. id.0 < 2 ^ 63 → FitsWithin base_table wire_type 5 (view value)) }
+{
+    let common = name_and_id(alloc, &shape.name, id)?;
+    match &shape.kind {
+        Kind::Array { elem, len } => array_type(alloc, common, *elem, *len),
+        Kind::Slice { elem } => slice_type(alloc, common, *elem),
+        Kind::Struct { fields } => struct_type(alloc, common, fields),
+        Kind::Map { key, elem } => map_type(alloc, common, *key, *elem),
+        Kind::Opaque(marshal) => opaque_type(alloc, common, *marshal),
+        Kind::Basic(_) => unreachable!(),
+    }
 }
 
-/// The shape that a value of type 16 gives, as the definition of the type of this id. `KindCount`, `WrongId`,
-/// `BadReference` and `BadLength` tell the first of the four demands that it doesn't meet; `Memory` comes
-/// only where it meets them all. (Go's encoding/gob documentation, Encoding Details, on wireType.)
-pub fn shape_from(alloc: Global, id: TypeId, described: &Value) -> Result<Shape, ShapeFault>
-    requires { Fits base_table wire_type (view described.now) }
-    ensures shape { IfOk result (λ shape. Describes id (view described.now) shape) }
-    ensures definable { IfOk result IsDefinable }
-    ensures fault { IfErr result (λ fault. IsShapeFault id (view described.now) fault) }
+// The arrayType, in its wireType, with this CommonType.
+fn array_type(alloc: Global, common: Value, elem: TypeId, len: u64) -> Result<Value, Memory>
+    requires elem { IsReference elem }
+    requires len { len ≤ greatest_length }
+    ensures { IfOk result (λ value. view value ≡ described_kind (view common) (Kind.Array elem len)) }
 {
-    let Some((wire, fields)) = wire_field(described) else {
-        return Err(ShapeFault::KindCount);
+    let mut given = vec![in alloc; (0, common), (1, number(elem.0))]?;
+    if len != 0 {
+        given.push((2, number(len)))?;
+    }
+    wire_type(alloc, 0, given)
+}
+
+// The sliceType, in its wireType, with this CommonType.
+fn slice_type(alloc: Global, common: Value, elem: TypeId) -> Result<Value, Memory>
+    requires { IsReference elem }
+    ensures { IfOk result (λ value. view value ≡ described_kind (view common) (Kind.Slice elem)) }
+{
+    let given = vec![in alloc; (0, common), (1, number(elem.0))]?;
+    wire_type(alloc, 1, given)
+}
+
+// The structType, in its wireType, with this CommonType.
+fn struct_type(alloc: Global, common: Value, fields: &Fields) -> Result<Value, Memory>
+    requires { (u : TypeId) → HasFieldOf fields.now u → IsReference u }
+    ensures described { IfOk result
+        (λ value. view value ≡ described_kind (view common) (Kind.Struct fields.now)) }
+    ensures counted { OnOk result (HasCountedFields (Kind.Struct fields.now)) }
+{
+    let mut given = vec![in alloc; (0, common)]?;
+    let fields = fields.as_slice();
+    if !fields.is_empty() {
+        given.push((1, Value::Many(field_types(alloc, fields)?)))?;
+    }
+    wire_type(alloc, 2, given)
+}
+
+// The mapType, in its wireType, with this CommonType.
+fn map_type(alloc: Global, common: Value, key: TypeId, elem: TypeId) -> Result<Value, Memory>
+    requires key { IsReference key }
+    requires elem { IsReference elem }
+    ensures { IfOk result (λ value. view value ≡ described_kind (view common) (Kind.Map key elem)) }
+{
+    let given = vec![in alloc; (0, common), (1, number(key.0)), (2, number(elem.0))]?;
+    wire_type(alloc, 3, given)
+}
+
+// The type of an opaque type, in its wireType, with this CommonType.
+fn opaque_type(alloc: Global, common: Value, marshal: Marshal) -> Result<Value, Memory>
+    ensures { IfOk result (λ value. view value ≡ described_kind (view common) (Kind.Opaque marshal)) }
+{
+    let field = match marshal {
+        Marshal::Gob => 4,
+        Marshal::Binary => 5,
+        Marshal::Text => 6,
     };
-    let common = struct_of(fields, 0);
-    if !is_id(number_of(common, 1), id) {
-        return Err(ShapeFault::WrongId);
+    let given = vec![in alloc; (0, common)]?;
+    wire_type(alloc, field, given)
+}
+
+// The fieldType of each field.
+fn field_types(alloc: Global, fields: &[Field]) -> Result<Vec<Value>, Memory>
+    requires { (u : TypeId) → HasFieldOf fields.now u → IsReference u }
+    ensures described { IfOk result (λ types. views types.items ≡ field_types fields.now) }
+    ensures counted { OnOk result (AreCounted fields.now) }
+{
+    let mut types = Vec::new(alloc);
+    for field in fields {
+        types.push(name_and_id(alloc, &field.name, field.id)?)?;
     }
-    let kind = kind_from(alloc, wire, fields)?;
-    let name = name_from(alloc, text_of(common, 0))?;
-    Ok(Shape { name, kind })
+    Ok(types)
 }
 
-// The one field of wireType that is present, and the fields of the struct in it.
-fn wire_field(described: &Value) -> Option<(WireField, &[(u64, Value)])>
-    ensures { MatchOption result (said (view described.now) ≡ None)
-        (λ given. said (view described.now) ≡ Some (what_said given.0 (field_views given.1.now))) }
+// A wireType of which this field is present: a struct with the given fields.
+fn wire_type(alloc: Global, field: u64, given: Vec<(u64, Value)>) -> Result<Value, Memory>
+    ensures { IfOk result (λ value. view value ≡ wire_type_of field (field_views given.items)) }
 {
-    let fields = fields_within(described);
-    if fields.len() != 1 {
-        return None;
+    let wire = vec![in alloc; (field, Value::Fields(given))]?;
+    Ok(Value::Fields(wire))
+}
+
+// A CommonType or a fieldType.
+fn name_and_id(alloc: Global, name: &Name, id: TypeId) -> Result<Value, Memory>
+    ensures described { IfOk result
+        (λ value. id.0 < 2 ^ 63 → view value ≡ fields (name_and_id name.now id)) }
+    ensures counted { OnOk result (IsCountedName name.now) }
+{
+    let text = name.as_bytes();
+    let mut given = Vec::new(alloc);
+    if !text.is_empty() {
+        given.push((0, Value::Str(text.to_vec(alloc)?)))?;
     }
-    let (number, given) = &fields[0];
-    let wire = wire_field_of(*number)?;
-    Some((wire, fields_within(given)))
+    given.push((1, number(id.0)))?;
+    Ok(Value::Fields(given))
 }
 
-// The field of wireType of this number.
-fn wire_field_of(number: u64) -> Option<WireField>
-    ensures { MatchOption result (6 < number) (λ wire. number ≡ wire_number wire) }
+// A signed number, which is 2^63-1 where it would be greater.
+fn number(n: u64) -> Value
+    ensures { n < 2 ^ 63 → view result ≡ int (pos n) }
 {
-    match number {
-        0 => Some(WireField::ArrayT),
-        1 => Some(WireField::SliceT),
-        2 => Some(WireField::StructT),
-        3 => Some(WireField::MapT),
-        4 => Some(WireField::GobEncoderT),
-        5 => Some(WireField::BinaryMarshalerT),
-        6 => Some(WireField::TextMarshalerT),
-        _ => None,
-    }
+    Value::Int(n.min(GREATEST) as i64)
 }
 
-// Whether the number is this id.
-fn is_id(number: i64, id: TypeId) -> bool
-    ensures { IsTrue result ↔ (number ≡ pos id.0) }
-{
-    number >= 0 && number as u64 == id.0
-}
-
-// The kind that the fields of the struct in this field of wireType give.
-fn kind_from(alloc: Global, wire: WireField, fields: &[(u64, Value)]) -> Result<Kind, ShapeFault>
-    ensures kind { IfOk result (λ kind. GivesKind (kind_said wire (field_views fields.now)) kind) }
-    ensures fault { IfErr result (λ fault. IsKindFault (kind_said wire (field_views fields.now)) fault) }
-{
-    match wire {
-        WireField::ArrayT => array_from(fields),
-        WireField::SliceT => slice_from(fields),
-        WireField::StructT => struct_from(alloc, list_of(fields, 1)),
-        WireField::MapT => map_from(fields),
-        WireField::GobEncoderT => Ok(Kind::Opaque(Marshal::Gob)),
-        WireField::BinaryMarshalerT => Ok(Kind::Opaque(Marshal::Binary)),
-        WireField::TextMarshalerT => Ok(Kind::Opaque(Marshal::Text)),
-    }
-}
-
-// The array of an arrayType.
-fn array_from(fields: &[(u64, Value)]) -> Result<Kind, ShapeFault>
-    ensures kind { IfOk result
-        (λ kind. GivesKind (kind_said WireField.ArrayT (field_views fields.now)) kind) }
-    ensures fault { IfErr result
-        (λ fault. IsKindFault (kind_said WireField.ArrayT (field_views fields.now)) fault) }
-{
-    let elem = reference(number_of(fields, 1))?;
-    let len = number_of(fields, 2);
-    if len < 0 {
-        return Err(ShapeFault::BadLength);
-    }
-    Ok(Kind::Array {
-        elem,
-        len: len as u64,
-    })
-}
-
-// The slice of a sliceType.
-fn slice_from(fields: &[(u64, Value)]) -> Result<Kind, ShapeFault>
-    ensures kind { IfOk result
-        (λ kind. GivesKind (kind_said WireField.SliceT (field_views fields.now)) kind) }
-    ensures fault { IfErr result
-        (λ fault. IsKindFault (kind_said WireField.SliceT (field_views fields.now)) fault) }
-{
-    let elem = reference(number_of(fields, 1))?;
-    Ok(Kind::Slice { elem })
-}
-
-// The map of a mapType.
-fn map_from(fields: &[(u64, Value)]) -> Result<Kind, ShapeFault>
-    ensures kind { IfOk result (λ kind. GivesKind (kind_said WireField.MapT (field_views fields.now)) kind) }
-    ensures fault { IfErr result
-        (λ fault. IsKindFault (kind_said WireField.MapT (field_views fields.now)) fault) }
-{
-    let key = reference(number_of(fields, 1))?;
-    let elem = reference(number_of(fields, 2))?;
-    Ok(Kind::Map { key, elem })
-}
-
-// The struct of these fieldTypes. Each is judged before memory is taken for any.
-fn struct_from(alloc: Global, field_types: &[Value]) -> Result<Kind, ShapeFault>
-    ensures kind { IfOk result (λ kind. GivesKind (said_struct (said_fields (views field_types.now))) kind) }
-    ensures fault { IfErr result
-        (λ fault. IsKindFault (said_struct (said_fields (views field_types.now))) fault) }
-{
-    if !have_types(field_types) {
-        return Err(ShapeFault::BadReference);
-    }
-    let fields = fields_from(alloc, field_types)?;
-    Ok(Kind::Struct { fields })
-}
-
-// Whether the Id of each fieldType refers to a type.
-fn have_types(field_types: &[Value]) -> bool
-    ensures { IsTrue result ↔ HaveTypes (said_fields (views field_types.now)) }
-{
-    for field_type in field_types {
-        if !refers(number_of(fields_within(field_type), 1)) {
-            return false;
-        }
-    }
-    true
-}
-
-// The fields that these fieldTypes give.
-fn fields_from(alloc: Global, field_types: &[Value]) -> Result<Fields, Memory>
-    requires { HaveTypes (said_fields (views field_types.now)) }
-    ensures { IfOk result (λ fields. GivesFields (said_fields (views field_types.now)) fields) }
-{
-    let mut items = Vec::new(alloc);
-    for field_type in field_types {
-        items.push(field_from(alloc, fields_within(field_type))?)?;
-    }
-    Ok(Fields::new(items))
-}
-
-// The field that the fields of a fieldType give.
-fn field_from(alloc: Global, fields: &[(u64, Value)]) -> Result<Field, Memory>
-    requires { IsTypeNumber (number_in (present_field 1 (field_views fields.now))) }
-    ensures name { IfOk result (λ field. field.name ≡ name_in (present_field 0 (field_views fields.now))) }
-    ensures id { IfOk result (λ field. RefersTo (number_in (present_field 1 (field_views fields.now))) field.id) }
-{
-    let name = name_from(alloc, text_of(fields, 0))?;
-    let id = TypeId(number_of(fields, 1).unsigned_abs());
-    Ok(Field { name, id })
-}
-
-// The type that the number refers to.
-fn reference(number: i64) -> Result<TypeId, ShapeFault>
-    ensures { MatchResult result (RefersTo number)
-        (λ fault. (fault ≡ ShapeFault.BadReference) × IsBadReference number) }
-{
-    if refers(number) {
-        Ok(TypeId(number.unsigned_abs()))
-    } else {
-        Err(ShapeFault::BadReference)
-    }
-}
-
-// Whether the number refers to a type.
-fn refers(number: i64) -> bool
-    ensures { IsTrue result ↔ IsTypeNumber number }
-{
-    number >= 0 && TypeId(number as u64).is_reference()
-}
-
-// A name of its own.
-fn name_from(alloc: Global, text: &[u8]) -> Result<Name, Memory>
-    ensures { IfOk result (λ name. name ≡ text.now) }
-{
-    Ok(Name::new(text.to_vec(alloc)?))
-}
+// The greatest signed number.
+const GREATEST: u64 = 9223372036854775807;

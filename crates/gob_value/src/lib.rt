@@ -29,8 +29,9 @@
 #![tactic(auto)]
 
 mod depth;
-mod describing;
+mod described_shape;
 mod description;
+mod description_fields;
 mod fault;
 mod fitting;
 mod laws;
@@ -38,16 +39,15 @@ mod laws_description;
 mod laws_tidy;
 mod leaf;
 mod number;
-mod parts;
 mod spelling;
 mod tidying;
 mod value;
+mod value_bytes;
 mod whole;
 mod whole_parts;
-mod writing;
 
-pub use describing::describe;
-pub use description::shape_from;
+pub use described_shape::shape_from;
+pub use description::describe;
 pub use fault::{Misfit, ShapeFault, SpellFault};
 pub use fitting::fits;
 pub use laws::{

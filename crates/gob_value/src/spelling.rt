@@ -10,7 +10,7 @@ ghost use Rattle.gob_value.specs.Faults.{IsSpellFault};
 use crate::fault::SpellFault;
 use crate::fitting::fits;
 use crate::value::Value;
-use crate::writing::write_value;
+use crate::value_bytes::write_value;
 use gob_types::{Shapes, TypeId};
 use std::alloc::Global;
 

@@ -4,7 +4,7 @@ use Rattle.gob_types.specs.declared.id.TypeId.{TypeId}
 use Rattle.gob_types.specs.Table.{Table}
 use Rattle.gob_read.specs.Viable.{IsViable}
 use Rattle.gob_read.specs.Event.{Event}
-use Rattle.gob_read.specs.Machine.Running.{IsReached, IsReachedSomewhere, IsOpenSomewhere, IsFinished, TakesMore, Steps, StopsFor, RefusesAt, Opens, JudgesFor, EndsFor, RunGoesOn, RunFinishes, RefusesPiece}
+use Rattle.gob_read.specs.Machine.Running.{IsReached, IsReachedSomewhere, IsOpenSomewhere, IsFinished, TakesMore, Steps, StopsFor, RefusesAt, MayGoOn, JudgesFor, EndsFor, RunGoesOn, RunFinishes, RefusesPiece}
 use Rattle.gob_read.specs.declared.stop.Stop.{Stop}
 use Rattle.gob_read.specs.declared.stop.Stop.TheVariants as stops
 use Rattle.gob_read.specs.declared.run.Run.{Run}
@@ -64,7 +64,7 @@ pub steps_on : {T : Table} {X O : Type 0} {received : X → List Event → Type 
     → whole ≡ whole' → StepsOn T received mid new rest count whole'
 steps_on {T = T} {received = received} {mid = mid} {new = new} {rest = rest} {count = count} u m s e = record { some = u.0; few = u.1; more = m; steps = subst (Steps T received mid new (take count rest)) e s }
 
-pub come_on : {T : Table} {X O : Type 0} {received : X → List Event → Type 0} {old mid new : Run X O} {piece : List ℕ} {used count step : ℕ} → HasCome T received old mid piece used count → Opens T received mid
+pub come_on : {T : Table} {X O : Type 0} {received : X → List Event → Type 0} {old mid new : Run X O} {piece : List ℕ} {used count step : ℕ} → HasCome T received old mid piece used count → MayGoOn T received mid
     → StepsOn T received mid new (take (length piece - used) (drop used piece)) step false → HasCome T received old new piece (used + step) (count + 1)
 come_on {T = T} {received = received} {old = old} {new = new} {piece = piece} {used = used} {step = step} h o s =
     let w = h.within in let n = s.few in let j = s.some in let i = h.onward in
@@ -82,7 +82,7 @@ pub record HasEnded (T : Table) {X O : Type 0} (received : X → List Event → 
   pub more : TakesMore old new used
   pub finished : (t : TypeId) (z : List ℕ) → IsReached T t received old z → IsFinished T t received new (z ++ take used piece)
 
-pub come_end : {T : Table} {X O : Type 0} {received : X → List Event → Type 0} {old mid new : Run X O} {piece : List ℕ} {used count step : ℕ} → HasCome T received old mid piece used count → Opens T received mid
+pub come_end : {T : Table} {X O : Type 0} {received : X → List Event → Type 0} {old mid new : Run X O} {piece : List ℕ} {used count step : ℕ} → HasCome T received old mid piece used count → MayGoOn T received mid
     → StepsOn T received mid new (take (length piece - used) (drop used piece)) step true → HasEnded T received old new piece (used + step)
 come_end {T = T} {received = received} {old = old} {new = new} {piece = piece} {used = used} {step = step} h o s =
     let w = h.within in let n = s.few in
@@ -94,11 +94,11 @@ come_end {T = T} {received = received} {old = old} {new = new} {piece = piece} {
     }
 
 -- more may be taken there
-pub come_open : {T : Table} {X O : Type 0} {received : X → List Event → Type 0} {old mid : Run X O} {piece : List ℕ} {used count : ℕ} → IsReachedSomewhere T received old → HasCome T received old mid piece used count → Opens T received mid → IsOpenSomewhere T received mid
+pub come_open : {T : Table} {X O : Type 0} {received : X → List Event → Type 0} {old mid : Run X O} {piece : List ℕ} {used count : ℕ} → IsReachedSomewhere T received old → HasCome T received old mid piece used count → MayGoOn T received mid → IsOpenSomewhere T received mid
 come_open w h o = record { type = w.type; bytes = _; open_ = o.each w.type _ (h.reached w.type w.bytes w.reached) }
 
 -- the whole piece was taken
-pub come_all : {T : Table} {X O : Type 0} {received : X → List Event → Type 0} {old new : Run X O} {piece : List ℕ} {used count : ℕ} → HasCome T received old new piece used count → Opens T received new → length piece ≤ used → RunGoesOn T received old new piece
+pub come_all : {T : Table} {X O : Type 0} {received : X → List Event → Type 0} {old new : Run X O} {piece : List ℕ} {used count : ℕ} → HasCome T received old new piece used count → MayGoOn T received new → length piece ≤ used → RunGoesOn T received old new piece
 come_all {T = T} {received = received} {old = old} {new = new} {piece = piece} {used = used} h o l = record { reached = reached; viable = viable }
   where
     reached : (t : TypeId) (z : List ℕ) → IsReached T t received old z → IsReached T t received new (z ++ piece)
@@ -124,7 +124,7 @@ judge_stops T received old new {piece = piece} {used = used} (stops.Refused p s 
 judge_stops T received old new stops.Memory h l k = k
 judge_stops T received old new stops.Failed h l k = k
 
-pub step_stops : (T : Table) {X O : Type 0} (received : X → List Event → Type 0) (old mid : Run X O) {piece : List ℕ} {used count : ℕ} (stop : Stop) → HasCome T received old mid piece used count → Opens T received mid
+pub step_stops : (T : Table) {X O : Type 0} (received : X → List Event → Type 0) (old mid : Run X O) {piece : List ℕ} {used count : ℕ} (stop : Stop) → HasCome T received old mid piece used count → MayGoOn T received mid
     → StopsFor (λ refusal. RefusesAt T received mid (take (length piece - used) (drop used piece)) refusal) stop → StopsFor (λ refusal. RefusesPiece T received old piece refusal) stop
 step_stops T received old mid {piece = piece} {used = used} (stops.Refused p s r) h o k = record {
   each = λ t z i.

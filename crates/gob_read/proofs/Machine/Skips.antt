@@ -16,7 +16,7 @@ use Rattle.gob_read.specs.Event.{Event, HasRawEvents, no_bytes, more_bytes, HasE
 use Rattle.gob_read.specs.Machine.OpenPath.{OpenPath, at_once, behind_tag as behind_tag', in_list, at_key, at_value, in_field, AtNext, at_part}
 use Rattle.gob_read.specs.Machine.Steps.{IsPlaced}
 use Rattle.gob_read.specs.Machine.Running.{IsOpenRun, IsOpenSomewhere, IsStepped, TakesMore, Steps}
-use Rattle.gob_read.specs.Machine.Plain.{IsInList, IsInMap, StepsPlain, stepped_over}
+use Rattle.gob_read.specs.Machine.BasicParts.{IsInList, IsInMap, StepsBasicParts, stepped_over}
 use Rattle.gob_read.specs.declared.frame.Frame.{Frame}
 use Rattle.gob_read.specs.declared.frame.Frame.TheVariants as frame
 use Rattle.gob_read.specs.declared.next.Next.TheVariants.{Number}
@@ -34,7 +34,7 @@ use Rattle.gob_read.proofs.Machine.Places.{within_inside}
 use Rattle.gob_read.proofs.Machine.Moves.{part_whole, next_element, key_read, next_pair}
 use Rattle.gob_read.proofs.Machine.ItemSteps.{placed_begun}
 use Rattle.gob_read.proofs.Machine.Runs.{size, settled_stepped, fresh_is, below_some}
-use Rattle.gob_read.proofs.Machine.PlainSteps.{Moves, moves_more, head_is, part_deep}
+use Rattle.gob_read.proofs.Machine.BasicPartSteps.{Moves, moves_more, head_is, part_deep}
 
 -- ---- each value has events
 raw_told_at_once : (s : List ℕ) → (us : List Event) × HasRawEvents s us
@@ -171,7 +171,7 @@ module _ {T : Table} {X O : Type 0} {received : X → List Event → Type 0} {ol
 -- elements that stand whole in the piece
 pub elements_skipped : {T : Table} {X O : Type 0} {received : X → List Event → Type 0} {old new : Run X O} {e : TypeId} {left count limit used : ℕ} {s : Moved} (rest : List ℕ) → old.state.expected ≡ Number (Part e) → IsInList e left old.state.stack
     → new.state.stack ≡ frame.Many e (left - count) ∷ drop 1 old.state.stack → new.state.expected ≡ old.state.expected → ((us : List Event) → received new.state.builder us) → IsOpenSomewhere T received old → old.start ≡ old.taken → Moves old new used
-    → count ≤ left → limit ≡ old.depth - length old.state.stack → HasElements T e limit count rest used → 0 < used → s.used ≡ used → s.whole ≡ false → StepsPlain T received old new rest s
+    → count ≤ left → limit ≡ old.depth - length old.state.stack → HasElements T e limit count rest used → 0 < used → s.used ≡ used → s.whole ≡ false → StepsBasicParts T received old new rest s
 elements_skipped {T = T} {received = received} {old = old} {new = new} {e = e} {left = left} {count = count} {used = used} {s = s} rest a i k b untold o fresh m l d h some p w =
     let deep = part_deep a o in
     let few = h.inside in
@@ -187,7 +187,7 @@ elements_skipped {T = T} {received = received} {old = old} {new = new} {e = e} {
 -- entries that stand whole
 pub entries_skipped : {T : Table} {X O : Type 0} {received : X → List Event → Type 0} {old new : Run X O} {k e : TypeId} {left count limit used : ℕ} {s : Moved} (rest : List ℕ) → old.state.expected ≡ Number (Part k) → IsInMap k e left old.state.stack
     → new.state.stack ≡ frame.Key k e (left - count) ∷ drop 1 old.state.stack → new.state.expected ≡ old.state.expected → ((us : List Event) → received new.state.builder us) → IsOpenSomewhere T received old → old.start ≡ old.taken → Moves old new used
-    → count ≤ left → limit ≡ old.depth - length old.state.stack → HasEntries T k e limit count rest used → 0 < used → s.used ≡ used → s.whole ≡ false → StepsPlain T received old new rest s
+    → count ≤ left → limit ≡ old.depth - length old.state.stack → HasEntries T k e limit count rest used → 0 < used → s.used ≡ used → s.whole ≡ false → StepsBasicParts T received old new rest s
 entries_skipped {T = T} {received = received} {old = old} {new = new} {k = key} {e = e} {left = left} {count = count} {used = used} {s = s} rest a i k b untold o fresh m l d h some p w =
     let deep = part_deep a o in
     let few = h.inside in

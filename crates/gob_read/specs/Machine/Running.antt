@@ -132,7 +132,7 @@ pub record RefusesNumber (T : Table) {X O : Type 0} (received : X → List Event
   pub seen_is : refusal.seen ≡ run.taken
 
 -- the reader may take more
-pub record Opens (T : Table) {X O : Type 0} (received : X → List Event → Type 0) (run : Run X O) : Type 0 where
+pub record MayGoOn (T : Table) {X O : Type 0} (received : X → List Event → Type 0) (run : Run X O) : Type 0 where
   pub each : (t : TypeId) (z : List ℕ) → IsReached T t received run z → IsOpenRun T t received run z
 
 -- where it stands, this is the refusal that is given, whatever follows within the body

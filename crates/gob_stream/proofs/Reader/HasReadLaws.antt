@@ -1,8 +1,8 @@
 -- What a session has read, for its caller.
-use Rattle.std.proofs.Common.{◌≡◌, ℕ, ◌+◌, ◌≤◌, min, List, [], length, arith, sym, ap, ◌∙◌, subst, length-append}
+use Rattle.std.proofs.Common.{◌≡◌, ℕ, ◌+◌, ◌≤◌, min, List, [], length, arith, sym, ap, ◌∙◌, subst, length-append, refl}
 use Rattle.std.proofs.lemmas.List.{append-nil}
 use Rattle.gob_types.specs.Base.{base_table}
-use Rattle.gob_types.specs.Defined.{types}
+use Rattle.gob_types.specs.Defined.{types, Defined}
 use Rattle.gob_types.specs.Table.{Table}
 use Rattle.gob_read.specs.Building.{Building}
 use Rattle.gob_read.specs.declared.tree_builder.TreeBuilder.{TreeBuilder}
@@ -13,12 +13,32 @@ use Rattle.gob_stream.specs.Item.{StreamItem}
 use Rattle.gob_stream.specs.Laws.{GivesWhatItRead}
 use Rattle.gob_stream.specs.Outcome.{RefusesNext}
 use Rattle.gob_stream.specs.Reading.{ShowsRefusal, HasTypesBehind}
-use Rattle.gob_stream.specs.Machine.HasRead.{Received, SessionHasRead}
+use Rattle.gob_stream.specs.Machine.HasRead.{Received, SessionHasRead, StageHasRead, in_count}
 use Rattle.gob_stream.proofs.Reader.AdvanceSteps.{in_bound, ends_within}
-use Rattle.gob_stream.proofs.Stream.LawsOfStreams.{give_one_list}
+use Rattle.gob_stream.proofs.Stream.StreamLaws.{give_one_list}
 use Rattle.gob_stream.proofs.Stream.OutcomeLaws.{one_front}
 use Rattle.gob_stream.proofs.Reader.SessionSteps.{refused_there}
 use Rattle.gob_stream.proofs.Reader.UnderWayLaws.{after_gives, stands_unrefused}
+use Rattle.gob_num.specs.Unsigned.{IsUnsignedFront}
+use Rattle.gob_num.proofs.PublicLaws.{begins_front}
+use Rattle.gob_stream.specs.declared.count.CountStage.{CountStage}
+use Rattle.gob_stream.specs.declared.stage.Stage.TheVariants as stage
+use Rattle.gob_stream.specs.Stream.{Stream, no_more}
+
+no_bytes : IsUnsignedFront []
+no_bytes = begins_front {bytes = []} tt
+
+pub new_stands : {X O : Type 0} {received : Received X} {trees : Received TreeBuilder} {most : ℕ} {L : Bounds} {d : Defined} {first : CountStage} → types d ≡ base_table → d.most ≡ L.types → first ≡ record { begin = 0; number = [] }
+    → SessionHasRead {X = X} {O = O} received trees most (record { limits = L; types = d; taken = 0; stage = stage.Count first }) [] []
+new_stands {X = X} {O = O} {received = received} {trees = trees} {most = most} {L = L} {d = d} e m f = record {
+  front = [];
+  under_way = [];
+  whole = refl;
+  stream = subst (λ (T : Table). Stream base_table (no_deeper most L) [] [] T) (sym e) no_more;
+  stage = subst (λ n. StageHasRead {X = X} {O = O} received trees (no_deeper most L) (types d) 0 (stage.Count n) []) (sym f) (in_count no_bytes);
+  taken = refl;
+  room = m;
+}
 
 pub limits_stay : (most : ℕ) (L : Bounds) → L.depth ≤ most → no_deeper most L ≡ L
 limits_stay most L deep =

@@ -1,5 +1,5 @@
 -- Taking the bytes of a type number, and then those of what follows it.
-use Rattle.std.proofs.Common.{◌≡◌, ◌≢◌, ℕ, zero, suc, ◌+◌, ◌-◌, ◌<◌, ◌≤◌, min, List, [], ◌∷◌, ◌++◌, length, take, drop, Result, Ok, Err, IfOk, arith, refl, sym, ap, ◌∙◌, subst, append_assoc, length-append, length-drop}
+use Rattle.std.proofs.Common.{◌≡◌, ◌≢◌, ℕ, zero, suc, ◌+◌, ◌-◌, ◌<◌, ◌≤◌, min, List, [], ◌∷◌, ◌++◌, length, take, drop, Result, Ok, Err, IfOk, arith, refl, sym, ap, ◌∙◌, subst, append_assoc, length-append, length-drop, ℤ, pos, negsuc, ◌<ℤ◌, ◌≤ℤ◌, unsigned_abs}
 use Rattle.std.proofs.lemmas.List.{append-nil, take_min, length-take}
 use Rattle.gob_num.specs.Unsigned.{IsUnsigned, IsUnsignedFront}
 use Rattle.gob_num.proofs.PublicLaws.{front_not_whole}
@@ -21,6 +21,25 @@ use Rattle.gob_stream.specs.Outcome.{RefusesNext, refused_body}
 use Rattle.gob_stream.specs.Machine.HasRead.{Received, StageHasRead, in_type_number, IsCount, IsRest}
 use Rattle.gob_stream.specs.Machine.ReadParts.{GoesOnIn, more_of_it, ends_there, StepsOn, goes_on, gives, refuses_it, no_memory, TakesOn}
 use Rattle.gob_stream.proofs.Reader.ValueSteps.{take_over, stands_as, counted_as}
+use Rattle.std.proofs.lemmas.Int.{ints}
+use Rattle.gob_num.specs.Signed.{IsSigned}
+
+pub ended_there : {X O : Type 0} {body : Extent} {taken used : ℕ} {number : List ℕ} {R : Refusal} → taken ≡ body.end → R ≡ refuses body.end body.end reason.Short
+    → GoesOnIn {X = X} {O = O} body taken number used (Err (fault.Refused R))
+ended_there {X = X} {O = O} {body = body} {taken = taken} {used = used} {number = number} l e =
+    subst (λ R. GoesOnIn {X = X} {O = O} body taken number used (Err (fault.Refused R))) (sym e) (ends_there l)
+
+-- ---- the id that a type number stands for
+pub signed_as : {i j : ℤ} {a : List ℕ} → i ≡ j → IsSigned i a → IsSigned j a
+signed_as {a = a} e s = subst (λ i. IsSigned i a) e s
+
+pub negative_of : (i : ℤ) (k : ℕ) → i <ℤ pos 0 → k ≡ unsigned_abs i → (n : ℕ) × (i ≡ negsuc n) × (k ≡ n + 1)
+negative_of (pos m) k l e = absurd (omega (arith, ints))
+negative_of (negsuc n) k l e = (n, refl, omega (arith, ints))
+
+pub not_negative_of : (i : ℤ) (k : ℕ) → pos 0 ≤ℤ i → k ≡ unsigned_abs i → i ≡ pos k
+not_negative_of (pos m) k l e = ap (λ n. pos n) (let f : m ≡ k = omega (arith, ints) in f)
+not_negative_of (negsuc n) k l e = absurd (omega (arith, ints))
 
 -- ---- lists
 take_none : (n : ℕ) → take {A = ℕ} n [] ≡ []

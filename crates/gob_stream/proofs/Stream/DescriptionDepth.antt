@@ -20,12 +20,12 @@ use Rattle.gob_stream.specs.Machine.ReadParts.{HasWireType}
 
 -- ---- types whose values are no deeper than a number
 
-abbrev FieldsAll : (TypeId → Type 0) → List Field → Type 0
+abbrev pub FieldsAll : (TypeId → Type 0) → List Field → Type 0
 FieldsAll P [] = Unit {0}
 FieldsAll P (f ∷ fs) = P f.id × FieldsAll P fs
 
 -- this holds of the type of each part of this kind
-abbrev PartsAll : (TypeId → Type 0) → Kind → Type 0
+abbrev pub PartsAll : (TypeId → Type 0) → Kind → Type 0
 PartsAll P (kind.Basic b) = Unit {0}
 PartsAll P (kind.Array e n) = P e
 PartsAll P (kind.Slice e) = P e
@@ -33,16 +33,16 @@ PartsAll P (kind.Struct fs) = FieldsAll P fs
 PartsAll P (kind.Map k e) = P k × P e
 PartsAll P (kind.Opaque m) = Unit {0}
 
-abbrev ShapeAll : (TypeId → Type 0) → Option Shape → Type 0
+abbrev pub ShapeAll : (TypeId → Type 0) → Option Shape → Type 0
 ShapeAll P None = ⊥
 ShapeAll P (Some s) = PartsAll P s.kind
 
 -- no value of the type is deeper than this
-abbrev IsFlat : Table → ℕ → TypeId → Type 0
+abbrev pub IsFlat : Table → ℕ → TypeId → Type 0
 IsFlat T zero t = ⊥
 IsFlat T (suc n) t = ShapeAll (IsFlat T n) (shape_of T t)
 
-field_all : (P : TypeId → Type 0) (fs : List Field) (n : ℕ) {f : Field} → FieldsAll P fs → slice_get fs n ≡ Some f → P f.id
+pub field_all : (P : TypeId → Type 0) (fs : List Field) (n : ℕ) {f : Field} → FieldsAll P fs → slice_get fs n ≡ Some f → P f.id
 field_all P [] n all at = absurd (cc at)
 field_all P (g ∷ fs) zero all at = subst (λ (h : Field). P h.id) (some_injective at) all.0
 field_all P (g ∷ fs) (suc n) all at = field_all P fs n all.1 at

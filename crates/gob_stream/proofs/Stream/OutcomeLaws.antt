@@ -15,8 +15,7 @@ use Rattle.gob_stream.specs.Stream.{IsItem, counted, AreItems, no_more, and_then
 use Rattle.gob_stream.specs.Refusing.{refuses, RefusesCount, item_too_long, stream_too_long}
 use Rattle.gob_stream.specs.Refusing as refusing
 use Rattle.gob_stream.specs.Outcome.{RefusesNext, refused_count, refused_body, Ending, refused, EndsSo, at_the_end, next_refused, within_an_item, Outcome}
-use Rattle.gob_stream.proofs.Stream.StreamLaws.{counted_prefix, NoNext, gives_items}
-use Rattle.gob_stream.proofs.Stream.LawsOfStreams.{give_one_list}
+use Rattle.gob_stream.proofs.Stream.StreamLaws.{counted_prefix, NoNext, gives_items, give_one_list}
 use Rattle.gob_stream.proofs.Stream.RefusingLaws.{HasWireStruct, next_not, next_once}
 
 -- ---- descriptions stay structs

@@ -6,7 +6,7 @@ use Rattle.gob_types.specs.Table.{Table}
 use Rattle.gob_types.specs.Base.{base_table}
 use Rattle.gob_types.specs.Defined.{types}
 use Rattle.gob_stream.specs.declared.fault.WriteFault.{WriteFault}
-use Rattle.gob_stream.specs.declared.writer.StreamWriter.{StreamWriter}
+use Rattle.gob_stream.specs.declared.stream_writer.StreamWriter.{StreamWriter}
 use Rattle.gob_stream.specs.declared.denial.Denial.{Denial}
 use Rattle.gob_stream.specs.declared.denial.Denial.TheVariants as denial
 use Rattle.gob_stream.specs.Bounds.{Bounds, within_trees}
@@ -16,8 +16,7 @@ use Rattle.gob_stream.specs.Item.{StreamItem}
 use Rattle.gob_stream.specs.Stream.{Stream, IsItem}
 use Rattle.gob_stream.specs.WriterRefusal.{RefusesItem}
 use Rattle.gob_stream.specs.Writing.{HasWritten, WritesItem, Leaves, IsUnchanged, SentFront, SendAnswers}
-use Rattle.gob_stream.proofs.Stream.StreamLaws.{one_more}
-use Rattle.gob_stream.proofs.Stream.LawsOfStreams.{wider_counted}
+use Rattle.gob_stream.proofs.Stream.StreamLaws.{one_more, wider_counted}
 
 -- what is denied before any byte went out is a fault of the item
 pub denied_writes : (L : Bounds) (w w' : StreamWriter) (items : List StreamItem) (bytes : List ℕ) (T : Table) (i : StreamItem) (out : Option (List ℕ)) (d : Denial)

@@ -9,6 +9,7 @@ use Rattle.gob_types.specs.Base.{base_table, wire_type}
 use Rattle.gob_types.specs.Defined.{types}
 use Rattle.gob_read.specs.Event.{Event}
 use Rattle.gob_read.specs.Viable.{IsViable}
+use Rattle.gob_read.specs.UnderWay.{under_way}
 use Rattle.gob_read.specs.Reader.{ReaderHasRead}
 use Rattle.gob_read.specs.declared.reader.BodyReader.{BodyReader}
 use Rattle.gob_read.specs.declared.tree_builder.TreeBuilder.{TreeBuilder}
@@ -47,7 +48,7 @@ size rest = rest.end - rest.begin
 
 -- what reads it stands behind these bytes of it
 pub record BodyHasRead (T : Table) (t : TypeId) (limit : ℕ) (rest : Extent) {X O : Type 0} (received : Received X) (reader : BodyReader X O) (z : List ℕ) : Type 0 where
-  pub after : ReaderHasRead T t limit (size rest) received reader.run z
+  pub after : ReaderHasRead T t limit (size rest) received (under_way reader) z
   pub viable : IsViable T t limit (size rest) z
 
 -- the reader stands behind these bytes of an item that begins at the offset, where the types are those of T

@@ -6,8 +6,8 @@ use Rattle.gob_value.specs.Tree.{Fields}
 use Rattle.gob_value.specs.Description.{Said, SaidKind, said_array, said_slice, said_struct, said_map, said_opaque}
 use Rattle.gob_value.specs.Description.{SaidField, said_fields, present_field, number_in, name_in, fields_in, elements_in}
 use Rattle.gob_value.specs.Description.{RefersTo}
-use Rattle.gob_value.specs.declared.description.WireField.{WireField}
-use Rattle.gob_value.specs.declared.description.WireField.TheVariants as wire
+use Rattle.gob_value.specs.declared.described_shape.WireField.{WireField}
+use Rattle.gob_value.specs.declared.described_shape.WireField.TheVariants as wire
 
 -- the kind that the field's fields say
 abbrev pub kind_said : WireField → Fields → SaidKind

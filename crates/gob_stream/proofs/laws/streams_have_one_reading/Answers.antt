@@ -1,5 +1,5 @@
 use Rattle.std.proofs.Common.{refl}
-use Rattle.gob_stream.proofs.Stream.LawsOfStreams.{one_reading}
+use Rattle.gob_stream.proofs.Stream.StreamLaws.{one_reading}
 use Rattle.gob_stream.proofs.laws.streams_have_one_reading.Goals as goal
 
 pub returns : goal.returns

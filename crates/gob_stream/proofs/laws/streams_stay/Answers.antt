@@ -1,4 +1,4 @@
-use Rattle.gob_stream.proofs.Stream.LawsOfStreams.{wider}
+use Rattle.gob_stream.proofs.Stream.StreamLaws.{wider}
 use Rattle.gob_stream.proofs.laws.streams_stay.Goals as goal
 
 pub returns : goal.returns

@@ -1,6 +1,6 @@
 use Rattle.std.proofs.Common.{pos, negsuc, arith, ap, ◌∙◌, unsigned_abs, w64, rules}
 use Rattle.std.proofs.lemmas.Int.{ints, to_z-of_z}
-use Rattle.gob_stream.proofs.Reader.TypeNumberSteps.{signed_as, negative_of, not_negative_of}
+use Rattle.gob_stream.proofs.Reader.NumberSteps.{signed_as, negative_of, not_negative_of}
 use Rattle.gob_stream.proofs.type_number.begin_rest.Goals as goal
 
 pub returns-then-number-lt0 : goal.returns-then-number-lt0

@@ -1,5 +1,5 @@
 use Rattle.std.proofs.Common.{arith}
-use Rattle.gob_stream.proofs.Reader.TypeNumberSteps.{ended_there}
+use Rattle.gob_stream.proofs.Reader.NumberSteps.{ended_there}
 use Rattle.gob_stream.specs.Machine.ReadParts.{more_of_it}
 use Rattle.gob_stream.proofs.type_number.more_of_type_number.Goals as goal
 

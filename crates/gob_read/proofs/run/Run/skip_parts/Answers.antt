@@ -1,5 +1,5 @@
 use Rattle.std.proofs.Common.{Some, sym, ap, ◌∙◌}
-use Rattle.gob_read.proofs.Machine.PlainSteps.{element_is}
+use Rattle.gob_read.proofs.Machine.BasicPartSteps.{element_is}
 use Rattle.gob_read.proofs.Machine.Skips.{key_is}
 use Rattle.gob_read.proofs.run.Run.skip_parts.Goals as goal
 

@@ -1,7 +1,7 @@
 use Rattle.std.proofs.Common.{◌-◌, arith, refl}
 use Rattle.gob_read.specs.declared.frame.Frame.TheVariants as frame
-use Rattle.gob_read.specs.Machine.Plain.{not_stepped}
-use Rattle.gob_read.proofs.Machine.PlainSteps.{item_start, item_open, item_stepped, taken_stepped, taken_some, plain_on, goes_to_element, part_deep, rest_some}
+use Rattle.gob_read.specs.Machine.BasicParts.{not_stepped}
+use Rattle.gob_read.proofs.Machine.BasicPartSteps.{item_start, item_open, item_stepped, taken_stepped, taken_some, basic_on, goes_to_element, part_deep, rest_some}
 use Rattle.gob_read.proofs.run.Run.step_elements.Goals as goal
 
 pub returns-in_default : goal.returns-in_default
@@ -18,13 +18,13 @@ elements-init g c =
       same = λ z. refl;
     }
 
-pub take_plain-requires-clause-inside : goal.take_plain-requires-clause-inside
-take_plain-requires-clause-inside g c =
+pub take_basic_part-requires-clause-inside : goal.take_basic_part-requires-clause-inside
+take_basic_part-requires-clause-inside g c =
     let i = c.elements.invariant in let n = i.count in let l = c.elements-test.true in
     record { frame = frame.Many c.args.elem i.left; innermost = i.at.inside; goes_on = goes_to_element i.left (c.args.left - 1 - c.elements.index) (omega arith) }
 
-pub take_plain-requires-clause-has_read : goal.take_plain-requires-clause-has_read
-take_plain-requires-clause-has_read g c = item_open c.elements.invariant.at c.requires.has_read (omega arith) c.requires.room c.elements.invariant.some
+pub take_basic_part-requires-clause-has_read : goal.take_basic_part-requires-clause-has_read
+take_basic_part-requires-clause-has_read g c = item_open c.elements.invariant.at c.requires.has_read (omega arith) c.requires.room c.elements.invariant.some
 
 pub returns-then-taken-eq0 : goal.returns-then-taken-eq0
 returns-then-taken-eq0 g c = taken_stepped c.elements.invariant.at c.elements.invariant.same c.requires.room c.elements.invariant.some c.in_ok-taken.ensures
@@ -37,7 +37,7 @@ elements-preserved g c =
     record {
       left = c.args.left - 1 - c.elements.index;
       count = omega arith;
-      at = plain_on i.at c.requires.room i.some (omega arith) taken;
+      at = basic_on i.at c.requires.room i.some (omega arith) taken;
       some = omega (arith, rest_some c.args.rest.now c.elements.used);
       same = λ z. absurd (omega arith);
     }

@@ -1,7 +1,7 @@
 use Rattle.std.proofs.Common.{◌≡◌, ◌+◌, ◌<◌, length, ℕ}
 use Rattle.gob_read.specs.declared.frame.Frame.TheVariants as frame
 use Rattle.gob_read.specs.declared.next.NextNumber.TheVariants.{Part}
-use Rattle.gob_read.proofs.Machine.PlainSteps.{AtItem}
+use Rattle.gob_read.proofs.Machine.BasicPartSteps.{AtItem}
 use Rattle.gob_read.proofs.run.Run.step_elements.Given as goal
 
 abbrev pub invariant-elements : goal.invariant-elements

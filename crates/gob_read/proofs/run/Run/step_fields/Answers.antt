@@ -1,5 +1,5 @@
 use Rattle.std.proofs.Common.{◌+◌, arith}
-use Rattle.gob_read.proofs.Machine.PlainSteps.{item_open, item_passed, same_passed, unnamed, named_as, named_on, plain_on, plain_passed, taken_some, taken_within, fewer, end_on, rest_some}
+use Rattle.gob_read.proofs.Machine.BasicPartSteps.{item_open, item_passed, same_passed, unnamed, named_as, named_on, basic_on, basic_passed, taken_some, taken_within, fewer, end_on, rest_some}
 use Rattle.gob_read.proofs.run.Run.step_fields.Goals as goal
 
 pub take_end-requires-clause-expected : goal.take_end-requires-clause-expected
@@ -38,34 +38,34 @@ returns-then-used-rest-clause-more g c = (item_passed (named_on c.fields.invaria
 pub returns-then-used-rest-clause-ok : goal.returns-then-used-rest-clause-ok
 returns-then-used-rest-clause-ok g c = (item_passed (named_on c.fields.invariant.at c.requires.room c.fields.invariant.some (named_as c.in-Some-2.is c.in_ok-entered.ensures))).steps
 
-pub take_plain_field-requires-clause-expected : goal.take_plain_field-requires-clause-expected
-take_plain_field-requires-clause-expected g c = (named_as c.in-Some-2.is c.in_ok-entered.ensures).expected
+pub take_basic_field-requires-clause-expected : goal.take_basic_field-requires-clause-expected
+take_basic_field-requires-clause-expected g c = (named_as c.in-Some-2.is c.in_ok-entered.ensures).expected
 
-pub take_plain_field-requires-clause-inside : goal.take_plain_field-requires-clause-inside
-take_plain_field-requires-clause-inside g c = (named_as c.in-Some-2.is c.in_ok-entered.ensures).inside
+pub take_basic_field-requires-clause-inside : goal.take_basic_field-requires-clause-inside
+take_basic_field-requires-clause-inside g c = (named_as c.in-Some-2.is c.in_ok-entered.ensures).inside
 
-pub take_plain_field-requires-clause-fresh : goal.take_plain_field-requires-clause-fresh
-take_plain_field-requires-clause-fresh g c = (named_as c.in-Some-2.is c.in_ok-entered.ensures).passes.fresh
+pub take_basic_field-requires-clause-fresh : goal.take_basic_field-requires-clause-fresh
+take_basic_field-requires-clause-fresh g c = (named_as c.in-Some-2.is c.in_ok-entered.ensures).passes.fresh
 
-pub take_plain_field-requires-clause-has_read : goal.take_plain_field-requires-clause-has_read
-take_plain_field-requires-clause-has_read g c = item_open (named_on c.fields.invariant.at c.requires.room c.fields.invariant.some (named_as c.in-Some-2.is c.in_ok-entered.ensures)) c.requires.has_read (omega arith) c.requires.room (omega arith)
+pub take_basic_field-requires-clause-has_read : goal.take_basic_field-requires-clause-has_read
+take_basic_field-requires-clause-has_read g c = item_open (named_on c.fields.invariant.at c.requires.room c.fields.invariant.some (named_as c.in-Some-2.is c.in_ok-entered.ensures)) c.requires.has_read (omega arith) c.requires.room (omega arith)
 
 pub overflow_add-used-in-fields : goal.overflow_add-used-in-fields
 overflow_add-used-in-fields g c = let w = taken_within c.in_ok-taken.ensures in omega (arith, rest_some c.args.rest.now (c.fields.used + 1))
 
 pub returns-then-taken-eq0-clause-more : goal.returns-then-taken-eq0-clause-more
 returns-then-taken-eq0-clause-more g c =
-    (plain_passed (named_on c.fields.invariant.at c.requires.room c.fields.invariant.some (named_as c.in-Some-2.is c.in_ok-entered.ensures)) c.requires.room (omega arith) c.in_ok-taken.ensures).more
+    (basic_passed (named_on c.fields.invariant.at c.requires.room c.fields.invariant.some (named_as c.in-Some-2.is c.in_ok-entered.ensures)) c.requires.room (omega arith) c.in_ok-taken.ensures).more
 
 pub returns-then-taken-eq0-clause-ok : goal.returns-then-taken-eq0-clause-ok
 returns-then-taken-eq0-clause-ok g c =
-    (plain_passed (named_on c.fields.invariant.at c.requires.room c.fields.invariant.some (named_as c.in-Some-2.is c.in_ok-entered.ensures)) c.requires.room (omega arith) c.in_ok-taken.ensures).steps
+    (basic_passed (named_on c.fields.invariant.at c.requires.room c.fields.invariant.some (named_as c.in-Some-2.is c.in_ok-entered.ensures)) c.requires.room (omega arith) c.in_ok-taken.ensures).steps
 
 pub fields-preserved : goal.fields-preserved
 fields-preserved g c =
     let taken = taken_some c.in_ok-taken.ensures (omega arith) in
     let w = taken.within in
     record {
-      at = fewer (c.fields.counter + 1) (plain_on (named_on c.fields.invariant.at c.requires.room c.fields.invariant.some (named_as c.in-Some-2.is c.in_ok-entered.ensures)) c.requires.room (omega arith) (omega arith) taken) (omega arith);
+      at = fewer (c.fields.counter + 1) (basic_on (named_on c.fields.invariant.at c.requires.room c.fields.invariant.some (named_as c.in-Some-2.is c.in_ok-entered.ensures)) c.requires.room (omega arith) (omega arith) taken) (omega arith);
       some = omega (arith, rest_some c.args.rest.now (c.fields.used + 1));
     }

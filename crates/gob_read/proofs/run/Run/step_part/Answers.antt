@@ -1,7 +1,7 @@
 use Rattle.std.proofs.Common.{take, arith, ap, sym, subst, ◌∙◌}
 use Rattle.std.specs.Prelude.{IfOk}
 use Rattle.gob_read.specs.Machine.Running.{IsOpenSomewhere, Steps}
-use Rattle.gob_read.proofs.Machine.PlainSteps.{stepped_some, stepped_none}
+use Rattle.gob_read.proofs.Machine.BasicPartSteps.{stepped_some, stepped_none}
 use Rattle.gob_read.proofs.run.Run.step_part.Goals as goal
 
 pub returns-then-stepped-gt0-clause-ok : goal.returns-then-stepped-gt0-clause-ok

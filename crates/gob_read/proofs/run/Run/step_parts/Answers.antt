@@ -1,17 +1,17 @@
 use Rattle.std.proofs.Common.{arith, ap}
 use Rattle.std.specs.Prelude.{slice_get}
-use Rattle.gob_read.specs.Machine.Plain.{stepped_over}
-use Rattle.gob_read.proofs.Machine.PlainSteps.{taken_some, plain_stepped, plain_more, plain_opens, plain_open, part_deep, more_then, behind_it, rest_some}
+use Rattle.gob_read.specs.Machine.BasicParts.{stepped_over}
+use Rattle.gob_read.proofs.Machine.BasicPartSteps.{taken_some, basic_stepped, basic_more, basic_opens, basic_open, part_deep, more_then, behind_it, rest_some}
 use Rattle.gob_read.proofs.run.Run.step_parts.Goals as goal
 
 pub returns-then-used-eq0 : goal.returns-then-used-eq0
-returns-then-used-eq0 g c = plain_stepped c.in_ok-used.ensures
+returns-then-used-eq0 g c = basic_stepped c.in_ok-used.ensures
 
 pub step_fields-requires-clause-has_read : goal.step_fields-requires-clause-has_read
 step_fields-requires-clause-has_read g c =
     let p = taken_some c.in_ok-used.ensures (omega arith) in
     let w = p.within in
-    plain_open p c.requires.has_read (part_deep c.requires.expected c.requires.has_read) c.requires.room (omega arith)
+    basic_open p c.requires.has_read (part_deep c.requires.expected c.requires.has_read) c.requires.room (omega arith)
 
 pub step_fields-requires-clause-inside : goal.step_fields-requires-clause-inside
 step_fields-requires-clause-inside g c = ap (λ fs. slice_get fs 0) (taken_some c.in_ok-used.ensures (omega arith)).stack
@@ -24,5 +24,5 @@ returns g c =
     let p = taken_some c.in_ok-used.ensures (omega arith) in
     let w = p.within in
     let u = c.in_ok-more.ensures.used in
-    stepped_over (omega arith) (omega (arith, rest_some c.args.rest.now c.in_ok-used.used)) (more_then (plain_more p) c.in_ok-more.ensures.more)
-    (behind_it c.args.rest.now c.in_ok-used.used c.in_ok-more.more.used p.passes.steps (plain_opens p (part_deep c.requires.expected c.requires.has_read) c.requires.room (omega arith)) c.in_ok-more.ensures.ok)
+    stepped_over (omega arith) (omega (arith, rest_some c.args.rest.now c.in_ok-used.used)) (more_then (basic_more p) c.in_ok-more.ensures.more)
+    (behind_it c.args.rest.now c.in_ok-used.used c.in_ok-more.more.used p.passes.steps (basic_opens p (part_deep c.requires.expected c.requires.has_read) c.requires.room (omega arith)) c.in_ok-more.ensures.ok)

@@ -1,5 +1,5 @@
 use Rattle.std.proofs.Common.{arith, refl}
-use Rattle.gob_read.proofs.Machine.PlainSteps.{can_end_fields, end_steps}
+use Rattle.gob_read.proofs.Machine.BasicPartSteps.{can_end_fields, end_steps}
 use Rattle.gob_read.proofs.run.Run.take_end.Goals as goal
 
 pub end_fields-requires : goal.end_fields-requires

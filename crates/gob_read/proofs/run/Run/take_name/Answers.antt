@@ -1,7 +1,7 @@
 use Rattle.std.proofs.Common.{arith, refl, sym}
-use Rattle.gob_read.specs.Machine.Plain.{not_named, named}
+use Rattle.gob_read.specs.Machine.BasicParts.{not_named, named}
 use Rattle.gob_read.proofs.Machine.FieldSteps.{can_name}
-use Rattle.gob_read.proofs.Machine.PlainSteps.{can_go_on, name_takes}
+use Rattle.gob_read.proofs.Machine.BasicPartSteps.{can_go_on, name_takes}
 use Rattle.gob_read.proofs.run.Run.take_name.Goals as goal
 
 pub returns-then-n-gt127 : goal.returns-then-n-gt127

@@ -1,6 +1,6 @@
 use Rattle.std.proofs.Common.{arith, refl, sym}
 use Rattle.gob_read.proofs.Machine.FieldSteps.{can_name, field_placed, past_end}
-use Rattle.gob_read.proofs.Machine.PlainSteps.{go_on_ends, ends_go_on}
+use Rattle.gob_read.proofs.Machine.BasicPartSteps.{go_on_ends, ends_go_on}
 use Rattle.gob_read.proofs.state.State.take_field.Goals as goal
 
 pub end_fields-requires : goal.end_fields-requires

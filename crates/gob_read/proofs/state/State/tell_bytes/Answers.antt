@@ -1,11 +1,11 @@
 use Rattle.std.proofs.Common.{arith, refl, take}
 use Rattle.gob_read.specs.Event.{raw_start}
 use Rattle.gob_read.specs.WellFormed.{a_raw_part}
-use Rattle.gob_read.specs.Machine.Plain.{told_nothing, told_bytes}
+use Rattle.gob_read.specs.Machine.BasicParts.{told_nothing, told_bytes}
 use Rattle.gob_read.proofs.Machine.ToldLaws.{begins_in}
 use Rattle.gob_read.proofs.Machine.FirstSteps.{can_start}
 use Rattle.gob_read.proofs.Machine.ItemSteps.{can_tell_more, can_end_raw}
-use Rattle.gob_read.proofs.Machine.PlainSteps.{can_take_told}
+use Rattle.gob_read.proofs.Machine.BasicPartSteps.{can_take_told}
 use Rattle.gob_read.proofs.state.State.tell_bytes.Goals as goal
 
 pub raw_start-requires : goal.raw_start-requires

@@ -1,7 +1,7 @@
 use Rattle.std.proofs.Common.{refl}
 use Rattle.gob_read.specs.Event.{number}
 use Rattle.gob_read.specs.WellFormed.{a_number}
-use Rattle.gob_read.specs.Machine.Plain.{told_number}
+use Rattle.gob_read.specs.Machine.BasicParts.{told_number}
 use Rattle.gob_read.proofs.Machine.ToldLaws.{begins_in}
 use Rattle.gob_read.proofs.Machine.FirstSteps.{can_start, numbers}
 use Rattle.gob_read.proofs.state.State.tell_number.Goals as goal

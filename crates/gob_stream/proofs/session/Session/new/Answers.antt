@@ -1,6 +1,6 @@
 use Rattle.std.proofs.Common.{◌∙◌}
 use Rattle.gob_stream.specs.Machine.HasRead.{stands_after}
-use Rattle.gob_stream.proofs.Reader.HasReadSteps.{new_stands}
+use Rattle.gob_stream.proofs.Reader.HasReadLaws.{new_stands}
 use Rattle.gob_stream.proofs.session.Session.new.Goals as goal
 
 pub invariant_of-result : goal.invariant_of-result

@@ -1,7 +1,7 @@
 -- A small item is gathered, and a large one goes out behind what was gathered.
 use Rattle.std.proofs.Common.{◌∙◌, ap, sym, subst}
 use Rattle.gob_types.specs.Defined.{types}
-use Rattle.gob_stream.specs.declared.writer.StreamWriter.{StreamWriter}
+use Rattle.gob_stream.specs.declared.stream_writer.StreamWriter.{StreamWriter}
 use Rattle.gob_tool.specs.declared.fault.ToolFault.TheVariants as fault
 use Rattle.gob_tool.proofs.RewriteOut.{gathered_out, none_gathered, put_behind, out_at, SomeTidyNext, EachPutsOut}
 use Rattle.gob_tool.proofs.rewriter.Rewriter.push_whole.Goals as goal

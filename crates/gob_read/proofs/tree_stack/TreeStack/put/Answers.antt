@@ -1,0 +1,11 @@
+use Rattle.std.proofs.Common.{arith, rules, ◌<◌, ◌-◌, vec_len}
+use Rattle.std.specs.Option.{option_map}
+use Rattle.gob_value.specs.View.{view}
+use Rattle.gob_read.proofs.Events.StackLaws.{put_last}
+use Rattle.gob_read.proofs.tree_stack.TreeStack.put.Goals as goal
+
+pub returns-in_ok-add-in-Some : goal.returns-in_ok-add-in-Some
+returns-in_ok-add-in-Some c =
+    let s = c.args.self.now in
+    let some : 0 < vec_len s.parts = search rules in
+    put_last s.parts.items (option_map view s.whole) (view c.args.value) (vec_len s.parts - 1) c.in-Some.part.now c.add.new.self (omega (arith, s.parts.ok.0)) c.in-Some.ensures.value c.in_ok-add-in-Some.ensures

@@ -1,0 +1,15 @@
+use Rattle.std.proofs.Common.{◌<◌, ◌+◌, ◌≤◌, ◌++◌, length, arith, length-append}
+use Rattle.gob_stream.specs.WriterRefusal.{item_too_long, stream_too_long}
+use Rattle.gob_stream.proofs.item_bytes.judge_length.Goals as goal
+
+pub returns-then-size-item-clause-err : goal.returns-then-size-item-clause-err
+returns-then-size-item-clause-err c = item_too_long (omega (arith, length-append c.args.first.now c.args.rest.now))
+
+pub returns-then-count-room-clause-err : goal.returns-then-count-room-clause-err
+returns-then-count-room-clause-err c =
+    let count = c.args.count.now in
+    let body = c.args.first.now ++ c.args.rest.now in
+    let size = length-append c.args.first.now c.args.rest.now in
+    let within : length body ≤ c.args.limits.now.item = omega (arith, size) in
+    let past : c.args.limits.now.stream < c.args.offset + length (count ++ body) = omega (arith, size, length-append count body) in
+    stream_too_long {c = count} within c.requires past

@@ -1,6 +1,0 @@
-use Rattle.std.proofs.Common.{refl, ◌∙◌}
-use Rattle.gob_stream.specs.Stream.{no_more}
-use Rattle.gob_stream.proofs.writer.StreamWriter.new.Goals as goal
-
-pub returns : goal.returns
-returns c = record { limits = refl; nothing = record { stream = no_more; table = c.in_ok-types.ensures.base; room = c.in_ok-types.ensures.most ∙ c.types.ensures.types; offset = refl; sound = refl } }
