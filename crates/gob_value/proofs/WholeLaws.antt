@@ -1,5 +1,5 @@
 -- A body that is one whole value.
-use Rattle.std.proofs.Common.{◌≡◌, ℕ, ◌≤◌, List, [], ◌∷◌, length, Some, drop, arith, refl, sym, ap, ◌∙◌, subst, Bool, true, false}
+use Rattle.std.proofs.Common.{◌≡◌, ℕ, ◌≤◌, List, [], ◌∷◌, length, Option, Some, IfSome, drop, arith, refl, sym, ap, ◌∙◌, subst, Bool, true, false}
 use Rattle.std.specs.Prelude.{slice_get}
 use Rattle.std.proofs.Math.Seq.{drop-length}
 use Rattle.std.proofs.lemmas.List.{append-nil}
@@ -39,6 +39,10 @@ whole_as w = record { value = w.value; spelled = w.spelled; within = w.within }
 pub tidy_whole : {T : Table} {t : TypeId} {limit : ℕ} {body : List ℕ} → IsWholeSo T true t limit body
     → IsTidyWhole T t limit body
 tidy_whole w = record { value = w.value; spelled = w.spelled; within = w.within; tidied = w.tidied refl }
+
+-- what is said of an answer that is there
+pub given : {A : Type 0} (P : A → Type 0) {r : Option A} {x : A} → r ≡ Some x → IfSome r P → P x
+given P e p = subst (λ r. IfSome r P) e p
 
 -- a value that stands up to the end
 up_to_end : (T : Table) (tidy : Bool) (k : Kind) (limit : ℕ) (body : List ℕ) (at end : ℕ) → end ≡ length body

@@ -32,22 +32,26 @@ pub fn is_tidy_whole<S: Shapes>(shapes: &S, id: TypeId, body: &[u8], depth: u64)
     is_whole_so::<S, true>(shapes, id, body, depth)
 }
 
-// Whether the bytes are a value of the type, which is its own tidy form where `TIDY` asks for one.
+// Whether the bytes are a value of the type, which is its own tidy form where `TIDY` asks for one. The fields of a
+// struct are looked at without a call, since most items are small structs.
 fn is_whole_so<S: Shapes, const TIDY: bool>(shapes: &S, id: TypeId, body: &[u8], depth: u64) -> bool
     ensures { IsTrue result → IsWholeSo (S.table shapes.now) TIDY id depth body.now }
 {
     let Some(shape) = shapes.shape_of(id) else {
         return false;
     };
-    let begin = match &shape.kind {
-        Kind::Struct { .. } => 0,
-        _ => match body.first() {
-            Some(0) => 1,
+    let most = depth.min(MOST_DEPTH);
+    if most == 0 {
+        return false;
+    }
+    let end = match &shape.kind {
+        Kind::Struct { fields } => fields_end::<S, TIDY>(shapes, fields, body, 0, most - 1),
+        kind => match body.first() {
+            Some(0) => value_end::<S, TIDY>(shapes, kind, body, 1, most),
             _ => return false,
         },
     };
-    let most = depth.min(MOST_DEPTH);
-    match value_end::<S, TIDY>(shapes, &shape.kind, body, begin, most) {
+    match end {
         Some(end) => end == body.len(),
         None => false,
     }

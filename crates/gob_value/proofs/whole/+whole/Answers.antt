@@ -1,7 +1,7 @@
 use Rattle.std.proofs.Common.{◌≡◌, ◌∙◌, ℕ, arith, sym, subst, true, false, IsTrue}
 use Rattle.gob_value.proofs.WholeSteps.{if_some, seen, both, all_three, deeper, opaque_begins, slice_begins}
 use Rattle.gob_value.proofs.WholeSteps.{array_begins, map_begins, struct_begins, none_stand, element_begins}
-use Rattle.gob_value.proofs.WholeSteps.{no_pairs_stand, pair_begins, fields_end, field_begins, kept_part, basic_part}
+use Rattle.gob_value.proofs.WholeSteps.{no_pairs_stand, pair_begins, fields_end, field_begins, basic_part}
 use Rattle.gob_value.proofs.whole.+whole.Invariants.{is_tidy}
 use Rattle.gob_value.proofs.whole.+whole.Goals as goal
 use Rattle.gob_value.proofs.whole.+whole.Goals.{field_end-else-this-ne0-via-then-this-ne0+else-is_basic_dropped_at, field_end-else-this-ne0-via-else-this-ne0}
