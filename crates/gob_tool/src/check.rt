@@ -17,8 +17,9 @@ use gob_stream::{Fault, Input, Limits, Output, Session};
 use std::alloc::{AllocError, Global};
 use std::io::{Read, Write};
 
-// How many bytes are asked of the input at a time.
-const PIECE: usize = 65536;
+// How many bytes are asked of the input at a time: more than where text goes out too, since of long texts the kernel's
+// reading is nearly all that is left to do.
+const PIECE: usize = 262_144;
 
 /// How much there is in a stream.
 #[derive(Clone, Copy)]
@@ -32,7 +33,7 @@ pub(crate) struct Tally {
 /// Reads a stream to its end, and writes one line of it: `ok: I items, T types, B bytes`, of which T counts the
 /// definitions. Ok exactly at the end of a whole stream; before any other answer but `ToolFault::Write` nothing is
 /// written, and at that one a front of the line may be. The run ends with a flush. The input is read in pieces of
-/// 64 KiB. Values aren't kept, so that it takes no more memory for a large one; none may be deeper than
+/// 256 KiB. Values aren't kept, so that it takes no more memory for a large one; none may be deeper than
 /// `limits.depth()`.
 pub fn run_check<R: Read, W: Write>(
     alloc: Global,
