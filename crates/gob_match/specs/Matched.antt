@@ -14,8 +14,8 @@ abbrev pub stream_type : {S W : Type 0} → Matched S W → TypeId
 stream_type m = m.id
 
 -- the wanted types, and the one that is matched
-abbrev pub wanted_of : {S W : Type 0} → Matched S W → W
-wanted_of m = m.wanted.now
+abbrev pub wanted_types_of : {S W : Type 0} → Matched S W → W
+wanted_types_of m = m.wanted.now
 
 abbrev pub wanted_type : {S W : Type 0} → Matched S W → TypeId
 wanted_type m = m.wanted_id
@@ -24,7 +24,7 @@ wanted_type m = m.wanted_id
 pub record IsMatchOf {S W : Type 0} (stream : S) (t : TypeId) (wanted : W) (u : TypeId) (m : Matched S W) : Type 0 where
   pub of_stream : stream_of m ≡ stream
   pub of_type : stream_type m ≡ t
-  pub of_wanted : wanted_of m ≡ wanted
+  pub of_wanted : wanted_types_of m ≡ wanted
   pub of_wanted_type : wanted_type m ≡ u
 
 -- what is kept of the match is right, where these are the tables of the two sides

@@ -4,7 +4,7 @@ ghost use Rattle.std.specs.Prelude.{◌≡◌, IfOk, MatchOption};
 ghost use Rattle.gob_value.specs.View.{view, views, pair_views, field_views};
 ghost use Rattle.gob_value.specs.Within.{FitsWithin};
 ghost use Rattle.gob_value.specs.Written.{HasParts};
-ghost use Rattle.gob_match.specs.Matched.{IsSound, stream_of, stream_type, wanted_of, wanted_type};
+ghost use Rattle.gob_match.specs.Matched.{IsSound, stream_of, stream_type, wanted_types_of, wanted_type};
 ghost use Rattle.gob_match.specs.Received.{Receives, IsPresent, IsAbsent};
 ghost use Rattle.gob_match.specs.Machine.Receiving.{CanReceive, CanReceiveEach, CanReceivePairs, CanReceiveFields};
 ghost use Rattle.gob_match.specs.Machine.Receiving.{GivesTree, GivesEach, GivesPairs, GivesCommonFields, HasConversion, IsPairOf};
@@ -34,10 +34,10 @@ pub fn receive<S: Shapes, T: Shapes>(
     requires fits { let m = matched.now in
         FitsWithin (S.table (stream_of m)) (stream_type m) 1000 (view value.now) }
     ensures received { let m = matched.now in IfOk result (λ w.
-        Receives (S.table (stream_of m)) (T.table (wanted_of m)) (stream_type m) (wanted_type m)
+        Receives (S.table (stream_of m)) (T.table (wanted_types_of m)) (stream_type m) (wanted_type m)
         (view value.now) (view w)) }
     ensures fits { let m = matched.now in IfOk result (λ w.
-        FitsWithin (T.table (wanted_of m)) (wanted_type m) 1000 (view w)) }
+        FitsWithin (T.table (wanted_types_of m)) (wanted_type m) 1000 (view w)) }
 {
     let pair = TypePair {
         stream: matched.id,

@@ -5,7 +5,7 @@ use Rattle.std.proofs.Common.{arith, sym, ap, ◌∙◌, subst, refl, append-nil
 use Rattle.std.proofs.lemmas.List.{drop_more, take-append-drop, length-drop, length-take-le, take_all}
 use Rattle.gob_num.specs.Unsigned.{big_endian, AreBytes, IsUnsigned, short, long, IsBadHead, IsNotMinimal}
 use Rattle.gob_num.specs.Taken.{TakesUnsigned}
-use Rattle.gob_num.specs.Place.{IsUnsignedAt, NumberStandsAt, NoNumberStandsAt, AreUnsignedAt, no_number, one_more}
+use Rattle.gob_num.specs.Place.{IsUnsignedAt, NumberStandsAt, NoNumberStandsAt, AreUnsignedAt, no_number, one_more, PassesNumbers}
 use Rattle.gob_num.specs.declared.unsigned.Taken.{Taken}
 use Rattle.gob_num.specs.declared.unsigned.Taken.TheVariants.{Whole, More, BadHead, NotMinimal}
 use Rattle.gob_num.proofs.DigitLaws.{bytes_each, bytes_rest}
@@ -174,3 +174,23 @@ none_of_some o none (one_more p q) = none _ _ p
 
 pub none_left : {bytes : List ℕ} {left at : ℕ} → left ≡ 0 → AreUnsignedAt bytes left at at
 none_left e = rw e no_number
+
+-- ---- numbers that are passed
+pub passes_none : {bytes : List ℕ} {most at : ℕ} → PassesNumbers bytes most at most at
+passes_none = record { fewer = omega arith; more = λ end p. p; all = λ end p. p }
+
+pub passes_one_more : {bytes : List ℕ} {most begin left less at next : ℕ} → left ≡ less + 1 → NumberStandsAt bytes at next
+    → PassesNumbers bytes most begin left at → PassesNumbers bytes most begin less next
+passes_one_more e p s = let few = s.fewer in record {
+  fewer = omega (arith, few);
+  more = λ end q. s.more end (with_first e p.1 q);
+  all = λ end q. without_first e p.1 (s.all end q);
+}
+
+pub passes_both : {bytes : List ℕ} {most begin left at fewer place : ℕ} → PassesNumbers bytes most begin left at
+    → PassesNumbers bytes left at fewer place → PassesNumbers bytes most begin fewer place
+passes_both s t = let few = s.fewer in let less = t.fewer in record {
+  fewer = omega (arith, few, less);
+  more = λ end q. s.more end (t.more end q);
+  all = λ end q. t.all end (s.all end q);
+}

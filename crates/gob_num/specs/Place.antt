@@ -22,6 +22,12 @@ pub data AreUnsignedAt (bytes : List ℕ) : ℕ → ℕ → ℕ → Type 0 where
   one_more : {n count at next end : ℕ} → IsUnsignedAt n bytes at next → AreUnsignedAt bytes count next end
       → AreUnsignedAt bytes (suc count) at end
 
+-- from the first place on so many numbers stand exactly where from the second on so many fewer do
+pub record PassesNumbers (bytes : List ℕ) (most begin left at : ℕ) : Type 0 where
+  pub fewer : left ≤ most
+  pub more : (end : ℕ) → AreUnsignedAt bytes left at end → AreUnsignedAt bytes most begin end
+  pub all : (end : ℕ) → AreUnsignedAt bytes most begin end → AreUnsignedAt bytes left at end
+
 -- a head that isn't a number itself counts the digits behind it
 abbrev pub CountsDigits : ℕ → ℕ → Type 0
 CountsDigits head count = 128 ≤ head → (248 ≤ head) × (head + count ≡ 256)

@@ -1,7 +1,8 @@
 //! Numbers that stand whole at a place of bytes: the fastest way to read what is there already.
-ghost use Rattle.std.specs.Prelude.{◌≡◌, ℕ, IfSome};
-ghost use Rattle.gob_num.specs.Place.{IsUnsignedAt, AreUnsignedAt, NumberStandsAt, NoNumberStandsAt, CountsDigits};
+ghost use Rattle.std.specs.Prelude.{◌≡◌, ◌+◌, ◌-◌, ◌<◌, ◌≤◌, ℕ, [], ◌∷◌, IfSome, IsTrue, length};
+ghost use Rattle.gob_num.specs.Place.{IsUnsignedAt, AreUnsignedAt, NumberStandsAt, NoNumberStandsAt, PassesNumbers, CountsDigits};
 ghost use Rattle.gob_num.specs.Taken.{TakesUnsigned};
+ghost use Rattle.gob_num.specs.Unsigned.{IsNotMinimal};
 
 use crate::number::Number;
 use crate::unsigned::{LEAST_HEAD, Taken, digits_after, is_padded, take_digits};
@@ -55,11 +56,18 @@ pub fn uints_end(bytes: &[u8], begin: usize, count: u64) -> Option<usize>
 {
     let mut last = Counted { head: 0, count: 0 };
     let mut at = begin;
-    'numbers: for _ in 0..count {
-        at = last.end_of_next(bytes, at)?;
+    let mut left = count;
+    'numbers: while left > 0 {
+        let end = last.end_of_next(bytes, at)?;
+        let (place, rest) = last.pass_alike(bytes, end, left - 1);
+        at = place;
+        left = rest;
     }
     Some(at)
 }
+
+// As many bytes as a number has at the most.
+const LONGEST: usize = 9;
 
 // The head of the last number of more than one byte, if there was one, and how many digits it counts. Lists have runs
 // of numbers of one size: so where the next ends is mostly there before its head is read.
@@ -101,4 +109,56 @@ impl Counted {
         }
         Some(at + 1 + count)
     }
+
+    // Goes over numbers of the last one's size that stand at the place one behind another, at the most so many, and tells
+    // where it ends and how many are left. Nothing is asked of each but that its head is the same: in a list of ints that is
+    // twice as fast as asking where each of them ends.
+    #[inline(always)]
+    fn pass_alike(self, bytes: &[u8], begin: usize, most: u64) -> (usize, u64)
+        requires counts { CountsDigits self.head self.count }
+        requires place { begin ≤ length bytes.now }
+        ensures { PassesNumbers bytes.now most begin result.1 result.0 }
+    {
+        let mut at = begin;
+        let mut left = most;
+        if self.head < LEAST_HEAD {
+            return (at, left);
+        }
+        let size = usize::from(self.count) + 1;
+        let least = least_digit(self.count);
+        'alike: while left > 0 && self.begins_number(least, bytes, at) {
+            at += size;
+            left -= 1;
+        }
+        (at, left)
+    }
+
+    // Whether the head and a digit of at least `least` begin a number at the place, with room for the longest.
+    #[inline(always)]
+    fn begins_number(self, least: u8, bytes: &[u8], at: usize) -> bool
+        requires counts { (248 ≤ self.head) × (self.head + self.count ≡ 256) }
+        requires least { (digit : ℕ) → least ≤ digit → ¬ IsNotMinimal ((256 - self.count) ∷ digit ∷ []) }
+        requires place { at ≤ length bytes.now }
+        ensures { IsTrue result → NumberStandsAt bytes.now at (at + 1 + self.count) }
+    {
+        if bytes.len() - at < LONGEST {
+            return false;
+        }
+        if bytes[at] != self.head {
+            return false;
+        }
+        if bytes[at + 1] < least {
+            return false;
+        }
+        true
+    }
+}
+
+// The least first digit of a number with so many.
+#[inline(always)]
+fn least_digit(count: u8) -> u8
+    requires { (0 < count) × (count ≤ 8) }
+    ensures { (digit : ℕ) → result ≤ digit → ¬ IsNotMinimal ((256 - count) ∷ digit ∷ []) }
+{
+    if count == 1 { 128 } else { 1 }
 }

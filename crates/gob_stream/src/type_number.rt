@@ -8,7 +8,7 @@ ghost use Rattle.gob_read.specs.Builders.{tree_building};
 ghost use Rattle.gob_stream.specs.Bounds.{greatest_stream, no_deeper};
 ghost use Rattle.gob_stream.specs.Machine.HasRead.{IsCount, IsRest};
 ghost use Rattle.gob_stream.specs.declared.stage.Extent.{Extent};
-ghost use Rattle.gob_stream.specs.Machine.ReadParts.{AreTypes, GoesOnIn, HasBodyCount, StepsOn, TakesOn};
+ghost use Rattle.gob_stream.specs.Machine.ReadParts.{AreTypes, GoesOnIn, HasBodyCount, StepsOn, StageTakesOn};
 
 use crate::body::{DescriptionStage, ValueStage};
 use crate::count::refusal;
@@ -45,7 +45,7 @@ impl TypeNumberStage {
         requires some { 0 < length piece.now }
         ensures { let L = no_deeper B.DEPTH around.now.limits in (offset m : ℕ) (c : List ℕ)
             → IsCount L offset m c self.body
-            → TakesOn B.building.received tree_building.received B.building.means L table.old offset
+            → StageTakesOn B.building.received tree_building.received B.building.means L table.old offset
             (c ++ self.number) piece.now 1 table.new result }
     {
         let TypeNumberStage { body, mut number } = self;

@@ -6,14 +6,14 @@ use Rattle.std.proofs.KnownBytes.{Appends-trans}
 use Rattle.gob_stream.specs.Devices.{counts_up}
 use Rattle.gob_tool.specs.declared.fault.ToolFault.{ToolFault}
 use Rattle.gob_tool.specs.declared.blocks.Unwritten.{Unwritten}
-use Rattle.gob_tool.specs.Machine.Blocks.{told}
+use Rattle.gob_tool.specs.Machine.Blocks.{tool_result}
 use Rattle.gob_tool.specs.Machine.Gathering.{CountsWrites, Passes, PassesSome, Writes}
 use Rattle.gob_tool.specs.Showing.{AppendsFront}
 
 -- what waited did not go out
 pub waiting_failed : {old new : Option (List ℕ)} {waits : List ℕ} {f : Unwritten} (held text left : List ℕ) (r : Result (Unit {0}) Unwritten)
-    → IsErrAnd r (λ e. e ≡ f) → waits ≡ held → Writes old new waits (told (Err f))
-    → Passes old new (held ++ text) left (told r)
+    → IsErrAnd r (λ e. e ≡ f) → waits ≡ held → Writes old new waits (tool_result (Err f))
+    → Passes old new (held ++ text) left (tool_result r)
 waiting_failed held text left (Ok u) h e w = absurd h
 waiting_failed held text left (Err g) h e w =
     let cut = w.1 in (
@@ -27,7 +27,7 @@ waiting_failed held text left (Err g) h e w =
     )
 
 pub counts_failed : (old new : ℕ) (f : Unwritten) (r : Result (Unit {0}) Unwritten) → IsErrAnd r (λ e. e ≡ f)
-    → new ≡ counts_up old 1 → CountsWrites old new (told r)
+    → new ≡ counts_up old 1 → CountsWrites old new (tool_result r)
 counts_failed old new f (Ok u) h e = absurd h
 counts_failed old new f (Err g) h e = e
 
@@ -68,7 +68,7 @@ all_out old mid new text left (Err f) p w =
 
 -- a text behind nothing
 pub begun_out : {old new : Option (List ℕ)} {f : Unwritten} (held text left : List ℕ) (r : Result (Unit {0}) Unwritten)
-    → IsErrAnd r (λ e. e ≡ f) → held ≡ [] → Passes old new (held ++ text) left (told (Err f)) → Writes old new text (told r)
+    → IsErrAnd r (λ e. e ≡ f) → held ≡ [] → Passes old new (held ++ text) left (tool_result (Err f)) → Writes old new text (tool_result r)
 begun_out held text left (Ok u) h e p = absurd h
 begun_out {old = old} {new = new} held text left (Err g) h e p =
     (p.0, subst (λ y. AppendsFront old new (y ++ text)) e p.1)

@@ -7,7 +7,7 @@ ghost use Rattle.gob_stream.specs.Item.{puts};
 ghost use Rattle.gob_tool.specs.Machine.Gathering.{CountsWrites, Writes};
 ghost use Rattle.gob_tool.specs.Line.{line};
 ghost use Rattle.gob_tool.specs.Machine.Block.{waiting};
-ghost use Rattle.gob_tool.specs.Machine.Blocks.{told};
+ghost use Rattle.gob_tool.specs.Machine.Blocks.{tool_result};
 
 use crate::block::Block;
 use crate::fault::ToolFault;
@@ -34,8 +34,8 @@ impl From<Unwritten> for ToolFault {
 
 // Writes the bytes, all of them.
 fn write_out<W: Write>(bytes: &[u8], output: &mut Output<W>) -> Result<(), Unwritten>
-    ensures written { Writes (W.contents (writer_of output.old)) (W.contents (writer_of output.new)) bytes.now (told result) }
-    ensures counted { CountsWrites (failed_writes output.old) (failed_writes output.new) (told result) }
+    ensures written { Writes (W.contents (writer_of output.old)) (W.contents (writer_of output.new)) bytes.now (tool_result result) }
+    ensures counted { CountsWrites (failed_writes output.old) (failed_writes output.new) (tool_result result) }
 {
     match write_whole(bytes, output) {
         Ok(()) => Ok(()),
@@ -67,8 +67,8 @@ impl<W: Write> Blocks<'_, W> {
         ensures same_output { self.new.output.ghost_name ≡ self.old.output.ghost_name }
         ensures sent { (w : IsWhole (S.table shapes.now) id depth body.now)
             → Writes (W.contents (writer_of self.old.output.now)) (W.contents (writer_of self.new.output.now))
-            (line (S.table shapes.now) (puts id w.value)) (told result) }
-        ensures counted { CountsWrites (failed_writes self.old.output.now) (failed_writes self.new.output.now) (told result) }
+            (line (S.table shapes.now) (puts id w.value)) (tool_result result) }
+        ensures counted { CountsWrites (failed_writes self.old.output.now) (failed_writes self.new.output.now) (tool_result result) }
     {
         send_line(shapes, id, body, depth, self)?;
         self.flush()
@@ -78,9 +78,9 @@ impl<W: Write> Blocks<'_, W> {
     fn flush(&mut self) -> Result<(), Unwritten>
         ensures same_output { self.new.output.ghost_name ≡ self.old.output.ghost_name }
         ensures written { Writes (W.contents (writer_of self.old.output.now)) (W.contents (writer_of self.new.output.now))
-            (waiting self.old.block) (told result) }
+            (waiting self.old.block) (tool_result result) }
         ensures empty { OnOk result (waiting self.new.block ≡ []) }
-        ensures counted { CountsWrites (failed_writes self.old.output.now) (failed_writes self.new.output.now) (told result) }
+        ensures counted { CountsWrites (failed_writes self.old.output.now) (failed_writes self.new.output.now) (tool_result result) }
     {
         write_out(self.block.bytes(), self.output)?;
         self.block.clear();
@@ -98,8 +98,8 @@ impl<W: Write> TextOut for Blocks<'_, W> {
 
     ghost puts = { λ old new text result. (new.output.ghost_name ≡ old.output.ghost_name)
         × Passes (W.contents (writer_of old.output.now)) (W.contents (writer_of new.output.now))
-        (waiting old.block ++ text) (waiting new.block) (told result)
-        × CountsWrites (failed_writes old.output.now) (failed_writes new.output.now) (told result) };
+        (waiting old.block ++ text) (waiting new.block) (tool_result result)
+        × CountsWrites (failed_writes old.output.now) (failed_writes new.output.now) (tool_result result) };
 
     // Text for which there is no room is written at once.
     #[inline(always)]
@@ -119,8 +119,8 @@ impl<W: Write> TextOut for Blocks<'_, W> {
     ghost joined = { λ a b c x y r p q. (
       q.0 ∙ p.0,
       passes_both (W.contents (writer_of a.output.now)) (W.contents (writer_of b.output.now))
-          (W.contents (writer_of c.output.now)) (waiting a.block) (waiting b.block) (waiting c.block) x y (told r) p.1 q.1,
-      counts_both (failed_writes a.output.now) (failed_writes b.output.now) (failed_writes c.output.now) (told r) p.2 q.2,
+          (W.contents (writer_of c.output.now)) (waiting a.block) (waiting b.block) (waiting c.block) x y (tool_result r) p.1 q.1,
+      counts_both (failed_writes a.output.now) (failed_writes b.output.now) (failed_writes c.output.now) (tool_result r) p.2 q.2,
     ) };
 
     ghost cut = { λ a b x y e p. (

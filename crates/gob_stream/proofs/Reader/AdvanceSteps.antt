@@ -22,7 +22,7 @@ use Rattle.gob_stream.specs.Body.{Body, definition, value}
 use Rattle.gob_stream.specs.Stream.{IsItem, counted, AreItems, no_more, and_then, Stream}
 use Rattle.gob_stream.specs.Machine.HasRead.{Received, StageHasRead, in_count, in_type_number, in_value, in_description, SessionHasRead, IsUsable, has_failed, stands_after}
 use Rattle.gob_stream.specs.Machine.Between.{IsBetween}
-use Rattle.gob_stream.specs.Machine.ReadParts.{IsWithinItem, StepsOn, goes_on, gives, refuses_it, no_memory, TakesOn, StageAnswers, takes, fails, bytes_wanted, AdvancesOver, over_some, over_item, Advances}
+use Rattle.gob_stream.specs.Machine.ReadParts.{IsWithinItem, StepsOn, goes_on, gives, refuses_it, no_memory, StageTakesOn, StageAnswers, takes, fails, bytes_wanted, AdvancesOver, over_some, over_item, Advances}
 use Rattle.gob_stream.proofs.Stream.StreamLaws.{one_more}
 use Rattle.gob_stream.proofs.Reader.ValueSteps.{lies}
 use Rattle.gob_stream.proofs.Reader.UnderWayLaws.{after_refused}
@@ -162,7 +162,7 @@ within_there {received = received} {trees = trees} {L = L} {d = d} {taken = take
 module _ {X O : Type 0} {received : Received X} {trees : Received TreeBuilder} {means : O → Tree → Type 0} where
   -- behind some bytes of an item
   pub takes_on : {L : Bounds} {d d' : Defined} {taken offset : ℕ} {old now : Stage X O} {z piece : List ℕ} {result : Result (Stepped X O) Fault} → now ≡ old → StageAnswers received trees means L d taken now piece d' result → StageHasRead received trees L (types d) offset old z
-      → TakesOn received trees means L d offset z piece (bytes_wanted now taken) d' result
+      → StageTakesOn received trees means L d offset z piece (bytes_wanted now taken) d' result
   takes_on e (takes n r) s = r _ _ (stands_there e s)
   takes_on e (fails f r k) s = absurd (parts f (stands_there e s))
 

@@ -19,7 +19,7 @@ use Rattle.gob_stream.specs.Bounds.{Bounds}
 use Rattle.gob_stream.specs.Refusing.{refuses, RefusesBody, short}
 use Rattle.gob_stream.specs.Outcome.{RefusesNext, refused_body}
 use Rattle.gob_stream.specs.Machine.HasRead.{Received, StageHasRead, in_type_number, IsCount, IsRest}
-use Rattle.gob_stream.specs.Machine.ReadParts.{GoesOnIn, more_of_it, ends_there, StepsOn, goes_on, gives, refuses_it, no_memory, TakesOn}
+use Rattle.gob_stream.specs.Machine.ReadParts.{GoesOnIn, more_of_it, ends_there, StepsOn, goes_on, gives, refuses_it, no_memory, StageTakesOn}
 use Rattle.gob_stream.proofs.Reader.ValueSteps.{take_over, stands_as, counted_as}
 use Rattle.std.proofs.lemmas.Int.{ints}
 use Rattle.gob_num.specs.Signed.{IsSigned}
@@ -135,7 +135,7 @@ number_there c number piece used room l =
 
 -- a number wants one byte at a time
 pub one_used : {X O : Type 0} {received : Received X} {trees : Received TreeBuilder} {means : O → Tree → Type 0} {L : Bounds} {d d' : Defined} {offset : ℕ} {z piece : List ℕ} {result : Result (Stepped X O) Fault}
-    → StepsOn received trees means L d offset z piece d' result → IfOk result (λ stepped. 0 < stepped.used) → TakesOn received trees means L d offset z piece 1 d' result
+    → StepsOn received trees means L d offset z piece d' result → IfOk result (λ stepped. 0 < stepped.used) → StageTakesOn received trees means L d offset z piece 1 d' result
 one_used s n = record { steps = s; some = n; whole = λ l. all l n s }
   where
     all : {X O : Type 0} {received : Received X} {trees : Received TreeBuilder} {means : O → Tree → Type 0} {L : Bounds} {d d' : Defined} {offset : ℕ} {z piece : List ℕ} {result : Result (Stepped X O) Fault} → length piece ≤ 1

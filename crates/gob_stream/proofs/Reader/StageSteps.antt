@@ -31,7 +31,7 @@ use Rattle.gob_stream.specs.Refusing.{refuses, RefusesCount, item_too_long, stre
 use Rattle.gob_stream.specs.Refusing as refusing
 use Rattle.gob_stream.specs.Outcome.{RefusesNext, refused_count, refused_body}
 use Rattle.gob_stream.specs.Machine.HasRead.{Received, StageHasRead, in_count, in_type_number, in_value, in_description, IsCount, IsRest, BodyHasRead, size}
-use Rattle.gob_stream.specs.Machine.ReadParts.{CountGoesOn, more_of_count, whole_count, IsCountRefused, count_refused, empty_body, CountAnswers, AreTypes, IsWithinItem, HasWireType, ReadsValueIn, value_goes_on, value_ends, value_refused, no_memory_for_value, ReadsDescription, description_goes_on, description_ends, description_refused, describes_nothing, no_memory_for_description, StepsOn, goes_on, refuses_it, TakesOn, StageAnswers, takes}
+use Rattle.gob_stream.specs.Machine.ReadParts.{CountGoesOn, more_of_count, whole_count, IsCountRefused, count_refused, empty_body, CountAnswers, AreTypes, IsWithinItem, HasWireType, ReadsValueIn, value_goes_on, value_ends, value_refused, no_memory_for_value, ReadsDescription, description_goes_on, description_ends, description_refused, describes_nothing, no_memory_for_description, StepsOn, goes_on, refuses_it, StageTakesOn, StageAnswers, takes}
 use Rattle.gob_stream.proofs.Reader.ValueSteps.{stands_as, lies, value_steps}
 use Rattle.gob_stream.proofs.Reader.DefinitionSteps.{description_steps}
 use Rattle.gob_stream.proofs.Reader.NumberSteps.{number_taken}
@@ -226,7 +226,7 @@ module _ {X O : Type 0} {received : Received X} {trees : Received TreeBuilder} {
   there p s = rw (p.begins, p.bytes) s
 
   count_takes : {L M : Bounds} {offset : ℕ} {d : Defined} {at : CountStage} {z piece : List ℕ} {result : Result (Stepped X O) Fault} → SameRoom L M → 0 < length piece
-      → CountAnswers L at.begin at.number piece result → CountParts offset at z → TakesOn received trees means M d offset z piece 1 d result
+      → CountAnswers L at.begin at.number piece result → CountParts offset at z → StageTakesOn received trees means M d offset z piece 1 d result
   count_takes {result = Ok stepped} w l s p = let n = count_some p.front l s in record { steps = there p (count_here w s); some = n.0; whole = λ few. omega arith }
   count_takes {result = Err (fault.Refused R)} w l s p = record { steps = there p (count_stops w s); some = tt; whole = λ few. tt }
   count_takes {result = Err fault.Read} w l s p = absurd s
@@ -239,11 +239,11 @@ module _ {X O : Type 0} {received : Received X} {trees : Received TreeBuilder} {
 
   -- a type number
   number_takes : {L : Bounds} {d d' : Defined} {offset : ℕ} {at : TypeNumberStage} {z piece : List ℕ} {result : Result (Stepped X O) Fault}
-      → ((offset m : ℕ) (c : List ℕ) → IsCount L offset m c at.body → TakesOn received trees means L d offset (c ++ at.number) piece 1 d' result) → NumberParts L offset at z → TakesOn received trees means L d offset z piece 1 d' result
+      → ((offset m : ℕ) (c : List ℕ) → IsCount L offset m c at.body → StageTakesOn received trees means L d offset (c ++ at.number) piece 1 d' result) → NumberParts L offset at z → StageTakesOn received trees means L d offset z piece 1 d' result
   number_takes {offset = offset} r p = rw p.whole (r offset p.m p.c p.count)
 
   pub number_answers : {L : Bounds} {d d' : Defined} {taken : ℕ} {expects : Stage X O} {at : TypeNumberStage} {piece : List ℕ} {result : Result (Stepped X O) Fault} → expects ≡ stage.TypeNumber at
-      → ((offset m : ℕ) (c : List ℕ) → IsCount L offset m c at.body → TakesOn received trees means L d offset (c ++ at.number) piece 1 d' result) → StageAnswers received trees means L d taken expects piece d' result
+      → ((offset m : ℕ) (c : List ℕ) → IsCount L offset m c at.body → StageTakesOn received trees means L d offset (c ++ at.number) piece 1 d' result) → StageAnswers received trees means L d taken expects piece d' result
   number_answers e r = answers_by e (takes (λ f. cc) (λ offset z t. number_takes r (parts refl t)))
 
   -- a value
@@ -264,7 +264,7 @@ module _ {X O : Type 0} {received : Received X} {trees : Received TreeBuilder} {
   value_takes : {L : Bounds} {d : Defined} {offset taken : ℕ} {at : ValueStage X O} {z piece : List ℕ} {result : Result (Stepped X O) Fault}
       → UnderWay received trees L d taken (stage.Value at) → 0 < length piece
       → ((limit : ℕ) (y : List ℕ) → ReaderHasRead (types d) at.id limit (size at.rest) received at.reader.run y → ReadsValueIn received means (types d) at.id limit at.rest y piece result)
-      → ValueParts received L (types d) offset at z → TakesOn received trees means L d offset z piece (at.rest.end - taken) d result
+      → ValueParts received L (types d) offset at z → StageTakesOn received trees means L d offset z piece (at.rest.end - taken) d result
   value_takes {L = L} {taken = taken} {at = at} w l r p =
       let q = w.parts in
       let read = r L.depth q.y q.behind.after in
@@ -277,7 +277,7 @@ module _ {X O : Type 0} {received : Received X} {trees : Received TreeBuilder} {
   description_takes : {L : Bounds} {d d' : Defined} {offset taken : ℕ} {at : DescriptionStage} {z piece : List ℕ} {result : Result (Stepped X O) Fault}
       → UnderWay {X = X} {O = O} received trees L d taken (stage.Description at) → 0 < length piece
       → ((limit : ℕ) (y : List ℕ) → ReaderHasRead (types d) wire_type limit (size at.rest) trees at.reader.run y → ReadsDescription trees d at.id limit at.rest y piece d' result)
-      → DescriptionParts trees L (types d) offset at z → TakesOn received trees means L d offset z piece (at.rest.end - taken) d' result
+      → DescriptionParts trees L (types d) offset at z → StageTakesOn received trees means L d offset z piece (at.rest.end - taken) d' result
   description_takes {L = L} {taken = taken} {at = at} w l r p =
       let q = w.parts in
       let read = r (min L.depth greatest_depth) q.y q.behind.after in

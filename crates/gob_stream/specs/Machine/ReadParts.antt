@@ -150,7 +150,7 @@ pub data StepsOn {X O : Type 0} (received : Received X) (trees : Received TreeBu
   no_memory : {d' : Defined} → d' ≡ d → StepsOn received trees means L d offset z piece d' (Err fault.Memory)
 
 -- and some of the piece was taken, all of it where so many bytes are sure to be of the item
-pub record TakesOn {X O : Type 0} (received : Received X) (trees : Received TreeBuilder) (means : O → Tree → Type 0) (L : Bounds) (d : Defined) (offset : ℕ) (z piece : List ℕ) (wanted : ℕ) (d' : Defined) (result : Result (Stepped X O) Fault) : Type 0 where
+pub record StageTakesOn {X O : Type 0} (received : Received X) (trees : Received TreeBuilder) (means : O → Tree → Type 0) (L : Bounds) (d : Defined) (offset : ℕ) (z piece : List ℕ) (wanted : ℕ) (d' : Defined) (result : Result (Stepped X O) Fault) : Type 0 where
   pub steps : StepsOn received trees means L d offset z piece d' result
   pub some : IfOk result (λ stepped. 0 < stepped.used)
   pub whole : length piece ≤ wanted → IfOk result (λ stepped. stepped.used ≡ length piece)
@@ -184,7 +184,7 @@ bytes_wanted _ taken = 1
 
 -- what a step over a piece answers, where this was expected behind so many bytes of the stream
 pub data StageAnswers {X O : Type 0} (received : Received X) (trees : Received TreeBuilder) (means : O → Tree → Type 0) (L : Bounds) (d : Defined) (taken : ℕ) (expects : Stage X O) (piece : List ℕ) (d' : Defined) (result : Result (Stepped X O) Fault) : Type 0 where
-  takes : expects ≢ stage.Failed → ((offset : ℕ) (z : List ℕ) → StageHasRead received trees L (types d) offset expects z → TakesOn received trees means L d offset z piece (bytes_wanted expects taken) d' result)
+  takes : expects ≢ stage.Failed → ((offset : ℕ) (z : List ℕ) → StageHasRead received trees L (types d) offset expects z → StageTakesOn received trees means L d offset z piece (bytes_wanted expects taken) d' result)
       → StageAnswers received trees means L d taken expects piece d' result
   -- there was a fault, so there is another one, and nothing has changed
   fails : expects ≡ stage.Failed → result ≡ Err fault.Failed → d' ≡ d → StageAnswers received trees means L d taken expects piece d' result

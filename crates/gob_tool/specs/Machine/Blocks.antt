@@ -8,9 +8,9 @@ use Rattle.gob_tool.specs.declared.fault.ToolFault.TheVariants as fault
 use Rattle.gob_tool.specs.Machine.Gathering.{CountsWrites, Passes, PassesSome}
 
 -- what a run answers then
-abbrev pub told : Result (Unit {0}) Unwritten → Result (Unit {0}) ToolFault
-told (Ok u) = Ok u
-told (Err e) = Err fault.Write
+abbrev pub tool_result : Result (Unit {0}) Unwritten → Result (Unit {0}) ToolFault
+tool_result (Ok u) = Ok u
+tool_result (Err e) = Err fault.Write
 
 -- nothing
 pub passes_nothing : (out : Option (List ℕ)) (held : List ℕ) → Passes out out (held ++ []) held (Ok tt)

@@ -1,13 +1,16 @@
 use Rattle.std.proofs.Common.{arith}
-use Rattle.gob_num.proofs.PlaceLaws.{with_first, without_first, none_left}
+use Rattle.gob_num.proofs.PlaceLaws.{passes_none, passes_one_more, passes_both, none_left}
 use Rattle.gob_num.proofs.place.uints_end.Goals as goal
+
+pub numbers-init : goal.numbers-init
+numbers-init c = record { counts = λ l. omega arith; passed = passes_none }
 
 pub numbers-preserved : goal.numbers-preserved
 numbers-preserved c = record {
-  counts = c.in_ok-at.ensures.counts;
-  more = λ end s. c.numbers.invariant.more end (with_first (omega arith) c.in_ok-at.ensures.found.1 s);
-  all = λ end s. without_first (omega arith) c.in_ok-at.ensures.found.1 (c.numbers.invariant.all end s);
+  counts = c.in_ok-end.ensures.counts;
+  passed = passes_both (passes_one_more (omega (arith, c.numbers-test.true)) c.in_ok-end.ensures.found c.numbers.invariant.passed)
+      c.pass_alike-place.ensures;
 }
 
 pub returns-clause-found : goal.returns-clause-found
-returns-clause-found c = c.numbers.invariant.more c.numbers.at (none_left (omega arith))
+returns-clause-found c = c.numbers.invariant.passed.more c.numbers.at (none_left (omega (arith, c.numbers-test.false)))

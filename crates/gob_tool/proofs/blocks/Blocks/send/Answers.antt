@@ -2,7 +2,7 @@
 use Rattle.std.proofs.Common.{◌∙◌}
 use Rattle.gob_stream.specs.Ends.{failed_writes, writer_of}
 use Rattle.gob_tool.specs.Machine.Block.{waiting}
-use Rattle.gob_tool.specs.Machine.Blocks.{counts_both, told}
+use Rattle.gob_tool.specs.Machine.Blocks.{counts_both, tool_result}
 use Rattle.gob_tool.proofs.BlockLaws.{begun_out, counts_failed, whole_out}
 use Rattle.gob_tool.proofs.blocks.Blocks.send.Goals as goal
 
@@ -26,8 +26,8 @@ returns g c =
     record {
       same_output = c.flush.ensures.same_output ∙ one.0;
       sent = λ w. whole_out _ (g.W.Write.contents (writer_of c.send_line.new.out.output.now)) _
-          (waiting c.args.self.now.block) _ (waiting c.send_line.new.out.block) (told c.flush.result) c.requires.empty
+          (waiting c.args.self.now.block) _ (waiting c.send_line.new.out.block) (tool_result c.flush.result) c.requires.empty
           (c.in_ok-send_line.ensures w.value w.spelled w.within).1 c.flush.ensures.written;
       counted = counts_both (failed_writes c.args.self.now.output.now) (failed_writes c.send_line.new.out.output.now) _
-          (told c.flush.result) one.2 c.flush.ensures.counted;
+          (tool_result c.flush.result) one.2 c.flush.ensures.counted;
     }

@@ -3,7 +3,7 @@ use Rattle.std.proofs.Common.{ℕ, List, ◌∙◌, subst}
 use Rattle.std.specs.Io.KnownBytes.{Appends}
 use Rattle.gob_stream.specs.Ends.{writer_of}
 use Rattle.gob_tool.specs.Machine.Block.{waiting}
-use Rattle.gob_tool.specs.Machine.Blocks.{counts_both, told}
+use Rattle.gob_tool.specs.Machine.Blocks.{counts_both, tool_result}
 use Rattle.gob_tool.proofs.BlockLaws.{waiting_failed, counts_failed, straight_out}
 use Rattle.gob_tool.proofs.blocks.BlocksTextOut.put.Goals as goal
 
@@ -23,8 +23,8 @@ returns g c =
     let mid = contents (writer_of c.flush.new.self.output.now) in
     let same = c.keep.ensures.full c.if-keep.false in (
       c.in_ok-flush.ensures.same_output,
-      straight_out old mid (contents (writer_of c.write_out.new.output)) (waiting c.args.self.now.block) c.args.text.now (waiting c.keep-2.new.self) (told c.write_out.result)
+      straight_out old mid (contents (writer_of c.write_out.new.output)) (waiting c.args.self.now.block) c.args.text.now (waiting c.keep-2.new.self) (tool_result c.write_out.result)
           (subst (λ (t : List ℕ). Appends old mid t) same c.in_ok-flush.ensures.written) c.write_out.ensures.written
           (c.keep-2.ensures.full c.if-keep-2.false ∙ c.in_ok-flush.ensures.empty),
-      counts_both _ _ _ (told c.write_out.result) c.in_ok-flush.ensures.counted c.write_out.ensures.counted,
+      counts_both _ _ _ (tool_result c.write_out.result) c.in_ok-flush.ensures.counted c.write_out.ensures.counted,
     )
