@@ -110,9 +110,9 @@ impl Counted {
         Some(at + 1 + count)
     }
 
-    // Goes over numbers of the last one's size that stand at the place one behind another, at the most so many, and tells
-    // where it ends and how many are left. Nothing is asked of each but that its head is the same: in a list of ints that is
-    // twice as fast as asking where each of them ends.
+    // Goes over numbers of the last one's size that stand at the place one behind another, at the most so many, and
+    // tells where it ends and how many are left. Of each only its head and its first digit are looked at, and no step
+    // waits for the size of the one before: a list of ints takes two thirds of the time of asking where each ends.
     #[inline(always)]
     fn pass_alike(self, bytes: &[u8], begin: usize, most: u64) -> (usize, u64)
         requires counts { CountsDigits self.head self.count }
