@@ -18,9 +18,9 @@ use Rattle.gob_stream.specs.Item.{StreamItem}
 use Rattle.gob_stream.specs.Machine.ReadParts.{Advances, bytes_wanted}
 use Rattle.gob_stream.specs.Reading.{Feeds, ReadingFinishes, ReadsNext, TakesNext}
 use Rattle.gob_stream.specs.Machine.HasRead.{SessionHasRead}
-use Rattle.gob_stream.specs.Stream.{IsItem}
-use Rattle.gob_stream.specs.Whole.{HasBody, HasBegun, HasItem}
-use Rattle.gob_stream.specs.Machine.Between.{IsBetween, PassesItem}
+use Rattle.gob_stream.specs.Stream.{IsItem, AreItems}
+use Rattle.gob_stream.specs.Whole.{HasBody, HasBegun, HasItem, HasItems}
+use Rattle.gob_stream.specs.Machine.Between.{IsBetween, PassesItems}
 
 -- the session has given these items, and taken these bytes
 abbrev pub HasRead : {X O : Type 0} {most : ℕ} → Building X O most → SessionState X O → List StreamItem → List ℕ → Type 0
@@ -111,8 +111,20 @@ ReadsOn {most = most} building s s' used = (items : List StreamItem) (bytes : Li
     → length z ≡ used
     → HasRead building s' (items ++ item ∷ []) (bytes ++ z)
 
--- it has read the item of a value of the type, the first bytes of the piece
-abbrev pub ReadsValue : {X O : Type 0} {most : ℕ} → Building X O most → (s s' : SessionState X O) → TypeId → (used : ℕ)
+-- so many bytes may be the next items, which define nothing
+abbrev pub HasItemsNext : {X O : Type 0} {most : ℕ} → Building X O most → SessionState X O → (used : ℕ) → Type 0
+HasItemsNext {most = most} building s used = HasItems (no_deeper most (limits_of s)) (types_of s) (taken_of s) used
+
+-- it has read such items
+abbrev pub ReadsAll : {X O : Type 0} {most : ℕ} → Building X O most → (s s' : SessionState X O) → (used : ℕ) → Type 0
+ReadsAll {most = most} building s s' used = (items : List StreamItem) (bytes : List ℕ) (given : List StreamItem) (z : List ℕ)
+    → HasRead building s items bytes
+    → AreItems base_table (no_deeper most (limits_of s)) (types_of s) (taken_of s) given z (types_of s)
+    → length z ≡ used
+    → HasRead building s' (items ++ given) (bytes ++ z)
+
+-- it has read so many items, the first bytes of the piece
+abbrev pub ReadsItems : {X O : Type 0} {most : ℕ} → Building X O most → (s s' : SessionState X O) → (count used : ℕ)
     → (piece : List ℕ) → Type 0
-ReadsValue {most = most} building s s' id used piece =
-    PassesItem building.received tree_building.received most s s' id used piece
+ReadsItems {most = most} building s s' count used piece =
+    PassesItems building.received tree_building.received most s s' count used piece

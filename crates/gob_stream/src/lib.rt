@@ -40,6 +40,7 @@ mod session;
 mod stage;
 mod stream_writer;
 mod type_number;
+mod values;
 mod whole;
 mod write_items;
 
@@ -51,5 +52,6 @@ pub use output::Output;
 pub use read_items::read_stream;
 pub use session::{Session, Step};
 pub use stream_writer::StreamWriter;
-pub use whole::{Awaited, Passed, Whole};
+pub use values::Passed;
+pub use whole::{Awaited, Whole};
 pub use write_items::write_stream;

@@ -1,12 +1,12 @@
 //! Items of values that stand whole at the front of a piece.
 
-ghost use Rattle.std.specs.Prelude.{◌≡◌, ◌+◌, ◌^◌, ◌<◌, ℕ, List, pos, None, IsTrue, IfSome};
+ghost use Rattle.std.specs.Prelude.{◌≡◌, ◌+◌, ◌^◌, ◌<◌, ℕ, List, pos, IsTrue, IfSome};
 ghost use Rattle.gob_num.specs.Unsigned.{IsUnsigned};
 ghost use Rattle.gob_num.specs.Signed.{IsSigned};
 ghost use Rattle.gob_types.specs.Defined.{types};
 ghost use Rattle.gob_stream.specs.Body.{MayPut};
 ghost use Rattle.gob_stream.specs.Session.{IsBetweenItems, table_of, taken_of, limits_of};
-ghost use Rattle.gob_stream.specs.Session.{HasBodyNext, HasBegunNext, HasItemNext, ReadsOn, ReadsValue};
+ghost use Rattle.gob_stream.specs.Session.{HasBodyNext, HasBegunNext, HasItemNext, HasItemsNext, ReadsOn, ReadsAll};
 ghost use Rattle.gob_stream.specs.Whole.{HasCount, NamesTypeAt};
 
 use crate::session::Session;
@@ -14,7 +14,6 @@ use crate::stage::Stage;
 use gob_num::{to_signed, uint_at};
 use gob_read::Builder;
 use gob_types::{Table, TypeId};
-use gob_value::is_whole;
 
 /// An item of a value that stands whole at the front of a piece.
 #[derive(Clone, Copy)]
@@ -24,15 +23,6 @@ pub struct Whole<'a> {
     /// What stands behind its type number.
     pub body: &'a [u8],
     /// How many bytes of the piece are in it.
-    pub used: usize,
-}
-
-/// An item of a value that was found to be whole.
-#[derive(Clone, Copy, Debug, PartialEq, Eq)]
-pub struct Passed {
-    /// The id of its type.
-    pub id: TypeId,
-    /// How many bytes of the piece were in it.
     pub used: usize,
 }
 
@@ -56,10 +46,10 @@ struct Announced {
 
 // The type of an item's value.
 #[derive(Clone, Copy)]
-struct Named {
-    id: TypeId,
+pub(crate) struct Named {
+    pub(crate) id: TypeId,
     // Where the type number ends.
-    end: usize,
+    pub(crate) end: usize,
 }
 
 impl<B: Builder> Session<B> {
@@ -129,34 +119,24 @@ impl<B: Builder> Session<B> {
         Some(Announced { count, used })
     }
 
-    /// Goes past the item of a value that stands whole at the front of the piece, and keeps nothing of the value. It
-    /// takes no memory. None says nothing of the piece, and then nothing has changed: [`Session::step`] reads on, and
-    /// refuses what is to be refused.
-    pub fn pass_whole(&mut self, piece: &[u8]) -> Option<Passed>
-        ensures passed { IfSome result (λ item. ReadsValue B.building self.old self.new item.id item.used piece.now) }
-        ensures same { result ≡ None → self.new ≡ self.old }
-        ensures between { IfSome result (λ item. IsBetweenItems self.new) }
-        ensures taken { IfSome result (λ item. taken_of self.new ≡ taken_of self.old + item.used) }
-        ensures types { table_of self.new ≡ table_of self.old }
-        ensures limits { limits_of self.new ≡ limits_of self.old }
-    {
-        let whole = self.whole_value(piece)?;
-        let depth = self.limits.depth().min(B::DEPTH);
-        if !is_whole(&self.types, whole.id, whole.body, depth) {
-            return None;
-        }
-        self.pass(whole.used);
-        Some(Passed {
-            id: whole.id,
-            used: whole.used,
-        })
-    }
-
     /// Goes past so many bytes, which the caller has found to be an item that defines nothing.
     pub fn pass(&mut self, used: usize)
         requires between { IsBetweenItems self.old }
         requires item { HasItemNext B.building self.old used }
         ensures passed { ReadsOn B.building self.old self.new used }
+        ensures between { IsBetweenItems self.new }
+        ensures taken { taken_of self.new ≡ taken_of self.old + used }
+        ensures types { table_of self.new ≡ table_of self.old }
+        ensures limits { limits_of self.new ≡ limits_of self.old }
+    {
+        self.go_past(used);
+    }
+
+    /// Goes past so many bytes, which are items that define nothing.
+    pub(crate) fn go_past(&mut self, used: usize)
+        requires between { IsBetweenItems self.old }
+        requires items { HasItemsNext B.building self.old used }
+        ensures passed { ReadsAll B.building self.old self.new used }
         ensures between { IsBetweenItems self.new }
         ensures taken { taken_of self.new ≡ taken_of self.old + used }
         ensures types { table_of self.new ≡ table_of self.old }
@@ -174,7 +154,7 @@ impl<B: Builder> Session<B> {
 // The type number that stands in the piece from the place on, where values of the type may come now. It is looked for
 // in the piece, and not in the item alone: near the end of its bytes a number is found byte by byte.
 #[inline(always)]
-fn type_of(table: &Table, piece: &[u8], at: usize) -> Option<Named>
+pub(crate) fn type_of(table: &Table, piece: &[u8], at: usize) -> Option<Named>
     ensures names { IfSome result (λ named. NamesTypeAt named.id piece.now at named.end) }
     ensures may { IfSome result (λ named. MayPut (types table.now) named.id) }
 {
@@ -188,7 +168,7 @@ fn type_of(table: &Table, piece: &[u8], at: usize) -> Option<Named>
 
 // The type whose number this is, where it is that of a value.
 #[inline(always)]
-fn value_type(number: u64) -> Option<TypeId>
+pub(crate) fn value_type(number: u64) -> Option<TypeId>
     ensures { IfSome result (λ id. (bytes : List ℕ) → IsUnsigned number bytes → IsSigned (pos id.0) bytes) }
 {
     let number = to_signed(number);

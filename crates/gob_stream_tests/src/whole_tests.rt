@@ -14,11 +14,11 @@ struct Front {
     items: u64,
 }
 
-// The front with so many bytes more, and an item more where one ends with them.
-fn beyond(front: Front, used: usize, is_item: bool) -> Front {
+// The front with so many bytes and items more.
+fn beyond(front: Front, used: usize, items: u64) -> Front {
     Front {
         bytes: front.bytes.saturating_add(used),
-        items: front.items.saturating_add(u64::from(is_item)),
+        items: front.items.saturating_add(items),
     }
 }
 
@@ -32,16 +32,17 @@ fn further(
     if rest.is_empty() {
         return None;
     }
-    if let Some(passed) = session.pass_whole(rest) {
-        return Some(beyond(front, passed.used, true));
+    let passed = session.pass_values(rest);
+    if passed.items > 0 {
+        return Some(beyond(front, passed.used, passed.items));
     }
     let Ok(step) = session.step(alloc, rest) else {
         return None;
     };
     match &step.item {
         Some(Item::Put { .. }) => None,
-        Some(Item::Define { .. }) => Some(beyond(front, step.used, true)),
-        None => Some(beyond(front, step.used, false)),
+        Some(Item::Define { .. }) => Some(beyond(front, step.used, 1)),
+        None => Some(beyond(front, step.used, 0)),
     }
 }
 

@@ -8,7 +8,6 @@ use Rattle.std.proofs.KnownBytes.{Consumes-nil, Consumes-trans, Consumes-kept}
 use Rattle.gob_types.specs.Base.{base_table}
 use Rattle.gob_types.specs.Defined.{types, definition_count}
 use Rattle.gob_types.specs.Table.{Table}
-use Rattle.gob_types.specs.declared.id.TypeId.{TypeId}
 use Rattle.gob_read.specs.Builders.{skip_building, tree_building}
 use Rattle.gob_read.specs.declared.skip_builder.SkipBuilder.{SkipBuilder}
 use Rattle.gob_stream.specs.declared.fault.Fault.{Fault}
@@ -17,11 +16,11 @@ use Rattle.gob_stream.specs.declared.item.Item as declared
 use Rattle.gob_stream.specs.Machine.SessionState.{SessionState}
 use Rattle.gob_stream.specs.Body.{Body, definition, value}
 use Rattle.gob_stream.specs.Bounds.{Bounds, AreLimits, deepest, no_deeper}
-use Rattle.gob_stream.specs.Item.{StreamItem, puts}
+use Rattle.gob_stream.specs.Item.{StreamItem}
 use Rattle.gob_stream.specs.Outcome.{Outcome, refused}
 use Rattle.gob_stream.specs.Machine.ReadParts.{AdvancesOver, over_some, over_item}
 use Rattle.gob_stream.specs.Reading.{Taken, ReadingFinishes}
-use Rattle.gob_stream.specs.Session.{ReadsValue, StepAnswers}
+use Rattle.gob_stream.specs.Session.{ReadsItems, StepAnswers}
 use Rattle.gob_stream.specs.Stream.{Stream, AreItems, no_more, and_then, counted}
 use Rattle.gob_stream.proofs.PublicLaws.{after_gives, stands_within}
 use Rattle.gob_tool.specs.declared.check.Tally.{Tally}
@@ -163,19 +162,30 @@ pub items_end : {s : SessionState SkipBuilder (Unit {0})} {n : ℕ} {bytes : Lis
     → n ≤ s.limits.stream + 9
 items_end h = let bound = stands_within h.gave in let few = items_within h.gave in omega (arith, h.items_are)
 
--- the item of a value that stands whole
-pub counts_whole : {s s' : SessionState SkipBuilder (Unit {0})} {id : TypeId} {used n n' : ℕ} {piece : List ℕ}
-    → ReadsValue skip_building s s' id used piece → n' ≡ n + 1
+-- items of values that stand whole
+pub counts_passed : {s s' : SessionState SkipBuilder (Unit {0})} {count used n n' : ℕ} {piece : List ℕ}
+    → ReadsItems skip_building s s' count used piece → 0 < count → n' ≡ n + count
     → (bytes : List ℕ) → HasCounted s n bytes → CountsOn s' n n' bytes piece used
-counts_whole {id = id} p e bytes h = record {
+counts_passed p some e bytes h = record {
   within = p.within;
   nearer = omega (arith, e);
   counted = record {
-    given = h.given ++ puts id p.value ∷ [];
+    given = h.given ++ p.given;
     gave = p.passed h.given bytes h.gave;
-    items_are = omega (arith, e, h.items_are, length-append h.given (puts id p.value ∷ []));
+    items_are = omega (arith, e, p.counted, h.items_are, length-append h.given p.given);
   };
 }
+
+-- or none of them
+pub counted_still : {s s' : SessionState SkipBuilder (Unit {0})} {count used n : ℕ} {piece bytes : List ℕ}
+    → ReadsItems skip_building s s' count used piece → count ≡ 0 → HasCounted s n bytes → HasCounted s' n bytes
+counted_still {s' = s'} {piece = piece} {bytes = bytes} p none h =
+    let same : bytes ++ take _ piece ≡ bytes = ap (λ n. bytes ++ take n piece) (p.none none) ∙ append-nil bytes in
+    record {
+      given = h.given ++ p.given;
+      gave = subst (λ z. GaveCounts s' (h.given ++ p.given) z) same (p.passed h.given bytes h.gave);
+      items_are = omega (arith, none, p.counted, h.items_are, length-append h.given p.given);
+    }
 
 -- an item that is whole with the bytes of a step
 pub counts_item : {s s' : SessionState SkipBuilder (Unit {0})} {used n n' : ℕ} {bytes piece : List ℕ}
@@ -214,12 +224,6 @@ step_stops s s' items bytes piece (reading.Refused R) f = (items, f.0)
 step_stops s s' items bytes piece reading.Read f = absurd f
 step_stops s s' items bytes piece reading.Memory f = tt
 step_stops s s' items bytes piece reading.Failed f = absurd f
-
--- a session in which nothing has changed
-pub counted_still : {s s' : SessionState SkipBuilder (Unit {0})} {n : ℕ} {bytes : List ℕ} → s' ≡ s
-    → HasCounted s n bytes → HasCounted s' n bytes
-counted_still {n = n} {bytes = bytes} e h = subst (λ (s : SessionState SkipBuilder (Unit {0})). HasCounted s n bytes)
-    (sym e) h
 
 -- from item to item
 pub counts_none_yet : {s : SessionState SkipBuilder (Unit {0})} {n : ℕ} (piece bytes : List ℕ) → HasCounted s n bytes

@@ -164,8 +164,8 @@ fn count_piece(
     Ok(())
 }
 
-/// Takes bytes from the front of the piece, none behind the end of an item, and counts the item that is whole with
-/// them. Answers how many it took. Nothing is built of a value that stands whole.
+/// Takes bytes from the front of the piece, and counts the items that are whole with them: those of values that stand
+/// whole, or else one at the most. Answers how many bytes it took. Nothing is built of a value that stands whole.
 fn count_front(
     alloc: Global,
     session: &mut Session<SkipBuilder>,
@@ -181,21 +181,18 @@ fn count_front(
     ensures used { IfOk result (λ used. used ≤ length piece.now) }
     ensures limits { limits_of session.new ≡ limits_of session.old }
 {
-    match session.pass_whole(piece) {
-        Some(passed) => {
+    let passed = session.pass_values(piece);
+    if passed.items > 0 {
+        *items += passed.items;
+        return Ok(passed.used);
+    }
+    let step = session.step(alloc, piece)?;
+    let used = step.used;
+    match &step.item {
+        Some(_) => {
             *items += 1;
-            Ok(passed.used)
+            Ok(used)
         }
-        None => {
-            let step = session.step(alloc, piece)?;
-            let used = step.used;
-            match &step.item {
-                Some(_) => {
-                    *items += 1;
-                    Ok(used)
-                }
-                None => Ok(used),
-            }
-        }
+        None => Ok(used),
     }
 }

@@ -1,8 +1,9 @@
 -- A body that is one whole value.
-use Rattle.std.proofs.Common.{◌≡◌, ℕ, ◌≤◌, List, [], ◌∷◌, length, Option, Some, IfSome, drop, arith, refl, sym, ap, ◌∙◌, subst, Bool, true, false}
+use Rattle.std.proofs.Common.{◌≡◌, ℕ, ◌+◌, ◌-◌, ◌<◌, ◌≤◌, List, [], ◌∷◌, ◌++◌, length, Option, Some, IfSome, take, drop, arith, refl}
+use Rattle.std.proofs.Common.{sym, ap, ◌∙◌, subst, Bool, true, false, get_or, length-append, length-drop}
 use Rattle.std.specs.Prelude.{slice_get}
 use Rattle.std.proofs.Math.Seq.{drop-length}
-use Rattle.std.proofs.lemmas.List.{append-nil}
+use Rattle.std.proofs.lemmas.List.{append-nil, drop_more, take_at}
 use Rattle.gob_types.specs.declared.id.TypeId.{TypeId}
 use Rattle.gob_types.specs.declared.kind.Fields as declared
 use Rattle.gob_types.specs.declared.kind.Kind.{Kind}
@@ -10,9 +11,9 @@ use Rattle.gob_types.specs.declared.kind.Kind.TheVariants as kind
 use Rattle.gob_types.specs.declared.kind.Shape.{Shape}
 use Rattle.gob_types.specs.Table.{Table, shape_of}
 use Rattle.gob_value.specs.Spelling.{SpellsAs, of_type}
-use Rattle.gob_value.specs.Top.{IsStruct, at_once, tagged}
+use Rattle.gob_value.specs.Top.{IsStruct, SpellsTop, at_once, tagged}
 use Rattle.gob_value.specs.Tidy.{of_type as type_tidy}
-use Rattle.gob_value.specs.Whole.{IsWhole, IsTidyWhole, IsWholeSo, HoldsBetween, BeginsKind}
+use Rattle.gob_value.specs.Whole.{IsWhole, IsTidyWhole, IsWholeSo, IsWholeBetween, HoldsBetween, BeginsKind, BeginsTop}
 
 a_struct : (k : Kind) (fields : declared.Fields) → k ≡ kind.Struct fields → IsStruct k
 a_struct k fields e = rw e tt
@@ -44,28 +45,82 @@ tidy_whole w = record { value = w.value; spelled = w.spelled; within = w.within;
 pub given : {A : Type 0} (P : A → Type 0) {r : Option A} {x : A} → r ≡ Some x → IfSome r P → P x
 given P e p = subst (λ r. IfSome r P) e p
 
--- a value that stands up to the end
-up_to_end : (T : Table) (tidy : Bool) (k : Kind) (limit : ℕ) (body : List ℕ) (at end : ℕ) → end ≡ length body
-    → HoldsBetween (BeginsKind T tidy k limit) body at end → BeginsKind T tidy k limit (drop at body) []
-up_to_end T tidy k limit body at end e s =
-    subst (BeginsKind T tidy k limit (drop at body)) (ap (λ n. drop n body) e ∙ drop-length body) s.begins
+-- ---- behind a tag or without one
+module _ {T : Table} {tidy : Bool} {k : Kind} {a b : ℕ} (less : a ≤ b) where
+  pub struct_top : (fields : declared.Fields) → k ≡ kind.Struct fields → (x y : List ℕ) → BeginsKind T tidy k a x y
+      → BeginsTop T tidy k b x y
+  struct_top fields e x y p =
+      let w = p.within in
+      record {
+        value = p.value;
+        bytes = p.bytes;
+        spelled = λ t s f g. at_once f (a_struct s.kind fields (g ∙ e))
+            (of_type f (subst (λ k. SpellsAs T k p.value p.bytes) (sym g) p.spelled));
+        within = omega arith;
+        tidied = p.tidied;
+        whole = p.whole;
+      }
 
-module _ (T : Table) (tidy : Bool) (t : TypeId) (s : Shape) (limit : ℕ) (body : List ℕ) where
-  pub struct_whole : (fields : declared.Fields) (at end : ℕ) → shape_of T t ≡ Some s → s.kind ≡ kind.Struct fields
-      → at ≡ 0 → end ≡ length body → HoldsBetween (BeginsKind T tidy s.kind limit) body at end → IsWholeSo T tidy t limit body
-  struct_whole fields at end f k first last p =
-      let b = up_to_end T tidy s.kind limit body at end last p in
-      let all : body ≡ b.bytes = ap (λ n. drop n body) (sym first) ∙ b.whole ∙ append-nil b.bytes in
-      let spelled = of_type f (subst (SpellsAs T s.kind b.value) (sym all) b.spelled) in
-      record { value = b.value; spelled = at_once f (a_struct s.kind fields k) spelled; within = b.within; tidied = λ a. type_tidy f (b.tidied a) }
+  tagged_top : ((fields : declared.Fields) → ¬ (k ≡ kind.Struct fields)) → (x y : List ℕ) → BeginsKind T tidy k a x y
+      → BeginsTop T tidy k b (0 ∷ x) y
+  tagged_top n x y p =
+      let w = p.within in
+      record {
+        value = p.value;
+        bytes = 0 ∷ p.bytes;
+        spelled = λ t s f g. tagged f (no_struct s.kind (λ fields h. n fields (sym g ∙ h)))
+            (of_type f (subst (λ k. SpellsAs T k p.value p.bytes) (sym g) p.spelled));
+        within = omega arith;
+        tidied = p.tidied;
+        whole = ap (λ r. 0 ∷ r) p.whole;
+      }
 
-  pub tagged_whole : (at end : ℕ) → shape_of T t ≡ Some s
-      → ((fields : declared.Fields) → ¬ (s.kind ≡ kind.Struct fields)) → slice_get body 0 ≡ Some 0 → at ≡ 1
-      → end ≡ length body
-      → HoldsBetween (BeginsKind T tidy s.kind limit) body at end → IsWholeSo T tidy t limit body
-  tagged_whole at end f k tag first last p =
-      let b = up_to_end T tidy s.kind limit body at end last p in
-      let rest : drop 1 body ≡ b.bytes = ap (λ n. drop n body) (sym first) ∙ b.whole ∙ append-nil b.bytes in
-      let all : body ≡ 0 ∷ b.bytes = first_of body 0 tag ∙ ap (λ r. 0 ∷ r) rest in
-      let spelled = tagged f (no_struct s.kind k) (of_type f b.spelled) in
-      rw all (record { value = b.value; spelled = spelled; within = b.within; tidied = λ a. type_tidy f (b.tidied a) })
+  pub behind_tag : ((fields : declared.Fields) → ¬ (k ≡ kind.Struct fields)) → (body : List ℕ) (at end : ℕ)
+      → at < length body → get_or body at 0 ≡ 0 → HoldsBetween (BeginsKind T tidy k a) body (at + 1) end
+      → HoldsBetween (BeginsTop T tidy k b) body at end
+  behind_tag n body at end some tag p =
+      let first : drop at body ≡ 0 ∷ drop (at + 1) body =
+      drop_more body at 0 some ∙ ap (λ b. b ∷ drop (at + 1) body) tag in
+      record {
+        order = omega (arith, p.order);
+        inside = p.inside;
+        begins = subst (λ x. BeginsTop T tidy k b x (drop end body)) (sym first)
+            (tagged_top n (drop (at + 1) body) (drop end body) p.begins);
+      }
+
+-- a value that stands from the first byte up to the end
+pub top_whole : {T : Table} {tidy : Bool} {t : TypeId} {s : Shape} {limit : ℕ} {body : List ℕ} (end : ℕ)
+    → shape_of T t ≡ Some s → end ≡ length body → HoldsBetween (BeginsTop T tidy s.kind limit) body 0 end
+    → IsWholeSo T tidy t limit body
+top_whole {T = T} {t = t} {body = body} end f last p =
+    let b = p.begins in
+    let none : drop end body ≡ [] = ap (λ n. drop n body) last ∙ drop-length body in
+    let all : body ≡ b.bytes = b.whole ∙ ap (λ r. b.bytes ++ r) none ∙ append-nil b.bytes in
+    record {
+      value = b.value;
+      spelled = subst (SpellsTop T t b.value) (sym all) (b.spelled t _ f refl);
+      within = b.within;
+      tidied = λ a. type_tidy f (b.tidied a);
+    }
+
+-- the bytes of a value that stands anywhere
+pub top_between : {T : Table} {k : Kind} {limit : ℕ} (body : List ℕ) (at end : ℕ)
+    → HoldsBetween (BeginsTop T false k limit) body at end → IsWholeBetween T k limit body at end
+top_between {T = T} {k = k} {limit = limit} body at end p =
+    let b = p.begins in
+    let order = p.order in
+    let parts : length (drop at body) ≡ length b.bytes + length (drop end body) =
+    ap length b.whole ∙ length-append b.bytes (drop end body) in
+    let size : length b.bytes ≡ end - at =
+    omega (arith, parts, p.inside, length-drop at body, length-drop end body) in
+    let same : take (end - at) (drop at body) ≡ b.bytes =
+    ap (λ x. take (end - at) x) b.whole ∙ take_at b.bytes (drop end body) (end - at) size in
+    record {
+      order = order;
+      inside = p.inside;
+      whole = λ t s f g. record {
+        value = b.value;
+        spelled = subst (SpellsTop T t b.value) (sym same) (b.spelled t s f g);
+        within = b.within;
+      };
+    }

@@ -1,6 +1,6 @@
 -- Values that stand whole at the front of a piece of a stream, no deeper than a limit, and what stands behind them.
 -- (docs/FORMAT.md, Values; Depth.)
-use Rattle.std.specs.Prelude.{◌≡◌, ℕ, ◌≤◌, Bool, IsTrue, List, ◌++◌, length, drop, Some}
+use Rattle.std.specs.Prelude.{◌≡◌, ℕ, ◌-◌, ◌≤◌, Bool, IsTrue, List, ◌++◌, length, take, drop, Some}
 use Rattle.gob_num.specs.Unsigned.{IsUnsigned}
 use Rattle.gob_types.specs.declared.id.TypeId.{TypeId}
 use Rattle.gob_types.specs.declared.basic.Basic.TheVariants as basic
@@ -20,6 +20,13 @@ pub record IsWhole (T : Table) (t : TypeId) (limit : ℕ) (bytes : List ℕ) : T
   pub value : Tree
   pub spelled : SpellsTop T t value bytes
   pub within : depth value ≤ limit
+
+-- from one place up to the other they are a value of each type of the kind, behind its tag where it isn't a struct
+pub record IsWholeBetween (T : Table) (k : Kind) (limit : ℕ) (bytes : List ℕ) (at end : ℕ) : Type 0 where
+  pub order : at ≤ end
+  pub inside : end ≤ length bytes
+  pub whole : (t : TypeId) (s : Shape) → shape_of T t ≡ Some s → s.kind ≡ k
+      → IsWhole T t limit (take (end - at) (drop at bytes))
 
 -- a value that is its own tidy form
 pub record IsTidyWhole (T : Table) (t : TypeId) (limit : ℕ) (bytes : List ℕ) : Type 0 where
@@ -47,6 +54,15 @@ pub record BeginsKind (T : Table) (tidy : Bool) (k : Kind) (limit : ℕ) (piece 
   pub value : Tree
   pub bytes : List ℕ
   pub spelled : SpellsAs T k value bytes
+  pub within : depth value ≤ limit
+  pub tidied : IsTrue tidy → TidiesAs T k value value
+  pub whole : piece ≡ bytes ++ rest
+
+-- with a value of a type of the kind, behind its tag where it isn't a struct
+pub record BeginsTop (T : Table) (tidy : Bool) (k : Kind) (limit : ℕ) (piece rest : List ℕ) : Type 0 where
+  pub value : Tree
+  pub bytes : List ℕ
+  pub spelled : (t : TypeId) (s : Shape) → shape_of T t ≡ Some s → s.kind ≡ k → SpellsTop T t value bytes
   pub within : depth value ≤ limit
   pub tidied : IsTrue tidy → TidiesAs T k value value
   pub whole : piece ≡ bytes ++ rest

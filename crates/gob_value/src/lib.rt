@@ -15,8 +15,8 @@
 //! - [`spell`] appends the one spelling of a value that is.
 //! - [`shape_from`] gives the shape that a description gives, and [`describe`] a description of a shape.
 //! - [`is_whole`] says whether bytes are a value of a type, and keeps nothing of it. [`is_tidy_whole`] says so of one
-//!   that is its own tidy form. [`whole_elements`] and [`whole_entries`] say how much of a list or a map stands whole
-//!   in a piece of it.
+//!   that is its own tidy form. [`whole_end`] says where a value ends that stands in more bytes, [`whole_elements`] and
+//!   [`whole_entries`] how much of a list or a map stands whole in a piece of it.
 //! - [`number_at`] reads a number where it stands in a body, [`number_end`] says where it ends, and [`field_number`]
 //!   tells the field by the delta.
 //! - [`tidy`] leaves out of each struct the fields that Go's encoder leaves out.
@@ -66,5 +66,5 @@ pub use number::{field_number, number_at, number_end};
 pub use spelling::spell;
 pub use tidying::tidy;
 pub use value::Value;
-pub use whole::{is_tidy_whole, is_whole};
+pub use whole::{is_tidy_whole, is_whole, whole_end};
 pub use whole_parts::{WholeParts, whole_elements, whole_entries};

@@ -8,7 +8,7 @@ ghost use Rattle.gob_types.specs.declared.kind.Kind.TheVariants as kind;
 ghost use Rattle.gob_types.specs.declared.id.TypeId.{TypeId};
 ghost use Rattle.gob_types.specs.declared.kind.Shape.{Shape};
 ghost use Rattle.gob_value.specs.Whole.{IsWhole, IsTidyWhole, IsWholeSo, HoldsNumbers, HoldsBetween, BeginsKind, BeginsEach};
-ghost use Rattle.gob_value.specs.Whole.{BeginsPairs, BeginsFields, BeginsField, BeginsRaw, BeginsKept};
+ghost use Rattle.gob_value.specs.Whole.{BeginsPairs, BeginsFields, BeginsField, BeginsRaw, BeginsKept, BeginsTop, IsWholeBetween};
 
 use crate::number::{field_number, number_at, number_end};
 use gob_num::uints_end;
@@ -32,28 +32,54 @@ pub fn is_tidy_whole<S: Shapes>(shapes: &S, id: TypeId, body: &[u8], depth: u64)
     is_whole_so::<S, true>(shapes, id, body, depth)
 }
 
-// Whether the bytes are a value of the type, which is its own tidy form where `TIDY` asks for one. The fields of a
-// struct are looked at without a call, since most items are small structs.
+/// Where a value of the kind ends that stands in the bytes from the place on, behind its tag where it isn't a struct, no
+/// deeper than `depth`. It takes no memory. None says nothing: what is deeper than 1000 may be a value all the same.
+#[inline(always)]
+pub fn whole_end<S: Shapes>(
+    shapes: &S,
+    kind: &Kind,
+    bytes: &[u8],
+    at: usize,
+    depth: u64,
+) -> Option<usize>
+    ensures { IfSome result (λ end. IsWholeBetween (S.table shapes.now) kind.now depth bytes.now at end) }
+{
+    top_end::<S, false>(shapes, kind, bytes, at, depth)
+}
+
+// Whether the bytes are a value of the type, which is its own tidy form where `TIDY` asks for one.
 fn is_whole_so<S: Shapes, const TIDY: bool>(shapes: &S, id: TypeId, body: &[u8], depth: u64) -> bool
     ensures { IsTrue result → IsWholeSo (S.table shapes.now) TIDY id depth body.now }
 {
     let Some(shape) = shapes.shape_of(id) else {
         return false;
     };
-    let most = depth.min(MOST_DEPTH);
-    if most == 0 {
-        return false;
-    }
-    let end = match &shape.kind {
-        Kind::Struct { fields } => fields_end::<S, TIDY>(shapes, fields, body, 0, most - 1),
-        kind => match body.first() {
-            Some(0) => value_end::<S, TIDY>(shapes, kind, body, 1, most),
-            _ => return false,
-        },
-    };
-    match end {
+    match top_end::<S, TIDY>(shapes, &shape.kind, body, 0, depth) {
         Some(end) => end == body.len(),
         None => false,
+    }
+}
+
+// Where a value of the kind ends that stands in the body from the place on, behind its tag where it isn't a struct. The
+// fields of a struct are looked at without a call, since most items are small structs.
+#[inline(always)]
+fn top_end<S: Shapes, const TIDY: bool>(
+    shapes: &S,
+    kind: &Kind,
+    body: &[u8],
+    at: usize,
+    depth: u64,
+) -> Option<usize>
+    ensures { IfSome result (λ end. HoldsBetween (BeginsTop (S.table shapes.now) TIDY kind.now depth) body.now at end) }
+{
+    let most = depth.min(MOST_DEPTH);
+    if most == 0 || at >= body.len() {
+        return None;
+    }
+    match kind {
+        Kind::Struct { fields } => fields_end::<S, TIDY>(shapes, fields, body, at, most - 1),
+        _ if body[at] == 0 => value_end::<S, TIDY>(shapes, kind, body, at + 1, most),
+        _ => None,
     }
 }
 

@@ -1,14 +1,15 @@
 -- Items of values that stand whole at the front of a piece.
-use Rattle.std.proofs.Common.{◌≡◌, ℕ, pos, ◌+◌, ◌-◌, ◌<◌, ◌≤◌, List, [], ◌∷◌, ◌++◌, length, take, drop, min, arith, refl}
+use Rattle.std.proofs.Common.{◌≡◌, ℕ, pos, ◌+◌, ◌-◌, ◌<◌, ◌≤◌, List, [], ◌∷◌, ◌++◌, length, take, drop, min, arith, refl, Option, Some, IfSome}
 use Rattle.std.proofs.Common.{sym, ap, ◌∙◌, subst, append_assoc, length-append, length-drop}
-use Rattle.std.proofs.Math.Seq.{take-add, take_all}
-use Rattle.std.proofs.lemmas.List.{length-take-le, take-append-drop, append-nil, drop-drop}
+use Rattle.std.proofs.Math.Seq.{take-add, take-take}
+use Rattle.std.proofs.lemmas.List.{length-take, length-take-le, take-append-drop, append-nil, drop-drop}
 use Rattle.gob_num.specs.Unsigned.{IsUnsigned}
 use Rattle.gob_num.specs.Place.{IsUnsignedAt}
 use Rattle.gob_num.specs.Signed.{IsSigned}
 use Rattle.gob_num.proofs.PublicLaws.{begins_front}
-use Rattle.gob_num.proofs.PublicLaws.{unsigned_length, unsigned_prefix}
+use Rattle.gob_num.proofs.PublicLaws.{unsigned_prefix}
 use Rattle.gob_types.specs.declared.id.TypeId.{TypeId}
+use Rattle.gob_types.specs.declared.kind.Kind.{Kind}
 use Rattle.gob_types.specs.Table.{Table}
 use Rattle.gob_types.specs.Base.{base_table}
 use Rattle.gob_types.specs.Defined.{types}
@@ -20,14 +21,19 @@ use Rattle.gob_stream.specs.Machine.SessionState.{SessionState}
 use Rattle.gob_stream.specs.Bounds.{Bounds, no_deeper}
 use Rattle.gob_stream.specs.Item.{StreamItem, puts}
 use Rattle.gob_stream.specs.Body.{MayPut, value}
-use Rattle.gob_stream.specs.Stream.{IsItem, counted}
+use Rattle.gob_stream.specs.Stream.{IsItem, AreItems, no_more, counted}
 use Rattle.gob_stream.specs.Machine.HasRead.{Received, StageHasRead, in_count, SessionHasRead, IsUsable, has_failed, stands_after}
-use Rattle.gob_value.specs.Whole.{IsWhole}
-use Rattle.gob_stream.specs.Whole.{HasBody, HasBegun, HasCount, HasItem, NamesTypeAt}
-use Rattle.gob_stream.specs.Machine.Between.{IsBetween, PassesItem}
+use Rattle.gob_value.specs.Whole.{IsWhole, IsWholeBetween}
+use Rattle.gob_stream.specs.Whole.{HasBody, HasBegun, HasCount, HasItem, HasItems, NamesTypeAt}
+use Rattle.gob_stream.specs.Whole.{IsOpenKind, AllowsIn, IsValueBetween, AreItemsBetween}
+use Rattle.gob_stream.specs.Machine.Between.{IsBetween, PassesItems}
 use Rattle.gob_stream.specs.Outcome.{LongestStream}
-use Rattle.gob_stream.proofs.Stream.StreamLaws.{NoNext, gives_items, one_more}
+use Rattle.gob_stream.proofs.Stream.StreamLaws.{NoNext, gives_items, items_behind, no_items_empty, one_item}
 use Rattle.gob_stream.proofs.Reader.UnderWayLaws.{count_begins_here, none_expects_count}
+
+-- what is said of an answer that is there
+pub given : {A : Type 0} (P : A → Type 0) {r : Option A} {x : A} → r ≡ Some x → IfSome r P → P x
+given P e p = subst (λ r. IfSome r P) e p
 
 -- the number of a type that stands there, from that number
 pub type_at : {n : ℕ} {id : TypeId} {piece : List ℕ} {at end : ℕ} → IsUnsignedAt n piece at end
@@ -131,17 +137,130 @@ has_item {id = id} {used = used} {piece = piece} most e b w =
 pub between_at : {X O : Type 0} {s : SessionState X O} {at : CountStage} → s.stage ≡ stage.Count at → at.begin ≡ s.taken → IsBetween s
 between_at {at = at} e b = record { number = at.number; stage = e ∙ ap (λ n. count_at n at.number) b }
 
--- ---- going past an item
+-- ---- items that stand whole one behind another
+between_add : (piece : List ℕ) (a b c : ℕ) → a ≤ b → b ≤ c
+    → take (c - a) (drop a piece) ≡ take (b - a) (drop a piece) ++ take (c - b) (drop b piece)
+between_add piece a b c l m =
+    let parts : c - a ≡ b - a + (c - b) = omega arith in
+    let behind : drop (b - a) (drop a piece) ≡ drop b piece =
+    drop-drop (b - a) a piece ∙ ap (λ i. drop i piece) (omega arith) in
+    ap (λ n. take n (drop a piece)) parts ∙ take-add (b - a) (c - b) (drop a piece)
+    ∙ ap (λ r. take (b - a) (drop a piece) ++ take (c - b) r) behind
+
+between_length : (piece : List ℕ) (a b : ℕ) → a ≤ b → b ≤ length piece → length (take (b - a) (drop a piece)) ≡ b - a
+between_length piece a b l m = length-take-le (b - a) (drop a piece) (omega (arith, length-drop a piece))
+
+-- a count, the number of a type and a value of it are an item
+pub value_between : {L : Bounds} {T : Table} {offset item count number limit : ℕ} {id : TypeId} {k : Kind} {piece : List ℕ}
+    {at head begin end : ℕ} → IsUnsignedAt count piece at head → count ≤ item → end ≡ head + count
+    → IsUnsignedAt number piece head begin → ((bytes : List ℕ) → IsUnsigned number bytes → IsSigned (pos id.0) bytes)
+    → IsOpenKind T id k → IsWholeBetween T k limit piece begin end → AllowsIn L item limit offset piece
+    → IsValueBetween L T offset id piece at end
+value_between {L = L} {T = T} {offset = offset} {count = count} {id = id} {piece = piece} {at = at} {head = head} {begin = begin} {end = end} p few last q named o w a =
+    let whole = w.whole id o.shape o.known o.is in
+    let number = take (begin - head) (drop head piece) in
+    let body = take (end - begin) (drop begin piece) in
+    let first = take (head - at) (drop at piece) in
+    let shallow = whole.within in
+    let up = p.order in
+    let on = q.order in
+    let order = w.order in
+    let inside = w.inside in
+    let long : length (number ++ body) ≡ count =
+    ap length (sym (between_add piece head begin end (omega arith) order)) ∙ between_length piece head end (omega arith) inside ∙ omega arith in
+    let all : take (end - at) (drop at piece) ≡ first ++ (number ++ body) =
+    between_add piece at head end (omega arith) (omega arith)
+    ∙ ap (λ r. first ++ r) (between_add piece head begin end (omega arith) order) in
+    let size : length (first ++ (number ++ body)) ≡ end - at =
+    ap length (sym all) ∙ between_length piece at end (omega arith) inside in
+    let item_fits = a.item_is in
+    let deep_enough = a.depth_is in
+    let stream_fits = a.stream_is in
+    record {
+      value = whole.value;
+      order = omega arith;
+      inside = inside;
+      item = subst (λ z. IsItem base_table L T (offset + at) (puts id whole.value) z T) (sym all)
+          (counted (subst (λ n. IsUnsigned n first) (sym long) p.spelled) (omega arith) (omega arith)
+          (value o.may (omega arith) (named number q.spelled) whole.spelled));
+    }
+
+module _ {L : Bounds} {T : Table} {offset : ℕ} {piece : List ℕ} where
+  pub no_items : (at : ℕ) → at ≤ length piece → AreItemsBetween L T offset 0 piece at at
+  no_items at inside =
+      let same : at - at ≡ 0 = omega arith in
+      let none : take (at - at) (drop at piece) ≡ [] = ap (λ n. take n (drop at piece)) same in
+      record {
+        items = [];
+        counted = refl;
+        order = omega arith;
+        inside = inside;
+        are = subst (λ z. AreItems base_table L T (offset + at) [] z T) (sym none) no_more;
+      }
+
+  pub items_more : {n m at mid end : ℕ} → AreItemsBetween L T offset n piece at mid
+      → AreItemsBetween L T offset m piece mid end → AreItemsBetween L T offset (n + m) piece at end
+  items_more {at = at} {mid = mid} {end = end} a b =
+      let first = a.order in
+      let second = b.order in
+      let long = between_length piece at mid a.order a.inside in
+      record {
+        items = a.items ++ b.items;
+        counted = omega (arith, a.counted, b.counted, length-append a.items b.items);
+        order = omega arith;
+        inside = b.inside;
+        are = subst (λ z. AreItems base_table L T (offset + at) (a.items ++ b.items) z T)
+            (sym (between_add piece at mid end a.order b.order))
+            (items_behind a.are (omega (arith, long)) b.are);
+      }
+
+  pub item_more : {n at mid end : ℕ} {id : TypeId} → AreItemsBetween L T offset n piece at mid
+      → IsValueBetween L T offset id piece mid end → AreItemsBetween L T offset (n + 1) piece at end
+  item_more {id = id} a v =
+      let order = v.order in
+      items_more a (record {
+        items = puts id v.value ∷ [];
+        counted = refl;
+        order = omega arith;
+        inside = v.inside;
+        are = one_item v.item;
+      })
+
+items_at_0 : {L : Bounds} {T : Table} {offset count used : ℕ} {piece : List ℕ}
+    → (b : AreItemsBetween L T offset count piece 0 used) → AreItems base_table L T offset b.items (take used piece) T
+items_at_0 {L = L} {T = T} {offset = offset} {used = used} {piece = piece} b =
+    let here : offset + 0 ≡ offset = omega arith in
+    let all : used - 0 ≡ used = omega arith in
+    subst (λ n. AreItems base_table L T n b.items (take used piece) T) here
+    (subst (λ n. AreItems base_table L T (offset + 0) b.items (take n piece) T) all b.are)
+
+-- what a look at the front of a piece finds under the limits that are left
+pub found_items : {X O : Type 0} (most : ℕ) (s : SessionState X O) (piece : List ℕ) (near : ℕ) {count used limit item : ℕ}
+    → ((L : Bounds) (offset : ℕ) → AllowsIn L item limit offset (take near piece)
+    → AreItemsBetween L (types s.types) offset count (take near piece) 0 used)
+    → item ≡ s.limits.item → limit ≡ min s.limits.depth most → near ≤ s.limits.stream - s.taken
+    → AreItemsBetween (no_deeper most s.limits) (types s.types) s.taken count (take near piece) 0 used
+found_items most s piece near are items depths room = are (no_deeper most s.limits) s.taken (record {
+  item_is = omega (arith, items);
+  depth_is = omega (arith, depths);
+  stream_is = omega (arith, room, length-take near piece);
+})
+
+-- ---- going past items
+abbrev pub GoesPast : {X O : Type 0} (received : Received X) (trees : Received TreeBuilder) (most : ℕ)
+    → (s s' : SessionState X O) → (used : ℕ) → Type 0
+GoesPast received trees most s s' used = (items : List StreamItem) (bytes : List ℕ) (given : List StreamItem) (z : List ℕ)
+    → SessionHasRead received trees most s items bytes
+    → AreItems base_table (no_deeper most s.limits) (types s.types) s.taken given z (types s.types)
+    → length z ≡ used → SessionHasRead received trees most s' (items ++ given) (bytes ++ z)
+
 module _ {X O : Type 0} {received : Received X} {trees : Received TreeBuilder} {most : ℕ} where
   pub passed : {s s' : SessionState X O} {at : CountStage} {used : ℕ} → IsBetween s
       → s.stage ≡ stage.Count at
       → s' ≡ record s { taken = s.taken + used; stage = stage.Count (record at { begin = s.taken + used }) }
-      → (items : List StreamItem) (bytes : List ℕ) (item : StreamItem) (z : List ℕ)
-      → SessionHasRead received trees most s items bytes
-      → IsItem base_table (no_deeper most s.limits) (types s.types) s.taken item z (types s.types)
-      → length z ≡ used → SessionHasRead received trees most s' (items ++ item ∷ []) (bytes ++ z)
+      → GoesPast received trees most s s' used
   passed {s =
-      s} {s' = s'} {at = at} {used = used} between is e items bytes item z a there size =
+      s} {s' = s'} {at = at} {used = used} between is e items bytes given z a there size =
       let none : a.under_way ≡ [] = count_begins_here a between.stage refl in
       let same : stage.Count at ≡ count_at s.taken [] = sym is ∙ none_expects_count a none in
       let first : at ≡ record { begin = s.taken; number = [] } = cc in
@@ -153,7 +272,7 @@ module _ {X O : Type 0} {received : Received X} {trees : Received TreeBuilder} {
         front = a.front ++ z;
         under_way = [];
         whole = ap (λ y. y ++ z) front ∙ sym (append-nil (a.front ++ z));
-        stream = one_more a.stream (omega arith) there;
+        stream = items_behind a.stream (omega arith) there;
         stage =
             subst (λ n. StageHasRead {X = X} {O = O} received trees (no_deeper most s.limits) (types s.types)
             (length (a.front ++ z)) (count_at (s.taken + used) n) []) (sym empty)
@@ -163,35 +282,53 @@ module _ {X O : Type 0} {received : Received X} {trees : Received TreeBuilder} {
         room = a.room;
       })
 
-  -- past an item whose body was found to be whole
-  pub passes_item : {s s' : SessionState X O} {id : TypeId} {body : List ℕ} {used : ℕ} {piece : List ℕ} {d : ℕ}
-      → d ≡ min s.limits.depth most
-      → HasBody s.limits (types s.types) s.taken id body used piece → IsWhole (types s.types) id d body
-      → ((items : List StreamItem) (bytes : List ℕ) (item : StreamItem) (z : List ℕ)
-      → SessionHasRead received trees most s items bytes
-      → IsItem base_table (no_deeper most s.limits) (types s.types) s.taken item z (types s.types)
-      → length z ≡ used → SessionHasRead received trees most s' (items ++ item ∷ []) (bytes ++ z))
-      → PassesItem received trees most s s' id used piece
-  passes_item {id = id} {used = used} {piece = piece} e b w f = record {
-    value = w.value;
-    within = b.within;
+  -- past items that were found to stand at the front of a piece
+  pub passes_items : {s s' : SessionState X O} {count used : ℕ} (room : ℕ) (piece : List ℕ)
+      → AreItemsBetween (no_deeper most s.limits) (types s.types) s.taken count (take room piece) 0 used
+      → GoesPast received trees most s s' used → PassesItems received trees most s s' count used piece
+  passes_items {s' = s'} {used = used} room piece b f =
+      let near = b.inside in
+      let short = length-take room piece in
+      let same : take used (take room piece) ≡ take used piece = take-take used room piece (omega (arith, short)) in
+      record {
+        given = b.items;
+        counted = b.counted;
+        within = omega (arith, short);
+        none = λ e. omega (arith, no_items_empty (items_at_0 b) (sym b.counted ∙ e), length-take-le used (take room piece) near);
+        passed = λ items bytes a. subst (λ z. SessionHasRead {X = X} {O = O} received trees most s' (items ++ b.items) (bytes ++ z)) same
+            (f items bytes b.items (take used (take room piece)) a (items_at_0 b) (length-take-le used (take room piece) near));
+      }
+
+  -- and nothing is passed where nothing is found
+  pub passes_none : {s : SessionState X O} {piece : List ℕ} → PassesItems received trees most s s 0 0 piece
+  passes_none {s = s} = record {
+    given = [];
+    counted = refl;
+    within = omega arith;
+    none = λ e. refl;
     passed =
-        λ items bytes a. f items bytes (puts id w.value) (take used piece) a (whole_item most e b w)
-        (length-take-le used piece b.within);
+        λ items bytes a. subst (λ z. SessionHasRead {X = X} {O = O} received trees most s z (bytes ++ [])) (sym (append-nil items))
+        (subst (λ z. SessionHasRead {X = X} {O = O} received trees most s items z) (sym (append-nil bytes)) a);
   }
 
-  -- what stood after some bytes is behind an item, so it stands after some
+  -- what stood after some bytes is behind items, so it stands after some
   pub usable_behind : {s s' : SessionState X O} {used : ℕ} → IsBetween s
-      → HasItem (no_deeper most s.limits) (types s.types) s.taken used
-      → ((items : List StreamItem) (bytes : List ℕ) (item : StreamItem) (z : List ℕ)
-      → SessionHasRead received trees most s items bytes
-      → IsItem base_table (no_deeper most s.limits) (types s.types) s.taken item z (types s.types)
-      → length z ≡ used → SessionHasRead received trees most s' (items ++ item ∷ []) (bytes ++ z))
+      → HasItems (no_deeper most s.limits) (types s.types) s.taken used → GoesPast received trees most s s' used
       → IsUsable received trees most s → IsUsable received trees most s'
   usable_behind {s =
       s} b h f (has_failed e) = let n : stage.Failed ≡ count_at s.taken b.number = sym e ∙ b.stage in cc
   usable_behind b h f (stands_after {items =
-      items} {bytes = bytes} a) = stands_after (f items bytes h.item h.bytes a h.counted h.size)
+      items} {bytes = bytes} a) = stands_after (f items bytes h.items h.bytes a h.are h.size)
+
+-- an item alone
+pub only_item : {L : Bounds} {T : Table} {offset used : ℕ} → HasItem L T offset used → HasItems L T offset used
+only_item h = record { items = h.item ∷ []; bytes = h.bytes; are = one_item h.counted; size = h.size }
+
+-- those at the front of a piece
+pub front_items : {L : Bounds} {T : Table} {offset count used : ℕ} {piece : List ℕ}
+    → AreItemsBetween L T offset count piece 0 used → HasItems L T offset used
+front_items {used = used} {piece = piece} b =
+    record { items = b.items; bytes = take used piece; are = items_at_0 b; size = length-take-le used piece b.inside }
 
 -- ---- an item that has begun
 -- it isn't whole there

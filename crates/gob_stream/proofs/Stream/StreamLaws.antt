@@ -1,5 +1,5 @@
 -- What follows from the definition of a stream: its bytes tell its items.
-use Rattle.std.proofs.Common.{◌≡◌, ◌≢◌, ℕ, ℤ, pos, ◌+◌, ◌<◌, ◌≤◌, List, [], ◌∷◌, ◌++◌, length, arith, refl, sym, ap, ◌∙◌, subst, append_assoc, length-append, ◌⊎◌, inl, inr}
+use Rattle.std.proofs.Common.{◌≡◌, ◌≢◌, ℕ, ℤ, pos, ◌+◌, ◌-◌, ◌<◌, ◌≤◌, List, [], ◌∷◌, ◌++◌, length, arith, refl, sym, ap, ◌∙◌, subst, append_assoc, length-append, ◌⊎◌, inl, inr}
 use Rattle.std.proofs.lemmas.List.{append-nil}
 use Rattle.gob_num.proofs.PublicLaws.{append_split, unsigned_prefix, unsigned_length, signed_prefix}
 use Rattle.gob_types.specs.declared.id.TypeId.{TypeId}
@@ -105,14 +105,37 @@ pub counted_some : {base : Table} {L : Bounds} {T U : Table} {offset : ℕ} {i :
 counted_some (counted {c = c} {d = d} p l s q) = omega (arith, (unsigned_length p).0, length-append c d)
 
 -- ---- streams
--- a stream and one more item
+-- a stream and more items behind it
+pub items_behind : {base : Table} {L : Bounds} {T U V : Table} {offset next : ℕ} {items more : List StreamItem} {b c : List ℕ}
+    → AreItems base L T offset items b U → next ≡ offset + length b → AreItems base L U next more c V
+    → AreItems base L T offset (items ++ more) (b ++ c) V
+items_behind {base = base} {L = L} {T = T} {V = V} {next = next} {more = more} {c = c} (no_more {offset = offset}) e r =
+    let here : next ≡ offset = omega arith in
+    subst (λ n. AreItems base L T n more c V) here r
+items_behind {base = base} {L = L} {T = T} {V = V} {offset = offset} {more = more} {c = c} (and_then {i = j} {items = items} {b = a} {c = b} p e r) f q =
+    subst (λ c. AreItems base L T offset (j ∷ items ++ more) c V) (sym (append_assoc a b c)) (and_then p e (items_behind r (omega (arith, length-append a b)) q))
+
+-- items stand within the limit for the stream
+pub items_within : {base : Table} {L : Bounds} {T U : Table} {offset : ℕ} {items : List StreamItem} {b : List ℕ} → AreItems base L T offset items b U
+    → length b ≤ L.stream - offset
+items_within no_more = omega arith
+items_within (and_then {b = b} {c = c} (counted u l m p) e r) = let rest = items_within r in omega (arith, length-append b c)
+
+-- no items are no bytes
+pub no_items_empty : {base : Table} {L : Bounds} {T U : Table} {offset : ℕ} {items : List StreamItem} {b : List ℕ} → AreItems base L T offset items b U
+    → length items ≡ 0 → length b ≡ 0
+no_items_empty no_more e = refl
+no_items_empty (and_then p f r) e = absurd (omega arith)
+
+-- and one item
+pub one_item : {base : Table} {L : Bounds} {T U : Table} {offset : ℕ} {i : StreamItem} {b : List ℕ} → IsItem base L T offset i b U
+    → AreItems base L T offset (i ∷ []) b U
+one_item {base = base} {L = L} {T = T} {U = U} {offset = offset} {i = i} {b = b} p =
+    subst (λ c. AreItems base L T offset (i ∷ []) c U) (append-nil b) (and_then p refl no_more)
+
 pub one_more : {base : Table} {L : Bounds} {T U V : Table} {offset next : ℕ} {i : StreamItem} {items : List StreamItem} {b c : List ℕ}
     → AreItems base L T offset items b U → next ≡ offset + length b → IsItem base L U next i c V → AreItems base L T offset (items ++ i ∷ []) (b ++ c) V
-one_more {base = base} {L = L} {T = T} {V = V} {next = next} {i = i} {c = c} (no_more {offset = offset}) e p =
-    let here : next ≡ offset = omega arith in
-    subst (λ c. AreItems base L T offset (i ∷ []) c V) (append-nil c) (and_then (subst (λ n. IsItem base L T n i c V) here p) refl no_more)
-one_more {base = base} {L = L} {T = T} {V = V} {offset = offset} {i = i} {c = c} (and_then {i = j} {items = items} {b = a} {c = b} p e r) f q =
-    subst (λ c. AreItems base L T offset (j ∷ items ++ i ∷ []) c V) (sym (append_assoc a b c)) (and_then p e (one_more r (omega (arith, length-append a b)) q))
+one_more r e p = items_behind r e (one_item p)
 
 -- no item begins these bytes
 abbrev pub NoNext : Table → Bounds → Table → ℕ → List ℕ → Type 0

@@ -1,21 +1,11 @@
-use Rattle.std.proofs.Common.{refl}
-use Rattle.gob_stream.proofs.Reader.WholeSteps.{passed, usable_behind}
-use Rattle.gob_stream.proofs.session.Session.pass.Goals.{in-Count, in_default}
+use Rattle.std.proofs.Common.{[], ◌∷◌}
+use Rattle.gob_stream.proofs.Reader.WholeSteps.{only_item}
+use Rattle.gob_stream.proofs.Stream.StreamLaws.{one_item}
 use Rattle.gob_stream.proofs.session.Session.pass.Goals as goal
 
-pub returns-clause-passed : goal.returns-clause-passed
-returns-clause-passed g c =
-    let between = rw (← c.self.view_is) at c.requires.between in
-    rw (← c.self.view_is) (elim c.match-self.branch [
-      | in-Count w ↦ rw w.self-inside-is (passed between w.in-Count.is refl)
-      | in_default w ↦ absurd (w.in_default.not-Count _ between.stage)
-    ])
+pub go_past-requires-clause-items : goal.go_past-requires-clause-items
+go_past-requires-clause-items g c = only_item c.requires.item
 
-pub invariant_of-self : goal.invariant_of-self
-invariant_of-self g c =
-    let between = rw (← c.self.view_is) at c.requires.between in
-    let item = rw (← c.self.view_is) at c.requires.item in
-    elim c.match-self.branch [
-      | in-Count w ↦ rw w.self-inside-is (usable_behind between item (passed between w.in-Count.is refl) c.self.invariant)
-      | in_default w ↦ absurd (w.in_default.not-Count _ between.stage)
-    ]
+pub returns-clause-passed : goal.returns-clause-passed
+returns-clause-passed g c = λ items bytes item z a there size.
+    c.go_past.ensures.passed items bytes (item ∷ []) z a (one_item there) size

@@ -1,0 +1,14 @@
+use Rattle.std.proofs.Common.{arith, refl, subst, pos}
+use Rattle.gob_num.specs.Signed.{IsSigned}
+use Rattle.gob_types.specs.Defined.{types}
+use Rattle.gob_value.specs.Whole.{IsWholeBetween}
+use Rattle.gob_stream.proofs.Reader.WholeSteps.{given, value_between}
+use Rattle.gob_stream.proofs.values.value_end.Goals as goal
+
+pub returns-in-Some-clause-value : goal.returns-in-Some-clause-value
+returns-in-Some-clause-value c = λ L offset a.
+    value_between c.in_ok-count.ensures.found (omega arith) refl c.in_ok-number.ensures.found
+    (λ bytes u. subst (λ n. IsSigned (pos n) bytes) (omega arith) (c.in_ok-value_type.ensures bytes u))
+    c.requires
+    (subst (λ n. IsWholeBetween (types c.args.table.now) c.args.kind.now c.args.depth c.args.piece.now c.in_ok-number.begin n)
+    c.if-place-end.true (given _ c.in-Some.is c.whole_end.ensures)) a
