@@ -1,19 +1,19 @@
 //! Parts of basic types that stand whole in a piece. Those of a struct or of a list are taken one behind another,
 //! without a look at what is expected in between.
 
-ghost use Rattle.std.specs.Prelude.{◌≡◌, ◌+◌, ◌<◌, ◌≤◌, IfOk, IfErr, IfSome, OnOk, [], ◌∷◌, length, take};
+ghost use Rattle.std.specs.Prelude.{◌≡◌, ◌+◌, ◌<◌, ◌≤◌, IfOk, IfSome, [], ◌∷◌, length};
 ghost use Rattle.gob_types.specs.Table.{Table};
 ghost use Rattle.gob_types.specs.declared.kind.Kind.TheVariants as kind;
 ghost use Rattle.gob_read.specs.Machine.Kinds.{HasKind, IsScalar, IsRawKind};
-ghost use Rattle.gob_read.specs.Machine.Running.{IsOpenSomewhere, IsOpenIn, TakesMore, Steps, StopsFor, RefusesAt};
+ghost use Rattle.gob_read.specs.Machine.Running.{IsOpenSomewhere, IsOpenIn, TakesBytes, TakesOfRest, RestAnswers};
 ghost use Rattle.gob_read.specs.Machine.BasicParts.{MayTakeBasic, TakesBasicEvents, IsInFields, IsInList, IsFollowedBy, TakesBasicPart, TakesName};
 ghost use Rattle.gob_read.specs.Machine.BasicParts.{StepsBasicParts};
 
 use crate::builder::Builder;
 use crate::event::RawKind;
 use crate::frame::Frame;
-use crate::next::{Next, NextNumber};
-use crate::run::{Moved, Run};
+use crate::next::{Moved, Next, NextNumber};
+use crate::run::{Advance, Run};
 use crate::state::State;
 use crate::stop::Stop;
 use gob_num::{Memory, Taken, take_uint, to_pattern};
@@ -97,17 +97,12 @@ impl<B: Builder> Run<B> {
         shapes: &S,
         id: TypeId,
         rest: &[u8],
-    ) -> Result<Moved, Stop>
+    ) -> Result<Advance, Stop>
         requires expected { self.old.state.expected ≡ Next.Number (NextNumber.Part id) }
         requires has_read { IsOpenSomewhere (S.table shapes.now) B.building.received self.old }
         requires some { 0 < length rest.now }
         requires room { self.old.taken + length rest.now ≤ self.old.length }
-        ensures used { IfOk result (λ stepped. (0 < stepped.used) × (stepped.used ≤ length rest.now)) }
-        ensures more { IfOk result (λ stepped. TakesMore self.old self.new stepped.used) }
-        ensures ok { IfOk result (λ stepped. Steps (S.table shapes.now) B.building.received self.old self.new
-            (take stepped.used rest.now) stepped.whole) }
-        ensures refused { IfErr result (StopsFor (λ refusal. RefusesAt (S.table shapes.now) B.building.received
-            self.old rest.now refusal)) }
+        ensures { RestAnswers (S.table shapes.now) B.building.received self.old self.new rest.now result }
     {
         let stepped = self.step_basic_parts(shapes, id, rest)?;
         if stepped.used > 0 {
@@ -124,7 +119,7 @@ impl<B: Builder> Run<B> {
         shapes: &S,
         id: TypeId,
         rest: &[u8],
-    ) -> Result<Moved, Memory>
+    ) -> Result<Advance, Memory>
         requires expected { self.old.state.expected ≡ Next.Number (NextNumber.Part id) }
         requires has_read { IsOpenSomewhere (S.table shapes.now) B.building.received self.old }
         requires some { 0 < length rest.now }
@@ -132,12 +127,12 @@ impl<B: Builder> Run<B> {
         ensures { IfOk result (λ stepped. StepsBasicParts (S.table shapes.now) B.building.received self.old self.new rest.now stepped) }
     {
         if self.start != self.taken {
-            return Ok(Moved::NONE);
+            return Ok(Advance::NONE);
         }
         match self.state.stack.innermost() {
             Some(Frame::Fields { id: of, next }) => self.step_parts(shapes, of, next, id, rest),
             Some(Frame::Many { elem, left }) => self.step_elements(shapes, elem, left, rest),
-            _ => Ok(Moved::NONE),
+            _ => Ok(Advance::NONE),
         }
     }
 
@@ -150,7 +145,7 @@ impl<B: Builder> Run<B> {
         next: u64,
         id: TypeId,
         rest: &[u8],
-    ) -> Result<Moved, Memory>
+    ) -> Result<Advance, Memory>
         requires expected { self.old.state.expected ≡ Next.Number (NextNumber.Part id) }
         requires inside { IsInFields of next self.old.state.stack }
         requires has_read { IsOpenSomewhere (S.table shapes.now) B.building.received self.old }
@@ -160,12 +155,15 @@ impl<B: Builder> Run<B> {
     {
         let used = self.take_basic_field(shapes, id, of, next, rest)?;
         if used == 0 || used == rest.len() {
-            return Ok(Moved { used, whole: false });
+            return Ok(Advance {
+                used,
+                moved: Moved::ToNext,
+            });
         }
         let more = self.step_fields(shapes, of, next, &rest[used..])?;
-        Ok(Moved {
+        Ok(Advance {
             used: used + more.used,
-            whole: more.whole,
+            moved: more.moved,
         })
     }
 
@@ -178,7 +176,7 @@ impl<B: Builder> Run<B> {
         of: TypeId,
         next: u64,
         rest: &[u8],
-    ) -> Result<Moved, Memory>
+    ) -> Result<Advance, Memory>
         requires expected { self.old.state.expected ≡ Next.Number NextNumber.Delta }
         requires inside { IsInFields of next self.old.state.stack }
         requires has_read { IsOpenSomewhere (S.table shapes.now) B.building.received self.old }
@@ -186,30 +184,36 @@ impl<B: Builder> Run<B> {
         requires deep { length self.old.state.stack < self.old.depth }
         requires some { 0 < length rest.now }
         requires room { self.old.taken + length rest.now ≤ self.old.length }
-        ensures used { IfOk result (λ stepped. stepped.used ≤ length rest.now) }
-        ensures more { IfOk result (λ stepped. TakesMore self.old self.new stepped.used) }
-        ensures ok { IfOk result (λ stepped. Steps (S.table shapes.now) B.building.received self.old self.new
-            (take stepped.used rest.now) stepped.whole) }
+        ensures { IfOk result (λ stepped. TakesOfRest (S.table shapes.now) B.building.received self.old self.new rest.now stepped) }
     {
         let mut next = next;
         let mut used = 0;
         let Some(fields) = fields_of(shapes, of) else {
-            return Ok(Moved { used, whole: false });
+            return Ok(Advance {
+                used,
+                moved: Moved::ToNext,
+            });
         };
         'fields: for _ in 0..rest.len() {
             if rest[used] == 0 {
-                let whole = self.take_end()?;
-                return Ok(Moved {
+                let moved = self.take_end()?;
+                return Ok(Advance {
                     used: used + 1,
-                    whole,
+                    moved,
                 });
             }
             let Some(entered) = self.take_name(shapes, of, fields, next, rest[used])? else {
-                return Ok(Moved { used, whole: false });
+                return Ok(Advance {
+                    used,
+                    moved: Moved::ToNext,
+                });
             };
             used += 1;
             if used == rest.len() {
-                return Ok(Moved { used, whole: false });
+                return Ok(Advance {
+                    used,
+                    moved: Moved::ToNext,
+                });
             }
             let taken = self.take_basic_field(
                 shapes,
@@ -220,11 +224,17 @@ impl<B: Builder> Run<B> {
             )?;
             used += taken;
             if taken == 0 || used == rest.len() {
-                return Ok(Moved { used, whole: false });
+                return Ok(Advance {
+                    used,
+                    moved: Moved::ToNext,
+                });
             }
             next = entered.next;
         }
-        Ok(Moved { used, whole: false })
+        Ok(Advance {
+            used,
+            moved: Moved::ToNext,
+        })
     }
 
     /// Takes the expected element of the innermost open list, and those behind it, as long as they are of a basic type
@@ -236,7 +246,7 @@ impl<B: Builder> Run<B> {
         elem: TypeId,
         left: u64,
         rest: &[u8],
-    ) -> Result<Moved, Memory>
+    ) -> Result<Advance, Memory>
         requires expected { self.old.state.expected ≡ Next.Number (NextNumber.Part elem) }
         requires inside { IsInList elem left self.old.state.stack }
         requires has_read { IsOpenSomewhere (S.table shapes.now) B.building.received self.old }
@@ -246,7 +256,7 @@ impl<B: Builder> Run<B> {
         ensures { IfOk result (λ stepped. StepsBasicParts (S.table shapes.now) B.building.received self.old self.new rest.now stepped) }
     {
         let Some(basic) = basic_of(shapes, elem) else {
-            return Ok(Moved::NONE);
+            return Ok(Advance::NONE);
         };
         let mut used = 0;
         'elements: for index in 0..left {
@@ -257,10 +267,16 @@ impl<B: Builder> Run<B> {
             let taken = self.take_basic_part(shapes, elem, basic, next, &rest[used..])?;
             used += taken;
             if taken == 0 || used == rest.len() {
-                return Ok(Moved { used, whole: false });
+                return Ok(Advance {
+                    used,
+                    moved: Moved::ToNext,
+                });
             }
         }
-        Ok(Moved { used, whole: false })
+        Ok(Advance {
+            used,
+            moved: Moved::ToNext,
+        })
     }
 
     /// Takes the expected part of a struct, if it is of a basic type and stands whole in the piece. It answers how many
@@ -355,19 +371,18 @@ impl<B: Builder> Run<B> {
         }))
     }
 
-    /// Takes the delta 0 of the innermost open struct, and answers whether the value is whole then.
+    /// Takes the delta 0 of the innermost open struct, and answers where that leads.
     #[inline(always)]
-    fn take_end(&mut self) -> Result<bool, Memory>
+    fn take_end(&mut self) -> Result<Moved, Memory>
         requires expected { self.old.state.expected ≡ Next.Number NextNumber.Delta }
         requires has_read { IsOpenIn B.building.received self.old }
         requires fresh { self.old.start ≡ self.old.taken }
-        ensures more { OnOk result (TakesMore self.old self.new 1) }
-        ensures ok { IfOk result (λ whole. (T : Table) → Steps T B.building.received self.old self.new (0 ∷ []) whole) }
+        ensures { IfOk result (λ moved. (T : Table) → TakesBytes T B.building.received self.old self.new (0 ∷ []) moved) }
     {
-        let whole = self.state.end_fields()?;
+        let moved = self.state.end_fields()?;
         self.taken += 1;
         self.start = self.taken;
-        Ok(whole)
+        Ok(moved)
     }
 }
 

@@ -10,7 +10,7 @@ ghost use Rattle.gob_read.specs.Machine.Steps.{StepRefuses, Blames};
 use crate::builder::Builder;
 use crate::event::GroupKind;
 use crate::frame::Frame;
-use crate::next::{Next, NextNumber};
+use crate::next::{Moved, Next, NextNumber};
 use crate::state::State;
 use crate::stop::Denial;
 use gob_num::Memory;
@@ -24,9 +24,9 @@ impl<B: Builder> State<B> {
         id: TypeId,
         fields: &Fields,
         n: u64,
-    ) -> Result<bool, Denial>
+    ) -> Result<Moved, Denial>
         requires { CanBeginStruct B.building.received self.old id fields.now n }
-        ensures ok { IfOk result (λ whole. BeginsStruct B.building.received self.old self.new id fields.now n whole) }
+        ensures ok { IfOk result (λ moved. BeginsStruct B.building.received self.old self.new id fields.now n moved) }
         ensures refused { IfErr result (Blames (λ reason. LeadsNowhere fields.now 0 n reason)) }
     {
         self.builder.enter(GroupKind::Fields)?;
@@ -36,9 +36,9 @@ impl<B: Builder> State<B> {
 
     /// Takes the delta behind a field of the innermost open struct.
     #[inline(always)]
-    pub(crate) fn take_delta<S: Shapes>(&mut self, shapes: &S, n: u64) -> Result<bool, Denial>
+    pub(crate) fn take_delta<S: Shapes>(&mut self, shapes: &S, n: u64) -> Result<Moved, Denial>
         requires { CanTake (S.table shapes.now) B.building.received self.old NextNumber.Delta n }
-        ensures ok { IfOk result (λ whole. StepTakes (S.table shapes.now) B.building.received self.old self.new n whole) }
+        ensures ok { IfOk result (λ moved. StepTakes (S.table shapes.now) B.building.received self.old self.new n moved) }
         ensures refused { IfErr result (Blames (λ reason. StepRefuses (S.table shapes.now) B.building.received self.old n reason)) }
     {
         let Some(frame) = self.stack.innermost() else {
@@ -59,9 +59,15 @@ impl<B: Builder> State<B> {
     /// Takes a delta of the innermost open struct, which is of this type and has these fields, of which the next
     /// has the number `next` or a greater one.
     #[inline(always)]
-    fn take_field(&mut self, id: TypeId, next: u64, fields: &Fields, n: u64) -> Result<bool, Denial>
+    fn take_field(
+        &mut self,
+        id: TypeId,
+        next: u64,
+        fields: &Fields,
+        n: u64,
+    ) -> Result<Moved, Denial>
         requires { CanGoOn B.building.received self.old id fields.now next n }
-        ensures ok { IfOk result (λ whole. StepGoesOn B.building.received self.old self.new id fields.now next n whole) }
+        ensures ok { IfOk result (λ moved. StepGoesOn B.building.received self.old self.new id fields.now next n moved) }
         ensures refused { IfErr result (Blames (λ reason. LeadsNowhere fields.now next n reason)) }
     {
         if n == 0 {
@@ -72,7 +78,7 @@ impl<B: Builder> State<B> {
             return Err(Denial::Refused(Reason::FieldNumber));
         };
         self.name_field(id, number, field.id)?;
-        Ok(false)
+        Ok(Moved::ToNext)
     }
 
     /// Takes the number of the next field of the innermost open struct, which is of this type, and the type of its
@@ -93,11 +99,11 @@ impl<B: Builder> State<B> {
         Ok(())
     }
 
-    /// Ends the innermost open struct, and answers whether the value is whole then.
+    /// Ends the innermost open struct, and answers where that leads.
     #[inline(always)]
-    pub(crate) fn end_fields(&mut self) -> Result<bool, Memory>
+    pub(crate) fn end_fields(&mut self) -> Result<Moved, Memory>
         requires { CanEndFields B.building.received self.old }
-        ensures { IfOk result (λ whole. EndsFields B.building.received self.old self.new whole) }
+        ensures { IfOk result (λ moved. EndsFields B.building.received self.old self.new moved) }
     {
         self.stack.close();
         self.builder.leave()?;

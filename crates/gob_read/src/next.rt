@@ -40,3 +40,12 @@ pub(crate) enum NextNumber {
     /// The delta behind a field of the innermost open struct.
     Delta,
 }
+
+/// Where the reader has moved with what it took.
+#[derive(Clone, Copy, Debug, PartialEq, Eq)]
+pub(crate) enum Moved {
+    /// To the next expected item, or on within the one that was expected.
+    ToNext,
+    /// Past the whole value.
+    PastValue,
+}

@@ -8,23 +8,23 @@ ghost use Rattle.gob_read.specs.Machine.Steps.{CanBegin, StepBegins, CanTakeFirs
 use crate::builder::Builder;
 use crate::event::{GroupKind, RawKind};
 use crate::frame::Frame;
-use crate::next::{Next, NextNumber};
+use crate::next::{Moved, Next, NextNumber};
 use crate::state::State;
 use crate::stop::Denial;
 use gob_num::{Memory, to_pattern};
 use gob_types::{Basic, Kind, Reason, Shapes, TypeId};
 
 impl<B: Builder> State<B> {
-    /// Takes the first number of a part of the type, and answers whether the value is whole then.
+    /// Takes the first number of a part of the type, and answers where that leads.
     #[inline(always)]
     pub(crate) fn take_first<S: Shapes>(
         &mut self,
         shapes: &S,
         id: TypeId,
         n: u64,
-    ) -> Result<bool, Denial>
+    ) -> Result<Moved, Denial>
         requires { CanTakeFirst (S.table shapes.now) B.building.received self.old id n }
-        ensures ok { IfOk result (λ whole. TakesFirst (S.table shapes.now) B.building.received self.old self.new id n whole) }
+        ensures ok { IfOk result (λ moved. TakesFirst (S.table shapes.now) B.building.received self.old self.new id n moved) }
         ensures refused { IfErr result (Blames (λ reason. RefusesFirst (S.table shapes.now) B.building.received
             self.old id n reason)) }
     {
@@ -56,9 +56,9 @@ impl<B: Builder> State<B> {
 
     /// Takes the first number of a part of a basic type.
     #[inline(always)]
-    fn take_basic(&mut self, basic: Basic, n: u64) -> Result<bool, Denial>
+    fn take_basic(&mut self, basic: Basic, n: u64) -> Result<Moved, Denial>
         requires { CanBegin B.building.received self.old (λ k. k ≡ kind.Basic basic) n }
-        ensures ok { IfOk result (λ whole. StepBegins B.building.received self.old self.new (λ k. k ≡ kind.Basic basic) n whole) }
+        ensures ok { IfOk result (λ moved. StepBegins B.building.received self.old self.new (λ k. k ≡ kind.Basic basic) n moved) }
         ensures refused { IfErr result (Blames (λ reason. IsNoFirst (kind.Basic basic) n reason)) }
     {
         match basic {
@@ -77,7 +77,7 @@ impl<B: Builder> State<B> {
                 self.expected = Next::Number(NextNumber::Second {
                     pattern: to_pattern(n),
                 });
-                Ok(false)
+                Ok(Moved::ToNext)
             }
             Basic::Interface => {
                 if n != 0 {
@@ -90,9 +90,9 @@ impl<B: Builder> State<B> {
 
     /// Takes a part that the number `n` spells, and tells it as `told`.
     #[inline(always)]
-    fn take_number(&mut self, basic: Basic, n: u64, told: u64) -> Result<bool, Memory>
+    fn take_number(&mut self, basic: Basic, n: u64, told: u64) -> Result<Moved, Memory>
         requires { CanBegin B.building.received self.old (λ k. IsScalar k n basic told) n }
-        ensures { IfOk result (λ whole. StepBegins B.building.received self.old self.new (λ k. IsScalar k n basic told) n whole) }
+        ensures { IfOk result (λ moved. StepBegins B.building.received self.old self.new (λ k. IsScalar k n basic told) n moved) }
     {
         self.builder.number(basic, told, 0)?;
         self.after_part()
@@ -100,9 +100,9 @@ impl<B: Builder> State<B> {
 
     /// Takes how many raw bytes the part has.
     #[inline(always)]
-    fn take_length(&mut self, kind: RawKind, n: u64) -> Result<bool, Memory>
+    fn take_length(&mut self, kind: RawKind, n: u64) -> Result<Moved, Memory>
         requires { CanBegin B.building.received self.old (λ k. IsRawKind k kind) n }
-        ensures { IfOk result (λ whole. StepBegins B.building.received self.old self.new (λ k. IsRawKind k kind) n whole) }
+        ensures { IfOk result (λ moved. StepBegins B.building.received self.old self.new (λ k. IsRawKind k kind) n moved) }
     {
         self.builder.raw_start(kind)?;
         if n == 0 {
@@ -110,14 +110,14 @@ impl<B: Builder> State<B> {
             return self.after_part();
         }
         self.expected = Next::Raw { left: n };
-        Ok(false)
+        Ok(Moved::ToNext)
     }
 
     /// Takes how many elements a list has.
     #[inline(always)]
-    fn take_elements(&mut self, elem: TypeId, n: u64) -> Result<bool, Memory>
+    fn take_elements(&mut self, elem: TypeId, n: u64) -> Result<Moved, Memory>
         requires { CanBegin B.building.received self.old (λ k. IsList k n elem) n }
-        ensures { IfOk result (λ whole. StepBegins B.building.received self.old self.new (λ k. IsList k n elem) n whole) }
+        ensures { IfOk result (λ moved. StepBegins B.building.received self.old self.new (λ k. IsList k n elem) n moved) }
     {
         let first = Frame::Many {
             elem,
@@ -128,9 +128,9 @@ impl<B: Builder> State<B> {
 
     /// Takes how many elements or pairs a part has. `first` is open while the first of them is read.
     #[inline(always)]
-    fn take_count(&mut self, group: GroupKind, first: Frame, n: u64) -> Result<bool, Memory>
+    fn take_count(&mut self, group: GroupKind, first: Frame, n: u64) -> Result<Moved, Memory>
         requires { CanBegin B.building.received self.old (λ k. IsGroup k n group first) n }
-        ensures { IfOk result (λ whole. StepBegins B.building.received self.old self.new (λ k. IsGroup k n group first) n whole) }
+        ensures { IfOk result (λ moved. StepBegins B.building.received self.old self.new (λ k. IsGroup k n group first) n moved) }
     {
         self.builder.enter(group)?;
         if n == 0 {
@@ -139,6 +139,6 @@ impl<B: Builder> State<B> {
         }
         self.stack.open(first)?;
         self.expected = Next::Number(first.item());
-        Ok(false)
+        Ok(Moved::ToNext)
     }
 }

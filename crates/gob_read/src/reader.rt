@@ -8,6 +8,7 @@ ghost use Rattle.gob_read.specs.UnderWay.{HasReadBody, HasEnded, FitsTable, Push
 ghost use Rattle.gob_read.specs.Held.{IsHeld};
 
 use crate::builder::Builder;
+use crate::next::Moved;
 use crate::run::Run;
 use crate::stop::Stop;
 use gob_num::Memory;
@@ -75,17 +76,19 @@ impl<B: Builder> BodyReader<B> {
         let room = run.length - run.taken;
         let count = room.min(piece.len() as u64) as usize;
         match run.advance(shapes, &piece[..count]) {
-            Ok(None) => {
-                self.run = Some(run);
-                Ok(Progress::More)
-            }
-            Ok(Some(used)) => {
-                let builder = run.into_builder();
-                Ok(Progress::Done {
-                    out: builder.take(),
-                    used,
-                })
-            }
+            Ok(advance) => match advance.moved {
+                Moved::ToNext => {
+                    self.run = Some(run);
+                    Ok(Progress::More)
+                }
+                Moved::PastValue => {
+                    let builder = run.into_builder();
+                    Ok(Progress::Done {
+                        out: builder.take(),
+                        used: advance.used,
+                    })
+                }
+            },
             Err(stop) => Err(stop),
         }
     }

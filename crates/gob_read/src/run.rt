@@ -1,23 +1,20 @@
 //! A reader under way.
 
-ghost use Rattle.std.specs.Prelude.{◌≡◌, ℕ, ◌+◌, ◌<◌, ◌≤◌, List, [], ◌∷◌, OnOk, IfOk, IfErr, IfNone, IfSome, length};
-ghost use Rattle.std.specs.Prelude.{take};
+ghost use Rattle.std.specs.Prelude.{◌≡◌, ℕ, ◌+◌, ◌<◌, ◌≤◌, List, [], ◌∷◌, IfOk, length};
 ghost use Rattle.gob_num.specs.Unsigned.{IsUnsigned};
 ghost use Rattle.gob_types.specs.declared.id.TypeId.{TypeId};
 ghost use Rattle.gob_types.specs.Table.{Table};
 ghost use Rattle.gob_types.specs.Ready.{IsReady};
 ghost use Rattle.gob_read.specs.Machine.Steps.{CanTake};
-ghost use Rattle.gob_read.specs.Machine.Running.{IsReachedSomewhere, IsOpenSomewhere, TakesMore, Steps, StopsFor};
-ghost use Rattle.gob_read.specs.Machine.Running.{MayGoOn};
-ghost use Rattle.gob_read.specs.Machine.Running.{TakesNumber, RefusesNumber, RefusesAt, JudgesFor, EndsFor, RunGoesOn, RunFinishes};
-ghost use Rattle.gob_read.specs.Machine.Running.{RefusesPiece};
+ghost use Rattle.gob_read.specs.Machine.Running.{IsReachedSomewhere, IsOpenSomewhere, TakesBytes, TakesSome};
+ghost use Rattle.gob_read.specs.Machine.Running.{BytesAnswers, RestAnswers, NumberAnswers, JudgeAnswers, EndAnswers, PieceAnswers};
 ghost use Rattle.gob_read.specs.Machine.Running.{IsNewRun, IsOpenIn, depth_of, begun_parts};
 ghost use Rattle.gob_read.specs.Reader.{HasReadSoFar};
 ghost use Rattle.gob_read.specs.Held.{IsHeld, counted_of};
 
 use crate::builder::{Builder, Stores};
 use crate::frames::Frames;
-use crate::next::{Next, NextNumber};
+use crate::next::{Moved, Next, NextNumber};
 use crate::state::State;
 use crate::stop::{Denial, Stop};
 use gob_num::{Memory, Number, Step, Taken, take_uint};
@@ -54,20 +51,20 @@ impl<B: Builder> Drop for Run<B> {
     }
 }
 
-/// What became of the front of a piece.
+/// How far the reader has come in a piece.
 #[derive(Clone, Copy, Debug, PartialEq, Eq)]
-pub(crate) struct Moved {
+pub(crate) struct Advance {
     /// How many bytes were taken.
     pub(crate) used: usize,
-    /// Whether the value is whole with them.
-    pub(crate) whole: bool,
+    /// Where the reader has moved with them.
+    pub(crate) moved: Moved,
 }
 
-impl Moved {
-    /// Nothing of the piece.
-    pub(crate) const NONE: Moved = Moved {
+impl Advance {
+    /// Nothing of the piece was taken.
+    pub(crate) const NONE: Advance = Advance {
         used: 0,
-        whole: false,
+        moved: Moved::ToNext,
     };
 }
 
@@ -108,22 +105,11 @@ impl<B: Builder> Run<B> {
         })
     }
 
-    /// Reads on, and answers how much of the piece was taken where the value is whole, and the body with it.
-    pub(crate) fn advance<S: Shapes>(
-        &mut self,
-        shapes: &S,
-        piece: &[u8],
-    ) -> Result<Option<usize>, Stop>
+    /// Reads on until the piece is taken, or the value is whole and the body with it.
+    pub(crate) fn advance<S: Shapes>(&mut self, shapes: &S, piece: &[u8]) -> Result<Advance, Stop>
         requires has_read { IsReachedSomewhere (S.table shapes.now) B.building.received self.old }
         requires room { self.old.taken + length piece.now ≤ self.old.length }
-        ensures more { IfOk result (λ done. IfNone done (RunGoesOn (S.table shapes.now) B.building.received self.old
-            self.new piece.now)) }
-        ensures done { IfOk result (λ done. IfSome done (λ used. RunFinishes (S.table shapes.now) B.building.received
-            self.old self.new piece.now used)) }
-        ensures refused { IfErr result (StopsFor (λ refusal. RefusesPiece (S.table shapes.now) B.building.received
-            self.old piece.now refusal)) }
-        ensures length_kept { OnOk result (self.new.length ≡ self.old.length) }
-        ensures depth_kept { OnOk result (self.new.depth ≡ self.old.depth) }
+        ensures { PieceAnswers (S.table shapes.now) B.building.received self.old self.new piece.now result }
     {
         if let Err(stop) = self.judge() {
             return Err(stop);
@@ -132,16 +118,25 @@ impl<B: Builder> Run<B> {
         let mut cut = false;
         'items: for _ in 0..piece.len() {
             if used == piece.len() {
-                return Ok(None);
+                return Ok(Advance {
+                    used,
+                    moved: Moved::ToNext,
+                });
             }
             match self.step(shapes, &piece[used..], &mut cut) {
                 Ok(stepped) => {
                     used += stepped.used;
-                    if stepped.whole {
-                        return match self.finish() {
-                            Ok(()) => Ok(Some(used)),
-                            Err(stop) => Err(stop),
-                        };
+                    match stepped.moved {
+                        Moved::ToNext => {}
+                        Moved::PastValue => {
+                            return match self.finish() {
+                                Ok(()) => Ok(Advance {
+                                    used,
+                                    moved: Moved::PastValue,
+                                }),
+                                Err(stop) => Err(stop),
+                            };
+                        }
                     }
                 }
                 Err(stop) => return Err(stop),
@@ -150,7 +145,10 @@ impl<B: Builder> Run<B> {
                 return Err(stop);
             }
         }
-        Ok(None)
+        Ok(Advance {
+            used,
+            moved: Moved::ToNext,
+        })
     }
 
     /// What is kept of the parts that have begun, and of their raw bytes.
@@ -184,8 +182,7 @@ impl<B: Builder> Run<B> {
     #[inline(always)]
     fn judge(&self) -> Result<(), Stop>
         requires { self.now.taken ≤ self.now.length }
-        ensures ok { OnOk result ((T : Table) → MayGoOn T B.building.received self.now) }
-        ensures refused { IfErr result (StopsFor (λ refusal. (T : Table) → JudgesFor T B.building.received self.now refusal)) }
+        ensures { JudgeAnswers B.building.received self.now result }
     {
         if self.depth_now() > self.depth {
             return Err(self.refuse(self.taken, Reason::TooDeep));
@@ -199,8 +196,7 @@ impl<B: Builder> Run<B> {
     /// Stops where the body goes on behind the value.
     fn finish(&self) -> Result<(), Stop>
         requires { self.now.taken ≤ self.now.length }
-        ensures ok { OnOk result (self.now.taken ≡ self.now.length) }
-        ensures refused { IfErr result (StopsFor (λ refusal. EndsFor B.building.received self.now refusal)) }
+        ensures { EndAnswers B.building.received self.now result }
     {
         if self.taken < self.length {
             return Err(self.refuse(self.taken, Reason::Extra));
@@ -237,16 +233,11 @@ impl<B: Builder> Run<B> {
 
     /// Takes the next item, or as much of it as there is, or parts that stand whole.
     #[inline(always)]
-    fn step<S: Shapes>(&mut self, shapes: &S, rest: &[u8], cut: &mut bool) -> Result<Moved, Stop>
+    fn step<S: Shapes>(&mut self, shapes: &S, rest: &[u8], cut: &mut bool) -> Result<Advance, Stop>
         requires has_read { IsOpenSomewhere (S.table shapes.now) B.building.received self.old }
         requires some { 0 < length rest.now }
         requires room { self.old.taken + length rest.now ≤ self.old.length }
-        ensures used { IfOk result (λ stepped. (0 < stepped.used) × (stepped.used ≤ length rest.now)) }
-        ensures more { IfOk result (λ stepped. TakesMore self.old self.new stepped.used) }
-        ensures ok { IfOk result (λ stepped. Steps (S.table shapes.now) B.building.received self.old self.new
-            (take stepped.used rest.now) stepped.whole) }
-        ensures refused { IfErr result (StopsFor (λ refusal. RefusesAt (S.table shapes.now) B.building.received
-            self.old rest.now refusal)) }
+        ensures { RestAnswers (S.table shapes.now) B.building.received self.old self.new rest.now result }
     {
         match self.state.expected {
             Next::Top { id: _ } => unreachable!(),
@@ -263,66 +254,57 @@ impl<B: Builder> Run<B> {
         shapes: &S,
         item: NextNumber,
         rest: &[u8],
-    ) -> Result<Moved, Stop>
+    ) -> Result<Advance, Stop>
         requires expected { self.old.state.expected ≡ Next.Number item }
         requires has_read { IsOpenSomewhere (S.table shapes.now) B.building.received self.old }
         requires some { 0 < length rest.now }
         requires room { self.old.taken + length rest.now ≤ self.old.length }
-        ensures used { IfOk result (λ stepped. (0 < stepped.used) × (stepped.used ≤ length rest.now)) }
-        ensures more { IfOk result (λ stepped. TakesMore self.old self.new stepped.used) }
-        ensures ok { IfOk result (λ stepped. Steps (S.table shapes.now) B.building.received self.old self.new
-            (take stepped.used rest.now) stepped.whole) }
-        ensures refused { IfErr result (StopsFor (λ refusal. RefusesAt (S.table shapes.now) B.building.received
-            self.old rest.now refusal)) }
+        ensures { RestAnswers (S.table shapes.now) B.building.received self.old self.new rest.now result }
     {
         if self.start == self.taken {
             if let Taken::Whole { number, used } = take_uint(rest) {
                 return match self.take_whole(shapes, item, number, &rest[..used]) {
-                    Ok(whole) => Ok(Moved { used, whole }),
+                    Ok(moved) => Ok(Advance { used, moved }),
                     Err(stop) => Err(stop),
                 };
             }
         }
         match self.take_byte(shapes, item, rest[0]) {
-            Ok(whole) => Ok(Moved { used: 1, whole }),
+            Ok(moved) => Ok(Advance { used: 1, moved }),
             Err(stop) => Err(stop),
         }
     }
 
     /// Takes as many of the expected raw bytes as there are.
-    fn step_raw(&mut self, left: u64, rest: &[u8]) -> Result<Moved, Memory>
+    fn step_raw(&mut self, left: u64, rest: &[u8]) -> Result<Advance, Memory>
         requires expected { self.old.state.expected ≡ Next.Raw left }
         requires has_read { IsOpenIn B.building.received self.old }
         requires some { 0 < length rest.now }
         requires room { self.old.taken + length rest.now ≤ self.old.length }
-        ensures used { IfOk result (λ stepped. (0 < stepped.used) × (stepped.used ≤ length rest.now)) }
-        ensures more { IfOk result (λ stepped. TakesMore self.old self.new stepped.used) }
-        ensures ok { IfOk result (λ stepped. (T : Table)
-            → Steps T B.building.received self.old self.new (take stepped.used rest.now) stepped.whole) }
+        ensures { IfOk result (λ stepped. (T : Table) → TakesSome T B.building.received self.old self.new rest.now stepped) }
     {
         let used = left.min(rest.len() as u64) as usize;
-        let whole = self.take_chunk(left, &rest[..used])?;
-        Ok(Moved { used, whole })
+        let moved = self.take_chunk(left, &rest[..used])?;
+        Ok(Advance { used, moved })
     }
 
-    /// Takes raw bytes, and answers whether the value is whole then.
-    fn take_chunk(&mut self, left: u64, bytes: &[u8]) -> Result<bool, Memory>
+    /// Takes raw bytes, and answers where that leads.
+    fn take_chunk(&mut self, left: u64, bytes: &[u8]) -> Result<Moved, Memory>
         requires expected { self.old.state.expected ≡ Next.Raw left }
         requires has_read { IsOpenIn B.building.received self.old }
         requires few { length bytes.now ≤ left }
         requires room { self.old.taken + length bytes.now ≤ self.old.length }
-        ensures more { OnOk result (TakesMore self.old self.new (length bytes.now)) }
-        ensures ok { IfOk result (λ whole. (T : Table) → Steps T B.building.received self.old self.new bytes.now whole) }
+        ensures { IfOk result (λ moved. (T : Table) → TakesBytes T B.building.received self.old self.new bytes.now moved) }
     {
-        let whole = self.state.take_raw(left, bytes)?;
+        let moved = self.state.take_raw(left, bytes)?;
         self.taken += bytes.len() as u64;
         if bytes.len() as u64 == left {
             self.start = self.taken;
         }
-        Ok(whole)
+        Ok(moved)
     }
 
-    /// Takes a whole number that stands in the piece, and answers whether the value is whole then.
+    /// Takes a whole number that stands in the piece, and answers where that leads.
     #[inline(always)]
     fn take_whole<S: Shapes>(
         &mut self,
@@ -330,53 +312,45 @@ impl<B: Builder> Run<B> {
         item: NextNumber,
         n: u64,
         front: &[u8],
-    ) -> Result<bool, Stop>
+    ) -> Result<Moved, Stop>
         requires expected { self.old.state.expected ≡ Next.Number item }
         requires has_read { IsOpenSomewhere (S.table shapes.now) B.building.received self.old }
         requires fresh { self.old.start ≡ self.old.taken }
         requires spelled { IsUnsigned n front.now }
         requires room { self.old.taken + length front.now ≤ self.old.length }
-        ensures more { OnOk result (TakesMore self.old self.new (length front.now)) }
-        ensures ok { IfOk result (λ whole. Steps (S.table shapes.now) B.building.received self.old self.new front.now whole) }
-        ensures refused { IfErr result (StopsFor (λ refusal. RefusesAt (S.table shapes.now) B.building.received
-            self.old front.now refusal)) }
+        ensures { BytesAnswers (S.table shapes.now) B.building.received self.old self.new front.now result }
     {
         self.taken += front.len() as u64;
         self.take(shapes, item, n)
     }
 
-    /// Takes the next byte of a number, and answers whether the value is whole then.
+    /// Takes the next byte of a number, and answers where that leads.
     #[inline(never)]
-    fn take_byte<S: Shapes>(&mut self, shapes: &S, item: NextNumber, b: u8) -> Result<bool, Stop>
+    fn take_byte<S: Shapes>(&mut self, shapes: &S, item: NextNumber, b: u8) -> Result<Moved, Stop>
         requires expected { self.old.state.expected ≡ Next.Number item }
         requires has_read { IsOpenSomewhere (S.table shapes.now) B.building.received self.old }
         requires room { self.old.taken + 1 ≤ self.old.length }
-        ensures more { OnOk result (TakesMore self.old self.new 1) }
-        ensures ok { IfOk result (λ whole. Steps (S.table shapes.now) B.building.received self.old self.new (b ∷ []) whole) }
-        ensures refused { IfErr result (StopsFor (λ refusal. RefusesAt (S.table shapes.now) B.building.received
-            self.old (b ∷ []) refusal)) }
+        ensures { BytesAnswers (S.table shapes.now) B.building.received self.old self.new (b ∷ []) result }
     {
         self.taken += 1;
         match self.number.push(b) {
-            Step::More => Ok(false),
+            Step::More => Ok(Moved::ToNext),
             Step::BadHead => Err(self.refuse(self.start, Reason::BadHead)),
             Step::NotMinimal => Err(self.refuse(self.start, Reason::NotMinimal)),
             Step::Done(n) => self.take(shapes, item, n),
         }
     }
 
-    /// Takes the expected number, whose last byte was taken, and answers whether the value is whole then.
+    /// Takes the expected number, whose last byte was taken, and answers where that leads.
     #[inline(always)]
-    fn take<S: Shapes>(&mut self, shapes: &S, item: NextNumber, n: u64) -> Result<bool, Stop>
+    fn take<S: Shapes>(&mut self, shapes: &S, item: NextNumber, n: u64) -> Result<Moved, Stop>
         requires { CanTake (S.table shapes.now) B.building.received self.old.state item n }
-        ensures ok { IfOk result (λ whole. TakesNumber (S.table shapes.now) B.building.received self.old self.new n whole) }
-        ensures refused { IfErr result (StopsFor (λ refusal. RefusesNumber (S.table shapes.now) B.building.received
-            self.old n refusal)) }
+        ensures { NumberAnswers (S.table shapes.now) B.building.received self.old self.new n result }
     {
         match self.state.take(shapes, item, n) {
-            Ok(whole) => {
+            Ok(moved) => {
                 self.start = self.taken;
-                Ok(whole)
+                Ok(moved)
             }
             Err(Denial::Memory) => Err(Stop::Memory),
             Err(Denial::Refused(reason)) => Err(self.refuse(self.start, reason)),

@@ -1,14 +1,14 @@
 //! Elements and entries that stand whole in a piece, gone over without being told.
 
-ghost use Rattle.std.specs.Prelude.{◌≡◌, ◌+◌, ◌<◌, ◌≤◌, IfOk, IfErr, List, length, take};
-ghost use Rattle.gob_read.specs.Machine.Running.{IsOpenSomewhere, TakesMore, Steps, StopsFor, RefusesAt};
+ghost use Rattle.std.specs.Prelude.{◌≡◌, ◌+◌, ◌<◌, ◌≤◌, List, length};
+ghost use Rattle.gob_read.specs.Machine.Running.{IsOpenSomewhere, RestAnswers};
 ghost use Rattle.gob_read.specs.Machine.BasicParts.{IsInList, IsInMap, StepsBasicParts};
 ghost use Rattle.gob_read.specs.Event.{Event};
 
 use crate::builder::Builder;
 use crate::frame::Frame;
-use crate::next::{Next, NextNumber};
-use crate::run::{Moved, Run};
+use crate::next::{Moved, Next, NextNumber};
+use crate::run::{Advance, Run};
 use crate::stop::Stop;
 use gob_types::{Shapes, TypeId};
 use gob_value::{whole_elements, whole_entries};
@@ -24,17 +24,12 @@ impl<B: Builder> Run<B> {
         id: TypeId,
         rest: &[u8],
         cut: &mut bool,
-    ) -> Result<Moved, Stop>
+    ) -> Result<Advance, Stop>
         requires expected { self.old.state.expected ≡ Next.Number (NextNumber.Part id) }
         requires has_read { IsOpenSomewhere (S.table shapes.now) B.building.received self.old }
         requires some { 0 < length rest.now }
         requires room { self.old.taken + length rest.now ≤ self.old.length }
-        ensures used { IfOk result (λ stepped. (0 < stepped.used) × (stepped.used ≤ length rest.now)) }
-        ensures more { IfOk result (λ stepped. TakesMore self.old self.new stepped.used) }
-        ensures ok { IfOk result (λ stepped. Steps (S.table shapes.now) B.building.received self.old self.new
-            (take stepped.used rest.now) stepped.whole) }
-        ensures refused { IfErr result (StopsFor (λ refusal. RefusesAt (S.table shapes.now) B.building.received
-            self.old rest.now refusal)) }
+        ensures { RestAnswers (S.table shapes.now) B.building.received self.old self.new rest.now result }
     {
         let stepped = self.skip_parts(shapes, id, rest, cut);
         if stepped.used > 0 {
@@ -52,21 +47,21 @@ impl<B: Builder> Run<B> {
         id: TypeId,
         rest: &[u8],
         cut: &mut bool,
-    ) -> Moved
+    ) -> Advance
         requires expected { self.old.state.expected ≡ Next.Number (NextNumber.Part id) }
         requires has_read { IsOpenSomewhere (S.table shapes.now) B.building.received self.old }
         requires room { self.old.taken + length rest.now ≤ self.old.length }
         ensures { StepsBasicParts (S.table shapes.now) B.building.received self.old self.new rest.now result }
     {
         if *cut || self.start != self.taken || !self.state.builder.may_skip() {
-            return Moved::NONE;
+            return Advance::NONE;
         }
         match self.state.stack.innermost() {
             Some(Frame::Many { elem, left }) => self.skip_elements(shapes, elem, left, rest, cut),
             Some(Frame::Key { key, elem, left }) => {
                 self.skip_entries(shapes, key, elem, left, rest, cut)
             }
-            _ => Moved::NONE,
+            _ => Advance::NONE,
         }
     }
 
@@ -79,7 +74,7 @@ impl<B: Builder> Run<B> {
         left: u64,
         rest: &[u8],
         cut: &mut bool,
-    ) -> Moved
+    ) -> Advance
         requires expected { self.old.state.expected ≡ Next.Number (NextNumber.Part elem) }
         requires inside { IsInList elem left self.old.state.stack }
         requires untold { (us : List Event) → B.building.received self.old.state.builder us }
@@ -92,7 +87,7 @@ impl<B: Builder> Run<B> {
         let elements = whole_elements(shapes, elem, left, rest, depth);
         *cut = elements.count < left;
         if elements.end == 0 {
-            return Moved::NONE;
+            return Advance::NONE;
         }
         self.state.stack.replace(Frame::Many {
             elem,
@@ -100,9 +95,9 @@ impl<B: Builder> Run<B> {
         });
         self.taken += elements.end as u64;
         self.start = self.taken;
-        Moved {
+        Advance {
             used: elements.end,
-            whole: false,
+            moved: Moved::ToNext,
         }
     }
 
@@ -116,7 +111,7 @@ impl<B: Builder> Run<B> {
         left: u64,
         rest: &[u8],
         cut: &mut bool,
-    ) -> Moved
+    ) -> Advance
         requires expected { self.old.state.expected ≡ Next.Number (NextNumber.Part key) }
         requires inside { IsInMap key elem left self.old.state.stack }
         requires untold { (us : List Event) → B.building.received self.old.state.builder us }
@@ -129,7 +124,7 @@ impl<B: Builder> Run<B> {
         let entries = whole_entries(shapes, key, elem, left, rest, depth);
         *cut = entries.count < left;
         if entries.end == 0 {
-            return Moved::NONE;
+            return Advance::NONE;
         }
         self.state.stack.replace(Frame::Key {
             key,
@@ -138,9 +133,9 @@ impl<B: Builder> Run<B> {
         });
         self.taken += entries.end as u64;
         self.start = self.taken;
-        Moved {
+        Advance {
             used: entries.end,
-            whole: false,
+            moved: Moved::ToNext,
         }
     }
 }

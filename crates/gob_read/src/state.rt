@@ -7,7 +7,7 @@ ghost use Rattle.gob_read.specs.Machine.Kinds.{IsStructType, BeginsAs};
 
 use crate::builder::Builder;
 use crate::frames::Frames;
-use crate::next::{Next, NextNumber};
+use crate::next::{Moved, Next, NextNumber};
 use crate::stop::Denial;
 use gob_num::{Memory, to_pattern};
 use gob_types::{Basic, Kind, Reason, Shapes, TypeId};
@@ -64,36 +64,36 @@ impl<B: Builder> State<B> {
         self.expected = Next::Number(item);
     }
 
-    /// After a whole part: goes on to what is expected behind it, or answers true where it was the outermost one.
+    /// After a whole part: moves to what is expected behind it, or past the value where it was the outermost one.
     #[inline(always)]
-    pub(crate) fn after_part(&mut self) -> Result<bool, Memory>
+    pub(crate) fn after_part(&mut self) -> Result<Moved, Memory>
         requires { CanEnd B.building.received self.old }
-        ensures { IfOk result (λ whole. StepEnds B.building.received self.old self.new whole) }
+        ensures { IfOk result (λ moved. StepEnds B.building.received self.old self.new moved) }
     {
         'opens: loop {
             let Some(frame) = self.stack.innermost() else {
-                return Ok(true);
+                return Ok(Moved::PastValue);
             };
             if let Some(next) = frame.next() {
                 self.stack.replace(next);
                 self.expected = Next::Number(next.item());
-                return Ok(false);
+                return Ok(Moved::ToNext);
             }
             self.stack.close();
             self.builder.leave()?;
         }
     }
 
-    /// Takes the expected number, and answers whether the value is whole then.
+    /// Takes the expected number, and answers where that leads.
     #[inline(always)]
     pub(crate) fn take<S: Shapes>(
         &mut self,
         shapes: &S,
         item: NextNumber,
         n: u64,
-    ) -> Result<bool, Denial>
+    ) -> Result<Moved, Denial>
         requires { CanTake (S.table shapes.now) B.building.received self.old item n }
-        ensures ok { IfOk result (λ whole. StepTakes (S.table shapes.now) B.building.received self.old self.new n whole) }
+        ensures ok { IfOk result (λ moved. StepTakes (S.table shapes.now) B.building.received self.old self.new n moved) }
         ensures refused { IfErr result (Blames (λ reason. StepRefuses (S.table shapes.now) B.building.received self.old n reason)) }
     {
         match item {
@@ -106,31 +106,31 @@ impl<B: Builder> State<B> {
 
     /// Takes the tag before the body's value, which is of this type.
     #[inline(always)]
-    fn take_tag(&mut self, id: TypeId, n: u64) -> Result<bool, Denial>
+    fn take_tag(&mut self, id: TypeId, n: u64) -> Result<Moved, Denial>
         requires { CanTakeTag B.building.received self.old id n }
-        ensures ok { IfOk result (λ whole. TakesHere B.building.received self.old self.new n whole) }
+        ensures ok { IfOk result (λ moved. TakesHere B.building.received self.old self.new n moved) }
         ensures refused { IfErr result (Blames (λ reason. IsWrongTag n reason)) }
     {
         if n != 0 {
             return Err(Denial::Refused(Reason::SingleTag));
         }
         self.expected = Next::Number(NextNumber::Part { id });
-        Ok(false)
+        Ok(Moved::ToNext)
     }
 
     /// Takes the imaginary part of a complex number, behind the pattern of its real part.
-    fn take_second(&mut self, pattern: u64, n: u64) -> Result<bool, Memory>
+    fn take_second(&mut self, pattern: u64, n: u64) -> Result<Moved, Memory>
         requires { CanTakeSecond B.building.received self.old pattern n }
-        ensures { IfOk result (λ whole. TakesHere B.building.received self.old self.new n whole) }
+        ensures { IfOk result (λ moved. TakesHere B.building.received self.old self.new n moved) }
     {
         self.builder.number(Basic::Complex, pattern, to_pattern(n))?;
         self.after_part()
     }
 
-    /// Takes raw bytes of the part that is read, and answers whether the value is whole then.
-    pub(crate) fn take_raw(&mut self, left: u64, bytes: &[u8]) -> Result<bool, Memory>
+    /// Takes raw bytes of the part that is read, and answers where that leads.
+    pub(crate) fn take_raw(&mut self, left: u64, bytes: &[u8]) -> Result<Moved, Memory>
         requires { CanTakeRaw B.building.received self.old left bytes.now }
-        ensures { IfOk result (λ whole. TakesRaw B.building.received self.old self.new left bytes.now whole) }
+        ensures { IfOk result (λ moved. TakesRaw B.building.received self.old self.new left bytes.now moved) }
     {
         self.builder.raw_more(bytes)?;
         let rest = left - bytes.len() as u64;
@@ -139,7 +139,7 @@ impl<B: Builder> State<B> {
             return self.after_part();
         }
         self.expected = Next::Raw { left: rest };
-        Ok(false)
+        Ok(Moved::ToNext)
     }
 }
 

@@ -1,5 +1,5 @@
 -- Parts that stand whole in a piece, taken one behind another.
-use Rattle.std.proofs.Common.{◌≡◌, ℕ, ◌+◌, ◌-◌, ◌^◌, ◌<◌, ◌≤◌, Bool, false, List, [], ◌∷◌, ◌++◌, length, take, drop, get_or, zero, suc, Option, Some, None, arith, refl, sym, ap, ◌∙◌, subst, append_assoc, length-append, length-drop, length-take}
+use Rattle.std.proofs.Common.{◌≡◌, ℕ, ◌+◌, ◌-◌, ◌^◌, ◌<◌, ◌≤◌, List, [], ◌∷◌, ◌++◌, length, take, drop, get_or, zero, suc, Option, Some, None, arith, refl, sym, ap, ◌∙◌, subst, append_assoc, length-append, length-drop, length-take}
 use Rattle.std.specs.Prelude.{slice_get}
 use Rattle.gob_num.specs.Unsigned.{IsUnsigned, short}
 use Rattle.gob_types.specs.declared.id.TypeId.{TypeId}
@@ -10,12 +10,14 @@ use Rattle.gob_types.specs.Table.{Table}
 use Rattle.gob_read.specs.declared.event.RawKind.{RawKind}
 use Rattle.gob_read.specs.declared.frame.Frame.{Frame}
 use Rattle.gob_read.specs.declared.frame.Frame.TheVariants as frame
+use Rattle.gob_read.specs.declared.next.Moved.{Moved}
+use Rattle.gob_read.specs.declared.next.Moved.TheVariants.{ToNext}
 use Rattle.gob_read.specs.declared.next.Next.TheVariants.{Number, Raw}
 use Rattle.gob_read.specs.declared.next.NextNumber.{NextNumber}
 use Rattle.gob_read.specs.declared.next.NextNumber.TheVariants.{Part, Delta}
 use Rattle.gob_read.specs.declared.state.State.{State}
 use Rattle.gob_read.specs.declared.run.Run.{Run}
-use Rattle.gob_read.specs.declared.run.Moved.{Moved}
+use Rattle.gob_read.specs.declared.run.Advance.{Advance}
 use Rattle.gob_read.specs.declared.basic_parts.Entered.{Entered}
 use Rattle.gob_read.specs.Event.{Event, number, raw_start, raw_more, leave}
 use Rattle.gob_read.specs.Building.{TakesEvent}
@@ -24,7 +26,7 @@ use Rattle.gob_read.specs.Machine.Frames.{to_delta, to_element, item_of}
 use Rattle.gob_read.specs.Machine.Kinds.{HasKind, IsScalar, IsRawKind}
 use Rattle.gob_read.specs.Machine.OpenPath.{OpenPath, at_once, behind_tag, in_list, at_key, at_value, in_field}
 use Rattle.gob_read.specs.Machine.Steps.{StepEnds, CanGoOn, StepGoesOn, CanTakeRaw}
-use Rattle.gob_read.specs.Machine.Running.{IsOpenSomewhere, IsOpenIn, IsStepped, TakesMore, Steps, MayGoOn, depth_of, item_depth}
+use Rattle.gob_read.specs.Machine.Running.{IsOpenSomewhere, IsOpenIn, IsStepped, TakesMore, Steps, TakesBytes, TakesOfRest, TakesSome, MayGoOn, depth_of, item_depth}
 use Rattle.gob_read.specs.Machine.BasicParts.{MayTakeBasic, TakesBasicEvents, told_nothing, told_number, told_bytes, IsInFields, IsInList, IsFollowedBy, StepsBasicParts, not_stepped, stepped_over, PassesParts, TakesBasicPart, not_taken, part_taken, EntersField, NamesField, TakesName, not_named, named, CanEndFields, EndsFields}
 use Rattle.gob_read.proofs.Grammar.Fronts.{append_nil}
 use Rattle.gob_read.proofs.Machine.Parts.{ended_on, begins_ended}
@@ -42,8 +44,8 @@ pub opens_here : {T : Table} {X O : Type 0} {received : X → List Event → Typ
 opens_here l r = record { each = λ t z h. record { reached = h; not_deep = l; room = r } }
 
 -- one step behind another
-pub steps_then : {T : Table} {X O : Type 0} {received : X → List Event → Type 0} {old mid new : Run X O} {a b : List ℕ} {whole : Bool} → Steps T received old mid a false → MayGoOn T received mid → Steps T received mid new b whole → Steps T received old new (a ++ b) whole
-steps_then {T = T} {received = received} {new = new} {a = a} {b = b} {whole = whole} f o g = record { each = λ t z h. subst (λ l. IsStepped T t received new l whole) (append_assoc z a b) (g.each t (z ++ a) (o.each t (z ++ a) (f.each t z h))) }
+pub steps_then : {T : Table} {X O : Type 0} {received : X → List Event → Type 0} {old mid new : Run X O} {a b : List ℕ} {moved : Moved} → Steps T received old mid a ToNext → MayGoOn T received mid → Steps T received mid new b moved → Steps T received old new (a ++ b) moved
+steps_then {T = T} {received = received} {new = new} {a = a} {b = b} {moved = moved} f o g = record { each = λ t z h. subst (λ l. IsStepped T t received new l moved) (append_assoc z a b) (g.each t (z ++ a) (o.each t (z ++ a) (f.each t z h))) }
 
 -- so many more bytes are taken, and the next item begins behind them
 pub record Moves {X O : Type 0} (old new : Run X O) (count : ℕ) : Type 0 where
@@ -61,7 +63,7 @@ abbrev behind : {X O : Type 0} → Run X O → ℕ → Run X O
 behind run count = record { state = run.state; number = run.number; start = run.start; taken = run.taken + count; length = run.length; depth = run.depth }
 
 -- behind a whole part the innermost open part goes on
-goes_behind : {X O : Type 0} {received : X → List Event → Type 0} {mid new : State X O} {f g : Frame} → slice_get mid.stack 0 ≡ Some f → Frames.FrameGoesOn f g → new.stack ≡ g ∷ drop 1 mid.stack → new.expected ≡ Number (item_of g) → new.builder ≡ mid.builder → StepEnds received mid new false
+goes_behind : {X O : Type 0} {received : X → List Event → Type 0} {mid new : State X O} {f g : Frame} → slice_get mid.stack 0 ≡ Some f → Frames.FrameGoesOn f g → new.stack ≡ g ∷ drop 1 mid.stack → new.expected ≡ Number (item_of g) → new.builder ≡ mid.builder → StepEnds received mid new ToNext
 goes_behind f on s w b = record { each = λ T t z e. ended_on f on s w b e }
 
 -- a part is whole with what the builder was told, inside the open parts that it began in
@@ -70,7 +72,7 @@ ended_with state builder = record { builder = builder; stack = state.stack; expe
 
 -- a part that one number spells
 pub scalar_stepped : {T : Table} {X O : Type 0} {received : X → List Event → Type 0} {run new : Run X O} {id : TypeId} {g : Frame} {n a : ℕ} {b : Basic} (c : List ℕ) → run.state.expected ≡ Number (Part id) → IsFollowedBy g run.state.stack → run.number ≡ []
-    → HasKind T id (kind.Basic b) → IsScalar (kind.Basic b) n b a → TakesEvent received run.state.builder new.state.builder (number b a 0) → new.state.stack ≡ g ∷ drop 1 run.state.stack → new.state.expected ≡ Number (item_of g) → Moves run new (length c) → IsUnsigned n c → Steps T received run new c false
+    → HasKind T id (kind.Basic b) → IsScalar (kind.Basic b) n b a → TakesEvent received run.state.builder new.state.builder (number b a 0) → new.state.stack ≡ g ∷ drop 1 run.state.stack → new.state.expected ≡ Number (item_of g) → Moves run new (length c) → IsUnsigned n c → Steps T received run new c ToNext
 scalar_stepped {T = T} {received = received} {run = run} {new = new} {id = id} {g = g} {n = n} {a = a} {b = b} c e f none h i told s w m spelled =
     let begins = begins_ended {mid = ended_with run.state new.state.builder} {P = λ k. IsScalar k n b a} (number_ended refl told) (goes_behind {mid = ended_with run.state new.state.builder} f.innermost f.goes_on s w refl) in
     number_stepped {mid = behind run (length c)} (Part id) c e refl none refl refl (subst (λ (r : List ℕ). IsUnsigned n (r ++ c)) (sym none) spelled)
@@ -79,7 +81,7 @@ scalar_stepped {T = T} {received = received} {run = run} {new = new} {id = id} {
 -- a part that a count of bytes and the bytes spell
 pub bytes_stepped : {T : Table} {X O : Type 0} {received : X → List Event → Type 0} {run new : Run X O} {id : TypeId} {g : Frame} {b : Basic} {x : RawKind} {one two : X} (c bytes : List ℕ) → run.state.expected ≡ Number (Part id) → IsFollowedBy g run.state.stack → run.number ≡ []
     → HasKind T id (kind.Basic b) → IsRawKind (kind.Basic b) x → TakesEvent received run.state.builder one (raw_start x) → TakesEvent received one two (raw_more bytes) → TakesEvent received two new.state.builder leave → new.state.stack ≡ g ∷ drop 1 run.state.stack → new.state.expected ≡ Number (item_of g)
-    → Moves run new (length c + length bytes) → IsUnsigned (length bytes) c → 0 < length bytes → length run.state.stack + 1 ≤ run.depth → run.taken + length c < run.length → Steps T received run new (c ++ bytes) false
+    → Moves run new (length c + length bytes) → IsUnsigned (length bytes) c → 0 < length bytes → length run.state.stack + 1 ≤ run.depth → run.taken + length c < run.length → Steps T received run new (c ++ bytes) ToNext
 bytes_stepped {T = T} {X = X} {O = O} {received = received} {run = run} {new = new} {id = id} {g = g} {b = b} {x = x} {one = one} {two = two} c bytes e f none h i begun more ended s w m spelled some deep room = steps_then {mid = mid} first (opens_here deep room) second
   where
     mid : Run X O
@@ -88,12 +90,12 @@ bytes_stepped {T = T} {X = X} {O = O} {received = received} {run = run} {new = n
     whole : State X O
     whole = ended_with mid.state new.state.builder
 
-    first : Steps T received run mid c false
+    first : Steps T received run mid c ToNext
     first =
         number_stepped {mid = behind run (length c)} (Part id) c e refl none refl refl (subst (λ (r : List ℕ). IsUnsigned (length bytes) (r ++ c)) (sym none) spelled)
         (record { takes = part_takes e (first_takes h i (record { each = length_placed refl refl begun (λ z. absurd (omega arith)) })); start_is = refl; number_is = refl; more = record { taken = omega arith; length_is = refl; depth_is = refl } })
 
-    second : Steps T received mid new bytes false
+    second : Steps T received mid new bytes ToNext
     second =
         raw_stepped (length bytes) bytes refl (omega arith) m.number (let t = m.taken in omega arith) m.depth_is (λ _. (let t = m.taken in let k = m.start in omega arith)) (λ l. absurd (omega arith))
         (record { last = λ T t p r b z. (goes_behind {mid = whole} f.innermost f.goes_on s w refl).each T t (p ++ (r ++ bytes)) (raw_ended {mid = whole} bytes refl refl more ended refl b); other = λ T t p r b l. absurd (omega arith) })
@@ -145,10 +147,10 @@ basic_takes {T = T} {X = X} {O = O} {received = received} {old = old} {new = new
     deep : length old.state.stack + 1 ≤ old.depth
     deep = subst (λ a. depth_of a old.state.stack ≤ old.depth) e o.open_.not_deep
 
-    passed : more ≤ length next → Steps T received old new (take used rest ++ take more next) false → new.state.stack ≡ g ∷ drop 1 old.state.stack → TakesBasicPart T received old new g rest (used + more)
+    passed : more ≤ length next → Steps T received old new (take used rest ++ take more next) ToNext → new.state.stack ≡ g ∷ drop 1 old.state.stack → TakesBasicPart T received old new g rest (used + more)
     passed l steps stack = part_taken (omega arith) (omega (arith, size)) (record {
       more = record { taken = (let t = m.taken in omega (arith, size, length-take (used + more) rest)); length_is = m.length_is; depth_is = m.depth_is };
-      steps = subst (λ c. Steps T received old new c false) (sym cut) steps;
+      steps = subst (λ c. Steps T received old new c ToNext) (sym cut) steps;
       fresh = m.start;
     }) a stack (ap length stack ∙ sym (ap length (head_is old.state.stack f.innermost)))
 
@@ -165,13 +167,13 @@ basic_takes {T = T} {X = X} {O = O} {received = received} {old = old} {new = new
     from (told_number z i told kept) =
         let nothing : take more next ≡ [] = subst (λ j. take j next ≡ []) (sym z) refl in
         passed (omega arith)
-        (subst (λ c. Steps T received old new c false) (sym (ap (λ l. take used rest ++ l) nothing ∙ append_nil (take used rest)))
+        (subst (λ c. Steps T received old new c ToNext) (sym (ap (λ l. take used rest ++ l) nothing ∙ append_nil (take used rest)))
         (scalar_stepped (take used rest) e f none h i (builder_is told) (stack_is kept.stack) a (moved (omega (arith, length-take used rest))) spelled))
         (stack_is kept.stack)
     from (told_bytes z i l few begun told ended kept) =
         let count : length (take n next) ≡ n = omega (arith, length-take n next) in
         passed (omega arith)
-        (subst (λ j. Steps T received old new (take used rest ++ take j next) false) (sym z)
+        (subst (λ j. Steps T received old new (take used rest ++ take j next) ToNext) (sym z)
         (bytes_stepped (take used rest) (take n next) e f none h i begun told (builder_is ended) (stack_is kept.stack) a (moved (omega (arith, length-take used rest, count)))
         (subst (λ j. IsUnsigned j (take used rest)) (sym count) spelled) (omega arith) deep (omega (arith, length-take used rest, size))))
         (stack_is kept.stack)
@@ -196,7 +198,7 @@ name_takes {T = T} {received = received} {old = old} {new = new} {u = u} {next =
     none : old.number ≡ []
     none = fresh_is Delta e o fresh
 
-    steps : Steps T received old new (n ∷ []) false
+    steps : Steps T received old new (n ∷ []) ToNext
     steps =
         number_stepped {mid = behind old 1} Delta (n ∷ []) e refl none refl refl (subst (λ (r : List ℕ). IsUnsigned n (r ++ n ∷ [])) (sym none) (short s))
         (record { takes = delta_takes e i h (record { each = field_placed f names.stack names.expected names.told l m g }); start_is = moves.start ∙ moves.taken; number_is = moves.number; more = record { taken = (let t = moves.taken in omega arith); length_is = moves.length_is; depth_is = moves.depth_is } })
@@ -210,16 +212,19 @@ can_end_fields e o fresh l =
     let room = o.open_.open_.room in
     record { id = d.id; types = d.types; next = d.next; goes_on = record { table = o.table; type = o.open_.type; before = r.before; bytes = 0 ∷ []; inside = d.inside; spelled = short (omega arith); small = omega (arith, length-append r.before (0 ∷ [])) } }
 
-pub end_steps : {X O : Type 0} {received : X → List Event → Type 0} {old new : Run X O} {whole : Bool} → old.state.expected ≡ Number Delta → IsOpenIn received old → old.start ≡ old.taken → EndsFields received old.state new.state whole → Moves old new 1 → (T : Table) → Steps T received old new (0 ∷ []) whole
+pub end_steps : {X O : Type 0} {received : X → List Event → Type 0} {old new : Run X O} {moved : Moved} → old.state.expected ≡ Number Delta → IsOpenIn received old → old.start ≡ old.taken → EndsFields received old.state new.state moved → Moves old new 1 → (T : Table) → TakesBytes T received old new (0 ∷ []) moved
 end_steps {old = old} e o fresh ends moves T =
     let none = fresh_is Delta e o.open_ fresh in
-    number_stepped {mid = behind old 1} Delta (0 ∷ []) e refl none refl refl (subst (λ (r : List ℕ). IsUnsigned 0 (r ++ 0 ∷ [])) (sym none) (short (omega arith)))
-    (record {
-      takes = record { each = λ t p r c d b n. (let x = at_delta_of e b in (ends.each x.id x.types x.next).each T t p c x.inside n) };
-      start_is = moves.start ∙ moves.taken;
-      number_is = moves.number;
-      more = record { taken = (let t = moves.taken in omega arith); length_is = moves.length_is; depth_is = moves.depth_is };
-    })
+    record {
+      more = moves_more moves;
+      steps = number_stepped {mid = behind old 1} Delta (0 ∷ []) e refl none refl refl (subst (λ (r : List ℕ). IsUnsigned 0 (r ++ 0 ∷ [])) (sym none) (short (omega arith)))
+          (record {
+            takes = record { each = λ t p r c d b n. (let x = at_delta_of e b in (ends.each x.id x.types x.next).each T t p c x.inside n) };
+            start_is = moves.start ∙ moves.taken;
+            number_is = moves.number;
+            more = record { taken = (let t = moves.taken in omega arith); length_is = moves.length_is; depth_is = moves.depth_is };
+          });
+    }
 
 -- nothing was told
 pub untold : {X O : Type 0} {received : X → List Event → Type 0} {old new : State X O} {b : Basic} {n : ℕ} {more : List ℕ} {used : Option ℕ} → used ≡ None → TakesBasicEvents received old new b n more used → new ≡ old
@@ -274,13 +279,17 @@ item_opens {run = run} h l room some =
 pub item_open : {T : Table} {X O : Type 0} {received : X → List Event → Type 0} {old run : Run X O} {rest : List ℕ} {used count : ℕ} {i : NextNumber} {f : Frame} → AtItem T received old run rest used count i f → IsOpenSomewhere T received old → item_depth i (length run.state.stack) ≤ length run.state.stack + 1 → old.taken + length rest ≤ old.length → used < length rest → IsOpenSomewhere T received run
 item_open h o l room some = come_open (record { type = o.type; bytes = o.bytes; reached = o.open_.reached }) h.come (item_opens h l room some)
 
-pub come_steps : {T : Table} {X O : Type 0} {received : X → List Event → Type 0} {old new : Run X O} {rest : List ℕ} {used count : ℕ} → HasCome T received old new rest used count → Steps T received old new (take used rest) false
+pub come_steps : {T : Table} {X O : Type 0} {received : X → List Event → Type 0} {old new : Run X O} {rest : List ℕ} {used count : ℕ} → HasCome T received old new rest used count → Steps T received old new (take used rest) ToNext
 come_steps h = record { each = λ t z o. h.reached t z o.reached }
 
 one_at : (xs : List ℕ) (used : ℕ) → used < length xs → take 1 (drop used xs) ≡ get_or xs used 0 ∷ []
 one_at [] used l = absurd (omega arith)
 one_at (x ∷ xs) zero l = refl
 one_at (x ∷ xs) (suc used) l = one_at xs used (omega arith)
+
+-- its first byte
+one_of_rest : (rest : List ℕ) (used : ℕ) → used < length rest → take 1 (take (length rest - used) (drop used rest)) ≡ get_or rest used 0 ∷ []
+one_of_rest rest used l = ap (λ (l : List ℕ). take 1 l) (slice_rest rest used) ∙ one_at rest used l
 
 pub rest_some : (rest : List ℕ) (used : ℕ) → length (take (length rest - used) (drop used rest)) ≡ length rest - used
 rest_some rest used = ap length (slice_rest rest used) ∙ length-drop used rest
@@ -289,10 +298,10 @@ rest_some rest used = ap length (slice_rest rest used) ∙ length-drop used rest
 pub named_on : {T : Table} {X O : Type 0} {received : X → List Event → Type 0} {old run new : Run X O} {rest : List ℕ} {used count next next' : ℕ} {u part : TypeId} → AtItem T received old run rest used count Delta (frame.Fields u next) → old.taken + length rest ≤ old.length → used < length rest
     → EntersField T received run new (get_or rest used 0) u next' part → AtItem T received old new rest (used + 1) (count + 1) (Part part) (frame.Fields u next')
 named_on {T = T} {received = received} {run = run} {new = new} {rest = rest} {used = used} h room some e =
-    let one : take 1 (take (length rest - used) (drop used rest)) ≡ get_or rest used 0 ∷ [] = ap (λ (l : List ℕ). take 1 l) (slice_rest rest used) ∙ one_at rest used some in
     let n = e.passes.more.depth_is in let m = e.as_deep in let d = h.deep in
     record {
-      come = come_on h.come (item_opens h (omega arith) room some) (record { some = omega arith; few = omega (arith, rest_some rest used); more = e.passes.more; steps = subst (λ c. Steps T received run new c false) (sym one) e.passes.steps });
+      come = come_on {step = record { used = 1; moved = ToNext }} h.come (item_opens h (omega arith) room some)
+          (record { some = omega arith; takes = record { few = omega (arith, rest_some rest used); more = e.passes.more; steps = subst (λ c. Steps T received run new c ToNext) (sym (one_of_rest rest used some)) e.passes.steps } }) refl;
       expected = e.expected;
       inside = e.inside;
       fresh = e.passes.fresh;
@@ -311,28 +320,21 @@ pub taken_some : {T : Table} {X O : Type 0} {received : X → List Event → Typ
 taken_some (not_taken e) l = absurd (omega arith)
 taken_some (part_taken s w p a k d) l = record { within = w; passes = p; expected = a; stack = k; as_deep = d }
 
-pub taken_none : {T : Table} {X O : Type 0} {received : X → List Event → Type 0} {old new : Run X O} {g : Frame} {rest : List ℕ} {used : ℕ} → TakesBasicPart T received old new g rest used → used ≡ 0 → new ≡ old
-taken_none (not_taken e) z = e
-taken_none (part_taken s w p a k d) z = absurd (omega arith)
-
 pub taken_within : {T : Table} {X O : Type 0} {received : X → List Event → Type 0} {old new : Run X O} {g : Frame} {rest : List ℕ} {used : ℕ} → TakesBasicPart T received old new g rest used → used ≤ length rest
 taken_within (not_taken e) = omega arith
 taken_within (part_taken s w p a k d) = w
 
+pub basic_taken : {T : Table} {X O : Type 0} {received : X → List Event → Type 0} {old new : Run X O} {g : Frame} {rest : List ℕ} {used : ℕ} → IsBasicTaken T received old new g rest used → TakesOfRest T received old new rest (record { used = used; moved = ToNext })
+basic_taken {rest = rest} {used = used} p =
+    record { few = p.within; more = record { taken = (let t = p.passes.more.taken in let w = p.within in omega (arith, length-take used rest)); length_is = p.passes.more.length_is; depth_is = p.passes.more.depth_is }; steps = p.passes.steps }
+
 -- the part was taken
 pub basic_on : {T : Table} {X O : Type 0} {received : X → List Event → Type 0} {old run new : Run X O} {rest : List ℕ} {used count taken : ℕ} {f g : Frame} {part : TypeId} → AtItem T received old run rest used count (Part part) f → old.taken + length rest ≤ old.length → used < length rest
     → 0 < taken → IsBasicTaken T received run new g (take (length rest - used) (drop used rest)) taken → AtItem T received old new rest (used + taken) (count + 1) (item_of g) g
-basic_on {new = new} {rest = rest} {used = used} {taken = taken} h room some l p =
-    let w = p.within in
+basic_on {taken = taken} h room some l p =
     let n = p.passes.more.depth_is in let m = p.as_deep in let d = h.deep in
-    let t = p.passes.more.taken in
     record {
-      come = come_on h.come (item_opens h (omega arith) room some) (record {
-        some = l;
-        few = w;
-        more = record { taken = omega (arith, length-take taken (take (length rest - used) (drop used rest))); length_is = p.passes.more.length_is; depth_is = p.passes.more.depth_is };
-        steps = p.passes.steps;
-      });
+      come = come_on {step = record { used = taken; moved = ToNext }} h.come (item_opens h (omega arith) room some) (record { some = l; takes = basic_taken p }) refl;
       expected = p.expected;
       inside = ap (λ (l : List Frame). slice_get l 0) p.stack;
       fresh = p.passes.fresh;
@@ -342,57 +344,57 @@ basic_on {new = new} {rest = rest} {used = used} {taken = taken} h room some l p
 pub fewer : {T : Table} {X O : Type 0} {received : X → List Event → Type 0} {old run : Run X O} {rest : List ℕ} {used count : ℕ} {i : NextNumber} {f : Frame} (less : ℕ) → AtItem T received old run rest used count i f → less ≤ count → AtItem T received old run rest used less i f
 fewer less h l = record { come = record { within = h.come.within; more = h.come.more; onward = (let k = h.come.onward in omega arith); reached = h.come.reached }; expected = h.expected; inside = h.inside; fresh = h.fresh; deep = h.deep }
 
--- the struct has ended
-pub end_on : {T : Table} {X O : Type 0} {received : X → List Event → Type 0} {old run new : Run X O} {rest : List ℕ} {used count next : ℕ} {u : TypeId} {whole : Bool} → AtItem T received old run rest used count Delta (frame.Fields u next) → old.taken + length rest ≤ old.length → used < length rest → get_or rest used 0 ≡ 0
-    → Steps T received run new (0 ∷ []) whole → Steps T received old new (take (used + 1) rest) whole
-end_on {T = T} {received = received} {old = old} {new = new} {rest = rest} {used = used} {whole = whole} h room some z s =
-    let cut : take (used + 1) rest ≡ take used rest ++ 0 ∷ [] = take_further rest used 1 ∙ ap (λ l. take used rest ++ l) (one_at rest used some ∙ ap (λ n. n ∷ []) z) in
-    subst (λ c. Steps T received old new c whole) (sym cut) (steps_then (come_steps h.come) (item_opens h (omega arith) room some) s)
+pub more_then : {X O : Type 0} {old mid new : Run X O} {a b : ℕ} → TakesMore old mid a → TakesMore mid new b → TakesMore old new (a + b)
+more_then f g = record { taken = (let x = f.taken in let y = g.taken in omega arith); length_is = g.length_is ∙ f.length_is; depth_is = g.depth_is ∙ f.depth_is }
 
 -- more was taken behind it
-pub behind_it : {T : Table} {X O : Type 0} {received : X → List Event → Type 0} {old mid new : Run X O} {whole : Bool} (rest : List ℕ) (used more : ℕ) → Steps T received old mid (take used rest) false → MayGoOn T received mid → Steps T received mid new (take more (take (length rest - used) (drop used rest))) whole
-    → Steps T received old new (take (used + more) rest) whole
-behind_it {T = T} {received = received} {old = old} {new = new} {whole = whole} rest used more f o g =
-    let cut : take (used + more) rest ≡ take used rest ++ take more (take (length rest - used) (drop used rest)) = take_further rest used more ∙ ap (λ l. take used rest ++ take more l) (sym (slice_rest rest used)) in
-    subst (λ c. Steps T received old new c whole) (sym cut) (steps_then f o g)
+pub behind_it : {T : Table} {X O : Type 0} {received : X → List Event → Type 0} {old mid new : Run X O} {step : Advance} (rest : List ℕ) (used : ℕ) → TakesOfRest T received old mid rest (record { used = used; moved = ToNext }) → MayGoOn T received mid
+    → TakesOfRest T received mid new (take (length rest - used) (drop used rest)) step → TakesOfRest T received old new rest (record { used = used + step.used; moved = step.moved })
+behind_it {T = T} {received = received} {old = old} {new = new} {step = step} rest used f o g =
+    let cut : take (used + step.used) rest ≡ take used rest ++ take step.used (take (length rest - used) (drop used rest)) = take_further rest used step.used ∙ ap (λ l. take used rest ++ take step.used l) (sym (slice_rest rest used)) in
+    record {
+      few = (let l = f.few in let k = g.few in omega (arith, rest_some rest used));
+      more = more_then f.more g.more;
+      steps = subst (λ c. Steps T received old new c step.moved) (sym cut) (steps_then f.steps o g.steps);
+    }
 
-pub ends_go_on : {X O : Type 0} {received : X → List Event → Type 0} {old new : State X O} {u : TypeId} {types : List Field} {next n : ℕ} {whole : Bool} → n ≡ 0 → EndsFields received old new whole → StepGoesOn received old new u types next n whole
-ends_go_on {received = received} {old = old} {new = new} {u = u} {types = types} {next = next} {whole = whole} z e = subst (λ n. StepGoesOn received old new u types next n whole) (sym z) (e.each u types next)
+-- what was taken within the open part
+pub item_passed : {T : Table} {X O : Type 0} {received : X → List Event → Type 0} {old run : Run X O} {rest : List ℕ} {used count : ℕ} {i : NextNumber} {f : Frame} → AtItem T received old run rest used count i f → TakesOfRest T received old run rest (record { used = used; moved = ToNext })
+item_passed h = record { few = h.come.within; more = h.come.more; steps = come_steps h.come }
+
+-- the struct has ended
+pub end_on : {T : Table} {X O : Type 0} {received : X → List Event → Type 0} {old run new : Run X O} {rest : List ℕ} {used count next : ℕ} {u : TypeId} {moved : Moved} → AtItem T received old run rest used count Delta (frame.Fields u next) → old.taken + length rest ≤ old.length → used < length rest → get_or rest used 0 ≡ 0
+    → TakesBytes T received run new (0 ∷ []) moved → TakesOfRest T received old new rest (record { used = used + 1; moved = moved })
+end_on {T = T} {received = received} {run = run} {new = new} {rest = rest} {used = used} {moved = moved} h room some z s =
+    let one : take 1 (take (length rest - used) (drop used rest)) ≡ 0 ∷ [] = one_of_rest rest used some ∙ ap (λ n. n ∷ []) z in
+    behind_it {step = record { used = 1; moved = moved }} rest used (item_passed h) (item_opens h (omega arith) room some)
+    (record { few = omega (arith, rest_some rest used); more = s.more; steps = subst (λ c. Steps T received run new c moved) (sym one) s.steps })
+
+pub ends_go_on : {X O : Type 0} {received : X → List Event → Type 0} {old new : State X O} {u : TypeId} {types : List Field} {next n : ℕ} {moved : Moved} → n ≡ 0 → EndsFields received old new moved → StepGoesOn received old new u types next n moved
+ends_go_on {received = received} {old = old} {new = new} {u = u} {types = types} {next = next} {moved = moved} z e = subst (λ n. StepGoesOn received old new u types next n moved) (sym z) (e.each u types next)
 
 pub go_on_ends : {X O : Type 0} {received : X → List Event → Type 0} {state : State X O} {u : TypeId} {types : List Field} {next n : ℕ} → n ≡ 0 → CanGoOn received state u types next n → CanEndFields received state
 go_on_ends {received = received} {state = state} {u = u} {types = types} {next = next} z r = record { id = u; types = types; next = next; goes_on = subst (λ n. CanGoOn received state u types next n) z r }
 
-pub more_then : {X O : Type 0} {old mid new : Run X O} {a b : ℕ} → TakesMore old mid a → TakesMore mid new b → TakesMore old new (a + b)
-more_then f g = record { taken = (let x = f.taken in let y = g.taken in omega arith); length_is = g.length_is ∙ f.length_is; depth_is = g.depth_is ∙ f.depth_is }
-
--- what was taken within the struct
-pub record HasPassed (T : Table) {X O : Type 0} (received : X → List Event → Type 0) (old new : Run X O) (rest : List ℕ) (used : ℕ) : Type 0 where
-  pub more : TakesMore old new used
-  pub steps : Steps T received old new (take used rest) false
-
-pub item_passed : {T : Table} {X O : Type 0} {received : X → List Event → Type 0} {old run : Run X O} {rest : List ℕ} {used count : ℕ} {i : NextNumber} {f : Frame} → AtItem T received old run rest used count i f → HasPassed T received old run rest used
-item_passed h = record { more = h.come.more; steps = come_steps h.come }
-
-pub same_passed : {T : Table} {X O : Type 0} {received : X → List Event → Type 0} {old run new : Run X O} {rest : List ℕ} {used : ℕ} → new ≡ run → HasPassed T received old run rest used → HasPassed T received old new rest used
-same_passed {T = T} {received = received} {old = old} {rest = rest} {used = used} e h = subst (λ r. HasPassed T received old r rest used) (sym e) h
+pub same_passed : {T : Table} {X O : Type 0} {received : X → List Event → Type 0} {old run new : Run X O} {rest : List ℕ} {step : Advance} → new ≡ run → TakesOfRest T received old run rest step → TakesOfRest T received old new rest step
+same_passed {T = T} {received = received} {old = old} {rest = rest} {step = step} e h = subst (λ r. TakesOfRest T received old r rest step) (sym e) h
 
 pub basic_passed : {T : Table} {X O : Type 0} {received : X → List Event → Type 0} {old run new : Run X O} {rest : List ℕ} {used count taken : ℕ} {f g : Frame} {part : TypeId} → AtItem T received old run rest used count (Part part) f → old.taken + length rest ≤ old.length → used < length rest
-    → TakesBasicPart T received run new g (take (length rest - used) (drop used rest)) taken → HasPassed T received old new rest (used + taken)
-basic_passed {T = T} {received = received} {old = old} {new = new} {rest = rest} {used = used} h room some (not_taken e) = same_passed e (subst (HasPassed T received old _ rest) (omega arith) (item_passed h))
+    → TakesBasicPart T received run new g (take (length rest - used) (drop used rest)) taken → TakesOfRest T received old new rest (record { used = used + taken; moved = ToNext })
+basic_passed {T = T} {received = received} {old = old} {run = run} {rest = rest} {used = used} h room some (not_taken e) = same_passed e (subst (λ n. TakesOfRest T received old run rest (record { used = n; moved = ToNext })) (omega arith) (item_passed h))
 basic_passed h room some (part_taken s w p a k d) = item_passed (basic_on h room some s (record { within = w; passes = p; expected = a; stack = k; as_deep = d }))
 
 -- what was taken within a list, or nothing
-pub item_stepped : {T : Table} {X O : Type 0} {received : X → List Event → Type 0} {old run : Run X O} {rest : List ℕ} {used count : ℕ} {i : NextNumber} {f : Frame} → AtItem T received old run rest used count i f → (used ≡ 0 → run ≡ old) → StepsBasicParts T received old run rest (record { used = used; whole = false })
+pub item_stepped : {T : Table} {X O : Type 0} {received : X → List Event → Type 0} {old run : Run X O} {rest : List ℕ} {used count : ℕ} {i : NextNumber} {f : Frame} → AtItem T received old run rest used count i f → (used ≡ 0 → run ≡ old) → StepsBasicParts T received old run rest (record { used = used; moved = ToNext })
 item_stepped {used = zero} h same = not_stepped refl (same refl)
-item_stepped {used = suc used} h same = stepped_over (omega arith) h.come.within h.come.more (come_steps h.come)
+item_stepped {used = suc used} h same = stepped_over (record { some = omega arith; takes = item_passed h })
 
 pub taken_stepped : {T : Table} {X O : Type 0} {received : X → List Event → Type 0} {old run new : Run X O} {rest : List ℕ} {used count taken : ℕ} {f g : Frame} {part : TypeId} → AtItem T received old run rest used count (Part part) f → (used ≡ 0 → run ≡ old) → old.taken + length rest ≤ old.length → used < length rest
-    → TakesBasicPart T received run new g (take (length rest - used) (drop used rest)) taken → StepsBasicParts T received old new rest (record { used = used + taken; whole = false })
+    → TakesBasicPart T received run new g (take (length rest - used) (drop used rest)) taken → StepsBasicParts T received old new rest (record { used = used + taken; moved = ToNext })
 taken_stepped {T = T} {received = received} {old = old} {new = new} {rest = rest} {used = used} h same room some (not_taken e) =
-    subst (λ n. StepsBasicParts T received old new rest (record { used = n; whole = false })) (omega arith) (subst (λ r. StepsBasicParts T received old r rest (record { used = used; whole = false })) (sym e) (item_stepped h same))
+    subst (λ n. StepsBasicParts T received old new rest (record { used = n; moved = ToNext })) (omega arith) (subst (λ r. StepsBasicParts T received old r rest (record { used = used; moved = ToNext })) (sym e) (item_stepped h same))
 taken_stepped h same room some (part_taken s w p a k d) =
-    let on = basic_on h room some s (record { within = w; passes = p; expected = a; stack = k; as_deep = d }) in
-    stepped_over (omega arith) on.come.within on.come.more (come_steps on.come)
+    stepped_over (record { some = omega arith; takes = item_passed (basic_on h room some s (record { within = w; passes = p; expected = a; stack = k; as_deep = d })) })
 
 -- in a list an element is expected
 element_within : {T : Table} {t : TypeId} {fs : List Frame} {z : List ℕ} {us : List Event} {u e : TypeId} {left : ℕ} → OpenPath T t fs z us u → IsInList e left fs → u ≡ e
@@ -429,23 +431,15 @@ basic_opens {new = new} {g = g} {rest = rest} {used = used} p deep room some =
 pub basic_open : {T : Table} {X O : Type 0} {received : X → List Event → Type 0} {old new : Run X O} {g : Frame} {rest : List ℕ} {used : ℕ} → IsBasicTaken T received old new g rest used → IsOpenSomewhere T received old → length old.state.stack + 1 ≤ old.depth → old.taken + length rest ≤ old.length → used < length rest → IsOpenSomewhere T received new
 basic_open {rest = rest} {used = used} p o deep room some = record { type = o.type; bytes = o.bytes ++ take used rest; open_ = (basic_opens p deep room some).each o.type (o.bytes ++ take used rest) (p.passes.steps.each o.type o.bytes o.open_) }
 
-pub basic_more : {T : Table} {X O : Type 0} {received : X → List Event → Type 0} {old new : Run X O} {g : Frame} {rest : List ℕ} {used : ℕ} → IsBasicTaken T received old new g rest used → TakesMore old new used
-basic_more {rest = rest} {used = used} p = record { taken = (let t = p.passes.more.taken in let w = p.within in omega (arith, length-take used rest)); length_is = p.passes.more.length_is; depth_is = p.passes.more.depth_is }
-
 -- what was stepped over, or not
-pub record HasStepped (T : Table) {X O : Type 0} (received : X → List Event → Type 0) (old new : Run X O) (rest : List ℕ) (s : Moved) : Type 0 where
-  pub within : s.used ≤ length rest
-  pub more : TakesMore old new s.used
-  pub steps : Steps T received old new (take s.used rest) s.whole
-
-pub stepped_some : {T : Table} {X O : Type 0} {received : X → List Event → Type 0} {old new : Run X O} {rest : List ℕ} {s : Moved} → StepsBasicParts T received old new rest s → 0 < s.used → HasStepped T received old new rest s
+pub stepped_some : {T : Table} {X O : Type 0} {received : X → List Event → Type 0} {old new : Run X O} {rest : List ℕ} {s : Advance} → StepsBasicParts T received old new rest s → 0 < s.used → TakesSome T received old new rest s
 stepped_some (not_stepped z e) l = absurd (omega arith)
-stepped_some (stepped_over p w m s) l = record { within = w; more = m; steps = s }
+stepped_some (stepped_over h) l = h
 
-pub stepped_none : {T : Table} {X O : Type 0} {received : X → List Event → Type 0} {old new : Run X O} {rest : List ℕ} {s : Moved} → StepsBasicParts T received old new rest s → s.used ≤ 0 → new ≡ old
+pub stepped_none : {T : Table} {X O : Type 0} {received : X → List Event → Type 0} {old new : Run X O} {rest : List ℕ} {s : Advance} → StepsBasicParts T received old new rest s → s.used ≤ 0 → new ≡ old
 stepped_none (not_stepped z e) l = e
-stepped_none (stepped_over p w m s) l = absurd (omega arith)
+stepped_none (stepped_over h) l = absurd (let k = h.some in omega arith)
 
-pub basic_stepped : {T : Table} {X O : Type 0} {received : X → List Event → Type 0} {old new : Run X O} {g : Frame} {rest : List ℕ} {used : ℕ} → TakesBasicPart T received old new g rest used → StepsBasicParts T received old new rest (record { used = used; whole = false })
+pub basic_stepped : {T : Table} {X O : Type 0} {received : X → List Event → Type 0} {old new : Run X O} {g : Frame} {rest : List ℕ} {used : ℕ} → TakesBasicPart T received old new g rest used → StepsBasicParts T received old new rest (record { used = used; moved = ToNext })
 basic_stepped (not_taken e) = not_stepped refl e
-basic_stepped (part_taken s w p a k d) = stepped_over s w (basic_more (record { within = w; passes = p; expected = a; stack = k; as_deep = d })) p.steps
+basic_stepped (part_taken s w p a k d) = stepped_over (record { some = s; takes = basic_taken (record { within = w; passes = p; expected = a; stack = k; as_deep = d }) })

@@ -144,8 +144,8 @@ after_is : {T : Table} {t : TypeId} {limit announced : ℕ} {X O : Type 0} {rece
 after_is {T = T} {t = t} {limit = limit} {announced = announced} {received = received} {z = z} e h = subst (λ o. ReaderHasRead T t limit announced received o z) (sym e) h
 
 pub push_more : {T : Table} {t : TypeId} {limit announced : ℕ} {X O : Type 0} {received : X → List Event → Type 0} {run mid new : Run X O} {o : Option (Run X O)} {z piece : List ℕ} {count : ℕ} → ReadsOn T run mid o piece count → RunGoesOn T received mid new (take count piece)
-    → new.length ≡ mid.length → new.depth ≡ mid.depth → ReaderHasRead T t limit announced received o z → ReaderTakesPiece T t limit announced received (Some new) z piece
-push_more {T = T} {t = t} {limit = limit} {announced = announced} {received = received} {run = run} {mid = mid} {new = new} {z = z} {piece = piece} {count = count} p g l d s =
+    → ReaderHasRead T t limit announced received o z → ReaderTakesPiece T t limit announced received (Some new) z piece
+push_more {T = T} {t = t} {limit = limit} {announced = announced} {received = received} {run = run} {mid = mid} {new = new} {z = z} {piece = piece} {count = count} p g s =
     let a : RunHasRead T t limit announced received run z = after_is p.was s in
     let h = begun_reached p.begun a.so_far in
     let depth = p.begun.depth_is ∙ a.depth_is in
@@ -156,8 +156,8 @@ push_more {T = T} {t = t} {limit = limit} {announced = announced} {received = re
     record {
       after = record {
         so_far = taken_so_far (subst (λ l. IsReached T t received new (z ++ l)) whole (g.reached t z h));
-        depth_is = d ∙ depth;
-        length_is = l ∙ len;
+        depth_is = g.same.depth_is ∙ depth;
+        length_is = g.same.length_is ∙ len;
         within = (let r = there.room in omega arith);
       };
       viable = there;
@@ -167,13 +167,13 @@ pub push_complete : {T : Table} {X O : Type 0} {received : X → List Event → 
 push_complete {received = received} s f one = let r = (f.finished s.type s.bytes s.reached).read in record { told = r.us; value = r.value; so_far = subst (λ b. received b r.us) (sym one) r.told; tells = r.tells }
 
 pub push_done : {T : Table} {t : TypeId} (limit : ℕ) {announced : ℕ} {X O : Type 0} {received : X → List Event → Type 0} {means : O → Tree → Type 0} {run mid new : Run X O} {o ended : Option (Run X O)} {z piece : List ℕ} {count used : ℕ} {builder : X} {out : O} → ReadsOn T run mid o piece count
-    → RunFinishes T received mid new (take count piece) used → new.depth ≡ mid.depth → builder ≡ new.state.builder → ((us : List Event) (v : Tree) → received builder us → HasEvents v us → means out v) → ended ≡ None → ReaderHasRead T t limit announced received o z → EndsBody T t limit announced means ended z piece out used
-push_done {T = T} {t = t} limit {announced = announced} {received = received} {run = run} {new = new} {z = z} {piece = piece} {count = count} {used = used} p f d same m e s =
+    → RunFinishes T received mid new (take count piece) used → builder ≡ new.state.builder → ((us : List Event) (v : Tree) → received builder us → HasEvents v us → means out v) → ended ≡ None → ReaderHasRead T t limit announced received o z → EndsBody T t limit announced means ended z piece out used
+push_done {T = T} {t = t} limit {announced = announced} {received = received} {run = run} {new = new} {z = z} {piece = piece} {count = count} {used = used} p f same m e s =
     let a : RunHasRead T t limit announced received run z = after_is p.was s in
     let h = begun_reached p.begun a.so_far in
     let r = (f.finished t z h).read in
     let one : take used (take count piece) ≡ take used piece = take_fewer piece used count f.within in
-    let shallow : IsShallow T t limit (z ++ take used (take count piece)) = subst (λ k. IsShallow T t k (z ++ take used (take count piece))) (d ∙ p.begun.depth_is ∙ a.depth_is) (f.finished t z h).shallow in
+    let shallow : IsShallow T t limit (z ++ take used (take count piece)) = subst (λ k. IsShallow T t k (z ++ take used (take count piece))) (f.same.depth_is ∙ p.begun.depth_is ∙ a.depth_is) (f.finished t z h).shallow in
     record {
       ended = e;
       within = (let w = f.within in omega (arith, take_short piece count));

@@ -1,5 +1,5 @@
 -- The deltas of a struct, taken: what the builder can be told then, and what comes behind them.
-use Rattle.std.proofs.Common.{◌≡◌, Bool, ℕ, zero, suc, ◌+◌, ◌-◌, ◌^◌, ◌<◌, ◌≤◌, List, [], ◌∷◌, ◌++◌, length, Some, None, arith, refl, sym, ap, ◌∙◌, subst, drop, length-append}
+use Rattle.std.proofs.Common.{◌≡◌, ℕ, zero, suc, ◌+◌, ◌-◌, ◌^◌, ◌<◌, ◌≤◌, List, [], ◌∷◌, ◌++◌, length, Some, None, arith, refl, sym, ap, ◌∙◌, subst, drop, length-append}
 use Rattle.std.specs.Prelude.{slice_get}
 use Rattle.gob_num.specs.Unsigned.{IsUnsigned}
 use Rattle.gob_types.specs.declared.id.TypeId.{TypeId}
@@ -12,6 +12,7 @@ use Rattle.gob_types.proofs.PublicLaws.{some_injective}
 use Rattle.gob_read.specs.declared.event.GroupKind.TheVariants as group
 use Rattle.gob_read.specs.declared.frame.Frame.{Frame}
 use Rattle.gob_read.specs.declared.frame.Frame.TheVariants as frame
+use Rattle.gob_read.specs.declared.next.Moved.{Moved}
 use Rattle.gob_read.specs.declared.next.Next.TheVariants.{Number}
 use Rattle.gob_read.specs.declared.next.NextNumber.TheVariants.{Part, Delta}
 use Rattle.gob_read.specs.declared.state.State.{State}
@@ -63,8 +64,8 @@ pub struct_can_end : {X O : Type 0} {received : X → List Event → Type 0} {st
     → CanGoOn received state u types next n → CanEnd received mid
 struct_can_end e f z r = record { table = r.table; type = r.type; bytes = r.before ++ r.bytes; ended = struct_ended e f z r.table r.type r.before r.bytes r.inside r.spelled; small = r.small }
 
-pub struct_goes_on : {X O : Type 0} {received : X → List Event → Type 0} {state mid new : State X O} {u : TypeId} {types : List Field} {next n : ℕ} {whole : Bool} → mid.stack ≡ drop 1 state.stack → TakesEvent received state.builder mid.builder leave → n ≡ 0
-    → StepEnds received mid new whole → StepGoesOn received state new u types next n whole
+pub struct_goes_on : {X O : Type 0} {received : X → List Event → Type 0} {state mid new : State X O} {u : TypeId} {types : List Field} {next n : ℕ} {moved : Moved} → mid.stack ≡ drop 1 state.stack → TakesEvent received state.builder mid.builder leave → n ≡ 0
+    → StepEnds received mid new moved → StepGoesOn received state new u types next n moved
 struct_goes_on e f z h = record { each = λ T t p c b n. h.each T t (p ++ c) (struct_ended e f z T t p c b n) }
 
 -- a delta that leads to a field
@@ -103,8 +104,8 @@ pub struct_can_go_on : {X O : Type 0} {received : X → List Event → Type 0} {
     → CanBeginStruct received state u types n → CanGoOn received mid u types 0 n
 struct_can_go_on e f r = record { table = r.table; type = r.type; before = r.before; bytes = r.bytes; inside = struct_inside e f r.table r.type r.before r.begun r.has; spelled = r.spelled; small = r.small }
 
-pub struct_begins : {X O : Type 0} {received : X → List Event → Type 0} {state mid new : State X O} {u : TypeId} {types : List Field} {n : ℕ} {whole : Bool} → mid.stack ≡ frame.Fields u 0 ∷ state.stack → TakesEvent received state.builder mid.builder (enter group.Fields)
-    → StepGoesOn received mid new u types 0 n whole → BeginsStruct received state new u types n whole
+pub struct_begins : {X O : Type 0} {received : X → List Event → Type 0} {state mid new : State X O} {u : TypeId} {types : List Field} {n : ℕ} {moved : Moved} → mid.stack ≡ frame.Fields u 0 ∷ state.stack → TakesEvent received state.builder mid.builder (enter group.Fields)
+    → StepGoesOn received mid new u types 0 n moved → BeginsStruct received state new u types n moved
 struct_begins e f g = record { each = λ T t p c b h n. g.each T t p c (struct_inside e f T t p b h) n }
 
 pub struct_no_first : {types : List Field} {n : ℕ} {r : Reason} → LeadsNowhere types 0 n r → IsNoFirst (kind.Struct types) n r
@@ -159,8 +160,8 @@ delta_inside {T = T} {t = t} {i = i} {received = received} {state = state} {p = 
 pub delta_can : {T : Table} {i : TypeId} {X O : Type 0} {received : X → List Event → Type 0} {state : State X O} {n m : ℕ} {types : List Field} → slice_get state.stack 0 ≡ Some (frame.Fields i m) → HasKind T i (kind.Struct types) → CanTake T received state Delta n → CanGoOn received state i types m n
 delta_can {T = T} h k r = record { table = T; type = r.type; before = r.before; bytes = r.bytes; inside = (delta_inside r.expected h k r.placed).0; spelled = r.spelled; small = r.small }
 
-pub delta_takes : {T : Table} {i : TypeId} {X O : Type 0} {received : X → List Event → Type 0} {old new : State X O} {n m : ℕ} {types : List Field} {whole : Bool} → old.expected ≡ Number Delta → slice_get old.stack 0 ≡ Some (frame.Fields i m) → HasKind T i (kind.Struct types)
-    → StepGoesOn received old new i types m n whole → StepTakes T received old new n whole
+pub delta_takes : {T : Table} {i : TypeId} {X O : Type 0} {received : X → List Event → Type 0} {old new : State X O} {n m : ℕ} {types : List Field} {moved : Moved} → old.expected ≡ Number Delta → slice_get old.stack 0 ≡ Some (frame.Fields i m) → HasKind T i (kind.Struct types)
+    → StepGoesOn received old new i types m n moved → StepTakes T received old new n moved
 delta_takes {T = T} e h k g = record { each = λ t p r c d b n. g.each T t p c (delta_inside e h k b).0 n }
 
 pub delta_refuses : {T : Table} {i : TypeId} {X O : Type 0} {received : X → List Event → Type 0} {old : State X O} {n m : ℕ} {types : List Field} {why : Reason} → old.expected ≡ Number Delta → slice_get old.stack 0 ≡ Some (frame.Fields i m) → HasKind T i (kind.Struct types)

@@ -1,5 +1,5 @@
 -- The first number of a part, taken: what the builder can be told then, and what comes behind it.
-use Rattle.std.proofs.Common.{◌≡◌, ℕ, pos, negsuc, zero, suc, ◌+◌, ◌*◌, ◌/◌, ◌%◌, ◌≤◌, inl, inr, Bool, true, false, List, [], ◌∷◌, ◌++◌, arith, refl, sym, ap, ◌∙◌, subst, append_assoc, length-append}
+use Rattle.std.proofs.Common.{◌≡◌, ℕ, pos, negsuc, zero, suc, ◌+◌, ◌*◌, ◌/◌, ◌%◌, ◌≤◌, inl, inr, true, false, List, [], ◌∷◌, ◌++◌, arith, refl, sym, ap, ◌∙◌, subst, append_assoc, length-append}
 use Rattle.std.proofs.Math.Nat.{div-add-mod}
 use Rattle.std.proofs.lemmas.Nat.{mod_below}
 use Rattle.std.proofs.lemmas.Bool.{cases_lt}
@@ -20,6 +20,7 @@ use Rattle.gob_read.specs.declared.event.RawKind.{RawKind}
 use Rattle.gob_read.specs.declared.event.GroupKind.{GroupKind}
 use Rattle.gob_read.specs.declared.event.GroupKind.TheVariants as group
 use Rattle.gob_read.specs.declared.frame.Frame.{Frame}
+use Rattle.gob_read.specs.declared.next.Moved.{Moved}
 use Rattle.gob_read.specs.declared.next.Next.TheVariants.{Number, Raw}
 use Rattle.gob_read.specs.declared.next.NextNumber.TheVariants.{Second}
 use Rattle.gob_read.specs.declared.state.State.{State}
@@ -160,7 +161,7 @@ can_end_group {received = received} {state = state} {g = g} {f = f} {n = n} {bui
 pub can_begin_as : {X O : Type 0} {received : X → List Event → Type 0} {state : State X O} {P Q : Kind → Type 0} {n : ℕ} → ((k : Kind) → P k → Q k) → CanBegin received state P n → CanBegin received state Q n
 can_begin_as f r = record { table = r.table; type = r.type; id = r.id; kind = r.kind; before = r.before; bytes = r.bytes; begun = r.begun; has = r.has; holds = f r.kind r.holds; spelled = r.spelled; small = r.small }
 
-pub begins_as : {X O : Type 0} {received : X → List Event → Type 0} {old new : State X O} {P Q : Kind → Type 0} {n : ℕ} {whole : Bool} → ((k : Kind) → P k → Q k) → StepBegins received old new Q n whole → StepBegins received old new P n whole
+pub begins_as : {X O : Type 0} {received : X → List Event → Type 0} {old new : State X O} {P Q : Kind → Type 0} {n : ℕ} {moved : Moved} → ((k : Kind) → P k → Q k) → StepBegins received old new Q n moved → StepBegins received old new P n moved
 begins_as f b = record { each = λ T t u k p c x h i n. b.each T t u k p c x h (f k i) n }
 
 -- a basic type's part

@@ -18,6 +18,7 @@ use Rattle.gob_value.specs.Spelling.{Spells, of_complex, of_bytes, of_text, of_o
 use Rattle.gob_value.specs.Top.{IsStruct}
 use Rattle.gob_read.specs.declared.event.RawKind.{RawKind}
 use Rattle.gob_read.specs.declared.frame.Frame.{Frame}
+use Rattle.gob_read.specs.declared.next.Moved.{Moved}
 use Rattle.gob_read.specs.declared.next.Next.{Next}
 use Rattle.gob_read.specs.declared.next.Next.TheVariants.{Top, Number, Raw}
 use Rattle.gob_read.specs.declared.next.NextNumber.{NextNumber}
@@ -51,7 +52,7 @@ blames (Refused r) f p = f r p
 pub first_can : {T : Table} {X O : Type 0} {received : X → List Event → Type 0} {state : State X O} {id : TypeId} {k : Kind} {P : Kind → Type 0} {n : ℕ} → HasKind T id k → P k → CanTakeFirst T received state id n → CanBegin received state P n
 first_can {T = T} {id = id} {k = k} h i r = record { table = T; type = r.type; id = id; kind = k; before = r.before; bytes = r.bytes; begun = r.begun; has = h; holds = i; spelled = r.spelled; small = r.small }
 
-pub first_takes : {T : Table} {X O : Type 0} {received : X → List Event → Type 0} {old new : State X O} {id : TypeId} {k : Kind} {P : Kind → Type 0} {n : ℕ} {whole : Bool} → HasKind T id k → P k → StepBegins received old new P n whole → TakesFirst T received old new id n whole
+pub first_takes : {T : Table} {X O : Type 0} {received : X → List Event → Type 0} {old new : State X O} {id : TypeId} {k : Kind} {P : Kind → Type 0} {n : ℕ} {moved : Moved} → HasKind T id k → P k → StepBegins received old new P n moved → TakesFirst T received old new id n moved
 first_takes {T = T} {id = id} {k = k} h i b = record { each = λ t p c x n. b.each T t id k p c x h i n }
 
 pub first_refuses : {T : Table} {X O : Type 0} {received : X → List Event → Type 0} {state : State X O} {id : TypeId} {k : Kind} {n : ℕ} {why : Reason} → HasKind T id k → IsNoFirst k n why → RefusesFirst T received state id n why
@@ -70,7 +71,7 @@ placed_begun {T = T} {t = t} {state = state} {p = p} {r = r} e b = record { us =
 pub part_can : {T : Table} {X O : Type 0} {received : X → List Event → Type 0} {state : State X O} {id : TypeId} {n : ℕ} → CanTake T received state (Part id) n → CanTakeFirst T received state id n
 part_can r = record { type = r.type; ready = r.ready; before = r.before; bytes = r.bytes; begun = placed_begun r.expected r.placed; spelled = r.spelled; small = r.small }
 
-pub part_takes : {T : Table} {X O : Type 0} {received : X → List Event → Type 0} {old new : State X O} {id : TypeId} {n : ℕ} {whole : Bool} → old.expected ≡ Number (Part id) → TakesFirst T received old new id n whole → StepTakes T received old new n whole
+pub part_takes : {T : Table} {X O : Type 0} {received : X → List Event → Type 0} {old new : State X O} {id : TypeId} {n : ℕ} {moved : Moved} → old.expected ≡ Number (Part id) → TakesFirst T received old new id n moved → StepTakes T received old new n moved
 part_takes e f = record { each = λ t p r c d b n. f.each t p c (placed_begun e b) n }
 
 pub part_refuses : {T : Table} {X O : Type 0} {received : X → List Event → Type 0} {state : State X O} {id : TypeId} {n : ℕ} {why : Reason} → state.expected ≡ Number (Part id) → RefusesFirst T received state id n why → StepRefuses T received state n why
@@ -111,7 +112,7 @@ wrong_tag_refuses {T = T} {state = state} e w = record {
 }
 
 -- what comes behind an expected number that needs no table
-pub here_takes : {T : Table} {X O : Type 0} {received : X → List Event → Type 0} {old new : State X O} {n : ℕ} {whole : Bool} → TakesHere received old new n whole → StepTakes T received old new n whole
+pub here_takes : {T : Table} {X O : Type 0} {received : X → List Event → Type 0} {old new : State X O} {n : ℕ} {moved : Moved} → TakesHere received old new n moved → StepTakes T received old new n moved
 here_takes {T = T} h = record { each = λ t p r c d b n. h.each T t p r c b n }
 
 -- the imaginary part
@@ -276,7 +277,7 @@ array_is {e = e} {n = n} h = subst (λ l. IsList (kind.Array e l) n e) h is_arra
 pub struct_can : {T : Table} {X O : Type 0} {received : X → List Event → Type 0} {state : State X O} {id : TypeId} {types : List Field} {n : ℕ} → HasKind T id (kind.Struct types) → CanTakeFirst T received state id n → CanBeginStruct received state id types n
 struct_can {T = T} h r = record { table = T; type = r.type; before = r.before; bytes = r.bytes; begun = r.begun; has = h; spelled = r.spelled; small = r.small }
 
-pub struct_takes : {T : Table} {X O : Type 0} {received : X → List Event → Type 0} {old new : State X O} {id : TypeId} {types : List Field} {n : ℕ} {whole : Bool} → HasKind T id (kind.Struct types) → BeginsStruct received old new id types n whole → TakesFirst T received old new id n whole
+pub struct_takes : {T : Table} {X O : Type 0} {received : X → List Event → Type 0} {old new : State X O} {id : TypeId} {types : List Field} {n : ℕ} {moved : Moved} → HasKind T id (kind.Struct types) → BeginsStruct received old new id types n moved → TakesFirst T received old new id n moved
 struct_takes {T = T} h b = record { each = λ t p c x n. b.each T t p c x h n }
 
 -- the expected number, by what it is

@@ -1,11 +1,12 @@
 -- The steps of a reader's state, with what its builder is told.
-use Rattle.std.proofs.Common.{◌≡◌, ℕ, ◌^◌, ◌<◌, Bool, List, [], ◌∷◌, ◌++◌, Some, None, arith, sym, subst, drop}
+use Rattle.std.proofs.Common.{◌≡◌, ℕ, ◌^◌, ◌<◌, List, [], ◌∷◌, ◌++◌, Some, None, arith, sym, subst, drop}
 use Rattle.std.specs.Prelude.{slice_get, Result, Ok, Err, IfOk}
 use Rattle.gob_num.specs.Unsigned.{IsUnsigned}
 use Rattle.gob_types.specs.declared.id.TypeId.{TypeId}
 use Rattle.gob_types.specs.declared.kind.Kind.{Kind}
 use Rattle.gob_types.specs.Table.{Table}
 use Rattle.gob_read.specs.declared.frame.Frame.{Frame}
+use Rattle.gob_read.specs.declared.next.Moved.{Moved}
 use Rattle.gob_read.specs.declared.next.Next.TheVariants.{Number}
 use Rattle.gob_read.specs.declared.state.State.{State}
 use Rattle.gob_read.specs.Event.{Event, leave}
@@ -75,9 +76,9 @@ pub over_can_end : {X O : Type 0} {received : X → List Event → Type 0} {stat
 over_can_end h over stack told_on c = record { table = c.table; type = c.type; bytes = c.bytes; ended = ended_over h over stack told_on c.ended; small = c.small }
 
 -- a part ends where it begins
-pub begins_ended : {X O : Type 0} {received : X → List Event → Type 0} {old mid new : State X O} {P : Kind → Type 0} {n : ℕ} {whole : Bool}
+pub begins_ended : {X O : Type 0} {received : X → List Event → Type 0} {old mid new : State X O} {P : Kind → Type 0} {n : ℕ} {moved : Moved}
     → ((T : Table) (t u : TypeId) (k : Kind) (p c : List ℕ) → IsBegun T t received old u p → HasKind T u k → P k → IsUnsigned n c → IsEnded T t received mid (p ++ c))
-    → StepEnds received mid new whole → StepBegins received old new P n whole
+    → StepEnds received mid new moved → StepBegins received old new P n moved
 begins_ended f e = record { each = λ T t u k p c b h i n. e.each T t (p ++ c) (f T t u k p c b h i n) }
 
 pub begins_can_end : {X O : Type 0} {received : X → List Event → Type 0} {old mid : State X O} {P : Kind → Type 0} {n : ℕ}

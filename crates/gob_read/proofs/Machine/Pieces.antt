@@ -1,13 +1,15 @@
 -- What a reader has come to within a piece, item by item.
-use Rattle.std.proofs.Common.{◌≡◌, ℕ, zero, suc, ◌+◌, ◌-◌, ◌<◌, ◌≤◌, Bool, true, false, List, [], ◌∷◌, ◌++◌, length, take, drop, arith, refl, sym, ap, ◌∙◌, subst, append_assoc, length-append, length-drop, zero-add, suc-add}
+use Rattle.std.proofs.Common.{◌≡◌, ℕ, zero, suc, ◌+◌, ◌-◌, ◌<◌, ◌≤◌, List, [], ◌∷◌, ◌++◌, length, take, drop, arith, refl, sym, ap, ◌∙◌, subst, append_assoc, length-append, length-drop, zero-add, suc-add}
 use Rattle.gob_types.specs.declared.id.TypeId.{TypeId}
 use Rattle.gob_types.specs.Table.{Table}
 use Rattle.gob_read.specs.Viable.{IsViable}
 use Rattle.gob_read.specs.Event.{Event}
-use Rattle.gob_read.specs.Machine.Running.{IsReached, IsReachedSomewhere, IsOpenSomewhere, IsFinished, TakesMore, Steps, StopsFor, RefusesAt, MayGoOn, JudgesFor, EndsFor, RunGoesOn, RunFinishes, RefusesPiece}
+use Rattle.gob_read.specs.Machine.Running.{IsReached, IsReachedSomewhere, IsOpenSomewhere, IsFinished, IsStepped, TakesMore, TakesSome, StopsFor, RefusesAt, MayGoOn, JudgesFor, EndsFor, RunFinishes, RunAdvances, RefusesPiece}
 use Rattle.gob_read.specs.declared.stop.Stop.{Stop}
 use Rattle.gob_read.specs.declared.stop.Stop.TheVariants as stops
+use Rattle.gob_read.specs.declared.next.Moved.TheVariants.{ToNext, PastValue}
 use Rattle.gob_read.specs.declared.run.Run.{Run}
+use Rattle.gob_read.specs.declared.run.Advance.{Advance}
 use Rattle.gob_read.proofs.Grammar.Fronts.{append_nil}
 use Rattle.gob_read.proofs.Machine.Runs.{reached_stood, same_first, take_and_drop}
 
@@ -53,27 +55,17 @@ come_start {T = T} {received = received} {run = run} piece = record {
   reached = λ t z h. subst (IsReached T t received run) (sym (append_nil z)) h;
 }
 
--- what is stepped over, an item or a byte of it
-pub record StepsOn (T : Table) {X O : Type 0} (received : X → List Event → Type 0) (mid new : Run X O) (rest : List ℕ) (count : ℕ) (whole : Bool) : Type 0 where
-  pub some : 0 < count
-  pub few : count ≤ length rest
-  pub more : TakesMore mid new count
-  pub steps : Steps T received mid new (take count rest) whole
-
-pub steps_on : {T : Table} {X O : Type 0} {received : X → List Event → Type 0} {mid new : Run X O} {rest : List ℕ} {count : ℕ} {whole whole' : Bool} → (0 < count) × (count ≤ length rest) → TakesMore mid new count → Steps T received mid new (take count rest) whole
-    → whole ≡ whole' → StepsOn T received mid new rest count whole'
-steps_on {T = T} {received = received} {mid = mid} {new = new} {rest = rest} {count = count} u m s e = record { some = u.0; few = u.1; more = m; steps = subst (Steps T received mid new (take count rest)) e s }
-
-pub come_on : {T : Table} {X O : Type 0} {received : X → List Event → Type 0} {old mid new : Run X O} {piece : List ℕ} {used count step : ℕ} → HasCome T received old mid piece used count → MayGoOn T received mid
-    → StepsOn T received mid new (take (length piece - used) (drop used piece)) step false → HasCome T received old new piece (used + step) (count + 1)
-come_on {T = T} {received = received} {old = old} {new = new} {piece = piece} {used = used} {step = step} h o s =
-    let w = h.within in let n = s.few in let j = s.some in let i = h.onward in
-    let a = h.more.taken in let b = s.more.taken in
+pub come_on : {T : Table} {X O : Type 0} {received : X → List Event → Type 0} {old mid new : Run X O} {piece : List ℕ} {used count : ℕ} {step : Advance} → HasCome T received old mid piece used count → MayGoOn T received mid
+    → TakesSome T received mid new (take (length piece - used) (drop used piece)) step → step.moved ≡ ToNext → HasCome T received old new piece (used + step.used) (count + 1)
+come_on {T = T} {received = received} {old = old} {new = new} {piece = piece} {used = used} {step = step} h o s e =
+    let w = h.within in let n = s.takes.few in let j = s.some in let i = h.onward in
+    let m = s.takes.more in let a = h.more.taken in let b = m.taken in
     record {
       within = omega (arith, ap length (slice_rest piece used), length-drop used piece);
-      more = record { taken = omega arith; length_is = s.more.length_is ∙ h.more.length_is; depth_is = s.more.depth_is ∙ h.more.depth_is };
+      more = record { taken = omega arith; length_is = m.length_is ∙ h.more.length_is; depth_is = m.depth_is ∙ h.more.depth_is };
       onward = omega arith;
-      reached = λ t z k. subst (IsReached T t received new) (further_read z piece used step) (s.steps.each t (z ++ take used piece) (o.each t (z ++ take used piece) (h.reached t z k)));
+      reached = λ t z k. subst (λ z. IsStepped T t received new z ToNext) (further_read z piece used step.used)
+          (subst (IsStepped T t received new ((z ++ take used piece) ++ take step.used (take (length piece - used) (drop used piece)))) e (s.takes.steps.each t (z ++ take used piece) (o.each t (z ++ take used piece) (h.reached t z k))));
     }
 
 -- the value is whole behind the step
@@ -82,15 +74,16 @@ pub record HasEnded (T : Table) {X O : Type 0} (received : X → List Event → 
   pub more : TakesMore old new used
   pub finished : (t : TypeId) (z : List ℕ) → IsReached T t received old z → IsFinished T t received new (z ++ take used piece)
 
-pub come_end : {T : Table} {X O : Type 0} {received : X → List Event → Type 0} {old mid new : Run X O} {piece : List ℕ} {used count step : ℕ} → HasCome T received old mid piece used count → MayGoOn T received mid
-    → StepsOn T received mid new (take (length piece - used) (drop used piece)) step true → HasEnded T received old new piece (used + step)
-come_end {T = T} {received = received} {old = old} {new = new} {piece = piece} {used = used} {step = step} h o s =
-    let w = h.within in let n = s.few in
-    let a = h.more.taken in let b = s.more.taken in
+pub come_end : {T : Table} {X O : Type 0} {received : X → List Event → Type 0} {old mid new : Run X O} {piece : List ℕ} {used count : ℕ} {step : Advance} → HasCome T received old mid piece used count → MayGoOn T received mid
+    → TakesSome T received mid new (take (length piece - used) (drop used piece)) step → step.moved ≡ PastValue → HasEnded T received old new piece (used + step.used)
+come_end {T = T} {received = received} {old = old} {new = new} {piece = piece} {used = used} {step = step} h o s e =
+    let w = h.within in let n = s.takes.few in
+    let m = s.takes.more in let a = h.more.taken in let b = m.taken in
     record {
       within = omega (arith, ap length (slice_rest piece used), length-drop used piece);
-      more = record { taken = omega arith; length_is = s.more.length_is ∙ h.more.length_is; depth_is = s.more.depth_is ∙ h.more.depth_is };
-      finished = λ t z k. subst (IsFinished T t received new) (further_read z piece used step) (s.steps.each t (z ++ take used piece) (o.each t (z ++ take used piece) (h.reached t z k)));
+      more = record { taken = omega arith; length_is = m.length_is ∙ h.more.length_is; depth_is = m.depth_is ∙ h.more.depth_is };
+      finished = λ t z k. subst (λ z. IsStepped T t received new z PastValue) (further_read z piece used step.used)
+          (subst (IsStepped T t received new ((z ++ take used piece) ++ take step.used (take (length piece - used) (drop used piece)))) e (s.takes.steps.each t (z ++ take used piece) (o.each t (z ++ take used piece) (h.reached t z k))));
     }
 
 -- more may be taken there
@@ -98,8 +91,8 @@ pub come_open : {T : Table} {X O : Type 0} {received : X → List Event → Type
 come_open w h o = record { type = w.type; bytes = _; open_ = o.each w.type _ (h.reached w.type w.bytes w.reached) }
 
 -- the whole piece was taken
-pub come_all : {T : Table} {X O : Type 0} {received : X → List Event → Type 0} {old new : Run X O} {piece : List ℕ} {used count : ℕ} → HasCome T received old new piece used count → MayGoOn T received new → length piece ≤ used → RunGoesOn T received old new piece
-come_all {T = T} {received = received} {old = old} {new = new} {piece = piece} {used = used} h o l = record { reached = reached; viable = viable }
+pub come_all : {T : Table} {X O : Type 0} {received : X → List Event → Type 0} {old new : Run X O} {piece : List ℕ} {used count : ℕ} → HasCome T received old new piece used count → MayGoOn T received new → length piece ≤ used → RunAdvances T received old new piece ToNext used
+come_all {T = T} {received = received} {old = old} {new = new} {piece = piece} {used = used} h o l = (let w = h.within in omega arith, record { same = record { length_is = h.more.length_is; depth_is = h.more.depth_is }; reached = reached; viable = viable })
   where
     reached : (t : TypeId) (z : List ℕ) → IsReached T t received old z → IsReached T t received new (z ++ piece)
     reached t z k = subst (λ l. IsReached T t received new (z ++ l)) (take_all piece used l) (h.reached t z k)
@@ -111,7 +104,7 @@ come_all {T = T} {received = received} {old = old} {new = new} {piece = piece} {
         (subst (λ n. IsViable T t new.depth n (z ++ piece)) h.more.length_is (reached_stood i.reached i.not_deep i.room))
 
 pub ended_all : {T : Table} {X O : Type 0} {received : X → List Event → Type 0} {old new : Run X O} {piece : List ℕ} {used : ℕ} → HasEnded T received old new piece used → new.taken ≡ new.length → RunFinishes T received old new piece used
-ended_all h e = record { within = h.within; finished = h.finished; all = λ t z k. sym (h.finished t z k).taken_is ∙ e ∙ h.more.length_is }
+ended_all h e = record { same = record { length_is = h.more.length_is; depth_is = h.more.depth_is }; within = h.within; finished = h.finished; all = λ t z k. sym (h.finished t z k).taken_is ∙ e ∙ h.more.length_is }
 
 -- what is refused behind so much of the piece is refused of the piece
 pub judge_stops : (T : Table) {X O : Type 0} (received : X → List Event → Type 0) (old new : Run X O) {piece : List ℕ} {used count : ℕ} (stop : Stop) → HasCome T received old new piece used count → old.taken + length piece ≤ old.length

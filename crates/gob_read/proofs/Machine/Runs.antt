@@ -1,6 +1,6 @@
 -- What a reader has come to, byte by byte and piece by piece, and what is refused there.
-use Rattle.std.proofs.Common.{◌≡◌, ℕ, zero, suc, ◌+◌, ◌^◌, Result, Ok, Err, IfOk, OnOk, ◌<◌, ◌≤◌, inl, inr, Bool, true, false, List, [], ◌∷◌, ◌++◌, length, arith, refl, sym, ap, ◌∙◌, subst, append_assoc, length-append, get_or, take, drop}
-use Rattle.std.specs.Prelude.{Result, Ok, Err, IfErr}
+use Rattle.std.proofs.Common.{◌≡◌, ℕ, zero, suc, ◌+◌, ◌^◌, ◌<◌, ◌≤◌, inl, inr, List, [], ◌∷◌, ◌++◌, length, arith, refl, sym, ap, ◌∙◌, subst, append_assoc, length-append, get_or, take, drop}
+use Rattle.std.specs.Prelude.{Result, Ok, Err}
 use Rattle.std.proofs.lemmas.Bool.{cases_lt}
 use Rattle.gob_num.specs.Unsigned.{IsUnsigned, IsUnsignedFront, IsBadHead, IsNotMinimal, BeginsNumber}
 use Rattle.gob_num.proofs.PublicLaws.{front_begins, begins_front, front_not_padded}
@@ -16,7 +16,9 @@ use Rattle.gob_read.specs.Viable.{IsShallow, IsViable}
 use Rattle.gob_read.specs.Event.{Event}
 use Rattle.gob_read.specs.Machine.OpenPath.{AtNext}
 use Rattle.gob_read.specs.Machine.Steps.{CanTake, CanTakeRaw, IsPlaced, IsRead, Settled, TakesRaw}
-use Rattle.gob_read.specs.Machine.Running.{TakesMore, IsOpenSomewhere, IsOpenIn, IsUnderWayAt, depth_of, IsReached, IsOpenRun, IsFinished, IsStepped, Steps, RefusesAt, TakesNumber, RefusesNumber, JudgesFor, EndsFor, StopsFor}
+use Rattle.gob_read.specs.Machine.Running.{TakesMore, IsOpenSomewhere, IsOpenIn, IsUnderWayAt, depth_of, IsReached, IsOpenRun, IsFinished, IsStepped, Steps, RefusesAt, TakesBytes, BytesAnswers, TakesOfRest, TakesSome, TakesNumber, RefusesNumber, NumberAnswers, JudgesFor, EndsFor, StopsFor}
+use Rattle.gob_read.specs.declared.next.Moved.{Moved}
+use Rattle.gob_read.specs.declared.next.Moved.TheVariants.{ToNext, PastValue}
 use Rattle.gob_read.specs.declared.next.Next.{Next}
 use Rattle.gob_read.specs.declared.next.Next.TheVariants.{Top, Number, Raw}
 use Rattle.gob_read.specs.declared.next.NextNumber.{NextNumber}
@@ -24,6 +26,7 @@ use Rattle.gob_read.specs.declared.state.State.{State}
 use Rattle.gob_read.specs.declared.stop.Stop.{Stop}
 use Rattle.gob_read.specs.declared.stop.Stop.TheVariants as stops
 use Rattle.gob_read.specs.declared.run.Run.{Run}
+use Rattle.gob_read.specs.declared.run.Advance.{Advance}
 use Rattle.gob_read.proofs.Grammar.Fronts.{append_nil}
 use Rattle.gob_read.proofs.Grammar.Firsts.{bad_head_first, not_minimal_first, not_allowed_first, short_first, too_deep_first, extra_first}
 use Rattle.gob_read.proofs.Grammar.Onward.{number_taken, raw_taken, shallow_on}
@@ -98,7 +101,7 @@ further p r c e = ap (λ l. l ++ c) e ∙ append_assoc p r c
 
 -- one more byte of a number
 pub number_goes_on : {T : Table} {X O : Type 0} {received : X → List Event → Type 0} {run new : Run X O} (i : NextNumber) (b : ℕ) → run.state.expected ≡ Number i → new.state ≡ run.state → new.number ≡ run.number ++ b ∷ [] → new.start ≡ run.start
-    → new.taken ≡ run.taken + 1 → new.depth ≡ run.depth → IsUnsignedFront (run.number ++ b ∷ []) → Steps T received run new (b ∷ []) false
+    → new.taken ≡ run.taken + 1 → new.depth ≡ run.depth → IsUnsignedFront (run.number ++ b ∷ []) → Steps T received run new (b ∷ []) ToNext
 number_goes_on {T = T} {X = X} {O = O} {received = received} {run = run} {new = new} i b e s n a k d f = record { each = step }
   where
     step : (t : TypeId) (z : List ℕ) → IsOpenRun T t received run z → IsReached T t received new (z ++ b ∷ [])
@@ -173,10 +176,10 @@ not_allowed_refused {T = T} {X = X} {O = O} {received = received} {run = run} {m
         first_is (not_allowed_first {announced = run.length} x y.expects (omega arith) h.shallow there v y.not_allowed) (sym (r.place_is ∙ a ∙ h.start_is)) (omega arith) y.reason_is
 
 -- behind what was read whole
-pub settled_stepped : {T : Table} {t : TypeId} {X O : Type 0} (received : X → List Event → Type 0) (new : Run X O) {y z : List ℕ} (whole : Bool) → IsReady T t → y ≡ z → new.number ≡ [] → new.start ≡ length z → new.taken ≡ length z → IsShallow T t new.depth z
-    → Settled T t received new.state y whole → IsStepped T t received new z whole
-settled_stepped {T = T} {t = t} received new true d e n a m k r = record { read = subst (IsRead T t received new.state) e r; taken_is = m; shallow = k }
-settled_stepped {T = T} {t = t} received new {z = z} false d e n a m k r = record {
+pub settled_stepped : {T : Table} {t : TypeId} {X O : Type 0} (received : X → List Event → Type 0) (new : Run X O) {y z : List ℕ} (moved : Moved) → IsReady T t → y ≡ z → new.number ≡ [] → new.start ≡ length z → new.taken ≡ length z → IsShallow T t new.depth z
+    → Settled T t received new.state y moved → IsStepped T t received new z moved
+settled_stepped {T = T} {t = t} received new PastValue d e n a m k r = record { read = subst (IsRead T t received new.state) e r; taken_is = m; shallow = k }
+settled_stepped {T = T} {t = t} received new {z = z} ToNext d e n a m k r = record {
   ready = d;
   before = z;
   under_way = [];
@@ -208,12 +211,6 @@ number_can_take {n = n} i c e o u small =
       small = omega (arith, length-append h.before (h.under_way ++ c), length-append h.under_way c);
     }
 
--- with its last bytes
-pub number_more : (T : Table) {X O : Type 0} (received : X → List Event → Type 0) (old mid new : Run X O) (n count : ℕ) (r : Result Bool Stop) → mid.taken ≡ old.taken + count → mid.length ≡ old.length → mid.depth ≡ old.depth
-    → IfOk r (λ whole. TakesNumber T received mid new n whole) → OnOk r (TakesMore old new count)
-number_more T received old mid new n count (Ok whole) t l d h = let m = h.more.taken in record { taken = omega arith; length_is = h.more.length_is ∙ l; depth_is = h.more.depth_is ∙ d }
-number_more T received old mid new n count (Err e) t l d h = tt
-
 -- raw bytes may be taken
 pub raw_can_take : {X O : Type 0} {received : X → List Event → Type 0} {run : Run X O} {left : ℕ} (bytes : List ℕ) → run.state.expected ≡ Raw left → IsOpenIn received run → length bytes ≤ left → run.taken + length bytes < 2 ^ 64 → CanTakeRaw received run.state left bytes
 raw_can_take bytes e o few small =
@@ -232,11 +229,11 @@ raw_can_take bytes e o few small =
     }
 
 -- a whole number was taken
-pub number_stepped : {T : Table} {X O : Type 0} {received : X → List Event → Type 0} {run mid new : Run X O} {n : ℕ} {whole : Bool} (i : NextNumber) (c : List ℕ) → run.state.expected ≡ Number i → mid.state ≡ run.state → mid.number ≡ []
-    → mid.taken ≡ run.taken + length c → mid.depth ≡ run.depth → IsUnsigned n (run.number ++ c) → TakesNumber T received mid new n whole → Steps T received run new c whole
-number_stepped {T = T} {X = X} {O = O} {received = received} {run = run} {mid = mid} {new = new} {n = n} {whole = whole} i c e s b k d u f = record { each = step }
+pub number_stepped : {T : Table} {X O : Type 0} {received : X → List Event → Type 0} {run mid new : Run X O} {n : ℕ} {moved : Moved} (i : NextNumber) (c : List ℕ) → run.state.expected ≡ Number i → mid.state ≡ run.state → mid.number ≡ []
+    → mid.taken ≡ run.taken + length c → mid.depth ≡ run.depth → IsUnsigned n (run.number ++ c) → TakesNumber T received mid new n moved → Steps T received run new c moved
+number_stepped {T = T} {X = X} {O = O} {received = received} {run = run} {mid = mid} {new = new} {n = n} {moved = moved} i c e s b k d u f = record { each = step }
   where
-    step : (t : TypeId) (z : List ℕ) → IsOpenRun T t received run z → IsStepped T t received new (z ++ c) whole
+    step : (t : TypeId) (z : List ℕ) → IsOpenRun T t received run z → IsStepped T t received new (z ++ c) moved
     step t z o =
         let h = number_open i e o in
         let v : IsUnsigned n (h.under_way ++ c) = subst (λ r. IsUnsigned n (r ++ c)) h.number_is u in
@@ -244,19 +241,19 @@ number_stepped {T = T} {X = X} {O = O} {received = received} {run = run} {mid = 
         let deep : run.depth ≡ new.depth = sym (f.more.depth_is ∙ d) in
         let m = h.taken_is in let j = f.more.taken in let start = f.start_is in
         let over : IsShallow T t new.depth (z ++ c) = subst (λ k. IsShallow T t k (z ++ c)) deep (subst (IsShallow T t run.depth) (sym there) (shallow_on h.shallow h.expects h.not_deep (number_taken v))) in
-        settled_stepped received new whole h.ready (sym there) (f.number_is ∙ b) (omega (arith, length-append z c)) (omega (arith, length-append z c)) over
+        settled_stepped received new moved h.ready (sym there) (f.number_is ∙ b) (omega (arith, length-append z c)) (omega (arith, length-append z c)) over
         (f.takes.each t h.before h.under_way (h.under_way ++ c) h.ready (subst (λ (s : State X O). IsPlaced T t received s h.before h.under_way) (sym s) h.placed) v)
 
 -- raw bytes were taken
-pub raw_stepped : {T : Table} {X O : Type 0} {received : X → List Event → Type 0} {run new : Run X O} {whole : Bool} (left : ℕ) (bytes : List ℕ) → run.state.expected ≡ Raw left → length bytes ≤ left → new.number ≡ run.number
+pub raw_stepped : {T : Table} {X O : Type 0} {received : X → List Event → Type 0} {run new : Run X O} {moved : Moved} (left : ℕ) (bytes : List ℕ) → run.state.expected ≡ Raw left → length bytes ≤ left → new.number ≡ run.number
     → new.taken ≡ run.taken + length bytes → new.depth ≡ run.depth → (length bytes ≡ left → new.start ≡ run.taken + length bytes) → (length bytes < left → new.start ≡ run.start)
-    → TakesRaw received run.state new.state left bytes whole → Steps T received run new bytes whole
-raw_stepped {T = T} {X = X} {O = O} {received = received} {run = run} {new = new} {whole = whole} left bytes e few n k d at_end before_end f = record { each = step }
+    → TakesRaw received run.state new.state left bytes moved → Steps T received run new bytes moved
+raw_stepped {T = T} {X = X} {O = O} {received = received} {run = run} {new = new} {moved = moved} left bytes e few n k d at_end before_end f = record { each = step }
   where
     deep_is : {rest : ℕ} → new.state.expected ≡ Raw rest → new.state.stack ≡ run.state.stack → length run.state.stack + 1 ≤ run.depth → depth_of new.state.expected new.state.stack ≤ new.depth
     deep_is a s l = let m : depth_of new.state.expected new.state.stack ≡ length run.state.stack + 1 = ap (λ a. depth_of a new.state.stack) a ∙ ap (λ fs. length fs + 1) s in omega arith
 
-    step : (t : TypeId) (z : List ℕ) → IsOpenRun T t received run z → IsStepped T t received new (z ++ bytes) whole
+    step : (t : TypeId) (z : List ℕ) → IsOpenRun T t received run z → IsStepped T t received new (z ++ bytes) moved
     step t z o =
         let h = o.reached in
         let w = raw_expects (subst (λ a. AtNext T t run.state.stack a h.before h.under_way h.placed.us) e h.placed.at) in
@@ -284,7 +281,7 @@ raw_stepped {T = T} {X = X} {O = O} {received = received} {run = run} {new = new
               let same : length bytes ≡ left = omega arith in
               let over : IsShallow T t new.depth (z ++ bytes) = subst (λ k. IsShallow T t k (z ++ bytes)) (sym d) (subst (IsShallow T t run.depth) (sym there)
               (shallow_on h.shallow w.expects l (raw_taken (let q = w.left_is in omega (arith, length-append h.under_way bytes))))) in
-              settled_stepped received new whole h.ready (sym there) (n ∙ none) (let a = at_end same in omega arith) taken over (f.last T t h.before h.under_way h.placed (sym same))
+              settled_stepped received new moved h.ready (sym there) (n ∙ none) (let a = at_end same in omega arith) taken over (f.last T t h.before h.under_way h.placed (sym same))
         ]
 
 pub below_some : (xs : List ℕ) → length xs ≤ 0 → xs ≡ []
@@ -376,13 +373,14 @@ finished_extra {received = received} {run = run} l = record { each = refused }
     refused : (T : Table) (t : TypeId) (z x : List ℕ) → IsFinished T t received run z → IsFirst T t run.depth run.length (z ++ x) (record { place = run.taken; seen = run.taken; reason = reason.Extra })
     refused T t z x h = let m = h.taken_is in first_is (extra_first {announced = run.length} x h.read.spelled h.shallow refl (omega arith)) (sym m) (sym m) refl
 
--- the same of whatever stops the reader there
-pub not_allowed_stops : (T : Table) {X O A : Type 0} (received : X → List Event → Type 0) (run mid : Run X O) {n : ℕ} (i : NextNumber) (c : List ℕ) (r : Result A Stop) → run.state.expected ≡ Number i → mid.state ≡ run.state → mid.start ≡ run.start
-    → mid.taken ≡ run.taken + length c → IsUnsigned n (run.number ++ c) → IfErr r (StopsFor (λ refusal. RefusesNumber T received mid n refusal)) → IfErr r (StopsFor (λ refusal. RefusesAt T received run c refusal))
-not_allowed_stops T received run mid i c (Ok v) e s a k u h = h
-not_allowed_stops T received run mid i c (Err (stops.Refused p q r)) e s a k u h = not_allowed_refused i c e s a k u h
-not_allowed_stops T received run mid i c (Err stops.Memory) e s a k u h = h
-not_allowed_stops T received run mid i c (Err stops.Failed) e s a k u h = h
+-- what the number gives its bytes give
+pub number_answers : (T : Table) {X O : Type 0} (received : X → List Event → Type 0) (run mid new : Run X O) {n : ℕ} (i : NextNumber) (c : List ℕ) (r : Result Moved Stop) → run.state.expected ≡ Number i → mid.state ≡ run.state → mid.number ≡ [] → mid.start ≡ run.start
+    → mid.taken ≡ run.taken + length c → mid.length ≡ run.length → mid.depth ≡ run.depth → IsUnsigned n (run.number ++ c) → NumberAnswers T received mid new n r → BytesAnswers T received run new c r
+number_answers T received run mid new i c (Ok moved) e s b a k l d u h =
+    record { more = record { taken = (let m = h.more.taken in omega arith); length_is = h.more.length_is ∙ l; depth_is = h.more.depth_is ∙ d }; steps = number_stepped i c e s b k d u h }
+number_answers T received run mid new i c (Err (stops.Refused p q r)) e s b a k l d u h = not_allowed_refused i c e s a k u h
+number_answers T received run mid new i c (Err stops.Memory) e s b a k l d u h = h
+number_answers T received run mid new i c (Err stops.Failed) e s b a k l d u h = h
 
 -- of the item's first byte on a number has nothing under way
 pub fresh_is : {T : Table} {X O : Type 0} {received : X → List Event → Type 0} {run : Run X O} (i : NextNumber) → run.state.expected ≡ Number i → IsOpenSomewhere T received run → run.start ≡ run.taken → run.number ≡ []
@@ -411,3 +409,24 @@ take_and_drop [] zero = refl
 take_and_drop [] (suc n) = refl
 take_and_drop (x ∷ xs) zero = refl
 take_and_drop (x ∷ xs) (suc n) = ap (λ l. x ∷ l) (take_and_drop xs n)
+
+take_front : (xs ys : List ℕ) → take (length xs) (xs ++ ys) ≡ xs
+take_front [] ys = refl
+take_front (x ∷ xs) ys = ap (λ l. x ∷ l) (take_front xs ys)
+
+-- bytes at the front of the rest of a piece
+pub front_taken : {T : Table} {X O : Type 0} {received : X → List Event → Type 0} {old new : Run X O} {moved : Moved} {used : ℕ} {rest : List ℕ} (bytes more : List ℕ) → bytes ++ more ≡ rest → used ≡ length bytes → 0 < used → TakesBytes T received old new bytes moved
+    → TakesSome T received old new rest (record { used = used; moved = moved })
+front_taken {T = T} {received = received} {old = old} {new = new} {moved = moved} {used = used} {rest = rest} bytes more e u some h =
+    let cut : take used rest ≡ bytes = ap (λ n. take n rest) u ∙ ap (λ l. take (length bytes) l) (sym e) ∙ take_front bytes more in
+    record {
+      some = some;
+      takes = record {
+        few = omega (arith, ap length e, length-append bytes more);
+        more = subst (TakesMore old new) (sym u) h.more;
+        steps = subst (λ c. Steps T received old new c moved) (sym cut) h.steps;
+      };
+    }
+
+pub raw_some : {X O : Type 0} {received : X → List Event → Type 0} {run : Run X O} {left : ℕ} → run.state.expected ≡ Raw left → IsOpenIn received run → 0 < left
+raw_some {run = run} e o = let h = o.open_.open_.reached in (raw_expects (subst (λ a. AtNext o.table o.open_.type run.state.stack a h.before h.under_way h.placed.us) e h.placed.at)).some_left

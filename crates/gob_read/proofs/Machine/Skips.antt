@@ -1,5 +1,5 @@
 -- Elements of a list, and entries of a map, gone over at once.
-use Rattle.std.proofs.Common.{◌≡◌, ◌≢◌, ℕ, suc, ◌+◌, ◌-◌, ◌<◌, ◌≤◌, inl, inr, false, List, [], ◌∷◌, ◌++◌, length, take, drop, arith, refl, sym, ap, ◌∙◌, subst, append_assoc, length-append, length-take}
+use Rattle.std.proofs.Common.{◌≡◌, ◌≢◌, ℕ, suc, ◌+◌, ◌-◌, ◌<◌, ◌≤◌, inl, inr, List, [], ◌∷◌, ◌++◌, length, take, drop, arith, refl, sym, ap, ◌∙◌, subst, append_assoc, length-append, length-take}
 use Rattle.std.specs.Prelude.{pos, negsuc, Some, slice_get}
 use Rattle.std.proofs.lemmas.Bool.{cases_lt}
 use Rattle.gob_types.specs.declared.id.TypeId.{TypeId}
@@ -19,10 +19,11 @@ use Rattle.gob_read.specs.Machine.Running.{IsOpenRun, IsOpenSomewhere, IsStepped
 use Rattle.gob_read.specs.Machine.BasicParts.{IsInList, IsInMap, StepsBasicParts, stepped_over}
 use Rattle.gob_read.specs.declared.frame.Frame.{Frame}
 use Rattle.gob_read.specs.declared.frame.Frame.TheVariants as frame
+use Rattle.gob_read.specs.declared.next.Moved.TheVariants.{ToNext}
 use Rattle.gob_read.specs.declared.next.Next.TheVariants.{Number}
 use Rattle.gob_read.specs.declared.next.NextNumber.TheVariants.{Part}
 use Rattle.gob_read.specs.declared.run.Run.{Run}
-use Rattle.gob_read.specs.declared.run.Moved.{Moved}
+use Rattle.gob_read.specs.declared.run.Advance.{Advance}
 use Rattle.gob_read.proofs.Grammar.Fronts.{Front, front_of, front_length, append_nil, rest_behind}
 use Rattle.gob_read.proofs.Grammar.Whole.{Meets}
 use Rattle.gob_read.proofs.Grammar.Compare.{compare_top, met_some}
@@ -145,13 +146,13 @@ entries_over {T = T} {t = t} {k = k} {e = e} {limit = limit} {m = m} {fs = fs} {
 module _ {T : Table} {X O : Type 0} {received : X → List Event → Type 0} {old new : Run X O} {u : TypeId} {f g : Frame} where
   skipped : (bytes : List ℕ) → old.state.expected ≡ Number (Part u) → slice_get old.state.stack 0 ≡ Some f → new.state.stack ≡ g ∷ drop 1 old.state.stack → new.state.expected ≡ Number (Part u) → ((us : List Event) → received new.state.builder us)
       → IsOpenSomewhere T received old → old.start ≡ old.taken → Moves old new (length bytes)
-      → ((t : TypeId) (z : List ℕ) → IsOver T t old.depth (f ∷ drop 1 old.state.stack) z u → IsOver T t old.depth (g ∷ drop 1 old.state.stack) (z ++ bytes) u) → Steps T received old new bytes false
+      → ((t : TypeId) (z : List ℕ) → IsOver T t old.depth (f ∷ drop 1 old.state.stack) z u → IsOver T t old.depth (g ∷ drop 1 old.state.stack) (z ++ bytes) u) → Steps T received old new bytes ToNext
   skipped bytes e i k a untold o fresh m over = record { each = step }
     where
       none : old.number ≡ []
       none = fresh_is (Part u) e o fresh
 
-      step : (t : TypeId) (z : List ℕ) → IsOpenRun T t received old z → IsStepped T t received new (z ++ bytes) false
+      step : (t : TypeId) (z : List ℕ) → IsOpenRun T t received old z → IsStepped T t received new (z ++ bytes) ToNext
       step t z p =
           let h = p.reached in
           let n = size h.before h.under_way h.whole in
@@ -166,12 +167,12 @@ module _ {T : Table} {X O : Type 0} {received : X → List Event → Type 0} {ol
           record { us = j.events; at = subst (λ fs. AtNext T t fs new.state.expected (h.before ++ bytes) [] j.events) (sym k) (subst (λ w. AtNext T t (g ∷ drop 1 old.state.stack) w (h.before ++ bytes) [] j.events) (sym a) (at_part j.within)); told = untold j.events } in
           let y : h.before ++ bytes ≡ z ++ bytes = ap (λ l. l ++ bytes) (sym there) in
           let shallow = subst (λ n. IsShallow T t n (z ++ bytes)) (sym m.depth_is) (subst (IsShallow T t old.depth) y j.shallow) in
-          settled_stepped received new false h.ready y (m.number ∙ none) (let q = m.start in omega (arith, length-append z bytes)) (omega (arith, length-append z bytes)) shallow placed
+          settled_stepped received new ToNext h.ready y (m.number ∙ none) (let q = m.start in omega (arith, length-append z bytes)) (omega (arith, length-append z bytes)) shallow placed
 
 -- elements that stand whole in the piece
-pub elements_skipped : {T : Table} {X O : Type 0} {received : X → List Event → Type 0} {old new : Run X O} {e : TypeId} {left count limit used : ℕ} {s : Moved} (rest : List ℕ) → old.state.expected ≡ Number (Part e) → IsInList e left old.state.stack
+pub elements_skipped : {T : Table} {X O : Type 0} {received : X → List Event → Type 0} {old new : Run X O} {e : TypeId} {left count limit used : ℕ} {s : Advance} (rest : List ℕ) → old.state.expected ≡ Number (Part e) → IsInList e left old.state.stack
     → new.state.stack ≡ frame.Many e (left - count) ∷ drop 1 old.state.stack → new.state.expected ≡ old.state.expected → ((us : List Event) → received new.state.builder us) → IsOpenSomewhere T received old → old.start ≡ old.taken → Moves old new used
-    → count ≤ left → limit ≡ old.depth - length old.state.stack → HasElements T e limit count rest used → 0 < used → s.used ≡ used → s.whole ≡ false → StepsBasicParts T received old new rest s
+    → count ≤ left → limit ≡ old.depth - length old.state.stack → HasElements T e limit count rest used → 0 < used → s.used ≡ used → s.moved ≡ ToNext → StepsBasicParts T received old new rest s
 elements_skipped {T = T} {received = received} {old = old} {new = new} {e = e} {left = left} {count = count} {used = used} {s = s} rest a i k b untold o fresh m l d h some p w =
     let deep = part_deep a o in
     let few = h.inside in
@@ -182,12 +183,19 @@ elements_skipped {T = T} {received = received} {old = old} {new = new} {e = e} {
     let within = h.within in
     let steps = skipped {f = frame.Many e left} (take used rest) a i k (b ∙ a) untold o fresh (subst (Moves old new) (sym size) m)
     (λ t z v. elements_over (subst (λ n. IsOver T t old.depth (frame.Many e n ∷ drop 1 old.state.stack) z e) (sym all) v) h.spelled (omega arith)) in
-    stepped_over (omega arith) (omega arith) (subst (λ n. TakesMore old new n) (sym p) (moves_more m)) (subst (λ n. Steps T received old new (take n rest) s.whole) (sym p) (subst (Steps T received old new (take used rest)) (sym w) steps))
+    stepped_over (record {
+      some = omega arith;
+      takes = record {
+        few = omega arith;
+        more = subst (λ n. TakesMore old new n) (sym p) (moves_more m);
+        steps = subst (λ n. Steps T received old new (take n rest) s.moved) (sym p) (subst (Steps T received old new (take used rest)) (sym w) steps);
+      };
+    })
 
 -- entries that stand whole
-pub entries_skipped : {T : Table} {X O : Type 0} {received : X → List Event → Type 0} {old new : Run X O} {k e : TypeId} {left count limit used : ℕ} {s : Moved} (rest : List ℕ) → old.state.expected ≡ Number (Part k) → IsInMap k e left old.state.stack
+pub entries_skipped : {T : Table} {X O : Type 0} {received : X → List Event → Type 0} {old new : Run X O} {k e : TypeId} {left count limit used : ℕ} {s : Advance} (rest : List ℕ) → old.state.expected ≡ Number (Part k) → IsInMap k e left old.state.stack
     → new.state.stack ≡ frame.Key k e (left - count) ∷ drop 1 old.state.stack → new.state.expected ≡ old.state.expected → ((us : List Event) → received new.state.builder us) → IsOpenSomewhere T received old → old.start ≡ old.taken → Moves old new used
-    → count ≤ left → limit ≡ old.depth - length old.state.stack → HasEntries T k e limit count rest used → 0 < used → s.used ≡ used → s.whole ≡ false → StepsBasicParts T received old new rest s
+    → count ≤ left → limit ≡ old.depth - length old.state.stack → HasEntries T k e limit count rest used → 0 < used → s.used ≡ used → s.moved ≡ ToNext → StepsBasicParts T received old new rest s
 entries_skipped {T = T} {received = received} {old = old} {new = new} {k = key} {e = e} {left = left} {count = count} {used = used} {s = s} rest a i k b untold o fresh m l d h some p w =
     let deep = part_deep a o in
     let few = h.inside in
@@ -198,7 +206,14 @@ entries_skipped {T = T} {received = received} {old = old} {new = new} {k = key} 
     let within = h.within in
     let steps = skipped {f = frame.Key key e left} (take used rest) a i k (b ∙ a) untold o fresh (subst (Moves old new) (sym size) m)
     (λ t z v. entries_over (subst (λ n. IsOver T t old.depth (frame.Key key e n ∷ drop 1 old.state.stack) z key) (sym all) v) h.spelled (omega arith)) in
-    stepped_over (omega arith) (omega arith) (subst (λ n. TakesMore old new n) (sym p) (moves_more m)) (subst (λ n. Steps T received old new (take n rest) s.whole) (sym p) (subst (Steps T received old new (take used rest)) (sym w) steps))
+    stepped_over (record {
+      some = omega arith;
+      takes = record {
+        few = omega arith;
+        more = subst (λ n. TakesMore old new n) (sym p) (moves_more m);
+        steps = subst (λ n. Steps T received old new (take n rest) s.moved) (sym p) (subst (Steps T received old new (take used rest)) (sym w) steps);
+      };
+    })
 
 -- in a map a key is expected
 key_within : {T : Table} {t : TypeId} {fs : List Frame} {z : List ℕ} {us : List Event} {u k e : TypeId} {left : ℕ} → OpenPath T t fs z us u → IsInMap k e left fs → u ≡ k

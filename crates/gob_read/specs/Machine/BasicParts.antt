@@ -1,6 +1,6 @@
 -- Parts of a basic type that stand whole in a piece, and are spelled by one number or by a count of bytes and the bytes.
 -- It describes the reader's stack.
-use Rattle.std.specs.Prelude.{◌≡◌, ℕ, ◌+◌, ◌^◌, ◌<◌, ◌≤◌, List, [], ◌∷◌, length, take, drop, Option, Some, None, slice_get, Bool, false}
+use Rattle.std.specs.Prelude.{◌≡◌, ℕ, ◌+◌, ◌^◌, ◌<◌, ◌≤◌, List, [], ◌∷◌, length, take, drop, Option, Some, None, slice_get}
 use Rattle.gob_types.specs.declared.id.TypeId.{TypeId}
 use Rattle.gob_types.specs.declared.basic.Basic.{Basic}
 use Rattle.gob_types.specs.declared.kind.Field.{Field}
@@ -12,15 +12,17 @@ use Rattle.gob_read.specs.Machine.Kinds.{IsScalar, IsRawKind}
 use Rattle.gob_read.specs.Machine.Frames as Frames
 use Rattle.gob_read.specs.Machine.Frames.{item_of}
 use Rattle.gob_read.specs.Machine.Steps.{CanBegin, CanGoOn, StepGoesOn}
-use Rattle.gob_read.specs.Machine.Running.{TakesMore, Steps}
+use Rattle.gob_read.specs.Machine.Running.{TakesMore, Steps, TakesSome}
 use Rattle.gob_read.specs.declared.frame.Frame.{Frame}
 use Rattle.gob_read.specs.declared.frame.Frame.TheVariants as frame
+use Rattle.gob_read.specs.declared.next.Moved.{Moved}
+use Rattle.gob_read.specs.declared.next.Moved.TheVariants.{ToNext}
 use Rattle.gob_read.specs.declared.next.Next.TheVariants.{Number}
 use Rattle.gob_read.specs.declared.next.NextNumber.TheVariants.{Part}
 use Rattle.gob_read.specs.declared.event.RawKind.{RawKind}
 use Rattle.gob_read.specs.declared.state.State.{State}
 use Rattle.gob_read.specs.declared.run.Run.{Run}
-use Rattle.gob_read.specs.declared.run.Moved.{Moved}
+use Rattle.gob_read.specs.declared.run.Advance.{Advance}
 use Rattle.gob_read.specs.declared.basic_parts.Entered.{Entered}
 
 -- a part of the basic type begins with this number, and these bytes stand behind it
@@ -61,7 +63,7 @@ pub record IsFollowedBy (next : Frame) (fs : List Frame) : Type 0 where
 -- the reader has stepped over the bytes, and the next item begins behind them
 pub record PassesParts (T : Table) {X O : Type 0} (received : X → List Event → Type 0) (old new : Run X O) (bytes : List ℕ) : Type 0 where
   pub more : TakesMore old new (length bytes)
-  pub steps : Steps T received old new bytes false
+  pub steps : Steps T received old new bytes ToNext
   pub fresh : new.start ≡ new.taken
 
 -- the part was taken with so many bytes, and behind it the innermost open part is this one, or nothing was done
@@ -70,9 +72,9 @@ pub data TakesBasicPart (T : Table) {X O : Type 0} (received : X → List Event 
   part_taken : {used : ℕ} → 0 < used → used ≤ length rest → PassesParts T received old new (take used rest) → new.state.expected ≡ Number (item_of next) → new.state.stack ≡ next ∷ drop 1 old.state.stack → length new.state.stack ≡ length old.state.stack → TakesBasicPart T received old new next rest used
 
 -- so much of the piece was stepped over, or nothing was done
-pub data StepsBasicParts (T : Table) {X O : Type 0} (received : X → List Event → Type 0) (old new : Run X O) (rest : List ℕ) (s : Moved) : Type 0 where
+pub data StepsBasicParts (T : Table) {X O : Type 0} (received : X → List Event → Type 0) (old new : Run X O) (rest : List ℕ) (s : Advance) : Type 0 where
   not_stepped : s.used ≡ 0 → new ≡ old → StepsBasicParts T received old new rest s
-  stepped_over : 0 < s.used → s.used ≤ length rest → TakesMore old new s.used → Steps T received old new (take s.used rest) s.whole → StepsBasicParts T received old new rest s
+  stepped_over : TakesSome T received old new rest s → StepsBasicParts T received old new rest s
 
 -- the delta was taken, and a part of this type is expected in the struct
 pub record EntersField (T : Table) {X O : Type 0} (received : X → List Event → Type 0) (old new : Run X O) (n : ℕ) (u : TypeId) (next : ℕ) (part : TypeId) : Type 0 where
@@ -100,5 +102,5 @@ pub record CanEndFields {X O : Type 0} (received : X → List Event → Type 0) 
   pub goes_on : CanGoOn received state id types next 0
 
 -- what comes behind it is settled
-pub record EndsFields {X O : Type 0} (received : X → List Event → Type 0) (old new : State X O) (whole : Bool) : Type 0 where
-  pub each : (id : TypeId) (types : List Field) (next : ℕ) → StepGoesOn received old new id types next 0 whole
+pub record EndsFields {X O : Type 0} (received : X → List Event → Type 0) (old new : State X O) (moved : Moved) : Type 0 where
+  pub each : (id : TypeId) (types : List Field) (next : ℕ) → StepGoesOn received old new id types next 0 moved

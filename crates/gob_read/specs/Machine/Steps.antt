@@ -1,6 +1,6 @@
 -- What a reader's stack and builder say of the bytes so far, and what its steps need and do.
 -- It describes the reader's stack.
-use Rattle.std.specs.Prelude.{◌≡◌, ◌≢◌, ℕ, ◌+◌, ◌-◌, ◌^◌, ◌<◌, ◌≤◌, List, [], ◌++◌, length, Bool, true, false}
+use Rattle.std.specs.Prelude.{◌≡◌, ◌≢◌, ℕ, ◌+◌, ◌-◌, ◌^◌, ◌<◌, ◌≤◌, List, [], ◌++◌, length}
 use Rattle.gob_num.specs.Unsigned.{IsUnsigned}
 use Rattle.gob_types.specs.declared.id.TypeId.{TypeId}
 use Rattle.gob_types.specs.declared.kind.Field.{Field}
@@ -19,6 +19,8 @@ use Rattle.gob_read.specs.Machine.Kinds.{HasKind}
 use Rattle.gob_read.specs.Machine.OpenPath.{OpenPath, OpenStruct, AtNext, PartDone}
 use Rattle.gob_read.specs.declared.stop.Denial.{Denial}
 use Rattle.gob_read.specs.declared.stop.Denial.TheVariants.{Memory, Refused}
+use Rattle.gob_read.specs.declared.next.Moved.{Moved}
+use Rattle.gob_read.specs.declared.next.Moved.TheVariants.{ToNext, PastValue}
 use Rattle.gob_read.specs.declared.next.Next.TheVariants.{Number, Raw}
 use Rattle.gob_read.specs.declared.next.NextNumber.{NextNumber}
 use Rattle.gob_read.specs.declared.next.NextNumber.TheVariants.{Tag, Second}
@@ -57,9 +59,9 @@ pub record IsRead (T : Table) (t : TypeId) {X O : Type 0} (received : X → List
   pub told : received state.builder us
 
 -- after a whole part: the body's value, or the next item
-abbrev pub Settled : (T : Table) (t : TypeId) {X O : Type 0} (received : X → List Event → Type 0) (state : State X O) (z : List ℕ) → Bool → Type 0
-Settled T t received state z true = IsRead T t received state z
-Settled T t received state z false = IsPlaced T t received state z []
+abbrev pub Settled : (T : Table) (t : TypeId) {X O : Type 0} (received : X → List Event → Type 0) (state : State X O) (z : List ℕ) → Moved → Type 0
+Settled T t received state z PastValue = IsRead T t received state z
+Settled T t received state z ToNext = IsPlaced T t received state z []
 
 -- the bytes expect a number, and this one isn't allowed there
 pub record IsDisallowed (T : Table) (t : TypeId) (p : List ℕ) (n : ℕ) (reason : Reason) : Type 0 where
@@ -83,8 +85,8 @@ pub record CanEnd {X O : Type 0} (received : X → List Event → Type 0) (state
   pub small : length bytes < 2 ^ 64
 
 -- where a part is whole, what comes behind it is settled
-pub record StepEnds {X O : Type 0} (received : X → List Event → Type 0) (old new : State X O) (whole : Bool) : Type 0 where
-  pub each : (T : Table) (t : TypeId) (z : List ℕ) → IsEnded T t received old z → Settled T t received new z whole
+pub record StepEnds {X O : Type 0} (received : X → List Event → Type 0) (old new : State X O) (moved : Moved) : Type 0 where
+  pub each : (T : Table) (t : TypeId) (z : List ℕ) → IsEnded T t received old z → Settled T t received new z moved
 
 -- a part of such a kind begins, and its first number is this
 pub record CanBegin {X O : Type 0} (received : X → List Event → Type 0) (state : State X O) (IsOf : Kind → Type 0) (n : ℕ) : Type 0 where
@@ -101,8 +103,8 @@ pub record CanBegin {X O : Type 0} (received : X → List Event → Type 0) (sta
   pub small : length (before ++ bytes) < 2 ^ 64
 
 -- where a part of such a kind begins, what comes behind its first number is settled
-pub record StepBegins {X O : Type 0} (received : X → List Event → Type 0) (old new : State X O) (IsOf : Kind → Type 0) (n : ℕ) (whole : Bool) : Type 0 where
-  pub each : (T : Table) (t u : TypeId) (k : Kind) (p c : List ℕ) → IsBegun T t received old u p → HasKind T u k → IsOf k → IsUnsigned n c → Settled T t received new (p ++ c) whole
+pub record StepBegins {X O : Type 0} (received : X → List Event → Type 0) (old new : State X O) (IsOf : Kind → Type 0) (n : ℕ) (moved : Moved) : Type 0 where
+  pub each : (T : Table) (t u : TypeId) (k : Kind) (p c : List ℕ) → IsBegun T t received old u p → HasKind T u k → IsOf k → IsUnsigned n c → Settled T t received new (p ++ c) moved
 
 -- a struct of the type and these fields begins, and its first delta is this
 pub record CanBeginStruct {X O : Type 0} (received : X → List Event → Type 0) (state : State X O) (id : TypeId) (types : List Field) (n : ℕ) : Type 0 where
@@ -116,8 +118,8 @@ pub record CanBeginStruct {X O : Type 0} (received : X → List Event → Type 0
   pub small : length (before ++ bytes) < 2 ^ 64
 
 -- where such a struct begins, what comes behind its first delta is settled
-pub record BeginsStruct {X O : Type 0} (received : X → List Event → Type 0) (old new : State X O) (id : TypeId) (types : List Field) (n : ℕ) (whole : Bool) : Type 0 where
-  pub each : (T : Table) (t : TypeId) (p c : List ℕ) → IsBegun T t received old id p → HasKind T id (kind.Struct types) → IsUnsigned n c → Settled T t received new (p ++ c) whole
+pub record BeginsStruct {X O : Type 0} (received : X → List Event → Type 0) (old new : State X O) (id : TypeId) (types : List Field) (n : ℕ) (moved : Moved) : Type 0 where
+  pub each : (T : Table) (t : TypeId) (p c : List ℕ) → IsBegun T t received old id p → HasKind T id (kind.Struct types) → IsUnsigned n c → Settled T t received new (p ++ c) moved
 
 -- a part of the kind doesn't begin with the number
 pub record IsNoFirst (k : Kind) (n : ℕ) (reason : Reason) : Type 0 where
@@ -135,8 +137,8 @@ pub record CanGoOn {X O : Type 0} (received : X → List Event → Type 0) (stat
   pub small : length (before ++ bytes) < 2 ^ 64
 
 -- where a delta of a field is to come, what comes behind it is settled
-pub record StepGoesOn {X O : Type 0} (received : X → List Event → Type 0) (old new : State X O) (id : TypeId) (types : List Field) (next n : ℕ) (whole : Bool) : Type 0 where
-  pub each : (T : Table) (t : TypeId) (p c : List ℕ) → IsInStruct T t received old id types next p → IsUnsigned n c → Settled T t received new (p ++ c) whole
+pub record StepGoesOn {X O : Type 0} (received : X → List Event → Type 0) (old new : State X O) (id : TypeId) (types : List Field) (next n : ℕ) (moved : Moved) : Type 0 where
+  pub each : (T : Table) (t : TypeId) (p c : List ℕ) → IsInStruct T t received old id types next p → IsUnsigned n c → Settled T t received new (p ++ c) moved
 
 -- the delta leads to no field
 pub record LeadsNowhere (types : List Field) (next n : ℕ) (reason : Reason) : Type 0 where
@@ -154,8 +156,8 @@ pub record CanTakeFirst (T : Table) {X O : Type 0} (received : X → List Event 
   pub spelled : IsUnsigned n bytes
   pub small : length (before ++ bytes) < 2 ^ 64
 
-pub record TakesFirst (T : Table) {X O : Type 0} (received : X → List Event → Type 0) (old new : State X O) (id : TypeId) (n : ℕ) (whole : Bool) : Type 0 where
-  pub each : (t : TypeId) (p c : List ℕ) → IsBegun T t received old id p → IsUnsigned n c → Settled T t received new (p ++ c) whole
+pub record TakesFirst (T : Table) {X O : Type 0} (received : X → List Event → Type 0) (old new : State X O) (id : TypeId) (n : ℕ) (moved : Moved) : Type 0 where
+  pub each : (t : TypeId) (p c : List ℕ) → IsBegun T t received old id p → IsUnsigned n c → Settled T t received new (p ++ c) moved
 
 -- the number isn't allowed where a part of the type begins
 pub record RefusesFirst (T : Table) {X O : Type 0} (received : X → List Event → Type 0) (state : State X O) (id : TypeId) (n : ℕ) (reason : Reason) : Type 0 where
@@ -173,8 +175,8 @@ pub record CanTake (T : Table) {X O : Type 0} (received : X → List Event → T
   pub spelled : IsUnsigned n bytes
   pub small : length (before ++ bytes) < 2 ^ 64
 
-pub record StepTakes (T : Table) {X O : Type 0} (received : X → List Event → Type 0) (old new : State X O) (n : ℕ) (whole : Bool) : Type 0 where
-  pub each : (t : TypeId) (p r c : List ℕ) → IsReady T t → IsPlaced T t received old p r → IsUnsigned n c → Settled T t received new (p ++ c) whole
+pub record StepTakes (T : Table) {X O : Type 0} (received : X → List Event → Type 0) (old new : State X O) (n : ℕ) (moved : Moved) : Type 0 where
+  pub each : (t : TypeId) (p r c : List ℕ) → IsReady T t → IsPlaced T t received old p r → IsUnsigned n c → Settled T t received new (p ++ c) moved
 
 -- the number isn't allowed there
 pub record StepRefuses (T : Table) {X O : Type 0} (received : X → List Event → Type 0) (state : State X O) (n : ℕ) (reason : Reason) : Type 0 where
@@ -201,8 +203,8 @@ pub record CanTakeSecond {X O : Type 0} (received : X → List Event → Type 0)
   pub small : length (before ++ bytes) < 2 ^ 64
 
 -- where this expected number is, what comes behind it is settled
-pub record TakesHere {X O : Type 0} (received : X → List Event → Type 0) (old new : State X O) (n : ℕ) (whole : Bool) : Type 0 where
-  pub each : (T : Table) (t : TypeId) (p r c : List ℕ) → IsPlaced T t received old p r → IsUnsigned n c → Settled T t received new (p ++ c) whole
+pub record TakesHere {X O : Type 0} (received : X → List Event → Type 0) (old new : State X O) (n : ℕ) (moved : Moved) : Type 0 where
+  pub each : (T : Table) (t : TypeId) (p r c : List ℕ) → IsPlaced T t received old p r → IsUnsigned n c → Settled T t received new (p ++ c) moved
 
 -- raw bytes are expected, as many as these or more
 pub record CanTakeRaw {X O : Type 0} (received : X → List Event → Type 0) (state : State X O) (left : ℕ) (bytes : List ℕ) : Type 0 where
@@ -216,13 +218,13 @@ pub record CanTakeRaw {X O : Type 0} (received : X → List Event → Type 0) (s
   pub small : length (before ++ (so_far ++ bytes)) < 2 ^ 64
 
 -- the same item goes on behind the bytes
-pub record StaysRaw (T : Table) (t : TypeId) {X O : Type 0} (received : X → List Event → Type 0) (old new : State X O) (left : ℕ) (p r : List ℕ) (whole : Bool) : Type 0 where
-  pub more : whole ≡ false
+pub record StaysRaw (T : Table) (t : TypeId) {X O : Type 0} (received : X → List Event → Type 0) (old new : State X O) (left : ℕ) (p r : List ℕ) (moved : Moved) : Type 0 where
+  pub more : moved ≡ ToNext
   pub expected : new.expected ≡ Raw left
   pub stack : new.stack ≡ old.stack
   pub placed : IsPlaced T t received new p r
 
 -- what comes behind the bytes is settled where they are the last, and else the same item goes on
-pub record TakesRaw {X O : Type 0} (received : X → List Event → Type 0) (old new : State X O) (left : ℕ) (bytes : List ℕ) (whole : Bool) : Type 0 where
-  pub last : (T : Table) (t : TypeId) (p r : List ℕ) → IsPlaced T t received old p r → left ≡ length bytes → Settled T t received new (p ++ (r ++ bytes)) whole
-  pub other : (T : Table) (t : TypeId) (p r : List ℕ) → IsPlaced T t received old p r → length bytes < left → StaysRaw T t received old new (left - length bytes) p (r ++ bytes) whole
+pub record TakesRaw {X O : Type 0} (received : X → List Event → Type 0) (old new : State X O) (left : ℕ) (bytes : List ℕ) (moved : Moved) : Type 0 where
+  pub last : (T : Table) (t : TypeId) (p r : List ℕ) → IsPlaced T t received old p r → left ≡ length bytes → Settled T t received new (p ++ (r ++ bytes)) moved
+  pub other : (T : Table) (t : TypeId) (p r : List ℕ) → IsPlaced T t received old p r → length bytes < left → StaysRaw T t received old new (left - length bytes) p (r ++ bytes) moved

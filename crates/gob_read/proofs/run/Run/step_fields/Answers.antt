@@ -11,8 +11,8 @@ take_end-requires-clause-fresh g c = c.fields.invariant.at.fresh
 pub take_end-requires-clause-has_read : goal.take_end-requires-clause-has_read
 take_end-requires-clause-has_read g c = record { table = g.S.Shapes.table c.args.shapes.now; open_ = item_open c.fields.invariant.at c.requires.has_read (omega arith) c.requires.room c.fields.invariant.some }
 
-pub returns-then-rest-used-eq0-clause-ok : goal.returns-then-rest-used-eq0-clause-ok
-returns-then-rest-used-eq0-clause-ok g c = end_on c.fields.invariant.at c.requires.room c.fields.invariant.some c.if-rest-used-eq0.true (c.in_ok-whole.ensures.ok (g.S.Shapes.table c.args.shapes.now))
+pub returns-then-rest-used-eq0 : goal.returns-then-rest-used-eq0
+returns-then-rest-used-eq0 g c = end_on c.fields.invariant.at c.requires.room c.fields.invariant.some c.if-rest-used-eq0.true (c.in_ok-moved.ensures (g.S.Shapes.table c.args.shapes.now))
 
 pub take_name-requires-clause-expected : goal.take_name-requires-clause-expected
 take_name-requires-clause-expected g c = c.fields.invariant.at.expected
@@ -26,17 +26,11 @@ take_name-requires-clause-fresh g c = c.fields.invariant.at.fresh
 pub take_name-requires-clause-has_read : goal.take_name-requires-clause-has_read
 take_name-requires-clause-has_read g c = item_open c.fields.invariant.at c.requires.has_read (omega arith) c.requires.room c.fields.invariant.some
 
-pub returns-in_default-2-clause-more : goal.returns-in_default-2-clause-more
-returns-in_default-2-clause-more g c = (same_passed (unnamed c.in_default-2.is c.in_ok-entered.ensures) (item_passed c.fields.invariant.at)).more
+pub returns-in_default-2 : goal.returns-in_default-2
+returns-in_default-2 g c = same_passed (unnamed c.in_default-2.is c.in_ok-entered.ensures) (item_passed c.fields.invariant.at)
 
-pub returns-in_default-2-clause-ok : goal.returns-in_default-2-clause-ok
-returns-in_default-2-clause-ok g c = (same_passed (unnamed c.in_default-2.is c.in_ok-entered.ensures) (item_passed c.fields.invariant.at)).steps
-
-pub returns-then-used-rest-clause-more : goal.returns-then-used-rest-clause-more
-returns-then-used-rest-clause-more g c = (item_passed (named_on c.fields.invariant.at c.requires.room c.fields.invariant.some (named_as c.in-Some-2.is c.in_ok-entered.ensures))).more
-
-pub returns-then-used-rest-clause-ok : goal.returns-then-used-rest-clause-ok
-returns-then-used-rest-clause-ok g c = (item_passed (named_on c.fields.invariant.at c.requires.room c.fields.invariant.some (named_as c.in-Some-2.is c.in_ok-entered.ensures))).steps
+pub returns-then-used-rest : goal.returns-then-used-rest
+returns-then-used-rest g c = item_passed (named_on c.fields.invariant.at c.requires.room c.fields.invariant.some (named_as c.in-Some-2.is c.in_ok-entered.ensures))
 
 pub take_basic_field-requires-clause-expected : goal.take_basic_field-requires-clause-expected
 take_basic_field-requires-clause-expected g c = (named_as c.in-Some-2.is c.in_ok-entered.ensures).expected
@@ -53,13 +47,9 @@ take_basic_field-requires-clause-has_read g c = item_open (named_on c.fields.inv
 pub overflow_add-used-in-fields : goal.overflow_add-used-in-fields
 overflow_add-used-in-fields g c = let w = taken_within c.in_ok-taken.ensures in omega (arith, rest_some c.args.rest.now (c.fields.used + 1))
 
-pub returns-then-taken-eq0-clause-more : goal.returns-then-taken-eq0-clause-more
-returns-then-taken-eq0-clause-more g c =
-    (basic_passed (named_on c.fields.invariant.at c.requires.room c.fields.invariant.some (named_as c.in-Some-2.is c.in_ok-entered.ensures)) c.requires.room (omega arith) c.in_ok-taken.ensures).more
-
-pub returns-then-taken-eq0-clause-ok : goal.returns-then-taken-eq0-clause-ok
-returns-then-taken-eq0-clause-ok g c =
-    (basic_passed (named_on c.fields.invariant.at c.requires.room c.fields.invariant.some (named_as c.in-Some-2.is c.in_ok-entered.ensures)) c.requires.room (omega arith) c.in_ok-taken.ensures).steps
+pub returns-then-taken-eq0 : goal.returns-then-taken-eq0
+returns-then-taken-eq0 g c =
+    basic_passed (named_on c.fields.invariant.at c.requires.room c.fields.invariant.some (named_as c.in-Some-2.is c.in_ok-entered.ensures)) c.requires.room (omega arith) c.in_ok-taken.ensures
 
 pub fields-preserved : goal.fields-preserved
 fields-preserved g c =

@@ -1,7 +1,7 @@
 use Rattle.std.proofs.Common.{arith, ap}
 use Rattle.std.specs.Prelude.{slice_get}
 use Rattle.gob_read.specs.Machine.BasicParts.{stepped_over}
-use Rattle.gob_read.proofs.Machine.BasicPartSteps.{taken_some, basic_stepped, basic_more, basic_opens, basic_open, part_deep, more_then, behind_it, rest_some}
+use Rattle.gob_read.proofs.Machine.BasicPartSteps.{taken_some, basic_taken, basic_stepped, basic_opens, basic_open, part_deep, behind_it}
 use Rattle.gob_read.proofs.run.Run.step_parts.Goals as goal
 
 pub returns-then-used-eq0 : goal.returns-then-used-eq0
@@ -23,6 +23,7 @@ pub returns : goal.returns
 returns g c =
     let p = taken_some c.in_ok-used.ensures (omega arith) in
     let w = p.within in
-    let u = c.in_ok-more.ensures.used in
-    stepped_over (omega arith) (omega (arith, rest_some c.args.rest.now c.in_ok-used.used)) (more_then (basic_more p) c.in_ok-more.ensures.more)
-    (behind_it c.args.rest.now c.in_ok-used.used c.in_ok-more.more.used p.passes.steps (basic_opens p (part_deep c.requires.expected c.requires.has_read) c.requires.room (omega arith)) c.in_ok-more.ensures.ok)
+    stepped_over (record {
+      some = omega arith;
+      takes = behind_it c.args.rest.now c.in_ok-used.used (basic_taken p) (basic_opens p (part_deep c.requires.expected c.requires.has_read) c.requires.room (omega arith)) c.in_ok-more.ensures;
+    })

@@ -5,16 +5,14 @@ use Rattle.gob_read.proofs.run.Run.take_chunk.Goals as goal
 pub take_raw-requires : goal.take_raw-requires
 take_raw-requires g c = raw_can_take c.args.bytes.now c.requires.expected c.requires.has_read c.requires.few (omega arith)
 
-pub returns-then-bytes-left-clause-more : goal.returns-then-bytes-left-clause-more
-returns-then-bytes-left-clause-more g c = record { taken = refl; length_is = refl; depth_is = refl }
+pub returns-then-bytes-left : goal.returns-then-bytes-left
+returns-then-bytes-left g c = λ T. record {
+  more = record { taken = refl; length_is = refl; depth_is = refl };
+  steps = raw_stepped c.args.left c.args.bytes.now c.requires.expected c.requires.few refl refl refl (λ _. refl) (λ k. absurd (omega arith)) c.in_ok-moved.ensures;
+}
 
-pub returns-then-bytes-left-clause-ok : goal.returns-then-bytes-left-clause-ok
-returns-then-bytes-left-clause-ok g c = λ T.
-    raw_stepped c.args.left c.args.bytes.now c.requires.expected c.requires.few refl refl refl (λ _. refl) (λ k. absurd (omega arith)) c.in_ok-whole.ensures
-
-pub returns-else-bytes-left-clause-more : goal.returns-else-bytes-left-clause-more
-returns-else-bytes-left-clause-more g c = record { taken = refl; length_is = refl; depth_is = refl }
-
-pub returns-else-bytes-left-clause-ok : goal.returns-else-bytes-left-clause-ok
-returns-else-bytes-left-clause-ok g c = λ T.
-    raw_stepped c.args.left c.args.bytes.now c.requires.expected c.requires.few refl refl refl (λ k. absurd (c.if-bytes-left.false k)) (λ _. refl) c.in_ok-whole.ensures
+pub returns-else-bytes-left : goal.returns-else-bytes-left
+returns-else-bytes-left g c = λ T. record {
+  more = record { taken = refl; length_is = refl; depth_is = refl };
+  steps = raw_stepped c.args.left c.args.bytes.now c.requires.expected c.requires.few refl refl refl (λ k. absurd (c.if-bytes-left.false k)) (λ _. refl) c.in_ok-moved.ensures;
+}

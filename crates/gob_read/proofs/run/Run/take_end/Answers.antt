@@ -5,5 +5,5 @@ use Rattle.gob_read.proofs.run.Run.take_end.Goals as goal
 pub end_fields-requires : goal.end_fields-requires
 end_fields-requires g c = can_end_fields c.requires.expected c.requires.has_read c.requires.fresh (omega arith)
 
-pub returns-clause-ok : goal.returns-clause-ok
-returns-clause-ok g c = end_steps c.requires.expected c.requires.has_read c.requires.fresh c.in_ok-whole.ensures (record { taken = refl; start = refl; number = refl; length_is = refl; depth_is = refl })
+pub returns : goal.returns
+returns g c = end_steps c.requires.expected c.requires.has_read c.requires.fresh c.in_ok-moved.ensures (record { taken = refl; start = refl; number = refl; length_is = refl; depth_is = refl })

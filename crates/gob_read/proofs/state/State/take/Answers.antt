@@ -6,7 +6,7 @@ pub take_tag-requires : goal.take_tag-requires
 take_tag-requires g c = tag_can (take_at c.in-Tag.is c.requires)
 
 pub returns-in-Tag-clause-ok : goal.returns-in-Tag-clause-ok
-returns-in-Tag-clause-ok g c = if_ok c.take_tag.result (λ whole h. here_takes h) c.take_tag.ensures.ok
+returns-in-Tag-clause-ok g c = if_ok c.take_tag.result (λ moved h. here_takes h) c.take_tag.ensures.ok
 
 pub returns-in-Tag-clause-refused : goal.returns-in-Tag-clause-refused
 returns-in-Tag-clause-refused g c = if_err c.take_tag.result (λ e. blames e (λ r h. wrong_tag_refuses (take_at c.in-Tag.is c.requires).expected h)) c.take_tag.ensures.refused
@@ -15,7 +15,7 @@ pub take_first-requires : goal.take_first-requires
 take_first-requires g c = part_can (take_at c.in-Part.is c.requires)
 
 pub returns-in-Part-clause-ok : goal.returns-in-Part-clause-ok
-returns-in-Part-clause-ok g c = if_ok c.take_first.result (λ whole h. part_takes (take_at c.in-Part.is c.requires).expected h) c.take_first.ensures.ok
+returns-in-Part-clause-ok g c = if_ok c.take_first.result (λ moved h. part_takes (take_at c.in-Part.is c.requires).expected h) c.take_first.ensures.ok
 
 pub returns-in-Part-clause-refused : goal.returns-in-Part-clause-refused
 returns-in-Part-clause-refused g c = if_err c.take_first.result (λ e. blames e (λ r h. part_refuses (take_at c.in-Part.is c.requires).expected h)) c.take_first.ensures.refused

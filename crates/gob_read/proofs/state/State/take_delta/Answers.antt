@@ -20,7 +20,7 @@ pub take_field-requires : goal.take_field-requires
 take_field-requires g c = delta_can (sym c.in-Some.ensures ∙ ap Some c.in-Fields.is) (record { shape = c.in-Some-shape_of.shape.now; there = sym c.in-Some-shape_of.ensures; kind = c.in-Struct.is }) c.requires
 
 pub returns-clause-ok : goal.returns-clause-ok
-returns-clause-ok g c = if_ok c.take_field.result (λ whole h. delta_takes c.requires.expected (sym c.in-Some.ensures ∙ ap Some c.in-Fields.is) (record { shape = c.in-Some-shape_of.shape.now; there = sym c.in-Some-shape_of.ensures; kind = c.in-Struct.is }) h) c.take_field.ensures.ok
+returns-clause-ok g c = if_ok c.take_field.result (λ moved h. delta_takes c.requires.expected (sym c.in-Some.ensures ∙ ap Some c.in-Fields.is) (record { shape = c.in-Some-shape_of.shape.now; there = sym c.in-Some-shape_of.ensures; kind = c.in-Struct.is }) h) c.take_field.ensures.ok
 
 pub returns-clause-refused : goal.returns-clause-refused
 returns-clause-refused g c = if_err c.take_field.result (λ e. blames e (λ r h. delta_refuses c.requires.expected (sym c.in-Some.ensures ∙ ap Some c.in-Fields.is) (record { shape = c.in-Some-shape_of.shape.now; there = sym c.in-Some-shape_of.ensures; kind = c.in-Struct.is }) h)) c.take_field.ensures.refused

@@ -9,7 +9,7 @@ pub take_basic-requires : goal.take_basic-requires
 take_basic-requires g c = first_can (record { shape = c.in-Some.shape.now; there = sym c.in-Some.ensures; kind = c.in-Basic.is }) refl c.requires
 
 pub returns-in-Basic-clause-ok : goal.returns-in-Basic-clause-ok
-returns-in-Basic-clause-ok g c = if_ok c.take_basic.result (λ whole b. first_takes (record { shape = c.in-Some.shape.now; there = sym c.in-Some.ensures; kind = c.in-Basic.is }) refl b) c.take_basic.ensures.ok
+returns-in-Basic-clause-ok g c = if_ok c.take_basic.result (λ moved b. first_takes (record { shape = c.in-Some.shape.now; there = sym c.in-Some.ensures; kind = c.in-Basic.is }) refl b) c.take_basic.ensures.ok
 
 pub returns-in-Basic-clause-refused : goal.returns-in-Basic-clause-refused
 returns-in-Basic-clause-refused g c = if_err c.take_basic.result (λ e. blames e (λ r h. first_refuses (record { shape = c.in-Some.shape.now; there = sym c.in-Some.ensures; kind = c.in-Basic.is }) h)) c.take_basic.ensures.refused
@@ -24,7 +24,7 @@ pub take_first_delta-requires : goal.take_first_delta-requires
 take_first_delta-requires g c = struct_can (record { shape = c.in-Some.shape.now; there = sym c.in-Some.ensures; kind = c.in-Struct.is }) c.requires
 
 pub returns-in-Struct-clause-ok : goal.returns-in-Struct-clause-ok
-returns-in-Struct-clause-ok g c = if_ok c.take_first_delta.result (λ whole b. struct_takes (record { shape = c.in-Some.shape.now; there = sym c.in-Some.ensures; kind = c.in-Struct.is }) b) c.take_first_delta.ensures.ok
+returns-in-Struct-clause-ok g c = if_ok c.take_first_delta.result (λ moved b. struct_takes (record { shape = c.in-Some.shape.now; there = sym c.in-Some.ensures; kind = c.in-Struct.is }) b) c.take_first_delta.ensures.ok
 
 pub returns-in-Struct-clause-refused : goal.returns-in-Struct-clause-refused
 returns-in-Struct-clause-refused g c = if_err c.take_first_delta.result (λ e. blames e (λ r h. first_refuses (record { shape = c.in-Some.shape.now; there = sym c.in-Some.ensures; kind = c.in-Struct.is }) (struct_no_first h))) c.take_first_delta.ensures.refused

@@ -15,4 +15,4 @@ pub take_field-requires : goal.take_field-requires
 take_field-requires g c = struct_can_go_on c.in_ok-open.ensures c.in_ok-enter.ensures c.requires
 
 pub returns-clause-ok : goal.returns-clause-ok
-returns-clause-ok g c = if_ok c.take_field.result (λ whole h. struct_begins c.in_ok-open.ensures c.in_ok-enter.ensures h) c.take_field.ensures.ok
+returns-clause-ok g c = if_ok c.take_field.result (λ moved h. struct_begins c.in_ok-open.ensures c.in_ok-enter.ensures h) c.take_field.ensures.ok

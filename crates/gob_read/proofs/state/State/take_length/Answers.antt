@@ -16,7 +16,7 @@ pub after_part-requires : goal.after_part-requires
 after_part-requires g c = begins_can_end (length_ended refl c.in_ok-raw_start.ensures c.in_ok-leave.ensures c.if-n-eq0.true) c.requires
 
 pub returns-then-n-eq0 : goal.returns-then-n-eq0
-returns-then-n-eq0 g c = if_ok c.after_part.result (λ whole e. begins_ended (length_ended refl c.in_ok-raw_start.ensures c.in_ok-leave.ensures c.if-n-eq0.true) e) c.after_part.ensures
+returns-then-n-eq0 g c = if_ok c.after_part.result (λ moved e. begins_ended (length_ended refl c.in_ok-raw_start.ensures c.in_ok-leave.ensures c.if-n-eq0.true) e) c.after_part.ensures
 
 pub returns : goal.returns
 returns g c = record { each = length_placed refl refl c.in_ok-raw_start.ensures c.if-n-eq0.false }

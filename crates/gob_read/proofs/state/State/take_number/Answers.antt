@@ -13,4 +13,4 @@ pub after_part-requires : goal.after_part-requires
 after_part-requires g c = begins_can_end (number_ended refl c.in_ok-number.ensures) c.requires
 
 pub returns : goal.returns
-returns g c = if_ok c.after_part.result (λ whole e. begins_ended (number_ended refl c.in_ok-number.ensures) e) c.after_part.ensures
+returns g c = if_ok c.after_part.result (λ moved e. begins_ended (number_ended refl c.in_ok-number.ensures) e) c.after_part.ensures

@@ -13,7 +13,7 @@ pub after_part-requires : goal.after_part-requires
 after_part-requires g c = raw_can_end c.args.bytes.now refl c.in_ok-raw_more.ensures c.in_ok-leave.ensures (let f = c.requires.few in omega arith) c.requires
 
 pub returns-then-rest-eq0 : goal.returns-then-rest-eq0
-returns-then-rest-eq0 g c = if_ok c.after_part.result (λ whole h. record {
+returns-then-rest-eq0 g c = if_ok c.after_part.result (λ moved h. record {
   last = λ T t p r b e. h.each T t _ (raw_ended c.args.bytes.now c.requires.expected refl c.in_ok-raw_more.ensures c.in_ok-leave.ensures e b);
   other = λ T t p r b l. absurd (omega arith);
 }) c.after_part.ensures
