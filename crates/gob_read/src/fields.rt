@@ -1,11 +1,11 @@
 //! The deltas of a struct.
 
-ghost use Rattle.std.specs.Prelude.{◌≡◌, ◌+◌, ◌^◌, ◌<◌, ◌≤◌, IfOk, IfErr, OnOk, length};
+ghost use Rattle.std.specs.Prelude.{◌≡◌, ◌+◌, ◌^◌, ◌<◌, ◌≤◌, IfOk, OnOk, length};
 ghost use Rattle.gob_read.specs.Event as event;
 ghost use Rattle.gob_read.specs.Building.{MayTakeEvent};
 ghost use Rattle.gob_read.specs.Machine.BasicParts.{NamesField, CanEndFields, EndsFields};
 ghost use Rattle.gob_read.specs.Machine.Steps.{CanBeginStruct, BeginsStruct, CanGoOn, StepGoesOn, LeadsNowhere, CanTake, StepTakes};
-ghost use Rattle.gob_read.specs.Machine.Steps.{StepRefuses, Blames};
+ghost use Rattle.gob_read.specs.Machine.Steps.{StepRefuses, TakesOrBlames};
 
 use crate::builder::Builder;
 use crate::event::GroupKind;
@@ -26,8 +26,7 @@ impl<B: Builder> State<B> {
         n: u64,
     ) -> Result<Moved, Denial>
         requires { CanBeginStruct B.building.received self.old id fields.now n }
-        ensures ok { IfOk result (λ moved. BeginsStruct B.building.received self.old self.new id fields.now n moved) }
-        ensures refused { IfErr result (Blames (λ reason. LeadsNowhere fields.now 0 n reason)) }
+        ensures { TakesOrBlames (BeginsStruct B.building.received self.old self.new id fields.now n) (LeadsNowhere fields.now 0 n) result }
     {
         self.builder.enter(GroupKind::Fields)?;
         self.stack.open(Frame::Fields { id, next: 0 })?;
@@ -38,8 +37,8 @@ impl<B: Builder> State<B> {
     #[inline(always)]
     pub(crate) fn take_delta<S: Shapes>(&mut self, shapes: &S, n: u64) -> Result<Moved, Denial>
         requires { CanTake (S.table shapes.now) B.building.received self.old NextNumber.Delta n }
-        ensures ok { IfOk result (λ moved. StepTakes (S.table shapes.now) B.building.received self.old self.new n moved) }
-        ensures refused { IfErr result (Blames (λ reason. StepRefuses (S.table shapes.now) B.building.received self.old n reason)) }
+        ensures { TakesOrBlames (StepTakes (S.table shapes.now) B.building.received self.old self.new n)
+            (StepRefuses (S.table shapes.now) B.building.received self.old n) result }
     {
         let Some(frame) = self.stack.innermost() else {
             unreachable!()
@@ -67,8 +66,8 @@ impl<B: Builder> State<B> {
         n: u64,
     ) -> Result<Moved, Denial>
         requires { CanGoOn B.building.received self.old id fields.now next n }
-        ensures ok { IfOk result (λ moved. StepGoesOn B.building.received self.old self.new id fields.now next n moved) }
-        ensures refused { IfErr result (Blames (λ reason. LeadsNowhere fields.now next n reason)) }
+        ensures { TakesOrBlames (StepGoesOn B.building.received self.old self.new id fields.now next n)
+            (LeadsNowhere fields.now next n) result }
     {
         if n == 0 {
             return Ok(self.end_fields()?);

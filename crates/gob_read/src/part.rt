@@ -1,9 +1,9 @@
 //! The first number of a part, by the kind of its type.
 
-ghost use Rattle.std.specs.Prelude.{◌≡◌, ◌<◌, ◌≤◌, IfOk, IfErr, length};
+ghost use Rattle.std.specs.Prelude.{◌≡◌, ◌<◌, ◌≤◌, IfOk, length};
 ghost use Rattle.gob_types.specs.declared.kind.Kind.TheVariants as kind;
 ghost use Rattle.gob_read.specs.Machine.Kinds.{IsScalar, IsRawKind, IsList, IsGroup};
-ghost use Rattle.gob_read.specs.Machine.Steps.{CanBegin, StepBegins, CanTakeFirst, TakesFirst, RefusesFirst, IsNoFirst, Blames};
+ghost use Rattle.gob_read.specs.Machine.Steps.{CanBegin, StepBegins, CanTakeFirst, TakesFirst, RefusesFirst, IsNoFirst, TakesOrBlames};
 
 use crate::builder::Builder;
 use crate::event::{GroupKind, RawKind};
@@ -24,9 +24,8 @@ impl<B: Builder> State<B> {
         n: u64,
     ) -> Result<Moved, Denial>
         requires { CanTakeFirst (S.table shapes.now) B.building.received self.old id n }
-        ensures ok { IfOk result (λ moved. TakesFirst (S.table shapes.now) B.building.received self.old self.new id n moved) }
-        ensures refused { IfErr result (Blames (λ reason. RefusesFirst (S.table shapes.now) B.building.received
-            self.old id n reason)) }
+        ensures { TakesOrBlames (TakesFirst (S.table shapes.now) B.building.received self.old self.new id n)
+            (RefusesFirst (S.table shapes.now) B.building.received self.old id n) result }
     {
         let Some(shape) = shapes.shape_of(id) else {
             unreachable!()
@@ -58,8 +57,8 @@ impl<B: Builder> State<B> {
     #[inline(always)]
     fn take_basic(&mut self, basic: Basic, n: u64) -> Result<Moved, Denial>
         requires { CanBegin B.building.received self.old (λ k. k ≡ kind.Basic basic) n }
-        ensures ok { IfOk result (λ moved. StepBegins B.building.received self.old self.new (λ k. k ≡ kind.Basic basic) n moved) }
-        ensures refused { IfErr result (Blames (λ reason. IsNoFirst (kind.Basic basic) n reason)) }
+        ensures { TakesOrBlames (StepBegins B.building.received self.old self.new (λ k. k ≡ kind.Basic basic) n)
+            (IsNoFirst (kind.Basic basic) n) result }
     {
         match basic {
             Basic::Bool => {

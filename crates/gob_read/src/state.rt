@@ -1,7 +1,7 @@
 //! A reader between two items.
 
-ghost use Rattle.std.specs.Prelude.{◌≡◌, ◌-◌, ◌<◌, ◌≤◌, ◌↔◌, IfOk, IfErr, IsTrue, length};
-ghost use Rattle.gob_read.specs.Machine.Steps.{CanEnd, StepEnds, CanTake, StepTakes, StepRefuses, CanTakeRaw, TakesRaw, Blames};
+ghost use Rattle.std.specs.Prelude.{◌≡◌, ◌-◌, ◌<◌, ◌≤◌, ◌↔◌, IfOk, IsTrue, length};
+ghost use Rattle.gob_read.specs.Machine.Steps.{CanEnd, StepEnds, CanTake, StepTakes, StepRefuses, CanTakeRaw, TakesRaw, TakesOrBlames};
 ghost use Rattle.gob_read.specs.Machine.Steps.{CanTakeTag, IsWrongTag, CanTakeSecond, TakesHere};
 ghost use Rattle.gob_read.specs.Machine.Kinds.{IsStructType, BeginsAs};
 
@@ -93,8 +93,8 @@ impl<B: Builder> State<B> {
         n: u64,
     ) -> Result<Moved, Denial>
         requires { CanTake (S.table shapes.now) B.building.received self.old item n }
-        ensures ok { IfOk result (λ moved. StepTakes (S.table shapes.now) B.building.received self.old self.new n moved) }
-        ensures refused { IfErr result (Blames (λ reason. StepRefuses (S.table shapes.now) B.building.received self.old n reason)) }
+        ensures { TakesOrBlames (StepTakes (S.table shapes.now) B.building.received self.old self.new n)
+            (StepRefuses (S.table shapes.now) B.building.received self.old n) result }
     {
         match item {
             NextNumber::Tag { id } => self.take_tag(id, n),
@@ -108,8 +108,7 @@ impl<B: Builder> State<B> {
     #[inline(always)]
     fn take_tag(&mut self, id: TypeId, n: u64) -> Result<Moved, Denial>
         requires { CanTakeTag B.building.received self.old id n }
-        ensures ok { IfOk result (λ moved. TakesHere B.building.received self.old self.new n moved) }
-        ensures refused { IfErr result (Blames (λ reason. IsWrongTag n reason)) }
+        ensures { TakesOrBlames (TakesHere B.building.received self.old self.new n) (IsWrongTag n) result }
     {
         if n != 0 {
             return Err(Denial::Refused(Reason::SingleTag));

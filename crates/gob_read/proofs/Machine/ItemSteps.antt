@@ -1,6 +1,6 @@
 -- The tag, the second number of a complex one, and raw bytes, taken; and what a first number that isn't allowed shows.
 use Rattle.std.proofs.Common.{◌≡◌, ◌↔◌, IsTrue, rules, Bool, true, false, ℕ, ◌+◌, ◌<◌, List, [], ◌∷◌, ◌++◌, length, Some, None, arith, refl, sym, ap, ◌∙◌, subst, append_assoc, length-append}
-use Rattle.std.specs.Prelude.{Result, Ok, Err, IfErr}
+use Rattle.std.specs.Prelude.{Result, Ok, Err}
 use Rattle.gob_num.specs.Unsigned.{IsUnsigned, short, long}
 use Rattle.gob_num.specs.Pattern.{IsPattern}
 use Rattle.gob_types.specs.declared.id.TypeId.{TypeId}
@@ -33,20 +33,17 @@ use Rattle.gob_read.specs.WellFormed.{a_number as number_follows, of_complex as 
 use Rattle.gob_read.specs.Building.{MayTakeEvent, TakesEvent}
 use Rattle.gob_read.specs.Machine.Kinds.{HasKind, IsRawKind, is_bytes, is_text, is_opaque, IsList, is_array, IsStructType, BeginsAs, as_struct, as_tagged, number_stays, raw_stays}
 use Rattle.gob_read.specs.Machine.OpenPath.{OpenPath, behind_tag, AtNext, at_tag, at_part, at_second, at_raw, PartDone}
-use Rattle.gob_read.specs.Machine.Steps.{IsBegun, IsPlaced, IsEnded, Blames, CanEnd, CanBegin, StepBegins, CanBeginStruct, BeginsStruct, IsNoFirst, CanTakeFirst, TakesFirst, RefusesFirst, CanTake, StepTakes, StepRefuses, CanTakeTag, IsWrongTag, CanTakeSecond, TakesHere, CanTakeRaw}
+use Rattle.gob_read.specs.Machine.Steps.{IsBegun, IsPlaced, IsEnded, TakesOrBlames, CanEnd, CanBegin, StepBegins, CanBeginStruct, BeginsStruct, IsNoFirst, CanTakeFirst, TakesFirst, RefusesFirst, CanTake, StepTakes, StepRefuses, CanTakeTag, IsWrongTag, CanTakeSecond, TakesHere, CanTakeRaw}
 use Rattle.gob_value.proofs.PublicLaws.{not_true}
 use Rattle.gob_read.proofs.Machine.KindLaws.{spelled_as}
 use Rattle.gob_read.proofs.Machine.Moves.{part_whole}
 use Rattle.gob_read.proofs.Machine.ToldLaws.{begins_in, within_follows, within_weighs, raw_follows, raw_open_weighs, some, can_tell}
 use Rattle.gob_read.proofs.Machine.Places.{part_expects, part_defined}
 
-pub if_err : {A E : Type 0} {P Q : E → Type 0} (r : Result A E) → ((e : E) → P e → Q e) → IfErr r P → IfErr r Q
-if_err (Ok v) f p = p
-if_err (Err e) f p = f e p
-
-pub blames : {P Q : Reason → Type 0} (e : Denial) → ((r : Reason) → P r → Q r) → Blames P e → Blames Q e
-blames Memory f p = tt
-blames (Refused r) f p = f r p
+pub takes_or_blames : {P Q : Moved → Type 0} {V W : Reason → Type 0} (r : Result Moved Denial) → ((moved : Moved) → P moved → Q moved) → ((reason : Reason) → V reason → W reason) → TakesOrBlames P V r → TakesOrBlames Q W r
+takes_or_blames (Ok moved) f g h = f moved h
+takes_or_blames (Err Memory) f g h = h
+takes_or_blames (Err (Refused reason)) f g h = g reason h
 
 -- the first number of a part of this kind
 pub first_can : {T : Table} {X O : Type 0} {received : X → List Event → Type 0} {state : State X O} {id : TypeId} {k : Kind} {P : Kind → Type 0} {n : ℕ} → HasKind T id k → P k → CanTakeFirst T received state id n → CanBegin received state P n

@@ -16,7 +16,7 @@ use Rattle.gob_read.specs.Viable.{IsShallow, IsViable}
 use Rattle.gob_read.specs.Event.{Event}
 use Rattle.gob_read.specs.Machine.OpenPath.{AtNext}
 use Rattle.gob_read.specs.Machine.Steps.{CanTake, CanTakeRaw, IsPlaced, IsRead, Settled, TakesRaw}
-use Rattle.gob_read.specs.Machine.Running.{TakesMore, IsOpenSomewhere, IsOpenIn, IsUnderWayAt, depth_of, IsReached, IsOpenRun, IsFinished, IsStepped, Steps, RefusesAt, TakesBytes, BytesAnswers, TakesOfRest, TakesSome, TakesNumber, RefusesNumber, NumberAnswers, JudgesFor, EndsFor, StopsFor}
+use Rattle.gob_read.specs.Machine.Running.{TakesMore, IsOpenSomewhere, IsOpenIn, IsUnderWayAt, depth_of, IsReached, IsOpenRun, IsFinished, IsStepped, Steps, RefusesAt, TakesBytes, BytesAnswers, TakesSome, TakesNumber, RefusesNumber, NumberAnswers, JudgesFor, EndsFor, StopsFor}
 use Rattle.gob_read.specs.declared.next.Moved.{Moved}
 use Rattle.gob_read.specs.declared.next.Moved.TheVariants.{ToNext, PastValue}
 use Rattle.gob_read.specs.declared.next.Next.{Next}
@@ -26,7 +26,6 @@ use Rattle.gob_read.specs.declared.state.State.{State}
 use Rattle.gob_read.specs.declared.stop.Stop.{Stop}
 use Rattle.gob_read.specs.declared.stop.Stop.TheVariants as stops
 use Rattle.gob_read.specs.declared.run.Run.{Run}
-use Rattle.gob_read.specs.declared.run.Advance.{Advance}
 use Rattle.gob_read.proofs.Grammar.Fronts.{append_nil}
 use Rattle.gob_read.proofs.Grammar.Firsts.{bad_head_first, not_minimal_first, not_allowed_first, short_first, too_deep_first, extra_first}
 use Rattle.gob_read.proofs.Grammar.Onward.{number_taken, raw_taken, shallow_on}

@@ -1,6 +1,6 @@
 -- What a reader's stack and builder say of the bytes so far, and what its steps need and do.
 -- It describes the reader's stack.
-use Rattle.std.specs.Prelude.{◌≡◌, ◌≢◌, ℕ, ◌+◌, ◌-◌, ◌^◌, ◌<◌, ◌≤◌, List, [], ◌++◌, length}
+use Rattle.std.specs.Prelude.{◌≡◌, ◌≢◌, ℕ, ◌+◌, ◌-◌, ◌^◌, ◌<◌, ◌≤◌, List, [], ◌++◌, length, Result, Ok, Err}
 use Rattle.gob_num.specs.Unsigned.{IsUnsigned}
 use Rattle.gob_types.specs.declared.id.TypeId.{TypeId}
 use Rattle.gob_types.specs.declared.kind.Field.{Field}
@@ -71,10 +71,11 @@ pub record IsDisallowed (T : Table) (t : TypeId) (p : List ℕ) (n : ℕ) (reaso
   pub not_allowed : ¬ Allows allowed n
   pub reason_is : reason_of allowed ≡ reason
 
--- what holds of the reason, if there is one
-abbrev pub Blames : (Reason → Type 0) → Denial → Type 0
-Blames why Memory = Unit {0}
-Blames why (Refused reason) = why reason
+-- what a step answers: this holds of where it moved, or of the reason that it blames
+abbrev pub TakesOrBlames : (Moved → Type 0) → (Reason → Type 0) → Result Moved Denial → Type 0
+TakesOrBlames takes why (Ok moved) = takes moved
+TakesOrBlames takes why (Err Memory) = Unit {0}
+TakesOrBlames takes why (Err (Refused reason)) = why reason
 
 -- a part was read, after fewer bytes than a count of 64 bits can tell
 pub record CanEnd {X O : Type 0} (received : X → List Event → Type 0) (state : State X O) : Type 0 where

@@ -4,8 +4,8 @@ use Rattle.gob_read.specs.Machine.Kinds.{is_bytes, is_text, of_bool, of_int, of_
 use Rattle.gob_read.proofs.Machine.FirstSteps.{can_begin_as, begins_as, as_scalar, as_raw, no_first, second_placed}
 use Rattle.gob_read.proofs.state.State.take_basic.Goals as goal
 
-pub returns-then-n-gt1-clause-refused : goal.returns-then-n-gt1-clause-refused
-returns-then-n-gt1-clause-refused g c = no_first basic.Bool c.in-Bool.is (record { not_allowed = λ a. omega arith; reason_is = refl })
+pub returns-then-n-gt1 : goal.returns-then-n-gt1
+returns-then-n-gt1 g c = no_first basic.Bool c.in-Bool.is (record { not_allowed = λ a. omega arith; reason_is = refl })
 
 pub take_number-requires : goal.take_number-requires
 take_number-requires g c = can_begin_as (as_scalar basic.Bool c.in-Bool.is (of_bool (omega arith))) c.requires
@@ -28,26 +28,26 @@ take_length-requires-in-Str g c = can_begin_as (as_raw basic.Str c.in-Str.is is_
 pub take_number-requires-in-Interface : goal.take_number-requires-in-Interface
 take_number-requires-in-Interface g c = can_begin_as (as_scalar basic.Interface c.in-Interface.is (of_nil (omega arith))) c.requires
 
-pub returns-in_ok-take_number-in-Bool-clause-ok : goal.returns-in_ok-take_number-in-Bool-clause-ok
-returns-in_ok-take_number-in-Bool-clause-ok g c = begins_as (as_scalar basic.Bool c.in-Bool.is (of_bool (omega arith))) c.in_ok-take_number-in-Bool.ensures
+pub returns-in_ok-take_number-in-Bool : goal.returns-in_ok-take_number-in-Bool
+returns-in_ok-take_number-in-Bool g c = begins_as (as_scalar basic.Bool c.in-Bool.is (of_bool (omega arith))) c.in_ok-take_number-in-Bool.ensures
 
-pub returns-in_ok-take_number-in-Int-clause-ok : goal.returns-in_ok-take_number-in-Int-clause-ok
-returns-in_ok-take_number-in-Int-clause-ok g c = begins_as (as_scalar basic.Int c.in-Int.is of_int) c.in_ok-take_number-in-Int.ensures
+pub returns-in_ok-take_number-in-Int : goal.returns-in_ok-take_number-in-Int
+returns-in_ok-take_number-in-Int g c = begins_as (as_scalar basic.Int c.in-Int.is of_int) c.in_ok-take_number-in-Int.ensures
 
-pub returns-in_ok-take_number-in-Uint-clause-ok : goal.returns-in_ok-take_number-in-Uint-clause-ok
-returns-in_ok-take_number-in-Uint-clause-ok g c = begins_as (as_scalar basic.Uint c.in-Uint.is of_uint) c.in_ok-take_number-in-Uint.ensures
+pub returns-in_ok-take_number-in-Uint : goal.returns-in_ok-take_number-in-Uint
+returns-in_ok-take_number-in-Uint g c = begins_as (as_scalar basic.Uint c.in-Uint.is of_uint) c.in_ok-take_number-in-Uint.ensures
 
-pub returns-in_ok-take_number-in-Float-clause-ok : goal.returns-in_ok-take_number-in-Float-clause-ok
-returns-in_ok-take_number-in-Float-clause-ok g c = begins_as (as_scalar basic.Float c.in-Float.is (of_float c.to_pattern.ensures)) c.in_ok-take_number-in-Float.ensures
+pub returns-in_ok-take_number-in-Float : goal.returns-in_ok-take_number-in-Float
+returns-in_ok-take_number-in-Float g c = begins_as (as_scalar basic.Float c.in-Float.is (of_float c.to_pattern.ensures)) c.in_ok-take_number-in-Float.ensures
 
-pub returns-in_ok-take_length-in-Bytes-clause-ok : goal.returns-in_ok-take_length-in-Bytes-clause-ok
-returns-in_ok-take_length-in-Bytes-clause-ok g c = begins_as (as_raw basic.Bytes c.in-Bytes.is is_bytes) c.in_ok-take_length-in-Bytes.ensures
+pub returns-in_ok-take_length-in-Bytes : goal.returns-in_ok-take_length-in-Bytes
+returns-in_ok-take_length-in-Bytes g c = begins_as (as_raw basic.Bytes c.in-Bytes.is is_bytes) c.in_ok-take_length-in-Bytes.ensures
 
-pub returns-in_ok-take_length-in-Str-clause-ok : goal.returns-in_ok-take_length-in-Str-clause-ok
-returns-in_ok-take_length-in-Str-clause-ok g c = begins_as (as_raw basic.Str c.in-Str.is is_text) c.in_ok-take_length-in-Str.ensures
+pub returns-in_ok-take_length-in-Str : goal.returns-in_ok-take_length-in-Str
+returns-in_ok-take_length-in-Str g c = begins_as (as_raw basic.Str c.in-Str.is is_text) c.in_ok-take_length-in-Str.ensures
 
-pub returns-in-Complex-clause-ok : goal.returns-in-Complex-clause-ok
-returns-in-Complex-clause-ok g c = record { each = second_placed refl refl refl c.in-Complex.is c.to_pattern-in-Complex.ensures }
+pub returns-in-Complex : goal.returns-in-Complex
+returns-in-Complex g c = record { each = second_placed refl refl refl c.in-Complex.is c.to_pattern-in-Complex.ensures }
 
-pub returns-in_ok-take_number-in-Interface-clause-ok : goal.returns-in_ok-take_number-in-Interface-clause-ok
-returns-in_ok-take_number-in-Interface-clause-ok g c = begins_as (as_scalar basic.Interface c.in-Interface.is (of_nil (omega arith))) c.in_ok-take_number-in-Interface.ensures
+pub returns-in_ok-take_number-in-Interface : goal.returns-in_ok-take_number-in-Interface
+returns-in_ok-take_number-in-Interface g c = begins_as (as_scalar basic.Interface c.in-Interface.is (of_nil (omega arith))) c.in_ok-take_number-in-Interface.ensures

@@ -1,6 +1,5 @@
 use Rattle.std.proofs.Common.{sym, ap, ◌∙◌, Some}
-use Rattle.gob_read.proofs.Machine.Parts.{if_ok}
-use Rattle.gob_read.proofs.Machine.ItemSteps.{if_err, blames}
+use Rattle.gob_read.proofs.Machine.ItemSteps.{takes_or_blames}
 use Rattle.gob_read.proofs.Machine.FieldSteps.{delta_can, delta_takes, delta_refuses, not_open, not_fields, not_defined, not_struct}
 use Rattle.gob_read.proofs.state.State.take_delta.Goals as goal
 
@@ -19,8 +18,7 @@ unreachable-requires-in_default-kind g c = not_struct (sym c.in-Some.ensures ∙
 pub take_field-requires : goal.take_field-requires
 take_field-requires g c = delta_can (sym c.in-Some.ensures ∙ ap Some c.in-Fields.is) (record { shape = c.in-Some-shape_of.shape.now; there = sym c.in-Some-shape_of.ensures; kind = c.in-Struct.is }) c.requires
 
-pub returns-clause-ok : goal.returns-clause-ok
-returns-clause-ok g c = if_ok c.take_field.result (λ moved h. delta_takes c.requires.expected (sym c.in-Some.ensures ∙ ap Some c.in-Fields.is) (record { shape = c.in-Some-shape_of.shape.now; there = sym c.in-Some-shape_of.ensures; kind = c.in-Struct.is }) h) c.take_field.ensures.ok
-
-pub returns-clause-refused : goal.returns-clause-refused
-returns-clause-refused g c = if_err c.take_field.result (λ e. blames e (λ r h. delta_refuses c.requires.expected (sym c.in-Some.ensures ∙ ap Some c.in-Fields.is) (record { shape = c.in-Some-shape_of.shape.now; there = sym c.in-Some-shape_of.ensures; kind = c.in-Struct.is }) h)) c.take_field.ensures.refused
+pub returns : goal.returns
+returns g c =
+    takes_or_blames c.take_field.result (λ moved h. delta_takes c.requires.expected (sym c.in-Some.ensures ∙ ap Some c.in-Fields.is) (record { shape = c.in-Some-shape_of.shape.now; there = sym c.in-Some-shape_of.ensures; kind = c.in-Struct.is }) h)
+    (λ r h. delta_refuses c.requires.expected (sym c.in-Some.ensures ∙ ap Some c.in-Fields.is) (record { shape = c.in-Some-shape_of.shape.now; there = sym c.in-Some-shape_of.ensures; kind = c.in-Struct.is }) h) c.take_field.ensures

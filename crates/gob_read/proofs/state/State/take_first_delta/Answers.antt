@@ -3,8 +3,8 @@ use Rattle.gob_read.specs.Event.{enter}
 use Rattle.gob_read.specs.WellFormed.{a_struct}
 use Rattle.gob_read.specs.declared.event.GroupKind.TheVariants as group
 use Rattle.gob_read.proofs.Machine.ToldLaws.{begins_in}
-use Rattle.gob_read.proofs.Machine.Parts.{if_ok}
 use Rattle.gob_read.proofs.Machine.FirstSteps.{can_start}
+use Rattle.gob_read.proofs.Machine.ItemSteps.{takes_or_blames}
 use Rattle.gob_read.proofs.Machine.FieldSteps.{can_begin_struct, struct_can_go_on, struct_begins}
 use Rattle.gob_read.proofs.state.State.take_first_delta.Goals as goal
 
@@ -14,5 +14,5 @@ enter-requires g c = can_start (enter group.Fields) refl (can_begin_struct c.req
 pub take_field-requires : goal.take_field-requires
 take_field-requires g c = struct_can_go_on c.in_ok-open.ensures c.in_ok-enter.ensures c.requires
 
-pub returns-clause-ok : goal.returns-clause-ok
-returns-clause-ok g c = if_ok c.take_field.result (λ moved h. struct_begins c.in_ok-open.ensures c.in_ok-enter.ensures h) c.take_field.ensures.ok
+pub returns : goal.returns
+returns g c = takes_or_blames c.take_field.result (λ moved h. struct_begins c.in_ok-open.ensures c.in_ok-enter.ensures h) (λ r h. h) c.take_field.ensures

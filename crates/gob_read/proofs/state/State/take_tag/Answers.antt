@@ -2,5 +2,5 @@ use Rattle.std.proofs.Common.{refl, arith}
 use Rattle.gob_read.proofs.Machine.ItemSteps.{tag_placed}
 use Rattle.gob_read.proofs.state.State.take_tag.Goals as goal
 
-pub returns-clause-ok : goal.returns-clause-ok
-returns-clause-ok g c = record { each = tag_placed c.requires.expected (omega arith) refl refl refl }
+pub returns : goal.returns
+returns g c = record { each = tag_placed c.requires.expected (omega arith) refl refl refl }
