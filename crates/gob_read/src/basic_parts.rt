@@ -188,11 +188,9 @@ impl<B: Builder> Run<B> {
     {
         let mut next = next;
         let mut used = 0;
+        let moved = Moved::ToNext;
         let Some(fields) = fields_of(shapes, of) else {
-            return Ok(Advance {
-                used,
-                moved: Moved::ToNext,
-            });
+            return Ok(Advance { used, moved });
         };
         'fields: for _ in 0..rest.len() {
             if rest[used] == 0 {
@@ -203,17 +201,11 @@ impl<B: Builder> Run<B> {
                 });
             }
             let Some(entered) = self.take_name(shapes, of, fields, next, rest[used])? else {
-                return Ok(Advance {
-                    used,
-                    moved: Moved::ToNext,
-                });
+                return Ok(Advance { used, moved });
             };
             used += 1;
             if used == rest.len() {
-                return Ok(Advance {
-                    used,
-                    moved: Moved::ToNext,
-                });
+                return Ok(Advance { used, moved });
             }
             let taken = self.take_basic_field(
                 shapes,
@@ -224,17 +216,11 @@ impl<B: Builder> Run<B> {
             )?;
             used += taken;
             if taken == 0 || used == rest.len() {
-                return Ok(Advance {
-                    used,
-                    moved: Moved::ToNext,
-                });
+                return Ok(Advance { used, moved });
             }
             next = entered.next;
         }
-        Ok(Advance {
-            used,
-            moved: Moved::ToNext,
-        })
+        Ok(Advance { used, moved })
     }
 
     /// Takes the expected element of the innermost open list, and those behind it, as long as they are of a basic type
@@ -259,6 +245,7 @@ impl<B: Builder> Run<B> {
             return Ok(Advance::NONE);
         };
         let mut used = 0;
+        let moved = Moved::ToNext;
         'elements: for index in 0..left {
             let next = Frame::Many {
                 elem,
@@ -267,16 +254,10 @@ impl<B: Builder> Run<B> {
             let taken = self.take_basic_part(shapes, elem, basic, next, &rest[used..])?;
             used += taken;
             if taken == 0 || used == rest.len() {
-                return Ok(Advance {
-                    used,
-                    moved: Moved::ToNext,
-                });
+                return Ok(Advance { used, moved });
             }
         }
-        Ok(Advance {
-            used,
-            moved: Moved::ToNext,
-        })
+        Ok(Advance { used, moved })
     }
 
     /// Takes the expected part of a struct, if it is of a basic type and stands whole in the piece. It answers how many
