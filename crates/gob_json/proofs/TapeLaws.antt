@@ -1,10 +1,11 @@
 -- What is written of the parts that the children of a view give, and what is left to be written.
 use Rattle.std.proofs.Common.{◌≡◌, ◌≢◌, ℕ, ℤ, pos, negsuc, ◌+◌, ◌*◌, ◌/◌, ◌%◌, ◌<◌, List, [], ◌∷◌, ◌++◌, Option, Some}
-use Rattle.std.proofs.Common.{None, Bool, true, false, not, arith, refl, sym, ap, ◌∙◌, subst, append_assoc}
-use Rattle.std.specs.Prelude.{◌==◌, if◌then◌else◌, slice_get, codes}
+use Rattle.std.proofs.Common.{None, Bool, true, false, not, arith, refl, sym, ap, ◌∙◌, subst, append_assoc, Result, Ok}
+use Rattle.std.specs.Prelude.{◌==◌, if◌then◌else◌, slice_get}
 use Rattle.std.specs.Fmt.{signed_decimal}
 use Rattle.json.specs.Token.{Token}
 use Rattle.json.specs.Tree.{json_tokens, items_tokens}
+use Rattle.json.specs.Written.{Written}
 use Rattle.serde_json.specs.Data.{Data, array, Items, no_items, item}
 use Rattle.serde_json.specs.Written.{outline, items_outline}
 use Rattle.gob_types.specs.declared.id.TypeId.{TypeId}
@@ -21,10 +22,11 @@ use Rattle.gob_tape.specs.declared.view.Children.{Children}
 use Rattle.gob_tape.specs.Seeing.{kind_of, numbers_of, bytes_of, unsigned_of, elements, alternating, present}
 use Rattle.gob_tape.specs.Seeing.{Sees, Gives, GivesNext, gives_one, GivesPart, TakesNodes}
 use Rattle.gob_tape.specs.Seeing.{takes_some, nodes_left}
-use Rattle.gob_json.specs.Json.{value_json, elements_json, pairs_json, fields_json, put_json}
-use Rattle.gob_json.specs.Json.{triple_json, natural_json, integer_json, id_json, text_json}
-use Rattle.gob_json.specs.Json.{field_name, field_type}
-use Rattle.gob_json.specs.TapeJson.{leaf_json}
+use Rattle.gob_json.specs.Json.{value_json, elements_json, pairs_json, fields_json}
+use Rattle.gob_json.specs.Json.{triple_json, natural_json, integer_json, text_json, field_name, field_type}
+use Rattle.gob_json.specs.TapeJson.{leaf_json, Shows}
+use Rattle.gob_json.specs.WritesJson.{WritesTokens, WritesJson, WritesJsonOf}
+use Rattle.gob_json.proofs.WrittenLaws.{IsLeft, left_begun, left_on, left_end, both_written}
 
 -- ---- parts without parts
 
@@ -96,13 +98,7 @@ as_pairs v e = subst (Made v) (sym e) (made v)
 pub as_fields : (v : Tree) → kind.Fields ≡ kind_of v → IsMadeOf Value.fields v
 as_fields v e = subst (Made v) (sym e) (made v)
 
--- ---- elements
-
--- these elements are to come, and with what is written of them the tokens are all
-pub record ElementsLeft (T : Table) (e : TypeId) (parts : Children) (tokens all : List Token) : Type 0 where
-  pub rest : Trees
-  pub gives : Gives parts (elements rest)
-  pub left : tokens ++ items_tokens (items_outline (elements_json T e rest)) ≡ all
+-- ---- the next part
 
 abbrev pub NextIs : Children → Option View → Children → Type 0
 NextIs old part new = (xs : List (Option ℕ × Tree)) → Gives old xs → GivesNext new xs part
@@ -118,176 +114,153 @@ fewer_left {old = old} {new = new} {part = part} p e = by (subst (λ p. TakesNod
     by : TakesNodes old new (Some part) → nodes_left new < nodes_left old
     by (takes_some a b) = b
 
--- the closing bracket ends what was begun
-begun_left : (old : List Token) {begun : List Token} (items : List Token) → begun ≡ old ++ Token.begin_array ∷ []
-    → begun ++ items ≡ old ++ (Token.begin_array ∷ items)
-begun_left old items b = ap (λ (l : List Token). l ++ items) b ∙ append_assoc old (Token.begin_array ∷ []) items
+-- ---- elements
 
-more_left : (old : List Token) {new all : List Token} (one rest : List Token) → new ≡ old ++ one
-    → old ++ (one ++ rest) ≡ all → new ++ rest ≡ all
-more_left old one rest n a = ap (λ (l : List Token). l ++ rest) n ∙ append_assoc old one rest ∙ a
+-- these elements are to come, and with what is written of them the tokens are all
+pub record ElementsLeft (T : Table) (e : TypeId) (parts : Children) (old now : Written) (all : List Token) : Type 0 where
+  pub rest : Trees
+  pub gives : Gives parts (elements rest)
+  pub left : IsLeft old now (items_tokens (items_outline (elements_json T e rest))) all
 
-pub elements_begun : {T : Table} {e : TypeId} {parts : Children} {begun : List Token} (old : List Token) (vs : Trees)
-    → begun ≡ old ++ Token.begin_array ∷ [] → Gives parts (elements vs)
-    → ElementsLeft T e parts begun (old ++ json_tokens (outline (array (elements_json T e vs))))
-elements_begun old vs b g = record { rest = vs; gives = g; left = begun_left old _ b }
+pub elements_begun : {E : Type 0} {u : Unit {0}} {T : Table} {e : TypeId} {parts : Children} {old now : Written} (vs : Trees)
+    → WritesTokens {E = E} (Ok u) old now (Token.begin_array ∷ []) → Gives parts (elements vs)
+    → ElementsLeft T e parts old now (json_tokens (outline (array (elements_json T e vs))))
+elements_begun vs w g = record { rest = vs; gives = g; left = left_begun _ w }
 
-pub elements_on : {T : Table} {e : TypeId} {parts others : Children} {part : View} {old new all : List Token}
-    → ElementsLeft T e parts old all → NextIs parts (Some part) others
-    → ((f : Option ℕ) (v : Tree) → Sees part f v → new ≡ old ++ json_tokens (outline (value_json T e v)))
-    → ElementsLeft T e others new all
-elements_on {T = T} {e = e} {others = others} {part = part} {old = old} {new = new} {all = all} l n w = by l.rest l.left
-    (n _ l.gives)
+pub elements_on : {E : Type 0} {u : Unit {0}} {T : Table} {e : TypeId} {parts others : Children} {part : View} {old now new : Written} {all : List Token}
+    → ElementsLeft T e parts old now all → NextIs parts (Some part) others
+    → WritesJsonOf {E = E} (Ok u) now new (Shows part) (value_json T e) → ElementsLeft T e others old new all
+elements_on {T = T} {e = e} {others = others} {part = part} {old = old} {now = now} {new = new} {all = all} l n w = by l.rest l.left (n _ l.gives)
   where
-    by : (vs : Trees) → old ++ items_tokens (items_outline (elements_json T e vs)) ≡ all
-        → GivesNext others (elements vs) (Some part) → ElementsLeft T e others new all
+    by : (vs : Trees) → IsLeft old now (items_tokens (items_outline (elements_json T e vs))) all
+        → GivesNext others (elements vs) (Some part) → ElementsLeft T e others old new all
     by no_tree q h = elim h [ ]
-    by (tree v vs) q (gives_one s g) = record { rest = vs; gives = g; left = more_left old _ _ (w None v s) q }
+    by (tree v vs) q (gives_one s g) = record { rest = vs; gives = g; left = left_on _ q (w.each v (None, s)) }
 
-pub elements_end : {T : Table} {e : TypeId} {parts others : Children} {old new all : List Token}
-    → ElementsLeft T e parts old all → NextIs parts None others
-    → new ≡ old ++ Token.end_array ∷ [] → new ≡ all
-elements_end {T = T} {e = e} {others = others} {old = old} {new = new} {all = all} l n w = by l.rest l.left
-    (n _ l.gives)
+pub elements_end : {E : Type 0} {r : Result (Unit {0}) E} {T : Table} {e : TypeId} {parts others : Children} {old now new : Written} {all : List Token}
+    → ElementsLeft T e parts old now all → NextIs parts None others
+    → WritesTokens r now new (Token.end_array ∷ []) → WritesTokens r old new all
+elements_end {r = r} {T = T} {e = e} {others = others} {old = old} {now = now} {new = new} {all = all} l n w = by l.rest l.left (n _ l.gives)
   where
-    by : (vs : Trees) → old ++ items_tokens (items_outline (elements_json T e vs)) ≡ all
-        → GivesNext others (elements vs) None → new ≡ all
-    by no_tree q h = w ∙ q
+    by : (vs : Trees) → IsLeft old now (items_tokens (items_outline (elements_json T e vs))) all
+        → GivesNext others (elements vs) None → WritesTokens r old new all
+    by no_tree q h = left_end q w
     by (tree v vs) q h = elim h [ ]
 
 -- ---- fields
 
-pub record FieldsLeft (T : Table) (types : List Field) (parts : Children) (tokens all : List Token) : Type 0 where
+pub record FieldsLeft (T : Table) (types : List Field) (parts : Children) (old now : Written) (all : List Token) : Type 0 where
   pub rest : Fields
   pub gives : Gives parts (present rest)
-  pub left : tokens ++ items_tokens (items_outline (fields_json T types rest)) ≡ all
+  pub left : IsLeft old now (items_tokens (items_outline (fields_json T types rest))) all
 
-pub fields_begun : {T : Table} {types : List Field} {parts : Children} {begun : List Token} (old : List Token) (fs : Fields) → begun ≡ old ++ Token.begin_array ∷ [] → Gives parts (present fs)
-    → FieldsLeft T types parts begun (old ++ json_tokens (outline (array (fields_json T types fs))))
-fields_begun old fs b g = record { rest = fs; gives = g; left = begun_left old _ b }
+-- the number, the name and the value of a field
+abbrev pub field_json : Table → List Field → ℕ → Tree → Data
+field_json T types f v = triple_json (natural_json f) (text_json (field_name (slice_get types f)))
+    (value_json T (field_type (slice_get types f)) v)
 
-pub fields_on : {T : Table} {types : List Field} {parts others : Children} {part : View} {old new all : List Token}
-    → FieldsLeft T types parts old all → NextIs parts (Some part) others
-    → ((f : ℕ) (v : Tree) → Sees part (Some f) v
-    → new ≡ old ++ json_tokens (outline
-    (triple_json (natural_json f) (text_json (field_name (slice_get types f)))
-    (value_json T (field_type (slice_get types f)) v))))
-    → FieldsLeft T types others new all
-fields_on {T = T} {types = types} {others = others} {part = part} {old = old} {new = new} {all = all} l n w = by l.rest l.left (n _ l.gives)
+pub fields_begun : {E : Type 0} {u : Unit {0}} {T : Table} {types : List Field} {parts : Children} {old now : Written} (fs : Fields)
+    → WritesTokens {E = E} (Ok u) old now (Token.begin_array ∷ []) → Gives parts (present fs)
+    → FieldsLeft T types parts old now (json_tokens (outline (array (fields_json T types fs))))
+fields_begun fs w g = record { rest = fs; gives = g; left = left_begun _ w }
+
+pub fields_on : {E : Type 0} {u : Unit {0}} {T : Table} {types : List Field} {parts others : Children} {part : View} {old now new : Written} {all : List Token}
+    → FieldsLeft T types parts old now all → NextIs parts (Some part) others
+    → ((f : ℕ) (v : Tree) → Sees part (Some f) v → WritesJson {E = E} (Ok u) now new (field_json T types f v))
+    → FieldsLeft T types others old new all
+fields_on {T = T} {types = types} {others = others} {part = part} {old = old} {now = now} {new = new} {all = all} l n w = by l.rest l.left (n _ l.gives)
   where
-    by : (fs : Fields) → old ++ items_tokens (items_outline (fields_json T types fs)) ≡ all
-        → GivesNext others (present fs) (Some part) → FieldsLeft T types others new all
+    by : (fs : Fields) → IsLeft old now (items_tokens (items_outline (fields_json T types fs))) all
+        → GivesNext others (present fs) (Some part) → FieldsLeft T types others old new all
     by no_field q h = elim h [ ]
-    by (field f v fs) q (gives_one s g) = record { rest = fs; gives = g; left = more_left old _ _ (w f v s) q }
+    by (field f v fs) q (gives_one s g) = record { rest = fs; gives = g; left = left_on _ q (w f v s) }
 
-pub fields_end : {T : Table} {types : List Field} {parts others : Children} {old new all : List Token}
-    → FieldsLeft T types parts old all → NextIs parts None others
-    → new ≡ old ++ Token.end_array ∷ [] → new ≡ all
-fields_end {T = T} {types = types} {others = others} {old = old} {new = new} {all = all} l n w = by l.rest l.left
-    (n _ l.gives)
+pub fields_end : {E : Type 0} {r : Result (Unit {0}) E} {T : Table} {types : List Field} {parts others : Children} {old now new : Written} {all : List Token}
+    → FieldsLeft T types parts old now all → NextIs parts None others
+    → WritesTokens r now new (Token.end_array ∷ []) → WritesTokens r old new all
+fields_end {r = r} {T = T} {types = types} {others = others} {old = old} {now = now} {new = new} {all = all} l n w = by l.rest l.left (n _ l.gives)
   where
-    by : (fs : Fields) → old ++ items_tokens (items_outline (fields_json T types fs)) ≡ all
-        → GivesNext others (present fs) None → new ≡ all
-    by no_field q h = w ∙ q
+    by : (fs : Fields) → IsLeft old now (items_tokens (items_outline (fields_json T types fs))) all
+        → GivesNext others (present fs) None → WritesTokens r old new all
+    by no_field q h = left_end q w
     by (field f v fs) q h = elim h [ ]
 
 -- ---- entries
 
 -- the element of a key that was written, and then these entries, are to come; or these entries
-pub data EntriesLeft (T : Table) (k e : TypeId) (parts : Children) (tokens all : List Token) : Bool → Type 0 where
+pub data EntriesLeft (T : Table) (k e : TypeId) (parts : Children) (old now : Written) (all : List Token) : Bool → Type 0 where
   key_next : (ps : Pairs) → Gives parts (alternating ps)
-      → tokens ++ items_tokens (items_outline (pairs_json T k e ps)) ≡ all → EntriesLeft T k e parts tokens all true
+      → IsLeft old now (items_tokens (items_outline (pairs_json T k e ps))) all → EntriesLeft T k e parts old now all true
   element_next : (v : Tree) (ps : Pairs) → Gives parts ((None, v) ∷ alternating ps)
-      → tokens ++ ((json_tokens (outline (value_json T e v)) ++ Token.end_array ∷ []) ++ items_tokens (items_outline (pairs_json T k e ps))) ≡ all → EntriesLeft T k e parts tokens all false
+      → IsLeft old now ((json_tokens (outline (value_json T e v)) ++ Token.end_array ∷ []) ++ items_tokens (items_outline (pairs_json T k e ps))) all → EntriesLeft T k e parts old now all false
 
-pub entries_begun : {T : Table} {k e : TypeId} {parts : Children} {begun : List Token} (old : List Token) (ps : Pairs)
-    → begun ≡ old ++ Token.begin_array ∷ [] → Gives parts (alternating ps)
-    → EntriesLeft T k e parts begun (old ++ json_tokens (outline (array (pairs_json T k e ps)))) true
-entries_begun old ps b g = key_next ps g (begun_left old _ b)
+pub entries_begun : {E : Type 0} {u : Unit {0}} {T : Table} {k e : TypeId} {parts : Children} {old now : Written} (ps : Pairs)
+    → WritesTokens {E = E} (Ok u) old now (Token.begin_array ∷ []) → Gives parts (alternating ps)
+    → EntriesLeft T k e parts old now (json_tokens (outline (array (pairs_json T k e ps)))) true
+entries_begun ps w g = key_next ps g (left_begun _ w)
 
-key_on : {T : Table} {k e : TypeId} {parts others : Children} {part : View} {old begun new all : List Token}
-    → EntriesLeft T k e parts old all true → NextIs parts (Some part) others
-    → begun ≡ old ++ Token.begin_array ∷ []
-    → ((f : Option ℕ) (v : Tree) → Sees part f v → new ≡ begun ++ json_tokens (outline (value_json T k v)))
-    → EntriesLeft T k e others new all false
-key_on {T = T} {k = k} {e = e} {others = others} {part = part} {old = old} {begun = begun} {new = new} {all = all}
-    (key_next ps g q) n b w = by ps q (n _ g)
-  where
-    by : (ps : Pairs) → old ++ items_tokens (items_outline (pairs_json T k e ps)) ≡ all
-        → GivesNext others (alternating ps) (Some part) → EntriesLeft T k e others new all false
-    by no_pair q h = elim h [ ]
-    by (pair x v ps) q (gives_one s g) =
-        let key = json_tokens (outline (value_json T k x)) in
-        let element = json_tokens (outline (value_json T e v)) ++ Token.end_array ∷ [] in
-        let rest = items_tokens (items_outline (pairs_json T k e ps)) in
-        element_next v ps g (more_left begun key (element ++ rest) (w None x s)
-        (more_left old (Token.begin_array ∷ []) (key ++ (element ++ rest)) b
-        (ap (λ (l : List Token). old ++ Token.begin_array ∷ l) (sym (append_assoc key element rest)) ∙ q)))
+module _ {E : Type 0} {u : Unit {0}} {T : Table} {k e : TypeId} {parts others : Children} {part : View}
+    {old now mid new : Written} {all : List Token} where
+  key_on : EntriesLeft T k e parts old now all true → NextIs parts (Some part) others
+      → WritesTokens {E = E} (Ok u) now mid (Token.begin_array ∷ [])
+      → WritesJsonOf {E = E} (Ok u) mid new (Shows part) (value_json T k) → EntriesLeft T k e others old new all false
+  key_on (key_next ps g q) n b w = by ps q (n _ g)
+    where
+      by : (ps : Pairs) → IsLeft old now (items_tokens (items_outline (pairs_json T k e ps))) all
+          → GivesNext others (alternating ps) (Some part) → EntriesLeft T k e others old new all false
+      by no_pair q h = elim h [ ]
+      by (pair x v ps) q (gives_one s g) =
+          let key = json_tokens (outline (value_json T k x)) in
+          let element = json_tokens (outline (value_json T e v)) ++ Token.end_array ∷ [] in
+          let rest = items_tokens (items_outline (pairs_json T k e ps)) in
+          let same = ap (λ (l : List Token). Token.begin_array ∷ l) (append_assoc key element rest) in
+          element_next v ps g (left_on (element ++ rest) (subst (λ l. IsLeft old now l all) same q)
+          (both_written b (w.each x (None, s))))
 
-element_on : {T : Table} {k e : TypeId} {parts others : Children} {part : View} {old new ended all : List Token}
-    → EntriesLeft T k e parts old all false → NextIs parts (Some part) others
-    → ((f : Option ℕ) (v : Tree) → Sees part f v → new ≡ old ++ json_tokens (outline (value_json T e v)))
-    → ended ≡ new ++ Token.end_array ∷ [] → EntriesLeft T k e others ended all true
-element_on {T = T} {k = k} {e = e} {others = others} {part = part} {old = old} {new = new} {ended = ended} {all = all}
-    (element_next v ps g q) n w d = by (n _ g)
-  where
-    by : GivesNext others ((None, v) ∷ alternating ps) (Some part) → EntriesLeft T k e others ended all true
-    by (gives_one s h) =
-        let value = json_tokens (outline (value_json T e v)) in
-        let one : ended ≡ old ++ (value ++ Token.end_array ∷ []) = d ∙ ap
-        (λ (l : List Token). l ++ Token.end_array ∷ []) (w None v s) ∙ append_assoc old value (Token.end_array ∷ []) in
-        key_next ps h (more_left old _ _ one q)
+  element_on : EntriesLeft T k e parts old now all false → NextIs parts (Some part) others
+      → WritesJsonOf {E = E} (Ok u) now mid (Shows part) (value_json T e)
+      → WritesTokens {E = E} (Ok u) mid new (Token.end_array ∷ []) → EntriesLeft T k e others old new all true
+  element_on (element_next v ps g q) n w d = by (n _ g)
+    where
+      by : GivesNext others ((None, v) ∷ alternating ps) (Some part) → EntriesLeft T k e others old new all true
+      by (gives_one s h) = key_next ps h (left_on _ q (both_written (w.each v (None, s)) d))
 
-pub entries_end : {T : Table} {k e : TypeId} {parts others : Children} {old new all : List Token} {is_key : Bool}
-    → EntriesLeft T k e parts old all is_key → NextIs parts None others
-    → new ≡ old ++ Token.end_array ∷ [] → new ≡ all
-entries_end {T = T} {k = k} {e = e} {others = others} {old = old} {new = new} {all = all}
+  -- a key, and an element, was written
+  pub key_turn : {is_key : Bool} {out : Written} → out ≡ new → is_key ≡ true
+      → EntriesLeft T k e parts old now all is_key → NextIs parts (Some part) others
+      → WritesTokens {E = E} (Ok u) now mid (Token.begin_array ∷ [])
+      → WritesJsonOf {E = E} (Ok u) mid new (Shows part) (value_json T k)
+      → EntriesLeft T k e others old out all (not is_key)
+  key_turn {is_key = is_key} is h l n b w =
+      subst (λ o. EntriesLeft T k e others old o all (not is_key)) (sym is)
+      (subst (λ x. EntriesLeft T k e others old new all (not x)) (sym h)
+      (key_on (subst (λ x. EntriesLeft T k e parts old now all x) h l) n b w))
+
+  pub element_turn : {is_key : Bool} {out : Written} → out ≡ new → is_key ≡ false
+      → EntriesLeft T k e parts old now all is_key → NextIs parts (Some part) others
+      → WritesJsonOf {E = E} (Ok u) now mid (Shows part) (value_json T e)
+      → WritesTokens {E = E} (Ok u) mid new (Token.end_array ∷ []) → EntriesLeft T k e others old out all (not is_key)
+  element_turn {is_key = is_key} is h l n w d =
+      subst (λ o. EntriesLeft T k e others old o all (not is_key)) (sym is)
+      (subst (λ x. EntriesLeft T k e others old new all (not x)) (sym h)
+      (element_on (subst (λ x. EntriesLeft T k e parts old now all x) h l) n w d))
+
+pub entries_end : {E : Type 0} {r : Result (Unit {0}) E} {T : Table} {k e : TypeId} {parts others : Children} {old now new : Written} {all : List Token} {is_key : Bool}
+    → EntriesLeft T k e parts old now all is_key → NextIs parts None others
+    → WritesTokens r now new (Token.end_array ∷ []) → WritesTokens r old new all
+entries_end {r = r} {T = T} {k = k} {e = e} {others = others} {old = old} {now = now} {new = new} {all = all}
     (key_next ps g q) n w = by ps q (n _ g)
   where
-    by : (ps : Pairs) → old ++ items_tokens (items_outline (pairs_json T k e ps)) ≡ all
-        → GivesNext others (alternating ps) None → new ≡ all
-    by no_pair q h = w ∙ q
+    by : (ps : Pairs) → IsLeft old now (items_tokens (items_outline (pairs_json T k e ps))) all
+        → GivesNext others (alternating ps) None → WritesTokens r old new all
+    by no_pair q h = left_end q w
     by (pair x v ps) q h = elim h [ ]
-entries_end {others = others} {new = new} {all = all} (element_next v ps g q) n w = by (n _ g)
+entries_end {r = r} {others = others} {old = old} {new = new} {all = all} (element_next v ps g q) n w = by (n _ g)
   where
-    by : GivesNext others ((None, v) ∷ alternating ps) None → new ≡ all
+    by : GivesNext others ((None, v) ∷ alternating ps) None → WritesTokens r old new all
     by h = elim h [ ]
-
--- a key, and an element, was written
-pub key_turn : {T : Table} {k e : TypeId} {parts others : Children} {part : View} {old begun new all : List Token} {is_key : Bool} → is_key ≡ true → EntriesLeft T k e parts old all is_key
-    → NextIs parts (Some part) others → begun ≡ old ++ Token.begin_array ∷ []
-    → ((f : Option ℕ) (v : Tree) → Sees part f v → new ≡ begun ++ json_tokens (outline (value_json T k v)))
-    → EntriesLeft T k e others new all (not is_key)
-key_turn {T = T} {k = k} {e = e} {parts = parts} {others = others} {old = old} {new = new} {all = all} h l n b w =
-    subst (λ x. EntriesLeft T k e others new all (not x)) (sym h)
-    (key_on (subst (λ x. EntriesLeft T k e parts old all x) h l) n b w)
-
-pub element_turn : {T : Table} {k e : TypeId} {parts others : Children} {part : View} {old new ended all : List Token} {is_key : Bool} → is_key ≡ false → EntriesLeft T k e parts old all is_key
-    → NextIs parts (Some part) others
-    → ((f : Option ℕ) (v : Tree) → Sees part f v → new ≡ old ++ json_tokens (outline (value_json T e v)))
-    → ended ≡ new ++ Token.end_array ∷ []
-    → EntriesLeft T k e others ended all (not is_key)
-element_turn {T = T} {k = k} {e = e} {parts = parts} {others = others} {old = old} {ended = ended} {all =
-    all} h l n w d =
-    subst (λ x. EntriesLeft T k e others ended all (not x)) (sym h)
-    (element_on (subst (λ x. EntriesLeft T k e parts old all x) h l) n w d)
 
 -- the token of a signed number
 pub integer_token : (i : ℤ) → Token.number (signed_decimal i) ∷ [] ≡ json_tokens (outline (integer_json i))
 integer_token (pos n) = refl
 integer_token (negsuc n) = refl
-
--- the tokens of a value with its type
-pub put_written : (T : Table) (id : TypeId) (v : Tree) (old begun type number value shown : List Token) {new : List Token} → begun ≡ old ++ Token.begin_object ∷ []
-    → type ≡ begun ++ Token.key (codes "type") ∷ [] → number ≡ type ++ json_tokens (outline (id_json id))
-    → value ≡ number ++ Token.key (codes "value") ∷ []
-    → shown ≡ value ++ json_tokens (outline (value_json T id v)) → new ≡ shown ++ Token.end_object ∷ []
-    → new ≡ old ++ json_tokens (outline (put_json T id v))
-put_written T id v old begun type number value shown a b c d e f =
-    let last = json_tokens (outline (value_json T id v)) ++ Token.end_object ∷ [] in
-    let named = Token.key (codes "value") ∷ last in
-    let typed = json_tokens (outline (id_json id)) ++ named in
-    f ∙ more_left value _ (Token.end_object ∷ []) e (more_left number (Token.key (codes "value") ∷ []) last d
-    (more_left type (json_tokens (outline (id_json id))) named c
-    (more_left begun (Token.key (codes "type") ∷ []) typed b
-    (more_left old (Token.begin_object ∷ []) (Token.key (codes "type") ∷ typed) a refl))))

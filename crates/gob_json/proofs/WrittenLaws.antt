@@ -1,49 +1,66 @@
--- What was written of a list, and what is left to be written.
+-- Calls that write tokens, one behind another, and what is left to be written of a list.
 use Rattle.std.proofs.Common.{◌≡◌, ℕ, ◌+◌, ◌<◌, List, [], ◌∷◌, ◌++◌, length, get_or, drop, ◌∙◌, ap, sym, subst}
-use Rattle.std.proofs.Common.{append_assoc}
+use Rattle.std.proofs.Common.{append_assoc, Result, Ok}
 use Rattle.std.proofs.lemmas.List.{at_drop_more}
+use Rattle.std.proofs.lemmas.Result.{on_ok_weaker}
 use Rattle.json.specs.Token.{Token}
-use Rattle.json.specs.Tree.{json_tokens}
+use Rattle.json.specs.Written.{Written, Writes}
 use Rattle.serde_json.specs.Data.{Data}
-use Rattle.serde_json.specs.Written.{outline}
-use Rattle.gob_json.specs.Json.{pair_json, triple_json}
+use Rattle.gob_json.specs.WritesJson.{WritesTokens, WritesJson}
 
--- some tokens behind others
-behind : (old mid new first others : List Token) → mid ≡ old ++ first → new ≡ mid ++ others → new
-    ≡ old ++ (first ++ others)
-behind old mid new first others e f = f ∙ ap (λ (l : List Token). l ++ others) e ∙ append_assoc old first others
+-- ---- one call behind another
 
--- the tokens of arrays of two and of three
-module _ (old begun : List Token) (a b : Data) (begin : begun ≡ old ++ Token.begin_array ∷ []) where
-  pub pair_written : (one two new : List Token) → one ≡ begun ++ json_tokens (outline a) → two
-      ≡ one ++ json_tokens (outline b) → new ≡ two ++ Token.end_array ∷ []
-      → new ≡ old ++ json_tokens (outline (pair_json a b))
-  pair_written one two new first second end =
-      let others = json_tokens (outline b) ++ Token.end_array ∷ [] in
-      behind old begun new (Token.begin_array ∷ []) (json_tokens (outline a) ++ others) begin
-      (behind begun one new (json_tokens (outline a)) others first
-      (behind one two new (json_tokens (outline b)) (Token.end_array ∷ []) second end))
+pub one_written : {E : Type 0} {r : Result (Unit {0}) E} {old new : Written} {t : Token} → Writes r old new t
+    → WritesTokens r old new (t ∷ [])
+one_written w = record { tokens = w.ok; before = w.room.0 }
 
-  pub triple_written : (c : Data) (one two three new : List Token) → one ≡ begun ++ json_tokens (outline a) → two
-      ≡ one ++ json_tokens (outline b) → three ≡ two ++ json_tokens (outline c)
-      → new ≡ three ++ Token.end_array ∷ [] → new ≡ old ++ json_tokens (outline (triple_json a b c))
-  triple_written c one two three new first second third end =
-      let last = json_tokens (outline c) ++ Token.end_array ∷ [] in
-      let others = json_tokens (outline b) ++ last in
-      behind old begun new (Token.begin_array ∷ []) (json_tokens (outline a) ++ others) begin
-      (behind begun one new (json_tokens (outline a)) others first
-      (behind one two new (json_tokens (outline b)) last second
-      (behind two three new (json_tokens (outline c)) (Token.end_array ∷ []) third end)))
+pub both_written : {E F : Type 0} {r : Result (Unit {0}) F} {u : Unit {0}} {old mid new : Written} {xs ys : List Token}
+    → WritesTokens {E = E} (Ok u) old mid xs → WritesTokens r mid new ys → WritesTokens r old new (xs ++ ys)
+both_written {r = r} {old = old} {xs = xs} {ys = ys} p q = record {
+  tokens = on_ok_weaker r (λ e. e ∙ ap (λ (l : List Token). l ++ ys) p.tokens ∙ append_assoc old.tokens xs ys) q.tokens;
+  before = q.before ∙ p.before;
+}
+
+-- the same of JSON that is alike
+pub same_written : {E : Type 0} {r : Result (Unit {0}) E} {old new : Written} {d e : Data} → d ≡ e
+    → WritesJson r old new d → WritesJson r old new e
+same_written {r = r} {old = old} {new = new} e w = subst (WritesJson r old new) e w
+
+-- ---- what is left to be written
+
+-- behind what is written now, the rest makes all
+pub record IsLeft (old now : Written) (rest all : List Token) : Type 0 where
+  pub tokens : now.tokens ++ rest ≡ old.tokens ++ all
+  pub before : now.before ≡ old.before
+
+pub left_begun : {E : Type 0} {u : Unit {0}} {old now : Written} {xs : List Token} (rest : List Token)
+    → WritesTokens {E = E} (Ok u) old now xs → IsLeft old now rest (xs ++ rest)
+left_begun {old = old} {xs = xs} rest w = record {
+  tokens = ap (λ (l : List Token). l ++ rest) w.tokens ∙ append_assoc old.tokens xs rest;
+  before = w.before;
+}
+
+pub left_on : {E : Type 0} {u : Unit {0}} {old now new : Written} {xs : List Token} (rest : List Token) {all : List Token}
+    → IsLeft old now (xs ++ rest) all → WritesTokens {E = E} (Ok u) now new xs → IsLeft old new rest all
+left_on {now = now} {xs = xs} rest l w = record {
+  tokens = ap (λ (l : List Token). l ++ rest) w.tokens ∙ append_assoc now.tokens xs rest ∙ l.tokens;
+  before = w.before ∙ l.before;
+}
+
+pub left_end : {E : Type 0} {r : Result (Unit {0}) E} {old now new : Written} {xs all : List Token}
+    → IsLeft old now xs all → WritesTokens r now new xs → WritesTokens r old new all
+left_end {r = r} l w = record {
+  tokens = on_ok_weaker r (λ e. e ∙ l.tokens) w.tokens;
+  before = w.before ∙ l.before;
+}
 
 -- one more of the list was written
-pub written_on : {X : Type 0} (tokens : List X → List Token) (one : List Token) (xs shown : List X) (i : ℕ) (x : X)
-    (old new all : List Token)
-    → tokens (x ∷ drop (i + 1) xs) ≡ one ++ tokens (drop (i + 1) xs) → shown ≡ xs → x ≡ get_or shown i x
-    → i < length shown → new ≡ old ++ one → old ++ tokens (drop i xs) ≡ all
-    → new ++ tokens (drop (i + 1) xs) ≡ all
-written_on tokens one xs shown i x old new all first same at within e so =
-    let rest = tokens (drop (i + 1) xs) in
+pub left_more : {E X : Type 0} {u : Unit {0}} (tokens : List X → List Token) {xs shown : List X} {i : ℕ} {x : X} {one : List Token} {old now new : Written} {all : List Token}
+    → shown ≡ xs → x ≡ get_or shown i x → i < length shown
+    → tokens (x ∷ drop (i + 1) xs) ≡ one ++ tokens (drop (i + 1) xs) → IsLeft old now (tokens (drop i xs)) all
+    → WritesTokens {E = E} (Ok u) now new one → IsLeft old new (tokens (drop (i + 1) xs)) all
+left_more tokens {xs = xs} {i = i} {x = x} {old = old} {now = now} {all = all} same at within first l w =
     let next = ap (λ l. get_or l i x) (sym same) ∙ sym at in
     let left = at_drop_more tokens xs i x (subst (λ l. i < length l) same within)
     ∙ ap (λ y. tokens (y ∷ drop (i + 1) xs)) next ∙ first in
-    ap (λ (l : List Token). l ++ rest) e ∙ append_assoc old one rest ∙ ap (λ (l : List Token). old ++ l) (sym left) ∙ so
+    left_on (tokens (drop (i + 1) xs)) (subst (λ ts. IsLeft old now ts all) left l) w

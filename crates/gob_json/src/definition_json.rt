@@ -1,12 +1,13 @@
 //! The JSON of a definition: the shape of its type.
 
-ghost use Rattle.std.specs.Prelude.{◌≡◌, ◌++◌, ◌∷◌, [], OnOk, codes};
+ghost use Rattle.std.specs.Prelude.{◌≡◌, ◌∷◌, [], codes};
 ghost use Rattle.std.specs.Option.{option_copied};
 ghost use Rattle.json.specs.Token as Token;
 ghost use Rattle.json.specs.Tree.{json_tokens, members_tokens};
 ghost use Rattle.serde_json.specs.Data.{array};
 ghost use Rattle.serde_json.specs.Written.{outline, members_outline};
 ghost use Rattle.gob_json.specs.Json.{pair_json, text_json, id_json};
+ghost use Rattle.gob_json.specs.WritesJson.{WritesJson, WritesTokens};
 ghost use Rattle.gob_json.specs.DefinitionJson.{field_types_json, marshal_name, name_member, shape_members, definition_json};
 
 use crate::leaf::write_text;
@@ -21,9 +22,7 @@ pub fn write_definition(
     shape: Option<&Shape>,
     out: &mut Writer,
 ) -> Result<(), AllocError>
-    ensures tokens { OnOk result (out.new.tokens
-        ≡ out.old.tokens ++ json_tokens (outline (definition_json id (option_copied shape.entry)))) }
-    ensures before { out.new.before ≡ out.old.before }
+    ensures { WritesJson result out.old out.new (definition_json id (option_copied shape.entry)) }
 {
     out.begin_object()?;
     write_id("define", id, out)?;
@@ -35,9 +34,7 @@ pub fn write_definition(
 
 /// Writes the members that tell the kind and the name, and the end of the object.
 fn write_shape(alloc: Global, kind: &Kind, name: &[u8], out: &mut Writer) -> Result<(), AllocError>
-    ensures tokens { OnOk result (out.new.tokens
-        ≡ out.old.tokens ++ members_tokens (members_outline (shape_members kind.now name.now))) }
-    ensures before { out.new.before ≡ out.old.before }
+    ensures { WritesTokens result out.old out.new (members_tokens (members_outline (shape_members kind.now name.now))) }
 {
     match kind {
         Kind::Basic(_) => return out.end_object(),
@@ -79,9 +76,7 @@ fn marshal_name(marshal: Marshal) -> &'static str
 
 /// Writes an array of the fields, each its name and its type.
 fn write_field_types(alloc: Global, fields: &[Field], out: &mut Writer) -> Result<(), AllocError>
-    ensures tokens { OnOk result (out.new.tokens
-        ≡ out.old.tokens ++ json_tokens (outline (array (field_types_json fields.now)))) }
-    ensures before { out.new.before ≡ out.old.before }
+    ensures { WritesJson result out.old out.new (array (field_types_json fields.now)) }
 {
     out.begin_array()?;
     for field in fields {
@@ -95,9 +90,7 @@ fn write_field_types(alloc: Global, fields: &[Field], out: &mut Writer) -> Resul
 
 /// Writes a member whose value is a type id.
 fn write_id(key: &str, id: TypeId, out: &mut Writer) -> Result<(), AllocError>
-    ensures tokens { OnOk result (out.new.tokens
-        ≡ out.old.tokens ++ Token.key key.now ∷ json_tokens (outline (id_json id))) }
-    ensures before { out.new.before ≡ out.old.before }
+    ensures { WritesTokens result out.old out.new (Token.key key.now ∷ json_tokens (outline (id_json id))) }
 {
     out.key(key)?;
     out.u64(id.0)
@@ -105,9 +98,7 @@ fn write_id(key: &str, id: TypeId, out: &mut Writer) -> Result<(), AllocError>
 
 /// Writes the member that tells the kind.
 fn write_kind(kind: &str, out: &mut Writer) -> Result<(), AllocError>
-    ensures tokens { OnOk result (out.new.tokens
-        ≡ out.old.tokens ++ Token.key (codes "kind") ∷ Token.string kind.now ∷ []) }
-    ensures before { out.new.before ≡ out.old.before }
+    ensures { WritesTokens result out.old out.new (Token.key (codes "kind") ∷ Token.string kind.now ∷ []) }
 {
     out.key("kind")?;
     out.string(kind)
@@ -115,9 +106,7 @@ fn write_kind(kind: &str, out: &mut Writer) -> Result<(), AllocError>
 
 /// Writes the name, which is a definition's last member, and the end of the object.
 fn write_name(alloc: Global, name: &[u8], out: &mut Writer) -> Result<(), AllocError>
-    ensures tokens { OnOk result (out.new.tokens
-        ≡ out.old.tokens ++ members_tokens (members_outline (name_member name.now))) }
-    ensures before { out.new.before ≡ out.old.before }
+    ensures { WritesTokens result out.old out.new (members_tokens (members_outline (name_member name.now))) }
 {
     out.key("name")?;
     write_text(alloc, name, out)?;

@@ -1,10 +1,8 @@
 //! The JSON of what has no parts: bytes, text and the patterns of floats.
 
-ghost use Rattle.std.specs.Prelude.{◌≡◌, ◌++◌, OnOk};
-ghost use Rattle.json.specs.Tree.{json_tokens};
 ghost use Rattle.serde_json.specs.Data.{object, member, no_members};
-ghost use Rattle.serde_json.specs.Written.{outline};
 ghost use Rattle.gob_json.specs.Json.{hex_json, text_json, opaque_json, pattern_json, pair_json};
+ghost use Rattle.gob_json.specs.WritesJson.{WritesJson};
 
 use json::Writer;
 use std::alloc::{AllocError, Global};
@@ -12,9 +10,7 @@ use std::str;
 
 /// Writes bytes as a string of lower case hexadecimal.
 pub(crate) fn write_hex(alloc: Global, bytes: &[u8], out: &mut Writer) -> Result<(), AllocError>
-    ensures tokens { OnOk result (out.new.tokens
-        ≡ out.old.tokens ++ json_tokens (outline (hex_json bytes.now))) }
-    ensures before { out.new.before ≡ out.old.before }
+    ensures { WritesJson result out.old out.new (hex_json bytes.now) }
 {
     let digits = hex::encode(alloc, bytes)?;
     out.string(digits.as_str())
@@ -27,9 +23,8 @@ fn write_hex_object(
     bytes: &[u8],
     out: &mut Writer,
 ) -> Result<(), AllocError>
-    ensures tokens { OnOk result (out.new.tokens
-        ≡ out.old.tokens ++ json_tokens (outline (object (member key.now (hex_json bytes.now) no_members)))) }
-    ensures before { out.new.before ≡ out.old.before }
+    ensures { WritesJson result out.old out.new
+        (object (member key.now (hex_json bytes.now) no_members)) }
 {
     out.begin_object()?;
     out.key(key)?;
@@ -39,18 +34,14 @@ fn write_hex_object(
 
 /// Writes the bytes of an opaque value.
 pub(crate) fn write_opaque(alloc: Global, bytes: &[u8], out: &mut Writer) -> Result<(), AllocError>
-    ensures tokens { OnOk result (out.new.tokens
-        ≡ out.old.tokens ++ json_tokens (outline (opaque_json bytes.now))) }
-    ensures before { out.new.before ≡ out.old.before }
+    ensures { WritesJson result out.old out.new (opaque_json bytes.now) }
 {
     write_hex_object(alloc, "opaque", bytes, out)
 }
 
 /// Writes text as a string where it is UTF-8, else as an object that holds its bytes in hexadecimal.
 pub(crate) fn write_text(alloc: Global, bytes: &[u8], out: &mut Writer) -> Result<(), AllocError>
-    ensures tokens { OnOk result (out.new.tokens
-        ≡ out.old.tokens ++ json_tokens (outline (text_json bytes.now))) }
-    ensures before { out.new.before ≡ out.old.before }
+    ensures { WritesJson result out.old out.new (text_json bytes.now) }
 {
     match str::from_utf8(bytes) {
         Ok(text) => out.string(text),
@@ -60,9 +51,7 @@ pub(crate) fn write_text(alloc: Global, bytes: &[u8], out: &mut Writer) -> Resul
 
 /// Writes the 64 bits of a float as a string of 16 digits of lower case hexadecimal.
 pub(crate) fn write_pattern(alloc: Global, pattern: u64, out: &mut Writer) -> Result<(), AllocError>
-    ensures tokens { OnOk result (out.new.tokens
-        ≡ out.old.tokens ++ json_tokens (outline (pattern_json pattern))) }
-    ensures before { out.new.before ≡ out.old.before }
+    ensures { WritesJson result out.old out.new (pattern_json pattern) }
 {
     write_hex(alloc, &pattern.to_be_bytes(), out)
 }
@@ -74,9 +63,8 @@ pub(crate) fn write_complex(
     imaginary: u64,
     out: &mut Writer,
 ) -> Result<(), AllocError>
-    ensures tokens { OnOk result (out.new.tokens
-        ≡ out.old.tokens ++ json_tokens (outline (pair_json (pattern_json real) (pattern_json imaginary)))) }
-    ensures before { out.new.before ≡ out.old.before }
+    ensures { WritesJson result out.old out.new
+        (pair_json (pattern_json real) (pattern_json imaginary)) }
 {
     out.begin_array()?;
     write_pattern(alloc, real, out)?;

@@ -1,16 +1,13 @@
 //! The JSON of a value that a tape means, written part by part as the views show it: the functions call one another
 //! down the parts, and no value is made on the way.
 
-ghost use Rattle.std.specs.Prelude.{◌≡◌, ℕ, ◌++◌, Option, OnOk};
-ghost use Rattle.json.specs.Tree.{json_tokens};
 ghost use Rattle.serde_json.specs.Data.{array};
-ghost use Rattle.serde_json.specs.Written.{outline};
-ghost use Rattle.gob_value.specs.Tree.{Tree, Trees, Pairs, Fields as Present};
-ghost use Rattle.gob_tape.specs.Seeing.{Sees, Gives, elements, alternating, present};
+ghost use Rattle.gob_tape.specs.Seeing.{Gives, elements, alternating, present};
 ghost use Rattle.gob_json.specs.Json.{value_json, elements_json, pairs_json, fields_json, put_json};
 ghost use Rattle.gob_tape.specs.Meaning.{Means};
 ghost use Rattle.gob_types.specs.Defined.{types};
-ghost use Rattle.gob_json.specs.TapeJson.{leaf_json};
+ghost use Rattle.gob_json.specs.TapeJson.{leaf_json, Shows};
+ghost use Rattle.gob_json.specs.WritesJson.{WritesJson, WritesJsonOf};
 
 use crate::leaf::{write_complex, write_hex, write_opaque, write_pattern, write_text};
 use crate::part_types::{element_of, fields_of, key_of, name_at, type_at};
@@ -29,9 +26,7 @@ pub fn write_tape(
     table: &Table,
     out: &mut Writer,
 ) -> Result<(), AllocError>
-    ensures tokens { OnOk result ((v : Tree) → Means tape.now v
-        → out.new.tokens ≡ out.old.tokens ++ json_tokens (outline (put_json (types table.now) id v))) }
-    ensures before { out.new.before ≡ out.old.before }
+    ensures { WritesJsonOf result out.old out.new (Means tape.now) (put_json (types table.now) id) }
 {
     out.begin_object()?;
     out.key("type")?;
@@ -50,9 +45,7 @@ fn write_leaf(
     bytes: &[u8],
     out: &mut Writer,
 ) -> Result<(), AllocError>
-    ensures tokens { OnOk result (out.new.tokens
-        ≡ out.old.tokens ++ json_tokens (outline (leaf_json kind first second bytes.now))) }
-    ensures before { out.new.before ≡ out.old.before }
+    ensures { WritesJson result out.old out.new (leaf_json kind first second bytes.now) }
 {
     match kind {
         ValueKind::Bool => out.boolean(first == 1),
@@ -76,9 +69,7 @@ fn write_part<S: Shapes>(
     table: &S,
     out: &mut Writer,
 ) -> Result<(), AllocError>
-    ensures tokens { OnOk result ((f : Option ℕ) (v : Tree) → Sees part.entry f v
-        → out.new.tokens ≡ out.old.tokens ++ json_tokens (outline (value_json (S.table table.now) id v))) }
-    ensures before { out.new.before ≡ out.old.before }
+    ensures { WritesJsonOf result out.old out.new (Shows part.entry) (value_json (S.table table.now) id) }
 {
     let parts = part.children();
     match part.kind() {
@@ -110,9 +101,8 @@ fn write_elements<S: Shapes>(
     table: &S,
     out: &mut Writer,
 ) -> Result<(), AllocError>
-    ensures tokens { OnOk result ((vs : Trees) → Gives parts.entry (elements vs) → out.new.tokens
-        ≡ out.old.tokens ++ json_tokens (outline (array (elements_json (S.table table.now) id vs)))) }
-    ensures before { out.new.before ≡ out.old.before }
+    ensures { WritesJsonOf result out.old out.new (λ vs. Gives parts.entry (elements vs))
+        (λ vs. array (elements_json (S.table table.now) id vs)) }
 {
     out.begin_array()?;
     for part in parts {
@@ -131,9 +121,8 @@ fn write_entries<S: Shapes>(
     table: &S,
     out: &mut Writer,
 ) -> Result<(), AllocError>
-    ensures tokens { OnOk result ((ps : Pairs) → Gives parts.entry (alternating ps) → out.new.tokens
-        ≡ out.old.tokens ++ json_tokens (outline (array (pairs_json (S.table table.now) key_id id ps)))) }
-    ensures before { out.new.before ≡ out.old.before }
+    ensures { WritesJsonOf result out.old out.new (λ ps. Gives parts.entry (alternating ps))
+        (λ ps. array (pairs_json (S.table table.now) key_id id ps)) }
 {
     out.begin_array()?;
     let mut is_key = true;
@@ -160,9 +149,8 @@ fn write_fields<S: Shapes>(
     table: &S,
     out: &mut Writer,
 ) -> Result<(), AllocError>
-    ensures tokens { OnOk result ((fs : Present) → Gives parts.entry (present fs) → out.new.tokens
-        ≡ out.old.tokens ++ json_tokens (outline (array (fields_json (S.table table.now) types.now fs)))) }
-    ensures before { out.new.before ≡ out.old.before }
+    ensures { WritesJsonOf result out.old out.new (λ fs. Gives parts.entry (present fs))
+        (λ fs. array (fields_json (S.table table.now) types.now fs)) }
 {
     out.begin_array()?;
     for part in parts {

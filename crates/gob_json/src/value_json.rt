@@ -1,11 +1,9 @@
 //! The JSON of a value, written part by part: the functions call one another down the value.
 
-ghost use Rattle.std.specs.Prelude.{◌≡◌, ◌++◌, OnOk};
-ghost use Rattle.json.specs.Tree.{json_tokens};
 ghost use Rattle.serde_json.specs.Data.{array};
-ghost use Rattle.serde_json.specs.Written.{outline};
 ghost use Rattle.gob_value.specs.View.{view, views, pair_views, field_views};
 ghost use Rattle.gob_json.specs.Json.{value_json, elements_json, pairs_json, fields_json, put_json};
+ghost use Rattle.gob_json.specs.WritesJson.{WritesJson};
 
 use crate::leaf::{write_complex, write_hex, write_opaque, write_pattern, write_text};
 use crate::part_types::{element_of, fields_of, key_of, name_at, type_at};
@@ -22,9 +20,8 @@ pub fn write_put<S: Shapes>(
     table: &S,
     out: &mut Writer,
 ) -> Result<(), AllocError>
-    ensures tokens { OnOk result (out.new.tokens
-        ≡ out.old.tokens ++ json_tokens (outline (put_json (S.table table.now) id (view value.now)))) }
-    ensures before { out.new.before ≡ out.old.before }
+    ensures { WritesJson result out.old out.new
+        (put_json (S.table table.now) id (view value.now)) }
 {
     out.begin_object()?;
     out.key("type")?;
@@ -43,9 +40,8 @@ fn write_value<S: Shapes>(
     table: &S,
     out: &mut Writer,
 ) -> Result<(), AllocError>
-    ensures tokens { OnOk result (out.new.tokens
-        ≡ out.old.tokens ++ json_tokens (outline (value_json (S.table table.now) id (view value.now)))) }
-    ensures before { out.new.before ≡ out.old.before }
+    ensures { WritesJson result out.old out.new
+        (value_json (S.table table.now) id (view value.now)) }
 {
     match value {
         Value::Bool(truth) => out.boolean(*truth),
@@ -81,9 +77,8 @@ fn write_elements<S: Shapes>(
     table: &S,
     out: &mut Writer,
 ) -> Result<(), AllocError>
-    ensures tokens { OnOk result (out.new.tokens ≡ out.old.tokens
-        ++ json_tokens (outline (array (elements_json (S.table table.now) id (views elements.now.items))))) }
-    ensures before { out.new.before ≡ out.old.before }
+    ensures { WritesJson result out.old out.new
+        (array (elements_json (S.table table.now) id (views elements.now.items))) }
 {
     out.begin_array()?;
     for element in elements {
@@ -102,10 +97,8 @@ fn write_pairs<S: Shapes>(
     table: &S,
     out: &mut Writer,
 ) -> Result<(), AllocError>
-    ensures tokens { OnOk result (out.new.tokens ≡ out.old.tokens
-        ++ json_tokens (outline (array (pairs_json (S.table table.now) key_id id
-        (pair_views pairs.now.items))))) }
-    ensures before { out.new.before ≡ out.old.before }
+    ensures { WritesJson result out.old out.new
+        (array (pairs_json (S.table table.now) key_id id (pair_views pairs.now.items))) }
 {
     out.begin_array()?;
     for (key, element) in pairs {
@@ -127,10 +120,8 @@ fn write_fields<S: Shapes>(
     table: &S,
     out: &mut Writer,
 ) -> Result<(), AllocError>
-    ensures tokens { OnOk result (out.new.tokens ≡ out.old.tokens
-        ++ json_tokens (outline (array (fields_json (S.table table.now) types.now
-        (field_views fields.now.items))))) }
-    ensures before { out.new.before ≡ out.old.before }
+    ensures { WritesJson result out.old out.new
+        (array (fields_json (S.table table.now) types.now (field_views fields.now.items))) }
 {
     out.begin_array()?;
     for (number, value) in fields {

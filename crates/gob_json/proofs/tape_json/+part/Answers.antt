@@ -1,16 +1,13 @@
 -- Part by part more is written, and less is left.
-use Rattle.std.proofs.Common.{◌≡◌, ◌∙◌, ◌++◌, ap, sym, arith, subst, Some}
-use Rattle.std.proofs.lemmas.Result.{on_ok_weaker}
-use Rattle.std.specs.Prelude.{slice_get, unwrap_or}
+use Rattle.std.proofs.Common.{◌≡◌, ◌∙◌, ap, sym, arith, subst, Some}
+use Rattle.std.specs.Prelude.{unwrap_or}
 use Rattle.json.specs.Written.{Written}
-use Rattle.json.specs.Tree.{json_tokens}
 use Rattle.serde_json.specs.Data.{array}
-use Rattle.serde_json.specs.Written.{outline}
 use Rattle.gob_types.specs.Table.{shape_of}
 use Rattle.gob_tape.specs.Seeing.{Gives, alternating, parts_of, nodes_left}
-use Rattle.gob_json.specs.Json.{value_json, elements_json, pairs_json, fields_json, key_type, natural_json, text_json, field_name, field_type}
-use Rattle.gob_json.proofs.TapeLaws.{next_is, fewer_left, elements_on, elements_end, fields_on, fields_end, entries_begun, key_turn, element_turn, entries_end, leaf_seen, as_many, as_pairs, as_fields}
-use Rattle.gob_json.proofs.WrittenLaws.{triple_written}
+use Rattle.gob_json.specs.Json.{value_json, elements_json, pairs_json, fields_json, key_type}
+use Rattle.gob_json.proofs.TapeLaws.{next_is, fewer_left, elements_on, elements_end, fields_on, fields_end, entries_begun, key_turn, element_turn, entries_end, leaf_seen, as_many, as_pairs, as_fields, field_json}
+use Rattle.gob_json.proofs.WrittenLaws.{one_written, both_written, same_written}
 use Rattle.gob_json.proofs.tape_json.+part.Goals as goal
 use Rattle.gob_json.proofs.tape_json.+part.Goals.{write_entries-then-is_key+in_ok-begin_array-2+in_ok-write_part, write_entries-else-is_key+in_ok-write_part-2+in_ok-end_array}
 
@@ -20,12 +17,14 @@ write_elements-loop-part-preserved g t c = record {
   finite = tt;
   before = c.in_ok-write_part.ensures.before ∙ c.loop-part.invariant.before;
   fewer = omega (arith, fewer_left c.next.ensures.steps c.in-Some.is, c.loop-part.invariant.fewer);
-  written = λ vs h. elements_on (c.loop-part.invariant.written vs h) (next_is c.next.ensures.steps c.in-Some.is) c.in_ok-write_part.ensures.tokens;
+  written = λ vs h. elements_on (c.loop-part.invariant.written vs h) (next_is c.next.ensures.steps c.in-Some.is) c.in_ok-write_part.ensures;
 }
 
-pub write_elements-returns-clause-tokens : goal.write_elements-returns-clause-tokens
-write_elements-returns-clause-tokens g t c =
-    on_ok_weaker c.end_array.result (λ e vs h. elements_end (c.loop-part.invariant.written vs h) (next_is c.next.ensures.steps c.in-None.is) e) c.end_array.ensures.ok
+pub write_elements-returns : goal.write_elements-returns
+write_elements-returns g t c = record {
+  before = c.end_array.ensures.room.0 ∙ c.loop-part.invariant.before;
+  each = λ vs h. elements_end (c.loop-part.invariant.written vs h) (next_is c.next.ensures.steps c.in-None.is) (one_written c.end_array.ensures);
+}
 
 pub write_entries-loop-part-init : goal.write_entries-loop-part-init
 write_entries-loop-part-init g t c =
@@ -34,7 +33,7 @@ write_entries-loop-part-init g t c =
       finite = tt;
       before = c.in_ok-begin_array.ensures.room.0;
       fewer = omega (arith, ap nodes_left same);
-      written = λ ps h. entries_begun c.args.out.now.tokens ps c.in_ok-begin_array.ensures.ok (subst (λ p. Gives p (alternating ps)) (sym same) h);
+      written = λ ps h. entries_begun ps (one_written c.in_ok-begin_array.ensures) (subst (λ p. Gives p (alternating ps)) (sym same) h);
     }
 
 pub write_entries-loop-part-preserved : goal.write_entries-loop-part-preserved
@@ -48,17 +47,19 @@ write_entries-loop-part-preserved g t c = record {
   fewer = omega (arith, fewer_left c.next.ensures.steps c.in-Some.is, c.loop-part.invariant.fewer);
   written = λ ps h. elim c.if-is_key.branch [
     | write_entries-then-is_key+in_ok-begin_array-2+in_ok-write_part w ↦
-        key_turn w.if-is_key.true (c.loop-part.invariant.written ps h) (next_is c.next.ensures.steps c.in-Some.is) w.in_ok-begin_array-2.ensures.ok
-        (λ f v s. ap (λ (o : Written). o.tokens) w.out-is ∙ w.in_ok-write_part.ensures.tokens f v s)
+        key_turn w.out-is w.if-is_key.true (c.loop-part.invariant.written ps h) (next_is c.next.ensures.steps c.in-Some.is)
+        (one_written w.in_ok-begin_array-2.ensures) w.in_ok-write_part.ensures
     | write_entries-else-is_key+in_ok-write_part-2+in_ok-end_array w ↦
-        element_turn w.if-is_key.false (c.loop-part.invariant.written ps h) (next_is c.next.ensures.steps c.in-Some.is) w.in_ok-write_part-2.ensures.tokens
-        (ap (λ (o : Written). o.tokens) w.out-is ∙ w.in_ok-end_array.ensures.ok)
+        element_turn w.out-is w.if-is_key.false (c.loop-part.invariant.written ps h) (next_is c.next.ensures.steps c.in-Some.is)
+        w.in_ok-write_part-2.ensures (one_written w.in_ok-end_array.ensures)
   ];
 }
 
-pub write_entries-returns-clause-tokens : goal.write_entries-returns-clause-tokens
-write_entries-returns-clause-tokens g t c =
-    on_ok_weaker c.end_array-2.result (λ e ps h. entries_end (c.loop-part.invariant.written ps h) (next_is c.next.ensures.steps c.in-None.is) e) c.end_array-2.ensures.ok
+pub write_entries-returns : goal.write_entries-returns
+write_entries-returns g t c = record {
+  before = c.end_array-2.ensures.room.0 ∙ c.loop-part.invariant.before;
+  each = λ ps h. entries_end (c.loop-part.invariant.written ps h) (next_is c.next.ensures.steps c.in-None.is) (one_written c.end_array-2.ensures);
+}
 
 pub write_fields-loop-part-preserved : goal.write_fields-loop-part-preserved
 write_fields-loop-part-preserved g t c =
@@ -78,54 +79,64 @@ write_fields-loop-part-preserved g t c =
           fields_on (c.loop-part.invariant.written fs h) (next_is c.next.ensures.steps c.in-Some.is)
           (λ f v s.
           let is : n ≡ f = c.unwrap_or-number.ensures ∙ ap (λ o. unwrap_or o 0) (c.field.ensures (Some f) v s) in
-          triple_written c.loop-part.out.tokens c.begin_array-in-loop-part.new.self.tokens (natural_json f) (text_json (field_name (slice_get types f)))
-          begun.ok (value_json T (field_type (slice_get types f)) v) c.u64.new.self.tokens c.write_text.new.out.tokens c.write_part.new.out.tokens c.end_array.new.self.tokens
-          (number.ok ∙ ap (λ n. c.begin_array-in-loop-part.new.self.tokens ++ json_tokens (outline (natural_json n))) is)
-          (text.tokens ∙ ap (λ b. c.u64.new.self.tokens ++ json_tokens (outline (text_json b))) (c.name_at.ensures ∙ ap (λ n. field_name (slice_get types n)) is))
-          (shown.tokens (Some f) v s ∙ ap (λ t. c.write_text.new.out.tokens ++ json_tokens (outline (value_json T t v))) (c.type_at.ensures ∙ ap (λ n. field_type (slice_get types n)) is))
-          ended.ok);
+          same_written (ap (λ n. field_json T types n v) is)
+          (both_written (one_written begun) (both_written (one_written number)
+          (both_written (rw c.name_at.ensures at text) (both_written (rw c.type_at.ensures at (shown.each v (Some f, s)))
+          (one_written ended))))));
     }
 
-pub write_fields-returns-clause-tokens : goal.write_fields-returns-clause-tokens
-write_fields-returns-clause-tokens g t c =
-    on_ok_weaker c.end_array-2.result (λ e fs h. fields_end (c.loop-part.invariant.written fs h) (next_is c.next.ensures.steps c.in-None.is) e) c.end_array-2.ensures.ok
+pub write_fields-returns : goal.write_fields-returns
+write_fields-returns g t c = record {
+  before = c.end_array-2.ensures.room.0 ∙ c.loop-part.invariant.before;
+  each = λ fs h. fields_end (c.loop-part.invariant.written fs h) (next_is c.next.ensures.steps c.in-None.is) (one_written c.end_array-2.ensures);
+}
 
-pub write_part-returns-in-Many-clause-tokens : goal.write_part-returns-in-Many-clause-tokens
-write_part-returns-in-Many-clause-tokens g t c =
-    let T = g.S.Shapes.table c.args.table.now in
-    on_ok_weaker c.write_elements.result
-    (λ w f v s.
-    let a = as_many v (sym c.in-Many.is ∙ c.kind.ensures f v s) in
-    w a.parts (subst (λ v. Gives c.children-parts.result (parts_of v)) a.is (c.children-parts.ensures.parts f v s))
-    ∙ ap (λ d. c.args.out.now.tokens ++ json_tokens (outline d)) (ap (λ e. array (elements_json T e a.parts)) c.element_of.ensures ∙ ap (value_json T c.args.id) (sym a.is)))
-    c.write_elements.ensures.tokens
+pub write_part-returns-in-Many : goal.write_part-returns-in-Many
+write_part-returns-in-Many g t c =
+    let T = g.S.Shapes.table c.args.table.now in record {
+      before = c.write_elements.ensures.before;
+      each = λ v s.
+          let a = as_many v (sym c.in-Many.is ∙ c.kind.ensures s.0 v s.1) in
+          same_written
+          (ap (λ e. array (elements_json T e a.parts)) c.element_of.ensures ∙ ap (value_json T c.args.id) (sym a.is))
+          (c.write_elements.ensures.each a.parts
+          (subst (λ v. Gives c.children-parts.result (parts_of v)) a.is (c.children-parts.ensures.parts s.0 v s.1)));
+    }
 
-pub write_part-returns-in-Pairs-clause-tokens : goal.write_part-returns-in-Pairs-clause-tokens
-write_part-returns-in-Pairs-clause-tokens g t c =
-    let T = g.S.Shapes.table c.args.table.now in
-    on_ok_weaker c.write_entries.result
-    (λ w f v s.
-    let a = as_pairs v (sym c.in-Pairs.is ∙ c.kind.ensures f v s) in
-    w a.parts (subst (λ v. Gives c.children-parts.result (parts_of v)) a.is (c.children-parts.ensures.parts f v s))
-    ∙ ap (λ d. c.args.out.now.tokens ++ json_tokens (outline d)) (ap (λ k. array (pairs_json T k c.element_of-in-Pairs.result a.parts)) c.key_of.ensures ∙ ap (λ e. array (pairs_json T (key_type (shape_of T c.args.id)) e a.parts)) c.element_of-in-Pairs.ensures ∙ ap (value_json T c.args.id) (sym a.is)))
-    c.write_entries.ensures.tokens
+pub write_part-returns-in-Pairs : goal.write_part-returns-in-Pairs
+write_part-returns-in-Pairs g t c =
+    let T = g.S.Shapes.table c.args.table.now in record {
+      before = c.write_entries.ensures.before;
+      each = λ v s.
+          let a = as_pairs v (sym c.in-Pairs.is ∙ c.kind.ensures s.0 v s.1) in
+          same_written
+          (ap (λ k. array (pairs_json T k c.element_of-in-Pairs.result a.parts)) c.key_of.ensures
+          ∙ ap (λ e. array (pairs_json T (key_type (shape_of T c.args.id)) e a.parts)) c.element_of-in-Pairs.ensures
+          ∙ ap (value_json T c.args.id) (sym a.is))
+          (c.write_entries.ensures.each a.parts
+          (subst (λ v. Gives c.children-parts.result (parts_of v)) a.is (c.children-parts.ensures.parts s.0 v s.1)));
+    }
 
-pub write_part-returns-in-Fields-clause-tokens : goal.write_part-returns-in-Fields-clause-tokens
-write_part-returns-in-Fields-clause-tokens g t c =
-    let T = g.S.Shapes.table c.args.table.now in
-    on_ok_weaker c.write_fields.result
-    (λ w f v s.
-    let a = as_fields v (sym c.in-Fields.is ∙ c.kind.ensures f v s) in
-    w a.parts (subst (λ v. Gives c.children-parts.result (parts_of v)) a.is (c.children-parts.ensures.parts f v s))
-    ∙ ap (λ d. c.args.out.now.tokens ++ json_tokens (outline d)) (ap (λ l. array (fields_json T l a.parts)) c.fields_of.ensures ∙ ap (value_json T c.args.id) (sym a.is)))
-    c.write_fields.ensures.tokens
+pub write_part-returns-in-Fields : goal.write_part-returns-in-Fields
+write_part-returns-in-Fields g t c =
+    let T = g.S.Shapes.table c.args.table.now in record {
+      before = c.write_fields.ensures.before;
+      each = λ v s.
+          let a = as_fields v (sym c.in-Fields.is ∙ c.kind.ensures s.0 v s.1) in
+          same_written
+          (ap (λ l. array (fields_json T l a.parts)) c.fields_of.ensures ∙ ap (value_json T c.args.id) (sym a.is))
+          (c.write_fields.ensures.each a.parts
+          (subst (λ v. Gives c.children-parts.result (parts_of v)) a.is (c.children-parts.ensures.parts s.0 v s.1)));
+    }
 
 pub write_part-returns-in_default : goal.write_part-returns-in_default
 write_part-returns-in_default g t c =
     let T = g.S.Shapes.table c.args.table.now in record {
-      tokens = on_ok_weaker c.write_leaf.result
-          (λ w f v s. w ∙ ap (λ d. c.args.out.now.tokens ++ json_tokens (outline d))
-          (leaf_seen T c.args.id v c.kind.result c.numbers-first.result c.bytes.result.now (c.kind.ensures f v s) (c.numbers-first.ensures f v s) (c.bytes.ensures f v s) c.in_default.not-Many c.in_default.not-Pairs c.in_default.not-Fields))
-          c.write_leaf.ensures.tokens;
       before = c.write_leaf.ensures.before;
+      each = λ v s.
+          same_written
+          (leaf_seen T c.args.id v c.kind.result c.numbers-first.result c.bytes.result.now (c.kind.ensures s.0 v s.1)
+          (c.numbers-first.ensures s.0 v s.1) (c.bytes.ensures s.0 v s.1) c.in_default.not-Many c.in_default.not-Pairs
+          c.in_default.not-Fields)
+          c.write_leaf.ensures;
     }

@@ -1,5 +1,5 @@
 -- What is written, and what the parts that are left would write, is what all would write.
-use Rattle.std.proofs.Common.{◌≡◌, ◌+◌, ◌*◌, ◌≤◌, ◌++◌}
+use Rattle.std.proofs.Common.{◌≡◌, ◌+◌, ◌*◌, ◌≤◌}
 use Rattle.json.specs.Tree.{json_tokens}
 use Rattle.serde_json.specs.Data.{array}
 use Rattle.serde_json.specs.Written.{outline}
@@ -28,8 +28,8 @@ invariant-write_elements-loop-part g l = record {
   before : l.out.before ≡ l.fn.out.before;
   fewer : nodes_left l.part-iterator ≤ nodes_left l.fn.parts;
   written : (vs : Trees) → Gives l.fn.parts (elements vs)
-      → ElementsLeft (g.S.Shapes.table l.table) l.id l.part-iterator l.out.tokens
-      (l.fn.out.tokens ++ json_tokens (outline (array (elements_json (g.S.Shapes.table l.table) l.id vs))));
+      → ElementsLeft (g.S.Shapes.table l.table) l.id l.part-iterator l.fn.out l.out
+      (json_tokens (outline (array (elements_json (g.S.Shapes.table l.table) l.id vs))));
 }
 
 abbrev pub invariant-write_entries-loop-part : goal.invariant-write_entries-loop-part
@@ -39,8 +39,8 @@ invariant-write_entries-loop-part g l = record {
   before : l.out.before ≡ l.fn.out.before;
   fewer : nodes_left l.part-iterator ≤ nodes_left l.fn.parts;
   written : (ps : Pairs) → Gives l.fn.parts (alternating ps)
-      → EntriesLeft (g.S.Shapes.table l.table) l.key_id l.id l.part-iterator l.out.tokens
-      (l.fn.out.tokens ++ json_tokens (outline (array (pairs_json (g.S.Shapes.table l.table) l.key_id l.id ps)))) l.is_key;
+      → EntriesLeft (g.S.Shapes.table l.table) l.key_id l.id l.part-iterator l.fn.out l.out
+      (json_tokens (outline (array (pairs_json (g.S.Shapes.table l.table) l.key_id l.id ps)))) l.is_key;
 }
 
 abbrev pub invariant-write_fields-loop-part : goal.invariant-write_fields-loop-part
@@ -50,6 +50,6 @@ invariant-write_fields-loop-part g l = record {
   before : l.out.before ≡ l.fn.out.before;
   fewer : nodes_left l.part-iterator ≤ nodes_left l.fn.parts;
   written : (fs : Fields) → Gives l.fn.parts (present fs)
-      → FieldsLeft (g.S.Shapes.table l.table) l.types l.part-iterator l.out.tokens
-      (l.fn.out.tokens ++ json_tokens (outline (array (fields_json (g.S.Shapes.table l.table) l.types fs))));
+      → FieldsLeft (g.S.Shapes.table l.table) l.types l.part-iterator l.fn.out l.out
+      (json_tokens (outline (array (fields_json (g.S.Shapes.table l.table) l.types fs))));
 }

@@ -1,7 +1,6 @@
-use Rattle.std.proofs.Common.{List, [], ◌∷◌, ap, ◌≡◌, ◌∙◌, ◌++◌, sym, rules, w64}
+use Rattle.std.proofs.Common.{[], ◌∷◌, ap, ◌≡◌, ◌∙◌, sym, subst, rules, w64}
 use Rattle.std.specs.Fmt.{signed_decimal}
 use Rattle.std.proofs.lemmas.Int.{to_z-of_z}
-use Rattle.std.proofs.lemmas.Result.{on_ok_weaker}
 use Rattle.json.specs.Token.{Token}
 use Rattle.json.specs.Tree.{json_tokens}
 use Rattle.serde_json.specs.Written.{outline}
@@ -9,10 +8,16 @@ use Rattle.gob_read.specs.Leaf.{signed_of}
 use Rattle.gob_read.proofs.PublicLaws.{signed_is}
 use Rattle.gob_json.specs.Json.{integer_json}
 use Rattle.gob_json.specs.TapeJson.{leaf_json}
+use Rattle.gob_json.specs.WritesJson.{WritesTokens}
 use Rattle.gob_json.proofs.TapeLaws.{integer_token}
+use Rattle.gob_json.proofs.WrittenLaws.{one_written}
 use Rattle.gob_json.proofs.tape_json.write_leaf.Goals as goal
 
-pub returns-in-Int-clause-tokens : goal.returns-in-Int-clause-tokens
-returns-in-Int-clause-tokens c =
+pub returns-in-Int : goal.returns-in-Int
+returns-in-Int c =
     let is : c.to_signed.result ≡ signed_of c.args.first = signed_is c.args.first c.to_signed.result c.ranges.first.fits c.to_signed.ensures in
-    on_ok_weaker c.i64.result (λ w. w ∙ ap (λ i. c.args.out.now.tokens ++ Token.number (signed_decimal i) ∷ []) (to_z-of_z w64 c.to_signed.result (search rules)) ∙ ap (λ (l : List Token). c.args.out.now.tokens ++ l) (integer_token c.to_signed.result) ∙ ap (λ i. c.args.out.now.tokens ++ json_tokens (outline (integer_json i))) is ∙ ap (λ k. c.args.out.now.tokens ++ json_tokens (outline (leaf_json k c.args.first c.args.second c.args.bytes.now))) (sym c.in-Int.is)) c.i64.ensures.ok
+    subst (WritesTokens c.i64.result c.args.out.now c.i64.new.self)
+    (ap (λ i. Token.number (signed_decimal i) ∷ []) (to_z-of_z w64 c.to_signed.result (search rules))
+    ∙ integer_token c.to_signed.result ∙ ap (λ i. json_tokens (outline (integer_json i))) is
+    ∙ ap (λ k. json_tokens (outline (leaf_json k c.args.first c.args.second c.args.bytes.now))) (sym c.in-Int.is))
+    (one_written c.i64.ensures)
