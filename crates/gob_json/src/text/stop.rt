@@ -1,7 +1,7 @@
 //! Why the text of a value was not written whole.
 
 use gob_num::Memory;
-use std::alloc::AllocFailed;
+use std::alloc::{AllocError, AllocFailed};
 
 /// What ends the writing of a text before its end. A front of the text stands then.
 #[derive(Clone, Copy, Debug, PartialEq, Eq)]
@@ -19,6 +19,17 @@ impl From<Memory> for Stop {
     ghost from_gives = { λ _ stop. stop ≡ no_memory };
 
     fn from(_: Memory) -> Stop {
+        Stop::Memory
+    }
+}
+
+impl From<AllocError> for Stop {
+    ghost use Rattle.std.specs.Prelude.{◌≡◌};
+    ghost use Rattle.gob_json.specs.declared.text.stop.Stop.TheVariants.{Memory as no_memory};
+
+    ghost from_gives = { λ _ stop. stop ≡ no_memory };
+
+    fn from(_: AllocError) -> Stop {
         Stop::Memory
     }
 }

@@ -1,6 +1,6 @@
 //! The text of a whole item's value, and its line.
 
-ghost use Rattle.std.specs.Prelude.{◌≡◌, ◌≤◌, ◌++◌, ◌∷◌, [], IsTrue, IfOk, IfSome, OnErr, false, drop, length};
+ghost use Rattle.std.specs.Prelude.{◌≡◌, ◌≤◌, ◌++◌, ◌∷◌, [], IsTrue, IfOk, IfSome, OnErr, OnOk, false, drop, length};
 ghost use Rattle.serde_json.specs.Written.{compact_text};
 ghost use Rattle.gob_value.specs.Spelling.{Spells};
 ghost use Rattle.gob_value.specs.Top.{SpellsTop};
@@ -21,31 +21,30 @@ use std::mem;
 // How deep a value may be whose text is written: each level is a call within a call.
 const MOST_DEPTH: u64 = 1000;
 
-// Appends the text of the JSON of the value of the type that the body spells behind its tag, if it has one. True says
-/// that the body is such a value, no deeper than `depth`, and that its text stands. False says nothing: the body may
-/// be a value all the same, of a depth above 1000. After false or [`Memory`] a front of some text is appended.
+// Appends the text of the JSON of the value of the type that the body spells behind its tag. Ok says that the body is
+// such a value, no deeper than `depth`, and that its text stands. `NotWhole` says nothing: the body may be a value all
+// the same, of a depth above 1000. After an error a front of some text is appended.
 fn text_of_whole<S: Shapes>(
     shapes: &S,
     id: TypeId,
     body: &[u8],
     depth: u64,
     out: &mut Vec<u8>,
-) -> Result<bool, Memory>
-    ensures { IfOk result (λ done. IsTrue done
-        → TextOfWhole (S.table shapes.now) id depth body.now out.old.items out.new.items) }
+) -> Result<(), Stop>
+    ensures { OnOk result (TextOfWhole (S.table shapes.now) id depth body.now out.old.items out.new.items) }
 {
     let Some(shape) = shapes.shape_of(id) else {
-        return Ok(false);
+        return Err(Stop::NotWhole);
     };
     let Some(begin) = behind_tag(&shape.kind, body) else {
-        return Ok(false);
+        return Err(Stop::NotWhole);
     };
     let most = depth.min(MOST_DEPTH);
-    match put_value(shapes, &shape.kind, body, begin, most, out) {
-        Ok(end) => Ok(end == body.len()),
-        Err(Stop::NotWhole) => Ok(false),
-        Err(Stop::Memory) => Err(Memory),
+    let end = put_value(shapes, &shape.kind, body, begin, most, out)?;
+    if end != body.len() {
+        return Err(Stop::NotWhole);
     }
+    Ok(())
 }
 
 // Where the value begins: behind the tag, which a struct doesn't have.
@@ -78,39 +77,51 @@ pub fn line_of_whole<S: Shapes>(
     ensures same { IfOk result (λ done. done ≡ false → out.new.items ≡ out.old.items) }
     ensures err { OnErr result (out.new.items ≡ out.old.items) }
 {
+    match append_line(shapes, id, body, depth, room, out) {
+        Ok(()) => Ok(true),
+        Err(Stop::NotWhole) => Ok(false),
+        Err(Stop::Memory) => Err(Memory),
+    }
+}
+
+// Appends the line. After an error the lines are as before.
+fn append_line<S: Shapes>(
+    shapes: &S,
+    id: TypeId,
+    body: &[u8],
+    depth: u64,
+    room: &mut Vec<u8>,
+    out: &mut Vec<u8>,
+) -> Result<(), Stop>
+    ensures ok { OnOk result (LineOfWhole (S.table shapes.now) id depth body.now out.old.items out.new.items) }
+    ensures err { OnErr result (out.new.items ≡ out.old.items) }
+{
     room.clear();
     if body.len() > out.len() {
         room.extend_from_slice(out)?;
         let made = put_line(shapes, id, body, depth, out);
-        if made != Ok(true) {
+        if made.is_err() {
             mem::swap(room, out);
         }
         return made;
     }
-    if !put_line(shapes, id, body, depth, room)? {
-        return Ok(false);
-    }
-    out.extend_from_slice(room)?;
-    Ok(true)
+    put_line(shapes, id, body, depth, room)?;
+    Ok(out.extend_from_slice(room)?)
 }
 
-// Appends the line. After false or [`Memory`] a front of some text is appended.
+// Appends the line. After an error a front of some text is appended.
 fn put_line<S: Shapes>(
     shapes: &S,
     id: TypeId,
     body: &[u8],
     depth: u64,
     out: &mut Vec<u8>,
-) -> Result<bool, Memory>
-    ensures { IfOk result (λ done. IsTrue done
-        → LineOfWhole (S.table shapes.now) id depth body.now out.old.items out.new.items) }
+) -> Result<(), Stop>
+    ensures { OnOk result (LineOfWhole (S.table shapes.now) id depth body.now out.old.items out.new.items) }
 {
     put_head(id, out)?;
-    if !text_of_whole(shapes, id, body, depth, out)? {
-        return Ok(false);
-    }
-    out.extend_from_slice(b"}\n")?;
-    Ok(true)
+    text_of_whole(shapes, id, body, depth, out)?;
+    Ok(out.extend_from_slice(b"}\n")?)
 }
 
 /// Puts out what stands before the value.

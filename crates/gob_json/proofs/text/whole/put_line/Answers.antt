@@ -3,6 +3,5 @@ use Rattle.gob_json.proofs.LineLaws.{whole_line}
 use Rattle.gob_json.proofs.text.whole.put_line.Goals as goal
 
 pub returns : goal.returns
-returns g c = λ done.
-    whole_line _ _ _ _ c.in_ok-put_head.ensures (c.in_ok-text_of_whole.ensures c.if-not-branch.false)
-    c.in_ok-extend_from_slice.ensures.items
+returns g c =
+    whole_line _ _ _ _ c.in_ok-put_head.ensures c.in_ok-text_of_whole.ensures c.in_ok-extend_from_slice.ensures.items
