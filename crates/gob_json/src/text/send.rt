@@ -78,7 +78,7 @@ fn send_elements<S: Shapes, O: TextOut>(
     ensures inside { IfOk result (λ end. end ≤ length body.now) }
 {
     let (count, behind) = number_from(body, begin);
-    let basic = basic_of(shapes, elem);
+    let basic = shapes.basic_of(elem);
     out.put(b"[")?;
     let mut at = behind;
     'elements: for index in 0..count {
@@ -111,14 +111,6 @@ fn send_part<S: Shapes, O: TextOut>(
         Some(basic) => send_basic(basic, body, at, out),
         None => send_value(shapes, id, body, at, depth, out),
     }
-}
-
-// The basic type that the type is, if it is one.
-#[inline(always)]
-fn basic_of<S: Shapes>(shapes: &S, id: TypeId) -> Option<Basic>
-    ensures { IfSome result (λ basic. IsOfKind (S.table shapes.now) id (kinds.Basic basic)) }
-{
-    shapes.basic_of(id)
 }
 
 // Puts out the text of the pairs of a key and an element that stand behind their count.
@@ -228,7 +220,7 @@ fn send_field<S: Shapes, O: TextOut>(
     ensures inside { IfOk result (λ end. end ≤ length body.now) }
 {
     put_field_head(later, number, field.name.as_bytes(), out)?;
-    let basic = basic_of(shapes, field.id);
+    let basic = shapes.basic_of(field.id);
     let end = send_part(shapes, field.id, basic, body, at, depth, out)?;
     out.put(b"]").and(Ok(end))
 }
