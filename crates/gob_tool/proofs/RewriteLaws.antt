@@ -32,6 +32,7 @@ use Rattle.gob_stream.specs.Bounds.{Bounds, deepest, no_deeper, within_trees}
 use Rattle.gob_stream.specs.Item.{StreamItem, defines, puts, ItemMeans, means_definition, means_value}
 use Rattle.gob_stream.specs.Stream.{no_more, and_then, IsItem, counted, Stream}
 use Rattle.gob_stream.specs.Writing.{HasWritten, WritesNext, Leaves, IsSpelledAs, IsSpelling}
+use Rattle.gob_stream.specs.Writing.{writer_limits, writer_types}
 use Rattle.gob_stream.proofs.PublicLaws.{not_counted, one_counted}
 use Rattle.gob_stream.proofs.PublicLaws.{counted_prefix, one_more}
 use Rattle.gob_stream.proofs.PublicLaws.{wire_ready}
@@ -39,8 +40,8 @@ use Rattle.gob_tape.specs.declared.tape.Tape.{Tape}
 use Rattle.gob_tape.specs.declared.tape_builder.TapeBuilder.{TapeBuilder}
 use Rattle.gob_tape.specs.Meaning.{Means, MeansFitting}
 use Rattle.gob_tool.specs.Rewriting.{content, content_type, with_content, AreItemsTidied, no_item, and_item}
-use Rattle.gob_tool.specs.Machine.Rewritten.{IsTape, bounds_for, StandsThere, IsOfStream, WritesForm, HasRewritten, ComesNext}
-use Rattle.gob_tool.specs.Machine.Rewritten.{IsNextTape, SpellsTidy, Pushes, GoesOnRewriting, IsTidiedItem}
+use Rattle.gob_tool.specs.Machine.Rewritten.{IsTape, bounds_for, StandsThere, StandsNext, IsOfStream, WritesForm, WritesTidy, HasRewritten}
+use Rattle.gob_tool.specs.Machine.Rewritten.{ComesNext, IsNextTape, SpellsTidy, Pushes, GoesOnRewriting, IsTidiedItem}
 use Rattle.gob_tool.specs.Showing.{AppendsFront}
 use Rattle.gob_tool.proofs.LinesStay.{stream_keeps, keeps_on}
 use Rattle.gob_tool.proofs.TidyStays.{tidies_on, tidies_back, CountedShort, form_counted}
@@ -201,19 +202,19 @@ module _ {s : SessionState TapeBuilder Tape} {w : StreamWriter} {h : HasRewritte
     later = no_more;
   }
 
-  pub stands_there : StandsThere (no_deeper deepest w.limits) (types w.types) U i
-  stands_there = subst (λ (L : Bounds). StandsThere (no_deeper deepest L) (types w.types) U i) (sym h.limits)
+  pub next_stands : StandsNext w U i
+  next_stands = subst (λ (L : Bounds). StandsThere (no_deeper deepest L) (writer_types w) U i) (sym h.limits)
       (subst (λ (T : Table). StandsThere (no_deeper deepest s.limits) T U i) (sym h.has.table) there)
 
   -- what was written of the item
   abbrev pub WritesIt : StreamWriter → (old new : Option (List ℕ)) → Result (Unit {0}) WriteFault → Type 0
-  WritesIt w' old new r = r ≢ Err write.Memory → WritesForm w.limits (types w.types) w w' i old new r
+  WritesIt w' old new r = r ≢ Err write.Memory → WritesTidy w w' i old new r
 
   wrote : {w' : StreamWriter} {old new : Option (List ℕ)} {r : Result (Unit {0}) WriteFault} → WritesIt w' old new r
       → r ≢ Err write.Memory → WritesForm s.limits (types s.types) w w' i old new r
   wrote {w' = w'} {old = old} {new = new} {r = r} writes other =
       subst (λ (L : Bounds). WritesForm L (types s.types) w w' i old new r) h.limits
-      (subst (λ (T : Table). WritesForm w.limits T w w' i old new r) h.has.table (writes other))
+      (subst (λ (T : Table). WritesForm (writer_limits w) T w w' i old new r) h.has.table (writes other))
 
   can_stand : (form : Tree) → Tidies (types s.types) (content_type i) (content i) form
       → Fits (types s.types) (content_type i) form
@@ -296,8 +297,8 @@ module _ {s : SessionState TapeBuilder Tape} {w : StreamWriter} {h : HasRewritte
   pushes_as u e f p = (p.0, sym f ∙ p.1 ∙ ap (λ (l : List ℕ). l ++ p.0.more) e)
 
 pub of_stream : {s : SessionState TapeBuilder Tape} {w : StreamWriter} {h : HasRewritten s w} {U : Table}
-    {g : declared.Item Tape} → IsNextTape h U g → IsOfStream (no_deeper deepest w.limits) (types w.types) U g
-of_stream n = record { item = n.item; meant = n.meant; there = stands_there n.next }
+    {g : declared.Item Tape} → IsNextTape h U g → IsOfStream w U g
+of_stream n = record { item = n.item; meant = n.meant; next = next_stands n.next }
 
 -- a front of a value went out
 pub cut_out : {s : SessionState TapeBuilder Tape} {w : StreamWriter} {h : HasRewritten s w} {t : TypeId} {v : Tree} {U : Table}

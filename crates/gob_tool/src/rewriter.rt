@@ -8,13 +8,12 @@ ghost use Rattle.gob_value.specs.Tree.{Tree};
 ghost use Rattle.gob_value.specs.View.{view};
 ghost use Rattle.gob_stream.specs.Ends.{failed_writes, writer_of};
 ghost use Rattle.gob_stream.specs.Machine.SessionState.{SessionState};
-ghost use Rattle.gob_stream.specs.Bounds.{deepest, no_deeper};
 ghost use Rattle.gob_tape.specs.declared.tape_builder.TapeBuilder.{TapeBuilder};
 ghost use Rattle.gob_stream.specs.Item.{StreamItem, ItemMeans, defines, puts};
 ghost use Rattle.gob_stream.specs.Writing.{IsNew, Leaves, CountsWriterFaults};
 ghost use Rattle.gob_tool.specs.Machine.Gathering.{Passes, Writes, CountsWrites, CountsOnlyWrites};
-ghost use Rattle.gob_tool.specs.Machine.Rewritten.{IsTape, StandsThere, IsOfStream, WritesForm, HasRewritten, IsNextTape};
-ghost use Rattle.gob_tool.specs.Machine.Rewritten.{SpellsTidy, IsTidyNext, Pushes, PushesOut, PutsOut};
+ghost use Rattle.gob_tool.specs.Machine.Rewritten.{IsTape, StandsNext, IsOfStream, WritesTidy, HasRewritten};
+ghost use Rattle.gob_tool.specs.Machine.Rewritten.{IsNextTape, SpellsTidy, IsTidyNext, Pushes, PushesOut, PutsOut};
 
 use crate::fault::ToolFault;
 use crate::lines::write_whole;
@@ -239,10 +238,9 @@ fn write_as_spelled<W: Write>(
     output: &mut Output<W>,
 ) -> Result<(), WriteFault>
     requires { (v : Tree) × SpellsTidy (types table.now) id v body.now
-        × StandsThere (no_deeper deepest writer.old.limits) (types writer.old.types) (types table.now) (puts id v) }
+        × StandsNext writer.old (types table.now) (puts id v) }
     ensures written { (v : Tree) → SpellsTidy (types table.now) id v body.now
-        → StandsThere (no_deeper deepest writer.old.limits) (types writer.old.types) (types table.now) (puts id v)
-        → WritesForm writer.old.limits (types writer.old.types) writer.old writer.new (puts id v)
+        → StandsNext writer.old (types table.now) (puts id v) → WritesTidy writer.old writer.new (puts id v)
         (W.contents (writer_of output.old)) (W.contents (writer_of output.new)) result }
     ensures leaves { Leaves writer.old writer.new
         (W.contents (writer_of output.old)) (W.contents (writer_of output.new)) result }
@@ -275,11 +273,9 @@ fn write_tidy<W: Write>(
     spelling: &mut Vec<u8>,
     output: &mut Output<W>,
 ) -> Result<(), WriteFault>
-    requires { IsOfStream (no_deeper deepest writer.old.limits) (types writer.old.types) (types table.now) item }
-    ensures written { (i : StreamItem) → ItemMeans IsTape item i
-        → StandsThere (no_deeper deepest writer.old.limits) (types writer.old.types) (types table.now) i
-        → result ≢ Err WriteFault.Memory
-        → WritesForm writer.old.limits (types writer.old.types) writer.old writer.new i
+    requires { IsOfStream writer.old (types table.now) item }
+    ensures written { (i : StreamItem) → ItemMeans IsTape item i → StandsNext writer.old (types table.now) i
+        → result ≢ Err WriteFault.Memory → WritesTidy writer.old writer.new i
         (W.contents (writer_of output.old)) (W.contents (writer_of output.new)) result }
     ensures leaves { Leaves writer.old writer.new
         (W.contents (writer_of output.old)) (W.contents (writer_of output.new)) result }
@@ -305,10 +301,8 @@ fn write_tidy_definition<W: Write>(
     writer: &mut StreamWriter,
     output: &mut Output<W>,
 ) -> Result<(), WriteFault>
-    requires { StandsThere (no_deeper deepest writer.old.limits) (types writer.old.types) (types table.now)
-        (defines id (view described)) }
-    ensures written { result ≢ Err WriteFault.Memory → WritesForm writer.old.limits (types writer.old.types)
-        writer.old writer.new (defines id (view described))
+    requires { StandsNext writer.old (types table.now) (defines id (view described)) }
+    ensures written { result ≢ Err WriteFault.Memory → WritesTidy writer.old writer.new (defines id (view described))
         (W.contents (writer_of output.old)) (W.contents (writer_of output.new)) result }
     ensures leaves { Leaves writer.old writer.new
         (W.contents (writer_of output.old)) (W.contents (writer_of output.new)) result }
@@ -329,12 +323,9 @@ fn write_tidy_value<W: Write>(
     spelling: &mut Vec<u8>,
     output: &mut Output<W>,
 ) -> Result<(), WriteFault>
-    requires { (v : Tree) × IsTape tape.now v
-        × StandsThere (no_deeper deepest writer.old.limits) (types writer.old.types) (types table.now) (puts id v) }
-    ensures written { (v : Tree) → IsTape tape.now v
-        → StandsThere (no_deeper deepest writer.old.limits) (types writer.old.types) (types table.now) (puts id v)
-        → result ≢ Err WriteFault.Memory
-        → WritesForm writer.old.limits (types writer.old.types) writer.old writer.new (puts id v)
+    requires { (v : Tree) × IsTape tape.now v × StandsNext writer.old (types table.now) (puts id v) }
+    ensures written { (v : Tree) → IsTape tape.now v → StandsNext writer.old (types table.now) (puts id v)
+        → result ≢ Err WriteFault.Memory → WritesTidy writer.old writer.new (puts id v)
         (W.contents (writer_of output.old)) (W.contents (writer_of output.new)) result }
     ensures leaves { Leaves writer.old writer.new
         (W.contents (writer_of output.old)) (W.contents (writer_of output.new)) result }

@@ -22,7 +22,7 @@ use Rattle.gob_stream.specs.Bounds.{Bounds, AreLimits, deepest, no_deeper, withi
 use Rattle.gob_stream.specs.Item.{StreamItem, defines, puts, ItemMeans}
 use Rattle.gob_stream.specs.Session.{HasRead}
 use Rattle.gob_stream.specs.Stream.{IsItem, AreItems, Stream}
-use Rattle.gob_stream.specs.Writing.{HasWritten, WritesNext}
+use Rattle.gob_stream.specs.Writing.{HasWritten, WritesNext, writer_limits, writer_types}
 use Rattle.gob_tape.specs.Builder.{tape_building}
 use Rattle.gob_tape.specs.declared.tape.Tape.{Tape}
 use Rattle.gob_tape.specs.declared.tape_builder.TapeBuilder.{TapeBuilder}
@@ -60,11 +60,15 @@ pub record StandsThere (L : Bounds) (T U : Table) (i : StreamItem) : Type 0 wher
   pub rest : List ℕ
   pub later : AreItems base_table L next offset others rest U
 
+-- a stream that this writer's limits admit, with its types so far
+abbrev pub StandsNext : StreamWriter → Table → StreamItem → Type 0
+StandsNext w U i = StandsThere (no_deeper deepest (writer_limits w)) (writer_types w) U i
+
 -- what was made stands for such an item
-pub record IsOfStream (L : Bounds) (T U : Table) (given : declared.Item Tape) : Type 0 where
+pub record IsOfStream (w : StreamWriter) (U : Table) (given : declared.Item Tape) : Type 0 where
   pub item : StreamItem
   pub meant : ItemMeans IsTape given item
-  pub there : StandsThere L T U item
+  pub next : StandsNext w U item
 
 -- the tidy form of an item's content was written so
 pub record WritesForm (L : Bounds) (T : Table) (w w' : StreamWriter) (i : StreamItem) (old new : Option (List ℕ))
@@ -73,6 +77,10 @@ pub record WritesForm (L : Bounds) (T : Table) (w w' : StreamWriter) (i : Stream
   pub tidies : Tidies T (content_type i) (content i) form
   pub fits : Fits T (content_type i) form
   pub writes : WritesNext (bounds_for L i) w w' (with_content i form) old new result
+
+-- by what the writer keeps to, and the types of its stream so far
+abbrev pub WritesTidy : (w w' : StreamWriter) → StreamItem → (old new : Option (List ℕ)) → Result (Unit {0}) WriteFault → Type 0
+WritesTidy w w' i old new result = WritesForm (writer_limits w) (writer_types w) w w' i old new result
 
 -- the writer has written the tidy form of what the reader gave
 pub record HasRewritten (s : SessionState TapeBuilder Tape) (w : StreamWriter) : Type 0 where
@@ -83,7 +91,7 @@ pub record HasRewritten (s : SessionState TapeBuilder Tape) (w : StreamWriter) :
   pub tidied : AreItemsTidied (types s.types) items tidy
   pub written : List ℕ
   pub has : HasWritten w tidy written (types s.types)
-  pub limits : w.limits ≡ s.limits
+  pub limits : writer_limits w ≡ s.limits
   pub allowed : AreLimits deepest s.limits
   pub no_longer : length written ≤ length gave.front
 
@@ -115,7 +123,7 @@ pub record IsTidyNext {s : SessionState TapeBuilder Tape} {w : StreamWriter} (h 
 -- its tidy form is written too
 pub record GoesOnRewriting {s : SessionState TapeBuilder Tape} {w : StreamWriter} {h : HasRewritten s w} {i : StreamItem} {U : Table}
     (n : ComesNext h i U) (w' : StreamWriter) : Type 0 where
-  pub limits : w'.limits ≡ s.limits
+  pub limits : writer_limits w' ≡ s.limits
   pub tidy : List StreamItem
   pub tidied : AreItemsTidied U (h.items ++ i ∷ []) tidy
   pub more : List ℕ

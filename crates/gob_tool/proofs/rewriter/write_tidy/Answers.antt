@@ -1,15 +1,14 @@
 use Rattle.std.proofs.Common.{sym, subst}
 use Rattle.gob_types.specs.Defined.{types}
-use Rattle.gob_stream.specs.Bounds.{deepest, no_deeper}
 use Rattle.gob_stream.specs.Item.{StreamItem}
-use Rattle.gob_tool.specs.Machine.Rewritten.{StandsThere, WritesForm}
+use Rattle.gob_tool.specs.Machine.Rewritten.{StandsNext, WritesTidy}
 use Rattle.gob_tool.proofs.RewriteLaws.{definition_meant, value_meant}
 use Rattle.gob_tool.proofs.rewriter.write_tidy.Goals as goal
 
 pub returns-in-Define-clause-written : goal.returns-in-Define-clause-written
 returns-in-Define-clause-written g c = λ i m there other.
     let w = c.args.writer.now in
-    subst (λ (j : StreamItem). WritesForm w.limits (types w.types) w c.write_tidy_definition.new.writer j
+    subst (λ (j : StreamItem). WritesTidy w c.write_tidy_definition.new.writer j
     (g.W.Write.contents c.args.output.now.writer) (g.W.Write.contents c.write_tidy_definition.new.output.writer)
     c.write_tidy_definition.result) (definition_meant m c.in-Define.is) (c.write_tidy_definition.ensures.written other)
 
@@ -17,9 +16,8 @@ pub returns-in-Put-clause-written : goal.returns-in-Put-clause-written
 returns-in-Put-clause-written g c = λ i m there other.
     let w = c.args.writer.now in
     let o = value_meant m c.in-Put.is in
-    let stands = subst (λ (j : StreamItem). StandsThere (no_deeper deepest w.limits) (types w.types)
-    (types c.args.table.now) j) (sym o.same) there in
-    subst (λ (j : StreamItem). WritesForm w.limits (types w.types) w c.write_tidy_value-put.new.writer j
+    let stands = subst (λ (j : StreamItem). StandsNext w (types c.args.table.now) j) (sym o.same) there in
+    subst (λ (j : StreamItem). WritesTidy w c.write_tidy_value-put.new.writer j
     (g.W.Write.contents c.args.output.now.writer) (g.W.Write.contents c.write_tidy_value-put.new.output.writer)
     c.write_tidy_value-put.result) o.same
     (c.write_tidy_value-put.ensures.written o.value o.means stands other)

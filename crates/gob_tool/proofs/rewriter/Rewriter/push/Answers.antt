@@ -1,6 +1,6 @@
 -- What was read can be written; what was gathered of an item that isn't is taken back.
 use Rattle.std.proofs.Common.{◌∙◌, List, ℕ, ap, sym, length, take}
-use Rattle.gob_tool.proofs.RewriteLaws.{of_stream, stands_there, only_wanting, pushed, taken_back, pushes_as}
+use Rattle.gob_tool.proofs.RewriteLaws.{of_stream, next_stands, only_wanting, pushed, taken_back, pushes_as}
 use Rattle.gob_tool.proofs.rewriter.Rewriter.push.Goals as goal
 
 pub write_tidy-written-requires : goal.write_tidy-written-requires
@@ -10,14 +10,14 @@ pub want_of_memory-requires : goal.want_of_memory-requires
 want_of_memory-requires c =
     let n = c.requires.2 in
     only_wanting n.next c.in-Err.fault
-    (c.write_tidy-written.ensures.written n.item n.meant (stands_there n.next)) c.in-Err.is
+    (c.write_tidy-written.ensures.written n.item n.meant (next_stands n.next)) c.in-Err.is
 
 pub returns-in-Ok : goal.returns-in-Ok
 returns-in-Ok c = λ s h n.
     let before = ap (λ v. v.items) (c.new-sink.ensures.writer ∙ c.replace.ensures.value) in
     let after = ap (λ v. v.items) (sym c.into_inner.ensures) in
     pushes_as n.next c.in-Ok.field-0 before after
-    (pushed n.next c.in-Ok.field-0 (c.write_tidy-written.ensures.written n.item n.meant (stands_there n.next))
+    (pushed n.next c.in-Ok.field-0 (c.write_tidy-written.ensures.written n.item n.meant (next_stands n.next))
     c.in-Ok.is)
 
 pub returns-in-Err : goal.returns-in-Err
@@ -27,5 +27,5 @@ returns-in-Err c = λ s h n.
     let long = c.len-whole.ensures ∙ c.args.self.now.gathered.ok.0 ∙ ap length (sym before) in
     c.truncate.ensures.items ∙ ap (λ (k : ℕ). take k c.into_inner.result.items) long
     ∙ ap (λ (l : List ℕ). take (length c.new-sink.result.writer.items) l) after
-    ∙ taken_back n.next c.in-Err.fault (c.write_tidy-written.ensures.written n.item n.meant (stands_there n.next))
+    ∙ taken_back n.next c.in-Err.fault (c.write_tidy-written.ensures.written n.item n.meant (next_stands n.next))
     c.write_tidy-written.ensures.leaves c.in-Err.is ∙ before
