@@ -16,9 +16,11 @@ use Rattle.gob_value.specs.Top.{IsStruct}
 use Rattle.gob_stream.specs.declared.fault.WriteFault.{WriteFault}
 use Rattle.gob_stream.specs.declared.fault.WriteFault.TheVariants as fault
 use Rattle.gob_stream.specs.declared.fault.WriteStop.{WriteStop}
+use Rattle.gob_stream.specs.declared.output.Output.{Output}
 use Rattle.gob_stream.specs.declared.stream_writer.StreamWriter.{StreamWriter}
 use Rattle.gob_stream.specs.Bounds.{Bounds}
 use Rattle.gob_stream.specs.Devices.{counts_up}
+use Rattle.gob_stream.specs.Ends.{failed_writes, writer_of}
 use Rattle.gob_stream.specs.Item.{StreamItem}
 use Rattle.gob_stream.specs.Stream.{Stream, HasStream, IsItem}
 use Rattle.gob_stream.specs.WriterRefusal.{RefusesItem}
@@ -108,6 +110,18 @@ CountsWriterFaults failures failures' (Err f) = CountsFault failures failures' f
 abbrev pub CountsStop : (failures failures' : ℕ) → Result (Unit {0}) WriteStop → Type 0
 CountsStop failures failures' (Ok _) = failures' ≡ failures
 CountsStop failures failures' (Err stop) = CountsFault failures failures' stop.fault
+
+-- what a call that writes one item does to any writer and output, whatever was written: what its answer leaves, what it
+-- answers where a write failed before, and how many writes failed
+pub record WriteEffects (w w' : StreamWriter) {W : Type 0} (contents : W → Option (List ℕ)) (output output' : Output W) (result : Result (Unit {0}) WriteFault) : Type 0 where
+  pub leaves : Leaves w w' (contents (writer_of output)) (contents (writer_of output')) result
+  pub failed : HasWriterFailed w → AnswersFailed w w' (contents (writer_of output)) (contents (writer_of output')) result
+  pub counted : CountsWriterFaults (failed_writes output) (failed_writes output') result
+
+-- what a call answers that writes this item, as these limits admit it
+pub record WriteAnswers (L : Bounds) (w w' : StreamWriter) (i : StreamItem) {W : Type 0} (contents : W → Option (List ℕ)) (output output' : Output W) (result : Result (Unit {0}) WriteFault) : Type 0 where
+  pub writes : WritesNext L w w' i (contents (writer_of output)) (contents (writer_of output')) result
+  pub effects : WriteEffects w w' contents output output' result
 
 -- a new writer has written nothing
 pub record IsNew (w : StreamWriter) (L : Bounds) : Type 0 where

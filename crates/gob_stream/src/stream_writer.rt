@@ -6,8 +6,8 @@ ghost use Rattle.gob_value.specs.View.{view};
 ghost use Rattle.gob_stream.specs.Bounds.{within_trees};
 ghost use Rattle.gob_stream.specs.Ends.{failed_writes, writer_of};
 ghost use Rattle.gob_stream.specs.Item.{defines, puts, item_view};
-ghost use Rattle.gob_stream.specs.Writing.{IsNew, WritesNext, Leaves, AnswersFailed, CountsWriterFaults, SendAnswers};
-ghost use Rattle.gob_stream.specs.Writing.{IsSpelling, IsSpelledAs, HasWriterFailed, writer_limits, writer_types};
+ghost use Rattle.gob_stream.specs.Writing.{IsNew, WritesNext, WriteAnswers, WriteEffects, SendAnswers};
+ghost use Rattle.gob_stream.specs.Writing.{CountsWriterFaults, IsSpelling, IsSpelledAs, writer_limits, writer_types};
 
 use crate::denial::define_admitted;
 use crate::fault::WriteFault;
@@ -80,13 +80,8 @@ impl StreamWriter {
         id: TypeId,
         described: &Value,
     ) -> Result<(), WriteFault>
-        ensures writes { WritesNext (within_trees (writer_limits self.old)) self.old self.new (defines id (view described.now))
-            (W.contents (writer_of output.old)) (W.contents (writer_of output.new)) result }
-        ensures leaves { Leaves self.old self.new
-            (W.contents (writer_of output.old)) (W.contents (writer_of output.new)) result }
-        ensures failed { HasWriterFailed self.old →
-            AnswersFailed self.old self.new (W.contents (writer_of output.old)) (W.contents (writer_of output.new)) result }
-        ensures counted { CountsWriterFaults (failed_writes output.old) (failed_writes output.new) result }
+        ensures { WriteAnswers (within_trees (writer_limits self.old)) self.old self.new
+            (defines id (view described.now)) W.contents output.old output.new result }
     {
         if self.failed {
             return Err(WriteFault::Failed);
@@ -110,13 +105,8 @@ impl StreamWriter {
         id: TypeId,
         value: &Value,
     ) -> Result<(), WriteFault>
-        ensures writes { WritesNext (within_trees (writer_limits self.old)) self.old self.new (puts id (view value.now))
-            (W.contents (writer_of output.old)) (W.contents (writer_of output.new)) result }
-        ensures leaves { Leaves self.old self.new
-            (W.contents (writer_of output.old)) (W.contents (writer_of output.new)) result }
-        ensures failed { HasWriterFailed self.old →
-            AnswersFailed self.old self.new (W.contents (writer_of output.old)) (W.contents (writer_of output.new)) result }
-        ensures counted { CountsWriterFaults (failed_writes output.old) (failed_writes output.new) result }
+        ensures { WriteAnswers (within_trees (writer_limits self.old)) self.old self.new
+            (puts id (view value.now)) W.contents output.old output.new result }
     {
         if self.failed {
             return Err(WriteFault::Failed);
@@ -145,11 +135,7 @@ impl StreamWriter {
         ensures writes { (v : Tree) → IsSpelledAs (writer_limits self.old) (writer_types self.old) id spelling.now v
             → WritesNext (writer_limits self.old) self.old self.new (puts id v)
             (W.contents (writer_of output.old)) (W.contents (writer_of output.new)) result }
-        ensures leaves { Leaves self.old self.new
-            (W.contents (writer_of output.old)) (W.contents (writer_of output.new)) result }
-        ensures failed { HasWriterFailed self.old →
-            AnswersFailed self.old self.new (W.contents (writer_of output.old)) (W.contents (writer_of output.new)) result }
-        ensures counted { CountsWriterFaults (failed_writes output.old) (failed_writes output.new) result }
+        ensures effects { WriteEffects self.old self.new W.contents output.old output.new result }
     {
         if self.failed {
             return Err(WriteFault::Failed);
@@ -173,13 +159,8 @@ impl StreamWriter {
         output: &mut Output<W>,
         item: &Item<Value>,
     ) -> Result<(), WriteFault>
-        ensures writes { WritesNext (within_trees (writer_limits self.old)) self.old self.new (item_view item.now)
-            (W.contents (writer_of output.old)) (W.contents (writer_of output.new)) result }
-        ensures leaves { Leaves self.old self.new
-            (W.contents (writer_of output.old)) (W.contents (writer_of output.new)) result }
-        ensures failed { HasWriterFailed self.old →
-            AnswersFailed self.old self.new (W.contents (writer_of output.old)) (W.contents (writer_of output.new)) result }
-        ensures counted { CountsWriterFaults (failed_writes output.old) (failed_writes output.new) result }
+        ensures { WriteAnswers (within_trees (writer_limits self.old)) self.old self.new
+            (item_view item.now) W.contents output.old output.new result }
     {
         match item {
             Item::Define { id, described } => self.define(alloc, output, *id, described),

@@ -10,7 +10,7 @@ ghost use Rattle.gob_stream.specs.Ends.{failed_writes, writer_of};
 ghost use Rattle.gob_stream.specs.Machine.SessionState.{SessionState};
 ghost use Rattle.gob_tape.specs.declared.tape_builder.TapeBuilder.{TapeBuilder};
 ghost use Rattle.gob_stream.specs.Item.{StreamItem, ItemMeans, defines, puts};
-ghost use Rattle.gob_stream.specs.Writing.{IsNew, Leaves, CountsWriterFaults};
+ghost use Rattle.gob_stream.specs.Writing.{IsNew, Leaves, WriteEffects};
 ghost use Rattle.gob_tool.specs.Machine.Gathering.{Passes, Writes, CountsWrites, CountsOnlyWrites};
 ghost use Rattle.gob_tool.specs.Machine.Rewritten.{IsTape, StandsNext, IsOfStream, WritesTidy, HasRewritten};
 ghost use Rattle.gob_tool.specs.Machine.Rewritten.{IsNextTape, SpellsTidy, IsTidyNext, Pushes, PushesOut, PutsOut};
@@ -242,9 +242,7 @@ fn write_as_spelled<W: Write>(
     ensures written { (v : Tree) → SpellsTidy (types table.now) id v body.now
         → StandsNext writer.old (types table.now) (puts id v) → WritesTidy writer.old writer.new (puts id v)
         (W.contents (writer_of output.old)) (W.contents (writer_of output.new)) result }
-    ensures leaves { Leaves writer.old writer.new
-        (W.contents (writer_of output.old)) (W.contents (writer_of output.new)) result }
-    ensures counted { CountsWriterFaults (failed_writes output.old) (failed_writes output.new) result }
+    ensures effects { WriteEffects writer.old writer.new W.contents output.old output.new result }
 {
     let spelling = spelling_of(table, id, body);
     writer.put_spelled(alloc, output, id, spelling)

@@ -1,21 +1,23 @@
 -- What a writer has written after a call.
-use Rattle.std.proofs.Common.{◌≡◌, ℕ, ◌+◌, List, [], ◌∷◌, ◌++◌, length, Option, Result, Ok, Err, sym, ap, subst, ◌∙◌, arith, append_assoc, length-append}
+use Rattle.std.proofs.Common.{◌≡◌, ℕ, ◌+◌, List, [], ◌∷◌, ◌++◌, length, false, Option, Result, Ok, Err, refl, sym, ap, subst, ◌∙◌, arith, append_assoc, length-append}
 use Rattle.std.specs.Io.KnownBytes.{Appends}
 use Rattle.std.proofs.KnownBytes.{Keeps-refl, Appends-trans}
 use Rattle.gob_types.specs.Table.{Table}
 use Rattle.gob_types.specs.Base.{base_table}
 use Rattle.gob_types.specs.Defined.{types}
 use Rattle.gob_stream.specs.declared.fault.WriteFault.{WriteFault}
+use Rattle.gob_stream.specs.declared.output.Output.{Output}
 use Rattle.gob_stream.specs.declared.stream_writer.StreamWriter.{StreamWriter}
 use Rattle.gob_stream.specs.declared.denial.Denial.{Denial}
 use Rattle.gob_stream.specs.declared.denial.Denial.TheVariants as denial
 use Rattle.gob_stream.specs.Bounds.{Bounds, within_trees}
 use Rattle.gob_stream.specs.Machine.Denial.{IsDenial, write_fault}
+use Rattle.gob_stream.specs.Ends.{failed_writes, writer_of}
 use Rattle.gob_stream.specs.Laws.{AtLeast}
 use Rattle.gob_stream.specs.Item.{StreamItem}
 use Rattle.gob_stream.specs.Stream.{Stream, IsItem}
 use Rattle.gob_stream.specs.WriterRefusal.{RefusesItem}
-use Rattle.gob_stream.specs.Writing.{HasWritten, WritesItem, Leaves, IsUnchanged, SentFront, SendAnswers}
+use Rattle.gob_stream.specs.Writing.{HasWritten, WritesItem, Leaves, CountsWriterFaults, WriteEffects, IsUnchanged, SentFront, SendAnswers}
 use Rattle.gob_stream.proofs.Stream.StreamLaws.{one_more, wider_counted}
 
 -- what is denied before any byte went out is a fault of the item
@@ -25,9 +27,38 @@ denied_writes L w w' items bytes T i out (denial.Refused r) written refused = rw
 denied_writes L w w' items bytes T i out denial.Memory written refused = tt
 
 -- and leaves all as it was
-pub denied_leaves : (w w' : StreamWriter) (out : Option (List ℕ)) (d : Denial) → IsUnchanged w w' → Leaves w w' out out (Err (write_fault d))
+denied_leaves : (w w' : StreamWriter) (out : Option (List ℕ)) (d : Denial) → IsUnchanged w w' → Leaves w w' out out (Err (write_fault d))
 denied_leaves w w' out (denial.Refused r) same = (same, Keeps-refl out)
 denied_leaves w w' out denial.Memory same = (same, Keeps-refl out)
+
+-- a writer whose send failed writes no more
+sent_leaves : (w ready w' : StreamWriter) (bytes : List ℕ) (old new : Option (List ℕ)) (r : Result (Unit {0}) WriteFault) → SendAnswers ready w' bytes old new r → Leaves w w' old new r
+sent_leaves w ready w' bytes old new (Ok u) sent = ap (λ x. x.failed) sent.1
+sent_leaves w ready w' bytes old new (Err f) sent = subst (λ g. Leaves w w' old new (Err g)) (sym sent.2) (ap (λ x. x.failed) sent.1)
+
+-- ---- what a call does to any writer and output
+denied_counts : (failures : ℕ) (d : Denial) → CountsWriterFaults failures failures (Err (write_fault d))
+denied_counts failures (denial.Refused r) = refl
+denied_counts failures denial.Memory = refl
+
+module _ {W : Type 0} (contents : W → Option (List ℕ)) where
+  -- the item was denied before any byte went out
+  pub denied_effects : (w w' : StreamWriter) (output : Output W) (d : Denial) → w.failed ≡ false → IsUnchanged w w' → WriteEffects w w' contents output output (Err (write_fault d))
+  denied_effects w w' output d sound same = record {
+    leaves = denied_leaves w w' (contents (writer_of output)) d same;
+    failed = λ failed. absurd (cc);
+    counted = denied_counts (failed_writes output) d;
+  }
+
+  -- its bytes were sent
+  pub sent_effects : (w ready w' : StreamWriter) (bytes : List ℕ) (output output' : Output W) (r : Result (Unit {0}) WriteFault) → w.failed ≡ false
+      → SendAnswers ready w' bytes (contents (writer_of output)) (contents (writer_of output')) r → CountsWriterFaults (failed_writes output) (failed_writes output') r
+      → WriteEffects w w' contents output output' r
+  sent_effects w ready w' bytes output output' r sound sent counted = record {
+    leaves = sent_leaves w ready w' bytes (contents (writer_of output)) (contents (writer_of output')) r sent;
+    failed = λ failed. absurd (cc);
+    counted = counted;
+  }
 
 -- what trees may be written under is no more than the limits
 pub trees_within : (L : Bounds) → AtLeast (within_trees L) L
@@ -87,8 +118,3 @@ front_behind a out sent = record {
   whole = ap (λ l. a ++ l) sent.whole ∙ sym (append_assoc a sent.front sent.rest);
   out = Appends-trans _ _ _ _ _ out sent.out;
 }
-
--- a writer whose send failed writes no more
-pub sent_leaves : (w ready w' : StreamWriter) (bytes : List ℕ) (old new : Option (List ℕ)) (r : Result (Unit {0}) WriteFault) → SendAnswers ready w' bytes old new r → Leaves w w' old new r
-sent_leaves w ready w' bytes old new (Ok u) sent = ap (λ x. x.failed) sent.1
-sent_leaves w ready w' bytes old new (Err f) sent = subst (λ g. Leaves w w' old new (Err g)) (sym sent.2) (ap (λ x. x.failed) sent.1)

@@ -4,7 +4,7 @@ use Rattle.gob_stream.specs.Item.{puts}
 use Rattle.gob_stream.specs.WriterRefusal.{refused_type, refused_body}
 use Rattle.gob_stream.proofs.DenialLaws.{denial_weaker}
 use Rattle.gob_stream.proofs.Written.WritingLaws.{whole_item}
-use Rattle.gob_stream.proofs.Written.WriterSteps.{denied_writes, denied_leaves, all_within, sent_writes, sent_leaves}
+use Rattle.gob_stream.proofs.Written.WriterSteps.{denied_writes, all_within, sent_writes, denied_effects, sent_effects}
 use Rattle.gob_stream.proofs.stream_writer.StreamWriter.put_spelled.Goals as goal
 
 pub returns-in_err-spell_head-clause-writes : goal.returns-in_err-spell_head-clause-writes
@@ -30,19 +30,20 @@ returns-clause-writes g c = λ v spelled items bytes T written.
     (record { limits = refl; within = all_within w.limits; offset = refl; most = refl; table = refl; item = whole_item (c.in_ok-spell_head.ensures.ok w.limits v c.args.spelling.now spelled) whole })
     c.send.ensures.sends
 
-pub returns-in_err-spell_head-clause-leaves : goal.returns-in_err-spell_head-clause-leaves
-returns-in_err-spell_head-clause-leaves g c =
+pub returns-in_err-spell_head-clause-effects : goal.returns-in_err-spell_head-clause-effects
+returns-in_err-spell_head-clause-effects g c =
     let p = err_from_is_err_and c.from_residual.result c.from_residual.ensures.1 in
     let w = c.args.self.now in
-    rw (p.1, p.2) (denied_leaves w (record w { body = c.spell_head.new.head }) _ c.in_err-spell_head.field-0.0 refl)
+    rw (p.1, p.2) (denied_effects g.W.Write.contents w (record w { body = c.spell_head.new.head }) c.args.output.now c.in_err-spell_head.field-0.0 c.if-self.false refl)
 
-pub returns-in_err-begin_item-clause-leaves : goal.returns-in_err-begin_item-clause-leaves
-returns-in_err-begin_item-clause-leaves g c =
+pub returns-in_err-begin_item-clause-effects : goal.returns-in_err-begin_item-clause-effects
+returns-in_err-begin_item-clause-effects g c =
     let p = err_from_is_err_and c.from_residual-in_err-begin_item.result c.from_residual-in_err-begin_item.ensures.1 in
     let w = c.args.self.now in
-    rw (p.1, p.2) (denied_leaves w (record w { body = c.spell_head.new.head; item = c.begin_item.new.item }) _ c.in_err-begin_item.field-0.0 refl)
+    rw (p.1, p.2) (denied_effects g.W.Write.contents w (record w { body = c.spell_head.new.head; item = c.begin_item.new.item }) c.args.output.now c.in_err-begin_item.field-0.0 c.if-self.false refl)
 
-pub returns-clause-leaves : goal.returns-clause-leaves
-returns-clause-leaves g c =
+pub returns-clause-effects : goal.returns-clause-effects
+returns-clause-effects g c =
     let w = c.args.self.now in
-    sent_leaves w (record w { body = c.spell_head.new.head; item = c.begin_item.new.item }) c.send.new.self _ _ _ c.send.result c.send.ensures.sends
+    let ready = record w { body = c.spell_head.new.head; item = c.begin_item.new.item } in
+    sent_effects g.W.Write.contents w ready c.send.new.self _ c.args.output.now c.send.new.output c.send.result c.if-self.false c.send.ensures.sends c.send.ensures.counted

@@ -29,4 +29,4 @@ returns-in-Err c = λ s h n.
     c.truncate.ensures.items ∙ ap (λ (k : ℕ). take k c.into_inner.result.items) long
     ∙ ap (λ (l : List ℕ). take (length c.new-sink.result.writer.items) l) after
     ∙ taken_back n.next c.in-Err.fault (λ other. c.write_as_spelled-written.ensures.written n.value n.spells (next_stands n.next))
-    c.write_as_spelled-written.ensures.leaves c.in-Err.is ∙ before
+    c.write_as_spelled-written.ensures.effects.leaves c.in-Err.is ∙ before

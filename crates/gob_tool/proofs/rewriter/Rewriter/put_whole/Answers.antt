@@ -20,12 +20,12 @@ returns-in-Ok-clause-put g c = λ s h n.
 pub returns-in-Err-clause-put : goal.returns-in-Err-clause-put
 returns-in-Err-clause-put g c = λ s h n.
     let writes = c.write_as_spelled.ensures.written n.value n.spells (next_stands n.next) in
-    put_stops n.next c.in-Err.fault c.stop_of.result (λ other. writes) c.write_as_spelled.ensures.leaves c.in-Err.is
+    put_stops n.next c.in-Err.fault c.stop_of.result (λ other. writes) c.write_as_spelled.ensures.effects.leaves c.in-Err.is
     (only_wanting n.next c.in-Err.fault (λ other. writes) c.in-Err.is) c.stop_of.ensures.write c.stop_of.ensures.memory
 
 pub returns-in-Err-clause-counted : goal.returns-in-Err-clause-counted
 returns-in-Err-clause-counted g c =
     let n = c.requires.2 in
     let writes = c.write_as_spelled.ensures.written n.value n.spells (next_stands n.next) in
-    put_counts _ _ c.in-Err.fault c.stop_of.result c.write_as_spelled.ensures.counted c.in-Err.is
+    put_counts _ _ c.in-Err.fault c.stop_of.result c.write_as_spelled.ensures.effects.counted c.in-Err.is
     (only_wanting n.next c.in-Err.fault (λ other. writes) c.in-Err.is) c.stop_of.ensures.write c.stop_of.ensures.memory
