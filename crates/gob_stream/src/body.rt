@@ -52,7 +52,7 @@ impl<B: Builder> ValueStage<B> {
         table: &Table,
         piece: &[u8],
     ) -> Result<Stepped<B>, Fault>
-        requires has_read { IsBodyUnderWay (types table.now) self.id self.rest B.building.received (under_way self.reader) }
+        requires has_read { IsBodyUnderWay (types table.now) self.id self.rest B.building.received self.reader }
         requires order { self.rest.begin ≤ self.rest.end }
         ensures { (limit : ℕ) (z : List ℕ)
             → ReaderHasRead (types table.now) self.id limit (size self.rest) B.building.received (under_way self.reader) z
@@ -87,7 +87,7 @@ impl DescriptionStage {
         table: &mut Table,
         piece: &[u8],
     ) -> Result<Stepped<B>, Fault>
-        requires has_read { IsBodyUnderWay (types table.old) wire_type self.rest tree_building.received (under_way self.reader) }
+        requires has_read { IsBodyUnderWay (types table.old) wire_type self.rest tree_building.received self.reader }
         requires order { self.rest.begin ≤ self.rest.end }
         requires admitted { Admits table.old self.id }
         requires keeps { HasWireType (types table.old) }

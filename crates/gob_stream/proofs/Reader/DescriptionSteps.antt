@@ -1,5 +1,5 @@
 -- Taking the bytes of a description.
-use Rattle.std.proofs.Common.{◌≡◌, ℕ, List, [], length, Option, Some, None, Ok, Err, refl, sym, ap, ◌∙◌, subst}
+use Rattle.std.proofs.Common.{◌≡◌, ℕ, List, [], length, Some, None, Ok, Err, refl, sym, ap, ◌∙◌, subst}
 use Rattle.gob_types.specs.Base.{base_table, wire_type}
 use Rattle.gob_types.specs.Table.{shape_of}
 use Rattle.gob_types.specs.declared.kind.Shape.{Shape}
@@ -12,7 +12,7 @@ use Rattle.gob_value.specs.View.{view}
 use Rattle.gob_value.specs.declared.value.Value.{Value}
 use Rattle.gob_value.proofs.PublicLaws.{spells_back}
 use Rattle.gob_read.specs.Reader.{ReaderHasRead, ReaderRefusesBody, Stops, IsMade, ReaderGives}
-use Rattle.gob_read.specs.declared.run.Run.{Run}
+use Rattle.gob_read.specs.UnderWay.{under_way}
 use Rattle.gob_read.specs.declared.stop.Stop.{Stop}
 use Rattle.gob_read.specs.declared.stop.Stop.TheVariants as stop
 use Rattle.gob_read.specs.declared.reader.BodyReader.{BodyReader}
@@ -55,16 +55,16 @@ pub wire_fits : {T : Table} {limit announced : ℕ} {z : List ℕ} {described : 
 wire_fits w made = record { bytes = _; spelled = spells_back (wire_keeps w) wire_ready (subst (λ v. Spells _ wire_type v _) (sym made.meant) (wire_spelled w made.spelled)) }
 
 -- ---- what became of a piece of a description
-pub made_of : {T : Table} {limit : ℕ} {rest : Extent} {p : Progress Value} {described : Value} {used : ℕ} (trees : Received TreeBuilder) (run : Option (Run TreeBuilder Value)) (z piece : List ℕ) → p ≡ progress.Done described used
-    → ReaderGives T wire_type limit (size rest) trees IsView run z piece p → IsDescribed T limit rest z piece described used
-made_of {T = T} {limit = limit} {rest = rest} trees run z piece e h =
-    let g = subst (λ p. ReaderGives T wire_type limit (size rest) trees IsView run z piece p) e h in record { within = g.within; made = g.made }
+pub made_of : {T : Table} {limit : ℕ} {rest : Extent} {p : Progress Value} {described : Value} {used : ℕ} (trees : Received TreeBuilder) (reader : BodyReader TreeBuilder Value) (z piece : List ℕ) → p ≡ progress.Done described used
+    → ReaderGives T wire_type limit (size rest) trees IsView (under_way reader) z piece p → IsDescribed T limit rest z piece described used
+made_of {T = T} {limit = limit} {rest = rest} trees reader z piece e h =
+    let g = subst (λ p. ReaderGives T wire_type limit (size rest) trees IsView (under_way reader) z piece p) e h in record { within = g.within; made = g.made }
 
 pub description_more : {d : Defined} {id : TypeId} {limit : ℕ} {rest : Extent} {X O : Type 0} {trees : Received TreeBuilder} {p : Progress Value} (reader : BodyReader TreeBuilder Value) (z piece : List ℕ) → p ≡ progress.More
-    → ReaderGives (types d) wire_type limit (size rest) trees IsView reader.run z piece p
+    → ReaderGives (types d) wire_type limit (size rest) trees IsView (under_way reader) z piece p
     → ReadsDescription {X = X} {O = O} trees d id limit rest z piece d (Ok (record { used = length piece; stage = description_in id rest reader; item = None }))
 description_more {d = d} {limit = limit} {rest = rest} {trees = trees} reader z piece e h =
-    let g = subst (λ p. ReaderGives (types d) wire_type limit (size rest) trees IsView reader.run z piece p) e h in
+    let g = subst (λ p. ReaderGives (types d) wire_type limit (size rest) trees IsView (under_way reader) z piece p) e h in
     description_goes_on refl (record { after = g.after; viable = g.viable })
 
 pub description_done : {d d' : Defined} {id : TypeId} {limit : ℕ} {rest : Extent} {X O : Type 0} {trees : Received TreeBuilder} {described : Value} {used : ℕ} {st : Stage X O} {z piece : List ℕ} → IsDescribed (types d) limit rest z piece described used
@@ -77,8 +77,8 @@ pub description_wrong : {d d' : Defined} {id : TypeId} {limit : ℕ} {rest : Ext
 description_wrong (denial.Refused r) there wrong = describes_nothing wrong.1 there wrong.0
 description_wrong denial.Memory there wrong = no_memory_for_description wrong.1
 
-pub description_stopped : {d : Defined} {id : TypeId} {limit : ℕ} {rest : Extent} {X O : Type 0} {trees : Received TreeBuilder} (run : Option (Run TreeBuilder Value)) (z piece : List ℕ) (s : Stop) {f : Fault} → f ≡ fault_behind rest.begin s
-    → Stops run (λ refusal. ReaderRefusesBody (types d) trees run piece refusal) s → ReaderHasRead (types d) wire_type limit (size rest) trees run z → ReadsDescription {X = X} {O = O} trees d id limit rest z piece d (Err f)
-description_stopped {limit = limit} {rest = rest} run z piece (stop.Refused place seen reason) e r s = rw e (description_refused refl (r.each wire_type limit (size rest) z s))
-description_stopped run z piece stop.Memory e r s = rw e (no_memory_for_description refl)
-description_stopped {d = d} {limit = limit} {rest = rest} {trees = trees} run z piece stop.Failed e r s = absurd (not_ended (types d) wire_type limit (size rest) trees run z s r)
+pub description_stopped : {d : Defined} {id : TypeId} {limit : ℕ} {rest : Extent} {X O : Type 0} {trees : Received TreeBuilder} (reader : BodyReader TreeBuilder Value) (z piece : List ℕ) (s : Stop) {f : Fault} → f ≡ fault_behind rest.begin s
+    → Stops (under_way reader) (λ refusal. ReaderRefusesBody (types d) trees (under_way reader) piece refusal) s → ReaderHasRead (types d) wire_type limit (size rest) trees (under_way reader) z → ReadsDescription {X = X} {O = O} trees d id limit rest z piece d (Err f)
+description_stopped {limit = limit} {rest = rest} reader z piece (stop.Refused place seen reason) e r s = rw e (description_refused refl (r.each wire_type limit (size rest) z s))
+description_stopped reader z piece stop.Memory e r s = rw e (no_memory_for_description refl)
+description_stopped {d = d} {limit = limit} {rest = rest} {trees = trees} reader z piece stop.Failed e r s = absurd (not_ended (types d) wire_type limit (size rest) trees reader z s r)

@@ -15,7 +15,7 @@ use Rattle.gob_value.specs.declared.value.Value.{Value}
 use Rattle.gob_read.specs.Refusal as body
 use Rattle.gob_read.specs.First.{IsFirst}
 use Rattle.gob_read.specs.Reader.{ReaderHasRead, IsMade}
-use Rattle.gob_read.specs.declared.run.Run.{Run}
+use Rattle.gob_read.specs.UnderWay.{under_way}
 use Rattle.gob_read.specs.declared.reader.BodyReader.{BodyReader}
 use Rattle.gob_read.specs.declared.stop.Stop.{Stop}
 use Rattle.gob_read.specs.declared.stop.Stop.TheVariants as stop
@@ -72,10 +72,10 @@ JudgesCount L begin end count (Ok body) = (0 < count) × (count ≤ L.item) × (
 JudgesCount L begin end count (Err R) = CountJudged L begin end count R
 
 -- what reads a part of the stream stands after some bytes of it
-pub record IsBodyUnderWay (T : Table) (t : TypeId) (rest : Extent) {X O : Type 0} (received : Received X) (run : Option (Run X O)) : Type 0 where
+pub record IsBodyUnderWay (T : Table) (t : TypeId) (rest : Extent) {X O : Type 0} (received : Received X) (reader : BodyReader X O) : Type 0 where
   pub limit : ℕ
   pub bytes : List ℕ
-  pub after : ReaderHasRead T t limit (size rest) received run bytes
+  pub after : ReaderHasRead T t limit (size rest) received (under_way reader) bytes
 
 -- places and counts behind this offset are numbers of 64 bits
 abbrev pub StopsWithin : ℕ → Stop → Type 0
