@@ -5,6 +5,7 @@ use Rattle.gob_types.specs.Defined.{types}
 use Rattle.gob_value.specs.Spelling.{Spells}
 use Rattle.gob_value.specs.Tree.{depth}
 use Rattle.gob_value.specs.View.{view}
+use Rattle.gob_stream.specs.Writing.{writer_types}
 use Rattle.gob_stream_tests.proofs.values.put_spelled.Goals as goal
 
 pub put_spelled-requires : goal.put_spelled-requires
@@ -14,7 +15,7 @@ put_spelled-requires g c =
     let spelled = c.in_ok-spell.ensures.ok in
     let new = c.in_ok-writer.ensures in
     let bytes : spelled.bytes ≡ c.deref.result.now = sym (c.deref.ensures.value ∙ spelled.appended ∙ ap (λ l. l ++ spelled.bytes) c.new-spelling.ensures.items) in
-    let base : types c.in_ok-table.table ≡ types c.in_ok-writer.writer.types = c.in_ok-table.ensures.base ∙ sym new.nothing.table in
+    let base : types c.in_ok-table.table ≡ writer_types c.in_ok-writer.writer = c.in_ok-table.ensures.base ∙ sym new.nothing.table in
     let limit = ap (λ L. L.depth) (new.limits ∙ c.standard.ensures) in
     record {
       value = v;
