@@ -1,8 +1,13 @@
-//! What the tests of `gob_read` and of `gob_tape` read: bodies, in pieces.
+//! What tests share: rows in the notation of docs/FORMAT.md, with values and bodies, and the reading of bodies in
+//! pieces.
 #![tactic(auto)]
 
 mod body;
 mod reading;
+mod row;
+mod value;
 
 pub use body::Body;
 pub use reading::{read, reader};
+pub use row::{body_of, bytes_of, number, numbers, part};
+pub use value::value_of;

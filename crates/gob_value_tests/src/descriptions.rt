@@ -1,158 +1,49 @@
 //! The examples of docs/FORMAT.md, Descriptions: shapes with the bytes of their descriptions, and values of type 16
 //! that give no shape.
-ghost use Rattle.std.specs.Prelude.{◌+◌, ◌<◌, ◌≤◌};
-
-use crate::rows::{Made, Part, expect, shape_of, value_of};
+use crate::rows::{Made, shape_of};
 use crate::values::is_spelled;
 use gob_num::Memory;
+use gob_read_support::{bytes_of, part, value_of};
 use gob_types::{Shape, Table, TypeId};
 use gob_value::{ShapeFault, Value, describe, fits, shape_from};
-use std::alloc::{AllocError, Global};
+use std::alloc::Global;
 
 // The type that is being defined.
 const ID: TypeId = TypeId(65);
 
-// The field of wireType that is present, the Id in its CommonType and the numbers in its fields 1 and 2.
-#[derive(Clone, Copy)]
-struct Given(u64, Option<i64>, Option<i64>, Option<i64>);
+// What gives a shape, the value of type 16, and the bytes of the shape's description.
+const SHAPES: &str = "
+an array of 2 ints | 65 fields:1 2 2 fields:0,1,2 fields:0 | 01 01 02 ff 82 00 01 04 01 04 00 00
+an array of 0 ints | 65 fields:1 2 0 fields:0,1,2 fields:0 | 01 01 02 ff 82 00 01 04 00 00
+an array of ints without a Len | 65 fields:1 2 fields:0,1 fields:0 | 01 01 02 ff 82 00 01 04 00 00
+a slice of type 9 | 65 fields:1 9 fields:0,1 fields:1 | 02 01 02 ff 82 00 01 12 00 00
+a map from string to int | 65 fields:1 6 2 fields:0,1,2 fields:3 | 04 01 02 ff 82 00 01 0c 01 04 00 00
+opaque, as gob | 65 fields:1 fields:0 fields:4 | 05 01 02 ff 82 00 00 00
+opaque, as binary | 65 fields:1 fields:0 fields:5 | 06 01 02 ff 82 00 00 00
+opaque, as text | 65 fields:1 fields:0 fields:6 | 07 01 02 ff 82 00 00 00
+";
 
-// What gives a shape, with the bytes of the shape's description.
-static SHAPES: [(Given, &[u8]); 8] = [
-    (
-        Given(0, Some(65), Some(2), Some(2)),
-        b"\x01\x01\x02\xff\x82\x00\x01\x04\x01\x04\x00\x00",
-    ),
-    (
-        Given(0, Some(65), Some(2), Some(0)),
-        b"\x01\x01\x02\xff\x82\x00\x01\x04\x00\x00",
-    ),
-    (
-        Given(0, Some(65), Some(2), None),
-        b"\x01\x01\x02\xff\x82\x00\x01\x04\x00\x00",
-    ),
-    (
-        Given(1, Some(65), Some(9), None),
-        b"\x02\x01\x02\xff\x82\x00\x01\x12\x00\x00",
-    ),
-    (
-        Given(3, Some(65), Some(6), Some(2)),
-        b"\x04\x01\x02\xff\x82\x00\x01\x0c\x01\x04\x00\x00",
-    ),
-    (
-        Given(4, Some(65), None, None),
-        b"\x05\x01\x02\xff\x82\x00\x00\x00",
-    ),
-    (
-        Given(5, Some(65), None, None),
-        b"\x06\x01\x02\xff\x82\x00\x00\x00",
-    ),
-    (
-        Given(6, Some(65), None, None),
-        b"\x07\x01\x02\xff\x82\x00\x00\x00",
-    ),
-];
-
-// What gives none.
-static FAULTS: [(Given, ShapeFault); 14] = [
-    (Given(1, Some(66), Some(2), None), ShapeFault::WrongId),
-    (Given(1, Some(-66), Some(2), None), ShapeFault::WrongId),
-    (Given(2, None, None, None), ShapeFault::WrongId),
-    (Given(1, Some(66), Some(0), None), ShapeFault::WrongId),
-    (Given(1, Some(65), None, None), ShapeFault::BadReference),
-    (Given(1, Some(65), Some(0), None), ShapeFault::BadReference),
-    (Given(1, Some(65), Some(24), None), ShapeFault::BadReference),
-    (
-        Given(1, Some(65), Some(2147483648), None),
-        ShapeFault::BadReference,
-    ),
-    (Given(1, Some(65), Some(-1), None), ShapeFault::BadReference),
-    (Given(3, Some(65), Some(2), None), ShapeFault::BadReference),
-    (Given(3, Some(65), None, Some(2)), ShapeFault::BadReference),
-    (Given(0, Some(65), None, Some(-1)), ShapeFault::BadReference),
-    (Given(0, Some(65), Some(2), Some(-1)), ShapeFault::BadLength),
-    (
-        Given(0, Some(65), Some(2147483647), Some(-1)),
-        ShapeFault::BadLength,
-    ),
-];
-
-// Nothing present, two fields of wireType, no CommonType, and a field of a struct without an Id.
-static FAULTS_OF_ABSENCE: [(&[Part], ShapeFault); 4] = [
-    (&[Part::Fields(0)], ShapeFault::KindCount),
-    (
-        &[
-            Part::Fields(0),
-            Part::Field(0),
-            Part::Fields(0),
-            Part::Field(1),
-            Part::Fields(2),
-        ],
-        ShapeFault::KindCount,
-    ),
-    (
-        &[Part::Fields(0), Part::Field(1), Part::Fields(1)],
-        ShapeFault::WrongId,
-    ),
-    (
-        &[
-            Part::Int(65),
-            Part::Field(1),
-            Part::Fields(1),
-            Part::Field(0),
-            Part::Str(b"X"),
-            Part::Field(0),
-            Part::Fields(1),
-            Part::Many(1),
-            Part::Field(1),
-            Part::Fields(2),
-            Part::Field(2),
-            Part::Fields(1),
-        ],
-        ShapeFault::BadReference,
-    ),
-];
-
-// The steps that make the field of this number, where it is given.
-fn number_of(given: Option<i64>) -> Part {
-    match given {
-        Some(number) => Part::Int(number),
-        None => Part::Nothing,
-    }
-}
-
-fn field_of(given: Option<i64>, field: u64) -> Part {
-    match given {
-        Some(_) => Part::Field(field),
-        None => Part::Nothing,
-    }
-}
-
-// How many fields these are, behind so many.
-fn count_of(before: usize, given: Option<i64>) -> usize
-    requires { before < 9 }
-    ensures { result ≤ before + 1 }
-{
-    before + usize::from(given.is_some())
-}
-
-// The value of type 16.
-fn wire_type(alloc: Global, given: Given) -> Result<Value, AllocError> {
-    let Given(wire, id, first, second) = given;
-    let parts = [
-        number_of(id),
-        field_of(id, 1),
-        Part::Fields(count_of(0, id)),
-        Part::Field(0),
-        number_of(first),
-        field_of(first, 1),
-        number_of(second),
-        field_of(second, 2),
-        Part::Fields(count_of(count_of(1, first), second)),
-        Part::Field(wire),
-        Part::Fields(1),
-    ];
-    value_of(alloc, &parts)
-}
+// What gives none, the value of type 16, and why.
+const FAULTS: &str = "
+another Id | 66 fields:1 2 fields:0,1 fields:1 | WrongId
+an Id below 0 | -66 fields:1 2 fields:0,1 fields:1 | WrongId
+no Id | fields: fields:0 fields:2 | WrongId
+another Id, and an Elem of 0 | 66 fields:1 0 fields:0,1 fields:1 | WrongId
+no Elem | 65 fields:1 fields:0 fields:1 | BadReference
+an Elem of 0 | 65 fields:1 0 fields:0,1 fields:1 | BadReference
+an Elem of 24 | 65 fields:1 24 fields:0,1 fields:1 | BadReference
+an Elem beyond the greatest id | 65 fields:1 2147483648 fields:0,1 fields:1 | BadReference
+an Elem below 0 | 65 fields:1 -1 fields:0,1 fields:1 | BadReference
+a Key and no Elem | 65 fields:1 2 fields:0,1 fields:3 | BadReference
+an Elem and no Key | 65 fields:1 2 fields:0,2 fields:3 | BadReference
+no Elem, and a Len below 0 | 65 fields:1 -1 fields:0,2 fields:0 | BadReference
+a Len below 0 | 65 fields:1 2 -1 fields:0,1,2 fields:0 | BadLength
+a Len below 0 of the greatest id | 65 fields:1 2147483647 -1 fields:0,1,2 fields:0 | BadLength
+no field of wireType | fields: | KindCount
+two fields of wireType | fields: fields: fields:0,1 | KindCount
+no CommonType | fields: fields:1 | WrongId
+a field of a struct without an Id | 65 fields:1 'X fields:0 many:1 fields:0,1 fields:2 | BadReference
+";
 
 /// The shape that the value gives. A value of another type is answered as `KindCount`.
 pub(crate) fn judged(alloc: Global, value: &Value) -> Result<Shape, ShapeFault> {
@@ -193,50 +84,46 @@ fn gives(alloc: Global, value: &Value, bytes: &[u8]) -> Result<bool, Memory> {
     }
 }
 
-fn is_refused(alloc: Global, value: &Value, fault: ShapeFault) -> bool {
+fn is_row_described(alloc: Global, row: &str) -> Result<bool, Memory> {
+    let value = value_of(alloc, part(row, 1))?;
+    let bytes = bytes_of(alloc, part(row, 2))?;
+    gives(alloc, &value, &bytes)
+}
+
+// Whether the value is refused by the fault of this name.
+fn is_refused(alloc: Global, value: &Value, fault: &str) -> bool {
     match judged(alloc, value) {
-        Ok(_) => false,
-        Err(found) => found == fault,
+        Err(ShapeFault::KindCount) => fault == "KindCount",
+        Err(ShapeFault::WrongId) => fault == "WrongId",
+        Err(ShapeFault::BadReference) => fault == "BadReference",
+        Err(ShapeFault::BadLength) => fault == "BadLength",
+        _ => false,
     }
 }
 
-fn row_is_described(alloc: Global, given: Given, bytes: &[u8]) -> Result<bool, Memory> {
-    gives(alloc, &wire_type(alloc, given)?, bytes)
-}
-
-fn row_is_refused(alloc: Global, given: Given, fault: ShapeFault) -> Result<bool, Memory> {
-    Ok(is_refused(alloc, &wire_type(alloc, given)?, fault))
-}
-
-fn absence_is_refused(alloc: Global, parts: &[Part], fault: ShapeFault) -> Result<bool, Memory> {
-    Ok(is_refused(alloc, &value_of(alloc, parts)?, fault))
+fn is_row_refused(alloc: Global, row: &str) -> Result<bool, Memory> {
+    Ok(is_refused(alloc, &value_of(alloc, part(row, 1))?, part(row, 2)))
 }
 
 #[test]
 fn shapes_are_described(rt: HostRuntime) {
-    for (i, (given, bytes)) in SHAPES.iter().enumerate() {
-        let is_right = row_is_described(rt.alloc(), *given, bytes) == Ok(true);
-        expect(&rt, is_right, "SHAPES", i);
+    for row in SHAPES.trim().lines() {
+        assert!(rt; is_row_described(rt.alloc(), row) == Ok(true), "{row}");
     }
 }
 
 #[test]
 fn descriptions_are_refused(rt: HostRuntime) {
-    for (i, (given, fault)) in FAULTS.iter().enumerate() {
-        let is_right = row_is_refused(rt.alloc(), *given, *fault) == Ok(true);
-        expect(&rt, is_right, "FAULTS", i);
-    }
-    for (i, (parts, fault)) in FAULTS_OF_ABSENCE.iter().enumerate() {
-        let is_right = absence_is_refused(rt.alloc(), parts, *fault) == Ok(true);
-        expect(&rt, is_right, "FAULTS_OF_ABSENCE", i);
+    for row in FAULTS.trim().lines() {
+        assert!(rt; is_row_refused(rt.alloc(), row) == Ok(true), "{row}");
     }
 }
 
 // struct P { X, Y int }, and the bytes of its description
 static POINT: Made = Made::Struct(&[(b"X", 2), (b"Y", 2)]);
 
-const POINT_DESCRIBED: &[u8] =
-    b"\x03\x01\x01\x01P\x01\xff\x82\x00\x01\x02\x01\x01X\x01\x04\x00\x01\x01Y\x01\x04\x00\x00\x00";
+const POINT_DESCRIBED: &str =
+    "03 01 01 01 50 01 ff 82 00 01 02 01 01 58 01 04 00 01 01 59 01 04 00 00 00";
 
 // Whether the shape's own description gives a shape with this description.
 fn is_read_back(alloc: Global, shape: &Shape, bytes: &[u8]) -> Result<bool, Memory> {
@@ -247,11 +134,14 @@ fn is_read_back(alloc: Global, shape: &Shape, bytes: &[u8]) -> Result<bool, Memo
 }
 
 fn is_point_read_back(alloc: Global) -> Result<bool, Memory> {
-    is_read_back(alloc, &shape_of(alloc, b"P", POINT)?, POINT_DESCRIBED)
+    let bytes = bytes_of(alloc, POINT_DESCRIBED)?;
+    is_read_back(alloc, &shape_of(alloc, b"P", POINT)?, &bytes)
 }
 
 #[test]
 fn fields_of_a_struct_are_read_back(rt: HostRuntime) {
-    let is_right = is_point_read_back(rt.alloc()) == Ok(true);
-    expect(&rt, is_right, "a struct of fields", 2);
+    assert!(rt;
+        is_point_read_back(rt.alloc()) == Ok(true),
+        "a struct of X and Y"
+    );
 }

@@ -1,9 +1,10 @@
 //! Tables and values where memory may be refused: the right answer, or want of memory and nothing else.
 //! tools/refuse-memory runs this with each allocation refused in turn.
 use crate::descriptions::{described, judged};
-use crate::rows::{Made, expect, shape_of};
+use crate::rows::{Made, shape_of};
 use crate::values::tidied;
 use gob_num::Memory;
+use gob_read_support::bytes_of;
 use gob_types::{DefineFault, NotReady, Shape, Shapes, Table, TypeId};
 use gob_value::{ShapeFault, SpellFault, Value, spell};
 use std::alloc::{AllocError, Global};
@@ -41,14 +42,13 @@ fn tables_want_memory(rt: HostRuntime) {
         return;
     };
     let taken = is_taken(rt.alloc(), &mut table);
-    expect(&rt, taken != Ok(false), "defined", 65);
+    assert!(rt; taken != Ok(false), "a definition");
     let ready = is_ready(rt.alloc(), &table, 16);
-    expect(&rt, ready != Ok(false), "ready", 16);
+    assert!(rt; ready != Ok(false), "wireType is ready");
 }
 
 // Its description, as docs/FORMAT.md, Descriptions, says.
-const DESCRIPTION: &[u8] =
-    b"\x03\x01\x01\x01P\x01\xff\x82\x00\x01\x01\x01\x01X\x01\x04\x00\x00\x00";
+const DESCRIPTION: &str = "03 01 01 01 50 01 ff 82 00 01 01 01 01 58 01 04 00 00 00";
 
 // struct P { X int }
 static SHAPE: Made = Made::Struct(&[(b"X", 2)]);
@@ -73,9 +73,10 @@ fn shape_again(alloc: Global, value: &Value) -> Result<Option<Shape>, Memory> {
 // Whether the value is spelled as the description, behind what the vector held; it holds no more where memory is
 // refused.
 fn is_appended(alloc: Global, table: &Table, value: &Value) -> Result<bool, Memory> {
+    let due = bytes_of(alloc, DESCRIPTION)?;
     let mut out = vec![in alloc; 7u8]?;
     match spell(alloc, table, TypeId(16), value, 1000, &mut out) {
-        Ok(()) => Ok(out.starts_with(&[7]) && out.ends_with(DESCRIPTION)),
+        Ok(()) => Ok(out.starts_with(&[7]) && out.ends_with(&due)),
         Err(SpellFault::Memory) if out.len() == 1 => Err(Memory),
         Err(_) => Ok(false),
     }
@@ -112,6 +113,6 @@ fn is_described(alloc: Global, table: &Table) -> Result<bool, Memory> {
 fn descriptions_want_memory(rt: HostRuntime) {
     if let Ok(table) = Table::new(rt.alloc(), 0) {
         let answer = is_described(rt.alloc(), &table);
-        expect(&rt, answer != Ok(false), "described", 0);
+        assert!(rt; answer != Ok(false), "the description of a struct");
     }
 }

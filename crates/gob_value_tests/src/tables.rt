@@ -1,5 +1,5 @@
 //! What tables answer: histories of definitions and questions, the base table, and which shapes are definable.
-use crate::rows::{Made, expect, expect_all, is_defined, shape_of};
+use crate::rows::{Made, expect_all, is_defined, shape_of};
 use gob_num::Memory;
 use gob_types::{DefineFault, Kind, NotReady, Shapes, Table, TypeId};
 use std::alloc::{AllocError, Global};
@@ -17,9 +17,10 @@ enum Step {
     Count(u64),
 }
 
-// Each of these begins with a new table, which takes as many definitions as it says.
-static HISTORIES: [(u64, &[Step]); 8] = [
+// Each of these begins with a new table, which takes as many definitions as stand behind its name.
+static HISTORIES: [(&str, u64, &[Step]); 8] = [
     (
+        "types that others name, one undefined",
         2,
         &[
             Step::Undefined(9, 9),
@@ -38,6 +39,7 @@ static HISTORIES: [(u64, &[Step]); 8] = [
         ],
     ),
     (
+        "arrays of no elements",
         2,
         &[
             Step::Define(65, Made::Array(65, 0), Ok(())),
@@ -47,6 +49,7 @@ static HISTORIES: [(u64, &[Step]); 8] = [
         ],
     ),
     (
+        "two arrays of each other",
         2,
         &[
             Step::Define(70, Made::Array(69, 1), Ok(())),
@@ -56,6 +59,7 @@ static HISTORIES: [(u64, &[Step]); 8] = [
         ],
     ),
     (
+        "an array of itself beneath others",
         5,
         &[
             Step::Define(65, Made::Array(65, 1), Ok(())),
@@ -71,6 +75,7 @@ static HISTORIES: [(u64, &[Step]); 8] = [
         ],
     ),
     (
+        "the base table",
         0,
         &[
             Step::Count(0),
@@ -84,8 +89,8 @@ static HISTORIES: [(u64, &[Step]); 8] = [
             Step::Ready(22),
         ],
     ),
-    // a type becomes ready with the one that it names
     (
+        "a type that becomes ready with the one that it names",
         2,
         &[
             Step::Define(65, Made::Struct(&[(b"A", 66)]), Ok(())),
@@ -95,8 +100,8 @@ static HISTORIES: [(u64, &[Step]); 8] = [
             Step::Ready(66),
         ],
     ),
-    // two types become ready together, and one that is its own element never does
     (
+        "two types that become ready together",
         3,
         &[
             Step::Define(65, Made::Struct(&[(b"", 66)]), Ok(())),
@@ -111,6 +116,7 @@ static HISTORIES: [(u64, &[Step]); 8] = [
         ],
     ),
     (
+        "reserved ids, and one definition too many",
         0,
         &[
             Step::Define(0, Made::Slice(2), Err(DefineFault::ReservedType)),
@@ -159,9 +165,9 @@ fn answered_anew(alloc: Global, most: u64, steps: &[Step]) -> Result<usize, Memo
 
 #[test]
 fn histories_are_answered(rt: HostRuntime) {
-    for (most, steps) in &HISTORIES {
+    for (name, most, steps) in &HISTORIES {
         let found = answered_anew(rt.alloc(), *most, steps);
-        expect_all(&rt, found, steps.len(), "HISTORIES, a history's step");
+        expect_all(&rt, found, steps.len(), name);
     }
 }
 
@@ -194,7 +200,12 @@ fn chain_answered(alloc: Global, table: &mut Table) -> Result<usize, Memory> {
 fn a_long_chain_is_answered(rt: HostRuntime) -> Result<(), Fail> {
     let mut table = Table::new(rt.alloc(), 10000)?;
     let found = chain_answered(rt.alloc(), &mut table);
-    expect_all(&rt, found, CHAINED.len(), "CHAINED");
+    expect_all(
+        &rt,
+        found,
+        CHAINED.len(),
+        "10000 types, each an array of the next",
+    );
     Ok(())
 }
 
@@ -253,30 +264,24 @@ fn has_field(table: &Table, id: u64, count: usize, number: usize, name: &[u8], o
         && field.id == TypeId(of)
 }
 
-// (Each list of rows has a function of its own, since a proof reads all that its function names.)
-fn has_names(table: &Table) -> bool {
+#[test]
+fn types_of_the_base_table_have_names(rt: HostRuntime) -> Result<(), Fail> {
+    let table = Table::new(rt.alloc(), 3)?;
     for (id, name) in &BASE {
-        if !has_name(table, *id, *name) {
-            return false;
-        }
+        assert!(rt; has_name(&table, *id, *name), "type {id}");
     }
-    true
-}
-
-fn has_fields(table: &Table) -> bool {
-    for (i, (name, of)) in WIRE_TYPE.iter().enumerate() {
-        if !has_field(table, 16, WIRE_TYPE.len(), i, name, *of) {
-            return false;
-        }
-    }
-    true
+    Ok(())
 }
 
 #[test]
-fn the_base_table_is_there(rt: HostRuntime) -> Result<(), Fail> {
+fn wire_type_has_its_fields(rt: HostRuntime) -> Result<(), Fail> {
     let table = Table::new(rt.alloc(), 3)?;
-    assert!(rt; has_names(&table));
-    assert!(rt; has_fields(&table));
+    for (i, (name, of)) in WIRE_TYPE.iter().enumerate() {
+        assert!(rt;
+            has_field(&table, 16, WIRE_TYPE.len(), i, name, *of),
+            "field {i}"
+        );
+    }
     Ok(())
 }
 
@@ -293,14 +298,26 @@ static REFERENCES: [(u64, bool); 8] = [
 ];
 
 // Shapes, and whether a description can give them.
-static SHAPES: [(Made, bool); 7] = [
-    (Made::Array(2, 9223372036854775807), true),
-    (Made::Array(2, 9223372036854775808), false),
-    (Made::Struct(&[]), true),
-    (Made::Struct(&[(b"", 2), (b"", 23)]), true),
-    (Made::Struct(&[(b"", 2), (b"", 24)]), false),
-    (Made::Opaque, true),
-    (Made::Basic, false),
+static SHAPES: [(&str, Made, bool); 7] = [
+    (
+        "the longest array",
+        Made::Array(2, 9223372036854775807),
+        true,
+    ),
+    ("one longer", Made::Array(2, 9223372036854775808), false),
+    ("no field", Made::Struct(&[]), true),
+    (
+        "fields of 2 and 23",
+        Made::Struct(&[(b"", 2), (b"", 23)]),
+        true,
+    ),
+    (
+        "fields of 2 and 24",
+        Made::Struct(&[(b"", 2), (b"", 24)]),
+        false,
+    ),
+    ("opaque", Made::Opaque, true),
+    ("basic", Made::Basic, false),
 ];
 
 fn is_definable(alloc: Global, made: Made) -> Result<bool, AllocError> {
@@ -323,26 +340,19 @@ fn are_definable(alloc: Global, id: u64, wanted: bool) -> Result<bool, AllocErro
     Ok(true)
 }
 
-fn are_references_definable(alloc: Global) -> Result<bool, AllocError> {
+#[test]
+fn shapes_that_refer_to_types_are_definable(rt: HostRuntime) {
     for (id, wanted) in &REFERENCES {
-        if !are_definable(alloc, *id, *wanted)? {
-            return Ok(false);
-        }
+        assert!(rt;
+            are_definable(rt.alloc(), *id, *wanted) == Ok(true),
+            "type {id}"
+        );
     }
-    Ok(true)
-}
-
-fn are_shapes_definable(alloc: Global) -> Result<bool, AllocError> {
-    for (made, wanted) in &SHAPES {
-        if is_definable(alloc, *made)? != *wanted {
-            return Ok(false);
-        }
-    }
-    Ok(true)
 }
 
 #[test]
-fn some_shapes_are_definable(rt: HostRuntime) {
-    assert!(rt; are_references_definable(rt.alloc()) == Ok(true));
-    assert!(rt; are_shapes_definable(rt.alloc()) == Ok(true));
+fn shapes_of_each_kind_are_definable(rt: HostRuntime) {
+    for (name, made, wanted) in &SHAPES {
+        assert!(rt; is_definable(rt.alloc(), *made) == Ok(*wanted), "{name}");
+    }
 }

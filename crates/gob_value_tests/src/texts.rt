@@ -1,5 +1,4 @@
 //! The numbers of the reasons for which bytes are refused, and what is printed of them.
-use crate::rows::expect;
 use gob_num::Memory;
 use gob_types::{Reason, TypeId};
 use std::alloc::{AllocError, Global};
@@ -40,9 +39,14 @@ fn is_printed(alloc: Global, reason: Reason, text: &str) -> Result<bool, AllocEr
 #[test]
 fn reasons_have_numbers_and_names(rt: HostRuntime) {
     for (i, (reason, text)) in REASONS.iter().enumerate() {
-        let is_right = is_printed(rt.alloc(), *reason, text) == Ok(true);
-        expect(&rt, is_right, "REASONS, the name", i);
-        expect(&rt, usize::from(reason.number()) == i + 1, "REASONS", i);
+        assert!(rt;
+            is_printed(rt.alloc(), *reason, text) == Ok(true),
+            "the name {text}"
+        );
+        assert!(rt;
+            usize::from(reason.number()) == i + 1,
+            "the number of {text}"
+        );
     }
 }
 
@@ -59,6 +63,9 @@ fn is_want_of_memory_printed(alloc: Global) -> Result<bool, AllocError> {
 
 #[test]
 fn others_are_printed(rt: HostRuntime) {
-    assert!(rt; is_id_printed(rt.alloc()) == Ok(true));
-    assert!(rt; is_want_of_memory_printed(rt.alloc()) == Ok(true));
+    assert!(rt; is_id_printed(rt.alloc()) == Ok(true), "a type id");
+    assert!(rt;
+        is_want_of_memory_printed(rt.alloc()) == Ok(true),
+        "want of memory"
+    );
 }

@@ -2,45 +2,37 @@
 //! refused.
 ghost use Rattle.std.specs.Prelude.{◌≤◌};
 
-use crate::rows::{Made, Part, table_of, value_of};
+use crate::rows::{Made, table_of};
 use gob_num::Memory;
+use gob_read_support::{bytes_of, number, part, value_of};
 use gob_types::{Table, TypeId};
 use gob_value::{Misfit, SpellFault, Value, fits, spell, tidy};
 use std::alloc::{AllocError, Global};
 use std::test::Fail;
 
-const POINT: u64 = 65; // struct { int, int }
-
-const NODE: u64 = 66; // struct { int, NODE }
-
-const PAIR: u64 = 67; // [2]int
-
-const NEST: u64 = 68; // []NEST
-
-const AGES: u64 = 69; // map[uint]int
-
-const STAMP: u64 = 70; // opaque
-
-const INTS: u64 = 71; // []int
-
-const POINTS: u64 = 72; // []POINT
-
-const PLACES: u64 = 73; // map[POINT]POINTS
-
-const ALL: u64 = 74; // a struct with a field of each type
+// A slice of itself.
+const NEST: u64 = 68;
 
 static TYPES: [(u64, Made); 10] = [
-    (POINT, Made::Struct(&[(b"", 2), (b"", 2)])),
-    (NODE, Made::Struct(&[(b"", 2), (b"", NODE)])),
-    (PAIR, Made::Array(2, 2)),
+    // two ints
+    (65, Made::Struct(&[(b"", 2), (b"", 2)])),
+    // an int and another such struct
+    (66, Made::Struct(&[(b"", 2), (b"", 66)])),
+    // of 2 ints
+    (67, Made::Array(2, 2)),
     (NEST, Made::Slice(NEST)),
-    (AGES, Made::Map(3, 2)),
-    (STAMP, Made::Opaque),
-    (INTS, Made::Slice(2)),
-    (POINTS, Made::Slice(POINT)),
-    (PLACES, Made::Map(POINT, POINTS)),
+    // from uints to ints
+    (69, Made::Map(3, 2)),
+    (70, Made::Opaque),
+    // of ints
+    (71, Made::Slice(2)),
+    // of structs of two ints
+    (72, Made::Slice(65)),
+    // from such structs to slices of them
+    (73, Made::Map(65, 72)),
+    // with a field of each type
     (
-        ALL,
+        74,
         Made::Struct(&[
             (b"", 1),
             (b"", 2),
@@ -49,340 +41,77 @@ static TYPES: [(u64, Made); 10] = [
             (b"", 7),
             (b"", 5),
             (b"", 6),
-            (b"", INTS),
-            (b"", PAIR),
-            (b"", AGES),
-            (b"", POINT),
+            (b"", 71),
+            (b"", 67),
+            (b"", 69),
+            (b"", 65),
             (b"", 8),
-            (b"", STAMP),
+            (b"", 70),
         ]),
     ),
 ];
 
-const SEVENTEEN: u64 = 0x4031_0000_0000_0000;
+// What, its type, the value, its depth, and its bytes.
+const SPELLED: &str = "
+3 | 2 | 3 | 1 | 06
+-1 | 2 | -1 | 1 | 01
+64 | 2 | 64 | 1 | ff 80
+-129 | 2 | -129 | 1 | fe 01 01
+true | 1 | true | 1 | 01
+256, a uint | 3 | uint:256 | 1 | fe 01 00
+17.0 | 4 | float:4031000000000000 | 1 | fe 31 40
+17.0 and 0.0 | 7 | complex:4031000000000000,0 | 1 | fe 31 40 00
+nil | 8 | nil | 1 | 00
+a text | 6 | 'g | 1 | 01 67
+X 22, Y 33 | 65 | 22 33 fields:0,1 | 2 | 01 2c 01 42 00
+Y 33 | 65 | 33 fields:1 | 2 | 02 42 00
+X 0 | 65 | 0 fields:0 | 2 | 01 00 00
+V 1, Next (V 2) | 66 | 1 2 fields:0 fields:0,1 | 3 | 01 02 01 01 04 00 00
+an array of 2 ints | 67 | 1 2 many:2 | 2 | 02 02 04
+a map with a key twice | 69 | uint:9 1 uint:9 2 pairs:2 | 2 | 02 09 02 09 04
+an opaque value | 70 | ~x | 1 | 01 78
+a slice of itself | 68 | many:0 many:1 many:1 | 3 | 01 01 00
+";
 
-const NEGATIVE_ZERO: u64 = 0x8000_0000_0000_0000;
+// What, its type, the value, the greatest depth, and why it is refused.
+const REFUSED: &str = "
+an int as a uint | 3 | 1 | 1 | DoesNotFit
+no such type | 9 | 1 | 1 | DoesNotFit
+an int at no depth for it | 2 | 1 | 0 | TooDeep
+Y before X | 65 | 33 22 fields:1,0 | 2 | DoesNotFit
+a third field of two | 65 | 33 fields:2 | 2 | DoesNotFit
+an array of 2 ints with 3 | 67 | 1 2 3 many:3 | 2 | DoesNotFit
+a slice of itself, too deep | 68 | many:0 many:1 many:1 | 2 | TooDeep
+an int in a slice of itself | 68 | 1 many:0 many:1 many:1 many:2 | 4 | DoesNotFit
+too deep behind a part that doesn't fit | 68 | 1 many:0 many:1 many:1 many:2 | 3 | TooDeep
+";
 
-// What is wanted of a value at a type.
-#[derive(Clone, Copy)]
-enum Wanted {
-    // It fits at this depth, and these are its bytes.
-    Spelled(u64, &'static [u8]),
-    // It is refused at this depth.
-    Refused(u64, Misfit),
-    // These are the bytes of its tidy form.
-    Tidied(&'static [u8]),
-}
-
-// A type, the steps that make a value, and what is wanted of it.
-#[derive(Clone, Copy)]
-struct Row(u64, &'static [Part], Wanted);
-
-// Values with their depth and their bytes.
-static SPELLED: [Row; 18] = [
-    Row(2, &[Part::Int(3)], Wanted::Spelled(1, b"\x06")),
-    Row(2, &[Part::Int(-1)], Wanted::Spelled(1, b"\x01")),
-    Row(2, &[Part::Int(64)], Wanted::Spelled(1, b"\xff\x80")),
-    Row(2, &[Part::Int(-129)], Wanted::Spelled(1, b"\xfe\x01\x01")),
-    Row(1, &[Part::Bool(true)], Wanted::Spelled(1, b"\x01")),
-    Row(3, &[Part::Uint(256)], Wanted::Spelled(1, b"\xfe\x01\x00")),
-    Row(
-        4,
-        &[Part::Float(SEVENTEEN)],
-        Wanted::Spelled(1, b"\xfe\x31\x40"),
-    ),
-    Row(
-        7,
-        &[Part::Complex(SEVENTEEN, 0)],
-        Wanted::Spelled(1, b"\xfe\x31\x40\x00"),
-    ),
-    Row(8, &[Part::Nil], Wanted::Spelled(1, b"\x00")),
-    Row(6, &[Part::Str(b"g")], Wanted::Spelled(1, b"\x01g")),
-    Row(
-        POINT,
-        &[
-            Part::Int(22),
-            Part::Field(0),
-            Part::Int(33),
-            Part::Field(1),
-            Part::Fields(2),
-        ],
-        Wanted::Spelled(2, b"\x01\x2c\x01\x42\x00"),
-    ),
-    Row(
-        POINT,
-        &[Part::Int(33), Part::Field(1), Part::Fields(1)],
-        Wanted::Spelled(2, b"\x02\x42\x00"),
-    ),
-    Row(
-        POINT,
-        &[Part::Int(0), Part::Field(0), Part::Fields(1)],
-        Wanted::Spelled(2, b"\x01\x00\x00"),
-    ),
-    Row(
-        NODE,
-        &[
-            Part::Int(1),
-            Part::Field(0),
-            Part::Int(2),
-            Part::Field(0),
-            Part::Fields(1),
-            Part::Field(1),
-            Part::Fields(2),
-        ],
-        Wanted::Spelled(3, b"\x01\x02\x01\x01\x04\x00\x00"),
-    ),
-    Row(
-        PAIR,
-        &[Part::Int(1), Part::Int(2), Part::Many(2)],
-        Wanted::Spelled(2, b"\x02\x02\x04"),
-    ),
-    Row(
-        AGES,
-        &[
-            Part::Uint(9),
-            Part::Int(1),
-            Part::Pair,
-            Part::Uint(9),
-            Part::Int(2),
-            Part::Pair,
-            Part::Pairs(2),
-        ],
-        Wanted::Spelled(2, b"\x02\x09\x02\x09\x04"),
-    ),
-    Row(STAMP, &[Part::Opaque(b"x")], Wanted::Spelled(1, b"\x01x")),
-    Row(
-        NEST,
-        &[Part::Many(0), Part::Many(1), Part::Many(1)],
-        Wanted::Spelled(3, b"\x01\x01\x00"),
-    ),
-];
-
-// Values that are refused at a depth.
-static REFUSED: [Row; 9] = [
-    Row(3, &[Part::Int(1)], Wanted::Refused(1, Misfit::DoesNotFit)),
-    Row(9, &[Part::Int(1)], Wanted::Refused(1, Misfit::DoesNotFit)),
-    Row(2, &[Part::Int(1)], Wanted::Refused(0, Misfit::TooDeep)),
-    Row(
-        POINT,
-        &[
-            Part::Int(33),
-            Part::Field(1),
-            Part::Int(22),
-            Part::Field(0),
-            Part::Fields(2),
-        ],
-        Wanted::Refused(2, Misfit::DoesNotFit),
-    ),
-    Row(
-        POINT,
-        &[Part::Int(33), Part::Field(2), Part::Fields(1)],
-        Wanted::Refused(2, Misfit::DoesNotFit),
-    ),
-    Row(
-        PAIR,
-        &[Part::Int(1), Part::Int(2), Part::Int(3), Part::Many(3)],
-        Wanted::Refused(2, Misfit::DoesNotFit),
-    ),
-    Row(
-        NEST,
-        &[Part::Many(0), Part::Many(1), Part::Many(1)],
-        Wanted::Refused(2, Misfit::TooDeep),
-    ),
-    // too deep behind a part that doesn't fit
-    Row(
-        NEST,
-        &[
-            Part::Int(1),
-            Part::Many(0),
-            Part::Many(1),
-            Part::Many(1),
-            Part::Many(2),
-        ],
-        Wanted::Refused(4, Misfit::DoesNotFit),
-    ),
-    Row(
-        NEST,
-        &[
-            Part::Int(1),
-            Part::Many(0),
-            Part::Many(1),
-            Part::Many(1),
-            Part::Many(2),
-        ],
-        Wanted::Refused(3, Misfit::TooDeep),
-    ),
-];
-
-// Structs with one field, of each type, and the bytes of their tidy forms.
-static TIDY_FIELDS: [Row; 17] = [
-    Row(
-        ALL,
-        &[Part::Bool(false), Part::Field(0), Part::Fields(1)],
-        Wanted::Tidied(b"\x00"),
-    ),
-    Row(
-        ALL,
-        &[Part::Bool(true), Part::Field(0), Part::Fields(1)],
-        Wanted::Tidied(b"\x01\x01\x00"),
-    ),
-    Row(
-        ALL,
-        &[Part::Int(0), Part::Field(1), Part::Fields(1)],
-        Wanted::Tidied(b"\x00"),
-    ),
-    Row(
-        ALL,
-        &[Part::Int(-1), Part::Field(1), Part::Fields(1)],
-        Wanted::Tidied(b"\x02\x01\x00"),
-    ),
-    Row(
-        ALL,
-        &[Part::Uint(0), Part::Field(2), Part::Fields(1)],
-        Wanted::Tidied(b"\x00"),
-    ),
-    Row(
-        ALL,
-        &[Part::Float(0), Part::Field(3), Part::Fields(1)],
-        Wanted::Tidied(b"\x00"),
-    ),
-    Row(
-        ALL,
-        &[Part::Float(NEGATIVE_ZERO), Part::Field(3), Part::Fields(1)],
-        Wanted::Tidied(b"\x04\xff\x80\x00"),
-    ),
-    Row(
-        ALL,
-        &[Part::Complex(0, 0), Part::Field(4), Part::Fields(1)],
-        Wanted::Tidied(b"\x00"),
-    ),
-    Row(
-        ALL,
-        &[Part::Complex(0, SEVENTEEN), Part::Field(4), Part::Fields(1)],
-        Wanted::Tidied(b"\x05\x00\xfe\x31\x40\x00"),
-    ),
-    Row(
-        ALL,
-        &[Part::Complex(SEVENTEEN, 0), Part::Field(4), Part::Fields(1)],
-        Wanted::Tidied(b"\x05\xfe\x31\x40\x00\x00"),
-    ),
-    Row(
-        ALL,
-        &[Part::Bytes(b""), Part::Field(5), Part::Fields(1)],
-        Wanted::Tidied(b"\x00"),
-    ),
-    Row(
-        ALL,
-        &[Part::Str(b""), Part::Field(6), Part::Fields(1)],
-        Wanted::Tidied(b"\x00"),
-    ),
-    Row(
-        ALL,
-        &[Part::Many(0), Part::Field(7), Part::Fields(1)],
-        Wanted::Tidied(b"\x00"),
-    ),
-    Row(
-        ALL,
-        &[Part::Pairs(0), Part::Field(9), Part::Fields(1)],
-        Wanted::Tidied(b"\x0a\x00\x00"),
-    ),
-    Row(
-        ALL,
-        &[Part::Fields(0), Part::Field(10), Part::Fields(1)],
-        Wanted::Tidied(b"\x0b\x00\x00"),
-    ),
-    Row(
-        ALL,
-        &[Part::Nil, Part::Field(11), Part::Fields(1)],
-        Wanted::Tidied(b"\x0c\x00\x00"),
-    ),
-    Row(
-        ALL,
-        &[Part::Opaque(b""), Part::Field(12), Part::Fields(1)],
-        Wanted::Tidied(b"\x0d\x00\x00"),
-    ),
-];
-
-// Values with parts, and the bytes of their tidy forms.
-static TIDY_PARTS: [Row; 6] = [
-    Row(
-        POINT,
-        &[
-            Part::Int(0),
-            Part::Field(0),
-            Part::Int(33),
-            Part::Field(1),
-            Part::Fields(2),
-        ],
-        Wanted::Tidied(b"\x02\x42\x00"),
-    ),
-    Row(
-        INTS,
-        &[Part::Int(0), Part::Many(1)],
-        Wanted::Tidied(b"\x01\x00"),
-    ),
-    Row(
-        ALL,
-        &[
-            Part::Int(0),
-            Part::Int(0),
-            Part::Many(2),
-            Part::Field(8),
-            Part::Fields(1),
-        ],
-        Wanted::Tidied(b"\x09\x02\x00\x00\x00"),
-    ),
-    Row(
-        ALL,
-        &[
-            Part::Int(0),
-            Part::Field(0),
-            Part::Int(0),
-            Part::Field(1),
-            Part::Fields(2),
-            Part::Field(10),
-            Part::Fields(1),
-        ],
-        Wanted::Tidied(b"\x0b\x00\x00"),
-    ),
-    Row(
-        PLACES,
-        &[
-            Part::Int(0),
-            Part::Field(0),
-            Part::Int(33),
-            Part::Field(1),
-            Part::Fields(2),
-            Part::Int(0),
-            Part::Field(0),
-            Part::Int(0),
-            Part::Field(1),
-            Part::Fields(2),
-            Part::Many(1),
-            Part::Pair,
-            Part::Pairs(1),
-        ],
-        Wanted::Tidied(b"\x01\x02\x42\x00\x01\x00"),
-    ),
-    // a description of a slice of int without a name, the empty name present
-    Row(
-        16,
-        &[
-            Part::Str(b""),
-            Part::Field(0),
-            Part::Int(65),
-            Part::Field(1),
-            Part::Fields(2),
-            Part::Field(0),
-            Part::Int(2),
-            Part::Field(1),
-            Part::Fields(2),
-            Part::Field(1),
-            Part::Fields(1),
-        ],
-        Wanted::Tidied(b"\x02\x01\x02\xff\x82\x00\x01\x04\x00\x00"),
-    ),
-];
+// What, its type, the value, and the bytes of its tidy form. First structs with one field, of each type.
+const TIDY: &str = "
+false | 74 | false fields:0 | 00
+true | 74 | true fields:0 | 01 01 00
+an int of 0 | 74 | 0 fields:1 | 00
+-1 | 74 | -1 fields:1 | 02 01 00
+a uint of 0 | 74 | uint:0 fields:2 | 00
+0.0 | 74 | float:0 fields:3 | 00
+-0.0 | 74 | float:8000000000000000 fields:3 | 04 ff 80 00
+0.0 and 0.0 | 74 | complex:0,0 fields:4 | 00
+0.0 and 17.0 | 74 | complex:0,4031000000000000 fields:4 | 05 00 fe 31 40 00
+17.0 and 0.0 | 74 | complex:4031000000000000,0 fields:4 | 05 fe 31 40 00 00
+no bytes | 74 | bytes: fields:5 | 00
+an empty text | 74 | ' fields:6 | 00
+an empty slice | 74 | many:0 fields:7 | 00
+an empty map | 74 | pairs:0 fields:9 | 0a 00 00
+a struct with no field | 74 | fields: fields:10 | 0b 00 00
+nil | 74 | nil fields:11 | 0c 00 00
+an opaque value of no bytes | 74 | ~ fields:12 | 0d 00 00
+X 0, Y 33 | 65 | 0 33 fields:0,1 | 02 42 00
+a slice of 0 | 71 | 0 many:1 | 01 00
+an array of 0, 0 | 74 | 0 0 many:2 fields:8 | 09 02 00 00 00
+a struct of X 0, Y 0 | 74 | 0 0 fields:0,1 fields:10 | 0b 00 00
+structs in a map | 73 | 0 33 fields:0,1 0 0 fields:0,1 many:1 pairs:1 | 01 02 42 00 01 00
+a description with an empty Name | 16 | ' 65 fields:0,1 2 fields:0,1 fields:1 | 02 01 02 ff 82 00 01 04 00 00
+";
 
 /// Whether the value fits at this depth and is spelled so.
 pub(crate) fn is_spelled(
@@ -444,32 +173,71 @@ fn is_tidied(
     }
 }
 
-fn is_judged(
-    alloc: Global,
-    table: &Table,
-    id: u64,
-    value: Value,
-    wanted: Wanted,
-) -> Result<bool, Memory> {
-    match wanted {
-        Wanted::Spelled(depth, bytes) => {
-            Ok(is_spelled(alloc, table, id, &value, depth.min(1000), bytes))
-        }
-        Wanted::Refused(depth, misfit) => {
-            Ok(is_refused(alloc, table, id, &value, depth.min(1000), misfit))
-        }
-        Wanted::Tidied(bytes) => is_tidied(alloc, table, id, value, bytes),
-    }
+// The type of a row.
+fn id_of(row: &str) -> u64 {
+    number(part(row, 1), 0)
 }
 
-// The first row that is judged otherwise, or how many there are.
-fn judged(alloc: Global, table: &Table, rows: &[Row]) -> Result<usize, Memory> {
-    for (i, Row(id, parts, wanted)) in rows.iter().enumerate() {
-        if !is_judged(alloc, table, *id, value_of(alloc, parts)?, *wanted)? {
-            return Ok(i);
-        }
+// The depth of a row; 1000 where it says no number.
+fn depth_of(row: &str) -> u64
+    ensures { result ≤ 1000 }
+{
+    number(part(row, 3), 0).min(1000)
+}
+
+fn is_row_spelled(alloc: Global, table: &Table, row: &str) -> Result<bool, Memory> {
+    let value = value_of(alloc, part(row, 2))?;
+    let bytes = bytes_of(alloc, part(row, 4))?;
+    Ok(is_spelled(alloc, table, id_of(row), &value, depth_of(row), &bytes))
+}
+
+fn is_row_refused(alloc: Global, table: &Table, row: &str) -> Result<bool, Memory> {
+    let value = value_of(alloc, part(row, 2))?;
+    let misfit = match part(row, 4) {
+        "TooDeep" => Misfit::TooDeep,
+        _ => Misfit::DoesNotFit,
+    };
+    Ok(is_refused(alloc, table, id_of(row), &value, depth_of(row), misfit))
+}
+
+fn is_row_tidied(alloc: Global, table: &Table, row: &str) -> Result<bool, Memory> {
+    let value = value_of(alloc, part(row, 2))?;
+    let bytes = bytes_of(alloc, part(row, 3))?;
+    is_tidied(alloc, table, id_of(row), value, &bytes)
+}
+
+// (Each list of rows has a test of its own, since a proof reads all that its function names.)
+#[test]
+fn values_are_spelled(rt: HostRuntime) -> Result<(), Fail> {
+    let table = table_of(rt.alloc(), &TYPES)?;
+    for row in SPELLED.trim().lines() {
+        assert!(rt;
+            is_row_spelled(rt.alloc(), &table, row) == Ok(true),
+            "{row}"
+        );
     }
-    Ok(rows.len())
+    Ok(())
+}
+
+#[test]
+fn values_are_refused(rt: HostRuntime) -> Result<(), Fail> {
+    let table = table_of(rt.alloc(), &TYPES)?;
+    for row in REFUSED.trim().lines() {
+        assert!(rt;
+            is_row_refused(rt.alloc(), &table, row) == Ok(true),
+            "{row}"
+        );
+    }
+    Ok(())
+}
+
+#[test]
+fn values_are_tidied(rt: HostRuntime) -> Result<(), Fail> {
+    let table = table_of(rt.alloc(), &TYPES)?;
+    for row in TIDY.trim().lines() {
+        assert!(rt; is_row_tidied(rt.alloc(), &table, row) == Ok(true), "{row}");
+    }
+    Ok(())
 }
 
 // A list in a list and so on, of this depth or of depth 1.
@@ -516,39 +284,19 @@ fn is_too_deep(alloc: Global, table: &Table, depth: u64, limit: u64) -> Result<b
     Ok(is_refused(alloc, table, NEST, &value, limit, Misfit::TooDeep))
 }
 
-fn are_deepest_judged(alloc: Global, table: &Table) -> Result<bool, Memory> {
-    Ok(
-        is_deepest_spelled(alloc, table)?
-            && is_deepest_tidied(alloc, table)?
-            && is_too_deep(alloc, table, 1000, 999)?
-            && is_too_deep(alloc, table, 2000, 1000)?,
-    )
-}
-
-// (Each list of rows has a function of its own, since a proof reads all that its function names.)
-fn are_spelled(alloc: Global, table: &Table) -> bool {
-    judged(alloc, table, &SPELLED) == Ok(18)
-}
-
-fn are_refused(alloc: Global, table: &Table) -> bool {
-    judged(alloc, table, &REFUSED) == Ok(9)
-}
-
-fn are_fields_tidied(alloc: Global, table: &Table) -> bool {
-    judged(alloc, table, &TIDY_FIELDS) == Ok(17)
-}
-
-fn are_parts_tidied(alloc: Global, table: &Table) -> bool {
-    judged(alloc, table, &TIDY_PARTS) == Ok(6)
-}
-
 #[test]
-fn values_are_judged(rt: HostRuntime) -> Result<(), Fail> {
-    let table = table_of(rt.alloc(), &TYPES)?;
-    assert!(rt; are_spelled(rt.alloc(), &table));
-    assert!(rt; are_refused(rt.alloc(), &table));
-    assert!(rt; are_fields_tidied(rt.alloc(), &table));
-    assert!(rt; are_parts_tidied(rt.alloc(), &table));
-    assert!(rt; are_deepest_judged(rt.alloc(), &table) == Ok(true));
+fn values_of_depth_1000_are_the_deepest(rt: HostRuntime) -> Result<(), Fail> {
+    let alloc = rt.alloc();
+    let table = table_of(alloc, &TYPES)?;
+    assert!(rt; is_deepest_spelled(alloc, &table) == Ok(true), "spelled");
+    assert!(rt; is_deepest_tidied(alloc, &table) == Ok(true), "tidied");
+    assert!(rt;
+        is_too_deep(alloc, &table, 1000, 999) == Ok(true),
+        "one below the limit"
+    );
+    assert!(rt;
+        is_too_deep(alloc, &table, 2000, 1000) == Ok(true),
+        "2000 deep"
+    );
     Ok(())
 }

@@ -1,33 +1,27 @@
 //! Which bytes are whole values, and which of these are their own tidy forms.
-use crate::rows::{Made, expect_all, table_of};
+use crate::rows::{Made, table_of};
 use gob_num::Memory;
+use gob_read_support::{bytes_of, number, part};
 use gob_types::{Table, TypeId};
 use gob_value::{is_tidy_whole, is_whole};
 use std::alloc::Global;
-
-const POINT: u64 = 65; // struct { int, int }
-
-const INTS: u64 = 66; // []int
-
-const LISTS: u64 = 67; // []INTS
-
-const PAIR: u64 = 68; // [2]int
-
-const AGES: u64 = 69; // map[uint]int
-
-const STAMP: u64 = 70; // opaque
-
-const ALL: u64 = 71; // a struct with a field of each type
+use std::test::Fail;
 
 static TYPES: [(u64, Made); 7] = [
-    (POINT, Made::Struct(&[(b"", 2), (b"", 2)])),
-    (INTS, Made::Slice(2)),
-    (LISTS, Made::Slice(INTS)),
-    (PAIR, Made::Array(2, 2)),
-    (AGES, Made::Map(3, 2)),
-    (STAMP, Made::Opaque),
+    // two ints
+    (65, Made::Struct(&[(b"", 2), (b"", 2)])),
+    // of ints
+    (66, Made::Slice(2)),
+    // of slices of ints
+    (67, Made::Slice(66)),
+    // of 2 ints
+    (68, Made::Array(2, 2)),
+    // from uints to ints
+    (69, Made::Map(3, 2)),
+    (70, Made::Opaque),
+    // with a field of each type
     (
-        ALL,
+        71,
         Made::Struct(&[
             (b"", 1),
             (b"", 2),
@@ -36,90 +30,75 @@ static TYPES: [(u64, Made); 7] = [
             (b"", 5),
             (b"", 6),
             (b"", 7),
-            (b"", INTS),
-            (b"", PAIR),
-            (b"", AGES),
-            (b"", POINT),
+            (b"", 66),
+            (b"", 68),
+            (b"", 69),
+            (b"", 65),
             (b"", 8),
-            (b"", STAMP),
+            (b"", 70),
         ]),
     ),
 ];
 
-// What bytes are.
-#[derive(Clone, Copy, PartialEq, Eq)]
-enum Found {
-    Tidy,
-    Untidy,
-    NoValue,
-}
+// What, its type, the greatest depth, the bytes, and what these are: a tidy value, an untidy one, or none.
+const ROWS: &str = "
+an int | 2 1 | 00 00 | tidy
+an empty slice | 66 2 | 00 00 | tidy
+a slice of an empty slice | 67 3 | 00 01 00 | tidy
+a map from 0 to 0 | 69 2 | 00 01 00 00 | tidy
+no field | 65 2 | 00 | tidy
+Y 33 | 65 2 | 02 42 00 | tidy
+Y 33 at no depth for it | 65 1 | 02 42 00 | none
+Y 33, cut | 65 2 | 02 42 | none
+Y 33, with more behind | 65 2 | 02 42 00 00 | none
+X 0 | 65 2 | 01 00 00 | untidy
+X 33, Y 0 | 65 2 | 01 42 01 00 00 | untidy
+true | 71 2 | 01 01 00 | tidy
+false | 71 2 | 01 00 00 | untidy
+a uint of 0 | 71 2 | 03 00 00 | untidy
+a float of 0 | 71 2 | 04 00 00 | untidy
+a byte | 71 2 | 05 01 00 00 | tidy
+no byte | 71 2 | 05 00 00 | untidy
+no text | 71 2 | 06 00 00 | untidy
+0 + 1i | 71 2 | 07 00 fe f0 3f 00 | tidy
+1 + 0i | 71 2 | 07 fe f0 3f 00 00 | tidy
+0 + 0i | 71 2 | 07 00 00 00 | untidy
+a slice of 0 | 71 3 | 08 01 00 00 | tidy
+an empty slice in a struct | 71 3 | 08 00 00 | untidy
+an array of 0, 0 | 71 3 | 09 02 00 00 00 | tidy
+an empty map | 71 3 | 0a 00 00 | tidy
+a struct with no field | 71 3 | 0b 00 00 | tidy
+a struct with X 1 | 71 3 | 0b 01 02 00 00 | tidy
+a struct with X 0 | 71 3 | 0b 01 00 00 00 | untidy
+nil | 71 2 | 0c 00 00 | tidy
+no opaque byte | 71 2 | 0d 00 00 | tidy
+";
 
-// A type, a depth, bytes, and what they are.
-#[derive(Clone, Copy)]
-struct Row(u64, u64, &'static [u8], Found);
-
-static ROWS: [Row; 30] = [
-    Row(2, 1, b"\x00\x00", Found::Tidy),
-    Row(INTS, 2, b"\x00\x00", Found::Tidy),
-    Row(LISTS, 3, b"\x00\x01\x00", Found::Tidy),
-    Row(AGES, 2, b"\x00\x01\x00\x00", Found::Tidy),
-    Row(POINT, 2, b"\x00", Found::Tidy),
-    Row(POINT, 2, b"\x02\x42\x00", Found::Tidy),
-    Row(POINT, 1, b"\x02\x42\x00", Found::NoValue),
-    Row(POINT, 2, b"\x02\x42", Found::NoValue),
-    Row(POINT, 2, b"\x02\x42\x00\x00", Found::NoValue),
-    Row(POINT, 2, b"\x01\x00\x00", Found::Untidy),
-    Row(POINT, 2, b"\x01\x42\x01\x00\x00", Found::Untidy),
-    // a bool, a uint, a float
-    Row(ALL, 2, b"\x01\x01\x00", Found::Tidy),
-    Row(ALL, 2, b"\x01\x00\x00", Found::Untidy),
-    Row(ALL, 2, b"\x03\x00\x00", Found::Untidy),
-    Row(ALL, 2, b"\x04\x00\x00", Found::Untidy),
-    // bytes, text
-    Row(ALL, 2, b"\x05\x01\x00\x00", Found::Tidy),
-    Row(ALL, 2, b"\x05\x00\x00", Found::Untidy),
-    Row(ALL, 2, b"\x06\x00\x00", Found::Untidy),
-    // 0 + 1i, 1 + 0i, 0 + 0i
-    Row(ALL, 2, b"\x07\x00\xfe\xf0\x3f\x00", Found::Tidy),
-    Row(ALL, 2, b"\x07\xfe\xf0\x3f\x00\x00", Found::Tidy),
-    Row(ALL, 2, b"\x07\x00\x00\x00", Found::Untidy),
-    // a slice, an array, a map
-    Row(ALL, 3, b"\x08\x01\x00\x00", Found::Tidy),
-    Row(ALL, 3, b"\x08\x00\x00", Found::Untidy),
-    Row(ALL, 3, b"\x09\x02\x00\x00\x00", Found::Tidy),
-    Row(ALL, 3, b"\x0a\x00\x00", Found::Tidy),
-    // a struct
-    Row(ALL, 3, b"\x0b\x00\x00", Found::Tidy),
-    Row(ALL, 3, b"\x0b\x01\x02\x00\x00", Found::Tidy),
-    Row(ALL, 3, b"\x0b\x01\x00\x00\x00", Found::Untidy),
-    // no value of an interface, no bytes of another encoding
-    Row(ALL, 2, b"\x0c\x00\x00", Found::Tidy),
-    Row(ALL, 2, b"\x0d\x00\x00", Found::Tidy),
-];
-
-fn kind_of(table: &Table, id: u64, depth: u64, bytes: &[u8]) -> Found {
+// What the bytes are.
+fn found(table: &Table, id: u64, depth: u64, bytes: &[u8]) -> &'static str {
     match (
         is_whole(table, TypeId(id), bytes, depth),
         is_tidy_whole(table, TypeId(id), bytes, depth),
     ) {
-        (true, true) => Found::Tidy,
-        (true, false) => Found::Untidy,
-        _ => Found::NoValue,
+        (true, true) => "tidy",
+        (true, false) => "untidy",
+        _ => "none",
     }
 }
 
-// The first row that is found otherwise, or how many there are.
-fn rows_found(alloc: Global) -> Result<usize, Memory> {
-    let table = table_of(alloc, &TYPES)?;
-    for (i, Row(id, depth, bytes, wanted)) in ROWS.iter().enumerate() {
-        if kind_of(&table, *id, *depth, bytes) != *wanted {
-            return Ok(i);
-        }
-    }
-    Ok(ROWS.len())
+// Whether the bytes are what the row says.
+fn is_found(alloc: Global, table: &Table, row: &str) -> Result<bool, Memory> {
+    let bytes = bytes_of(alloc, part(row, 2))?;
+    let id = number(part(row, 1), 0);
+    let depth = number(part(row, 1), 1);
+    Ok(found(table, id, depth, &bytes) == part(row, 3))
 }
 
 #[test]
-fn whole_values_are_found(rt: HostRuntime) {
-    expect_all(&rt, rows_found(rt.alloc()), ROWS.len(), "ROWS");
+fn whole_values_are_found(rt: HostRuntime) -> Result<(), Fail> {
+    let table = table_of(rt.alloc(), &TYPES)?;
+    for row in ROWS.trim().lines() {
+        assert!(rt; is_found(rt.alloc(), &table, row) == Ok(true), "{row}");
+    }
+    Ok(())
 }

@@ -1,112 +1,94 @@
 //! How many elements and entries stand whole at the front of bytes.
-use crate::rows::{Made, expect_all, table_of};
+use crate::rows::{Made, table_of};
 use gob_num::Memory;
+use gob_read_support::{bytes_of, number, part};
 use gob_types::{Table, TypeId};
 use gob_value::{WholeParts, whole_elements, whole_entries};
 use std::alloc::Global;
+use std::test::Fail;
 
-const POINT: u64 = 65; // struct { int, int }
-
-const INTS: u64 = 66; // []int
-
+// A struct of two ints, and a slice of ints.
 static TYPES: [(u64, Made); 2] = [
-    (POINT, Made::Struct(&[(b"", 2), (b"", 2)])),
-    (INTS, Made::Slice(2)),
+    (65, Made::Struct(&[(b"", 2), (b"", 2)])),
+    (66, Made::Slice(2)),
 ];
 
-// The type of the elements, how many there may be, a depth, bytes, and how many stand there with how many bytes.
-#[derive(Clone, Copy)]
-struct Elements(u64, u64, u64, &'static [u8], u64, usize);
+// What, the type of the elements, how many there may be, the greatest depth, the bytes, and how many elements stand
+// there with how many bytes.
+const ELEMENTS: &str = "
+nothing | 2 9 1 |  | 0 0
+ints | 2 9 1 | 02 04 06 | 3 3
+ints, of which two may be | 2 2 1 | 02 04 06 | 2 2
+ints, of which none may be | 2 0 1 | 02 04 06 | 0 0
+ints at no depth for them | 2 9 0 | 02 04 06 | 0 0
+a number that is cut | 3 9 1 | 02 fe 01 | 1 1
+a number of too many bytes | 4 9 1 | 02 ff 7f 02 | 1 1
+bools, of which the last is none | 1 9 1 | 00 01 02 | 2 2
+texts | 6 9 1 | 01 61 02 62 63 03 64 | 2 5
+structs, of which one is cut | 65 9 2 | 01 2c 01 42 00 02 42 00 01 2c | 2 8
+a struct that is too deep | 65 9 1 | 00 01 2c 01 42 00 | 1 1
+structs with no field | 65 9 1 | 00 00 | 2 2
+structs at no depth for them | 65 9 0 | 00 00 | 0 0
+slices | 66 9 2 | 02 02 04 00 01 06 03 02 | 3 6
+a slice that is too deep | 66 9 1 | 00 01 06 | 1 1
+no type | 99 9 9 | 00 | 0 0
+";
 
-static ELEMENTS: [Elements; 16] = [
-    Elements(2, 9, 1, b"", 0, 0),
-    Elements(2, 9, 1, b"\x02\x04\x06", 3, 3),
-    Elements(2, 2, 1, b"\x02\x04\x06", 2, 2),
-    Elements(2, 0, 1, b"\x02\x04\x06", 0, 0),
-    Elements(2, 9, 0, b"\x02\x04\x06", 0, 0),
-    // a number that is cut, and one of too many bytes
-    Elements(3, 9, 1, b"\x02\xfe\x01", 1, 1),
-    Elements(4, 9, 1, b"\x02\xff\x7f\x02", 1, 1),
-    // bools, of which the last is none
-    Elements(1, 9, 1, b"\x00\x01\x02", 2, 2),
-    // texts
-    Elements(6, 9, 1, b"\x01a\x02bc\x03d", 2, 5),
-    // structs: cut, then too deep, then with no field
-    Elements(
-        POINT,
-        9,
-        2,
-        b"\x01\x2c\x01\x42\x00\x02\x42\x00\x01\x2c",
-        2,
-        8,
-    ),
-    Elements(POINT, 9, 1, b"\x00\x01\x2c\x01\x42\x00", 1, 1),
-    Elements(POINT, 9, 1, b"\x00\x00", 2, 2),
-    Elements(POINT, 9, 0, b"\x00\x00", 0, 0),
-    // lists
-    Elements(INTS, 9, 2, b"\x02\x02\x04\x00\x01\x06\x03\x02", 3, 6),
-    Elements(INTS, 9, 1, b"\x00\x01\x06", 1, 1),
-    // no type
-    Elements(99, 9, 9, b"\x00", 0, 0),
-];
+// The same of entries, with the types of the keys and of the elements.
+const ENTRIES: &str = "
+nothing | 3 2 9 1 |  | 0 0
+uints and ints | 3 2 9 1 | 01 02 03 04 05 | 2 4
+uints and ints, of which one may be | 3 2 1 1 | 01 02 03 04 05 | 1 2
+uints and ints at no depth for them | 3 2 9 0 | 01 02 03 04 05 | 0 0
+texts and structs, of which one is cut | 6 65 9 2 | 01 61 02 42 00 01 62 | 1 5
+texts and structs, of which one is too deep | 6 65 9 1 | 01 61 00 01 62 02 42 00 | 1 3
+a key that is no bool | 1 2 9 1 | 01 02 02 02 | 1 2
+an element that is no bool | 2 1 9 1 | 02 01 02 02 | 1 2
+no type | 99 2 9 9 | 01 02 | 0 0
+";
 
-// The types of the keys and of the elements, and the same.
-#[derive(Clone, Copy)]
-struct Entries(u64, u64, u64, u64, &'static [u8], u64, usize);
-
-static ENTRIES: [Entries; 9] = [
-    Entries(3, 2, 9, 1, b"", 0, 0),
-    Entries(3, 2, 9, 1, b"\x01\x02\x03\x04\x05", 2, 4),
-    Entries(3, 2, 1, 1, b"\x01\x02\x03\x04\x05", 1, 2),
-    Entries(3, 2, 9, 0, b"\x01\x02\x03\x04\x05", 0, 0),
-    Entries(6, POINT, 9, 2, b"\x01a\x02\x42\x00\x01b", 1, 5),
-    Entries(6, POINT, 9, 1, b"\x01a\x00\x01b\x02\x42\x00", 1, 3),
-    // a key and an element that are no values of their types
-    Entries(1, 2, 9, 1, b"\x01\x02\x02\x02", 1, 2),
-    Entries(2, 1, 9, 1, b"\x02\x01\x02\x02", 1, 2),
-    Entries(99, 2, 9, 9, b"\x01\x02", 0, 0),
-];
-
-// The first row that is answered otherwise, or how many there are.
-fn elements_found(alloc: Global) -> Result<usize, Memory> {
-    let table = table_of(alloc, &TYPES)?;
-    for (i, Elements(elem, most, depth, bytes, count, end)) in ELEMENTS.iter().enumerate() {
-        let wanted = WholeParts {
-            count: *count,
-            end: *end,
-        };
-        if whole_elements(&table, TypeId(*elem), *most, bytes, *depth) != wanted {
-            return Ok(i);
-        }
-    }
-    Ok(ELEMENTS.len())
+// How many parts stand there with how many bytes.
+fn is_found(found: WholeParts, due: &str) -> bool {
+    found.count == number(due, 0) && found.end as u64 == number(due, 1)
 }
 
-fn entries_found(alloc: Global) -> Result<usize, Memory> {
-    let table = table_of(alloc, &TYPES)?;
-    for (i, row) in ENTRIES.iter().enumerate() {
-        if !is_found(&table, row) {
-            return Ok(i);
-        }
-    }
-    Ok(ENTRIES.len())
+fn are_elements_found(alloc: Global, table: &Table, row: &str) -> Result<bool, Memory> {
+    let bytes = bytes_of(alloc, part(row, 2))?;
+    let given = part(row, 1);
+    let elem = TypeId(number(given, 0));
+    let found = whole_elements(table, elem, number(given, 1), &bytes, number(given, 2));
+    Ok(is_found(found, part(row, 3)))
 }
 
-fn is_found(table: &Table, row: &Entries) -> bool {
-    let Entries(key, elem, most, depth, bytes, count, end) = row;
-    let wanted = WholeParts {
-        count: *count,
-        end: *end,
-    };
-    whole_entries(table, TypeId(*key), TypeId(*elem), *most, bytes, *depth) == wanted
+fn are_entries_found(alloc: Global, table: &Table, row: &str) -> Result<bool, Memory> {
+    let bytes = bytes_of(alloc, part(row, 2))?;
+    let given = part(row, 1);
+    let key = TypeId(number(given, 0));
+    let elem = TypeId(number(given, 1));
+    let found = whole_entries(table, key, elem, number(given, 2), &bytes, number(given, 3));
+    Ok(is_found(found, part(row, 3)))
 }
 
 #[test]
-fn whole_elements_are_found(rt: HostRuntime) {
-    expect_all(&rt, elements_found(rt.alloc()), ELEMENTS.len(), "ELEMENTS");
+fn whole_elements_are_found(rt: HostRuntime) -> Result<(), Fail> {
+    let table = table_of(rt.alloc(), &TYPES)?;
+    for row in ELEMENTS.trim().lines() {
+        assert!(rt;
+            are_elements_found(rt.alloc(), &table, row) == Ok(true),
+            "{row}"
+        );
+    }
+    Ok(())
 }
 
 #[test]
-fn whole_entries_are_found(rt: HostRuntime) {
-    expect_all(&rt, entries_found(rt.alloc()), ENTRIES.len(), "ENTRIES");
+fn whole_entries_are_found(rt: HostRuntime) -> Result<(), Fail> {
+    let table = table_of(rt.alloc(), &TYPES)?;
+    for row in ENTRIES.trim().lines() {
+        assert!(rt;
+            are_entries_found(rt.alloc(), &table, row) == Ok(true),
+            "{row}"
+        );
+    }
+    Ok(())
 }
