@@ -2,110 +2,94 @@
 
 use gob_num::Memory;
 use gob_read::{Builder, CheckBuilder, TreeBuilder};
+use gob_read_support::{bytes_of, number, part};
 use gob_stream::{Fault, Input, Limits, Refusal, Session, read_stream};
 use gob_types::Reason;
 use std::alloc::{AllocError, Global};
 use std::test::*;
 
-// The definition of a slice of itself.
-const LIST: &[u8] = b"\x0d\xff\x81\x02\x01\x02\xff\x82\x00\x01\xff\x82\x00\x00";
+// How deep the slices go, what stands before them, the limit for depth, and where they are refused, if they are.
+const COUNTED: &str = "
+2000 | LIST fe 07 d3 ff 82 00 | 65536
+2000 | LIST fe 07 d3 ff 82 00 | 2000
+2000 | LIST fe 07 d3 ff 82 00 | 1000 | 1020
+65536 | LIST fd 01 00 03 ff 82 00 | 65536
+65537 | LIST fd 01 00 04 ff 82 00 | 65536 | 65557
+";
 
-// How deep the slices go, what stands before them in their item, the limit for depth, and where they are refused, if
-// they are.
-#[derive(Clone, Copy)]
-struct Row(u64, &'static [u8], u64, Option<u64>);
-
-const BEFORE_1000: &[u8] = b"\xfe\x03\xeb\xff\x82\x00";
-
-const BEFORE_2000: &[u8] = b"\xfe\x07\xd3\xff\x82\x00";
-
-const BEFORE_65536: &[u8] = b"\xfd\x01\x00\x03\xff\x82\x00";
-
-const BEFORE_65537: &[u8] = b"\xfd\x01\x00\x04\xff\x82\x00";
-
-static COUNTED: [Row; 5] = [
-    Row(2000, BEFORE_2000, 65536, None),
-    Row(2000, BEFORE_2000, 2000, None),
-    Row(2000, BEFORE_2000, 1000, Some(1020)),
-    Row(65536, BEFORE_65536, 65536, None),
-    Row(65537, BEFORE_65537, 65536, Some(65557)),
-];
-
-static BUILT: [Row; 3] = [
-    Row(1000, BEFORE_1000, 65536, None),
-    Row(2000, BEFORE_2000, 65536, Some(1020)),
-    Row(65537, BEFORE_65537, 65536, Some(1021)),
-];
+// The same for trees.
+const BUILT: &str = "
+1000 | LIST fe 03 eb ff 82 00 | 65536
+2000 | LIST fe 07 d3 ff 82 00 | 65536 | 1020
+65537 | LIST fd 01 00 04 ff 82 00 | 65536 | 1021
+";
 
 // The stream of the definition and the slices: each begins with one byte.
-fn stream(alloc: Global, depth: u64, before: &[u8]) -> Result<Vec<u8>, AllocError> {
-    let mut bytes = Vec::from_slice(alloc, LIST)?;
-    bytes.extend_from_slice(before)?;
-    for _ in 1..depth {
+fn stream(alloc: Global, row: &str) -> Result<Vec<u8>, AllocError> {
+    let mut bytes = bytes_of(alloc, part(row, 1))?;
+    for _ in 1..number(part(row, 0), 0) {
         bytes.push(1)?;
     }
     bytes.push(0)?;
     Ok(bytes)
 }
 
-// What is answered of the row's stream.
-fn due(row: Row) -> Result<(), Fault> {
-    let Row(_, _, _, refused) = row;
-    match refused {
-        None => Ok(()),
-        Some(place) => Err(Fault::Refused(Refusal {
-            place,
-            seen: place,
-            reason: Reason::TooDeep,
-        })),
+// What is answered of the row's stream, and how many items come.
+fn due(row: &str) -> (Result<(), Fault>, usize) {
+    if part(row, 3).is_empty() {
+        return (Ok(()), 2);
     }
+    let place = number(part(row, 3), 0);
+    let refusal = Refusal {
+        place,
+        seen: place,
+        reason: Reason::TooDeep,
+    };
+    (Err(Fault::Refused(refusal)), 1)
 }
 
 // Limits for nothing but the depth.
-fn limits(depth: u64) -> Result<Limits, Memory> {
+fn limits_of(row: &str) -> Result<Limits, Memory> {
+    let depth = number(part(row, 2), 0);
     Limits::deep(u64::MAX, depth, 1, Limits::GREATEST_STREAM).ok_or(Memory)
 }
 
 // Whether a session with this builder gives the definition, and the value or that refusal.
-fn is_fed<B: Builder>(alloc: Global, row: Row) -> Result<bool, Memory> {
-    let Row(depth, before, limit, refused) = row;
-    let bytes = stream(alloc, depth, before)?;
-    let mut session = Session::<B>::new(alloc, limits(limit)?)?;
+fn is_fed<B: Builder>(alloc: Global, row: &str) -> Result<bool, Memory> {
+    let bytes = stream(alloc, row)?;
+    let mut session = Session::<B>::new(alloc, limits_of(row)?)?;
     let mut items = Vec::new(alloc);
     let fed = session.feed(alloc, &bytes, &mut items);
-    let count = if refused.is_some() { 1 } else { 2 };
-    Ok(fed == due(row) && items.len() == count)
+    Ok((fed, items.len()) == due(row))
 }
 
 // Whether all that is read is so.
-fn is_read(alloc: Global, row: Row) -> Result<bool, Memory> {
-    let Row(depth, before, limit, refused) = row;
-    let bytes = stream(alloc, depth, before)?;
+fn is_read(alloc: Global, row: &str) -> Result<bool, Memory> {
+    let bytes = stream(alloc, row)?;
     let mut input = Input::new(bytes.as_slice());
     let mut items = Vec::new(alloc);
-    let read = read_stream(alloc, &mut input, limits(limit)?, &mut items);
-    let count = if refused.is_some() { 1 } else { 2 };
-    Ok(read == due(row) && items.len() == count)
+    let read = read_stream(alloc, &mut input, limits_of(row)?, &mut items);
+    Ok((read, items.len()) == due(row))
 }
 
 #[test]
 fn counts_are_read_down_to_65536(rt: HostRuntime) {
-    for (i, row) in COUNTED.iter().enumerate() {
+    for row in COUNTED.trim().lines() {
         assert!(rt;
-            is_fed::<CheckBuilder>(rt.alloc(), *row) == Ok(true),
-            "row {i}"
+            is_fed::<CheckBuilder>(rt.alloc(), row) == Ok(true),
+            "{row}"
         );
     }
 }
 
 #[test]
 fn trees_are_read_down_to_1000(rt: HostRuntime) {
-    for (i, row) in BUILT.iter().enumerate() {
+    for row in BUILT.trim().lines() {
         assert!(rt;
-            is_fed::<TreeBuilder>(rt.alloc(), *row) == Ok(true),
-            "row {i}"
+            is_fed::<TreeBuilder>(rt.alloc(), row) == Ok(true),
+            "fed: {row}"
         );
-        assert!(rt; is_read(rt.alloc(), *row) == Ok(true), "row {i}");
+        assert!(rt; is_read(rt.alloc(), row) == Ok(true), "read: {row}");
     }
 }
 
@@ -121,11 +105,11 @@ fn limits_go_down_to_65536(rt: HostRuntime) {
     for (depth, is_new, is_deep) in &depths {
         assert!(rt;
             Limits::new(1, *depth, 1, 1).is_some() == *is_new,
-            "{depth}"
+            "new at {depth}"
         );
         assert!(rt;
             Limits::deep(1, *depth, 1, 1).is_some() == *is_deep,
-            "{depth}"
+            "deep at {depth}"
         );
     }
 }
@@ -133,6 +117,8 @@ fn limits_go_down_to_65536(rt: HostRuntime) {
 #[test]
 fn limits_are_no_deeper_than_asked_for(rt: HostRuntime) {
     let deep = Limits::deep(7, 65536, 8, 9);
-    assert!(rt; deep.map(|limits| limits.up_to(1000)) == Limits::new(7, 1000, 8, 9));
-    assert!(rt; deep.map(|limits| limits.up_to(65537)) == deep);
+    let lower = deep.map(|limits| limits.up_to(1000));
+    assert!(rt; lower == Limits::new(7, 1000, 8, 9), "up to 1000");
+    let same = deep.map(|limits| limits.up_to(65537));
+    assert!(rt; same == deep, "up to 65537");
 }

@@ -1,65 +1,30 @@
 //! Reading and writing where memory may be refused: the right answer, or want of memory and nothing else.
-//! tools/refuse-memory runs these with each allocation refused in turn, so they make nothing beside what they test.
+//! tools/refuse-memory runs these with each allocation refused in turn, so they make little beside what they test.
 
 use crate::devices::Small;
 use crate::sessions::feed_both;
 use crate::values::{VALUES, is_written, is_written_spelled};
+use gob_num::Memory;
+use gob_read_support::{bytes_of, numbers, part};
 use gob_stream::{Fault, Input, Item, Limits, Output, WriteFault, read_stream, write_stream};
 use gob_value::Value;
-use std::alloc::Global;
+use std::alloc::{AllocError, Global};
 use std::test::*;
 
-// A stream, and where its items end.
-#[derive(Clone, Copy)]
-struct Stream(&'static [u8], &'static [u64]);
-
-const INT: &[u8] = b"\x03\x04\x00\x06";
-
-const FLOAT: &[u8] = b"\x05\x08\x00\xfe\x31\x40";
-
-const COMPLEX: &[u8] = b"\x06\x0e\x00\xfe\x31\x40\x00";
-
-const TEXT: &[u8] = b"\x04\x0c\x00\x01\xff";
-
-const RAW: &[u8] = b"\x05\x0a\x00\x02\x00\xff";
-
-static STREAMS: [Stream; 11] = [
-    Stream(INT, &[4]),
-    Stream(FLOAT, &[6]),
-    Stream(COMPLEX, &[7]),
-    Stream(TEXT, &[5]),
-    Stream(RAW, &[6]),
-    // a struct of two ints, and a value
-    Stream(
-        b"\x1f\xff\x81\x03\x01\x01\x05\x50\x6f\x69\x6e\x74\x01\xff\x82\x00\x01\x02\x01\x01\x58\x01\x04\x00\x01\x01\x59\x01\x04\x00\x00\x00\x07\xff\x82\x01\x2c\x01\x42\x00",
-        &[32, 40],
-    ),
-    // the same with two values and an int
-    Stream(
-        b"\x1f\xff\x81\x03\x01\x01\x05\x50\x6f\x69\x6e\x74\x01\xff\x82\x00\x01\x02\x01\x01\x58\x01\x04\x00\x01\x01\x59\x01\x04\x00\x00\x00\x07\xff\x82\x01\x2c\x01\x42\x00\x07\xff\x82\x01\x2c\x01\x42\x00\x03\x04\x00\x06",
-        &[32, 40, 48, 52],
-    ),
-    // a struct that names itself, and a value
-    Stream(
-        b"\x22\xff\x81\x03\x01\x01\x04\x4e\x6f\x64\x65\x01\xff\x82\x00\x01\x02\x01\x01\x56\x01\x04\x00\x01\x04\x4e\x65\x78\x74\x01\xff\x82\x00\x00\x00\x09\xff\x82\x01\x02\x01\x01\x04\x00\x00",
-        &[35, 45],
-    ),
-    // a map from string to int, and a value
-    Stream(
-        b"\x0e\xff\x81\x04\x01\x02\xff\x82\x00\x01\x0c\x01\x04\x00\x00\x0a\xff\x82\x00\x02\x01\x61\x02\x01\x61\x04",
-        &[15, 26],
-    ),
-    // a struct of a slice that is defined behind it, and a value
-    Stream(
-        b"\x16\xff\x81\x03\x01\x01\x01\x53\x01\xff\x82\x00\x01\x01\x01\x01\x41\x01\xff\x84\x00\x00\x00\x0c\xff\x83\x02\x01\x02\xff\x84\x00\x01\x04\x00\x00\x07\xff\x82\x01\x02\x02\x04\x00",
-        &[23, 36, 44],
-    ),
-    // an opaque type, and a value
-    Stream(
-        b"\x10\xff\x81\x05\x01\x01\x04\x54\x69\x6d\x65\x01\xff\x82\x00\x00\x00\x06\xff\x82\x00\x02\x0a\x0b",
-        &[17, 24],
-    ),
-];
+// What, a stream, and where its items end.
+const STREAMS: &str = "
+an int | 03 04 00 06 | 4
+a float | 05 08 00 fe 31 40 | 6
+a complex number | 06 0e 00 fe 31 40 00 | 7
+a text | 04 0c 00 01 ff | 5
+bytes | 05 0a 00 02 00 ff | 6
+a struct of two ints | POINT 07 ff 82 01 2c 01 42 00 | 32 40
+two of them and an int | POINT 07 ff 82 01 2c 01 42 00 07 ff 82 01 2c 01 42 00 03 04 00 06 | 32 40 48 52
+a struct that names itself | NODE 09 ff 82 01 02 01 01 04 00 00 | 35 45
+a map from string to int | MAP 0a ff 82 00 02 01 61 02 01 61 04 | 15 26
+a slice that is defined behind its struct | OUTER 0c ff 83 02 01 02 ff 84 00 01 04 00 00 07 ff 82 01 02 02 04 00 | 23 36 44
+an opaque value | TIME 06 ff 82 00 02 0a 0b | 17 24
+";
 
 // Whether all of the items are there; or, for want of memory, those of the bytes that were taken, all but the last at
 // most.
@@ -72,53 +37,53 @@ fn is_right(answer: Result<(), Fault>, items: usize, ends: &[u64], taken: u64) -
 }
 
 // Whether reading gives the items, or those before want of memory.
-fn is_read(alloc: Global, stream: Stream) -> bool {
-    let Stream(bytes, ends) = stream;
-    let mut input = Input::new(bytes);
+fn is_read(alloc: Global, row: &str) -> Result<bool, Memory> {
+    let bytes = bytes_of(alloc, part(row, 1))?;
+    let ends = numbers(alloc, part(row, 2))?;
+    let mut input = Input::new(bytes.as_slice());
     let mut items = Vec::new(alloc);
     let answer = read_stream(alloc, &mut input, Limits::standard(), &mut items);
-    is_right(answer, items.len(), ends, input.taken())
+    Ok(is_right(answer, items.len(), &ends, input.taken()))
 }
 
 #[test]
 fn reading_wants_memory(rt: HostRuntime) {
-    for stream in &STREAMS {
-        assert!(rt; is_read(rt.alloc(), *stream));
+    for row in STREAMS.trim().lines() {
+        assert!(rt; is_read(rt.alloc(), row) != Ok(false), "{row}");
     }
 }
 
 // Whether a session that is fed the bytes in two pieces gives the items, or no more than they are before want of
 // memory.
-fn is_fed(alloc: Global, stream: Stream) -> bool {
-    let Stream(bytes, ends) = stream;
+fn is_fed(alloc: Global, row: &str) -> Result<bool, AllocError> {
+    let bytes = bytes_of(alloc, part(row, 1))?;
+    let ends = part(row, 2).split_whitespace().count();
     let mut items = Vec::new(alloc);
     let (one, two) = bytes.split_at(bytes.len() / 2);
     let answer = feed_both(alloc, one, two, &mut items);
-    items.len() == ends.len() || answer == Err(Fault::Memory) && items.len() <= ends.len()
+    Ok(items.len() == ends || answer == Err(Fault::Memory) && items.len() <= ends)
 }
 
 #[test]
 fn sessions_want_memory(rt: HostRuntime) {
-    for stream in &STREAMS {
-        assert!(rt; is_fed(rt.alloc(), *stream));
+    for row in STREAMS.trim().lines() {
+        assert!(rt; is_fed(rt.alloc(), row) != Ok(false), "{row}");
     }
 }
 
 #[test]
 fn writing_wants_memory(rt: HostRuntime) {
-    for (row, (id, bytes)) in VALUES.iter().enumerate() {
-        let is_wrong = is_written(rt.alloc(), row, *id, bytes) == Ok(false);
-        assert!(rt; !is_wrong, "row {row}");
+    for row in VALUES.trim().lines() {
+        assert!(rt; is_written(rt.alloc(), row) != Ok(false), "{row}");
     }
 }
 
 // One with the tag and one without it.
 #[test]
 fn writing_spelled_values_wants_memory(rt: HostRuntime) {
-    for (row, (id, bytes)) in VALUES.iter().enumerate() {
-        if row > 6 {
-            let is_wrong = is_written_spelled(rt.alloc(), row, *id, bytes) == Ok(false);
-            assert!(rt; !is_wrong, "row {row}");
+    for (i, row) in VALUES.trim().lines().enumerate() {
+        if i > 6 {
+            assert!(rt; is_written_spelled(rt.alloc(), row) != Ok(false), "{row}");
         }
     }
 }
@@ -138,17 +103,17 @@ fn are_written(alloc: Global, items: &[Item<Value>], bytes: &[u8]) -> bool {
 }
 
 // Whether the items of a stream that are read are written.
-fn is_written_again(alloc: Global, stream: Stream) -> bool {
-    let Stream(bytes, _) = stream;
+fn is_written_again(alloc: Global, row: &str) -> Result<bool, AllocError> {
+    let bytes = bytes_of(alloc, part(row, 1))?;
     let mut items = Vec::new(alloc);
-    let mut input = Input::new(bytes);
+    let mut input = Input::new(bytes.as_slice());
     let answer = read_stream(alloc, &mut input, Limits::standard(), &mut items);
-    answer.is_err() || are_written(alloc, &items, bytes)
+    Ok(answer.is_err() || are_written(alloc, &items, &bytes))
 }
 
 #[test]
 fn writing_definitions_wants_memory(rt: HostRuntime) {
-    for stream in &STREAMS {
-        assert!(rt; is_written_again(rt.alloc(), *stream));
+    for row in STREAMS.trim().lines() {
+        assert!(rt; is_written_again(rt.alloc(), row) != Ok(false), "{row}");
     }
 }

@@ -1,9 +1,10 @@
 //! The rows on reading, and readers that fail, never end, or give a byte at a time.
 
 use crate::devices::{Endless, Failing};
-use crate::rows::{ROWS, bytes_of, limits_of, number, part};
+use crate::rows::{ROWS, limits_of};
 use crate::sessions::{count_items, feed_both};
 use gob_read::TreeBuilder;
+use gob_read_support::{bytes_of, number, part};
 use gob_stream::{Fault, Input, Limits, Output, Refusal, Session, read_stream, write_stream};
 use gob_types::Reason;
 use std::alloc::{AllocError, Global};
@@ -66,7 +67,7 @@ fn is_right(alloc: Global, row: &str) -> Result<bool, AllocError> {
 }
 
 #[test]
-fn rows(rt: HostRuntime) -> Result<(), Fail> {
+fn rows_are_read_and_written_again(rt: HostRuntime) -> Result<(), Fail> {
     for row in ROWS.trim().lines() {
         assert!(rt; is_right(rt.alloc(), row)?, "{row}");
     }
@@ -104,7 +105,7 @@ fn is_cut_anywhere(alloc: Global, row: &str) -> Result<bool, AllocError> {
 }
 
 #[test]
-fn accepted_rows_cut_off(rt: HostRuntime) -> Result<(), Fail> {
+fn accepted_rows_are_cut_anywhere(rt: HostRuntime) -> Result<(), Fail> {
     for row in ROWS.trim().lines() {
         let is_refused = part(row, 2).contains("refused");
         assert!(rt; is_refused || is_cut_anywhere(rt.alloc(), row)?, "{row}");
@@ -125,9 +126,12 @@ fn are_three(alloc: Global, bytes: &[u8]) -> bool {
 }
 
 #[test]
-fn pieces_cut_at_each_place(rt: HostRuntime) -> Result<(), Fail> {
+fn pieces_are_cut_at_each_place(rt: HostRuntime) -> Result<(), Fail> {
     let bytes = bytes_of(rt.alloc(), "POINT 07 ff 82 01 2c 01 42 00 03 04 00 06")?;
-    assert!(rt; are_three(rt.alloc(), &bytes));
+    assert!(rt;
+        are_three(rt.alloc(), &bytes),
+        "a definition and two values"
+    );
     Ok(())
 }
 
@@ -144,14 +148,17 @@ fn ends_so(alloc: Global, bytes: &'static [u8], stream: u64, gives: &str, most: 
 }
 
 #[test]
-fn streams_without_end(rt: HostRuntime) {
+fn streams_without_end_are_refused(rt: HostRuntime) {
     let alloc = rt.alloc();
     let is_too_long = "2 items, refused 4 StreamTooLong at 8 seen 9";
-    assert!(rt; ends_so(alloc, b"\x03\x04\x00\x06", 10, is_too_long, 19));
+    let ints = ends_so(alloc, b"\x03\x04\x00\x06", 10, is_too_long, 19);
+    assert!(rt; ints, "ints");
     let is_no_field = "0 items, refused 15 FieldNumber at 4 seen 6";
-    assert!(rt; ends_so(alloc, b"\xff", 1000, is_no_field, 257));
+    let heads = ends_so(alloc, b"\xff", 1000, is_no_field, 257);
+    assert!(rt; heads, "heads");
     let is_short = "0 items, refused 5 Short at 1 seen 1";
-    assert!(rt; ends_so(alloc, b"\x00", 1000, is_short, 1));
+    let empty = ends_so(alloc, b"\x00", 1000, is_short, 1);
+    assert!(rt; empty, "empty bodies");
 }
 
 // Whether a reader that gives a byte a call, and fails in this one, ends two items of four bytes each with a fault,
@@ -178,7 +185,7 @@ fn fails_for_good(alloc: Global, fails_at: usize, kind: ErrorKind) -> bool {
 }
 
 #[test]
-fn failing_readers(rt: HostRuntime) {
+fn readers_fail_once(rt: HostRuntime) {
     for kind in [ErrorKind::Interrupted, ErrorKind::Other] {
         // four calls for each item, and one for the end of the input
         for fails_at in 0..9 {
@@ -212,8 +219,8 @@ fn is_one_item(alloc: Global, bytes: &[u8]) -> bool {
 }
 
 #[test]
-fn long_bodies(rt: HostRuntime) -> Result<(), Fail> {
+fn long_bodies_are_read(rt: HostRuntime) -> Result<(), Fail> {
     let bytes = long_body(rt.alloc())?;
-    assert!(rt; is_one_item(rt.alloc(), &bytes));
+    assert!(rt; is_one_item(rt.alloc(), &bytes), "a text of 10000 bytes");
     Ok(())
 }

@@ -2,8 +2,8 @@
 //! how many items it begins with and what is refused behind these, and the limits: for an item, for the depth, for
 //! types and for the stream.
 
+use gob_read_support::{number, part};
 use gob_stream::Limits;
-use std::alloc::{AllocError, Global};
 
 /// The rows. Those without limits are read under the standard ones.
 pub(crate) const ROWS: &str = "
@@ -71,11 +71,6 @@ two items as long as the limit | 03 04 00 06 03 02 00 01 | 2 items | 18446744073
 a definition too many | 04 ff 81 00 00 | 0 items, refused 9 TooManyTypes at 1 seen 3 | 18446744073709551615 1000 0 9
 ";
 
-/// The part of a row with this number, counted from 0; empty where there is none.
-pub(crate) fn part(row: &str, number: usize) -> &str {
-    row.split(" | ").nth(number).unwrap_or("")
-}
-
 /// The limits of a row; none where there can be no such limits.
 pub(crate) fn limits_of(row: &str) -> Option<Limits> {
     let limits = part(row, 3);
@@ -88,51 +83,4 @@ pub(crate) fn limits_of(row: &str) -> Option<Limits> {
         number(limits, 2),
         number(limits, 3),
     )
-}
-
-/// The number that is the word in this place, counted from 0; 0 where there is none.
-pub(crate) fn number(text: &str, place: usize) -> u64 {
-    let word = text.split_whitespace().nth(place).unwrap_or("");
-    word.parse().unwrap_or(0)
-}
-
-// The definitions by their names. OUTER is a struct with a field A of type 66.
-const DEFINITIONS: &str = "
-POINT 1f ff 81 03 01 01 05 50 6f 69 6e 74 01 ff 82 00 01 02 01 01 58 01 04 00 01 01 59 01 04 00 00 00
-NODE 22 ff 81 03 01 01 04 4e 6f 64 65 01 ff 82 00 01 02 01 01 56 01 04 00 01 04 4e 65 78 74 01 ff 82 00 00 00
-OUTER 16 ff 81 03 01 01 01 53 01 ff 82 00 01 01 01 01 41 01 ff 84 00 00 00
-ARRAY 0e ff 81 01 01 02 ff 82 00 01 04 01 04 00 00
-LOOP 0f ff 81 01 01 02 ff 82 00 01 ff 82 01 02 00 00
-LIST 0d ff 81 02 01 02 ff 82 00 01 ff 82 00 00
-MAP 0e ff 81 04 01 02 ff 82 00 01 0c 01 04 00 00
-TIME 10 ff 81 05 01 01 04 54 69 6d 65 01 ff 82 00 00 00
-";
-
-/// The bytes that are written so: in hexadecimal, or by the name of a definition.
-pub(crate) fn bytes_of(alloc: Global, text: &str) -> Result<Vec<u8>, AllocError> {
-    let mut bytes = Vec::new(alloc);
-    for word in text.split_whitespace() {
-        append(definition(word), &mut bytes)?;
-    }
-    Ok(bytes)
-}
-
-// The definition of this name, or else the word itself.
-fn definition<'a>(word: &'a str) -> &'a str {
-    for line in DEFINITIONS.lines() {
-        if let Some((name, bytes)) = line.split_once(' ') {
-            if name == word {
-                return bytes;
-            }
-        }
-    }
-    word
-}
-
-// Appends bytes in hexadecimal.
-fn append(text: &str, bytes: &mut Vec<u8>) -> Result<(), AllocError> {
-    for word in text.split_whitespace() {
-        bytes.push(u8::from_str_radix(word, 16).unwrap_or(u8::MAX))?;
-    }
-    Ok(())
 }

@@ -2,49 +2,25 @@
 
 use crate::devices::{Device, Small, Wrong};
 use gob_num::Memory;
+use gob_read_support::{bytes_of, number, part, value_of};
 use gob_stream::{Limits, Output, StreamWriter, WriteFault};
 use gob_types::{Table, TypeId};
 use gob_value::{Value, spell};
-use std::alloc::{AllocError, Global};
+use std::alloc::Global;
 use std::io::Write;
 
-/// The types of the values, and the bytes of a stream of each.
-pub(crate) static VALUES: [(u64, &[u8]); 9] = [
-    (1, b"\x03\x02\x00\x01"),
-    (2, b"\x03\x04\x00\x06"),
-    (2, b"\x0b\x04\x00\xf8\xff\xff\xff\xff\xff\xff\xff\xff"),
-    (3, b"\x03\x06\x00\x07"),
-    (4, b"\x05\x08\x00\xfe\x31\x40"),
-    (5, b"\x05\x0a\x00\x02\x00\xff"),
-    (6, b"\x04\x0c\x00\x01\xff"),
-    (7, b"\x06\x0e\x00\xfe\x31\x40\x00"),
-    // a CommonType: the name Point and the id 65
-    (18, b"\x0c\x24\x01\x05\x50\x6f\x69\x6e\x74\x01\xff\x82\x00"),
-];
-
-const SEVENTEEN: u64 = 0x4031_0000_0000_0000;
-
-// The value of this row.
-fn value_of(alloc: Global, row: usize) -> Result<Value, AllocError> {
-    match row {
-        0 => Ok(Value::Bool(true)),
-        1 => Ok(Value::Int(3)),
-        2 => Ok(Value::Int(i64::MIN)),
-        3 => Ok(Value::Uint(7)),
-        4 => Ok(Value::Float(SEVENTEEN)),
-        5 => Ok(Value::Bytes([0x00, 0xff].to_vec(alloc)?)),
-        6 => Ok(Value::Str([0xff].to_vec(alloc)?)),
-        7 => Ok(Value::Complex(SEVENTEEN, 0)),
-        _ => common(alloc),
-    }
-}
-
-fn common(alloc: Global) -> Result<Value, AllocError> {
-    let mut fields = Vec::new(alloc);
-    fields.push((0, Value::Str(b"Point".to_vec(alloc)?)))?;
-    fields.push((1, Value::Int(65)))?;
-    Ok(Value::Fields(fields))
-}
+/// What, the type of the value, the value, and the bytes of its stream.
+pub(crate) const VALUES: &str = "
+true | 1 | true | 03 02 00 01
+3 | 2 | 3 | 03 04 00 06
+the least int | 2 | -9223372036854775808 | 0b 04 00 f8 ff ff ff ff ff ff ff ff
+7, a uint | 3 | uint:7 | 03 06 00 07
+17.0 | 4 | float:4031000000000000 | 05 08 00 fe 31 40
+bytes | 5 | bytes:00,ff | 05 0a 00 02 00 ff
+text that is no UTF-8 | 6 | str:ff | 04 0c 00 01 ff
+17.0 and 0.0 | 7 | complex:4031000000000000,0 | 06 0e 00 fe 31 40 00
+a CommonType, Name Point, Id 65 | 18 | 'Point 65 fields:0,1 | 0c 24 01 05 50 6f 69 6e 74 01 ff 82 00
+";
 
 // Writes a stream of one value.
 fn put_one(alloc: Global, small: &mut Small, id: u64, value: &Value) -> Result<(), WriteFault> {
@@ -67,43 +43,44 @@ fn put_spelled<W: Write>(
     writer.put_spelled(alloc, output, TypeId(id), &spelling)
 }
 
-/// Whether the value of this row is written as these bytes. Nothing is written for want of memory.
-pub(crate) fn is_written(alloc: Global, row: usize, id: u64, bytes: &[u8]) -> Result<bool, Memory> {
-    let value = value_of(alloc, row)?;
+// The type of a row.
+fn id_of(row: &str) -> u64 {
+    number(part(row, 1), 0)
+}
+
+/// Whether the value of this row is written as its bytes. Nothing is written for want of memory.
+pub(crate) fn is_written(alloc: Global, row: &str) -> Result<bool, Memory> {
+    let value = value_of(alloc, part(row, 2))?;
+    let bytes = bytes_of(alloc, part(row, 3))?;
     let mut small = Small::new();
-    let answer = put_one(alloc, &mut small, id, &value);
-    is_right(answer, &small, bytes)
+    let answer = put_one(alloc, &mut small, id_of(row), &value);
+    is_right(answer, &small, &bytes)
 }
 
 /// Whether it is so by its spelling.
-pub(crate) fn is_written_spelled(
-    alloc: Global,
-    row: usize,
-    id: u64,
-    bytes: &[u8],
-) -> Result<bool, Memory> {
-    let value = value_of(alloc, row)?;
+pub(crate) fn is_written_spelled(alloc: Global, row: &str) -> Result<bool, Memory> {
+    let value = value_of(alloc, part(row, 2))?;
+    let bytes = bytes_of(alloc, part(row, 3))?;
     let mut small = Small::new();
     let mut output = Output::new(&mut small);
-    let answer = put_spelled(alloc, &mut output, id, &value);
+    let answer = put_spelled(alloc, &mut output, id_of(row), &value);
     drop(output);
-    is_right(answer, &small, bytes)
+    is_right(answer, &small, &bytes)
 }
 
 /// Whether the writing of the value of this row by its spelling, a byte at a time, ends with the write behind so many
-/// of these bytes, which goes wrong so and is counted. None goes wrong behind all of them.
+/// of its bytes, which goes wrong so and is counted. None goes wrong behind all of them.
 pub(crate) fn is_cut_spelled(
     alloc: Global,
-    row: usize,
-    id: u64,
-    bytes: &[u8],
+    row: &str,
     out: usize,
     wrong: Wrong,
 ) -> Result<bool, Memory> {
-    let value = value_of(alloc, row)?;
+    let value = value_of(alloc, part(row, 2))?;
+    let bytes = bytes_of(alloc, part(row, 3))?;
     let mut device = Device::slow(alloc, (out as u64).saturating_add(1), wrong);
     let mut output = Output::new(&mut device);
-    let answer = put_spelled(alloc, &mut output, id, &value);
+    let answer = put_spelled(alloc, &mut output, id_of(row), &value);
     let failures = output.failures();
     drop(output);
     let is_told = if out < bytes.len() {

@@ -1,8 +1,9 @@
 //! The rows on reading, where each value that stands whole is passed: a session that passes none would keep its
 //! contract too.
 
-use crate::rows::{ROWS, bytes_of, limits_of, number, part};
+use crate::rows::{ROWS, limits_of};
 use gob_read::CheckBuilder;
+use gob_read_support::{bytes_of, number, part};
 use gob_stream::{Item, Limits, Session};
 use std::alloc::{AllocError, Global};
 use std::test::Fail;
