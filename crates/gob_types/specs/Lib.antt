@@ -6,5 +6,6 @@ pub mod Definable
 pub mod Defined
 pub mod Refused
 pub mod Readiness
+pub mod Denial
 pub mod Laws
 pub mod Machine

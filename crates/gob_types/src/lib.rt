@@ -16,7 +16,7 @@
 //!   read.
 //! - [`Shapes`] is any table that gives the shape of a type id, and [`Shape::definable`] says which shapes a
 //!   description can give.
-//! - [`Reason`] says why bytes or values are refused.
+//! - [`Reason`] says why bytes or values are refused, and [`Denial`] that they are, or that memory was wanting.
 //! - [`laws`] has what stays true of a table when it grows.
 #![tactic(auto)]
 
@@ -24,6 +24,7 @@ mod base;
 mod basic;
 mod definable;
 mod definitions;
+mod denial;
 mod entries;
 mod grounds;
 mod id;
@@ -42,6 +43,7 @@ mod type_set;
 mod waits;
 
 pub use basic::Basic;
+pub use denial::Denial;
 pub use id::TypeId;
 pub use kind::{Field, Fields, Kind, Marshal, Shape};
 pub use name::Name;

@@ -1,6 +1,9 @@
 -- What each fault says of a value. A value that is too deep isn't judged further.
 use Rattle.std.specs.Prelude.{ℕ, ◌<◌}
 use Rattle.gob_types.specs.declared.id.TypeId.{TypeId}
+use Rattle.gob_types.specs.declared.reason.Reason.TheVariants as reason
+use Rattle.gob_types.specs.declared.denial.Denial.{Denial}
+use Rattle.gob_types.specs.declared.denial.Denial.TheVariants as denial
 use Rattle.gob_types.specs.Table.{Table}
 use Rattle.gob_value.specs.Tree.{Tree, depth}
 use Rattle.gob_value.specs.Fits.{Fits}
@@ -25,3 +28,9 @@ IsSpellFault T t limit v fault.Memory = FitsWithin T t limit v
 abbrev pub spell_fault : Misfit → SpellFault
 spell_fault misfit.TooDeep = fault.TooDeep
 spell_fault misfit.DoesNotFit = fault.DoesNotFit
+
+-- why a value isn't spelled
+abbrev pub value_denial : SpellFault → Denial
+value_denial fault.TooDeep = denial.Refused reason.TooDeep
+value_denial fault.DoesNotFit = denial.Refused reason.DoesNotFit
+value_denial fault.Memory = denial.Memory

@@ -4,6 +4,8 @@ use Rattle.gob_types.specs.declared.id.TypeId.{TypeId}
 use Rattle.gob_types.specs.declared.kind.Kind.{Kind}
 use Rattle.gob_types.specs.declared.kind.Shape.{Shape}
 use Rattle.gob_types.specs.declared.reason.Reason.TheVariants as reason
+use Rattle.gob_types.specs.declared.denial.Denial.{Denial}
+use Rattle.gob_types.specs.declared.denial.Denial.TheVariants as denial
 use Rattle.gob_value.specs.Tree.{Tree}
 use Rattle.gob_value.specs.Description.{SaidKind, GivesKind, HasBadReference, HasBadLength, Describes, Misdescribes}
 use Rattle.gob_value.specs.declared.fault.ShapeFault.{ShapeFault}
@@ -21,6 +23,14 @@ IsShapeFault id v fault.WrongId = Misdescribes id v reason.WrongId
 IsShapeFault id v fault.BadReference = Misdescribes id v reason.BadReference
 IsShapeFault id v fault.BadLength = Misdescribes id v reason.BadLength
 IsShapeFault id v fault.Memory = IsDescription id v
+
+-- why a description gives no shape
+abbrev pub description_denial : ShapeFault → Denial
+description_denial fault.KindCount = denial.Refused reason.KindCount
+description_denial fault.WrongId = denial.Refused reason.WrongId
+description_denial fault.BadReference = denial.Refused reason.BadReference
+description_denial fault.BadLength = denial.Refused reason.BadLength
+description_denial fault.Memory = denial.Memory
 
 -- what is said is some kind
 pub record IsKind (k : SaidKind) : Type 0 where

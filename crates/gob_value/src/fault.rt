@@ -1,6 +1,7 @@
 //! Why a value is not taken.
 
 use gob_num::Memory;
+use gob_types::{Denial, Reason};
 
 /// Why a value isn't one of a type.
 #[derive(Clone, Copy, Debug, PartialEq, Eq)]
@@ -36,6 +37,21 @@ impl From<Misfit> for SpellFault {
     }
 }
 
+impl From<SpellFault> for Denial {
+    ghost use Rattle.std.specs.Prelude.{◌≡◌};
+    ghost use Rattle.gob_value.specs.Faults.{value_denial};
+
+    ghost from_gives = { λ fault denial. denial ≡ value_denial fault };
+
+    fn from(fault: SpellFault) -> Denial {
+        match fault {
+            SpellFault::TooDeep => Denial::Refused(Reason::TooDeep),
+            SpellFault::DoesNotFit => Denial::Refused(Reason::DoesNotFit),
+            SpellFault::Memory => Denial::Memory,
+        }
+    }
+}
+
 /// Why a value of type 16 gives no shape: the first of these that holds.
 /// (Go's encoding/gob documentation, Encoding Details, on wireType; docs/FORMAT.md, Descriptions.)
 #[derive(Clone, Copy, Debug, PartialEq, Eq)]
@@ -60,5 +76,22 @@ impl From<Memory> for ShapeFault {
 
     fn from(_: Memory) -> ShapeFault {
         ShapeFault::Memory
+    }
+}
+
+impl From<ShapeFault> for Denial {
+    ghost use Rattle.std.specs.Prelude.{◌≡◌};
+    ghost use Rattle.gob_value.specs.ShapeFaults.{description_denial};
+
+    ghost from_gives = { λ fault denial. denial ≡ description_denial fault };
+
+    fn from(fault: ShapeFault) -> Denial {
+        match fault {
+            ShapeFault::KindCount => Denial::Refused(Reason::KindCount),
+            ShapeFault::WrongId => Denial::Refused(Reason::WrongId),
+            ShapeFault::BadReference => Denial::Refused(Reason::BadReference),
+            ShapeFault::BadLength => Denial::Refused(Reason::BadLength),
+            ShapeFault::Memory => Denial::Memory,
+        }
     }
 }
