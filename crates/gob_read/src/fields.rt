@@ -12,9 +12,8 @@ use crate::event::GroupKind;
 use crate::frame::Frame;
 use crate::next::{Moved, Next, NextNumber};
 use crate::state::State;
-use crate::stop::Denial;
 use gob_num::Memory;
-use gob_types::{Fields, Kind, Reason, Shapes, TypeId};
+use gob_types::{Denial, Fields, Kind, Reason, Shapes, TypeId};
 
 impl<B: Builder> State<B> {
     /// Takes the first delta of a struct of the type, which has these fields.

@@ -10,9 +10,8 @@ use crate::event::{GroupKind, RawKind};
 use crate::frame::Frame;
 use crate::next::{Moved, Next, NextNumber};
 use crate::state::State;
-use crate::stop::Denial;
 use gob_num::{Memory, to_pattern};
-use gob_types::{Basic, Kind, Reason, Shapes, TypeId};
+use gob_types::{Basic, Denial, Kind, Reason, Shapes, TypeId};
 
 impl<B: Builder> State<B> {
     /// Takes the first number of a part of the type, and answers where that leads.

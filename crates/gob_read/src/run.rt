@@ -16,9 +16,9 @@ use crate::builder::{Builder, Stores};
 use crate::frames::Frames;
 use crate::next::{Moved, Next, NextNumber};
 use crate::state::State;
-use crate::stop::{Denial, Stop};
+use crate::stop::Stop;
 use gob_num::{Memory, Number, Step, Taken, take_uint};
-use gob_types::{Reason, Shapes, TypeId};
+use gob_types::{Denial, Reason, Shapes, TypeId};
 use std::alloc::Global;
 
 /// A reader that has not ended. Offsets count from the first byte that it was given.

@@ -8,9 +8,8 @@ ghost use Rattle.gob_read.specs.Machine.Kinds.{IsStructType, BeginsAs};
 use crate::builder::Builder;
 use crate::frames::Frames;
 use crate::next::{Moved, Next, NextNumber};
-use crate::stop::Denial;
 use gob_num::{Memory, to_pattern};
-use gob_types::{Basic, Kind, Reason, Shapes, TypeId};
+use gob_types::{Basic, Denial, Kind, Reason, Shapes, TypeId};
 
 /// What a reader knows between two items: what is made of the parts so far, which parts are open, and what is
 /// expected. After a fault it is of no more use.

@@ -31,23 +31,3 @@ impl From<Memory> for Stop {
         Stop::Memory
     }
 }
-
-/// Why a number isn't taken.
-#[derive(Clone, Copy, Debug, PartialEq, Eq)]
-pub(crate) enum Denial {
-    /// The allocator refused to let something grow.
-    Memory,
-    /// The number isn't allowed where it stands.
-    Refused(Reason),
-}
-
-impl From<Memory> for Denial {
-    ghost use Rattle.std.specs.Prelude.{◌≡◌};
-    ghost use Rattle.gob_read.specs.declared.stop.Denial.TheVariants as fault;
-
-    ghost from_gives = { λ _ given. given ≡ fault.Memory };
-
-    fn from(_: Memory) -> Denial {
-        Denial::Memory
-    }
-}

@@ -11,6 +11,8 @@ use Rattle.gob_types.specs.declared.kind.Kind.TheVariants as kind
 use Rattle.gob_types.specs.declared.kind.Shape.{Shape}
 use Rattle.gob_types.specs.declared.reason.Reason.{Reason}
 use Rattle.gob_types.specs.declared.reason.Reason.TheVariants as reason
+use Rattle.gob_types.specs.declared.denial.Denial.{Denial}
+use Rattle.gob_types.specs.declared.denial.Denial.TheVariants as denial
 use Rattle.gob_types.specs.Table.{Table, shape_of}
 use Rattle.gob_value.specs.Tree.{Tree}
 use Rattle.gob_value.specs.Tree as Value
@@ -24,8 +26,6 @@ use Rattle.gob_read.specs.declared.next.Next.TheVariants.{Top, Number, Raw}
 use Rattle.gob_read.specs.declared.next.NextNumber.{NextNumber}
 use Rattle.gob_read.specs.declared.next.NextNumber.TheVariants.{Tag, Part, Second}
 use Rattle.gob_read.specs.declared.state.State.{State}
-use Rattle.gob_read.specs.declared.stop.Denial.{Denial}
-use Rattle.gob_read.specs.declared.stop.Denial.TheVariants.{Memory, Refused}
 use Rattle.gob_read.specs.Expected.{first_allowed, tag, a_number}
 use Rattle.gob_read.specs.Expects.{ExpectsTop, at_tag as expects_tag}
 use Rattle.gob_read.specs.Event.{Event, number, raw_start, raw_more, leave, HasEvents, HasRawEvents, more_bytes, tell_complex, tell_bytes, tell_text, tell_opaque}
@@ -42,8 +42,8 @@ use Rattle.gob_read.proofs.Machine.Places.{part_expects, part_defined}
 
 pub takes_or_blames : {P Q : Moved → Type 0} {V W : Reason → Type 0} (r : Result Moved Denial) → ((moved : Moved) → P moved → Q moved) → ((reason : Reason) → V reason → W reason) → TakesOrBlames P V r → TakesOrBlames Q W r
 takes_or_blames (Ok moved) f g h = f moved h
-takes_or_blames (Err Memory) f g h = h
-takes_or_blames (Err (Refused reason)) f g h = g reason h
+takes_or_blames (Err (denial.Refused reason)) f g h = g reason h
+takes_or_blames (Err denial.Memory) f g h = h
 
 -- the first number of a part of this kind
 pub first_can : {T : Table} {X O : Type 0} {received : X → List Event → Type 0} {state : State X O} {id : TypeId} {k : Kind} {P : Kind → Type 0} {n : ℕ} → HasKind T id k → P k → CanTakeFirst T received state id n → CanBegin received state P n

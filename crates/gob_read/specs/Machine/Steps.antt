@@ -8,6 +8,8 @@ use Rattle.gob_types.specs.declared.kind.Kind.{Kind}
 use Rattle.gob_types.specs.declared.kind.Kind.TheVariants as kind
 use Rattle.gob_types.specs.declared.reason.Reason.{Reason}
 use Rattle.gob_types.specs.declared.reason.Reason.TheVariants as reasons
+use Rattle.gob_types.specs.declared.denial.Denial.{Denial}
+use Rattle.gob_types.specs.Denial.{IsDenial}
 use Rattle.gob_types.specs.Table.{Table}
 use Rattle.gob_types.specs.Ready.{IsReady}
 use Rattle.gob_value.specs.Tree.{Tree}
@@ -17,8 +19,6 @@ use Rattle.gob_read.specs.Expects.{ExpectsTop}
 use Rattle.gob_read.specs.Event.{Event, HasEvents}
 use Rattle.gob_read.specs.Machine.Kinds.{HasKind}
 use Rattle.gob_read.specs.Machine.OpenPath.{OpenPath, OpenStruct, AtNext, PartDone}
-use Rattle.gob_read.specs.declared.stop.Denial.{Denial}
-use Rattle.gob_read.specs.declared.stop.Denial.TheVariants.{Memory, Refused}
 use Rattle.gob_read.specs.declared.next.Moved.{Moved}
 use Rattle.gob_read.specs.declared.next.Moved.TheVariants.{ToNext, PastValue}
 use Rattle.gob_read.specs.declared.next.Next.TheVariants.{Number, Raw}
@@ -71,11 +71,10 @@ pub record IsDisallowed (T : Table) (t : TypeId) (p : List ℕ) (n : ℕ) (reaso
   pub not_allowed : ¬ Allows allowed n
   pub reason_is : reason_of allowed ≡ reason
 
--- what a step answers: this holds of where it moved, or of the reason that it blames
+-- what a step answers: this holds of where it moved, or of the reason that denies it
 abbrev pub TakesOrBlames : (Moved → Type 0) → (Reason → Type 0) → Result Moved Denial → Type 0
 TakesOrBlames takes why (Ok moved) = takes moved
-TakesOrBlames takes why (Err Memory) = Unit {0}
-TakesOrBlames takes why (Err (Refused reason)) = why reason
+TakesOrBlames takes why (Err denial) = IsDenial why denial
 
 -- a part was read, after fewer bytes than a count of 64 bits can tell
 pub record CanEnd {X O : Type 0} (received : X → List Event → Type 0) (state : State X O) : Type 0 where
