@@ -1,6 +1,10 @@
-//! Laws of bodies, of what stands in an item behind its type number. Each function does nothing: its contract
-//! is a law that is proved here, once.
+//! Laws of bodies, which is what stands in an item behind its type number, of the events and the weight of a value,
+//! and of readers. Each function does nothing: its contract is a law that is proved here, once.
 
+ghost use Rattle.std.specs.Prelude.{◌≡◌, ◌+◌};
+ghost use Rattle.gob_value.specs.Tree.{Tree};
+ghost use Rattle.gob_value.specs.Spelling.{Spells};
+ghost use Rattle.gob_value.specs.Top.{SpellsTop};
 ghost use Rattle.gob_read.specs.Expects.{Expects, ExpectsTop};
 ghost use Rattle.gob_read.specs.Laws.{StopOnce, WholeIsExtraAlone, ExtraIsGiven, WholeIsAccepted, DeepIsRefused};
 ghost use Rattle.gob_read.specs.Laws.{GiveOne, BodiesStayShown, RefusesPromptly, ViableBeforeTheEnd};
@@ -9,6 +13,15 @@ ghost use Rattle.gob_read.specs.Laws.{SeenBeginNone, DeepBeginDeep, PlacesBegin,
 ghost use Rattle.gob_read.specs.Laws.{FrontsExpectMore, ExpectingAreFronts};
 ghost use Rattle.gob_read.specs.Honest.{FirstIsHonest};
 ghost use Rattle.gob_read.specs.Held.{ViableArePartial, HoldOnce, HoldAtMostTheirLength};
+ghost use Rattle.gob_read.specs.declared.check_builder.Counts.{Counts};
+ghost use Rattle.gob_read.specs.Weight.{weight};
+ghost use Rattle.gob_read.specs.Counts.{AreCountsOf};
+ghost use Rattle.gob_read.specs.BuilderLaws.{EventsHaveOneValue, EventsAreWellFormed, HaveWellFormedFronts, EventsHaveTheWeight};
+ghost use Rattle.gob_read.specs.BuilderLaws.{WeighAtMostTheirLength};
+ghost use Rattle.gob_read.specs.ReaderLaws.{StaysRead, StaysUsable};
+
+use crate::builder::Builder;
+use crate::reader::BodyReader;
 
 /// After the same bytes one thing comes next, in a part of one depth.
 pub fn bytes_stop_once()
@@ -84,4 +97,37 @@ pub fn held_is_one()
 /// The arrays of a stream's table have lengths that can be spelled, as some laws ask of a table.
 pub fn tables_count_arrays()
     ensures { TablesCountArrays }
+{}
+
+/// A list of events is that of one value at most, so what a builder makes of them is the value's.
+pub fn events_have_one_value()
+    ensures { EventsHaveOneValue }
+{}
+
+/// The events of a value that a type has may be told: they are well formed, and so is each front of them.
+pub fn events_are_well_formed()
+    ensures whole { EventsAreWellFormed }
+    ensures fronts { HaveWellFormedFronts }
+{}
+
+/// The events of a value have its parts and raw bytes.
+pub fn events_have_the_weight()
+    ensures { EventsHaveTheWeight }
+{}
+
+/// The two counts of a value add up to its weight.
+pub fn counts_are_the_weight()
+    ensures { (counts : Counts) (v : Tree) → AreCountsOf counts v → counts.nodes + counts.raw ≡ weight v }
+{}
+
+/// A value's weight is at most the length of its spelling, whatever counts the spelling announces.
+pub fn weights_are_within_spellings()
+    ensures value { WeighAtMostTheirLength Spells }
+    ensures top { WeighAtMostTheirLength SpellsTop }
+{}
+
+/// A reader stands after the same bytes when the table of types grows.
+pub fn readers_stay<B: Builder>(reader: &BodyReader<B>)
+    ensures read { StaysRead B.building reader.now }
+    ensures usable { StaysUsable B.building reader.now }
 {}

@@ -19,8 +19,7 @@
 //!   only announced.
 //! - A [`Builder`] makes something of what is told: [`TreeBuilder`] the value, [`CheckBuilder`] its [`Counts`],
 //!   and [`SkipBuilder`] nothing.
-//! - [`laws`] has the laws of bodies that readers and writers rely on; [`readers_stay`] and the laws of events
-//!   and weights stand beside it.
+//! - [`laws`] has the laws that readers, writers and builders rely on: of bodies, of events and weights, of readers.
 #![tactic(auto)]
 
 mod basic_parts;
@@ -31,8 +30,6 @@ mod fields;
 mod frame;
 mod frames;
 pub mod laws;
-mod laws_builder;
-mod laws_reader;
 mod next;
 mod part;
 mod reader;
@@ -48,11 +45,6 @@ mod tree_stack;
 pub use builder::{Builder, Stores};
 pub use check_builder::{CheckBuilder, Counts};
 pub use event::{GroupKind, RawKind};
-pub use laws_builder::{
-    counts_are_the_weight, events_are_well_formed, events_have_one_value, events_have_the_weight,
-    weights_are_within_spellings,
-};
-pub use laws_reader::readers_stay;
 pub use reader::{BodyReader, Progress};
 pub use skip_builder::SkipBuilder;
 pub use stop::Stop;

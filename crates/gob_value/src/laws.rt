@@ -1,9 +1,15 @@
-//! Laws of spellings. Each function does nothing: its contract is a law that is proved here, once.
+//! Laws of spellings, of descriptions and of the tidy form, which readers and writers rely on. Each function does
+//! nothing: its contract is a law that is proved here, once.
 
 ghost use Rattle.gob_value.specs.Spelling.{Spells};
 ghost use Rattle.gob_value.specs.Top.{SpellsTop};
+ghost use Rattle.gob_value.specs.Tidy.{Tidies};
 ghost use Rattle.gob_value.specs.Laws.{EndByThemselves, AreOne, HaveOneValue, StaySpelled, AreNoMore};
 ghost use Rattle.gob_value.specs.Bytes.{ConsistOfBytes};
+ghost use Rattle.gob_value.specs.DescriptionLaws.{DescribeTheShape, DescribeOneShape, DescribeDefinable};
+ghost use Rattle.gob_value.specs.DescriptionLaws.{AreNotRefused, DescriptionsHaveOneReason, AreJudged, AreOfWireType};
+ghost use Rattle.gob_value.specs.TidyLaws.{IsOneForm, HaveTidyForm, IsItsOwnForm, IsNoDeeper, IsNoLonger};
+ghost use Rattle.gob_value.specs.TidyLaws.{StaysFitting, KeepsTheShape, KeepsTheReason, MadeTidy};
 
 /// No spelling of a value begins another one of its type, so a reader knows where it ends.
 pub fn spellings_begin_no_other()
@@ -36,4 +42,64 @@ pub fn spellings_stay()
 pub fn spellings_are_bytes()
     ensures value { ConsistOfBytes Spells }
     ensures top { ConsistOfBytes SpellsTop }
+{}
+
+/// The description that is made of a shape gives that shape back, and no other one.
+pub fn descriptions_tell_the_shape()
+    ensures back { DescribeTheShape }
+    ensures one { DescribeOneShape }
+{}
+
+/// A value describes a shape or fails one demand first, and never both.
+pub fn descriptions_are_judged()
+    ensures either { AreJudged }
+    ensures not_both { AreNotRefused }
+    ensures one { DescriptionsHaveOneReason }
+{}
+
+/// A shape that a value of type 16 describes is one that may be defined.
+pub fn described_shapes_are_definable()
+    ensures { DescribeDefinable }
+{}
+
+/// The description that is made of a shape is a value of type 16, no deeper than 5.
+pub fn descriptions_fit()
+    ensures { AreOfWireType }
+{}
+
+/// A value that fits its type has one tidy form.
+pub fn tidy_form_is_unique()
+    ensures one { IsOneForm Tidies }
+    ensures some { HaveTidyForm }
+{}
+
+/// Tidying twice is tidying once.
+pub fn tidy_form_is_tidy()
+    ensures { IsItsOwnForm Tidies }
+{}
+
+/// The tidy form of a value is no deeper than the value.
+pub fn tidy_form_is_no_deeper()
+    ensures { IsNoDeeper Tidies }
+{}
+
+/// The spelling of the tidy form is no longer than that of the value.
+pub fn tidy_form_is_no_longer()
+    ensures { IsNoLonger Tidies }
+{}
+
+/// The tidy form of a value that fits its type fits it too, where one more than each field's number has 64 bits.
+pub fn tidy_form_fits()
+    ensures { StaysFitting Tidies }
+{}
+
+/// A description and its tidy form have the same shape under each id, or none for the same reason.
+pub fn tidy_form_says_the_same()
+    ensures shape { KeepsTheShape Tidies }
+    ensures reason { KeepsTheReason Tidies }
+{}
+
+/// The description that is made of a shape is tidy.
+pub fn made_descriptions_are_tidy()
+    ensures { MadeTidy Tidies }
 {}

@@ -20,12 +20,7 @@
 //! - [`number_at`] reads a number where it stands in a body, [`number_end`] says where it ends, and [`field_number`]
 //!   tells the field by the delta.
 //! - [`tidy`] leaves out of each struct the fields that Go's encoder leaves out.
-//! - [`spellings_begin_no_other`], [`spellings_are_unique`], [`spellings_tell_the_value`],
-//!   [`spellings_are_bytes`] and [`spellings_stay`] are laws, which readers and writers rely on. So are those of
-//!   descriptions, [`descriptions_tell_the_shape`], [`descriptions_are_judged`], [`descriptions_fit`] and
-//!   [`described_shapes_are_definable`], and those of the tidy form, [`tidy_form_is_unique`],
-//!   [`tidy_form_is_tidy`], [`tidy_form_is_no_longer`], [`tidy_form_is_no_deeper`], [`tidy_form_fits`],
-//!   [`tidy_form_says_the_same`] and [`made_descriptions_are_tidy`].
+//! - [`laws`] has the laws that readers and writers rely on: of spellings, of descriptions and of the tidy form.
 #![tactic(auto)]
 
 mod depth;
@@ -34,9 +29,7 @@ mod description;
 mod description_fields;
 mod fault;
 mod fitting;
-mod laws;
-mod laws_description;
-mod laws_tidy;
+pub mod laws;
 mod leaf;
 mod number;
 mod spelling;
@@ -50,18 +43,6 @@ pub use described_shape::shape_from;
 pub use description::describe;
 pub use fault::{Misfit, ShapeFault, SpellFault};
 pub use fitting::fits;
-pub use laws::{
-    spellings_are_bytes, spellings_are_unique, spellings_begin_no_other, spellings_stay,
-    spellings_tell_the_value,
-};
-pub use laws_description::{
-    described_shapes_are_definable, descriptions_are_judged, descriptions_fit,
-    descriptions_tell_the_shape,
-};
-pub use laws_tidy::{
-    made_descriptions_are_tidy, tidy_form_fits, tidy_form_is_no_deeper, tidy_form_is_no_longer,
-    tidy_form_is_tidy, tidy_form_is_unique, tidy_form_says_the_same,
-};
 pub use number::{field_number, number_at, number_end};
 pub use spelling::spell;
 pub use tidying::tidy;

@@ -1,5 +1,0 @@
-use Rattle.gob_value.proofs.DescribedLaws.{fits}
-use Rattle.gob_value.proofs.laws_description.descriptions_fit.Goals as goal
-
-pub returns : goal.returns
-returns c = fits
