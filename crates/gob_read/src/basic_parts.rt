@@ -1,13 +1,13 @@
 //! Parts of basic types that stand whole in a piece. Those of a struct or of a list are taken one behind another,
 //! without a look at what is expected in between.
 
-ghost use Rattle.std.specs.Prelude.{◌≡◌, ◌+◌, ◌<◌, ◌≤◌, IfOk, IfSome, [], ◌∷◌, length};
+ghost use Rattle.std.specs.Prelude.{◌≡◌, ◌<◌, IfOk, IfSome, [], ◌∷◌};
 ghost use Rattle.gob_types.specs.Table.{Table};
 ghost use Rattle.gob_types.specs.declared.kind.Kind.TheVariants as kind;
-ghost use Rattle.gob_read.specs.Machine.Kinds.{HasKind, IsScalar, IsRawKind};
-ghost use Rattle.gob_read.specs.Machine.Running.{IsOpenSomewhere, IsOpenIn, TakesBytes, TakesOfRest, RestAnswers};
-ghost use Rattle.gob_read.specs.Machine.BasicParts.{MayTakeBasic, TakesBasicEvents, IsInFields, IsInList, IsFollowedBy, TakesBasicPart, TakesName};
-ghost use Rattle.gob_read.specs.Machine.BasicParts.{StepsBasicParts};
+ghost use Rattle.gob_read.specs.Machine.Kinds.{HasKind, IsRawKind};
+ghost use Rattle.gob_read.specs.Machine.Running.{IsBefore, IsBeforeIn, TakesBytes};
+ghost use Rattle.gob_read.specs.Machine.BasicParts.{MayTakeBasic, TakesBasicEvents, IsInFields, IsInList, IsFollowedBy};
+ghost use Rattle.gob_read.specs.Machine.BasicParts.{TakesBasicPart, TakesBasicParts, TakesFieldDelta};
 
 use crate::builder::Builder;
 use crate::event::RawKind;
@@ -15,11 +15,10 @@ use crate::frame::Frame;
 use crate::next::{Moved, Next, NextNumber};
 use crate::run::{Advance, Run};
 use crate::state::State;
-use crate::stop::Stop;
 use gob_num::{Memory, Taken, take_uint, to_pattern};
 use gob_types::{Basic, Fields, Kind, Shapes, TypeId};
 
-/// The field whose part begins.
+/// The field whose part is expected.
 #[derive(Clone, Copy, Debug, PartialEq, Eq)]
 pub(crate) struct Entered {
     /// One more than its number.
@@ -38,29 +37,12 @@ impl<B: Builder> State<B> {
         ensures { IfOk result (λ used. TakesBasicEvents B.building.received self.old self.new basic n more.now used) }
     {
         match basic {
-            Basic::Int => self.tell_number(basic, n, n, more),
-            Basic::Uint => self.tell_number(basic, n, n, more),
-            Basic::Float => self.tell_number(basic, n, to_pattern(n), more),
-            Basic::Bytes => self.tell_bytes(basic, RawKind::Bytes, n, more),
-            Basic::Str => self.tell_bytes(basic, RawKind::Str, n, more),
-            Basic::Bool | Basic::Complex | Basic::Interface => Ok(None),
+            Basic::Int | Basic::Uint => self.builder.number(basic, n, 0)?,
+            Basic::Float => self.builder.number(basic, to_pattern(n), 0)?,
+            Basic::Bytes => return self.tell_bytes(basic, RawKind::Bytes, n, more),
+            Basic::Str => return self.tell_bytes(basic, RawKind::Str, n, more),
+            Basic::Bool | Basic::Complex | Basic::Interface => return Ok(None),
         }
-    }
-
-    /// Tells a part that the number `n` spells, as `told`.
-    #[inline(always)]
-    fn tell_number(
-        &mut self,
-        basic: Basic,
-        n: u64,
-        told: u64,
-        more: &[u8],
-    ) -> Result<Option<usize>, Memory>
-        requires can { MayTakeBasic B.building.received self.old basic n more.now }
-        requires scalar { IsScalar (kind.Basic basic) n basic told }
-        ensures { IfOk result (λ used. TakesBasicEvents B.building.received self.old self.new basic n more.now used) }
-    {
-        self.builder.number(basic, told, 0)?;
         Ok(Some(0))
     }
 
@@ -89,136 +71,80 @@ impl<B: Builder> State<B> {
 }
 
 impl<B: Builder> Run<B> {
-    /// Takes the expected part, or the next byte of its first number. In a struct it takes what stands whole behind it
-    /// too.
-    #[inline(always)]
-    pub(crate) fn step_part<S: Shapes>(
-        &mut self,
-        shapes: &S,
-        id: TypeId,
-        rest: &[u8],
-    ) -> Result<Advance, Stop>
-        requires expected { self.old.state.expected ≡ Next.Number (NextNumber.Part id) }
-        requires has_read { IsOpenSomewhere (S.table shapes.now) B.building.received self.old }
-        requires some { 0 < length rest.now }
-        requires room { self.old.taken + length rest.now ≤ self.old.length }
-        ensures { RestAnswers (S.table shapes.now) B.building.received self.old self.new rest.now result }
-    {
-        let stepped = self.step_basic_parts(shapes, id, rest)?;
-        if stepped.used > 0 {
-            return Ok(stepped);
-        }
-        self.step_number(shapes, NextNumber::Part { id }, rest)
-    }
-
     /// Takes the expected part and what stands whole behind it in its struct or list, if it is in one and no byte of it
     /// was taken before. Where it isn't taken, nothing is done.
     #[inline(always)]
-    fn step_basic_parts<S: Shapes>(
+    pub(crate) fn take_basic_parts<S: Shapes>(
         &mut self,
         shapes: &S,
         id: TypeId,
         rest: &[u8],
     ) -> Result<Advance, Memory>
-        requires expected { self.old.state.expected ≡ Next.Number (NextNumber.Part id) }
-        requires has_read { IsOpenSomewhere (S.table shapes.now) B.building.received self.old }
-        requires some { 0 < length rest.now }
-        requires room { self.old.taken + length rest.now ≤ self.old.length }
-        ensures { IfOk result (λ stepped. StepsBasicParts (S.table shapes.now) B.building.received self.old self.new rest.now stepped) }
+        requires { IsBefore (S.table shapes.now) B.building.received self.old (Next.Number (NextNumber.Part id)) rest.now }
+        ensures { IfOk result (λ taken. TakesBasicParts (S.table shapes.now) B.building.received self.old self.new rest.now taken) }
     {
         if self.start != self.taken {
             return Ok(Advance::NONE);
         }
         match self.state.stack.innermost() {
-            Some(Frame::Fields { id: of, next }) => self.step_parts(shapes, of, next, id, rest),
-            Some(Frame::Many { elem, left }) => self.step_elements(shapes, elem, left, rest),
+            Some(Frame::Fields { id: of, next }) => {
+                self.take_basic_fields(shapes, of, Entered { next, part: id }, rest)
+            }
+            Some(Frame::Many { elem, left }) => self.take_basic_elements(shapes, elem, left, rest),
             _ => Ok(Advance::NONE),
         }
     }
 
-    /// Takes the expected part of the innermost open struct, and what stands whole behind it there.
+    /// Takes the part of the first field, which is expected in the innermost open struct, and the deltas and parts behind
+    /// it there, as long as the parts are of basic types and stand whole in the piece.
     #[inline(never)]
-    fn step_parts<S: Shapes>(
+    fn take_basic_fields<S: Shapes>(
         &mut self,
         shapes: &S,
         of: TypeId,
-        next: u64,
-        id: TypeId,
+        first: Entered,
         rest: &[u8],
     ) -> Result<Advance, Memory>
-        requires expected { self.old.state.expected ≡ Next.Number (NextNumber.Part id) }
-        requires inside { IsInFields of next self.old.state.stack }
-        requires has_read { IsOpenSomewhere (S.table shapes.now) B.building.received self.old }
+        requires before { IsBefore (S.table shapes.now) B.building.received self.old (Next.Number (NextNumber.Part first.part)) rest.now }
+        requires inside { IsInFields of first.next self.old.state.stack }
         requires fresh { self.old.start ≡ self.old.taken }
-        requires room { self.old.taken + length rest.now ≤ self.old.length }
-        ensures { IfOk result (λ stepped. StepsBasicParts (S.table shapes.now) B.building.received self.old self.new rest.now stepped) }
+        ensures { IfOk result (λ taken. TakesBasicParts (S.table shapes.now) B.building.received self.old self.new rest.now taken) }
     {
-        let used = self.take_basic_field(shapes, id, of, next, rest)?;
-        if used == 0 || used == rest.len() {
-            return Ok(Advance {
-                used,
-                moved: Moved::ToNext,
-            });
-        }
-        let more = self.step_fields(shapes, of, next, &rest[used..])?;
-        Ok(Advance {
-            used: used + more.used,
-            moved: more.moved,
-        })
-    }
-
-    /// Takes the deltas of the innermost open struct, and the parts behind them, as long as they stand whole in the
-    /// piece.
-    #[inline(always)]
-    fn step_fields<S: Shapes>(
-        &mut self,
-        shapes: &S,
-        of: TypeId,
-        next: u64,
-        rest: &[u8],
-    ) -> Result<Advance, Memory>
-        requires expected { self.old.state.expected ≡ Next.Number NextNumber.Delta }
-        requires inside { IsInFields of next self.old.state.stack }
-        requires has_read { IsOpenSomewhere (S.table shapes.now) B.building.received self.old }
-        requires fresh { self.old.start ≡ self.old.taken }
-        requires deep { length self.old.state.stack < self.old.depth }
-        requires some { 0 < length rest.now }
-        requires room { self.old.taken + length rest.now ≤ self.old.length }
-        ensures { IfOk result (λ stepped. TakesOfRest (S.table shapes.now) B.building.received self.old self.new rest.now stepped) }
-    {
-        let mut next = next;
+        let Some(fields) = fields_of(shapes, of) else {
+            return Ok(Advance::NONE);
+        };
+        let mut field = first;
         let mut used = 0;
         let moved = Moved::ToNext;
-        let Some(fields) = fields_of(shapes, of) else {
-            return Ok(Advance { used, moved });
-        };
         'fields: for _ in 0..rest.len() {
-            if rest[used] == 0 {
+            let Some(basic) = basic_of(shapes, field.part) else {
+                return Ok(Advance { used, moved });
+            };
+            let next = Frame::Fields {
+                id: of,
+                next: field.next,
+            };
+            let taken = self.take_basic_part(shapes, field.part, basic, next, &rest[used..])?;
+            used += taken;
+            if taken == 0 || used == rest.len() {
+                return Ok(Advance { used, moved });
+            }
+            let delta = rest[used];
+            if delta == 0 {
                 let moved = self.take_end()?;
                 return Ok(Advance {
                     used: used + 1,
                     moved,
                 });
             }
-            let Some(entered) = self.take_name(shapes, of, fields, next, rest[used])? else {
+            let Some(entered) = self.take_field_delta(shapes, of, fields, field.next, delta)? else {
                 return Ok(Advance { used, moved });
             };
+            field = entered;
             used += 1;
             if used == rest.len() {
                 return Ok(Advance { used, moved });
             }
-            let taken = self.take_basic_field(
-                shapes,
-                entered.part,
-                of,
-                entered.next,
-                &rest[used..],
-            )?;
-            used += taken;
-            if taken == 0 || used == rest.len() {
-                return Ok(Advance { used, moved });
-            }
-            next = entered.next;
         }
         Ok(Advance { used, moved })
     }
@@ -226,20 +152,17 @@ impl<B: Builder> Run<B> {
     /// Takes the expected element of the innermost open list, and those behind it, as long as they are of a basic type
     /// and stand whole in the piece. The last one of the list isn't taken, since the list ends with it.
     #[inline(never)]
-    fn step_elements<S: Shapes>(
+    fn take_basic_elements<S: Shapes>(
         &mut self,
         shapes: &S,
         elem: TypeId,
         left: u64,
         rest: &[u8],
     ) -> Result<Advance, Memory>
-        requires expected { self.old.state.expected ≡ Next.Number (NextNumber.Part elem) }
+        requires before { IsBefore (S.table shapes.now) B.building.received self.old (Next.Number (NextNumber.Part elem)) rest.now }
         requires inside { IsInList elem left self.old.state.stack }
-        requires has_read { IsOpenSomewhere (S.table shapes.now) B.building.received self.old }
         requires fresh { self.old.start ≡ self.old.taken }
-        requires some { 0 < length rest.now }
-        requires room { self.old.taken + length rest.now ≤ self.old.length }
-        ensures { IfOk result (λ stepped. StepsBasicParts (S.table shapes.now) B.building.received self.old self.new rest.now stepped) }
+        ensures { IfOk result (λ taken. TakesBasicParts (S.table shapes.now) B.building.received self.old self.new rest.now taken) }
     {
         let Some(basic) = basic_of(shapes, elem) else {
             return Ok(Advance::NONE);
@@ -260,31 +183,6 @@ impl<B: Builder> Run<B> {
         Ok(Advance { used, moved })
     }
 
-    /// Takes the expected part of a struct, if it is of a basic type and stands whole in the piece. It answers how many
-    /// bytes it has, and 0 where it isn't taken.
-    #[inline(always)]
-    fn take_basic_field<S: Shapes>(
-        &mut self,
-        shapes: &S,
-        id: TypeId,
-        of: TypeId,
-        next: u64,
-        rest: &[u8],
-    ) -> Result<usize, Memory>
-        requires expected { self.old.state.expected ≡ Next.Number (NextNumber.Part id) }
-        requires inside { IsInFields of next self.old.state.stack }
-        requires has_read { IsOpenSomewhere (S.table shapes.now) B.building.received self.old }
-        requires fresh { self.old.start ≡ self.old.taken }
-        requires room { self.old.taken + length rest.now ≤ self.old.length }
-        ensures { IfOk result (λ used. TakesBasicPart (S.table shapes.now) B.building.received self.old self.new
-            (Frame.Fields of next) rest.now used) }
-    {
-        let Some(basic) = basic_of(shapes, id) else {
-            return Ok(0);
-        };
-        self.take_basic_part(shapes, id, basic, Frame::Fields { id: of, next }, rest)
-    }
-
     /// Takes the expected part, which is of the basic type, if it stands whole in the piece. Behind it `next` is the
     /// innermost open part. It answers how many bytes the part has, and 0 where it isn't taken.
     #[inline(always)]
@@ -296,12 +194,10 @@ impl<B: Builder> Run<B> {
         next: Frame,
         rest: &[u8],
     ) -> Result<usize, Memory>
-        requires expected { self.old.state.expected ≡ Next.Number (NextNumber.Part id) }
+        requires before { IsBefore (S.table _shapes.now) B.building.received self.old (Next.Number (NextNumber.Part id)) rest.now }
         requires kind_ { HasKind (S.table _shapes.now) id (kind.Basic basic) }
         requires inside { IsFollowedBy next self.old.state.stack }
-        requires has_read { IsOpenSomewhere (S.table _shapes.now) B.building.received self.old }
         requires fresh { self.old.start ≡ self.old.taken }
-        requires room { self.old.taken + length rest.now ≤ self.old.length }
         ensures { IfOk result (λ used. TakesBasicPart (S.table _shapes.now) B.building.received self.old self.new
             next rest.now used) }
     {
@@ -320,7 +216,7 @@ impl<B: Builder> Run<B> {
 
     /// Takes the delta `n`, which is not 0, if it leads to a field and has one byte.
     #[inline(always)]
-    fn take_name<S: Shapes>(
+    fn take_field_delta<S: Shapes>(
         &mut self,
         _shapes: &S,
         of: TypeId,
@@ -328,13 +224,12 @@ impl<B: Builder> Run<B> {
         next: u64,
         n: u8,
     ) -> Result<Option<Entered>, Memory>
-        requires expected { self.old.state.expected ≡ Next.Number NextNumber.Delta }
+        requires before { IsBefore (S.table _shapes.now) B.building.received self.old (Next.Number NextNumber.Delta) (n ∷ []) }
         requires inside { IsInFields of next self.old.state.stack }
         requires struct_ { HasKind (S.table _shapes.now) of (kind.Struct fields.now) }
-        requires has_read { IsOpenSomewhere (S.table _shapes.now) B.building.received self.old }
         requires fresh { self.old.start ≡ self.old.taken }
-        requires some { 0 < n }
-        ensures { IfOk result (λ entered. TakesName (S.table _shapes.now) B.building.received self.old self.new n of entered) }
+        requires no_end { 0 < n }
+        ensures { IfOk result (λ entered. TakesFieldDelta (S.table _shapes.now) B.building.received self.old self.new n of entered) }
     {
         let number = next.saturating_add(u64::from(n) - 1);
         if n > 127 {
@@ -355,8 +250,7 @@ impl<B: Builder> Run<B> {
     /// Takes the delta 0 of the innermost open struct, and answers where that leads.
     #[inline(always)]
     fn take_end(&mut self) -> Result<Moved, Memory>
-        requires expected { self.old.state.expected ≡ Next.Number NextNumber.Delta }
-        requires has_read { IsOpenIn B.building.received self.old }
+        requires before { IsBeforeIn B.building.received self.old (Next.Number NextNumber.Delta) (0 ∷ []) }
         requires fresh { self.old.start ≡ self.old.taken }
         ensures { IfOk result (λ moved. (T : Table) → TakesBytes T B.building.received self.old self.new (0 ∷ []) moved) }
     {

@@ -16,7 +16,7 @@ use gob_types::{Basic, Denial, Kind, Reason, Shapes, TypeId};
 impl<B: Builder> State<B> {
     /// Takes the first number of a part of the type, and answers where that leads.
     #[inline(always)]
-    pub(crate) fn take_first<S: Shapes>(
+    pub(crate) fn take_part<S: Shapes>(
         &mut self,
         shapes: &S,
         id: TypeId,
@@ -31,7 +31,7 @@ impl<B: Builder> State<B> {
         };
         match &shape.kind {
             Kind::Basic(basic) => self.take_basic(*basic, n),
-            Kind::Opaque(_) => Ok(self.take_length(RawKind::Opaque, n)?),
+            Kind::Opaque(_) => Ok(self.take_byte_count(RawKind::Opaque, n)?),
             Kind::Struct { fields } => self.take_first_delta(id, fields, n),
             Kind::Map { key, elem } => {
                 let left = n.saturating_sub(1);
@@ -42,12 +42,12 @@ impl<B: Builder> State<B> {
                 };
                 Ok(self.take_count(GroupKind::Pairs, first, n)?)
             }
-            Kind::Slice { elem } => Ok(self.take_elements(*elem, n)?),
+            Kind::Slice { elem } => Ok(self.take_element_count(*elem, n)?),
             Kind::Array { elem, len } => {
                 if n != *len {
                     return Err(Denial::Refused(Reason::ArrayCount));
                 }
-                Ok(self.take_elements(*elem, n)?)
+                Ok(self.take_element_count(*elem, n)?)
             }
         }
     }
@@ -64,13 +64,13 @@ impl<B: Builder> State<B> {
                 if n > 1 {
                     return Err(Denial::Refused(Reason::Bool));
                 }
-                Ok(self.take_number(basic, n, n)?)
+                Ok(self.take_scalar(basic, n, n)?)
             }
-            Basic::Int => Ok(self.take_number(basic, n, n)?),
-            Basic::Uint => Ok(self.take_number(basic, n, n)?),
-            Basic::Float => Ok(self.take_number(basic, n, to_pattern(n))?),
-            Basic::Bytes => Ok(self.take_length(RawKind::Bytes, n)?),
-            Basic::Str => Ok(self.take_length(RawKind::Str, n)?),
+            Basic::Int => Ok(self.take_scalar(basic, n, n)?),
+            Basic::Uint => Ok(self.take_scalar(basic, n, n)?),
+            Basic::Float => Ok(self.take_scalar(basic, n, to_pattern(n))?),
+            Basic::Bytes => Ok(self.take_byte_count(RawKind::Bytes, n)?),
+            Basic::Str => Ok(self.take_byte_count(RawKind::Str, n)?),
             Basic::Complex => {
                 self.expected = Next::Number(NextNumber::Second {
                     pattern: to_pattern(n),
@@ -81,14 +81,14 @@ impl<B: Builder> State<B> {
                 if n != 0 {
                     return Err(Denial::Refused(Reason::InterfaceValue));
                 }
-                Ok(self.take_number(basic, n, n)?)
+                Ok(self.take_scalar(basic, n, n)?)
             }
         }
     }
 
     /// Takes a part that the number `n` spells, and tells it as `told`.
     #[inline(always)]
-    fn take_number(&mut self, basic: Basic, n: u64, told: u64) -> Result<Moved, Memory>
+    fn take_scalar(&mut self, basic: Basic, n: u64, told: u64) -> Result<Moved, Memory>
         requires { CanBegin B.building.received self.old (λ k. IsScalar k n basic told) n }
         ensures { IfOk result (λ moved. StepBegins B.building.received self.old self.new (λ k. IsScalar k n basic told) n moved) }
     {
@@ -98,7 +98,7 @@ impl<B: Builder> State<B> {
 
     /// Takes how many raw bytes the part has.
     #[inline(always)]
-    fn take_length(&mut self, kind: RawKind, n: u64) -> Result<Moved, Memory>
+    fn take_byte_count(&mut self, kind: RawKind, n: u64) -> Result<Moved, Memory>
         requires { CanBegin B.building.received self.old (λ k. IsRawKind k kind) n }
         ensures { IfOk result (λ moved. StepBegins B.building.received self.old self.new (λ k. IsRawKind k kind) n moved) }
     {
@@ -113,7 +113,7 @@ impl<B: Builder> State<B> {
 
     /// Takes how many elements a list has.
     #[inline(always)]
-    fn take_elements(&mut self, elem: TypeId, n: u64) -> Result<Moved, Memory>
+    fn take_element_count(&mut self, elem: TypeId, n: u64) -> Result<Moved, Memory>
         requires { CanBegin B.building.received self.old (λ k. IsList k n elem) n }
         ensures { IfOk result (λ moved. StepBegins B.building.received self.old self.new (λ k. IsList k n elem) n moved) }
     {

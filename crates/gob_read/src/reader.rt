@@ -75,7 +75,7 @@ impl<B: Builder> BodyReader<B> {
         run.state.begin(shapes);
         let room = run.length - run.taken;
         let count = room.min(piece.len() as u64) as usize;
-        match run.advance(shapes, &piece[..count]) {
+        match run.take_piece(shapes, &piece[..count]) {
             Ok(advance) => match advance.moved {
                 Moved::ToNext => {
                     self.run = Some(run);

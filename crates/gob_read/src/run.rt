@@ -1,14 +1,12 @@
 //! A reader under way.
 
 ghost use Rattle.std.specs.Prelude.{◌≡◌, ℕ, ◌+◌, ◌<◌, ◌≤◌, List, [], ◌∷◌, IfOk, length};
-ghost use Rattle.gob_num.specs.Unsigned.{IsUnsigned};
 ghost use Rattle.gob_types.specs.declared.id.TypeId.{TypeId};
 ghost use Rattle.gob_types.specs.Table.{Table};
 ghost use Rattle.gob_types.specs.Ready.{IsReady};
 ghost use Rattle.gob_read.specs.Machine.Steps.{CanTake};
-ghost use Rattle.gob_read.specs.Machine.Running.{IsReachedSomewhere, IsOpenSomewhere, TakesBytes, TakesSome};
+ghost use Rattle.gob_read.specs.Machine.Running.{IsNewRun, IsReachedSomewhere, IsBefore, IsBeforeIn, TakesSome, depth_of, begun_parts};
 ghost use Rattle.gob_read.specs.Machine.Running.{BytesAnswers, RestAnswers, NumberAnswers, JudgeAnswers, EndAnswers, PieceAnswers};
-ghost use Rattle.gob_read.specs.Machine.Running.{IsNewRun, IsOpenIn, depth_of, begun_parts};
 ghost use Rattle.gob_read.specs.Reader.{HasReadSoFar};
 ghost use Rattle.gob_read.specs.Held.{IsHeld, counted_of};
 
@@ -106,7 +104,11 @@ impl<B: Builder> Run<B> {
     }
 
     /// Reads on until the piece is taken, or the value is whole and the body with it.
-    pub(crate) fn advance<S: Shapes>(&mut self, shapes: &S, piece: &[u8]) -> Result<Advance, Stop>
+    pub(crate) fn take_piece<S: Shapes>(
+        &mut self,
+        shapes: &S,
+        piece: &[u8],
+    ) -> Result<Advance, Stop>
         requires has_read { IsReachedSomewhere (S.table shapes.now) B.building.received self.old }
         requires room { self.old.taken + length piece.now ≤ self.old.length }
         ensures { PieceAnswers (S.table shapes.now) B.building.received self.old self.new piece.now result }
@@ -123,10 +125,10 @@ impl<B: Builder> Run<B> {
                     moved: Moved::ToNext,
                 });
             }
-            match self.step(shapes, &piece[used..], &mut cut) {
-                Ok(stepped) => {
-                    used += stepped.used;
-                    match stepped.moved {
+            match self.take_next(shapes, &piece[used..], &mut cut) {
+                Ok(taken) => {
+                    used += taken.used;
+                    match taken.moved {
                         Moved::ToNext => {}
                         Moved::PastValue => {
                             return match self.finish() {
@@ -233,103 +235,82 @@ impl<B: Builder> Run<B> {
 
     /// Takes the next item, or as much of it as there is, or parts that stand whole.
     #[inline(always)]
-    fn step<S: Shapes>(&mut self, shapes: &S, rest: &[u8], cut: &mut bool) -> Result<Advance, Stop>
-        requires has_read { IsOpenSomewhere (S.table shapes.now) B.building.received self.old }
-        requires some { 0 < length rest.now }
-        requires room { self.old.taken + length rest.now ≤ self.old.length }
+    fn take_next<S: Shapes>(
+        &mut self,
+        shapes: &S,
+        rest: &[u8],
+        cut: &mut bool,
+    ) -> Result<Advance, Stop>
+        requires { IsBefore (S.table shapes.now) B.building.received self.old self.old.state.expected rest.now }
         ensures { RestAnswers (S.table shapes.now) B.building.received self.old self.new rest.now result }
     {
         match self.state.expected {
             Next::Top { id: _ } => unreachable!(),
-            Next::Number(NextNumber::Part { id }) => self.step_over(shapes, id, rest, cut),
-            Next::Number(item) => self.step_number(shapes, item, rest),
-            Next::Raw { left } => Ok(self.step_raw(left, rest)?),
+            Next::Number(NextNumber::Part { id }) => self.take_part(shapes, id, rest, cut),
+            Next::Number(item) => self.take_number(shapes, item, rest),
+            Next::Raw { left } => Ok(self.take_raw_bytes(left, rest)?),
         }
+    }
+
+    /// Takes the expected part with those behind it that stand whole too, or the part's first number, or the next byte
+    /// of that.
+    #[inline(always)]
+    fn take_part<S: Shapes>(
+        &mut self,
+        shapes: &S,
+        id: TypeId,
+        rest: &[u8],
+        cut: &mut bool,
+    ) -> Result<Advance, Stop>
+        requires { IsBefore (S.table shapes.now) B.building.received self.old (Next.Number (NextNumber.Part id)) rest.now }
+        ensures { RestAnswers (S.table shapes.now) B.building.received self.old self.new rest.now result }
+    {
+        let skipped = self.skip_parts(shapes, id, rest, cut);
+        if skipped.used > 0 {
+            return Ok(skipped);
+        }
+        let taken = self.take_basic_parts(shapes, id, rest)?;
+        if taken.used > 0 {
+            return Ok(taken);
+        }
+        self.take_number(shapes, NextNumber::Part { id }, rest)
     }
 
     /// Takes the expected number, or the next byte of it.
     #[inline(always)]
-    pub(crate) fn step_number<S: Shapes>(
+    fn take_number<S: Shapes>(
         &mut self,
         shapes: &S,
         item: NextNumber,
         rest: &[u8],
     ) -> Result<Advance, Stop>
-        requires expected { self.old.state.expected ≡ Next.Number item }
-        requires has_read { IsOpenSomewhere (S.table shapes.now) B.building.received self.old }
-        requires some { 0 < length rest.now }
-        requires room { self.old.taken + length rest.now ≤ self.old.length }
+        requires { IsBefore (S.table shapes.now) B.building.received self.old (Next.Number item) rest.now }
         ensures { RestAnswers (S.table shapes.now) B.building.received self.old self.new rest.now result }
     {
         if self.start == self.taken {
             if let Taken::Whole { number, used } = take_uint(rest) {
-                return match self.take_whole(shapes, item, number, &rest[..used]) {
+                self.taken += used as u64;
+                return match self.take_whole_number(shapes, item, number) {
                     Ok(moved) => Ok(Advance { used, moved }),
                     Err(stop) => Err(stop),
                 };
             }
         }
-        match self.take_byte(shapes, item, rest[0]) {
+        match self.take_number_byte(shapes, item, rest[0]) {
             Ok(moved) => Ok(Advance { used: 1, moved }),
             Err(stop) => Err(stop),
         }
     }
 
-    /// Takes as many of the expected raw bytes as there are.
-    fn step_raw(&mut self, left: u64, rest: &[u8]) -> Result<Advance, Memory>
-        requires expected { self.old.state.expected ≡ Next.Raw left }
-        requires has_read { IsOpenIn B.building.received self.old }
-        requires some { 0 < length rest.now }
-        requires room { self.old.taken + length rest.now ≤ self.old.length }
-        ensures { IfOk result (λ stepped. (T : Table) → TakesSome T B.building.received self.old self.new rest.now stepped) }
-    {
-        let used = left.min(rest.len() as u64) as usize;
-        let moved = self.take_chunk(left, &rest[..used])?;
-        Ok(Advance { used, moved })
-    }
-
-    /// Takes raw bytes, and answers where that leads.
-    fn take_chunk(&mut self, left: u64, bytes: &[u8]) -> Result<Moved, Memory>
-        requires expected { self.old.state.expected ≡ Next.Raw left }
-        requires has_read { IsOpenIn B.building.received self.old }
-        requires few { length bytes.now ≤ left }
-        requires room { self.old.taken + length bytes.now ≤ self.old.length }
-        ensures { IfOk result (λ moved. (T : Table) → TakesBytes T B.building.received self.old self.new bytes.now moved) }
-    {
-        let moved = self.state.take_raw(left, bytes)?;
-        self.taken += bytes.len() as u64;
-        if bytes.len() as u64 == left {
-            self.start = self.taken;
-        }
-        Ok(moved)
-    }
-
-    /// Takes a whole number that stands in the piece, and answers where that leads.
-    #[inline(always)]
-    fn take_whole<S: Shapes>(
+    /// Takes the next byte of a number, and answers where that leads.
+    #[inline(never)]
+    fn take_number_byte<S: Shapes>(
         &mut self,
         shapes: &S,
         item: NextNumber,
-        n: u64,
-        front: &[u8],
+        b: u8,
     ) -> Result<Moved, Stop>
-        requires expected { self.old.state.expected ≡ Next.Number item }
-        requires has_read { IsOpenSomewhere (S.table shapes.now) B.building.received self.old }
-        requires fresh { self.old.start ≡ self.old.taken }
-        requires spelled { IsUnsigned n front.now }
-        requires room { self.old.taken + length front.now ≤ self.old.length }
-        ensures { BytesAnswers (S.table shapes.now) B.building.received self.old self.new front.now result }
-    {
-        self.taken += front.len() as u64;
-        self.take(shapes, item, n)
-    }
-
-    /// Takes the next byte of a number, and answers where that leads.
-    #[inline(never)]
-    fn take_byte<S: Shapes>(&mut self, shapes: &S, item: NextNumber, b: u8) -> Result<Moved, Stop>
-        requires expected { self.old.state.expected ≡ Next.Number item }
-        requires has_read { IsOpenSomewhere (S.table shapes.now) B.building.received self.old }
-        requires room { self.old.taken + 1 ≤ self.old.length }
+        requires { IsBefore (S.table shapes.now) B.building.received self.old (Next.Number item) (b ∷ []) }
         ensures { BytesAnswers (S.table shapes.now) B.building.received self.old self.new (b ∷ []) result }
     {
         self.taken += 1;
@@ -337,17 +318,22 @@ impl<B: Builder> Run<B> {
             Step::More => Ok(Moved::ToNext),
             Step::BadHead => Err(self.refuse(self.start, Reason::BadHead)),
             Step::NotMinimal => Err(self.refuse(self.start, Reason::NotMinimal)),
-            Step::Done(n) => self.take(shapes, item, n),
+            Step::Done(n) => self.take_whole_number(shapes, item, n),
         }
     }
 
     /// Takes the expected number, whose last byte was taken, and answers where that leads.
     #[inline(always)]
-    fn take<S: Shapes>(&mut self, shapes: &S, item: NextNumber, n: u64) -> Result<Moved, Stop>
+    fn take_whole_number<S: Shapes>(
+        &mut self,
+        shapes: &S,
+        item: NextNumber,
+        n: u64,
+    ) -> Result<Moved, Stop>
         requires { CanTake (S.table shapes.now) B.building.received self.old.state item n }
         ensures { NumberAnswers (S.table shapes.now) B.building.received self.old self.new n result }
     {
-        match self.state.take(shapes, item, n) {
+        match self.state.take_number(shapes, item, n) {
             Ok(moved) => {
                 self.start = self.taken;
                 Ok(moved)
@@ -355,5 +341,19 @@ impl<B: Builder> Run<B> {
             Err(Denial::Memory) => Err(Stop::Memory),
             Err(Denial::Refused(reason)) => Err(self.refuse(self.start, reason)),
         }
+    }
+
+    /// Takes as many of the expected raw bytes as there are.
+    fn take_raw_bytes(&mut self, left: u64, rest: &[u8]) -> Result<Advance, Memory>
+        requires { IsBeforeIn B.building.received self.old (Next.Raw left) rest.now }
+        ensures { IfOk result (λ taken. (T : Table) → TakesSome T B.building.received self.old self.new rest.now taken) }
+    {
+        let used = left.min(rest.len() as u64) as usize;
+        let moved = self.state.take_raw_bytes(left, &rest[..used])?;
+        self.taken += used as u64;
+        if used as u64 == left {
+            self.start = self.taken;
+        }
+        Ok(Advance { used, moved })
     }
 }

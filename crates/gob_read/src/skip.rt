@@ -1,57 +1,32 @@
 //! Elements and entries that stand whole in a piece, gone over without being told.
 
-ghost use Rattle.std.specs.Prelude.{◌≡◌, ◌+◌, ◌<◌, ◌≤◌, List, length};
-ghost use Rattle.gob_read.specs.Machine.Running.{IsOpenSomewhere, RestAnswers};
-ghost use Rattle.gob_read.specs.Machine.BasicParts.{IsInList, IsInMap, StepsBasicParts};
+ghost use Rattle.std.specs.Prelude.{◌≡◌, List};
+ghost use Rattle.gob_read.specs.Machine.Running.{IsBefore};
+ghost use Rattle.gob_read.specs.Machine.BasicParts.{IsInList, IsInMap, TakesBasicParts};
 ghost use Rattle.gob_read.specs.Event.{Event};
 
 use crate::builder::Builder;
 use crate::frame::Frame;
 use crate::next::{Moved, Next, NextNumber};
 use crate::run::{Advance, Run};
-use crate::stop::Stop;
 use gob_types::{Shapes, TypeId};
 use gob_value::{whole_elements, whole_entries};
 
 impl<B: Builder> Run<B> {
-    /// Takes the expected part, or the next byte of its first number. Where the builder needn't be told, it takes the
-    /// elements or entries that stand whole in the piece at once. Where one of them doesn't it says so, `cut`: then
-    /// the piece isn't tried again, so that each byte of it is looked at twice at most.
+    /// Goes at once over the parts of the innermost open list or map that stand whole in the piece, where the builder
+    /// needn't be told, if the expected one is the next of them and no byte of it was taken before. Where there are none,
+    /// nothing is done. Where one of them doesn't stand whole it says so, `cut`: then the piece isn't tried again, so that
+    /// each byte of it is looked at twice at most.
     #[inline(always)]
-    pub(crate) fn step_over<S: Shapes>(
-        &mut self,
-        shapes: &S,
-        id: TypeId,
-        rest: &[u8],
-        cut: &mut bool,
-    ) -> Result<Advance, Stop>
-        requires expected { self.old.state.expected ≡ Next.Number (NextNumber.Part id) }
-        requires has_read { IsOpenSomewhere (S.table shapes.now) B.building.received self.old }
-        requires some { 0 < length rest.now }
-        requires room { self.old.taken + length rest.now ≤ self.old.length }
-        ensures { RestAnswers (S.table shapes.now) B.building.received self.old self.new rest.now result }
-    {
-        let stepped = self.skip_parts(shapes, id, rest, cut);
-        if stepped.used > 0 {
-            return Ok(stepped);
-        }
-        self.step_part(shapes, id, rest)
-    }
-
-    /// Goes over the parts of the innermost open list or map that stand whole in the piece, if the expected one is the
-    /// next of them and no byte of it was taken before. Where there are none, nothing is done.
-    #[inline(always)]
-    fn skip_parts<S: Shapes>(
+    pub(crate) fn skip_parts<S: Shapes>(
         &mut self,
         shapes: &S,
         id: TypeId,
         rest: &[u8],
         cut: &mut bool,
     ) -> Advance
-        requires expected { self.old.state.expected ≡ Next.Number (NextNumber.Part id) }
-        requires has_read { IsOpenSomewhere (S.table shapes.now) B.building.received self.old }
-        requires room { self.old.taken + length rest.now ≤ self.old.length }
-        ensures { StepsBasicParts (S.table shapes.now) B.building.received self.old self.new rest.now result }
+        requires { IsBefore (S.table shapes.now) B.building.received self.old (Next.Number (NextNumber.Part id)) rest.now }
+        ensures { TakesBasicParts (S.table shapes.now) B.building.received self.old self.new rest.now result }
     {
         if *cut || self.start != self.taken || !self.state.builder.may_skip() {
             return Advance::NONE;
@@ -75,13 +50,11 @@ impl<B: Builder> Run<B> {
         rest: &[u8],
         cut: &mut bool,
     ) -> Advance
-        requires expected { self.old.state.expected ≡ Next.Number (NextNumber.Part elem) }
+        requires before { IsBefore (S.table shapes.now) B.building.received self.old (Next.Number (NextNumber.Part elem)) rest.now }
         requires inside { IsInList elem left self.old.state.stack }
         requires untold { (us : List Event) → B.building.received self.old.state.builder us }
-        requires has_read { IsOpenSomewhere (S.table shapes.now) B.building.received self.old }
         requires fresh { self.old.start ≡ self.old.taken }
-        requires room { self.old.taken + length rest.now ≤ self.old.length }
-        ensures { StepsBasicParts (S.table shapes.now) B.building.received self.old self.new rest.now result }
+        ensures { TakesBasicParts (S.table shapes.now) B.building.received self.old self.new rest.now result }
     {
         let depth = self.depth - self.state.stack.depth();
         let elements = whole_elements(shapes, elem, left, rest, depth);
@@ -112,13 +85,11 @@ impl<B: Builder> Run<B> {
         rest: &[u8],
         cut: &mut bool,
     ) -> Advance
-        requires expected { self.old.state.expected ≡ Next.Number (NextNumber.Part key) }
+        requires before { IsBefore (S.table shapes.now) B.building.received self.old (Next.Number (NextNumber.Part key)) rest.now }
         requires inside { IsInMap key elem left self.old.state.stack }
         requires untold { (us : List Event) → B.building.received self.old.state.builder us }
-        requires has_read { IsOpenSomewhere (S.table shapes.now) B.building.received self.old }
         requires fresh { self.old.start ≡ self.old.taken }
-        requires room { self.old.taken + length rest.now ≤ self.old.length }
-        ensures { StepsBasicParts (S.table shapes.now) B.building.received self.old self.new rest.now result }
+        ensures { TakesBasicParts (S.table shapes.now) B.building.received self.old self.new rest.now result }
     {
         let depth = self.depth - self.state.stack.depth();
         let entries = whole_entries(shapes, key, elem, left, rest, depth);

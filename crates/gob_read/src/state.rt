@@ -2,7 +2,7 @@
 
 ghost use Rattle.std.specs.Prelude.{◌≡◌, ◌-◌, ◌<◌, ◌≤◌, ◌↔◌, IfOk, IsTrue, length};
 ghost use Rattle.gob_read.specs.Machine.Steps.{CanEnd, StepEnds, CanTake, StepTakes, StepRefuses, CanTakeRaw, TakesRaw, TakesOrBlames};
-ghost use Rattle.gob_read.specs.Machine.Steps.{CanTakeTag, IsWrongTag, CanTakeSecond, TakesHere};
+ghost use Rattle.gob_read.specs.Machine.Steps.{CanTakeTag, IsWrongTag, CanTakeImaginary, TakesHere};
 ghost use Rattle.gob_read.specs.Machine.Kinds.{IsStructType, BeginsAs};
 
 use crate::builder::Builder;
@@ -85,7 +85,7 @@ impl<B: Builder> State<B> {
 
     /// Takes the expected number, and answers where that leads.
     #[inline(always)]
-    pub(crate) fn take<S: Shapes>(
+    pub(crate) fn take_number<S: Shapes>(
         &mut self,
         shapes: &S,
         item: NextNumber,
@@ -97,8 +97,8 @@ impl<B: Builder> State<B> {
     {
         match item {
             NextNumber::Tag { id } => self.take_tag(id, n),
-            NextNumber::Part { id } => self.take_first(shapes, id, n),
-            NextNumber::Second { pattern } => Ok(self.take_second(pattern, n)?),
+            NextNumber::Part { id } => self.take_part(shapes, id, n),
+            NextNumber::Second { pattern } => Ok(self.take_imaginary(pattern, n)?),
             NextNumber::Delta => self.take_delta(shapes, n),
         }
     }
@@ -117,8 +117,8 @@ impl<B: Builder> State<B> {
     }
 
     /// Takes the imaginary part of a complex number, behind the pattern of its real part.
-    fn take_second(&mut self, pattern: u64, n: u64) -> Result<Moved, Memory>
-        requires { CanTakeSecond B.building.received self.old pattern n }
+    fn take_imaginary(&mut self, pattern: u64, n: u64) -> Result<Moved, Memory>
+        requires { CanTakeImaginary B.building.received self.old pattern n }
         ensures { IfOk result (λ moved. TakesHere B.building.received self.old self.new n moved) }
     {
         self.builder.number(Basic::Complex, pattern, to_pattern(n))?;
@@ -126,7 +126,7 @@ impl<B: Builder> State<B> {
     }
 
     /// Takes raw bytes of the part that is read, and answers where that leads.
-    pub(crate) fn take_raw(&mut self, left: u64, bytes: &[u8]) -> Result<Moved, Memory>
+    pub(crate) fn take_raw_bytes(&mut self, left: u64, bytes: &[u8]) -> Result<Moved, Memory>
         requires { CanTakeRaw B.building.received self.old left bytes.now }
         ensures { IfOk result (λ moved. TakesRaw B.building.received self.old self.new left bytes.now moved) }
     {

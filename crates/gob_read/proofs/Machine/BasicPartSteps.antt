@@ -26,8 +26,8 @@ use Rattle.gob_read.specs.Machine.Frames.{to_delta, to_element, item_of}
 use Rattle.gob_read.specs.Machine.Kinds.{HasKind, IsScalar, IsRawKind}
 use Rattle.gob_read.specs.Machine.OpenPath.{OpenPath, at_once, behind_tag, in_list, at_key, at_value, in_field}
 use Rattle.gob_read.specs.Machine.Steps.{StepEnds, CanGoOn, StepGoesOn, CanTakeRaw}
-use Rattle.gob_read.specs.Machine.Running.{IsOpenSomewhere, IsOpenIn, IsStepped, TakesMore, Steps, TakesBytes, TakesOfRest, TakesSome, MayGoOn, depth_of, item_depth}
-use Rattle.gob_read.specs.Machine.BasicParts.{MayTakeBasic, TakesBasicEvents, told_nothing, told_number, told_bytes, IsInFields, IsInList, IsFollowedBy, StepsBasicParts, not_stepped, stepped_over, PassesParts, TakesBasicPart, not_taken, part_taken, EntersField, NamesField, TakesName, not_named, named, CanEndFields, EndsFields}
+use Rattle.gob_read.specs.Machine.Running.{IsOpenSomewhere, IsOpenIn, IsBefore, IsStepped, TakesMore, Steps, TakesBytes, TakesOfRest, TakesSome, MayGoOn, depth_of, item_depth}
+use Rattle.gob_read.specs.Machine.BasicParts.{MayTakeBasic, TakesBasicEvents, told_nothing, told_number, told_bytes, IsInFields, IsInList, IsFollowedBy, TakesBasicParts, no_part_taken, some_parts_taken, PassesParts, TakesBasicPart, not_taken, part_taken, EntersField, NamesField, TakesFieldDelta, not_named, named, CanEndFields, EndsFields}
 use Rattle.gob_read.proofs.Grammar.Fronts.{append_nil}
 use Rattle.gob_read.proofs.Machine.Parts.{ended_on, begins_ended}
 use Rattle.gob_read.proofs.Machine.FirstSteps.{number_ended, length_placed}
@@ -248,14 +248,14 @@ frame_some [] h = cc
 frame_some (g ∷ fs) h = omega arith
 
 -- no delta was taken, or one was
-pub unnamed : {T : Table} {X O : Type 0} {received : X → List Event → Type 0} {old new : Run X O} {n : ℕ} {u : TypeId} {r : Option Entered} → r ≡ None → TakesName T received old new n u r → new ≡ old
+pub unnamed : {T : Table} {X O : Type 0} {received : X → List Event → Type 0} {old new : Run X O} {n : ℕ} {u : TypeId} {r : Option Entered} → r ≡ None → TakesFieldDelta T received old new n u r → new ≡ old
 unnamed z (not_named e) = e
 unnamed z (named e) = cc
 
-pub named_as : {T : Table} {X O : Type 0} {received : X → List Event → Type 0} {old new : Run X O} {n : ℕ} {u : TypeId} {r : Option Entered} {e : Entered} → r ≡ Some e → TakesName T received old new n u r → EntersField T received old new n u e.next e.part
-named_as {T = T} {received = received} {old = old} {new = new} {n = n} {u = u} z h = entered (subst (TakesName T received old new n u) z h)
+pub named_as : {T : Table} {X O : Type 0} {received : X → List Event → Type 0} {old new : Run X O} {n : ℕ} {u : TypeId} {r : Option Entered} {e : Entered} → r ≡ Some e → TakesFieldDelta T received old new n u r → EntersField T received old new n u e.next e.part
+named_as {T = T} {received = received} {old = old} {new = new} {n = n} {u = u} z h = entered (subst (TakesFieldDelta T received old new n u) z h)
   where
-    entered : {e : Entered} → TakesName T received old new n u (Some e) → EntersField T received old new n u e.next e.part
+    entered : {e : Entered} → TakesFieldDelta T received old new n u (Some e) → EntersField T received old new n u e.next e.part
     entered (named e) = e
 
 -- within an open part so much of the piece was taken, and this is expected
@@ -279,6 +279,24 @@ item_opens {run = run} h l room some =
 pub item_open : {T : Table} {X O : Type 0} {received : X → List Event → Type 0} {old run : Run X O} {rest : List ℕ} {used count : ℕ} {i : NextNumber} {f : Frame} → AtItem T received old run rest used count i f → IsOpenSomewhere T received old → item_depth i (length run.state.stack) ≤ length run.state.stack + 1 → old.taken + length rest ≤ old.length → used < length rest → IsOpenSomewhere T received run
 item_open h o l room some = come_open (record { type = o.type; bytes = o.bytes; reached = o.open_.reached }) h.come (item_opens h l room some)
 
+pub rest_some : (rest : List ℕ) (used : ℕ) → length (take (length rest - used) (drop used rest)) ≡ length rest - used
+rest_some rest used = ap length (slice_rest rest used) ∙ length-drop used rest
+
+-- and the rest of the piece, or its next byte, is before it
+before_part : {T : Table} {X O : Type 0} {received : X → List Event → Type 0} {old run : Run X O} {rest : List ℕ} {used count : ℕ} {i j : NextNumber} {f : Frame} (bytes : List ℕ) → AtItem T received old run rest used count i f → IsBefore T received old (Number j) rest → item_depth i (length run.state.stack) ≤ length run.state.stack + 1
+    → used + length bytes ≤ length rest → 0 < length bytes → IsBefore T received run (Number i) bytes
+before_part bytes h b l few some =
+    let r = b.room in let t = h.come.more.taken in let n = h.come.more.length_is in
+    record { expected = h.expected; has_read = item_open h b.has_read l b.room (omega arith); some = some; room = omega arith }
+
+pub item_before : {T : Table} {X O : Type 0} {received : X → List Event → Type 0} {old run : Run X O} {rest : List ℕ} {used count : ℕ} {i j : NextNumber} {f : Frame} → AtItem T received old run rest used count i f → IsBefore T received old (Number j) rest → item_depth i (length run.state.stack) ≤ length run.state.stack + 1
+    → used < length rest → IsBefore T received run (Number i) (take (length rest - used) (drop used rest))
+item_before {rest = rest} {used = used} h b l some = before_part (take (length rest - used) (drop used rest)) h b l (omega (arith, rest_some rest used)) (omega (arith, rest_some rest used))
+
+pub byte_before : {T : Table} {X O : Type 0} {received : X → List Event → Type 0} {old run : Run X O} {rest : List ℕ} {used count byte : ℕ} {i j : NextNumber} {f : Frame} → AtItem T received old run rest used count i f → IsBefore T received old (Number j) rest → item_depth i (length run.state.stack) ≤ length run.state.stack + 1
+    → used < length rest → IsBefore T received run (Number i) (byte ∷ [])
+byte_before {byte = byte} h b l some = before_part (byte ∷ []) h b l (omega arith) (omega arith)
+
 pub come_steps : {T : Table} {X O : Type 0} {received : X → List Event → Type 0} {old new : Run X O} {rest : List ℕ} {used count : ℕ} → HasCome T received old new rest used count → Steps T received old new (take used rest) ToNext
 come_steps h = record { each = λ t z o. h.reached t z o.reached }
 
@@ -290,9 +308,6 @@ one_at (x ∷ xs) (suc used) l = one_at xs used (omega arith)
 -- its first byte
 one_of_rest : (rest : List ℕ) (used : ℕ) → used < length rest → take 1 (take (length rest - used) (drop used rest)) ≡ get_or rest used 0 ∷ []
 one_of_rest rest used l = ap (λ (l : List ℕ). take 1 l) (slice_rest rest used) ∙ one_at rest used l
-
-pub rest_some : (rest : List ℕ) (used : ℕ) → length (take (length rest - used) (drop used rest)) ≡ length rest - used
-rest_some rest used = ap length (slice_rest rest used) ∙ length-drop used rest
 
 -- the delta was taken
 pub named_on : {T : Table} {X O : Type 0} {received : X → List Event → Type 0} {old run new : Run X O} {rest : List ℕ} {used count next next' : ℕ} {u part : TypeId} → AtItem T received old run rest used count Delta (frame.Fields u next) → old.taken + length rest ≤ old.length → used < length rest
@@ -379,22 +394,17 @@ go_on_ends {received = received} {state = state} {u = u} {types = types} {next =
 pub same_passed : {T : Table} {X O : Type 0} {received : X → List Event → Type 0} {old run new : Run X O} {rest : List ℕ} {step : Advance} → new ≡ run → TakesOfRest T received old run rest step → TakesOfRest T received old new rest step
 same_passed {T = T} {received = received} {old = old} {rest = rest} {step = step} e h = subst (λ r. TakesOfRest T received old r rest step) (sym e) h
 
-pub basic_passed : {T : Table} {X O : Type 0} {received : X → List Event → Type 0} {old run new : Run X O} {rest : List ℕ} {used count taken : ℕ} {f g : Frame} {part : TypeId} → AtItem T received old run rest used count (Part part) f → old.taken + length rest ≤ old.length → used < length rest
-    → TakesBasicPart T received run new g (take (length rest - used) (drop used rest)) taken → TakesOfRest T received old new rest (record { used = used + taken; moved = ToNext })
-basic_passed {T = T} {received = received} {old = old} {run = run} {rest = rest} {used = used} h room some (not_taken e) = same_passed e (subst (λ n. TakesOfRest T received old run rest (record { used = n; moved = ToNext })) (omega arith) (item_passed h))
-basic_passed h room some (part_taken s w p a k d) = item_passed (basic_on h room some s (record { within = w; passes = p; expected = a; stack = k; as_deep = d }))
-
 -- what was taken within a list, or nothing
-pub item_stepped : {T : Table} {X O : Type 0} {received : X → List Event → Type 0} {old run : Run X O} {rest : List ℕ} {used count : ℕ} {i : NextNumber} {f : Frame} → AtItem T received old run rest used count i f → (used ≡ 0 → run ≡ old) → StepsBasicParts T received old run rest (record { used = used; moved = ToNext })
-item_stepped {used = zero} h same = not_stepped refl (same refl)
-item_stepped {used = suc used} h same = stepped_over (record { some = omega arith; takes = item_passed h })
+pub item_or_not : {T : Table} {X O : Type 0} {received : X → List Event → Type 0} {old run : Run X O} {rest : List ℕ} {used count : ℕ} {i : NextNumber} {f : Frame} → AtItem T received old run rest used count i f → (used ≡ 0 → run ≡ old) → TakesBasicParts T received old run rest (record { used = used; moved = ToNext })
+item_or_not {used = zero} h same = no_part_taken refl (same refl)
+item_or_not {used = suc used} h same = some_parts_taken (record { some = omega arith; takes = item_passed h })
 
-pub taken_stepped : {T : Table} {X O : Type 0} {received : X → List Event → Type 0} {old run new : Run X O} {rest : List ℕ} {used count taken : ℕ} {f g : Frame} {part : TypeId} → AtItem T received old run rest used count (Part part) f → (used ≡ 0 → run ≡ old) → old.taken + length rest ≤ old.length → used < length rest
-    → TakesBasicPart T received run new g (take (length rest - used) (drop used rest)) taken → StepsBasicParts T received old new rest (record { used = used + taken; moved = ToNext })
-taken_stepped {T = T} {received = received} {old = old} {new = new} {rest = rest} {used = used} h same room some (not_taken e) =
-    subst (λ n. StepsBasicParts T received old new rest (record { used = n; moved = ToNext })) (omega arith) (subst (λ r. StepsBasicParts T received old r rest (record { used = used; moved = ToNext })) (sym e) (item_stepped h same))
-taken_stepped h same room some (part_taken s w p a k d) =
-    stepped_over (record { some = omega arith; takes = item_passed (basic_on h room some s (record { within = w; passes = p; expected = a; stack = k; as_deep = d })) })
+pub taken_or_not : {T : Table} {X O : Type 0} {received : X → List Event → Type 0} {old run new : Run X O} {rest : List ℕ} {used count taken : ℕ} {f g : Frame} {part : TypeId} → AtItem T received old run rest used count (Part part) f → (used ≡ 0 → run ≡ old) → old.taken + length rest ≤ old.length → used < length rest
+    → TakesBasicPart T received run new g (take (length rest - used) (drop used rest)) taken → TakesBasicParts T received old new rest (record { used = used + taken; moved = ToNext })
+taken_or_not {T = T} {received = received} {old = old} {new = new} {rest = rest} {used = used} h same room some (not_taken e) =
+    subst (λ n. TakesBasicParts T received old new rest (record { used = n; moved = ToNext })) (omega arith) (subst (λ r. TakesBasicParts T received old r rest (record { used = used; moved = ToNext })) (sym e) (item_or_not h same))
+taken_or_not h same room some (part_taken s w p a k d) =
+    some_parts_taken (record { some = omega arith; takes = item_passed (basic_on h room some s (record { within = w; passes = p; expected = a; stack = k; as_deep = d })) })
 
 -- in a list an element is expected
 element_within : {T : Table} {t : TypeId} {fs : List Frame} {z : List ℕ} {us : List Event} {u e : TypeId} {left : ℕ} → OpenPath T t fs z us u → IsInList e left fs → u ≡ e
@@ -405,8 +415,11 @@ element_within (at_key w k n b c) h = cc
 element_within (at_value w k n b c x y) h = cc
 element_within (in_field w k b l m g n) h = cc
 
-pub element_is : {T : Table} {X O : Type 0} {received : X → List Event → Type 0} {run : Run X O} {id e : TypeId} {left : ℕ} → run.state.expected ≡ Number (Part id) → IsOpenSomewhere T received run → IsInList e left run.state.stack → run.state.expected ≡ Number (Part e)
+element_is : {T : Table} {X O : Type 0} {received : X → List Event → Type 0} {run : Run X O} {id e : TypeId} {left : ℕ} → run.state.expected ≡ Number (Part id) → IsOpenSomewhere T received run → IsInList e left run.state.stack → run.state.expected ≡ Number (Part e)
 element_is a o h = a ∙ ap (λ u. Number (Part u)) (element_within (placed_begun a o.open_.reached.placed).within h)
+
+pub before_element : {T : Table} {X O : Type 0} {received : X → List Event → Type 0} {run : Run X O} {id e : TypeId} {left : ℕ} {rest : List ℕ} → IsBefore T received run (Number (Part id)) rest → IsInList e left run.state.stack → IsBefore T received run (Number (Part e)) rest
+before_element b h = record { expected = element_is b.expected b.has_read h; has_read = b.has_read; some = b.some; room = b.room }
 
 pub goes_to_element : {e : TypeId} (left less : ℕ) → left ≡ less + 1 → Frames.FrameGoesOn (frame.Many e left) (frame.Many e less)
 goes_to_element zero less h = absurd (omega arith)
@@ -416,30 +429,11 @@ goes_to_element {e = e} (suc left) less h = subst (λ n. Frames.FrameGoesOn (fra
 pub part_deep : {T : Table} {X O : Type 0} {received : X → List Event → Type 0} {run : Run X O} {id : TypeId} → run.state.expected ≡ Number (Part id) → IsOpenSomewhere T received run → length run.state.stack + 1 ≤ run.depth
 part_deep {run = run} e o = subst (λ a. depth_of a run.state.stack ≤ run.depth) e o.open_.not_deep
 
--- what is expected in an open part is at most one deeper
-pub item_shallow : (g : Frame) (count : ℕ) → item_depth (item_of g) count ≤ count + 1
-item_shallow (frame.Many e left) count = omega arith
-item_shallow (frame.Key k e left) count = omega arith
-item_shallow (frame.Elem k e left) count = omega arith
-item_shallow (frame.Fields u next) count = omega arith
+-- what was taken, or not
+pub taken_parts : {T : Table} {X O : Type 0} {received : X → List Event → Type 0} {old new : Run X O} {rest : List ℕ} {s : Advance} → TakesBasicParts T received old new rest s → 0 < s.used → TakesSome T received old new rest s
+taken_parts (no_part_taken z e) l = absurd (omega arith)
+taken_parts (some_parts_taken h) l = h
 
-pub basic_opens : {T : Table} {X O : Type 0} {received : X → List Event → Type 0} {old new : Run X O} {g : Frame} {rest : List ℕ} {used : ℕ} → IsBasicTaken T received old new g rest used → length old.state.stack + 1 ≤ old.depth → old.taken + length rest ≤ old.length → used < length rest → MayGoOn T received new
-basic_opens {new = new} {g = g} {rest = rest} {used = used} p deep room some =
-    let n = p.passes.more.depth_is in let m = p.as_deep in let t = p.passes.more.taken in let l = p.passes.more.length_is in
-    opens_here (subst (λ a. depth_of a new.state.stack ≤ new.depth) (sym p.expected) (let i = item_shallow g (length new.state.stack) in omega arith)) (omega (arith, length-take used rest))
-
-pub basic_open : {T : Table} {X O : Type 0} {received : X → List Event → Type 0} {old new : Run X O} {g : Frame} {rest : List ℕ} {used : ℕ} → IsBasicTaken T received old new g rest used → IsOpenSomewhere T received old → length old.state.stack + 1 ≤ old.depth → old.taken + length rest ≤ old.length → used < length rest → IsOpenSomewhere T received new
-basic_open {rest = rest} {used = used} p o deep room some = record { type = o.type; bytes = o.bytes ++ take used rest; open_ = (basic_opens p deep room some).each o.type (o.bytes ++ take used rest) (p.passes.steps.each o.type o.bytes o.open_) }
-
--- what was stepped over, or not
-pub stepped_some : {T : Table} {X O : Type 0} {received : X → List Event → Type 0} {old new : Run X O} {rest : List ℕ} {s : Advance} → StepsBasicParts T received old new rest s → 0 < s.used → TakesSome T received old new rest s
-stepped_some (not_stepped z e) l = absurd (omega arith)
-stepped_some (stepped_over h) l = h
-
-pub stepped_none : {T : Table} {X O : Type 0} {received : X → List Event → Type 0} {old new : Run X O} {rest : List ℕ} {s : Advance} → StepsBasicParts T received old new rest s → s.used ≤ 0 → new ≡ old
-stepped_none (not_stepped z e) l = e
-stepped_none (stepped_over h) l = absurd (let k = h.some in omega arith)
-
-pub basic_stepped : {T : Table} {X O : Type 0} {received : X → List Event → Type 0} {old new : Run X O} {g : Frame} {rest : List ℕ} {used : ℕ} → TakesBasicPart T received old new g rest used → StepsBasicParts T received old new rest (record { used = used; moved = ToNext })
-basic_stepped (not_taken e) = not_stepped refl e
-basic_stepped (part_taken s w p a k d) = stepped_over (record { some = s; takes = basic_taken (record { within = w; passes = p; expected = a; stack = k; as_deep = d }) })
+pub no_parts : {T : Table} {X O : Type 0} {received : X → List Event → Type 0} {old new : Run X O} {rest : List ℕ} {s : Advance} → TakesBasicParts T received old new rest s → s.used ≤ 0 → new ≡ old
+no_parts (no_part_taken z e) l = e
+no_parts (some_parts_taken h) l = absurd (let k = h.some in omega arith)

@@ -33,7 +33,7 @@ use Rattle.gob_read.specs.WellFormed.{a_number as number_follows, of_complex as 
 use Rattle.gob_read.specs.Building.{MayTakeEvent, TakesEvent}
 use Rattle.gob_read.specs.Machine.Kinds.{HasKind, IsRawKind, is_bytes, is_text, is_opaque, IsList, is_array, IsStructType, BeginsAs, as_struct, as_tagged, number_stays, raw_stays}
 use Rattle.gob_read.specs.Machine.OpenPath.{OpenPath, behind_tag, AtNext, at_tag, at_part, at_second, at_raw, PartDone}
-use Rattle.gob_read.specs.Machine.Steps.{IsBegun, IsPlaced, IsEnded, TakesOrBlames, CanEnd, CanBegin, StepBegins, CanBeginStruct, BeginsStruct, IsNoFirst, CanTakeFirst, TakesFirst, RefusesFirst, CanTake, StepTakes, StepRefuses, CanTakeTag, IsWrongTag, CanTakeSecond, TakesHere, CanTakeRaw}
+use Rattle.gob_read.specs.Machine.Steps.{IsBegun, IsPlaced, IsEnded, TakesOrBlames, CanEnd, CanBegin, StepBegins, CanBeginStruct, BeginsStruct, IsNoFirst, CanTakeFirst, TakesFirst, RefusesFirst, CanTake, StepTakes, StepRefuses, CanTakeTag, IsWrongTag, CanTakeImaginary, TakesHere, CanTakeRaw}
 use Rattle.gob_value.proofs.PublicLaws.{not_true}
 use Rattle.gob_read.proofs.Machine.KindLaws.{spelled_as}
 use Rattle.gob_read.proofs.Machine.Moves.{part_whole}
@@ -125,7 +125,7 @@ record SecondAt (T : Table) (t : TypeId) (fs : List Frame) (q : ℕ) (p : List �
 second_at : {T : Table} {t : TypeId} {fs : List Frame} {q : ℕ} {p r : List ℕ} {us : List Event} → AtNext T t fs (Number (Second q)) p r us → SecondAt T t fs q p us
 second_at (at_second w h n) = record { id = _; start = _; real = _; within = w; kind = h; spelled = n; whole = refl }
 
-pub can_tell_second : {X O : Type 0} {received : X → List Event → Type 0} {state : State X O} {q n : ℕ} (a : ℕ) → CanTakeSecond received state q n → MayTakeEvent received state.builder (number basic.Complex q a)
+pub can_tell_second : {X O : Type 0} {received : X → List Event → Type 0} {state : State X O} {q n : ℕ} (a : ℕ) → CanTakeImaginary received state q n → MayTakeEvent received state.builder (number basic.Complex q a)
 can_tell_second {state = state} {q = q} a r =
     let b = r.placed in
     let k = second_at (subst (λ a. AtNext r.table r.type state.stack a r.before r.so_far b.us) r.expected b.at) in
@@ -146,7 +146,7 @@ second_ended {state = state} {mid = mid} {q = q} {a = a} e s f i T t p r c b n =
     }
 
 pub second_can_end : {X O : Type 0} {received : X → List Event → Type 0} {state mid : State X O} {q n a : ℕ} → mid.stack ≡ state.stack → TakesEvent received state.builder mid.builder (number basic.Complex q a) → ((c : List ℕ) → IsUnsigned n c → IsPattern a c)
-    → CanTakeSecond received state q n → CanEnd received mid
+    → CanTakeImaginary received state q n → CanEnd received mid
 second_can_end s f i r = record { table = r.table; type = r.type; bytes = r.before ++ r.bytes; ended = second_ended r.expected s f i r.table r.type r.before r.so_far r.bytes r.placed r.spelled; small = r.small }
 
 -- raw bytes
@@ -284,5 +284,5 @@ take_at {T = T} {received = received} {state = state} {n = n} e r = subst (λ i.
 pub tag_can : {T : Table} {X O : Type 0} {received : X → List Event → Type 0} {state : State X O} {id : TypeId} {n : ℕ} → CanTake T received state (Tag id) n → CanTakeTag received state id n
 tag_can r = record { expected = r.expected }
 
-pub second_can : {T : Table} {X O : Type 0} {received : X → List Event → Type 0} {state : State X O} {q n : ℕ} → CanTake T received state (Second q) n → CanTakeSecond received state q n
+pub second_can : {T : Table} {X O : Type 0} {received : X → List Event → Type 0} {state : State X O} {q n : ℕ} → CanTake T received state (Second q) n → CanTakeImaginary received state q n
 second_can {T = T} r = record { expected = r.expected; table = T; type = r.type; before = r.before; so_far = r.so_far; bytes = r.bytes; placed = r.placed; spelled = r.spelled; small = r.small }

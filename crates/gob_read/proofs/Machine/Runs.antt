@@ -16,7 +16,7 @@ use Rattle.gob_read.specs.Viable.{IsShallow, IsViable}
 use Rattle.gob_read.specs.Event.{Event}
 use Rattle.gob_read.specs.Machine.OpenPath.{AtNext}
 use Rattle.gob_read.specs.Machine.Steps.{CanTake, CanTakeRaw, IsPlaced, IsRead, Settled, TakesRaw}
-use Rattle.gob_read.specs.Machine.Running.{TakesMore, IsOpenSomewhere, IsOpenIn, IsUnderWayAt, depth_of, IsReached, IsOpenRun, IsFinished, IsStepped, Steps, RefusesAt, TakesBytes, BytesAnswers, TakesSome, TakesNumber, RefusesNumber, NumberAnswers, JudgesFor, EndsFor, StopsFor}
+use Rattle.gob_read.specs.Machine.Running.{TakesMore, IsOpenSomewhere, IsOpenIn, IsBeforeIn, IsUnderWayAt, depth_of, IsReached, IsOpenRun, IsFinished, IsStepped, Steps, RefusesAt, TakesBytes, BytesAnswers, TakesSome, TakesNumber, RefusesNumber, NumberAnswers, JudgesFor, EndsFor, StopsFor}
 use Rattle.gob_read.specs.declared.next.Moved.{Moved}
 use Rattle.gob_read.specs.declared.next.Moved.TheVariants.{ToNext, PastValue}
 use Rattle.gob_read.specs.declared.next.Next.{Next}
@@ -209,6 +209,10 @@ number_can_take {n = n} i c e o u small =
       spelled = subst (λ r. IsUnsigned n (r ++ c)) h.number_is u;
       small = omega (arith, length-append h.before (h.under_way ++ c), length-append h.under_way c);
     }
+
+-- where the next item may be taken, more may be
+pub open_in : {X O : Type 0} {received : X → List Event → Type 0} {run : Run X O} {next : Next} {rest : List ℕ} → IsBeforeIn received run next rest → IsOpenIn received run
+open_in b = record { table = b.table; open_ = b.before.has_read }
 
 -- raw bytes may be taken
 pub raw_can_take : {X O : Type 0} {received : X → List Event → Type 0} {run : Run X O} {left : ℕ} (bytes : List ℕ) → run.state.expected ≡ Raw left → IsOpenIn received run → length bytes ≤ left → run.taken + length bytes < 2 ^ 64 → CanTakeRaw received run.state left bytes

@@ -15,8 +15,8 @@ use Rattle.gob_read.specs.Laws.{IsExpected, is_number, is_raw, BeginsExpected}
 use Rattle.gob_read.specs.Event.{Event, HasRawEvents, no_bytes, more_bytes, HasEvents, tell_bool, tell_not_negative, tell_negative, tell_uint, tell_float, tell_complex, tell_nil, tell_bytes, tell_text, tell_opaque, tell_many, tell_pairs, tell_fields, HaveEvents, tell_none, tell_each, PairsHaveEvents, tell_no_pair, tell_pair, FieldsHaveEvents, tell_no_field, tell_field}
 use Rattle.gob_read.specs.Machine.OpenPath.{OpenPath, at_once, behind_tag as behind_tag', in_list, at_key, at_value, in_field, AtNext, at_part}
 use Rattle.gob_read.specs.Machine.Steps.{IsPlaced}
-use Rattle.gob_read.specs.Machine.Running.{IsOpenRun, IsOpenSomewhere, IsStepped, TakesMore, Steps}
-use Rattle.gob_read.specs.Machine.BasicParts.{IsInList, IsInMap, StepsBasicParts, stepped_over}
+use Rattle.gob_read.specs.Machine.Running.{IsOpenRun, IsOpenSomewhere, IsBefore, IsStepped, TakesMore, Steps}
+use Rattle.gob_read.specs.Machine.BasicParts.{IsInList, IsInMap, TakesBasicParts, some_parts_taken}
 use Rattle.gob_read.specs.declared.frame.Frame.{Frame}
 use Rattle.gob_read.specs.declared.frame.Frame.TheVariants as frame
 use Rattle.gob_read.specs.declared.next.Moved.TheVariants.{ToNext}
@@ -172,7 +172,7 @@ module _ {T : Table} {X O : Type 0} {received : X → List Event → Type 0} {ol
 -- elements that stand whole in the piece
 pub elements_skipped : {T : Table} {X O : Type 0} {received : X → List Event → Type 0} {old new : Run X O} {e : TypeId} {left count limit used : ℕ} {s : Advance} (rest : List ℕ) → old.state.expected ≡ Number (Part e) → IsInList e left old.state.stack
     → new.state.stack ≡ frame.Many e (left - count) ∷ drop 1 old.state.stack → new.state.expected ≡ old.state.expected → ((us : List Event) → received new.state.builder us) → IsOpenSomewhere T received old → old.start ≡ old.taken → Moves old new used
-    → count ≤ left → limit ≡ old.depth - length old.state.stack → HasElements T e limit count rest used → 0 < used → s.used ≡ used → s.moved ≡ ToNext → StepsBasicParts T received old new rest s
+    → count ≤ left → limit ≡ old.depth - length old.state.stack → HasElements T e limit count rest used → 0 < used → s.used ≡ used → s.moved ≡ ToNext → TakesBasicParts T received old new rest s
 elements_skipped {T = T} {received = received} {old = old} {new = new} {e = e} {left = left} {count = count} {used = used} {s = s} rest a i k b untold o fresh m l d h some p w =
     let deep = part_deep a o in
     let few = h.inside in
@@ -183,7 +183,7 @@ elements_skipped {T = T} {received = received} {old = old} {new = new} {e = e} {
     let within = h.within in
     let steps = skipped {f = frame.Many e left} (take used rest) a i k (b ∙ a) untold o fresh (subst (Moves old new) (sym size) m)
     (λ t z v. elements_over (subst (λ n. IsOver T t old.depth (frame.Many e n ∷ drop 1 old.state.stack) z e) (sym all) v) h.spelled (omega arith)) in
-    stepped_over (record {
+    some_parts_taken (record {
       some = omega arith;
       takes = record {
         few = omega arith;
@@ -195,7 +195,7 @@ elements_skipped {T = T} {received = received} {old = old} {new = new} {e = e} {
 -- entries that stand whole
 pub entries_skipped : {T : Table} {X O : Type 0} {received : X → List Event → Type 0} {old new : Run X O} {k e : TypeId} {left count limit used : ℕ} {s : Advance} (rest : List ℕ) → old.state.expected ≡ Number (Part k) → IsInMap k e left old.state.stack
     → new.state.stack ≡ frame.Key k e (left - count) ∷ drop 1 old.state.stack → new.state.expected ≡ old.state.expected → ((us : List Event) → received new.state.builder us) → IsOpenSomewhere T received old → old.start ≡ old.taken → Moves old new used
-    → count ≤ left → limit ≡ old.depth - length old.state.stack → HasEntries T k e limit count rest used → 0 < used → s.used ≡ used → s.moved ≡ ToNext → StepsBasicParts T received old new rest s
+    → count ≤ left → limit ≡ old.depth - length old.state.stack → HasEntries T k e limit count rest used → 0 < used → s.used ≡ used → s.moved ≡ ToNext → TakesBasicParts T received old new rest s
 entries_skipped {T = T} {received = received} {old = old} {new = new} {k = key} {e = e} {left = left} {count = count} {used = used} {s = s} rest a i k b untold o fresh m l d h some p w =
     let deep = part_deep a o in
     let few = h.inside in
@@ -206,7 +206,7 @@ entries_skipped {T = T} {received = received} {old = old} {new = new} {k = key} 
     let within = h.within in
     let steps = skipped {f = frame.Key key e left} (take used rest) a i k (b ∙ a) untold o fresh (subst (Moves old new) (sym size) m)
     (λ t z v. entries_over (subst (λ n. IsOver T t old.depth (frame.Key key e n ∷ drop 1 old.state.stack) z key) (sym all) v) h.spelled (omega arith)) in
-    stepped_over (record {
+    some_parts_taken (record {
       some = omega arith;
       takes = record {
         few = omega arith;
@@ -224,5 +224,8 @@ key_within (at_key w k n b c) h = cc
 key_within (at_value w k n b c x y) h = cc
 key_within (in_field w k b l m g n) h = cc
 
-pub key_is : {T : Table} {X O : Type 0} {received : X → List Event → Type 0} {run : Run X O} {id k e : TypeId} {left : ℕ} → run.state.expected ≡ Number (Part id) → IsOpenSomewhere T received run → IsInMap k e left run.state.stack → run.state.expected ≡ Number (Part k)
+key_is : {T : Table} {X O : Type 0} {received : X → List Event → Type 0} {run : Run X O} {id k e : TypeId} {left : ℕ} → run.state.expected ≡ Number (Part id) → IsOpenSomewhere T received run → IsInMap k e left run.state.stack → run.state.expected ≡ Number (Part k)
 key_is a o h = a ∙ ap (λ u. Number (Part u)) (key_within (placed_begun a o.open_.reached.placed).within h)
+
+pub before_key : {T : Table} {X O : Type 0} {received : X → List Event → Type 0} {run : Run X O} {id k e : TypeId} {left : ℕ} {rest : List ℕ} → IsBefore T received run (Number (Part id)) rest → IsInMap k e left run.state.stack → IsBefore T received run (Number (Part k)) rest
+before_key b h = record { expected = key_is b.expected b.has_read h; has_read = b.has_read; some = b.some; room = b.room }

@@ -71,10 +71,10 @@ pub data TakesBasicPart (T : Table) {X O : Type 0} (received : X → List Event 
   not_taken : new ≡ old → TakesBasicPart T received old new next rest 0
   part_taken : {used : ℕ} → 0 < used → used ≤ length rest → PassesParts T received old new (take used rest) → new.state.expected ≡ Number (item_of next) → new.state.stack ≡ next ∷ drop 1 old.state.stack → length new.state.stack ≡ length old.state.stack → TakesBasicPart T received old new next rest used
 
--- so much of the piece was stepped over, or nothing was done
-pub data StepsBasicParts (T : Table) {X O : Type 0} (received : X → List Event → Type 0) (old new : Run X O) (rest : List ℕ) (s : Advance) : Type 0 where
-  not_stepped : s.used ≡ 0 → new ≡ old → StepsBasicParts T received old new rest s
-  stepped_over : TakesSome T received old new rest s → StepsBasicParts T received old new rest s
+-- so much of the piece was taken, or nothing was done
+pub data TakesBasicParts (T : Table) {X O : Type 0} (received : X → List Event → Type 0) (old new : Run X O) (rest : List ℕ) (s : Advance) : Type 0 where
+  no_part_taken : s.used ≡ 0 → new ≡ old → TakesBasicParts T received old new rest s
+  some_parts_taken : TakesSome T received old new rest s → TakesBasicParts T received old new rest s
 
 -- the delta was taken, and a part of this type is expected in the struct
 pub record EntersField (T : Table) {X O : Type 0} (received : X → List Event → Type 0) (old new : Run X O) (n : ℕ) (u : TypeId) (next : ℕ) (part : TypeId) : Type 0 where
@@ -84,9 +84,9 @@ pub record EntersField (T : Table) {X O : Type 0} (received : X → List Event �
   pub as_deep : length new.state.stack ≡ length old.state.stack
 
 -- so many bytes lead to a field, or nothing was done
-pub data TakesName (T : Table) {X O : Type 0} (received : X → List Event → Type 0) (old new : Run X O) (n : ℕ) (u : TypeId) : Option Entered → Type 0 where
-  not_named : new ≡ old → TakesName T received old new n u None
-  named : {e : Entered} → EntersField T received old new n u e.next e.part → TakesName T received old new n u (Some e)
+pub data TakesFieldDelta (T : Table) {X O : Type 0} (received : X → List Event → Type 0) (old new : Run X O) (n : ℕ) (u : TypeId) : Option Entered → Type 0 where
+  not_named : new ≡ old → TakesFieldDelta T received old new n u None
+  named : {e : Entered} → EntersField T received old new n u e.next e.part → TakesFieldDelta T received old new n u (Some e)
 
 -- the number of the next field was told, and its part is expected
 pub record NamesField {X O : Type 0} (received : X → List Event → Type 0) (old new : State X O) (u : TypeId) (number : ℕ) (part : TypeId) : Type 0 where

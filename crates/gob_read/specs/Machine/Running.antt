@@ -81,6 +81,18 @@ pub record IsOpenIn {X O : Type 0} (received : X → List Event → Type 0) (run
   pub table : Table
   pub open_ : IsOpenSomewhere table received run
 
+-- the reader may take more, this is expected, and some of a piece is left, which lies within the body
+pub record IsBefore (T : Table) {X O : Type 0} (received : X → List Event → Type 0) (run : Run X O) (next : Next) (rest : List ℕ) : Type 0 where
+  pub expected : run.state.expected ≡ next
+  pub has_read : IsOpenSomewhere T received run
+  pub some : 0 < length rest
+  pub room : run.taken + length rest ≤ run.length
+
+-- the same under some table
+pub record IsBeforeIn {X O : Type 0} (received : X → List Event → Type 0) (run : Run X O) (next : Next) (rest : List ℕ) : Type 0 where
+  pub table : Table
+  pub before : IsBefore table received run next rest
+
 -- the reader has taken nothing, and looked nothing up
 pub record IsNewRun (T : Table) (t : TypeId) {X O : Type 0} (received : X → List Event → Type 0) (run : Run X O) : Type 0 where
   pub ready : IsReady T t

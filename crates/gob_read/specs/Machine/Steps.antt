@@ -191,7 +191,7 @@ pub record IsWrongTag (n : ℕ) (reason : Reason) : Type 0 where
   pub reason_is : reason ≡ reasons.SingleTag
 
 -- the imaginary part behind this real part is expected, and this number spells it
-pub record CanTakeSecond {X O : Type 0} (received : X → List Event → Type 0) (state : State X O) (pattern n : ℕ) : Type 0 where
+pub record CanTakeImaginary {X O : Type 0} (received : X → List Event → Type 0) (state : State X O) (pattern n : ℕ) : Type 0 where
   pub expected : state.expected ≡ Number (Second pattern)
   pub table : Table
   pub type : TypeId

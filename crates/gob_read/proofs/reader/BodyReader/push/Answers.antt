@@ -1,8 +1,8 @@
 use Rattle.gob_read.proofs.Machine.Bodies.{reads_on, usable_somewhere, reached_somewhere, push_more, push_complete, push_done, push_stops, stops_honestly}
 use Rattle.gob_read.proofs.reader.BodyReader.push.Goals as goal
 
-pub advance-requires-clause-has_read : goal.advance-requires-clause-has_read
-advance-requires-clause-has_read g c =
+pub take_piece-requires-clause-has_read : goal.take_piece-requires-clause-has_read
+take_piece-requires-clause-has_read g c =
     let p = reads_on c.in-Some.run' c.begin.new.self c.in-Some.ensures.value c.begin.ensures.begun c.begin.ensures.builder c.begin.ensures.stack c.min-count.ensures in
     reached_somewhere p.begun (usable_somewhere p.was c.requires)
 

@@ -5,5 +5,5 @@ use Rattle.gob_read.proofs.run.Run.skip_entries.Goals as goal
 pub returns : goal.returns
 returns g c =
     let whole = c.whole_entries-entries.ensures in
-    entries_skipped c.args.rest.now c.requires.expected c.requires.inside c.replace.ensures refl c.requires.untold c.requires.has_read c.requires.fresh
+    entries_skipped c.args.rest.now c.requires.before.expected c.requires.inside c.replace.ensures refl c.requires.untold c.requires.before.has_read c.requires.fresh
     (record { taken = refl; start = refl; number = refl; length_is = refl; depth_is = refl }) whole.few (let d = c.depth.ensures.count in omega arith) whole.whole (omega arith) refl refl

@@ -10,7 +10,7 @@ pub returns-in_default : goal.returns-in_default
 returns-in_default g c = not_taken refl
 
 pub tell_basic-requires : goal.tell_basic-requires
-tell_basic-requires g c = can_tell_basic c.args.rest.now c.requires.expected c.requires.has_read c.requires.fresh (omega arith) c.requires.kind_ c.in-Whole.ensures.0 c.in-Whole.ensures.1
+tell_basic-requires g c = can_tell_basic c.args.rest.now c.requires.before.expected c.requires.before.has_read c.requires.fresh (let r = c.requires.before.room in omega arith) c.requires.kind_ c.in-Whole.ensures.0 c.in-Whole.ensures.1
 
 pub returns-in_default-2 : goal.returns-in_default-2
 returns-in_default-2 g c =
@@ -23,9 +23,9 @@ replace-requires g c = frame_some _ (ap (λ fs. slice_get fs 0) (told_stack (tol
 pub overflow_add-self-2 : goal.overflow_add-self-2
 overflow_add-self-2 g c =
     let w : c.in-Whole.used + c.in-Some.more ≤ length c.args.rest.now = (let l = told_within (told_as c.in-Some.is c.in_ok-more.ensures) in let u = c.in-Whole.ensures.0 in omega (arith, rest_some c.args.rest.now c.in-Whole.used)) in
-    let r = c.requires.room in let f = c.fits-self in omega arith
+    let r = c.requires.before.room in let f = c.fits-self in omega arith
 
 pub returns : goal.returns
 returns g c =
-    basic_takes c.args.rest.now c.requires.expected c.requires.inside c.requires.has_read c.requires.fresh c.requires.room c.requires.kind_ c.in-Whole.ensures.0 (omega (arith, some c.in-Whole.ensures.1, length-take c.in-Whole.used c.args.rest.now)) c.in-Whole.ensures.1
+    basic_takes c.args.rest.now c.requires.before.expected c.requires.inside c.requires.before.has_read c.requires.fresh c.requires.before.room c.requires.kind_ c.in-Whole.ensures.0 (omega (arith, some c.in-Whole.ensures.1, length-take c.in-Whole.used c.args.rest.now)) c.in-Whole.ensures.1
     (told_as c.in-Some.is c.in_ok-more.ensures) refl c.replace.ensures (ap Number c.item.ensures) (record { taken = refl; start = refl; number = refl; length_is = refl; depth_is = refl })
