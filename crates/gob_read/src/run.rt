@@ -113,9 +113,7 @@ impl<B: Builder> Run<B> {
         requires room { self.old.taken + length piece.now ≤ self.old.length }
         ensures { PieceAnswers (S.table shapes.now) B.building.received self.old self.new piece.now result }
     {
-        if let Err(stop) = self.judge() {
-            return Err(stop);
-        }
+        self.judge()?;
         let mut used = 0;
         let mut cut = false;
         'items: for _ in 0..piece.len() {
@@ -125,26 +123,17 @@ impl<B: Builder> Run<B> {
                     moved: Moved::ToNext,
                 });
             }
-            match self.take_next(shapes, &piece[used..], &mut cut) {
-                Ok(taken) => {
-                    used += taken.used;
-                    match taken.moved {
-                        Moved::ToNext => {}
-                        Moved::PastValue => {
-                            return match self.finish() {
-                                Ok(()) => Ok(Advance {
-                                    used,
-                                    moved: Moved::PastValue,
-                                }),
-                                Err(stop) => Err(stop),
-                            };
-                        }
-                    }
+            let taken = self.take_next(shapes, &piece[used..], &mut cut)?;
+            used += taken.used;
+            match taken.moved {
+                Moved::ToNext => self.judge()?,
+                Moved::PastValue => {
+                    self.finish()?;
+                    return Ok(Advance {
+                        used,
+                        moved: Moved::PastValue,
+                    });
                 }
-                Err(stop) => return Err(stop),
-            }
-            if let Err(stop) = self.judge() {
-                return Err(stop);
             }
         }
         Ok(Advance {

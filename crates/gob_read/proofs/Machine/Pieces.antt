@@ -1,10 +1,11 @@
 -- What a reader has come to within a piece, item by item.
 use Rattle.std.proofs.Common.{◌≡◌, ℕ, zero, suc, ◌+◌, ◌-◌, ◌≤◌, List, [], ◌∷◌, ◌++◌, length, take, drop, arith, refl, sym, ap, ◌∙◌, subst, append_assoc, length-append, length-drop, zero-add, suc-add}
+use Rattle.std.specs.Prelude.{Result, Ok, Err, IsErrAnd}
 use Rattle.gob_types.specs.declared.id.TypeId.{TypeId}
 use Rattle.gob_types.specs.Table.{Table}
 use Rattle.gob_read.specs.Viable.{IsViable}
 use Rattle.gob_read.specs.Event.{Event}
-use Rattle.gob_read.specs.Machine.Running.{IsReached, IsReachedSomewhere, IsOpenSomewhere, IsFinished, IsStepped, TakesMore, TakesSome, StopsFor, RefusesAt, MayGoOn, JudgesFor, EndsFor, RunFinishes, RunAdvances, RefusesPiece}
+use Rattle.gob_read.specs.Machine.Running.{PieceAnswers, IsReached, IsReachedSomewhere, IsOpenSomewhere, IsFinished, IsStepped, TakesMore, TakesSome, StopsFor, RefusesAt, MayGoOn, JudgesFor, EndsFor, RunFinishes, RunAdvances, RefusesPiece}
 use Rattle.gob_read.specs.declared.stop.Stop.{Stop}
 use Rattle.gob_read.specs.declared.stop.Stop.TheVariants as stops
 use Rattle.gob_read.specs.declared.next.Moved.TheVariants.{ToNext, PastValue}
@@ -135,3 +136,9 @@ end_stops T received old new {piece = piece} {used = used} (stops.Refused p s r)
 }
 end_stops T received old new stops.Memory h k = k
 end_stops T received old new stops.Failed h k = k
+
+-- the stop that a `?` returns is the callee's
+pub stop_passed : (T : Table) {X O : Type 0} (received : X → List Event → Type 0) (old new : Run X O) (piece : List ℕ) (stop : Stop) (r : Result Advance Stop) → IsErrAnd r (λ y. y ≡ stop) → StopsFor (λ refusal. RefusesPiece T received old piece refusal) stop
+    → PieceAnswers T received old new piece r
+stop_passed T received old new piece stop (Ok a) is k = absurd is
+stop_passed T received old new piece stop (Err y) is k = subst (StopsFor (λ refusal. RefusesPiece T received old piece refusal)) (sym is) k

@@ -1,10 +1,10 @@
 use Rattle.std.proofs.Common.{arith, refl}
-use Rattle.gob_read.proofs.Machine.Pieces.{come_start, come_on, come_end, come_open, come_all, ended_all, judge_stops, step_stops, end_stops}
+use Rattle.gob_read.proofs.Machine.Pieces.{come_start, come_on, come_end, come_open, come_all, ended_all, judge_stops, step_stops, end_stops, stop_passed}
 use Rattle.gob_read.proofs.Machine.BasicPartSteps.{rest_some}
 use Rattle.gob_read.proofs.run.Run.take_piece.Goals as goal
 
-pub returns-in-Err : goal.returns-in-Err
-returns-in-Err g c = judge_stops _ _ _ _ c.in-Err.stop (come_start c.args.piece.now) c.requires.room c.in-Err.ensures
+pub returns-in_err-judge : goal.returns-in_err-judge
+returns-in_err-judge g c = stop_passed _ _ _ _ _ _ c.from_residual.result c.from_residual.ensures.1 (judge_stops _ _ _ _ c.in_err-judge.field-0.0 (come_start c.args.piece.now) c.requires.room c.in_err-judge.ensures)
 
 pub returns-then-used-piece : goal.returns-then-used-piece
 returns-then-used-piece g c = come_all c.items.invariant.come c.items.invariant.opens (omega arith)
@@ -17,22 +17,27 @@ take_next-requires g c = record {
   room = (let m = c.items.invariant.come.more in let t = m.taken in let l = m.length_is in omega (arith, rest_some c.args.piece.now c.items.used));
 }
 
-pub returns-in-Ok-finish : goal.returns-in-Ok-finish
-returns-in-Ok-finish g c = ended_all (come_end c.items.invariant.come c.items.invariant.opens c.in-Ok.ensures c.in-PastValue.is) c.in-Ok-finish.ensures
+pub returns-in_err-taken : goal.returns-in_err-taken
+returns-in_err-taken g c =
+    stop_passed _ _ _ _ _ _ c.from_residual-in_err-taken.result c.from_residual-in_err-taken.ensures.1 (step_stops _ _ _ _ c.in_err-taken.field-0.0 c.items.invariant.come c.items.invariant.opens c.in_err-taken.ensures)
 
-pub returns-in-Err-finish : goal.returns-in-Err-finish
-returns-in-Err-finish g c = end_stops _ _ _ _ c.in-Err-finish.stop (come_end c.items.invariant.come c.items.invariant.opens c.in-Ok.ensures c.in-PastValue.is) c.in-Err-finish.ensures
+pub returns-in-PastValue : goal.returns-in-PastValue
+returns-in-PastValue g c = ended_all (come_end c.items.invariant.come c.items.invariant.opens c.in_ok-taken.ensures c.in-PastValue.is) c.in_ok-finish-in-PastValue.ensures
 
-pub returns-in-Err-take_next : goal.returns-in-Err-take_next
-returns-in-Err-take_next g c = step_stops _ _ _ _ c.in-Err-take_next.stop c.items.invariant.come c.items.invariant.opens c.in-Err-take_next.ensures
+pub returns-in_err-finish-in-PastValue : goal.returns-in_err-finish-in-PastValue
+returns-in_err-finish-in-PastValue g c =
+    stop_passed _ _ _ _ _ _ c.from_residual-in_err-finish-in-PastValue.result c.from_residual-in_err-finish-in-PastValue.ensures.1
+    (end_stops _ _ _ _ c.in_err-finish-in-PastValue.field-0.0 (come_end c.items.invariant.come c.items.invariant.opens c.in_ok-taken.ensures c.in-PastValue.is) c.in_err-finish-in-PastValue.ensures)
 
-pub returns-in-Err-judge : goal.returns-in-Err-judge
-returns-in-Err-judge g c = judge_stops _ _ _ _ c.in-Err-judge.stop (come_on c.items.invariant.come c.items.invariant.opens c.in-Ok.ensures c.in-ToNext.is) c.requires.room c.in-Err-judge.ensures
+pub returns-in_err-judge-in-ToNext : goal.returns-in_err-judge-in-ToNext
+returns-in_err-judge-in-ToNext g c =
+    stop_passed _ _ _ _ _ _ c.from_residual-in_err-judge-in-ToNext.result c.from_residual-in_err-judge-in-ToNext.ensures.1
+    (judge_stops _ _ _ _ c.in_err-judge-in-ToNext.field-0.0 (come_on c.items.invariant.come c.items.invariant.opens c.in_ok-taken.ensures c.in-ToNext.is) c.requires.room c.in_err-judge-in-ToNext.ensures)
 
 pub items-preserved : goal.items-preserved
 items-preserved g c = record {
-  come = come_on c.items.invariant.come c.items.invariant.opens c.in-Ok.ensures c.in-ToNext.is;
-  opens = c.in_default-judge.ensures (g.S.Shapes.table c.args.shapes.now);
+  come = come_on c.items.invariant.come c.items.invariant.opens c.in_ok-taken.ensures c.in-ToNext.is;
+  opens = c.in_ok-judge-in-ToNext.ensures (g.S.Shapes.table c.args.shapes.now);
 }
 
 pub returns : goal.returns
