@@ -356,6 +356,11 @@ basic_on {taken = taken} h room some l p =
       deep = omega arith;
     }
 
+-- and that of a field, behind which a delta is expected
+pub field_on : {T : Table} {X O : Type 0} {received : X → List Event → Type 0} {old run new : Run X O} {rest : List ℕ} {used count taken next : ℕ} {f : Frame} {u part : TypeId} {i : NextNumber} → AtItem T received old run rest used count (Part part) f → IsBefore T received old (Number i) rest → used < length rest
+    → TakesBasicPart T received run new (frame.Fields u next) (take (length rest - used) (drop used rest)) taken → 0 < taken → AtItem T received old new rest (used + taken) (count + 1) Delta (frame.Fields u next)
+field_on h b some t l = basic_on h b.room some l (taken_some t l)
+
 pub fewer : {T : Table} {X O : Type 0} {received : X → List Event → Type 0} {old run : Run X O} {rest : List ℕ} {used count : ℕ} {i : NextNumber} {f : Frame} (less : ℕ) → AtItem T received old run rest used count i f → less ≤ count → AtItem T received old run rest used less i f
 fewer less h l = record { come = record { within = h.come.within; more = h.come.more; onward = (let k = h.come.onward in omega arith); reached = h.come.reached }; expected = h.expected; inside = h.inside; fresh = h.fresh; deep = h.deep }
 
