@@ -1,5 +1,6 @@
 pub mod Reasons
 pub mod Table
+pub mod KindParts
 pub mod Base
 pub mod Ready
 pub mod Definable

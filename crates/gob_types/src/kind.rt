@@ -110,6 +110,42 @@ pub enum Kind {
     Opaque(Marshal),
 }
 
+impl Kind {
+    ghost use Rattle.gob_types.specs.KindParts.{elem_of, key_of, fields_of};
+
+    /// The type of the elements of an array, a slice or a map.
+    pub fn elem(&self) -> Option<TypeId>
+        ensures { result ≡ elem_of self.now }
+    {
+        match self {
+            Kind::Array { elem, .. } => Some(*elem),
+            Kind::Slice { elem } => Some(*elem),
+            Kind::Map { elem, .. } => Some(*elem),
+            _ => None,
+        }
+    }
+
+    /// The type of the keys of a map.
+    pub fn key(&self) -> Option<TypeId>
+        ensures { result ≡ key_of self.now }
+    {
+        match self {
+            Kind::Map { key, .. } => Some(*key),
+            _ => None,
+        }
+    }
+
+    /// The fields of a struct.
+    pub fn fields(&self) -> Option<&Fields>
+        ensures { option_copied result ≡ fields_of self.now }
+    {
+        match self {
+            Kind::Struct { fields } => Some(fields),
+            _ => None,
+        }
+    }
+}
+
 /// The name and kind of a type.
 pub struct Shape {
     /// The type's name, which may be empty.

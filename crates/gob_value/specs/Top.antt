@@ -18,3 +18,9 @@ pub data SpellsTop (T : Table) : TypeId → Tree → List ℕ → Type 0 where
       → SpellsTop T t v b
   tagged : {t : TypeId} {s : Shape} {v : Tree} {b : List ℕ} → shape_of T t ≡ Some s → ¬ IsStruct s.kind → Spells T t v b
       → SpellsTop T t v (0 ∷ b)
+
+-- the values of the type are structs
+pub record HasStructs (T : Table) (t : TypeId) : Type 0 where
+  pub shape : Shape
+  pub found : shape_of T t ≡ Some shape
+  pub struct : IsStruct shape.kind
