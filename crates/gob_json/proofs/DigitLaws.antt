@@ -1,6 +1,6 @@
 -- The digits of a number, three at a time.
 use Rattle.std.proofs.Common.{◌≡◌, ℕ, suc, ◌+◌, ◌-◌, ◌*◌, ◌/◌, ◌%◌, ◌^◌, ◌<◌, ◌≤◌, List, [], ◌∷◌, ◌++◌, ap, ◌∙◌, inl, inr, arith, eq-zero-or-pos, append_assoc}
-use Rattle.std.proofs.Common.{length, take, drop, refl, sym, set, length-set, nat_lt}
+use Rattle.std.proofs.Common.{append-nil, length, length-append, take, drop, refl, sym, set, length-set, nat_lt}
 use mir.Val.{bool_byte}
 use Rattle.std.proofs.lemmas.Bool.{lt-ltb, le-ltb}
 use Rattle.std.proofs.lemmas.List.{take_more_set, take-append-drop, drop-append-le, drop-drop, length-drop, length-take-le}
@@ -11,7 +11,9 @@ use Rattle.std.proofs.lemmas.Fmt.{decimal_digit, decimal_step}
 use Rattle.std.specs.Fmt.{decimal}
 use Rattle.gob_json.proofs.RowLaws.{row}
 use Rattle.gob_json.specs.Machine.Digits.{three_digits}
-use Rattle.gob_json.specs.declared.text.digits.TheConstants.{TRIPLES}
+use Rattle.gob_json.specs.declared.text.digits.TheConstants.{HEX_PAIRS, TRIPLES}
+use Rattle.std.specs.Prelude.{slice_index}
+use Rattle.hex.specs.Hex.{lower_digits}
 
 -- ---- the table
 digits_in_table : (n : ℕ) → n < 1000 → take 3 (drop (n * 4) TRIPLES) ≡ three_digits n
@@ -21,6 +23,15 @@ pub row_of_table : (n : ℕ) → n < 1000 → drop (n * 4) TRIPLES ≡ three_dig
 row_of_table n h =
     let r = drop (n * 4) TRIPLES in
     sym (take-append-drop 3 r) ∙ ap (λ (l : List ℕ). l ++ drop 3 r) (digits_in_table n h)
+
+-- the two of a byte in hexadecimal
+abbrev pub hex_pair : ℕ → List ℕ
+hex_pair n = slice_index lower_digits (n / 16) ∷ slice_index lower_digits (n % 16) ∷ []
+
+pub hex_row : (n at size : ℕ) → n < 256 → at ≡ n * 2 → size ≡ 2 → take size (drop at HEX_PAIRS) ≡ hex_pair n
+hex_row n at size h place two =
+    ap (λ k. take k (drop at HEX_PAIRS)) two ∙ ap (λ k. take 2 (drop k HEX_PAIRS)) place
+    ∙ row 2 2 hex_pair HEX_PAIRS 0 256 n n (omega arith) tt h
 
 -- the last of the three digits, without so many before them
 pub last_digits : (n from k z : ℕ) → n < 1000 → from ≡ n * 4 + z → z + k ≡ 3
@@ -121,6 +132,27 @@ stored_front b xs more at k place =
     ∙ ap (λ (n : ℕ). take n (front ++ (xs ++ (more ++ behind)))) here
     ∙ take-append-add front (xs ++ (more ++ behind)) (length xs)
     ∙ ap (λ (l : List ℕ). front ++ l) (take-append_seam xs (more ++ behind))
+
+-- the two digits of a byte
+pub two_hex_stored : (b : List ℕ) (at n k row_at size : ℕ) → at ≤ length b → n < 256 → row_at ≡ n * 2 → size ≡ 2
+    → take (at + 2) (put_mid at k b (take size (drop row_at HEX_PAIRS))) ≡ take at b ++ hex_pair n
+two_hex_stored b at n k row_at size place h is two =
+    ap (λ (l : List ℕ). take (at + 2) (put_mid at k b l)) (hex_row n row_at size h is two ∙ sym (append-nil (hex_pair n)))
+    ∙ stored_front b (hex_pair n) [] at k place
+
+-- what is stored in the place of as many bytes changes no length
+pub length_stored : (b xs : List ℕ) (at k : ℕ) → at + k ≤ length b → length xs ≡ k → length (put_mid at k b xs) ≡ length b
+length_stored b xs at k place size =
+    let behind = drop k (drop at b) in
+    omega (
+      arith,
+      size,
+      length-append (take at b) (xs ++ behind),
+      length-append xs behind,
+      length-take-le at b (omega (arith, place)),
+      length-drop k (drop at b),
+      length-drop at b,
+    )
 
 -- four bytes of the table from a digit of the number on
 pub first_stored : (b : List ℕ) (at n x y k j : ℕ) → n < 1000 → at ≤ length b → Counts n 10 x → Counts n 100 y → j ≡ 4

@@ -7,8 +7,8 @@ use Rattle.std.specs.Prelude.{slice_get}
 use Rattle.gob_num.specs.Unsigned.{IsUnsigned}
 use Rattle.gob_num.specs.Signed.{IsSigned}
 use Rattle.gob_num.specs.Pattern.{IsPattern}
-use Rattle.gob_num.specs.Place.{NoNumberStandsAt}
-use Rattle.gob_num.proofs.PublicLaws.{unsigned_length, unsigned_prefix}
+use Rattle.gob_num.specs.Place.{IsOnlyNumberAt}
+use Rattle.gob_num.proofs.PublicLaws.{number_stands}
 use Rattle.gob_types.specs.declared.id.TypeId.{TypeId}
 use Rattle.gob_types.specs.declared.basic.Basic.TheVariants as basic
 use Rattle.gob_types.specs.declared.kind.Field.{Field}
@@ -23,29 +23,21 @@ use Rattle.gob_value.specs.Spelling.{truth, Spells, SpellsAs, SpellsEach, Spells
 use Rattle.gob_value.specs.Spelling.{of_float, of_complex, of_nil, of_bytes, of_text, of_opaque, of_slice, of_array, of_map, of_struct}
 use Rattle.gob_value.specs.Spelling.{no_element, element, no_entry, entry, end_of_fields, next_field}
 use Rattle.gob_value.specs.Top.{IsStruct, SpellsTop, at_once, tagged}
-use Rattle.gob_value.specs.Whole.{HoldsBetween, BeginsThisNumber}
+use Rattle.gob_value.specs.Whole.{BeginsThisNumber}
 use Rattle.gob_json.specs.Machine.TextParts.{BeginsThese}
 use Rattle.gob_json.specs.Machine.TextSent.{HoldsKind, HoldsValue, BeginsElements, BeginsList, BeginsEntries, BeginsMap, BeginsEntry}
 use Rattle.gob_json.specs.Machine.TextSent.{BeginsPresent, IsNextField, NumberFrom, BytesFrom}
 
 -- ---- numbers and bytes
-pub number_found : {body : List ℕ} {m at end : ℕ} → HoldsBetween (BeginsThisNumber m) body at end → NumberFrom body at m end
-number_found {body = body} {end = end} s n rest p =
-    let one = unsigned_prefix (drop end body) rest s.begins.spelled p.spelled (sym s.begins.whole ∙ p.whole) in
-    (one.value, one.rest)
-
-pub none_stands : {body : List ℕ} {at : ℕ} (n : ℕ) (rest : List ℕ) → at ≤ length body → NoNumberStandsAt body at
-    → BeginsThisNumber n (drop at body) rest → ⊥
-none_stands {body = body} {at = at} n rest l none p =
+pub number_known : {body : List ℕ} {number at end : ℕ} → at ≤ length body → IsOnlyNumberAt body at number end
+    → NumberFrom body at number end
+number_known {body = body} {at = at} l only n rest p =
     let b = p.bytes in
-    let front : take (at + length b - at) (drop at body) ≡ b =
-    let same : at + length b - at ≡ length b = omega arith in
-    ap (λ k. take k (drop at body)) same ∙ ap (λ y. take (length b) y) p.whole ∙ take-append_seam b rest in
-    none n (at + length b) (record {
-      order = omega (arith, (unsigned_length p.spelled).0);
-      inside = omega (arith, ap length p.whole, length-drop at body, length-append b rest);
-      spelled = subst (IsUnsigned n) (sym front) p.spelled;
-    })
+    let same = only n (at + length b) (number_stands rest l p.spelled p.whole) in (
+      same.0,
+      ap (λ k. drop k body) same.1 ∙ sym (drop-drop (length b) at body) ∙ ap (drop (length b)) p.whole
+          ∙ drop-append_seam b rest,
+    )
 
 pub bytes_found : (body : List ℕ) (at begin count len : ℕ) → begin ≤ length body → NumberFrom body at count begin
     → (count ≤ length body - begin → len ≡ count)

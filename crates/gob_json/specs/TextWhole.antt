@@ -1,6 +1,6 @@
 -- A value that stands whole at the front of a piece of a stream, no deeper than a limit, what stands behind it, and its
 -- text: what was appended is the compact text of the value's JSON. (docs/FORMAT.md, Values; Depth; The JSON lines.)
-use Rattle.std.specs.Prelude.{◌≡◌, ℕ, ◌+◌, ◌≤◌, List, [], ◌∷◌, ◌++◌, Some, codes}
+use Rattle.std.specs.Prelude.{◌≡◌, ℕ, ◌≤◌, List, [], ◌∷◌, ◌++◌, Some, codes}
 use Rattle.std.specs.Fmt.{decimal}
 use Rattle.serde_json.specs.Written.{compact_text}
 use Rattle.gob_types.specs.declared.id.TypeId.{TypeId}

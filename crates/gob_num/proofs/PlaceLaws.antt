@@ -2,10 +2,12 @@
 use Rattle.std.proofs.Common.{◌≡◌, ℕ, zero, suc, ◌+◌, ◌-◌, ◌<◌, ◌≤◌, List, [], ◌∷◌, ◌++◌, length}
 use Rattle.std.proofs.Common.{get_or, take, drop}
 use Rattle.std.proofs.Common.{arith, sym, ap, ◌∙◌, subst, refl, append-nil, append_assoc}
+use Rattle.std.proofs.Common.{length-append}
+use Rattle.std.proofs.Math.Seq.{take-append_seam}
 use Rattle.std.proofs.lemmas.List.{drop_more, take-append-drop, length-drop, length-take-le, take_all}
 use Rattle.gob_num.specs.Unsigned.{big_endian, AreBytes, IsUnsigned, short, long, IsBadHead, IsNotMinimal}
 use Rattle.gob_num.specs.Taken.{TakesUnsigned}
-use Rattle.gob_num.specs.Place.{IsUnsignedAt, NumberStandsAt, NoNumberStandsAt, AreUnsignedAt, no_number, one_more, PassesNumbers}
+use Rattle.gob_num.specs.Place.{IsUnsignedAt, NumberStandsAt, NoNumberStandsAt, AreUnsignedAt, no_number, one_more, PassesNumbers, IsOnlyNumberAt}
 use Rattle.gob_num.specs.declared.unsigned.Taken.{Taken}
 use Rattle.gob_num.specs.declared.unsigned.Taken.TheVariants.{Whole, More, BadHead, NotMinimal}
 use Rattle.gob_num.proofs.DigitLaws.{bytes_each, bytes_rest}
@@ -153,6 +155,37 @@ ends_at {bytes = bytes} {at = at} {i = i} {j = j} p q =
     let b = length-take-le (j - at) piece (let l = q.inside in omega arith) in
     let l = p.order in let k = q.order in
     omega arith
+
+-- and it is one number
+pub only_number : {bytes : List ℕ} {at m i : ℕ} → IsUnsignedAt m bytes at i → IsOnlyNumberAt bytes at m i
+only_number {bytes = bytes} {at = at} {i = i} p n e u =
+    let piece = drop at bytes in (
+      (unsigned_prefix (drop (i - at) piece) (drop (e - at) piece) p.spelled u.spelled
+          (take-append-drop (i - at) piece ∙ sym (take-append-drop (e - at) piece))).value,
+      ends_at p u,
+    )
+
+-- a number that the rest of the bytes begin with stands there
+pub number_stands : {bytes b : List ℕ} {at n : ℕ} (rest : List ℕ) → at ≤ length bytes → IsUnsigned n b → drop at bytes ≡ b ++ rest
+    → IsUnsignedAt n bytes at (at + length b)
+number_stands {bytes = bytes} {b = b} {at = at} {n = n} rest l p e =
+    let front : take (at + length b - at) (drop at bytes) ≡ b =
+    let same : at + length b - at ≡ length b = omega arith in
+    ap (λ k. take k (drop at bytes)) same ∙ ap (λ y. take (length b) y) e ∙ take-append_seam b rest in
+    record {
+      order = omega (arith, (unsigned_length p).0);
+      inside = omega (arith, ap length e, length-drop at bytes, length-append b rest);
+      spelled = subst (IsUnsigned n) (sym front) p;
+    }
+
+-- where one is known to stand, its digits tell it
+pub known_digits_at : {head at number used : ℕ} {eight bytes : List ℕ} → DigitsAt head eight bytes at
+    → (¬ IsNotMinimal (head ∷ eight) → TakesUnsigned (head ∷ eight) (Whole number used))
+    → IsOnlyNumberAt bytes at number (at + used)
+known_digits_at {head = head} {at = at} {number = number} {used = used} {eight = eight} {bytes = bytes} d taken n e u =
+    let here = d.stands.inside in
+    let minimal : ¬ IsNotMinimal (head ∷ eight) = λ p. none_at bytes at NotMinimal (chunk_taken_at NotMinimal d p) (λ m i q. cc) n e u in
+    only_number (taken_at bytes at number used (omega arith) (chunk_taken_at (Whole number used) d (taken minimal))) n e u
 
 -- numbers of which there is one more, and the place behind the first
 pub with_first : {bytes : List ℕ} {n count more at next end : ℕ} → more ≡ count + 1 → IsUnsignedAt n bytes at next

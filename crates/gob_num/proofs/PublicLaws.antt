@@ -8,6 +8,7 @@ pub use Rattle.gob_num.proofs.FrontLaws.{front_not_whole, not_minimal_none, past
 pub use Rattle.gob_num.proofs.FrontLaws.{whole_not_bad_head, whole_not_padded, whole_not_past}
 pub use Rattle.gob_num.proofs.PatternLaws.{pattern_fits, pattern_prefix, pattern_spelled, pattern_unique}
 pub use Rattle.gob_num.proofs.PatternLaws.{pattern_unsigned, pattern_value, reverse-bytes}
+pub use Rattle.gob_num.proofs.PlaceLaws.{number_stands}
 pub use Rattle.gob_num.proofs.SignedLaws.{signed_fits, signed_prefix, signed_spelled, signed_unique, signed_unsigned}
 pub use Rattle.gob_num.proofs.SignedLaws.{signed_value}
 pub use Rattle.gob_num.proofs.SpelledLaws.{appends_as, appends_then, joined, mapped, regroup}

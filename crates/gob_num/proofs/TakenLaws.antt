@@ -46,13 +46,12 @@ digits_spell h d k ds low e l b p =
     large d (x ∷ ds) j e = absurd (omega arith)
 
 pub digits_taken : (h count c u n : ℕ) (ds : List ℕ) → length ds ≡ 8 → ((i : ℕ) → get_or ds i 0 < 256) → 248 ≤ h
-    → h < 256 → h + count ≡ 256 → c ≡ count → u ≡ count → ¬ IsNotMinimal ((256 - count) ∷ get_or ds 0 0 ∷ [])
+    → h < 256 → h + count ≡ 256 → c ≡ count → u ≡ count → ¬ IsNotMinimal (h ∷ ds)
     → n ≡ from_be_bytes w64 ds → TakesUnsigned (h ∷ ds) (Whole (n / 2 ^ (64 - 8 * c)) (u + 1))
 digits_taken h count c u n [] l b low high t e f p v = absurd (omega arith)
 digits_taken h count zero u n (d ∷ ds) l b low high t e f p v = absurd (omega arith)
 digits_taken h count (suc k) u n (d ∷ ds) l b low high t e f p v =
     let bytes : AreBytes (d ∷ ds) = bytes_each (d ∷ ds) b in
-    let head : 256 - count ≡ h = omega arith in
     let room : 8 * (8 - suc k) ≡ 64 - 8 * suc k = omega arith in
     let power : 2 ^ (64 - 8 * suc k) ≡ 256 ^ (length (d ∷ ds) - suc k) = ap (λ j. 2 ^ j) (sym room)
     ∙ sym (bits_of_digits (8 - suc k)) ∙ ap (λ j. 256 ^ (j - suc k)) (sym l) in
@@ -61,9 +60,16 @@ digits_taken h count (suc k) u n (d ∷ ds) l b low high t e f p v =
     ∙ big_endian-take (suc k) (d ∷ ds) bytes in
     let size : u + 1 ≡ suc (suc k) = omega arith in (
       omega arith,
-      rw (value, size) (digits_spell h d k ds low (omega arith) (omega arith) bytes
-          (subst (λ g. ¬ IsNotMinimal (g ∷ d ∷ [])) head p)),
+      rw (value, size) (digits_spell h d k ds low (omega arith) (omega arith) bytes p),
     )
+
+-- whether fewer would do is shown by the first of them
+pub not_padded : (h count : ℕ) (ds : List ℕ) → 0 < length ds → h + count ≡ 256
+    → ¬ IsNotMinimal ((256 - count) ∷ get_or ds 0 0 ∷ []) → ¬ IsNotMinimal (h ∷ ds)
+not_padded h count [] l e p = absurd (omega arith)
+not_padded h count (d ∷ ds) l e p =
+    let head : 256 - count ≡ h = omega arith in
+    subst (λ g. ¬ IsNotMinimal (g ∷ d ∷ [])) head p
 
 -- nine bytes show what any more of them would
 pub taken_before : (a b : List ℕ) (t : Taken) → 9 ≤ length a → TakesUnsigned a t → TakesUnsigned (a ++ b) t

@@ -16,6 +16,10 @@ NumberStandsAt bytes at end = (n : ℕ) × IsUnsignedAt n bytes at end
 abbrev pub NoNumberStandsAt : List ℕ → ℕ → Type 0
 NoNumberStandsAt bytes at = (n end : ℕ) → ¬ IsUnsignedAt n bytes at end
 
+-- where a number stands at the place, it is this one and ends there
+abbrev pub IsOnlyNumberAt : List ℕ → ℕ → ℕ → ℕ → Type 0
+IsOnlyNumberAt bytes at number end = (n e : ℕ) → IsUnsignedAt n bytes at e → (number ≡ n) × (end ≡ e)
+
 -- the bytes from one place up to the other spell so many numbers, one behind another
 pub data AreUnsignedAt (bytes : List ℕ) : ℕ → ℕ → ℕ → Type 0 where
   no_number : {at : ℕ} → AreUnsignedAt bytes 0 at at

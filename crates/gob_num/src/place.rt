@@ -1,11 +1,11 @@
 //! Numbers that stand whole at a place of bytes: the fastest way to read what is there already.
 ghost use Rattle.std.specs.Prelude.{◌≡◌, ◌+◌, ◌-◌, ◌<◌, ◌≤◌, ℕ, [], ◌∷◌, IfSome, IsTrue, length};
-ghost use Rattle.gob_num.specs.Place.{IsUnsignedAt, AreUnsignedAt, NumberStandsAt, NoNumberStandsAt, PassesNumbers, CountsDigits};
+ghost use Rattle.gob_num.specs.Place.{IsUnsignedAt, IsOnlyNumberAt, AreUnsignedAt, NumberStandsAt, NoNumberStandsAt, PassesNumbers, CountsDigits};
 ghost use Rattle.gob_num.specs.Taken.{TakesUnsigned};
 ghost use Rattle.gob_num.specs.Unsigned.{IsNotMinimal};
 
 use crate::number::Number;
-use crate::unsigned::{LEAST_HEAD, Taken, digits_after, is_padded, take_digits};
+use crate::unsigned::{LEAST_HEAD, Taken, digits_after, is_padded, known_digits, take_digits};
 
 /// The number that stands whole at the place of the bytes, and where it ends. None says that none stands there: the
 /// bytes end before it does, or begin no spelling, as [`take_uint`](crate::take_uint) judges.
@@ -25,6 +25,45 @@ pub fn uint_at(bytes: &[u8], at: usize) -> Option<(u64, usize)>
     match taken {
         Taken::Whole { number, used } => Some((number, at + used)),
         _ => None,
+    }
+}
+
+/// The number that is known to stand whole at the place of the bytes, and where it ends: it isn't looked at whether it
+/// does. Where none stands, some number and a place within the bytes are answered.
+#[inline(always)]
+pub fn known_uint_at(bytes: &[u8], at: usize) -> (u64, usize)
+    requires { at ≤ length bytes.now }
+    ensures known { IsOnlyNumberAt bytes.now at result.0 result.1 }
+    ensures inside { result.1 ≤ length bytes.now }
+{
+    let Some(head) = bytes.get(at) else {
+        return (0, at);
+    };
+    if *head < 128 {
+        return (u64::from(*head), at + 1);
+    }
+    if *head < LEAST_HEAD {
+        return (0, at);
+    }
+    match bytes[at + 1..].first_chunk::<8>() {
+        Some(digits) => {
+            let (number, used) = known_digits(*head, digits);
+            (number, at + used)
+        }
+        None => known_near_the_end(bytes, at),
+    }
+}
+
+// The same of a number that stands near the end of the bytes.
+#[inline(never)]
+fn known_near_the_end(bytes: &[u8], at: usize) -> (u64, usize)
+    requires { at ≤ length bytes.now }
+    ensures known { IsOnlyNumberAt bytes.now at result.0 result.1 }
+    ensures inside { result.1 ≤ length bytes.now }
+{
+    match uint_at(bytes, at) {
+        Some(found) => found,
+        None => (0, at),
     }
 }
 

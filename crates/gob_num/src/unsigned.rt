@@ -75,15 +75,24 @@ pub(crate) fn take_digits(head: u8, digits: &[u8; 8]) -> Taken
     if head < LEAST_HEAD {
         return Taken::BadHead;
     }
-    let count = digits_after(head);
-    if is_padded(count, digits[0]) {
+    if is_padded(digits_after(head), digits[0]) {
         return Taken::NotMinimal;
     }
+    let (number, used) = known_digits(head, digits);
+    Taken::Whole { number, used }
+}
+
+/// The number of the head and the digits behind it, and how many bytes it takes with the head. It isn't looked at whether
+/// fewer digits would hold it.
+#[inline(always)]
+pub(crate) fn known_digits(head: u8, digits: &[u8; 8]) -> (u64, usize)
+    requires { LEAST_HEAD ≤ head }
+    ensures taken { ¬ IsNotMinimal (head ∷ digits.now) → TakesUnsigned (head ∷ digits.now) (Taken.Whole result.0 result.1) }
+    ensures few { (0 < result.1) × (result.1 ≤ 9) }
+{
+    let count = digits_after(head);
     let number = u64::from_be_bytes(*digits) >> (64 - 8 * u32::from(count));
-    Taken::Whole {
-        number,
-        used: usize::from(count) + 1,
-    }
+    (number, usize::from(count) + 1)
 }
 
 /// How many digits follow the head.

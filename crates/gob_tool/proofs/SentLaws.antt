@@ -8,10 +8,10 @@ use Rattle.std.proofs.KnownBytes.{Appends-trans, Appends-nil}
 use Rattle.serde_json.specs.Written.{comma_if, compact_text, items_text}
 use Rattle.gob_num.specs.Unsigned.{IsUnsigned}
 use Rattle.gob_num.specs.Signed.{IsSigned}
-use Rattle.gob_num.specs.Taken.{TakesUnsigned}
-use Rattle.gob_num.specs.declared.unsigned.Taken.{Taken}
-use Rattle.gob_num.specs.declared.unsigned.Taken.TheVariants as taken
-use Rattle.gob_num.proofs.PublicLaws.{bad_head_none, not_minimal_none, signed_prefix, signed_unsigned, unsigned_prefix}
+use Rattle.gob_num.specs.Place.{IsOnlyNumberAt}
+use Rattle.gob_num.proofs.PublicLaws.{number_stands, signed_prefix, signed_unsigned}
+use Rattle.std.proofs.lemmas.List.{drop-drop}
+use Rattle.std.proofs.Math.Seq.{take-append_seam}
 use Rattle.gob_types.specs.declared.id.TypeId.{TypeId}
 use Rattle.gob_types.specs.declared.basic.Basic.TheVariants as basic
 use Rattle.gob_types.specs.declared.kind.Kind.TheVariants as kind
@@ -146,35 +146,32 @@ left_next {T = T} {e = e} {later = later} {piece = piece} {gathered = gathered} 
       };
     }
 
+-- where it is known to stand at the place of the body
+pub left_known : {T : Table} {e : TypeId} {count number end : ℕ} {later : Bool} {body : List ℕ} {at : ℕ} {old now : Option (List ℕ)}
+    {gathered all : List ℕ} (i : ℤ) (after : List ℕ) → IsOfKind T e (kind.Basic basic.Int) → at ≤ length body
+    → IntegersLeft T e count later (drop at body) old now gathered all → 0 < count → IsOnlyNumberAt body at number end
+    → ((bytes : List ℕ) → IsUnsigned number bytes → IsSigned i bytes)
+    → after ≡ (gathered ++ comma_if later) ++ compact_text (integer_json i)
+    → IntegersLeft T e (count - 1) true (drop end body) old now after all
+left_known {T = T} {e = e} {count = count} {number = number} {end = end} {later = later} {body = body} {at = at} {old = old}
+    {now = now} {gathered = gathered} {all = all} i after k place l some only means text =
+    let next = next_int k l.spelled (omega (arith, some, l.counted)) in
+    let b = next.bytes in
+    let spelled = signed_unsigned next.spelled in
+    let same = only spelled.0 (at + length b) (number_stands next.rest place spelled.1 next.whole) in
+    let front : take (length b) (drop at body) ≡ b = ap (take (length b)) next.whole ∙ take-append_seam b next.rest in
+    let taken : IsUnsigned number (take (length b) (drop at body)) =
+    subst (IsUnsigned number) (sym front) (subst (λ n. IsUnsigned n b) (sym same.0) spelled.1) in
+    let behind : drop (length b) (drop at body) ≡ drop end body =
+    drop-drop (length b) at body ∙ ap (λ n. drop n body) (sym same.1) in
+    subst (λ y. IntegersLeft T e (count - 1) true y old now after all) behind
+    (left_next (length b) i after k l some taken means text)
+
 -- the error that a `?` returns of a failed write
 pub writes_cut : (old new : Option (List ℕ)) (bytes : List ℕ) (r : Result (Unit {0}) ToolFault) (f : ToolFault)
     → IsErrAnd r (λ e. e ≡ f) → f ≡ fault.Write → AppendsFront old new bytes → Writes old new bytes r
 writes_cut old new bytes (Ok u) f e w cut = absurd e
 writes_cut old new bytes (Err g) f e w cut = (e ∙ w, cut)
-
--- ---- a number stands there
-no_rest : (x y : List ℕ) → x ++ y ≡ [] → y ≡ []
-no_rest [] y e = e
-no_rest (a ∷ x) y e = cc
-
-number_taken : (piece : List ℕ) (r : Taken) (n : ℕ) (b c : List ℕ) → IsUnsigned n b → piece ≡ b ++ c → TakesUnsigned piece r
-    → ((k used : ℕ) → r ≡ taken.Whole k used → ⊥) → ⊥
-number_taken piece (taken.Whole k used) n b c p e t not = not k used refl
-number_taken piece taken.More n b c p e f not =
-    let r = unsigned_prefix (c ++ f.rest) [] p f.spelled
-    (sym (append_assoc b c f.rest) ∙ ap (λ y. y ++ f.rest) (sym e) ∙ sym (append-nil (piece ++ f.rest))) in
-    f.more (no_rest c f.rest r.rest)
-number_taken piece taken.BadHead n b c p e h not = bad_head_none piece h [] c p (append-nil piece ∙ e)
-number_taken piece taken.NotMinimal n b c p e h not = not_minimal_none piece h [] c p (append-nil piece ∙ e)
-
-pub left_stands : {T : Table} {e : TypeId} {count : ℕ} {later : Bool} {piece : List ℕ} {old now : Option (List ℕ)}
-    {gathered all : List ℕ} (r : Taken) → IsOfKind T e (kind.Basic basic.Int)
-    → IntegersLeft T e count later piece old now gathered all → 0 < count → TakesUnsigned piece r
-    → ((k used : ℕ) → r ≡ taken.Whole k used → ⊥) → ⊥
-left_stands {piece = piece} r k l some t not =
-    let next = next_int k l.spelled (omega (arith, some, l.counted)) in
-    let number = signed_unsigned next.spelled in
-    number_taken piece r number.0 next.bytes next.rest number.1 next.whole t not
 
 -- ---- the end
 none_left : {T : Table} {e : TypeId} {values : Trees} {piece : List ℕ} (later : Bool) → SpellsEach T e values piece

@@ -17,7 +17,7 @@ ghost use Rattle.gob_stream.specs.Ends.{failed_writes, writer_of};
 use crate::fault::ToolFault;
 use crate::lines::write_whole;
 use gob_json::{comma_at, integer_at};
-use gob_num::{Taken, take_uint, to_signed};
+use gob_num::{Taken, known_uint_at, take_uint, to_signed};
 use gob_stream::Output;
 use gob_types::{Basic, Kind, Shapes, TypeId};
 use gob_value::is_whole;
@@ -80,9 +80,11 @@ fn is_integer(kind: &Kind) -> bool
     matches!(kind, Kind::Basic(Basic::Int))
 }
 
-/// Writes the text of so many ints that stand in the body from the place on, the bracket that closes it and the end of
-/// the line, in blocks of the size of the room. Where the body spells something else the text ends early. After an
-/// error a front of the text is written.
+/// Writes the text of so many ints that are known to stand in the body from the place on, the bracket that closes it and
+/// the end of the line, in blocks of the size of the room. Where the body spells something else the text is another.
+/// After an error a front of the text is written. (In its caller its loop would have to keep in memory what it has in
+/// registers here.)
+#[inline(never)]
 pub(crate) fn send_integers<W: Write>(
     list: Integers,
     body: &[u8],
@@ -97,19 +99,17 @@ pub(crate) fn send_integers<W: Write>(
         (items_text false (elements_json T e values) ++ 125 ∷ 10 ∷ []) result }
     ensures counted { CountsWrites (failed_writes output.old) (failed_writes output.new) result }
 {
-    let mut rest = &body[list.begin..];
+    let mut at = list.begin;
     let mut len = 0;
     'integers: for index in 0..list.count {
         if len > room.len() - PART {
             write_whole(&room[..len], output)?;
             len = 0;
         }
-        let Taken::Whole { number, used } = take_uint(rest) else {
-            return Ok(());
-        };
+        let (number, end) = known_uint_at(body, at);
         let behind = comma_at(index > 0, room, len);
         len = integer_at(to_signed(number), room, behind);
-        rest = &rest[used..];
+        at = end;
     }
     write_whole(&room[..len], output)?;
     write_whole(END, output)

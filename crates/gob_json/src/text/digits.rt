@@ -1,4 +1,4 @@
-//! The digits of numbers, from a table.
+//! The digits of numbers, from tables.
 
 /// The three digits of each number below 1000, and a blank behind them: a store may take four bytes at once, of which
 /// it counts those that are digits of the number. (The last three blanks are there to be loaded.)
@@ -43,3 +43,14 @@ pub(crate) static TRIPLES: [u8; 4003] = *b"000 001 002 003 004 005 006 007 008 0
     925 926 927 928 929 930 931 932 933 934 935 936 937 938 939 940 941 942 943 944 945 946 947 948 949 \
     950 951 952 953 954 955 956 957 958 959 960 961 962 963 964 965 966 967 968 969 970 971 972 973 974 \
     975 976 977 978 979 980 981 982 983 984 985 986 987 988 989 990 991 992 993 994 995 996 997 998 999    ";
+
+/// The two digits in lower case hexadecimal of each byte.
+#[rattlefmt::skip]
+pub(crate) static HEX_PAIRS: [u8; 512] = *b"000102030405060708090a0b0c0d0e0f101112131415161718191a1b1c1d1e1f\
+    202122232425262728292a2b2c2d2e2f303132333435363738393a3b3c3d3e3f\
+    404142434445464748494a4b4c4d4e4f505152535455565758595a5b5c5d5e5f\
+    606162636465666768696a6b6c6d6e6f707172737475767778797a7b7c7d7e7f\
+    808182838485868788898a8b8c8d8e8f909192939495969798999a9b9c9d9e9f\
+    a0a1a2a3a4a5a6a7a8a9aaabacadaeafb0b1b2b3b4b5b6b7b8b9babbbcbdbebf\
+    c0c1c2c3c4c5c6c7c8c9cacbcccdcecfd0d1d2d3d4d5d6d7d8d9dadbdcdddedf\
+    e0e1e2e3e4e5e6e7e8e9eaebecedeeeff0f1f2f3f4f5f6f7f8f9fafbfcfdfeff";

@@ -1,7 +1,7 @@
 //! The text of what has no parts: numbers, truth values, bytes and text. Each says how it answers by what the output
 //! says of the text that it was to take.
 
-ghost use Rattle.std.specs.Prelude.{◌≡◌, ◌<◌, ◌≤◌, ◌++◌};
+ghost use Rattle.std.specs.Prelude.{◌≡◌, ◌<◌, ◌≤◌, ◌++◌, ◌∷◌, []};
 ghost use Rattle.std.specs.Fmt.{decimal};
 ghost use Rattle.hex.specs.Hex.{encode_lower};
 ghost use Rattle.serde_json.specs.Data.{boolean, null, string};
@@ -10,13 +10,11 @@ ghost use Rattle.gob_json.specs.Machine.Digits.{three_digits};
 ghost use Rattle.gob_json.specs.Json.{hex_json, integer_json, natural_json, opaque_json, pair_json, pattern_json, text_json};
 
 use super::block::DIGITS;
-use super::digits::TRIPLES;
+use super::digits::{HEX_PAIRS, TRIPLES};
 use super::escape::put_escaped;
 use super::out::TextOut;
 use super::plain::is_plain_ascii;
 use std::str;
-
-const HEX: &[u8; 16] = b"0123456789abcdef";
 
 /// Puts out the number in decimal.
 #[inline(always)]
@@ -110,14 +108,21 @@ pub(crate) fn put_null<O: TextOut>(out: &mut O) -> Result<(), O::Fault>
     out.put(b"null")
 }
 
+// Puts out the two digits of the byte in lower case hexadecimal.
+#[inline(always)]
+fn put_byte<O: TextOut>(byte: u8, out: &mut O) -> Result<(), O::Fault>
+    ensures { O.puts out.old out.new (encode_lower (byte ∷ [])) result }
+{
+    let row = usize::from(byte) * 2;
+    out.put(&HEX_PAIRS[row..row + 2])
+}
+
 // Puts out the bytes in lower case hexadecimal.
 fn put_digits<O: TextOut>(bytes: &[u8], out: &mut O) -> Result<(), O::Fault>
     ensures { O.puts out.old out.new (encode_lower bytes.now) result }
 {
     'bytes: for byte in bytes {
-        let high = HEX[(*byte / 16) as usize];
-        let low = HEX[(*byte % 16) as usize];
-        out.put(&[high, low])?;
+        put_byte(*byte, out)?;
     }
     Ok(())
 }
@@ -171,8 +176,8 @@ fn pattern_digits(bytes: [u8; 8]) -> [u8; 16]
 {
     let mut digits = [0; 16];
     'bytes: for index in 0..8 {
-        digits[2 * index] = HEX[(bytes[index] / 16) as usize];
-        digits[2 * index + 1] = HEX[(bytes[index] % 16) as usize];
+        let row = usize::from(bytes[index]) * 2;
+        digits[2 * index..2 * index + 2].copy_from_slice(&HEX_PAIRS[row..row + 2]);
     }
     digits
 }

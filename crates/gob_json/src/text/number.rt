@@ -6,6 +6,7 @@ ghost use Rattle.gob_json.specs.Machine.TextParts.{BeginsThese};
 ghost use Rattle.gob_json.specs.Machine.TextSent.{NumberFrom, BytesFrom};
 
 use super::stop::Stop;
+use gob_num::known_uint_at;
 
 /// The number that stands in the body from the place on, and where it ends.
 #[inline(always)]
@@ -46,17 +47,15 @@ pub(crate) fn field_number(next: u64, delta: u64) -> Result<u64, Stop>
     }
 }
 
-/// The number that is known to stand in the body from the place on, and where it ends; 0 and the place where none does.
+/// The number that is known to stand in the body from the place on, and where it ends. It isn't looked at whether it
+/// does: where none stands, some number and a place are answered.
 #[inline(always)]
 pub(crate) fn number_from(body: &[u8], at: usize) -> (u64, usize)
     requires { at ≤ length body.now }
     ensures found { NumberFrom body.now at result.0 result.1 }
     ensures inside { result.1 ≤ length body.now }
 {
-    match gob_value::number_at(body, at) {
-        Some(found) => found,
-        None => (0, at),
-    }
+    known_uint_at(body, at)
 }
 
 /// The bytes that are known to stand in the body from the place on behind their count, and where they end; some other

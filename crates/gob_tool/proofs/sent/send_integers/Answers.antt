@@ -4,8 +4,8 @@ use Rattle.std.proofs.Math.Seq.{take-length}
 use Rattle.serde_json.specs.Written.{compact_text, items_text}
 use Rattle.gob_json.specs.Json.{elements_json, integer_json}
 use Rattle.gob_json.proofs.PublicLaws.{later_on}
-use Rattle.gob_tool.proofs.SentLaws.{IntegersLeft, left_written, left_cut, left_next}
-use Rattle.gob_tool.proofs.SentLaws.{left_stands, left_ended, writes_cut}
+use Rattle.gob_tool.proofs.SentLaws.{IntegersLeft, left_written, left_cut, left_known}
+use Rattle.gob_tool.proofs.SentLaws.{left_ended, writes_cut}
 use Rattle.gob_tool.proofs.sent.send_integers.Goals.{then-len-room+in_ok-write_whole, else-len-room}
 use Rattle.gob_tool.proofs.sent.send_integers.Goals as goal
 
@@ -22,13 +22,13 @@ integers-preserved g c = record {
     | then-len-room+in_ok-write_whole w ↦ rw w.output-is (w.in_ok-write_whole.ensures.counted ∙ c.integers.invariant.counted)
     | else-len-room w ↦ rw w.output-is c.integers.invariant.counted
   ];
+  inside = c.known_uint_at-number.ensures.inside;
   left = λ T e values k p n.
       let before = c.integers.invariant.left T e values k p n in
-      let rest = c.integers.rest.now in
-      let used = c.in-Whole.used in
-      let left : IntegersLeft T e (c.args.list.count - c.integers.index) (nat_lt 0 c.integers.index) rest
-      (g.W.Write.contents c.args.output.now.writer) (g.W.Write.contents c.if-len-room.output.writer)
-      (take c.if-len-room.len c.integers.room) (items_text false (elements_json T e values)) =
+      let left : IntegersLeft T e (c.args.list.count - c.integers.index) (nat_lt 0 c.integers.index)
+      (drop c.integers.at c.args.body.now) (g.W.Write.contents c.args.output.now.writer)
+      (g.W.Write.contents c.if-len-room.output.writer) (take c.if-len-room.len c.integers.room)
+      (items_text false (elements_json T e values)) =
       elim c.if-len-room.branch [
         | then-len-room+in_ok-write_whole w ↦ rw w.output-is (rw w.len-is (left_written before w.in_ok-write_whole.ensures.written))
         | else-len-room w ↦ rw w.output-is (rw w.len-is before)
@@ -37,30 +37,10 @@ integers-preserved g c = record {
       let digits : take c.integer_at-len.result c.integer_at-len.new.block
       ≡ take c.comma_at-behind.result c.comma_at-behind.new.block ++ json = search rules in
       let text = digits ∙ ap (λ l. l ++ json) c.comma_at-behind.ensures.text in
-      let next = left_next used c.to_signed.result (take c.integer_at-len.result c.integer_at-len.new.block) k left (omega arith)
-      c.in-Whole.ensures.1 c.to_signed.ensures text in
-      let later : take (length rest - used) (drop used rest)
-      ≡ drop used rest = ap (λ (k : ℕ). take k (drop used rest)) (sym (length-drop used rest)) ∙ take-length (drop used rest) in
+      let next = left_known c.to_signed.result (take c.integer_at-len.result c.integer_at-len.new.block) k
+      c.integers.invariant.inside left (omega arith) c.known_uint_at-number.ensures.known c.to_signed.ensures text in
       let fewer : c.args.list.count - (c.integers.index + 1) ≡ c.args.list.count - c.integers.index - 1 = omega arith in
-      rw later (rw fewer (rw (later_on c.integers.index) next));
-}
-
-pub returns-in_default : goal.returns-in_default
-returns-in_default g c = record {
-  sent = λ T e values k p n.
-      let before = c.integers.invariant.left T e values k p n in
-      let left : IntegersLeft T e (c.args.list.count - c.integers.index) (nat_lt 0 c.integers.index) c.integers.rest.now
-      (g.W.Write.contents c.args.output.now.writer) (g.W.Write.contents c.if-len-room.output.writer)
-      (take c.if-len-room.len c.integers.room) (items_text false (elements_json T e values)) =
-      elim c.if-len-room.branch [
-        | then-len-room+in_ok-write_whole w ↦ rw w.output-is (rw w.len-is (left_written before w.in_ok-write_whole.ensures.written))
-        | else-len-room w ↦ rw w.output-is (rw w.len-is before)
-      ] in
-      absurd (left_stands c.take_uint.result k left (omega arith) c.take_uint.ensures c.in_default.not-Whole);
-  counted = elim c.if-len-room.branch [
-    | then-len-room+in_ok-write_whole w ↦ rw w.output-is (w.in_ok-write_whole.ensures.counted ∙ c.integers.invariant.counted)
-    | else-len-room w ↦ rw w.output-is c.integers.invariant.counted
-  ];
+      rw fewer (rw (later_on c.integers.index) next);
 }
 
 pub returns-in_err-write_whole-clause-sent : goal.returns-in_err-write_whole-clause-sent
