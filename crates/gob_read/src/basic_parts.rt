@@ -266,13 +266,7 @@ impl<B: Builder> Run<B> {
 fn basic_of<S: Shapes>(shapes: &S, id: TypeId) -> Option<Basic>
     ensures { IfSome result (λ basic. HasKind (S.table shapes.now) id (kind.Basic basic)) }
 {
-    match shapes.shape_of(id) {
-        Some(shape) => match &shape.kind {
-            Kind::Basic(basic) => Some(*basic),
-            _ => None,
-        },
-        None => None,
-    }
+    shapes.basic_of(id)
 }
 
 /// The fields of the struct type that the id names.
@@ -280,11 +274,5 @@ fn basic_of<S: Shapes>(shapes: &S, id: TypeId) -> Option<Basic>
 fn fields_of<S: Shapes>(shapes: &S, id: TypeId) -> Option<&Fields>
     ensures { IfSome result (λ fields. HasKind (S.table shapes.now) id (kind.Struct fields.now)) }
 {
-    match shapes.shape_of(id) {
-        Some(shape) => match &shape.kind {
-            Kind::Struct { fields } => Some(fields),
-            _ => None,
-        },
-        None => None,
-    }
+    shapes.shape_of(id)?.kind.fields()
 }

@@ -3,13 +3,14 @@
 ghost use Rattle.std.specs.Prelude.{◌≡◌, ◌-◌, ◌<◌, ◌≤◌, ◌↔◌, IfOk, IsTrue, length};
 ghost use Rattle.gob_read.specs.Machine.Steps.{CanEnd, StepEnds, CanTake, StepTakes, StepRefuses, CanTakeRaw, TakesRaw, TakesOrBlames};
 ghost use Rattle.gob_read.specs.Machine.Steps.{CanTakeTag, IsWrongTag, CanTakeImaginary, TakesHere};
-ghost use Rattle.gob_read.specs.Machine.Kinds.{IsStructType, BeginsAs};
+ghost use Rattle.gob_read.specs.Machine.Kinds.{BeginsAs};
 
 use crate::builder::Builder;
 use crate::frames::Frames;
 use crate::next::{Moved, Next, NextNumber};
 use gob_num::{Memory, to_pattern};
-use gob_types::{Basic, Denial, Kind, Reason, Shapes, TypeId};
+use gob_types::{Basic, Denial, Reason, Shapes, TypeId};
+use gob_value::has_structs;
 
 /// What a reader knows between two items: what is made of the parts so far, which parts are open, and what is
 /// expected. After a fault it is of no more use.
@@ -55,7 +56,7 @@ impl<B: Builder> State<B> {
         let Next::Top { id } = self.expected else {
             return;
         };
-        let item = if is_struct(shapes, id) {
+        let item = if has_structs(shapes, id) {
             NextNumber::Part { id }
         } else {
             NextNumber::Tag { id }
@@ -138,15 +139,5 @@ impl<B: Builder> State<B> {
         }
         self.expected = Next::Raw { left: rest };
         Ok(Moved::ToNext)
-    }
-}
-
-/// Whether values of the type are structs, which stand behind no tag.
-pub(crate) fn is_struct<S: Shapes>(shapes: &S, id: TypeId) -> bool
-    ensures { IsTrue result ↔ IsStructType (S.table shapes.now) id }
-{
-    match shapes.shape_of(id) {
-        Some(shape) => matches!(shape.kind, Kind::Struct { fields: _ }),
-        None => false,
     }
 }

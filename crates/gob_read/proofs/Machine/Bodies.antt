@@ -6,11 +6,11 @@ use Rattle.gob_types.specs.Table.{Table}
 use Rattle.gob_types.specs.Ready.{IsReady}
 use Rattle.gob_types.proofs.PublicLaws.{ready_defined}
 use Rattle.gob_value.specs.Tree.{Tree}
-use Rattle.gob_value.specs.Top.{SpellsTop}
+use Rattle.gob_value.specs.Top.{HasStructs, SpellsTop}
 use Rattle.gob_read.specs.Viable.{IsShallow, IsViable}
 use Rattle.gob_read.specs.Event.{Event, HasEvents}
 use Rattle.gob_read.specs.Building.{IsComplete}
-use Rattle.gob_read.specs.Machine.Kinds.{IsStructType, BeginsAs, as_struct, as_tagged, number_stays, raw_stays}
+use Rattle.gob_read.specs.Machine.Kinds.{BeginsAs, as_struct, as_tagged, number_stays, raw_stays}
 use Rattle.gob_read.specs.Machine.OpenPath.{AtNext, at_tag, at_part, at_once}
 use Rattle.gob_read.specs.Machine.Running.{IsReached, IsReachedSomewhere, StopsFor, RunGoesOn, RunFinishes, RefusesPiece}
 use Rattle.gob_read.specs.Reader.{HasReadSoFar, nothing_taken, taken_so_far, RunHasRead, ReaderHasRead, IsUsableReader, HasReadSome, ReaderTakesPiece, EndsBody, ReaderRefusesBody, Stops}
@@ -45,12 +45,12 @@ pub record HasBegun (T : Table) {X O : Type 0} (run new : Run X O) : Type 0 wher
 begun_place : {T : Table} {t : TypeId} {a a' : Next} → IsReady T t → a ≡ Top t → BeginsAs T a a' → AtNext T t [] a' [] [] []
 begun_place {T = T} {t = t} r e (as_struct {t = u} i) =
     let one : u ≡ t = cc in
-    let j = subst (IsStructType T) one i in
-    subst (λ u. AtNext T t [] (Number (Part u)) [] [] []) (sym one) (at_part (at_once j.there j.struct))
+    let j = subst (HasStructs T) one i in
+    subst (λ u. AtNext T t [] (Number (Part u)) [] [] []) (sym one) (at_part (at_once j.found j.struct))
 begun_place {T = T} {t = t} r e (as_tagged {t = u} n) =
     let one : u ≡ t = cc in
     let s = ready_defined r in
-    subst (λ u. AtNext T t [] (Number (Tag u)) [] [] []) (sym one) (at_tag s.1 (λ k. n (subst (IsStructType T) (sym one) (struct_type s.1 k))))
+    subst (λ u. AtNext T t [] (Number (Tag u)) [] [] []) (sym one) (at_tag s.1 (λ k. n (subst (HasStructs T) (sym one) (struct_type s.1 k))))
 begun_place r e number_stays = cc
 begun_place r e raw_stays = cc
 

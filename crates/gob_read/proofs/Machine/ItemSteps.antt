@@ -17,7 +17,7 @@ use Rattle.gob_types.specs.Table.{Table, shape_of}
 use Rattle.gob_value.specs.Tree.{Tree}
 use Rattle.gob_value.specs.Tree as Value
 use Rattle.gob_value.specs.Spelling.{Spells, of_complex, of_bytes, of_text, of_opaque}
-use Rattle.gob_value.specs.Top.{IsStruct}
+use Rattle.gob_value.specs.Top.{HasStructs, IsStruct}
 use Rattle.gob_read.specs.declared.event.RawKind.{RawKind}
 use Rattle.gob_read.specs.declared.frame.Frame.{Frame}
 use Rattle.gob_read.specs.declared.next.Moved.{Moved}
@@ -31,7 +31,7 @@ use Rattle.gob_read.specs.Expects.{ExpectsTop, at_tag as expects_tag}
 use Rattle.gob_read.specs.Event.{Event, number, raw_start, raw_more, leave, HasEvents, HasRawEvents, more_bytes, tell_complex, tell_bytes, tell_text, tell_opaque}
 use Rattle.gob_read.specs.WellFormed.{a_number as number_follows, of_complex as two_numbers, raw_bytes, end_of_raw}
 use Rattle.gob_read.specs.Building.{MayTakeEvent, TakesEvent}
-use Rattle.gob_read.specs.Machine.Kinds.{HasKind, IsRawKind, is_bytes, is_text, is_opaque, IsList, is_array, IsStructType, BeginsAs, as_struct, as_tagged, number_stays, raw_stays}
+use Rattle.gob_read.specs.Machine.Kinds.{HasKind, IsRawKind, is_bytes, is_text, is_opaque, IsList, is_array, BeginsAs, as_struct, as_tagged, number_stays, raw_stays}
 use Rattle.gob_read.specs.Machine.OpenPath.{OpenPath, behind_tag, AtNext, at_tag, at_part, at_second, at_raw, PartDone}
 use Rattle.gob_read.specs.Machine.Steps.{IsBegun, IsPlaced, IsEnded, TakesOrBlames, CanEnd, CanBegin, StepBegins, CanBeginStruct, BeginsStruct, IsNoFirst, CanTakeFirst, TakesFirst, RefusesFirst, CanTake, StepTakes, StepRefuses, CanTakeTag, IsWrongTag, CanTakeImaginary, TakesHere, CanTakeRaw}
 use Rattle.gob_value.proofs.PublicLaws.{not_true}
@@ -252,10 +252,10 @@ pub raw_can_end : {X O : Type 0} {received : X → List Event → Type 0} {state
 raw_can_end bytes s f h m r = record { table = r.table; type = r.type; bytes = r.before ++ (r.so_far ++ bytes); ended = raw_ended bytes r.expected s f h m r.placed; small = r.small }
 
 -- what a body begins with
-pub begins_struct : {T : Table} {a : Next} {t : TypeId} {i : NextNumber} (b : Bool) → a ≡ Top t → (IsTrue b ↔ IsStructType T t) → b ≡ true → i ≡ Part t → BeginsAs T a (Number i)
+pub begins_struct : {T : Table} {a : Next} {t : TypeId} {i : NextNumber} (b : Bool) → a ≡ Top t → (IsTrue b ↔ HasStructs T t) → b ≡ true → i ≡ Part t → BeginsAs T a (Number i)
 begins_struct {T = T} {t = t} {i = i} b e h g f = subst (λ a. BeginsAs T a (Number i)) (sym e) (subst (λ i. BeginsAs T (Top t) (Number i)) (sym f) (as_struct (h.0 (let x : IsTrue b = search (rules, g) in x))))
 
-pub begins_tagged : {T : Table} {a : Next} {t : TypeId} {i : NextNumber} (b : Bool) → a ≡ Top t → (IsTrue b ↔ IsStructType T t) → b ≡ false → i ≡ Tag t → BeginsAs T a (Number i)
+pub begins_tagged : {T : Table} {a : Next} {t : TypeId} {i : NextNumber} (b : Bool) → a ≡ Top t → (IsTrue b ↔ HasStructs T t) → b ≡ false → i ≡ Tag t → BeginsAs T a (Number i)
 begins_tagged {T = T} {t = t} {i = i} b e h g f = subst (λ a. BeginsAs T a (Number i)) (sym e) (subst (λ i. BeginsAs T (Top t) (Number i)) (sym f) (as_tagged (not_true g h)))
 
 pub begun_stays : {T : Table} (a : Next) → ((t : TypeId) → a ≡ Top t → ⊥) → BeginsAs T a a

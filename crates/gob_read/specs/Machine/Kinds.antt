@@ -10,7 +10,7 @@ use Rattle.gob_types.specs.declared.kind.Kind.{Kind}
 use Rattle.gob_types.specs.declared.kind.Kind.TheVariants as kind
 use Rattle.gob_types.specs.declared.kind.Shape.{Shape}
 use Rattle.gob_types.specs.Table.{Table, shape_of}
-use Rattle.gob_value.specs.Top.{IsStruct}
+use Rattle.gob_value.specs.Top.{HasStructs}
 use Rattle.gob_read.specs.declared.event.RawKind.{RawKind}
 use Rattle.gob_read.specs.declared.event.RawKind.TheVariants as raw
 use Rattle.gob_read.specs.declared.event.GroupKind.{GroupKind}
@@ -52,15 +52,9 @@ pub data IsScalar : Kind → ℕ → Basic → ℕ → Type 0 where
   of_float : {n p : ℕ} → ((b : List ℕ) → IsUnsigned n b → IsPattern p b) → IsScalar (kind.Basic basic.Float) n basic.Float p
   of_nil : {n : ℕ} → n ≡ 0 → IsScalar (kind.Basic basic.Interface) n basic.Interface n
 
--- values of the type are structs
-pub record IsStructType (T : Table) (t : TypeId) : Type 0 where
-  pub shape : Shape
-  pub there : shape_of T t ≡ Some shape
-  pub struct : IsStruct shape.kind
-
 -- what a body begins with, once its type is looked up: the first delta of a struct, or else the tag
 pub data BeginsAs (T : Table) : Next → Next → Type 0 where
-  as_struct : {t : TypeId} → IsStructType T t → BeginsAs T (Top t) (Number (Part t))
-  as_tagged : {t : TypeId} → ¬ IsStructType T t → BeginsAs T (Top t) (Number (Tag t))
+  as_struct : {t : TypeId} → HasStructs T t → BeginsAs T (Top t) (Number (Part t))
+  as_tagged : {t : TypeId} → ¬ HasStructs T t → BeginsAs T (Top t) (Number (Tag t))
   number_stays : {i : NextNumber} → BeginsAs T (Number i) (Number i)
   raw_stays : {left : ℕ} → BeginsAs T (Raw left) (Raw left)
