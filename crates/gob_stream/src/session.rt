@@ -131,7 +131,7 @@ impl<B: Builder> Session<B> {
                 Ok(step) => {
                     used += step.used;
                     if let Some(item) = step.item {
-                        if let Err(fault) = self.give(item, out) {
+                        if let Err(fault) = self.push_item(item, out) {
                             return Err(fault);
                         }
                     }
@@ -213,7 +213,7 @@ impl<B: Builder> Session<B> {
     }
 
     // Appends an item. Without memory for it nothing more is read.
-    fn give(&mut self, item: Item<B::Out>, out: &mut Vec<Item<B::Out>>) -> Result<(), Fault>
+    fn push_item(&mut self, item: Item<B::Out>, out: &mut Vec<Item<B::Out>>) -> Result<(), Fault>
         ensures given { OnOk result (out.new.items ≡ out.old.items ++ item ∷ []) }
         ensures kept { OnOk result (self.new ≡ self.old) }
         ensures memory { IfErr result (λ fault. fault ≡ Fault.Memory) }
@@ -246,14 +246,14 @@ impl<B: Builder> Session<B> {
         ensures some { 0 < result }
     {
         match &self.stage {
-            Stage::Value(value) => self.left(value.rest),
-            Stage::Description(description) => self.left(description.rest),
+            Stage::Value(value) => self.bytes_to_come(value.rest),
+            Stage::Description(description) => self.bytes_to_come(description.rest),
             _ => 1,
         }
     }
 
     // How many bytes of a part of the stream are to come.
-    fn left(&self, rest: Extent) -> u64
+    fn bytes_to_come(&self, rest: Extent) -> u64
         requires { taken_of self.now ≤ rest.end }
         ensures { result ≡ rest.end - taken_of self.now }
     {

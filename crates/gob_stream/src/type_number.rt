@@ -51,15 +51,15 @@ impl TypeNumberStage {
         let TypeNumberStage { body, mut number } = self;
         let room = (body.end - around.taken).min(piece.len() as u64) as usize;
         match number.take(&piece[..room]) {
-            Taken::More => more_of_type_number(body, around.taken, number, room),
-            // What follows is begun at once, without a byte of it: where the body ends here, no further byte of the
-            // item comes, and it is refused with the last one of its type number.
+            Taken::More => front_of_type_number(body, around.taken, number, room),
+            // The body goes on in this call, also where the piece ends here: if it has nothing behind its type number,
+            // no further byte of the item comes, and it is refused with the last one of that number.
             Taken::Whole { number, used } => {
                 let rest = Extent {
                     begin: around.taken + used as u64,
                     end: body.end,
                 };
-                match begin_rest(around, table, body.begin, rest, number, &piece[used..]) {
+                match front_of_body(around, table, body.begin, rest, number, &piece[used..]) {
                     Ok(stepped) => Ok(Stepped {
                         used: used + stepped.used,
                         stage: stepped.stage,
@@ -82,8 +82,8 @@ impl TypeNumberStage {
     }
 }
 
-// The type number goes on behind so many bytes of a piece, where the body does.
-fn more_of_type_number<B: Builder>(
+// The first bytes of a type number, of which so many stand in the piece: it goes on where the body does.
+fn front_of_type_number<B: Builder>(
     body: Extent,
     taken: u64,
     number: Number,
@@ -103,8 +103,8 @@ fn more_of_type_number<B: Builder>(
     })
 }
 
-// Takes bytes of what follows the type number, which begins at the place.
-fn begin_rest<B: Builder>(
+// Takes the first bytes of what follows the type number, which stands at the place.
+fn front_of_body<B: Builder>(
     around: &Around,
     table: &mut Table,
     place: u64,
@@ -123,13 +123,13 @@ fn begin_rest<B: Builder>(
     let number = to_signed(number);
     let id = TypeId(number.unsigned_abs());
     if number < 0 {
-        return begin_description(around, table, place, rest, id, piece);
+        return front_of_description(around, table, place, rest, id, piece);
     }
-    begin_value(around, table, place, rest, id, piece)
+    front_of_value(around, table, place, rest, id, piece)
 }
 
-// Takes bytes of the description of the type whose number stands at the place.
-fn begin_description<B: Builder>(
+// Takes the first bytes of the description of the type whose number stands at the place.
+fn front_of_description<B: Builder>(
     around: &Around,
     table: &mut Table,
     place: u64,
@@ -161,8 +161,8 @@ fn begin_description<B: Builder>(
     }
 }
 
-// Takes bytes of a value of the type whose number stands at the place.
-fn begin_value<B: Builder>(
+// Takes the first bytes of a value of the type whose number stands at the place.
+fn front_of_value<B: Builder>(
     around: &Around,
     table: &Table,
     place: u64,

@@ -4,7 +4,7 @@ use Rattle.gob_stream.specs.declared.stage.Stage.TheVariants as stage
 use Rattle.gob_stream.proofs.Reader.HonestLaws.{always_feeds_honestly}
 use Rattle.gob_stream.proofs.Reader.StageSteps.{parts}
 use Rattle.gob_stream.proofs.Reader.FeedSteps.{feed_start, feed_on, feed_item, feed_there, fed_all, feed_no_memory, feed_stops}
-use Rattle.gob_stream.proofs.session.Session.feed.Goals.{in-Failed, in_default, in-Some+in_default-give, in_default-item}
+use Rattle.gob_stream.proofs.session.Session.feed.Goals.{in-Failed, in_default, in-Some+in_default-push_item, in_default-item}
 use Rattle.gob_stream.proofs.session.Session.feed.Goals as goal
 
 -- a session that has failed stands after nothing
@@ -36,17 +36,17 @@ overflow_add-used g c =
     let w = c.steps.invariant.within in let n = c.in-Ok.ensures.used.1 in
     omega (arith, ap length (take_rest c.args.piece.now c.steps.used), length-drop c.steps.used c.args.piece.now)
 
-pub returns-in-Err-give-clause-fed : goal.returns-in-Err-give-clause-fed
-returns-in-Err-give-clause-fed g c =
-    feed_no_memory c.give.new.self c.steps.invariant
+pub returns-in-Err-push_item-clause-fed : goal.returns-in-Err-push_item-clause-fed
+returns-in-Err-push_item-clause-fed g c =
+    feed_no_memory c.push_item.new.self c.steps.invariant
     (record { some = c.in-Ok.ensures.used; limits = c.in-Ok.ensures.limits; advances = c.in-Ok.ensures.advances })
-    c.in-Some.is c.give.ensures.types c.give.ensures.taken c.in-Err-give.ensures.memory c.in-Err-give.ensures.as_before
+    c.in-Some.is c.push_item.ensures.types c.push_item.ensures.taken c.in-Err-push_item.ensures.memory c.in-Err-push_item.ensures.as_before
 
-pub returns-in-Err-give-clause-honest : goal.returns-in-Err-give-clause-honest
-returns-in-Err-give-clause-honest g c = always_feeds_honestly _ _ g.B.Builder.building.means _ _ c.give.new.self c.args.piece.now (Err c.in-Err-give.fault) (returns-in-Err-give-clause-fed g c)
+pub returns-in-Err-push_item-clause-honest : goal.returns-in-Err-push_item-clause-honest
+returns-in-Err-push_item-clause-honest g c = always_feeds_honestly _ _ g.B.Builder.building.means _ _ c.push_item.new.self c.args.piece.now (Err c.in-Err-push_item.fault) (returns-in-Err-push_item-clause-fed g c)
 
-pub returns-in-Err-give-clause-limits : goal.returns-in-Err-give-clause-limits
-returns-in-Err-give-clause-limits g c = c.give.ensures.limits ∙ c.step.ensures.limits ∙ c.steps.invariant.limits
+pub returns-in-Err-push_item-clause-limits : goal.returns-in-Err-push_item-clause-limits
+returns-in-Err-push_item-clause-limits g c = c.push_item.ensures.limits ∙ c.step.ensures.limits ∙ c.steps.invariant.limits
 
 pub returns-in-Err-clause-fed : goal.returns-in-Err-clause-fed
 returns-in-Err-clause-fed g c = feed_stops c.in-Err.fault c.step.new.self c.steps.invariant c.in-Err.ensures.types c.in-Err.ensures.taken c.in-Err.ensures.advances
@@ -60,10 +60,10 @@ returns-in-Err-clause-limits g c = c.step.ensures.limits ∙ c.steps.invariant.l
 pub steps-preserved : goal.steps-preserved
 steps-preserved g c =
     elim c.match-step-2.branch [
-      | in-Some+in_default-give w ↦
-          feed_there (w.self-is ∙ w.in_default-give.ensures.kept)
+      | in-Some+in_default-push_item w ↦
+          feed_there (w.self-is ∙ w.in_default-push_item.ensures.kept)
           (feed_item c.steps.invariant (record { some = c.in-Ok.ensures.used; limits = c.in-Ok.ensures.limits; advances = c.in-Ok.ensures.advances })
-          w.in-Some.is (ap (λ v. v.items) w.out-is ∙ w.in_default-give.ensures.given ∙ ap (λ x. c.steps.out.items ++ x ∷ []) w.in-Some.item-is))
+          w.in-Some.is (ap (λ v. v.items) w.out-is ∙ w.in_default-push_item.ensures.given ∙ ap (λ x. c.steps.out.items ++ x ∷ []) w.in-Some.item-is))
       | in_default-item w ↦
           feed_there w.self-is
           (feed_on c.steps.invariant (record { some = c.in-Ok.ensures.used; limits = c.in-Ok.ensures.limits; advances = c.in-Ok.ensures.advances })

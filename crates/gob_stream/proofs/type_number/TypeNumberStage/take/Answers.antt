@@ -15,8 +15,8 @@ overflow_add-result g c =
 pub returns-in-More : goal.returns-in-More
 returns-in-More g c = λ offset m d k.
     let e = k.end in
-    one_used (number_goes_on d c.args.self.number c.args.piece.now k (omega arith) (omega arith) (omega arith) c.in-More.ensures.taken c.in-More.ensures.left c.more_of_type_number.ensures)
-    (goes_on_some c.more_of_type_number.ensures (omega arith))
+    one_used (number_goes_on d c.args.self.number c.args.piece.now k (omega arith) (omega arith) (omega arith) c.in-More.ensures.taken c.in-More.ensures.left c.front_of_type_number.ensures)
+    (goes_on_some c.front_of_type_number.ensures (omega arith))
 
 pub returns-in-Ok : goal.returns-in-Ok
 returns-in-Ok g c = λ offset m d k.

@@ -4,7 +4,7 @@ use Rattle.gob_stream.specs.Machine.ReadParts.{ReadsValueIn, no_memory}
 use Rattle.gob_stream.specs.Refusing.{refused_type}
 use Rattle.gob_stream.specs.WriterRefusal.{RefusesType}
 use Rattle.gob_stream.proofs.Reader.ValueSteps.{denied_steps, type_shown, value_begins}
-use Rattle.gob_stream.proofs.type_number.begin_value.Goals as goal
+use Rattle.gob_stream.proofs.type_number.front_of_value.Goals as goal
 
 pub returns-in-Err : goal.returns-in-Err
 returns-in-Err g c = λ offset m d a body k b s r.

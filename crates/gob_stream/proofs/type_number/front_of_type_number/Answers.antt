@@ -1,7 +1,7 @@
 use Rattle.std.proofs.Common.{arith}
 use Rattle.gob_stream.proofs.Reader.NumberSteps.{ended_there}
 use Rattle.gob_stream.specs.Machine.ReadParts.{more_of_it}
-use Rattle.gob_stream.proofs.type_number.more_of_type_number.Goals as goal
+use Rattle.gob_stream.proofs.type_number.front_of_type_number.Goals as goal
 
 pub returns-then-taken-used : goal.returns-then-taken-used
 returns-then-taken-used g c = ended_there (omega arith) c.refusal.ensures

@@ -9,7 +9,7 @@ use Rattle.gob_stream.specs.WriterRefusal.{RefusesId}
 use Rattle.gob_stream.proofs.Reader.DescriptionSteps.{wire_ready_in}
 use Rattle.gob_stream.proofs.Reader.ValueSteps.{denied_steps}
 use Rattle.gob_stream.proofs.Reader.DefinitionSteps.{id_shown, description_begins}
-use Rattle.gob_stream.proofs.type_number.begin_description.Goals as goal
+use Rattle.gob_stream.proofs.type_number.front_of_description.Goals as goal
 
 pub returns-in-Err : goal.returns-in-Err
 returns-in-Err g c = λ offset m n d a body k b i s r.
