@@ -17,7 +17,7 @@ use Rattle.gob_stream.specs.Honest.{FeedsHonestly, ReadsHonestly}
 use Rattle.gob_stream.specs.Item.{StreamItem}
 use Rattle.gob_stream.specs.Machine.ReadParts.{Advances, bytes_wanted}
 use Rattle.gob_stream.specs.Reading.{Feeds, ReadingFinishes, ReadsNext, TakesNext}
-use Rattle.gob_stream.specs.Machine.HasRead.{SessionHasRead}
+use Rattle.gob_stream.specs.Machine.HasRead.{SessionHasRead, SessionHasReadSome}
 use Rattle.gob_stream.specs.Stream.{IsItem, AreItems}
 use Rattle.gob_stream.specs.Whole.{HasBody, HasBegun, HasItem, HasItems}
 use Rattle.gob_stream.specs.Machine.Between.{IsBetween, PassesItems}
@@ -25,6 +25,9 @@ use Rattle.gob_stream.specs.Machine.Between.{IsBetween, PassesItems}
 -- the session has given these items, and taken these bytes
 abbrev pub HasRead : {X O : Type 0} {most : ℕ} → Building X O most → SessionState X O → List StreamItem → List ℕ → Type 0
 HasRead {most = most} building s items bytes = SessionHasRead building.received tree_building.received most s items bytes
+
+abbrev pub HasReadSome : {X O : Type 0} {most : ℕ} → Building X O most → SessionState X O → Type 0
+HasReadSome {most = most} building s = SessionHasReadSome building.received tree_building.received most s
 
 -- it has met a fault, behind which it reads no more
 abbrev pub HasFailed : {X O : Type 0} → SessionState X O → Type 0

@@ -11,7 +11,6 @@ use crate::fault::Fault;
 use crate::input::Input;
 use crate::item::Item;
 use crate::session::Session;
-use crate::stage::Stage;
 use gob_read::Builder;
 use std::alloc::Global;
 use std::io::Read;
@@ -44,7 +43,7 @@ impl<B: Builder> Session<B> {
         ensures counted { CountsReads (failed_reads input.old) (failed_reads input.new) result }
         ensures taken { ReadItemTakes self.old self.new (bytes_read input.old) (bytes_read input.new) result }
     {
-        if matches!(self.stage, Stage::Failed) {
+        if self.has_failed() {
             return Err(Fault::Failed);
         }
         let mut chunk = [0u8; CHUNK as usize];

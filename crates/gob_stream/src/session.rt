@@ -27,7 +27,7 @@ pub struct Session<B: Builder> {
 /// What became of the front of a piece.
 #[derive(Drop)]
 pub struct Step<O: Drop> {
-    /// How many bytes of the piece were taken, one at least.
+    /// How many bytes of the piece were taken, one at least of a piece that has any.
     pub used: usize,
     /// The item that is whole with them.
     pub item: Option<Item<O>>,
@@ -74,11 +74,11 @@ impl<B: Builder> Model for Session<B> {
 
 impl<B: Builder> Session<B> {
     ghost use Rattle.std.specs.Prelude.{◌≡◌, ◌-◌, ◌<◌, ◌≤◌, ◌++◌, ◌∷◌, ℕ, List, [], length, Err};
-    ghost use Rattle.std.specs.Prelude.{IfOk, IfErr, IfSome, OnOk, OnErr};
+    ghost use Rattle.std.specs.Prelude.{MatchBool, IfOk, IfErr, IfSome, OnOk, OnErr};
     ghost use Rattle.gob_stream.specs.Bounds.{AreLimits, deepest};
     ghost use Rattle.gob_stream.specs.Item.{StreamItem};
     ghost use Rattle.gob_stream.specs.Reading.{Given};
-    ghost use Rattle.gob_stream.specs.Session.{HasRead, HasFailed, IsBetweenItems, StaysAsItWas};
+    ghost use Rattle.gob_stream.specs.Session.{HasRead, HasReadSome, HasFailed, IsBetweenItems, StaysAsItWas};
     ghost use Rattle.gob_stream.specs.Session.{table_of, taken_of, limits_of, wanted_of};
     ghost use Rattle.gob_stream.specs.Session.{FeedAnswers, FeedsHonestlyFrom, FinishAnswers, StepAnswers};
 
@@ -119,7 +119,7 @@ impl<B: Builder> Session<B> {
             → (result ≡ Err Fault.Failed) × StaysAsItWas self.old self.new × (out.new ≡ out.old) }
         ensures limits { limits_of self.new ≡ limits_of self.old }
     {
-        if matches!(self.stage, Stage::Failed) {
+        if self.has_failed() {
             return Err(Fault::Failed);
         }
         let mut used = 0;
@@ -142,15 +142,14 @@ impl<B: Builder> Session<B> {
         Ok(())
     }
 
-    /// Takes some bytes from the front of the piece, one at least, and none behind the end of an item.
+    /// Takes some bytes from the front of the piece, one at least where it has any, and none behind the end of an item.
     /// A refusal comes in the call that is given the last of the bytes that show it, and never says `Ended`.
     /// After a fault each call answers [`Fault::Failed`].
     pub fn step(&mut self, alloc: Global, piece: &[u8]) -> Result<Step<B::Out>, Fault>
-        requires { 0 < length piece.now }
         ensures advances { (items : List StreamItem) (bytes : List ℕ)
             → HasRead B.building self.old items bytes
             → StepAnswers B.building self.old self.new items bytes piece.now result }
-        ensures used { IfOk result (λ step. (0 < step.used) × (step.used ≤ length piece.now)) }
+        ensures used { IfOk result (λ step. (0 < length piece.now → 0 < step.used) × (step.used ≤ length piece.now)) }
         ensures whole { length piece.now ≤ wanted_of self.old → IfOk result (λ step. step.used ≡ length piece.now) }
         ensures between { IfOk result (λ step. IfSome step.item (λ _. IsBetweenItems self.new)) }
         ensures failed { OnErr result (HasFailed self.new) }
@@ -160,6 +159,15 @@ impl<B: Builder> Session<B> {
         ensures taken { OnErr result (taken_of self.new ≡ taken_of self.old) }
         ensures limits { limits_of self.new ≡ limits_of self.old }
     {
+        if self.has_failed() {
+            return Err(Fault::Failed);
+        }
+        if piece.is_empty() {
+            return Ok(Step {
+                used: 0,
+                item: None,
+            });
+        }
         // its contract says that no stream is so long that the sum wraps
         let _most = self.limits.stream();
         let around = Around {
@@ -228,6 +236,14 @@ impl<B: Builder> Session<B> {
             return Err(Fault::Memory);
         }
         Ok(())
+    }
+
+    /// Whether there was a fault. If not, it has read some bytes.
+    pub(crate) fn has_failed(&self) -> bool
+        ensures failed { MatchBool result (HasFailed self.now) (¬ HasFailed self.now) }
+        ensures has_read { ¬ HasFailed self.now → HasReadSome B.building self.now }
+    {
+        matches!(self.stage, Stage::Failed)
     }
 
     /// From now on nothing more is read.

@@ -69,7 +69,7 @@ impl<B: Builder> Stage<B> {
         table: &mut Table,
         piece: &[u8],
     ) -> Result<Stepped<B>, Fault>
-        requires has_read { ¬ (self ≡ Stage.Failed) → IsWithinItem B.building.received tree_building.received
+        requires has_read { IsWithinItem B.building.received tree_building.received
             (no_deeper B.DEPTH around.now.limits) table.old around.now.taken self }
         requires some { 0 < length piece.now }
         ensures { StageAnswers B.building.received tree_building.received B.building.means
@@ -82,7 +82,8 @@ impl<B: Builder> Stage<B> {
             Stage::TypeNumber(type_number) => type_number.take(around, table, piece),
             Stage::Value(value) => value.take(around, table, piece),
             Stage::Description(description) => description.take(around, table, piece),
-            Stage::Failed => Err(Fault::Failed),
+            // behind a fault nothing is read
+            Stage::Failed => unreachable!(),
         }
     }
 }

@@ -1,5 +1,5 @@
 -- A step of a reader over the front of a piece.
-use Rattle.std.proofs.Common.{◌≡◌, ◌≢◌, ℕ, ◌+◌, ◌<◌, ◌≤◌, List, [], ◌++◌, length, take, Option, IfSome, Result, Ok, Err, arith, refl, sym, ap, ◌∙◌, subst, append_assoc, length-append}
+use Rattle.std.proofs.Common.{◌≡◌, ℕ, ◌+◌, ◌<◌, ◌≤◌, List, [], ◌++◌, length, take, Option, None, IfSome, Result, Ok, Err, arith, refl, sym, ap, ◌∙◌, subst, append_assoc, length-append}
 use Rattle.std.proofs.lemmas.List.{append-nil, length-take}
 use Rattle.gob_num.specs.Unsigned.{IsUnsignedFront}
 use Rattle.gob_num.proofs.PublicLaws.{begins_front, unsigned_length}
@@ -9,10 +9,8 @@ use Rattle.gob_types.specs.Table.{Table}
 use Rattle.gob_value.specs.Tree.{Tree}
 use Rattle.gob_read.specs.declared.tree_builder.TreeBuilder.{TreeBuilder}
 use Rattle.gob_stream.specs.declared.fault.Fault.{Fault}
-use Rattle.gob_stream.specs.declared.fault.Fault.TheVariants as fault
 use Rattle.gob_stream.specs.declared.item.Item as declared
 use Rattle.gob_stream.specs.declared.stage.Stage.{Stage}
-use Rattle.gob_stream.specs.declared.stage.Stage.TheVariants as stage
 use Rattle.gob_stream.specs.Machine.Stages.{count_at}
 use Rattle.gob_stream.specs.declared.stage.Stepped.{Stepped}
 use Rattle.gob_stream.specs.Machine.SessionState.{SessionState}
@@ -20,13 +18,12 @@ use Rattle.gob_stream.specs.Bounds.{Bounds, no_deeper}
 use Rattle.gob_stream.specs.Item.{StreamItem}
 use Rattle.gob_stream.specs.Body.{Body, definition, value}
 use Rattle.gob_stream.specs.Stream.{IsItem, counted, AreItems, no_more, and_then, Stream}
-use Rattle.gob_stream.specs.Machine.HasRead.{Received, StageHasRead, in_count, in_type_number, in_value, in_description, SessionHasRead, IsUsable, has_failed, stands_after}
+use Rattle.gob_stream.specs.Machine.HasRead.{Received, StageHasRead, in_count, in_type_number, in_value, in_description, SessionHasRead, SessionHasReadSome, IsUsable, stands_after}
 use Rattle.gob_stream.specs.Machine.Between.{IsBetween}
-use Rattle.gob_stream.specs.Machine.ReadParts.{IsWithinItem, StepsOn, goes_on, gives, refuses_it, no_memory, StageTakesOn, StageAnswers, takes, fails, bytes_wanted, AdvancesOver, over_some, over_item, Advances}
+use Rattle.gob_stream.specs.Machine.ReadParts.{IsWithinItem, StepsOn, goes_on, gives, refuses_it, no_memory, StageTakesOn, StageAnswers, bytes_wanted, AdvancesOver, over_some, over_item, Advances}
 use Rattle.gob_stream.proofs.Stream.StreamLaws.{one_more}
 use Rattle.gob_stream.proofs.Reader.ValueSteps.{lies}
 use Rattle.gob_stream.proofs.Reader.UnderWayLaws.{after_refused}
-use Rattle.gob_stream.proofs.Reader.StageSteps.{parts}
 
 -- ---- what a stream leaves behind it
 record Grown (T U : Table) : Type 0 where
@@ -59,10 +56,6 @@ item_of a =
       within = (let n = ends_within a.stream (omega arith) in omega arith);
       known = record { base = record { more = g.more; grown = g.grown }; most = a.room };
     }
-
-pub usable_item : {X O : Type 0} {received : Received X} {trees : Received TreeBuilder} {most : ℕ} {s : SessionState X O} → IsUsable received trees most s → s.stage ≢ stage.Failed → IsWithinItem received trees (no_deeper most s.limits) s.types s.taken s.stage
-usable_item (has_failed e) n = absurd (n e)
-usable_item (stands_after a) n = item_of a
 
 -- ---- the bytes of an item end within the limit, but for a count's
 pub in_bound : {X O : Type 0} {received : Received X} {trees : Received TreeBuilder} {L : Bounds} {T : Table} {offset : ℕ} {expects : Stage X O} {z : List ℕ} → StageHasRead received trees L T offset expects z → offset ≤ L.stream → offset + length z ≤ L.stream + 9
@@ -105,7 +98,7 @@ pub advanced : {X O : Type 0} {received : Received X} {trees : Received TreeBuil
     → AdvancesOver received trees means most (moved s d stepped) items bytes piece stepped.used stepped.item
 advanced {received = received} {trees = trees} {most = most} {s = s} {d = d} {items = items} {bytes = bytes} {piece = piece} a (goes_on {expects = expects} {used = used} e k st) some =
     let t = a.taken in let same = ap types e in
-    over_some some k (record {
+    over_some (λ more. some) k (record {
       front = a.front;
       under_way = a.under_way ++ take used piece;
       whole = ap (λ l. l ++ take used piece) a.whole ∙ append_assoc a.front a.under_way (take used piece);
@@ -129,12 +122,11 @@ advanced {X = X} {O = O} {received = received} {trees = trees} {most = most} {s 
       room = m ∙ a.room;
     })
 
-pub usable_on : {X O : Type 0} {received : Received X} {trees : Received TreeBuilder} {means : O → Tree → Type 0} {most : ℕ} {s s' : SessionState X O} {piece : List ℕ} {used : ℕ} {given : Option (declared.Item O)} → IsUsable received trees most s → s.stage ≢ stage.Failed
+pub usable_on : {X O : Type 0} {received : Received X} {trees : Received TreeBuilder} {means : O → Tree → Type 0} {most : ℕ} {s s' : SessionState X O} {piece : List ℕ} {used : ℕ} {given : Option (declared.Item O)} → SessionHasReadSome received trees most s
     → ((items : List StreamItem) (bytes : List ℕ) → SessionHasRead received trees most s items bytes → AdvancesOver received trees means most s' items bytes piece used given) → IsUsable received trees most s'
-usable_on (has_failed e) n f = absurd (n e)
-usable_on {received = received} {trees = trees} {means = means} {most = most} {s' = s'} {piece = piece} (stands_after {items = items} {bytes = bytes} a) n f = over (f items bytes a)
+usable_on {received = received} {trees = trees} {means = means} {most = most} {s' = s'} {piece = piece} a f = over (f a.items a.bytes a.after)
   where
-    over : {used : ℕ} {given : Option (declared.Item _)} → AdvancesOver received trees means most s' items bytes piece used given → IsUsable received trees most s'
+    over : {used : ℕ} {given : Option (declared.Item _)} → AdvancesOver received trees means most s' a.items a.bytes piece used given → IsUsable received trees most s'
     over (over_some p l b) = stands_after b
     over (over_item p l w b) = stands_after b
 
@@ -143,14 +135,6 @@ pub stopped_by : {X O : Type 0} {received : Received X} {trees : Received TreeBu
     → StepsOn {X = X} {O = O} received trees means (no_deeper most s.limits) s.types (length a.front) a.under_way piece d (Err f) → Advances received trees means most s s' items bytes piece (Err f)
 stopped_by {piece = piece} s' a (refuses_it e q n) = let r = after_refused piece a q in (record { outcome = r.0; shown = n }, r.1)
 stopped_by s' a (no_memory e) = tt
-
--- what has neither grown nor moved is as it was
-pub stays_there : {X O : Type 0} {s t : SessionState X O} {d : Defined} {expects : Stage X O} → d ≡ s.types → expects ≡ s.stage → s ≡ t
-    → record { limits = s.limits; types = d; taken = s.taken; stage = expects } ≡ t
-stays_there {X = X} {O = O} {s = s} {expects = expects} e f there =
-    let with_types : Defined → SessionState X O = λ d. record { limits = s.limits; types = d; taken = s.taken; stage = expects } in
-    let with_stage : Stage X O → SessionState X O = λ st. record { limits = s.limits; types = s.types; taken = s.taken; stage = st } in
-    ap with_types e ∙ ap with_stage f ∙ there
 
 pub stands_there : {X O : Type 0} {received : Received X} {trees : Received TreeBuilder} {L : Bounds} {T : Table} {offset : ℕ} {old now : Stage X O} {z : List ℕ} → now ≡ old → StageHasRead received trees L T offset old z → StageHasRead received trees L T offset now z
 stands_there {received = received} {trees = trees} {L = L} {T = T} {offset = offset} {z = z} e s = subst (λ st. StageHasRead received trees L T offset st z) (sym e) s
@@ -163,26 +147,15 @@ module _ {X O : Type 0} {received : Received X} {trees : Received TreeBuilder} {
   -- behind some bytes of an item
   pub takes_on : {L : Bounds} {d d' : Defined} {taken offset : ℕ} {old now : Stage X O} {z piece : List ℕ} {result : Result (Stepped X O) Fault} → now ≡ old → StageAnswers received trees means L d taken now piece d' result → StageHasRead received trees L (types d) offset old z
       → StageTakesOn received trees means L d offset z piece (bytes_wanted now taken) d' result
-  takes_on e (takes n r) s = r _ _ (stands_there e s)
-  takes_on e (fails f r k) s = absurd (parts f (stands_there e s))
-
-  -- behind a fault
-  pub failed_answers : {L : Bounds} {d d' : Defined} {taken : ℕ} {expects : Stage X O} {piece : List ℕ} {f : Fault} → expects ≡ stage.Failed → StageAnswers received trees means L d taken expects piece d' (Err f)
-      → (f ≡ fault.Failed) × (d' ≡ d)
-  failed_answers e (takes n r) = absurd (n e)
-  failed_answers e (fails q r k) = ((cc), k)
-
-  -- a step that takes something isn't behind one
-  pub takes_sound : {L : Bounds} {d d' : Defined} {taken : ℕ} {expects : Stage X O} {piece : List ℕ} {stepped : Stepped X O} → StageAnswers received trees means L d taken expects piece d' (Ok stepped) → expects ≢ stage.Failed
-  takes_sound (takes n r) e = n e
-  takes_sound (fails f r k) e = cc
+  takes_on e r s = r.each _ _ (stands_there e s)
 
   -- one that stops leaves the types as they were
-  stops_alike : {L : Bounds} {d d' : Defined} {offset : ℕ} {z piece : List ℕ} {f : Fault} → StepsOn {X = X} {O = O} received trees means L d offset z piece d' (Err f) → d' ≡ d
+  pub stops_alike : {L : Bounds} {d d' : Defined} {offset : ℕ} {z piece : List ℕ} {f : Fault} → StepsOn {X = X} {O = O} received trees means L d offset z piece d' (Err f) → d' ≡ d
   stops_alike (refuses_it e q n) = e
   stops_alike (no_memory e) = e
 
-  pub stops_with_types : {most : ℕ} {s : SessionState X O} {d' : Defined} {now : Stage X O} {piece : List ℕ} {f : Fault} → IsUsable received trees most s → now ≡ s.stage
-      → StageAnswers received trees means (no_deeper most s.limits) s.types s.taken now piece d' (Err f) → d' ≡ s.types
-  stops_with_types (has_failed f) e r = (failed_answers (e ∙ f) r).1
-  stops_with_types (stands_after a) e r = stops_alike (takes_on e r a.stage).steps
+-- where the piece has no byte there is no step
+pub over_nothing : {X O : Type 0} {received : Received X} {trees : Received TreeBuilder} {means : O → Tree → Type 0} {most : ℕ} {s : SessionState X O} {items : List StreamItem} {bytes piece : List ℕ} → length piece ≡ 0 → SessionHasRead received trees most s items bytes
+    → AdvancesOver received trees means most s items bytes piece 0 None
+over_nothing {received = received} {trees = trees} {most = most} {s = s} {items = items} {bytes = bytes} none a =
+    over_some (λ some. omega arith) (omega arith) (subst (λ b. SessionHasRead received trees most s items b) (sym (append-nil bytes)) a)

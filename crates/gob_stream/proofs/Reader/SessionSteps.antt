@@ -29,7 +29,7 @@ use Rattle.gob_stream.specs.Devices.{counts_up}
 use Rattle.gob_stream.specs.Item.{StreamItem, ItemMeans}
 use Rattle.gob_stream.specs.Stream.{IsItem, counted, AreItems, no_more, and_then, Stream}
 use Rattle.gob_stream.specs.Outcome.{LongestStream, LongestButLast, RefusesNext, EndsSo, at_the_end, Outcome, the_end, refused}
-use Rattle.gob_stream.specs.Machine.HasRead.{Received, StageHasRead, in_count, in_type_number, in_value, in_description, IsCount, SessionHasRead, IsUsable, has_failed, stands_after}
+use Rattle.gob_stream.specs.Machine.HasRead.{Received, StageHasRead, in_count, in_type_number, in_value, in_description, IsCount, SessionHasRead, SessionHasReadSome, IsUsable, has_failed, stands_after}
 use Rattle.gob_stream.specs.Reading.{Taken, SomeTaken, ShowsRefusal, IsNoFurther, up_to_the_last_shown, within_the_item, EndsInItem, ReadingGivesNext, shown, ended, StopsNext, ReadsNext, TakesNext, ReadingFinishes, CountsReads}
 use Rattle.gob_stream.specs.Machine.Between.{IsBetween}
 use Rattle.gob_stream.specs.Machine.ReadParts.{Advances, AdvancesOver, over_some, over_item, bytes_wanted}
@@ -95,11 +95,6 @@ all_taken {now = now} e f p = let t = known_taken e p in all_of t (subst IsAtEnd
 pub record StoodOn {X O : Type 0} (received : Received X) (trees : Received TreeBuilder) (most : ℕ) (s s' : SessionState X O) (old now : Option (List ℕ)) : Type 0 where
   pub each : (items : List StreamItem) (bytes : List ℕ) → SessionHasRead received trees most s items bytes
       → SomeConsumed old now (λ more. SessionHasRead received trees most s' items (bytes ++ more))
-
-pub record SessionHasReadSome {X O : Type 0} (received : Received X) (trees : Received TreeBuilder) (most : ℕ) (s : SessionState X O) : Type 0 where
-  pub items : List StreamItem
-  pub bytes : List ℕ
-  pub after : SessionHasRead received trees most s items bytes
 
 pub somewhere : {X O : Type 0} {received : Received X} {trees : Received TreeBuilder} {most : ℕ} {s : SessionState X O} → IsUsable received trees most s → IsSound s → SessionHasReadSome received trees most s
 somewhere (has_failed f) n = absurd (n f)

@@ -1,5 +1,5 @@
 -- What is known of a reader by what it expects, and what becomes of it where a piece is taken.
-use Rattle.std.proofs.Common.{◌≡◌, ◌≢◌, ℕ, pos, negsuc, ◌+◌, ◌-◌, ◌<◌, ◌≤◌, min, List, [], ◌++◌, length, take, Result, Ok, Err, IfOk, arith, refl, sym, ap, ◌∙◌, subst, length-append}
+use Rattle.std.proofs.Common.{◌≡◌, ◌≢◌, ℕ, pos, negsuc, ◌+◌, ◌-◌, ◌<◌, ◌≤◌, min, List, [], ◌++◌, length, take, Result, Ok, Err, IfOk, arith, refl, sym, ap, subst, length-append}
 use Rattle.std.proofs.lemmas.List.{append-nil, length-take}
 use Rattle.gob_num.specs.Unsigned.{IsUnsignedFront}
 use Rattle.gob_num.specs.Signed.{IsSigned}
@@ -31,7 +31,7 @@ use Rattle.gob_stream.specs.Refusing.{refuses, RefusesCount, item_too_long, stre
 use Rattle.gob_stream.specs.Refusing as refusing
 use Rattle.gob_stream.specs.Outcome.{RefusesNext, refused_count, refused_body}
 use Rattle.gob_stream.specs.Machine.HasRead.{Received, StageHasRead, in_count, in_type_number, in_value, in_description, IsCount, IsRest, BodyHasRead, size}
-use Rattle.gob_stream.specs.Machine.ReadParts.{CountGoesOn, more_of_count, whole_count, IsCountRefused, count_refused, empty_body, CountAnswers, AreTypes, IsWithinItem, HasWireType, ReadsValueIn, value_goes_on, value_ends, value_refused, no_memory_for_value, ReadsDescription, description_goes_on, description_ends, description_refused, describes_nothing, no_memory_for_description, StepsOn, goes_on, refuses_it, StageTakesOn, StageAnswers, takes}
+use Rattle.gob_stream.specs.Machine.ReadParts.{CountGoesOn, more_of_count, whole_count, IsCountRefused, count_refused, empty_body, CountAnswers, AreTypes, IsWithinItem, HasWireType, ReadsValueIn, value_goes_on, value_ends, value_refused, no_memory_for_value, ReadsDescription, description_goes_on, description_ends, description_refused, describes_nothing, no_memory_for_description, StepsOn, goes_on, refuses_it, StageTakesOn, StageAnswers}
 use Rattle.gob_stream.proofs.Reader.ValueSteps.{stands_as, lies, value_steps}
 use Rattle.gob_stream.proofs.Reader.DefinitionSteps.{description_steps}
 use Rattle.gob_stream.proofs.Reader.NumberSteps.{number_taken}
@@ -94,7 +94,7 @@ parts_of (in_description k n s r p b) = record { m = _; n = _; c = _; a = _; y =
 pub parts : {X O : Type 0} {received : Received X} {trees : Received TreeBuilder} {L : Bounds} {T : Table} {offset : ℕ} {expects now : Stage X O} {z : List ℕ} → expects ≡ now → StageHasRead received trees L T offset expects z → PartsOf received trees L T offset now z
 parts {received = received} {trees = trees} {L = L} {T = T} {offset = offset} {z = z} e s = subst (λ expects. PartsOf received trees L T offset expects z) e (parts_of s)
 
--- ---- what is known of a reader that hasn't failed
+-- ---- what is known of a reader within an item
 -- some bytes of an item were taken, with which it expects this, and so many bytes of the stream
 pub record UnderWay {X O : Type 0} (received : Received X) (trees : Received TreeBuilder) (L : Bounds) (d : Defined) (taken : ℕ) (expects : Stage X O) : Type 0 where
   pub offset : ℕ
@@ -104,24 +104,9 @@ pub record UnderWay {X O : Type 0} (received : Received X) (trees : Received Tre
   pub within : offset ≤ L.stream
   pub known : AreTypes L d
 
-under_way : {X O : Type 0} {received : Received X} {trees : Received TreeBuilder} {L : Bounds} {d : Defined} {taken : ℕ} {expects now : Stage X O} → expects ≡ now → now ≢ stage.Failed
-    → (expects ≢ stage.Failed → IsWithinItem received trees L d taken expects) → UnderWay received trees L d taken now
-under_way e n within =
-    let w = within (λ f. n (sym e ∙ f)) in
-    record { offset = w.offset; bytes = w.bytes; parts = parts e w.in_item; taken_is = w.taken_is; within = w.within; known = w.known }
-
-module _ {X O : Type 0} {received : Received X} {trees : Received TreeBuilder} {L : Bounds} {d : Defined} {taken : ℕ} {expects : Stage X O} where
-  pub count_under_way : {at : CountStage} → expects ≡ stage.Count at → (expects ≢ stage.Failed → IsWithinItem received trees L d taken expects) → UnderWay {X = X} {O = O} received trees L d taken (stage.Count at)
-  count_under_way e w = under_way e (λ f. cc) w
-
-  pub number_under_way : {at : TypeNumberStage} → expects ≡ stage.TypeNumber at → (expects ≢ stage.Failed → IsWithinItem received trees L d taken expects) → UnderWay {X = X} {O = O} received trees L d taken (stage.TypeNumber at)
-  number_under_way e w = under_way e (λ f. cc) w
-
-  pub value_under_way : {at : ValueStage X O} → expects ≡ stage.Value at → (expects ≢ stage.Failed → IsWithinItem received trees L d taken expects) → UnderWay received trees L d taken (stage.Value at)
-  value_under_way e w = under_way e (λ f. cc) w
-
-  pub description_under_way : {at : DescriptionStage} → expects ≡ stage.Description at → (expects ≢ stage.Failed → IsWithinItem received trees L d taken expects) → UnderWay {X = X} {O = O} received trees L d taken (stage.Description at)
-  description_under_way e w = under_way e (λ f. cc) w
+pub under_way : {X O : Type 0} {received : Received X} {trees : Received TreeBuilder} {L : Bounds} {d : Defined} {taken : ℕ} {expects now : Stage X O} → expects ≡ now → IsWithinItem received trees L d taken expects
+    → UnderWay received trees L d taken now
+under_way e w = record { offset = w.offset; bytes = w.bytes; parts = parts e w.in_item; taken_is = w.taken_is; within = w.within; known = w.known }
 
 -- ---- a count
 no_bytes : IsUnsignedFront []
@@ -235,7 +220,7 @@ module _ {X O : Type 0} {received : Received X} {trees : Received TreeBuilder} {
 
   pub count_answers : {L M : Bounds} {d : Defined} {taken : ℕ} {expects : Stage X O} {at : CountStage} {piece : List ℕ} {result : Result (Stepped X O) Fault} → expects ≡ stage.Count at
       → SameRoom L M → 0 < length piece → CountAnswers L at.begin at.number piece result → StageAnswers received trees means M d taken expects piece d result
-  count_answers e w l s = answers_by e (takes (λ f. cc) (λ offset z t. count_takes w l s (parts refl t)))
+  count_answers e w l s = answers_by e (record { each = λ offset z t. count_takes w l s (parts refl t) })
 
   -- a type number
   number_takes : {L : Bounds} {d d' : Defined} {offset : ℕ} {at : TypeNumberStage} {z piece : List ℕ} {result : Result (Stepped X O) Fault}
@@ -244,7 +229,7 @@ module _ {X O : Type 0} {received : Received X} {trees : Received TreeBuilder} {
 
   pub number_answers : {L : Bounds} {d d' : Defined} {taken : ℕ} {expects : Stage X O} {at : TypeNumberStage} {piece : List ℕ} {result : Result (Stepped X O) Fault} → expects ≡ stage.TypeNumber at
       → ((offset m : ℕ) (c : List ℕ) → IsCount L offset m c at.body → StageTakesOn received trees means L d offset (c ++ at.number) piece 1 d' result) → StageAnswers received trees means L d taken expects piece d' result
-  number_answers e r = answers_by e (takes (λ f. cc) (λ offset z t. number_takes r (parts refl t)))
+  number_answers e r = answers_by e (record { each = λ offset z t. number_takes r (parts refl t) })
 
   -- a value
   value_taken : {L : Bounds} {d : Defined} {offset : ℕ} {at : ValueStage X O} {z piece : List ℕ} {result : Result (Stepped X O) Fault}
@@ -290,9 +275,9 @@ module _ {X O : Type 0} {received : Received X} {trees : Received TreeBuilder} {
   pub value_answers : {L : Bounds} {d : Defined} {taken : ℕ} {expects : Stage X O} {at : ValueStage X O} {piece : List ℕ} {result : Result (Stepped X O) Fault} → expects ≡ stage.Value at
       → UnderWay received trees L d taken (stage.Value at) → 0 < length piece
       → ((limit : ℕ) (y : List ℕ) → ReaderHasRead (types d) at.id limit (size at.rest) received at.reader.run y → ReadsValueIn received means (types d) at.id limit at.rest y piece result) → StageAnswers received trees means L d taken expects piece d result
-  value_answers e w l r = answers_by e (takes (λ f. cc) (λ offset z t. value_takes w l r (parts refl t)))
+  value_answers e w l r = answers_by e (record { each = λ offset z t. value_takes w l r (parts refl t) })
 
   pub description_answers : {L : Bounds} {d d' : Defined} {taken : ℕ} {expects : Stage X O} {at : DescriptionStage} {piece : List ℕ} {result : Result (Stepped X O) Fault} → expects ≡ stage.Description at
       → UnderWay {X = X} {O = O} received trees L d taken (stage.Description at) → 0 < length piece
       → ((limit : ℕ) (y : List ℕ) → ReaderHasRead (types d) wire_type limit (size at.rest) trees at.reader.run y → ReadsDescription trees d at.id limit at.rest y piece d' result) → StageAnswers received trees means L d taken expects piece d' result
-  description_answers e w l r = answers_by e (takes (λ f. cc) (λ offset z t. description_takes w l r (parts refl t)))
+  description_answers e w l r = answers_by e (record { each = λ offset z t. description_takes w l r (parts refl t) })

@@ -1,5 +1,5 @@
 -- Where a session stands between two items, and behind those that it passes.
-use Rattle.std.specs.Prelude.{◌≡◌, ℕ, ◌+◌, ◌≤◌, List, ◌++◌, length, take}
+use Rattle.std.specs.Prelude.{◌≡◌, ℕ, ◌≤◌, List, ◌++◌, length, take}
 use Rattle.gob_read.specs.declared.tree_builder.TreeBuilder.{TreeBuilder}
 use Rattle.gob_stream.specs.Machine.Stages.{count_at}
 use Rattle.gob_stream.specs.Machine.SessionState.{SessionState}

@@ -73,6 +73,12 @@ pub record SessionHasRead {X O : Type 0} (received : Received X) (trees : Receiv
   pub taken : s.taken ≡ length bytes
   pub room : s.types.most ≡ s.limits.types
 
+-- it has given some items, and taken some bytes
+pub record SessionHasReadSome {X O : Type 0} (received : Received X) (trees : Received TreeBuilder) (most : ℕ) (s : SessionState X O) : Type 0 where
+  pub items : List StreamItem
+  pub bytes : List ℕ
+  pub after : SessionHasRead received trees most s items bytes
+
 -- the reader stands after some bytes, or has met a fault
 pub data IsUsable {X O : Type 0} (received : Received X) (trees : Received TreeBuilder) (most : ℕ) (s : SessionState X O) : Type 0 where
   has_failed : s.stage ≡ stage.Failed → IsUsable received trees most s

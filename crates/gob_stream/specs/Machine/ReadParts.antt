@@ -183,15 +183,12 @@ bytes_wanted (stage.Description description) taken = description.rest.end - take
 bytes_wanted _ taken = 1
 
 -- what a step over a piece answers, where this was expected behind so many bytes of the stream
-pub data StageAnswers {X O : Type 0} (received : Received X) (trees : Received TreeBuilder) (means : O → Tree → Type 0) (L : Bounds) (d : Defined) (taken : ℕ) (expects : Stage X O) (piece : List ℕ) (d' : Defined) (result : Result (Stepped X O) Fault) : Type 0 where
-  takes : expects ≢ stage.Failed → ((offset : ℕ) (z : List ℕ) → StageHasRead received trees L (types d) offset expects z → StageTakesOn received trees means L d offset z piece (bytes_wanted expects taken) d' result)
-      → StageAnswers received trees means L d taken expects piece d' result
-  -- there was a fault, so there is another one, and nothing has changed
-  fails : expects ≡ stage.Failed → result ≡ Err fault.Failed → d' ≡ d → StageAnswers received trees means L d taken expects piece d' result
+pub record StageAnswers {X O : Type 0} (received : Received X) (trees : Received TreeBuilder) (means : O → Tree → Type 0) (L : Bounds) (d : Defined) (taken : ℕ) (expects : Stage X O) (piece : List ℕ) (d' : Defined) (result : Result (Stepped X O) Fault) : Type 0 where
+  pub each : (offset : ℕ) (z : List ℕ) → StageHasRead received trees L (types d) offset expects z → StageTakesOn received trees means L d offset z piece (bytes_wanted expects taken) d' result
 
--- the front of the piece was taken, one byte at least, and an item is whole with it or not
+-- the front of the piece was taken, one byte at least of a piece that has any, and an item is whole with it or not
 pub data AdvancesOver {X O : Type 0} (received : Received X) (trees : Received TreeBuilder) (means : O → Tree → Type 0) (most : ℕ) (s' : SessionState X O) (items : List StreamItem) (bytes piece : List ℕ) : ℕ → Option (declared.Item O) → Type 0 where
-  over_some : {used : ℕ} → 0 < used → used ≤ length piece → SessionHasRead received trees most s' items (bytes ++ take used piece)
+  over_some : {used : ℕ} → (0 < length piece → 0 < used) → used ≤ length piece → SessionHasRead received trees most s' items (bytes ++ take used piece)
       → AdvancesOver received trees means most s' items bytes piece used None
   over_item : {used : ℕ} {given : declared.Item O} {i : StreamItem} → 0 < used → used ≤ length piece → ItemMeans means given i
       → SessionHasRead received trees most s' (items ++ i ∷ []) (bytes ++ take used piece) → AdvancesOver received trees means most s' items bytes piece used (Some given)

@@ -1,15 +1,14 @@
-use Rattle.std.proofs.Common.{◌≢◌, ℕ, List, ◌<◌, ◌++◌, length, take, drop, Some, Ok, Err, inl, inr, arith, refl, sym, ap, ◌∙◌}
+use Rattle.std.proofs.Common.{ℕ, List, ◌<◌, ◌++◌, length, take, drop, Some, Ok, Err, inl, inr, arith, refl, sym, ap, ◌∙◌}
 use Rattle.std.proofs.lemmas.Grind.{common_steps}
 use Rattle.std.specs.Io.KnownBytes.{Consumes}
 use Rattle.gob_types.specs.Defined.{types}
-use Rattle.gob_stream.specs.declared.stage.Stage.TheVariants as stage
 use Rattle.gob_stream.specs.Reading.{ReadsNext, TakesNext}
 use Rattle.gob_stream.specs.Machine.ReadParts.{bytes_wanted}
 use Rattle.gob_stream.proofs.Reader.HonestLaws.{reads_honestly}
-use Rattle.gob_stream.proofs.Reader.SessionSteps.{told_trees, types_stay, on_err, consumed_nothing, all_taken, somewhere, stood_first, after_room, stood_on, passed_on, IsRead, piece_length, piece_consumed, Stepped, stepped, stood_before, step_stops, read_stops, end_stops, counts_none, step_unread, end_unread, nothing_more, step_gives, gives_taken, step_taken, item_within, no_less, stood_further, sound_after}
+use Rattle.gob_stream.proofs.Reader.SessionSteps.{told_trees, types_stay, on_err, consumed_nothing, all_taken, stood_first, after_room, stood_on, passed_on, IsRead, piece_length, piece_consumed, Stepped, stepped, stood_before, step_stops, read_stops, end_stops, counts_none, step_unread, end_unread, nothing_more, step_gives, gives_taken, step_taken, item_within, no_less, stood_further, sound_after}
 use Rattle.gob_stream.proofs.session.Session.read_item.Given as given
 use Rattle.gob_stream.proofs.session.Session.read_item.Goals as goal
-use Rattle.gob_stream.proofs.session.Session.read_item.Goals.{in-Failed, in_default, In-Ok, In_err-step-in-Ok, In_ok-step-in-Ok}
+use Rattle.gob_stream.proofs.session.Session.read_item.Goals.{In-Ok, In_err-step-in-Ok, In_ok-step-in-Ok}
 
 -- so many bytes were read, and no more than are wanted
 read_some : (g : given.Over) (c : goal.In-Ok g) → IsRead c.in-Ok.n (bytes_wanted c.pieces.self.stage c.pieces.self.taken) c.read.new.buf
@@ -34,10 +33,9 @@ taken_step g c read = stepped g.B.Builder.building.received told_trees g.B.Build
 
 pub pieces-init : goal.pieces-init
 pieces-init g c =
-    let sound : c.self.inside.stage ≢ stage.Failed = elim c.match-matches.branch [ in-Failed w ↦ (let t = w.matches-is in let f = c.if-matches.false in λ e. cc) | in_default w ↦ w.in_default.not-Failed ] in
     record {
       chunk = refl;
-      began = rw (← c.self.view_is) (somewhere c.self.invariant sound);
+      began = c.has_failed.ensures.has_read c.if-has_failed.ensures.failed;
       stood = stood_first _;
       limits = refl;
       failures = refl;
@@ -164,7 +162,7 @@ pieces-preserved g c =
     let less = no_less c.pieces.invariant.grown in
     let more = read.some in
     let taken = consumed g (goal.at.pieces-preserved g c).In-Ok in
-    let stood = stood_further _ c.in_ok-step-in-Ok.step taken step used c.in_default-item.is c.pieces.invariant.stood in
+    let stood = stood_further _ c.in_ok-step-in-Ok.step taken step used c.in_default.is c.pieces.invariant.stood in
     record {
       chunk = grind (arith, common_steps);
       began = c.pieces.invariant.began;

@@ -1,6 +1,7 @@
 use Rattle.std.proofs.Common.{◌≡◌, ◌+◌, ◌-◌, ◌<◌, ◌⊎◌, length}
 use Rattle.gob_stream.specs.Devices.{counts_up}
-use Rattle.gob_stream.proofs.Reader.SessionSteps.{StoodOn, SessionHasReadSome, told_trees}
+use Rattle.gob_stream.specs.Machine.HasRead.{SessionHasReadSome}
+use Rattle.gob_stream.proofs.Reader.SessionSteps.{StoodOn, told_trees}
 use Rattle.gob_stream.proofs.session.Session.read_item.Given as goal
 
 abbrev pub invariant-pieces : goal.invariant-pieces
