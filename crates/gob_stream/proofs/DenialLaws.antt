@@ -21,12 +21,15 @@ use Rattle.gob_value.specs.declared.fault.SpellFault.TheVariants as spelling
 use Rattle.gob_value.specs.Faults.{IsSpellFault}
 use Rattle.gob_value.specs.ShapeFaults.{IsShapeFault}
 use Rattle.gob_value.specs.Description.{Describes, Misdescribes}
-use Rattle.gob_stream.specs.declared.denial.Denial.{Denial}
-use Rattle.gob_stream.specs.declared.denial.Denial.TheVariants as denial
+use Rattle.gob_types.specs.declared.denial.Denial.{Denial}
+use Rattle.gob_types.specs.declared.denial.Denial.TheVariants as denial
 use Rattle.gob_stream.specs.Bounds.{Bounds}
 use Rattle.gob_stream.specs.Body.{MayDefine}
 use Rattle.gob_stream.specs.Machine.ReadParts.{DefineAnswers}
-use Rattle.gob_stream.specs.Machine.Denial.{IsDenial, AddAnswers, type_denial, description_denial, value_denial}
+use Rattle.gob_types.specs.Denial.{IsDenial, type_denial}
+use Rattle.gob_value.specs.Faults.{value_denial}
+use Rattle.gob_value.specs.ShapeFaults.{description_denial}
+use Rattle.gob_stream.specs.Machine.Denial.{AddAnswers}
 use Rattle.gob_stream.specs.WriterRefusal.{RefusesId, defined_twice, too_many, RefusesType, undefined, bottomless, RefusesValue, too_deep, does_not_fit}
 
 -- what refuses one refuses the other

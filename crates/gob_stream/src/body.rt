@@ -13,12 +13,12 @@ ghost use Rattle.gob_stream.specs.Machine.ReadParts.{fault_behind, DefineAnswers
 ghost use Rattle.gob_read.specs.UnderWay.{under_way};
 
 use crate::count::{CountStage, refusal};
-use crate::denial::{Denial, define_admitted};
+use crate::denial::define_admitted;
 use crate::fault::Fault;
 use crate::item::Item;
 use crate::stage::{Around, Extent, Stage, Stepped};
 use gob_read::{BodyReader, Builder, Progress, Stop, TreeBuilder};
-use gob_types::{Table, TypeId};
+use gob_types::{Denial, Table, TypeId};
 use gob_value::{Value, shape_from};
 use std::alloc::Global;
 
@@ -113,7 +113,7 @@ impl DescriptionStage {
                     stage: next_count(rest),
                     item: Some(Item::Define { id, described: out }),
                 }),
-                Err(denial) => Err(denial.at(rest.begin, rest.end)),
+                Err(denial) => Err(Fault::of(denial, rest.begin, rest.end)),
             },
             Err(stop) => Err(fault_of_stop(rest.begin, stop)),
         }

@@ -1,4 +1,4 @@
-//! Why an item isn't read, or isn't written: what refuses it, and which ids and types are refused.
+//! Why an item isn't read, or isn't written: which ids and types are refused, and what a denial is as a fault.
 
 ghost use Rattle.std.specs.Prelude.{◌≡◌, ◌^◌, ◌<◌, OnOk, MatchResult};
 ghost use Rattle.gob_types.specs.Base.{base_table};
@@ -7,32 +7,23 @@ ghost use Rattle.gob_types.specs.Defined.{types, IsTable, Admits};
 ghost use Rattle.gob_stream.specs.Bounds.{Bounds};
 ghost use Rattle.gob_stream.specs.Body.{MayDefine, MayPut};
 ghost use Rattle.gob_stream.specs.WriterRefusal.{RefusesId, RefusesType};
-ghost use Rattle.gob_stream.specs.declared.denial.Denial.{Denial};
-ghost use Rattle.gob_stream.specs.Machine.Denial.{AddAnswers};
-ghost use Rattle.gob_stream.specs.Machine.Denial.{IsDenial, fault_at, write_fault, type_denial, description_denial, value_denial};
+ghost use Rattle.gob_types.specs.declared.denial.Denial.{Denial};
+ghost use Rattle.gob_types.specs.Denial.{IsDenial};
+ghost use Rattle.gob_value.specs.Faults.{value_denial};
+ghost use Rattle.gob_stream.specs.Machine.Denial.{AddAnswers, fault_at, write_fault};
 
 use crate::count::refusal;
 use crate::fault::{Fault, WriteFault};
-use gob_num::Memory;
-use gob_types::{DefineFault, NotReady, Reason, Shape, Table, TypeId};
-use gob_value::{ShapeFault, SpellFault};
-use std::alloc::{AllocError, Global};
+use gob_types::{DefineFault, Denial, Reason, Shape, Table, TypeId};
+use gob_value::SpellFault;
+use std::alloc::Global;
 
-/// Why an item isn't read, or isn't written, wherever it stands.
-#[derive(Clone, Copy)]
-pub(crate) enum Denial {
-    /// It doesn't continue the stream.
-    Refused(Reason),
-    /// No memory was had.
-    Memory,
-}
-
-impl Denial {
-    /// The fault of a reader that meets it at the place, shown by so many bytes of the stream.
-    pub(crate) fn at(self, place: u64, seen: u64) -> Fault
-        ensures { result ≡ fault_at place seen self }
+impl Fault {
+    /// The fault of a reader that meets the denial at the place, shown by so many bytes of the stream.
+    pub(crate) fn of(denial: Denial, place: u64, seen: u64) -> Fault
+        ensures { result ≡ fault_at place seen denial }
     {
-        match self {
+        match denial {
             Denial::Refused(reason) => Fault::Refused(refusal(place, seen, reason)),
             Denial::Memory => Fault::Memory,
         }
@@ -46,68 +37,6 @@ impl From<Denial> for WriteFault {
         match denial {
             Denial::Refused(reason) => WriteFault::Refused(reason),
             Denial::Memory => WriteFault::Memory,
-        }
-    }
-}
-
-impl From<Reason> for Denial {
-    ghost from_gives = { λ reason denial. denial ≡ Denial.Refused reason };
-
-    fn from(reason: Reason) -> Denial {
-        Denial::Refused(reason)
-    }
-}
-
-impl From<Memory> for Denial {
-    ghost from_gives = { λ _ denial. denial ≡ Denial.Memory };
-
-    fn from(_: Memory) -> Denial {
-        Denial::Memory
-    }
-}
-
-impl From<AllocError> for Denial {
-    ghost from_gives = { λ _ denial. denial ≡ Denial.Memory };
-
-    fn from(_: AllocError) -> Denial {
-        Denial::Memory
-    }
-}
-
-impl From<NotReady> for Denial {
-    ghost from_gives = { λ fault denial. denial ≡ type_denial fault };
-
-    fn from(fault: NotReady) -> Denial {
-        match fault {
-            NotReady::UndefinedType(id) => Denial::Refused(Reason::UndefinedType(id)),
-            NotReady::Bottomless(id) => Denial::Refused(Reason::Bottomless(id)),
-            NotReady::Memory => Denial::Memory,
-        }
-    }
-}
-
-impl From<ShapeFault> for Denial {
-    ghost from_gives = { λ fault denial. denial ≡ description_denial fault };
-
-    fn from(fault: ShapeFault) -> Denial {
-        match fault {
-            ShapeFault::KindCount => Denial::Refused(Reason::KindCount),
-            ShapeFault::WrongId => Denial::Refused(Reason::WrongId),
-            ShapeFault::BadReference => Denial::Refused(Reason::BadReference),
-            ShapeFault::BadLength => Denial::Refused(Reason::BadLength),
-            ShapeFault::Memory => Denial::Memory,
-        }
-    }
-}
-
-impl From<SpellFault> for Denial {
-    ghost from_gives = { λ fault denial. denial ≡ value_denial fault };
-
-    fn from(fault: SpellFault) -> Denial {
-        match fault {
-            SpellFault::TooDeep => Denial::Refused(Reason::TooDeep),
-            SpellFault::DoesNotFit => Denial::Refused(Reason::DoesNotFit),
-            SpellFault::Memory => Denial::Memory,
         }
     }
 }

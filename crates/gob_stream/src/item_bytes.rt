@@ -12,14 +12,14 @@ ghost use Rattle.gob_value.specs.View.{view};
 ghost use Rattle.gob_stream.specs.Bounds.{Bounds, greatest_depth};
 ghost use Rattle.gob_stream.specs.Item.{defines, puts};
 ghost use Rattle.gob_stream.specs.Body.{Body};
-ghost use Rattle.gob_stream.specs.Machine.Denial.{IsDenial};
+ghost use Rattle.gob_types.specs.Denial.{IsDenial};
 ghost use Rattle.gob_stream.specs.WriterRefusal.{RefusesItem, RefusesType, WriterRefusesBody};
 ghost use Rattle.gob_stream.specs.Writing.{IsWholeItem, FitsLimits, HasStructs, IsHead, IsSpelledAs};
 
-use crate::denial::{Denial, judge_id, judge_type};
+use crate::denial::{judge_id, judge_type};
 use crate::limits::Limits;
 use gob_num::{Memory, write_int, write_uint};
-use gob_types::{Kind, Reason, Shape, Shapes, Table, TypeId};
+use gob_types::{Denial, Kind, Reason, Shape, Shapes, Table, TypeId};
 use gob_value::{Value, shape_from, spell};
 use std::alloc::Global;
 

@@ -178,7 +178,7 @@ fn front_of_value<B: Builder>(
         (c ++ a) piece.now table.now result }
 {
     if let Err(denial) = judge_type(around.alloc, table, id) {
-        return Err(denial.at(place, rest.begin));
+        return Err(Fault::of(denial, place, rest.begin));
     }
     match BodyReader::new(
         around.alloc,

@@ -33,9 +33,10 @@ use Rattle.gob_value.specs.Tree.{Tree}
 use Rattle.gob_value.specs.Description.{Misdescribes}
 use Rattle.gob_stream.specs.declared.fault.Fault.{Fault}
 use Rattle.gob_stream.specs.declared.stage.Extent.{Extent}
-use Rattle.gob_stream.specs.declared.denial.Denial.{Denial}
-use Rattle.gob_stream.specs.declared.denial.Denial.TheVariants as denial
-use Rattle.gob_stream.specs.Machine.Denial.{IsDenial, fault_at}
+use Rattle.gob_types.specs.declared.denial.Denial.{Denial}
+use Rattle.gob_types.specs.declared.denial.Denial.TheVariants as denial
+use Rattle.gob_types.specs.Denial.{IsDenial}
+use Rattle.gob_stream.specs.Machine.Denial.{fault_at}
 use Rattle.gob_stream.specs.Machine.ReadParts.{Defines}
 
 -- ---- descriptions are spelled as in the base table

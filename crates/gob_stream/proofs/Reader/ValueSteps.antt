@@ -22,9 +22,10 @@ use Rattle.gob_stream.specs.declared.stage.Extent.{Extent}
 use Rattle.gob_stream.specs.declared.stage.Stage.{Stage}
 use Rattle.gob_stream.specs.declared.stage.Stepped.{Stepped}
 use Rattle.gob_stream.specs.Bounds.{Bounds}
-use Rattle.gob_stream.specs.declared.denial.Denial.{Denial}
-use Rattle.gob_stream.specs.declared.denial.Denial.TheVariants as denial
-use Rattle.gob_stream.specs.Machine.Denial.{IsDenial, fault_at}
+use Rattle.gob_types.specs.declared.denial.Denial.{Denial}
+use Rattle.gob_types.specs.declared.denial.Denial.TheVariants as denial
+use Rattle.gob_types.specs.Denial.{IsDenial}
+use Rattle.gob_stream.specs.Machine.Denial.{fault_at}
 use Rattle.gob_stream.specs.Item.{StreamItem, puts, means_value}
 use Rattle.gob_stream.specs.Body.{value, MayPut}
 use Rattle.gob_stream.specs.Stream.{IsItem, counted}

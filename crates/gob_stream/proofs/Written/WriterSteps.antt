@@ -8,10 +8,11 @@ use Rattle.gob_types.specs.Defined.{types}
 use Rattle.gob_stream.specs.declared.fault.WriteFault.{WriteFault}
 use Rattle.gob_stream.specs.declared.output.Output.{Output}
 use Rattle.gob_stream.specs.declared.stream_writer.StreamWriter.{StreamWriter}
-use Rattle.gob_stream.specs.declared.denial.Denial.{Denial}
-use Rattle.gob_stream.specs.declared.denial.Denial.TheVariants as denial
+use Rattle.gob_types.specs.declared.denial.Denial.{Denial}
+use Rattle.gob_types.specs.declared.denial.Denial.TheVariants as denial
 use Rattle.gob_stream.specs.Bounds.{Bounds, within_trees}
-use Rattle.gob_stream.specs.Machine.Denial.{IsDenial, write_fault}
+use Rattle.gob_types.specs.Denial.{IsDenial}
+use Rattle.gob_stream.specs.Machine.Denial.{write_fault}
 use Rattle.gob_stream.specs.Ends.{failed_writes, writer_of}
 use Rattle.gob_stream.specs.Laws.{AtLeast}
 use Rattle.gob_stream.specs.Item.{StreamItem}

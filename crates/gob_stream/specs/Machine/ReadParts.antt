@@ -23,14 +23,14 @@ use Rattle.gob_read.specs.declared.tree_builder.TreeBuilder.{TreeBuilder}
 use Rattle.gob_stream.specs.declared.fault.Refusal.{Refusal}
 use Rattle.gob_stream.specs.declared.fault.Fault.{Fault}
 use Rattle.gob_stream.specs.declared.fault.Fault.TheVariants as fault
-use Rattle.gob_stream.specs.declared.denial.Denial.{Denial}
+use Rattle.gob_types.specs.declared.denial.Denial.{Denial}
 use Rattle.gob_stream.specs.declared.item.Item as declared
 use Rattle.gob_stream.specs.declared.item.Item.TheVariants as item
 use Rattle.gob_stream.specs.declared.stage.Stage.{Stage}
 use Rattle.gob_stream.specs.declared.stage.Stage.TheVariants as stage
 use Rattle.gob_stream.specs.declared.stage.Stepped.{Stepped}
 use Rattle.gob_stream.specs.declared.stage.Extent.{Extent}
-use Rattle.gob_stream.specs.Machine.Denial.{IsDenial}
+use Rattle.gob_types.specs.Denial.{IsDenial}
 use Rattle.gob_stream.specs.Machine.Stages.{count_at, type_number_in, value_in, description_in}
 use Rattle.gob_stream.specs.Machine.SessionState.{SessionState}
 use Rattle.gob_stream.specs.declared.session.Step.{Step}

@@ -1,7 +1,7 @@
 use Rattle.std.proofs.Common.{◌≡◌, [], refl, ap, min, arith}
 use Rattle.gob_types.specs.Base.{base_table}
 use Rattle.gob_types.specs.Defined.{types}
-use Rattle.gob_stream.specs.declared.denial.Denial.TheVariants as denial
+use Rattle.gob_types.specs.declared.denial.Denial.TheVariants as denial
 use Rattle.gob_stream.specs.Bounds.{no_deeper}
 use Rattle.gob_stream.specs.Machine.ReadParts.{no_memory}
 use Rattle.gob_stream.specs.Refusing.{refused_id}

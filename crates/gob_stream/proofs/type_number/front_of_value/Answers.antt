@@ -8,7 +8,7 @@ use Rattle.gob_stream.proofs.type_number.front_of_value.Goals as goal
 
 pub returns-in-Err : goal.returns-in-Err
 returns-in-Err g c = λ offset m d a body k b s r.
-    rw (c.at.ensures, ← b) (denied_steps (RefusesType (types c.args.table.now) c.args.id) c.in-Err.denial d a c.args.piece.now k r c.in-Err.ensures.judged
+    rw (c.of.ensures, ← b) (denied_steps (RefusesType (types c.args.table.now) c.args.id) c.in-Err.denial d a c.args.piece.now k r c.in-Err.ensures.judged
     (λ w. type_shown) (λ w y z q there. refused_type z there s q))
 
 pub take-requires-clause-has_read : goal.take-requires-clause-has_read

@@ -22,7 +22,7 @@ returns-in-Ok g c = λ limit z s.
 
 pub returns-in-Ok-Done : goal.returns-in-Ok-Done
 returns-in-Ok-Done g c = λ limit z s.
-    rw c.at.ensures
+    rw c.of.ensures
     (description_wrong c.in-Err-define.denial (made_of _ c.push.new.self z c.args.piece.now c.in-Ok-Done.field-0-is (c.in-Ok-Done.ensures.given wire_type limit (size c.args.self.rest) z s)) c.in-Err-define.ensures)
 
 pub returns : goal.returns

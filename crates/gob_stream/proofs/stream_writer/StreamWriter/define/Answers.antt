@@ -1,7 +1,7 @@
 use Rattle.std.proofs.Common.{[], refl, ap}
 use Rattle.std.proofs.lemmas.Result.{err_from_is_err_and}
 use Rattle.gob_value.specs.View.{view}
-use Rattle.gob_stream.specs.declared.denial.Denial.TheVariants as denial
+use Rattle.gob_types.specs.declared.denial.Denial.TheVariants as denial
 use Rattle.gob_stream.specs.Bounds.{within_trees}
 use Rattle.gob_stream.specs.Item.{defines}
 use Rattle.gob_stream.specs.WriterRefusal.{refused_body}
