@@ -206,15 +206,15 @@ counts_item f e h (over_item {i = i} l w m a) = record {
 
 -- or none is
 pub counts_none : {s s' : SessionState SkipBuilder (Unit {0})} {used n : ℕ} {bytes piece : List ℕ}
-    {o : Option (declared.Item (Unit {0}))} → o ≡ None → (h : HasCounted s n bytes)
+    {o : Option (declared.Item (Unit {0}))} → 0 < length piece → o ≡ None → (h : HasCounted s n bytes)
     → AdvancesOver skip_building.received tree_building.received skip_building.means deepest s'
     h.given bytes piece used o → CountsOn s' n n bytes piece used
-counts_none f h (over_some l w a) = record {
+counts_none some f h (over_some l w a) = record {
   within = w;
   nearer = omega arith;
   counted = record { given = h.given; gave = a; items_are = h.items_are };
 }
-counts_none f h (over_item l w m a) = cc
+counts_none some f h (over_item l w m a) = cc
 
 -- a step was refused
 pub step_stops : (s s' : SessionState SkipBuilder (Unit {0})) (items : List StreamItem) (bytes piece : List ℕ) (e : Fault)

@@ -39,4 +39,4 @@ returns-in-Some-clause-counted c = λ bytes h.
 pub returns-clause-counted : goal.returns-clause-counted
 returns-clause-counted c = λ bytes h.
     let still = counted_still c.pass_values-passed.ensures.passed (omega arith) h in
-    counts_none c.in-None.is still (c.in_ok-step.ensures.advances still.given bytes still.gave)
+    counts_none c.requires.some c.in-None.is still (c.in_ok-step.ensures.advances still.given bytes still.gave)
