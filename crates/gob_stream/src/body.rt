@@ -1,6 +1,6 @@
 //! What follows the type number of a body: a value, or the description of a type.
 
-ghost use Rattle.std.specs.Prelude.{◌≡◌, ℕ, ◌≤◌, List, []};
+ghost use Rattle.std.specs.Prelude.{◌≡◌, ℕ, List, []};
 ghost use Rattle.gob_types.specs.Base.{base_table, wire_type};
 ghost use Rattle.gob_types.specs.Defined.{types, Admits};
 ghost use Rattle.gob_value.specs.View.{view};
@@ -52,8 +52,7 @@ impl<B: Builder> ValueStage<B> {
         table: &Table,
         piece: &[u8],
     ) -> Result<Stepped<B>, Fault>
-        requires has_read { IsBodyUnderWay (types table.now) self.id self.rest B.building.received self.reader }
-        requires order { self.rest.begin ≤ self.rest.end }
+        requires { IsBodyUnderWay (types table.now) self.id self.rest B.building.received self.reader }
         ensures { (limit : ℕ) (z : List ℕ)
             → ReaderHasRead (types table.now) self.id limit (size self.rest) B.building.received (under_way self.reader) z
             → ReadsValueIn B.building.received B.building.means (types table.now) self.id limit self.rest z piece.now result }
@@ -88,7 +87,6 @@ impl DescriptionStage {
         piece: &[u8],
     ) -> Result<Stepped<B>, Fault>
         requires has_read { IsBodyUnderWay (types table.old) wire_type self.rest tree_building.received self.reader }
-        requires order { self.rest.begin ≤ self.rest.end }
         requires admitted { Admits table.old self.id }
         requires keeps { HasWireType (types table.old) }
         ensures { (limit : ℕ) (z : List ℕ) → ReaderHasRead (types table.old) wire_type limit (size self.rest)

@@ -71,11 +71,12 @@ abbrev pub JudgesCount : Bounds → (begin end count : ℕ) → Result Extent Re
 JudgesCount L begin end count (Ok body) = (0 < count) × (count ≤ L.item) × (end + count ≤ L.stream) × (body.begin ≡ end) × (body.end ≡ end + count)
 JudgesCount L begin end count (Err R) = CountJudged L begin end count R
 
--- what reads a part of the stream stands after some bytes of it
+-- what reads this part of the stream stands after some bytes of it
 pub record IsBodyUnderWay (T : Table) (t : TypeId) (rest : Extent) {X O : Type 0} (received : Received X) (reader : BodyReader X O) : Type 0 where
   pub limit : ℕ
   pub bytes : List ℕ
   pub after : ReaderHasRead T t limit (size rest) received (under_way reader) bytes
+  pub order : rest.begin ≤ rest.end
 
 -- places and counts behind this offset are numbers of 64 bits
 abbrev pub StopsWithin : ℕ → Stop → Type 0

@@ -22,6 +22,7 @@ take-requires-clause-has_read g c = record {
   limit = min c.min-depth.result 1000;
   bytes = [];
   after = c.in-Ok.ensures (types c.args.table.now) (wire_ready_in c.requires.known.base);
+  order = c.requires.order;
 }
 
 pub take-requires-clause-keeps : goal.take-requires-clause-keeps

@@ -11,11 +11,12 @@ returns-in-Err g c = λ offset m d a body k b s r.
     rw (c.of.ensures, ← b) (denied_steps (RefusesType (types c.args.table.now) c.args.id) c.in-Err.denial d a c.args.piece.now k r c.in-Err.ensures.judged
     (λ w. type_shown) (λ w y z q there. refused_type z there s q))
 
-pub take-requires-clause-has_read : goal.take-requires-clause-has_read
-take-requires-clause-has_read g c = record {
+pub take-requires : goal.take-requires
+take-requires g c = record {
   limit = min c.depth.result g.B.Builder.DEPTH;
   bytes = [];
   after = c.in-Ok.ensures (types c.args.table.now) c.in_default.ensures.judged.ready;
+  order = c.requires;
 }
 
 pub returns-in-Ok : goal.returns-in-Ok

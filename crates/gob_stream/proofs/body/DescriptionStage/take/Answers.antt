@@ -11,7 +11,7 @@ define-requires-clause-fits g c =
     wire_fits c.requires.keeps (made_of {rest = c.args.self.rest} _ c.push.new.self u.bytes c.args.piece.now c.in-Ok-Done.field-0-is (c.in-Ok-Done.ensures.given wire_type u.limit (size c.args.self.rest) u.bytes u.after)).made
 
 pub fault_of_stop-requires : goal.fault_of_stop-requires
-fault_of_stop-requires g c = stops_within c.args.self.reader c.args.piece.now c.in-Err.stop c.requires.has_read c.requires.order (omega arith) c.in-Err.ensures.refused
+fault_of_stop-requires g c = stops_within c.args.self.reader c.args.piece.now c.in-Err.stop c.requires.has_read c.requires.has_read.order (omega arith) c.in-Err.ensures.refused
 
 pub returns-in-Ok-More : goal.returns-in-Ok-More
 returns-in-Ok-More g c = λ limit z s. description_more c.push.new.self z c.args.piece.now c.in-Ok-More.field-0-is (c.in-Ok-More.ensures.given wire_type limit (size c.args.self.rest) z s)

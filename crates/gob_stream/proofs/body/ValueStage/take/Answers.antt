@@ -4,7 +4,7 @@ use Rattle.gob_stream.specs.Machine.HasRead.{size}
 use Rattle.gob_stream.proofs.body.ValueStage.take.Goals as goal
 
 pub fault_of_stop-requires : goal.fault_of_stop-requires
-fault_of_stop-requires g c = stops_within c.args.self.reader c.args.piece.now c.in-Err.stop c.requires.has_read c.requires.order (omega arith) c.in-Err.ensures.refused
+fault_of_stop-requires g c = stops_within c.args.self.reader c.args.piece.now c.in-Err.stop c.requires c.requires.order (omega arith) c.in-Err.ensures.refused
 
 pub returns-in-Ok-More : goal.returns-in-Ok-More
 returns-in-Ok-More g c = λ limit z s. value_more c.push.new.self z c.args.piece.now c.in-Ok-More.field-0-is (c.in-Ok-More.ensures.given c.args.self.id limit (size c.args.self.rest) z s)

@@ -50,12 +50,9 @@ take-requires-in-TypeNumber-clause-front g c = (under_way c.in-TypeNumber.is c.r
 pub returns-in-TypeNumber : goal.returns-in-TypeNumber
 returns-in-TypeNumber g c = number_answers c.in-TypeNumber.is c.take-in-TypeNumber.ensures
 
-pub take-requires-in-Value-clause-has_read : goal.take-requires-in-Value-clause-has_read
-take-requires-in-Value-clause-has_read g c =
-    let p = (under_way c.in-Value.is c.requires.has_read).parts in record { limit = _; bytes = p.y; after = p.behind.after }
-
-pub take-requires-in-Value-clause-order : goal.take-requires-in-Value-clause-order
-take-requires-in-Value-clause-order g c = (under_way c.in-Value.is c.requires.has_read).parts.rest_is.within
+pub take-requires-in-Value : goal.take-requires-in-Value
+take-requires-in-Value g c =
+    let p = (under_way c.in-Value.is c.requires.has_read).parts in record { limit = _; bytes = p.y; after = p.behind.after; order = p.rest_is.within }
 
 pub returns-in-Value : goal.returns-in-Value
 returns-in-Value g c =
@@ -63,10 +60,7 @@ returns-in-Value g c =
 
 pub take-requires-in-Description-clause-has_read : goal.take-requires-in-Description-clause-has_read
 take-requires-in-Description-clause-has_read g c =
-    let p = (under_way c.in-Description.is c.requires.has_read).parts in record { limit = _; bytes = p.y; after = p.behind.after }
-
-pub take-requires-in-Description-clause-order : goal.take-requires-in-Description-clause-order
-take-requires-in-Description-clause-order g c = (under_way c.in-Description.is c.requires.has_read).parts.rest_is.within
+    let p = (under_way c.in-Description.is c.requires.has_read).parts in record { limit = _; bytes = p.y; after = p.behind.after; order = p.rest_is.within }
 
 pub take-requires-in-Description-clause-keeps : goal.take-requires-in-Description-clause-keeps
 take-requires-in-Description-clause-keeps g c = (under_way c.in-Description.is c.requires.has_read).known.base
