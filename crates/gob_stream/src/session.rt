@@ -220,6 +220,13 @@ impl<B: Builder> Session<B> {
         &self.types
     }
 
+    /// The limits that it was made with.
+    pub fn limits(&self) -> Limits
+        ensures { result ≡ limits_of self.now }
+    {
+        self.limits
+    }
+
     // Appends an item. Without memory for it nothing more is read.
     fn push_item(&mut self, item: Item<B::Out>, out: &mut Vec<Item<B::Out>>) -> Result<(), Fault>
         ensures given { OnOk result (out.new.items ≡ out.old.items ++ item ∷ []) }
