@@ -103,15 +103,7 @@ fn rewrite_items<R: Read, W: Write>(
 {
     let mut buffer = vec![in alloc; 0; PIECE].map_err(Memory::from)?;
     let mut session = Session::<TapeBuilder>::new(alloc, limits)?;
-    let rewritten = rewrite_pieces(
-        alloc,
-        input,
-        output,
-        limits.depth(),
-        &mut session,
-        &mut buffer,
-        rewriter,
-    );
+    let rewritten = rewrite_pieces(alloc, input, output, &mut session, &mut buffer, rewriter);
     drop(session);
     rewritten
 }
@@ -121,13 +113,11 @@ fn rewrite_pieces<R: Read, W: Write>(
     alloc: Global,
     input: &mut Input<R>,
     output: &mut Output<W>,
-    depth: u64,
     session: &mut Session<TapeBuilder>,
     buffer: &mut [u8],
     rewriter: &mut Rewriter,
 ) -> Result<(), ToolFault>
     requires has_read { GaveTapes session.old [] [] }
-    requires depth { depth ≡ (limits_of session.old).depth }
     requires limits { AreLimits deepest (limits_of session.old) }
     requires new { IsNew rewriter.old.writer (limits_of session.old) }
     requires empty { rewriter.old.gathered.items ≡ [] }
@@ -142,10 +132,10 @@ fn rewrite_pieces<R: Read, W: Write>(
     let mut pending = Pending::new(alloc);
     'pieces: loop {
         match input.read(buffer) {
-            Ok(0) => return rewrite_end(alloc, pending.bytes(), depth, session, rewriter, output),
+            Ok(0) => return rewrite_end(alloc, pending.bytes(), session, rewriter, output),
             Ok(count) => {
                 let piece = &buffer[..count];
-                rewrite_next(alloc, piece, depth, session, &mut pending, rewriter, output)?;
+                rewrite_next(alloc, piece, session, &mut pending, rewriter, output)?;
             }
             Err(_) => return Err(ToolFault::Read),
         }
@@ -156,13 +146,11 @@ fn rewrite_pieces<R: Read, W: Write>(
 fn rewrite_end<W: Write>(
     alloc: Global,
     kept: &[u8],
-    depth: u64,
     session: &mut Session<TapeBuilder>,
     rewriter: &mut Rewriter,
     output: &mut Output<W>,
 ) -> Result<(), ToolFault>
     requires so_far { HasRewritten session.old rewriter.old.writer }
-    requires depth { depth ≡ (limits_of session.old).depth }
     ensures rewritten { (bytes : List ℕ) (read at next start : Option (List ℕ))
         → RewritesIn session.old rewriter.old.writer read at start (W.contents (writer_of output.old))
         rewriter.old.gathered.items
@@ -173,7 +161,7 @@ fn rewrite_end<W: Write>(
     ensures reads { (failures : ℕ) → CountsOnlyReads failures failures result }
     ensures writes { CountsOnlyWrites (failed_writes output.old) (failed_writes output.new) result }
 {
-    rewrite_piece(alloc, kept, depth, session, rewriter, output)?;
+    rewrite_piece(alloc, kept, session, rewriter, output)?;
     Ok(session.finish()?)
 }
 
@@ -182,14 +170,12 @@ fn rewrite_end<W: Write>(
 fn rewrite_next<W: Write>(
     alloc: Global,
     piece: &[u8],
-    depth: u64,
     session: &mut Session<TapeBuilder>,
     pending: &mut Pending,
     rewriter: &mut Rewriter,
     output: &mut Output<W>,
 ) -> Result<(), ToolFault>
     requires so_far { HasRewritten session.old rewriter.old.writer }
-    requires depth { depth ≡ (limits_of session.old).depth }
     ensures rewritten { (h : HasRewritten session.old rewriter.old.writer)
         → RewritesKeeping (no_deeper deepest (limits_of session.old)) h session.new rewriter.new.writer
         pending.new.bytes.items (pending.old.bytes.items ++ piece.now)
@@ -203,22 +189,20 @@ fn rewrite_next<W: Write>(
         return Ok(pending.keep(piece)?);
     }
     let (front, behind) = piece.split_at(missing as usize);
-    rewrite_kept(alloc, front, depth, session, pending, rewriter, output)?;
-    rewrite_behind(alloc, behind, depth, session, pending, rewriter, output)
+    rewrite_kept(alloc, front, session, pending, rewriter, output)?;
+    rewrite_behind(alloc, behind, session, pending, rewriter, output)
 }
 
 /// Takes what the kept bytes lacked, and them before it. None are kept then.
 fn rewrite_kept<W: Write>(
     alloc: Global,
     front: &[u8],
-    depth: u64,
     session: &mut Session<TapeBuilder>,
     pending: &mut Pending,
     rewriter: &mut Rewriter,
     output: &mut Output<W>,
 ) -> Result<(), ToolFault>
     requires so_far { HasRewritten session.old rewriter.old.writer }
-    requires depth { depth ≡ (limits_of session.old).depth }
     ensures rewritten { (h : HasRewritten session.old rewriter.old.writer)
         → RewritesPiece (no_deeper deepest (limits_of session.old)) h session.new rewriter.new.writer
         (pending.old.bytes.items ++ front.now)
@@ -229,7 +213,7 @@ fn rewrite_kept<W: Write>(
     ensures writes { CountsOnlyWrites (failed_writes output.old) (failed_writes output.new) result }
 {
     pending.keep(front)?;
-    rewrite_piece(alloc, pending.bytes(), depth, session, rewriter, output)?;
+    rewrite_piece(alloc, pending.bytes(), session, rewriter, output)?;
     pending.clear();
     Ok(())
 }
@@ -238,14 +222,12 @@ fn rewrite_kept<W: Write>(
 fn rewrite_behind<W: Write>(
     alloc: Global,
     piece: &[u8],
-    depth: u64,
     session: &mut Session<TapeBuilder>,
     pending: &mut Pending,
     rewriter: &mut Rewriter,
     output: &mut Output<W>,
 ) -> Result<(), ToolFault>
     requires so_far { HasRewritten session.old rewriter.old.writer }
-    requires depth { depth ≡ (limits_of session.old).depth }
     requires none { pending.old.bytes.items ≡ [] }
     ensures rewritten { (h : HasRewritten session.old rewriter.old.writer)
         → RewritesKeeping (no_deeper deepest (limits_of session.old)) h session.new rewriter.new.writer
@@ -257,7 +239,7 @@ fn rewrite_behind<W: Write>(
 {
     let mut rest = piece;
     'items: loop {
-        match rewrite_ready(alloc, rest, depth, session, rewriter, output)? {
+        match rewrite_ready(alloc, rest, session, rewriter, output)? {
             Some(used) => rest = &rest[used..],
             None => return Ok(pending.keep(rest)?),
         }
@@ -269,13 +251,11 @@ fn rewrite_behind<W: Write>(
 fn rewrite_ready<W: Write>(
     alloc: Global,
     piece: &[u8],
-    depth: u64,
     session: &mut Session<TapeBuilder>,
     rewriter: &mut Rewriter,
     output: &mut Output<W>,
 ) -> Result<Option<usize>, ToolFault>
     requires so_far { HasRewritten session.old rewriter.old.writer }
-    requires depth { depth ≡ (limits_of session.old).depth }
     ensures rewritten { (h : HasRewritten session.old rewriter.old.writer)
         → MayRewriteFront h session.new rewriter.new.writer piece.now
         (W.contents (writer_of output.old)) (W.contents (writer_of output.new))
@@ -284,7 +264,7 @@ fn rewrite_ready<W: Write>(
     ensures limits { limits_of session.new ≡ limits_of session.old }
     ensures writes { CountsOnlyWrites (failed_writes output.old) (failed_writes output.new) result }
 {
-    match rewrite_whole(alloc, piece, depth, session, rewriter, output)? {
+    match rewrite_whole(alloc, piece, session, rewriter, output)? {
         Some(used) => Ok(Some(used)),
         None if is_begun(session, piece) => Ok(None),
         None => Ok(Some(rewrite_by_step(alloc, piece, session, rewriter, output)?)),
@@ -295,13 +275,11 @@ fn rewrite_ready<W: Write>(
 fn rewrite_piece<W: Write>(
     alloc: Global,
     piece: &[u8],
-    depth: u64,
     session: &mut Session<TapeBuilder>,
     rewriter: &mut Rewriter,
     output: &mut Output<W>,
 ) -> Result<(), ToolFault>
     requires so_far { HasRewritten session.old rewriter.old.writer }
-    requires depth { depth ≡ (limits_of session.old).depth }
     ensures rewritten { (h : HasRewritten session.old rewriter.old.writer)
         → RewritesPiece (no_deeper deepest (limits_of session.old)) h session.new rewriter.new.writer
         piece.now
@@ -312,7 +290,7 @@ fn rewrite_piece<W: Write>(
 {
     let mut rest = piece;
     while !rest.is_empty() {
-        let used = rewrite_front(alloc, rest, depth, session, rewriter, output)?;
+        let used = rewrite_front(alloc, rest, session, rewriter, output)?;
         rest = &rest[used..];
     }
     Ok(())
@@ -323,14 +301,12 @@ fn rewrite_piece<W: Write>(
 fn rewrite_front<W: Write>(
     alloc: Global,
     piece: &[u8],
-    depth: u64,
     session: &mut Session<TapeBuilder>,
     rewriter: &mut Rewriter,
     output: &mut Output<W>,
 ) -> Result<usize, ToolFault>
     requires some { 0 < length piece.now }
     requires so_far { HasRewritten session.old rewriter.old.writer }
-    requires depth { depth ≡ (limits_of session.old).depth }
     ensures rewritten { (h : HasRewritten session.old rewriter.old.writer)
         → RewritesUsed h session.new rewriter.new.writer piece.now
         (W.contents (writer_of output.old)) (W.contents (writer_of output.new))
@@ -339,7 +315,7 @@ fn rewrite_front<W: Write>(
     ensures limits { limits_of session.new ≡ limits_of session.old }
     ensures writes { CountsOnlyWrites (failed_writes output.old) (failed_writes output.new) result }
 {
-    match rewrite_whole(alloc, piece, depth, session, rewriter, output)? {
+    match rewrite_whole(alloc, piece, session, rewriter, output)? {
         Some(used) => Ok(used),
         None => rewrite_by_step(alloc, piece, session, rewriter, output),
     }
@@ -350,13 +326,11 @@ fn rewrite_front<W: Write>(
 fn rewrite_whole<W: Write>(
     alloc: Global,
     piece: &[u8],
-    depth: u64,
     session: &mut Session<TapeBuilder>,
     rewriter: &mut Rewriter,
     output: &mut Output<W>,
 ) -> Result<Option<usize>, ToolFault>
     requires so_far { HasRewritten session.old rewriter.old.writer }
-    requires depth { depth ≡ (limits_of session.old).depth }
     ensures rewritten { (h : HasRewritten session.old rewriter.old.writer)
         → MayRewriteWhole h session.new rewriter.new.writer piece.now
         (W.contents (writer_of output.old)) (W.contents (writer_of output.new))
@@ -367,12 +341,8 @@ fn rewrite_whole<W: Write>(
     let Some(whole) = session.whole_value(piece) else {
         return Ok(None);
     };
-    if !is_tidy_whole(
-        session.table(),
-        whole.id,
-        whole.body,
-        depth.min(TapeBuilder::DEPTH),
-    ) {
+    let most = session.limits().depth().min(TapeBuilder::DEPTH);
+    if !is_tidy_whole(session.table(), whole.id, whole.body, most) {
         return Ok(None);
     }
     session.pass(whole.used);

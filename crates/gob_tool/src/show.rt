@@ -1,12 +1,12 @@
 //! The run that prints a stream.
 
-ghost use Rattle.std.specs.Prelude.{◌≡◌, ◌≢◌, ℕ, ◌<◌, ◌≤◌, List, [], ◌++◌, length, Option, Some, IfOk, IfSome, OnOk};
+ghost use Rattle.std.specs.Prelude.{◌≡◌, ◌≢◌, ℕ, ◌<◌, ◌≤◌, List, [], ◌++◌, length, min, Option, Some, IfOk, IfSome, OnOk};
 ghost use Rattle.gob_stream.specs.Ends.{failed_reads, failed_writes, reader_of, writer_of};
 ghost use Rattle.gob_stream.specs.Session.{limits_of};
 ghost use Rattle.gob_stream.specs.Machine.SessionState.{SessionState};
 ghost use Rattle.gob_stream.specs.Item.{StreamItem};
 ghost use Rattle.gob_tool.specs.Showing.{RunAnswers, ShowAnswers, AppendsFront, CountsReadFaults, CountsWriteFaults};
-ghost use Rattle.gob_stream.specs.Bounds.{within_trees};
+ghost use Rattle.gob_stream.specs.Bounds.{greatest_depth, within_trees};
 ghost use Rattle.gob_tool.specs.Machine.Gathering.{Gathered, GaveItems, StandsBehind, TakesPiece};
 ghost use Rattle.gob_tool.specs.Machine.Gathering.{CountsOnlyReads, CountsOnlyWrites};
 ghost use Rattle.gob_tool.specs.Machine.Gathering.{MayGatherWhole, TakesFront};
@@ -73,15 +73,7 @@ fn show_items<R: Read, W: Write>(
 {
     let mut buffer = vec![in alloc; 0; PIECE].map_err(Memory::from)?;
     let mut session = Session::<TreeBuilder>::new(alloc, limits)?;
-    let shown = show_pieces(
-        alloc,
-        input,
-        output,
-        limits.depth(),
-        &mut session,
-        &mut buffer,
-        lines,
-    );
+    let shown = show_pieces(alloc, input, output, &mut session, &mut buffer, lines);
     drop(session);
     shown
 }
@@ -91,13 +83,11 @@ fn show_pieces<R: Read, W: Write>(
     alloc: Global,
     input: &mut Input<R>,
     output: &mut Output<W>,
-    depth: u64,
     session: &mut Session<TreeBuilder>,
     buffer: &mut [u8],
     lines: &mut Lines,
 ) -> Result<(), ToolFault>
     requires has_read { GaveItems session.old [] [] }
-    requires depth { depth ≡ (limits_of session.old).depth }
     requires room { 0 < length buffer.old }
     requires lines { lines.old.gathered.items ≡ [] }
     ensures shown { (bytes : List ℕ) → R.remaining (reader_of input.old) ≡ Some bytes
@@ -110,10 +100,10 @@ fn show_pieces<R: Read, W: Write>(
     let mut pending = Pending::new(alloc);
     'pieces: loop {
         match input.read(buffer) {
-            Ok(0) => return show_end(alloc, pending.bytes(), depth, session, lines, output),
+            Ok(0) => return show_end(alloc, pending.bytes(), session, lines, output),
             Ok(count) => {
                 let piece = &buffer[..count];
-                show_next(alloc, piece, depth, session, &mut pending, lines, output)?;
+                show_next(alloc, piece, session, &mut pending, lines, output)?;
             }
             Err(_) => return Err(ToolFault::Read),
         }
@@ -124,12 +114,10 @@ fn show_pieces<R: Read, W: Write>(
 fn show_end<W: Write>(
     alloc: Global,
     kept: &[u8],
-    depth: u64,
     session: &mut Session<TreeBuilder>,
     lines: &mut Lines,
     output: &mut Output<W>,
 ) -> Result<(), ToolFault>
-    requires depth { depth ≡ (limits_of session.old).depth }
     ensures shown { (bytes : List ℕ) (start : Option (List ℕ))
         → KeepsBehind session.old kept.now bytes start (W.contents (writer_of output.old)) lines.old.gathered.items
         → RunAnswers (within_trees (limits_of session.old)) bytes (Some [])
@@ -140,7 +128,7 @@ fn show_end<W: Write>(
         → CountsOnlyReads failures failures result }
     ensures writes { CountsOnlyWrites (failed_writes output.old) (failed_writes output.new) result }
 {
-    show_piece(alloc, kept, depth, session, lines, output)?;
+    show_piece(alloc, kept, session, lines, output)?;
     Ok(session.finish()?)
 }
 
@@ -149,13 +137,11 @@ fn show_end<W: Write>(
 fn show_next<W: Write>(
     alloc: Global,
     piece: &[u8],
-    depth: u64,
     session: &mut Session<TreeBuilder>,
     pending: &mut Pending,
     lines: &mut Lines,
     output: &mut Output<W>,
 ) -> Result<(), ToolFault>
-    requires depth { depth ≡ (limits_of session.old).depth }
     ensures shown { (bytes : List ℕ) (start : Option (List ℕ))
         → KeepsBehind session.old pending.old.bytes.items bytes start (W.contents (writer_of output.old))
         lines.old.gathered.items
@@ -169,21 +155,19 @@ fn show_next<W: Write>(
         return Ok(pending.keep(piece)?);
     }
     let (front, behind) = piece.split_at(missing as usize);
-    show_kept(alloc, front, depth, session, pending, lines, output)?;
-    show_behind(alloc, behind, depth, session, pending, lines, output)
+    show_kept(alloc, front, session, pending, lines, output)?;
+    show_behind(alloc, behind, session, pending, lines, output)
 }
 
 /// Takes what the kept bytes lacked, and them before it. None are kept then.
 fn show_kept<W: Write>(
     alloc: Global,
     front: &[u8],
-    depth: u64,
     session: &mut Session<TreeBuilder>,
     pending: &mut Pending,
     lines: &mut Lines,
     output: &mut Output<W>,
 ) -> Result<(), ToolFault>
-    requires depth { depth ≡ (limits_of session.old).depth }
     ensures shown { (bytes : List ℕ) (start : Option (List ℕ))
         → KeepsBehind session.old pending.old.bytes.items bytes start (W.contents (writer_of output.old))
         lines.old.gathered.items
@@ -194,7 +178,7 @@ fn show_kept<W: Write>(
     ensures writes { CountsOnlyWrites (failed_writes output.old) (failed_writes output.new) result }
 {
     pending.keep(front)?;
-    show_item(alloc, pending.bytes(), depth, session, lines, output)?;
+    show_item(alloc, pending.bytes(), session, lines, output)?;
     pending.clear();
     Ok(())
 }
@@ -204,12 +188,10 @@ fn show_kept<W: Write>(
 fn show_item<W: Write>(
     alloc: Global,
     piece: &[u8],
-    depth: u64,
     session: &mut Session<TreeBuilder>,
     lines: &mut Lines,
     output: &mut Output<W>,
 ) -> Result<(), ToolFault>
-    requires depth { depth ≡ (limits_of session.old).depth }
     ensures shown { (bytes : List ℕ) (start : Option (List ℕ))
         → StandsBehind session.old bytes start (W.contents (writer_of output.old)) lines.old.gathered.items
         → TakesPiece (within_trees (limits_of session.old)) session.new (bytes ++ piece.now)
@@ -217,10 +199,10 @@ fn show_item<W: Write>(
     ensures limits { limits_of session.new ≡ limits_of session.old }
     ensures writes { CountsOnlyWrites (failed_writes output.old) (failed_writes output.new) result }
 {
-    let limit = depth.min(TreeBuilder::DEPTH);
+    let limit = shown_depth(session);
     match large_list(piece, limit, session) {
         Some(large) => show_list(alloc, piece, limit, large, session, lines, output),
-        None => show_other(alloc, piece, depth, session, lines, output),
+        None => show_other(alloc, piece, session, lines, output),
     }
 }
 
@@ -228,12 +210,10 @@ fn show_item<W: Write>(
 fn show_other<W: Write>(
     alloc: Global,
     piece: &[u8],
-    depth: u64,
     session: &mut Session<TreeBuilder>,
     lines: &mut Lines,
     output: &mut Output<W>,
 ) -> Result<(), ToolFault>
-    requires depth { depth ≡ (limits_of session.old).depth }
     ensures shown { (bytes : List ℕ) (start : Option (List ℕ))
         → StandsBehind session.old bytes start (W.contents (writer_of output.old)) lines.old.gathered.items
         → TakesPiece (within_trees (limits_of session.old)) session.new (bytes ++ piece.now)
@@ -241,10 +221,10 @@ fn show_other<W: Write>(
     ensures limits { limits_of session.new ≡ limits_of session.old }
     ensures writes { CountsOnlyWrites (failed_writes output.old) (failed_writes output.new) result }
 {
-    let limit = depth.min(TreeBuilder::DEPTH);
+    let limit = shown_depth(session);
     match large_item(piece, limit, session) {
         Some(item) => show_large(alloc, piece, limit, item, session, lines, output),
-        None => show_piece(alloc, piece, depth, session, lines, output),
+        None => show_piece(alloc, piece, session, lines, output),
     }
 }
 
@@ -252,13 +232,11 @@ fn show_other<W: Write>(
 fn show_behind<W: Write>(
     alloc: Global,
     piece: &[u8],
-    depth: u64,
     session: &mut Session<TreeBuilder>,
     pending: &mut Pending,
     lines: &mut Lines,
     output: &mut Output<W>,
 ) -> Result<(), ToolFault>
-    requires depth { depth ≡ (limits_of session.old).depth }
     requires none { pending.old.bytes.items ≡ [] }
     ensures shown { (bytes : List ℕ) (start : Option (List ℕ))
         → StandsBehind session.old bytes start (W.contents (writer_of output.old)) lines.old.gathered.items
@@ -269,7 +247,7 @@ fn show_behind<W: Write>(
 {
     let mut rest = piece;
     'items: loop {
-        match show_ready(alloc, rest, depth, session, lines)? {
+        match show_ready(alloc, rest, session, lines)? {
             Some(used) => {
                 lines.write_many(output)?;
                 rest = &rest[used..];
@@ -284,11 +262,9 @@ fn show_behind<W: Write>(
 fn show_ready(
     alloc: Global,
     piece: &[u8],
-    depth: u64,
     session: &mut Session<TreeBuilder>,
     lines: &mut Lines,
 ) -> Result<Option<usize>, Fault>
-    requires depth { depth ≡ (limits_of session.old).depth }
     ensures shown { (bytes : List ℕ) (start now : Option (List ℕ))
         → StandsBehind session.old bytes start now lines.old.gathered.items
         → MayTakeFront (within_trees (limits_of session.old)) session.new bytes piece.now
@@ -296,7 +272,7 @@ fn show_ready(
     ensures used { IfOk result (λ taken. IfSome taken (λ used. (0 < used) × (used ≤ length piece.now))) }
     ensures limits { limits_of session.new ≡ limits_of session.old }
 {
-    match show_whole(piece, depth, session, lines)? {
+    match show_whole(piece, session, lines)? {
         Some(used) => Ok(Some(used)),
         None if is_begun(session, piece) => Ok(None),
         None => Ok(Some(show_step(alloc, piece, session, lines)?)),
@@ -307,12 +283,10 @@ fn show_ready(
 fn show_piece<W: Write>(
     alloc: Global,
     piece: &[u8],
-    depth: u64,
     session: &mut Session<TreeBuilder>,
     lines: &mut Lines,
     output: &mut Output<W>,
 ) -> Result<(), ToolFault>
-    requires depth { depth ≡ (limits_of session.old).depth }
     ensures shown { (bytes : List ℕ) (start : Option (List ℕ))
         → StandsBehind session.old bytes start (W.contents (writer_of output.old)) lines.old.gathered.items
         → TakesPiece (within_trees (limits_of session.old)) session.new (bytes ++ piece.now)
@@ -322,7 +296,7 @@ fn show_piece<W: Write>(
 {
     let mut rest = piece;
     while !rest.is_empty() {
-        let used = show_front(alloc, rest, depth, session, lines)?;
+        let used = show_front(alloc, rest, session, lines)?;
         lines.write_many(output)?;
         rest = &rest[used..];
     }
@@ -334,12 +308,10 @@ fn show_piece<W: Write>(
 fn show_front(
     alloc: Global,
     piece: &[u8],
-    depth: u64,
     session: &mut Session<TreeBuilder>,
     lines: &mut Lines,
 ) -> Result<usize, Fault>
     requires some { 0 < length piece.now }
-    requires depth { depth ≡ (limits_of session.old).depth }
     ensures shown { (bytes : List ℕ) (start now : Option (List ℕ))
         → StandsBehind session.old bytes start now lines.old.gathered.items
         → TakesFront (within_trees (limits_of session.old)) session.new bytes piece.now
@@ -347,7 +319,7 @@ fn show_front(
     ensures used { IfOk result (λ used. (0 < used) × (used ≤ length piece.now)) }
     ensures limits { limits_of session.new ≡ limits_of session.old }
 {
-    match show_whole(piece, depth, session, lines)? {
+    match show_whole(piece, session, lines)? {
         Some(used) => Ok(used),
         None => show_step(alloc, piece, session, lines),
     }
@@ -357,11 +329,9 @@ fn show_front(
 /// none, and then, as after an error, nothing has changed.
 fn show_whole(
     piece: &[u8],
-    depth: u64,
     session: &mut Session<TreeBuilder>,
     lines: &mut Lines,
 ) -> Result<Option<usize>, Memory>
-    requires depth { depth ≡ (limits_of session.old).depth }
     ensures shown { MayGatherWhole session.old session.new piece.now lines.old.gathered.items
         lines.new.gathered.items result }
     ensures limits { limits_of session.new ≡ limits_of session.old }
@@ -369,12 +339,19 @@ fn show_whole(
     let Some(whole) = session.whole_value(piece) else {
         return Ok(None);
     };
-    let most = depth.min(TreeBuilder::DEPTH);
+    let most = shown_depth(session);
     if !lines.push_whole(session.table(), whole.id, whole.body, most)? {
         return Ok(None);
     }
     session.pass(whole.used);
     Ok(Some(whole.used))
+}
+
+/// How deep a value may be whose line is made of its bytes: no deeper than one that the session builds.
+fn shown_depth(session: &Session<TreeBuilder>) -> u64
+    ensures { result ≡ min (limits_of session.now).depth greatest_depth }
+{
+    session.limits().depth().min(TreeBuilder::DEPTH)
 }
 
 /// The same by a step of the session, which builds the value.

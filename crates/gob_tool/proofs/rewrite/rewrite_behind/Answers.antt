@@ -11,8 +11,8 @@ use Rattle.gob_tool.proofs.rewrite.rewrite_behind.Goals as goal
 pub items-init : goal.items-init
 items-init g c = (refl, refl, c.requires.none, λ h. up_to_none h _ _ _)
 
-pub rewrite_ready-requires-clause-so_far : goal.rewrite_ready-requires-clause-so_far
-rewrite_ready-requires-clause-so_far g c = let u = c.items.invariant.3 c.requires.so_far in u.on.next
+pub rewrite_ready-requires : goal.rewrite_ready-requires
+rewrite_ready-requires g c = let u = c.items.invariant.3 c.requires.so_far in record { so_far = u.on.next }
 
 pub returns-in_err-used-clause-rewritten : goal.returns-in_err-used-clause-rewritten
 returns-in_err-used-clause-rewritten g c = λ h.

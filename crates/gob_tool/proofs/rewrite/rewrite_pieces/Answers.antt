@@ -18,11 +18,11 @@ pieces-init g c = (
   keeps_first _ _ _ _ _ _ c.requires.has_read c.requires.limits c.requires.new c.requires.empty c.new-pending.ensures,
 )
 
-pub rewrite_end-requires-clause-so_far : goal.rewrite_end-requires-clause-so_far
-rewrite_end-requires-clause-so_far g c = c.pieces.invariant.3.taken.so_far
+pub rewrite_end-requires : goal.rewrite_end-requires
+rewrite_end-requires g c = record { so_far = c.pieces.invariant.3.taken.so_far }
 
-pub rewrite_next-requires-clause-so_far : goal.rewrite_next-requires-clause-so_far
-rewrite_next-requires-clause-so_far g c = c.pieces.invariant.3.taken.so_far
+pub rewrite_next-requires : goal.rewrite_next-requires
+rewrite_next-requires g c = record { so_far = c.pieces.invariant.3.taken.so_far }
 
 pub returns-in-Ok-eq0-clause-rewritten : goal.returns-in-Ok-eq0-clause-rewritten
 returns-in-Ok-eq0-clause-rewritten g c = λ bytes known.

@@ -13,8 +13,8 @@ use Rattle.gob_tool.proofs.rewrite.rewrite_whole.Goals as goal
 pub pass-requires-clause-item : goal.pass-requires-clause-item
 pass-requires-clause-item g c =
     let limits = c.args.session.now.limits in
-    let depth : c.min.result ≡ min limits.depth deepest = cc (c.min.ensures, c.requires.depth) in
-    let tidy = subst (λ (T : Table). IsTidyWhole T c.in-Some.whole.id c.min.result c.in-Some.whole.body.now)
+    let depth : c.min-most.result ≡ min limits.depth deepest = cc (c.min-most.ensures, c.depth.ensures.depth, c.limits.ensures) in
+    let tidy = subst (λ (T : Table). IsTidyWhole T c.in-Some.whole.id c.min-most.result c.in-Some.whole.body.now)
     (ap (λ d. types d) c.table.ensures) (c.is_tidy_whole.ensures c.if-not-is_tidy_whole.false) in
     has_item deepest depth c.in-Some.ensures.body (whole_of tidy)
 
@@ -22,8 +22,8 @@ pub push_whole-requires : goal.push_whole-requires
 push_whole-requires g c =
     let h = c.requires.so_far in
     let limits = c.args.session.now.limits in
-    let depth : c.min.result ≡ min limits.depth deepest = cc (c.min.ensures, c.requires.depth) in
-    let tidy = subst (λ (T : Table). IsTidyWhole T c.in-Some.whole.id c.min.result c.in-Some.whole.body.now)
+    let depth : c.min-most.result ≡ min limits.depth deepest = cc (c.min-most.ensures, c.depth.ensures.depth, c.limits.ensures) in
+    let tidy = subst (λ (T : Table). IsTidyWhole T c.in-Some.whole.id c.min-most.result c.in-Some.whole.body.now)
     (ap (λ d. types d) c.table.ensures) (c.is_tidy_whole.ensures c.if-not-is_tidy_whole.false) in (
       c.args.session.now,
       h,
@@ -34,8 +34,8 @@ push_whole-requires g c =
 pub returns-in_err-push_whole-clause-rewritten : goal.returns-in_err-push_whole-clause-rewritten
 returns-in_err-push_whole-clause-rewritten g c = λ h.
     let limits = c.args.session.now.limits in
-    let depth : c.min.result ≡ min limits.depth deepest = cc (c.min.ensures, c.requires.depth) in
-    let tidy = subst (λ (T : Table). IsTidyWhole T c.in-Some.whole.id c.min.result c.in-Some.whole.body.now)
+    let depth : c.min-most.result ≡ min limits.depth deepest = cc (c.min-most.ensures, c.depth.ensures.depth, c.limits.ensures) in
+    let tidy = subst (λ (T : Table). IsTidyWhole T c.in-Some.whole.id c.min-most.result c.in-Some.whole.body.now)
     (ap (λ d. types d) c.table.ensures) (c.is_tidy_whole.ensures c.if-not-is_tidy_whole.false) in
     let s = c.pass.new.self in
     let w = c.push_whole.new.self.writer in
@@ -54,8 +54,8 @@ returns-in_err-push_whole-clause-rewritten g c = λ h.
 pub returns-clause-rewritten : goal.returns-clause-rewritten
 returns-clause-rewritten g c = λ h.
     let limits = c.args.session.now.limits in
-    let depth : c.min.result ≡ min limits.depth deepest = cc (c.min.ensures, c.requires.depth) in
-    let tidy = subst (λ (T : Table). IsTidyWhole T c.in-Some.whole.id c.min.result c.in-Some.whole.body.now)
+    let depth : c.min-most.result ≡ min limits.depth deepest = cc (c.min-most.ensures, c.depth.ensures.depth, c.limits.ensures) in
+    let tidy = subst (λ (T : Table). IsTidyWhole T c.in-Some.whole.id c.min-most.result c.in-Some.whole.body.now)
     (ap (λ d. types d) c.table.ensures) (c.is_tidy_whole.ensures c.if-not-is_tidy_whole.false) in
     let s = c.pass.new.self in
     let w = c.push_whole.new.self.writer in

@@ -1,5 +1,5 @@
 -- What was found to be a whole value is the item that is passed.
-use Rattle.std.proofs.Common.{◌≡◌, min, ap, subst}
+use Rattle.std.proofs.Common.{ap, subst}
 use Rattle.gob_types.specs.Defined.{types}
 use Rattle.gob_types.specs.Table.{Table}
 use Rattle.gob_stream.specs.Bounds.{greatest_depth}
@@ -10,18 +10,14 @@ use Rattle.gob_tool.proofs.show.show_whole.Goals as goal
 
 pub pass-requires-clause-item : goal.pass-requires-clause-item
 pass-requires-clause-item c =
-    let limits = c.args.session.now.limits in
-    let depth : c.min-most.result ≡ min limits.depth greatest_depth = cc (c.min-most.ensures, c.requires.depth) in
-    let whole = subst (λ (T : Table). LineOfWhole T c.in-Some.whole.id c.min-most.result c.in-Some.whole.body.now
+    let whole = subst (λ (T : Table). LineOfWhole T c.in-Some.whole.id c.shown_depth-most.result c.in-Some.whole.body.now
     c.args.lines.now.gathered.items c.push_whole.new.self.gathered.items) (ap (λ d. types d) c.table.ensures)
     (c.in_ok-push_whole.ensures.line c.if-not-branch.false) in
-    has_item greatest_depth depth c.in-Some.ensures.body (whole_of whole)
+    has_item greatest_depth c.shown_depth-most.ensures c.in-Some.ensures.body (whole_of whole)
 
 pub returns-clause-shown : goal.returns-clause-shown
 returns-clause-shown c =
-    let limits = c.args.session.now.limits in
-    let depth : c.min-most.result ≡ min limits.depth greatest_depth = cc (c.min-most.ensures, c.requires.depth) in
-    let whole = subst (λ (T : Table). LineOfWhole T c.in-Some.whole.id c.min-most.result c.in-Some.whole.body.now
+    let whole = subst (λ (T : Table). LineOfWhole T c.in-Some.whole.id c.shown_depth-most.result c.in-Some.whole.body.now
     c.args.lines.now.gathered.items c.push_whole.new.self.gathered.items) (ap (λ d. types d) c.table.ensures)
     (c.in_ok-push_whole.ensures.line c.if-not-branch.false) in
-    gathers_whole depth c.in-Some.ensures.body whole c.pass.ensures.types c.pass.ensures.passed
+    gathers_whole c.shown_depth-most.ensures c.in-Some.ensures.body whole c.pass.ensures.types c.pass.ensures.passed
