@@ -1,18 +1,16 @@
 -- The tidy form of what a stream says stays the same when the table grows, and can be written where it stood.
-use Rattle.std.proofs.Common.{◌≡◌, ℕ, zero, suc, ◌+◌, ◌≤◌, inl, inr, List, [], ◌∷◌, ◌++◌, length, Option, Some}
-use Rattle.std.proofs.Common.{None, arith, refl, subst, length-append}
-use Rattle.std.specs.Prelude.{slice_get}
+use Rattle.std.proofs.Common.{◌≡◌, ℕ, zero, suc, ◌+◌, ◌≤◌, inl, inr, List, ◌∷◌, ◌++◌, length, Option}
+use Rattle.std.proofs.Common.{arith, refl, subst, length-append}
 use Rattle.std.proofs.lemmas.Bool.{cases_lt}
 use Rattle.gob_num.specs.Unsigned.{IsUnsigned, short, long}
 use Rattle.gob_num.proofs.PublicLaws.{big_endian_below, unsigned_spelled, unsigned_fits, unsigned_length}
 use Rattle.gob_types.specs.declared.id.TypeId.{TypeId}
 use Rattle.gob_types.specs.declared.kind.Field.{Field}
 use Rattle.gob_types.specs.declared.kind.Kind.{Kind}
-use Rattle.gob_types.specs.declared.kind.Kind.TheVariants as kind
 use Rattle.gob_types.specs.declared.kind.Shape.{Shape}
 use Rattle.gob_types.specs.Base.{base_table, wire_type}
-use Rattle.gob_types.specs.Table.{Table, shape_of}
-use Rattle.gob_types.proofs.PublicLaws.{Keeps, some_injective}
+use Rattle.gob_types.specs.Table.{Table}
+use Rattle.gob_types.proofs.PublicLaws.{Keeps}
 use Rattle.gob_value.specs.Fits.{Fits}
 use Rattle.gob_value.specs.Spelling as spelling
 use Rattle.gob_value.specs.Spelling.{Spells, SpellsAs, SpellsEach, SpellsPairs, SpellsFields}

@@ -1,11 +1,11 @@
 //! The run that says whether bytes are a stream, and how much there is in it.
 
-ghost use Rattle.std.specs.Prelude.{◌≡◌, ◌<◌, ◌≤◌, ℕ, List, [], ◌++◌, Some, IfOk, length, string_bytes};
+ghost use Rattle.std.specs.Prelude.{◌≡◌, ◌<◌, ◌≤◌, ℕ, List, ◌++◌, Some, IfOk, length, string_bytes};
 ghost use Rattle.gob_stream.specs.Bounds.{AreLimits, deepest, no_deeper};
 ghost use Rattle.gob_stream.specs.Ends.{failed_reads, failed_writes, reader_of, writer_of};
 ghost use Rattle.gob_stream.specs.Session.{limits_of};
 ghost use Rattle.gob_tool.specs.Checking.{CheckAnswers};
-ghost use Rattle.gob_tool.specs.Machine.Counting.{GaveCounts, EndsCounting, CountsCounting, tally_line};
+ghost use Rattle.gob_tool.specs.Machine.Counting.{EndsCounting, CountsCounting, tally_line};
 ghost use Rattle.gob_tool.specs.Machine.Counting.{HasCounted, CountsAll, CountsFront};
 ghost use Rattle.gob_tool.specs.Showing.{CountsReadFaults, CountsWriteFaults};
 
@@ -99,31 +99,12 @@ fn count_stream<R: Read>(
     ensures reads { CountsCounting (failed_reads input.old) (failed_reads input.new) result }
 {
     let mut buffer = vec![in alloc; 0; PIECE].map_err(Memory::from)?;
+    let room = buffer.as_mut_slice();
     let mut session = Session::<SkipBuilder>::new(alloc, limits)?;
-    let counted = count_pieces(alloc, input, &mut session, &mut buffer);
-    drop(session);
-    counted
-}
-
-/// The same, over a session that has read nothing, and with room for a piece.
-fn count_pieces<R: Read>(
-    alloc: Global,
-    input: &mut Input<R>,
-    session: &mut Session<SkipBuilder>,
-    buffer: &mut [u8],
-) -> Result<Tally, ToolFault>
-    requires has_read { GaveCounts session.old [] [] }
-    requires limits { AreLimits deepest (limits_of session.old) }
-    requires room { 0 < length buffer.old }
-    ensures counted { (bytes : List ℕ) → R.remaining (reader_of input.old) ≡ Some bytes
-        → EndsCounting tally_line (no_deeper deepest (limits_of session.old)) bytes
-        (R.remaining (reader_of input.new)) result }
-    ensures reads { CountsCounting (failed_reads input.old) (failed_reads input.new) result }
-{
     let mut items = 0;
     let mut bytes = 0;
     'pieces: loop {
-        match input.read(buffer) {
+        match input.read(room) {
             Ok(0) => {
                 session.finish()?;
                 let types = session.table().count();
@@ -134,7 +115,7 @@ fn count_pieces<R: Read>(
                 });
             }
             Ok(count) => {
-                count_piece(alloc, session, &buffer[..count], &mut items)?;
+                count_piece(alloc, &mut session, &room[..count], &mut items)?;
                 bytes += count as u64;
             }
             Err(_) => return Err(ToolFault::Read),

@@ -2,13 +2,13 @@
 
 ghost use Rattle.std.specs.Prelude.{◌≡◌, ◌<◌, ◌≤◌, ◌++◌, ℕ, List, [], Option, Some, length, IfOk, IfSome, OnOk};
 ghost use Rattle.std.specs.Io.KnownBytes.{Consumes, IsAtEnd};
-ghost use Rattle.gob_stream.specs.Bounds.{AreLimits, deepest, no_deeper};
+ghost use Rattle.gob_stream.specs.Bounds.{deepest, no_deeper};
 ghost use Rattle.gob_stream.specs.Ends.{failed_reads, failed_writes, reader_of, writer_of};
 ghost use Rattle.gob_stream.specs.Session.{limits_of};
 ghost use Rattle.gob_stream.specs.Writing.{IsNew};
 ghost use Rattle.gob_tool.specs.Machine.Gathering.{Gathered, CountsOnlyReads, CountsOnlyWrites};
 ghost use Rattle.gob_tool.specs.Rewriting.{RewriteAnswers, RewritesSo};
-ghost use Rattle.gob_tool.specs.Machine.Rewritten.{GaveTapes, HasRewritten, RewritesPiece, RewritesSome, RewritesUsed};
+ghost use Rattle.gob_tool.specs.Machine.Rewritten.{HasRewritten, RewritesPiece, RewritesSome, RewritesUsed};
 ghost use Rattle.gob_tool.specs.Machine.Rewritten.{MayRewriteWhole};
 ghost use Rattle.gob_tool.specs.Machine.Rewritten.{RewritesIn, RewritesKeeping, MayRewriteFront};
 ghost use Rattle.gob_tool.specs.Showing.{AppendsFront, CountsReadFaults, CountsWriteFaults};
@@ -102,40 +102,15 @@ fn rewrite_items<R: Read, W: Write>(
     ensures writes { CountsOnlyWrites (failed_writes output.old) (failed_writes output.new) result }
 {
     let mut buffer = vec![in alloc; 0; PIECE].map_err(Memory::from)?;
+    let room = buffer.as_mut_slice();
     let mut session = Session::<TapeBuilder>::new(alloc, limits)?;
-    let rewritten = rewrite_pieces(alloc, input, output, &mut session, &mut buffer, rewriter);
-    drop(session);
-    rewritten
-}
-
-/// The same, over a session that has read nothing, and with room for a piece.
-fn rewrite_pieces<R: Read, W: Write>(
-    alloc: Global,
-    input: &mut Input<R>,
-    output: &mut Output<W>,
-    session: &mut Session<TapeBuilder>,
-    buffer: &mut [u8],
-    rewriter: &mut Rewriter,
-) -> Result<(), ToolFault>
-    requires has_read { GaveTapes session.old [] [] }
-    requires limits { AreLimits deepest (limits_of session.old) }
-    requires new { IsNew rewriter.old.writer (limits_of session.old) }
-    requires empty { rewriter.old.gathered.items ≡ [] }
-    requires room { 0 < length buffer.old }
-    ensures rewritten { (bytes : List ℕ) → R.remaining (reader_of input.old) ≡ Some bytes
-        → RewritesSo (no_deeper deepest (limits_of session.old)) bytes (R.remaining (reader_of input.new))
-        (Gathered (W.contents (writer_of output.old)) (W.contents (writer_of output.new)) rewriter.new.gathered.items)
-        (AppendsFront (W.contents (writer_of output.old)) (W.contents (writer_of output.new))) result }
-    ensures reads { CountsOnlyReads (failed_reads input.old) (failed_reads input.new) result }
-    ensures writes { CountsOnlyWrites (failed_writes output.old) (failed_writes output.new) result }
-{
     let mut pending = Pending::new(alloc);
     'pieces: loop {
-        match input.read(buffer) {
-            Ok(0) => return rewrite_end(alloc, pending.bytes(), session, rewriter, output),
+        match input.read(room) {
+            Ok(0) => return rewrite_end(alloc, pending.bytes(), &mut session, rewriter, output),
             Ok(count) => {
-                let piece = &buffer[..count];
-                rewrite_next(alloc, piece, session, &mut pending, rewriter, output)?;
+                let piece = &room[..count];
+                rewrite_next(alloc, piece, &mut session, &mut pending, rewriter, output)?;
             }
             Err(_) => return Err(ToolFault::Read),
         }

@@ -1,13 +1,11 @@
 //! The run that prints a stream.
 
-ghost use Rattle.std.specs.Prelude.{◌≡◌, ◌≢◌, ℕ, ◌<◌, ◌≤◌, List, [], ◌++◌, length, min, Option, Some, IfOk, IfSome, OnOk};
+ghost use Rattle.std.specs.Prelude.{◌≡◌, ℕ, ◌<◌, ◌≤◌, List, [], ◌++◌, length, min, Option, Some, IfOk, IfSome, OnOk};
 ghost use Rattle.gob_stream.specs.Ends.{failed_reads, failed_writes, reader_of, writer_of};
 ghost use Rattle.gob_stream.specs.Session.{limits_of};
-ghost use Rattle.gob_stream.specs.Machine.SessionState.{SessionState};
-ghost use Rattle.gob_stream.specs.Item.{StreamItem};
 ghost use Rattle.gob_tool.specs.Showing.{RunAnswers, ShowAnswers, AppendsFront, CountsReadFaults, CountsWriteFaults};
 ghost use Rattle.gob_stream.specs.Bounds.{greatest_depth, within_trees};
-ghost use Rattle.gob_tool.specs.Machine.Gathering.{Gathered, GaveItems, StandsBehind, TakesPiece};
+ghost use Rattle.gob_tool.specs.Machine.Gathering.{Gathered, StandsBehind, TakesPiece};
 ghost use Rattle.gob_tool.specs.Machine.Gathering.{CountsOnlyReads, CountsOnlyWrites};
 ghost use Rattle.gob_tool.specs.Machine.Gathering.{MayGatherWhole, TakesFront};
 ghost use Rattle.gob_tool.specs.Machine.Keeping.{KeepsBehind, TakesKeeping, MayTakeFront};
@@ -72,38 +70,15 @@ fn show_items<R: Read, W: Write>(
     ensures writes { CountsOnlyWrites (failed_writes output.old) (failed_writes output.new) result }
 {
     let mut buffer = vec![in alloc; 0; PIECE].map_err(Memory::from)?;
+    let room = buffer.as_mut_slice();
     let mut session = Session::<TreeBuilder>::new(alloc, limits)?;
-    let shown = show_pieces(alloc, input, output, &mut session, &mut buffer, lines);
-    drop(session);
-    shown
-}
-
-/// The same, over a session that has read nothing, and with room for a piece.
-fn show_pieces<R: Read, W: Write>(
-    alloc: Global,
-    input: &mut Input<R>,
-    output: &mut Output<W>,
-    session: &mut Session<TreeBuilder>,
-    buffer: &mut [u8],
-    lines: &mut Lines,
-) -> Result<(), ToolFault>
-    requires has_read { GaveItems session.old [] [] }
-    requires room { 0 < length buffer.old }
-    requires lines { lines.old.gathered.items ≡ [] }
-    ensures shown { (bytes : List ℕ) → R.remaining (reader_of input.old) ≡ Some bytes
-        → RunAnswers (within_trees (limits_of session.old)) bytes (R.remaining (reader_of input.new))
-        (Gathered (W.contents (writer_of output.old)) (W.contents (writer_of output.new)) lines.new.gathered.items)
-        (AppendsFront (W.contents (writer_of output.old)) (W.contents (writer_of output.new))) result }
-    ensures reads { CountsOnlyReads (failed_reads input.old) (failed_reads input.new) result }
-    ensures writes { CountsOnlyWrites (failed_writes output.old) (failed_writes output.new) result }
-{
     let mut pending = Pending::new(alloc);
     'pieces: loop {
-        match input.read(buffer) {
-            Ok(0) => return show_end(alloc, pending.bytes(), session, lines, output),
+        match input.read(room) {
+            Ok(0) => return show_end(alloc, pending.bytes(), &mut session, lines, output),
             Ok(count) => {
-                let piece = &buffer[..count];
-                show_next(alloc, piece, session, &mut pending, lines, output)?;
+                let piece = &room[..count];
+                show_next(alloc, piece, &mut session, &mut pending, lines, output)?;
             }
             Err(_) => return Err(ToolFault::Read),
         }

@@ -1,6 +1,6 @@
 //! The run that receives the values of a stream as values of a type of another.
 
-ghost use Rattle.std.specs.Prelude.{◌≡◌, ◌<◌, ℕ, List, [], ◌∷◌, Some, length};
+ghost use Rattle.std.specs.Prelude.{◌≡◌, ◌<◌, ℕ, List, [], ◌∷◌, Some};
 ghost use Rattle.std.specs.Io.KnownBytes.{Appends};
 ghost use Rattle.gob_types.specs.Defined.{types};
 ghost use Rattle.gob_types.specs.Ready.{IsReady};
@@ -149,48 +149,11 @@ fn take_items<R: Read, W: Write>(
     ensures writes { CountsOnlyWrites (failed_writes output.old) (failed_writes output.new) result }
 {
     let mut buffer = vec![in alloc; 0; PIECE].map_err(Memory::from)?;
+    let room = buffer.as_mut_slice();
     let mut session = Session::<TreeBuilder>::new(alloc, limits)?;
-    let taken = take_pieces(
-        alloc,
-        wanted,
-        wanted_id,
-        input,
-        output,
-        &mut session,
-        &mut buffer,
-        lines,
-    );
-    drop(session);
-    taken
-}
-
-/// The same, over a session that has read nothing, and with room for a piece.
-fn take_pieces<R: Read, W: Write>(
-    alloc: Global,
-    wanted: &Table,
-    wanted_id: TypeId,
-    input: &mut Input<R>,
-    output: &mut Output<W>,
-    session: &mut Session<TreeBuilder>,
-    buffer: &mut [u8],
-    lines: &mut Lines,
-) -> Result<(), ToolFault>
-    requires ready { IsReady (types wanted.now) wanted_id }
-    requires has_read { GaveItems session.old [] [] }
-    requires room { 0 < length buffer.old }
-    requires lines { lines.old.gathered.items ≡ [] }
-    ensures taken { (bytes : List ℕ) → R.remaining (reader_of input.old) ≡ Some bytes
-        → Receiving (within_trees (limits_of session.old)) bytes (R.remaining (reader_of input.new))
-        (types wanted.now) wanted_id
-        (λ all. PassesSome (W.contents (writer_of output.old)) (W.contents (writer_of output.new))
-        all lines.new.gathered.items)
-        (AppendsFront (W.contents (writer_of output.old)) (W.contents (writer_of output.new))) result }
-    ensures reads { CountsOnlyReads (failed_reads input.old) (failed_reads input.new) result }
-    ensures writes { CountsOnlyWrites (failed_writes output.old) (failed_writes output.new) result }
-{
     let mut items = Vec::new(alloc);
     'pieces: loop {
-        let more = next_items(alloc, input, session, buffer, &mut items);
+        let more = next_items(alloc, input, &mut session, room, &mut items);
         if matches!(more, Err(Fault::Read)) {
             return Err(ToolFault::Read);
         }

@@ -1,16 +1,17 @@
 -- The session stands behind what was read and isn't kept, and the lines of the items so far went out or are gathered.
-use Rattle.std.proofs.Common.{◌≡◌, ◌+◌, ◌-◌, length}
+use Rattle.std.proofs.Common.{◌≡◌, ◌<◌, ◌+◌, ◌-◌, length}
 use Rattle.gob_tool.specs.Machine.Keeping.{KeepsIn}
-use Rattle.gob_tool.proofs.show.show_pieces.Given as goal
+use Rattle.gob_tool.proofs.show.show_items.Given as goal
 
 abbrev pub invariant-pieces : goal.invariant-pieces
 invariant-pieces g l =
-    (l.session.limits ≡ l.fn.session.limits)
+    (l.session.limits ≡ l.fn.limits)
     × (l.input.failures ≡ l.fn.input.failures)
     × (l.output.failures ≡ l.fn.output.failures)
     × KeepsIn l.session l.pending.bytes.items (g.R.Read.remaining l.fn.input.reader)
     (g.R.Read.remaining l.input.reader) (g.W.Write.contents l.fn.output.writer) (g.W.Write.contents l.output.writer)
     l.lines.gathered.items
+    × (0 < length l.room)
 
 abbrev pub decreases-pieces : goal.decreases-pieces
 decreases-pieces g l =

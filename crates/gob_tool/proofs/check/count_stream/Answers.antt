@@ -1,5 +1,5 @@
 -- From piece to piece what was read is counted, and each end is that of the stream.
-use Rattle.std.proofs.Common.{◌≡◌, ◌<◌, ◌∙◌, ◌++◌, length, take, arith, ap, refl, length-take}
+use Rattle.std.proofs.Common.{rules, ◌≡◌, ◌<◌, ◌∙◌, ◌++◌, length, take, arith, ap, refl, length-take}
 use Rattle.gob_types.specs.Defined.{types, definition_count}
 use Rattle.gob_stream.specs.Bounds.{deepest, no_deeper}
 use Rattle.gob_tool.specs.declared.check.Tally.{Tally}
@@ -10,21 +10,21 @@ use Rattle.gob_tool.proofs.CheckLaws.{count_failed, count_stopped, counting_at, 
 use Rattle.gob_tool.proofs.CheckLaws.{stop_reads, limits_as}
 use Rattle.gob_tool.proofs.PieceRuns.{nearer}
 use Rattle.gob_tool.proofs.ShowLaws.{read_none}
-use Rattle.gob_tool.proofs.check.count_pieces.Goals as goal
+use Rattle.gob_tool.proofs.check.count_stream.Goals as goal
 
 pub pieces-init : goal.pieces-init
-pieces-init g c = (refl, refl, counts_first _ _ c.requires.has_read)
+pieces-init g c = (c.in_ok-session.ensures.limits, refl, counts_first _ _ c.in_ok-session.ensures.has_read, search rules)
 
 pub returns-in_err-finish-in-Ok-eq0-clause-counted : goal.returns-in_err-finish-in-Ok-eq0-clause-counted
 returns-in_err-finish-in-Ok-eq0-clause-counted g c = λ bytes known.
     let now = g.R.Read.remaining c.pieces.input.reader in
     let next = g.R.Read.remaining c.read.new.self.reader in
     let i = c.pieces.invariant.2 in
-    let M = c.args.session.now.limits in
+    let M = c.args.limits in
     let none : c.in-Ok-eq0.field-0 ≡ 0 = omega arith in
-    let room : 0 < length c.read.new.buf = omega (arith, c.requires.room, c.pieces.auto.buffer, c.read.auto.buf) in
+    let room : 0 < length c.read.new.buf = omega (arith, c.pieces.invariant.3, c.read.auto.buf) in
     let e = c.in_err-finish-in-Ok-eq0.field-0.0 in
-    counting_at tally_line (no_deeper deepest M) bytes next c.from_residual.result (reading_fault e) c.from_residual.ensures.1
+    counting_at tally_line (no_deeper deepest M) bytes next c.from_residual-in_err-finish-in-Ok-eq0.result (reading_fault e) c.from_residual-in_err-finish-in-Ok-eq0.ensures.1
     (counted_within i M c.finish.new.self next bytes e c.pieces.invariant.0 known
     (read_none now next c.in-Ok-eq0.field-0 c.read.new.buf none c.in-Ok-eq0.ensures.bytes.0)
     (c.in-Ok-eq0.ensures.bytes.1 none room)
@@ -34,7 +34,7 @@ pub returns-in_err-finish-in-Ok-eq0-clause-reads : goal.returns-in_err-finish-in
 returns-in_err-finish-in-Ok-eq0-clause-reads g c =
     let i = c.pieces.invariant.2 in
     let e = c.in_err-finish-in-Ok-eq0.field-0.0 in
-    counting_reads_at _ _ c.from_residual.result (reading_fault e) c.from_residual.ensures.1
+    counting_reads_at _ _ c.from_residual-in_err-finish-in-Ok-eq0.result (reading_fault e) c.from_residual-in_err-finish-in-Ok-eq0.ensures.1
     (finish_reads Tally c.pieces.session c.finish.new.self i.given i.taken _ _ e
     (c.in_err-finish-in-Ok-eq0.ensures.finishes i.given i.taken i.gave)
     (c.in-Ok-eq0.ensures.counted.1 ∙ c.pieces.invariant.1))
@@ -44,9 +44,9 @@ returns-in-Ok-eq0-clause-counted g c = λ bytes known.
     let now = g.R.Read.remaining c.pieces.input.reader in
     let next = g.R.Read.remaining c.read.new.self.reader in
     let i = c.pieces.invariant.2 in
-    let M = c.args.session.now.limits in
+    let M = c.args.limits in
     let none : c.in-Ok-eq0.field-0 ≡ 0 = omega arith in
-    let room : 0 < length c.read.new.buf = omega (arith, c.requires.room, c.pieces.auto.buffer, c.read.auto.buf) in
+    let room : 0 < length c.read.new.buf = omega (arith, c.pieces.invariant.3, c.read.auto.buf) in
     counted_whole i M c.finish.new.self next bytes tt
     (record { items = c.pieces.items; types = c.count-types.result; bytes = c.pieces.bytes }) c.pieces.invariant.0 known
     (read_none now next c.in-Ok-eq0.field-0 c.read.new.buf none c.in-Ok-eq0.ensures.bytes.0)
@@ -61,13 +61,13 @@ count_piece-requires-clause-counted g c =
     (i.taken, counted_so i)
 
 pub count_piece-requires-clause-limits : goal.count_piece-requires-clause-limits
-count_piece-requires-clause-limits g c = limits_as c.pieces.invariant.0 c.requires.limits
+count_piece-requires-clause-limits g c = limits_as c.pieces.invariant.0 c.in_ok-session.ensures.allowed
 
 pub returns-in_err-count_piece-in-Ok-clause-counted : goal.returns-in_err-count_piece-in-Ok-clause-counted
 returns-in_err-count_piece-in-Ok-clause-counted g c = λ bytes known.
     let next = g.R.Read.remaining c.read.new.self.reader in
     let i = c.pieces.invariant.2 in
-    let M = c.args.session.now.limits in
+    let M = c.args.limits in
     let piece = take c.in-Ok.count c.read.new.buf in
     let e = c.in_err-count_piece-in-Ok.field-0.0 in
     counting_at tally_line (no_deeper deepest M) bytes next c.from_residual-in_err-count_piece-in-Ok.result
@@ -96,6 +96,7 @@ pieces-preserved g c =
       c.in-Ok.ensures.counted.1 ∙ c.pieces.invariant.1,
       counts_on i next piece c.in-Ok.count c.in-Ok.ensures.bytes.0 long
           (c.in_ok-count_piece-in-Ok.ensures.counted i.taken (counted_so i)),
+      omega (arith, c.pieces.invariant.3, c.read.auto.buf),
     )
 
 pub overflow_add-bytes : goal.overflow_add-bytes
@@ -109,7 +110,7 @@ overflow_add-bytes g c =
       arith,
       bytes_fit (counts_on i next piece c.in-Ok.count c.in-Ok.ensures.bytes.0 long
           (c.in_ok-count_piece-in-Ok.ensures.counted i.taken (counted_so i)))
-          (limits_as (c.in_ok-count_piece-in-Ok.ensures.limits ∙ c.pieces.invariant.0) c.requires.limits),
+          (limits_as (c.in_ok-count_piece-in-Ok.ensures.limits ∙ c.pieces.invariant.0) c.in_ok-session.ensures.allowed),
     )
 
 pub pieces-smaller : goal.pieces-smaller
@@ -123,5 +124,5 @@ pieces-smaller g c =
 pub returns-in-Err-clause-counted : goal.returns-in-Err-clause-counted
 returns-in-Err-clause-counted g c = λ bytes known.
     let next = g.R.Read.remaining c.read.new.self.reader in
-    count_failed c.pieces.invariant.2 c.args.session.now.limits next bytes c.pieces.invariant.0 known
+    count_failed c.pieces.invariant.2 c.args.limits next bytes c.pieces.invariant.0 known
     c.in-Err.ensures.bytes
