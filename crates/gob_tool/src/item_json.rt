@@ -1,6 +1,6 @@
 //! The JSON of an item.
 
-ghost use Rattle.std.specs.Prelude.{◌≡◌, ◌≤◌, ◌++◌, [], OnOk, IfOk, string_bytes};
+ghost use Rattle.std.specs.Prelude.{◌≡◌, ◌≤◌, [], IfOk, string_bytes};
 ghost use Rattle.json.specs.Tree.{json_tokens};
 ghost use Rattle.serde_json.specs.Data.{Data};
 ghost use Rattle.serde_json.specs.Written.{outline, compact_text};
@@ -9,6 +9,7 @@ ghost use Rattle.gob_types.specs.Defined.{types};
 ghost use Rattle.gob_value.specs.Tree.{Tree, depth};
 ghost use Rattle.gob_stream.specs.Item.{StreamItem, item_view, puts, ItemMeans};
 ghost use Rattle.gob_tape.specs.Meaning.{Means};
+ghost use Rattle.gob_json.specs.WritesJson.{WritesJson, WritesJsonOf};
 ghost use Rattle.gob_tool.specs.Line.{item_json, item_text};
 
 use gob_json::{write_definition, write_put, write_tape};
@@ -51,9 +52,7 @@ fn write_item_of_tape(
     table: &Table,
     out: &mut Writer,
 ) -> Result<(), AllocError>
-    ensures tokens { OnOk result ((i : StreamItem) → ItemMeans Means item.now i
-        → out.new.tokens ≡ out.old.tokens ++ json_tokens (outline (item_json (types table.now) i))) }
-    ensures before { out.new.before ≡ out.old.before }
+    ensures { WritesJsonOf result out.old out.new (ItemMeans Means item.now) (item_json (types table.now)) }
 {
     match item {
         Item::Define { id, .. } => write_definition(alloc, *id, table.shape_of(*id), out),
@@ -79,9 +78,7 @@ pub(crate) fn write_item<S: Shapes>(
     table: &S,
     out: &mut Writer,
 ) -> Result<(), AllocError>
-    ensures tokens { OnOk result (out.new.tokens
-        ≡ out.old.tokens ++ json_tokens (outline (item_json (S.table table.now) (item_view item.now)))) }
-    ensures before { out.new.before ≡ out.old.before }
+    ensures { WritesJson result out.old out.new (item_json (S.table table.now) (item_view item.now)) }
 {
     match item {
         Item::Define { id, .. } => write_definition(alloc, *id, table.shape_of(*id), out),
