@@ -29,8 +29,9 @@ pub fn run_order<Q: Read, R: Read, W: Write>(
 ) -> Result<(), ToolFault>
     ensures does { (wanted_bytes bytes : List ℕ) → Q.remaining (reader_of wanted.old) ≡ Some wanted_bytes
         → R.remaining (reader_of input.old) ≡ Some bytes
-        → OrderAnswers order.now.command (order_limits order.now) wanted_bytes bytes (Q.remaining (reader_of wanted.new))
-        (R.remaining (reader_of input.new)) (W.contents (writer_of output.old)) (W.contents (writer_of output.new)) result }
+        → OrderAnswers order.now.command (order_limits order.now) wanted_bytes bytes
+        (Q.remaining (reader_of wanted.new)) (R.remaining (reader_of input.new))
+        (W.contents (writer_of output.old)) (W.contents (writer_of output.new)) result }
     ensures unread { wants_type order.now.command ≡ false → wanted.new ≡ wanted.old }
     ensures reads { CountsTakeReads (failed_reads wanted.old) (failed_reads wanted.new)
         (failed_reads input.old) (failed_reads input.new)

@@ -1,6 +1,7 @@
 -- From piece to piece what was read is counted, and each end is that of the stream.
 use Rattle.std.proofs.Common.{rules, ◌≡◌, ◌<◌, ◌∙◌, ◌++◌, length, take, arith, ap, refl, length-take}
 use Rattle.gob_types.specs.Defined.{types, definition_count}
+use Rattle.gob_stream.specs.Ends.{reader_of}
 use Rattle.gob_stream.specs.Bounds.{deepest, no_deeper}
 use Rattle.gob_tool.specs.declared.check.Tally.{Tally}
 use Rattle.gob_tool.specs.Machine.Counting.{tally_line}
@@ -17,8 +18,8 @@ pieces-init g c = (c.in_ok-session.ensures.limits, refl, counts_first _ _ c.in_o
 
 pub returns-in_err-finish-in-Ok-eq0-clause-counted : goal.returns-in_err-finish-in-Ok-eq0-clause-counted
 returns-in_err-finish-in-Ok-eq0-clause-counted g c = λ bytes known.
-    let now = g.R.Read.remaining c.pieces.input.reader in
-    let next = g.R.Read.remaining c.read.new.self.reader in
+    let now = g.R.Read.remaining (reader_of c.pieces.input) in
+    let next = g.R.Read.remaining (reader_of c.read.new.self) in
     let i = c.pieces.invariant.2 in
     let M = c.args.limits in
     let none : c.in-Ok-eq0.field-0 ≡ 0 = omega arith in
@@ -41,8 +42,8 @@ returns-in_err-finish-in-Ok-eq0-clause-reads g c =
 
 pub returns-in-Ok-eq0-clause-counted : goal.returns-in-Ok-eq0-clause-counted
 returns-in-Ok-eq0-clause-counted g c = λ bytes known.
-    let now = g.R.Read.remaining c.pieces.input.reader in
-    let next = g.R.Read.remaining c.read.new.self.reader in
+    let now = g.R.Read.remaining (reader_of c.pieces.input) in
+    let next = g.R.Read.remaining (reader_of c.read.new.self) in
     let i = c.pieces.invariant.2 in
     let M = c.args.limits in
     let none : c.in-Ok-eq0.field-0 ≡ 0 = omega arith in
@@ -65,7 +66,7 @@ count_piece-requires-clause-limits g c = limits_as c.pieces.invariant.0 c.in_ok-
 
 pub returns-in_err-count_piece-in-Ok-clause-counted : goal.returns-in_err-count_piece-in-Ok-clause-counted
 returns-in_err-count_piece-in-Ok-clause-counted g c = λ bytes known.
-    let next = g.R.Read.remaining c.read.new.self.reader in
+    let next = g.R.Read.remaining (reader_of c.read.new.self) in
     let i = c.pieces.invariant.2 in
     let M = c.args.limits in
     let piece = take c.in-Ok.count c.read.new.buf in
@@ -88,7 +89,7 @@ returns-in_err-count_piece-in-Ok-clause-reads g c =
 pub pieces-preserved : goal.pieces-preserved
 pieces-preserved g c =
     let i = c.pieces.invariant.2 in
-    let next = g.R.Read.remaining c.read.new.self.reader in
+    let next = g.R.Read.remaining (reader_of c.read.new.self) in
     let piece = take c.in-Ok.count c.read.new.buf in
     let long : c.in-Ok.count ≡ length piece = omega
     (arith, length-take c.in-Ok.count c.read.new.buf, c.in-Ok.ensures.bound) in (
@@ -102,7 +103,7 @@ pieces-preserved g c =
 pub overflow_add-bytes : goal.overflow_add-bytes
 overflow_add-bytes g c =
     let i = c.pieces.invariant.2 in
-    let next = g.R.Read.remaining c.read.new.self.reader in
+    let next = g.R.Read.remaining (reader_of c.read.new.self) in
     let piece = take c.in-Ok.count c.read.new.buf in
     let long : c.in-Ok.count ≡ length piece = omega
     (arith, length-take c.in-Ok.count c.read.new.buf, c.in-Ok.ensures.bound) in
@@ -123,6 +124,6 @@ pieces-smaller g c =
 
 pub returns-in-Err-clause-counted : goal.returns-in-Err-clause-counted
 returns-in-Err-clause-counted g c = λ bytes known.
-    let next = g.R.Read.remaining c.read.new.self.reader in
+    let next = g.R.Read.remaining (reader_of c.read.new.self) in
     count_failed c.pieces.invariant.2 c.args.limits next bytes c.pieces.invariant.0 known
     c.in-Err.ensures.bytes

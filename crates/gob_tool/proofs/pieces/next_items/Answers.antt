@@ -2,6 +2,7 @@
 use Rattle.std.proofs.Common.{◌≡◌, ◌<◌, List, [], Ok, Err, false, ap, length, take, arith, refl, length-take}
 use Rattle.std.proofs.KnownBytes.{Consumes-nil, Consumes-kept}
 use Rattle.gob_value.specs.declared.value.Value.{Value}
+use Rattle.gob_stream.specs.Ends.{reader_of}
 use Rattle.gob_stream.specs.declared.fault.Fault.TheVariants as reading
 use Rattle.gob_stream.specs.declared.item.Item as declared
 use Rattle.gob_stream.specs.Item.{item_views}
@@ -14,8 +15,8 @@ use Rattle.gob_tool.proofs.pieces.next_items.Goals as goal
 
 pub returns-in-Err-clause-gave : goal.returns-in-Err-clause-gave
 returns-in-Err-clause-gave g c = λ before taken gave.
-    let read = g.R.Read.remaining c.args.input.now.reader in
-    let now = g.R.Read.remaining c.read.new.self.reader in
+    let read = g.R.Read.remaining (reader_of c.args.input.now) in
+    let now = g.R.Read.remaining (reader_of c.read.new.self) in
     let s = c.args.session.now in
     gives_none s s before taken _ read now (Err reading.Read)
     (ap (λ (l : List (declared.Item Value)). item_views l) c.clear.ensures.items)
@@ -23,8 +24,8 @@ returns-in-Err-clause-gave g c = λ before taken gave.
 
 pub returns-in_err-finish-in-Ok-eq0-clause-gave : goal.returns-in_err-finish-in-Ok-eq0-clause-gave
 returns-in_err-finish-in-Ok-eq0-clause-gave g c = λ before taken gave.
-    let read = g.R.Read.remaining c.args.input.now.reader in
-    let now = g.R.Read.remaining c.read.new.self.reader in
+    let read = g.R.Read.remaining (reader_of c.args.input.now) in
+    let now = g.R.Read.remaining (reader_of c.read.new.self) in
     let none : c.in-Ok-eq0.field-0 ≡ 0 = omega arith in
     let room : 0 < length c.read.new.buf = omega (arith, c.requires.room, c.read.auto.buf) in
     let s = c.args.session.now in
@@ -48,8 +49,8 @@ returns-in_err-finish-in-Ok-eq0-clause-reads g c =
 
 pub returns-in_ok-finish-in-Ok-eq0-clause-gave : goal.returns-in_ok-finish-in-Ok-eq0-clause-gave
 returns-in_ok-finish-in-Ok-eq0-clause-gave g c = λ before taken gave.
-    let read = g.R.Read.remaining c.args.input.now.reader in
-    let now = g.R.Read.remaining c.read.new.self.reader in
+    let read = g.R.Read.remaining (reader_of c.args.input.now) in
+    let now = g.R.Read.remaining (reader_of c.read.new.self) in
     let none : c.in-Ok-eq0.field-0 ≡ 0 = omega arith in
     let room : 0 < length c.read.new.buf = omega (arith, c.requires.room, c.read.auto.buf) in
     let s = c.args.session.now in
@@ -63,8 +64,8 @@ returns-in_ok-finish-in-Ok-eq0-clause-gave g c = λ before taken gave.
 
 pub returns-in_err-feed-in-Ok-clause-gave : goal.returns-in_err-feed-in-Ok-clause-gave
 returns-in_err-feed-in-Ok-clause-gave g c = λ before taken gave.
-    let read = g.R.Read.remaining c.args.input.now.reader in
-    let now = g.R.Read.remaining c.read.new.self.reader in
+    let read = g.R.Read.remaining (reader_of c.args.input.now) in
+    let now = g.R.Read.remaining (reader_of c.read.new.self) in
     let s = c.args.session.now in
     let s' = c.feed.new.self in
     let e = c.in_err-feed-in-Ok.field-0.0 in
@@ -87,8 +88,8 @@ returns-in_err-feed-in-Ok-clause-reads g c =
 
 pub returns-in_ok-feed-in-Ok-clause-gave : goal.returns-in_ok-feed-in-Ok-clause-gave
 returns-in_ok-feed-in-Ok-clause-gave g c = λ before taken gave.
-    let read = g.R.Read.remaining c.args.input.now.reader in
-    let now = g.R.Read.remaining c.read.new.self.reader in
+    let read = g.R.Read.remaining (reader_of c.args.input.now) in
+    let now = g.R.Read.remaining (reader_of c.read.new.self) in
     let s = c.args.session.now in
     let s' = c.feed.new.self in
     let fed = c.in_ok-feed-in-Ok.ensures.fed in

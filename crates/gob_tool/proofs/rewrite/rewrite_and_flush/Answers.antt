@@ -3,6 +3,7 @@ use Rattle.std.proofs.Common.{rules, ◌≡◌, Err}
 use Rattle.std.specs.Io.KnownBytes.{Appends}
 use Rattle.std.proofs.KnownBytes.{Appends-kept}
 use Rattle.gob_tool.specs.declared.fault.ToolFault.TheVariants as fault
+use Rattle.gob_stream.specs.Ends.{reader_of, writer_of}
 use Rattle.gob_stream.specs.Bounds.{deepest, no_deeper}
 use Rattle.gob_tool.specs.Machine.Gathering.{Gathered}
 use Rattle.gob_tool.specs.Showing.{AppendsFront}
@@ -14,10 +15,10 @@ pub returns-in_err-write_to-clause-rewritten : goal.returns-in_err-write_to-clau
 returns-in_err-write_to-clause-rewritten g c = λ bytes known.
     let other : c.rewrite_items-rewritten.result ≡ Err fault.Write → ⊥ = search rules in
     let failed = c.in_err-write_to.ensures.written in
-    let old = g.W.Write.contents c.args.output.now.writer in
-    let mid = g.W.Write.contents c.rewrite_items-rewritten.new.output.writer in
-    let new = g.W.Write.contents c.write_to.new.output.writer in
-    let next = g.R.Read.remaining c.rewrite_items-rewritten.new.input.reader in
+    let old = g.W.Write.contents (writer_of c.args.output.now) in
+    let mid = g.W.Write.contents (writer_of c.rewrite_items-rewritten.new.output) in
+    let new = g.W.Write.contents (writer_of c.write_to.new.output) in
+    let next = g.R.Read.remaining (reader_of c.rewrite_items-rewritten.new.input) in
     let gathered = c.rewrite_items-rewritten.new.rewriter.gathered.items in
     let before = rewritten_before (no_deeper deepest c.args.limits) bytes next (Gathered old mid gathered) (AppendsFront old mid)
     c.rewrite_items-rewritten.result (c.rewrite_items-rewritten.ensures.rewritten bytes known) other in
@@ -29,11 +30,11 @@ returns-in_err-write_to-clause-rewritten g c = λ bytes known.
 pub returns-in-Ok-clause-rewritten : goal.returns-in-Ok-clause-rewritten
 returns-in-Ok-clause-rewritten g c = λ bytes known.
     let other : c.rewrite_items-rewritten.result ≡ Err fault.Write → ⊥ = search rules in
-    let old = g.W.Write.contents c.args.output.now.writer in
-    let mid = g.W.Write.contents c.rewrite_items-rewritten.new.output.writer in
-    let new = g.W.Write.contents c.write_to.new.output.writer in
-    let end = g.W.Write.contents c.flush-flushed.new.self.writer in
-    let next = g.R.Read.remaining c.rewrite_items-rewritten.new.input.reader in
+    let old = g.W.Write.contents (writer_of c.args.output.now) in
+    let mid = g.W.Write.contents (writer_of c.rewrite_items-rewritten.new.output) in
+    let new = g.W.Write.contents (writer_of c.write_to.new.output) in
+    let end = g.W.Write.contents (writer_of c.flush-flushed.new.self) in
+    let next = g.R.Read.remaining (reader_of c.rewrite_items-rewritten.new.input) in
     let gathered = c.rewrite_items-rewritten.new.rewriter.gathered.items in
     let before = rewritten_before (no_deeper deepest c.args.limits) bytes next (Gathered old mid gathered) (AppendsFront old mid)
     c.rewrite_items-rewritten.result (c.rewrite_items-rewritten.ensures.rewritten bytes known) other in
@@ -45,11 +46,11 @@ returns-in-Ok-clause-rewritten g c = λ bytes known.
 pub returns-in_default-rewritten-2-clause-rewritten : goal.returns-in_default-rewritten-2-clause-rewritten
 returns-in_default-rewritten-2-clause-rewritten g c = λ bytes known.
     let other : c.rewrite_items-rewritten.result ≡ Err fault.Write → ⊥ = search rules in
-    let old = g.W.Write.contents c.args.output.now.writer in
-    let mid = g.W.Write.contents c.rewrite_items-rewritten.new.output.writer in
-    let new = g.W.Write.contents c.write_to.new.output.writer in
-    let end = g.W.Write.contents c.flush-flushed.new.self.writer in
-    let next = g.R.Read.remaining c.rewrite_items-rewritten.new.input.reader in
+    let old = g.W.Write.contents (writer_of c.args.output.now) in
+    let mid = g.W.Write.contents (writer_of c.rewrite_items-rewritten.new.output) in
+    let new = g.W.Write.contents (writer_of c.write_to.new.output) in
+    let end = g.W.Write.contents (writer_of c.flush-flushed.new.self) in
+    let next = g.R.Read.remaining (reader_of c.rewrite_items-rewritten.new.input) in
     let gathered = c.rewrite_items-rewritten.new.rewriter.gathered.items in
     rewrites_as (no_deeper deepest c.args.limits) bytes next (Gathered old mid gathered) (Appends old end) (AppendsFront old mid)
     (AppendsFront old end) c.rewrite_items-rewritten.result (c.rewrite_items-rewritten.ensures.rewritten bytes known) other

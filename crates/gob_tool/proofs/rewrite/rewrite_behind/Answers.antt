@@ -2,6 +2,7 @@
 use Rattle.std.proofs.Common.{◌≡◌, [], Err, ◌-◌, ◌∙◌, ◌++◌, ℕ, Option, Ok, ap, sym, subst, drop, take, length, length-drop, refl}
 use Rattle.std.proofs.Math.Seq.{take-length}
 use Rattle.gob_tool.specs.declared.fault.ToolFault.TheVariants as fault
+use Rattle.gob_stream.specs.Ends.{writer_of}
 use Rattle.gob_stream.specs.Bounds.{deepest, no_deeper}
 use Rattle.gob_tool.specs.Machine.Rewritten.{MayRewriteFront}
 use Rattle.gob_tool.proofs.RewriteRuns.{up_to_none, up_to_more}
@@ -33,7 +34,7 @@ returns-in_err-keep-in-None-clause-rewritten g c = λ h.
     let w = c.rewrite_ready.new.rewriter.writer in
     let u = c.items.invariant.3 h in
     let kept = subst (λ (o : Option ℕ). MayRewriteFront u.on.next s w c.items.rest.now
-    (g.W.Write.contents c.items.output.writer) (g.W.Write.contents c.rewrite_ready.new.output.writer)
+    (g.W.Write.contents (writer_of c.items.output)) (g.W.Write.contents (writer_of c.rewrite_ready.new.output))
     c.items.rewriter.gathered.items c.rewrite_ready.new.rewriter.gathered.items (Ok o)) c.in-None.is
     (c.in_ok-used.ensures.rewritten u.on.next) in
     keeping_at (no_deeper deepest M) h s w c.keep.new.self.bytes.items c.args.piece.now _ _ _ _
@@ -45,7 +46,7 @@ returns-in-None-clause-rewritten g c = λ h.
     let u = c.items.invariant.3 h in
     let kept = subst (λ (o : Option ℕ). MayRewriteFront u.on.next c.rewrite_ready.new.session
     c.rewrite_ready.new.rewriter.writer c.items.rest.now
-    (g.W.Write.contents c.items.output.writer) (g.W.Write.contents c.rewrite_ready.new.output.writer)
+    (g.W.Write.contents (writer_of c.items.output)) (g.W.Write.contents (writer_of c.rewrite_ready.new.output))
     c.items.rewriter.gathered.items c.rewrite_ready.new.rewriter.gathered.items (Ok o)) c.in-None.is
     (c.in_ok-used.ensures.rewritten u.on.next) in
     rest_kept h u (c.in_ok-keep-in-None.ensures.kept ∙ ap (λ l. l ++ c.items.rest.now) c.items.invariant.2) kept
@@ -63,7 +64,7 @@ items-preserved g c =
           let u = c.items.invariant.3 h in
           let taken = subst (λ (o : Option ℕ). MayRewriteFront u.on.next c.rewrite_ready.new.session
           c.rewrite_ready.new.rewriter.writer rest
-          (g.W.Write.contents c.items.output.writer) (g.W.Write.contents c.rewrite_ready.new.output.writer)
+          (g.W.Write.contents (writer_of c.items.output)) (g.W.Write.contents (writer_of c.rewrite_ready.new.output))
           c.items.rewriter.gathered.items c.rewrite_ready.new.rewriter.gathered.items (Ok o)) c.in-Some.is
           (c.in_ok-used.ensures.rewritten u.on.next) in
           up_to_more h u n later taken,

@@ -1,16 +1,17 @@
 -- The front of the piece was rewritten, and what was written of it went out or is gathered; nothing is kept yet.
 use Rattle.std.proofs.Common.{◌≡◌, [], length}
+use Rattle.gob_stream.specs.Ends.{failed_writes, writer_of}
 use Rattle.gob_tool.specs.Machine.Rewritten.{HasRewritten, RewritesUpTo}
 use Rattle.gob_tool.proofs.rewrite.rewrite_behind.Given as goal
 
 abbrev pub invariant-items : goal.invariant-items
 invariant-items g l =
     (l.session.limits ≡ l.fn.session.limits)
-    × (l.output.failures ≡ l.fn.output.failures)
+    × (failed_writes l.output ≡ failed_writes l.fn.output)
     × (l.pending.bytes.items ≡ [])
     × ((h : HasRewritten l.fn.session l.fn.rewriter.writer)
-    → RewritesUpTo h l.session l.rewriter.writer l.piece l.rest (g.W.Write.contents l.fn.output.writer)
-    (g.W.Write.contents l.output.writer) l.fn.rewriter.gathered.items l.rewriter.gathered.items)
+    → RewritesUpTo h l.session l.rewriter.writer l.piece l.rest (g.W.Write.contents (writer_of l.fn.output))
+    (g.W.Write.contents (writer_of l.output)) l.fn.rewriter.gathered.items l.rewriter.gathered.items)
 
 abbrev pub decreases-items : goal.decreases-items
 decreases-items g l = length l.rest

@@ -1,6 +1,7 @@
 -- The kept bytes are rewritten, and then the end is that of the stream.
 use Rattle.std.proofs.Common.{refl}
 use Rattle.std.proofs.KnownBytes.{Consumes-nil}
+use Rattle.gob_stream.specs.Ends.{writer_of}
 use Rattle.gob_stream.specs.Bounds.{deepest, no_deeper}
 use Rattle.gob_tool.specs.Fault.{reading_fault}
 use Rattle.gob_tool.specs.Machine.Gathering.{Gathered}
@@ -15,7 +16,7 @@ returns-in_err-rewrite_piece-clause-rewritten g c = λ bytes read at next start 
     let M = c.args.session.now.limits in
     let s = c.rewrite_piece.new.session in
     let w = c.rewrite_piece.new.rewriter.writer in
-    let new = g.W.Write.contents c.rewrite_piece.new.output.writer in
+    let new = g.W.Write.contents (writer_of c.rewrite_piece.new.output) in
     let after = c.rewrite_piece.new.rewriter.gathered.items in
     let f = c.in_err-rewrite_piece.field-0.0 in
     rewrites_at (no_deeper deepest M) bytes next (Gathered start new after) (AppendsFront start new)
@@ -34,7 +35,7 @@ returns-in_err-rewrite_piece-clause-reads g c = λ n.
 pub returns-in_err-finish-clause-rewritten : goal.returns-in_err-finish-clause-rewritten
 returns-in_err-finish-clause-rewritten g c = λ bytes read at next start i known k end.
     let M = c.args.session.now.limits in
-    let new = g.W.Write.contents c.rewrite_piece.new.output.writer in
+    let new = g.W.Write.contents (writer_of c.rewrite_piece.new.output) in
     let after = c.rewrite_piece.new.rewriter.gathered.items in
     let e = c.in_err-finish.field-0.0 in
     let j = rewrites_on i c.args.kept.now k (c.in_ok-rewrite_piece.ensures.rewritten i.so_far) in

@@ -3,6 +3,7 @@ use Rattle.std.proofs.Common.{rules, [], ◌≡◌, ◌<◌, ◌∙◌, ◌++◌
 use Rattle.std.specs.Io.KnownBytes.{Consumes}
 use Rattle.std.proofs.KnownBytes.{Appends-nil}
 use Rattle.gob_tool.specs.declared.fault.ToolFault.TheVariants as fault
+use Rattle.gob_stream.specs.Ends.{failed_reads, reader_of, writer_of}
 use Rattle.gob_stream.specs.Writing.{IsNew}
 use Rattle.gob_tool.proofs.CheckLaws.{limits_as}
 use Rattle.gob_stream.specs.Bounds.{Bounds, deepest, no_deeper}
@@ -16,18 +17,18 @@ use Rattle.gob_tool.proofs.rewrite.rewrite_items.Goals as goal
 
 pub returns-in_err-buffer-clause-rewritten : goal.returns-in_err-buffer-clause-rewritten
 returns-in_err-buffer-clause-rewritten g c = λ bytes known.
-    let out = g.W.Write.contents c.args.output.now.writer in
+    let out = g.W.Write.contents (writer_of c.args.output.now) in
     let gathered = c.args.rewriter.now.gathered.items in
-    rewrites_at (no_deeper deepest c.args.limits) bytes (g.R.Read.remaining c.args.input.now.reader)
+    rewrites_at (no_deeper deepest c.args.limits) bytes (g.R.Read.remaining (reader_of c.args.input.now))
     (Gathered out out gathered) (AppendsFront out out) c.from_residual.result fault.Memory c.from_residual.ensures.1
     (rewritten_none (no_deeper deepest c.args.limits) bytes (Gathered out out gathered)
     (record { written = []; out = Appends-nil out; whole = c.requires.empty }))
 
 pub returns-in_err-session-clause-rewritten : goal.returns-in_err-session-clause-rewritten
 returns-in_err-session-clause-rewritten g c = λ bytes known.
-    let out = g.W.Write.contents c.args.output.now.writer in
+    let out = g.W.Write.contents (writer_of c.args.output.now) in
     let gathered = c.args.rewriter.now.gathered.items in
-    rewrites_at (no_deeper deepest c.args.limits) bytes (g.R.Read.remaining c.args.input.now.reader)
+    rewrites_at (no_deeper deepest c.args.limits) bytes (g.R.Read.remaining (reader_of c.args.input.now))
     (Gathered out out gathered) (AppendsFront out out) c.from_residual-in_err-session.result fault.Memory
     c.from_residual-in_err-session.ensures.1
     (rewritten_none (no_deeper deepest c.args.limits) bytes (Gathered out out gathered)
@@ -53,11 +54,11 @@ rewrite_next-requires g c = record { so_far = c.pieces.invariant.3.taken.so_far 
 
 pub returns-in-Ok-eq0-clause-rewritten : goal.returns-in-Ok-eq0-clause-rewritten
 returns-in-Ok-eq0-clause-rewritten g c = λ bytes known.
-    let read = g.R.Read.remaining c.args.input.now.reader in
-    let now = g.R.Read.remaining c.pieces.input.reader in
-    let next = g.R.Read.remaining c.read.new.self.reader in
-    let old = g.W.Write.contents c.args.output.now.writer in
-    let new = g.W.Write.contents c.rewrite_end.new.output.writer in
+    let read = g.R.Read.remaining (reader_of c.args.input.now) in
+    let now = g.R.Read.remaining (reader_of c.pieces.input) in
+    let next = g.R.Read.remaining (reader_of c.read.new.self) in
+    let old = g.W.Write.contents (writer_of c.args.output.now) in
+    let new = g.W.Write.contents (writer_of c.rewrite_end.new.output) in
     let i = c.pieces.invariant.3 in
     let none : c.in-Ok-eq0.field-0 ≡ 0 = omega arith in
     let room : 0 < length c.read.new.buf = omega (arith, c.pieces.invariant.4, c.read.auto.buf) in
@@ -70,9 +71,9 @@ returns-in-Ok-eq0-clause-rewritten g c = λ bytes known.
 
 pub returns-in-Ok-eq0-clause-reads : goal.returns-in-Ok-eq0-clause-reads
 returns-in-Ok-eq0-clause-reads g c =
-    subst (λ n. CountsOnlyReads c.args.input.now.failures n c.rewrite_end.result)
+    subst (λ n. CountsOnlyReads (failed_reads c.args.input.now) n c.rewrite_end.result)
     (sym (c.in-Ok-eq0.ensures.counted.1 ∙ c.pieces.invariant.1))
-    (c.rewrite_end.ensures.reads c.args.input.now.failures)
+    (c.rewrite_end.ensures.reads (failed_reads c.args.input.now))
 
 pub pieces-smaller : goal.pieces-smaller
 pieces-smaller g c =
@@ -95,9 +96,9 @@ pieces-preserved g c =
 
 pub returns-in_err-rewrite_next-in-Ok-clause-rewritten : goal.returns-in_err-rewrite_next-in-Ok-clause-rewritten
 returns-in_err-rewrite_next-in-Ok-clause-rewritten g c = λ bytes known.
-    let next = g.R.Read.remaining c.read.new.self.reader in
-    let old = g.W.Write.contents c.args.output.now.writer in
-    let new = g.W.Write.contents c.rewrite_next.new.output.writer in
+    let next = g.R.Read.remaining (reader_of c.read.new.self) in
+    let old = g.W.Write.contents (writer_of c.args.output.now) in
+    let new = g.W.Write.contents (writer_of c.rewrite_next.new.output) in
     let after = c.rewrite_next.new.rewriter.gathered.items in
     let piece = take c.in-Ok.count c.read.new.buf in
     let M = c.args.limits in
@@ -121,6 +122,6 @@ returns-in_err-rewrite_next-in-Ok-clause-reads g c =
 
 pub returns-in-Err-clause-rewritten : goal.returns-in-Err-clause-rewritten
 returns-in-Err-clause-rewritten g c = λ bytes known.
-    let next = g.R.Read.remaining c.read.new.self.reader in
+    let next = g.R.Read.remaining (reader_of c.read.new.self) in
     unread_keeping c.pieces.invariant.3 c.args.limits next bytes c.pieces.invariant.0 known
     c.in-Err.ensures.bytes

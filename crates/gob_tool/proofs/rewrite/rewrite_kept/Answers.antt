@@ -1,6 +1,7 @@
 -- The kept bytes and what they lacked are rewritten as one piece.
 use Rattle.std.proofs.Common.{Ok, Err, ◌++◌, ◌∙◌, subst}
 use Rattle.gob_tool.specs.declared.fault.ToolFault.TheVariants as fault
+use Rattle.gob_stream.specs.Ends.{writer_of}
 use Rattle.gob_stream.specs.Bounds.{deepest, no_deeper}
 use Rattle.gob_tool.specs.Machine.Rewritten.{RewritesPiece}
 use Rattle.gob_tool.proofs.RewriteRuns.{piece_at}
@@ -19,8 +20,8 @@ returns-in_err-rewrite_piece-clause-rewritten g c = λ h.
     let L = no_deeper deepest c.args.session.now.limits in
     let s = c.rewrite_piece.new.session in
     let w = c.rewrite_piece.new.rewriter.writer in
-    let old = g.W.Write.contents c.args.output.now.writer in
-    let new = g.W.Write.contents c.rewrite_piece.new.output.writer in
+    let old = g.W.Write.contents (writer_of c.args.output.now) in
+    let new = g.W.Write.contents (writer_of c.rewrite_piece.new.output) in
     let before = c.args.rewriter.now.gathered.items in
     let after = c.rewrite_piece.new.rewriter.gathered.items in
     let f = c.in_err-rewrite_piece.field-0.0 in
@@ -34,8 +35,8 @@ returns-clause-rewritten g c = λ h.
     let L = no_deeper deepest c.args.session.now.limits in
     let s = c.rewrite_piece.new.session in
     let w = c.rewrite_piece.new.rewriter.writer in
-    let old = g.W.Write.contents c.args.output.now.writer in
-    let new = g.W.Write.contents c.rewrite_piece.new.output.writer in
+    let old = g.W.Write.contents (writer_of c.args.output.now) in
+    let new = g.W.Write.contents (writer_of c.rewrite_piece.new.output) in
     let before = c.args.rewriter.now.gathered.items in
     let after = c.rewrite_piece.new.rewriter.gathered.items in
     subst (λ l. RewritesPiece L h s w l old new before after (Ok tt)) (c.bytes.ensures ∙ c.in_ok-keep.ensures.kept)

@@ -1,6 +1,7 @@
 -- What the kept bytes lack comes from the front of the piece, and all of it where it isn't enough.
 use Rattle.std.proofs.Common.{◌<◌, ◌++◌, ◌∙◌, ap, sym, length, arith, append_assoc}
 use Rattle.gob_tool.specs.declared.fault.ToolFault.TheVariants as fault
+use Rattle.gob_stream.specs.Ends.{writer_of}
 use Rattle.gob_stream.specs.Bounds.{deepest, no_deeper}
 use Rattle.gob_tool.proofs.KeepLaws.{front_behind}
 use Rattle.gob_tool.proofs.RewriteKeeping.{keeping_at, memory_kept, kept_more, fault_more, two_keeping}
@@ -48,8 +49,8 @@ returns-clause-rewritten g c = λ h.
     let whole = append_assoc kept front behind
     ∙ ap (λ l. kept ++ l) (front_behind _ piece c.split_at.ensures.front c.split_at.ensures.back) in
     let x = c.in_ok-rewrite_kept.ensures.rewritten h in
-    two_keeping h (g.W.Write.contents c.args.output.now.writer) (g.W.Write.contents c.rewrite_kept.new.output.writer)
+    two_keeping h (g.W.Write.contents (writer_of c.args.output.now)) (g.W.Write.contents (writer_of c.rewrite_kept.new.output))
     c.args.rewriter.now.gathered.items c.rewrite_kept.new.rewriter.gathered.items x c.args.session.now.limits behind (kept ++ piece) c.rewrite_behind.new.session
     c.rewrite_behind.new.rewriter.writer c.rewrite_behind.new.pending.bytes.items
-    (g.W.Write.contents c.rewrite_behind.new.output.writer) c.rewrite_behind.new.rewriter.gathered.items
+    (g.W.Write.contents (writer_of c.rewrite_behind.new.output)) c.rewrite_behind.new.rewriter.gathered.items
     c.rewrite_behind.result c.in_ok-rewrite_kept.ensures.limits whole (c.rewrite_behind.ensures.rewritten x.next)

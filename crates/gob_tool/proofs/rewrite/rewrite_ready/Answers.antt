@@ -1,6 +1,7 @@
 -- What is tidy already is written as it stands, the first bytes of an item are left, and anything else is read on with
 -- a step.
 use Rattle.std.proofs.Common.{ℕ, Option, Ok, Err, subst}
+use Rattle.gob_stream.specs.Ends.{writer_of}
 use Rattle.gob_tool.specs.Machine.Rewritten.{MayRewriteWhole}
 use Rattle.gob_tool.proofs.RewriteRuns.{stands_still, still_used}
 use Rattle.gob_tool.proofs.RewriteKeeping.{front_at}
@@ -15,8 +16,8 @@ pub rewrite_by_step-requires-clause-so_far : goal.rewrite_by_step-requires-claus
 rewrite_by_step-requires-clause-so_far g c =
     let h = c.requires.so_far in
     let x = subst (λ (o : Option ℕ). MayRewriteWhole h c.rewrite_whole.new.session
-    c.rewrite_whole.new.rewriter.writer c.args.piece.now (g.W.Write.contents c.args.output.now.writer)
-    (g.W.Write.contents c.rewrite_whole.new.output.writer) c.args.rewriter.now.gathered.items
+    c.rewrite_whole.new.rewriter.writer c.args.piece.now (g.W.Write.contents (writer_of c.args.output.now))
+    (g.W.Write.contents (writer_of c.rewrite_whole.new.output)) c.args.rewriter.now.gathered.items
     c.rewrite_whole.new.rewriter.gathered.items (Ok o)) c.in-None.is (c.in_ok-used.ensures.rewritten h) in
     stands_still x.0 x.1 h
 
@@ -28,8 +29,8 @@ returns-in_err-rewrite_by_step-in-None-2-clause-rewritten g c = λ h.
     let after = c.rewrite_by_step.new.rewriter.gathered.items in
     let f = c.in_err-rewrite_by_step-in-None-2.field-0.0 in
     let x = subst (λ (o : Option ℕ). MayRewriteWhole h c.rewrite_whole.new.session
-    c.rewrite_whole.new.rewriter.writer c.args.piece.now (g.W.Write.contents c.args.output.now.writer)
-    (g.W.Write.contents c.rewrite_whole.new.output.writer) c.args.rewriter.now.gathered.items
+    c.rewrite_whole.new.rewriter.writer c.args.piece.now (g.W.Write.contents (writer_of c.args.output.now))
+    (g.W.Write.contents (writer_of c.rewrite_whole.new.output)) c.args.rewriter.now.gathered.items
     c.rewrite_whole.new.rewriter.gathered.items (Ok o)) c.in-None.is (c.in_ok-used.ensures.rewritten h) in
     front_at h s w c.args.piece.now _ _ _ _ c.from_residual-in_err-rewrite_by_step-in-None-2.result f
     c.from_residual-in_err-rewrite_by_step-in-None-2.ensures.1
@@ -38,8 +39,8 @@ returns-in_err-rewrite_by_step-in-None-2-clause-rewritten g c = λ h.
 pub returns-in-Some-clause-rewritten : goal.returns-in-Some-clause-rewritten
 returns-in-Some-clause-rewritten g c = λ h.
     let x = subst (λ (o : Option ℕ). MayRewriteWhole h c.rewrite_whole.new.session
-    c.rewrite_whole.new.rewriter.writer c.args.piece.now (g.W.Write.contents c.args.output.now.writer)
-    (g.W.Write.contents c.rewrite_whole.new.output.writer) c.args.rewriter.now.gathered.items
+    c.rewrite_whole.new.rewriter.writer c.args.piece.now (g.W.Write.contents (writer_of c.args.output.now))
+    (g.W.Write.contents (writer_of c.rewrite_whole.new.output)) c.args.rewriter.now.gathered.items
     c.rewrite_whole.new.rewriter.gathered.items (Ok o)) c.in-Some.is (c.in_ok-used.ensures.rewritten h) in
     x.rewrites
 
@@ -47,16 +48,16 @@ pub returns-in-Some-clause-used : goal.returns-in-Some-clause-used
 returns-in-Some-clause-used g c =
     let h = c.requires.so_far in
     let x = subst (λ (o : Option ℕ). MayRewriteWhole h c.rewrite_whole.new.session
-    c.rewrite_whole.new.rewriter.writer c.args.piece.now (g.W.Write.contents c.args.output.now.writer)
-    (g.W.Write.contents c.rewrite_whole.new.output.writer) c.args.rewriter.now.gathered.items
+    c.rewrite_whole.new.rewriter.writer c.args.piece.now (g.W.Write.contents (writer_of c.args.output.now))
+    (g.W.Write.contents (writer_of c.rewrite_whole.new.output)) c.args.rewriter.now.gathered.items
     c.rewrite_whole.new.rewriter.gathered.items (Ok o)) c.in-Some.is (c.in_ok-used.ensures.rewritten h) in
     (x.some, x.within)
 
 pub returns-in-None-clause-rewritten : goal.returns-in-None-clause-rewritten
 returns-in-None-clause-rewritten g c = λ h.
     let x = subst (λ (o : Option ℕ). MayRewriteWhole h c.rewrite_whole.new.session
-    c.rewrite_whole.new.rewriter.writer c.args.piece.now (g.W.Write.contents c.args.output.now.writer)
-    (g.W.Write.contents c.rewrite_whole.new.output.writer) c.args.rewriter.now.gathered.items
+    c.rewrite_whole.new.rewriter.writer c.args.piece.now (g.W.Write.contents (writer_of c.args.output.now))
+    (g.W.Write.contents (writer_of c.rewrite_whole.new.output)) c.args.rewriter.now.gathered.items
     c.rewrite_whole.new.rewriter.gathered.items (Ok o)) c.in-None.is (c.in_ok-used.ensures.rewritten h) in
     (x, c.is_begun.ensures.kept c.if-is_begun.true)
 
@@ -67,8 +68,8 @@ returns-in_ok-rewrite_by_step-in-None-2-clause-rewritten g c = λ h.
     let w = c.rewrite_by_step.new.rewriter.writer in
     let after = c.rewrite_by_step.new.rewriter.gathered.items in
     let x = subst (λ (o : Option ℕ). MayRewriteWhole h c.rewrite_whole.new.session
-    c.rewrite_whole.new.rewriter.writer c.args.piece.now (g.W.Write.contents c.args.output.now.writer)
-    (g.W.Write.contents c.rewrite_whole.new.output.writer) c.args.rewriter.now.gathered.items
+    c.rewrite_whole.new.rewriter.writer c.args.piece.now (g.W.Write.contents (writer_of c.args.output.now))
+    (g.W.Write.contents (writer_of c.rewrite_whole.new.output)) c.args.rewriter.now.gathered.items
     c.rewrite_whole.new.rewriter.gathered.items (Ok o)) c.in-None.is (c.in_ok-used.ensures.rewritten h) in
     still_used s w c.args.piece.now _ after (Ok c.in_ok-rewrite_by_step-in-None-2.field-0) x
     c.in_ok-rewrite_by_step-in-None-2.ensures.rewritten h

@@ -3,6 +3,7 @@ use Rattle.std.proofs.Common.{◌≡◌, ◌∙◌, Ok, Err, min, ap, sym, subst
 use Rattle.gob_types.specs.Defined.{types}
 use Rattle.gob_types.specs.Table.{Table}
 use Rattle.gob_value.specs.Whole.{IsTidyWhole}
+use Rattle.gob_stream.specs.Ends.{writer_of}
 use Rattle.gob_stream.specs.Bounds.{deepest}
 use Rattle.gob_stream.proofs.PublicLaws.{has_item}
 use Rattle.gob_tool.specs.Machine.Rewritten.{IsTidyNext}
@@ -39,8 +40,8 @@ returns-in_err-push_whole-clause-rewritten g c = λ h.
     (ap (λ d. types d) c.table.ensures) (c.is_tidy_whole.ensures c.if-not-is_tidy_whole.false) in
     let s = c.pass.new.self in
     let w = c.push_whole.new.self.writer in
-    let old = g.W.Write.contents c.args.output.now.writer in
-    let new = g.W.Write.contents c.push_whole.new.output.writer in
+    let old = g.W.Write.contents (writer_of c.args.output.now) in
+    let new = g.W.Write.contents (writer_of c.push_whole.new.output) in
     let before = c.args.rewriter.now.gathered.items in
     let after = c.push_whole.new.self.gathered.items in
     let f = c.in_err-push_whole.field-0.0 in
@@ -59,8 +60,8 @@ returns-clause-rewritten g c = λ h.
     (ap (λ d. types d) c.table.ensures) (c.is_tidy_whole.ensures c.if-not-is_tidy_whole.false) in
     let s = c.pass.new.self in
     let w = c.push_whole.new.self.writer in
-    let old = g.W.Write.contents c.args.output.now.writer in
-    let new = g.W.Write.contents c.push_whole.new.output.writer in
+    let old = g.W.Write.contents (writer_of c.args.output.now) in
+    let new = g.W.Write.contents (writer_of c.push_whole.new.output) in
     let before = c.args.rewriter.now.gathered.items in
     let after = c.push_whole.new.self.gathered.items in
     let u = c.in_ok-push_whole.field-0 in

@@ -1,5 +1,6 @@
 -- An order allows no deeper values than the run of its command takes.
 use Rattle.std.proofs.Common.{◌≡◌, ◌≤◌, ap, sym, subst, min, arith}
+use Rattle.gob_stream.specs.Ends.{reader_of, writer_of}
 use Rattle.gob_stream.specs.Bounds.{no_deeper}
 use Rattle.gob_tool.specs.Depths.{most_depth}
 use Rattle.gob_tool.specs.Words.{order_limits}
@@ -18,10 +19,10 @@ within_order order command e =
 
 pub returns-in-Show-clause-does : goal.returns-in-Show-clause-does
 returns-in-Show-clause-does g c = λ wanted_bytes bytes known left.
-    let old = g.W.Write.contents c.args.output.now.writer in
-    let new = g.W.Write.contents c.run_show.new.output.writer in
-    let next = g.R.Read.remaining c.run_show.new.input.reader in
-    let kept = g.Q.Read.remaining c.args.wanted.now.reader in
+    let old = g.W.Write.contents (writer_of c.args.output.now) in
+    let new = g.W.Write.contents (writer_of c.run_show.new.output) in
+    let next = g.R.Read.remaining (reader_of c.run_show.new.input) in
+    let kept = g.Q.Read.remaining (reader_of c.args.wanted.now) in
     let order = c.args.order.now in
     let shown = rw (c.limits-limits.ensures, within_order order _ c.in-Show.is) at c.run_show.ensures.shown in
     subst (λ x. OrderAnswers x (order_limits order) wanted_bytes bytes kept next old new c.run_show.result) (sym c.in-Show.is)
@@ -29,10 +30,10 @@ returns-in-Show-clause-does g c = λ wanted_bytes bytes known left.
 
 pub returns-in-Check-clause-does : goal.returns-in-Check-clause-does
 returns-in-Check-clause-does g c = λ wanted_bytes bytes known left.
-    let old = g.W.Write.contents c.args.output.now.writer in
-    let new = g.W.Write.contents c.run_check.new.output.writer in
-    let next = g.R.Read.remaining c.run_check.new.input.reader in
-    let kept = g.Q.Read.remaining c.args.wanted.now.reader in
+    let old = g.W.Write.contents (writer_of c.args.output.now) in
+    let new = g.W.Write.contents (writer_of c.run_check.new.output) in
+    let next = g.R.Read.remaining (reader_of c.run_check.new.input) in
+    let kept = g.Q.Read.remaining (reader_of c.args.wanted.now) in
     let order = c.args.order.now in
     let checked = rw (c.limits-limits.ensures, within_order order _ c.in-Check.is) at c.run_check.ensures.checked in
     subst (λ x. OrderAnswers x (order_limits order) wanted_bytes bytes kept next old new c.run_check.result) (sym c.in-Check.is)
@@ -40,10 +41,10 @@ returns-in-Check-clause-does g c = λ wanted_bytes bytes known left.
 
 pub returns-in-Rewrite-clause-does : goal.returns-in-Rewrite-clause-does
 returns-in-Rewrite-clause-does g c = λ wanted_bytes bytes known left.
-    let old = g.W.Write.contents c.args.output.now.writer in
-    let new = g.W.Write.contents c.run_rewrite.new.output.writer in
-    let next = g.R.Read.remaining c.run_rewrite.new.input.reader in
-    let kept = g.Q.Read.remaining c.args.wanted.now.reader in
+    let old = g.W.Write.contents (writer_of c.args.output.now) in
+    let new = g.W.Write.contents (writer_of c.run_rewrite.new.output) in
+    let next = g.R.Read.remaining (reader_of c.run_rewrite.new.input) in
+    let kept = g.Q.Read.remaining (reader_of c.args.wanted.now) in
     let order = c.args.order.now in
     let rewritten = rw (c.limits-limits.ensures, within_order order _ c.in-Rewrite.is) at c.run_rewrite.ensures.rewritten in
     subst (λ x. OrderAnswers x (order_limits order) wanted_bytes bytes kept next old new c.run_rewrite.result) (sym c.in-Rewrite.is)
@@ -51,10 +52,10 @@ returns-in-Rewrite-clause-does g c = λ wanted_bytes bytes known left.
 
 pub returns-in-Take-clause-does : goal.returns-in-Take-clause-does
 returns-in-Take-clause-does g c = λ wanted_bytes bytes known left.
-    let old = g.W.Write.contents c.args.output.now.writer in
-    let new = g.W.Write.contents c.run_take.new.output.writer in
-    let next = g.R.Read.remaining c.run_take.new.input.reader in
-    let wanted_next = g.Q.Read.remaining c.run_take.new.wanted.reader in
+    let old = g.W.Write.contents (writer_of c.args.output.now) in
+    let new = g.W.Write.contents (writer_of c.run_take.new.output) in
+    let next = g.R.Read.remaining (reader_of c.run_take.new.input) in
+    let wanted_next = g.Q.Read.remaining (reader_of c.run_take.new.wanted) in
     let order = c.args.order.now in
     let taken = rw (c.limits-limits.ensures, within_order order _ c.in-Take.is) at c.run_take.ensures.taken in
     subst (λ x. OrderAnswers x (order_limits order) wanted_bytes bytes wanted_next next old new c.run_take.result) (sym c.in-Take.is)

@@ -3,6 +3,7 @@ use Rattle.std.proofs.Common.{rules, ◌≡◌, Err, sym, subst}
 use Rattle.std.specs.Io.KnownBytes.{Appends}
 use Rattle.std.proofs.KnownBytes.{Appends-kept}
 use Rattle.gob_tool.specs.declared.fault.ToolFault.TheVariants as fault
+use Rattle.gob_stream.specs.Ends.{reader_of, writer_of}
 use Rattle.gob_stream.specs.Bounds.{within_trees}
 use Rattle.gob_tool.specs.Machine.Gathering.{Gathered}
 use Rattle.gob_tool.specs.Showing.{AppendsFront, ShowAnswers}
@@ -14,10 +15,10 @@ pub returns-in_err-write_to-clause-shown : goal.returns-in_err-write_to-clause-s
 returns-in_err-write_to-clause-shown g c = λ bytes known.
     let other : c.show_items-shown.result ≡ Err fault.Write → ⊥ = search rules in
     let failed = c.in_err-write_to.ensures.written in
-    let old = g.W.Write.contents c.args.output.now.writer in
-    let mid = g.W.Write.contents c.show_items-shown.new.output.writer in
-    let new = g.W.Write.contents c.write_to.new.output.writer in
-    let next = g.R.Read.remaining c.show_items-shown.new.input.reader in
+    let old = g.W.Write.contents (writer_of c.args.output.now) in
+    let mid = g.W.Write.contents (writer_of c.show_items-shown.new.output) in
+    let new = g.W.Write.contents (writer_of c.write_to.new.output) in
+    let next = g.R.Read.remaining (reader_of c.show_items-shown.new.input) in
     let gathered = c.show_items-shown.new.lines.gathered.items in
     let before = begun_before (within_trees c.args.limits) bytes next (Gathered old mid gathered) (AppendsFront old mid)
     c.show_items-shown.result (c.show_items-shown.ensures.shown bytes known) other in
@@ -29,11 +30,11 @@ returns-in_err-write_to-clause-shown g c = λ bytes known.
 pub returns-in-Ok-clause-shown : goal.returns-in-Ok-clause-shown
 returns-in-Ok-clause-shown g c = λ bytes known.
     let other : c.show_items-shown.result ≡ Err fault.Write → ⊥ = search rules in
-    let old = g.W.Write.contents c.args.output.now.writer in
-    let mid = g.W.Write.contents c.show_items-shown.new.output.writer in
-    let new = g.W.Write.contents c.write_to.new.output.writer in
-    let end = g.W.Write.contents c.flush-flushed.new.self.writer in
-    let next = g.R.Read.remaining c.show_items-shown.new.input.reader in
+    let old = g.W.Write.contents (writer_of c.args.output.now) in
+    let mid = g.W.Write.contents (writer_of c.show_items-shown.new.output) in
+    let new = g.W.Write.contents (writer_of c.write_to.new.output) in
+    let end = g.W.Write.contents (writer_of c.flush-flushed.new.self) in
+    let next = g.R.Read.remaining (reader_of c.show_items-shown.new.input) in
     let gathered = c.show_items-shown.new.lines.gathered.items in
     let before = begun_before (within_trees c.args.limits) bytes next (Gathered old mid gathered) (AppendsFront old mid)
     c.show_items-shown.result (c.show_items-shown.ensures.shown bytes known) other in
@@ -45,11 +46,11 @@ returns-in-Ok-clause-shown g c = λ bytes known.
 pub returns-clause-shown : goal.returns-clause-shown
 returns-clause-shown g c = λ bytes known.
     let other : c.show_items-shown.result ≡ Err fault.Write → ⊥ = search rules in
-    let old = g.W.Write.contents c.args.output.now.writer in
-    let mid = g.W.Write.contents c.show_items-shown.new.output.writer in
-    let new = g.W.Write.contents c.write_to.new.output.writer in
-    let end = g.W.Write.contents c.flush-flushed.new.self.writer in
-    let next = g.R.Read.remaining c.show_items-shown.new.input.reader in
+    let old = g.W.Write.contents (writer_of c.args.output.now) in
+    let mid = g.W.Write.contents (writer_of c.show_items-shown.new.output) in
+    let new = g.W.Write.contents (writer_of c.write_to.new.output) in
+    let end = g.W.Write.contents (writer_of c.flush-flushed.new.self) in
+    let next = g.R.Read.remaining (reader_of c.show_items-shown.new.input) in
     let gathered = c.show_items-shown.new.lines.gathered.items in
     let whole = runs_as (within_trees c.args.limits) bytes next (Gathered old mid gathered) (Appends old end) (AppendsFront old mid)
     (AppendsFront old end) c.show_items-shown.result (c.show_items-shown.ensures.shown bytes known) other

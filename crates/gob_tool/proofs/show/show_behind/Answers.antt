@@ -3,6 +3,7 @@ use Rattle.std.proofs.Common.{◌≡◌, ◌-◌, ◌∙◌, ◌++◌, ℕ, Opti
 use Rattle.std.proofs.Math.Seq.{take-length}
 use Rattle.gob_tool.specs.declared.fault.ToolFault.TheVariants as fault
 use Rattle.gob_tool.specs.Fault.{reading_fault}
+use Rattle.gob_stream.specs.Ends.{writer_of}
 use Rattle.gob_stream.specs.Bounds.{within_trees}
 use Rattle.gob_tool.specs.Machine.Keeping.{MayTakeFront}
 use Rattle.gob_tool.proofs.ShowFront.{up_to_more, rest_stops, rest_cut}
@@ -14,7 +15,7 @@ returns-in_err-used-clause-shown g c = λ bytes start b.
     let e = c.in_err-used.field-0.0 in
     let s = c.show_ready.new.session in
     let M = c.args.session.now.limits in
-    let now = g.W.Write.contents c.items.output.writer in
+    let now = g.W.Write.contents (writer_of c.items.output) in
     let after = c.show_ready.new.lines.gathered.items in
     let u = c.items.invariant.3 bytes start b in
     keeping_at (within_trees M) s c.items.pending.bytes.items (bytes ++ c.args.piece.now) start now after
@@ -26,7 +27,7 @@ pub returns-in_err-keep-in-None-clause-shown : goal.returns-in_err-keep-in-None-
 returns-in_err-keep-in-None-clause-shown g c = λ bytes start b.
     let s = c.show_ready.new.session in
     let M = c.args.session.now.limits in
-    let now = g.W.Write.contents c.items.output.writer in
+    let now = g.W.Write.contents (writer_of c.items.output) in
     let after = c.show_ready.new.lines.gathered.items in
     let u = c.items.invariant.3 bytes start b in
     let kept = subst (λ (o : Option ℕ). MayTakeFront (within_trees c.items.session.limits) s (bytes ++ u.front)
@@ -39,7 +40,7 @@ returns-in_err-keep-in-None-clause-shown g c = λ bytes start b.
 pub returns-in-None-clause-shown : goal.returns-in-None-clause-shown
 returns-in-None-clause-shown g c = λ bytes start b.
     let s = c.show_ready.new.session in
-    let now = g.W.Write.contents c.items.output.writer in
+    let now = g.W.Write.contents (writer_of c.items.output) in
     let after = c.show_ready.new.lines.gathered.items in
     let u = c.items.invariant.3 bytes start b in
     let kept = subst (λ (o : Option ℕ). MayTakeFront (within_trees c.items.session.limits) s (bytes ++ u.front)
@@ -52,8 +53,8 @@ returns-in_err-write_many-in-Some-clause-shown g c = λ bytes start b.
     let f = c.in_err-write_many-in-Some.field-0.0 in
     let s = c.show_ready.new.session in
     let M = c.args.session.now.limits in
-    let now = g.W.Write.contents c.items.output.writer in
-    let new = g.W.Write.contents c.write_many.new.output.writer in
+    let now = g.W.Write.contents (writer_of c.items.output) in
+    let new = g.W.Write.contents (writer_of c.write_many.new.output) in
     let after = c.write_many.new.self.gathered.items in
     let failed = c.in_err-write_many-in-Some.ensures.passed in
     let u = c.items.invariant.3 bytes start b in
@@ -74,7 +75,7 @@ items-preserved g c =
       c.in_ok-write_many-in-Some.ensures.counted ∙ c.items.invariant.1,
       c.items.invariant.2,
       λ bytes start b.
-          let now = g.W.Write.contents c.items.output.writer in
+          let now = g.W.Write.contents (writer_of c.items.output) in
           let u = c.items.invariant.3 bytes start b in
           let taken = subst (λ (o : Option ℕ). MayTakeFront (within_trees c.items.session.limits)
           c.show_ready.new.session (bytes ++ u.front) rest start now c.show_ready.new.lines.gathered.items (Ok o))

@@ -1,16 +1,17 @@
 -- The front of the piece was taken, and the lines of its items went out or are gathered; nothing is kept yet.
 use Rattle.std.proofs.Common.{◌≡◌, ℕ, List, [], Option, length}
+use Rattle.gob_stream.specs.Ends.{failed_writes, writer_of}
 use Rattle.gob_tool.specs.Machine.Gathering.{StandsBehind, StandsUpTo}
 use Rattle.gob_tool.proofs.show.show_behind.Given as goal
 
 abbrev pub invariant-items : goal.invariant-items
 invariant-items g l =
     (l.session.limits ≡ l.fn.session.limits)
-    × (l.output.failures ≡ l.fn.output.failures)
+    × (failed_writes l.output ≡ failed_writes l.fn.output)
     × (l.pending.bytes.items ≡ [])
     × ((bytes : List ℕ) (start : Option (List ℕ))
-    → StandsBehind l.fn.session bytes start (g.W.Write.contents l.fn.output.writer) l.fn.lines.gathered.items
-    → StandsUpTo l.session bytes l.piece l.rest start (g.W.Write.contents l.output.writer)
+    → StandsBehind l.fn.session bytes start (g.W.Write.contents (writer_of l.fn.output)) l.fn.lines.gathered.items
+    → StandsUpTo l.session bytes l.piece l.rest start (g.W.Write.contents (writer_of l.output))
     l.lines.gathered.items)
 
 abbrev pub decreases-items : goal.decreases-items

@@ -1,6 +1,7 @@
 -- The kept bytes are given, and then the end is that of the stream.
 use Rattle.std.proofs.Common.{Some, [], Err, sym, subst, refl}
 use Rattle.gob_tool.specs.Fault.{reading_fault}
+use Rattle.gob_stream.specs.Ends.{writer_of}
 use Rattle.gob_stream.specs.Bounds.{within_trees}
 use Rattle.gob_tool.specs.Machine.Gathering.{Gathered, StandsBehind, TakesPiece}
 use Rattle.gob_tool.specs.Showing.{AppendsFront}
@@ -12,7 +13,7 @@ pub returns-in_err-show_piece-clause-shown : goal.returns-in_err-show_piece-clau
 returns-in_err-show_piece-clause-shown g c = λ bytes start k.
     let M = c.args.session.now.limits in
     let s = c.show_piece.new.session in
-    let new = g.W.Write.contents c.show_piece.new.output.writer in
+    let new = g.W.Write.contents (writer_of c.show_piece.new.output) in
     let after = c.show_piece.new.lines.gathered.items in
     let f = c.in_err-show_piece.field-0.0 in
     runs_at (within_trees M) bytes (Some []) (Gathered start new after) (AppendsFront start new) c.from_residual.result f
@@ -24,7 +25,7 @@ returns-in_err-show_piece-clause-shown g c = λ bytes start k.
 pub returns-in_err-show_piece-clause-reads : goal.returns-in_err-show_piece-clause-reads
 returns-in_err-show_piece-clause-reads g c = λ bytes start n k.
     let M = c.args.session.now.limits in
-    let new = g.W.Write.contents c.show_piece.new.output.writer in
+    let new = g.W.Write.contents (writer_of c.show_piece.new.output) in
     let f = c.in_err-show_piece.field-0.0 in
     reads_at n n c.from_residual.result f c.from_residual.ensures.1
     (piece_counts (within_trees M) c.show_piece.new.session _ start new c.show_piece.new.lines.gathered.items n n
@@ -34,7 +35,7 @@ pub returns-in_err-finish-clause-shown : goal.returns-in_err-finish-clause-shown
 returns-in_err-finish-clause-shown g c = λ bytes start k.
     let M = c.args.session.now.limits in
     let s = c.show_piece.new.session in
-    let new = g.W.Write.contents c.show_piece.new.output.writer in
+    let new = g.W.Write.contents (writer_of c.show_piece.new.output) in
     let after = c.show_piece.new.lines.gathered.items in
     let e = c.in_err-finish.field-0.0 in
     runs_at (within_trees M) bytes (Some []) (Gathered start new after) (AppendsFront start new)
@@ -56,7 +57,7 @@ returns-in_err-finish-clause-reads g c = λ bytes start n k.
 pub returns-clause-shown : goal.returns-clause-shown
 returns-clause-shown g c = λ bytes start k.
     let s = c.show_piece.new.session in
-    let new = g.W.Write.contents c.show_piece.new.output.writer in
+    let new = g.W.Write.contents (writer_of c.show_piece.new.output) in
     let after = c.show_piece.new.lines.gathered.items in
     end_whole c.args.session.now.limits s c.finish.new.self start new bytes after tt
     c.in_ok-show_piece.ensures.limits

@@ -1,6 +1,7 @@
 -- From piece to piece the session stands behind what was read and isn't kept, and each end is that of the stream.
 use Rattle.std.proofs.Common.{rules, ◌≡◌, ◌<◌, ◌∙◌, ◌++◌, length, take, arith, refl, sym, subst, length-take}
 use Rattle.std.proofs.KnownBytes.{Consumes-trans}
+use Rattle.gob_stream.specs.Ends.{failed_reads, reader_of, writer_of}
 use Rattle.gob_stream.specs.Bounds.{within_trees}
 use Rattle.gob_tool.specs.Machine.Gathering.{Gathered, CountsOnlyReads}
 use Rattle.gob_tool.specs.Machine.Keeping.{KeepsBehind}
@@ -12,17 +13,17 @@ use Rattle.gob_tool.proofs.show.show_items.Goals as goal
 
 pub returns-in_err-buffer-clause-shown : goal.returns-in_err-buffer-clause-shown
 returns-in_err-buffer-clause-shown g c = λ bytes known.
-    let out = g.W.Write.contents c.args.output.now.writer in
+    let out = g.W.Write.contents (writer_of c.args.output.now) in
     let gathered = c.args.lines.now.gathered.items in
-    runs_at (within_trees c.args.limits) bytes (g.R.Read.remaining c.args.input.now.reader) (Gathered out out gathered)
+    runs_at (within_trees c.args.limits) bytes (g.R.Read.remaining (reader_of c.args.input.now)) (Gathered out out gathered)
     (AppendsFront out out) c.from_residual.result fault.Memory c.from_residual.ensures.1
     (begun_first (within_trees c.args.limits) bytes out gathered c.requires)
 
 pub returns-in_err-session-clause-shown : goal.returns-in_err-session-clause-shown
 returns-in_err-session-clause-shown g c = λ bytes known.
-    let out = g.W.Write.contents c.args.output.now.writer in
+    let out = g.W.Write.contents (writer_of c.args.output.now) in
     let gathered = c.args.lines.now.gathered.items in
-    runs_at (within_trees c.args.limits) bytes (g.R.Read.remaining c.args.input.now.reader) (Gathered out out gathered)
+    runs_at (within_trees c.args.limits) bytes (g.R.Read.remaining (reader_of c.args.input.now)) (Gathered out out gathered)
     (AppendsFront out out) c.from_residual-in_err-session.result fault.Memory
     c.from_residual-in_err-session.ensures.1
     (begun_first (within_trees c.args.limits) bytes out gathered c.requires)
@@ -38,17 +39,17 @@ pieces-init g c = (
 
 pub returns-in-Ok-eq0-clause-shown : goal.returns-in-Ok-eq0-clause-shown
 returns-in-Ok-eq0-clause-shown g c = λ bytes known.
-    let read = g.R.Read.remaining c.args.input.now.reader in
-    let now = g.R.Read.remaining c.pieces.input.reader in
-    let next = g.R.Read.remaining c.read.new.self.reader in
-    let old = g.W.Write.contents c.args.output.now.writer in
-    let out = g.W.Write.contents c.pieces.output.writer in
+    let read = g.R.Read.remaining (reader_of c.args.input.now) in
+    let now = g.R.Read.remaining (reader_of c.pieces.input) in
+    let next = g.R.Read.remaining (reader_of c.read.new.self) in
+    let old = g.W.Write.contents (writer_of c.args.output.now) in
+    let out = g.W.Write.contents (writer_of c.pieces.output) in
     let i = c.pieces.invariant.3 in
     let none : c.in-Ok-eq0.field-0 ≡ 0 = omega arith in
     let room : 0 < length c.read.new.buf = omega (arith, c.pieces.invariant.4, c.read.auto.buf) in
     let behind = subst (λ l. KeepsBehind c.pieces.session l i.taken old out c.pieces.lines.gathered.items)
     (sym c.bytes.ensures) i.behind in
-    let new = g.W.Write.contents c.show_end.new.output.writer in
+    let new = g.W.Write.contents (writer_of c.show_end.new.output) in
     end_there c.pieces.session.limits c.args.limits i.taken bytes next
     (Gathered old new c.show_end.new.lines.gathered.items) (AppendsFront old new) c.show_end.result
     c.pieces.invariant.0
@@ -58,40 +59,40 @@ returns-in-Ok-eq0-clause-shown g c = λ bytes known.
 
 pub returns-in-Ok-eq0-clause-reads : goal.returns-in-Ok-eq0-clause-reads
 returns-in-Ok-eq0-clause-reads g c =
-    let old = g.W.Write.contents c.args.output.now.writer in
-    let out = g.W.Write.contents c.pieces.output.writer in
+    let old = g.W.Write.contents (writer_of c.args.output.now) in
+    let out = g.W.Write.contents (writer_of c.pieces.output) in
     let i = c.pieces.invariant.3 in
     let behind = subst (λ l. KeepsBehind c.pieces.session l i.taken old out c.pieces.lines.gathered.items)
     (sym c.bytes.ensures) i.behind in
-    subst (λ n. CountsOnlyReads c.args.input.now.failures n c.show_end.result)
+    subst (λ n. CountsOnlyReads (failed_reads c.args.input.now) n c.show_end.result)
     (sym (c.in-Ok-eq0.ensures.counted.1 ∙ c.pieces.invariant.1))
-    (c.show_end.ensures.reads i.taken old c.args.input.now.failures behind)
+    (c.show_end.ensures.reads i.taken old (failed_reads c.args.input.now) behind)
 
 pub pieces-smaller : goal.pieces-smaller
 pieces-smaller g c =
-    let old = g.W.Write.contents c.args.output.now.writer in
+    let old = g.W.Write.contents (writer_of c.args.output.now) in
     let i = c.pieces.invariant.3 in
     let piece = take c.in-Ok.count c.read.new.buf in
     let some : 0 < length piece = omega (arith, length-take c.in-Ok.count c.read.new.buf, c.in-Ok.ensures.bound) in
     falls_keeping c.pieces.session c.show_next.new.session c.pieces.pending.bytes.items
-    c.show_next.new.pending.bytes.items i.taken piece old (g.W.Write.contents c.pieces.output.writer)
-    (g.W.Write.contents c.show_next.new.output.writer) c.pieces.lines.gathered.items
+    c.show_next.new.pending.bytes.items i.taken piece old (g.W.Write.contents (writer_of c.pieces.output))
+    (g.W.Write.contents (writer_of c.show_next.new.output)) c.pieces.lines.gathered.items
     c.show_next.new.lines.gathered.items i.behind
     (c.in_ok-show_next-in-Ok.ensures.shown i.taken old i.behind) c.in_ok-show_next-in-Ok.ensures.limits some
 
 pub pieces-preserved : goal.pieces-preserved
 pieces-preserved g c =
-    let read = g.R.Read.remaining c.args.input.now.reader in
-    let now = g.R.Read.remaining c.pieces.input.reader in
-    let next = g.R.Read.remaining c.read.new.self.reader in
-    let old = g.W.Write.contents c.args.output.now.writer in
-    let out = g.W.Write.contents c.pieces.output.writer in
+    let read = g.R.Read.remaining (reader_of c.args.input.now) in
+    let now = g.R.Read.remaining (reader_of c.pieces.input) in
+    let next = g.R.Read.remaining (reader_of c.read.new.self) in
+    let old = g.W.Write.contents (writer_of c.args.output.now) in
+    let out = g.W.Write.contents (writer_of c.pieces.output) in
     let i = c.pieces.invariant.3 in (
       c.in_ok-show_next-in-Ok.ensures.limits ∙ c.pieces.invariant.0,
       c.in-Ok.ensures.counted.1 ∙ c.pieces.invariant.1,
       c.in_ok-show_next-in-Ok.ensures.writes ∙ c.pieces.invariant.2,
       keeps_on c.show_next.new.pending.bytes.items read now next old out
-          (g.W.Write.contents c.show_next.new.output.writer) c.pieces.lines.gathered.items
+          (g.W.Write.contents (writer_of c.show_next.new.output)) c.pieces.lines.gathered.items
           c.show_next.new.lines.gathered.items (take c.in-Ok.count c.read.new.buf) i
           c.in-Ok.ensures.bytes.0 (c.in_ok-show_next-in-Ok.ensures.shown i.taken old i.behind),
       omega (arith, c.pieces.invariant.4, c.read.auto.buf),
@@ -99,11 +100,11 @@ pieces-preserved g c =
 
 pub returns-in_err-show_next-in-Ok-clause-shown : goal.returns-in_err-show_next-in-Ok-clause-shown
 returns-in_err-show_next-in-Ok-clause-shown g c = λ bytes known.
-    let read = g.R.Read.remaining c.args.input.now.reader in
-    let now = g.R.Read.remaining c.pieces.input.reader in
-    let next = g.R.Read.remaining c.read.new.self.reader in
-    let old = g.W.Write.contents c.args.output.now.writer in
-    let new = g.W.Write.contents c.show_next.new.output.writer in
+    let read = g.R.Read.remaining (reader_of c.args.input.now) in
+    let now = g.R.Read.remaining (reader_of c.pieces.input) in
+    let next = g.R.Read.remaining (reader_of c.read.new.self) in
+    let old = g.W.Write.contents (writer_of c.args.output.now) in
+    let new = g.W.Write.contents (writer_of c.show_next.new.output) in
     let gathered = c.show_next.new.lines.gathered.items in
     let piece = take c.in-Ok.count c.read.new.buf in
     let M = c.args.limits in
@@ -118,8 +119,8 @@ returns-in_err-show_next-in-Ok-clause-shown g c = λ bytes known.
 
 pub returns-in_err-show_next-in-Ok-clause-reads : goal.returns-in_err-show_next-in-Ok-clause-reads
 returns-in_err-show_next-in-Ok-clause-reads g c =
-    let old = g.W.Write.contents c.args.output.now.writer in
-    let new = g.W.Write.contents c.show_next.new.output.writer in
+    let old = g.W.Write.contents (writer_of c.args.output.now) in
+    let new = g.W.Write.contents (writer_of c.show_next.new.output) in
     let i = c.pieces.invariant.3 in
     let f = c.in_err-show_next-in-Ok.field-0.0 in
     reads_at _ _ c.from_residual-in_err-show_next-in-Ok.result f c.from_residual-in_err-show_next-in-Ok.ensures.1
@@ -130,7 +131,7 @@ returns-in_err-show_next-in-Ok-clause-reads g c =
 pub returns-in-Err-clause-shown : goal.returns-in-Err-clause-shown
 returns-in-Err-clause-shown g c = λ bytes known.
     read_failed_keeping c.args.limits c.pieces.session c.pieces.pending.bytes.items
-    (g.R.Read.remaining c.args.input.now.reader) (g.R.Read.remaining c.pieces.input.reader)
-    (g.R.Read.remaining c.read.new.self.reader) (g.W.Write.contents c.args.output.now.writer)
-    (g.W.Write.contents c.pieces.output.writer) bytes c.pieces.lines.gathered.items c.pieces.invariant.0
+    (g.R.Read.remaining (reader_of c.args.input.now)) (g.R.Read.remaining (reader_of c.pieces.input))
+    (g.R.Read.remaining (reader_of c.read.new.self)) (g.W.Write.contents (writer_of c.args.output.now))
+    (g.W.Write.contents (writer_of c.pieces.output)) bytes c.pieces.lines.gathered.items c.pieces.invariant.0
     c.pieces.invariant.3 known c.in-Err.ensures.bytes

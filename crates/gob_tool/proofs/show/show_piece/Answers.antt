@@ -2,6 +2,7 @@
 use Rattle.std.proofs.Common.{◌≡◌, ◌-◌, ◌∙◌, ◌++◌, ℕ, ap, sym, drop, take, length, length-drop}
 use Rattle.std.proofs.Math.Seq.{take-length}
 use Rattle.gob_tool.specs.Fault.{reading_fault}
+use Rattle.gob_stream.specs.Ends.{writer_of}
 use Rattle.gob_stream.specs.Bounds.{within_trees}
 use Rattle.gob_tool.proofs.ShowLaws.{piece_at}
 use Rattle.gob_tool.proofs.ShowFront.{up_to_more, rest_stops, rest_cut}
@@ -12,7 +13,7 @@ returns-in_err-used-clause-shown g c = λ bytes start b.
     let e = c.in_err-used.field-0.0 in
     let s = c.show_front.new.session in
     let M = c.args.session.now.limits in
-    let now = g.W.Write.contents c.loop-rest.output.writer in
+    let now = g.W.Write.contents (writer_of c.loop-rest.output) in
     let after = c.show_front.new.lines.gathered.items in
     let u = c.loop-rest.invariant.2 bytes start b in
     piece_at (within_trees M) s (bytes ++ c.args.piece.now) start now after c.from_residual.result (reading_fault e)
@@ -25,8 +26,8 @@ returns-in_err-write_many-clause-shown g c = λ bytes start b.
     let f = c.in_err-write_many.field-0.0 in
     let s = c.show_front.new.session in
     let M = c.args.session.now.limits in
-    let now = g.W.Write.contents c.loop-rest.output.writer in
-    let new = g.W.Write.contents c.write_many.new.output.writer in
+    let now = g.W.Write.contents (writer_of c.loop-rest.output) in
+    let new = g.W.Write.contents (writer_of c.write_many.new.output) in
     let after = c.write_many.new.self.gathered.items in
     let failed = c.in_err-write_many.ensures.passed in
     let u = c.loop-rest.invariant.2 bytes start b in
@@ -44,7 +45,7 @@ loop-rest-preserved g c =
       c.in_ok-used.ensures.limits ∙ c.loop-rest.invariant.0,
       c.in_ok-write_many.ensures.counted ∙ c.loop-rest.invariant.1,
       λ bytes start b.
-          let now = g.W.Write.contents c.loop-rest.output.writer in
+          let now = g.W.Write.contents (writer_of c.loop-rest.output) in
           let u = c.loop-rest.invariant.2 bytes start b in
           up_to_more n later u (c.in_ok-used.ensures.shown (bytes ++ u.front) start now u.behind)
           c.in_ok-write_many.ensures.passed,

@@ -3,6 +3,7 @@ use Rattle.std.proofs.Common.{[], Ok, ap, refl, subst}
 use Rattle.std.specs.Io.KnownBytes.{Appends}
 use Rattle.std.proofs.KnownBytes.{Appends-nil, Appends-kept}
 use Rattle.gob_types.specs.Defined.{types}
+use Rattle.gob_stream.specs.Ends.{reader_of, writer_of}
 use Rattle.gob_stream.specs.Bounds.{within_trees}
 use Rattle.gob_tool.specs.Showing.{AppendsFront}
 use Rattle.gob_tool.specs.Taking.{LacksWanted, stops_at_wanted, takes_behind}
@@ -16,10 +17,10 @@ take_values-requires g c = ready_as (ap (λ d. types d) c.table.ensures) refl c.
 
 pub returns-in-Ok-clause-taken : goal.returns-in-Ok-clause-taken
 returns-in-Ok-clause-taken g c = λ wanted_bytes bytes known left.
-    let old = g.W.Write.contents c.args.output.now.writer in
-    let new = g.W.Write.contents c.take_values.new.output.writer in
-    let now = g.R.Read.remaining c.take_values.new.input.reader in
-    let wanted_now = g.Q.Read.remaining c.read_wanted.new.input.reader in
+    let old = g.W.Write.contents (writer_of c.args.output.now) in
+    let new = g.W.Write.contents (writer_of c.take_values.new.output) in
+    let now = g.R.Read.remaining (reader_of c.take_values.new.input) in
+    let wanted_now = g.Q.Read.remaining (reader_of c.read_wanted.new.input) in
     let U = types c.read_wanted.new.session.types in
     takes_behind (found_taken bytes now (types c.table.result.now) (Appends old new) (AppendsFront old new)
     c.take_values.result (subst (λ L. FindsWanted L wanted_bytes wanted_now U (Ok c.in-Ok.id)) (ap (λ L. within_trees L) c.requires.within)
@@ -28,9 +29,9 @@ returns-in-Ok-clause-taken g c = λ wanted_bytes bytes known left.
 
 pub returns-in-Err-clause-taken : goal.returns-in-Err-clause-taken
 returns-in-Err-clause-taken g c = λ wanted_bytes bytes known left.
-    let old = g.W.Write.contents c.args.output.now.writer in
-    let new = g.W.Write.contents c.flush.new.self.writer in
-    let wanted_now = g.Q.Read.remaining c.read_wanted.new.input.reader in
+    let old = g.W.Write.contents (writer_of c.args.output.now) in
+    let new = g.W.Write.contents (writer_of c.flush.new.self) in
+    let wanted_now = g.Q.Read.remaining (reader_of c.read_wanted.new.input) in
     let lacks = subst (λ L. LacksWanted L wanted_bytes wanted_now c.in-Err.fault) (ap (λ L. within_trees L) c.requires.within)
     (c.in-Err.ensures.found wanted_bytes known) in
     stops_at_wanted lacks (record {

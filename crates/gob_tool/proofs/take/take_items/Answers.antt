@@ -3,6 +3,7 @@ use Rattle.std.proofs.Common.{rules, arith, ◌≡◌, ◌∙◌, List, ap, refl
 use Rattle.gob_tool.specs.declared.fault.ToolFault.TheVariants as fault
 use Rattle.gob_types.specs.Defined.{types}
 use Rattle.gob_value.specs.declared.value.Value.{Value}
+use Rattle.gob_stream.specs.Ends.{reader_of, writer_of}
 use Rattle.gob_stream.specs.declared.fault.Fault.TheVariants as reading
 use Rattle.gob_stream.specs.declared.item.Item as declared
 use Rattle.gob_stream.specs.Item.{item_views}
@@ -16,18 +17,18 @@ use Rattle.gob_tool.proofs.take.take_items.Goals as goal
 
 pub returns-in_err-buffer-clause-taken : goal.returns-in_err-buffer-clause-taken
 returns-in_err-buffer-clause-taken g c = λ bytes known.
-    let out = g.W.Write.contents c.args.output.now.writer in
+    let out = g.W.Write.contents (writer_of c.args.output.now) in
     let gathered = c.args.lines.now.gathered.items in
-    receiving_at (within_trees c.args.limits) bytes (g.R.Read.remaining c.args.input.now.reader) (types c.args.wanted.now)
+    receiving_at (within_trees c.args.limits) bytes (g.R.Read.remaining (reader_of c.args.input.now)) (types c.args.wanted.now)
     c.args.wanted_id (λ lines. PassesSome out out lines gathered) (AppendsFront out out) c.from_residual.result
     fault.Memory c.from_residual.ensures.1
     (received_first (within_trees c.args.limits) bytes (types c.args.wanted.now) c.args.wanted_id out gathered c.requires.lines)
 
 pub returns-in_err-session-clause-taken : goal.returns-in_err-session-clause-taken
 returns-in_err-session-clause-taken g c = λ bytes known.
-    let out = g.W.Write.contents c.args.output.now.writer in
+    let out = g.W.Write.contents (writer_of c.args.output.now) in
     let gathered = c.args.lines.now.gathered.items in
-    receiving_at (within_trees c.args.limits) bytes (g.R.Read.remaining c.args.input.now.reader) (types c.args.wanted.now)
+    receiving_at (within_trees c.args.limits) bytes (g.R.Read.remaining (reader_of c.args.input.now)) (types c.args.wanted.now)
     c.args.wanted_id (λ lines. PassesSome out out lines gathered) (AppendsFront out out)
     c.from_residual-in_err-session.result fault.Memory c.from_residual-in_err-session.ensures.1
     (received_first (within_trees c.args.limits) bytes (types c.args.wanted.now) c.args.wanted_id out gathered c.requires.lines)
@@ -57,8 +58,8 @@ pieces-smaller g c =
 pub pieces-preserved : goal.pieces-preserved
 pieces-preserved g c =
     let i = c.pieces.invariant.3 in
-    let new = g.W.Write.contents c.take_piece.new.output.writer in
-    let out = g.W.Write.contents c.pieces.output.writer in
+    let new = g.W.Write.contents (writer_of c.take_piece.new.output) in
+    let out = g.W.Write.contents (writer_of c.pieces.output) in
     let before = c.pieces.lines.gathered.items in
     let after = c.take_piece.new.lines.gathered.items in
     let taken = takes_of (types c.args.wanted.now) c.args.wanted_id out new before after (Ok tt)
@@ -78,8 +79,8 @@ pub returns-then-matches-clause-taken : goal.returns-then-matches-clause-taken
 returns-then-matches-clause-taken g c = λ bytes known.
     let i = c.pieces.invariant.3 in
     let failed : c.next_items-more.result ≡ Err reading.Read = search rules in
-    let old = g.W.Write.contents c.args.output.now.writer in
-    let out = g.W.Write.contents c.pieces.output.writer in
+    let old = g.W.Write.contents (writer_of c.args.output.now) in
+    let out = g.W.Write.contents (writer_of c.pieces.output) in
     stopped_at_read c.args.limits c.pieces.session c.next_items-more.new.session _ _
     _ old out (types c.args.wanted.now) c.args.wanted_id c.pieces.lines.gathered.items _ c.requires.ready
     c.pieces.invariant.0 i
@@ -90,13 +91,13 @@ pub returns-in_err-take_piece-clause-taken : goal.returns-in_err-take_piece-clau
 returns-in_err-take_piece-clause-taken g c = λ bytes known.
     let i = c.pieces.invariant.3 in
     let f = c.in_err-take_piece.field-0.0 in
-    let old = g.W.Write.contents c.args.output.now.writer in
-    let new = g.W.Write.contents c.take_piece.new.output.writer in
-    let out = g.W.Write.contents c.pieces.output.writer in
+    let old = g.W.Write.contents (writer_of c.args.output.now) in
+    let new = g.W.Write.contents (writer_of c.take_piece.new.output) in
+    let out = g.W.Write.contents (writer_of c.pieces.output) in
     let before = c.pieces.lines.gathered.items in
     let after = c.take_piece.new.lines.gathered.items in
     let M = c.args.limits in
-    let next = g.R.Read.remaining c.next_items-more.new.input.reader in
+    let next = g.R.Read.remaining (reader_of c.next_items-more.new.input) in
     let taken = takes_of (types c.args.wanted.now) c.args.wanted_id out new before after (Err f)
     (ap (λ d. types d) c.table.ensures)
     (ap (λ (l : List (declared.Item Value)). item_views l) c.deref.ensures.value)
@@ -112,13 +113,13 @@ pub returns-in_err-more-clause-taken : goal.returns-in_err-more-clause-taken
 returns-in_err-more-clause-taken g c = λ bytes known.
     let i = c.pieces.invariant.3 in
     let e = c.in_err-more.field-0.0 in
-    let old = g.W.Write.contents c.args.output.now.writer in
-    let new = g.W.Write.contents c.take_piece.new.output.writer in
-    let out = g.W.Write.contents c.pieces.output.writer in
+    let old = g.W.Write.contents (writer_of c.args.output.now) in
+    let new = g.W.Write.contents (writer_of c.take_piece.new.output) in
+    let out = g.W.Write.contents (writer_of c.pieces.output) in
     let before = c.pieces.lines.gathered.items in
     let after = c.take_piece.new.lines.gathered.items in
     let M = c.args.limits in
-    let next = g.R.Read.remaining c.next_items-more.new.input.reader in
+    let next = g.R.Read.remaining (reader_of c.next_items-more.new.input) in
     let taken = takes_of (types c.args.wanted.now) c.args.wanted_id out new before after (Ok tt)
     (ap (λ d. types d) c.table.ensures)
     (ap (λ (l : List (declared.Item Value)). item_views l) c.deref.ensures.value)
@@ -133,13 +134,13 @@ returns-in_err-more-clause-taken g c = λ bytes known.
 pub returns-then-not-branch-clause-taken : goal.returns-then-not-branch-clause-taken
 returns-then-not-branch-clause-taken g c = λ bytes known.
     let i = c.pieces.invariant.3 in
-    let old = g.W.Write.contents c.args.output.now.writer in
-    let new = g.W.Write.contents c.take_piece.new.output.writer in
-    let out = g.W.Write.contents c.pieces.output.writer in
+    let old = g.W.Write.contents (writer_of c.args.output.now) in
+    let new = g.W.Write.contents (writer_of c.take_piece.new.output) in
+    let out = g.W.Write.contents (writer_of c.pieces.output) in
     let before = c.pieces.lines.gathered.items in
     let after = c.take_piece.new.lines.gathered.items in
     let M = c.args.limits in
-    let next = g.R.Read.remaining c.next_items-more.new.input.reader in
+    let next = g.R.Read.remaining (reader_of c.next_items-more.new.input) in
     let taken = takes_of (types c.args.wanted.now) c.args.wanted_id out new before after (Ok tt)
     (ap (λ d. types d) c.table.ensures)
     (ap (λ (l : List (declared.Item Value)). item_views l) c.deref.ensures.value)

@@ -3,6 +3,7 @@ use Rattle.std.proofs.Common.{rules, ◌≡◌, Err, sym, subst}
 use Rattle.std.specs.Io.KnownBytes.{Appends}
 use Rattle.std.proofs.KnownBytes.{Appends-kept}
 use Rattle.gob_types.specs.Defined.{types}
+use Rattle.gob_stream.specs.Ends.{reader_of, writer_of}
 use Rattle.gob_stream.specs.Bounds.{within_trees}
 use Rattle.gob_tool.specs.declared.fault.ToolFault.TheVariants as fault
 use Rattle.gob_tool.specs.Machine.Gathering.{PassesSome}
@@ -17,10 +18,10 @@ pub returns-in_err-write_to-clause-taken : goal.returns-in_err-write_to-clause-t
 returns-in_err-write_to-clause-taken g c = λ bytes known.
     let other : c.take_items-taken.result ≡ Err fault.Write → ⊥ = search rules in
     let failed = c.in_err-write_to.ensures.written in
-    let old = g.W.Write.contents c.args.output.now.writer in
-    let mid = g.W.Write.contents c.take_items-taken.new.output.writer in
-    let new = g.W.Write.contents c.write_to.new.output.writer in
-    let next = g.R.Read.remaining c.take_items-taken.new.input.reader in
+    let old = g.W.Write.contents (writer_of c.args.output.now) in
+    let mid = g.W.Write.contents (writer_of c.take_items-taken.new.output) in
+    let new = g.W.Write.contents (writer_of c.write_to.new.output) in
+    let next = g.R.Read.remaining (reader_of c.take_items-taken.new.input) in
     let gathered = c.take_items-taken.new.lines.gathered.items in
     let U = types c.args.wanted.now in
     let u = c.args.wanted_id in
@@ -35,11 +36,11 @@ returns-in_err-write_to-clause-taken g c = λ bytes known.
 pub returns-in-Ok-clause-taken : goal.returns-in-Ok-clause-taken
 returns-in-Ok-clause-taken g c = λ bytes known.
     let other : c.take_items-taken.result ≡ Err fault.Write → ⊥ = search rules in
-    let old = g.W.Write.contents c.args.output.now.writer in
-    let mid = g.W.Write.contents c.take_items-taken.new.output.writer in
-    let new = g.W.Write.contents c.write_to.new.output.writer in
-    let end = g.W.Write.contents c.flush-flushed.new.self.writer in
-    let next = g.R.Read.remaining c.take_items-taken.new.input.reader in
+    let old = g.W.Write.contents (writer_of c.args.output.now) in
+    let mid = g.W.Write.contents (writer_of c.take_items-taken.new.output) in
+    let new = g.W.Write.contents (writer_of c.write_to.new.output) in
+    let end = g.W.Write.contents (writer_of c.flush-flushed.new.self) in
+    let next = g.R.Read.remaining (reader_of c.take_items-taken.new.input) in
     let gathered = c.take_items-taken.new.lines.gathered.items in
     let U = types c.args.wanted.now in
     let u = c.args.wanted_id in
@@ -54,11 +55,11 @@ returns-in-Ok-clause-taken g c = λ bytes known.
 pub returns-clause-taken : goal.returns-clause-taken
 returns-clause-taken g c = λ bytes known.
     let other : c.take_items-taken.result ≡ Err fault.Write → ⊥ = search rules in
-    let old = g.W.Write.contents c.args.output.now.writer in
-    let mid = g.W.Write.contents c.take_items-taken.new.output.writer in
-    let new = g.W.Write.contents c.write_to.new.output.writer in
-    let end = g.W.Write.contents c.flush-flushed.new.self.writer in
-    let next = g.R.Read.remaining c.take_items-taken.new.input.reader in
+    let old = g.W.Write.contents (writer_of c.args.output.now) in
+    let mid = g.W.Write.contents (writer_of c.take_items-taken.new.output) in
+    let new = g.W.Write.contents (writer_of c.write_to.new.output) in
+    let end = g.W.Write.contents (writer_of c.flush-flushed.new.self) in
+    let next = g.R.Read.remaining (reader_of c.take_items-taken.new.input) in
     let gathered = c.take_items-taken.new.lines.gathered.items in
     let U = types c.args.wanted.now in
     let u = c.args.wanted_id in

@@ -2,6 +2,7 @@
 use Rattle.std.proofs.Common.{◌∙◌, List, ap}
 use Rattle.gob_types.specs.Defined.{types}
 use Rattle.gob_value.specs.declared.value.Value.{Value}
+use Rattle.gob_stream.specs.Ends.{reader_of}
 use Rattle.gob_stream.specs.declared.item.Item as declared
 use Rattle.gob_stream.specs.Item.{item_views}
 use Rattle.gob_stream.specs.Bounds.{within_trees}
@@ -36,7 +37,7 @@ returns-in_err-more-clause-read g c = λ bytes known.
     let i = c.pieces.invariant.2 in
     let e = c.in_err-more.field-0.0 in
     let M = c.args.session.now.limits in
-    let next = g.Q.Read.remaining c.next_items.new.input.reader in
+    let next = g.Q.Read.remaining (reader_of c.next_items.new.input) in
     wanted_at (within_trees M) bytes next (types c.next_items.new.session.types) c.from_residual.result e
     c.from_residual.ensures.1
     (wanted_stopped M c.pieces.session c.next_items.new.session _ _ next c.pieces.first _

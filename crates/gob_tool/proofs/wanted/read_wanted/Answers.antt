@@ -1,4 +1,5 @@
 use Rattle.gob_types.specs.Defined.{types}
+use Rattle.gob_stream.specs.Ends.{failed_reads, reader_of}
 use Rattle.gob_stream.specs.Bounds.{within_trees}
 use Rattle.gob_tool.proofs.WantedLaws.{lacks_as, counts_as}
 use Rattle.gob_tool.proofs.wanted.read_wanted.Goals as goal
@@ -6,9 +7,9 @@ use Rattle.gob_tool.proofs.wanted.read_wanted.Goals as goal
 pub returns-clause-found : goal.returns-clause-found
 returns-clause-found g c = λ bytes known.
     let L = within_trees c.args.session.now.limits in
-    lacks_as L bytes (g.Q.Read.remaining c.read_type.new.input.reader) (types c.read_type.new.session.types) _
+    lacks_as L bytes (g.Q.Read.remaining (reader_of c.read_type.new.input)) (types c.read_type.new.session.types) _
     c.wanted_fault.result c.wanted_fault.ensures (c.in-Err.ensures.read bytes known)
 
 pub returns-clause-reads : goal.returns-clause-reads
-returns-clause-reads g c = counts_as c.args.input.now.failures c.read_type.new.input.failures _ c.wanted_fault.result
+returns-clause-reads g c = counts_as (failed_reads c.args.input.now) (failed_reads c.read_type.new.input) _ c.wanted_fault.result
     c.wanted_fault.ensures c.in-Err.ensures.reads

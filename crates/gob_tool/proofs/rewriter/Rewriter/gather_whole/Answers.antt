@@ -1,5 +1,6 @@
 -- A value that is its own tidy form can be written; what was gathered of one that isn't is taken back.
 use Rattle.std.proofs.Common.{◌∙◌, List, ℕ, ap, sym, length, take}
+use Rattle.gob_stream.specs.Ends.{writer_of}
 use Rattle.gob_tool.proofs.RewriteLaws.{next_stands, only_wanting, pushed, taken_back, pushes_as}
 use Rattle.gob_tool.proofs.rewriter.Rewriter.gather_whole.Goals as goal
 
@@ -27,6 +28,6 @@ returns-in-Err c = λ s h n.
     let after = ap (λ v. v.items) c.into_inner.ensures in
     let long = c.len-before.ensures ∙ c.args.self.now.gathered.ok.0 ∙ ap length (sym before) in
     c.truncate.ensures.items ∙ ap (λ (k : ℕ). take k c.into_inner.result.items) long
-    ∙ ap (λ (l : List ℕ). take (length c.new-sink.result.writer.items) l) after
+    ∙ ap (λ (l : List ℕ). take (length (writer_of c.new-sink.result).items) l) after
     ∙ taken_back n.next c.in-Err.fault (λ other. c.write_as_spelled-written.ensures.written n.value n.spells (next_stands n.next))
     c.write_as_spelled-written.ensures.effects.leaves c.in-Err.is ∙ before

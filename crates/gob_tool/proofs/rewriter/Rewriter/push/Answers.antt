@@ -1,5 +1,6 @@
 -- What was read can be written; what was gathered of an item that isn't is taken back.
 use Rattle.std.proofs.Common.{◌∙◌, List, ℕ, ap, sym, length, take}
+use Rattle.gob_stream.specs.Ends.{writer_of}
 use Rattle.gob_tool.proofs.RewriteLaws.{of_stream, next_stands, only_wanting, pushed, taken_back, pushes_as}
 use Rattle.gob_tool.proofs.rewriter.Rewriter.push.Goals as goal
 
@@ -26,6 +27,6 @@ returns-in-Err c = λ s h n.
     let after = ap (λ v. v.items) c.into_inner.ensures in
     let long = c.len-whole.ensures ∙ c.args.self.now.gathered.ok.0 ∙ ap length (sym before) in
     c.truncate.ensures.items ∙ ap (λ (k : ℕ). take k c.into_inner.result.items) long
-    ∙ ap (λ (l : List ℕ). take (length c.new-sink.result.writer.items) l) after
+    ∙ ap (λ (l : List ℕ). take (length (writer_of c.new-sink.result).items) l) after
     ∙ taken_back n.next c.in-Err.fault (c.write_tidy-written.ensures.written n.item n.meant (next_stands n.next))
     c.write_tidy-written.ensures.leaves c.in-Err.is ∙ before

@@ -1,6 +1,7 @@
 -- A small item is gathered, and a large one goes out behind what was gathered.
 use Rattle.std.proofs.Common.{◌∙◌, ap, sym, subst}
 use Rattle.gob_types.specs.Defined.{types}
+use Rattle.gob_stream.specs.Ends.{writer_of}
 use Rattle.gob_stream.specs.declared.stream_writer.StreamWriter.{StreamWriter}
 use Rattle.gob_tool.specs.declared.fault.ToolFault.TheVariants as fault
 use Rattle.gob_tool.proofs.RewriteOut.{gathered_out, none_gathered, put_behind, out_at, SomeTidyNext, EachPutsOut}
@@ -26,8 +27,8 @@ returns-clause-pushed g c = λ s h n.
     let U = types c.args.table.now in
     let w' = c.put_whole.new.self.writer in
     let put = subst (λ (w : StreamWriter). EachPutsOut w w' U c.args.id c.args.body.now
-    (g.W.Write.contents c.write_to.new.output.writer) (g.W.Write.contents c.put_whole.new.output.writer) c.put_whole.result)
+    (g.W.Write.contents (writer_of c.write_to.new.output)) (g.W.Write.contents (writer_of c.put_whole.new.output)) c.put_whole.result)
     c.in_ok-write_to.ensures.writer c.put_whole.ensures.put in
-    put_behind n.next w' _ (g.W.Write.contents c.write_to.new.output.writer) _ _ _ c.put_whole.result
+    put_behind n.next w' _ (g.W.Write.contents (writer_of c.write_to.new.output)) _ _ _ c.put_whole.result
     c.in_ok-write_to.ensures.written
     (ap (λ v. v.items) c.put_whole.ensures.gathered ∙ c.in_ok-write_to.ensures.empty) (put s h n)
