@@ -1,18 +1,17 @@
 -- What the writing calls answer, in the words of streams.
 use Rattle.std.specs.Prelude.{◌≡◌, ℕ, pos, ◌+◌, ◌≤◌, List, [], ◌∷◌, ◌++◌, length, take, slice_get, true, false, Option, Some, Result, Ok, Err}
 use Rattle.std.specs.Io.KnownBytes.{Appends, Keeps}
-use Rattle.gob_types.specs.Table.{Table, shape_of}
+use Rattle.gob_types.specs.Table.{Table}
 use Rattle.gob_types.specs.Base.{base_table}
 use Rattle.gob_types.specs.Defined.{types}
 use Rattle.gob_num.specs.Unsigned.{IsUnsigned}
 use Rattle.gob_num.specs.Signed.{IsSigned}
 use Rattle.gob_types.specs.declared.id.TypeId.{TypeId}
 use Rattle.gob_types.specs.declared.reason.Reason.{Reason}
-use Rattle.gob_types.specs.declared.kind.Shape.{Shape}
 use Rattle.gob_types.specs.Ready.{IsReady}
 use Rattle.gob_value.specs.Tree.{Tree, depth}
 use Rattle.gob_value.specs.Spelling.{Spells}
-use Rattle.gob_value.specs.Top.{IsStruct}
+use Rattle.gob_value.specs.Top.{HasStructs}
 use Rattle.gob_stream.specs.declared.fault.WriteFault.{WriteFault}
 use Rattle.gob_stream.specs.declared.fault.WriteFault.TheVariants as fault
 use Rattle.gob_stream.specs.declared.fault.WriteStop.{WriteStop}
@@ -151,12 +150,6 @@ pub record IsWholeItem (L : Bounds) (offset : ℕ) (body bytes : List ℕ) : Typ
   pub spelled : IsUnsigned (length body) count
   pub fits : FitsLimits L offset count body
   pub whole : bytes ≡ count ++ body
-
--- the values of the type are structs
-pub record HasStructs (T : Table) (t : TypeId) : Type 0 where
-  pub shape : Shape
-  pub found : shape_of T t ≡ Some shape
-  pub struct : IsStruct shape.kind
 
 -- the bytes stand before the spelling of a value of the type in an item: its number, and the tag where it is no struct
 pub data IsHead (T : Table) (t : TypeId) : List ℕ → Type 0 where

@@ -1,6 +1,6 @@
 //! The bytes of an item.
 
-ghost use Rattle.std.specs.Prelude.{◌≡◌, ◌+◌, ◌^◌, ◌<◌, ◌≤◌, ◌↔◌, ◌++◌, ◌∷◌, [], ℕ, List, length, IsTrue, IfOk, OnOk};
+ghost use Rattle.std.specs.Prelude.{◌≡◌, ◌+◌, ◌^◌, ◌<◌, ◌≤◌, ◌++◌, ◌∷◌, [], ℕ, List, length, IfOk, OnOk};
 ghost use Rattle.std.specs.Prelude.{IfErr};
 ghost use Rattle.gob_num.specs.Unsigned.{IsUnsigned};
 ghost use Rattle.gob_num.specs.Spelled.{Appends};
@@ -14,13 +14,13 @@ ghost use Rattle.gob_stream.specs.Item.{defines, puts};
 ghost use Rattle.gob_stream.specs.Body.{Body};
 ghost use Rattle.gob_types.specs.Denial.{IsDenial};
 ghost use Rattle.gob_stream.specs.WriterRefusal.{RefusesItem, RefusesType, WriterRefusesBody};
-ghost use Rattle.gob_stream.specs.Writing.{IsWholeItem, FitsLimits, HasStructs, IsHead, IsSpelledAs};
+ghost use Rattle.gob_stream.specs.Writing.{IsWholeItem, FitsLimits, IsHead, IsSpelledAs};
 
 use crate::denial::{judge_id, judge_type};
 use crate::limits::Limits;
 use gob_num::{Memory, write_int, write_uint};
-use gob_types::{Denial, Kind, Reason, Shape, Shapes, Table, TypeId};
-use gob_value::{Value, shape_from, spell};
+use gob_types::{Denial, Reason, Shape, Table, TypeId};
+use gob_value::{Value, has_structs, shape_from, spell};
 use std::alloc::Global;
 
 /// Spells the body of the item that defines this type, in place of what the vector held, and gives the type's shape:
@@ -153,14 +153,4 @@ fn judge_length(
         return Err(Reason::StreamTooLong);
     }
     Ok(())
-}
-
-// Whether the values of the type are structs, which stand in an item without a tag.
-fn has_structs(table: &Table, id: TypeId) -> bool
-    ensures { IsTrue result ↔ HasStructs (types table.now) id }
-{
-    match table.shape_of(id) {
-        Some(shape) => matches!(shape.kind, Kind::Struct { .. }),
-        None => false,
-    }
 }
