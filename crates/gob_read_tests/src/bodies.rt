@@ -1,81 +1,82 @@
 //! Bodies of each shape, whole and in pieces, and bodies that are refused.
 
-use crate::row::{body_of, numbers};
 use crate::types::table;
 use gob_num::Memory;
 use gob_read::{CheckBuilder, Counts, SkipBuilder, Stop, TreeBuilder};
-use gob_read_support::{Body, read};
+use gob_read_support::{Body, body_of, numbers, part, read};
 use gob_types::{Table, TypeId};
 use gob_value::{SpellFault, Value, spell};
 use std::alloc::Global;
 use std::test::*;
 
-// Type, body, and its parts and raw bytes.
-const ACCEPTED: &str = "\
-1: 00 01: 1 0
-2: 00 06: 1 0
-2: 00 fe 01 01: 1 0
-3: 00 f8 ff ff ff ff ff ff ff ff: 1 0
-4: 00 fe 31 40: 1 0
-5: 00 00: 1 0
-5: 00 03 00 ff 80: 1 3
-6: 00 05 68 65 6c 6c 6f: 1 5
-7: 00 fe 31 40 00: 1 0
-7: 00 fe f0 3f 40: 1 0
-8: 00 00: 1 0
-65: 01 2c 01 42 00: 3 0
-65: 02 42 00: 2 0
-65: 00: 1 0
-66: 01 02 01 01 04 01 00 00 00: 5 0
-66: 02 02 02 00 00 00 00: 4 0
-66: 01 02 01 01 04 01 01 06 00 00 00: 6 0
-67: 00 02 02 04: 3 0
-68: 00 00: 1 0
-68: 00 02 00 01 00: 4 0
-68: 00 01 01 01 01 01 01 01 01 02 00 00: 11 0
-69: 00 00: 1 0
-69: 00 02 01 61 02 01 61 04: 5 2
-69: 00 02 05 68 65 6c 6c 6f 02 01 61 04: 5 6
-70: 00 04 01 02 03 04: 1 4
-71: 00 02 01 00 01 02 00 00 00: 7 0
-71: 00 01 00 01 02 01 04 00: 5 0
-73: 01 01 01 05 01 07 01 fe 31 40 01 02 67 6f 01 00 01 fe 31 40 00 01 00 01 02 00 09 01 02 01 61 02 01 61 04 01 01 78 01 03 00 00 00: 20 5
+// What, its type, the body, and its parts and raw bytes.
+const ACCEPTED: &str = "
+true | 1 | 00 01 | 1 0
+3 | 2 | 00 06 | 1 0
+-129 | 2 | 00 fe 01 01 | 1 0
+the greatest uint | 3 | 00 f8 ff ff ff ff ff ff ff ff | 1 0
+17.0 | 4 | 00 fe 31 40 | 1 0
+no bytes | 5 | 00 00 | 1 0
+bytes | 5 | 00 03 00 ff 80 | 1 3
+a text | 6 | 00 05 68 65 6c 6c 6f | 1 5
+17.0 and 0.0 | 7 | 00 fe 31 40 00 | 1 0
+1.0 and 2.0 | 7 | 00 fe f0 3f 40 | 1 0
+nil | 8 | 00 00 | 1 0
+X 22, Y 33 | 65 | 01 2c 01 42 00 | 3 0
+Y 33 | 65 | 02 42 00 | 2 0
+a struct with no field | 65 | 00 | 1 0
+V 1, Next (V 2, Next (no field)) | 66 | 01 02 01 01 04 01 00 00 00 | 5 0
+Next (Next (Next (no field))) | 66 | 02 02 02 00 00 00 00 | 4 0
+V 1, Next (V 2, Next (V 3)) | 66 | 01 02 01 01 04 01 01 06 00 00 00 | 6 0
+an array of 2 ints | 67 | 00 02 02 04 | 3 0
+an empty slice of itself | 68 | 00 00 | 1 0
+two slices in a slice | 68 | 00 02 00 01 00 | 4 0
+slices in slices, ten deep | 68 | 00 01 01 01 01 01 01 01 01 02 00 00 | 11 0
+an empty map | 69 | 00 00 | 1 0
+a map with a key twice | 69 | 00 02 01 61 02 01 61 04 | 5 2
+keys of 5 bytes and of 1 | 69 | 00 02 05 68 65 6c 6c 6f 02 01 61 04 | 5 6
+an opaque value | 70 | 00 04 01 02 03 04 | 1 4
+a map from slices to structs | 71 | 00 02 01 00 01 02 00 00 00 | 7 0
+a map from an empty slice to a struct | 71 | 00 01 00 01 02 01 04 00 | 5 0
+a field of each kind | 73 | 01 01 01 05 01 07 01 fe 31 40 01 02 67 6f 01 00 01 fe 31 40 00 01 00 01 02 00 09 01 02 01 \
+61 02 01 61 04 01 01 78 01 03 00 00 00 | 20 5
 ";
 
-// Type, announced length and greatest depth, the bytes that come, and the refusal: its number, place and seen.
-const REFUSED: &str = "\
-2 0 1000: : 5 0 0
-2 1 1000: 00: 5 1 1
-2 3 1000: 00 fe 01: 5 3 3
-2 2 1000: 04 06: 12 0 1
-2 3 1000: ff 80 06: 12 0 2
-2 2 1000: 80 06: 1 0 1
-2 2 1000: 00 80: 1 1 2
-2 3 1000: 00 ff 7f: 2 1 3
-2 3 1000: 00 fe 00: 2 1 3
-2 3 1000: 00 06 00: 6 2 2
-2 3 1000: 00 06: 6 2 2
-1 2 1000: 00 02: 13 1 2
-1 3 1000: 00 ff 80: 13 1 3
-1 2 1000: 00 ff: 5 2 2
-8 2 1000: 00 01: 16 1 2
-67 4 1000: 00 03 02 04: 14 1 2
-65 3 1000: 03 02 00: 15 0 1
-65 5 1000: 01 2c 02 42 00: 15 2 3
-65 12 1000: 01 2c f8 ff ff ff ff ff ff ff ff 00: 15 2 11
-65 4 1000: 01 2c 01 42: 5 4 4
-65 2 0: 01 2c: 17 0 0
-2 2 0: 00 06: 17 1 1
-68 4 2: 00 01 01 00: 17 3 3
-68 3 2: 00 01 01: 17 3 3
-65 5 1: 01 2c 01 42 00: 17 1 1
-69 5 1: 00 01 01 61 02: 17 2 2
-71 9 2: 00 01 00 01 02 01 04 00: 17 4 4
-66 6 2: 02 02 02 00 00 00: 17 2 2
-69 11 1000: 00 f8 ff ff ff ff ff ff ff ff 01: 5 11 11
-6 10 1000: 00 f8 ff ff ff ff ff ff ff ff: 5 10 10
-6 7 1000: 00 06 68 65 6c 6c 6f: 5 7 7
-5 6 1000: 00 05 68 65 6c 6c: 5 6 6
+// What, its type, announced length and greatest depth, the bytes that come, and the refusal: its number, place and
+// seen.
+const REFUSED: &str = "
+no body | 2 0 1000 |  | 5 0 0
+a tag alone | 2 1 1000 | 00 | 5 1 1
+a number cut off | 2 3 1000 | 00 fe 01 | 5 3 3
+a tag of 2 | 2 2 1000 | 04 06 | 12 0 1
+a tag of 128 | 2 3 1000 | ff 80 06 | 12 0 2
+a bad head as the tag | 2 2 1000 | 80 06 | 1 0 1
+a bad head | 2 2 1000 | 00 80 | 1 1 2
+127 in two bytes | 2 3 1000 | 00 ff 7f | 2 1 3
+a first byte of 0 | 2 3 1000 | 00 fe 00 | 2 1 3
+bytes behind a value | 2 3 1000 | 00 06 00 | 6 2 2
+announced behind a value | 2 3 1000 | 00 06 | 6 2 2
+a bool of 2 | 1 2 1000 | 00 02 | 13 1 2
+a bool of 128 | 1 3 1000 | 00 ff 80 | 13 1 3
+a bool cut off | 1 2 1000 | 00 ff | 5 2 2
+a value of an interface | 8 2 1000 | 00 01 | 16 1 2
+an array of 2 with 3 | 67 4 1000 | 00 03 02 04 | 14 1 2
+no such field | 65 3 1000 | 03 02 00 | 15 0 1
+no such field behind another | 65 5 1000 | 01 2c 02 42 00 | 15 2 3
+a delta beyond all fields | 65 12 1000 | 01 2c f8 ff ff ff ff ff ff ff ff 00 | 15 2 11
+a struct cut off | 65 4 1000 | 01 2c 01 42 | 5 4 4
+a struct at no depth for it | 65 2 0 | 01 2c | 17 0 0
+an int at no depth for it | 2 2 0 | 00 06 | 17 1 1
+a slice, too deep | 68 4 2 | 00 01 01 00 | 17 3 3
+a slice, too deep, where the body ends | 68 3 2 | 00 01 01 | 17 3 3
+a field, too deep | 65 5 1 | 01 2c 01 42 00 | 17 1 1
+a key, too deep | 69 5 1 | 00 01 01 61 02 | 17 2 2
+a slice in a key, too deep | 71 9 2 | 00 01 00 01 02 01 04 00 | 17 4 4
+Next in Next, too deep | 66 6 2 | 02 02 02 00 00 00 | 17 2 2
+a map of as many as may be | 69 11 1000 | 00 f8 ff ff ff ff ff ff ff ff 01 | 5 11 11
+a text of as many as may be | 6 10 1000 | 00 f8 ff ff ff ff ff ff ff ff | 5 10 10
+a text cut off | 6 7 1000 | 00 06 68 65 6c 6c 6f | 5 7 7
+bytes cut off | 5 6 1000 | 00 05 68 65 6c 6c | 5 6 6
 ";
 
 // The lengths of the pieces in which each body is read.
@@ -84,7 +85,7 @@ const PIECES: [usize; 3] = [1, 3, usize::MAX];
 // Whether each builder reads the body of the row, whole and in pieces.
 fn is_accepted(alloc: Global, table: &Table, row: &str) -> Result<bool, Memory> {
     let body = body_of(alloc, row)?;
-    let due = numbers(alloc, row, 2)?;
+    let due = numbers(alloc, part(row, 3))?;
     for piece in PIECES {
         if !is_counted(alloc, table, &body, &due, piece)?
             || !is_built(alloc, table, &body, piece)?
@@ -146,7 +147,7 @@ fn is_respelled(alloc: Global, table: &Table, body: &Body, value: &Value) -> Res
 // Whether each builder is refused the body of the row so, whole and in pieces.
 fn is_refused(alloc: Global, table: &Table, row: &str) -> Result<bool, Memory> {
     let body = body_of(alloc, row)?;
-    let due = numbers(alloc, row, 2)?;
+    let due = numbers(alloc, part(row, 3))?;
     for piece in PIECES {
         if !is_refusal(read::<CheckBuilder>(alloc, table, &body, piece).err(), &due)?
             || !is_refusal(read::<TreeBuilder>(alloc, table, &body, piece).err(), &due)?
@@ -174,18 +175,18 @@ pub(crate) fn is_refusal(stop: Option<Stop>, due: &[u64]) -> Result<bool, Memory
 }
 
 #[test]
-fn accepted(rt: HostRuntime) -> Result<(), Fail> {
+fn bodies_are_read(rt: HostRuntime) -> Result<(), Fail> {
     let table = table(rt.alloc())?;
-    for row in ACCEPTED.lines() {
+    for row in ACCEPTED.trim().lines() {
         assert!(rt; is_accepted(rt.alloc(), &table, row) == Ok(true), "{row}");
     }
     Ok(())
 }
 
 #[test]
-fn refused(rt: HostRuntime) -> Result<(), Fail> {
+fn bodies_are_refused(rt: HostRuntime) -> Result<(), Fail> {
     let table = table(rt.alloc())?;
-    for row in REFUSED.lines() {
+    for row in REFUSED.trim().lines() {
         assert!(rt; is_refused(rt.alloc(), &table, row) == Ok(true), "{row}");
     }
     Ok(())
@@ -197,7 +198,7 @@ fn reading_wants_memory(rt: HostRuntime) {
     let Ok(table) = table(rt.alloc()) else {
         return;
     };
-    for row in ACCEPTED.lines() {
+    for row in ACCEPTED.trim().lines() {
         assert!(rt; is_accepted(rt.alloc(), &table, row) != Ok(false), "{row}");
     }
 }

@@ -70,11 +70,10 @@ fn are_built(alloc: Global, table: &Table, row: Row) -> Result<bool, Memory> {
 #[test]
 fn counts_are_made_down_to_65536(rt: HostRuntime) -> Result<(), Fail> {
     let table = table(rt.alloc())?;
-    for (i, row) in COUNTED.iter().enumerate() {
-        assert!(rt;
-            are_counted(rt.alloc(), &table, *row) == Ok(true),
-            "row {i}"
-        );
+    for row in &COUNTED {
+        let Row(depth, limit, _) = *row;
+        let is_right = are_counted(rt.alloc(), &table, *row) == Ok(true);
+        assert!(rt; is_right, "{depth} deep, limit {limit}");
     }
     Ok(())
 }
@@ -82,8 +81,10 @@ fn counts_are_made_down_to_65536(rt: HostRuntime) -> Result<(), Fail> {
 #[test]
 fn trees_are_made_down_to_1000(rt: HostRuntime) -> Result<(), Fail> {
     let table = table(rt.alloc())?;
-    for (i, row) in BUILT.iter().enumerate() {
-        assert!(rt; are_built(rt.alloc(), &table, *row) == Ok(true), "row {i}");
+    for row in &BUILT {
+        let Row(depth, limit, _) = *row;
+        let is_right = are_built(rt.alloc(), &table, *row) == Ok(true);
+        assert!(rt; is_right, "{depth} deep, limit {limit}");
     }
     Ok(())
 }
@@ -94,10 +95,9 @@ fn deep_reading_wants_memory(rt: HostRuntime) {
     let Ok(table) = table(rt.alloc()) else {
         return;
     };
-    for (i, row) in COUNTED.iter().enumerate() {
-        assert!(rt;
-            are_counted(rt.alloc(), &table, *row) != Ok(false),
-            "row {i}"
-        );
+    for row in &COUNTED {
+        let Row(depth, limit, _) = *row;
+        let is_wrong = are_counted(rt.alloc(), &table, *row) == Ok(false);
+        assert!(rt; !is_wrong, "{depth} deep, limit {limit}");
     }
 }

@@ -5,7 +5,7 @@
 //! Rows are lines of text, one for each body:
 //!
 //! ```text
-//! 65: 01 2c 01 42 00: 3 0       the type, the body, and what is due: here its parts and its raw bytes
+//! X 22, Y 33 | 65 | 01 2c 01 42 00 | 3 0       what, its type, the body, and what is due: here its parts and raw bytes
 //! ```
 #![tactic(auto)]
 
@@ -15,8 +15,6 @@ mod bodies;
 mod deep;
 #[cfg(test)]
 mod held;
-#[cfg(test)]
-mod row;
 #[cfg(test)]
 mod skipped;
 #[cfg(test)]
