@@ -48,7 +48,7 @@ fn tapes_are_made_down_to_65536(rt: HostRuntime) -> Result<(), Fail> {
     for (depth, refused) in &ROWS {
         assert!(rt;
             is_right(rt.alloc(), &table, *depth, *refused) == Ok(true),
-            "{depth}"
+            "{depth} deep"
         );
     }
     Ok(())

@@ -4,9 +4,10 @@
 //! Rows are lines of text, one for each body:
 //!
 //! ```text
-//! 69: 00 01 01 61 02: 2: Pairs - 1 0 -  Str - 1 0 a  Int - 2 0 -
+//! a map | 69 | 00 01 01 61 02 | 2 | Pairs - 1 0 - Str - 1 0 a Int - 2 0 -
 //!
-//! the type, the body, the depth, and its parts level by level: each part's kind, field number, two numbers and bytes
+//! what, its type, the body, the depth, and its parts level by level: each part's kind, field number, two numbers and
+//! bytes
 //! ```
 //!
 //! `sums` is a caller's loop over the parts of a list, with a contract of its own.
@@ -14,8 +15,6 @@
 
 #[cfg(test)]
 mod deep;
-#[cfg(test)]
-mod row;
 #[cfg(test)]
 mod summed;
 pub mod sums;

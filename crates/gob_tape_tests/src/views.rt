@@ -1,7 +1,7 @@
 //! What the views of a tape show.
 
-use crate::row::number;
 use gob_num::Memory;
+use gob_read_support::number;
 use gob_tape::{Tape, ValueKind, View};
 use std::alloc::Global;
 
@@ -45,13 +45,13 @@ fn is_part(view: View<'_>, due: &[&str]) -> bool {
     };
     *kind == name(view.kind())
         && is_field(view.field(), field)
-        && view.numbers() == (number(first), number(second))
+        && view.numbers() == (number(first, 0), number(second, 0))
         && is_text(view.bytes(), bytes)
 }
 
 fn is_field(field: Option<u64>, due: &str) -> bool {
     match field {
-        Some(field) => number(due) == field,
+        Some(field) => number(due, 0) == field,
         None => due == "-",
     }
 }
