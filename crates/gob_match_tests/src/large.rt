@@ -28,6 +28,9 @@ fn row_of(alloc: Global) -> Result<String, AllocError> {
 #[test]
 fn many_fields_are_matched_by_name(rt: HostRuntime) -> Result<(), Fail> {
     let row = row_of(rt.alloc())?;
-    assert!(rt; is_answered(rt.alloc(), &row) == Ok(true));
+    assert!(rt;
+        is_answered(rt.alloc(), &row) == Ok(true),
+        "{FIELDS} fields"
+    );
     Ok(())
 }

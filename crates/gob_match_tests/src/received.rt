@@ -1,9 +1,10 @@
 //! What is received of values.
-use crate::rows::{Wrong, part, table_of, type_of, value_of};
+use crate::rows::{Wrong, table_of, type_of};
 use gob_match::{match_types, receive};
+use gob_read_support::{bytes_of, part, value_of};
 use gob_types::{Table, TypeId};
 use gob_value::{Value, fits, spell};
-use std::alloc::{AllocError, Global};
+use std::alloc::Global;
 use std::test::*;
 
 // What is received, the stream's type, the wanted type, the value, and the bytes that spell what is received of it.
@@ -29,15 +30,6 @@ keys that are structs | 66 map 65 2; 65 struct A 2 B 2 | 66 map 65 2; 65 struct 
     01 02 02 00 0a
 a node in a node | 65 struct V 2 Next 65 | 65 struct Next 65 V 2 | 1 2 fields:0 fields:0,1 | 01 02 04 00 01 02 00
 ";
-
-// Bytes in hexadecimal.
-fn bytes_of(alloc: Global, text: &str) -> Result<Vec<u8>, AllocError> {
-    let mut bytes = Vec::new(alloc);
-    for word in text.split_whitespace() {
-        bytes.push(u8::from_str_radix(word, 16).unwrap_or(u8::MAX))?;
-    }
-    Ok(bytes)
-}
 
 // What is received of a value.
 fn received(
@@ -102,5 +94,6 @@ fn want_of_memory_gives_no_other_value(rt: HostRuntime) {
         "a map | 66 map 6 65; 65 struct A 2 B 6 | 66 map 6 65; 65 struct B 6 | 'a 1 'go fields:0,1 pairs:1 | \
     01 01 61 01 02 67 6f 00";
     let answer = is_received(rt.alloc(), row);
-    assert!(rt; answer == Ok(true) || answer == Err(Wrong::Memory));
+    let is_right = answer == Ok(true) || answer == Err(Wrong::Memory);
+    assert!(rt; is_right, "{row}");
 }

@@ -1,16 +1,13 @@
-//! Types and values that stand in rows as texts.
+//! Types that stand in rows as texts.
 //!
 //! A type is the id of a basic type, or definitions of which the first is meant: `65 struct A 2 B 66; 66 slice 65`. The
 //! kinds are `struct` with names and ids, `array` with a length and an id, `slice` with an id, `map` with two, and
 //! `opaque`. The name `0xff` is one byte.
-//!
-//! A value is made from its parts, which stand before it: `1 2 fields:0,1` is a struct of two ints, and `many:2` or
-//! `pairs:1` in place of the last word a list of them, or a map of one key and its element. A text is `'text`, an
-//! opaque value `~text`.
 use gob_match::MatchFault;
 use gob_num::Memory;
+use gob_read_support::number;
 use gob_types::{DefineFault, Field, Fields, Kind, Marshal, Name, NotReady, Shape, Table, TypeId};
-use gob_value::{Misfit, SpellFault, Value};
+use gob_value::{Misfit, SpellFault};
 use std::alloc::{AllocError, AllocFailed, Global};
 use std::str::SplitWhitespace;
 
@@ -74,26 +71,23 @@ impl From<MatchFault> for Wrong {
     }
 }
 
-/// The part of a row with this number, counted from 0; empty where there is none.
-pub(crate) fn part(row: &str, number: usize) -> &str {
-    row.split(" | ").nth(number).unwrap_or("")
-}
-
-// The number that a word is, or 0.
-fn number(word: &str) -> u64 {
-    word.parse::<u64>().unwrap_or(0)
+// The number that the next word is.
+fn next_number(words: &mut SplitWhitespace<'_>) -> u64 {
+    number(words.next().unwrap_or(""), 0)
 }
 
 // The id that the next word is.
 fn next_id(words: &mut SplitWhitespace<'_>) -> TypeId {
-    TypeId(number(words.next().unwrap_or("")))
+    TypeId(next_number(words))
 }
 
 fn name_of(alloc: Global, word: &str) -> Result<Name, AllocError> {
-    if word == "0xff" {
-        return Ok(Name::new(b"\xff".to_vec(alloc)?));
-    }
-    Ok(Name::new(word.as_bytes().to_vec(alloc)?))
+    let bytes = if word == "0xff" {
+        b"\xff".as_slice()
+    } else {
+        word.as_bytes()
+    };
+    Ok(Name::new(bytes.to_vec(alloc)?))
 }
 
 fn fields_of(alloc: Global, words: &mut SplitWhitespace<'_>) -> Result<Fields, AllocError> {
@@ -116,7 +110,7 @@ fn kind_of(alloc: Global, words: &mut SplitWhitespace<'_>) -> Result<Kind, Alloc
             fields: fields_of(alloc, words)?,
         }),
         Some("array") => {
-            let len = number(words.next().unwrap_or(""));
+            let len = next_number(words);
             let elem = next_id(words);
             Ok(Kind::Array { elem, len })
         }
@@ -163,74 +157,4 @@ pub(crate) fn table_of(alloc: Global, text: &str) -> Result<Table, Wrong> {
         define(alloc, &mut table, id, shape)?;
     }
     Ok(table)
-}
-
-// The last value that was made, or nil.
-fn last(made: &mut Vec<Value>) -> Value {
-    match made.pop() {
-        Some(value) => value,
-        None => Value::Nil,
-    }
-}
-
-fn many_of(alloc: Global, made: &mut Vec<Value>, count: u64) -> Result<Value, AllocError> {
-    let mut parts = Vec::new(alloc);
-    for _ in 0..count {
-        parts.push(last(made))?;
-    }
-    parts.reverse();
-    Ok(Value::Many(parts))
-}
-
-fn pairs_of(alloc: Global, made: &mut Vec<Value>, count: u64) -> Result<Value, AllocError> {
-    let mut parts = Vec::new(alloc);
-    for _ in 0..count {
-        let elem = last(made);
-        let key = last(made);
-        parts.push((key, elem))?;
-    }
-    parts.reverse();
-    Ok(Value::Pairs(parts))
-}
-
-fn struct_of(alloc: Global, made: &mut Vec<Value>, numbers: &str) -> Result<Value, AllocError> {
-    let mut parts = Vec::new(alloc);
-    for word in numbers.rsplit(',') {
-        parts.push((number(word), last(made)))?;
-    }
-    parts.reverse();
-    Ok(Value::Fields(parts))
-}
-
-// The value that a word makes of those before it.
-fn made_of(alloc: Global, made: &mut Vec<Value>, word: &str) -> Result<Value, AllocError> {
-    if let Some(numbers) = word.strip_prefix("fields:") {
-        return struct_of(alloc, made, numbers);
-    }
-    if let Some(count) = word.strip_prefix("many:") {
-        return many_of(alloc, made, number(count));
-    }
-    if let Some(count) = word.strip_prefix("pairs:") {
-        return pairs_of(alloc, made, number(count));
-    }
-    if let Some(text) = word.strip_prefix("'") {
-        return Ok(Value::Str(text.as_bytes().to_vec(alloc)?));
-    }
-    if let Some(bytes) = word.strip_prefix("~") {
-        return Ok(Value::Opaque(bytes.as_bytes().to_vec(alloc)?));
-    }
-    match word.parse::<i64>() {
-        Ok(number) => Ok(Value::Int(number)),
-        Err(_) => Ok(Value::Nil),
-    }
-}
-
-/// The value that a text means.
-pub(crate) fn value_of(alloc: Global, text: &str) -> Result<Value, AllocError> {
-    let mut made = Vec::new(alloc);
-    for word in text.split_whitespace() {
-        let value = made_of(alloc, &mut made, word)?;
-        made.push(value)?;
-    }
-    Ok(last(&mut made))
 }
