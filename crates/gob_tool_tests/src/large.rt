@@ -69,7 +69,7 @@ fn is_shown(alloc: Global, reader: PieceReader, lines: &[u8], due: &[u8], read: 
 }
 
 #[test]
-fn whole(rt: HostRuntime) -> Result<(), Fail> {
+fn a_large_item_is_shown(rt: HostRuntime) -> Result<(), Fail> {
     let alloc = rt.alloc();
     let head = HEAD_LINES.as_bytes();
     let lines = repeated(alloc, head, TEN_LINES.as_bytes(), TAIL_LINES.as_bytes())?;
@@ -84,7 +84,7 @@ fn whole(rt: HostRuntime) -> Result<(), Fail> {
 }
 
 #[test]
-fn several_sizes(rt: HostRuntime) -> Result<(), Fail> {
+fn ints_of_several_sizes_are_shown(rt: HostRuntime) -> Result<(), Fail> {
     let alloc = rt.alloc();
     let head = HEAD_LINES.as_bytes();
     let lines = repeated(alloc, head, SIZES_LINES.as_bytes(), TAIL_LINES.as_bytes())?;
@@ -99,30 +99,38 @@ fn several_sizes(rt: HostRuntime) -> Result<(), Fail> {
     Ok(())
 }
 
-// A front of the lines is written: the call of so many bytes fails, of which there is one for each.
-#[test]
-fn write_fails_in_the_middle(rt: HostRuntime) -> Result<(), Fail> {
-    let alloc = rt.alloc();
+/// Whether a run ends by a failed write, which is counted once.
+pub(crate) fn is_failed(alloc: Global, reader: PieceReader, writer: &mut SlowWriter) -> bool {
+    let mut input = Input::new(reader);
+    let mut output = Output::new(writer);
+    let result = run_show(alloc, &mut input, &mut output, Limits::standard());
+    ends_so(alloc, &result, b"gob: write fault") && output.failures() == 1
+}
+
+// Whether a run whose write behind so many bytes fails has written a front of the lines.
+fn is_cut(alloc: Global, fails_at: usize) -> Result<bool, AllocError> {
     let head = HEAD_LINES.as_bytes();
     let lines = repeated(alloc, head, TEN_LINES.as_bytes(), TAIL_LINES.as_bytes())?;
+    let reader = PieceReader::new(large(alloc)?, 65536, usize::MAX);
+    let trouble = Trouble::Error(ErrorKind::Other);
+    let mut writer = SlowWriter::new(alloc, fails_at, trouble, false);
+    let is_failed = is_failed(alloc, reader, &mut writer);
+    Ok(is_failed && lines.get(..fails_at) == Some(writer.held.as_slice()))
+}
+
+// A front of the lines is written: the call of so many bytes fails, of which there is one for each.
+#[test]
+fn a_write_fails_in_its_middle(rt: HostRuntime) -> Result<(), Fail> {
     for fails_at in [
         0usize, 47, 70, 71, 65600, 65601, 131136, 400000, 400071, 400074,
     ] {
-        let mut input = Input::new(PieceReader::new(large(alloc)?, 65536, usize::MAX));
-        let trouble = Trouble::Error(ErrorKind::Other);
-        let mut writer = SlowWriter::new(alloc, fails_at, trouble, false);
-        let mut output = Output::new(&mut writer);
-        let result = run_show(alloc, &mut input, &mut output, Limits::standard());
-        let failed = ends_so(alloc, &result, b"gob: write fault") && output.failures() == 1;
-        assert!(rt; failed, "at {fails_at}");
-        let front = lines.get(..fails_at).ok_or("front")?;
-        assert!(rt; writer.held.as_slice() == front, "up to {fails_at}");
+        assert!(rt; is_cut(rt.alloc(), fails_at)?, "at {fails_at}");
     }
     Ok(())
 }
 
 #[test]
-fn refused_in_the_middle(rt: HostRuntime) -> Result<(), Fail> {
+fn an_item_is_refused_in_its_middle(rt: HostRuntime) -> Result<(), Fail> {
     let alloc = rt.alloc();
     let due = b"gob: refused 1 BadHead at 100024 seen 100025";
     // An item whose head stands in one piece is kept until it is whole, and judged then.
@@ -144,7 +152,7 @@ fn refused_in_the_middle(rt: HostRuntime) -> Result<(), Fail> {
 }
 
 #[test]
-fn cut_off_in_the_middle(rt: HostRuntime) -> Result<(), Fail> {
+fn an_item_is_cut_off_in_its_middle(rt: HostRuntime) -> Result<(), Fail> {
     let alloc = rt.alloc();
     let due = b"gob: refused 22 Ended at 100024 seen 100024";
     for most in [1usize, 7, 65536] {
@@ -160,7 +168,7 @@ fn cut_off_in_the_middle(rt: HostRuntime) -> Result<(), Fail> {
 }
 
 #[test]
-fn read_fails_in_the_middle(rt: HostRuntime) -> Result<(), Fail> {
+fn a_read_fails_in_its_middle(rt: HostRuntime) -> Result<(), Fail> {
     let alloc = rt.alloc();
     for (most, read) in [(7usize, 14u64), (100, 200), (65536, 131072)] {
         let reader = PieceReader::new(large(alloc)?, most, 2);

@@ -1,16 +1,16 @@
 //! Runs over large items that are no lists of ints: their lines go out in blocks too.
 
 use crate::devices::{PieceReader, SlowWriter, Trouble};
-use crate::endings::ends_so;
-use crate::large::repeated;
-use gob_stream::{Input, Limits, Output};
-use gob_tool::run_show;
+use crate::large::{is_failed, repeated};
+use crate::runs::is_shown;
+use gob_stream::Limits;
 use std::alloc::{AllocError, Global};
 use std::io::ErrorKind;
 use std::test::*;
 
 // A stream of one large item and an int behind it, and its lines: each has a head, a part 20000 times and a tail.
 struct Row {
+    name: &'static str,
     head: &'static [u8],
     part: &'static [u8],
     head_line: &'static str,
@@ -24,6 +24,7 @@ const TAIL_LINE: &str = "]}\n{\"type\":2,\"value\":3}\n";
 
 // A slice of strings, of which the first is empty.
 const STRINGS: Row = Row {
+    name: "strings",
     head: b"\x0c\xff\x83\x02\x01\x02\xff\x84\x00\x01\x0c\x00\x00\
         \xfd\x02\x71\x07\xff\x84\x00\xfe\x9c\x41\x00",
     part: b"\x03a\"b\x03xyz",
@@ -33,6 +34,7 @@ const STRINGS: Row = Row {
 
 // A map of strings to ints.
 const PAIRS: Row = Row {
+    name: "pairs",
     head: b"\x0e\xff\x83\x04\x01\x02\xff\x84\x00\x01\x0c\x01\x04\x00\x00\
         \xfd\x03\xa9\x89\xff\x84\x00\xfd\x01\x38\x81\x00\x0a",
     part: b"\x01k\x0a\x01k\x09\x01l\x0a\x01k\x0a",
@@ -42,6 +44,7 @@ const PAIRS: Row = Row {
 
 // A slice of structs of an int and a string, of which the first has no field.
 const RECORDS: Row = Row {
+    name: "records",
     head: b"\x0d\xff\x83\x02\x01\x02\xff\x84\x00\x01\xff\x86\x00\x00\
         \x18\xff\x85\x03\x01\x02\xff\x86\x00\x01\x02\x01\x01A\x01\x04\x00\x01\x01B\x01\x0c\x00\x00\x00\
         \xfd\x02\x71\x07\xff\x84\x00\xfe\x4e\x21\x00",
@@ -67,39 +70,40 @@ fn lines(alloc: Global, row: &Row) -> Result<Vec<u8>, AllocError> {
     )
 }
 
+// Whether the lines of the row are written of its stream, of which so many bytes come in a call.
+fn is_right(alloc: Global, row: &Row, most: usize) -> Result<bool, AllocError> {
+    let due = lines(alloc, row)?;
+    let reader = PieceReader::new(stream(alloc, row)?, most, usize::MAX);
+    Ok(is_shown(alloc, reader, Limits::standard(), &due, b""))
+}
+
 #[test]
-fn whole(rt: HostRuntime) -> Result<(), Fail> {
-    let alloc = rt.alloc();
+fn large_items_are_shown(rt: HostRuntime) -> Result<(), Fail> {
     for row in &ROWS {
-        let due = lines(alloc, row)?;
         for most in [7usize, 65536] {
-            let mut held = Vec::new(alloc);
-            let mut input = Input::new(PieceReader::new(stream(alloc, row)?, most, usize::MAX));
-            let mut output = Output::new(&mut held);
-            let result = run_show(alloc, &mut input, &mut output, Limits::standard());
-            assert!(rt; ends_so(alloc, &result, b""), "{most} a call");
-            assert!(rt; held.as_slice() == due.as_slice(), "{most} a call");
+            let name = row.name;
+            assert!(rt; is_right(rt.alloc(), row, most)?, "{name}, {most} a call");
         }
     }
     Ok(())
 }
 
-// A front of the lines is written.
+// Whether a run whose write behind so many bytes fails has written a front of the lines.
+fn is_cut(alloc: Global, row: &Row, fails_at: usize) -> Result<bool, AllocError> {
+    let due = lines(alloc, row)?;
+    let reader = PieceReader::new(stream(alloc, row)?, 65536, usize::MAX);
+    let trouble = Trouble::Error(ErrorKind::Other);
+    let mut writer = SlowWriter::new(alloc, fails_at, trouble, false);
+    let is_failed = is_failed(alloc, reader, &mut writer);
+    Ok(is_failed && due.get(..fails_at) == Some(writer.held.as_slice()))
+}
+
 #[test]
-fn write_fails_in_the_middle(rt: HostRuntime) -> Result<(), Fail> {
-    let alloc = rt.alloc();
+fn a_write_fails_in_their_middle(rt: HostRuntime) -> Result<(), Fail> {
     for row in &ROWS {
-        let due = lines(alloc, row)?;
         for fails_at in [0usize, 60, 65535, 65536, 131200, 250000] {
-            let mut input = Input::new(PieceReader::new(stream(alloc, row)?, 65536, usize::MAX));
-            let trouble = Trouble::Error(ErrorKind::Other);
-            let mut writer = SlowWriter::new(alloc, fails_at, trouble, false);
-            let mut output = Output::new(&mut writer);
-            let result = run_show(alloc, &mut input, &mut output, Limits::standard());
-            let failed = ends_so(alloc, &result, b"gob: write fault") && output.failures() == 1;
-            assert!(rt; failed, "at {fails_at}");
-            let front = due.get(..fails_at).ok_or("front")?;
-            assert!(rt; writer.held.as_slice() == front, "up to {fails_at}");
+            let name = row.name;
+            assert!(rt; is_cut(rt.alloc(), row, fails_at)?, "{name}, at {fails_at}");
         }
     }
     Ok(())

@@ -3,6 +3,8 @@
 #![tactic(auto)]
 
 #[cfg(test)]
+mod check_faults;
+#[cfg(test)]
 mod checks;
 #[cfg(test)]
 mod devices;
@@ -10,6 +12,8 @@ mod devices;
 mod endings;
 #[cfg(test)]
 mod faults;
+#[cfg(test)]
+mod help;
 #[cfg(test)]
 mod large;
 #[cfg(test)]
@@ -21,11 +25,15 @@ mod lines;
 #[cfg(test)]
 mod nested;
 #[cfg(test)]
+mod rewrite_faults;
+#[cfg(test)]
 mod rewrites;
 #[cfg(test)]
 mod runs;
 #[cfg(test)]
 mod streams;
+#[cfg(test)]
+mod take_faults;
 #[cfg(test)]
 mod takes;
 #[cfg(test)]

@@ -74,16 +74,13 @@ fn every(alloc: Global) -> Vec<Item<Value>> {
     items
 }
 
-// Whether these are the items of `EVERY`, and each has its line.
-fn are_lines(alloc: Global, items: &[Item<Value>], table: &Table) -> bool {
-    items.len() == 20 && first_wrong(alloc, items, table, BASE_LINES).is_none()
-}
-
 #[test]
-fn items_of_each_shape(rt: HostRuntime) -> Result<(), Fail> {
+fn items_of_each_shape_have_lines(rt: HostRuntime) -> Result<(), Fail> {
     let table = Table::new(rt.alloc(), 0)?;
     let items = every(rt.alloc());
-    assert!(rt; are_lines(rt.alloc(), &items, &table));
+    assert!(rt; items.len() == 20, "how many items");
+    let wrong = first_wrong(rt.alloc(), &items, &table, BASE_LINES);
+    assert!(rt; wrong.is_none(), "{}", wrong.unwrap_or(""));
     Ok(())
 }
 
@@ -97,10 +94,16 @@ fn is_definition(alloc: Global, table: &Table, id: u64, line: &str) -> bool {
 }
 
 #[test]
-fn definitions_of_base_types(rt: HostRuntime) -> Result<(), Fail> {
+fn definitions_of_base_types_have_lines(rt: HostRuntime) -> Result<(), Fail> {
     let table = Table::new(rt.alloc(), 0)?;
-    assert!(rt; is_definition(rt.alloc(), &table, 18, COMMON_TYPE));
-    assert!(rt; is_definition(rt.alloc(), &table, 22, FIELD_TYPES));
+    assert!(rt;
+        is_definition(rt.alloc(), &table, 18, COMMON_TYPE),
+        "CommonType"
+    );
+    assert!(rt;
+        is_definition(rt.alloc(), &table, 22, FIELD_TYPES),
+        "the slice of fieldType"
+    );
     Ok(())
 }
 
@@ -136,12 +139,12 @@ fn is_line_of_tape(alloc: Global, item: &Item<Tape>, table: &Table, line: &str) 
 }
 
 #[test]
-fn tapes_of_each_shape(rt: HostRuntime) -> Result<(), Fail> {
+fn tapes_of_each_shape_have_lines(rt: HostRuntime) -> Result<(), Fail> {
     let table = Table::new(rt.alloc(), 0)?;
     let items = every_on_tapes(rt.alloc());
-    assert!(rt; items.len() == 20);
+    assert!(rt; items.len() == 20, "how many items");
     for (item, line) in items.iter().zip(BASE_LINES.lines()) {
-        assert!(rt; is_line_of_tape(rt.alloc(), item, &table, line));
+        assert!(rt; is_line_of_tape(rt.alloc(), item, &table, line), "{line}");
     }
     Ok(())
 }

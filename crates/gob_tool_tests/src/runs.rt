@@ -29,8 +29,8 @@ fn lines_within(bytes: usize) -> &'static str {
     }
 }
 
-// Whether a reader gives these lines, and the run ends by a fault of this line.
-fn is_shown<R: Read + Drop>(
+/// Whether a reader gives these lines, and the run ends by a fault of this line.
+pub(crate) fn is_shown<R: Read + Drop>(
     alloc: Global,
     reader: R,
     limits: Limits,
@@ -45,19 +45,23 @@ fn is_shown<R: Read + Drop>(
 }
 
 #[test]
-fn byte_by_byte(rt: HostRuntime) {
+fn streams_are_shown_byte_by_byte(rt: HostRuntime) {
     let reader = SlowReader::new(EVERY, usize::MAX, ErrorKind::Other);
     let lines = EVERY_LINES.as_bytes();
-    assert!(rt; is_shown(rt.alloc(), reader, Limits::standard(), lines, b""));
+    let is_right = is_shown(rt.alloc(), reader, Limits::standard(), lines, b"");
+    assert!(rt; is_right, "items of each shape");
 }
 
 #[test]
-fn a_limited_stream(rt: HostRuntime) -> Result<(), Fail> {
+fn the_limit_for_the_stream_is_kept(rt: HostRuntime) -> Result<(), Fail> {
     let bytes = b"\x03\x04\x00\x06\x03\x02\x00\x01".as_slice();
     let limits = Limits::new(u64::MAX, 1000, 0, 7).ok_or("limits")?;
     let due = b"gob: refused 4 StreamTooLong at 4 seen 5";
     let lines = b"{\"type\":2,\"value\":3}\n".as_slice();
-    assert!(rt; is_shown(rt.alloc(), bytes, limits, lines, due));
+    assert!(rt;
+        is_shown(rt.alloc(), bytes, limits, lines, due),
+        "a stream of 7"
+    );
     Ok(())
 }
 
@@ -72,22 +76,21 @@ fn repeated(alloc: Global, head: &[u8], part: &[u8], tail: &[u8]) -> Result<Vec<
 }
 
 #[test]
-fn many_lines(rt: HostRuntime) -> Result<(), Fail> {
+fn many_lines_are_shown(rt: HostRuntime) -> Result<(), Fail> {
     // More bytes than are read at a time, and more lines than are gathered before a write. Pieces end within items.
     let bytes = repeated(rt.alloc(), THREE, POINT_VALUE, SLICE_AND_ZERO)?;
     let head = THREE_LINES.as_bytes();
     let part = POINT_VALUE_LINE.as_bytes();
     let lines = repeated(rt.alloc(), head, part, SLICE_LINE.as_bytes())?;
     let due = b"gob: refused 5 Short at 160058 seen 160058";
-    assert!(rt;
-        is_shown(
-            rt.alloc(),
-            bytes.as_slice(),
-            Limits::standard(),
-            &lines,
-            due
-        )
+    let is_right = is_shown(
+        rt.alloc(),
+        bytes.as_slice(),
+        Limits::standard(),
+        &lines,
+        due,
     );
+    assert!(rt; is_right, "20003 lines");
     Ok(())
 }
 
@@ -99,7 +102,7 @@ fn reader_fails_so(alloc: Global, fails_at: usize, kind: ErrorKind, due: &[u8]) 
 }
 
 #[test]
-fn failing_readers(rt: HostRuntime) {
+fn readers_fail_once(rt: HostRuntime) {
     let alloc = rt.alloc();
     for kind in [ErrorKind::Interrupted, ErrorKind::Other] {
         // A call for each byte, one for the end of the input, and none behind it.
@@ -107,7 +110,8 @@ fn failing_readers(rt: HostRuntime) {
             let is_right = reader_fails_so(alloc, fails_at, kind, b"gob: read fault");
             assert!(rt; is_right, "fails at {fails_at}");
         }
-        assert!(rt; reader_fails_so(alloc, 45, kind, b""));
+        let is_right = reader_fails_so(alloc, 45, kind, b"");
+        assert!(rt; is_right, "fails behind the end");
     }
 }
 
@@ -123,7 +127,7 @@ fn writer_fails_so(alloc: Global, fails_at: usize, trouble: Trouble, due: &[u8])
 }
 
 #[test]
-fn failing_writers(rt: HostRuntime) {
+fn writers_fail_once(rt: HostRuntime) {
     let alloc = rt.alloc();
     let troubles = [
         Trouble::Error(ErrorKind::Interrupted),
@@ -135,8 +139,10 @@ fn failing_writers(rt: HostRuntime) {
             let is_right = writer_fails_so(alloc, fails_at, trouble, b"gob: write fault");
             assert!(rt; is_right, "fails at {fails_at}");
         }
-        assert!(rt; writer_fails_so(alloc, 137, trouble, b""));
-        assert!(rt; writer_fails_so(alloc, 138, trouble, b""));
+        for fails_at in [137, 138usize] {
+            let is_right = writer_fails_so(alloc, fails_at, trouble, b"");
+            assert!(rt; is_right, "fails at {fails_at}, behind the end");
+        }
     }
 }
 
@@ -150,9 +156,11 @@ fn flush_fails_so(alloc: Global, bytes: &[u8], due: &[u8]) -> bool {
 }
 
 #[test]
-fn failing_flushes(rt: HostRuntime) {
+fn flushes_fail_last(rt: HostRuntime) {
     let whole = b"\x03\x04\x00\x06\x03\x02\x00\x01".as_slice();
-    assert!(rt; flush_fails_so(rt.alloc(), whole, b"gob: write fault"));
+    let is_right = flush_fails_so(rt.alloc(), whole, b"gob: write fault");
+    assert!(rt; is_right, "behind two items");
     let short = b"gob: refused 5 Short at 5 seen 5";
-    assert!(rt; flush_fails_so(rt.alloc(), b"\x03\x04\x00\x06\x00", short));
+    let is_right = flush_fails_so(rt.alloc(), b"\x03\x04\x00\x06\x00", short);
+    assert!(rt; is_right, "behind a refusal");
 }

@@ -1,5 +1,7 @@
 //! Streams, and the lines of their items.
 
+use std::alloc::{AllocError, Global};
+
 /// Items of each shape.
 pub const EVERY: &[u8] = b"\
     \x03\x02\x00\x01\
@@ -72,3 +74,15 @@ pub const TWO_LINES: &str = "\
 pub const POINT_VALUE: &[u8] = b"\x07\xff\x82\x01\x2c\x01\x42\x00";
 
 pub const POINT_VALUE_LINE: &str = "{\"type\":65,\"value\":[[0,\"X\",22],[1,\"Y\",33]]}\n";
+
+/// The lines of a row, which have ` / ` between them, each with its line feed.
+pub(crate) fn lines_of(alloc: Global, text: &str) -> Result<Vec<u8>, AllocError> {
+    let mut lines = Vec::new(alloc);
+    for line in text.split(" / ") {
+        if !line.is_empty() {
+            lines.extend_from_slice(line.as_bytes())?;
+            lines.push(b'\n')?;
+        }
+    }
+    Ok(lines)
+}

@@ -1,7 +1,7 @@
 //! The words of the command line.
 
 use gob_tool::{Chosen, Order, OrderFault, order_of};
-use std::alloc::Global;
+use std::alloc::{AllocError, Global};
 use std::test::*;
 
 // Whether the words give this order.
@@ -13,7 +13,7 @@ fn gives(alloc: Global, words: &[&str], order: Order) -> bool {
 }
 
 #[test]
-fn commands(rt: HostRuntime) {
+fn words_give_orders(rt: HostRuntime) {
     let alloc = rt.alloc();
     let shown = Order {
         command: Chosen::Show,
@@ -22,7 +22,7 @@ fn commands(rt: HostRuntime) {
         depth: 1000,
         item: 67108864,
     };
-    assert!(rt; gives(alloc, &["gob", "show"], shown));
+    assert!(rt; gives(alloc, &["gob", "show"], shown), "show");
     let checked = Order {
         command: Chosen::Check,
         wanted: None,
@@ -30,7 +30,8 @@ fn commands(rt: HostRuntime) {
         depth: 5,
         item: 67108864,
     };
-    assert!(rt; gives(alloc, &["gob", "check", "--depth", "5", "f"], checked));
+    let is_right = gives(alloc, &["gob", "check", "--depth", "5", "f"], checked);
+    assert!(rt; is_right, "check, its depth before the file");
     let checked_deep = Order {
         command: Chosen::Check,
         wanted: None,
@@ -38,12 +39,10 @@ fn commands(rt: HostRuntime) {
         depth: 65536,
         item: 0,
     };
+    let words = ["gob", "check", "f", "--item=0", "--depth=65536"];
     assert!(rt;
-        gives(
-            alloc,
-            &["gob", "check", "f", "--item=0", "--depth=65536"],
-            checked_deep
-        )
+        gives(alloc, &words, checked_deep),
+        "check, its options behind the file"
     );
     let rewritten_deep = Order {
         command: Chosen::Rewrite,
@@ -52,13 +51,8 @@ fn commands(rt: HostRuntime) {
         depth: 65536,
         item: 0,
     };
-    assert!(rt;
-        gives(
-            alloc,
-            &["gob", "rewrite", "f", "--item=0", "--depth=65536"],
-            rewritten_deep
-        )
-    );
+    let words = ["gob", "rewrite", "f", "--item=0", "--depth=65536"];
+    assert!(rt; gives(alloc, &words, rewritten_deep), "rewrite");
     let taken = Order {
         command: Chosen::Take,
         wanted: Some("w"),
@@ -66,13 +60,8 @@ fn commands(rt: HostRuntime) {
         depth: 1000,
         item: 18446744073709551615,
     };
-    assert!(rt;
-        gives(
-            alloc,
-            &["gob", "take", "w", "--item", "18446744073709551615", "a"],
-            taken
-        )
-    );
+    let words = ["gob", "take", "w", "--item", "18446744073709551615", "a"];
+    assert!(rt; gives(alloc, &words, taken), "take");
     let named_as_an_option = Order {
         command: Chosen::Show,
         wanted: None,
@@ -80,12 +69,10 @@ fn commands(rt: HostRuntime) {
         depth: 7,
         item: 67108864,
     };
+    let words = ["gob", "show", "--depth", "007", "--", "--depth"];
     assert!(rt;
-        gives(
-            alloc,
-            &["gob", "show", "--depth", "007", "--", "--depth"],
-            named_as_an_option
-        )
+        gives(alloc, &words, named_as_an_option),
+        "a file named as an option"
     );
 }
 
@@ -164,90 +151,52 @@ fn end_of(alloc: Global, words: &[&str]) -> Ending {
     }
 }
 
-// Whether the words of each line end so, with these words behind them.
-fn all_end(alloc: Global, lines: &str, behind: &[&str], due: Ending) -> Result<bool, Fail> {
-    let mut right = true;
-    for line in lines.split('\n') {
-        let mut words = Vec::new(alloc);
-        words.push("gob")?;
-        for word in line.split(' ') {
-            if !word.is_empty() {
-                words.push(word)?;
-            }
-        }
-        for word in behind {
-            words.push(*word)?;
-        }
-        right &= end_of(alloc, &words) == due;
+// How the words of a line end, with these words behind them.
+fn end_of_line(alloc: Global, line: &str, behind: &[&str]) -> Result<Ending, AllocError> {
+    let mut words = Vec::new(alloc);
+    words.push("gob")?;
+    for word in line.split_whitespace() {
+        words.push(word)?;
     }
-    Ok(right)
+    for word in behind {
+        words.push(*word)?;
+    }
+    Ok(end_of(alloc, &words))
 }
 
 #[test]
-fn which_are_taken(rt: HostRuntime) -> Result<(), Fail> {
+fn some_words_are_refused(rt: HostRuntime) -> Result<(), Fail> {
     let alloc = rt.alloc();
-    assert!(rt; all_end(alloc, REFUSED, &[], Ending::Refused)?);
-    assert!(rt; all_end(alloc, ALLOWED, &["a"], Ending::Order)?);
-    assert!(rt; all_end(alloc, HELPS, &[], Ending::Help)?);
-    assert!(rt; end_of(alloc, &[]) == Ending::Refused);
-    assert!(rt; end_of(alloc, &["show"]) == Ending::Refused);
-    assert!(rt; end_of(alloc, &["gob", ""]) == Ending::Refused);
-    assert!(rt; end_of(alloc, &["gob", "show", "--depth", ""]) == Ending::Refused);
-    assert!(rt; end_of(alloc, &["gob", "show", "--depth", "5 "]) == Ending::Refused);
+    for line in REFUSED.split('\n') {
+        let end = end_of_line(alloc, line, &[])?;
+        assert!(rt; end == Ending::Refused, "{line}");
+    }
+    assert!(rt; end_of(alloc, &[]) == Ending::Refused, "no word");
+    assert!(rt;
+        end_of(alloc, &["show"]) == Ending::Refused,
+        "no name of a program"
+    );
+    assert!(rt;
+        end_of(alloc, &["gob", ""]) == Ending::Refused,
+        "an empty command"
+    );
+    let end = end_of(alloc, &["gob", "show", "--depth", ""]);
+    assert!(rt; end == Ending::Refused, "an empty depth");
+    let end = end_of(alloc, &["gob", "show", "--depth", "5 "]);
+    assert!(rt; end == Ending::Refused, "a depth with a space");
     Ok(())
 }
 
-// Whether the words are answered with a help that has each of these texts, and ends without a line feed.
-fn tells(alloc: Global, words: &[&str], texts: &str) -> bool {
-    match order_of(alloc, words) {
-        Err(OrderFault::Help(help)) => {
-            texts.split('\n').all(|text| help.as_str().contains(text))
-                && !help.as_str().ends_with('\n')
-        }
-        _ => false,
+#[test]
+fn other_words_are_taken(rt: HostRuntime) -> Result<(), Fail> {
+    let alloc = rt.alloc();
+    for line in ALLOWED.split('\n') {
+        let end = end_of_line(alloc, line, &["a"])?;
+        assert!(rt; end == Ending::Order, "{line}");
     }
-}
-
-const PROGRAM: &str = "\
-gob 0.1.0
-Usage: gob <COMMAND>
-  show 
-  check 
-  rewrite 
-  take 
-  help 
-Example:
-Exit status:
-Ended
-InterfaceValue
-WrongId";
-
-const TAKE: &str = "\
-Usage: gob take [OPTIONS] <WANTED> [IN]
---depth <N>
---item <N>
-1 to 1000,";
-
-#[test]
-fn help(rt: HostRuntime) {
-    let alloc = rt.alloc();
-    assert!(rt; tells(alloc, &["gob", "help"], PROGRAM));
-    assert!(rt; tells(alloc, &["gob", "--help"], PROGRAM));
-    assert!(rt; tells(alloc, &["gob", "-h"], PROGRAM));
-    assert!(rt; tells(alloc, &["gob", "help", "take"], TAKE));
-    assert!(rt; tells(alloc, &["gob", "take", "--help"], TAKE));
-    assert!(rt; tells(alloc, &["gob", "check", "--help"], "1 to 65536,"));
-}
-
-#[test]
-fn faults(rt: HostRuntime) -> Result<(), Fail> {
-    let alloc = rt.alloc();
-    assert!(rt; OrderFault::Words.to_string(alloc)?.as_str() == "gob: bad arguments");
-    assert!(rt; OrderFault::Memory.to_string(alloc)?.as_str() == "gob: out of memory");
-    assert!(rt; OrderFault::Words.status() == 2);
-    assert!(rt; OrderFault::Memory.status() == 2);
-    let help = OrderFault::Help(String::from_str(alloc, "a\nb")?);
-    assert!(rt; help.status() == 0);
-    assert!(rt; help.to_string(alloc)?.as_str() == "a\nb");
+    for line in HELPS.split('\n') {
+        let end = end_of_line(alloc, line, &[])?;
+        assert!(rt; end == Ending::Help, "{line}");
+    }
     Ok(())
 }
