@@ -4,30 +4,24 @@ use gob_num::Memory;
 use gob_read_support::number;
 use gob_tape::{Tape, ValueKind, View};
 use std::alloc::Global;
+use std::str::SplitWhitespace;
 
 /// Whether these are the parts of the tape, level by level: each part's kind, field number, numbers and bytes.
 pub(crate) fn are_parts(alloc: Global, tape: &Tape, due: &str) -> Result<bool, Memory> {
-    let words = words_of(alloc, due)?;
+    let mut words = due.split_whitespace();
     let mut views = Vec::new(alloc);
     views.push(tape.root())?;
-    for place in 0..words.len() / 5 {
+    // (A part has words of its own, so there are fewer parts than letters.)
+    for place in 0..due.len() {
         let Some(view) = views.get(place).copied() else {
-            return Ok(false);
+            return Ok(words.next().is_none());
         };
-        if !is_part(view, &words[5 * place..]) {
+        if !is_part(view, &mut words) {
             return Ok(false);
         }
         add_parts(&mut views, view)?;
     }
-    Ok(views.len() == words.len() / 5)
-}
-
-fn words_of<'a>(alloc: Global, due: &'a str) -> Result<Vec<&'a str>, Memory> {
-    let mut words = Vec::new(alloc);
-    for word in due.split_whitespace() {
-        words.push(word)?;
-    }
-    Ok(words)
+    Ok(false)
 }
 
 // The parts of a part come behind the others.
@@ -38,15 +32,18 @@ fn add_parts<'a>(views: &mut Vec<View<'a>>, view: View<'a>) -> Result<(), Memory
     Ok(())
 }
 
-// Whether these are its kind, its field number, its numbers and its bytes; `-` stands for no number and for no bytes.
-fn is_part(view: View<'_>, due: &[&str]) -> bool {
-    let [kind, field, first, second, bytes, ..] = due else {
-        return false;
-    };
-    *kind == name(view.kind())
-        && is_field(view.field(), field)
-        && view.numbers() == (number(first, 0), number(second, 0))
-        && is_text(view.bytes(), bytes)
+// Whether the next words are its kind, its field number, its numbers and its bytes; `-` stands for no number and for no
+// bytes.
+fn is_part(view: View<'_>, words: &mut SplitWhitespace<'_>) -> bool {
+    let is_kind = next(words) == name(view.kind());
+    let is_field = is_field(view.field(), next(words));
+    let numbers = (number(next(words), 0), number(next(words), 0));
+    let is_text = is_text(view.bytes(), next(words));
+    is_kind && is_field && view.numbers() == numbers && is_text
+}
+
+fn next<'a>(words: &mut SplitWhitespace<'a>) -> &'a str {
+    words.next().unwrap_or("")
 }
 
 fn is_field(field: Option<u64>, due: &str) -> bool {
