@@ -5,7 +5,7 @@ use Rattle.std.specs.Result.{IsErrAnd}
 use Rattle.std.proofs.lemmas.List.{take_more, take-append-le, take-append-drop}
 use Rattle.gob_types.specs.Base.{base_table}
 use Rattle.gob_value.specs.declared.value.Value.{Value}
-use Rattle.gob_read.specs.Builders.{tree_building}
+use Rattle.gob_read.specs.Calls.Builders.{tree_building}
 use Rattle.gob_read.specs.declared.tree_builder.TreeBuilder.{TreeBuilder}
 use Rattle.gob_stream.specs.declared.fault.Refusal.{Refusal}
 use Rattle.gob_stream.specs.declared.fault.Fault.{Fault}
@@ -16,8 +16,9 @@ use Rattle.gob_stream.specs.Bounds.{Bounds, no_deeper}
 use Rattle.gob_stream.specs.Item.{StreamItem, item_views}
 use Rattle.gob_stream.specs.Laws.{WrittenWithin, ReadsThese, StreamsStayShown}
 use Rattle.gob_stream.specs.Outcome.{BeginsWithStream, Outcome, refused}
-use Rattle.gob_stream.specs.Reading.{Given, ShowsRefusal, ReadingFinishes}
-use Rattle.gob_stream.specs.Session.{HasRead, FeedAnswers}
+use Rattle.gob_stream.specs.Reading.{Given, ShowsRefusal}
+use Rattle.gob_stream.specs.Calls.Reads.{ReadingFinishes}
+use Rattle.gob_stream.specs.Calls.Session.{HasRead, FeedAnswers}
 use Rattle.gob_stream.specs.Stream.{no_more}
 use Rattle.gob_stream.specs.Writing.{WritesStream}
 use Rattle.gob_stream.proofs.PublicLaws.{views_behind}

@@ -5,6 +5,6 @@ pub mod Received
 pub mod Reasons
 pub mod ClashText
 pub mod Faults
-pub mod Matched
 pub mod Laws
+pub mod Calls
 pub mod Machine

@@ -3,7 +3,7 @@
 ghost use Rattle.std.specs.Prelude.{◌≡◌, ◌<◌, length, IfOk, OnOk, IfErr};
 ghost use Rattle.gob_types.specs.Ready.{IsReady};
 ghost use Rattle.gob_match.specs.Matching.{Match};
-ghost use Rattle.gob_match.specs.Matched.{IsMatchOf, IsSound};
+ghost use Rattle.gob_match.specs.Calls.Matched.{IsMatchOf, IsSound};
 ghost use Rattle.gob_match.specs.Faults.{IsMatchFault};
 ghost use Rattle.gob_match.specs.Machine.Exploring.{Explores, IsExploreFault};
 ghost use Rattle.gob_match.specs.Machine.Exploring.{KeepsExplored, EndsAt};

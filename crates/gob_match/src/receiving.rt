@@ -4,7 +4,7 @@ ghost use Rattle.std.specs.Prelude.{◌≡◌, IfOk, MatchOption};
 ghost use Rattle.gob_value.specs.View.{view, views, pair_views, field_views};
 ghost use Rattle.gob_value.specs.Within.{FitsWithin};
 ghost use Rattle.gob_value.specs.Written.{HasParts};
-ghost use Rattle.gob_match.specs.Matched.{IsSound, stream_of, stream_type, wanted_types_of, wanted_type};
+ghost use Rattle.gob_match.specs.Calls.Matched.{IsSound, stream_of, stream_type, wanted_types_of, wanted_type};
 ghost use Rattle.gob_match.specs.Received.{Receives, IsPresent, IsAbsent};
 ghost use Rattle.gob_match.specs.Machine.Receiving.{CanReceive, CanReceiveEach, CanReceivePairs, CanReceiveFields};
 ghost use Rattle.gob_match.specs.Machine.Receiving.{GivesTree, GivesEach, GivesPairs, GivesCommonFields, HasConversion, IsPairOf};

@@ -17,8 +17,8 @@
 //! - [`take_uint`] takes a whole number from the front of a piece of a stream, and [`Number`] one byte after
 //!   another, for a number that is cut in two. Both refuse what is no spelling at the byte that shows it.
 //! - [`uint_at`] gives a number that stands whole at a place of bytes, [`uint_end`] where it ends, and [`uints_end`]
-//!   where so many end. They judge as the others do, and are made for what is read over and over. [`known_uint_at`] gives
-//!   one that is known to stand there.
+//!   where so many end. They judge as the others do, and are made for what is read over and over. [`known_uint_at`]
+//!   gives one that is known to stand there.
 //! - [`to_signed`] and [`to_pattern`] turn the unsigned number that was read into the one that it stands for.
 //! - [`laws`] states what follows from the definitions of the spellings alone.
 #![tactic(auto)]

@@ -82,8 +82,8 @@ pub(crate) fn take_digits(head: u8, digits: &[u8; 8]) -> Taken
     Taken::Whole { number, used }
 }
 
-/// The number of the head and the digits behind it, and how many bytes it takes with the head. It isn't looked at whether
-/// fewer digits would hold it.
+/// The number of the head and the digits behind it, and how many bytes it takes with the head. It isn't looked at
+/// whether fewer digits would hold it.
 #[inline(always)]
 pub(crate) fn known_digits(head: u8, digits: &[u8; 8]) -> (u64, usize)
     requires { LEAST_HEAD ≤ head }

@@ -1,17 +1,14 @@
 -- The place of a refusal is honest: what the bytes before it begin, and those that show it.
 -- (docs/FORMAT.md, Refusals: the place of a refusal is honest.)
-use Rattle.std.specs.Prelude.{◌≡◌, ℕ, ◌-◌, List, ◌++◌, length, take, Option}
+use Rattle.std.specs.Prelude.{◌≡◌, ℕ, List, take}
 use Rattle.gob_types.specs.declared.id.TypeId.{TypeId}
 use Rattle.gob_types.specs.declared.reason.Reason.TheVariants as reason
 use Rattle.gob_types.specs.Table.{Table}
 use Rattle.gob_types.specs.Ready.{IsReady}
-use Rattle.gob_read.specs.Event.{Event}
 use Rattle.gob_read.specs.Refusal.{Refusal}
 use Rattle.gob_read.specs.First.{IsFirst}
 use Rattle.gob_read.specs.Begins.{BeginsValue, BeginsNone, BeginsOnlyDeep}
 use Rattle.gob_read.specs.Laws.{IsOfNumber, HasCountedArrays}
-use Rattle.gob_read.specs.Reader.{ReaderHasRead}
-use Rattle.gob_read.specs.declared.run.Run.{Run}
 
 -- z is what is there of a value of the type and its tag, whose parts may be no deeper than the limit
 pub record IsHonestBody (T : Table) (t : TypeId) (limit : ℕ) (z : List ℕ) (R : Refusal) : Type 0 where
@@ -23,7 +20,3 @@ pub record IsHonestBody (T : Table) (t : TypeId) (limit : ℕ) (z : List ℕ) (R
 -- the refusal that is given is honest
 abbrev pub FirstIsHonest : Type 0
 FirstIsHonest = (T : Table) (t : TypeId) (limit announced : ℕ) (z : List ℕ) (R : Refusal) → HasCountedArrays T → IsReady T t → IsFirst T t limit announced z R → IsHonestBody T t limit z R
-
--- the refusal of a piece is honest, wherever the reader stood
-pub record RefusesHonestly (T : Table) {X O : Type 0} (received : X → List Event → Type 0) (run : Option (Run X O)) (piece : List ℕ) (refusal : Refusal) : Type 0 where
-  pub each : (t : TypeId) (limit announced : ℕ) (z : List ℕ) → HasCountedArrays T → ReaderHasRead T t limit announced received run z → IsHonestBody T t limit (z ++ take (announced - length z) piece) refusal

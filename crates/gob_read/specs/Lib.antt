@@ -10,12 +10,9 @@ pub mod WellFormed
 pub mod Weight
 pub mod Held
 pub mod Building
-pub mod Reader
 pub mod Counts
-pub mod Builders
 pub mod BuilderLaws
 pub mod Laws
 pub mod Honest
-pub mod UnderWay
-pub mod ReaderLaws
+pub mod Calls
 pub mod Machine

@@ -95,8 +95,8 @@ impl<B: Builder> Run<B> {
         }
     }
 
-    /// Takes the part of the first field, which is expected in the innermost open struct, and the deltas and parts behind
-    /// it there, as long as the parts are of basic types and stand whole in the piece.
+    /// Takes the part of the first field, which is expected in the innermost open struct, and the deltas and parts
+    /// behind it there, as long as the parts are of basic types and stand whole in the piece.
     #[inline(never)]
     fn take_basic_fields<S: Shapes>(
         &mut self,

@@ -37,7 +37,7 @@ impl CheckBuilder {
 impl Builder for CheckBuilder {
     type Out = Counts;
 
-    ghost use Rattle.gob_read.specs.Builders.{check_building};
+    ghost use Rattle.gob_read.specs.Calls.Builders.{check_building};
     ghost use Rattle.gob_read.specs.declared.builder.Stores.TheVariants.{Parts};
 
     ghost DEPTH = { 65536 };

@@ -18,7 +18,7 @@ ghost use Rattle.gob_read.specs.Weight.{weight};
 ghost use Rattle.gob_read.specs.Counts.{AreCountsOf};
 ghost use Rattle.gob_read.specs.BuilderLaws.{EventsHaveOneValue, EventsAreWellFormed, HaveWellFormedFronts, EventsHaveTheWeight};
 ghost use Rattle.gob_read.specs.BuilderLaws.{WeighAtMostTheirLength};
-ghost use Rattle.gob_read.specs.ReaderLaws.{StaysRead, StaysUsable};
+ghost use Rattle.gob_read.specs.Calls.ReaderLaws.{StaysRead, StaysUsable};
 
 use crate::builder::Builder;
 use crate::reader::BodyReader;

@@ -7,7 +7,7 @@ ghost use Rattle.gob_types.specs.Ready.{IsReady};
 ghost use Rattle.gob_read.specs.Machine.Steps.{CanTake};
 ghost use Rattle.gob_read.specs.Machine.Running.{IsNewRun, IsReachedSomewhere, IsBefore, IsBeforeIn, TakesSome, depth_of, begun_parts};
 ghost use Rattle.gob_read.specs.Machine.Running.{BytesAnswers, RestAnswers, NumberAnswers, JudgeAnswers, EndAnswers, PieceAnswers};
-ghost use Rattle.gob_read.specs.Reader.{HasReadSoFar};
+ghost use Rattle.gob_read.specs.Calls.Reader.{HasReadSoFar};
 ghost use Rattle.gob_read.specs.Held.{IsHeld, counted_of};
 
 use crate::builder::{Builder, Stores};

@@ -14,9 +14,9 @@ use gob_value::{whole_elements, whole_entries};
 
 impl<B: Builder> Run<B> {
     /// Goes at once over the parts of the innermost open list or map that stand whole in the piece, where the builder
-    /// needn't be told, if the expected one is the next of them and no byte of it was taken before. Where there are none,
-    /// nothing is done. Where one of them doesn't stand whole it says so, `cut`: then the piece isn't tried again, so that
-    /// each byte of it is looked at twice at most.
+    /// needn't be told, if the expected one is the next of them and no byte of it was taken before. Where there are
+    /// none, nothing is done. Where one of them doesn't stand whole it says so, `cut`: then the piece isn't tried again,
+    /// so that each byte of it is looked at twice at most.
     #[inline(always)]
     pub(crate) fn skip_parts<S: Shapes>(
         &mut self,

@@ -16,7 +16,7 @@ pub struct SkipBuilder {}
 impl Builder for SkipBuilder {
     type Out = ();
 
-    ghost use Rattle.gob_read.specs.Builders.{skip_building};
+    ghost use Rattle.gob_read.specs.Calls.Builders.{skip_building};
     ghost use Rattle.gob_read.specs.declared.builder.Stores.TheVariants.{Nothing};
 
     ghost DEPTH = { 65536 };

@@ -50,7 +50,7 @@ fn basic_value(kind: Basic, first: u64, second: u64) -> Value
 impl Builder for TreeBuilder {
     type Out = Value;
 
-    ghost use Rattle.gob_read.specs.Builders.{tree_building};
+    ghost use Rattle.gob_read.specs.Calls.Builders.{tree_building};
     ghost use Rattle.gob_read.specs.declared.builder.Stores.TheVariants.{PartsAndRaw};
 
     ghost DEPTH = { 1000 };

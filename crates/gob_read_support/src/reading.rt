@@ -2,7 +2,7 @@
 
 ghost use Rattle.std.specs.Prelude.{[], IfOk, min};
 ghost use Rattle.gob_types.specs.Defined.{types};
-ghost use Rattle.gob_read.specs.UnderWay.{HasReadBody};
+ghost use Rattle.gob_read.specs.Calls.UnderWay.{HasReadBody};
 
 use crate::body::Body;
 use gob_read::{BodyReader, Builder, Progress, Stop};

@@ -2,7 +2,7 @@
 
 ghost use Rattle.std.specs.Prelude.{OnOk};
 ghost use Rattle.gob_types.specs.Defined.{types};
-ghost use Rattle.gob_read.specs.UnderWay.{FitsTable};
+ghost use Rattle.gob_read.specs.Calls.UnderWay.{FitsTable};
 
 use crate::types::table;
 use gob_num::Memory;

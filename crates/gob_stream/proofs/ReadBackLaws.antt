@@ -4,7 +4,7 @@ use Rattle.std.proofs.lemmas.List.{append-nil, take-append-le}
 use Rattle.gob_types.specs.Table.{Table}
 use Rattle.gob_types.specs.Base.{base_table}
 use Rattle.gob_value.specs.Tree.{Tree}
-use Rattle.gob_read.specs.Builders.{tree_building}
+use Rattle.gob_read.specs.Calls.Builders.{tree_building}
 use Rattle.gob_read.specs.Building.{Building}
 use Rattle.gob_read.specs.declared.tree_builder.TreeBuilder.{TreeBuilder}
 use Rattle.gob_stream.specs.declared.fault.Refusal.{Refusal}
@@ -17,8 +17,10 @@ use Rattle.gob_stream.specs.Item.{StreamItem}
 use Rattle.gob_stream.specs.Stream.{Stream}
 use Rattle.gob_stream.specs.Outcome.{BeginsWithStream, LongestStream, the_end, refused, at_the_end, Outcome}
 use Rattle.gob_stream.specs.Machine.HasRead.{Received}
-use Rattle.gob_stream.specs.Reading.{ShowsRefusal, ReadsStream, Feeds, ReadingFinishes}
-use Rattle.gob_stream.specs.Laws.{ItemsGoOn, WrittenWithin, ReadsThese, AreReadBackInPieces}
+use Rattle.gob_stream.specs.Reading.{ShowsRefusal, ReadsStream}
+use Rattle.gob_stream.specs.Calls.Reads.{Feeds, ReadingFinishes}
+use Rattle.gob_stream.specs.Laws.{ItemsGoOn, WrittenWithin, ReadsThese}
+use Rattle.gob_stream.specs.Calls.SessionLaws.{AreReadBackInPieces}
 use Rattle.gob_stream.proofs.Stream.StreamLaws.{counted_some, more_items, NoNext, gives_items, one_reading, begin_one_another, all_of, give_one_list, wider}
 use Rattle.gob_stream.proofs.Stream.OutcomeLaws.{outcome_once}
 use Rattle.gob_stream.proofs.Reader.UnderWayLaws.{after_gives}

@@ -11,7 +11,7 @@ pub mod Ends
 pub mod Reading
 pub mod Whole
 pub mod Honest
-pub mod Session
 pub mod Writing
 pub mod Laws
+pub mod Calls
 pub mod Machine

@@ -1,23 +1,19 @@
 -- What the reading calls answer, in the words of streams.
-use Rattle.std.specs.Prelude.{◌≡◌, ◌≢◌, ℕ, ◌+◌, ◌-◌, ◌<◌, ◌≤◌, List, [], ◌∷◌, ◌++◌, length, Option, Some, None, Result, Ok, Err}
+use Rattle.std.specs.Prelude.{◌≡◌, ◌≢◌, ℕ, ◌+◌, ◌≤◌, List, [], ◌++◌, length, Option, Some, Result, Ok, Err}
 use Rattle.gob_num.specs.Unsigned.{IsUnsigned}
 use Rattle.gob_types.specs.declared.reason.Reason.TheVariants as reason
 use Rattle.gob_types.specs.Table.{Table}
 use Rattle.gob_types.specs.Base.{base_table}
-use Rattle.gob_types.specs.Defined.{types}
 use Rattle.gob_value.specs.Tree.{Tree}
-use Rattle.gob_read.specs.declared.tree_builder.TreeBuilder.{TreeBuilder}
 use Rattle.gob_stream.specs.declared.fault.Refusal.{Refusal}
 use Rattle.gob_stream.specs.declared.fault.Fault.{Fault}
 use Rattle.gob_stream.specs.declared.fault.Fault.TheVariants as fault
 use Rattle.gob_stream.specs.declared.item.Item as declared
-use Rattle.gob_stream.specs.Machine.SessionState.{SessionState}
-use Rattle.gob_stream.specs.Bounds.{Bounds, no_deeper}
+use Rattle.gob_stream.specs.Bounds.{Bounds}
 use Rattle.gob_stream.specs.Devices.{counts_up, Rose}
-use Rattle.gob_stream.specs.Item.{StreamItem, ItemsMean, ItemMeans}
+use Rattle.gob_stream.specs.Item.{StreamItem, ItemsMean}
 use Rattle.gob_stream.specs.Stream.{Stream}
-use Rattle.gob_stream.specs.Outcome.{LongestStream, LongestButLast, Outcome, the_end, refused}
-use Rattle.gob_stream.specs.Machine.HasRead.{Received, SessionHasRead}
+use Rattle.gob_stream.specs.Outcome.{LongestStream, LongestButLast, Outcome, refused}
 
 -- of the bytes that were left, some were taken and these are left now
 pub record Taken (before : List ℕ) (now : Option (List ℕ)) (taken : List ℕ) : Type 0 where
@@ -69,22 +65,6 @@ pub record GivesOfTaken (L : Bounds) (taken : ℕ) (bytes : List ℕ) (items : L
   pub taken_is : taken ≡ length front
   pub given : LongestButLast base_table L front items
 
--- what feeding a piece answers, where the items were given, to a session that had given the items before, of these bytes
-abbrev pub Feeds : {X O : Type 0} → (received : Received X) (trees : Received TreeBuilder) (means : O → Tree → Type 0) (most : ℕ) (s s' : SessionState X O) → List StreamItem → (bytes piece : List ℕ) → List (declared.Item O) → Result (Unit {0}) Fault → Type 0
-Feeds received trees means most s s' items bytes piece given (Ok _) = GivesOn means given items (λ all. SessionHasRead received trees most s' all (bytes ++ piece))
-Feeds received trees means most s s' items bytes piece given (Err (fault.Refused R)) =
-    GivesOn means given items (λ all. ShowsRefusal (no_deeper most s.limits) (bytes ++ piece) all R × HasTypesBehind (no_deeper most s.limits) (bytes ++ piece) all (types s'.types)) × (length bytes < R.seen)
-Feeds received trees means most s s' items bytes piece given (Err fault.Read) = ⊥
-Feeds received trees means most s s' items bytes piece given (Err fault.Memory) =
-    GivesOn means given items (λ all. GivesOfTaken (no_deeper most s.limits) s'.taken (bytes ++ piece) all × HasTypesBeyond (no_deeper most s.limits) (bytes ++ piece) all (types s'.types))
-Feeds received trees means most s s' items bytes piece given (Err fault.Failed) = ⊥
-
--- what finishing answers: nothing has changed at the end of a stream, else the bytes end within an item
-abbrev pub ReadingFinishes : {X O : Type 0} → ℕ → (s s' : SessionState X O) → List StreamItem → List ℕ → Result (Unit {0}) Fault → Type 0
-ReadingFinishes most s s' items bytes (Ok _) = Outcome base_table (no_deeper most s.limits) bytes items the_end × (s' ≡ s)
-ReadingFinishes most s s' items bytes (Err (fault.Refused R)) = Outcome base_table (no_deeper most s.limits) bytes items (refused R) × (R.reason ≡ reason.Ended)
-ReadingFinishes most s s' items bytes (Err _) = ⊥
-
 -- the bytes z of an item that begins at the offset are no more than those that show the refusal, or than its count and its body
 pub data IsNoFurther (L : Bounds) (offset : ℕ) (z : List ℕ) (R : Refusal) : Type 0 where
   up_to_the_last_shown : R.seen ≡ offset + length z → IsNoFurther L offset z R
@@ -100,13 +80,6 @@ pub record EndsInItem (L : Bounds) (bytes : List ℕ) (items : List StreamItem) 
   pub whole : bytes ≡ front ++ item
   pub no_further : IsNoFurther L (length front) item R
 
--- an item was given with the last of the bytes, which are the stream of this item behind the others
-pub record ReadingGivesNext {X O : Type 0} (received : Received X) (trees : Received TreeBuilder) (means : O → Tree → Type 0) (most : ℕ) (s' : SessionState X O) (given : declared.Item O) (items : List StreamItem) (bytes : List ℕ) : Type 0 where
-  pub item : StreamItem
-  pub meant : ItemMeans means given item
-  pub after : SessionHasRead received trees most s' (items ++ item ∷ []) bytes
-  pub stream : Stream base_table (no_deeper most s'.limits) (items ++ item ∷ []) bytes (types s'.types)
-
 -- the next item is refused: for what the bytes show with some of the rest, or since all of it ends within the item
 pub data RefusesNextItem (L : Bounds) (items : List StreamItem) (bytes rest : List ℕ) (now : Option (List ℕ)) (R : Refusal) : Type 0 where
   shown : SomeTaken rest now (λ taken. ShowsRefusal L (bytes ++ taken) items R × EndsInItem L (bytes ++ taken) items R) → RefusesNextItem L items bytes rest now R
@@ -118,19 +91,6 @@ StopsNext L items bytes rest now (fault.Refused R) = RefusesNextItem L items byt
 StopsNext L items bytes rest now fault.Read = SomeTaken rest now (λ taken. LongestStream base_table L (bytes ++ taken) items)
 StopsNext L items bytes rest now fault.Memory = SomeTaken rest now (λ taken. LongestButLast base_table L (bytes ++ taken) items)
 StopsNext L items bytes rest now fault.Failed = ⊥
-
--- what reading the next item answers
-abbrev pub ReadsNext : {X O : Type 0} → (received : Received X) (trees : Received TreeBuilder) (means : O → Tree → Type 0) (most : ℕ) (s s' : SessionState X O) → List StreamItem → (bytes rest : List ℕ) → Option (List ℕ) → Result (Option (declared.Item O)) Fault → Type 0
-ReadsNext received trees means most s s' items bytes rest now (Ok (Some given)) = SomeTaken rest now (λ taken. ReadingGivesNext received trees means most s' given items (bytes ++ taken))
-ReadsNext received trees means most s s' items bytes rest now (Ok None) = (rest ≡ []) × (now ≡ Some []) × Outcome base_table (no_deeper most s.limits) bytes items the_end × (s' ≡ s)
-ReadsNext received trees means most s s' items bytes rest now (Err e) = StopsNext (no_deeper most s.limits) items bytes rest now e
-
--- how many bytes reading an item takes: those up to its end, within the limit, and before a fault no more than the limit
--- leaves and a count
-abbrev pub TakesNext : {X O : Type 0} → (s s' : SessionState X O) → (taken taken' : ℕ) → Result (Option (declared.Item O)) Fault → Type 0
-TakesNext s s' taken taken' (Ok None) = taken' ≡ taken
-TakesNext s s' taken taken' (Ok (Some item)) = (taken' ≡ counts_up taken (s'.taken - s.taken)) × (s.taken < s'.taken) × (s'.taken ≤ s.limits.stream)
-TakesNext s s' taken taken' (Err e) = taken' ≤ taken + (s.limits.stream + 9 - s.taken)
 
 -- what reading a whole stream answers, over a reader with these bytes left, where the items were given
 abbrev pub ReadsStream : Bounds → List ℕ → Option (List ℕ) → List StreamItem → Result (Unit {0}) Fault → Type 0

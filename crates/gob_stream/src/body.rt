@@ -5,12 +5,12 @@ ghost use Rattle.gob_types.specs.Base.{base_table, wire_type};
 ghost use Rattle.gob_types.specs.Defined.{types, Admits};
 ghost use Rattle.gob_value.specs.View.{view};
 ghost use Rattle.gob_value.specs.Fits.{Fits};
-ghost use Rattle.gob_read.specs.Reader.{ReaderHasRead};
-ghost use Rattle.gob_read.specs.Builders.{tree_building};
+ghost use Rattle.gob_read.specs.Calls.Reader.{ReaderHasRead};
+ghost use Rattle.gob_read.specs.Calls.Builders.{tree_building};
 ghost use Rattle.gob_stream.specs.Machine.HasRead.{size};
 ghost use Rattle.gob_stream.specs.Machine.ReadParts.{IsBodyUnderWay, ReadsValueIn, ReadsDescription, StopsWithin};
 ghost use Rattle.gob_stream.specs.Machine.ReadParts.{fault_behind, DefineAnswers, HasWireType};
-ghost use Rattle.gob_read.specs.UnderWay.{under_way};
+ghost use Rattle.gob_read.specs.Calls.UnderWay.{under_way};
 
 use crate::count::{CountStage, refusal};
 use crate::denial::define_admitted;

@@ -2,8 +2,10 @@
 
 ghost use Rattle.gob_stream.specs.Laws.{HaveOneReading, BeginOneAnother, GiveOneList};
 ghost use Rattle.gob_stream.specs.Laws.{StayStreams, HaveOneOutcome, HaveAnOutcome, RefuseNoItem, StreamsStayShown};
-ghost use Rattle.gob_stream.specs.Laws.{GivesWhatItRead, HaveOneTable, StayLimits};
-ghost use Rattle.gob_stream.specs.Laws.{AreReadBack, ShowNoRefusal, AreReadBackInPieces};
+ghost use Rattle.gob_stream.specs.Laws.{HaveOneTable, StayLimits};
+ghost use Rattle.gob_stream.specs.Calls.SessionLaws.{GivesWhatItRead};
+ghost use Rattle.gob_stream.specs.Laws.{AreReadBack, ShowNoRefusal};
+ghost use Rattle.gob_stream.specs.Calls.SessionLaws.{AreReadBackInPieces};
 ghost use Rattle.gob_stream.specs.Honest.{OutcomesAreHonest};
 ghost use Rattle.gob_stream.specs.WriterRefusal.{WritersHaveOneReason, AreNoItem};
 

@@ -4,8 +4,8 @@ ghost use Rattle.std.specs.Prelude.{◌≡◌, ℕ, List, Err, Some, OnErr};
 ghost use Rattle.gob_stream.specs.Ends.{bytes_read, failed_reads, reader_of};
 ghost use Rattle.gob_stream.specs.Item.{StreamItem};
 ghost use Rattle.gob_stream.specs.Reading.{CountsReads};
-ghost use Rattle.gob_stream.specs.Session.{HasRead, HasFailed, StaysAsItWas, types_of, limits_of};
-ghost use Rattle.gob_stream.specs.Session.{ReadItemAnswers, ReadsHonestlyFrom, ReadItemTakes};
+ghost use Rattle.gob_stream.specs.Calls.Session.{HasRead, HasFailed, StaysAsItWas, types_of, limits_of};
+ghost use Rattle.gob_stream.specs.Calls.Session.{ReadItemAnswers, ReadsHonestlyFrom, ReadItemTakes};
 
 use crate::fault::Fault;
 use crate::input::Input;

@@ -1,13 +1,13 @@
 //! Reading all items of a stream.
 
 ghost use Rattle.std.specs.Prelude.{◌≡◌, ℕ, ◌+◌, ◌≤◌, List, [], Some};
-ghost use Rattle.gob_read.specs.Builders.{tree_building};
+ghost use Rattle.gob_read.specs.Calls.Builders.{tree_building};
 ghost use Rattle.gob_stream.specs.Bounds.{within_trees};
 ghost use Rattle.gob_stream.specs.Ends.{bytes_read, failed_reads, reader_of};
 ghost use Rattle.gob_stream.specs.Item.{item_views};
 ghost use Rattle.gob_stream.specs.Honest.{IsHonest, OfRefusal};
 ghost use Rattle.gob_stream.specs.Reading.{ReadsStream, Given, CountsReads};
-ghost use Rattle.gob_stream.specs.Session.{HasRead};
+ghost use Rattle.gob_stream.specs.Calls.Session.{HasRead};
 
 use crate::fault::Fault;
 use crate::input::Input;

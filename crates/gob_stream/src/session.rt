@@ -48,7 +48,7 @@ impl<B: Builder> Drop for Session<B> {
 impl<B: Builder> Model for Session<B> {
     ghost use Rattle.std.specs.Coded.{codes};
     ghost use Rattle.gob_value.specs.contracts.value.Value as value;
-    ghost use Rattle.gob_read.specs.Builders.{tree_building};
+    ghost use Rattle.gob_read.specs.Calls.Builders.{tree_building};
     ghost use Rattle.gob_stream.specs.Machine.SessionState.{SessionState};
     ghost use Rattle.gob_stream.specs.Machine.HasRead.{IsUsable};
 
@@ -78,9 +78,9 @@ impl<B: Builder> Session<B> {
     ghost use Rattle.gob_stream.specs.Bounds.{AreLimits, deepest};
     ghost use Rattle.gob_stream.specs.Item.{StreamItem};
     ghost use Rattle.gob_stream.specs.Reading.{Given};
-    ghost use Rattle.gob_stream.specs.Session.{HasRead, HasReadSome, HasFailed, IsBetweenItems, StaysAsItWas};
-    ghost use Rattle.gob_stream.specs.Session.{table_of, taken_of, limits_of, wanted_of};
-    ghost use Rattle.gob_stream.specs.Session.{FeedAnswers, FeedsHonestlyFrom, FinishAnswers, StepAnswers};
+    ghost use Rattle.gob_stream.specs.Calls.Session.{HasRead, HasReadOn, HasFailed, IsBetweenItems, StaysAsItWas};
+    ghost use Rattle.gob_stream.specs.Calls.Session.{table_of, taken_of, limits_of, wanted_of};
+    ghost use Rattle.gob_stream.specs.Calls.Session.{FeedAnswers, FeedsHonestlyFrom, FinishAnswers, StepAnswers};
 
     /// A reader that has taken no byte. No value may be deeper than these limits allow, or than the builder takes.
     pub fn new(alloc: Global, limits: Limits) -> Result<Session<B>, Memory>
@@ -248,7 +248,7 @@ impl<B: Builder> Session<B> {
     /// Whether there was a fault. If not, it has read some bytes.
     pub(crate) fn has_failed(&self) -> bool
         ensures failed { MatchBool result (HasFailed self.now) (¬ HasFailed self.now) }
-        ensures has_read { ¬ HasFailed self.now → HasReadSome B.building self.now }
+        ensures has_read { ¬ HasFailed self.now → HasReadOn B.building self.now }
     {
         matches!(self.stage, Stage::Failed)
     }

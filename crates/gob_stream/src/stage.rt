@@ -1,7 +1,7 @@
 //! How far into an item a reader is.
 
 ghost use Rattle.std.specs.Prelude.{◌≡◌, ◌<◌, length};
-ghost use Rattle.gob_read.specs.Builders.{tree_building};
+ghost use Rattle.gob_read.specs.Calls.Builders.{tree_building};
 ghost use Rattle.gob_stream.specs.Bounds.{no_deeper};
 ghost use Rattle.gob_stream.specs.Machine.ReadParts.{IsWithinItem, StageAnswers};
 

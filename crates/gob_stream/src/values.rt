@@ -3,7 +3,7 @@
 ghost use Rattle.std.specs.Prelude.{◌≡◌, ℕ, ◌+◌, ◌<◌, ◌≤◌, IfSome, length};
 ghost use Rattle.gob_types.specs.Defined.{types};
 ghost use Rattle.gob_stream.specs.Bounds.{Bounds};
-ghost use Rattle.gob_stream.specs.Session.{IsBetweenItems, ReadsItems, table_of, taken_of, limits_of};
+ghost use Rattle.gob_stream.specs.Calls.Session.{IsBetweenItems, ReadsItems, table_of, taken_of, limits_of};
 ghost use Rattle.gob_stream.specs.Whole.{AllowsIn, AreItemsBetween, IsOpenKind, IsValueBetween};
 
 use crate::session::Session;

@@ -1,7 +1,5 @@
-pub mod Noted
-pub mod Packing
 pub mod Meaning
 pub mod Seeing
 pub mod Laws
+pub mod Calls
 pub mod Machine
-pub mod Builder

@@ -7,3 +7,5 @@ pub mod View
 pub mod Writing
 pub mod Values
 pub mod Tidying
+pub mod Noted
+pub mod Packing

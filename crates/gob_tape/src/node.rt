@@ -83,11 +83,11 @@ pub(crate) struct Node {
 }
 
 impl Model for Node {
-    ghost use Rattle.gob_tape.specs.Noted.{Noted};
+    ghost use Rattle.gob_tape.specs.Machine.Noted.{Noted};
 
     ghost Value = { Noted };
 
-    ghost use Rattle.gob_tape.specs.Packing.{noted, packed, IsPacked, packed_back};
+    ghost use Rattle.gob_tape.specs.Machine.Packing.{noted, packed, IsPacked, packed_back};
 
     ghost view = { noted };
 

@@ -155,7 +155,7 @@ impl TapeBuilder {
 impl Builder for TapeBuilder {
     type Out = Tape;
 
-    ghost use Rattle.gob_tape.specs.Builder.{tape_building};
+    ghost use Rattle.gob_tape.specs.Calls.Builder.{tape_building};
     ghost use Rattle.gob_read.specs.declared.builder.Stores.TheVariants.{PartsAndRaw};
 
     ghost DEPTH = { 65536 };

@@ -8,7 +8,7 @@ use Rattle.std.proofs.KnownBytes.{Consumes-nil, Consumes-trans, Consumes-kept}
 use Rattle.gob_types.specs.Base.{base_table}
 use Rattle.gob_types.specs.Defined.{types, definition_count}
 use Rattle.gob_types.specs.Table.{Table}
-use Rattle.gob_read.specs.Builders.{skip_building, tree_building}
+use Rattle.gob_read.specs.Calls.Builders.{skip_building, tree_building}
 use Rattle.gob_read.specs.declared.skip_builder.SkipBuilder.{SkipBuilder}
 use Rattle.gob_stream.specs.declared.fault.Fault.{Fault}
 use Rattle.gob_stream.specs.declared.fault.Fault.TheVariants as reading
@@ -19,8 +19,9 @@ use Rattle.gob_stream.specs.Bounds.{Bounds, AreLimits, deepest, no_deeper}
 use Rattle.gob_stream.specs.Item.{StreamItem}
 use Rattle.gob_stream.specs.Outcome.{Outcome, refused}
 use Rattle.gob_stream.specs.Machine.ReadParts.{AdvancesOver, over_some, over_item}
-use Rattle.gob_stream.specs.Reading.{Taken, ReadingFinishes}
-use Rattle.gob_stream.specs.Session.{ReadsItems, StepAnswers}
+use Rattle.gob_stream.specs.Reading.{Taken}
+use Rattle.gob_stream.specs.Calls.Reads.{ReadingFinishes}
+use Rattle.gob_stream.specs.Calls.Session.{ReadsItems, StepAnswers}
 use Rattle.gob_stream.specs.Stream.{Stream, AreItems, no_more, and_then, counted}
 use Rattle.gob_stream.proofs.PublicLaws.{after_gives, stands_within}
 use Rattle.gob_tool.specs.declared.check.Tally.{Tally}

@@ -15,7 +15,8 @@ use Rattle.gob_stream.specs.Machine.SessionState.{SessionState}
 use Rattle.gob_stream.specs.Bounds.{Bounds, greatest_depth, within_trees}
 use Rattle.gob_stream.specs.Item.{StreamItem}
 use Rattle.gob_stream.specs.Outcome.{LongestStream}
-use Rattle.gob_stream.specs.Reading.{SomeTaken, ReadingFinishes}
+use Rattle.gob_stream.specs.Reading.{SomeTaken}
+use Rattle.gob_stream.specs.Calls.Reads.{ReadingFinishes}
 use Rattle.gob_stream.specs.Whole.{HasBegun}
 use Rattle.gob_stream.specs.Machine.Between.{IsBetween}
 use Rattle.gob_stream.proofs.PublicLaws.{after_gives, begun_gives, stands_within}

@@ -10,7 +10,7 @@ use Rattle.gob_types.specs.declared.reason.Reason.TheVariants as reason
 use Rattle.gob_types.specs.Base.{base_table}
 use Rattle.gob_types.specs.Defined.{types}
 use Rattle.gob_types.specs.Table.{Table}
-use Rattle.gob_read.specs.Builders.{tree_building}
+use Rattle.gob_read.specs.Calls.Builders.{tree_building}
 use Rattle.gob_stream.specs.declared.fault.Fault.{Fault}
 use Rattle.gob_stream.specs.declared.fault.Fault.TheVariants as reading
 use Rattle.gob_stream.specs.declared.fault.Refusal.{Refusal}
@@ -21,13 +21,14 @@ use Rattle.gob_stream.specs.Bounds.{Bounds, AreLimits, deepest, no_deeper}
 use Rattle.gob_stream.specs.Item.{StreamItem, ItemMeans}
 use Rattle.gob_stream.specs.Outcome.{BeginsWithStream, Outcome, refused}
 use Rattle.gob_stream.specs.Machine.ReadParts.{AdvancesOver, over_some, over_item}
-use Rattle.gob_stream.specs.Reading.{ReadingFinishes, SomeTaken}
-use Rattle.gob_stream.specs.Session.{StepAnswers}
+use Rattle.gob_stream.specs.Reading.{SomeTaken}
+use Rattle.gob_stream.specs.Calls.Reads.{ReadingFinishes}
+use Rattle.gob_stream.specs.Calls.Session.{StepAnswers}
 use Rattle.gob_stream.specs.Stream.{Stream, AreItems, no_more, and_then, IsItem}
 use Rattle.gob_stream.specs.Writing.{HasWritten, IsNew}
 use Rattle.gob_stream.proofs.PublicLaws.{after_gives, one_table, limits_stay}
 use Rattle.gob_stream.proofs.PublicLaws.{one_front}
-use Rattle.gob_tape.specs.Builder.{tape_building}
+use Rattle.gob_tape.specs.Calls.Builder.{tape_building}
 use Rattle.gob_tape.specs.declared.tape.Tape.{Tape}
 use Rattle.gob_tape.specs.declared.tape_builder.TapeBuilder.{TapeBuilder}
 use Rattle.gob_tool.specs.declared.fault.ToolFault.{ToolFault}

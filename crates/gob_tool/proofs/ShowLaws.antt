@@ -20,7 +20,7 @@ use Rattle.gob_stream.specs.Item.{StreamItem}
 use Rattle.gob_stream.specs.Stream.{Stream, no_more}
 use Rattle.gob_stream.specs.Outcome.{BeginsWithStream, the_end, EndsSo, at_the_end}
 use Rattle.gob_stream.specs.Reading.{SomeTaken, Taken, HasTypesBehind, HasTypesBeyond, ShowsRefusal}
-use Rattle.gob_stream.specs.Reading.{ReadingFinishes}
+use Rattle.gob_stream.specs.Calls.Reads.{ReadingFinishes}
 use Rattle.gob_stream.proofs.PublicLaws.{after_gives, one_table, shown_there, shown_refusal_stays, stands_within}
 use Rattle.gob_tool.specs.declared.fault.ToolFault.{ToolFault}
 use Rattle.gob_tool.specs.declared.fault.ToolFault.TheVariants as fault

@@ -3,7 +3,7 @@
 ghost use Rattle.std.specs.Prelude.{◌≡◌, ◌<◌, ◌≤◌, ℕ, List, ◌++◌, Some, IfOk, length, string_bytes};
 ghost use Rattle.gob_stream.specs.Bounds.{AreLimits, deepest, no_deeper};
 ghost use Rattle.gob_stream.specs.Ends.{failed_reads, failed_writes, reader_of, writer_of};
-ghost use Rattle.gob_stream.specs.Session.{limits_of};
+ghost use Rattle.gob_stream.specs.Calls.Session.{limits_of};
 ghost use Rattle.gob_tool.specs.Checking.{CheckAnswers};
 ghost use Rattle.gob_tool.specs.Machine.Counting.{EndsCounting, CountsCounting, tally_line};
 ghost use Rattle.gob_tool.specs.Machine.Counting.{HasCounted, CountsAll, CountsFront};

@@ -3,7 +3,7 @@
 ghost use Rattle.std.specs.Prelude.{◌≡◌, List, ℕ, min, Option, IfSome, ◌++◌};
 ghost use Rattle.gob_stream.specs.Bounds.{greatest_depth, within_trees};
 ghost use Rattle.gob_stream.specs.Ends.{failed_writes, writer_of};
-ghost use Rattle.gob_stream.specs.Session.{limits_of};
+ghost use Rattle.gob_stream.specs.Calls.Session.{limits_of};
 ghost use Rattle.gob_tool.specs.Machine.Gathering.{CountsOnlyWrites, StandsBehind, TakesPiece};
 ghost use Rattle.gob_tool.specs.Machine.Large.{IsLargeItem, IsLargeList};
 

@@ -3,7 +3,7 @@
 ghost use Rattle.std.specs.Prelude.{◌≡◌, ◌<◌, ℕ, List, length};
 ghost use Rattle.gob_stream.specs.Ends.{failed_reads, reader_of};
 ghost use Rattle.gob_stream.specs.Item.{StreamItem, item_views};
-ghost use Rattle.gob_stream.specs.Session.{limits_of};
+ghost use Rattle.gob_stream.specs.Calls.Session.{limits_of};
 ghost use Rattle.gob_tool.specs.Machine.Gathering.{GaveItems};
 ghost use Rattle.gob_tool.specs.Machine.Pieces.{HasGiven, GivesPiece, CountsPiece};
 

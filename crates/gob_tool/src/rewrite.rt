@@ -4,7 +4,7 @@ ghost use Rattle.std.specs.Prelude.{◌≡◌, ◌<◌, ◌≤◌, ◌++◌, ℕ
 ghost use Rattle.std.specs.Io.KnownBytes.{Consumes, IsAtEnd};
 ghost use Rattle.gob_stream.specs.Bounds.{deepest, no_deeper};
 ghost use Rattle.gob_stream.specs.Ends.{failed_reads, failed_writes, reader_of, writer_of};
-ghost use Rattle.gob_stream.specs.Session.{limits_of};
+ghost use Rattle.gob_stream.specs.Calls.Session.{limits_of};
 ghost use Rattle.gob_stream.specs.Writing.{IsNew};
 ghost use Rattle.gob_tool.specs.Machine.Gathering.{Gathered, CountsOnlyReads, CountsOnlyWrites};
 ghost use Rattle.gob_tool.specs.Rewriting.{RewriteAnswers, RewritesSo};

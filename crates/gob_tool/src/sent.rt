@@ -80,10 +80,10 @@ fn is_integer(kind: &Kind) -> bool
     matches!(kind, Kind::Basic(Basic::Int))
 }
 
-/// Writes the text of so many ints that are known to stand in the body from the place on, the bracket that closes it and
-/// the end of the line, in blocks of the size of the room. Where the body spells something else the text is another.
-/// After an error a front of the text is written. (In its caller its loop would have to keep in memory what it has in
-/// registers here.)
+/// Writes the text of so many ints that are known to stand in the body from the place on, the bracket that closes it
+/// and the end of the line, in blocks of the size of the room. Where the body spells something else the text is
+/// another. After an error a front of the text is written.
+// (Not a part of its caller, where the loop would keep in memory what it has in registers here.)
 #[inline(never)]
 pub(crate) fn send_integers<W: Write>(
     list: Integers,

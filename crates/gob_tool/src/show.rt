@@ -2,7 +2,7 @@
 
 ghost use Rattle.std.specs.Prelude.{◌≡◌, ℕ, ◌<◌, ◌≤◌, List, [], ◌++◌, length, min, Option, Some, IfOk, IfSome, OnOk};
 ghost use Rattle.gob_stream.specs.Ends.{failed_reads, failed_writes, reader_of, writer_of};
-ghost use Rattle.gob_stream.specs.Session.{limits_of};
+ghost use Rattle.gob_stream.specs.Calls.Session.{limits_of};
 ghost use Rattle.gob_tool.specs.Showing.{RunAnswers, ShowAnswers, AppendsFront, CountsReadFaults, CountsWriteFaults};
 ghost use Rattle.gob_stream.specs.Bounds.{greatest_depth, within_trees};
 ghost use Rattle.gob_tool.specs.Machine.Gathering.{Gathered, StandsBehind, TakesPiece};

@@ -7,7 +7,7 @@ ghost use Rattle.gob_types.specs.Ready.{IsReady};
 ghost use Rattle.gob_stream.specs.Ends.{failed_reads, failed_writes, reader_of, writer_of};
 ghost use Rattle.gob_stream.specs.Item.{item_view, item_views};
 ghost use Rattle.gob_stream.specs.Bounds.{within_trees};
-ghost use Rattle.gob_stream.specs.Session.{limits_of};
+ghost use Rattle.gob_stream.specs.Calls.Session.{limits_of};
 ghost use Rattle.gob_tool.specs.Machine.Gathering.{GaveItems, PassesSome, CountsOnlyReads, CountsOnlyWrites};
 ghost use Rattle.gob_tool.specs.Machine.Pieces.{AreSent, TakesItems};
 ghost use Rattle.gob_tool.specs.Machine.Receiver.{IsReceiver, IsSameReceiver};

@@ -5,7 +5,7 @@ ghost use Rattle.gob_types.specs.Ready.{IsReady};
 ghost use Rattle.gob_stream.specs.Ends.{failed_reads, reader_of};
 ghost use Rattle.gob_stream.specs.Item.{item_views};
 ghost use Rattle.gob_stream.specs.Bounds.{within_trees};
-ghost use Rattle.gob_stream.specs.Session.{limits_of, types_of};
+ghost use Rattle.gob_stream.specs.Calls.Session.{limits_of, types_of};
 ghost use Rattle.gob_tool.specs.Machine.Gathering.{GaveItems};
 ghost use Rattle.gob_tool.specs.Machine.Pieces.{ReadsWanted, CountsPiece, first_type_of};
 ghost use Rattle.gob_tool.specs.Taking.{first_type};

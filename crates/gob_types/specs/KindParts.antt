@@ -6,18 +6,18 @@ use Rattle.gob_types.specs.declared.kind.Kind.{Kind}
 use Rattle.gob_types.specs.declared.kind.Kind.TheVariants as kind
 
 -- the type of the elements of an array, a slice or a map
-abbrev pub elem_of : Kind → Option TypeId
-elem_of (kind.Array e n) = Some e
-elem_of (kind.Slice e) = Some e
-elem_of (kind.Map k e) = Some e
-elem_of _ = None
+abbrev pub elem_named : Kind → Option TypeId
+elem_named (kind.Array e n) = Some e
+elem_named (kind.Slice e) = Some e
+elem_named (kind.Map k e) = Some e
+elem_named _ = None
 
 -- the type of the keys of a map
-abbrev pub key_of : Kind → Option TypeId
-key_of (kind.Map k e) = Some k
-key_of _ = None
+abbrev pub key_named : Kind → Option TypeId
+key_named (kind.Map k e) = Some k
+key_named _ = None
 
 -- the fields of a struct
-abbrev pub fields_of : Kind → Option (List Field)
-fields_of (kind.Struct fs) = Some fs
-fields_of _ = None
+abbrev pub fields_named : Kind → Option (List Field)
+fields_named (kind.Struct fs) = Some fs
+fields_named _ = None

@@ -111,11 +111,11 @@ pub enum Kind {
 }
 
 impl Kind {
-    ghost use Rattle.gob_types.specs.KindParts.{elem_of, key_of, fields_of};
+    ghost use Rattle.gob_types.specs.KindParts.{elem_named, key_named, fields_named};
 
     /// The type of the elements of an array, a slice or a map.
     pub fn elem(&self) -> Option<TypeId>
-        ensures { result ≡ elem_of self.now }
+        ensures { result ≡ elem_named self.now }
     {
         match self {
             Kind::Array { elem, .. } => Some(*elem),
@@ -127,7 +127,7 @@ impl Kind {
 
     /// The type of the keys of a map.
     pub fn key(&self) -> Option<TypeId>
-        ensures { result ≡ key_of self.now }
+        ensures { result ≡ key_named self.now }
     {
         match self {
             Kind::Map { key, .. } => Some(*key),
@@ -137,7 +137,7 @@ impl Kind {
 
     /// The fields of a struct.
     pub fn fields(&self) -> Option<&Fields>
-        ensures { option_copied result ≡ fields_of self.now }
+        ensures { option_copied result ≡ fields_named self.now }
     {
         match self {
             Kind::Struct { fields } => Some(fields),

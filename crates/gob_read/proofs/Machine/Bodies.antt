@@ -13,8 +13,8 @@ use Rattle.gob_read.specs.Building.{IsComplete}
 use Rattle.gob_read.specs.Machine.Kinds.{BeginsAs, as_struct, as_tagged, number_stays, raw_stays}
 use Rattle.gob_read.specs.Machine.OpenPath.{AtNext, at_tag, at_part, at_once}
 use Rattle.gob_read.specs.Machine.Running.{IsReached, IsReachedSomewhere, StopsFor, RunGoesOn, RunFinishes, RefusesPiece}
-use Rattle.gob_read.specs.Reader.{HasReadSoFar, nothing_taken, taken_so_far, RunHasRead, ReaderHasRead, IsUsableReader, HasReadSome, ReaderTakesPiece, EndsBody, ReaderRefusesBody, Stops}
-use Rattle.gob_read.specs.Honest.{RefusesHonestly}
+use Rattle.gob_read.specs.Calls.Reader.{HasReadSoFar, nothing_taken, taken_so_far, RunHasRead, ReaderHasRead, IsUsableReader, HasReadSome, ReaderTakesPiece, EndsBody, ReaderRefusesBody, Stops}
+use Rattle.gob_read.specs.Calls.Reader.{RefusesHonestly}
 use Rattle.gob_read.specs.declared.frame.Frame.{Frame}
 use Rattle.gob_read.specs.declared.next.Next.{Next}
 use Rattle.gob_read.specs.declared.next.Next.TheVariants.{Top, Number}

@@ -11,7 +11,7 @@ use Rattle.gob_read.specs.Event.{Event}
 use Rattle.gob_read.specs.Machine.Kinds.{HasKind}
 use Rattle.gob_read.specs.Machine.OpenPath.{EachTold, none_told, one_told, PairsTold, no_pair_told, pair_told, FieldsTold, no_field_told, field_told, OpenPath, at_once, behind_tag, in_list, at_key, at_value, in_field, OpenStruct, open_struct, AtNext, at_tag, at_part, at_second, at_delta, at_raw}
 use Rattle.gob_read.specs.Machine.Running.{IsReached}
-use Rattle.gob_read.specs.Reader.{HasReadSoFar, nothing_taken, taken_so_far, RunHasRead, ReaderHasRead, IsUsableReader}
+use Rattle.gob_read.specs.Calls.Reader.{HasReadSoFar, nothing_taken, taken_so_far, RunHasRead, ReaderHasRead, IsUsableReader}
 use Rattle.gob_read.specs.declared.frame.Frame.{Frame}
 use Rattle.gob_read.specs.declared.next.Next.{Next}
 use Rattle.gob_read.specs.declared.run.Run.{Run}

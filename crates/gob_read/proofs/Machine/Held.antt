@@ -22,7 +22,7 @@ use Rattle.gob_read.specs.Held.{WholeFields, no_whole_field, whole_field, PartsB
 use Rattle.gob_read.specs.Machine.Kinds.{HasKind, IsRawKind, is_bytes, is_text, is_opaque, IsList, is_slice, is_array}
 use Rattle.gob_read.specs.Machine.OpenPath.{EachTold, FieldsTold, no_field_told, field_told, OpenPath, in_list, at_key, at_value, in_field, OpenStruct, open_struct, AtNext, at_tag, at_part, at_second, at_delta, at_raw}
 use Rattle.gob_read.specs.Machine.OpenPath as within
-use Rattle.gob_read.specs.Reader.{HasReadSoFar, nothing_taken, taken_so_far}
+use Rattle.gob_read.specs.Calls.Reader.{HasReadSoFar, nothing_taken, taken_so_far}
 use Rattle.gob_read.specs.Machine.Running.{IsUnderWayAt, begun_parts}
 use Rattle.gob_read.specs.declared.frame.Frame.{Frame}
 use Rattle.gob_read.specs.declared.next.Next.{Next}

@@ -4,7 +4,7 @@ use Rattle.gob_types.specs.declared.id.TypeId.{TypeId}
 use Rattle.gob_types.specs.Table.{Table}
 use Rattle.gob_read.specs.Event.{Event}
 use Rattle.gob_value.specs.Tree.{Tree}
-use Rattle.gob_read.specs.Reader.{ReaderHasRead, IsUsableReader, ReaderGives}
+use Rattle.gob_read.specs.Calls.Reader.{ReaderHasRead, IsUsableReader, ReaderGives}
 use Rattle.gob_read.specs.declared.run.Run.{Run}
 use Rattle.gob_read.specs.declared.reader.Progress.{Progress}
 use Rattle.gob_read.specs.declared.reader.Progress.TheVariants.{More, Done}

@@ -6,12 +6,12 @@ use Rattle.gob_types.specs.Table.{Table}
 use Rattle.gob_value.specs.Tree.{Tree}
 use Rattle.gob_read.specs.Refusal as body
 use Rattle.gob_read.specs.Refusal.{Refused, extra, too_deep, short_of, bad_head_at, not_minimal_at, not_allowed}
-use Rattle.gob_read.specs.Reader.{ReaderHasRead, ReaderRefusesBody, Stops}
-use Rattle.gob_read.specs.UnderWay.{under_way, HasEnded}
+use Rattle.gob_read.specs.Calls.Reader.{ReaderHasRead, ReaderRefusesBody, Stops}
+use Rattle.gob_read.specs.Calls.UnderWay.{under_way, HasEnded}
 use Rattle.gob_read.specs.declared.stop.Stop.{Stop}
 use Rattle.gob_read.specs.declared.stop.Stop.TheVariants as stop
 use Rattle.gob_read.proofs.PublicLaws.{seen_within}
-use Rattle.gob_read.specs.Reader.{ReaderGives}
+use Rattle.gob_read.specs.Calls.Reader.{ReaderGives}
 use Rattle.gob_read.specs.declared.reader.BodyReader.{BodyReader}
 use Rattle.gob_read.specs.declared.reader.Progress.{Progress}
 use Rattle.gob_read.specs.declared.reader.Progress.TheVariants as progress

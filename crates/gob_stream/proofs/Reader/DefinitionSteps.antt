@@ -15,7 +15,7 @@ use Rattle.gob_value.specs.Spelling.{Spells}
 use Rattle.gob_value.specs.Description.{Misdescribes, kind_count, wrong_id, bad_reference, bad_length}
 use Rattle.gob_value.specs.declared.value.Value.{Value}
 use Rattle.gob_read.specs.First.{IsFirst}
-use Rattle.gob_read.specs.Reader.{IsMade}
+use Rattle.gob_read.specs.Calls.Reader.{IsMade}
 use Rattle.gob_read.specs.declared.tree_builder.TreeBuilder.{TreeBuilder}
 use Rattle.gob_read.proofs.PublicLaws.{take_whole}
 use Rattle.gob_stream.specs.declared.fault.Fault.{Fault}

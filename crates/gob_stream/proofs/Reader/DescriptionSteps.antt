@@ -11,8 +11,8 @@ use Rattle.gob_value.specs.Fits.{Fits}
 use Rattle.gob_value.specs.View.{view}
 use Rattle.gob_value.specs.declared.value.Value.{Value}
 use Rattle.gob_value.proofs.PublicLaws.{spells_back}
-use Rattle.gob_read.specs.Reader.{ReaderHasRead, ReaderRefusesBody, Stops, IsMade, ReaderGives}
-use Rattle.gob_read.specs.UnderWay.{under_way}
+use Rattle.gob_read.specs.Calls.Reader.{ReaderHasRead, ReaderRefusesBody, Stops, IsMade, ReaderGives}
+use Rattle.gob_read.specs.Calls.UnderWay.{under_way}
 use Rattle.gob_read.specs.declared.stop.Stop.{Stop}
 use Rattle.gob_read.specs.declared.stop.Stop.TheVariants as stop
 use Rattle.gob_read.specs.declared.reader.BodyReader.{BodyReader}

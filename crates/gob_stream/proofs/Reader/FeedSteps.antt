@@ -17,7 +17,8 @@ use Rattle.gob_stream.specs.Item.{StreamItem, ItemMeans, ItemsMean, mean_none, m
 use Rattle.gob_stream.specs.Stream.{Stream}
 use Rattle.gob_stream.specs.Machine.HasRead.{Received, SessionHasRead}
 use Rattle.gob_stream.specs.Outcome.{BeginsWithStream, LongestStream, LongestButLast}
-use Rattle.gob_stream.specs.Reading.{Given, GivesOn, ShowsRefusal, HasTypesBehind, HasTypesBeyond, GivesOfTaken, Feeds}
+use Rattle.gob_stream.specs.Reading.{Given, GivesOn, ShowsRefusal, HasTypesBehind, HasTypesBeyond, GivesOfTaken}
+use Rattle.gob_stream.specs.Calls.Reads.{Feeds}
 use Rattle.gob_stream.specs.Machine.ReadParts.{AdvancesOver, over_some, over_item, Advances}
 use Rattle.gob_stream.proofs.Stream.StreamLaws.{but_none, before_last}
 use Rattle.gob_stream.proofs.Reader.UnderWayLaws.{after_gives}

@@ -10,7 +10,7 @@ use Rattle.gob_stream.specs.declared.fault.Refusal.{Refusal}
 use Rattle.gob_stream.specs.Machine.SessionState.{SessionState}
 use Rattle.gob_stream.specs.Bounds.{Bounds, no_deeper}
 use Rattle.gob_stream.specs.Item.{StreamItem}
-use Rattle.gob_stream.specs.Laws.{GivesWhatItRead}
+use Rattle.gob_stream.specs.Calls.SessionLaws.{GivesWhatItRead}
 use Rattle.gob_stream.specs.Outcome.{RefusesNext}
 use Rattle.gob_stream.specs.Reading.{ShowsRefusal, HasTypesBehind}
 use Rattle.gob_stream.specs.Machine.HasRead.{Received, SessionHasRead, StageHasRead, in_count}

@@ -30,7 +30,8 @@ use Rattle.gob_stream.specs.Bounds.{Bounds, no_deeper}
 use Rattle.gob_stream.specs.Honest.{SpellsTypeNumber, of_value, of_definition, from, IsHonest, OfRefusal, FeedsHonestly, ReadsHonestly}
 use Rattle.gob_stream.specs.Item.{StreamItem}
 use Rattle.gob_stream.specs.Outcome.{RefusesNext, refused_count, refused_body, refused, EndsSo, next_refused, within_an_item, Outcome}
-use Rattle.gob_stream.specs.Reading.{Given, Feeds, ReadsNext, ReadsStream, shown, ended}
+use Rattle.gob_stream.specs.Reading.{Given, ReadsStream, shown, ended}
+use Rattle.gob_stream.specs.Calls.Reads.{Feeds, ReadsNext}
 use Rattle.gob_stream.specs.Refusing.{behind, RefusesCount, item_too_long, stream_too_long, RefusesBody, short, refused_id, refused_type, refused_value, refused_description, described_wrongly}
 use Rattle.gob_stream.specs.Refusing as refusing
 use Rattle.gob_stream.specs.Machine.HasRead.{Received, SessionHasRead}

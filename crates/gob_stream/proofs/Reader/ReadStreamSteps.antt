@@ -19,7 +19,8 @@ use Rattle.gob_stream.specs.Item.{StreamItem, ItemMeans, means_definition, means
 use Rattle.gob_stream.specs.Outcome.{LongestStream, LongestButLast, Outcome, EndsSo, at_the_end, the_end, refused}
 use Rattle.gob_stream.specs.Stream.{Stream, no_more}
 use Rattle.gob_stream.specs.Machine.HasRead.{Received, SessionHasRead}
-use Rattle.gob_stream.specs.Reading.{SomeTaken, Given, ShowsRefusal, ReadingGivesNext, RefusesNextItem, shown, ended, StopsNext, ReadsNext, TakesNext, ReadsStream}
+use Rattle.gob_stream.specs.Reading.{SomeTaken, Given, ShowsRefusal, RefusesNextItem, shown, ended, StopsNext, ReadsStream}
+use Rattle.gob_stream.specs.Calls.Reads.{ReadingGivesNext, ReadsNext, TakesNext}
 use Rattle.gob_stream.proofs.Stream.StayLaws.{shown_there, shown_refusal_stays}
 use Rattle.gob_stream.proofs.Stream.StreamLaws.{NoNext, counted_some, gives_items, but_none, before_last}
 use Rattle.gob_stream.proofs.Reader.UnderWayLaws.{after_gives}

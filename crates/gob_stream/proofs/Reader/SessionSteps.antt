@@ -12,7 +12,7 @@ use Rattle.gob_types.specs.Table.{Table}
 use Rattle.gob_types.specs.Base.{base_table}
 use Rattle.gob_types.specs.Defined.{types}
 use Rattle.gob_value.specs.Tree.{Tree}
-use Rattle.gob_read.specs.Builders.{tree_building}
+use Rattle.gob_read.specs.Calls.Builders.{tree_building}
 use Rattle.gob_read.specs.declared.tree_builder.TreeBuilder.{TreeBuilder}
 use Rattle.gob_read.proofs.PublicLaws.{take_whole}
 use Rattle.gob_stream.specs.declared.fault.Refusal.{Refusal}
@@ -30,7 +30,8 @@ use Rattle.gob_stream.specs.Item.{StreamItem, ItemMeans}
 use Rattle.gob_stream.specs.Stream.{IsItem, counted, AreItems, no_more, and_then, Stream}
 use Rattle.gob_stream.specs.Outcome.{LongestStream, LongestButLast, RefusesNext, EndsSo, at_the_end, Outcome, the_end, refused}
 use Rattle.gob_stream.specs.Machine.HasRead.{Received, StageHasRead, in_count, in_type_number, in_value, in_description, IsCount, SessionHasRead, SessionHasReadSome, IsUsable, has_failed, stands_after}
-use Rattle.gob_stream.specs.Reading.{Taken, SomeTaken, ShowsRefusal, IsNoFurther, up_to_the_last_shown, within_the_item, EndsInItem, ReadingGivesNext, shown, ended, StopsNext, ReadsNext, TakesNext, ReadingFinishes, CountsReads}
+use Rattle.gob_stream.specs.Reading.{Taken, SomeTaken, ShowsRefusal, IsNoFurther, up_to_the_last_shown, within_the_item, EndsInItem, shown, ended, StopsNext, CountsReads}
+use Rattle.gob_stream.specs.Calls.Reads.{ReadingGivesNext, ReadsNext, TakesNext, ReadingFinishes}
 use Rattle.gob_stream.specs.Machine.Between.{IsBetween}
 use Rattle.gob_stream.specs.Machine.ReadParts.{Advances, AdvancesOver, over_some, over_item, bytes_wanted}
 use Rattle.gob_stream.proofs.Stream.OutcomeLaws.{one_front}

@@ -11,7 +11,7 @@ use Rattle.gob_types.specs.Defined.{Defined, types}
 use Rattle.gob_types.specs.Table.{Table}
 use Rattle.gob_value.specs.Tree.{Tree}
 use Rattle.gob_read.specs.Viable.{IsViable}
-use Rattle.gob_read.specs.Reader.{ReaderHasRead, IsMade}
+use Rattle.gob_read.specs.Calls.Reader.{ReaderHasRead, IsMade}
 use Rattle.gob_read.specs.declared.tree_builder.TreeBuilder.{TreeBuilder}
 use Rattle.gob_read.proofs.PublicLaws.{take_whole}
 use Rattle.gob_stream.specs.declared.fault.Refusal.{Refusal}

@@ -9,8 +9,8 @@ use Rattle.gob_types.specs.Base.{base_table, wire_type}
 use Rattle.gob_types.specs.Defined.{types}
 use Rattle.gob_read.specs.Event.{Event}
 use Rattle.gob_read.specs.Viable.{IsViable}
-use Rattle.gob_read.specs.UnderWay.{under_way}
-use Rattle.gob_read.specs.Reader.{ReaderHasRead}
+use Rattle.gob_read.specs.Calls.UnderWay.{under_way}
+use Rattle.gob_read.specs.Calls.Reader.{ReaderHasRead}
 use Rattle.gob_read.specs.declared.reader.BodyReader.{BodyReader}
 use Rattle.gob_read.specs.declared.tree_builder.TreeBuilder.{TreeBuilder}
 use Rattle.gob_value.specs.declared.value.Value.{Value}

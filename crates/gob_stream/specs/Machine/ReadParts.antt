@@ -14,8 +14,8 @@ use Rattle.gob_value.specs.Description.{Describes, Misdescribes}
 use Rattle.gob_value.specs.declared.value.Value.{Value}
 use Rattle.gob_read.specs.Refusal as body
 use Rattle.gob_read.specs.First.{IsFirst}
-use Rattle.gob_read.specs.Reader.{ReaderHasRead, IsMade}
-use Rattle.gob_read.specs.UnderWay.{under_way}
+use Rattle.gob_read.specs.Calls.Reader.{ReaderHasRead, IsMade}
+use Rattle.gob_read.specs.Calls.UnderWay.{under_way}
 use Rattle.gob_read.specs.declared.reader.BodyReader.{BodyReader}
 use Rattle.gob_read.specs.declared.stop.Stop.{Stop}
 use Rattle.gob_read.specs.declared.stop.Stop.TheVariants as stop

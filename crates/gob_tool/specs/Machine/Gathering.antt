@@ -7,7 +7,7 @@ use Rattle.gob_types.specs.declared.reason.Reason.TheVariants as reason
 use Rattle.gob_types.specs.Defined.{types}
 use Rattle.gob_types.specs.Table.{Table}
 use Rattle.gob_value.specs.declared.value.Value.{Value}
-use Rattle.gob_read.specs.Builders.{tree_building}
+use Rattle.gob_read.specs.Calls.Builders.{tree_building}
 use Rattle.gob_read.specs.declared.tree_builder.TreeBuilder.{TreeBuilder}
 use Rattle.gob_stream.specs.declared.fault.Fault.{Fault}
 use Rattle.gob_stream.specs.declared.fault.Fault.TheVariants as reading
@@ -16,7 +16,7 @@ use Rattle.gob_stream.specs.Machine.SessionState.{SessionState}
 use Rattle.gob_stream.specs.Bounds.{Bounds}
 use Rattle.gob_stream.specs.Item.{StreamItem, item_view}
 use Rattle.gob_stream.specs.Devices.{counts_up}
-use Rattle.gob_stream.specs.Session.{HasRead}
+use Rattle.gob_stream.specs.Calls.Session.{HasRead}
 use Rattle.gob_tool.specs.declared.fault.ToolFault.{ToolFault}
 use Rattle.gob_tool.specs.declared.fault.ToolFault.TheVariants as fault
 use Rattle.gob_tool.specs.Line.{line, lines}

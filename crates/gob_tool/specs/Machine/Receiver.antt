@@ -2,7 +2,7 @@
 use Rattle.std.specs.Prelude.{◌≡◌, IfSome}
 use Rattle.gob_types.specs.Defined.{types}
 use Rattle.gob_match.specs.Matching.{Match}
-use Rattle.gob_match.specs.Matched.{IsMatchOf, IsSound}
+use Rattle.gob_match.specs.Calls.Matched.{IsMatchOf, IsSound}
 use Rattle.gob_tool.specs.declared.receiver.Known.{Known}
 use Rattle.gob_tool.specs.declared.receiver.Receiver.{Receiver}
 

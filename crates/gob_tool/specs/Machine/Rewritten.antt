@@ -20,10 +20,10 @@ use Rattle.gob_stream.specs.Machine.SessionState.{SessionState}
 use Rattle.gob_stream.specs.declared.stream_writer.StreamWriter.{StreamWriter}
 use Rattle.gob_stream.specs.Bounds.{Bounds, AreLimits, deepest, no_deeper, within_trees}
 use Rattle.gob_stream.specs.Item.{StreamItem, defines, puts, ItemMeans}
-use Rattle.gob_stream.specs.Session.{HasRead}
+use Rattle.gob_stream.specs.Calls.Session.{HasRead}
 use Rattle.gob_stream.specs.Stream.{IsItem, AreItems, Stream}
 use Rattle.gob_stream.specs.Writing.{HasWritten, WritesNext, writer_limits, writer_types}
-use Rattle.gob_tape.specs.Builder.{tape_building}
+use Rattle.gob_tape.specs.Calls.Builder.{tape_building}
 use Rattle.gob_tape.specs.declared.tape.Tape.{Tape}
 use Rattle.gob_tape.specs.declared.tape_builder.TapeBuilder.{TapeBuilder}
 use Rattle.gob_tape.specs.Meaning.{Means}

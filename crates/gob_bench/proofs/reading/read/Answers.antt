@@ -1,6 +1,6 @@
 use Rattle.std.proofs.Common.{◌++◌, arith, subst}
 use Rattle.gob_types.specs.Defined.{types}
-use Rattle.gob_read.specs.Reader.{ReaderGives}
+use Rattle.gob_read.specs.Calls.Reader.{ReaderGives}
 use Rattle.gob_read.proofs.PublicLaws.{usable}
 use Rattle.gob_bench.proofs.reading.read.Goals as goal
 

@@ -5,7 +5,7 @@ use Rattle.gob_types.specs.Table.{Table}
 use Rattle.gob_value.specs.Tree.{Tree}
 use Rattle.gob_value.specs.Fits.{Fits}
 use Rattle.gob_value.specs.Top.{SpellsTop, at_once, tagged}
-use Rattle.gob_read.specs.Reader.{IsMade}
+use Rattle.gob_read.specs.Calls.Reader.{IsMade}
 use Rattle.gob_read.proofs.PublicLaws.{usable}
 use Rattle.gob_tape.specs.declared.tape.Tape.{Tape}
 use Rattle.gob_tape.specs.Meaning.{Means, MeansFitting}

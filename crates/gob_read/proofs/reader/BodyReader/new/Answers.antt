@@ -1,5 +1,5 @@
 use Rattle.std.proofs.Common.{arith, ◌∙◌, ap, min}
-use Rattle.gob_read.specs.Reader.{nothing_taken}
+use Rattle.gob_read.specs.Calls.Reader.{nothing_taken}
 use Rattle.gob_read.proofs.reader.BodyReader.new.Goals as goal
 
 pub returns : goal.returns

@@ -1,5 +1,5 @@
 use Rattle.gob_stream.proofs.Reader.FeedSteps.{HasFed}
-use Rattle.gob_read.specs.Builders.{tree_building}
+use Rattle.gob_read.specs.Calls.Builders.{tree_building}
 use Rattle.gob_stream.proofs.session.Session.feed.Given as goal
 
 abbrev pub invariant-steps : goal.invariant-steps

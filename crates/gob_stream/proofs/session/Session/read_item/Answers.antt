@@ -2,7 +2,7 @@ use Rattle.std.proofs.Common.{ℕ, List, ◌<◌, ◌++◌, length, take, drop, 
 use Rattle.std.proofs.lemmas.Grind.{common_steps}
 use Rattle.std.specs.Io.KnownBytes.{Consumes}
 use Rattle.gob_types.specs.Defined.{types}
-use Rattle.gob_stream.specs.Reading.{ReadsNext, TakesNext}
+use Rattle.gob_stream.specs.Calls.Reads.{ReadsNext, TakesNext}
 use Rattle.gob_stream.specs.Machine.ReadParts.{bytes_wanted}
 use Rattle.gob_stream.proofs.Reader.HonestLaws.{reads_honestly}
 use Rattle.gob_stream.proofs.Reader.SessionSteps.{told_trees, types_stay, on_err, consumed_nothing, all_taken, stood_first, after_room, stood_on, passed_on, IsRead, piece_length, piece_consumed, Stepped, stepped, stood_before, step_stops, read_stops, end_stops, counts_none, step_unread, end_unread, nothing_more, step_gives, gives_taken, step_taken, item_within, no_less, stood_further, sound_after}

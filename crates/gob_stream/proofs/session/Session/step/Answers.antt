@@ -1,7 +1,7 @@
 use Rattle.std.proofs.Common.{ℕ, List, Err, arith, refl, subst}
 use Rattle.std.proofs.lemmas.Grind.{common_steps}
 use Rattle.gob_stream.specs.Item.{StreamItem}
-use Rattle.gob_stream.specs.Session.{HasRead, StepAnswers}
+use Rattle.gob_stream.specs.Calls.Session.{HasRead, StepAnswers}
 use Rattle.gob_stream.proofs.Reader.AdvanceSteps.{item_of, step_bound, step_between, advanced, usable_on, stopped_by, within_there, takes_on, stops_alike, over_nothing}
 use Rattle.gob_stream.proofs.Reader.NumberSteps.{steps_few}
 use Rattle.gob_stream.proofs.session.Session.step.Goals as goal

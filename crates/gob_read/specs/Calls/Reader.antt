@@ -14,6 +14,8 @@ use Rattle.gob_read.specs.declared.stop.Stop.{Stop}
 use Rattle.gob_read.specs.declared.stop.Stop.TheVariants as stops
 use Rattle.gob_read.specs.declared.reader.Progress.{Progress}
 use Rattle.gob_read.specs.declared.reader.Progress.TheVariants.{More, Done}
+use Rattle.gob_read.specs.Laws.{HasCountedArrays}
+use Rattle.gob_read.specs.Honest.{IsHonestBody}
 
 -- the reader is new, or has taken these bytes
 pub data HasReadSoFar (T : Table) (t : TypeId) {X O : Type 0} (received : X → List Event → Type 0) (run : Run X O) : List ℕ → Type 0 where
@@ -78,3 +80,7 @@ abbrev pub Stops : {X O : Type 0} → Option (Run X O) → (Refusal → Type 0) 
 Stops run why (stops.Refused place seen reason) = why (record { place = place; seen = seen; reason = reason })
 Stops run why stops.Memory = Unit {0}
 Stops run why stops.Failed = run ≡ None
+
+-- the refusal of a piece is honest, wherever the reader stood
+pub record RefusesHonestly (T : Table) {X O : Type 0} (received : X → List Event → Type 0) (run : Option (Run X O)) (piece : List ℕ) (refusal : Refusal) : Type 0 where
+  pub each : (t : TypeId) (limit announced : ℕ) (z : List ℕ) → HasCountedArrays T → ReaderHasRead T t limit announced received run z → IsHonestBody T t limit (z ++ take (announced - length z) piece) refusal

@@ -3,8 +3,8 @@ use Rattle.std.specs.Prelude.{◌≡◌, ℕ, List, Option, None}
 use Rattle.gob_types.specs.declared.id.TypeId.{TypeId}
 use Rattle.gob_types.specs.Table.{Table}
 use Rattle.gob_read.specs.Building.{Building}
-use Rattle.gob_read.specs.Honest.{RefusesHonestly}
-use Rattle.gob_read.specs.Reader.{ReaderHasRead, IsUsableReader, ReaderGives, ReaderRefusesBody, Stops}
+use Rattle.gob_read.specs.Calls.Reader.{RefusesHonestly}
+use Rattle.gob_read.specs.Calls.Reader.{ReaderHasRead, IsUsableReader, ReaderGives, ReaderRefusesBody, Stops}
 use Rattle.gob_read.specs.declared.reader.BodyReader.{BodyReader}
 use Rattle.gob_read.specs.declared.reader.Progress.{Progress}
 use Rattle.gob_read.specs.declared.run.Run.{Run}

@@ -3,7 +3,7 @@ use Rattle.std.specs.Prelude.{ℕ, List}
 use Rattle.gob_types.specs.declared.id.TypeId.{TypeId}
 use Rattle.gob_types.specs.Table.{Table, Extends}
 use Rattle.gob_read.specs.Building.{Building}
-use Rattle.gob_read.specs.UnderWay.{HasReadBody, FitsTable}
+use Rattle.gob_read.specs.Calls.UnderWay.{HasReadBody, FitsTable}
 use Rattle.gob_read.specs.declared.reader.BodyReader.{BodyReader}
 
 -- where the reader stands under a table, it stands when the table grows

@@ -5,7 +5,7 @@ use Rattle.gob_types.specs.Base.{base_table}
 use Rattle.gob_types.specs.Defined.{Defined, types}
 use Rattle.gob_types.specs.Table.{Table}
 use Rattle.gob_types.specs.declared.id.TypeId.{TypeId}
-use Rattle.gob_read.specs.Builders.{tree_building}
+use Rattle.gob_read.specs.Calls.Builders.{tree_building}
 use Rattle.gob_read.specs.Building.{Building}
 use Rattle.gob_stream.specs.declared.fault.Fault.{Fault}
 use Rattle.gob_stream.specs.declared.item.Item as declared
@@ -16,7 +16,7 @@ use Rattle.gob_stream.specs.Bounds.{Bounds, no_deeper}
 use Rattle.gob_stream.specs.Honest.{FeedsHonestly, ReadsHonestly}
 use Rattle.gob_stream.specs.Item.{StreamItem}
 use Rattle.gob_stream.specs.Machine.ReadParts.{Advances, bytes_wanted}
-use Rattle.gob_stream.specs.Reading.{Feeds, ReadingFinishes, ReadsNext, TakesNext}
+use Rattle.gob_stream.specs.Calls.Reads.{Feeds, ReadingFinishes, ReadsNext, TakesNext}
 use Rattle.gob_stream.specs.Machine.HasRead.{SessionHasRead, SessionHasReadSome}
 use Rattle.gob_stream.specs.Stream.{IsItem, AreItems}
 use Rattle.gob_stream.specs.Whole.{HasBody, HasBegun, HasItem, HasItems}
@@ -26,8 +26,9 @@ use Rattle.gob_stream.specs.Machine.Between.{IsBetween, PassesItems}
 abbrev pub HasRead : {X O : Type 0} {most : ℕ} → Building X O most → SessionState X O → List StreamItem → List ℕ → Type 0
 HasRead {most = most} building s items bytes = SessionHasRead building.received tree_building.received most s items bytes
 
-abbrev pub HasReadSome : {X O : Type 0} {most : ℕ} → Building X O most → SessionState X O → Type 0
-HasReadSome {most = most} building s = SessionHasReadSome building.received tree_building.received most s
+-- it has given some items and taken some bytes, and reads on
+abbrev pub HasReadOn : {X O : Type 0} {most : ℕ} → Building X O most → SessionState X O → Type 0
+HasReadOn {most = most} building s = SessionHasReadSome building.received tree_building.received most s
 
 -- it has met a fault, behind which it reads no more
 abbrev pub HasFailed : {X O : Type 0} → SessionState X O → Type 0

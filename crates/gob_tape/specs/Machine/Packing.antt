@@ -6,7 +6,7 @@ use Rattle.gob_tape.specs.declared.node.Content.TheVariants as content
 use Rattle.gob_tape.specs.declared.node.PartKind.{PartKind}
 use Rattle.gob_tape.specs.declared.node.PartKind.TheVariants as kind
 use Rattle.gob_tape.specs.declared.node.Node.TheInside.{Inside}
-use Rattle.gob_tape.specs.Noted.{Noted}
+use Rattle.gob_tape.specs.Machine.Noted.{Noted}
 
 -- the number of a field, which a part that is none has not
 abbrev pub field_of : Bool → ℕ → Option ℕ

@@ -1,0 +1,4 @@
+-- What contracts see of a session.
+pub mod Reads
+pub mod SessionLaws
+pub mod Session

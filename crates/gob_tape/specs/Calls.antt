@@ -1,0 +1,2 @@
+-- What contracts see of the builder of tapes.
+pub mod Builder
