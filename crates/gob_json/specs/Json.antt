@@ -3,14 +3,15 @@
 -- (docs/FORMAT.md, The JSON lines: this project's own.)
 use Rattle.std.specs.Prelude.{ℕ, ℤ, pos, negsuc, List, [], codes, Option, Some, None, slice_get, if◌then◌else◌}
 use Rattle.std.specs.Int.{to_be_bytes, w64}
+use Rattle.std.specs.Option.{unwrap_or}
 use Rattle.std.specs.Str.{is_utf8}
 use Rattle.hex.specs.Hex.{encode_lower}
 use Rattle.serde_json.specs.Data.{unsigned, negative, Data, null, boolean, number, string, array, object, Items}
 use Rattle.serde_json.specs.Data.{no_items, item, no_members, member}
 use Rattle.gob_types.specs.declared.id.TypeId.{TypeId}
 use Rattle.gob_types.specs.declared.kind.Field.{Field}
-use Rattle.gob_types.specs.declared.kind.Kind.TheVariants as kind
 use Rattle.gob_types.specs.declared.kind.Shape.{Shape}
+use Rattle.gob_types.specs.KindParts.{elem_named, key_named, fields_named}
 use Rattle.gob_types.specs.Table.{Table, shape_of}
 use Rattle.gob_value.specs.Tree.{Tree, Trees, no_tree, tree, Pairs, no_pair, pair, Fields, no_field, field}
 use Rattle.gob_value.specs.Tree as Value
@@ -22,17 +23,17 @@ no_type = record { 0 = 0 }
 -- the type of the elements of a slice, an array or a map
 abbrev pub element_type : Option Shape → TypeId
 element_type None = no_type
-element_type (Some s) = elim s.kind [ kind.Slice e ↦ e | kind.Array e n ↦ e | kind.Map k e ↦ e | _ ↦ no_type ]
+element_type (Some s) = unwrap_or (elem_named s.kind) no_type
 
 -- the type of the keys of a map
 abbrev pub key_type : Option Shape → TypeId
 key_type None = no_type
-key_type (Some s) = elim s.kind [ kind.Map k e ↦ k | _ ↦ no_type ]
+key_type (Some s) = unwrap_or (key_named s.kind) no_type
 
 -- the fields of a struct
 abbrev pub struct_fields : Option Shape → List Field
 struct_fields None = []
-struct_fields (Some s) = elim s.kind [ kind.Struct fs ↦ fs | _ ↦ [] ]
+struct_fields (Some s) = unwrap_or (fields_named s.kind) []
 
 abbrev pub field_name : Option Field → List ℕ
 field_name None = []

@@ -5,45 +5,37 @@ ghost use Rattle.std.specs.Option.{option_copied};
 ghost use Rattle.gob_types.specs.Table.{shape_of};
 ghost use Rattle.gob_json.specs.Json.{element_type, key_type, struct_fields, field_name, field_type};
 
-use gob_types::{Field, Kind, Shapes, TypeId};
+use gob_types::{Field, Shapes, TypeId};
+
+// The number of no type.
+const NO_TYPE: TypeId = TypeId(0);
 
 /// The type of the elements of a slice, an array or a map.
 pub(crate) fn element_of<S: Shapes>(table: &S, id: TypeId) -> TypeId
     ensures { result ≡ element_type (shape_of (S.table table.now) id) }
 {
-    match table.shape_of(id) {
-        Some(shape) => match &shape.kind {
-            Kind::Slice { elem } => *elem,
-            Kind::Array { elem, .. } => *elem,
-            Kind::Map { elem, .. } => *elem,
-            _ => TypeId(0),
-        },
-        None => TypeId(0),
-    }
+    table
+        .shape_of(id)
+        .and_then(|shape| shape.kind.elem())
+        .unwrap_or(NO_TYPE)
 }
 
 /// The type of the keys of a map.
 pub(crate) fn key_of<S: Shapes>(table: &S, id: TypeId) -> TypeId
     ensures { result ≡ key_type (shape_of (S.table table.now) id) }
 {
-    match table.shape_of(id) {
-        Some(shape) => match &shape.kind {
-            Kind::Map { key, .. } => *key,
-            _ => TypeId(0),
-        },
-        None => TypeId(0),
-    }
+    table
+        .shape_of(id)
+        .and_then(|shape| shape.kind.key())
+        .unwrap_or(NO_TYPE)
 }
 
 /// The fields of a struct.
 pub(crate) fn fields_of<S: Shapes>(table: &S, id: TypeId) -> &[Field]
     ensures { result.now ≡ struct_fields (shape_of (S.table table.now) id) }
 {
-    match table.shape_of(id) {
-        Some(shape) => match &shape.kind {
-            Kind::Struct { fields } => fields.as_slice(),
-            _ => &[],
-        },
+    match table.shape_of(id).and_then(|shape| shape.kind.fields()) {
+        Some(fields) => fields.as_slice(),
         None => &[],
     }
 }
@@ -64,6 +56,6 @@ pub(crate) fn type_at(fields: &[Field], number: u64) -> TypeId
 {
     match fields.get(number as usize) {
         Some(field) => field.id,
-        None => TypeId(0),
+        None => NO_TYPE,
     }
 }
