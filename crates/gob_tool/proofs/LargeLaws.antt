@@ -1,10 +1,12 @@
 -- An item that puts a large list of ints: its line, and where a run stands behind it.
-use Rattle.std.proofs.Common.{◌≡◌, ℕ, ◌+◌, ◌≤◌, Bool, false, List, [], ◌∷◌, ◌++◌, length, take, drop, Option, Some, Result}
-use Rattle.std.proofs.Common.{Ok, Err, arith, refl, sym, ap, ◌∙◌, subst, append_assoc, append-nil, take-append-drop}
+use Rattle.std.proofs.Common.{◌≡◌, ℕ, ◌+◌, ◌≤◌, Bool, true, false, List, [], ◌∷◌, ◌++◌, length, take, drop, Option}
+use Rattle.std.proofs.Common.{Some, None, Result, Ok, Err, arith, refl, sym, ap, ◌∙◌, subst}
+use Rattle.std.proofs.Common.{append_assoc, append-nil, take-append-drop}
 use Rattle.std.proofs.lemmas.List.{drop-drop}
 use Rattle.std.proofs.Math.Seq.{take-length}
 use Rattle.std.specs.Io.KnownBytes.{Appends}
 use Rattle.std.proofs.KnownBytes.{Appends-trans}
+use Rattle.std.specs.Option.{option_eq}
 use Rattle.serde_json.specs.Written.{compact_text, items_text}
 use Rattle.gob_num.specs.Unsigned.{IsUnsigned}
 use Rattle.gob_num.proofs.PublicLaws.{unsigned_prefix}
@@ -13,8 +15,8 @@ use Rattle.gob_types.specs.declared.basic.Basic.TheVariants as basic
 use Rattle.gob_types.specs.declared.kind.Kind.{Kind}
 use Rattle.gob_types.specs.declared.kind.Kind.TheVariants as kind
 use Rattle.gob_types.specs.declared.kind.Shape.{Shape}
-use Rattle.gob_types.specs.Table.{Table, shape_of}
-use Rattle.gob_types.proofs.PublicLaws.{some_injective}
+use Rattle.gob_types.specs.Table.{Table, shape_of, basic_of}
+use Rattle.gob_types.proofs.PublicLaws.{basic_shape_of, some_injective}
 use Rattle.gob_value.specs.declared.value.Value.{Value}
 use Rattle.gob_value.specs.Tree.{Tree, Trees, tree_count}
 use Rattle.gob_value.specs.Spelling.{SpellsAs, SpellsEach, of_type, of_bool, of_int, of_uint, of_float, of_complex, of_nil}
@@ -109,18 +111,25 @@ list_tagged {T = T} s e f l (tagged {v = v} {b = b} g not (of_type {s = r} h p))
     let same : r ≡ s = some_injective (sym h ∙ f) in
     record { bytes = b; spelled = subst (λ (r : Shape). SpellsAs T r.kind v b) same p; whole = refl }
 
+-- what is equal to something that is there is the same
+pub some_same : {A : Type 0} {eq : A → A → Bool} → ((a b : A) → eq a b ≡ true → a ≡ b) → (o : Option A) (b : A)
+    → option_eq eq o (Some b) ≡ true → o ≡ Some b
+some_same same None b e = cc
+some_same same (Some a) b e = ap Some (same a b e)
+
 -- a whole value of such a type, behind whose tag this number stands
-pub lists_integers : {T : Table} {t : TypeId} {limit n used first : ℕ} {body behind : List ℕ} (s r : Shape)
-    (e : TypeId) → shape_of T t ≡ Some s → IsListOf s.kind e → shape_of T e ≡ Some r → r.kind ≡ kind.Basic basic.Int
+pub lists_integers : {T : Table} {t : TypeId} {limit n used first : ℕ} {body behind : List ℕ} (s : Shape)
+    (e : TypeId) → shape_of T t ≡ Some s → IsListOf s.kind e → basic_of T e ≡ Some basic.Int
     → IsWhole T t limit body → body ≡ first ∷ behind → used ≤ length behind → IsUnsigned n (take used behind)
     → ListsIntegers T t limit body n (1 + used)
-lists_integers {T = T} {t = t} {used = used} {first = first} {body = body} {behind = behind} s r e f l g is w split
+lists_integers {T = T} {t = t} {used = used} {first = first} {body = body} {behind = behind} s e f l is w split
     inside p =
     let top = list_tagged s e f l w.spelled in
     let parts = list_parts l top.spelled in
     let bytes : behind ≡ top.bytes = let both = sym split ∙ top.whole in cc in
     let one = unsigned_prefix parts.rest (drop used behind) parts.counts p
     (sym parts.whole ∙ sym bytes ∙ sym (take-append-drop used behind)) in
+    let (r, found, int) = basic_shape_of T e is in
     let place : drop (1 + used) body ≡ drop used behind = ap (λ y. drop (1 + used) y) split ∙ sym (drop-drop used 1 (first ∷ behind)) in
     record {
       value = w.value;
@@ -128,7 +137,7 @@ lists_integers {T = T} {t = t} {used = used} {first = first} {body = body} {behi
       within = w.within;
       elem = e;
       values = parts.values;
-      ints = record { shape = r; found = g; same = is };
+      ints = record { shape = r; found = found; same = int };
       each = subst (λ y. SpellsEach T e parts.values y) (one.rest ∙ sym place) parts.each;
       counted = one.value;
       inside = omega (arith, inside, ap length split);

@@ -1,6 +1,6 @@
 //! The text of a list of ints that goes out in blocks while it is made, so that no more of it is held than one block.
 
-ghost use Rattle.std.specs.Prelude.{◌≡◌, ◌++◌, ◌∷◌, ◌≤◌, [], IfSome, IsTrue, drop, false, length};
+ghost use Rattle.std.specs.Prelude.{◌≡◌, ◌++◌, ◌∷◌, ◌≤◌, [], IfSome, drop, false, length};
 ghost use Rattle.serde_json.specs.Written.{items_text};
 ghost use Rattle.gob_types.specs.declared.id.TypeId.{TypeId};
 ghost use Rattle.gob_types.specs.declared.basic.Basic.TheVariants as basic;
@@ -49,7 +49,7 @@ pub(crate) fn integers_in<S: Shapes>(
     ensures { IfSome result (λ list. ListsIntegers (S.table shapes.now) id depth body.now list.count list.begin) }
 {
     let elem = elem_of(&shapes.shape_of(id)?.kind)?;
-    if !is_integer(&shapes.shape_of(elem)?.kind) || !is_whole(shapes, id, body, depth) {
+    if shapes.basic_of(elem) != Some(Basic::Int) || !is_whole(shapes, id, body, depth) {
         return None;
     }
     let (_, behind) = body.split_first()?;
@@ -71,13 +71,6 @@ fn elem_of(kind: &Kind) -> Option<TypeId>
         Kind::Array { elem, .. } => Some(*elem),
         _ => None,
     }
-}
-
-// Whether the kind is that of ints.
-fn is_integer(kind: &Kind) -> bool
-    ensures { IsTrue result → kind.now ≡ kinds.Basic basic.Int }
-{
-    matches!(kind, Kind::Basic(Basic::Int))
 }
 
 /// Writes the text of so many ints that are known to stand in the body from the place on, the bracket that closes it
