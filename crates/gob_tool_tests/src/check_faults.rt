@@ -1,100 +1,36 @@
 //! Runs of `check` whose readers or writers fail, or which lack memory.
 
-use crate::checks::is_checked;
-use crate::devices::{SlowReader, SlowWriter, Trouble};
-use crate::endings::ends_so;
 use crate::streams::THREE;
-use gob_stream::{Input, Limits, Output};
-use gob_tool::{ToolFault, run_check};
-use std::alloc::Global;
-use std::io::ErrorKind;
+use crate::trials;
+use crate::trials::{Command, Trial};
 use std::test::*;
 
-const THREE_COUNTED: &[u8] = b"ok: 3 items, 1 types, 44 bytes\n";
-
-// Whether a reader that fails in this call ends the run so, and nothing is written.
-fn reader_fails_so(alloc: Global, fails_at: usize, kind: ErrorKind) -> bool {
-    let reader = SlowReader::new(THREE, fails_at, kind);
-    is_checked(alloc, reader, Limits::standard(), b"", b"gob: read fault")
-}
+// A check of the three items: the line is written whole, or not at all.
+const CHECK: Trial = Trial {
+    command: Command::Check,
+    stream: THREE,
+    written: b"ok: 3 items, 1 types, 44 bytes\n",
+    ends: &[],
+};
 
 #[test]
 fn readers_fail_once(rt: HostRuntime) {
-    for kind in [ErrorKind::Interrupted, ErrorKind::Other] {
-        // A call for each byte, one for the end of the input, and none behind it.
-        for fails_at in 0..45usize {
-            assert!(rt;
-                reader_fails_so(rt.alloc(), fails_at, kind),
-                "fails at {fails_at}"
-            );
-        }
-        let reader = SlowReader::new(THREE, 45, kind);
-        let is_right = is_checked(rt.alloc(), reader, Limits::standard(), THREE_COUNTED, b"");
-        assert!(rt; is_right, "fails behind the end");
-    }
-}
-
-// How a run over these bytes and this device ends.
-fn check_to(alloc: Global, bytes: &[u8], device: &mut SlowWriter) -> Result<(), ToolFault> {
-    let mut input = Input::new(bytes);
-    let mut output = Output::new(device);
-    run_check(alloc, &mut input, &mut output, Limits::standard())
-}
-
-// Whether a writer that makes trouble in this call ends the run so, and a byte was written in each call before.
-fn writer_fails_so(alloc: Global, fails_at: usize, trouble: Trouble, due: &[u8]) -> bool {
-    let mut device = SlowWriter::new(alloc, fails_at, trouble, false);
-    let result = check_to(alloc, THREE, &mut device);
-    let written = THREE_COUNTED.get(..fails_at).unwrap_or(THREE_COUNTED);
-    ends_so(alloc, &result, due) && device.held.as_slice() == written
+    trials::readers_fail(&rt, rt.alloc(), &CHECK);
 }
 
 #[test]
 fn writers_fail_once(rt: HostRuntime) {
-    for trouble in [Trouble::Error(ErrorKind::Other), Trouble::TakesNothing] {
-        for fails_at in 0..31usize {
-            assert!(rt;
-                writer_fails_so(rt.alloc(), fails_at, trouble, b"gob: write fault"),
-                "fails at {fails_at}"
-            );
-        }
-        let is_right = writer_fails_so(rt.alloc(), 31, trouble, b"");
-        assert!(rt; is_right, "fails behind the end");
-    }
-}
-
-// Whether a run over these bytes, whose writer fails to be flushed, ends so.
-fn flush_fails_so(alloc: Global, bytes: &[u8], due: &[u8]) -> bool {
-    let mut device = SlowWriter::new(alloc, 1000, Trouble::TakesNothing, true);
-    let result = check_to(alloc, bytes, &mut device);
-    ends_so(alloc, &result, due)
+    trials::writers_fail(&rt, rt.alloc(), &CHECK);
 }
 
 #[test]
 fn flushes_fail_last(rt: HostRuntime) {
-    let is_right = flush_fails_so(rt.alloc(), THREE, b"gob: write fault");
-    assert!(rt; is_right, "behind three items");
-    let is_right = flush_fails_so(rt.alloc(), b"\x00", b"gob: refused 5 Short at 1 seen 1");
-    assert!(rt; is_right, "behind a refusal");
+    trials::flushes_fail(&rt, rt.alloc(), &CHECK);
 }
 
-// Whether the run's result and what was written go together where each call may lack memory. The device takes memory
-// too.
-fn is_right_without_memory(ended: &Result<(), ToolFault>, written: &[u8]) -> bool {
-    match ended {
-        Ok(()) => written == THREE_COUNTED,
-        Err(ToolFault::Memory) => written.is_empty(),
-        Err(ToolFault::Write) => true,
-        Err(_) => false,
-    }
-}
-
-// Each allocation is refused in turn (tools/refuse-memory): the line is written whole, or not at all.
+// Each allocation is refused in turn (tools/refuse-memory).
 #[test]
 fn a_check_without_memory(rt: HostRuntime) {
-    let alloc = rt.alloc();
-    let mut device = SlowWriter::new(alloc, 1000, Trouble::TakesNothing, false);
-    let result = check_to(alloc, THREE, &mut device);
-    let is_right = is_right_without_memory(&result, &device.held);
+    let is_right = trials::is_right_without_memory(rt.alloc(), &CHECK);
     assert!(rt; is_right, "the result, and what is written");
 }

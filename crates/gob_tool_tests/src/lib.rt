@@ -37,4 +37,6 @@ mod take_faults;
 #[cfg(test)]
 mod takes;
 #[cfg(test)]
+mod trials;
+#[cfg(test)]
 mod words;

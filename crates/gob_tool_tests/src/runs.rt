@@ -2,9 +2,9 @@
 
 use crate::devices::{SlowReader, SlowWriter, Trouble};
 use crate::endings::ends_so;
-use crate::streams::{
-    EVERY, EVERY_LINES, POINT_LINE, POINT_VALUE, POINT_VALUE_LINE, THREE, THREE_LINES, TWO_LINES,
-};
+use crate::streams::{EVERY, EVERY_LINES, POINT_VALUE, POINT_VALUE_LINE, THREE, THREE_LINES};
+use crate::trials;
+use crate::trials::{Command, Trial};
 use gob_stream::{Input, Limits, Output};
 use gob_tool::run_show;
 use std::alloc::{AllocError, Global};
@@ -14,20 +14,7 @@ use std::test::*;
 // The definition of a slice of ints, and an item of no bytes.
 const SLICE_AND_ZERO: &[u8] = b"\x0c\xff\x83\x02\x01\x02\xff\x84\x00\x01\x04\x00\x00\x00";
 
-const SLICE_LINE: &str = "{\"define\":66,\"elem\":2,\"kind\":\"slice\",\"name\":\"\"}\n";
-
-// The lines of those of the three items that so many bytes hold whole.
-fn lines_within(bytes: usize) -> &'static str {
-    if bytes < 32 {
-        ""
-    } else if bytes < 40 {
-        POINT_LINE
-    } else if bytes < 44 {
-        TWO_LINES
-    } else {
-        THREE_LINES
-    }
-}
+const SLICE_LINE: &[u8] = b"{\"define\":66,\"elem\":2,\"kind\":\"slice\",\"name\":\"\"}\n";
 
 /// Whether a reader gives these lines, and the run ends by a fault of this line.
 pub(crate) fn is_shown<R: Read + Drop>(
@@ -79,9 +66,7 @@ fn repeated(alloc: Global, head: &[u8], part: &[u8], tail: &[u8]) -> Result<Vec<
 fn many_lines_are_shown(rt: HostRuntime) -> Result<(), Fail> {
     // More bytes than are read at a time, and more lines than are gathered before a write. Pieces end within items.
     let bytes = repeated(rt.alloc(), THREE, POINT_VALUE, SLICE_AND_ZERO)?;
-    let head = THREE_LINES.as_bytes();
-    let part = POINT_VALUE_LINE.as_bytes();
-    let lines = repeated(rt.alloc(), head, part, SLICE_LINE.as_bytes())?;
+    let lines = repeated(rt.alloc(), THREE_LINES, POINT_VALUE_LINE, SLICE_LINE)?;
     let due = b"gob: refused 5 Short at 160058 seen 160058";
     let is_right = is_shown(
         rt.alloc(),
@@ -94,56 +79,22 @@ fn many_lines_are_shown(rt: HostRuntime) -> Result<(), Fail> {
     Ok(())
 }
 
-// Whether a reader that fails in this call ends the run so, and the lines of the items before are there.
-fn reader_fails_so(alloc: Global, fails_at: usize, kind: ErrorKind, due: &[u8]) -> bool {
-    let reader = SlowReader::new(THREE, fails_at, kind);
-    let lines = lines_within(fails_at).as_bytes();
-    is_shown(alloc, reader, Limits::standard(), lines, due)
-}
+// The three items shown: whole lines are written.
+const SHOW: Trial = Trial {
+    command: Command::Show,
+    stream: THREE,
+    written: THREE_LINES,
+    ends: &[(32, 72), (40, 116), (44, 137)],
+};
 
 #[test]
 fn readers_fail_once(rt: HostRuntime) {
-    let alloc = rt.alloc();
-    for kind in [ErrorKind::Interrupted, ErrorKind::Other] {
-        // A call for each byte, one for the end of the input, and none behind it.
-        for fails_at in 0..45usize {
-            let is_right = reader_fails_so(alloc, fails_at, kind, b"gob: read fault");
-            assert!(rt; is_right, "fails at {fails_at}");
-        }
-        let is_right = reader_fails_so(alloc, 45, kind, b"");
-        assert!(rt; is_right, "fails behind the end");
-    }
-}
-
-// Whether a writer that makes trouble in this call ends the run so, and a byte was written in each call before.
-fn writer_fails_so(alloc: Global, fails_at: usize, trouble: Trouble, due: &[u8]) -> bool {
-    let mut device = SlowWriter::new(alloc, fails_at, trouble, false);
-    let mut input = Input::new(THREE);
-    let mut output = Output::new(&mut device);
-    let result = run_show(alloc, &mut input, &mut output, Limits::standard());
-    let all = THREE_LINES.as_bytes();
-    let written = all.get(..fails_at).unwrap_or(all);
-    ends_so(alloc, &result, due) && device.held.as_slice() == written
+    trials::readers_fail(&rt, rt.alloc(), &SHOW);
 }
 
 #[test]
 fn writers_fail_once(rt: HostRuntime) {
-    let alloc = rt.alloc();
-    let troubles = [
-        Trouble::Error(ErrorKind::Interrupted),
-        Trouble::Error(ErrorKind::Other),
-        Trouble::TakesNothing,
-    ];
-    for trouble in troubles {
-        for fails_at in 0..137usize {
-            let is_right = writer_fails_so(alloc, fails_at, trouble, b"gob: write fault");
-            assert!(rt; is_right, "fails at {fails_at}");
-        }
-        for fails_at in [137, 138usize] {
-            let is_right = writer_fails_so(alloc, fails_at, trouble, b"");
-            assert!(rt; is_right, "fails at {fails_at}, behind the end");
-        }
-    }
+    trials::writers_fail(&rt, rt.alloc(), &SHOW);
 }
 
 // Whether a run over these bytes, whose writer fails to be flushed, ends so, and one failure is counted.

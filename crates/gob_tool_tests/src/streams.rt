@@ -56,24 +56,15 @@ pub const THREE: &[u8] = b"\
     \x03\x04\x00\x06";
 
 /// Their lines.
-pub const THREE_LINES: &str = "\
+pub const THREE_LINES: &[u8] = b"\
     {\"define\":65,\"fields\":[[\"X\",2],[\"Y\",2]],\"kind\":\"struct\",\"name\":\"Point\"}\n\
     {\"type\":65,\"value\":[[0,\"X\",22],[1,\"Y\",33]]}\n\
     {\"type\":2,\"value\":3}\n";
 
-/// The line of the first of them.
-pub const POINT_LINE: &str =
-    "{\"define\":65,\"fields\":[[\"X\",2],[\"Y\",2]],\"kind\":\"struct\",\"name\":\"Point\"}\n";
-
-/// The lines of the first two.
-pub const TWO_LINES: &str = "\
-    {\"define\":65,\"fields\":[[\"X\",2],[\"Y\",2]],\"kind\":\"struct\",\"name\":\"Point\"}\n\
-    {\"type\":65,\"value\":[[0,\"X\",22],[1,\"Y\",33]]}\n";
-
 /// The value of the struct, and its line.
 pub const POINT_VALUE: &[u8] = b"\x07\xff\x82\x01\x2c\x01\x42\x00";
 
-pub const POINT_VALUE_LINE: &str = "{\"type\":65,\"value\":[[0,\"X\",22],[1,\"Y\",33]]}\n";
+pub const POINT_VALUE_LINE: &[u8] = b"{\"type\":65,\"value\":[[0,\"X\",22],[1,\"Y\",33]]}\n";
 
 /// The lines of a row, which have ` / ` between them, each with its line feed.
 pub(crate) fn lines_of(alloc: Global, text: &str) -> Result<Vec<u8>, AllocError> {

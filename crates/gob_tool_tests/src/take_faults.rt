@@ -1,12 +1,20 @@
 //! Runs of `take` whose readers or writers fail, or which lack memory.
 
-use crate::devices::{SlowReader, SlowWriter, Trouble};
-use crate::endings::ends_so;
-use crate::takes::{A_AND_B, B_AND_C, B_LINE, X_TWICE, is_taken, take};
-use gob_tool::ToolFault;
+use crate::devices::SlowReader;
+use crate::takes::{A_AND_B, B_AND_C, B_LINE, X_TWICE, is_taken};
+use crate::trials;
+use crate::trials::{Command, KINDS, Trial, flush_fails_so};
 use std::alloc::Global;
 use std::io::ErrorKind;
 use std::test::*;
+
+// The value of A and B received as one of B and C: its line is written whole, or not at all.
+const TAKE: Trial = Trial {
+    command: Command::Take(B_AND_C),
+    stream: A_AND_B,
+    written: B_LINE,
+    ends: &[(36, 32)],
+};
 
 // Whether a reader of the wanted stream that fails in this call ends the run, and nothing is written.
 fn wanted_fails_so(alloc: Global, fails_at: usize, kind: ErrorKind) -> bool {
@@ -14,91 +22,41 @@ fn wanted_fails_so(alloc: Global, fails_at: usize, kind: ErrorKind) -> bool {
     is_taken(alloc, wanted, A_AND_B, b"", b"gob: read fault")
 }
 
-// Whether a reader of the input that fails in this call ends the run, and the line of a value before is there.
-fn input_fails_so(alloc: Global, fails_at: usize, kind: ErrorKind) -> bool {
-    let reader = SlowReader::new(A_AND_B, fails_at, kind);
-    let lines = if fails_at < 36 {
-        b"".as_slice()
-    } else {
-        B_LINE
-    };
-    is_taken(alloc, B_AND_C, reader, lines, b"gob: read fault")
-}
-
 #[test]
 fn readers_fail_once(rt: HostRuntime) {
-    for kind in [ErrorKind::Interrupted, ErrorKind::Other] {
-        // A call for each byte, and one for the end of the input.
+    for kind in KINDS {
+        // A call for each byte, and one for the end of the wanted stream.
         for fails_at in 0..33usize {
             assert!(rt;
                 wanted_fails_so(rt.alloc(), fails_at, kind),
                 "fails at {fails_at}"
             );
         }
-        for fails_at in 0..37usize {
-            assert!(rt;
-                input_fails_so(rt.alloc(), fails_at, kind),
-                "fails at {fails_at}"
-            );
-        }
     }
-}
-
-// Whether a writer that makes trouble in this call ends the run, and a byte was written in each call before.
-fn writer_fails_so(alloc: Global, fails_at: usize, trouble: Trouble) -> bool {
-    let mut device = SlowWriter::new(alloc, fails_at, trouble, false);
-    let result = take(alloc, B_AND_C, A_AND_B, &mut device);
-    let written = B_LINE.get(..fails_at);
-    ends_so(alloc, &result, b"gob: write fault") && written == Some(device.held.as_slice())
+    trials::readers_fail(&rt, rt.alloc(), &TAKE);
 }
 
 #[test]
 fn writers_fail_once(rt: HostRuntime) {
-    for trouble in [Trouble::Error(ErrorKind::Other), Trouble::TakesNothing] {
-        for fails_at in 0..32usize {
-            assert!(rt;
-                writer_fails_so(rt.alloc(), fails_at, trouble),
-                "fails at {fails_at}"
-            );
-        }
-    }
-}
-
-// Whether a run whose writer fails to be flushed ends by a fault of this line.
-fn flush_fails_so(alloc: Global, wanted: &[u8], due: &[u8]) -> bool {
-    let mut device = SlowWriter::new(alloc, 1000, Trouble::TakesNothing, true);
-    let result = take(alloc, wanted, A_AND_B, &mut device);
-    ends_so(alloc, &result, due)
+    trials::writers_fail(&rt, rt.alloc(), &TAKE);
 }
 
 #[test]
 fn flushes_fail_last(rt: HostRuntime) {
     let alloc = rt.alloc();
-    let is_right = flush_fails_so(alloc, B_AND_C, b"gob: write fault");
+    let is_right = flush_fails_so(alloc, TAKE.command, A_AND_B, b"gob: write fault");
     assert!(rt; is_right, "behind a value");
-    let is_right = flush_fails_so(alloc, b"", b"gob: refused 35 NoWantedType");
+    let due = b"gob: refused 35 NoWantedType";
+    let is_right = flush_fails_so(alloc, Command::Take(b""), A_AND_B, due);
     assert!(rt; is_right, "behind a refusal");
-    let is_right = flush_fails_so(alloc, X_TWICE, b"gob: clash 31 RepeatedName at top");
+    let due = b"gob: clash 31 RepeatedName at top";
+    let is_right = flush_fails_so(alloc, Command::Take(X_TWICE), A_AND_B, due);
     assert!(rt; is_right, "behind a clash");
 }
 
-// Whether the run's result and what was written go together where each call may lack memory. The device takes memory
-// too.
-fn is_right_without_memory(ended: &Result<(), ToolFault>, written: &[u8]) -> bool {
-    match ended {
-        Ok(()) => written == B_LINE,
-        Err(ToolFault::Memory) => written.is_empty(),
-        Err(ToolFault::Write) => true,
-        Err(_) => false,
-    }
-}
-
-// Each allocation is refused in turn (tools/refuse-memory): whole lines of the right ones are written.
+// Each allocation is refused in turn (tools/refuse-memory).
 #[test]
 fn a_run_without_memory(rt: HostRuntime) {
-    let alloc = rt.alloc();
-    let mut device = SlowWriter::new(alloc, 1000, Trouble::TakesNothing, false);
-    let result = take(alloc, B_AND_C, A_AND_B, &mut device);
-    let is_right = is_right_without_memory(&result, &device.held);
+    let is_right = trials::is_right_without_memory(rt.alloc(), &TAKE);
     assert!(rt; is_right, "the result, and what is written");
 }

@@ -27,8 +27,8 @@ pub(crate) const X_TWICE: &[u8] = b"\
     \x1b\xff\x81\x03\x01\x01\x01W\x01\xff\x82\x00\x01\x02\x01\x01X\x01\x04\x00\x01\x01X\x01\x04\x00\x00\x00\
     \x03\xff\x82\x00";
 
-/// How a run over these devices ends.
-pub(crate) fn take<Q: Read + Drop, R: Read + Drop, W: Write + Drop>(
+// How a run over these devices ends.
+fn take<Q: Read + Drop, R: Read + Drop, W: Write + Drop>(
     alloc: Global,
     wanted: Q,
     reader: R,
