@@ -154,6 +154,32 @@ length_stored b xs at k place size =
       length-drop at b,
     )
 
+-- what stands between two bytes
+pub between_stored : (b xs : List ℕ) (at k end new x y : ℕ) → end ≡ at + 1 + length xs → new ≡ end + 1 → new ≤ length b
+    → length xs ≡ k → take new (set (put_mid (at + 1) k (set b at x) xs) end y) ≡ take at b ++ x ∷ (xs ++ y ∷ [])
+between_stored b xs at k end new x y last behind place size =
+    let first = set b at x in
+    let stored = put_mid (at + 1) k first xs in
+    let there : at + 1 ≤ length first = omega (arith, place, last, behind, length-set b at x) in
+    let long : length stored ≡ length b =
+    length_stored first xs (at + 1) k (omega (arith, place, last, behind, size, length-set b at x)) size ∙ length-set b at x in
+    take-set_at stored end new y (omega (arith, behind)) (omega (arith, long, place, behind))
+    ∙ ap (λ l. l ++ y ∷ []) (ap (λ n. take n stored) last
+    ∙ ap (λ l. take (at + 1 + length xs) (put_mid (at + 1) k first l)) (sym (append-nil xs))
+    ∙ stored_front first xs [] (at + 1) k there
+    ∙ ap (λ l. l ++ xs) (take_more_set b at x (omega (arith, place, last, behind)))
+    ∙ append_assoc (take at b) (x ∷ []) xs)
+    ∙ append_assoc (take at b) (x ∷ xs) (y ∷ [])
+
+-- all bytes that there is room for are stored, of which those of the text count
+pub kept_stored : (b xs : List ℕ) (at k n : ℕ) → at ≤ length b → n ≤ length xs
+    → take (at + n) (put_mid at k b xs) ≡ take at b ++ take n xs
+kept_stored b xs at k n place most =
+    let long : n ≡ length (take n xs) = sym (length-take-le n xs most) in
+    ap (λ (m : ℕ). take (at + m) (put_mid at k b xs)) long
+    ∙ ap (λ (l : List ℕ). take (at + length (take n xs)) (put_mid at k b l)) (sym (take-append-drop n xs))
+    ∙ stored_front b (take n xs) (drop n xs) at k place
+
 -- four bytes of the table from a digit of the number on
 pub first_stored : (b : List ℕ) (at n x y k j : ℕ) → n < 1000 → at ≤ length b → Counts n 10 x → Counts n 100 y → j ≡ 4
     → take (at + (3 - (x + y))) (put_mid at k b (take j (drop (n * 4 + (x + y)) TRIPLES))) ≡ take at b ++ decimal n

@@ -2,6 +2,7 @@ pub mod RowLaws
 pub mod DigitLaws
 pub mod TextLaws
 pub mod OutLaws
+pub mod GatheredLaws
 pub mod PlainLaws
 pub mod EscapeLaws
 pub mod LeafLaws

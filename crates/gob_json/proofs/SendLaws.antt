@@ -245,6 +245,15 @@ pub record PresentLeft {O E : Type 0} (puts : O → O → List ℕ → Result (U
   pub begins : BeginsPresent T types next limit fields piece rest
   pub text : GoesOn puts old now (items_text later (fields_json T types fields)) all
 
+-- behind the count of a list are its elements
+pub list_elements : {T : Table} {e : TypeId} {limit count : ℕ} {vs : Trees} {rest : List ℕ} (body : List ℕ) (at end : ℕ)
+    → NumberFrom body at count end → BeginsList T e limit vs (drop at body) rest
+    → BeginsElements T e limit vs (drop end body) rest × (tree_count vs ≡ count)
+list_elements {vs = vs} body at end found b =
+    let one = found (tree_count vs) b.behind b.counted in
+    let w = b.elements in
+    (record { bytes = w.bytes; spelled = w.spelled; within = w.within; whole = one.1 ∙ w.whole }, sym one.0)
+
 no_element_left : {T : Table} {e : TypeId} {vs : Trees} {b piece rest : List ℕ} (later : Bool) → SpellsEach T e vs b
     → piece ≡ b ++ rest → tree_count vs ≡ 0 → (items_text later (elements_json T e vs) ≡ 93 ∷ []) × (piece ≡ rest)
 no_element_left later no_element whole none = (refl, whole)
@@ -312,20 +321,17 @@ module _ {O E : Type 0} (puts : O → O → List ℕ → Result (Unit {0}) E →
   pub begun : {old now : O} (x y : List ℕ) → puts old now x (Ok tt) → GoesOn puts old now y (x ++ y)
   begun {old = old} {now = now} x y p new r q = joined old now new x y r p q
 
-  -- behind the bracket
-  pub first_elements : {T : Table} {e : TypeId} {limit count : ℕ} {vs : Trees} {old now : O} {rest : List ℕ} (body : List ℕ)
-      (at end : ℕ) → NumberFrom body at count end → BeginsList T e limit vs (drop at body) rest
-      → puts old now (91 ∷ []) (Ok tt) → ElementsLeft puts T e limit count false old now (drop end body) rest
-      (91 ∷ items_text false (elements_json T e vs))
-  first_elements {vs = vs} {rest = rest} body at end found b p =
-      let one = found (tree_count vs) b.behind b.counted in
-      let w = b.elements in
-      record {
-        values = vs;
-        begins = record { bytes = w.bytes; spelled = w.spelled; within = w.within; whole = one.1 ∙ w.whole };
-        counted = sym one.0;
-        text = begun (91 ∷ []) _ p;
-      }
+  -- a text, and then what is put out behind it
+  pub sent_on : {old mid new : O} {body rest : List ℕ} (x y : List ℕ) (q : Result ℕ E) → puts old mid x (Ok tt)
+      → Sends puts mid new y body rest q → Sends puts old new (x ++ y) body rest q
+  sent_on {old = old} {mid = mid} {new = new} x y q p s =
+      record { put = joined old mid new x y (without_end q) p s.put; behind = s.behind }
+
+  -- all elements of a list
+  pub all_elements : {T : Table} {e : TypeId} {limit count : ℕ} {vs : Trees} {old : O} {piece rest : List ℕ}
+      → BeginsElements T e limit vs piece rest → tree_count vs ≡ count
+      → ElementsLeft puts T e limit count false old old piece rest (items_text false (elements_json T e vs))
+  all_elements {vs = vs} b counted = record { values = vs; begins = b; counted = counted; text = λ new r p. p }
 
   pub first_entries : {T : Table} {k e : TypeId} {limit count : ℕ} {ps : Pairs} {old now : O} {rest : List ℕ}
       (body : List ℕ) (at end : ℕ) → NumberFrom body at count end → BeginsMap T k e limit ps (drop at body) rest

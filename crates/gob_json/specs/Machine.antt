@@ -1,5 +1,8 @@
 -- What is known of the text that is under way. No clause of a public call names these.
-pub mod Digits
 pub mod Appended
-pub mod TextSent
+pub mod Digits
+pub mod Gathered
+pub mod Heads
+pub mod Piece
 pub mod TextParts
+pub mod TextSent

@@ -3,13 +3,17 @@
 ghost use Rattle.std.specs.Prelude.{◌≡◌, ◌+◌, ◌/◌, ◌%◌, ◌<◌, ◌≤◌, ◌++◌, length, take};
 ghost use Rattle.std.specs.Fmt.{decimal};
 ghost use Rattle.serde_json.specs.Written.{comma_if, compact_text};
-ghost use Rattle.gob_json.specs.Json.{integer_json};
+ghost use Rattle.gob_json.specs.Json.{integer_json, pattern_json};
 ghost use Rattle.gob_json.specs.Machine.Digits.{three_digits};
 
 use super::digits::TRIPLES;
+use super::leaf::pattern_digits;
 
 /// As many digits as a number of 64 bits has.
 pub(crate) const DIGITS: usize = 20;
+
+/// As many bytes as a string of the 64 bits of a float has.
+pub(crate) const PATTERN: usize = 18;
 
 /// Puts the comma that stands before each part but the first, and tells where what follows begins.
 #[inline(always)]
@@ -36,9 +40,9 @@ pub fn integer_at(number: i64, block: &mut [u8], at: usize) -> usize
     natural_at(number.unsigned_abs(), block, at)
 }
 
-// Puts the number in decimal, three digits at a time.
+/// Puts the number in decimal, three digits at a time, and tells where it ends.
 #[inline(always)]
-fn natural_at(number: u64, block: &mut [u8], at: usize) -> usize
+pub(crate) fn natural_at(number: u64, block: &mut [u8], at: usize) -> usize
     requires { at + 20 ≤ length block.old }
     ensures text { take result block.new ≡ take at block.old ++ decimal number }
     ensures end { result ≤ at + 20 }
@@ -56,6 +60,19 @@ fn natural_at(number: u64, block: &mut [u8], at: usize) -> usize
         return three_at(number % 1000, block, later);
     }
     long_at(number, block, at)
+}
+
+/// Puts the 64 bits of a float as a string of 16 digits of lower case hexadecimal, and tells where it ends.
+#[inline(always)]
+pub(crate) fn pattern_at(pattern: u64, block: &mut [u8], at: usize) -> usize
+    requires { at + 18 ≤ length block.old }
+    ensures text { take result block.new ≡ take at block.old ++ compact_text (pattern_json pattern) }
+    ensures end { result ≤ at + 18 }
+{
+    block[at] = b'"';
+    block[at + 1..at + 17].copy_from_slice(&pattern_digits(pattern.to_be_bytes()));
+    block[at + 17] = b'"';
+    at + 18
 }
 
 // Puts the number below 1000 in decimal. Four bytes are stored, from the first digit that counts on.

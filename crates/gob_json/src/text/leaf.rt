@@ -7,7 +7,8 @@ ghost use Rattle.hex.specs.Hex.{encode_lower};
 ghost use Rattle.serde_json.specs.Data.{boolean, null, string};
 ghost use Rattle.serde_json.specs.Written.{compact_text};
 ghost use Rattle.gob_json.specs.Machine.Digits.{three_digits};
-ghost use Rattle.gob_json.specs.Json.{hex_json, integer_json, natural_json, opaque_json, pair_json, pattern_json, text_json};
+ghost use Rattle.gob_json.specs.Json.{hex_json, integer_json, natural_json, opaque_json, pair_json, pattern_json};
+ghost use Rattle.gob_json.specs.Json.{text_json};
 
 use super::block::DIGITS;
 use super::digits::{HEX_PAIRS, TRIPLES};
@@ -170,8 +171,9 @@ pub(crate) fn put_pattern<O: TextOut>(pattern: u64, out: &mut O) -> Result<(), O
     put_three(b"\"", &pattern_digits(pattern.to_be_bytes()), b"\"", out)
 }
 
-// The digits of eight bytes.
-fn pattern_digits(bytes: [u8; 8]) -> [u8; 16]
+/// The digits of eight bytes.
+#[inline(always)]
+pub(crate) fn pattern_digits(bytes: [u8; 8]) -> [u8; 16]
     ensures { result ≡ encode_lower bytes }
 {
     let mut digits = [0; 16];

@@ -1,6 +1,6 @@
 //! Which bytes stand for themselves in a JSON string.
 
-ghost use Rattle.std.specs.Prelude.{IsTrue};
+ghost use Rattle.std.specs.Prelude.{◌≡◌, ◌+◌, ◌≤◌, ◌++◌, IsTrue, length, take};
 ghost use Rattle.gob_json.specs.Machine.Digits.{IsPlainAscii};
 
 // For each byte whether it is an ASCII character that stands for itself: all from the space on but the quote, the
@@ -39,6 +39,26 @@ fn are_few_plain(bytes: &[u8]) -> bool
         if STANDS[usize::from(*byte)] == 0 {
             return false;
         }
+    }
+    true
+}
+
+/// Copies the bytes to a place of a block, as long as each is such a character, and tells whether all are. Of few bytes
+/// this is quicker than a look at them and a copy.
+#[inline(always)]
+pub(crate) fn copy_plain(bytes: &[u8], block: &mut [u8], at: usize) -> bool
+    requires { at + length bytes.now ≤ length block.old }
+    ensures plain { IsTrue result → IsPlainAscii bytes.now }
+    ensures text { IsTrue result → take (at + length bytes.now) block.new ≡ take at block.old ++ bytes.now }
+    ensures before { take at block.new ≡ take at block.old }
+    ensures stays { length block.new ≡ length block.old }
+{
+    'bytes: for index in 0..bytes.len() {
+        let byte = bytes[index];
+        if STANDS[usize::from(byte)] == 0 {
+            return false;
+        }
+        block[at + index] = byte;
     }
     true
 }

@@ -1,7 +1,8 @@
 //! The text of a value that is known to stand whole in a body, for an output that takes it while it is made. It takes
 //! no memory, and nothing but the output can fail.
 
-ghost use Rattle.std.specs.Prelude.{◌≡◌, ◌^◌, ◌-◌, ◌<◌, ◌≤◌, ◌∷◌, ◌++◌, List, ℕ, IfOk, IfSome, drop, false, length};
+ghost use Rattle.std.specs.Prelude.{◌≡◌, ◌^◌, ◌-◌, ◌<◌, ◌≤◌, ◌∷◌, ◌++◌, [], List, ℕ, IfOk, IfSome, Some};
+ghost use Rattle.std.specs.Prelude.{drop, false, length, slice_get};
 ghost use Rattle.serde_json.specs.Written.{comma_if, compact_text, items_text};
 ghost use Rattle.gob_types.specs.declared.id.TypeId.{TypeId};
 ghost use Rattle.gob_types.specs.declared.basic.Basic.TheVariants as basics;
@@ -9,30 +10,34 @@ ghost use Rattle.gob_types.specs.declared.kind.Kind.TheVariants as kinds;
 ghost use Rattle.gob_types.specs.declared.kind.Field.{Field};
 ghost use Rattle.gob_types.specs.declared.kind.Marshal.{Marshal};
 ghost use Rattle.gob_types.specs.Table.{Table};
-ghost use Rattle.gob_value.specs.Tree.{Tree, Trees, Pairs, Fields};
+ghost use Rattle.gob_value.specs.Tree.{Tree, Trees, Pairs, Fields, tree_count};
 ghost use Rattle.gob_json.specs.Json.{elements_json, fields_json, natural_json, pair_json, pairs_json, text_json};
 ghost use Rattle.gob_json.specs.Json.{triple_json, value_json};
-ghost use Rattle.gob_json.specs.Machine.TextSent.{HoldsKind, HoldsValue, BeginsList, BeginsMap, BeginsEntry, BeginsPresent};
-ghost use Rattle.gob_json.specs.Machine.TextSent.{IsNextField, Sends};
+ghost use Rattle.gob_json.specs.Machine.TextSent.{HoldsKind, HoldsValue, BeginsElements, BeginsList, BeginsMap};
+ghost use Rattle.gob_json.specs.Machine.TextSent.{BeginsEntry, BeginsPresent, IsNextField, Sends};
+ghost use Rattle.gob_json.specs.Machine.TextParts.{field_head};
+ghost use Rattle.gob_json.specs.Machine.Heads.{AreHeads, AreHeadsOf};
 ghost use Rattle.gob_json.specs.TextWhole.{IsOfKind};
 
 use super::between::{put_comma, put_field_head};
-use super::leaf::{
-    put_complex, put_hex, put_integer, put_natural, put_null, put_opaque, put_pattern, put_text,
-    put_truth,
-};
+use super::gathered::PartOut;
+use super::heads::Heads;
+use super::leaf::{put_complex, put_hex, put_null, put_opaque, put_truth};
 use super::number::{bytes_from, number_from};
-use super::out::TextOut;
 use gob_num::{to_pattern, to_signed};
 use gob_types::{Basic, Field, Fields as Types, Kind, Shapes, TypeId};
 
+// For so many values it is worth while to make beforehand what stands before their fields.
+const MANY: u64 = 4;
+
 /// Puts out the text of the value of the type that stands in the body from the place on, and tells where it ends. A
 /// value that is no deeper than `depth` is known to stand there: else the text may end early. It calls itself as deep
-/// as the value is.
+/// as the value is. What stands before a struct's fields may be made already.
 #[cycle(sent)]
-pub(crate) fn send_value<S: Shapes, O: TextOut>(
+pub(crate) fn send_value<S: Shapes, O: PartOut>(
     shapes: &S,
     id: TypeId,
+    heads: Option<&Heads>,
     body: &[u8],
     at: usize,
     depth: u64,
@@ -40,6 +45,7 @@ pub(crate) fn send_value<S: Shapes, O: TextOut>(
 ) -> Result<usize, O::Fault>
     requires depth { depth ≤ 1000 }
     requires place { at ≤ length body.now }
+    requires heads { IfSome heads (λ h. AreHeadsOf (S.table shapes.now) id h.now) }
     ensures sent { (v : Tree) (rest : List ℕ) → HoldsValue (S.table shapes.now) id depth v (drop at body.now) rest
         → Sends O.puts out.old out.new (compact_text (value_json (S.table shapes.now) id v)) body.now rest result }
     ensures inside { IfOk result (λ end. end ≤ length body.now) }
@@ -53,7 +59,7 @@ pub(crate) fn send_value<S: Shapes, O: TextOut>(
     match &shape.kind {
         Kind::Basic(basic) => send_basic(*basic, body, at, out),
         Kind::Opaque(_) => send_opaque(body, at, out),
-        Kind::Struct { fields } => send_fields(shapes, fields, body, at, depth - 1, out),
+        Kind::Struct { fields } => send_fields(shapes, fields, heads, body, at, depth - 1, out),
         Kind::Slice { elem } => send_elements(shapes, *elem, body, at, depth - 1, out),
         Kind::Array { elem, .. } => send_elements(shapes, *elem, body, at, depth - 1, out),
         Kind::Map { key, elem } => send_pairs(shapes, *key, *elem, body, at, depth - 1, out),
@@ -62,7 +68,7 @@ pub(crate) fn send_value<S: Shapes, O: TextOut>(
 
 // Puts out the text of the elements that stand behind their count.
 #[cycle(sent)]
-fn send_elements<S: Shapes, O: TextOut>(
+fn send_elements<S: Shapes, O: PartOut>(
     shapes: &S,
     elem: TypeId,
     body: &[u8],
@@ -72,18 +78,66 @@ fn send_elements<S: Shapes, O: TextOut>(
 ) -> Result<usize, O::Fault>
     requires depth { depth ≤ 1000 }
     requires place { begin ≤ length body.now }
-    ensures sent { (vs : Trees) (rest : List ℕ) → BeginsList (S.table shapes.now) elem depth vs (drop begin body.now) rest
+    ensures sent { (vs : Trees) (rest : List ℕ)
+        → BeginsList (S.table shapes.now) elem depth vs (drop begin body.now) rest
         → Sends O.puts out.old out.new (91 ∷ items_text false (elements_json (S.table shapes.now) elem vs))
         body.now rest result }
     ensures inside { IfOk result (λ end. end ≤ length body.now) }
 {
     let (count, behind) = number_from(body, begin);
-    let basic = shapes.basic_of(elem);
     out.put(b"[")?;
-    let mut at = behind;
+    match shapes.basic_of(elem) {
+        Some(basic) => send_basics(basic, count, body, behind, out),
+        None => send_values(shapes, elem, count, body, behind, depth, out),
+    }
+}
+
+// Puts out the text of so many elements of the basic type, and the bracket that closes their list.
+fn send_basics<O: PartOut>(
+    basic: Basic,
+    count: u64,
+    body: &[u8],
+    begin: usize,
+    out: &mut O,
+) -> Result<usize, O::Fault>
+    requires { begin ≤ length body.now }
+    ensures sent { (T : Table) (e : TypeId) (limit : ℕ) (vs : Trees) (rest : List ℕ) → IsOfKind T e (kinds.Basic basic)
+        → BeginsElements T e limit vs (drop begin body.now) rest → tree_count vs ≡ count
+        → Sends O.puts out.old out.new (items_text false (elements_json T e vs)) body.now rest result }
+    ensures inside { IfOk result (λ end. end ≤ length body.now) }
+{
+    let mut at = begin;
     'elements: for index in 0..count {
         put_comma(index > 0, out)?;
-        at = send_part(shapes, elem, basic, body, at, depth, out)?;
+        at = send_basic(basic, body, at, out)?;
+    }
+    out.put(b"]").and(Ok(at))
+}
+
+// The same of elements of a type that isn't basic.
+#[cycle(sent)]
+fn send_values<S: Shapes, O: PartOut>(
+    shapes: &S,
+    elem: TypeId,
+    count: u64,
+    body: &[u8],
+    begin: usize,
+    depth: u64,
+    out: &mut O,
+) -> Result<usize, O::Fault>
+    requires depth { depth ≤ 1000 }
+    requires place { begin ≤ length body.now }
+    ensures sent { (vs : Trees) (rest : List ℕ)
+        → BeginsElements (S.table shapes.now) elem depth vs (drop begin body.now) rest → tree_count vs ≡ count
+        → Sends O.puts out.old out.new (items_text false (elements_json (S.table shapes.now) elem vs))
+        body.now rest result }
+    ensures inside { IfOk result (λ end. end ≤ length body.now) }
+{
+    let heads = heads_of(shapes, elem, count);
+    let mut at = begin;
+    'elements: for index in 0..count {
+        put_comma(index > 0, out)?;
+        at = send_value(shapes, elem, heads.as_ref(), body, at, depth, out)?;
     }
     out.put(b"]").and(Ok(at))
 }
@@ -91,7 +145,7 @@ fn send_elements<S: Shapes, O: TextOut>(
 // The same as `send_value`, without a call where the type is known to be this basic one.
 #[cycle(sent)]
 #[inline(always)]
-fn send_part<S: Shapes, O: TextOut>(
+fn send_part<S: Shapes, O: PartOut>(
     shapes: &S,
     id: TypeId,
     basic: Option<Basic>,
@@ -109,13 +163,24 @@ fn send_part<S: Shapes, O: TextOut>(
 {
     match basic {
         Some(basic) => send_basic(basic, body, at, out),
-        None => send_value(shapes, id, body, at, depth, out),
+        None => send_value(shapes, id, None, body, at, depth, out),
     }
+}
+
+// What stands before the fields of the values of this type, made once where it is a struct and there are many of them.
+fn heads_of<S: Shapes>(shapes: &S, id: TypeId, count: u64) -> Option<Heads>
+    ensures { IfSome result (λ h. AreHeadsOf (S.table shapes.now) id h) }
+{
+    if count < MANY {
+        return None;
+    }
+    let fields = shapes.shape_of(id)?.kind.fields()?;
+    Some(Heads::of(fields))
 }
 
 // Puts out the text of the pairs of a key and an element that stand behind their count.
 #[cycle(sent)]
-fn send_pairs<S: Shapes, O: TextOut>(
+fn send_pairs<S: Shapes, O: PartOut>(
     shapes: &S,
     key: TypeId,
     elem: TypeId,
@@ -126,27 +191,30 @@ fn send_pairs<S: Shapes, O: TextOut>(
 ) -> Result<usize, O::Fault>
     requires depth { depth ≤ 1000 }
     requires place { begin ≤ length body.now }
-    ensures sent { (ps : Pairs) (rest : List ℕ) → BeginsMap (S.table shapes.now) key elem depth ps (drop begin body.now) rest
+    ensures sent { (ps : Pairs) (rest : List ℕ)
+        → BeginsMap (S.table shapes.now) key elem depth ps (drop begin body.now) rest
         → Sends O.puts out.old out.new (91 ∷ items_text false (pairs_json (S.table shapes.now) key elem ps))
         body.now rest result }
     ensures inside { IfOk result (λ end. end ≤ length body.now) }
 {
     let (count, behind) = number_from(body, begin);
+    let heads = heads_of(shapes, elem, count);
     out.put(b"[")?;
     let mut at = behind;
     'pairs: for index in 0..count {
         put_comma(index > 0, out)?;
-        at = send_pair(shapes, key, elem, body, at, depth, out)?;
+        at = send_pair(shapes, key, elem, heads.as_ref(), body, at, depth, out)?;
     }
     out.put(b"]").and(Ok(at))
 }
 
 // Puts out the text of the key and the element that stand there.
 #[cycle(sent)]
-fn send_pair<S: Shapes, O: TextOut>(
+fn send_pair<S: Shapes, O: PartOut>(
     shapes: &S,
     key: TypeId,
     elem: TypeId,
+    heads: Option<&Heads>,
     body: &[u8],
     at: usize,
     depth: u64,
@@ -154,6 +222,7 @@ fn send_pair<S: Shapes, O: TextOut>(
 ) -> Result<usize, O::Fault>
     requires depth { depth ≤ 1000 }
     requires place { at ≤ length body.now }
+    requires heads { IfSome heads (λ h. AreHeadsOf (S.table shapes.now) elem h.now) }
     ensures sent { (x v : Tree) (rest : List ℕ)
         → BeginsEntry (S.table shapes.now) key elem depth x v (drop at body.now) rest
         → Sends O.puts out.old out.new (compact_text (pair_json (value_json (S.table shapes.now) key x)
@@ -161,17 +230,18 @@ fn send_pair<S: Shapes, O: TextOut>(
     ensures inside { IfOk result (λ end. end ≤ length body.now) }
 {
     out.put(b"[")?;
-    let behind = send_value(shapes, key, body, at, depth, out)?;
+    let behind = send_value(shapes, key, None, body, at, depth, out)?;
     out.put(b",")?;
-    let end = send_value(shapes, elem, body, behind, depth, out)?;
+    let end = send_value(shapes, elem, heads, body, behind, depth, out)?;
     out.put(b"]").and(Ok(end))
 }
 
 // Puts out the text of the fields of a struct that are present.
 #[cycle(sent)]
-fn send_fields<S: Shapes, O: TextOut>(
+fn send_fields<S: Shapes, O: PartOut>(
     shapes: &S,
     types: &Types,
+    heads: Option<&Heads>,
     body: &[u8],
     begin: usize,
     depth: u64,
@@ -179,6 +249,7 @@ fn send_fields<S: Shapes, O: TextOut>(
 ) -> Result<usize, O::Fault>
     requires depth { depth ≤ 1000 }
     requires place { begin ≤ length body.now }
+    requires heads { IfSome heads (λ h. AreHeads types.now h.now) }
     ensures sent { (fs : Fields) (rest : List ℕ)
         → BeginsPresent (S.table shapes.now) types.now 0 depth fs (drop begin body.now) rest
         → Sends O.puts out.old out.new (91 ∷ items_text false (fields_json (S.table shapes.now) types.now fs))
@@ -193,19 +264,39 @@ fn send_fields<S: Shapes, O: TextOut>(
         let Some((number, field)) = next_field(types, next, delta) else {
             return out.put(b"]").and(Ok(behind));
         };
-        at = send_field(shapes, next > 0, number, field, body, behind, depth, out)?;
+        put_begin(heads, next > 0, number, field, out)?;
+        at = send_field(shapes, field.id, body, behind, depth, out)?;
         next = number + 1;
     }
 }
 
-// Puts out the text of the field of this number, whose value stands there, and a comma before it or not.
-#[cycle(sent)]
+// Puts out what stands before the value of the field of this number, and a comma before it or not.
 #[inline(always)]
-fn send_field<S: Shapes, O: TextOut>(
-    shapes: &S,
+fn put_begin<O: PartOut>(
+    heads: Option<&Heads>,
     later: bool,
     number: u64,
     field: &Field,
+    out: &mut O,
+) -> Result<(), O::Fault>
+    ensures { (types : List Field) → IfSome heads.entry (λ h. AreHeads types h.now)
+        → slice_get types number ≡ Some field.now
+        → O.puts out.old out.new (field_head later number field.now.name) result }
+{
+    if let Some(kept) = heads {
+        if let Some(head) = kept.get(number) {
+            return out.put_kept_head(later, head);
+        }
+    }
+    put_field_head(later, number, field.name.as_bytes(), out)
+}
+
+// Puts out the text of a field's value that stands there, and the bracket that closes the field.
+#[cycle(sent)]
+#[inline(always)]
+fn send_field<S: Shapes, O: PartOut>(
+    shapes: &S,
+    id: TypeId,
     body: &[u8],
     at: usize,
     depth: u64,
@@ -213,15 +304,13 @@ fn send_field<S: Shapes, O: TextOut>(
 ) -> Result<usize, O::Fault>
     requires depth { depth ≤ 1000 }
     requires place { at ≤ length body.now }
-    ensures sent { (v : Tree) (rest : List ℕ)
-        → HoldsValue (S.table shapes.now) field.now.id depth v (drop at body.now) rest
-        → Sends O.puts out.old out.new (comma_if later ++ compact_text (triple_json (natural_json number)
-        (text_json field.now.name) (value_json (S.table shapes.now) field.now.id v))) body.now rest result }
+    ensures sent { (v : Tree) (rest : List ℕ) → HoldsValue (S.table shapes.now) id depth v (drop at body.now) rest
+        → Sends O.puts out.old out.new (compact_text (value_json (S.table shapes.now) id v) ++ 93 ∷ [])
+        body.now rest result }
     ensures inside { IfOk result (λ end. end ≤ length body.now) }
 {
-    put_field_head(later, number, field.name.as_bytes(), out)?;
-    let basic = shapes.basic_of(field.id);
-    let end = send_part(shapes, field.id, basic, body, at, depth, out)?;
+    let basic = shapes.basic_of(id);
+    let end = send_part(shapes, id, basic, body, at, depth, out)?;
     out.put(b"]").and(Ok(end))
 }
 
@@ -244,7 +333,7 @@ fn next_field(types: &Types, next: u64, delta: u64) -> Option<(u64, &Field)>
 
 // Puts out the text of the value of the basic type that stands there.
 #[inline(always)]
-fn send_basic<O: TextOut>(
+fn send_basic<O: PartOut>(
     basic: Basic,
     body: &[u8],
     at: usize,
@@ -263,15 +352,15 @@ fn send_basic<O: TextOut>(
         }
         Basic::Int => {
             let (number, end) = number_from(body, at);
-            put_integer(to_signed(number), out).and(Ok(end))
+            out.put_integer(to_signed(number)).and(Ok(end))
         }
         Basic::Uint => {
             let (number, end) = number_from(body, at);
-            put_natural(number, out).and(Ok(end))
+            out.put_natural(number).and(Ok(end))
         }
         Basic::Float => {
             let (number, end) = number_from(body, at);
-            put_pattern(to_pattern(number), out).and(Ok(end))
+            out.put_pattern(to_pattern(number)).and(Ok(end))
         }
         Basic::Bytes => {
             let (bytes, end) = bytes_from(body, at);
@@ -279,7 +368,7 @@ fn send_basic<O: TextOut>(
         }
         Basic::Str => {
             let (bytes, end) = bytes_from(body, at);
-            put_text(bytes, out).and(Ok(end))
+            out.put_text(bytes).and(Ok(end))
         }
         Basic::Complex => {
             let (real, behind) = number_from(body, at);
@@ -294,7 +383,7 @@ fn send_basic<O: TextOut>(
 }
 
 // Puts out the text of the opaque value that stands there.
-fn send_opaque<O: TextOut>(body: &[u8], at: usize, out: &mut O) -> Result<usize, O::Fault>
+fn send_opaque<O: PartOut>(body: &[u8], at: usize, out: &mut O) -> Result<usize, O::Fault>
     requires { at ≤ length body.now }
     ensures sent { (T : Table) (t : TypeId) (m : Marshal) (v : Tree) (rest : List ℕ)
         → HoldsKind T (kinds.Opaque m) v (drop at body.now) rest

@@ -7,10 +7,13 @@ ghost use Rattle.gob_value.specs.Top.{SpellsTop};
 ghost use Rattle.gob_value.specs.Tree.{Tree, depth as DepthOf};
 ghost use Rattle.gob_json.specs.Json.{put_json};
 ghost use Rattle.gob_json.specs.TextWhole.{TextOfWhole, LineOfWhole, head_text};
+ghost use Rattle.gob_json.specs.Machine.Piece.{text_of};
 ghost use Rattle.gob_json.specs.Machine.TextParts.{IsBehindTag};
 
+use super::gathered::{Gathered, PartOut};
 use super::leaf::put_natural;
 use super::out::TextOut;
+use super::piece::Piece;
 use super::send::send_value;
 use super::stop::Stop;
 use super::value::put_value;
@@ -146,9 +149,51 @@ pub fn send_line<S: Shapes, O: TextOut>(
     ensures { (v : Tree) → SpellsTop (S.table shapes.now) id v body.now → DepthOf v ≤ depth
         → O.puts out.old out.new (compact_text (put_json (S.table shapes.now) id v) ++ 10 ∷ []) result }
 {
+    let mut gathered = Gathered {
+        waiting: Piece::new(),
+        out,
+    };
+    let sent = send_gathered(shapes, id, body, depth, &mut gathered);
+    let Gathered {
+        waiting: _,
+        out: _put_to,
+    } = gathered;
+    sent
+}
+
+// The same, where nothing waits before it, and nothing behind it.
+fn send_gathered<S: Shapes, O: TextOut>(
+    shapes: &S,
+    id: TypeId,
+    body: &[u8],
+    depth: u64,
+    out: &mut Gathered<'_, O>,
+) -> Result<(), O::Fault>
+    requires depth { depth ≤ 1000 }
+    requires empty { text_of out.old.waiting ≡ [] }
+    ensures { (v : Tree) → SpellsTop (S.table shapes.now) id v body.now → DepthOf v ≤ depth
+        → (out.new.out.ghost_name ≡ out.old.out.ghost_name) × O.puts out.old.out.now out.new.out.now
+        (compact_text (put_json (S.table shapes.now) id v) ++ 10 ∷ []) result }
+{
+    send_parts(shapes, id, body, depth, out)?;
+    out.flush()
+}
+
+// The same, part by part.
+fn send_parts<S: Shapes, O: PartOut>(
+    shapes: &S,
+    id: TypeId,
+    body: &[u8],
+    depth: u64,
+    out: &mut O,
+) -> Result<(), O::Fault>
+    requires { depth ≤ 1000 }
+    ensures { (v : Tree) → SpellsTop (S.table shapes.now) id v body.now → DepthOf v ≤ depth
+        → O.puts out.old out.new (compact_text (put_json (S.table shapes.now) id v) ++ 10 ∷ []) result }
+{
     put_head(id, out)?;
     let begin = value_begin(shapes, id, body);
-    send_value(shapes, id, body, begin, depth, out)?;
+    send_value(shapes, id, None, body, begin, depth, out)?;
     out.put(b"}\n")
 }
 

@@ -1,14 +1,16 @@
 -- Part by part the text goes out.
-use Rattle.std.proofs.Common.{ℕ, Option, IfSome, List, [], ◌∷◌, ◌++◌, ◌+◌, ◌-◌, ◌≡◌, arith, false, refl, sym, subst, drop}
+use Rattle.std.proofs.Common.{ℕ, Option, IfSome, List, [], ◌∷◌, ◌++◌, ◌+◌, ◌-◌, ◌≡◌, arith, false, refl, sym, ◌∙◌, subst, drop}
 use Rattle.serde_json.specs.Written.{compact_text, items_text}
 use Rattle.gob_types.specs.declared.basic.Basic.{Basic}
+use Rattle.gob_types.proofs.PublicLaws.{basic_shape_of}
 use Rattle.gob_types.specs.declared.kind.Kind.TheVariants as kind
 use Rattle.gob_json.specs.Json.{elements_json, pairs_json, fields_json, value_json}
 use Rattle.gob_json.specs.Machine.TextSent.{HoldsKind, HoldsValue}
 use Rattle.gob_json.specs.TextWhole.{IsOfKind}
 use Rattle.gob_json.proofs.TextSteps.{later_on}
 use Rattle.gob_json.proofs.StandingLaws.{value_as}
-use Rattle.gob_json.proofs.SendLaws.{sent_behind, sent_failed, head_failed, head_put, slice_sent, array_sent, map_sent, struct_sent, first_elements}
+use Rattle.gob_json.proofs.SendLaws.{sent_behind, sent_failed, head_failed, head_put, slice_sent, array_sent, map_sent, struct_sent, sent_on}
+use Rattle.gob_json.proofs.SendLaws.{list_elements, all_elements}
 use Rattle.gob_json.proofs.SendLaws.{elements_ended, element_comma_failed, element_failed, element_put, first_entries}
 use Rattle.gob_json.proofs.SendLaws.{entries_ended, entry_comma_failed, entry_failed, entry_put, first_present}
 use Rattle.gob_json.proofs.SendLaws.{fields_ended, field_failed, field_put}
@@ -20,40 +22,53 @@ send_elements-returns-in_err-put-clause-sent g t c = λ vs rest b.
     sent_failed g.O.TextOut.puts c.from_residual.result c.from_residual.ensures.1
     (g.met.O.TextOut.cut _ _ (91 ∷ []) (items_text false (elements_json (g.S.Shapes.table c.args.shapes.now) c.args.elem vs)) _ c.in_err-put.ensures)
 
-pub send_elements-elements-init : goal.send_elements-elements-init
-send_elements-elements-init g t c = record {
-  inside = c.number_from-count.ensures.inside;
-  left = λ vs rest b.
-      let all : c.number_from-count.result.0 - 0 ≡ c.number_from-count.result.0 = omega arith in
-      rw all (first_elements g.O.TextOut.puts g.met.O.TextOut.joined g.met.O.TextOut.cut c.args.body.now c.args.begin c.number_from-count.result.1
-      c.number_from-count.ensures.found b c.in_ok-put.ensures);
+pub send_elements-returns-in-Some-clause-sent : goal.send_elements-returns-in-Some-clause-sent
+send_elements-returns-in-Some-clause-sent g t c = λ vs rest b.
+    let T = g.S.Shapes.table c.args.shapes.now in
+    let all = list_elements c.args.body.now c.args.begin c.number_from-count.result.1 c.number_from-count.ensures.found b in
+    let (r, found, same) = basic_shape_of T c.args.elem (sym c.basic_of.ensures ∙ c.in-Some.is) in
+    sent_on g.O.TextOut.puts g.met.O.TextOut.joined g.met.O.TextOut.cut (91 ∷ []) (items_text false (elements_json T c.args.elem vs)) c.send_basics.result
+    c.in_ok-put.ensures (c.send_basics.ensures.sent T c.args.elem c.args.depth vs rest (record { shape = r; found = found; same = same }) all.0 all.1)
+
+pub send_elements-returns-in-None-clause-sent : goal.send_elements-returns-in-None-clause-sent
+send_elements-returns-in-None-clause-sent g t c = λ vs rest b.
+    let all = list_elements c.args.body.now c.args.begin c.number_from-count.result.1 c.number_from-count.ensures.found b in
+    sent_on g.O.TextOut.puts g.met.O.TextOut.joined g.met.O.TextOut.cut (91 ∷ []) (items_text false (elements_json (g.S.Shapes.table c.args.shapes.now) c.args.elem vs))
+    c.send_values.result c.in_ok-put.ensures (c.send_values.ensures.sent vs rest all.0 all.1)
+
+pub send_values-elements-init : goal.send_values-elements-init
+send_values-elements-init g t c = record {
+  inside = c.requires.place;
+  left = λ vs rest b counted.
+      let all : c.args.count - 0 ≡ c.args.count = omega arith in
+      rw all (all_elements g.O.TextOut.puts g.met.O.TextOut.joined g.met.O.TextOut.cut b counted);
 }
 
-pub send_elements-returns-in_err-put_comma-clause-sent : goal.send_elements-returns-in_err-put_comma-clause-sent
-send_elements-returns-in_err-put_comma-clause-sent g t c = λ vs rest b.
-    sent_failed g.O.TextOut.puts c.from_residual-in_err-put_comma.result c.from_residual-in_err-put_comma.ensures.1
-    (element_comma_failed g.O.TextOut.puts g.met.O.TextOut.joined g.met.O.TextOut.cut (c.elements.invariant.left vs rest b) (omega arith) c.in_err-put_comma.ensures)
+pub send_values-returns-in_err-put_comma-clause-sent : goal.send_values-returns-in_err-put_comma-clause-sent
+send_values-returns-in_err-put_comma-clause-sent g t c = λ vs rest b counted.
+    sent_failed g.O.TextOut.puts c.from_residual.result c.from_residual.ensures.1
+    (element_comma_failed g.O.TextOut.puts g.met.O.TextOut.joined g.met.O.TextOut.cut (c.elements.invariant.left vs rest b counted) (omega arith) c.in_err-put_comma.ensures)
 
-pub send_elements-returns-in_err-at-clause-sent : goal.send_elements-returns-in_err-at-clause-sent
-send_elements-returns-in_err-at-clause-sent g t c = λ vs rest b.
+pub send_values-returns-in_err-at-clause-sent : goal.send_values-returns-in_err-at-clause-sent
+send_values-returns-in_err-at-clause-sent g t c = λ vs rest b counted.
     sent_failed g.O.TextOut.puts c.from_residual-in_err-at.result c.from_residual-in_err-at.ensures.1
-    (element_failed g.O.TextOut.puts g.met.O.TextOut.joined g.met.O.TextOut.cut (c.elements.invariant.left vs rest b) (omega arith) c.in_ok-put_comma.ensures
+    (element_failed g.O.TextOut.puts g.met.O.TextOut.joined g.met.O.TextOut.cut (c.elements.invariant.left vs rest b counted) (omega arith) c.in_ok-put_comma.ensures
     (λ v r p. (c.in_err-at.ensures.sent v r p).put))
 
-pub send_elements-elements-preserved : goal.send_elements-elements-preserved
-send_elements-elements-preserved g t c = record {
+pub send_values-elements-preserved : goal.send_values-elements-preserved
+send_values-elements-preserved g t c = record {
   inside = c.in_ok-at.ensures.inside;
-  left = λ vs rest b.
-      let next = element_put g.O.TextOut.puts g.met.O.TextOut.joined g.met.O.TextOut.cut (c.elements.invariant.left vs rest b) (omega arith) c.in_ok-put_comma.ensures
+  left = λ vs rest b counted.
+      let next = element_put g.O.TextOut.puts g.met.O.TextOut.joined g.met.O.TextOut.cut (c.elements.invariant.left vs rest b counted) (omega arith) c.in_ok-put_comma.ensures
       (λ v r p. let s = c.in_ok-at.ensures.sent v r p in (s.behind, s.put)) in
-      let fewer : c.number_from-count.result.0 - (c.elements.index + 1) ≡ c.number_from-count.result.0 - c.elements.index - 1 = omega arith in
+      let fewer : c.args.count - (c.elements.index + 1) ≡ c.args.count - c.elements.index - 1 = omega arith in
       rw fewer (rw (later_on c.elements.index) next);
 }
 
-pub send_elements-returns-clause-sent : goal.send_elements-returns-clause-sent
-send_elements-returns-clause-sent g t c = λ vs rest b.
-    elements_ended g.O.TextOut.puts g.met.O.TextOut.joined g.met.O.TextOut.cut (c.elements.invariant.left vs rest b) c.elements.at c.put-2.result c.and.result c.and.ensures refl
-    (omega arith) c.put-2.ensures
+pub send_values-returns-clause-sent : goal.send_values-returns-clause-sent
+send_values-returns-clause-sent g t c = λ vs rest b counted.
+    elements_ended g.O.TextOut.puts g.met.O.TextOut.joined g.met.O.TextOut.cut (c.elements.invariant.left vs rest b counted) c.elements.at c.put.result c.and.result c.and.ensures refl
+    (omega arith) c.put.ensures
 
 pub send_pairs-returns-in_err-put-clause-sent : goal.send_pairs-returns-in_err-put-clause-sent
 send_pairs-returns-in_err-put-clause-sent g t c = λ ps rest b.
@@ -166,41 +181,46 @@ send_fields-returns-in_default-clause-sent g t c = λ fs rest b.
     (c.fields.invariant.left fs rest b) c.number_from-delta.ensures.found c.put-in_default.result c.and.result c.and.ensures
     (c.next_field.ensures.none c.in_default.is) c.put-in_default.ensures
 
+pub send_fields-returns-in_err-put_begin-clause-sent : goal.send_fields-returns-in_err-put_begin-clause-sent
+send_fields-returns-in_err-put_begin-clause-sent g t c = λ fs rest b.
+    let begin = c.in_err-put_begin.ensures c.args.types.now c.requires.heads c.in-Some.ensures.some.2 in
+    sent_failed g.O.TextOut.puts c.from_residual-in_err-put_begin.result c.from_residual-in_err-put_begin.ensures.1
+    (field_failed g.O.TextOut.puts g.met.O.TextOut.joined g.met.O.TextOut.cut c.args.body.now c.fields.at c.number_from-delta.result.1
+    (c.fields.invariant.left fs rest b) c.number_from-delta.ensures.found c.in-Some.number c.in-Some.field.now c.in-Some.ensures.some
+    (λ v r p. head_failed g.O.TextOut.puts _ c.in-Some.number
+    (compact_text (value_json (g.S.Shapes.table c.args.shapes.now) c.in-Some.field.now.id v) ++ 93 ∷ []) g.met.O.TextOut.cut refl begin))
+
 pub send_fields-returns-in_err-at-clause-sent : goal.send_fields-returns-in_err-at-clause-sent
 send_fields-returns-in_err-at-clause-sent g t c = λ fs rest b.
+    let begin = c.in_ok-put_begin.ensures c.args.types.now c.requires.heads c.in-Some.ensures.some.2 in
     sent_failed g.O.TextOut.puts c.from_residual-in_err-at.result c.from_residual-in_err-at.ensures.1
     (field_failed g.O.TextOut.puts g.met.O.TextOut.joined g.met.O.TextOut.cut c.args.body.now c.fields.at c.number_from-delta.result.1
     (c.fields.invariant.left fs rest b) c.number_from-delta.ensures.found c.in-Some.number c.in-Some.field.now c.in-Some.ensures.some
-    (λ v r p. (c.in_err-at.ensures.sent v r p).put))
+    (λ v r p. head_put g.O.TextOut.puts _ c.in-Some.number g.met.O.TextOut.joined refl begin (c.in_err-at.ensures.sent v r p).put))
 
 pub send_fields-fields-preserved : goal.send_fields-fields-preserved
-send_fields-fields-preserved g t c = record {
-  inside = c.in_ok-at.ensures.inside;
-  left = λ fs rest b. rw (later_on c.in-Some.number)
-      (field_put g.O.TextOut.puts g.met.O.TextOut.joined g.met.O.TextOut.cut c.args.body.now c.fields.at c.number_from-delta.result.1
-      (c.fields.invariant.left fs rest b) c.number_from-delta.ensures.found c.in-Some.number c.in-Some.field.now c.in-Some.ensures.some
-      (λ v r p. let s = c.in_ok-at.ensures.sent v r p in (s.behind, s.put)));
-}
+send_fields-fields-preserved g t c =
+    let begin = c.in_ok-put_begin.ensures c.args.types.now c.requires.heads c.in-Some.ensures.some.2 in
+    record {
+      inside = c.in_ok-at.ensures.inside;
+      left = λ fs rest b. rw (later_on c.in-Some.number)
+          (field_put g.O.TextOut.puts g.met.O.TextOut.joined g.met.O.TextOut.cut c.args.body.now c.fields.at c.number_from-delta.result.1
+          (c.fields.invariant.left fs rest b) c.number_from-delta.ensures.found c.in-Some.number c.in-Some.field.now c.in-Some.ensures.some
+          (λ v r p. let s = c.in_ok-at.ensures.sent v r p in
+          (s.behind, head_put g.O.TextOut.puts _ c.in-Some.number g.met.O.TextOut.joined refl begin s.put)));
+    }
 
 -- ---- one field
-pub send_field-returns-in_err-put_field_head-clause-sent : goal.send_field-returns-in_err-put_field_head-clause-sent
-send_field-returns-in_err-put_field_head-clause-sent g t c = λ v rest b.
-    sent_failed g.O.TextOut.puts c.from_residual.result c.from_residual.ensures.1
-    (head_failed g.O.TextOut.puts c.args.later c.args.number
-    (compact_text (value_json (g.S.Shapes.table c.args.shapes.now) c.args.field.now.id v) ++ 93 ∷ []) g.met.O.TextOut.cut c.as_bytes.ensures c.in_err-put_field_head.ensures)
-
 pub send_field-returns-in_err-end-clause-sent : goal.send_field-returns-in_err-end-clause-sent
 send_field-returns-in_err-end-clause-sent g t c = λ v rest b.
-    sent_failed g.O.TextOut.puts c.from_residual-in_err-end.result c.from_residual-in_err-end.ensures.1
-    (head_put g.O.TextOut.puts c.args.later c.args.number g.met.O.TextOut.joined c.as_bytes.ensures c.in_ok-put_field_head.ensures
-    (g.met.O.TextOut.cut _ _ (compact_text (value_json (g.S.Shapes.table c.args.shapes.now) c.args.field.now.id v)) (93 ∷ []) _ (c.in_err-end.ensures.sent v rest b).put))
+    sent_failed g.O.TextOut.puts c.from_residual.result c.from_residual.ensures.1
+    (g.met.O.TextOut.cut _ _ (compact_text (value_json (g.S.Shapes.table c.args.shapes.now) c.args.id v)) (93 ∷ []) _ (c.in_err-end.ensures.sent v rest b).put)
 
 pub send_field-returns-clause-sent : goal.send_field-returns-clause-sent
 send_field-returns-clause-sent g t c = λ v rest b.
     let value = c.in_ok-end.ensures.sent v rest b in
     sent_behind g.O.TextOut.puts c.in_ok-end.end c.put.result c.and.result c.and.ensures value.behind refl
-    (head_put g.O.TextOut.puts c.args.later c.args.number g.met.O.TextOut.joined c.as_bytes.ensures c.in_ok-put_field_head.ensures
-    (g.met.O.TextOut.joined _ _ _ (compact_text (value_json (g.S.Shapes.table c.args.shapes.now) c.args.field.now.id v)) (93 ∷ []) _ value.put c.put.ensures))
+    (g.met.O.TextOut.joined _ _ _ (compact_text (value_json (g.S.Shapes.table c.args.shapes.now) c.args.id v)) (93 ∷ []) _ value.put c.put.ensures)
 
 -- ---- a value
 pub send_value-returns-in-Slice-clause-sent : goal.send_value-returns-in-Slice-clause-sent

@@ -1,9 +1,9 @@
 -- What is left of the parts, with what was put out of them.
-use Rattle.std.proofs.Common.{ℕ, List, ◌∷◌, ◌+◌, ◌-◌, ◌*◌, ◌^◌, ◌≤◌, false, drop, length, nat_lt}
+use Rattle.std.proofs.Common.{◌≡◌, ℕ, List, ◌∷◌, ◌+◌, ◌-◌, ◌*◌, ◌^◌, ◌≤◌, false, drop, length, nat_lt}
 use Rattle.serde_json.specs.Written.{items_text}
-use Rattle.gob_value.specs.Tree.{Trees, Pairs, Fields}
+use Rattle.gob_value.specs.Tree.{Trees, Pairs, Fields, tree_count}
 use Rattle.gob_json.specs.Json.{elements_json, fields_json, pairs_json}
-use Rattle.gob_json.specs.Machine.TextSent.{BeginsList, BeginsMap, BeginsPresent}
+use Rattle.gob_json.specs.Machine.TextSent.{BeginsElements, BeginsMap, BeginsPresent}
 use Rattle.gob_json.proofs.SendLaws.{ElementsLeft, EntriesLeft, PresentLeft}
 use Rattle.gob_json.proofs.text.send.+sent.Given as goal
 
@@ -28,13 +28,16 @@ decreases-send_pairs g l = 4 * l.depth + 2
 abbrev pub decreases-send_fields : goal.decreases-send_fields
 decreases-send_fields g l = 4 * l.depth + 3
 
-abbrev pub invariant-send_elements-elements : goal.invariant-send_elements-elements
-invariant-send_elements-elements g l = record {
+abbrev pub decreases-send_values : goal.decreases-send_values
+decreases-send_values g l = 4 * l.depth + 1
+
+abbrev pub invariant-send_values-elements : goal.invariant-send_values-elements
+invariant-send_values-elements g l = record {
   inside : l.at ≤ length l.body;
   left : (vs : Trees) (rest : List ℕ)
-      → BeginsList (g.S.Shapes.table l.shapes) l.fn.elem l.depth vs (drop l.begin l.body) rest
+      → BeginsElements (g.S.Shapes.table l.shapes) l.fn.elem l.depth vs (drop l.begin l.body) rest → tree_count vs ≡ l.count
       → ElementsLeft g.O.TextOut.puts (g.S.Shapes.table l.shapes) l.fn.elem l.depth (l.count - l.index) (nat_lt 0 l.index)
-      l.fn.out l.out (drop l.at l.body) rest (91 ∷ items_text false (elements_json (g.S.Shapes.table l.shapes) l.fn.elem vs));
+      l.fn.out l.out (drop l.at l.body) rest (items_text false (elements_json (g.S.Shapes.table l.shapes) l.fn.elem vs));
 }
 
 abbrev pub invariant-send_pairs-pairs : goal.invariant-send_pairs-pairs

@@ -12,7 +12,7 @@ returns-in-Bool-clause-sent g c = rw c.in-Bool.is (λ T t v rest b.
 
 pub returns-in-Int-clause-sent : goal.returns-in-Int-clause-sent
 returns-in-Int-clause-sent g c =
-    let put : g.O.TextOut.puts c.args.out.now c.put_integer.new.out (compact_text (integer_json c.to_signed.result)) c.put_integer.result =
+    let put : g.O.TextOut.puts c.args.out.now c.put_integer.new.self (compact_text (integer_json c.to_signed.result)) c.put_integer.result =
     search rules in
     rw c.in-Int.is (λ T t v rest b.
     int_sent g.O.TextOut.puts t c.args.body.now c.args.at c.number_from-number-in-Int.result.1 c.put_integer.result c.and-in-Int.result c.and-in-Int.ensures

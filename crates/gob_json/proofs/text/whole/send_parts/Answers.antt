@@ -5,7 +5,7 @@ use Rattle.gob_json.specs.Json.{value_json}
 use Rattle.gob_json.specs.Machine.TextSent.{HoldsValue}
 use Rattle.gob_json.proofs.LineLaws.{line_parts}
 use Rattle.gob_json.proofs.OutLaws.{piece_failed}
-use Rattle.gob_json.proofs.text.whole.send_line.Goals as goal
+use Rattle.gob_json.proofs.text.whole.send_parts.Goals as goal
 
 pub returns-in_err-put_head : goal.returns-in_err-put_head
 returns-in_err-put_head g c = λ v p deep.

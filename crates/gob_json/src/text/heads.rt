@@ -1,0 +1,64 @@
+//! What stands before the values of a struct's fields, made once for many values.
+
+ghost use Rattle.std.specs.Prelude.{◌≡◌, ◌≤◌, List, IfSome, Some, false, slice_get};
+ghost use Rattle.gob_types.specs.declared.kind.Field.{Field};
+ghost use Rattle.gob_json.specs.Machine.Piece.{text_of};
+ghost use Rattle.gob_json.specs.Machine.TextParts.{field_head};
+
+use super::between::put_field_head;
+use super::piece::{HEAD, Piece};
+use gob_types::Fields;
+
+// Of so many fields what stands before them is kept: more are rare, and a field behind them has its own made.
+const MANY: usize = 8;
+
+/// What stands before the value of each of a struct's first fields, without the comma.
+#[derive(Drop)]
+pub(crate) struct Heads {
+    heads: [Piece<HEAD>; MANY],
+    count: usize,
+    ghost within: { count ≤ 8 },
+}
+
+impl Heads {
+    ghost use Rattle.gob_json.specs.Machine.Heads.{AreHeads};
+
+    /// Of these fields, up to one whose name is too long to be kept.
+    pub(crate) fn of(fields: &Fields) -> Heads
+        ensures { AreHeads fields.now result }
+    {
+        let mut heads = [Piece::new(); MANY];
+        'fields: for count in 0..MANY {
+            match head_of(fields, count as u64) {
+                Some(head) => heads[count] = head,
+                None => return Heads { heads, count },
+            }
+        }
+        Heads { heads, count: MANY }
+    }
+
+    /// Of the field of this number, if it is kept.
+    #[inline(always)]
+    pub(crate) fn get(&self, number: u64) -> Option<&Piece<HEAD>>
+        ensures { IfSome result (λ head. (types : List Field) (field : Field) → AreHeads types self.now
+            → slice_get types number ≡ Some field → text_of head.now ≡ field_head false number field.name) }
+    {
+        if number >= self.count as u64 {
+            return None;
+        }
+        Some(&self.heads[number as usize])
+    }
+}
+
+// What stands before the value of the field of this number, where there is room for it.
+fn head_of(fields: &Fields, number: u64) -> Option<Piece<HEAD>>
+    ensures { IfSome result (λ head. (field : Field) → slice_get fields.now number ≡ Some field
+        → text_of head ≡ field_head false number field.name) }
+{
+    let field = fields.get(number)?;
+    let mut head = Piece::new();
+    match put_field_head(false, number, field.name.as_bytes(), &mut head) {
+        Ok(()) => Some(head),
+        Err(_) => None,
+    }
+}
