@@ -65,6 +65,18 @@ module _ {O E : Type 0} (puts : O → O → List ℕ → Result (Unit {0}) E →
       record { put = subst (λ e. puts old new text (Err e)) (sym h) p; behind = tt }
 
   -- ---- values without parts
+  -- the int that is known to stand there
+  pub int_here : {T : Table} {v : Tree} {rest : List ℕ} (t : TypeId) (body : List ℕ) (at end n : ℕ) (i : _)
+      → NumberFrom body at n end → ((bytes : List ℕ) → IsUnsigned n bytes → IsSigned i bytes)
+      → HoldsKind T (kind.Basic basic.Int) v (drop at body) rest
+      → (drop end body ≡ rest) × (compact_text (integer_json i) ≡ compact_text (value_json T t v))
+  int_here {T = T} {rest = rest} t body at end n i found means b =
+      let x = int_parts b.spelled in
+      let u = signed_unsigned x.2 in
+      let one = found u.0 rest (record { bytes = b.bytes; spelled = u.1; whole = b.whole }) in
+      let same = signed_prefix rest rest (means b.bytes (subst (λ k. IsUnsigned k b.bytes) (sym one.0) u.1)) x.2 refl in
+      (one.1, ap (λ j. compact_text (integer_json j)) same.value ∙ shown_as T t x.1)
+
   module _ {T : Table} {v : Tree} {old new : O} {rest : List ℕ} (t : TypeId) (body : List ℕ) (at end : ℕ)
       (r : Result (Unit {0}) E) (q : Result ℕ E) (last : q ≡ result_and r (Ok end)) where
     pub bool_sent : (n : ℕ) → NumberFrom body at n end → puts old new (compact_text (boolean (n == 1))) r
@@ -79,11 +91,7 @@ module _ {O E : Type 0} (puts : O → O → List ℕ → Result (Unit {0}) E →
         → puts old new (compact_text (integer_json i)) r → HoldsKind T (kind.Basic basic.Int) v (drop at body) rest
         → Sends puts old new (compact_text (value_json T t v)) body rest q
     int_sent n i found means p b =
-        let x = int_parts b.spelled in
-        let u = signed_unsigned x.2 in
-        let one = found u.0 rest (record { bytes = b.bytes; spelled = u.1; whole = b.whole }) in
-        let same = signed_prefix rest rest (means b.bytes (subst (λ k. IsUnsigned k b.bytes) (sym one.0) u.1)) x.2 refl in
-        sent_behind end r q last one.1 (ap (λ j. compact_text (integer_json j)) same.value ∙ shown_as T t x.1) p
+        let here = int_here t body at end n i found means b in sent_behind end r q last here.0 here.1 p
 
     pub uint_sent : (n : ℕ) → NumberFrom body at n end → puts old new (compact_text (natural_json n)) r
         → HoldsKind T (kind.Basic basic.Uint) v (drop at body) rest
@@ -390,6 +398,28 @@ module _ {O E : Type 0} (puts : O → O → List ℕ → Result (Unit {0}) E →
             begins = record { bytes = w.bytes; spelled = w.spelled; within = w.within; whole = one.0 ∙ w.whole };
             counted = omega (arith, l.counted, ap tree_count next.same);
             text = part_put (comma_if later) _ _ l.text shown p one.1;
+          }
+
+      -- with its comma at once
+      pub listed_failed : {new : O} {f : E} → ((v : Tree) (rest : List ℕ) → HoldsValue T e limit v piece rest
+          → puts now new (comma_if later ++ compact_text (value_json T e v)) (Err f)) → puts old new all (Err f)
+      listed_failed sent =
+          front_failed _ (items_text true (elements_json T e next.others)) l.text
+          (shown ∙ sym (append_assoc (comma_if later) (compact_text (value_json T e next.first)) _))
+          (sent next.first next.behind next.value)
+
+      pub listed_put : {after : O} {place : List ℕ} → ((v : Tree) (rest : List ℕ) → HoldsValue T e limit v piece rest
+          → (place ≡ rest) × puts now after (comma_if later ++ compact_text (value_json T e v)) (Ok tt))
+          → ElementsLeft puts T e limit (count - 1) true old after place rest all
+      listed_put sent =
+          let one = sent next.first next.behind next.value in
+          let w = next.left in
+          record {
+            values = next.others;
+            begins = record { bytes = w.bytes; spelled = w.spelled; within = w.within; whole = one.0 ∙ w.whole };
+            counted = omega (arith, l.counted, ap tree_count next.same);
+            text = front_put _ (items_text true (elements_json T e next.others)) l.text
+                (shown ∙ sym (append_assoc (comma_if later) (compact_text (value_json T e next.first)) _)) one.1;
           }
 
   -- ---- pairs

@@ -7,8 +7,7 @@
 //!
 //! - [`write_put`], [`write_tape`] and [`write_definition`] tell a writer of JSON a value with its type, a tape that
 //!   means one, and the shape of a type.
-//! - [`line_of_whole`] appends the same line straight from the bytes that spell a value; [`put_head`], [`comma_at`] and
-//!   [`integer_at`] are parts of it, for a line that goes out in blocks.
+//! - [`line_of_whole`] appends the same line straight from the bytes that spell a value.
 //! - [`send_line`] puts the line out to any [`TextOut`] while it is made, of a body that is known to spell a value.
 #![tactic(auto)]
 
@@ -21,5 +20,5 @@ mod value_json;
 
 pub use definition_json::write_definition;
 pub use tape_json::write_tape;
-pub use text::{TextOut, comma_at, integer_at, line_of_whole, put_head, send_line};
+pub use text::{TextOut, line_of_whole, send_line};
 pub use value_json::write_put;

@@ -19,6 +19,5 @@ mod stop;
 mod value;
 mod whole;
 
-pub use block::{comma_at, integer_at};
 pub use out::TextOut;
-pub use whole::{line_of_whole, put_head, send_line};
+pub use whole::{line_of_whole, send_line};

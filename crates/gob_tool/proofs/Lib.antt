@@ -1,5 +1,4 @@
 pub mod BlockLaws
-pub mod SentLaws
 pub mod PrintLaws
 pub mod WordLaws
 pub mod LinesStay

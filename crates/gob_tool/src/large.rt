@@ -5,13 +5,12 @@ ghost use Rattle.gob_stream.specs.Bounds.{greatest_depth, within_trees};
 ghost use Rattle.gob_stream.specs.Ends.{failed_writes, writer_of};
 ghost use Rattle.gob_stream.specs.Calls.Session.{limits_of};
 ghost use Rattle.gob_tool.specs.Machine.Gathering.{CountsOnlyWrites, StandsBehind, TakesPiece};
-ghost use Rattle.gob_tool.specs.Machine.Large.{IsLargeItem, IsLargeList};
+ghost use Rattle.gob_tool.specs.Machine.Large.{IsLargeItem};
 
 use crate::block::Block;
 use crate::blocks::send_item;
 use crate::fault::ToolFault;
 use crate::lines::Lines;
-use crate::sent::{Integers, integers_in, send_integers};
 use gob_num::Memory;
 use gob_read::TreeBuilder;
 use gob_stream::{Output, Session, Whole};
@@ -19,62 +18,8 @@ use gob_value::is_whole;
 use std::alloc::Global;
 use std::io::Write;
 
-// How many bytes of a line are made before they are written, and the most bytes of an item whose line is gathered.
-const BLOCK: usize = 65536;
-
-/// An item that is too large for its line to be gathered, and is known to put a list of ints.
-#[derive(Clone, Copy)]
-pub(crate) struct LargeList<'a> {
-    item: Whole<'a>,
-    list: Integers,
-}
-
-/// The large list that the piece is, all of it, no deeper than `depth`. None says nothing of the piece.
-pub(crate) fn large_list<'a>(
-    piece: &'a [u8],
-    depth: u64,
-    session: &Session<TreeBuilder>,
-) -> Option<LargeList<'a>>
-    ensures { IfSome result (λ large. IsLargeList session.now depth piece.now large.item.id
-        large.item.body.now large.item.used large.list.count large.list.begin) }
-{
-    if piece.len() <= BLOCK {
-        return None;
-    }
-    let item = session.whole_value(piece)?;
-    if item.used < piece.len() {
-        return None;
-    }
-    let list = integers_in(session.table(), item.id, item.body, depth)?;
-    Some(LargeList { item, list })
-}
-
-/// Takes the item, and writes the lines that are gathered and its own.
-pub(crate) fn show_list<W: Write>(
-    alloc: Global,
-    piece: &[u8],
-    depth: u64,
-    large: LargeList<'_>,
-    session: &mut Session<TreeBuilder>,
-    lines: &mut Lines,
-    output: &mut Output<W>,
-) -> Result<(), ToolFault>
-    requires depth { depth ≡ min (limits_of session.old).depth greatest_depth }
-    requires large { IsLargeList session.old depth piece.now large.item.id
-        large.item.body.now large.item.used large.list.count large.list.begin }
-    ensures shown { (bytes : List ℕ) (start : Option (List ℕ))
-        → StandsBehind session.old bytes start (W.contents (writer_of output.old)) lines.old.gathered.items
-        → TakesPiece (within_trees (limits_of session.old)) session.new (bytes ++ piece.now)
-        start (W.contents (writer_of output.new)) lines.new.gathered.items result }
-    ensures limits { limits_of session.new ≡ limits_of session.old }
-    ensures writes { CountsOnlyWrites (failed_writes output.old) (failed_writes output.new) result }
-{
-    let mut room = vec![in alloc; 0; BLOCK].map_err(Memory::from)?;
-    lines.push_head(large.item.id)?;
-    session.pass(large.item.used);
-    lines.write_to(output)?;
-    send_integers(large.list, large.item.body, &mut room, output)
-}
+// The most bytes of an item whose line is gathered.
+const MOST_GATHERED: usize = 65536;
 
 /// The large item that the piece is, all of it, with a value no deeper than `depth`. None says nothing of the piece.
 pub(crate) fn large_item<'a>(
@@ -84,7 +29,7 @@ pub(crate) fn large_item<'a>(
 ) -> Option<Whole<'a>>
     ensures { IfSome result (λ item. IsLargeItem session.now depth piece.now item.id item.body.now item.used) }
 {
-    if piece.len() <= BLOCK {
+    if piece.len() <= MOST_GATHERED {
         return None;
     }
     let item = session.whole_value(piece)?;

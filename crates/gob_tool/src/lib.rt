@@ -23,7 +23,6 @@ mod receiver;
 mod rewrite;
 mod rewriter;
 mod run;
-mod sent;
 mod show;
 mod take;
 mod wanted;

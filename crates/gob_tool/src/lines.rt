@@ -4,12 +4,12 @@ ghost use Rattle.std.specs.Prelude.{◌≡◌, ◌++◌, ◌∷◌, ◌≤◌, �
 ghost use Rattle.gob_stream.specs.Ends.{failed_writes, writer_of};
 ghost use Rattle.gob_stream.specs.Item.{item_view};
 ghost use Rattle.gob_tool.specs.Line.{line};
-ghost use Rattle.gob_json.specs.TextWhole.{LineOfWhole, head_text};
+ghost use Rattle.gob_json.specs.TextWhole.{LineOfWhole};
 ghost use Rattle.gob_tool.specs.Machine.Gathering.{Writes, Passes, GathersGiven, CountsWrites};
 
 use crate::fault::ToolFault;
 use crate::item_json::write_item;
-use gob_json::{line_of_whole, put_head};
+use gob_json::line_of_whole;
 use gob_num::Memory;
 use gob_stream::{Item, Output, Step};
 use gob_types::{Shapes, TypeId};
@@ -96,18 +96,6 @@ impl Lines {
         ensures err { OnErr result (self.new.gathered.items ≡ self.old.gathered.items) }
     {
         line_of_whole(table, id, body, depth, &mut self.line, &mut self.gathered)
-    }
-
-    /// Appends the begin of the line of an item that puts a list, up to the bracket. After an error the lines are as
-    /// before.
-    pub(crate) fn push_head(&mut self, id: TypeId) -> Result<(), Memory>
-        ensures ok { OnOk result (self.new.gathered.items ≡ self.old.gathered.items ++ (head_text id ++ 91 ∷ [])) }
-        ensures err { OnErr result (self.new.gathered.items ≡ self.old.gathered.items) }
-    {
-        self.line.clear();
-        put_head(id, &mut self.line)?;
-        self.line.push(b'[')?;
-        Ok(self.gathered.extend_from_slice(&self.line)?)
     }
 
     /// Writes the lines if there are enough of them to be worth a write. After an error a front of them is

@@ -11,7 +11,7 @@ ghost use Rattle.gob_tool.specs.Machine.Gathering.{MayGatherWhole, TakesFront};
 ghost use Rattle.gob_tool.specs.Machine.Keeping.{KeepsBehind, TakesKeeping, MayTakeFront};
 
 use crate::fault::ToolFault;
-use crate::large::{large_item, large_list, show_large, show_list};
+use crate::large::{large_item, show_large};
 use crate::lines::Lines;
 use crate::pending::{Pending, is_begun};
 use gob_num::Memory;
@@ -158,31 +158,8 @@ fn show_kept<W: Write>(
     Ok(())
 }
 
-/// The same as [`show_piece`] of a piece that may be one large item, whose line goes out while it is made. A list of
-/// ints has a way of its own, which is faster.
+/// The same as [`show_piece`] of a piece that may be one large item, whose line goes out while it is made.
 fn show_item<W: Write>(
-    alloc: Global,
-    piece: &[u8],
-    session: &mut Session<TreeBuilder>,
-    lines: &mut Lines,
-    output: &mut Output<W>,
-) -> Result<(), ToolFault>
-    ensures shown { (bytes : List ℕ) (start : Option (List ℕ))
-        → StandsBehind session.old bytes start (W.contents (writer_of output.old)) lines.old.gathered.items
-        → TakesPiece (within_trees (limits_of session.old)) session.new (bytes ++ piece.now)
-        start (W.contents (writer_of output.new)) lines.new.gathered.items result }
-    ensures limits { limits_of session.new ≡ limits_of session.old }
-    ensures writes { CountsOnlyWrites (failed_writes output.old) (failed_writes output.new) result }
-{
-    let limit = shown_depth(session);
-    match large_list(piece, limit, session) {
-        Some(large) => show_list(alloc, piece, limit, large, session, lines, output),
-        None => show_other(alloc, piece, session, lines, output),
-    }
-}
-
-/// The same of a piece that may be one large item of any type.
-fn show_other<W: Write>(
     alloc: Global,
     piece: &[u8],
     session: &mut Session<TreeBuilder>,

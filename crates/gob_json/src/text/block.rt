@@ -17,7 +17,7 @@ pub(crate) const PATTERN: usize = 18;
 
 /// Puts the comma that stands before each part but the first, and tells where what follows begins.
 #[inline(always)]
-pub fn comma_at(later: bool, block: &mut [u8], at: usize) -> usize
+pub(crate) fn comma_at(later: bool, block: &mut [u8], at: usize) -> usize
     requires { at < length block.old }
     ensures text { take result block.new ≡ take at block.old ++ comma_if later }
     ensures end { result ≤ at + 1 }
@@ -28,7 +28,7 @@ pub fn comma_at(later: bool, block: &mut [u8], at: usize) -> usize
 
 /// Puts the number in decimal, with a minus where it is below 0, and tells where it ends.
 #[inline(always)]
-pub fn integer_at(number: i64, block: &mut [u8], at: usize) -> usize
+pub(crate) fn integer_at(number: i64, block: &mut [u8], at: usize) -> usize
     requires { at + 21 ≤ length block.old }
     ensures text { take result block.new ≡ take at block.old ++ compact_text (integer_json number) }
     ensures end { result ≤ at + 21 }

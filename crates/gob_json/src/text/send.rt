@@ -87,6 +87,7 @@ fn send_elements<S: Shapes, O: PartOut>(
     let (count, behind) = number_from(body, begin);
     out.put(b"[")?;
     match shapes.basic_of(elem) {
+        Some(Basic::Int) => send_integers(count, body, behind, out),
         Some(basic) => send_basics(basic, count, body, behind, out),
         None => send_values(shapes, elem, count, body, behind, depth, out),
     }
@@ -110,6 +111,29 @@ fn send_basics<O: PartOut>(
     'elements: for index in 0..count {
         put_comma(index > 0, out)?;
         at = send_basic(basic, body, at, out)?;
+    }
+    out.put(b"]").and(Ok(at))
+}
+
+// The same of ints, a comma and the number at a time.
+fn send_integers<O: PartOut>(
+    count: u64,
+    body: &[u8],
+    begin: usize,
+    out: &mut O,
+) -> Result<usize, O::Fault>
+    requires { begin ≤ length body.now }
+    ensures sent { (T : Table) (e : TypeId) (limit : ℕ) (vs : Trees) (rest : List ℕ)
+        → IsOfKind T e (kinds.Basic basics.Int) → BeginsElements T e limit vs (drop begin body.now) rest
+        → tree_count vs ≡ count
+        → Sends O.puts out.old out.new (items_text false (elements_json T e vs)) body.now rest result }
+    ensures inside { IfOk result (λ end. end ≤ length body.now) }
+{
+    let mut at = begin;
+    'elements: for index in 0..count {
+        let (number, end) = number_from(body, at);
+        out.put_listed_integer(index > 0, to_signed(number))?;
+        at = end;
     }
     out.put(b"]").and(Ok(at))
 }

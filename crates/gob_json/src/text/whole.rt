@@ -127,8 +127,8 @@ fn put_line<S: Shapes>(
     Ok(out.extend_from_slice(b"}\n")?)
 }
 
-/// Puts out what stands before the value.
-pub fn put_head<O: TextOut>(id: TypeId, out: &mut O) -> Result<(), O::Fault>
+// Puts out what stands before the value.
+fn put_head<O: TextOut>(id: TypeId, out: &mut O) -> Result<(), O::Fault>
     ensures { O.puts out.old out.new (head_text id) result }
 {
     out.put(b"{\"type\":")?;

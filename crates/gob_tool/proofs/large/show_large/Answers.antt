@@ -11,7 +11,7 @@ use Rattle.gob_tool.specs.Machine.Gathering.{TakesPiece, Writes}
 use Rattle.gob_tool.proofs.ShowLaws.{piece_at}
 use Rattle.gob_tool.proofs.ShowFront.{begun_so_far}
 use Rattle.gob_tool.proofs.ShowWhole.{gathers_whole}
-use Rattle.gob_tool.proofs.LargeLaws.{counts_line, front_before, item_line, line_behind, list_cut, list_sent}
+use Rattle.gob_tool.proofs.LargeLaws.{counts_line, front_before, item_line, line_behind, item_cut, item_sent}
 use Rattle.gob_tool.proofs.large.show_large.Goals as goal
 
 pub returns-in_err-block-clause-shown : goal.returns-in_err-block-clause-shown
@@ -38,7 +38,7 @@ returns-in_err-write_to-clause-shown g c = λ bytes start b.
     piece_at (within_trees limits) s all start new left c.from_residual-in_err-write_to.result c.in_err-write_to.field-0.0
     c.from_residual-in_err-write_to.ensures.1
     (subst (λ f. TakesPiece (within_trees limits) s all start new left (Err f)) (sym failed.0)
-    (list_cut c.pass.ensures.limits b c.requires.large.all w new
+    (item_cut c.pass.ensures.limits b c.requires.large.all w new
     (front_before gathered (line (types c.args.session.now.types) (puts c.args.item.id whole.value)) failed.1)))
 
 pub send_item-requires-clause-whole : goal.send_item-requires-clause-whole
@@ -59,7 +59,7 @@ returns-clause-shown g c = λ bytes start b.
     let sent = subst (λ t. (w : IsWhole (types t) c.args.item.id c.args.depth c.args.item.body.now)
     → Writes mid new (line (types t) (puts c.args.item.id w.value)) r) (c.table.ensures ∙ c.pass.ensures.types)
     c.send_item.ensures.sent in
-    list_sent c.pass.ensures.limits b c.requires.large.all w new c.write_to.new.self.gathered.items
+    item_sent c.pass.ensures.limits b c.requires.large.all w new c.write_to.new.self.gathered.items
     c.in_ok-write_to.ensures.empty r
     (line_behind old mid new gathered (line (types c.args.session.now.types) (puts c.args.item.id whole.value)) r
     c.in_ok-write_to.ensures.written (sent whole))

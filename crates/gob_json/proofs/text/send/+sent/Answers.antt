@@ -1,5 +1,5 @@
 -- Part by part the text goes out.
-use Rattle.std.proofs.Common.{ℕ, Option, IfSome, List, [], ◌∷◌, ◌++◌, ◌+◌, ◌-◌, ◌≡◌, arith, false, refl, sym, ◌∙◌, subst, drop}
+use Rattle.std.proofs.Common.{ap, ℕ, Option, IfSome, Some, List, [], ◌∷◌, ◌++◌, ◌+◌, ◌-◌, ◌≡◌, arith, false, refl, sym, ◌∙◌, subst, drop}
 use Rattle.serde_json.specs.Written.{compact_text, items_text}
 use Rattle.gob_types.specs.declared.basic.Basic.{Basic}
 use Rattle.gob_types.proofs.PublicLaws.{basic_shape_of}
@@ -29,6 +29,14 @@ send_elements-returns-in-Some-clause-sent g t c = λ vs rest b.
     let (r, found, same) = basic_shape_of T c.args.elem (sym c.basic_of.ensures ∙ c.in-Some.is) in
     sent_on g.O.TextOut.puts g.met.O.TextOut.joined g.met.O.TextOut.cut (91 ∷ []) (items_text false (elements_json T c.args.elem vs)) c.send_basics.result
     c.in_ok-put.ensures (c.send_basics.ensures.sent T c.args.elem c.args.depth vs rest (record { shape = r; found = found; same = same }) all.0 all.1)
+
+pub send_elements-returns-in-Some-Int-clause-sent : goal.send_elements-returns-in-Some-Int-clause-sent
+send_elements-returns-in-Some-Int-clause-sent g t c = λ vs rest b.
+    let T = g.S.Shapes.table c.args.shapes.now in
+    let all = list_elements c.args.body.now c.args.begin c.number_from-count.result.1 c.number_from-count.ensures.found b in
+    let (r, found, same) = basic_shape_of T c.args.elem (sym c.basic_of.ensures ∙ c.in-Some-Int.is ∙ ap Some c.in-Some-Int.field-0-is) in
+    sent_on g.O.TextOut.puts g.met.O.TextOut.joined g.met.O.TextOut.cut (91 ∷ []) (items_text false (elements_json T c.args.elem vs)) c.send_integers.result
+    c.in_ok-put.ensures (c.send_integers.ensures.sent T c.args.elem c.args.depth vs rest (record { shape = r; found = found; same = same }) all.0 all.1)
 
 pub send_elements-returns-in-None-clause-sent : goal.send_elements-returns-in-None-clause-sent
 send_elements-returns-in-None-clause-sent g t c = λ vs rest b.
