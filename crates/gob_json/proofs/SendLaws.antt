@@ -238,6 +238,14 @@ pub record ElementsLeft {O E : Type 0} (puts : O → O → List ℕ → Result (
   pub counted : tree_count values ≡ count
   pub text : GoesOn puts old now (items_text later (elements_json T e values)) all
 
+-- the same behind text that was made and isn't put out
+pub record ElementsWait {O E : Type 0} (puts : O → O → List ℕ → Result (Unit {0}) E → Type 0) (T : Table) (e : TypeId)
+    (limit count : ℕ) (later : Bool) (old now : O) (waits piece rest all : List ℕ) : Type 0 where
+  pub values : Trees
+  pub begins : BeginsElements T e limit values piece rest
+  pub counted : tree_count values ≡ count
+  pub text : GoesOn puts old now (waits ++ items_text later (elements_json T e values)) all
+
 -- so many pairs
 pub record EntriesLeft {O E : Type 0} (puts : O → O → List ℕ → Result (Unit {0}) E → Type 0) (T : Table) (k e : TypeId)
     (limit count : ℕ) (later : Bool) (old now : O) (piece rest all : List ℕ) : Type 0 where
@@ -400,27 +408,55 @@ module _ {O E : Type 0} (puts : O → O → List ℕ → Result (Unit {0}) E →
             text = part_put (comma_if later) _ _ l.text shown p one.1;
           }
 
-      -- with its comma at once
-      pub listed_failed : {new : O} {f : E} → ((v : Tree) (rest : List ℕ) → HoldsValue T e limit v piece rest
-          → puts now new (comma_if later ++ compact_text (value_json T e v)) (Err f)) → puts old new all (Err f)
-      listed_failed sent =
-          front_failed _ (items_text true (elements_json T e next.others)) l.text
-          (shown ∙ sym (append_assoc (comma_if later) (compact_text (value_json T e next.first)) _))
-          (sent next.first next.behind next.value)
+  -- ---- elements whose text waits
+  pub all_wait : {T : Table} {e : TypeId} {limit count : ℕ} {vs : Trees} {old : O} {piece rest : List ℕ}
+      → BeginsElements T e limit vs piece rest → tree_count vs ≡ count
+      → ElementsWait puts T e limit count false old old [] piece rest (items_text false (elements_json T e vs))
+  all_wait {vs = vs} b counted = record { values = vs; begins = b; counted = counted; text = λ new r p. p }
 
-      pub listed_put : {after : O} {place : List ℕ} → ((v : Tree) (rest : List ℕ) → HoldsValue T e limit v piece rest
-          → (place ≡ rest) × puts now after (comma_if later ++ compact_text (value_json T e v)) (Ok tt))
-          → ElementsLeft puts T e limit (count - 1) true old after place rest all
-      listed_put sent =
-          let one = sent next.first next.behind next.value in
-          let w = next.left in
-          record {
-            values = next.others;
-            begins = record { bytes = w.bytes; spelled = w.spelled; within = w.within; whole = one.0 ∙ w.whole };
-            counted = omega (arith, l.counted, ap tree_count next.same);
-            text = front_put _ (items_text true (elements_json T e next.others)) l.text
-                (shown ∙ sym (append_assoc (comma_if later) (compact_text (value_json T e next.first)) _)) one.1;
-          }
+  module _ {T : Table} {e : TypeId} {limit count : ℕ} {later : Bool} {old now : O} {waits piece rest all : List ℕ}
+      (l : ElementsWait puts T e limit count later old now waits piece rest all) where
+    pub waiting_failed : {new : O} {f : E} → puts now new waits (Err f) → puts old new all (Err f)
+    waiting_failed p = front_failed waits _ l.text refl p
+
+    -- what waited is put out
+    pub waiting_put : {after : O} → puts now after waits (Ok tt)
+        → ElementsLeft puts T e limit count later old after piece rest all
+    waiting_put p = record {
+      values = l.values;
+      begins = l.begins;
+      counted = l.counted;
+      text = front_put waits _ l.text refl p;
+    }
+
+    pub waiting_gone : {after : O} → puts now after waits (Ok tt)
+        → ElementsWait puts T e limit count later old after [] piece rest all
+    waiting_gone p = record {
+      values = l.values;
+      begins = l.begins;
+      counted = l.counted;
+      text = front_put waits _ l.text refl p;
+    }
+
+    -- the text of the next waits too
+    pub next_waits : {place more : List ℕ} → 0 < count → ((v : Tree) (rest : List ℕ) → HoldsValue T e limit v piece rest
+        → (place ≡ rest) × (more ≡ waits ++ (comma_if later ++ compact_text (value_json T e v))))
+        → ElementsWait puts T e limit (count - 1) true old now more place rest all
+    next_waits some made =
+        let n = next_element l.begins (omega (arith, l.counted)) in
+        let one = made n.first n.behind n.value in
+        let w = n.left in
+        let text = compact_text (value_json T e n.first) in
+        let others = items_text true (elements_json T e n.others) in
+        let whole = ap (λ (x : List ℕ). x ++ others) one.1 ∙ append_assoc waits (comma_if later ++ text) others
+        ∙ ap (λ (x : List ℕ). waits ++ x) (append_assoc (comma_if later) text others
+        ∙ sym (ap (λ vs. items_text later (elements_json T e vs)) n.same)) in
+        record {
+          values = n.others;
+          begins = record { bytes = w.bytes; spelled = w.spelled; within = w.within; whole = one.0 ∙ w.whole };
+          counted = omega (arith, l.counted, ap tree_count n.same);
+          text = λ new r p. l.text new r (subst (λ x. puts now new x r) whole p);
+        }
 
   -- ---- pairs
   module _ {T : Table} {k e : TypeId} {limit count : ℕ} {later : Bool} {old now : O} {piece rest all : List ℕ}

@@ -26,10 +26,6 @@ pub(crate) trait PartOut: TextOut {
     fn put_integer(&mut self, number: i64) -> Result<(), Self::Fault>
         ensures { Self.puts self.old self.new (compact_text (integer_json number)) result };
 
-    /// Puts out the number in decimal, and a comma before it or not.
-    fn put_listed_integer(&mut self, later: bool, number: i64) -> Result<(), Self::Fault>
-        ensures { Self.puts self.old self.new (comma_if later ++ compact_text (integer_json number)) result };
-
     /// Puts out the 64 bits of a float as a string of 16 digits of lower case hexadecimal.
     fn put_pattern(&mut self, pattern: u64) -> Result<(), Self::Fault>
         ensures { Self.puts self.old self.new (compact_text (pattern_json pattern)) result };
@@ -129,13 +125,6 @@ impl<O: TextOut> PartOut for Gathered<'_, O> {
     fn put_integer(&mut self, number: i64) -> Result<(), O::Fault> {
         self.make_room(DIGITS + 1)?;
         self.waiting.add_integer(number);
-        Ok(())
-    }
-
-    #[inline(always)]
-    fn put_listed_integer(&mut self, later: bool, number: i64) -> Result<(), O::Fault> {
-        self.make_room(DIGITS + 2)?;
-        self.waiting.add_listed_integer(later, number);
         Ok(())
     }
 

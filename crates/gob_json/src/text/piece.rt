@@ -105,16 +105,6 @@ impl Piece<WAITING> {
         self.len = integer_at(number, &mut self.bytes, self.len);
     }
 
-    /// Adds the number in decimal, and a comma before it or not.
-    #[inline(always)]
-    pub(crate) fn add_listed_integer(&mut self, later: bool, number: i64)
-        requires { self.old.len + 22 ≤ 256 }
-        ensures { text_of self.new ≡ text_of self.old ++ (comma_if later ++ compact_text (integer_json number)) }
-    {
-        let at = comma_at(later, &mut self.bytes, self.len);
-        self.len = integer_at(number, &mut self.bytes, at);
-    }
-
     /// Adds the 64 bits of a float as a string of 16 digits.
     #[inline(always)]
     pub(crate) fn add_pattern(&mut self, pattern: u64)

@@ -20,6 +20,7 @@ ghost use Rattle.gob_json.specs.Machine.Heads.{AreHeads, AreHeadsOf};
 ghost use Rattle.gob_json.specs.TextWhole.{IsOfKind};
 
 use super::between::{put_comma, put_field_head};
+use super::block::{comma_at, integer_at};
 use super::gathered::PartOut;
 use super::heads::Heads;
 use super::leaf::{put_complex, put_hex, put_null, put_opaque, put_truth};
@@ -29,6 +30,13 @@ use gob_types::{Basic, Field, Fields as Types, Kind, Shapes, TypeId};
 
 // For so many values it is worth while to make beforehand what stands before their fields.
 const MANY: u64 = 4;
+
+// How many bytes of the text of ints are made before they are put out: more than wait at the most, so that they go out
+// at once.
+const BLOCK: usize = 320;
+
+// The most bytes of an int in a list: a comma, a sign and the digits.
+const PART: usize = 22;
 
 /// Puts out the text of the value of the type that stands in the body from the place on, and tells where it ends. A
 /// value that is no deeper than `depth` is known to stand there: else the text may end early. It calls itself as deep
@@ -115,7 +123,7 @@ fn send_basics<O: PartOut>(
     out.put(b"]").and(Ok(at))
 }
 
-// The same of ints, a comma and the number at a time.
+// The same of ints. Their text is made in a block of its own, so that how far it goes is kept in a register.
 fn send_integers<O: PartOut>(
     count: u64,
     body: &[u8],
@@ -129,12 +137,20 @@ fn send_integers<O: PartOut>(
         → Sends O.puts out.old out.new (items_text false (elements_json T e vs)) body.now rest result }
     ensures inside { IfOk result (λ end. end ≤ length body.now) }
 {
+    let mut block = [0; BLOCK];
+    let mut len = 0;
     let mut at = begin;
-    'elements: for index in 0..count {
+    'integers: for index in 0..count {
+        if len > BLOCK - PART {
+            out.put(&block[..len])?;
+            len = 0;
+        }
         let (number, end) = number_from(body, at);
-        out.put_listed_integer(index > 0, to_signed(number))?;
+        let behind = comma_at(index > 0, &mut block, len);
+        len = integer_at(to_signed(number), &mut block, behind);
         at = end;
     }
+    out.put(&block[..len])?;
     out.put(b"]").and(Ok(at))
 }
 

@@ -1,5 +1,5 @@
--- What is left of the elements, with what was put out of them.
-use Rattle.std.proofs.Common.{◌≡◌, ℕ, List, ◌-◌, ◌≤◌, false, drop, length, nat_lt}
+-- What is left of the ints, with what was put out of them, and what waits in the block.
+use Rattle.std.proofs.Common.{◌≡◌, ℕ, List, ◌-◌, ◌≤◌, false, drop, length, nat_lt, take}
 use Rattle.serde_json.specs.Written.{items_text}
 use Rattle.gob_types.specs.declared.id.TypeId.{TypeId}
 use Rattle.gob_types.specs.declared.basic.Basic.TheVariants as basic
@@ -9,14 +9,15 @@ use Rattle.gob_value.specs.Tree.{Trees, tree_count}
 use Rattle.gob_json.specs.Json.{elements_json}
 use Rattle.gob_json.specs.Machine.TextSent.{BeginsElements}
 use Rattle.gob_json.specs.TextWhole.{IsOfKind}
-use Rattle.gob_json.proofs.SendLaws.{ElementsLeft}
+use Rattle.gob_json.proofs.SendLaws.{ElementsWait}
 use Rattle.gob_json.proofs.text.send.send_integers.Given as goal
 
-abbrev pub invariant-elements : goal.invariant-elements
-invariant-elements g l = record {
+abbrev pub invariant-integers : goal.invariant-integers
+invariant-integers g l = record {
   inside : l.at ≤ length l.body;
+  held : l.len ≤ 320;
   left : (T : Table) (e : TypeId) (limit : ℕ) (vs : Trees) (rest : List ℕ) → IsOfKind T e (kind.Basic basic.Int)
       → BeginsElements T e limit vs (drop l.begin l.body) rest → tree_count vs ≡ l.count
-      → ElementsLeft g.O.TextOut.puts T e limit (l.count - l.index) (nat_lt 0 l.index) l.fn.out l.out (drop l.at l.body) rest
-      (items_text false (elements_json T e vs));
+      → ElementsWait g.O.TextOut.puts T e limit (l.count - l.index) (nat_lt 0 l.index) l.fn.out l.out (take l.len l.block)
+      (drop l.at l.body) rest (items_text false (elements_json T e vs));
 }
