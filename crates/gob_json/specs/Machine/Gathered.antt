@@ -4,7 +4,7 @@ use Rattle.std.specs.Prelude.{◌≡◌, ℕ, List, [], ◌++◌, Result, Ok, Er
 use Rattle.std.proofs.Common.{sym, ap, ◌∙◌, append_assoc, append-nil}
 
 -- what was put out, and what waits then, are what was there before
-pub record Passes {O E : Type 0} (puts : O → O → List ℕ → Result (Unit {0}) E → Type 0) (old new : O)
+pub record PassesOn {O E : Type 0} (puts : O → O → List ℕ → Result (Unit {0}) E → Type 0) (old new : O)
     (before after : List ℕ) : Type 0 where
   pub gone : List ℕ
   pub whole : before ≡ gone ++ after
@@ -13,7 +13,7 @@ pub record Passes {O E : Type 0} (puts : O → O → List ℕ → Result (Unit {
 -- the same, or a front of what was there was put out before an error
 abbrev pub Gathers : {O E : Type 0} → (O → O → List ℕ → Result (Unit {0}) E → Type 0) → (old new : O)
     → (before after : List ℕ) → Result (Unit {0}) E → Type 0
-Gathers puts old new before after (Ok u) = Passes puts old new before after
+Gathers puts old new before after (Ok u) = PassesOn puts old new before after
 Gathers puts old new before after (Err e) = puts old new before (Err e)
 
 module _ {O E : Type 0} (puts : O → O → List ℕ → Result (Unit {0}) E → Type 0) where
@@ -26,7 +26,8 @@ module _ {O E : Type 0} (puts : O → O → List ℕ → Result (Unit {0}) E →
   pub gathers_both : ((a b c : O) (x y : List ℕ) (r : Result (Unit {0}) E)
       → puts a b x (Ok tt) → puts b c y r → puts a c (x ++ y) r)
       → (a b c : O) (held waits left x y : List ℕ) (r : Result (Unit {0}) E)
-      → Gathers puts a b (held ++ x) waits (Ok tt) → Gathers puts b c (waits ++ y) left r → Gathers puts a c (held ++ (x ++ y)) left r
+      → Gathers puts a b (held ++ x) waits (Ok tt)
+      → Gathers puts b c (waits ++ y) left r → Gathers puts a c (held ++ (x ++ y)) left r
   gathers_both joined a b c held waits left x y (Ok u) p q = record {
     gone = p.gone ++ q.gone;
     whole = sym (append_assoc held x y) ∙ ap (λ l. l ++ y) p.whole ∙ append_assoc p.gone waits y

@@ -7,14 +7,14 @@ use Rattle.gob_types.specs.declared.kind.Shape.{Shape}
 use Rattle.gob_types.specs.Table.{Table, shape_of}
 use Rattle.gob_json.specs.declared.text.heads.Heads.{Heads}
 use Rattle.gob_json.specs.declared.text.piece.Piece.{Piece}
-use Rattle.gob_json.specs.Machine.Piece.{text_of}
+use Rattle.gob_json.specs.Machine.Piece.{piece_text}
 use Rattle.gob_json.specs.Machine.TextParts.{field_head}
 
 -- each of the first so many is that of the field of its number
 abbrev pub AreHeadsTo : List Field → List (Piece 32) → ℕ → Type 0
 AreHeadsTo types heads count = (number : ℕ) (head : Piece 32) (field : Field) → number < count
     → slice_get heads number ≡ Some head → slice_get types number ≡ Some field
-    → text_of head ≡ field_head false number field.name
+    → piece_text head ≡ field_head false number field.name
 
 abbrev pub AreHeads : List Field → Heads → Type 0
 AreHeads types h = AreHeadsTo types h.heads h.count

@@ -3,5 +3,5 @@ use Rattle.std.specs.Prelude.{ℕ, List, take}
 use Rattle.gob_json.specs.declared.text.piece.Piece.{Piece}
 
 -- the text that is there
-abbrev pub text_of : {n : ℕ} → Piece n → List ℕ
-text_of p = take p.len p.bytes
+abbrev pub piece_text : {n : ℕ} → Piece n → List ℕ
+piece_text p = take p.len p.bytes

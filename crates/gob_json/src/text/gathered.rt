@@ -4,7 +4,7 @@ ghost use Rattle.std.specs.Prelude.{◌≡◌, ◌+◌, ◌≤◌, ◌++◌, [],
 ghost use Rattle.std.specs.Fmt.{decimal};
 ghost use Rattle.serde_json.specs.Written.{comma_if, compact_text};
 ghost use Rattle.gob_json.specs.Json.{integer_json, pattern_json, text_json};
-ghost use Rattle.gob_json.specs.Machine.Piece.{text_of};
+ghost use Rattle.gob_json.specs.Machine.Piece.{piece_text};
 ghost use Rattle.gob_json.specs.Machine.Gathered.{Gathers};
 
 use super::block::{DIGITS, PATTERN};
@@ -36,7 +36,7 @@ pub(crate) trait PartOut: TextOut {
 
     /// Puts out what stands before the value of a field, and a comma before it or not.
     fn put_kept_head(&mut self, later: bool, head: &Piece<HEAD>) -> Result<(), Self::Fault>
-        ensures { Self.puts self.old self.new (comma_if later ++ text_of head.now) result };
+        ensures { Self.puts self.old self.new (comma_if later ++ piece_text head.now) result };
 }
 
 /// An output, and what waits to be put out there. It is taken apart in the end, and not dropped: so what it did to the
@@ -52,8 +52,8 @@ impl<O: TextOut> Gathered<'_, O> {
     /// Puts out what waits. After an error a front of it may be put out.
     pub(crate) fn flush(&mut self) -> Result<(), O::Fault>
         ensures same { self.new.out.ghost_name ≡ self.old.out.ghost_name }
-        ensures put { O.puts self.old.out.now self.new.out.now (text_of self.old.waiting) result }
-        ensures empty { OnOk result (text_of self.new.waiting ≡ []) }
+        ensures put { O.puts self.old.out.now self.new.out.now (piece_text self.old.waiting) result }
+        ensures empty { OnOk result (piece_text self.new.waiting ≡ []) }
         ensures room { OnOk result (self.new.waiting.len ≡ 0) }
     {
         self.out.put(self.waiting.text())?;
@@ -66,8 +66,8 @@ impl<O: TextOut> Gathered<'_, O> {
     fn make_room(&mut self, most: usize) -> Result<(), O::Fault>
         requires { most ≤ 256 }
         ensures same { self.new.out.ghost_name ≡ self.old.out.ghost_name }
-        ensures put { Gathers O.puts self.old.out.now self.new.out.now (text_of self.old.waiting)
-            (text_of self.new.waiting) result }
+        ensures put { Gathers O.puts self.old.out.now self.new.out.now (piece_text self.old.waiting)
+            (piece_text self.new.waiting) result }
         ensures room { OnOk result (self.new.waiting.len + most ≤ 256) }
     {
         if self.waiting.has_room(most) {
@@ -84,7 +84,7 @@ impl<O: TextOut> TextOut for Gathered<'_, O> {
     type Fault = O::Fault;
 
     ghost puts = { λ old new text result. (new.out.ghost_name ≡ old.out.ghost_name)
-        × Gathers O.puts old.out.now new.out.now (text_of old.waiting ++ text) (text_of new.waiting) result };
+        × Gathers O.puts old.out.now new.out.now (piece_text old.waiting ++ text) (piece_text new.waiting) result };
 
     // Text for which there is no room is put out at once.
     #[inline(always)]
@@ -99,17 +99,17 @@ impl<O: TextOut> TextOut for Gathered<'_, O> {
         self.out.put(text)
     }
 
-    ghost nothing = { λ a. (refl, gathers_nothing O.puts a.out.now (text_of a.waiting) (O.nothing a.out.now)) };
+    ghost nothing = { λ a. (refl, gathers_nothing O.puts a.out.now (piece_text a.waiting) (O.nothing a.out.now)) };
 
     ghost joined = { λ a b c x y r p q. (
       q.0 ∙ p.0,
-      gathers_both O.puts O.joined a.out.now b.out.now c.out.now (text_of a.waiting) (text_of b.waiting)
-          (text_of c.waiting) x y r p.1 q.1,
+      gathers_both O.puts O.joined a.out.now b.out.now c.out.now (piece_text a.waiting) (piece_text b.waiting)
+          (piece_text c.waiting) x y r p.1 q.1,
     ) };
 
     ghost cut = { λ a b x y e p. (
       p.0,
-      gathers_more O.puts O.cut a.out.now b.out.now (text_of a.waiting) (text_of b.waiting) x y e p.1,
+      gathers_more O.puts O.cut a.out.now b.out.now (piece_text a.waiting) (piece_text b.waiting) x y e p.1,
     ) };
 }
 

@@ -2,7 +2,7 @@
 
 ghost use Rattle.std.specs.Prelude.{◌≡◌, ◌≤◌, List, IfSome, Some, false, slice_get};
 ghost use Rattle.gob_types.specs.declared.kind.Field.{Field};
-ghost use Rattle.gob_json.specs.Machine.Piece.{text_of};
+ghost use Rattle.gob_json.specs.Machine.Piece.{piece_text};
 ghost use Rattle.gob_json.specs.Machine.TextParts.{field_head};
 
 use super::between::put_field_head;
@@ -41,7 +41,7 @@ impl Heads {
     #[inline(always)]
     pub(crate) fn get(&self, number: u64) -> Option<&Piece<HEAD>>
         ensures { IfSome result (λ head. (types : List Field) (field : Field) → AreHeads types self.now
-            → slice_get types number ≡ Some field → text_of head.now ≡ field_head false number field.name) }
+            → slice_get types number ≡ Some field → piece_text head.now ≡ field_head false number field.name) }
     {
         if number >= self.count as u64 {
             return None;
@@ -53,7 +53,7 @@ impl Heads {
 // What stands before the value of the field of this number, where there is room for it.
 fn head_of(fields: &Fields, number: u64) -> Option<Piece<HEAD>>
     ensures { IfSome result (λ head. (field : Field) → slice_get fields.now number ≡ Some field
-        → text_of head ≡ field_head false number field.name) }
+        → piece_text head ≡ field_head false number field.name) }
 {
     let field = fields.get(number)?;
     let mut head = Piece::new();

@@ -29,12 +29,12 @@ pub(crate) struct Piece<const N: usize> {
 pub(crate) struct Full;
 
 impl<const N: usize> Piece<N> {
-    ghost use Rattle.gob_json.specs.Machine.Piece.{text_of};
+    ghost use Rattle.gob_json.specs.Machine.Piece.{piece_text};
 
     /// No text yet.
     #[inline(always)]
     pub(crate) fn new() -> Piece<N>
-        ensures { text_of result ≡ [] }
+        ensures { piece_text result ≡ [] }
     {
         Piece {
             bytes: [0; N],
@@ -45,7 +45,7 @@ impl<const N: usize> Piece<N> {
     /// The text.
     #[inline(always)]
     pub(crate) fn text(&self) -> &[u8]
-        ensures { result.now ≡ text_of self.now }
+        ensures { result.now ≡ piece_text self.now }
     {
         &self.bytes[..self.len]
     }
@@ -53,7 +53,7 @@ impl<const N: usize> Piece<N> {
     /// Takes the text away.
     #[inline(always)]
     pub(crate) fn clear(&mut self)
-        ensures empty { text_of self.new ≡ [] }
+        ensures empty { piece_text self.new ≡ [] }
         ensures room { self.new.len ≡ 0 }
     {
         self.len = 0;
@@ -62,8 +62,8 @@ impl<const N: usize> Piece<N> {
     /// Adds the text, if there is room for it. False says that nothing has changed.
     #[inline(always)]
     pub(crate) fn keep(&mut self, text: &[u8]) -> bool
-        ensures kept { IsTrue result → text_of self.new ≡ text_of self.old ++ text.now }
-        ensures full { result ≡ false → text_of self.new ≡ text_of self.old }
+        ensures kept { IsTrue result → piece_text self.new ≡ piece_text self.old ++ text.now }
+        ensures full { result ≡ false → piece_text self.new ≡ piece_text self.old }
     {
         if text.len() > N - self.len {
             return false;
@@ -85,13 +85,13 @@ impl<const N: usize> Piece<N> {
 }
 
 impl Piece<WAITING> {
-    ghost use Rattle.gob_json.specs.Machine.Piece.{text_of};
+    ghost use Rattle.gob_json.specs.Machine.Piece.{piece_text};
 
     /// Adds the number in decimal.
     #[inline(always)]
     pub(crate) fn add_natural(&mut self, number: u64)
         requires { self.old.len + 20 ≤ 256 }
-        ensures { text_of self.new ≡ text_of self.old ++ decimal number }
+        ensures { piece_text self.new ≡ piece_text self.old ++ decimal number }
     {
         self.len = natural_at(number, &mut self.bytes, self.len);
     }
@@ -100,7 +100,7 @@ impl Piece<WAITING> {
     #[inline(always)]
     pub(crate) fn add_integer(&mut self, number: i64)
         requires { self.old.len + 21 ≤ 256 }
-        ensures { text_of self.new ≡ text_of self.old ++ compact_text (integer_json number) }
+        ensures { piece_text self.new ≡ piece_text self.old ++ compact_text (integer_json number) }
     {
         self.len = integer_at(number, &mut self.bytes, self.len);
     }
@@ -109,7 +109,7 @@ impl Piece<WAITING> {
     #[inline(always)]
     pub(crate) fn add_pattern(&mut self, pattern: u64)
         requires { self.old.len + 18 ≤ 256 }
-        ensures { text_of self.new ≡ text_of self.old ++ compact_text (pattern_json pattern) }
+        ensures { piece_text self.new ≡ piece_text self.old ++ compact_text (pattern_json pattern) }
     {
         self.len = pattern_at(pattern, &mut self.bytes, self.len);
     }
@@ -118,8 +118,8 @@ impl Piece<WAITING> {
     #[inline(always)]
     pub(crate) fn add_text(&mut self, text: &[u8]) -> bool
         requires { self.old.len + length text.now + 2 ≤ 256 }
-        ensures added { IsTrue result → text_of self.new ≡ text_of self.old ++ compact_text (text_json text.now) }
-        ensures same { result ≡ false → text_of self.new ≡ text_of self.old }
+        ensures added { IsTrue result → piece_text self.new ≡ piece_text self.old ++ compact_text (text_json text.now) }
+        ensures same { result ≡ false → piece_text self.new ≡ piece_text self.old }
     {
         let begin = self.len + 1;
         self.bytes[self.len] = b'"';
@@ -137,7 +137,7 @@ impl Piece<WAITING> {
     #[inline(always)]
     pub(crate) fn add_head(&mut self, later: bool, head: &Piece<HEAD>)
         requires { self.old.len + 33 ≤ 256 }
-        ensures { text_of self.new ≡ text_of self.old ++ (comma_if later ++ text_of head.now) }
+        ensures { piece_text self.new ≡ piece_text self.old ++ (comma_if later ++ piece_text head.now) }
     {
         let at = comma_at(later, &mut self.bytes, self.len);
         self.bytes[at..at + HEAD].copy_from_slice(&head.bytes);
@@ -147,12 +147,12 @@ impl Piece<WAITING> {
 
 impl<const N: usize> TextOut for Piece<N> {
     ghost use Rattle.std.proofs.Common.{sym, append-nil};
-    ghost use Rattle.gob_json.specs.Machine.Piece.{text_of};
+    ghost use Rattle.gob_json.specs.Machine.Piece.{piece_text};
     ghost use Rattle.gob_json.specs.Machine.Appended.{appended_behind};
 
     type Fault = Full;
 
-    ghost puts = { λ old new text result. OnOk result (text_of new ≡ text_of old ++ text) };
+    ghost puts = { λ old new text result. OnOk result (piece_text new ≡ piece_text old ++ text) };
 
     #[inline(always)]
     fn put(&mut self, text: &[u8]) -> Result<(), Full> {
@@ -162,9 +162,9 @@ impl<const N: usize> TextOut for Piece<N> {
         Err(Full)
     }
 
-    ghost nothing = { λ a. sym (append-nil (text_of a)) };
+    ghost nothing = { λ a. sym (append-nil (piece_text a)) };
 
-    ghost joined = { λ a b c x y r. appended_behind (text_of a) (text_of b) (text_of c) x y r };
+    ghost joined = { λ a b c x y r. appended_behind (piece_text a) (piece_text b) (piece_text c) x y r };
 
     ghost cut = { λ a b x y e h. tt };
 }

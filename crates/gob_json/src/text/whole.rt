@@ -7,7 +7,7 @@ ghost use Rattle.gob_value.specs.Top.{SpellsTop};
 ghost use Rattle.gob_value.specs.Tree.{Tree, depth as DepthOf};
 ghost use Rattle.gob_json.specs.Json.{put_json};
 ghost use Rattle.gob_json.specs.TextWhole.{TextOfWhole, LineOfWhole, head_text};
-ghost use Rattle.gob_json.specs.Machine.Piece.{text_of};
+ghost use Rattle.gob_json.specs.Machine.Piece.{piece_text};
 ghost use Rattle.gob_json.specs.Machine.TextParts.{IsBehindTag};
 
 use super::gathered::{Gathered, PartOut};
@@ -170,7 +170,7 @@ fn send_gathered<S: Shapes, O: TextOut>(
     out: &mut Gathered<'_, O>,
 ) -> Result<(), O::Fault>
     requires depth { depth ≤ 1000 }
-    requires empty { text_of out.old.waiting ≡ [] }
+    requires empty { piece_text out.old.waiting ≡ [] }
     ensures { (v : Tree) → SpellsTop (S.table shapes.now) id v body.now → DepthOf v ≤ depth
         → (out.new.out.ghost_name ≡ out.old.out.ghost_name) × O.puts out.old.out.now out.new.out.now
         (compact_text (put_json (S.table shapes.now) id v) ++ 10 ∷ []) result }
