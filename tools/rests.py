@@ -1,7 +1,8 @@
 """What the verdict on a wrong body rests on, as far as the texts tell: more than it does, and seldom less.
 
 The prover knows what a function calls by its contract, a contract by the definitions that its file brings, and a lemma by the
-`use` lines of a proof. So a verdict doesn't rest on the bodies of other functions or on their proofs, nor on any comment.
+`use` lines of a proof. So a verdict doesn't rest on the bodies of other functions or on their proofs, nor on any comment, nor
+on how code is laid out.
 """
 import os
 import re
@@ -13,6 +14,7 @@ BROUGHT = re.compile(r"(?m)^\s*(?:pub |ghost )?use\s+Rattle\.([^\s{};]+?)(?:\.\{
 GHOST_USE = re.compile(r"(?m)^\s*ghost use .*$")
 NOTE = re.compile(r"(?m)^\s*--.*\n")
 COMMENT = re.compile(r"(?m)^[ \t]*//.*\n")
+LAYOUT = re.compile(rf"({LITERAL.pattern})|\s+", re.S)
 NAMED = re.compile(r"\b(?:fn|struct|enum|trait|const|static|type)\s+(\w+)")
 OWNER = re.compile(r"(?m)^(?:pub(?:\([^)]*\))? )?(?:impl|trait|struct|enum)\b[^{;]*")
 TYPE = re.compile(r"\b[A-Z]\w+")
@@ -56,7 +58,7 @@ class Code:
 
     def part(self, text):
         words = frozenset(WORD.findall(text))
-        return Part(text, words, modules_in(self.ghost, words))
+        return Part(LAYOUT.sub(lambda it: it[1] or " ", text), words, modules_in(self.ghost, words))
 
     def functions(self, name):
         """Returns the functions of this name with their bodies, and the names that folders of their proofs have."""
