@@ -8,7 +8,8 @@ ghost use Rattle.serde_json.specs.Data.{array};
 ghost use Rattle.serde_json.specs.Written.{outline, members_outline};
 ghost use Rattle.gob_json.specs.Json.{pair_json, text_json, id_json};
 ghost use Rattle.gob_json.specs.WritesJson.{WritesJson, WritesTokens};
-ghost use Rattle.gob_json.specs.DefinitionJson.{field_types_json, marshal_name, name_member, shape_members, definition_json};
+ghost use Rattle.gob_json.specs.DefinitionJson.{field_types_json, marshal_name, name_member, shape_members};
+ghost use Rattle.gob_json.specs.DefinitionJson.{definition_json};
 
 use crate::leaf::write_text;
 use gob_types::{Field, Kind, Marshal, Shape, TypeId};

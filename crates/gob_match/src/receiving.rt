@@ -7,7 +7,8 @@ ghost use Rattle.gob_value.specs.Written.{HasParts};
 ghost use Rattle.gob_match.specs.Calls.Matched.{IsSound, stream_of, stream_type, wanted_types_of, wanted_type};
 ghost use Rattle.gob_match.specs.Received.{Receives, IsPresent, IsAbsent};
 ghost use Rattle.gob_match.specs.Machine.Receiving.{CanReceive, CanReceiveEach, CanReceivePairs, CanReceiveFields};
-ghost use Rattle.gob_match.specs.Machine.Receiving.{GivesTree, GivesEach, GivesPairs, GivesCommonFields, HasConversion, IsPairOf};
+ghost use Rattle.gob_match.specs.Machine.Receiving.{GivesTree, GivesEach, GivesPairs, GivesCommonFields};
+ghost use Rattle.gob_match.specs.Machine.Receiving.{HasConversion, IsPairOf};
 ghost use Rattle.gob_match.specs.Machine.Receiving.{HaveRisingNumbers};
 
 use crate::common::CommonField;

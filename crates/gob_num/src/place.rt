@@ -1,6 +1,7 @@
 //! Numbers that stand whole at a place of bytes: the fastest way to read what is there already.
 ghost use Rattle.std.specs.Prelude.{◌≡◌, ◌+◌, ◌-◌, ◌<◌, ◌≤◌, ℕ, [], ◌∷◌, IfSome, IsTrue, length};
-ghost use Rattle.gob_num.specs.Place.{IsUnsignedAt, IsOnlyNumberAt, AreUnsignedAt, NumberStandsAt, NoNumberStandsAt, PassesNumbers, CountsDigits};
+ghost use Rattle.gob_num.specs.Place.{IsUnsignedAt, IsOnlyNumberAt, AreUnsignedAt, NumberStandsAt};
+ghost use Rattle.gob_num.specs.Place.{NoNumberStandsAt, PassesNumbers, CountsDigits};
 ghost use Rattle.gob_num.specs.Taken.{TakesUnsigned};
 ghost use Rattle.gob_num.specs.Unsigned.{IsNotMinimal};
 

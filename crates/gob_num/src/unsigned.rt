@@ -87,7 +87,8 @@ pub(crate) fn take_digits(head: u8, digits: &[u8; 8]) -> Taken
 #[inline(always)]
 pub(crate) fn known_digits(head: u8, digits: &[u8; 8]) -> (u64, usize)
     requires { LEAST_HEAD ≤ head }
-    ensures taken { ¬ IsNotMinimal (head ∷ digits.now) → TakesUnsigned (head ∷ digits.now) (Taken.Whole result.0 result.1) }
+    ensures taken { ¬ IsNotMinimal (head ∷ digits.now)
+        → TakesUnsigned (head ∷ digits.now) (Taken.Whole result.0 result.1) }
     ensures few { (0 < result.1) × (result.1 ≤ 9) }
 {
     let count = digits_after(head);

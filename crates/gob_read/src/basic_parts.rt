@@ -80,8 +80,10 @@ impl<B: Builder> Run<B> {
         id: TypeId,
         rest: &[u8],
     ) -> Result<Advance, Memory>
-        requires { IsBefore (S.table shapes.now) B.building.received self.old (Next.Number (NextNumber.Part id)) rest.now }
-        ensures { IfOk result (λ taken. TakesBasicParts (S.table shapes.now) B.building.received self.old self.new rest.now taken) }
+        requires { IsBefore (S.table shapes.now) B.building.received self.old
+            (Next.Number (NextNumber.Part id)) rest.now }
+        ensures { IfOk result (λ taken.
+            TakesBasicParts (S.table shapes.now) B.building.received self.old self.new rest.now taken) }
     {
         if self.start != self.taken {
             return Ok(Advance::NONE);
@@ -105,10 +107,12 @@ impl<B: Builder> Run<B> {
         first: Entered,
         rest: &[u8],
     ) -> Result<Advance, Memory>
-        requires before { IsBefore (S.table shapes.now) B.building.received self.old (Next.Number (NextNumber.Part first.part)) rest.now }
+        requires before { IsBefore (S.table shapes.now) B.building.received self.old
+            (Next.Number (NextNumber.Part first.part)) rest.now }
         requires inside { IsInFields of first.next self.old.state.stack }
         requires fresh { self.old.start ≡ self.old.taken }
-        ensures { IfOk result (λ taken. TakesBasicParts (S.table shapes.now) B.building.received self.old self.new rest.now taken) }
+        ensures { IfOk result (λ taken.
+            TakesBasicParts (S.table shapes.now) B.building.received self.old self.new rest.now taken) }
     {
         let Some(fields) = fields_of(shapes, of) else {
             return Ok(Advance::NONE);
@@ -159,10 +163,12 @@ impl<B: Builder> Run<B> {
         left: u64,
         rest: &[u8],
     ) -> Result<Advance, Memory>
-        requires before { IsBefore (S.table shapes.now) B.building.received self.old (Next.Number (NextNumber.Part elem)) rest.now }
+        requires before { IsBefore (S.table shapes.now) B.building.received self.old
+            (Next.Number (NextNumber.Part elem)) rest.now }
         requires inside { IsInList elem left self.old.state.stack }
         requires fresh { self.old.start ≡ self.old.taken }
-        ensures { IfOk result (λ taken. TakesBasicParts (S.table shapes.now) B.building.received self.old self.new rest.now taken) }
+        ensures { IfOk result (λ taken.
+            TakesBasicParts (S.table shapes.now) B.building.received self.old self.new rest.now taken) }
     {
         let Some(basic) = basic_of(shapes, elem) else {
             return Ok(Advance::NONE);
@@ -194,7 +200,8 @@ impl<B: Builder> Run<B> {
         next: Frame,
         rest: &[u8],
     ) -> Result<usize, Memory>
-        requires before { IsBefore (S.table _shapes.now) B.building.received self.old (Next.Number (NextNumber.Part id)) rest.now }
+        requires before { IsBefore (S.table _shapes.now) B.building.received self.old
+            (Next.Number (NextNumber.Part id)) rest.now }
         requires kind_ { HasKind (S.table _shapes.now) id (kind.Basic basic) }
         requires inside { IsFollowedBy next self.old.state.stack }
         requires fresh { self.old.start ≡ self.old.taken }
@@ -224,12 +231,14 @@ impl<B: Builder> Run<B> {
         next: u64,
         n: u8,
     ) -> Result<Option<Entered>, Memory>
-        requires before { IsBefore (S.table _shapes.now) B.building.received self.old (Next.Number NextNumber.Delta) (n ∷ []) }
+        requires before { IsBefore (S.table _shapes.now) B.building.received self.old
+            (Next.Number NextNumber.Delta) (n ∷ []) }
         requires inside { IsInFields of next self.old.state.stack }
         requires struct_ { HasKind (S.table _shapes.now) of (kind.Struct fields.now) }
         requires fresh { self.old.start ≡ self.old.taken }
         requires no_end { 0 < n }
-        ensures { IfOk result (λ entered. TakesFieldDelta (S.table _shapes.now) B.building.received self.old self.new n of entered) }
+        ensures { IfOk result (λ entered.
+            TakesFieldDelta (S.table _shapes.now) B.building.received self.old self.new n of entered) }
     {
         let number = next.saturating_add(u64::from(n) - 1);
         if n > 127 {
@@ -252,7 +261,8 @@ impl<B: Builder> Run<B> {
     fn take_end(&mut self) -> Result<Moved, Memory>
         requires before { IsBeforeIn B.building.received self.old (Next.Number NextNumber.Delta) (0 ∷ []) }
         requires fresh { self.old.start ≡ self.old.taken }
-        ensures { IfOk result (λ moved. (T : Table) → TakesBytes T B.building.received self.old self.new (0 ∷ []) moved) }
+        ensures { IfOk result (λ moved.
+            (T : Table) → TakesBytes T B.building.received self.old self.new (0 ∷ []) moved) }
     {
         let moved = self.state.end_fields()?;
         self.taken += 1;

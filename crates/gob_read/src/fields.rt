@@ -4,7 +4,8 @@ ghost use Rattle.std.specs.Prelude.{◌≡◌, ◌+◌, ◌^◌, ◌<◌, ◌≤
 ghost use Rattle.gob_read.specs.Event as event;
 ghost use Rattle.gob_read.specs.Building.{MayTakeEvent};
 ghost use Rattle.gob_read.specs.Machine.BasicParts.{NamesField, CanEndFields, EndsFields};
-ghost use Rattle.gob_read.specs.Machine.Steps.{CanBeginStruct, BeginsStruct, CanGoOn, StepGoesOn, LeadsNowhere, CanTake, StepTakes};
+ghost use Rattle.gob_read.specs.Machine.Steps.{CanBeginStruct, BeginsStruct, CanGoOn, StepGoesOn, LeadsNowhere};
+ghost use Rattle.gob_read.specs.Machine.Steps.{CanTake, StepTakes};
 ghost use Rattle.gob_read.specs.Machine.Steps.{StepRefuses, TakesOrBlames};
 
 use crate::builder::Builder;
@@ -25,7 +26,8 @@ impl<B: Builder> State<B> {
         n: u64,
     ) -> Result<Moved, Denial>
         requires { CanBeginStruct B.building.received self.old id fields.now n }
-        ensures { TakesOrBlames (BeginsStruct B.building.received self.old self.new id fields.now n) (LeadsNowhere fields.now 0 n) result }
+        ensures { TakesOrBlames (BeginsStruct B.building.received self.old self.new id fields.now n)
+            (LeadsNowhere fields.now 0 n) result }
     {
         self.builder.enter(GroupKind::Fields)?;
         self.stack.open(Frame::Fields { id, next: 0 })?;

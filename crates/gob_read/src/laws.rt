@@ -16,7 +16,8 @@ ghost use Rattle.gob_read.specs.Held.{ViableArePartial, HoldOnce, HoldAtMostThei
 ghost use Rattle.gob_read.specs.declared.check_builder.Counts.{Counts};
 ghost use Rattle.gob_read.specs.Weight.{weight};
 ghost use Rattle.gob_read.specs.Counts.{AreCountsOf};
-ghost use Rattle.gob_read.specs.BuilderLaws.{EventsHaveOneValue, EventsAreWellFormed, HaveWellFormedFronts, EventsHaveTheWeight};
+ghost use Rattle.gob_read.specs.BuilderLaws.{EventsHaveOneValue, EventsAreWellFormed, HaveWellFormedFronts};
+ghost use Rattle.gob_read.specs.BuilderLaws.{EventsHaveTheWeight};
 ghost use Rattle.gob_read.specs.BuilderLaws.{WeighAtMostTheirLength};
 ghost use Rattle.gob_read.specs.Calls.ReaderLaws.{StaysRead, StaysUsable};
 

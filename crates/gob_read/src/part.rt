@@ -3,7 +3,8 @@
 ghost use Rattle.std.specs.Prelude.{◌≡◌, ◌<◌, ◌≤◌, IfOk, length};
 ghost use Rattle.gob_types.specs.declared.kind.Kind.TheVariants as kind;
 ghost use Rattle.gob_read.specs.Machine.Kinds.{IsScalar, IsRawKind, IsList, IsGroup};
-ghost use Rattle.gob_read.specs.Machine.Steps.{CanBegin, StepBegins, CanTakeFirst, TakesFirst, RefusesFirst, IsNoFirst, TakesOrBlames};
+ghost use Rattle.gob_read.specs.Machine.Steps.{CanBegin, StepBegins, CanTakeFirst, TakesFirst, RefusesFirst};
+ghost use Rattle.gob_read.specs.Machine.Steps.{IsNoFirst, TakesOrBlames};
 
 use crate::builder::Builder;
 use crate::event::{GroupKind, RawKind};
@@ -90,7 +91,8 @@ impl<B: Builder> State<B> {
     #[inline(always)]
     fn take_scalar(&mut self, basic: Basic, n: u64, told: u64) -> Result<Moved, Memory>
         requires { CanBegin B.building.received self.old (λ k. IsScalar k n basic told) n }
-        ensures { IfOk result (λ moved. StepBegins B.building.received self.old self.new (λ k. IsScalar k n basic told) n moved) }
+        ensures { IfOk result (λ moved.
+            StepBegins B.building.received self.old self.new (λ k. IsScalar k n basic told) n moved) }
     {
         self.builder.number(basic, told, 0)?;
         self.after_part()
@@ -100,7 +102,8 @@ impl<B: Builder> State<B> {
     #[inline(always)]
     fn take_byte_count(&mut self, kind: RawKind, n: u64) -> Result<Moved, Memory>
         requires { CanBegin B.building.received self.old (λ k. IsRawKind k kind) n }
-        ensures { IfOk result (λ moved. StepBegins B.building.received self.old self.new (λ k. IsRawKind k kind) n moved) }
+        ensures { IfOk result (λ moved.
+            StepBegins B.building.received self.old self.new (λ k. IsRawKind k kind) n moved) }
     {
         self.builder.raw_start(kind)?;
         if n == 0 {
@@ -115,7 +118,8 @@ impl<B: Builder> State<B> {
     #[inline(always)]
     fn take_element_count(&mut self, elem: TypeId, n: u64) -> Result<Moved, Memory>
         requires { CanBegin B.building.received self.old (λ k. IsList k n elem) n }
-        ensures { IfOk result (λ moved. StepBegins B.building.received self.old self.new (λ k. IsList k n elem) n moved) }
+        ensures { IfOk result (λ moved.
+            StepBegins B.building.received self.old self.new (λ k. IsList k n elem) n moved) }
     {
         let first = Frame::Many {
             elem,
@@ -128,7 +132,8 @@ impl<B: Builder> State<B> {
     #[inline(always)]
     fn take_count(&mut self, group: GroupKind, first: Frame, n: u64) -> Result<Moved, Memory>
         requires { CanBegin B.building.received self.old (λ k. IsGroup k n group first) n }
-        ensures { IfOk result (λ moved. StepBegins B.building.received self.old self.new (λ k. IsGroup k n group first) n moved) }
+        ensures { IfOk result (λ moved.
+            StepBegins B.building.received self.old self.new (λ k. IsGroup k n group first) n moved) }
     {
         self.builder.enter(group)?;
         if n == 0 {

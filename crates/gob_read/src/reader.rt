@@ -4,7 +4,8 @@ ghost use Rattle.std.specs.Prelude.{◌≡◌, ℕ, [], IfOk, IfErr, OnErr, Err,
 ghost use Rattle.gob_types.specs.declared.id.TypeId.{TypeId};
 ghost use Rattle.gob_types.specs.Table.{Table};
 ghost use Rattle.gob_types.specs.Ready.{IsReady};
-ghost use Rattle.gob_read.specs.Calls.UnderWay.{HasReadBody, HasEnded, FitsTable, PushGives, PushStops, PushStopsHonestly};
+ghost use Rattle.gob_read.specs.Calls.UnderWay.{HasReadBody, HasEnded, FitsTable, PushGives, PushStops};
+ghost use Rattle.gob_read.specs.Calls.UnderWay.{PushStopsHonestly};
 ghost use Rattle.gob_read.specs.Held.{IsHeld};
 
 use crate::builder::Builder;

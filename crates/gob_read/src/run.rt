@@ -5,8 +5,10 @@ ghost use Rattle.gob_types.specs.declared.id.TypeId.{TypeId};
 ghost use Rattle.gob_types.specs.Table.{Table};
 ghost use Rattle.gob_types.specs.Ready.{IsReady};
 ghost use Rattle.gob_read.specs.Machine.Steps.{CanTake};
-ghost use Rattle.gob_read.specs.Machine.Running.{IsNewRun, IsReachedSomewhere, IsBefore, IsBeforeIn, TakesSome, depth_of, begun_parts};
-ghost use Rattle.gob_read.specs.Machine.Running.{BytesAnswers, RestAnswers, NumberAnswers, JudgeAnswers, EndAnswers, PieceAnswers};
+ghost use Rattle.gob_read.specs.Machine.Running.{IsNewRun, IsReachedSomewhere, IsBefore, IsBeforeIn, TakesSome};
+ghost use Rattle.gob_read.specs.Machine.Running.{depth_of, begun_parts};
+ghost use Rattle.gob_read.specs.Machine.Running.{BytesAnswers, RestAnswers, NumberAnswers, JudgeAnswers};
+ghost use Rattle.gob_read.specs.Machine.Running.{EndAnswers, PieceAnswers};
 ghost use Rattle.gob_read.specs.Calls.Reader.{HasReadSoFar};
 ghost use Rattle.gob_read.specs.Held.{IsHeld, counted_of};
 
@@ -251,7 +253,8 @@ impl<B: Builder> Run<B> {
         rest: &[u8],
         cut: &mut bool,
     ) -> Result<Advance, Stop>
-        requires { IsBefore (S.table shapes.now) B.building.received self.old (Next.Number (NextNumber.Part id)) rest.now }
+        requires { IsBefore (S.table shapes.now) B.building.received self.old
+            (Next.Number (NextNumber.Part id)) rest.now }
         ensures { RestAnswers (S.table shapes.now) B.building.received self.old self.new rest.now result }
     {
         let skipped = self.skip_parts(shapes, id, rest, cut);
@@ -335,7 +338,8 @@ impl<B: Builder> Run<B> {
     /// Takes as many of the expected raw bytes as there are.
     fn take_raw_bytes(&mut self, left: u64, rest: &[u8]) -> Result<Advance, Memory>
         requires { IsBeforeIn B.building.received self.old (Next.Raw left) rest.now }
-        ensures { IfOk result (λ taken. (T : Table) → TakesSome T B.building.received self.old self.new rest.now taken) }
+        ensures { IfOk result (λ taken.
+            (T : Table) → TakesSome T B.building.received self.old self.new rest.now taken) }
     {
         let used = left.min(rest.len() as u64) as usize;
         let moved = self.state.take_raw_bytes(left, &rest[..used])?;

@@ -15,8 +15,8 @@ use gob_value::{whole_elements, whole_entries};
 impl<B: Builder> Run<B> {
     /// Goes at once over the parts of the innermost open list or map that stand whole in the piece, where the builder
     /// needn't be told, if the expected one is the next of them and no byte of it was taken before. Where there are
-    /// none, nothing is done. Where one of them doesn't stand whole it says so, `cut`: then the piece isn't tried again,
-    /// so that each byte of it is looked at twice at most.
+    /// none, nothing is done. Where one of them doesn't stand whole it says so, `cut`: then the piece isn't tried
+    /// again, so that each byte of it is looked at twice at most.
     #[inline(always)]
     pub(crate) fn skip_parts<S: Shapes>(
         &mut self,
@@ -25,7 +25,8 @@ impl<B: Builder> Run<B> {
         rest: &[u8],
         cut: &mut bool,
     ) -> Advance
-        requires { IsBefore (S.table shapes.now) B.building.received self.old (Next.Number (NextNumber.Part id)) rest.now }
+        requires { IsBefore (S.table shapes.now) B.building.received self.old
+            (Next.Number (NextNumber.Part id)) rest.now }
         ensures { TakesBasicParts (S.table shapes.now) B.building.received self.old self.new rest.now result }
     {
         if *cut || self.start != self.taken || !self.state.builder.may_skip() {
@@ -50,7 +51,8 @@ impl<B: Builder> Run<B> {
         rest: &[u8],
         cut: &mut bool,
     ) -> Advance
-        requires before { IsBefore (S.table shapes.now) B.building.received self.old (Next.Number (NextNumber.Part elem)) rest.now }
+        requires before { IsBefore (S.table shapes.now) B.building.received self.old
+            (Next.Number (NextNumber.Part elem)) rest.now }
         requires inside { IsInList elem left self.old.state.stack }
         requires untold { (us : List Event) → B.building.received self.old.state.builder us }
         requires fresh { self.old.start ≡ self.old.taken }
@@ -85,7 +87,8 @@ impl<B: Builder> Run<B> {
         rest: &[u8],
         cut: &mut bool,
     ) -> Advance
-        requires before { IsBefore (S.table shapes.now) B.building.received self.old (Next.Number (NextNumber.Part key)) rest.now }
+        requires before { IsBefore (S.table shapes.now) B.building.received self.old
+            (Next.Number (NextNumber.Part key)) rest.now }
         requires inside { IsInMap key elem left self.old.state.stack }
         requires untold { (us : List Event) → B.building.received self.old.state.builder us }
         requires fresh { self.old.start ≡ self.old.taken }

@@ -1,7 +1,8 @@
 //! A reader between two items.
 
 ghost use Rattle.std.specs.Prelude.{◌≡◌, ◌-◌, ◌<◌, ◌≤◌, ◌↔◌, IfOk, IsTrue, length};
-ghost use Rattle.gob_read.specs.Machine.Steps.{CanEnd, StepEnds, CanTake, StepTakes, StepRefuses, CanTakeRaw, TakesRaw, TakesOrBlames};
+ghost use Rattle.gob_read.specs.Machine.Steps.{CanEnd, StepEnds, CanTake, StepTakes, StepRefuses, CanTakeRaw};
+ghost use Rattle.gob_read.specs.Machine.Steps.{TakesRaw, TakesOrBlames};
 ghost use Rattle.gob_read.specs.Machine.Steps.{CanTakeTag, IsWrongTag, CanTakeImaginary, TakesHere};
 ghost use Rattle.gob_read.specs.Machine.Kinds.{BeginsAs};
 

@@ -13,8 +13,8 @@ use std::alloc::Global;
 use std::test::*;
 
 // What, its type, the body, and what is held after each of its bytes by a builder of trees and by one that counts: each
-// part from its first byte on, the tag being in none, and by trees each raw byte. With the last byte the reader ends: it
-// has the value, or refuses the body.
+// part from its first byte on, the tag being in none, and by trees each raw byte. With the last byte the reader ends:
+// it has the value, or refuses the body.
 const ROWS: &str = "
 a complex number | 7 | 00 fe 31 40 fe f0 3f | 0 1 1 1 1 1 0 | 0 1 1 1 1 1 0
 a text | 6 | 00 05 68 65 6c 6c 6f | 0 1 2 3 4 5 0 | 0 1 1 1 1 1 0

@@ -54,8 +54,10 @@ impl<B: Builder> ValueStage<B> {
     ) -> Result<Stepped<B>, Fault>
         requires { IsBodyUnderWay (types table.now) self.id self.rest B.building.received self.reader }
         ensures { (limit : ℕ) (z : List ℕ)
-            → ReaderHasRead (types table.now) self.id limit (size self.rest) B.building.received (under_way self.reader) z
-            → ReadsValueIn B.building.received B.building.means (types table.now) self.id limit self.rest z piece.now result }
+            → ReaderHasRead (types table.now) self.id limit (size self.rest) B.building.received
+            (under_way self.reader) z
+            → ReadsValueIn B.building.received B.building.means (types table.now) self.id limit
+            self.rest z piece.now result }
     {
         let ValueStage {
             id,

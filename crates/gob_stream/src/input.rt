@@ -63,7 +63,8 @@ impl<R: Read> Read for Input<R> {
 
     fn read(&mut self, buf: &mut [u8]) -> io::Result<usize>
         ensures bound { ReadsAtMost result buf.new }
-        ensures bytes { ReadConsumes (R.remaining (reader_of self.old)) (R.remaining (reader_of self.new)) result buf.new }
+        ensures bytes { ReadConsumes (R.remaining (reader_of self.old)) (R.remaining (reader_of self.new))
+            result buf.new }
         ensures counted { ReadCounted (bytes_read self.old) (failed_reads self.old) (bytes_read self.new)
             (failed_reads self.new) result }
     {

@@ -87,7 +87,8 @@ pub(crate) fn spell_head(
     id: TypeId,
     head: &mut Vec<u8>,
 ) -> Result<(), Denial>
-    ensures ok { OnOk result ((L : Bounds) (v : Tree) (spelling : List ℕ) → IsSpelledAs L (types table.now) id spelling v
+    ensures ok { OnOk result ((L : Bounds) (v : Tree) (spelling : List ℕ)
+        → IsSpelledAs L (types table.now) id spelling v
         → Body base_table L (types table.now) (puts id v) (head.new.items ++ spelling) (types table.now)) }
     ensures err { IfErr result (IsDenial (RefusesType (types table.now) id)) }
 {

@@ -57,8 +57,10 @@ impl<W: Write> Output<W> {
     /// Sends all the bytes, in as many writes as the writer wants. It stops at the first write that fails, with
     /// `Write`; a front of the bytes is then out. A write that was interrupted is one that failed.
     pub fn send_all(&mut self, bytes: &[u8]) -> Result<(), WriteFault>
-        ensures ok { OnOk result (Appends (W.contents (writer_of self.old)) (W.contents (writer_of self.new)) bytes.now) }
-        ensures front { OnErr result (SentFront bytes.now (W.contents (writer_of self.old)) (W.contents (writer_of self.new))) }
+        ensures ok { OnOk result
+            (Appends (W.contents (writer_of self.old)) (W.contents (writer_of self.new)) bytes.now) }
+        ensures front { OnErr result
+            (SentFront bytes.now (W.contents (writer_of self.old)) (W.contents (writer_of self.new))) }
         ensures fault { IfErr result (λ fault. fault ≡ WriteFault.Write) }
         ensures counted { CountsWriterFaults (failed_writes self.old) (failed_writes self.new) result }
     {
@@ -78,7 +80,8 @@ impl<W: Write> Write for Output<W> {
 
     fn write(&mut self, buf: &[u8]) -> io::Result<usize>
         ensures bound { WritesAtMost result buf.now }
-        ensures bytes { WriteAppends (W.contents (writer_of self.old)) (W.contents (writer_of self.new)) result buf.now }
+        ensures bytes { WriteAppends (W.contents (writer_of self.old)) (W.contents (writer_of self.new))
+            result buf.now }
         ensures counted { WriteCounted (failed_writes self.old) (failed_writes self.new) result buf.now }
     {
         let result = self.writer.write(buf);

@@ -6,7 +6,8 @@ ghost use Rattle.gob_num.specs.Signed.{IsSigned};
 ghost use Rattle.gob_types.specs.Defined.{types};
 ghost use Rattle.gob_stream.specs.Body.{MayPut};
 ghost use Rattle.gob_stream.specs.Calls.Session.{IsBetweenItems, table_of, taken_of, limits_of};
-ghost use Rattle.gob_stream.specs.Calls.Session.{HasBodyNext, HasBegunNext, HasItemNext, HasItemsNext, ReadsOn, ReadsAll};
+ghost use Rattle.gob_stream.specs.Calls.Session.{HasBodyNext, HasBegunNext, HasItemNext, HasItemsNext, ReadsOn};
+ghost use Rattle.gob_stream.specs.Calls.Session.{ReadsAll};
 ghost use Rattle.gob_stream.specs.Whole.{HasCount, NamesTypeAt};
 
 use crate::session::Session;

@@ -7,7 +7,8 @@ ghost use Rattle.gob_value.specs.Tree.{Tree};
 ghost use Rattle.gob_value.specs.Written.{Written, next_number};
 ghost use Rattle.gob_tape.specs.Meaning.{MeansAt};
 ghost use Rattle.gob_tape.specs.declared.node.Node.{Node};
-ghost use Rattle.gob_tape.specs.Machine.Writing.{IsNumberHead, IsHeadOf, Rest, IsInsideStruct, WritingGoes, WritingEnded, Named};
+ghost use Rattle.gob_tape.specs.Machine.Writing.{IsNumberHead, IsHeadOf, Rest, IsInsideStruct, WritingGoes};
+ghost use Rattle.gob_tape.specs.Machine.Writing.{WritingEnded, Named};
 ghost use Rattle.gob_tape.specs.Machine.Writing.{HasEnd, entered_struct};
 ghost use Rattle.gob_tape.specs.declared.spelling.Struct.{Struct};
 

@@ -34,7 +34,8 @@ impl From<Unwritten> for ToolFault {
 
 // Writes the bytes, all of them.
 fn write_out<W: Write>(bytes: &[u8], output: &mut Output<W>) -> Result<(), Unwritten>
-    ensures written { Writes (W.contents (writer_of output.old)) (W.contents (writer_of output.new)) bytes.now (tool_result result) }
+    ensures written { Writes (W.contents (writer_of output.old)) (W.contents (writer_of output.new))
+        bytes.now (tool_result result) }
     ensures counted { CountsWrites (failed_writes output.old) (failed_writes output.new) (tool_result result) }
 {
     match write_whole(bytes, output) {
@@ -68,7 +69,8 @@ impl<W: Write> Blocks<'_, W> {
         ensures sent { (w : IsWhole (S.table shapes.now) id depth body.now)
             → Writes (W.contents (writer_of self.old.output.now)) (W.contents (writer_of self.new.output.now))
             (line (S.table shapes.now) (puts id w.value)) (tool_result result) }
-        ensures counted { CountsWrites (failed_writes self.old.output.now) (failed_writes self.new.output.now) (tool_result result) }
+        ensures counted { CountsWrites (failed_writes self.old.output.now)
+            (failed_writes self.new.output.now) (tool_result result) }
     {
         send_line(shapes, id, body, depth, self)?;
         self.flush()
@@ -77,10 +79,12 @@ impl<W: Write> Blocks<'_, W> {
     // Writes what waits.
     fn flush(&mut self) -> Result<(), Unwritten>
         ensures same_output { self.new.output.ghost_name ≡ self.old.output.ghost_name }
-        ensures written { Writes (W.contents (writer_of self.old.output.now)) (W.contents (writer_of self.new.output.now))
+        ensures written { Writes
+            (W.contents (writer_of self.old.output.now)) (W.contents (writer_of self.new.output.now))
             (waiting self.old.block) (tool_result result) }
         ensures empty { OnOk result (waiting self.new.block ≡ []) }
-        ensures counted { CountsWrites (failed_writes self.old.output.now) (failed_writes self.new.output.now) (tool_result result) }
+        ensures counted { CountsWrites (failed_writes self.old.output.now)
+            (failed_writes self.new.output.now) (tool_result result) }
     {
         write_out(self.block.bytes(), self.output)?;
         self.block.clear();
@@ -119,8 +123,10 @@ impl<W: Write> TextOut for Blocks<'_, W> {
     ghost joined = { λ a b c x y r p q. (
       q.0 ∙ p.0,
       passes_both (W.contents (writer_of a.output.now)) (W.contents (writer_of b.output.now))
-          (W.contents (writer_of c.output.now)) (waiting a.block) (waiting b.block) (waiting c.block) x y (tool_result r) p.1 q.1,
-      counts_both (failed_writes a.output.now) (failed_writes b.output.now) (failed_writes c.output.now) (tool_result r) p.2 q.2,
+          (W.contents (writer_of c.output.now)) (waiting a.block) (waiting b.block) (waiting c.block) x y
+          (tool_result r) p.1 q.1,
+      counts_both (failed_writes a.output.now) (failed_writes b.output.now) (failed_writes c.output.now)
+          (tool_result r) p.2 q.2,
     ) };
 
     ghost cut = { λ a b x y e p. (

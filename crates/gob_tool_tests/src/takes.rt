@@ -54,8 +54,8 @@ pub(crate) fn is_taken<Q: Read + Drop, R: Read + Drop>(
     ends_so(alloc, &result, due) && held.as_slice() == lines
 }
 
-// What is received, the wanted stream, the input, the lines with ` / ` between them, and the line of the fault. A stream
-// stands as its bytes, or by its name here. Empty parts at the end of a row are left out.
+// What is received, the wanted stream, the input, the lines with ` / ` between them, and the line of the fault. A
+// stream stands as its bytes, or by its name here. Empty parts at the end of a row are left out.
 const ROWS: &str = "
 B of A and B | B_AND_C | A_AND_B | {\"type\":65,\"value\":[[0,\"B\",2]]}
 no input | B_AND_C

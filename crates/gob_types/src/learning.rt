@@ -152,7 +152,8 @@ fn next_awaited(
 ) -> Result<Option<TypeId>, Memory>
     ensures redirected { OnOk result (Redirects waits.old.awaited waits.new.awaited id) }
     ensures led { (T : Table) → AreLed T waits.old → OnOk result (AreLed T waits.new) }
-    ensures apart { IfOk result (λ found. IfSome found (λ at. (¬ Contains ready.now at) × ¬ WaitsFor waits.new.awaited at id)) }
+    ensures apart { IfOk result (λ found.
+        IfSome found (λ at. (¬ Contains ready.now at) × ¬ WaitsFor waits.new.awaited at id)) }
     ensures reached { (T : Table) → AreLed T waits.old → IfOk result (λ found. IfSome found (λ at. Reaches T id at)) }
 {
     for _ in 0..u64::MAX {

@@ -1,5 +1,6 @@
 //! Sets of type ids.
-ghost use Rattle.std.specs.Prelude.{◌≡◌, ◌^◌, ◌<◌, ◌↔◌, [], IsTrue, IfOk, IfSome, OnOk, OnErr, Contains, length, take, ◌++◌, ◌∷◌, ◌⊎◌, MatchOption};
+ghost use Rattle.std.specs.Prelude.{◌≡◌, ◌^◌, ◌<◌, ◌↔◌, [], IsTrue, IfOk, IfSome, OnOk, OnErr, Contains};
+ghost use Rattle.std.specs.Prelude.{length, take, ◌++◌, ◌∷◌, ◌⊎◌, MatchOption};
 ghost use Rattle.gob_types.specs.declared.id.TypeId.{TypeId};
 ghost use Rattle.gob_types.specs.Machine.Walk.{AddsAll, AddsOne, AreAmong, Grows};
 

@@ -9,7 +9,8 @@ ghost use Rattle.gob_types.specs.declared.id.TypeId.{TypeId};
 ghost use Rattle.gob_types.specs.Machine.Entered.{same_id};
 ghost use Rattle.gob_types.specs.Table.{Table};
 ghost use Rattle.gob_types.specs.Ready.{Reaches};
-ghost use Rattle.gob_types.specs.Machine.Kept.{IsIn, KeepsSets, IsSet, Waiting, WaitsFor, AreLed, Redirects, AddsWaiting};
+ghost use Rattle.gob_types.specs.Machine.Kept.{IsIn, KeepsSets, IsSet, Waiting, WaitsFor, AreLed, Redirects};
+ghost use Rattle.gob_types.specs.Machine.Kept.{AddsWaiting};
 
 use crate::id::TypeId;
 use crate::sets::Sets;
@@ -119,7 +120,8 @@ impl Waits {
     /// It is asked from both sides in turn, with twice as many steps each time: so it takes about the fewer of the
     /// types on the way from the one, and of those that wait for the other.
     pub(crate) fn leads_to(&self, alloc: Global, from: TypeId, id: TypeId) -> Result<bool, Memory>
-        ensures { IfOk result (λ yes. MatchBool yes (WaitsFor self.now.awaited from id) (¬ WaitsFor self.now.awaited from id)) }
+        ensures { IfOk result (λ yes.
+            MatchBool yes (WaitsFor self.now.awaited from id) (¬ WaitsFor self.now.awaited from id)) }
     {
         let mut steps = FEWEST_STEPS;
         for _ in 0..usize::BITS {
@@ -137,7 +139,8 @@ impl Waits {
 
     // The same, where so many steps from the one type tell it.
     fn ahead(&self, from: TypeId, id: TypeId, steps: usize) -> Option<bool>
-        ensures { IfSome result (λ yes. MatchBool yes (WaitsFor self.now.awaited from id) (¬ WaitsFor self.now.awaited from id)) }
+        ensures { IfSome result (λ yes.
+            MatchBool yes (WaitsFor self.now.awaited from id) (¬ WaitsFor self.now.awaited from id)) }
     {
         let mut at = from;
         for _ in 0..steps {
@@ -160,7 +163,8 @@ impl Waits {
         id: TypeId,
         most: usize,
     ) -> Result<Option<bool>, Memory>
-        ensures { IfOk result (λ told. IfSome told (λ yes. MatchBool yes (WaitsFor self.now.awaited from id) (¬ WaitsFor self.now.awaited from id))) }
+        ensures { IfOk result (λ told. IfSome told (λ yes.
+            MatchBool yes (WaitsFor self.now.awaited from id) (¬ WaitsFor self.now.awaited from id))) }
     {
         let mut back = TypeSet::new(alloc);
         back.add(id)?;
@@ -231,7 +235,8 @@ impl Waits {
 
     // Adds what the one type had to look at to what the other has.
     fn merge(&mut self, alloc: Global, from: TypeId, id: TypeId) -> Result<(), Memory>
-        ensures left { OnOk result ((u w : TypeId) → IsIn self.new.left u w → IsIn self.old.left u w ⊎ ((id ≡ u) × IsIn self.old.left from w)) }
+        ensures left { OnOk result ((u w : TypeId) → IsIn self.new.left u w → IsIn self.old.left u w
+            ⊎ ((id ≡ u) × IsIn self.old.left from w)) }
         ensures awaited { self.new.awaited ≡ self.old.awaited }
     {
         let taken = self.left.take(alloc, from);

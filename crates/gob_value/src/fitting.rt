@@ -72,7 +72,8 @@ fn fits_kind<S: Shapes>(shapes: &S, kind: &Kind, value: &Value, limit: u64) -> b
 #[cycle(fits)]
 fn all_fit<S: Shapes>(shapes: &S, elem: TypeId, parts: &[Value], limit: u64) -> bool
     requires { limit ≤ 1000 }
-    ensures { IsTrue result ↔ IsSpelledWithin (SpellsEach (S.table shapes.now) elem) trees_depth limit (views parts.now) }
+    ensures { IsTrue result ↔ IsSpelledWithin (SpellsEach (S.table shapes.now) elem) trees_depth limit
+        (views parts.now) }
 {
     for part in parts {
         if !fits_type(shapes, elem, part, limit) {

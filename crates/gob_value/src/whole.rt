@@ -7,8 +7,10 @@ ghost use Rattle.gob_types.specs.Table.{Table, shape_of};
 ghost use Rattle.gob_types.specs.declared.kind.Kind.TheVariants as kind;
 ghost use Rattle.gob_types.specs.declared.id.TypeId.{TypeId};
 ghost use Rattle.gob_types.specs.declared.kind.Shape.{Shape};
-ghost use Rattle.gob_value.specs.Whole.{IsWhole, IsTidyWhole, IsWholeSo, HoldsNumbers, HoldsBetween, BeginsKind, BeginsEach};
-ghost use Rattle.gob_value.specs.Whole.{BeginsPairs, BeginsFields, BeginsField, BeginsRaw, BeginsKept, BeginsTop, IsWholeBetween};
+ghost use Rattle.gob_value.specs.Whole.{IsWhole, IsTidyWhole, IsWholeSo, HoldsNumbers, HoldsBetween};
+ghost use Rattle.gob_value.specs.Whole.{BeginsKind, BeginsEach};
+ghost use Rattle.gob_value.specs.Whole.{BeginsPairs, BeginsFields, BeginsField, BeginsRaw, BeginsKept};
+ghost use Rattle.gob_value.specs.Whole.{BeginsTop, IsWholeBetween};
 
 use crate::number::{field_number, number_at, number_end};
 use gob_num::uints_end;
@@ -32,8 +34,8 @@ pub fn is_tidy_whole<S: Shapes>(shapes: &S, id: TypeId, body: &[u8], depth: u64)
     is_whole_so::<S, true>(shapes, id, body, depth)
 }
 
-/// Where a value of the kind ends that stands in the bytes from the place on, behind its tag where it isn't a struct, no
-/// deeper than `depth`. It takes no memory. None says nothing: what is deeper than 1000 may be a value all the same.
+/// Where a value of the kind ends that stands in the bytes from the place on, behind its tag where it isn't a struct,
+/// no deeper than `depth`. It takes no memory. None says nothing: what is deeper than 1000 may be a value all the same.
 #[inline(always)]
 pub fn whole_end<S: Shapes>(
     shapes: &S,
@@ -94,7 +96,8 @@ fn value_end<S: Shapes, const TIDY: bool>(
 ) -> Option<usize>
     requires depth { depth ≤ 1000 }
     requires place { at ≤ length body.now }
-    ensures { IfSome result (λ end. HoldsBetween (BeginsKind (S.table shapes.now) TIDY kind.now depth) body.now at end) }
+    ensures { IfSome result (λ end.
+        HoldsBetween (BeginsKind (S.table shapes.now) TIDY kind.now depth) body.now at end) }
 {
     if depth == 0 {
         return None;
@@ -133,7 +136,8 @@ pub(crate) fn part_end<S: Shapes, const TIDY: bool>(
 ) -> Option<usize>
     requires depth { depth ≤ 1000 }
     requires place { at ≤ length body.now }
-    ensures { IfSome result (λ end. HoldsBetween (BeginsKind (S.table shapes.now) TIDY kind.now depth) body.now at end) }
+    ensures { IfSome result (λ end.
+        HoldsBetween (BeginsKind (S.table shapes.now) TIDY kind.now depth) body.now at end) }
 {
     match kind {
         Kind::Basic(basic) if depth > 0 => basic_end(*basic, body, at),
@@ -154,7 +158,8 @@ fn elements_end<S: Shapes, const TIDY: bool>(
 ) -> Option<usize>
     requires depth { depth ≤ 1000 }
     requires place { begin ≤ length body.now }
-    ensures { IfSome result (λ end. HoldsBetween (BeginsEach (S.table shapes.now) TIDY elem depth count) body.now begin end) }
+    ensures { IfSome result (λ end.
+        HoldsBetween (BeginsEach (S.table shapes.now) TIDY elem depth count) body.now begin end) }
 {
     if count == 0 {
         return Some(begin);
@@ -190,7 +195,8 @@ fn pairs_end<S: Shapes, const TIDY: bool>(
 ) -> Option<usize>
     requires depth { depth ≤ 1000 }
     requires place { begin ≤ length body.now }
-    ensures { IfSome result (λ end. HoldsBetween (BeginsPairs (S.table shapes.now) TIDY key elem depth count) body.now begin end) }
+    ensures { IfSome result (λ end.
+        HoldsBetween (BeginsPairs (S.table shapes.now) TIDY key elem depth count) body.now begin end) }
 {
     if count == 0 {
         return Some(begin);
@@ -217,7 +223,8 @@ fn fields_end<S: Shapes, const TIDY: bool>(
 ) -> Option<usize>
     requires depth { depth ≤ 1000 }
     requires place { begin ≤ length body.now }
-    ensures { IfSome result (λ end. HoldsBetween (BeginsFields (S.table shapes.now) TIDY types.now 0 depth) body.now begin end) }
+    ensures { IfSome result (λ end.
+        HoldsBetween (BeginsFields (S.table shapes.now) TIDY types.now 0 depth) body.now begin end) }
 {
     let mut next = 0;
     let mut at = begin;
@@ -333,7 +340,8 @@ fn numbers_end(count: u64, body: &[u8], begin: usize) -> Option<usize>
 #[inline(always)]
 fn basic_end(basic: Basic, body: &[u8], at: usize) -> Option<usize>
     requires { at ≤ length body.now }
-    ensures { IfSome result (λ end. (T : Table) (tidy : Bool) → HoldsBetween (BeginsKind T tidy (kind.Basic basic) 1) body.now at end) }
+    ensures { IfSome result (λ end.
+        (T : Table) (tidy : Bool) → HoldsBetween (BeginsKind T tidy (kind.Basic basic) 1) body.now at end) }
 {
     match basic {
         Basic::Int | Basic::Uint | Basic::Float => number_end(body, at),
