@@ -31,9 +31,12 @@ use gob_types::{Basic, Field, Fields as Types, Kind, Shapes, TypeId};
 // For so many values it is worth while to make beforehand what stands before their fields.
 const MANY: u64 = 4;
 
-// How many bytes of the text of ints are made before they are put out: more than wait at the most, so that they go out
-// at once.
-const BLOCK: usize = 320;
+// For so many ints it is worth while to make their text in a block.
+const MANY_INTS: u64 = 64;
+
+// How many bytes of the text of ints are made before they are put out: many more than wait at the most, so that they
+// go out at once, and what a block costs is shared by some thousand ints.
+const BLOCK: usize = 4096;
 
 // The most bytes of an int in a list: a comma, a sign and the digits.
 const PART: usize = 22;
@@ -123,8 +126,29 @@ fn send_basics<O: PartOut>(
     out.put(b"]").and(Ok(at))
 }
 
-// The same of ints. Their text is made in a block of its own, so that how far it goes is kept in a register.
+// The same of ints.
 fn send_integers<O: PartOut>(
+    count: u64,
+    body: &[u8],
+    begin: usize,
+    out: &mut O,
+) -> Result<usize, O::Fault>
+    requires { begin ≤ length body.now }
+    ensures sent { (T : Table) (e : TypeId) (limit : ℕ) (vs : Trees) (rest : List ℕ)
+        → IsOfKind T e (kinds.Basic basics.Int) → BeginsElements T e limit vs (drop begin body.now) rest
+        → tree_count vs ≡ count
+        → Sends O.puts out.old out.new (items_text false (elements_json T e vs)) body.now rest result }
+    ensures inside { IfOk result (λ end. end ≤ length body.now) }
+{
+    if count < MANY_INTS {
+        send_basics(Basic::Int, count, body, begin, out)
+    } else {
+        send_many_integers(count, body, begin, out)
+    }
+}
+
+// The same of many ints. Their text is made in a block of its own, so that how far it goes is kept in a register.
+fn send_many_integers<O: PartOut>(
     count: u64,
     body: &[u8],
     begin: usize,

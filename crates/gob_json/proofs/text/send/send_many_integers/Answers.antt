@@ -1,5 +1,5 @@
 -- Int by int the text is made, and goes out in blocks.
-use Rattle.std.proofs.Common.{rules, ℕ, List, ◌≡◌, ◌≤◌, ◌+◌, ◌-◌, ◌++◌, ◌∙◌, ap, append_assoc, arith, drop, false, nat_lt, refl, subst, take}
+use Rattle.std.proofs.Common.{rules, ◌≡◌, ◌≤◌, ◌+◌, ◌-◌, ◌++◌, ◌∙◌, ap, append_assoc, arith, drop, false, nat_lt, refl, subst, take}
 use Rattle.serde_json.specs.Written.{comma_if, compact_text, items_text}
 use Rattle.gob_json.specs.Json.{elements_json, integer_json}
 use Rattle.gob_json.specs.Machine.TextSent.{HoldsKind}
@@ -7,8 +7,8 @@ use Rattle.gob_json.proofs.TextSteps.{later_on}
 use Rattle.gob_json.proofs.StandingLaws.{value_as}
 use Rattle.gob_json.proofs.SendLaws.{ElementsWait, sent_failed, all_wait, elements_ended, int_here, next_waits, waiting_failed}
 use Rattle.gob_json.proofs.SendLaws.{waiting_gone, waiting_put}
-use Rattle.gob_json.proofs.text.send.send_integers.Goals.{then-len+in_ok-put, else-len}
-use Rattle.gob_json.proofs.text.send.send_integers.Goals as goal
+use Rattle.gob_json.proofs.text.send.send_many_integers.Goals.{then-len+in_ok-put, else-len}
+use Rattle.gob_json.proofs.text.send.send_many_integers.Goals as goal
 
 pub integers-init : goal.integers-init
 integers-init g c = record {
@@ -29,7 +29,7 @@ pub integers-preserved : goal.integers-preserved
 integers-preserved g c = record {
   inside = c.number_from-number.ensures.inside;
   held =
-      let fits : c.if-len.len + 22 ≤ 320 = elim c.if-len.branch [
+      let fits : c.if-len.len + 22 ≤ 4096 = elim c.if-len.branch [
         | then-len+in_ok-put w ↦ rw w.len-is (omega arith)
         | else-len w ↦ rw w.len-is (omega (arith, w.if-len.false))
       ] in

@@ -10,12 +10,12 @@ use Rattle.gob_json.specs.Json.{elements_json}
 use Rattle.gob_json.specs.Machine.TextSent.{BeginsElements}
 use Rattle.gob_json.specs.TextWhole.{IsOfKind}
 use Rattle.gob_json.proofs.SendLaws.{ElementsWait}
-use Rattle.gob_json.proofs.text.send.send_integers.Given as goal
+use Rattle.gob_json.proofs.text.send.send_many_integers.Given as goal
 
 abbrev pub invariant-integers : goal.invariant-integers
 invariant-integers g l = record {
   inside : l.at ≤ length l.body;
-  held : l.len ≤ 320;
+  held : l.len ≤ 4096;
   left : (T : Table) (e : TypeId) (limit : ℕ) (vs : Trees) (rest : List ℕ) → IsOfKind T e (kind.Basic basic.Int)
       → BeginsElements T e limit vs (drop l.begin l.body) rest → tree_count vs ≡ l.count
       → ElementsWait g.O.TextOut.puts T e limit (l.count - l.index) (nat_lt 0 l.index) l.fn.out l.out (take l.len l.block)
