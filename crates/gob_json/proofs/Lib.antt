@@ -11,6 +11,4 @@ pub mod TextSteps
 pub mod StandingLaws
 pub mod SendLaws
 pub mod LineLaws
-pub mod WrittenLaws
-pub mod TapeLaws
 pub mod PublicLaws

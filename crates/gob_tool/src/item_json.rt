@@ -9,10 +9,10 @@ ghost use Rattle.gob_types.specs.Defined.{types};
 ghost use Rattle.gob_value.specs.Tree.{Tree, depth};
 ghost use Rattle.gob_stream.specs.Item.{StreamItem, item_view, puts, ItemMeans};
 ghost use Rattle.gob_tape.specs.Meaning.{Means};
-ghost use Rattle.gob_json.specs.WritesJson.{WritesJson, WritesJsonOf};
+ghost use Rattle.gob_json_writer.specs.WritesJson.{WritesJson, WritesJsonOf};
 ghost use Rattle.gob_tool.specs.Line.{item_json, item_text};
 
-use gob_json::{write_definition, write_put, write_tape};
+use gob_json_writer::{write_definition, write_put, write_tape};
 use gob_num::Memory;
 use gob_stream::Item;
 use gob_tape::Tape;

@@ -5,8 +5,8 @@ use Rattle.serde_json.specs.Data.{array}
 use Rattle.serde_json.specs.Written.{outline, items_outline}
 use Rattle.gob_value.specs.View.{views, pair_views, field_views}
 use Rattle.gob_json.specs.Json.{elements_json, pairs_json, fields_json}
-use Rattle.gob_json.proofs.WrittenLaws.{IsLeft}
-use Rattle.gob_json.proofs.value_json.+value.Given as goal
+use Rattle.gob_json_writer.proofs.WrittenLaws.{IsLeft}
+use Rattle.gob_json_writer.proofs.value_json.+value.Given as goal
 
 abbrev pub invariant-write_elements-loop-element : goal.invariant-write_elements-loop-element
 invariant-write_elements-loop-element g l =

@@ -6,8 +6,8 @@ ghost use Rattle.gob_tape.specs.Seeing.{Gives, elements, alternating, present};
 ghost use Rattle.gob_json.specs.Json.{value_json, elements_json, pairs_json, fields_json, put_json};
 ghost use Rattle.gob_tape.specs.Meaning.{Means};
 ghost use Rattle.gob_types.specs.Defined.{types};
-ghost use Rattle.gob_json.specs.TapeJson.{leaf_json, Shows};
-ghost use Rattle.gob_json.specs.WritesJson.{WritesJson, WritesJsonOf};
+ghost use Rattle.gob_json_writer.specs.TapeJson.{leaf_json, Shows};
+ghost use Rattle.gob_json_writer.specs.WritesJson.{WritesJson, WritesJsonOf};
 
 use crate::leaf::{write_complex, write_hex, write_opaque, write_pattern, write_text};
 use crate::part_types::{element_of, fields_of, key_of, name_at, type_at};

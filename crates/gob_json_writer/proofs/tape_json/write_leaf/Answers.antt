@@ -7,11 +7,11 @@ use Rattle.serde_json.specs.Written.{outline}
 use Rattle.gob_read.specs.Leaf.{signed_of}
 use Rattle.gob_read.proofs.PublicLaws.{signed_is}
 use Rattle.gob_json.specs.Json.{integer_json}
-use Rattle.gob_json.specs.TapeJson.{leaf_json}
-use Rattle.gob_json.specs.WritesJson.{WritesTokens}
-use Rattle.gob_json.proofs.TapeLaws.{integer_token}
-use Rattle.gob_json.proofs.WrittenLaws.{one_written}
-use Rattle.gob_json.proofs.tape_json.write_leaf.Goals as goal
+use Rattle.gob_json_writer.specs.TapeJson.{leaf_json}
+use Rattle.gob_json_writer.specs.WritesJson.{WritesTokens}
+use Rattle.gob_json_writer.proofs.TapeLaws.{integer_token}
+use Rattle.gob_json_writer.proofs.WrittenLaws.{one_written}
+use Rattle.gob_json_writer.proofs.tape_json.write_leaf.Goals as goal
 
 pub returns-in-Int : goal.returns-in-Int
 returns-in-Int c =

@@ -6,7 +6,7 @@ use Rattle.std.proofs.lemmas.Result.{on_ok_weaker}
 use Rattle.json.specs.Token.{Token}
 use Rattle.json.specs.Written.{Written, Writes}
 use Rattle.serde_json.specs.Data.{Data}
-use Rattle.gob_json.specs.WritesJson.{WritesTokens, WritesJson}
+use Rattle.gob_json_writer.specs.WritesJson.{WritesTokens, WritesJson}
 
 -- ---- one call behind another
 

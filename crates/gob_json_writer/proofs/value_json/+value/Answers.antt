@@ -4,8 +4,8 @@ use Rattle.json.specs.Tree.{items_tokens}
 use Rattle.serde_json.specs.Written.{items_outline}
 use Rattle.gob_value.specs.View.{views, pair_views, field_views}
 use Rattle.gob_json.specs.Json.{elements_json, pairs_json, fields_json}
-use Rattle.gob_json.proofs.WrittenLaws.{one_written, both_written, left_more}
-use Rattle.gob_json.proofs.value_json.+value.Goals as goal
+use Rattle.gob_json_writer.proofs.WrittenLaws.{one_written, both_written, left_more}
+use Rattle.gob_json_writer.proofs.value_json.+value.Goals as goal
 
 pub write_elements-loop-element-preserved : goal.write_elements-loop-element-preserved
 write_elements-loop-element-preserved g t c =

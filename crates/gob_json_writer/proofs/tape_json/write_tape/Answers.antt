@@ -1,7 +1,7 @@
 -- The value is what the tape's root shows.
 use Rattle.std.proofs.Common.{None, rules}
-use Rattle.gob_json.proofs.WrittenLaws.{one_written, both_written}
-use Rattle.gob_json.proofs.tape_json.write_tape.Goals as goal
+use Rattle.gob_json_writer.proofs.WrittenLaws.{one_written, both_written}
+use Rattle.gob_json_writer.proofs.tape_json.write_tape.Goals as goal
 
 pub returns : goal.returns
 returns c = record {

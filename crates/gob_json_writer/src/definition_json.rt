@@ -7,7 +7,7 @@ ghost use Rattle.json.specs.Tree.{json_tokens, members_tokens};
 ghost use Rattle.serde_json.specs.Data.{array};
 ghost use Rattle.serde_json.specs.Written.{outline, members_outline};
 ghost use Rattle.gob_json.specs.Json.{pair_json, text_json, id_json};
-ghost use Rattle.gob_json.specs.WritesJson.{WritesJson, WritesTokens};
+ghost use Rattle.gob_json_writer.specs.WritesJson.{WritesJson, WritesTokens};
 ghost use Rattle.gob_json.specs.DefinitionJson.{field_types_json, marshal_name, name_member, shape_members};
 ghost use Rattle.gob_json.specs.DefinitionJson.{definition_json};
 

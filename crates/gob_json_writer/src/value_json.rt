@@ -3,7 +3,7 @@
 ghost use Rattle.serde_json.specs.Data.{array};
 ghost use Rattle.gob_value.specs.View.{view, views, pair_views, field_views};
 ghost use Rattle.gob_json.specs.Json.{value_json, elements_json, pairs_json, fields_json, put_json};
-ghost use Rattle.gob_json.specs.WritesJson.{WritesJson};
+ghost use Rattle.gob_json_writer.specs.WritesJson.{WritesJson};
 
 use crate::leaf::{write_complex, write_hex, write_opaque, write_pattern, write_text};
 use crate::part_types::{element_of, fields_of, key_of, name_at, type_at};

@@ -6,10 +6,10 @@ use Rattle.serde_json.specs.Data.{array}
 use Rattle.gob_types.specs.Table.{shape_of}
 use Rattle.gob_tape.specs.Seeing.{Gives, alternating, parts_of, nodes_left}
 use Rattle.gob_json.specs.Json.{value_json, elements_json, pairs_json, fields_json, key_type}
-use Rattle.gob_json.proofs.TapeLaws.{next_is, fewer_left, elements_on, elements_end, fields_on, fields_end, entries_begun, key_turn, element_turn, entries_end, leaf_seen, as_many, as_pairs, as_fields, field_json}
-use Rattle.gob_json.proofs.WrittenLaws.{one_written, both_written, same_written}
-use Rattle.gob_json.proofs.tape_json.+part.Goals as goal
-use Rattle.gob_json.proofs.tape_json.+part.Goals.{write_entries-then-is_key+in_ok-begin_array-2+in_ok-write_part, write_entries-else-is_key+in_ok-write_part-2+in_ok-end_array}
+use Rattle.gob_json_writer.proofs.TapeLaws.{next_is, fewer_left, elements_on, elements_end, fields_on, fields_end, entries_begun, key_turn, element_turn, entries_end, leaf_seen, as_many, as_pairs, as_fields, field_json}
+use Rattle.gob_json_writer.proofs.WrittenLaws.{one_written, both_written, same_written}
+use Rattle.gob_json_writer.proofs.tape_json.+part.Goals as goal
+use Rattle.gob_json_writer.proofs.tape_json.+part.Goals.{write_entries-then-is_key+in_ok-begin_array-2+in_ok-write_part, write_entries-else-is_key+in_ok-write_part-2+in_ok-end_array}
 
 pub write_elements-loop-part-preserved : goal.write_elements-loop-part-preserved
 write_elements-loop-part-preserved g t c = record {

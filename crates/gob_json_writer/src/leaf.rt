@@ -2,7 +2,7 @@
 
 ghost use Rattle.serde_json.specs.Data.{object, member, no_members};
 ghost use Rattle.gob_json.specs.Json.{hex_json, text_json, opaque_json, pattern_json, pair_json};
-ghost use Rattle.gob_json.specs.WritesJson.{WritesJson};
+ghost use Rattle.gob_json_writer.specs.WritesJson.{WritesJson};
 
 use json::Writer;
 use std::alloc::{AllocError, Global};

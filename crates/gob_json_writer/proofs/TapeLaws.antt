@@ -24,9 +24,9 @@ use Rattle.gob_tape.specs.Seeing.{Sees, Gives, GivesNext, gives_one, GivesPart, 
 use Rattle.gob_tape.specs.Seeing.{takes_some, nodes_left}
 use Rattle.gob_json.specs.Json.{value_json, elements_json, pairs_json, fields_json}
 use Rattle.gob_json.specs.Json.{triple_json, natural_json, integer_json, text_json, field_name, field_type}
-use Rattle.gob_json.specs.TapeJson.{leaf_json, Shows}
-use Rattle.gob_json.specs.WritesJson.{WritesTokens, WritesJson, WritesJsonOf}
-use Rattle.gob_json.proofs.WrittenLaws.{IsLeft, left_begun, left_on, left_end, both_written}
+use Rattle.gob_json_writer.specs.TapeJson.{leaf_json, Shows}
+use Rattle.gob_json_writer.specs.WritesJson.{WritesTokens, WritesJson, WritesJsonOf}
+use Rattle.gob_json_writer.proofs.WrittenLaws.{IsLeft, left_begun, left_on, left_end, both_written}
 
 -- ---- parts without parts
 

@@ -6,8 +6,8 @@ use Rattle.serde_json.specs.Written.{outline}
 use Rattle.gob_value.specs.Tree.{Trees, Pairs, Fields}
 use Rattle.gob_tape.specs.Seeing.{Gives, elements, alternating, present, nodes_from, nodes_left}
 use Rattle.gob_json.specs.Json.{elements_json, pairs_json, fields_json}
-use Rattle.gob_json.proofs.TapeLaws.{ElementsLeft, EntriesLeft, FieldsLeft}
-use Rattle.gob_json.proofs.tape_json.+part.Given as goal
+use Rattle.gob_json_writer.proofs.TapeLaws.{ElementsLeft, EntriesLeft, FieldsLeft}
+use Rattle.gob_json_writer.proofs.tape_json.+part.Given as goal
 
 abbrev pub decreases-write_part : goal.decreases-write_part
 decreases-write_part g l = 2 * nodes_from l.part

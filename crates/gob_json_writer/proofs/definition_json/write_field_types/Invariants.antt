@@ -4,8 +4,8 @@ use Rattle.json.specs.Tree.{json_tokens, items_tokens}
 use Rattle.serde_json.specs.Data.{array}
 use Rattle.serde_json.specs.Written.{outline, items_outline}
 use Rattle.gob_json.specs.DefinitionJson.{field_types_json}
-use Rattle.gob_json.proofs.WrittenLaws.{IsLeft}
-use Rattle.gob_json.proofs.definition_json.write_field_types.Given as goal
+use Rattle.gob_json_writer.proofs.WrittenLaws.{IsLeft}
+use Rattle.gob_json_writer.proofs.definition_json.write_field_types.Given as goal
 
 abbrev pub invariant-loop-field : goal.invariant-loop-field
 invariant-loop-field l =

@@ -1,0 +1,2 @@
+pub mod TapeJson
+pub mod WritesJson

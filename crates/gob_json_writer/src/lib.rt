@@ -1,0 +1,16 @@
+//! Gob values and definitions told to a writer of JSON, part by part.
+//!
+//! - [`write_put`] and [`write_tape`] tell it a value with its type: `{"type":65,"value":[3,4]}`; the one of a tree, the
+//!   other of a tape.
+//! - [`write_definition`] tells it the shape of a type: `{"define":65,"elem":2,"kind":"slice","name":""}`.
+#![tactic(auto)]
+
+mod definition_json;
+mod leaf;
+mod part_types;
+mod tape_json;
+mod value_json;
+
+pub use definition_json::write_definition;
+pub use tape_json::write_tape;
+pub use value_json::write_put;
