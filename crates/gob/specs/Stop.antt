@@ -2,12 +2,12 @@
 use Rattle.std.specs.Prelude.{◌≡◌, ◌⊎◌, ℕ, List, Option, Result, Ok, Err}
 use Rattle.gob_tool.specs.declared.fault.ToolFault.{ToolFault}
 use Rattle.gob_tool.specs.declared.fault.ToolFault.TheVariants as run_fault
-use Rattle.gob_tool.specs.declared.words.Order.{Order}
-use Rattle.gob_tool.specs.declared.words.OrderFault.{OrderFault}
-use Rattle.gob_tool.specs.declared.words.OrderFault.TheVariants as order_fault
+use Rattle.gob_words.specs.declared.words.Order.{Order}
+use Rattle.gob_words.specs.declared.words.OrderFault.{OrderFault}
+use Rattle.gob_words.specs.declared.words.OrderFault.TheVariants as order_fault
 use Rattle.gob_tool.specs.Fault.{fault_status, fault_line}
-use Rattle.gob_tool.specs.Running.{OrderAnswers}
-use Rattle.gob_tool.specs.Words.{order_limits, order_line, order_status}
+use Rattle.gob_tool.specs.Running.{OrderAnswers, order_limits}
+use Rattle.gob_words.specs.Words.{order_line, order_status}
 use Rattle.gob.specs.declared.Stop.{Stop}
 use Rattle.gob.specs.declared.Stop.TheVariants.{Words, Run, Unread}
 

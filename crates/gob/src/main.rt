@@ -17,7 +17,8 @@ mod pipe;
 
 use crate::pipe::Pipe;
 use gob_stream::{Input, Output};
-use gob_tool::{Order, OrderFault, ToolFault, order_of, run_order, status};
+use gob_tool::{ToolFault, run_order, status};
+use gob_words::{Order, OrderFault, order_of};
 use std::alloc::{AllocError, Global};
 use std::fs::File;
 use std::io::{ErrorKind, Read, Write};

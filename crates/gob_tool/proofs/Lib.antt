@@ -1,6 +1,5 @@
 pub mod BlockLaws
 pub mod PrintLaws
-pub mod WordLaws
 pub mod LinesStay
 pub mod GatherLaws
 pub mod ShowLaws

@@ -1,7 +1,5 @@
 pub mod Line
 pub mod Fault
-pub mod Depths
-pub mod Words
 pub mod Showing
 pub mod Taking
 pub mod Checking

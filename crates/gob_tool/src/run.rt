@@ -1,9 +1,8 @@
 //! The run that the words ask for.
 
 ghost use Rattle.std.specs.Prelude.{◌≡◌, ℕ, List, Some, false};
-ghost use Rattle.gob_tool.specs.Depths.{wants_type};
-ghost use Rattle.gob_tool.specs.Words.{order_limits};
-ghost use Rattle.gob_tool.specs.Running.{OrderAnswers};
+ghost use Rattle.gob_words.specs.Depths.{wants_type};
+ghost use Rattle.gob_tool.specs.Running.{OrderAnswers, order_limits};
 ghost use Rattle.gob_tool.specs.Showing.{CountsWriteFaults};
 ghost use Rattle.gob_tool.specs.Taking.{CountsTakeReads};
 ghost use Rattle.gob_stream.specs.Ends.{failed_reads, failed_writes, reader_of, writer_of};
@@ -13,8 +12,8 @@ use crate::fault::ToolFault;
 use crate::rewrite::run_rewrite;
 use crate::show::run_show;
 use crate::take::run_take;
-use crate::words::{Chosen, Order};
-use gob_stream::{Input, Output};
+use gob_stream::{Input, Limits, Output};
+use gob_words::{Chosen, Order};
 use std::alloc::Global;
 use std::io::{Read, Write};
 
@@ -38,11 +37,20 @@ pub fn run_order<Q: Read, R: Read, W: Write>(
         result }
     ensures writes { CountsWriteFaults (failed_writes output.old) (failed_writes output.new) result }
 {
-    let limits = order.limits();
+    let limits = limits_of(order);
     match order.command {
         Chosen::Show => run_show(alloc, input, output, limits),
         Chosen::Check => run_check(alloc, input, output, limits),
         Chosen::Rewrite => run_rewrite(alloc, input, output, limits),
         Chosen::Take => run_take(alloc, wanted, input, output, limits),
     }
+}
+
+// The limits under which the streams are read: the order's depth and item, and else the standard ones.
+fn limits_of(order: &Order) -> Limits
+    ensures { result ≡ order_limits order.now }
+{
+    let standard = Limits::standard();
+    // The depth is within what each command allows, so these are limits.
+    Limits::deep(order.item, order.depth, standard.types(), standard.stream()).unwrap()
 }

@@ -1,5 +1,5 @@
 //! Tests of what the commands do, by the public calls of `gob_tool`. What the program shows of a stream is in
-//! `interop/rows`; here is what no stream shows: devices that fail, other limits, lines without a stream, words.
+//! `interop/rows`; here is what no stream shows: devices that fail, other limits, lines without a stream.
 #![tactic(auto)]
 
 #[cfg(test)]
@@ -12,8 +12,6 @@ mod devices;
 mod endings;
 #[cfg(test)]
 mod faults;
-#[cfg(test)]
-mod help;
 #[cfg(test)]
 mod large;
 #[cfg(test)]
@@ -38,5 +36,3 @@ mod take_faults;
 mod takes;
 #[cfg(test)]
 mod trials;
-#[cfg(test)]
-mod words;

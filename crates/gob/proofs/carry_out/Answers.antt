@@ -1,7 +1,6 @@
 -- What is left of the inputs, and what the output has, is what the run left.
 use Rattle.std.proofs.Common.{◌∙◌, ap, subst}
-use Rattle.gob_tool.specs.Running.{OrderAnswers}
-use Rattle.gob_tool.specs.Words.{order_limits}
+use Rattle.gob_tool.specs.Running.{OrderAnswers, order_limits}
 use Rattle.gob.proofs.carry_out.Goals as goal
 
 pub returns : goal.returns

@@ -2,11 +2,10 @@
 use Rattle.std.proofs.Common.{◌≡◌, ◌≤◌, ap, sym, subst, min, arith}
 use Rattle.gob_stream.specs.Ends.{reader_of, writer_of}
 use Rattle.gob_stream.specs.Bounds.{no_deeper}
-use Rattle.gob_tool.specs.Depths.{most_depth}
-use Rattle.gob_tool.specs.Words.{order_limits}
-use Rattle.gob_tool.specs.Running.{OrderAnswers}
-use Rattle.gob_tool.specs.declared.words.Chosen.{Chosen}
-use Rattle.gob_tool.specs.declared.words.Order.{Order}
+use Rattle.gob_words.specs.Depths.{most_depth}
+use Rattle.gob_tool.specs.Running.{OrderAnswers, order_limits}
+use Rattle.gob_words.specs.declared.words.Chosen.{Chosen}
+use Rattle.gob_words.specs.declared.words.Order.{Order}
 use Rattle.gob_tool.proofs.run.run_order.Goals as goal
 
 -- a reader that takes what the command allows keeps to the order's limits
@@ -24,7 +23,7 @@ returns-in-Show-clause-does g c = λ wanted_bytes bytes known left.
     let next = g.R.Read.remaining (reader_of c.run_show.new.input) in
     let kept = g.Q.Read.remaining (reader_of c.args.wanted.now) in
     let order = c.args.order.now in
-    let shown = rw (c.limits-limits.ensures, within_order order _ c.in-Show.is) at c.run_show.ensures.shown in
+    let shown = rw (c.limits_of-limits.ensures, within_order order _ c.in-Show.is) at c.run_show.ensures.shown in
     subst (λ x. OrderAnswers x (order_limits order) wanted_bytes bytes kept next old new c.run_show.result) (sym c.in-Show.is)
     (shown bytes left)
 
@@ -35,7 +34,7 @@ returns-in-Check-clause-does g c = λ wanted_bytes bytes known left.
     let next = g.R.Read.remaining (reader_of c.run_check.new.input) in
     let kept = g.Q.Read.remaining (reader_of c.args.wanted.now) in
     let order = c.args.order.now in
-    let checked = rw (c.limits-limits.ensures, within_order order _ c.in-Check.is) at c.run_check.ensures.checked in
+    let checked = rw (c.limits_of-limits.ensures, within_order order _ c.in-Check.is) at c.run_check.ensures.checked in
     subst (λ x. OrderAnswers x (order_limits order) wanted_bytes bytes kept next old new c.run_check.result) (sym c.in-Check.is)
     (checked bytes left)
 
@@ -46,7 +45,7 @@ returns-in-Rewrite-clause-does g c = λ wanted_bytes bytes known left.
     let next = g.R.Read.remaining (reader_of c.run_rewrite.new.input) in
     let kept = g.Q.Read.remaining (reader_of c.args.wanted.now) in
     let order = c.args.order.now in
-    let rewritten = rw (c.limits-limits.ensures, within_order order _ c.in-Rewrite.is) at c.run_rewrite.ensures.rewritten in
+    let rewritten = rw (c.limits_of-limits.ensures, within_order order _ c.in-Rewrite.is) at c.run_rewrite.ensures.rewritten in
     subst (λ x. OrderAnswers x (order_limits order) wanted_bytes bytes kept next old new c.run_rewrite.result) (sym c.in-Rewrite.is)
     (rewritten bytes left)
 
@@ -57,6 +56,6 @@ returns-in-Take-clause-does g c = λ wanted_bytes bytes known left.
     let next = g.R.Read.remaining (reader_of c.run_take.new.input) in
     let wanted_next = g.Q.Read.remaining (reader_of c.run_take.new.wanted) in
     let order = c.args.order.now in
-    let taken = rw (c.limits-limits.ensures, within_order order _ c.in-Take.is) at c.run_take.ensures.taken in
+    let taken = rw (c.limits_of-limits.ensures, within_order order _ c.in-Take.is) at c.run_take.ensures.taken in
     subst (λ x. OrderAnswers x (order_limits order) wanted_bytes bytes wanted_next next old new c.run_take.result) (sym c.in-Take.is)
     (taken wanted_bytes bytes known left)

@@ -1,11 +1,12 @@
 -- From item to item the lines go behind those before, and some of all go out.
-use Rattle.std.proofs.Common.{◌≡◌, ◌-◌, ◌∙◌, ◌++◌, ℕ, ap, sym, drop, take, length, length-drop}
+use Rattle.std.proofs.Common.{◌≡◌, ◌-◌, ◌∙◌, ◌++◌, ℕ, ap, sym, drop, refl, take, length, length-drop}
 use Rattle.std.proofs.Math.Seq.{take-length}
+use Rattle.std.proofs.lemmas.Bool.{eqb-true}
 use Rattle.gob_tool.specs.Fault.{reading_fault}
 use Rattle.gob_stream.specs.Ends.{writer_of}
 use Rattle.gob_stream.specs.Bounds.{within_trees}
 use Rattle.gob_tool.proofs.ShowLaws.{piece_at}
-use Rattle.gob_tool.proofs.ShowFront.{up_to_more, rest_stops, rest_cut}
+use Rattle.gob_tool.proofs.ShowFront.{up_to_none, up_to_more, up_to_all, rest_stops, rest_cut}
 use Rattle.gob_tool.proofs.show.show_piece.Goals as goal
 
 pub returns-in_err-used-clause-shown : goal.returns-in_err-used-clause-shown
@@ -50,3 +51,11 @@ loop-rest-preserved g c =
           up_to_more n later u (c.in_ok-used.ensures.shown (bytes ++ u.front) start now u.behind)
           c.in_ok-write_many.ensures.passed,
     )
+
+pub loop-rest-init : goal.loop-rest-init
+loop-rest-init g c = (refl, refl, λ bytes start b. up_to_none c.args.piece.now b)
+
+pub returns-clause-shown : goal.returns-clause-shown
+returns-clause-shown g c = λ bytes start b.
+    up_to_all (eqb-true (length c.loop-rest.rest.now) 0 (sym c.is_empty.ensures ∙ c.loop-rest-test.false))
+    (c.loop-rest.invariant.2 bytes start b)

@@ -1,0 +1,118 @@
+-- What the words of the command line ask for. (docs/FORMAT.md, The program: this project's own.)
+use Rattle.std.specs.Prelude.{◌≡◌, ◌≢◌, ⊤, ◌<◌, ◌≤◌, ◌^◌, ℕ}
+use Rattle.std.specs.Prelude.{length, List, [], codes, Option, Some, None, option_map, true}
+use Rattle.std.specs.Borrow.{Bor}
+use Rattle.std.specs.Int.{IsInRange}
+use Rattle.std.specs.List.{All}
+use Rattle.std.specs.Str.Parse.{digits_value}
+use Rattle.clap.specs.Words.{App, Row, Rule, Text, first_of, new_app, new_rule, subcommand_of, with_rule}
+use Rattle.clap.specs.Words.{with_subcommand, takes, fault_of, kind_of, IsAmong}
+use Rattle.clap.specs.declared.error.kind.ErrorKind.TheVariants.{DisplayHelp, OutOfMemory}
+use Rattle.clap.specs.declared.error.Error.{Error}
+use Rattle.gob_words.specs.Depths.{most_depth}
+use Rattle.gob_words.specs.declared.words.Chosen.{Chosen}
+use Rattle.gob_words.specs.declared.words.Chosen.TheVariants as chosen
+use Rattle.gob_words.specs.declared.words.Order.{Order}
+use Rattle.gob_words.specs.declared.words.OrderFault.{OrderFault}
+use Rattle.gob_words.specs.declared.words.OrderFault.TheVariants as fault
+
+-- ---- the words that there are, for clap, which says what words mean
+
+-- an option of one word
+abbrev pub option_rule : Text → Rule
+option_rule name = record (new_rule name) { long = Some name; value_names = 1 }
+
+abbrev pub with_options : Text → App
+with_options name =
+    with_rule (with_rule (new_app name) (option_rule (codes "depth"))) (option_rule (codes "item"))
+
+abbrev pub with_input : App → App
+with_input app = with_rule app (new_rule (codes "IN"))
+
+-- a command on one stream
+abbrev pub one_stream : Text → App
+one_stream name = with_input (with_options name)
+
+-- a command on a stream, and before it on the one that has the wanted type
+abbrev pub two_streams : Text → App
+two_streams name =
+    with_input (with_rule (with_options name) (record (new_rule (codes "WANTED")) { required = true }))
+
+abbrev pub program : App
+program =
+    let top = (new_app (codes "gob")).top in
+    let bare : App = record { top = record top { subcommand_required = true }; subs = [] } in
+    with_subcommand (with_subcommand (with_subcommand (with_subcommand bare (one_stream (codes "show")).top)
+    (one_stream (codes "check")).top) (one_stream (codes "rewrite")).top) (two_streams (codes "take")).top
+
+-- ---- what they say
+
+abbrev pub name_of : Chosen → Text
+name_of chosen.Show = codes "show"
+name_of chosen.Check = codes "check"
+name_of chosen.Rewrite = codes "rewrite"
+name_of chosen.Take = codes "take"
+
+-- one of the characters 0 to 9
+abbrev pub IsDigit : ℕ → Type 0
+IsDigit = IsInRange 48 57
+
+-- the number of 64 bits that a word of one or more digits writes, or without a word the usual one
+abbrev pub IsNumber : Option Text → (usual n : ℕ) → Type 0
+IsNumber None usual n = n ≡ usual
+IsNumber (Some word) usual n = (0 < length word) × All IsDigit word × (n ≡ digits_value 10 word) × (n < 2 ^ 64)
+
+-- the name of the file that has the wanted type
+abbrev pub wanted_in : Chosen → List Row → Option Text
+wanted_in chosen.Take rows = first_of (codes "WANTED") rows
+wanted_in _ rows = None
+
+-- the text of a word
+abbrev pub text_of : Option (Bor Text) → Option Text
+text_of = option_map (λ word. word.now)
+
+-- clap met a subcommand with these rows, and this is the order that they make
+pub record IsOrderOf (met : Option (Text × List Row)) (order : Order) : Type 0 where
+  pub rows : List Row
+  pub command : met ≡ Some (name_of order.command, rows)
+  pub wanted : text_of order.wanted ≡ wanted_in order.command rows
+  pub input : text_of order.input ≡ first_of (codes "IN") rows
+  pub depth : IsNumber (first_of (codes "depth") rows) 1000 order.depth
+  pub item : IsNumber (first_of (codes "item") rows) 67108864 order.item
+  pub least : 1 ≤ order.depth
+  pub most : order.depth ≤ most_depth order.command
+
+-- the words, the program's name first, ask for this
+unfoldable pub Asks : List Text → Order → Type 0
+Asks words order = IsOrderOf (subcommand_of program words) order
+
+-- clap finds nothing against the words
+unfoldable pub HasNoFault : List Text → Type 0
+HasNoFault words = fault_of program words ≡ []
+
+-- the fault that clap's answer gives
+abbrev pub IsFaultOf : Error → OrderFault → Type 0
+IsFaultOf error (fault.Help text) = kind_of error ≡ DisplayHelp
+IsFaultOf error fault.Words = kind_of error ≢ OutOfMemory
+IsFaultOf error fault.Memory = ⊤
+
+-- what the words do where they give no order: they ask for help, or clap refuses them or no order is what they ask for
+unfoldable pub Refuses : List Text → OrderFault → Type 0
+Refuses words (fault.Help text) = IsAmong DisplayHelp (fault_of program words)
+Refuses words fault.Words = takes program words ≡ true
+    → (order : Order) → ¬ IsOrderOf (subcommand_of program words) order
+Refuses words fault.Memory = ⊤
+
+-- ---- what comes of them
+
+-- the exit status of the program behind a fault of its words
+abbrev pub order_status : OrderFault → ℕ
+order_status (fault.Help text) = 0
+order_status fault.Words = 2
+order_status fault.Memory = 2
+
+-- what is printed then
+abbrev pub order_line : OrderFault → List ℕ
+order_line (fault.Help text) = text.bytes.items
+order_line fault.Words = codes "gob: bad arguments"
+order_line fault.Memory = codes "gob: out of memory"

@@ -1,0 +1,98 @@
+//! The commands, options and files that the words can name, for clap, which reads the words and shows help.
+
+ghost use Rattle.std.specs.Prelude.{◌≡◌, IfOk, codes, false};
+ghost use Rattle.clap.specs.Words.{app_of, rule_of, with_subcommand};
+ghost use Rattle.clap.specs.declared.builder.Command.TheViews.{out-Command};
+ghost use Rattle.gob_words.specs.Words.{option_rule, with_options, with_input, one_stream, two_streams, program};
+
+use crate::help;
+use clap::{Arg, Command};
+use std::alloc::{AllocError, Global};
+
+/// The program, with its commands.
+pub(crate) fn program<'a>(alloc: Global) -> Result<Command<'a>, AllocError>
+    ensures { IfOk result (λ command. app_of command ≡ program) }
+{
+    let bare = Command::new(alloc, "gob")
+        .about(help::PROGRAM)
+        .after_help(help::USE)
+        .subcommand_required(true);
+    let showing = with_one_stream(alloc, bare, "show", help::SHOW, help::DEPTH_OF_TREES)?;
+    let checking = with_one_stream(alloc, showing, "check", help::CHECK, help::DEPTH)?;
+    let rewriting = with_one_stream(alloc, checking, "rewrite", help::REWRITE, help::DEPTH)?;
+    rewriting.subcommand(two_streams(alloc, "take", help::TAKE, help::DEPTH_OF_TREES)?)
+}
+
+// The program with one command more, which reads one stream.
+fn with_one_stream<'a>(
+    alloc: Global,
+    program: Command<'a>,
+    name: &'a str,
+    about: &'a str,
+    depth: &'a str,
+) -> Result<Command<'a>, AllocError>
+    ensures { IfOk result (λ more. app_of more
+        ≡ with_subcommand (app_of program.entry) (one_stream name.now).top) }
+{
+    program.subcommand(one_stream(alloc, name, about, depth)?)
+}
+
+// A command that reads one stream.
+fn one_stream<'a>(
+    alloc: Global,
+    name: &'a str,
+    about: &'a str,
+    depth: &'a str,
+) -> Result<Command<'a>, AllocError>
+    ensures app { IfOk result (λ command. app_of command ≡ one_stream name.now) }
+    ensures local { IfOk result (λ command. (out-Command command).has_globals ≡ false) }
+{
+    with_input(alloc, with_options(alloc, name, about, depth)?)
+}
+
+// A command that reads the stream that has the wanted type, and then another.
+fn two_streams<'a>(
+    alloc: Global,
+    name: &'a str,
+    about: &'a str,
+    depth: &'a str,
+) -> Result<Command<'a>, AllocError>
+    ensures app { IfOk result (λ command. app_of command ≡ two_streams name.now) }
+    ensures local { IfOk result (λ command. (out-Command command).has_globals ≡ false) }
+{
+    let wanted = Arg::new(alloc, "WANTED").required(true).help(help::WANTED);
+    with_input(alloc, with_options(alloc, name, about, depth)?.arg(wanted)?)
+}
+
+// The command with the stream that it reads behind what else it takes.
+fn with_input<'a>(alloc: Global, command: Command<'a>) -> Result<Command<'a>, AllocError>
+    requires { (out-Command command).has_globals ≡ false }
+    ensures app { IfOk result (λ more. app_of more ≡ with_input (app_of command.entry)) }
+    ensures local { IfOk result (λ more. (out-Command more).has_globals ≡ false) }
+{
+    command.arg(Arg::new(alloc, "IN").help(help::INPUT))
+}
+
+// A command with the options that each has.
+fn with_options<'a>(
+    alloc: Global,
+    name: &'a str,
+    about: &'a str,
+    depth: &'a str,
+) -> Result<Command<'a>, AllocError>
+    ensures app { IfOk result (λ command. app_of command ≡ with_options name.now) }
+    ensures local { IfOk result (λ command. (out-Command command).has_globals ≡ false) }
+{
+    Command::new(alloc, name)
+        .about(about)
+        .arg(option(alloc, "depth", depth))?
+        .arg(option(alloc, "item", help::ITEM))
+}
+
+// An option of one number.
+fn option<'a>(alloc: Global, name: &'a str, about: &'a str) -> Arg<'a>
+    ensures rule { rule_of result ≡ option_rule name.now }
+    ensures local { result.global ≡ false }
+{
+    Arg::new(alloc, name).long(name).value_name("N").help(about)
+}

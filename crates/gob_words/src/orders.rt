@@ -1,0 +1,99 @@
+//! What the words of the command line ask for.
+
+ghost use Rattle.std.specs.Prelude.{◌≡◌, ◌≢◌, ℕ, IfOk, MatchOption, MatchResult, map, option_map};
+ghost use Rattle.clap.specs.Words.{found_of, rows_of, subcommand_rows_of};
+ghost use Rattle.gob_words.specs.declared.words.Chosen.{Chosen};
+ghost use Rattle.gob_words.specs.declared.words.Order.{Order};
+ghost use Rattle.gob_words.specs.Words.{Asks, HasNoFault, IsFaultOf, IsOrderOf, Refuses, name_of, text_of, wanted_in};
+
+use crate::command_line::program;
+use crate::decimal::number_of;
+use crate::words::{Chosen, Order, OrderFault};
+use clap::error::ErrorKind;
+use clap::{ArgMatches, Error};
+use std::alloc::{AllocError, Global};
+
+const USUAL_DEPTH: u64 = 1000;
+
+const USUAL_ITEM: u64 = 67108864;
+
+/// What the words ask for, the program's name first: a command, its files and its options. The words `help`, `-h` and
+/// `--help` are answered with [`OrderFault::Help`].
+pub fn order_of<'a>(alloc: Global, words: &'a [&'a str]) -> Result<Order<'a>, OrderFault>
+    ensures order { MatchResult result (Asks (map (λ word. word.now) words.entry.now))
+        (Refuses (map (λ word. word.now) words.entry.now)) }
+    ensures accepted { IfOk result (λ _. HasNoFault (map (λ word. word.now) words.entry.now)) }
+{
+    match program(alloc)?.try_get_matches_from(words) {
+        Ok(matches) => order_in(&matches).ok_or(OrderFault::Words),
+        Err(error) => Err(fault_of(alloc, &error)),
+    }
+}
+
+// The fault of words that clap gives no matches for.
+fn fault_of(alloc: Global, error: &Error) -> OrderFault
+    ensures { IsFaultOf error.now result }
+{
+    match error.kind() {
+        ErrorKind::DisplayHelp => match help_in(alloc, error) {
+            Ok(text) => OrderFault::Help(text),
+            Err(_) => OrderFault::Memory,
+        },
+        ErrorKind::OutOfMemory => OrderFault::Memory,
+        _ => OrderFault::Words,
+    }
+}
+
+// The help that clap answers with, without its last line feed.
+fn help_in(alloc: Global, error: &Error) -> Result<String, AllocError> {
+    let mut text = error.to_string(alloc)?;
+    text.pop();
+    Ok(text)
+}
+
+// The order that clap's matches make. None: no command is named, or a number is none or out of its range.
+fn order_in<'a>(matches: &ArgMatches<'a>) -> Option<Order<'a>>
+    ensures { MatchOption result
+        ((order : Order) → ¬ IsOrderOf (subcommand_rows_of matches.now) order)
+        (IsOrderOf (subcommand_rows_of matches.now)) }
+{
+    let (name, matches) = matches.subcommand()?;
+    let command = command_of(name)?;
+    let wanted = wanted_in(command, matches);
+    let depth = number_of(matches.get_str("depth"), USUAL_DEPTH)?;
+    let item = number_of(matches.get_str("item"), USUAL_ITEM)?;
+    if depth < 1 || depth > command.most_depth() || wanted.is_some() != command.wants_type() {
+        return None;
+    }
+    Some(Order {
+        command,
+        wanted,
+        input: matches.get_str("IN"),
+        depth,
+        item,
+    })
+}
+
+// The command of this name.
+fn command_of(name: &str) -> Option<Chosen>
+    ensures { MatchOption result ((command : Chosen) → name_of command ≢ name.now)
+        (λ command. name_of command ≡ name.now) }
+{
+    match name {
+        "show" => Some(Chosen::Show),
+        "check" => Some(Chosen::Check),
+        "rewrite" => Some(Chosen::Rewrite),
+        "take" => Some(Chosen::Take),
+        _ => None,
+    }
+}
+
+// The name of the file that has the wanted type, where the command has one.
+fn wanted_in<'a>(command: Chosen, matches: &ArgMatches<'a>) -> Option<&'a str>
+    ensures { text_of result ≡ wanted_in command (rows_of (found_of matches.now)) }
+{
+    match command {
+        Chosen::Show | Chosen::Check | Chosen::Rewrite => None,
+        Chosen::Take => matches.get_str("WANTED"),
+    }
+}

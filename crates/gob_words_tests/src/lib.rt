@@ -1,0 +1,7 @@
+//! Tests of the words of the command line, by the public calls of `gob_words`.
+#![tactic(auto)]
+
+#[cfg(test)]
+mod help;
+#[cfg(test)]
+mod words;
