@@ -22,3 +22,17 @@ returns-in-Put-clause-written g c = λ i m there other.
     (g.W.Write.contents (writer_of c.args.output.now)) (g.W.Write.contents (writer_of c.write_tidy_value-put.new.output))
     c.write_tidy_value-put.result) o.same
     (c.write_tidy_value-put.ensures.written o.value o.means stands other)
+
+pub write_tidy_definition-requires : goal.write_tidy_definition-requires
+write_tidy_definition-requires g c =
+    subst (λ (i : StreamItem). StandsNext c.args.writer.now (types c.args.table.now) i)
+    (sym (definition_meant c.requires.meant c.in-Define.is)) c.requires.next
+
+pub write_tidy_value-put-requires : goal.write_tidy_value-put-requires
+write_tidy_value-put-requires g c =
+    let o = value_meant c.requires.meant c.in-Put.is in (
+      o.value,
+      o.means,
+      subst (λ (i : StreamItem). StandsNext c.args.writer.now (types c.args.table.now) i) (sym o.same)
+          c.requires.next,
+    )

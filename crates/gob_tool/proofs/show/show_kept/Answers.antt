@@ -1,5 +1,5 @@
 -- The kept bytes and what they lacked are given as one piece.
-use Rattle.std.proofs.Common.{◌++◌, ◌∙◌, Err}
+use Rattle.std.proofs.Common.{◌++◌, ◌∙◌, Ok, Err}
 use Rattle.gob_tool.specs.declared.fault.ToolFault.TheVariants as fault
 use Rattle.gob_stream.specs.Ends.{writer_of}
 use Rattle.gob_stream.specs.Bounds.{within_trees}
@@ -25,3 +25,11 @@ returns-in_err-show_item-clause-shown g c = λ bytes start k.
     c.from_residual-in_err-show_item.ensures.1
     (kept_given (within_trees M) s new after front (Err f) k (c.bytes.ensures ∙ c.in_ok-keep.ensures.kept)
     (c.in_err-show_item.ensures.shown k.given start k.behind))
+
+pub returns-clause-shown : goal.returns-clause-shown
+returns-clause-shown g c = λ bytes start k.
+    let s = c.show_item.new.session in
+    let new = g.W.Write.contents (writer_of c.show_item.new.output) in
+    let after = c.show_item.new.lines.gathered.items in
+    kept_given (within_trees c.args.session.now.limits) s new after c.args.front.now (Ok tt) k
+    (c.bytes.ensures ∙ c.in_ok-keep.ensures.kept) (c.in_ok-show_item.ensures.shown k.given start k.behind)
