@@ -7,8 +7,10 @@ on how code is laid out.
 import os
 import re
 
-from calls import LITERAL, UNNAMED, bodies
+from functions import LITERAL, bodies, text_of
 
+# What `?`, `==`, `for`, the end of a scope and the like call, without a name.
+UNNAMED = {"default", "deref", "drop", "eq", "fmt", "from", "into_iter", "next"}
 WORD = re.compile(r"[^\W\d]\w*")
 BROUGHT = re.compile(r"(?m)^\s*(?:pub |ghost )?use\s+Rattle\.([^\s{};]+?)(?:\.\{([^}]*)\})?(?: as (\w+))?;?$")
 GHOST_USE = re.compile(r"(?m)^\s*ghost use .*$")
@@ -18,11 +20,6 @@ LAYOUT = re.compile(rf"({LITERAL.pattern})|\s+", re.S)
 NAMED = re.compile(r"\b(?:fn|struct|enum|trait|const|static|type)\s+(\w+)")
 OWNER = re.compile(r"(?m)^(?:pub(?:\([^)]*\))? )?(?:impl|trait|struct|enum)\b[^{;]*")
 TYPE = re.compile(r"\b[A-Z]\w+")
-
-
-def text_of(file):
-    with open(file, encoding="utf-8") as it:
-        return it.read()
 
 
 def files_below(folder, ending):

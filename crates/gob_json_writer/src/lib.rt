@@ -1,7 +1,7 @@
 //! Gob values and definitions told to a writer of JSON, part by part.
 //!
-//! - [`write_put`] and [`write_tape`] tell it a value with its type: `{"type":65,"value":[3,4]}`; the one of a tree, the
-//!   other of a tape.
+//! - [`write_put`] and [`write_tape`] tell it a value with its type: `{"type":65,"value":[3,4]}`; the one of a tree,
+//!   the other of a tape.
 //! - [`write_definition`] tells it the shape of a type: `{"define":65,"elem":2,"kind":"slice","name":""}`.
 #![tactic(auto)]
 

@@ -32,6 +32,10 @@ pub whole_of : {T : Table} {t : TypeId} {limit : ℕ} {bytes : List ℕ} → IsT
     → IsWhole T t limit bytes
 whole_of v = record { value = v.value; spelled = v.spelled; within = v.within }
 
+-- the depth that is asked for is that of the limits, and none that is deeper than any reader goes
+pub depth_asked : {n d : ℕ} {M L : Bounds} → n ≡ min d deepest → d ≡ M.depth → M ≡ L → n ≡ min L.depth deepest
+depth_asked e f same = e ∙ ap (λ (n : ℕ). min n deepest) (f ∙ ap (λ (l : Bounds). l.depth) same)
+
 -- what is an item at an offset is one at any before it
 sooner : {L : Bounds} {T U : Table} {o n : ℕ} {i : StreamItem} {b : List ℕ} → n ≤ o → IsItem base_table L T o i b U
     → IsItem base_table L T n i b U

@@ -1,21 +1,19 @@
 -- What was found to be a whole value and tidy is the item that is passed and written.
-use Rattle.std.proofs.Common.{◌≡◌, ◌∙◌, ℕ, Ok, Err, min, ap, sym, subst}
+use Rattle.std.proofs.Common.{◌∙◌, Ok, Err, ap, sym, subst}
 use Rattle.gob_types.specs.Defined.{types}
 use Rattle.gob_types.specs.Table.{Table}
 use Rattle.gob_value.specs.Whole.{IsTidyWhole}
 use Rattle.gob_stream.specs.Ends.{writer_of}
-use Rattle.gob_stream.specs.Bounds.{Bounds, deepest}
+use Rattle.gob_stream.specs.Bounds.{deepest}
 use Rattle.gob_stream.proofs.PublicLaws.{has_item}
 use Rattle.gob_tool.specs.Machine.Rewritten.{IsTidyNext}
 use Rattle.gob_tool.proofs.RewriteOut.{EachPushesOut}
-use Rattle.gob_tool.proofs.RewriteWhole.{whole_of, whole_next, whole_rewritten, whole_stops, may_at}
+use Rattle.gob_tool.proofs.RewriteWhole.{depth_asked, whole_of, whole_next, whole_rewritten, whole_stops, may_at}
 use Rattle.gob_tool.proofs.rewrite.rewrite_whole.Goals as goal
 
 pub pass-requires-clause-item : goal.pass-requires-clause-item
 pass-requires-clause-item g c =
-    let limits = c.args.session.now.limits in
-    let depth : c.min-most.result ≡ min limits.depth deepest = c.min-most.ensures
-    ∙ ap (λ (n : ℕ). min n deepest) (c.depth.ensures.depth ∙ ap (λ (l : Bounds). l.depth) c.limits.ensures) in
+    let depth = depth_asked c.min-most.ensures c.depth.ensures.depth c.limits.ensures in
     let tidy = subst (λ (T : Table). IsTidyWhole T c.in-Some.whole.id c.min-most.result c.in-Some.whole.body.now)
     (ap (λ d. types d) c.table.ensures) (c.is_tidy_whole.ensures c.if-not-is_tidy_whole.false) in
     has_item deepest depth c.in-Some.ensures.body (whole_of tidy)
@@ -23,9 +21,7 @@ pass-requires-clause-item g c =
 pub push_whole-requires : goal.push_whole-requires
 push_whole-requires g c =
     let h = c.requires.so_far in
-    let limits = c.args.session.now.limits in
-    let depth : c.min-most.result ≡ min limits.depth deepest = c.min-most.ensures
-    ∙ ap (λ (n : ℕ). min n deepest) (c.depth.ensures.depth ∙ ap (λ (l : Bounds). l.depth) c.limits.ensures) in
+    let depth = depth_asked c.min-most.ensures c.depth.ensures.depth c.limits.ensures in
     let tidy = subst (λ (T : Table). IsTidyWhole T c.in-Some.whole.id c.min-most.result c.in-Some.whole.body.now)
     (ap (λ d. types d) c.table.ensures) (c.is_tidy_whole.ensures c.if-not-is_tidy_whole.false) in (
       c.args.session.now,
@@ -36,9 +32,7 @@ push_whole-requires g c =
 
 pub returns-in_err-push_whole-clause-rewritten : goal.returns-in_err-push_whole-clause-rewritten
 returns-in_err-push_whole-clause-rewritten g c = λ h.
-    let limits = c.args.session.now.limits in
-    let depth : c.min-most.result ≡ min limits.depth deepest = c.min-most.ensures
-    ∙ ap (λ (n : ℕ). min n deepest) (c.depth.ensures.depth ∙ ap (λ (l : Bounds). l.depth) c.limits.ensures) in
+    let depth = depth_asked c.min-most.ensures c.depth.ensures.depth c.limits.ensures in
     let tidy = subst (λ (T : Table). IsTidyWhole T c.in-Some.whole.id c.min-most.result c.in-Some.whole.body.now)
     (ap (λ d. types d) c.table.ensures) (c.is_tidy_whole.ensures c.if-not-is_tidy_whole.false) in
     let s = c.pass.new.self in
@@ -57,9 +51,7 @@ returns-in_err-push_whole-clause-rewritten g c = λ h.
 
 pub returns-clause-rewritten : goal.returns-clause-rewritten
 returns-clause-rewritten g c = λ h.
-    let limits = c.args.session.now.limits in
-    let depth : c.min-most.result ≡ min limits.depth deepest = c.min-most.ensures
-    ∙ ap (λ (n : ℕ). min n deepest) (c.depth.ensures.depth ∙ ap (λ (l : Bounds). l.depth) c.limits.ensures) in
+    let depth = depth_asked c.min-most.ensures c.depth.ensures.depth c.limits.ensures in
     let tidy = subst (λ (T : Table). IsTidyWhole T c.in-Some.whole.id c.min-most.result c.in-Some.whole.body.now)
     (ap (λ d. types d) c.table.ensures) (c.is_tidy_whole.ensures c.if-not-is_tidy_whole.false) in
     let s = c.pass.new.self in
