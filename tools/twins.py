@@ -3,7 +3,7 @@
 What calls a refused function has no proof, so wrong bodies of two functions of which one calls the other hide each other's verdict.
 Beside the right bodies they don't: a check takes the twins of all functions of a crate, and several of one. A twin has a copy of the
 function's proof. Where functions that call one another share a proof, a twin calls the right ones, and its proof is what theirs says of
-it. A function in a trait or an impl of one has no twin.
+it, but for the measure that falls from call to call. A function in a trait or an impl of one has no twin.
 
 What a function calls is known by its contract, so nothing but the twins is proved: each other function is taken at its word, by a hole in
 place of its proof.
@@ -77,17 +77,10 @@ def proof_of(function, cycle=None):
     return "/".join(["proofs", *above, f"+{cycle}" if cycle else name])
 
 
-def asks_others(folder, function, cycle):
-    """Returns whether an answer in the proof that it shares is to what another of its functions requires: there it has more to show."""
-    file = f"{folder}/{proof_of(function, cycle)}/Answers.antt"
-    text = text_of(file) if os.path.isfile(file) else ""
-    others = {found[3] for found in ANSWER.finditer(text) if found[4]}
-    return bool(others & {*re.findall(rf"(?m)^pub {function.rpartition('::')[2]}-(\w+)-requires", text)})
-
-
 def of_one(text, function):
     """Returns what a file of a proof that functions share says of one of them, as it is said of one that has its own."""
     kept = []
+    together = {found[3] for found in ANSWER.finditer(text) if found[4]}
     for part in text.split("\n\n"):
         found = ANSWER.search(part)
         if found and (found[4] or found[2]):
@@ -98,11 +91,39 @@ def of_one(text, function):
             part = part.replace(f"goal.{old}\n", f"goal.{new}\n")
             part = re.sub(rf"(?m)^((?:abbrev )?(?:pub )?){re.escape(old)}(?= )", rf"\g<1>{new}", part)
             # (a shared proof has a parameter for the theorems of the others)
-            part = re.sub(rf"(?m)^({re.escape(new)}(?: g)?) t c =", r"\1 c =", part)
+            part = re.sub(rf"(?m)^({re.escape(new)}(?: g)?) t c(?: κs within)? =", r"\1 c =", part)
+            if goal.partition("-requires")[0] in together:
+                part = required_alone(part)
         kept.append(part)
     # ways through the function, by their names, of which a file brings those of all functions
     text = GOALS.sub(lambda it: ", ".join(name for name in it[0].split(", ") if name.startswith(f"{function}-")), "\n\n".join(kept))
     return re.sub(rf"(?<![\w.-]){function}-(?=\w)", "", text)
+
+
+def required_alone(answer):
+    """Returns an answer to what another function of a shared proof requires, without what stands before that: that the measure falls, and
+    what is known within it of the functions that call one another."""
+    pair = pair_at_end(answer)
+    if not pair:
+        return answer
+    begin, _, fact = pair
+    within = pair_at_end(fact)
+    while within and within[0] == 0 and within[1].startswith("within"):
+        fact = within[2]
+        within = pair_at_end(fact)
+    return answer[:begin] + fact
+
+
+def pair_at_end(text):
+    """Returns where the pair of terms begins that ends the text, and the two. None where no pair does."""
+    text, depth, comma = text.rstrip(), 0, None
+    for at in range(len(text) - 1, -1, -1):
+        depth += (text[at] in ")]}") - (text[at] in "([{")
+        if depth == 1 and text[at] == "," and text[at + 1 : -1].strip():
+            comma = at
+        if not depth:
+            return comma and (at, text[at + 1 : comma].strip(), text[comma + 1 : -1].strip().rstrip(","))
+    return None
 
 
 def add(folder, twins):

@@ -16,7 +16,7 @@ use std::alloc::Global;
 /// Appends the bytes of the value. After `Memory` the vector may have grown.
 #[cycle(write)]
 pub(crate) fn write_value(alloc: Global, value: &Value, out: &mut Vec<u8>) -> Result<(), Memory>
-    requires writable { IsSpelledWithin Written depth 1000 (view value.now) }
+    requires { IsSpelledWithin Written depth 1000 (view value.now) }
     ensures ok { OnOk result (Appends (Written (view value.now)) out.old.items out.new.items) }
     ensures err { OnErr result (Appends (λ _. Unit {0}) out.old.items out.new.items) }
 {
@@ -36,7 +36,7 @@ pub(crate) fn write_value(alloc: Global, value: &Value, out: &mut Vec<u8>) -> Re
 
 #[cycle(write)]
 fn write_each(alloc: Global, parts: &[Value], out: &mut Vec<u8>) -> Result<(), Memory>
-    requires writable { IsSpelledWithin WrittenEach trees_depth 1000 (views parts.now) }
+    requires { IsSpelledWithin WrittenEach trees_depth 1000 (views parts.now) }
     ensures ok { OnOk result (Appends (WrittenEach (views parts.now)) out.old.items out.new.items) }
     ensures err { OnErr result (Appends (λ _. Unit {0}) out.old.items out.new.items) }
 {
@@ -48,7 +48,7 @@ fn write_each(alloc: Global, parts: &[Value], out: &mut Vec<u8>) -> Result<(), M
 
 #[cycle(write)]
 fn write_pairs(alloc: Global, parts: &[(Value, Value)], out: &mut Vec<u8>) -> Result<(), Memory>
-    requires writable { IsSpelledWithin WrittenPairs pairs_depth 1000 (pair_views parts.now) }
+    requires { IsSpelledWithin WrittenPairs pairs_depth 1000 (pair_views parts.now) }
     ensures ok { OnOk result (Appends (WrittenPairs (pair_views parts.now)) out.old.items out.new.items) }
     ensures err { OnErr result (Appends (λ _. Unit {0}) out.old.items out.new.items) }
 {
@@ -61,7 +61,7 @@ fn write_pairs(alloc: Global, parts: &[(Value, Value)], out: &mut Vec<u8>) -> Re
 
 #[cycle(write)]
 fn write_fields(alloc: Global, parts: &[(u64, Value)], out: &mut Vec<u8>) -> Result<(), Memory>
-    requires writable { IsSpelledWithin (WrittenFields 0) fields_depth 1000 (field_views parts.now) }
+    requires { IsSpelledWithin (WrittenFields 0) fields_depth 1000 (field_views parts.now) }
     ensures ok { OnOk result (Appends (WrittenFields 0 (field_views parts.now)) out.old.items out.new.items) }
     ensures err { OnErr result (Appends (λ _. Unit {0}) out.old.items out.new.items) }
 {

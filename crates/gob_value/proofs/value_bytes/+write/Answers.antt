@@ -163,7 +163,7 @@ write_value-write_fields-requires t c =
       search (rules, the_lemmas),
       rw c.deref-in-Fields.ensures.value
           (fields_writable (field_views fs.items) (subst (IsSpelledWithin Written depth 1000) (ap view c.in-Fields.is ∙ view-Fields fs)
-          c.requires.writable)),
+          c.requires)),
     )
 
 pub write_value-write_leaf-requires : goal.write_value-write_leaf-requires
@@ -211,7 +211,7 @@ write_value-write_each-requires t c =
     let vs = c.in-Many.parts in (
       search (rules, the_lemmas),
       rw c.deref.ensures.value
-          (many_writable (views vs.items) (subst (IsSpelledWithin Written depth 1000) (ap view c.in-Many.is ∙ view-Many vs) c.requires.writable)),
+          (many_writable (views vs.items) (subst (IsSpelledWithin Written depth 1000) (ap view c.in-Many.is ∙ view-Many vs) c.requires)),
     )
 
 pub write_value-write_pairs-requires : goal.write_value-write_pairs-requires
@@ -220,7 +220,7 @@ write_value-write_pairs-requires t c =
       search (rules, the_lemmas),
       rw c.deref-in-Pairs.ensures.value
           (pairs_writable (pair_views ps.items) (subst (IsSpelledWithin Written depth 1000) (ap view c.in-Pairs.is ∙ view-Pairs ps)
-          c.requires.writable)),
+          c.requires)),
     )
 
 pub write_value-returns-in_ok-write_uint-in-Many-clause-ok : goal.write_value-returns-in_ok-write_uint-in-Many-clause-ok
