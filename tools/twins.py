@@ -90,7 +90,7 @@ def of_one(text, function):
             new = f"{kind or ''}{goal}"
             part = part.replace(f"goal.{old}\n", f"goal.{new}\n")
             part = re.sub(rf"(?m)^((?:abbrev )?(?:pub )?){re.escape(old)}(?= )", rf"\g<1>{new}", part)
-            # (a shared proof has a parameter for the theorems of the others)
+            # (a shared proof has parameters for the theorems of the others)
             part = re.sub(rf"(?m)^({re.escape(new)}(?: g)?) t c(?: κs within)? =", r"\1 c =", part)
             if goal.partition("-requires")[0] in together:
                 part = required_alone(part)
@@ -107,10 +107,9 @@ def required_alone(answer):
     if not pair:
         return answer
     begin, _, fact = pair
-    within = pair_at_end(fact)
-    while within and within[0] == 0 and within[1].startswith("within"):
-        fact = within[2]
-        within = pair_at_end(fact)
+    # (by the name that such answers give it)
+    while (pair := pair_at_end(fact)) and pair[0] == 0 and pair[1].startswith("within"):
+        fact = pair[2]
     return answer[:begin] + fact
 
 
