@@ -42,7 +42,7 @@ impl<T: Drop> From<AllocFailed<T>> for MatchFault {
 }
 
 /// Why a pair of types has no conversion.
-#[derive(Clone, Copy, Debug, PartialEq, Eq)]
+#[derive(Clone, Copy)]
 pub(crate) enum PairFault {
     /// Its shapes don't match.
     Clash(ClashReason),

@@ -19,7 +19,7 @@ use gob_num::{Memory, Taken, take_uint, to_pattern};
 use gob_types::{Basic, Fields, Kind, Shapes, TypeId};
 
 /// The field whose part is expected.
-#[derive(Clone, Copy, Debug, PartialEq, Eq)]
+#[derive(Clone, Copy)]
 pub(crate) struct Entered {
     /// One more than its number.
     pub(crate) next: u64,

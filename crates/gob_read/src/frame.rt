@@ -4,7 +4,7 @@ use crate::next::NextNumber;
 use gob_types::TypeId;
 
 /// A part that has begun and has parts, as far as its reader needs to know it.
-#[derive(Clone, Copy, Debug, PartialEq, Eq)]
+#[derive(Clone, Copy)]
 pub(crate) enum Frame {
     /// A slice or an array, of which an element is read.
     Many {

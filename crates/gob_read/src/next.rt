@@ -3,7 +3,7 @@
 use gob_types::TypeId;
 
 /// What the next bytes are.
-#[derive(Clone, Copy, Debug, PartialEq, Eq)]
+#[derive(Clone, Copy)]
 pub(crate) enum Next {
     /// What a body of the type begins with, before anything is looked up.
     Top {
@@ -20,7 +20,7 @@ pub(crate) enum Next {
 }
 
 /// What an expected number is.
-#[derive(Clone, Copy, Debug, PartialEq, Eq)]
+#[derive(Clone, Copy)]
 pub(crate) enum NextNumber {
     /// The tag before the body's value, which is no struct.
     Tag {
@@ -42,7 +42,7 @@ pub(crate) enum NextNumber {
 }
 
 /// Where the reader has moved with what it took.
-#[derive(Clone, Copy, Debug, PartialEq, Eq)]
+#[derive(Clone, Copy)]
 pub(crate) enum Moved {
     /// To the next expected item, or on within the one that was expected.
     ToNext,

@@ -52,7 +52,7 @@ impl<B: Builder> Drop for Run<B> {
 }
 
 /// How far the reader has come in a piece.
-#[derive(Clone, Copy, Debug, PartialEq, Eq)]
+#[derive(Clone, Copy)]
 pub(crate) struct Advance {
     /// How many bytes were taken.
     pub(crate) used: usize,

@@ -16,7 +16,7 @@ use gob_types::Table;
 use std::alloc::Global;
 
 /// A part of the stream, by the offsets of its first byte and of what follows it.
-#[derive(Clone, Copy, Debug, PartialEq, Eq)]
+#[derive(Clone, Copy)]
 pub(crate) struct Extent {
     /// Where it begins.
     pub(crate) begin: u64,

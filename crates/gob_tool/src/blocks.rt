@@ -18,7 +18,7 @@ use gob_types::{Shapes, TypeId};
 use std::io::Write;
 
 /// A write that failed: as small as an answer can be, since each part of a text has one.
-#[derive(Clone, Copy, Debug, PartialEq, Eq)]
+#[derive(Clone, Copy)]
 pub(crate) struct Unwritten;
 
 impl From<Unwritten> for ToolFault {

@@ -25,7 +25,7 @@ pub(crate) struct Piece<const N: usize> {
 }
 
 /// There is no room for a text.
-#[derive(Clone, Copy, Debug, PartialEq, Eq)]
+#[derive(Clone, Copy)]
 pub(crate) struct Full;
 
 impl<const N: usize> Piece<N> {

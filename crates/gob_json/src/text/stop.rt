@@ -4,7 +4,7 @@ use gob_num::Memory;
 use std::alloc::{AllocError, AllocFailed};
 
 /// What ends the writing of a text before its end. A front of the text stands then.
-#[derive(Clone, Copy, Debug, PartialEq, Eq)]
+#[derive(Clone, Copy)]
 pub(crate) enum Stop {
     /// The bytes spell no value of the type that is shallow enough.
     NotWhole,
