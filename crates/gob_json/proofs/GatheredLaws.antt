@@ -1,6 +1,8 @@
 -- Text that was gathered is put out.
-use Rattle.std.proofs.Common.{◌≡◌, ℕ, List, [], ◌++◌, Result, Ok, Err, OnOk, ap, sym, subst, ◌∙◌, append-nil}
-use Rattle.gob_json.specs.Machine.Gathered.{Gathers, gathers_both}
+use Rattle.std.proofs.Common.{◌≡◌, ℕ, List, [], ◌++◌, Result, Ok, Err, OnOk, ap, sym, subst, ◌∙◌}
+use Rattle.std.proofs.Common.{append-nil, append_assoc}
+use Rattle.std.specs.Result.{IsErrAnd}
+use Rattle.gob_json.specs.Machine.Gathered.{Gathers, PassesOn, gathers_both}
 
 module _ {O E : Type 0} (puts : O → O → List ℕ → Result (Unit {0}) E → Type 0) where
   -- all that waited, so that nothing waits then
@@ -31,3 +33,20 @@ module _ {O E : Type 0} (puts : O → O → List ℕ → Result (Unit {0}) E →
   gathered_behind joined a b c held waits left text r p q =
       gathers_both puts joined a b c held waits left [] text r
       (subst (λ l. Gathers {E = E} puts a b l waits (Ok tt)) (sym (append-nil held)) p) q
+
+  -- a text that waits behind what was gathered
+  pub gathered_on : {a b : O} {held waits left : List ℕ} (text : List ℕ) → PassesOn {E = E} puts a b held waits
+      → left ≡ waits ++ text → PassesOn {E = E} puts a b (held ++ text) left
+  gathered_on {waits = waits} text p e = record {
+    gone = p.gone;
+    whole = ap (λ l. l ++ text) p.whole ∙ append_assoc p.gone waits text ∙ ap (λ l. p.gone ++ l) (sym e);
+    out = p.out;
+  }
+
+  -- a text for which there was to be room
+  pub gathered_failed : ((a b : O) (x y : List ℕ) (e : E) → puts a b x (Err e) → puts a b (x ++ y) (Err e))
+      → (a b : O) (held left text : List ℕ) {f : E} (q : Result (Unit {0}) E) → IsErrAnd q (λ e. e ≡ f)
+      → puts a b held (Err f) → Gathers puts a b (held ++ text) left q
+  gathered_failed cut a b held left text (Ok u) h p = absurd h
+  gathered_failed cut a b held left text {f = f} (Err e) h p =
+      subst (λ e. puts a b (held ++ text) (Err e)) (sym h) (cut a b held text f p)

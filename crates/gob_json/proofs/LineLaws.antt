@@ -77,3 +77,14 @@ whole_line {T = T} {t = t} head value old new begun p closed =
           ∙ ap (λ l. l ++ 125 ∷ 10 ∷ []) (p.text ∙ ap (λ l. l ++ text) begun ∙ append_assoc old (head_text t) text)
           ∙ append_assoc old (head_text t ++ text) (125 ∷ 10 ∷ []) ∙ ap (λ l. old ++ l) (line_text T t p.value);
     }
+
+-- a line that was made where nothing was, and was then copied behind others
+pub line_copied : {T : Table} {t : TypeId} {limit : ℕ} {body none line copy old new : List ℕ}
+    → LineOfWhole T t limit body none line → none ≡ [] → copy ≡ line → new ≡ old ++ copy
+    → LineOfWhole T t limit body old new
+line_copied {T = T} {t = t} {old = old} p empty same e = record {
+  value = p.value;
+  spelled = p.spelled;
+  within = p.within;
+  text = e ∙ ap (λ l. old ++ l) (same ∙ p.text ∙ ap (λ l. l ++ (compact_text (put_json T t p.value) ++ 10 ∷ [])) empty);
+}

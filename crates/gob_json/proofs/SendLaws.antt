@@ -1,6 +1,6 @@
 -- The text of values that are known to stand in a body, as it is put out part by part.
 use Rattle.std.proofs.Common.{◌≡◌, ℕ, ◌+◌, ◌-◌, ◌==◌, ◌<◌, Bool, true, false, List, [], ◌∷◌, ◌++◌, drop, Some}
-use Rattle.std.proofs.Common.{Option, Result, Ok, Err, arith, refl, sym, ap, ◌∙◌, subst, append_assoc}
+use Rattle.std.proofs.Common.{Option, Result, Ok, Err, IfOk, arith, refl, sym, ap, ◌∙◌, subst, append_assoc}
 use Rattle.std.specs.Fmt.{decimal}
 use Rattle.std.specs.Result.{IsErrAnd, result_and}
 use Rattle.serde_json.specs.Data.{boolean, null}
@@ -36,6 +36,15 @@ truth_is true n e = rw e refl
 
 shown_as : (T : Table) (t : TypeId) {v w : Tree} → v ≡ w → compact_text (value_json T t w) ≡ compact_text (value_json T t v)
 shown_as T t same = ap (λ v. compact_text (value_json T t v)) (sym same)
+
+end_so : {E : Type 0} (P : ℕ → Type 0) (end : ℕ) (r : Result (Unit {0}) E) → P end → IfOk (result_and r (Ok end)) P
+end_so P end (Ok u) p = p
+end_so P end (Err f) p = tt
+
+-- the end that is given behind the last of the text
+pub end_as : {E : Type 0} (P : ℕ → Type 0) (end : ℕ) (r : Result (Unit {0}) E) (q : Result ℕ E)
+    → q ≡ result_and r (Ok end) → P end → IfOk q P
+end_as P end r q e p = subst (λ q. IfOk q P) (sym e) (end_so P end r p)
 
 module _ {O E : Type 0} (puts : O → O → List ℕ → Result (Unit {0}) E → Type 0) where
   -- ---- what is answered
@@ -346,12 +355,13 @@ module _ {O E : Type 0} (puts : O → O → List ℕ → Result (Unit {0}) E →
   -- all elements of a list
   pub all_elements : {T : Table} {e : TypeId} {limit count : ℕ} {vs : Trees} {old : O} {piece rest : List ℕ}
       → BeginsElements T e limit vs piece rest → tree_count vs ≡ count
-      → ElementsLeft puts T e limit count false old old piece rest (items_text false (elements_json T e vs))
-  all_elements {vs = vs} b counted = record { values = vs; begins = b; counted = counted; text = λ new r p. p }
+      → ElementsLeft puts T e limit (count - 0) false old old piece rest (items_text false (elements_json T e vs))
+  all_elements {vs = vs} b counted =
+      record { values = vs; begins = b; counted = omega (arith, counted); text = λ new r p. p }
 
   pub first_entries : {T : Table} {k e : TypeId} {limit count : ℕ} {ps : Pairs} {old now : O} {rest : List ℕ}
       (body : List ℕ) (at end : ℕ) → NumberFrom body at count end → BeginsMap T k e limit ps (drop at body) rest
-      → puts old now (91 ∷ []) (Ok tt) → EntriesLeft puts T k e limit count false old now (drop end body) rest
+      → puts old now (91 ∷ []) (Ok tt) → EntriesLeft puts T k e limit (count - 0) false old now (drop end body) rest
       (91 ∷ items_text false (pairs_json T k e ps))
   first_entries {ps = ps} {rest = rest} body at end found b p =
       let one = found (pair_count ps) b.behind b.counted in
@@ -359,7 +369,7 @@ module _ {O E : Type 0} (puts : O → O → List ℕ → Result (Unit {0}) E →
       record {
         pairs = ps;
         begins = record { bytes = w.bytes; spelled = w.spelled; within = w.within; whole = one.1 ∙ w.whole };
-        counted = sym one.0;
+        counted = omega (arith, one.0);
         text = begun (91 ∷ []) _ p;
       }
 
@@ -394,19 +404,20 @@ module _ {O E : Type 0} (puts : O → O → List ℕ → Result (Unit {0}) E →
           → puts old new all (Err f)
       element_failed p sent = part_failed (comma_if later) _ _ l.text shown p (sent next.first next.behind next.value)
 
-      pub element_put : {mid after : O} {place : List ℕ} → puts now mid (comma_if later) (Ok tt)
+      pub element_put : {mid after : O} {place : List ℕ} {left : ℕ} {behind : Bool} → left ≡ count - 1 → behind ≡ true
+          → puts now mid (comma_if later) (Ok tt)
           → ((v : Tree) (rest : List ℕ) → HoldsValue T e limit v piece rest
           → (place ≡ rest) × puts mid after (compact_text (value_json T e v)) (Ok tt))
-          → ElementsLeft puts T e limit (count - 1) true old after place rest all
-      element_put p sent =
+          → ElementsLeft puts T e limit left behind old after place rest all
+      element_put less more p sent =
           let one = sent next.first next.behind next.value in
           let w = next.left in
-          record {
+          rw (less, more) (record {
             values = next.others;
             begins = record { bytes = w.bytes; spelled = w.spelled; within = w.within; whole = one.0 ∙ w.whole };
             counted = omega (arith, l.counted, ap tree_count next.same);
             text = part_put (comma_if later) _ _ l.text shown p one.1;
-          }
+          })
 
   -- ---- elements whose text waits
   pub all_wait : {T : Table} {e : TypeId} {limit count : ℕ} {vs : Trees} {old : O} {piece rest : List ℕ}
@@ -487,19 +498,20 @@ module _ {O E : Type 0} (puts : O → O → List ℕ → Result (Unit {0}) E →
       entry_failed p sent =
           part_failed (comma_if later) _ _ l.text pair_shown p (sent next_pair.key next_pair.value next_pair.behind next_pair.entry)
 
-      pub entry_put : {mid after : O} {place : List ℕ} → puts now mid (comma_if later) (Ok tt)
+      pub entry_put : {mid after : O} {place : List ℕ} {left : ℕ} {behind : Bool} → left ≡ count - 1 → behind ≡ true
+          → puts now mid (comma_if later) (Ok tt)
           → ((x v : Tree) (rest : List ℕ) → BeginsEntry T k e limit x v piece rest
           → (place ≡ rest) × puts mid after (compact_text (pair_json (value_json T k x) (value_json T e v))) (Ok tt))
-          → EntriesLeft puts T k e limit (count - 1) true old after place rest all
-      entry_put p sent =
+          → EntriesLeft puts T k e limit left behind old after place rest all
+      entry_put less more p sent =
           let one = sent next_pair.key next_pair.value next_pair.behind next_pair.entry in
           let w = next_pair.left in
-          record {
+          rw (less, more) (record {
             pairs = next_pair.others;
             begins = record { bytes = w.bytes; spelled = w.spelled; within = w.within; whole = one.0 ∙ w.whole };
             counted = omega (arith, l.counted, ap pair_count next_pair.same);
             text = part_put (comma_if later) _ _ l.text pair_shown p one.1;
-          }
+          })
 
   -- ---- fields
   module _ {T : Table} {types : List Field} {next limit delta : ℕ} {later : Bool} {old now : O} {rest all : List ℕ}
@@ -541,16 +553,16 @@ module _ {O E : Type 0} (puts : O → O → List ℕ → Result (Unit {0}) E →
           → puts old new all (Err g)
       field_failed sent = front_failed _ _ l.text field_shown (sent next_one.value next_one.after value_there)
 
-      pub field_put : {after : O} {place : List ℕ}
+      pub field_put : {after : O} {place : List ℕ} {behind : Bool} → behind ≡ true
           → ((v : Tree) (rest : List ℕ) → HoldsValue T e.id limit v (drop end body) rest
           → (place ≡ rest) × puts now after (comma_if later
           ++ compact_text (triple_json (natural_json f) (text_json e.name) (value_json T e.id v))) (Ok tt))
-          → PresentLeft puts T types (f + 1) limit true old after place rest all
-      field_put sent =
+          → PresentLeft puts T types (f + 1) limit behind old after place rest all
+      field_put more sent =
           let one = sent next_one.value next_one.after value_there in
           let w = next_one.left in
-          record {
+          rw more (record {
             fields = next_one.others;
             begins = record { bytes = w.bytes; spelled = w.spelled; within = w.within; whole = one.0 ∙ w.whole };
             text = front_put _ _ l.text field_shown one.1;
-          }
+          })

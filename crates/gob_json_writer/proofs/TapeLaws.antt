@@ -1,6 +1,7 @@
 -- What is written of the parts that the children of a view give, and what is left to be written.
-use Rattle.std.proofs.Common.{◌≡◌, ◌≢◌, ℕ, ℤ, pos, negsuc, ◌+◌, ◌*◌, ◌/◌, ◌%◌, ◌<◌, List, [], ◌∷◌, ◌++◌, Option, Some}
-use Rattle.std.proofs.Common.{None, Bool, true, false, not, arith, refl, sym, ap, ◌∙◌, subst, append_assoc, Result, Ok}
+use Rattle.std.proofs.Common.{◌≡◌, ◌≢◌, ℕ, ℤ, pos, negsuc, ◌+◌, ◌*◌, ◌/◌, ◌%◌, ◌<◌, ◌≤◌, List, [], ◌∷◌, ◌++◌}
+use Rattle.std.proofs.Common.{Option, Some, None, Bool, true, false, not, arith, refl, sym, ap, ◌∙◌, subst}
+use Rattle.std.proofs.Common.{append_assoc, Result, Ok}
 use Rattle.std.specs.Prelude.{◌==◌, if◌then◌else◌, slice_get}
 use Rattle.std.specs.Fmt.{signed_decimal}
 use Rattle.json.specs.Token.{Token}
@@ -113,6 +114,14 @@ fewer_left {old = old} {new = new} {part = part} p e = by (subst (λ p. TakesNod
   where
     by : TakesNodes old new (Some part) → nodes_left new < nodes_left old
     by (takes_some a b) = b
+
+-- no more nodes are left than a loop began with
+pub none_fewer : {parts others : Children} → others ≡ parts → nodes_left others ≤ nodes_left parts
+none_fewer e = let f = ap nodes_left e in omega arith
+
+pub still_fewer : {old new : Children} {given : Option View} {part : View} {n : ℕ} → GivesPart old given new
+    → given ≡ Some part → nodes_left old ≤ n → nodes_left new ≤ n
+still_fewer p e h = let f = fewer_left p e in omega arith
 
 -- ---- elements
 

@@ -1,12 +1,13 @@
 -- Calls that write tokens, one behind another, and what is left to be written of a list.
-use Rattle.std.proofs.Common.{◌≡◌, ℕ, ◌+◌, ◌<◌, List, [], ◌∷◌, ◌++◌, length, get_or, drop, ◌∙◌, ap, sym, subst}
+use Rattle.std.proofs.Common.{◌≡◌, ℕ, ◌+◌, ◌<◌, ◌≤◌, List, [], ◌∷◌, ◌++◌, length, get_or, drop, ◌∙◌, ap, sym, subst}
 use Rattle.std.proofs.Common.{append_assoc, Result, Ok}
-use Rattle.std.proofs.lemmas.List.{at_drop_more}
-use Rattle.std.proofs.lemmas.Result.{on_ok_weaker}
+use Rattle.std.specs.Prelude.{IsErr}
+use Rattle.std.proofs.lemmas.List.{at_drop_more, drop_all}
+use Rattle.std.proofs.lemmas.Result.{on_ok_weaker, IfOk-from_err}
 use Rattle.json.specs.Token.{Token}
 use Rattle.json.specs.Written.{Written, Writes}
 use Rattle.serde_json.specs.Data.{Data}
-use Rattle.gob_json_writer.specs.WritesJson.{WritesTokens, WritesJson}
+use Rattle.gob_json_writer.specs.WritesJson.{WritesTokens, WritesJson, WritesJsonOf}
 
 -- ---- one call behind another
 
@@ -20,6 +21,18 @@ both_written {r = r} {old = old} {xs = xs} {ys = ys} p q = record {
   tokens = on_ok_weaker r (λ e. e ∙ ap (λ (l : List Token). l ++ ys) p.tokens ∙ append_assoc old.tokens xs ys) q.tokens;
   before = q.before ∙ p.before;
 }
+
+-- a call that failed says of the tokens nothing
+pub none_written : {E : Type 0} {r : Result (Unit {0}) E} {old new : Written} {ts : List Token} → IsErr r
+    → new.before ≡ old.before → WritesTokens r old new ts
+none_written {r = r} {old = old} {new = new} {ts = ts} e b = record {
+  tokens = IfOk-from_err r (λ _. new.tokens ≡ old.tokens ++ ts) e;
+  before = b;
+}
+
+pub none_written_of : {E V : Type 0} {r : Result (Unit {0}) E} {old new : Written} {Is : V → Type 0} {json : V → Data}
+    → IsErr r → new.before ≡ old.before → WritesJsonOf r old new Is json
+none_written_of e b = record { before = b; each = λ v h. none_written e b }
 
 -- the same of JSON that is alike
 pub same_written : {E : Type 0} {r : Result (Unit {0}) E} {old new : Written} {d e : Data} → d ≡ e
@@ -64,3 +77,12 @@ left_more tokens {xs = xs} {i = i} {x = x} {old = old} {now = now} {all = all} s
     let left = at_drop_more tokens xs i x (subst (λ l. i < length l) same within)
     ∙ ap (λ y. tokens (y ∷ drop (i + 1) xs)) next ∙ first in
     left_on (tokens (drop (i + 1) xs)) (subst (λ ts. IsLeft old now ts all) left l) w
+
+-- the whole list was written
+pub left_none : {E X : Type 0} {r : Result (Unit {0}) E} (tokens : List X → List Token) {xs shown : List X} {i : ℕ}
+    {old now new : Written} {all : List Token}
+    → shown ≡ xs → length shown ≤ i → IsLeft old now (tokens (drop i xs)) all → WritesTokens r now new (tokens [])
+    → WritesTokens r old new all
+left_none tokens {xs = xs} {i = i} {old = old} {now = now} {all = all} same past l w =
+    let none = ap tokens (drop_all i xs (subst (λ l. length l ≤ i) same past)) in
+    left_end (subst (λ ts. IsLeft old now ts all) none l) w

@@ -12,6 +12,7 @@ pub mod ValueSteps
 pub mod DefinitionSteps
 pub mod SessionSteps
 pub mod WholeSteps
+pub mod FailedSteps
 pub mod ReadStreamSteps
 pub mod NumberSteps
 pub mod StageSteps

@@ -1,12 +1,15 @@
 pub mod BlockLaws
 pub mod PrintLaws
 pub mod LinesStay
+pub mod CountLaws
+pub mod RoomLaws
 pub mod GatherLaws
 pub mod ShowLaws
 pub mod ShowWhole
 pub mod ShowFront
 pub mod LargeLaws
 pub mod KeepLaws
+pub mod MatchedLaws
 pub mod TakeLaws
 pub mod PieceLaws
 pub mod ReceivedLaws

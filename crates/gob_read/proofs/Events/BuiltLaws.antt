@@ -12,6 +12,7 @@ use Rattle.gob_value.specs.View.{trees_of, pairs_of, fields_of}
 use Rattle.gob_value.specs.Spelling.{truth}
 use Rattle.gob_read.specs.declared.event.RawKind.{RawKind}
 use Rattle.gob_read.specs.Event.{Event, number, raw_start, raw_more, leave, HasRawEvents, no_bytes, more_bytes, HasEvents, tell_bool, tell_not_negative, tell_negative, tell_uint, tell_float, tell_complex, tell_nil, tell_bytes, tell_text, tell_opaque, tell_many, tell_pairs, tell_fields, HaveEvents, tell_none, tell_each, PairsHaveEvents, tell_no_pair, tell_pair, FieldsHaveEvents, tell_no_field, tell_field}
+use Rattle.gob_read.specs.Building.{HasRoomFor}
 use Rattle.gob_read.specs.Weight.{parts_told, raw_told}
 use Rattle.gob_read.specs.Machine.Built.{Part, raw, many, pairs, fields, Work, no_work, put, told, all_told}
 use Rattle.gob_read.specs.Leaf.{signed_of, raw_tree}
@@ -28,6 +29,11 @@ told_more old new before after us t e n a = record {
   built = e ∙ ap (λ w. told w t) a.built ∙ sym (all_told-append no_work us (t ∷ []));
   count = omega (arith, n, a.count, parts_told-append us (t ∷ []), raw_told-append us (t ∷ []));
 }
+
+-- and there is room to count it
+pub one_counted : {w : Work} {held : ℕ} (us : List Event) (t : Event) → AreBuilt w held us → HasRoomFor (us ++ t ∷ [])
+    → held + (parts_told (t ∷ []) + raw_told (t ∷ [])) < 2 ^ 64
+one_counted us t a r = omega (arith, r.room, a.count, parts_told-append us (t ∷ []), raw_told-append us (t ∷ []))
 
 signed_even : (n : ℕ) → signed_of (2 * n) ≡ pos n
 signed_even n =

@@ -1,11 +1,13 @@
 -- What a writer has written after a call.
-use Rattle.std.proofs.Common.{◌≡◌, ℕ, ◌+◌, List, [], ◌∷◌, ◌++◌, length, false, Option, Result, Ok, Err, refl, sym, ap, subst, ◌∙◌, arith, append_assoc, length-append}
+use Rattle.std.proofs.Common.{◌≡◌, ℕ, ◌+◌, List, [], ◌∷◌, ◌++◌, length, true, false, Option, Result, Ok, Err, refl}
+use Rattle.std.proofs.Common.{sym, ap, subst, ◌∙◌, arith, append_assoc, length-append}
 use Rattle.std.specs.Io.KnownBytes.{Appends}
 use Rattle.std.proofs.KnownBytes.{Keeps-refl, Appends-trans}
 use Rattle.gob_types.specs.Table.{Table}
 use Rattle.gob_types.specs.Base.{base_table}
 use Rattle.gob_types.specs.Defined.{types}
 use Rattle.gob_stream.specs.declared.fault.WriteFault.{WriteFault}
+use Rattle.gob_stream.specs.declared.fault.WriteFault.TheVariants as fault
 use Rattle.gob_stream.specs.declared.output.Output.{Output}
 use Rattle.gob_stream.specs.declared.stream_writer.StreamWriter.{StreamWriter}
 use Rattle.gob_types.specs.declared.denial.Denial.{Denial}
@@ -18,7 +20,8 @@ use Rattle.gob_stream.specs.Laws.{AtLeast}
 use Rattle.gob_stream.specs.Item.{StreamItem}
 use Rattle.gob_stream.specs.Stream.{Stream, IsItem}
 use Rattle.gob_stream.specs.WriterRefusal.{RefusesItem}
-use Rattle.gob_stream.specs.Writing.{HasWritten, WritesItem, Leaves, CountsWriterFaults, WriteEffects, IsUnchanged, SentFront, SendAnswers}
+use Rattle.gob_stream.specs.Writing.{HasWritten, WritesItem, Leaves, CountsWriterFaults, WriteEffects}
+use Rattle.gob_stream.specs.Writing.{IsUnchanged, WroteNothing, SentFront, SendAnswers}
 use Rattle.gob_stream.proofs.Stream.StreamLaws.{one_more, wider_counted}
 
 -- what is denied before any byte went out is a fault of the item
@@ -60,6 +63,19 @@ module _ {W : Type 0} (contents : W → Option (List ℕ)) where
     failed = λ failed. absurd (cc);
     counted = counted;
   }
+
+  -- nothing was tried, since a write had failed
+  pub failed_effects : (w : StreamWriter) (output : Output W) → w.failed ≡ true
+      → WriteEffects w w contents output output (Err fault.Failed)
+  failed_effects w output failed =
+      let out = contents (writer_of output) in
+      let nothing : WroteNothing w w out out = (refl, Keeps-refl out) in
+      record { leaves = (failed, nothing); failed = λ e. (refl, nothing); counted = refl }
+
+-- nor has it written items before
+pub failed_wrote : {A : Type 0} {w : StreamWriter} {items : List StreamItem} {bytes : List ℕ} {T : Table}
+    → w.failed ≡ true → HasWritten w items bytes T → A
+failed_wrote failed written = let sound = written.sound in absurd (cc)
 
 -- what trees may be written under is no more than the limits
 pub trees_within : (L : Bounds) → AtLeast (within_trees L) L

@@ -1,13 +1,15 @@
 -- Part by part more is written, and less is left.
-use Rattle.std.proofs.Common.{◌≡◌, ◌∙◌, ap, sym, arith, subst, Some}
+use Rattle.std.proofs.Common.{◌≡◌, ◌∙◌, ap, sym, subst, Some}
 use Rattle.std.specs.Prelude.{unwrap_or}
 use Rattle.json.specs.Written.{Written}
 use Rattle.serde_json.specs.Data.{array}
 use Rattle.gob_types.specs.Table.{shape_of}
-use Rattle.gob_tape.specs.Seeing.{Gives, alternating, parts_of, nodes_left}
-use Rattle.gob_json.specs.Json.{value_json, elements_json, pairs_json, fields_json, key_type}
-use Rattle.gob_json_writer.proofs.TapeLaws.{next_is, fewer_left, elements_on, elements_end, fields_on, fields_end, entries_begun, key_turn, element_turn, entries_end, leaf_seen, as_many, as_pairs, as_fields, field_json}
-use Rattle.gob_json_writer.proofs.WrittenLaws.{one_written, both_written, same_written}
+use Rattle.gob_tape.specs.Seeing.{Gives, elements, alternating, present, parts_of}
+use Rattle.gob_json.specs.Json.{value_json, elements_json, pairs_json, fields_json, key_type, text_json}
+use Rattle.gob_json_writer.proofs.TapeLaws.{next_is, none_fewer, still_fewer, elements_begun, elements_on, elements_end}
+use Rattle.gob_json_writer.proofs.TapeLaws.{fields_begun, fields_on, fields_end, entries_begun, key_turn, element_turn}
+use Rattle.gob_json_writer.proofs.TapeLaws.{entries_end, leaf_seen, as_many, as_pairs, as_fields, field_json}
+use Rattle.gob_json_writer.proofs.WrittenLaws.{one_written, both_written, same_written, none_written_of}
 use Rattle.gob_json_writer.proofs.tape_json.+part.Goals as goal
 use Rattle.gob_json_writer.proofs.tape_json.+part.Goals.{write_entries-then-is_key+in_ok-begin_array-2+in_ok-write_part, write_entries-else-is_key+in_ok-write_part-2+in_ok-end_array}
 
@@ -16,7 +18,7 @@ write_elements-loop-part-preserved g t c = record {
   next = tt;
   finite = tt;
   before = c.in_ok-write_part.ensures.before ∙ c.loop-part.invariant.before;
-  fewer = omega (arith, fewer_left c.next.ensures.steps c.in-Some.is, c.loop-part.invariant.fewer);
+  fewer = still_fewer c.next.ensures.steps c.in-Some.is c.loop-part.invariant.fewer;
   written = λ vs h. elements_on (c.loop-part.invariant.written vs h) (next_is c.next.ensures.steps c.in-Some.is) c.in_ok-write_part.ensures;
 }
 
@@ -32,7 +34,7 @@ write_entries-loop-part-init g t c =
       next = tt;
       finite = tt;
       before = c.in_ok-begin_array.ensures.room.0;
-      fewer = omega (arith, ap nodes_left same);
+      fewer = none_fewer same;
       written = λ ps h. entries_begun ps (one_written c.in_ok-begin_array.ensures) (subst (λ p. Gives p (alternating ps)) (sym same) h);
     }
 
@@ -44,7 +46,7 @@ write_entries-loop-part-preserved g t c = record {
     | write_entries-then-is_key+in_ok-begin_array-2+in_ok-write_part w ↦ ap (λ (o : Written). o.before) w.out-is ∙ w.in_ok-write_part.ensures.before ∙ w.in_ok-begin_array-2.ensures.room.0 ∙ c.loop-part.invariant.before
     | write_entries-else-is_key+in_ok-write_part-2+in_ok-end_array w ↦ ap (λ (o : Written). o.before) w.out-is ∙ w.in_ok-end_array.ensures.room.0 ∙ w.in_ok-write_part-2.ensures.before ∙ c.loop-part.invariant.before
   ];
-  fewer = omega (arith, fewer_left c.next.ensures.steps c.in-Some.is, c.loop-part.invariant.fewer);
+  fewer = still_fewer c.next.ensures.steps c.in-Some.is c.loop-part.invariant.fewer;
   written = λ ps h. elim c.if-is_key.branch [
     | write_entries-then-is_key+in_ok-begin_array-2+in_ok-write_part w ↦
         key_turn w.out-is w.if-is_key.true (c.loop-part.invariant.written ps h) (next_is c.next.ensures.steps c.in-Some.is)
@@ -74,14 +76,15 @@ write_fields-loop-part-preserved g t c =
       next = tt;
       finite = tt;
       before = ended.room.0 ∙ shown.before ∙ text.before ∙ number.room.0 ∙ begun.room.0 ∙ c.loop-part.invariant.before;
-      fewer = omega (arith, fewer_left c.next.ensures.steps c.in-Some.is, c.loop-part.invariant.fewer);
+      fewer = still_fewer c.next.ensures.steps c.in-Some.is c.loop-part.invariant.fewer;
       written = λ fs h.
           fields_on (c.loop-part.invariant.written fs h) (next_is c.next.ensures.steps c.in-Some.is)
           (λ f v s.
           let is : n ≡ f = c.unwrap_or-number.ensures ∙ ap (λ o. unwrap_or o 0) (c.field.ensures (Some f) v s) in
           same_written (ap (λ n. field_json T types n v) is)
           (both_written (one_written begun) (both_written (one_written number)
-          (both_written (rw c.name_at.ensures at text) (both_written (rw c.type_at.ensures at (shown.each v (Some f, s)))
+          (both_written (same_written (ap text_json c.name_at.ensures) text)
+          (both_written (same_written (ap (λ e. value_json T e v) c.type_at.ensures) (shown.each v (Some f, s)))
           (one_written ended))))));
     }
 
@@ -140,3 +143,87 @@ write_part-returns-in_default g t c =
           c.in_default.not-Fields)
           c.write_leaf.ensures;
     }
+
+pub write_elements-loop-part-init : goal.write_elements-loop-part-init
+write_elements-loop-part-init g t c =
+    let same = c.into_iter-part-iterator.ensures.into_iter_gives in record {
+      next = tt;
+      finite = tt;
+      before = c.in_ok-begin_array.ensures.room.0;
+      fewer = none_fewer same;
+      written = λ vs h.
+          elements_begun vs (one_written c.in_ok-begin_array.ensures) (subst (λ p. Gives p (elements vs)) (sym same) h);
+    }
+
+pub write_elements-returns-in_err-begin_array : goal.write_elements-returns-in_err-begin_array
+write_elements-returns-in_err-begin_array g t c = none_written_of c.from_residual.ensures.0 c.begin_array.ensures.room.0
+
+pub write_elements-returns-in_err-write_part : goal.write_elements-returns-in_err-write_part
+write_elements-returns-in_err-write_part g t c =
+    none_written_of c.from_residual-in_err-write_part.ensures.0
+    (c.write_part.ensures.before ∙ c.loop-part.invariant.before)
+
+pub write_entries-returns-in_err-begin_array : goal.write_entries-returns-in_err-begin_array
+write_entries-returns-in_err-begin_array g t c = none_written_of c.from_residual.ensures.0 c.begin_array.ensures.room.0
+
+pub write_entries-returns-in_err-begin_array-2 : goal.write_entries-returns-in_err-begin_array-2
+write_entries-returns-in_err-begin_array-2 g t c =
+    none_written_of c.from_residual-in_err-begin_array-2.ensures.0
+    (c.begin_array-then-is_key.ensures.room.0 ∙ c.loop-part.invariant.before)
+
+pub write_entries-returns-in_err-write_part : goal.write_entries-returns-in_err-write_part
+write_entries-returns-in_err-write_part g t c =
+    none_written_of c.from_residual-in_err-write_part.ensures.0
+    (c.write_part.ensures.before ∙ c.in_ok-begin_array-2.ensures.room.0 ∙ c.loop-part.invariant.before)
+
+pub write_entries-returns-in_err-write_part-2 : goal.write_entries-returns-in_err-write_part-2
+write_entries-returns-in_err-write_part-2 g t c =
+    none_written_of c.from_residual-in_err-write_part-2.ensures.0
+    (c.write_part-else-is_key.ensures.before ∙ c.loop-part.invariant.before)
+
+pub write_entries-returns-in_err-end_array : goal.write_entries-returns-in_err-end_array
+write_entries-returns-in_err-end_array g t c =
+    none_written_of c.from_residual-in_err-end_array.ensures.0
+    (c.end_array.ensures.room.0 ∙ c.in_ok-write_part-2.ensures.before ∙ c.loop-part.invariant.before)
+
+pub write_fields-loop-part-init : goal.write_fields-loop-part-init
+write_fields-loop-part-init g t c =
+    let same = c.into_iter-part-iterator.ensures.into_iter_gives in record {
+      next = tt;
+      finite = tt;
+      before = c.in_ok-begin_array.ensures.room.0;
+      fewer = none_fewer same;
+      written = λ fs h.
+          fields_begun fs (one_written c.in_ok-begin_array.ensures) (subst (λ p. Gives p (present fs)) (sym same) h);
+    }
+
+pub write_fields-returns-in_err-begin_array : goal.write_fields-returns-in_err-begin_array
+write_fields-returns-in_err-begin_array g t c = none_written_of c.from_residual.ensures.0 c.begin_array.ensures.room.0
+
+pub write_fields-returns-in_err-begin_array-2 : goal.write_fields-returns-in_err-begin_array-2
+write_fields-returns-in_err-begin_array-2 g t c =
+    none_written_of c.from_residual-in_err-begin_array-2.ensures.0
+    (c.begin_array-in-loop-part.ensures.room.0 ∙ c.loop-part.invariant.before)
+
+pub write_fields-returns-in_err-u64 : goal.write_fields-returns-in_err-u64
+write_fields-returns-in_err-u64 g t c =
+    none_written_of c.from_residual-in_err-u64.ensures.0
+    (c.u64.ensures.room.0 ∙ c.in_ok-begin_array-2.ensures.room.0 ∙ c.loop-part.invariant.before)
+
+pub write_fields-returns-in_err-write_text : goal.write_fields-returns-in_err-write_text
+write_fields-returns-in_err-write_text g t c =
+    none_written_of c.from_residual-in_err-write_text.ensures.0
+    (c.write_text.ensures.before ∙ c.in_ok-u64.ensures.room.0 ∙ c.in_ok-begin_array-2.ensures.room.0
+    ∙ c.loop-part.invariant.before)
+
+pub write_fields-returns-in_err-write_part : goal.write_fields-returns-in_err-write_part
+write_fields-returns-in_err-write_part g t c =
+    none_written_of c.from_residual-in_err-write_part.ensures.0
+    (c.write_part.ensures.before ∙ c.in_ok-write_text.ensures.before ∙ c.in_ok-u64.ensures.room.0
+    ∙ c.in_ok-begin_array-2.ensures.room.0 ∙ c.loop-part.invariant.before)
+
+pub write_fields-returns-in_err-end_array : goal.write_fields-returns-in_err-end_array
+write_fields-returns-in_err-end_array g t c =
+    none_written_of c.from_residual-in_err-end_array.ensures.0
+    (c.end_array.ensures.room.0 ∙ c.in_ok-write_part.ensures.before ∙ c.in_ok-write_text.ensures.before
+    ∙ c.in_ok-u64.ensures.room.0 ∙ c.in_ok-begin_array-2.ensures.room.0 ∙ c.loop-part.invariant.before)

@@ -42,3 +42,6 @@ returns-clause-ok c = λ most.
     definition_body c.args.limits.now (c.in_ok-judge_id.ensures.judged c.args.limits.now most) within c.in_ok-shape.ensures.shape
     is (signed_as (negsuc (c.args.id.0 - 1)) number.spelled (omega (arith, ints))) spelled.spelled
     (appended_two number.bytes spelled.bytes c.clear.ensures.items number.appended spelled.appended)
+
+pub returns-clause-admitted : goal.returns-clause-admitted
+returns-clause-admitted c = c.in_ok-judge_id.ensures.admitted

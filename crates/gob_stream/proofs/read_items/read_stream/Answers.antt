@@ -18,3 +18,6 @@ returns-in_err-session-clause-honest g c =
 pub returns-clause-honest : goal.returns-clause-honest
 returns-clause-honest g c =
     rw (sym c.in_ok-session.ensures.limits) (given_as (λ given items bytes e. stream_honestly _ bytes _ _ _ (items bytes e)) c.read_items.ensures.items)
+
+pub returns-clause-items : goal.returns-clause-items
+returns-clause-items g c = rw (sym c.in_ok-session.ensures.limits) c.read_items.ensures.items

@@ -1,6 +1,7 @@
 -- From piece to piece what was read is counted, and each end is that of the stream.
 use Rattle.std.proofs.Common.{rules, ◌≡◌, ◌<◌, ◌∙◌, ◌++◌, length, take, arith, ap, refl, length-take}
 use Rattle.gob_types.specs.Defined.{types, definition_count}
+use Rattle.gob_stream.specs.Devices.{counts_up}
 use Rattle.gob_stream.specs.Ends.{reader_of}
 use Rattle.gob_stream.specs.Bounds.{deepest, no_deeper}
 use Rattle.gob_tool.specs.declared.check.Tally.{Tally}
@@ -127,3 +128,6 @@ returns-in-Err-clause-counted g c = λ bytes known.
     let next = g.R.Read.remaining (reader_of c.read.new.self) in
     count_failed c.pieces.invariant.2 c.args.limits next bytes c.pieces.invariant.0 known
     c.in-Err.ensures.bytes
+
+pub returns-in-Err-clause-reads : goal.returns-in-Err-clause-reads
+returns-in-Err-clause-reads g c = c.in-Err.ensures.counted.1 ∙ ap (λ n. counts_up n 1) c.pieces.invariant.1

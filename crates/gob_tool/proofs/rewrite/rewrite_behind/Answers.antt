@@ -7,6 +7,8 @@ use Rattle.gob_stream.specs.Bounds.{deepest, no_deeper}
 use Rattle.gob_tool.specs.Machine.Rewritten.{MayRewriteFront}
 use Rattle.gob_tool.proofs.RewriteRuns.{up_to_none, up_to_more}
 use Rattle.gob_tool.proofs.RewriteKeeping.{keeping_at, rest_kept, rest_begun, two_keeping}
+use Rattle.gob_tool.proofs.CountLaws.{no_memory_writes}
+use Rattle.gob_tool.proofs.RoomLaws.{rest_shorter}
 use Rattle.gob_tool.proofs.rewrite.rewrite_behind.Goals as goal
 
 pub items-init : goal.items-init
@@ -69,3 +71,26 @@ items-preserved g c =
           (c.in_ok-used.ensures.rewritten u.on.next) in
           up_to_more h u n later taken,
     )
+
+pub slice_bounds-rest-count : goal.slice_bounds-rest-count
+slice_bounds-rest-count g c =
+    let taken = rw c.in-Some.is at c.in_ok-used.ensures.used in taken.1
+
+pub items-smaller : goal.items-smaller
+items-smaller g c =
+    let taken = rw c.in-Some.is at c.in_ok-used.ensures.used in
+    rest_shorter c.items.rest.now c.in-Some.used taken.0 taken.1
+
+pub returns-in_err-keep-in-None-clause-limits : goal.returns-in_err-keep-in-None-clause-limits
+returns-in_err-keep-in-None-clause-limits g c = c.in_ok-used.ensures.limits ∙ c.items.invariant.0
+
+pub returns-in-None-clause-limits : goal.returns-in-None-clause-limits
+returns-in-None-clause-limits g c = c.in_ok-used.ensures.limits ∙ c.items.invariant.0
+
+pub returns-in_err-keep-in-None-clause-writes : goal.returns-in_err-keep-in-None-clause-writes
+returns-in_err-keep-in-None-clause-writes g c =
+    no_memory_writes _ _ c.from_residual-in_err-keep-in-None.result c.from_residual-in_err-keep-in-None.ensures.1
+    (c.in_ok-used.ensures.writes ∙ c.items.invariant.1)
+
+pub returns-in-None-clause-writes : goal.returns-in-None-clause-writes
+returns-in-None-clause-writes g c = c.in_ok-used.ensures.writes ∙ c.items.invariant.1

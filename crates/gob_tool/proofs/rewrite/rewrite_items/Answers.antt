@@ -1,18 +1,21 @@
 -- From piece to piece the session stands behind what was read and isn't kept, and each end is that of the stream.
-use Rattle.std.proofs.Common.{rules, [], ◌≡◌, ◌<◌, ◌∙◌, ◌++◌, length, take, arith, refl, sym, subst, length-take}
+use Rattle.std.proofs.Common.{[], ◌≡◌, ◌<◌, ◌∙◌, ◌++◌, length, take, arith, refl, sym, subst, length-take, ap}
 use Rattle.std.specs.Io.KnownBytes.{Consumes}
 use Rattle.std.proofs.KnownBytes.{Appends-nil}
 use Rattle.gob_tool.specs.declared.fault.ToolFault.TheVariants as fault
-use Rattle.gob_stream.specs.Ends.{failed_reads, reader_of, writer_of}
+use Rattle.gob_stream.specs.Devices.{counts_up}
+use Rattle.gob_stream.specs.Ends.{failed_reads, failed_writes, reader_of, writer_of}
 use Rattle.gob_stream.specs.Writing.{IsNew}
 use Rattle.gob_tool.proofs.CheckLaws.{limits_as}
 use Rattle.gob_stream.specs.Bounds.{Bounds, deepest, no_deeper}
-use Rattle.gob_tool.specs.Machine.Gathering.{Gathered, CountsOnlyReads}
+use Rattle.gob_tool.specs.Machine.Gathering.{Gathered, CountsOnlyReads, CountsOnlyWrites}
 use Rattle.gob_tool.specs.Rewriting.{RewritesSo}
 use Rattle.gob_tool.specs.Showing.{AppendsFront}
 use Rattle.gob_tool.proofs.RewriteRuns.{rewritten_none, rewritten_stopped, piece_reads, rewrites_at}
 use Rattle.gob_tool.proofs.RewriteKeeping.{keeps_first, keeps_on, falls_keeping, taken_more, taken_all, unread_keeping}
 use Rattle.gob_tool.proofs.ShowLaws.{read_none, reads_at}
+use Rattle.gob_tool.proofs.CountLaws.{writes_at}
+use Rattle.gob_tool.proofs.RoomLaws.{same_ok, room_some}
 use Rattle.gob_tool.proofs.rewrite.rewrite_items.Goals as goal
 
 pub returns-in_err-buffer-clause-rewritten : goal.returns-in_err-buffer-clause-rewritten
@@ -43,7 +46,9 @@ pieces-init g c = (
       (limits_as c.in_ok-session.ensures.limits c.in_ok-session.ensures.allowed)
       (subst (λ L. IsNew c.args.rewriter.now.writer L) (sym c.in_ok-session.ensures.limits) c.requires.new)
       c.requires.empty c.new-pending.ensures,
-  search rules,
+  room_some c.as_mut_slice-room.ensures.len
+      (same_ok _ _ c.vec.result c.map_err.result c.in_ok-buffer.buffer c.map_err.ensures.cases c.map_err.ensures.variant
+      c.in_ok-buffer.was c.vec.ensures.len),
 )
 
 pub rewrite_end-requires : goal.rewrite_end-requires
@@ -125,3 +130,25 @@ returns-in-Err-clause-rewritten g c = λ bytes known.
     let next = g.R.Read.remaining (reader_of c.read.new.self) in
     unread_keeping c.pieces.invariant.3 c.args.limits next bytes c.pieces.invariant.0 known
     c.in-Err.ensures.bytes
+
+pub slice_bounds-piece-end : goal.slice_bounds-piece-end
+slice_bounds-piece-end g c = c.in-Ok.ensures.bound.0
+
+pub slice_bounds-piece-end-in-Ok : goal.slice_bounds-piece-end-in-Ok
+slice_bounds-piece-end-in-Ok g c = c.in-Ok.ensures.bound.1
+
+pub returns-in-Err-clause-reads : goal.returns-in-Err-clause-reads
+returns-in-Err-clause-reads g c = c.in-Err.ensures.counted.1 ∙ ap (λ n. counts_up n 1) c.pieces.invariant.1
+
+pub returns-in-Err-clause-writes : goal.returns-in-Err-clause-writes
+returns-in-Err-clause-writes g c = c.pieces.invariant.2
+
+pub returns-in-Ok-eq0-clause-writes : goal.returns-in-Ok-eq0-clause-writes
+returns-in-Ok-eq0-clause-writes g c =
+    subst (λ n. CountsOnlyWrites n (failed_writes c.rewrite_end.new.output) c.rewrite_end.result) c.pieces.invariant.2
+    c.rewrite_end.ensures.writes
+
+pub returns-in_err-rewrite_next-in-Ok-clause-writes : goal.returns-in_err-rewrite_next-in-Ok-clause-writes
+returns-in_err-rewrite_next-in-Ok-clause-writes g c =
+    writes_at (Unit {0}) _ _ _ c.from_residual-in_err-rewrite_next-in-Ok.result c.in_err-rewrite_next-in-Ok.field-0.0
+    c.from_residual-in_err-rewrite_next-in-Ok.ensures.1 c.pieces.invariant.2 c.in_err-rewrite_next-in-Ok.ensures.writes

@@ -1,8 +1,9 @@
 -- What the kept bytes lack comes from the front of the piece, and all of it where it isn't enough.
-use Rattle.std.proofs.Common.{◌<◌, ◌++◌, ◌∙◌, ap, sym, length, arith, append_assoc}
+use Rattle.std.proofs.Common.{◌<◌, ◌++◌, ◌∙◌, ap, sym, subst, length, arith, append_assoc}
 use Rattle.gob_tool.specs.declared.fault.ToolFault.TheVariants as fault
-use Rattle.gob_stream.specs.Ends.{writer_of}
+use Rattle.gob_stream.specs.Ends.{failed_writes, writer_of}
 use Rattle.gob_stream.specs.Bounds.{deepest, no_deeper}
+use Rattle.gob_tool.specs.Machine.Gathering.{CountsOnlyWrites}
 use Rattle.gob_tool.proofs.KeepLaws.{front_behind}
 use Rattle.gob_tool.proofs.RewriteKeeping.{keeping_at, memory_kept, kept_more, fault_more, two_keeping}
 use Rattle.gob_tool.proofs.rewrite.rewrite_next.Goals as goal
@@ -54,3 +55,8 @@ returns-clause-rewritten g c = λ h.
     c.rewrite_behind.new.rewriter.writer c.rewrite_behind.new.pending.bytes.items
     (g.W.Write.contents (writer_of c.rewrite_behind.new.output)) c.rewrite_behind.new.rewriter.gathered.items
     c.rewrite_behind.result c.in_ok-rewrite_kept.ensures.limits whole (c.rewrite_behind.ensures.rewritten x.next)
+
+pub returns-clause-writes : goal.returns-clause-writes
+returns-clause-writes g c =
+    subst (λ n. CountsOnlyWrites n (failed_writes c.rewrite_behind.new.output) c.rewrite_behind.result)
+    c.in_ok-rewrite_kept.ensures.writes c.rewrite_behind.ensures.writes

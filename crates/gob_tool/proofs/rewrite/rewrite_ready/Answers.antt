@@ -1,10 +1,11 @@
 -- What is tidy already is written as it stands, the first bytes of an item are left, and anything else is read on with
 -- a step.
-use Rattle.std.proofs.Common.{ℕ, Option, Ok, Err, subst}
+use Rattle.std.proofs.Common.{◌∙◌, ℕ, Option, Ok, Err, subst}
 use Rattle.gob_stream.specs.Ends.{writer_of}
 use Rattle.gob_tool.specs.Machine.Rewritten.{MayRewriteWhole}
 use Rattle.gob_tool.proofs.RewriteRuns.{stands_still, still_used}
 use Rattle.gob_tool.proofs.RewriteKeeping.{front_at}
+use Rattle.gob_tool.proofs.CountLaws.{writes_at}
 use Rattle.gob_tool.proofs.rewrite.rewrite_ready.Goals as goal
 
 pub returns-in_err-used-clause-rewritten : goal.returns-in_err-used-clause-rewritten
@@ -73,3 +74,23 @@ returns-in_ok-rewrite_by_step-in-None-2-clause-rewritten g c = λ h.
     c.rewrite_whole.new.rewriter.gathered.items (Ok o)) c.in-None.is (c.in_ok-used.ensures.rewritten h) in
     still_used s w c.args.piece.now _ after (Ok c.in_ok-rewrite_by_step-in-None-2.field-0) x
     c.in_ok-rewrite_by_step-in-None-2.ensures.rewritten h
+
+pub rewrite_by_step-requires-clause-some : goal.rewrite_by_step-requires-clause-some
+rewrite_by_step-requires-clause-some g c = c.is_begun.ensures.some c.if-is_begun.false
+
+pub returns-in_ok-rewrite_by_step-in-None-2-clause-limits : goal.returns-in_ok-rewrite_by_step-in-None-2-clause-limits
+returns-in_ok-rewrite_by_step-in-None-2-clause-limits g c = c.in_ok-rewrite_by_step-in-None-2.ensures.limits
+    ∙ c.in_ok-used.ensures.limits
+
+pub returns-in_ok-rewrite_by_step-in-None-2-clause-writes : goal.returns-in_ok-rewrite_by_step-in-None-2-clause-writes
+returns-in_ok-rewrite_by_step-in-None-2-clause-writes g c = c.in_ok-rewrite_by_step-in-None-2.ensures.writes
+    ∙ c.in_ok-used.ensures.writes
+
+pub returns-in_ok-rewrite_by_step-in-None-2-clause-used : goal.returns-in_ok-rewrite_by_step-in-None-2-clause-used
+returns-in_ok-rewrite_by_step-in-None-2-clause-used g c = c.in_ok-rewrite_by_step-in-None-2.ensures.used
+
+pub returns-in_err-rewrite_by_step-in-None-2-clause-writes : goal.returns-in_err-rewrite_by_step-in-None-2-clause-writes
+returns-in_err-rewrite_by_step-in-None-2-clause-writes g c =
+    writes_at ℕ _ _ _ c.from_residual-in_err-rewrite_by_step-in-None-2.result
+    c.in_err-rewrite_by_step-in-None-2.field-0.0 c.from_residual-in_err-rewrite_by_step-in-None-2.ensures.1
+    c.in_ok-used.ensures.writes c.in_err-rewrite_by_step-in-None-2.ensures.writes

@@ -1,13 +1,16 @@
 -- From item to item the lines go behind those before, and what is behind the last whole item is kept.
 use Rattle.std.proofs.Common.{◌≡◌, ◌-◌, ◌∙◌, ◌++◌, ℕ, Option, Ok, ap, sym, subst, drop, take, length, length-drop}
+use Rattle.std.proofs.Common.{arith, refl}
 use Rattle.std.proofs.Math.Seq.{take-length}
 use Rattle.gob_tool.specs.declared.fault.ToolFault.TheVariants as fault
 use Rattle.gob_tool.specs.Fault.{reading_fault}
 use Rattle.gob_stream.specs.Ends.{writer_of}
 use Rattle.gob_stream.specs.Bounds.{within_trees}
 use Rattle.gob_tool.specs.Machine.Keeping.{MayTakeFront}
-use Rattle.gob_tool.proofs.ShowFront.{up_to_more, rest_stops, rest_cut}
+use Rattle.gob_tool.proofs.ShowFront.{up_to_none, up_to_more, rest_stops, rest_cut}
 use Rattle.gob_tool.proofs.KeepLaws.{keeping_at, keeps_rest, rest_begun}
+use Rattle.gob_tool.proofs.CountLaws.{no_memory_writes, reader_writes, cut_writes}
+use Rattle.gob_tool.proofs.RoomLaws.{rest_shorter}
 use Rattle.gob_tool.proofs.show.show_behind.Goals as goal
 
 pub returns-in_err-used-clause-shown : goal.returns-in_err-used-clause-shown
@@ -82,3 +85,46 @@ items-preserved g c =
           c.in-Some.is (c.in_ok-used.ensures.shown (bytes ++ u.front) start now u.behind) in
           up_to_more n later u taken c.in_ok-write_many-in-Some.ensures.passed,
     )
+
+pub items-init : goal.items-init
+items-init g c = (refl, refl, c.requires.none, λ bytes start b. up_to_none c.args.piece.now b)
+
+pub slice_bounds-rest-count : goal.slice_bounds-rest-count
+slice_bounds-rest-count g c =
+    let taken = rw c.in-Some.is at c.in_ok-used.ensures.used in taken.1
+
+pub items-smaller : goal.items-smaller
+items-smaller g c =
+    let taken = rw c.in-Some.is at c.in_ok-used.ensures.used in
+    rest_shorter c.items.rest.now c.in-Some.used taken.0 taken.1
+
+pub returns-in_err-write_many-in-Some-clause-limits : goal.returns-in_err-write_many-in-Some-clause-limits
+returns-in_err-write_many-in-Some-clause-limits g c = c.in_ok-used.ensures.limits ∙ c.items.invariant.0
+
+pub returns-in_err-keep-in-None-clause-limits : goal.returns-in_err-keep-in-None-clause-limits
+returns-in_err-keep-in-None-clause-limits g c = c.in_ok-used.ensures.limits ∙ c.items.invariant.0
+
+pub returns-in-None-clause-limits : goal.returns-in-None-clause-limits
+returns-in-None-clause-limits g c = c.in_ok-used.ensures.limits ∙ c.items.invariant.0
+
+pub returns-in_err-write_many-in-Some-clause-writes : goal.returns-in_err-write_many-in-Some-clause-writes
+returns-in_err-write_many-in-Some-clause-writes g c =
+    let failed = c.in_err-write_many-in-Some.ensures in
+    cut_writes _ _ _ c.from_residual-in_err-write_many-in-Some.result c.in_err-write_many-in-Some.field-0.0
+    c.from_residual-in_err-write_many-in-Some.ensures.1 failed.passed.0 c.items.invariant.1 failed.counted
+
+pub returns-in_err-keep-in-None-clause-writes : goal.returns-in_err-keep-in-None-clause-writes
+returns-in_err-keep-in-None-clause-writes g c =
+    no_memory_writes _ _ c.from_residual-in_err-keep-in-None.result c.from_residual-in_err-keep-in-None.ensures.1
+    c.items.invariant.1
+
+pub returns-in-None-clause-writes : goal.returns-in-None-clause-writes
+returns-in-None-clause-writes g c = c.items.invariant.1
+
+pub returns-in_err-used-clause-writes : goal.returns-in_err-used-clause-writes
+returns-in_err-used-clause-writes g c =
+    reader_writes _ _ c.from_residual.result c.in_err-used.field-0.0 c.from_residual.ensures.1 c.items.invariant.1
+
+pub slice_bounds-rest-start : goal.slice_bounds-rest-start
+slice_bounds-rest-start g c =
+    let taken = rw c.in-Some.is at c.in_ok-used.ensures.used in omega arith

@@ -19,3 +19,8 @@ returns-in-Some-clause-shown c = λ bytes start now b.
     c.args.piece.now c.args.lines.now.gathered.items c.show_whole.new.lines.gathered.items (Ok o)) c.in-Some.is
     c.in_ok-used.ensures.shown in
     whole_taken c.show_whole.ensures.limits b gathers
+
+pub returns-in-None-clause-shown : goal.returns-in-None-clause-shown
+returns-in-None-clause-shown c =
+    let same = rw c.in-None.is at c.in_ok-used.ensures.shown in
+    rw same.0 at (rw same.1 at c.show_step.ensures.shown)

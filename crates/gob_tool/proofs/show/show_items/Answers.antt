@@ -1,14 +1,17 @@
 -- From piece to piece the session stands behind what was read and isn't kept, and each end is that of the stream.
-use Rattle.std.proofs.Common.{rules, ◌≡◌, ◌<◌, ◌∙◌, ◌++◌, length, take, arith, refl, sym, subst, length-take}
+use Rattle.std.proofs.Common.{◌≡◌, ◌<◌, ◌∙◌, ◌++◌, length, take, arith, refl, sym, subst, length-take, ap}
 use Rattle.std.proofs.KnownBytes.{Consumes-trans}
-use Rattle.gob_stream.specs.Ends.{failed_reads, reader_of, writer_of}
+use Rattle.gob_stream.specs.Devices.{counts_up}
+use Rattle.gob_stream.specs.Ends.{failed_reads, failed_writes, reader_of, writer_of}
 use Rattle.gob_stream.specs.Bounds.{within_trees}
-use Rattle.gob_tool.specs.Machine.Gathering.{Gathered, CountsOnlyReads}
+use Rattle.gob_tool.specs.Machine.Gathering.{Gathered, CountsOnlyReads, CountsOnlyWrites}
 use Rattle.gob_tool.specs.Machine.Keeping.{KeepsBehind}
 use Rattle.gob_tool.specs.Showing.{AppendsFront}
 use Rattle.gob_tool.specs.declared.fault.ToolFault.TheVariants as fault
 use Rattle.gob_tool.proofs.ShowLaws.{begun_first, all_taken, stopped, runs_at, read_none, piece_counts, reads_at}
 use Rattle.gob_tool.proofs.KeepLaws.{keeps_first, keeps_on, end_there, read_failed_keeping, falls_keeping}
+use Rattle.gob_tool.proofs.CountLaws.{writes_at}
+use Rattle.gob_tool.proofs.RoomLaws.{same_ok, room_some}
 use Rattle.gob_tool.proofs.show.show_items.Goals as goal
 
 pub returns-in_err-buffer-clause-shown : goal.returns-in_err-buffer-clause-shown
@@ -34,7 +37,9 @@ pieces-init g c = (
   refl,
   refl,
   keeps_first _ _ _ _ _ c.in_ok-session.ensures.has_read c.requires c.new-pending.ensures,
-  search rules,
+  room_some c.as_mut_slice-room.ensures.len
+      (same_ok _ _ c.vec.result c.map_err.result c.in_ok-buffer.buffer c.map_err.ensures.cases c.map_err.ensures.variant
+      c.in_ok-buffer.was c.vec.ensures.len),
 )
 
 pub returns-in-Ok-eq0-clause-shown : goal.returns-in-Ok-eq0-clause-shown
@@ -135,3 +140,25 @@ returns-in-Err-clause-shown g c = λ bytes known.
     (g.R.Read.remaining (reader_of c.read.new.self)) (g.W.Write.contents (writer_of c.args.output.now))
     (g.W.Write.contents (writer_of c.pieces.output)) bytes c.pieces.lines.gathered.items c.pieces.invariant.0
     c.pieces.invariant.3 known c.in-Err.ensures.bytes
+
+pub slice_bounds-piece-end : goal.slice_bounds-piece-end
+slice_bounds-piece-end g c = c.in-Ok.ensures.bound.0
+
+pub slice_bounds-piece-end-in-Ok : goal.slice_bounds-piece-end-in-Ok
+slice_bounds-piece-end-in-Ok g c = c.in-Ok.ensures.bound.1
+
+pub returns-in-Err-clause-reads : goal.returns-in-Err-clause-reads
+returns-in-Err-clause-reads g c = c.in-Err.ensures.counted.1 ∙ ap (λ n. counts_up n 1) c.pieces.invariant.1
+
+pub returns-in-Err-clause-writes : goal.returns-in-Err-clause-writes
+returns-in-Err-clause-writes g c = c.pieces.invariant.2
+
+pub returns-in-Ok-eq0-clause-writes : goal.returns-in-Ok-eq0-clause-writes
+returns-in-Ok-eq0-clause-writes g c =
+    subst (λ n. CountsOnlyWrites n (failed_writes c.show_end.new.output) c.show_end.result) c.pieces.invariant.2
+    c.show_end.ensures.writes
+
+pub returns-in_err-show_next-in-Ok-clause-writes : goal.returns-in_err-show_next-in-Ok-clause-writes
+returns-in_err-show_next-in-Ok-clause-writes g c =
+    writes_at (Unit {0}) _ _ _ c.from_residual-in_err-show_next-in-Ok.result c.in_err-show_next-in-Ok.field-0.0
+    c.from_residual-in_err-show_next-in-Ok.ensures.1 c.pieces.invariant.2 c.in_err-show_next-in-Ok.ensures.writes

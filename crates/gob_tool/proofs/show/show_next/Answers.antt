@@ -1,8 +1,9 @@
 -- What the kept bytes lack comes from the front of the piece, and all of it where it isn't enough.
-use Rattle.std.proofs.Common.{◌<◌, ◌++◌, ◌∙◌, ap, sym, length, arith, append_assoc}
+use Rattle.std.proofs.Common.{◌<◌, ◌++◌, ◌∙◌, ap, sym, subst, length, arith, append_assoc}
 use Rattle.gob_tool.specs.declared.fault.ToolFault.TheVariants as fault
-use Rattle.gob_stream.specs.Ends.{writer_of}
+use Rattle.gob_stream.specs.Ends.{failed_writes, writer_of}
 use Rattle.gob_stream.specs.Bounds.{within_trees}
+use Rattle.gob_tool.specs.Machine.Gathering.{CountsOnlyWrites}
 use Rattle.gob_tool.proofs.KeepLaws.{keeping_at, keeping_in_two, keeps_begun, keeps_more, fault_more, front_behind}
 use Rattle.gob_tool.proofs.show.show_next.Goals as goal
 
@@ -43,3 +44,8 @@ returns-clause-shown g c = λ bytes start k.
     (g.W.Write.contents (writer_of c.show_behind.new.output)) c.show_behind.new.lines.gathered.items c.show_behind.result
     c.in_ok-show_kept.ensures.limits (front_behind _ piece c.split_at.ensures.front c.split_at.ensures.back)
     (c.show_behind.ensures.shown (bytes ++ front) start (c.in_ok-show_kept.ensures.shown bytes start k))
+
+pub returns-clause-writes : goal.returns-clause-writes
+returns-clause-writes g c =
+    subst (λ n. CountsOnlyWrites n (failed_writes c.show_behind.new.output) c.show_behind.result)
+    c.in_ok-show_kept.ensures.writes c.show_behind.ensures.writes

@@ -1,9 +1,9 @@
 -- What stands whole is passed, the first bytes of an item are left, and anything else is read on with a step.
-use Rattle.std.proofs.Common.{ℕ, Option, Ok, subst}
+use Rattle.std.proofs.Common.{◌∙◌, ℕ, Option, Ok, subst}
 use Rattle.gob_stream.specs.declared.fault.Fault.TheVariants as reading
 use Rattle.gob_stream.specs.Bounds.{within_trees}
 use Rattle.gob_tool.specs.Machine.Gathering.{MayGatherWhole}
-use Rattle.gob_tool.proofs.ShowFront.{memory_stops, whole_taken}
+use Rattle.gob_tool.proofs.ShowFront.{memory_stops, whole_taken, stands_still}
 use Rattle.gob_tool.proofs.KeepLaws.{may_at, may_stop}
 use Rattle.gob_tool.proofs.show.show_ready.Goals as goal
 
@@ -34,3 +34,24 @@ returns-in-Some-clause-shown c = λ bytes start now b.
     c.args.piece.now c.args.lines.now.gathered.items c.show_whole.new.lines.gathered.items (Ok o)) c.in-Some.is
     c.in_ok-used.ensures.shown in
     whole_taken c.show_whole.ensures.limits b gathers
+
+pub returns-in_ok-show_step-in-None-2-clause-shown : goal.returns-in_ok-show_step-in-None-2-clause-shown
+returns-in_ok-show_step-in-None-2-clause-shown c = λ bytes start now b.
+    let still = subst (λ (o : Option ℕ). MayGatherWhole c.args.session.now c.show_whole.new.session
+    c.args.piece.now c.args.lines.now.gathered.items c.show_whole.new.lines.gathered.items (Ok o)) c.in-None.is
+    c.in_ok-used.ensures.shown in
+    c.in_ok-show_step-in-None-2.ensures.shown bytes start now (stands_still still b)
+
+pub returns-in-None-clause-shown : goal.returns-in-None-clause-shown
+returns-in-None-clause-shown c = λ bytes start now b.
+    let still = subst (λ (o : Option ℕ). MayGatherWhole c.args.session.now c.show_whole.new.session
+    c.args.piece.now c.args.lines.now.gathered.items c.show_whole.new.lines.gathered.items (Ok o)) c.in-None.is
+    c.in_ok-used.ensures.shown in
+    (stands_still still b, c.is_begun.ensures.kept c.if-is_begun.true)
+
+pub show_step-requires : goal.show_step-requires
+show_step-requires c = record { some = c.is_begun.ensures.some c.if-is_begun.false }
+
+pub returns-in_ok-show_step-in-None-2-clause-limits : goal.returns-in_ok-show_step-in-None-2-clause-limits
+returns-in_ok-show_step-in-None-2-clause-limits c = c.in_ok-show_step-in-None-2.ensures.limits
+    ∙ c.show_whole.ensures.limits

@@ -1,5 +1,5 @@
 -- Item by item more is received, of which some lines go out.
-use Rattle.std.proofs.Common.{◌∙◌, refl, ap, arith, Ok, Err}
+use Rattle.std.proofs.Common.{◌∙◌, refl, ap, arith, take_all, Ok, Err}
 use Rattle.gob_types.specs.Defined.{types}
 use Rattle.gob_tool.proofs.TakeLaws.{sent_at, takes_none, takes_more, takes_stopped, takes_at, ready_as, sent_as}
 use Rattle.gob_tool.proofs.TakeLaws.{takes_as}
@@ -52,3 +52,7 @@ returns-in_err-take_item-clause-taken g c =
     (takes_stopped _ _ _ c.args.items.now _ _ _ _ _ _ _ c.item-item.result f i.3
     (takes_as _ _ _ _ _ (Err f) (ap (λ d. types d) was.stream) (ap (λ d. types d) was.wanted) was.wanted_id
     c.in_err-take_item.ensures.taken) c.item-item.is (omega arith))
+
+pub returns-clause-taken : goal.returns-clause-taken
+returns-clause-taken g c =
+    rw (take_all c.loop-item.item-index c.args.items.now (omega arith)) at c.loop-item.invariant.3

@@ -4,8 +4,10 @@ use Rattle.gob_types.specs.Defined.{types}
 use Rattle.gob_value.specs.View.{view}
 use Rattle.gob_stream.specs.Item.{item_view}
 use Rattle.gob_tool.specs.declared.fault.ToolFault.TheVariants as fault
-use Rattle.gob_tool.proofs.TakeLaws.{line_as, sent_ready, definition_taken, value_stopped, line_lost, value_taken}
+use Rattle.gob_tool.proofs.TakeLaws.{line_as, sent_ready, sent_fits, definition_taken, value_stopped, line_lost}
+use Rattle.gob_tool.proofs.TakeLaws.{value_taken}
 use Rattle.gob_tool.proofs.TakeLaws.{takes_at}
+use Rattle.gob_tool.proofs.CountLaws.{many_counts}
 use Rattle.gob_tool.proofs.take.take_item.Goals as goal
 
 pub returns-in_default-clause-taken : goal.returns-in_default-clause-taken
@@ -33,3 +35,10 @@ returns-clause-taken g c =
     value_taken _ _ _ _ c.in-Put.id _ (view c.in_ok-value.value) _ _ _ _ _ c.write_many.result
     (ap item_view c.in-Put.is) c.in_ok-value.ensures.matched c.in_ok-value.ensures.received
     (c.in_ok-pushed.ensures.ok ∙ ap (λ (l : List ℕ). before ++ l) as_wanted) c.write_many.ensures.passed
+
+pub receive-requires-clause-fits : goal.receive-requires-clause-fits
+receive-requires-clause-fits g c = sent_fits (ap item_view c.in-Put.is) c.requires.sent
+
+pub returns-clause-writes : goal.returns-clause-writes
+returns-clause-writes g c = many_counts _ _ _ _ _ _ c.write_many.result c.write_many.ensures.counted
+    c.write_many.ensures.passed

@@ -1,18 +1,24 @@
 -- From piece to piece the session stands behind what was read, and each end is that of the stream.
-use Rattle.std.proofs.Common.{rules, arith, ◌≡◌, ◌∙◌, List, ap, refl, Ok, Err}
+use Rattle.std.proofs.Common.{rules, arith, ◌≡◌, ◌∙◌, Bool, List, ap, refl, subst, Ok, Err}
 use Rattle.gob_tool.specs.declared.fault.ToolFault.TheVariants as fault
 use Rattle.gob_types.specs.Defined.{types}
 use Rattle.gob_value.specs.declared.value.Value.{Value}
-use Rattle.gob_stream.specs.Ends.{reader_of, writer_of}
+use Rattle.gob_stream.specs.Devices.{counts_up}
+use Rattle.gob_stream.specs.Ends.{failed_reads, reader_of, writer_of}
 use Rattle.gob_stream.specs.declared.fault.Fault.TheVariants as reading
 use Rattle.gob_stream.specs.declared.item.Item as declared
 use Rattle.gob_stream.specs.Item.{item_views}
 use Rattle.gob_tool.specs.Fault.{reading_fault}
 use Rattle.gob_stream.specs.Bounds.{within_trees}
 use Rattle.gob_tool.specs.Machine.Gathering.{PassesSome}
+use Rattle.gob_tool.specs.Machine.Pieces.{CountsPiece}
 use Rattle.gob_tool.specs.Showing.{AppendsFront}
+use Rattle.gob_tool.proofs.CountLaws.{no_memory_writes, no_memory_reads, writes_at, reader_writes, reader_reads}
+use Rattle.gob_tool.proofs.CountLaws.{items_reads, piece_unfailed}
+use Rattle.gob_tool.proofs.ShowLaws.{reads_at}
 use Rattle.gob_tool.proofs.TakeRuns.{received_first, piece_sent, takes_first, takes_on, nearer, takes_of, sent_of, receiving_at}
 use Rattle.gob_tool.proofs.TakeRuns.{stopped_at_items, stopped_at_read, stopped_at_reader, ended_whole}
+use Rattle.gob_tool.proofs.RoomLaws.{same_ok, room_some}
 use Rattle.gob_tool.proofs.take.take_items.Goals as goal
 
 pub returns-in_err-buffer-clause-taken : goal.returns-in_err-buffer-clause-taken
@@ -40,7 +46,9 @@ pieces-init g c = (
   refl,
   takes_first _ _ (types c.args.wanted.now) c.args.wanted_id _ _ c.in_ok-session.ensures.has_read
       c.requires.lines,
-  search rules,
+  room_some c.as_mut_slice-room.ensures.len
+      (same_ok _ _ c.vec.result c.map_err.result c.in_ok-buffer.buffer c.map_err.ensures.cases c.map_err.ensures.variant
+      c.in_ok-buffer.was c.vec.ensures.len),
 )
 
 pub take_piece-requires-clause-sent : goal.take_piece-requires-clause-sent
@@ -149,3 +157,70 @@ returns-then-not-branch-clause-taken g c = λ bytes known.
     (types c.args.wanted.now) c.args.wanted_id before _ c.requires.ready c.pieces.invariant.0 i
     bytes new after c.in_ok-more.field-0 c.if-not-branch.true known (c.in_ok-more.ensures.gave i.items i.taken i.gave)
     taken
+
+pub returns-in_err-buffer-clause-reads : goal.returns-in_err-buffer-clause-reads
+returns-in_err-buffer-clause-reads g c =
+    no_memory_reads _ _ c.from_residual.result c.from_residual.ensures.1 refl
+
+pub returns-in_err-buffer-clause-writes : goal.returns-in_err-buffer-clause-writes
+returns-in_err-buffer-clause-writes g c =
+    no_memory_writes _ _ c.from_residual.result c.from_residual.ensures.1 refl
+
+pub returns-in_err-session-clause-reads : goal.returns-in_err-session-clause-reads
+returns-in_err-session-clause-reads g c =
+    no_memory_reads _ _ c.from_residual-in_err-session.result c.from_residual-in_err-session.ensures.1 refl
+
+pub returns-in_err-session-clause-writes : goal.returns-in_err-session-clause-writes
+returns-in_err-session-clause-writes g c =
+    no_memory_writes _ _ c.from_residual-in_err-session.result c.from_residual-in_err-session.ensures.1 refl
+
+pub next_items-more-requires-clause-has_read : goal.next_items-more-requires-clause-has_read
+next_items-more-requires-clause-has_read g c =
+    let i = c.pieces.invariant.3 in
+    record { items = i.items; bytes = i.taken; gave = i.gave }
+
+pub next_items-more-requires-clause-room : goal.next_items-more-requires-clause-room
+next_items-more-requires-clause-room g c = c.pieces.invariant.4
+
+pub take_piece-requires-clause-ready : goal.take_piece-requires-clause-ready
+take_piece-requires-clause-ready g c = c.requires.ready
+
+pub returns-then-matches-clause-reads : goal.returns-then-matches-clause-reads
+returns-then-matches-clause-reads g c =
+    let failed : c.next_items-more.result ≡ Err reading.Read = search rules in
+    subst (λ r. CountsPiece (failed_reads c.pieces.input) (failed_reads c.next_items-more.new.input) r) failed
+    c.next_items-more.ensures.reads
+    ∙ ap (λ n. counts_up n 1) c.pieces.invariant.1
+
+pub returns-then-matches-clause-writes : goal.returns-then-matches-clause-writes
+returns-then-matches-clause-writes g c = c.pieces.invariant.2
+
+pub returns-in_err-take_piece-clause-reads : goal.returns-in_err-take_piece-clause-reads
+returns-in_err-take_piece-clause-reads g c =
+    let other : c.next_items-more.result ≡ Err reading.Read → ⊥ = search rules in
+    let f = c.in_err-take_piece.field-0.0 in
+    reads_at _ _ c.from_residual-in_err-take_piece.result f c.from_residual-in_err-take_piece.ensures.1
+    (items_reads _ _ _ _ _ _ _ _ _ _ f c.in_err-take_piece.ensures.taken
+    (piece_unfailed _ _ c.next_items-more.result other c.next_items-more.ensures.reads ∙ c.pieces.invariant.1))
+
+pub returns-in_err-take_piece-clause-writes : goal.returns-in_err-take_piece-clause-writes
+returns-in_err-take_piece-clause-writes g c =
+    writes_at (Unit {0}) _ _ _ c.from_residual-in_err-take_piece.result c.in_err-take_piece.field-0.0
+    c.from_residual-in_err-take_piece.ensures.1 c.pieces.invariant.2 c.in_err-take_piece.ensures.writes
+
+pub returns-in_err-more-clause-reads : goal.returns-in_err-more-clause-reads
+returns-in_err-more-clause-reads g c =
+    reader_reads Bool _ _ _ c.from_residual-in_err-more.result c.in_err-more.field-0.0
+    c.from_residual-in_err-more.ensures.1
+    c.pieces.invariant.1 c.in_err-more.ensures.reads
+
+pub returns-in_err-more-clause-writes : goal.returns-in_err-more-clause-writes
+returns-in_err-more-clause-writes g c =
+    reader_writes _ _ c.from_residual-in_err-more.result c.in_err-more.field-0.0 c.from_residual-in_err-more.ensures.1
+    (c.in_ok-take_piece.ensures.writes ∙ c.pieces.invariant.2)
+
+pub returns-then-not-branch-clause-reads : goal.returns-then-not-branch-clause-reads
+returns-then-not-branch-clause-reads g c = c.in_ok-more.ensures.reads ∙ c.pieces.invariant.1
+
+pub returns-then-not-branch-clause-writes : goal.returns-then-not-branch-clause-writes
+returns-then-not-branch-clause-writes g c = c.in_ok-take_piece.ensures.writes ∙ c.pieces.invariant.2

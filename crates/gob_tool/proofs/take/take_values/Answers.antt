@@ -1,16 +1,19 @@
 -- What was gathered goes out at the end, whole or, at a failed write, a front of it.
-use Rattle.std.proofs.Common.{rules, ◌≡◌, Err, sym, subst}
+use Rattle.std.proofs.Common.{rules, ◌≡◌, Err, sym, subst, ◌∙◌, Result}
 use Rattle.std.specs.Io.KnownBytes.{Appends}
 use Rattle.std.proofs.KnownBytes.{Appends-kept}
 use Rattle.gob_types.specs.Defined.{types}
-use Rattle.gob_stream.specs.Ends.{reader_of, writer_of}
+use Rattle.gob_stream.specs.Ends.{failed_reads, failed_writes, reader_of, writer_of}
 use Rattle.gob_stream.specs.Bounds.{within_trees}
+use Rattle.gob_tool.specs.declared.fault.ToolFault.{ToolFault}
 use Rattle.gob_tool.specs.declared.fault.ToolFault.TheVariants as fault
 use Rattle.gob_tool.specs.Machine.Gathering.{PassesSome}
-use Rattle.gob_tool.specs.Showing.{AppendsFront}
+use Rattle.gob_tool.specs.Showing.{AppendsFront, CountsReadFaults, CountsWriteFaults}
 use Rattle.gob_tool.specs.Taking.{Receiving}
 use Rattle.gob_tool.proofs.ShowLaws.{whole_front}
 use Rattle.gob_tool.proofs.TakeRuns.{received_before, front_as, receiving_as, receiving_cut, rest_out, front_out}
+use Rattle.gob_tool.proofs.CountLaws.{reads_of, writes_of, may_read, reads_cut, unfailed, writes_cut}
+use Rattle.gob_tool.proofs.CountLaws.{flush_failed, flushed, may_flush}
 use Rattle.gob_tool.proofs.take.take_values.Goals as goal
 use Rattle.gob_tool.proofs.take.take_values.Goals.{in_default-taken-2, in_default-taken}
 
@@ -75,3 +78,70 @@ returns-clause-taken g c = λ bytes known.
       | in_default-taken w ↦ subst (λ r. Receiving (within_trees c.args.limits) bytes next U u (Appends old end)
           (AppendsFront old end) r) (sym w.result-is) whole
     ]
+
+pub returns-then-matches-clause-reads : goal.returns-then-matches-clause-reads
+returns-then-matches-clause-reads g c = reads_of _ _ c.take_items-taken.result c.take_items-taken.ensures.reads
+
+pub returns-then-matches-clause-writes : goal.returns-then-matches-clause-writes
+returns-then-matches-clause-writes g c = writes_of _ _ c.take_items-taken.result c.take_items-taken.ensures.writes
+
+pub returns-in_err-write_to-clause-reads : goal.returns-in_err-write_to-clause-reads
+returns-in_err-write_to-clause-reads g c =
+    reads_cut _ _ c.take_items-taken.result c.from_residual.result _ c.from_residual.ensures.1
+    c.in_err-write_to.ensures.written.0 c.take_items-taken.ensures.reads
+
+pub returns-in_err-write_to-clause-writes : goal.returns-in_err-write_to-clause-writes
+returns-in_err-write_to-clause-writes g c =
+    let other : c.take_items-taken.result ≡ Err fault.Write → ⊥ = search rules in
+    writes_cut _ _ _ c.from_residual.result _ c.from_residual.ensures.1 c.in_err-write_to.ensures.written.0
+    (unfailed _ _ c.take_items-taken.result other c.take_items-taken.ensures.writes) c.in_err-write_to.ensures.counted
+
+pub returns-in-Ok-clause-reads : goal.returns-in-Ok-clause-reads
+returns-in-Ok-clause-reads g c = may_read _ _ c.take_items-taken.result c.take_items-taken.ensures.reads
+
+pub returns-in-Ok-clause-writes : goal.returns-in-Ok-clause-writes
+returns-in-Ok-clause-writes g c =
+    let other : c.take_items-taken.result ≡ Err fault.Write → ⊥ = search rules in
+    flush_failed _ _ _ c.flush-flushed.result c.flush-flushed.ensures.counted
+    (sym c.is_err.ensures.value ∙ c.if-is_err.true)
+    (c.in_ok-write_to.ensures.counted ∙ unfailed _ _ c.take_items-taken.result other c.take_items-taken.ensures.writes)
+
+pub returns-clause-reads : goal.returns-clause-reads
+returns-clause-reads g c =
+    elim c.match-taken-3.branch [
+      | in_default-taken-2 w ↦ subst (λ r. CountsReadFaults (failed_reads c.args.input.now)
+          (failed_reads c.take_items-taken.new.input) r)
+          (sym w.result-is) (reads_of _ _ c.take_items-taken.result c.take_items-taken.ensures.reads)
+      | in_default-taken w ↦ subst (λ r. CountsReadFaults (failed_reads c.args.input.now)
+          (failed_reads c.take_items-taken.new.input) r)
+          (sym w.result-is) (reads_of _ _ c.take_items-taken.result c.take_items-taken.ensures.reads)
+    ]
+
+pub returns-clause-writes : goal.returns-clause-writes
+returns-clause-writes g c =
+    let other : c.take_items-taken.result ≡ Err fault.Write → ⊥ = search rules in
+    let counts = λ (r : Result (Unit {0}) ToolFault). CountsWriteFaults (failed_writes c.args.output.now)
+    (failed_writes c.flush-flushed.new.self) r in
+    let same = c.in_ok-write_to.ensures.counted ∙ unfailed _ _ c.take_items-taken.result other
+    c.take_items-taken.ensures.writes in
+    elim c.match-taken-3.branch [
+      | in_default-taken-2 w ↦ subst counts (sym (w.result-is ∙ w.in-Ok.is)) (flushed _ _ _ c.flush-flushed.result
+          c.flush-flushed.ensures.counted (sym w.is_err.ensures.value ∙ w.if-is_err.false) same)
+      | in_default-taken w ↦ subst counts (sym w.result-is)
+          (may_flush _ _ _ c.take_items-taken.result w.in_default-taken.field-0
+          c.flush-flushed.result w.in_default-taken.is other c.flush-flushed.ensures.counted same)
+    ]
+
+pub returns-then-matches-clause-taken : goal.returns-then-matches-clause-taken
+returns-then-matches-clause-taken g c = λ bytes known.
+    let failed : c.take_items-taken.result ≡ Err fault.Write = search rules in
+    let next = g.R.Read.remaining (reader_of c.take_items-taken.new.input) in
+    let old = g.W.Write.contents (writer_of c.args.output.now) in
+    let out = g.W.Write.contents (writer_of c.take_items-taken.new.output) in
+    let U = types c.args.wanted.now in
+    let u = c.args.wanted_id in
+    let gathered = c.take_items-taken.new.lines.gathered.items in
+    subst (λ r. Receiving (within_trees c.args.limits) bytes next U u (Appends old out) (AppendsFront old out) r)
+    (sym failed)
+    (subst (λ r. Receiving (within_trees c.args.limits) bytes next U u (λ lines. PassesSome old out lines gathered)
+    (AppendsFront old out) r) failed (c.take_items-taken.ensures.taken bytes known))

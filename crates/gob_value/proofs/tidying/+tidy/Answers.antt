@@ -1,4 +1,5 @@
-use Rattle.std.proofs.Common.{◌≡◌, ◌≤◌, ℕ, List, length, arith, rules, sym, ap, ◌∙◌, subst}
+use Rattle.std.proofs.Common.{◌≡◌, ◌+◌, ◌*◌, ◌<◌, ◌∷◌, max, Vec, Global, Option, Some, None, ◌≤◌, ℕ, List, length}
+use Rattle.std.proofs.Common.{arith, rules, sym, ap, ◌∙◌, subst}
 use Rattle.std.proofs.lemmas.Bool.{false≢true}
 use Rattle.std.proofs.lemmas.Result.{IfOk-from_err}
 use Rattle.gob_types.specs.declared.kind.Kind.TheVariants as kind
@@ -7,6 +8,7 @@ use Rattle.gob_value.specs.View.{view, views, pair_views, field_views}
 use Rattle.gob_value.specs.Tidy.{of_map, of_struct, no_element, no_entry, no_more}
 use Rattle.gob_value.specs.Tidy.{TidiesAs, TidiesEach, TidiesPairs, TidiesFields, HasTidyForm}
 use Rattle.gob_value.specs.declared.value.Value.{Value, the_lemmas}
+use Rattle.gob_value.specs.declared.value.Value.TheVariants as value
 use Rattle.gob_value.specs.Machine.Tidied.{IsTidied}
 use Rattle.gob_value.specs.TidyLaws.{AllHaveSmallNumbers, PairsHaveSmallNumbers, FieldsHaveSmallNumbers}
 use Rattle.gob_value.proofs.TidySteps.{goes_starts, goes_end, each_left, each_on, pairs_left, pairs_on, field_left}
@@ -15,6 +17,40 @@ use Rattle.gob_value.proofs.TidySteps.{parts_of_many, parts_of_pairs, parts_of_f
 use Rattle.gob_value.proofs.TidySteps.{nowhere, typed, IsNoList, IsNoMap, IsNoStruct, has_list, has_map, has_struct}
 use Rattle.gob_value.proofs.ViewLaws.{view-Many, view-Pairs, view-Fields}
 use Rattle.gob_value.proofs.tidying.+tidy.Goals as goal
+
+-- the measures of what is called are less
+type_next : {a b t : ℕ} → a ≤ b → 3 * b + 2 ≡ t → 3 * a + 1 < t
+type_next l e = omega arith
+
+kind_next : (a n : ℕ) {b d t : ℕ} → max a n ≤ b → b ≡ d → 3 * d + 2 ≡ t → 3 * a < t
+kind_next a n l same e = omega arith
+
+parts_next : (a : ℕ) {d t : ℕ} → d ≡ a + 1 → 3 * d ≡ t → 3 * a + 2 < t
+parts_next a deep e = omega arith
+
+shape_next : (a : ℕ) {t : ℕ} → 3 * a + 1 ≡ t → 3 * a < t
+shape_next a e = omega arith
+
+-- what is left behind the next value
+one_gone : {A : Type 0} {x : A} {xs ys : List A} {n m : ℕ} → n ≡ length xs → xs ≡ x ∷ ys → m + 1 ≡ n → m ≡ length ys
+one_gone was is gone = let short = ap length is in omega arith
+
+one_less : {n m : ℕ} → m + 1 ≡ n → m < n
+one_less e = omega arith
+
+-- what is there is something
+nothing_there : {A : Type 0} {o : Option A} {x : A} → o ≡ Some x → ¬ (o ≡ None)
+nothing_there p q = cc
+
+-- a value without such parts
+no_list : (v : Value) → ((vs : Vec Value Global) → ¬ (v ≡ value.Many vs)) → IsNoList (view v)
+no_list v n = search (rules, the_lemmas)
+
+no_map : (v : Value) → ((ps : Vec (Value × Value) Global) → ¬ (v ≡ value.Pairs ps)) → IsNoMap (view v)
+no_map v n = search (rules, the_lemmas)
+
+no_struct : (v : Value) → ((fs : Vec (ℕ × Value) Global) → ¬ (v ≡ value.Fields fs)) → IsNoStruct (view v)
+no_struct v n = search (rules, the_lemmas)
 
 -- ---- elements
 
@@ -38,15 +74,14 @@ tidy_each-tidy_type-requires g t c κs within =
     let l = each_left c.loop-part.invariant.0 c.in-Some.ensures.steps.0 in
     let d = subst (λ (l : List Value). depth (view c.in-Some.part) ≤ trees_depth (views l))
     c.into_iter-part-iterator.ensures.into_iter_gives.0 l.shallow in
-    (omega arith, (within, l.form))
+    (type_next d c.decreases, (within, l.form))
 
 pub tidy_each-loop-part-preserved : goal.tidy_each-loop-part-preserved
 tidy_each-loop-part-preserved g t c =
-    let s = c.in-Some.ensures.steps in
-    let was = c.loop-part.invariant.1 in let gone = s.1 in let short = ap length s.0 in (
+    let s = c.in-Some.ensures.steps in (
       each_on c.in_ok-tidy_type.field-0 c.loop-part.invariant.0 s.0 c.in_ok-tidy_type.ensures
           c.in_ok-push.ensures.items,
-      omega arith,
+      one_gone c.loop-part.invariant.1 s.0 s.1,
     )
 
 pub tidy_each-returns : goal.tidy_each-returns
@@ -81,22 +116,21 @@ tidy_pairs-tidy_type-requires g t c κs within =
     let l = pairs_left c.loop-k.invariant.0 c.in-Some.ensures.steps.0 in
     let d = subst (λ (l : List (Value × Value)). depth (view c.in-Some.k) ≤ pairs_depth (pair_views l))
     c.into_iter-k-iterator.ensures.into_iter_gives.0 l.key_shallow in
-    (omega arith, (within, l.key))
+    (type_next d c.decreases, (within, l.key))
 
 pub tidy_pairs-tidy_type-requires-in-loop-k : goal.tidy_pairs-tidy_type-requires-in-loop-k
 tidy_pairs-tidy_type-requires-in-loop-k g t c κs within =
     let l = pairs_left c.loop-k.invariant.0 c.in-Some.ensures.steps.0 in
     let d = subst (λ (l : List (Value × Value)). depth (view c.in-Some.e) ≤ pairs_depth (pair_views l))
     c.into_iter-k-iterator.ensures.into_iter_gives.0 l.shallow in
-    (omega arith, (within, l.form))
+    (type_next d c.decreases, (within, l.form))
 
 pub tidy_pairs-loop-k-preserved : goal.tidy_pairs-loop-k-preserved
 tidy_pairs-loop-k-preserved g t c =
-    let s = c.in-Some.ensures.steps in
-    let was = c.loop-k.invariant.1 in let gone = s.1 in let short = ap length s.0 in (
+    let s = c.in-Some.ensures.steps in (
       pairs_on (c.in_ok-k.k, c.in_ok-e.e) c.loop-k.invariant.0 s.0 c.in_ok-k.ensures c.in_ok-e.ensures
           c.in_ok-push.ensures.items,
-      omega arith,
+      one_gone c.loop-k.invariant.1 s.0 s.1,
     )
 
 pub tidy_pairs-returns : goal.tidy_pairs-returns
@@ -125,8 +159,8 @@ tidy_fields-returns-in_err-push g t c = IfOk-from_err c.from_residual-in_err-pus
 
 pub tidy_fields-unreachable-requires : goal.tidy_fields-unreachable-requires
 tidy_fields-unreachable-requires g t c =
-    let l = field_left c.loop-number.invariant.0 c.in-Some.ensures.steps.0 in let found = c.in_default.ensures.found in
-    let there = l.there in cc
+    let l = field_left c.loop-number.invariant.0 c.in-Some.ensures.steps.0 in
+    nothing_there l.there (sym c.in_default.ensures.found)
 
 pub tidy_fields-unreachable-requires-in_default-shape_of : goal.tidy_fields-unreachable-requires-in_default-shape_of
 tidy_fields-unreachable-requires-in_default-shape_of g t c =
@@ -140,7 +174,7 @@ tidy_fields-tidy_kind-requires g t c κs within =
     let s = field_shallow c.loop-number.invariant.0 c.in-Some.ensures.steps.0 in
     let e = ap (λ (l : List (ℕ × Value)). fields_depth (field_views l))
     c.into_iter-number-iterator.ensures.into_iter_gives.0 in (
-      omega arith,
+      kind_next _ _ s e c.decreases,
       (
         within,
         field_form l (sym c.in-Some-get.ensures.found) (sym c.in-Some-shape_of.ensures)
@@ -150,22 +184,20 @@ tidy_fields-tidy_kind-requires g t c κs within =
 
 pub tidy_fields-loop-number-preserved-then-is_dropped : goal.tidy_fields-loop-number-preserved-then-is_dropped
 tidy_fields-loop-number-preserved-then-is_dropped g t c =
-    let s = c.in-Some.ensures.steps in
-    let was = c.loop-number.invariant.1 in let gone = s.1 in let short = ap length s.0 in (
+    let s = c.in-Some.ensures.steps in (
       field_dropped c.loop-number.invariant.0 s.0 (sym c.in-Some-get.ensures.found) (sym c.in-Some-shape_of.ensures)
           (c.is_dropped.ensures.0 c.if-is_dropped.true) c.in-Some-get.ensures.small,
-      omega arith,
+      one_gone c.loop-number.invariant.1 s.0 s.1,
     )
 
 pub tidy_fields-loop-number-preserved : goal.tidy_fields-loop-number-preserved
 tidy_fields-loop-number-preserved g t c =
-    let s = c.in-Some.ensures.steps in
-    let was = c.loop-number.invariant.1 in let gone = s.1 in let short = ap length s.0 in (
+    let s = c.in-Some.ensures.steps in (
       field_kept c.in_ok-tidy_kind.field-0 c.loop-number.invariant.0 s.0 (sym c.in-Some-get.ensures.found)
           (sym c.in-Some-shape_of.ensures)
           (λ d. false≢true (sym c.if-is_dropped.false ∙ c.is_dropped.ensures.1 d)) c.in_ok-tidy_kind.ensures
           c.in-Some-get.ensures.small c.in_ok-push.ensures.items,
-      omega arith,
+      one_gone c.loop-number.invariant.1 s.0 s.1,
     )
 
 pub tidy_fields-returns : goal.tidy_fields-returns
@@ -183,7 +215,7 @@ tidy_kind-tidy_each-requires g t c κs within =
     let is : view c.args.value ≡ Tree.many (views c.in-Many.parts.items) = ap view c.in-Many.is
     ∙ view-Many c.in-Many.parts in
     let deep = ap depth is in (
-      omega arith,
+      parts_next _ deep c.decreases,
       (
         within,
         parts_of_many c.in-Slice.is
@@ -198,7 +230,7 @@ tidy_kind-tidy_pairs-requires g t c κs within =
     let deep = ap depth is in
     let form = subst (λ k. HasTidyForm (TidiesAs (g.S.Shapes.table c.args.shapes.now) k (view c.args.value))) c.in-Map.is
     c.requires in (
-      omega arith,
+      parts_next _ deep c.decreases,
       (
         within,
         parts_of_pairs (subst (λ (v : Tree). HasTidyForm (TidiesAs (g.S.Shapes.table c.args.shapes.now) (kind.Map c.in-Map.key c.in-Map.elem) v)) is form),
@@ -212,7 +244,7 @@ tidy_kind-tidy_fields-requires g t c κs within =
     let deep = ap depth is in
     let form = subst (λ k. HasTidyForm (TidiesAs (g.S.Shapes.table c.args.shapes.now) k (view c.args.value))) c.in-Struct.is
     c.requires in (
-      omega arith,
+      parts_next _ deep c.decreases,
       (
         within,
         parts_of_fields (subst
@@ -222,7 +254,8 @@ tidy_kind-tidy_fields-requires g t c κs within =
     )
 
 pub tidy_type-tidy_kind-requires : goal.tidy_type-tidy_kind-requires
-tidy_type-tidy_kind-requires g t c κs within = (omega arith, (within, form_at c.requires (sym c.in-Some.ensures)))
+tidy_type-tidy_kind-requires g t c κs within =
+    (shape_next _ c.decreases, (within, form_at c.requires (sym c.in-Some.ensures)))
 
 pub tidy_type-unreachable-requires : goal.tidy_type-unreachable-requires
 tidy_type-unreachable-requires g t c = formless c.requires (sym c.in-None.ensures)
@@ -240,19 +273,17 @@ tidy_kind-returns-in_err-tidy_fields-in-Fields g t c = IfOk-from_err c.from_resi
 
 pub tidy_kind-unreachable-requires : goal.tidy_kind-unreachable-requires
 tidy_kind-unreachable-requires g t c =
-    let n : IsNoMap (view c.args.value) = search (rules, the_lemmas) in
     has_map (subst (λ k. HasTidyForm (TidiesAs (g.S.Shapes.table c.args.shapes.now) k (view c.args.value))) c.in-Map.is
-    c.requires) n
+    c.requires) (no_map _ c.in_default.not-Pairs)
 
 pub tidy_kind-unreachable-requires-in_default-value : goal.tidy_kind-unreachable-requires-in_default-value
 tidy_kind-unreachable-requires-in_default-value g t c =
-    let n : IsNoStruct (view c.args.value) = search (rules, the_lemmas) in
     has_struct (subst (λ k. HasTidyForm (TidiesAs (g.S.Shapes.table c.args.shapes.now) k (view c.args.value))) c.in-Struct.is
-    c.requires) n
+    c.requires) (no_struct _ c.in_default-value.not-Fields)
 
 pub tidy_kind-unreachable-requires-in_default-value-2 : goal.tidy_kind-unreachable-requires-in_default-value-2
 tidy_kind-unreachable-requires-in_default-value-2 g t c =
-    let n : IsNoList (view c.args.value) = search (rules, the_lemmas) in has_list c.in-Slice.is c.requires n
+    has_list c.in-Slice.is c.requires (no_list _ c.in_default-value-2.not-Many)
 
 pub tidy_kind-returns-in_ok-tidy_each-in-Many : goal.tidy_kind-returns-in_ok-tidy_each-in-Many
 tidy_kind-returns-in_ok-tidy_each-in-Many g t c =
@@ -277,3 +308,15 @@ tidy_type-returns g t c = typed (g.S.Shapes.table c.args.shapes.now) c.args.id c
 
 pub tidy_kind-returns-in-Basic : goal.tidy_kind-returns-in-Basic
 tidy_kind-returns-in-Basic g t c = plain_stays c.in-Basic.is c.requires
+
+pub tidy_each-loop-part-smaller : goal.tidy_each-loop-part-smaller
+tidy_each-loop-part-smaller g t c = one_less c.in-Some.ensures.steps.1
+
+pub tidy_pairs-loop-k-smaller : goal.tidy_pairs-loop-k-smaller
+tidy_pairs-loop-k-smaller g t c = one_less c.in-Some.ensures.steps.1
+
+pub tidy_fields-loop-number-smaller : goal.tidy_fields-loop-number-smaller
+tidy_fields-loop-number-smaller g t c = one_less c.in-Some.ensures.steps.1
+
+pub tidy_fields-loop-number-smaller-then-is_dropped : goal.tidy_fields-loop-number-smaller-then-is_dropped
+tidy_fields-loop-number-smaller-then-is_dropped g t c = one_less c.in-Some.ensures.steps.1

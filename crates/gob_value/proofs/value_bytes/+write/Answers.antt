@@ -1,4 +1,6 @@
-use Rattle.std.proofs.Common.{arith, rules, sym, ap, ◌∙◌, subst, ◌≡◌, ◌+◌, drop}
+use Rattle.std.proofs.Common.{ℕ, List, ◌<◌, ◌*◌, max, length, get_or, refl, arith, rules, sym, ap, ◌∙◌, subst, ◌≡◌}
+use Rattle.std.proofs.Common.{◌+◌, drop}
+use denote.Param.Weighed.{most, at_most}
 use Rattle.std.proofs.lemmas.Result.{on_ok_weaker, on_err_weaker}
 use Rattle.gob_num.specs.Unsigned.{IsUnsigned}
 use Rattle.gob_value.specs.View.{view, views, pair_views, field_views}
@@ -14,6 +16,19 @@ use Rattle.gob_value.proofs.WrittenSteps.{fields_end}
 use Rattle.gob_value.proofs.ViewLaws.{view-Many, view-Pairs, view-Fields, tree_count-views, pair_count-views}
 use Rattle.gob_value.proofs.value_bytes.+write.Goals as goal
 
+-- the measure of an item is less than that of all
+module _ {X : Type 0} (μ : X → ℕ) (xs : List X) (i : ℕ) (x : X) {t : ℕ} (is : x ≡ get_or xs i x) (l : i < length xs)
+    (e : 2 * most μ xs + 1 ≡ t) where
+  item_next : 2 * μ x + 0 < t
+  item_next = let m = at_most μ xs i x l in let same = ap μ is in omega arith
+
+  -- and that of each part of one
+  first_next : (a b : ℕ) → μ x ≡ max a b → 2 * a + 0 < t
+  first_next a b f = let n = item_next in omega arith
+
+  second_next : (a b : ℕ) → μ x ≡ max a (max b 0) → 2 * b + 0 < t
+  second_next a b f = let n = item_next in omega arith
+
 -- ---- elements
 
 pub write_each-returns-in_err-write_value-clause-ok : goal.write_each-returns-in_err-write_value-clause-ok
@@ -21,9 +36,9 @@ write_each-returns-in_err-write_value-clause-ok t c = on_ok_failed _ c.from_resi
 
 pub write_each-write_value-requires : goal.write_each-write_value-requires
 write_each-write_value-requires t c = (
-  search (rules, the_lemmas),
+  item_next _ _ _ _ c.part-item.is c.loop-part-test.true c.decreases,
   (each_left c.args.parts.now c.loop-part.part-index c.part-item.result c.part-item.is
-      (omega arith) c.loop-part.invariant.left).0,
+      c.loop-part-test.true c.loop-part.invariant.left).0,
 )
 
 pub write_each-returns-in_err-write_value-clause-err : goal.write_each-returns-in_err-write_value-clause-err
@@ -35,12 +50,12 @@ write_each-loop-part-preserved t c =
     let vs = c.args.parts.now in
     let i = c.loop-part.part-index in
     goes_more c.loop-part.invariant c.in_ok-write_value.ensures.ok
-    (each_from vs i c.part-item.result c.part-item.is (omega arith))
-    (each_left vs i c.part-item.result c.part-item.is (omega arith) c.loop-part.invariant.left).1
+    (each_from vs i c.part-item.result c.part-item.is c.loop-part-test.true)
+    (each_left vs i c.part-item.result c.part-item.is c.loop-part-test.true c.loop-part.invariant.left).1
 
 pub write_each-returns-clause-ok : goal.write_each-returns-clause-ok
 write_each-returns-clause-ok t c = goes_last c.loop-part.invariant
-    (each_end c.args.parts.now c.loop-part.part-index (omega arith))
+    (each_end c.args.parts.now c.loop-part.part-index c.loop-part-test.false)
 
 -- ---- keys and elements
 
@@ -53,9 +68,9 @@ write_pairs-returns-in_err-write_value-2-clause-ok t c = on_ok_failed _ c.from_r
 
 pub write_pairs-write_value-requires : goal.write_pairs-write_value-requires
 write_pairs-write_value-requires t c = (
-  search (rules, the_lemmas),
+  first_next _ _ _ _ c.loop-key-item.is c.loop-key-test.true c.decreases _ _ refl,
   (pairs_left c.args.parts.now c.loop-key.key-index c.loop-key-item.result
-      c.loop-key-item.is (omega arith) c.loop-key.invariant.left).0,
+      c.loop-key-item.is c.loop-key-test.true c.loop-key.invariant.left).0,
 )
 
 pub write_pairs-returns-in_err-write_value-clause-err : goal.write_pairs-returns-in_err-write_value-clause-err
@@ -64,9 +79,9 @@ write_pairs-returns-in_err-write_value-clause-err t c = on_err_any c.from_residu
 
 pub write_pairs-write_value-requires-in-loop-key : goal.write_pairs-write_value-requires-in-loop-key
 write_pairs-write_value-requires-in-loop-key t c = (
-  search (rules, the_lemmas),
+  second_next _ _ _ _ c.loop-key-item.is c.loop-key-test.true c.decreases _ _ refl,
   (pairs_left c.args.parts.now c.loop-key.key-index c.loop-key-item.result
-      c.loop-key-item.is (omega arith) c.loop-key.invariant.left).1,
+      c.loop-key-item.is c.loop-key-test.true c.loop-key.invariant.left).1,
 )
 
 pub write_pairs-loop-key-preserved : goal.write_pairs-loop-key-preserved
@@ -74,11 +89,12 @@ write_pairs-loop-key-preserved t c =
     let ps = c.args.parts.now in
     let i = c.loop-key.key-index in
     let p = c.loop-key-item.result in
-    let rest = (pairs_left ps i p c.loop-key-item.is (omega arith) c.loop-key.invariant.left).2 in
+    let rest = (pairs_left ps i p c.loop-key-item.is c.loop-key-test.true c.loop-key.invariant.left).2 in
     let first : Goes (WrittenPairs (pair_views ps))
     (Behind (Written (view p.1)) (WrittenPairs (pair_views (drop (i + 1) ps))))
     (IsSpelledWithin WrittenPairs pairs_depth 1000 (pair_views (drop (i + 1) ps))) c.args.out.now.items c.write_value.new.out.items =
-    goes_more c.loop-key.invariant c.in_ok-write_value.ensures.ok (pairs_from ps i p c.loop-key-item.is (omega arith))
+    goes_more c.loop-key.invariant c.in_ok-write_value.ensures.ok
+    (pairs_from ps i p c.loop-key-item.is c.loop-key-test.true)
     rest in
     goes_more first c.in_ok-write_value-2.ensures.ok behind rest
 
@@ -90,7 +106,7 @@ write_pairs-returns-in_err-write_value-2-clause-err t c =
 
 pub write_pairs-returns-clause-ok : goal.write_pairs-returns-clause-ok
 write_pairs-returns-clause-ok t c = goes_last c.loop-key.invariant
-    (pairs_end c.args.parts.now c.loop-key.key-index (omega arith))
+    (pairs_end c.args.parts.now c.loop-key.key-index c.loop-key-test.false)
 
 -- ---- fields
 
@@ -112,18 +128,18 @@ write_fields-returns-clause-err t c = on_err_weaker c.write_uint-2.result
 pub write_fields-delta-requires-clause-rises : goal.write_fields-delta-requires-clause-rises
 write_fields-delta-requires-clause-rises t c =
     (field_left c.args.parts.now c.loop-number.number-index _ c.loop-number-item.result c.loop-number-item.is
-    (omega arith) c.loop-number.invariant.left).rises
+    c.loop-number-test.true c.loop-number.invariant.left).rises
 
 pub write_fields-delta-requires-clause-small : goal.write_fields-delta-requires-clause-small
 write_fields-delta-requires-clause-small t c =
     (field_left c.args.parts.now c.loop-number.number-index _ c.loop-number-item.result c.loop-number-item.is
-    (omega arith) c.loop-number.invariant.left).small
+    c.loop-number-test.true c.loop-number.invariant.left).small
 
 pub write_fields-write_value-requires : goal.write_fields-write_value-requires
 write_fields-write_value-requires t c = (
-  search (rules, the_lemmas),
+  second_next _ _ _ _ c.loop-number-item.is c.loop-number-test.true c.decreases _ _ refl,
   (field_left c.args.parts.now c.loop-number.number-index _ c.loop-number-item.result
-      c.loop-number-item.is (omega arith) c.loop-number.invariant.left).value,
+      c.loop-number-item.is c.loop-number-test.true c.loop-number.invariant.left).value,
 )
 
 pub write_fields-returns-in_err-write_value-clause-err : goal.write_fields-returns-in_err-write_value-clause-err
@@ -138,13 +154,13 @@ write_fields-loop-number-preserved t c =
     let i = c.loop-number.number-index in
     let f = c.loop-number-item.result in
     let next = next_number c.loop-number.last in
-    let left = field_left fs i next f c.loop-number-item.is (omega arith) c.loop-number.invariant.left in
+    let left = field_left fs i next f c.loop-number-item.is c.loop-number-test.true c.loop-number.invariant.left in
     let first : Goes (WrittenFields 0 (field_views fs))
     (Behind (Written (view f.1)) (WrittenFields (f.0 + 1) (field_views (drop (i + 1) fs))))
     (IsSpelledWithin (WrittenFields (f.0 + 1)) fields_depth 1000 (field_views (drop (i + 1) fs))) c.args.out.now.items
     c.write_uint.new.out.items =
     goes_more c.loop-number.invariant c.in_ok-write_uint.ensures.ok
-    (λ b r n s. field_from fs i next f c.loop-number-item.is (omega arith) left.rises b r
+    (λ b r n s. field_from fs i next f c.loop-number-item.is c.loop-number-test.true left.rises b r
     (subst (λ n. IsUnsigned n b) c.delta.ensures n) s) left.rest in
     goes_more first c.in_ok-write_value.ensures.ok behind left.rest
 
@@ -152,7 +168,7 @@ pub write_fields-returns-clause-ok : goal.write_fields-returns-clause-ok
 write_fields-returns-clause-ok t c =
     on_ok_weaker c.write_uint-2.result
     (λ a. goes_ends c.loop-number.invariant a (λ b p. fields_end c.args.parts.now c.loop-number.number-index
-    (next_number c.loop-number.last) b (omega arith) p))
+    (next_number c.loop-number.last) b c.loop-number-test.false p))
     c.write_uint-2.ensures.ok
 
 -- ---- values

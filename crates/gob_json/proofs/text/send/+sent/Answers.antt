@@ -1,7 +1,11 @@
 -- Part by part the text goes out.
-use Rattle.std.proofs.Common.{ap, ℕ, Option, IfSome, Some, List, [], ◌∷◌, ◌++◌, ◌+◌, ◌-◌, ◌≡◌, arith, false, refl, sym, ◌∙◌, subst, drop}
+use Rattle.std.proofs.Common.{◌≡◌, ℕ, Option, Ok, Err, IfSome, Some, List, [], ◌∷◌, ◌++◌, ap, arith, drop, false}
+use Rattle.std.proofs.Common.{refl, sym, ◌∙◌, subst}
+use Rattle.std.proofs.lemmas.Result.{IfOk-from_err}
 use Rattle.serde_json.specs.Written.{compact_text, items_text}
 use Rattle.gob_types.specs.declared.basic.Basic.{Basic}
+use Rattle.gob_types.specs.declared.id.TypeId.{TypeId}
+use Rattle.gob_types.specs.Table.{Table, basic_of}
 use Rattle.gob_types.proofs.PublicLaws.{basic_shape_of}
 use Rattle.gob_types.specs.declared.kind.Kind.TheVariants as kind
 use Rattle.gob_json.specs.Json.{elements_json, pairs_json, fields_json, value_json}
@@ -9,12 +13,20 @@ use Rattle.gob_json.specs.Machine.TextSent.{HoldsKind, HoldsValue}
 use Rattle.gob_json.specs.TextWhole.{IsOfKind}
 use Rattle.gob_json.proofs.TextSteps.{later_on}
 use Rattle.gob_json.proofs.StandingLaws.{value_as}
-use Rattle.gob_json.proofs.SendLaws.{sent_behind, sent_failed, head_failed, head_put, slice_sent, array_sent, map_sent, struct_sent, sent_on}
+use Rattle.gob_json.proofs.SendLaws.{end_as, sent_behind, sent_failed, head_failed, head_put, sent_on}
+use Rattle.gob_json.proofs.SendLaws.{slice_sent, array_sent, map_sent, struct_sent}
 use Rattle.gob_json.proofs.SendLaws.{list_elements, all_elements}
 use Rattle.gob_json.proofs.SendLaws.{elements_ended, element_comma_failed, element_failed, element_put, first_entries}
 use Rattle.gob_json.proofs.SendLaws.{entries_ended, entry_comma_failed, entry_failed, entry_put, first_present}
 use Rattle.gob_json.proofs.SendLaws.{fields_ended, field_failed, field_put}
 use Rattle.gob_json.proofs.text.send.+sent.Goals as goal
+
+-- what is told of a basic type
+of_basic : {T : Table} {t : TypeId} {o : Option Basic} {b k : Basic} → o ≡ basic_of T t → o ≡ Some b → b ≡ k
+    → IsOfKind T t (kind.Basic k)
+of_basic {T = T} {t = t} told is same =
+    let (r, found, kept) = basic_shape_of T t (sym told ∙ is ∙ ap Some same) in
+    record { shape = r; found = found; same = kept }
 
 -- ---- elements and pairs
 pub send_elements-returns-in_err-put-clause-sent : goal.send_elements-returns-in_err-put-clause-sent
@@ -26,17 +38,17 @@ pub send_elements-returns-in-Some-clause-sent : goal.send_elements-returns-in-So
 send_elements-returns-in-Some-clause-sent g t c = λ vs rest b.
     let T = g.S.Shapes.table c.args.shapes.now in
     let all = list_elements c.args.body.now c.args.begin c.number_from-count.result.1 c.number_from-count.ensures.found b in
-    let (r, found, same) = basic_shape_of T c.args.elem (sym c.basic_of.ensures ∙ c.in-Some.is) in
     sent_on g.O.TextOut.puts g.met.O.TextOut.joined g.met.O.TextOut.cut (91 ∷ []) (items_text false (elements_json T c.args.elem vs)) c.send_basics.result
-    c.in_ok-put.ensures (c.send_basics.ensures.sent T c.args.elem c.args.depth vs rest (record { shape = r; found = found; same = same }) all.0 all.1)
+    c.in_ok-put.ensures (c.send_basics.ensures.sent T c.args.elem c.args.depth vs rest
+    (of_basic c.basic_of.ensures c.in-Some.is refl) all.0 all.1)
 
 pub send_elements-returns-in-Some-Int-clause-sent : goal.send_elements-returns-in-Some-Int-clause-sent
 send_elements-returns-in-Some-Int-clause-sent g t c = λ vs rest b.
     let T = g.S.Shapes.table c.args.shapes.now in
     let all = list_elements c.args.body.now c.args.begin c.number_from-count.result.1 c.number_from-count.ensures.found b in
-    let (r, found, same) = basic_shape_of T c.args.elem (sym c.basic_of.ensures ∙ c.in-Some-Int.is ∙ ap Some c.in-Some-Int.field-0-is) in
     sent_on g.O.TextOut.puts g.met.O.TextOut.joined g.met.O.TextOut.cut (91 ∷ []) (items_text false (elements_json T c.args.elem vs)) c.send_integers.result
-    c.in_ok-put.ensures (c.send_integers.ensures.sent T c.args.elem c.args.depth vs rest (record { shape = r; found = found; same = same }) all.0 all.1)
+    c.in_ok-put.ensures (c.send_integers.ensures.sent T c.args.elem c.args.depth vs rest
+    (of_basic c.basic_of.ensures c.in-Some-Int.is c.in-Some-Int.field-0-is) all.0 all.1)
 
 pub send_elements-returns-in-None-clause-sent : goal.send_elements-returns-in-None-clause-sent
 send_elements-returns-in-None-clause-sent g t c = λ vs rest b.
@@ -48,8 +60,7 @@ pub send_values-elements-init : goal.send_values-elements-init
 send_values-elements-init g t c = record {
   inside = c.requires.place;
   left = λ vs rest b counted.
-      let all : c.args.count - 0 ≡ c.args.count = omega arith in
-      rw all (all_elements g.O.TextOut.puts g.met.O.TextOut.joined g.met.O.TextOut.cut b counted);
+      all_elements g.O.TextOut.puts g.met.O.TextOut.joined g.met.O.TextOut.cut b counted;
 }
 
 pub send_values-returns-in_err-put_comma-clause-sent : goal.send_values-returns-in_err-put_comma-clause-sent
@@ -67,10 +78,10 @@ pub send_values-elements-preserved : goal.send_values-elements-preserved
 send_values-elements-preserved g t c = record {
   inside = c.in_ok-at.ensures.inside;
   left = λ vs rest b counted.
-      let next = element_put g.O.TextOut.puts g.met.O.TextOut.joined g.met.O.TextOut.cut (c.elements.invariant.left vs rest b counted) (omega arith) c.in_ok-put_comma.ensures
-      (λ v r p. let s = c.in_ok-at.ensures.sent v r p in (s.behind, s.put)) in
-      let fewer : c.args.count - (c.elements.index + 1) ≡ c.args.count - c.elements.index - 1 = omega arith in
-      rw fewer (rw (later_on c.elements.index) next);
+      element_put g.O.TextOut.puts g.met.O.TextOut.joined g.met.O.TextOut.cut
+      (c.elements.invariant.left vs rest b counted) (omega arith) (omega arith)
+      (later_on c.elements.index) c.in_ok-put_comma.ensures
+      (λ v r p. let s = c.in_ok-at.ensures.sent v r p in (s.behind, s.put));
 }
 
 pub send_values-returns-clause-sent : goal.send_values-returns-clause-sent
@@ -87,9 +98,8 @@ pub send_pairs-pairs-init : goal.send_pairs-pairs-init
 send_pairs-pairs-init g t c = record {
   inside = c.number_from-count.ensures.inside;
   left = λ ps rest b.
-      let all : c.number_from-count.result.0 - 0 ≡ c.number_from-count.result.0 = omega arith in
-      rw all (first_entries g.O.TextOut.puts g.met.O.TextOut.joined g.met.O.TextOut.cut c.args.body.now c.args.begin c.number_from-count.result.1
-      c.number_from-count.ensures.found b c.in_ok-put.ensures);
+      first_entries g.O.TextOut.puts g.met.O.TextOut.joined g.met.O.TextOut.cut c.args.body.now c.args.begin
+      c.number_from-count.result.1 c.number_from-count.ensures.found b c.in_ok-put.ensures;
 }
 
 pub send_pairs-returns-in_err-put_comma-clause-sent : goal.send_pairs-returns-in_err-put_comma-clause-sent
@@ -107,10 +117,9 @@ pub send_pairs-pairs-preserved : goal.send_pairs-pairs-preserved
 send_pairs-pairs-preserved g t c = record {
   inside = c.in_ok-at.ensures.inside;
   left = λ ps rest b.
-      let next = entry_put g.O.TextOut.puts g.met.O.TextOut.joined g.met.O.TextOut.cut (c.pairs.invariant.left ps rest b) (omega arith) c.in_ok-put_comma.ensures
-      (λ x v r p. let s = c.in_ok-at.ensures.sent x v r p in (s.behind, s.put)) in
-      let fewer : c.number_from-count.result.0 - (c.pairs.index + 1) ≡ c.number_from-count.result.0 - c.pairs.index - 1 = omega arith in
-      rw fewer (rw (later_on c.pairs.index) next);
+      entry_put g.O.TextOut.puts g.met.O.TextOut.joined g.met.O.TextOut.cut (c.pairs.invariant.left ps rest b)
+      (omega arith) (omega arith) (later_on c.pairs.index) c.in_ok-put_comma.ensures
+      (λ x v r p. let s = c.in_ok-at.ensures.sent x v r p in (s.behind, s.put));
 }
 
 pub send_pairs-returns-clause-sent : goal.send_pairs-returns-clause-sent
@@ -204,18 +213,27 @@ send_fields-returns-in_err-at-clause-sent g t c = λ fs rest b.
     sent_failed g.O.TextOut.puts c.from_residual-in_err-at.result c.from_residual-in_err-at.ensures.1
     (field_failed g.O.TextOut.puts g.met.O.TextOut.joined g.met.O.TextOut.cut c.args.body.now c.fields.at c.number_from-delta.result.1
     (c.fields.invariant.left fs rest b) c.number_from-delta.ensures.found c.in-Some.number c.in-Some.field.now c.in-Some.ensures.some
-    (λ v r p. head_put g.O.TextOut.puts _ c.in-Some.number g.met.O.TextOut.joined refl begin (c.in_err-at.ensures.sent v r p).put))
+    (λ v r p. head_put g.O.TextOut.puts
+    {value = compact_text (value_json (g.S.Shapes.table c.args.shapes.now) c.in-Some.field.now.id v) ++ 93 ∷ []}
+    {r = Err c.in_err-at.field-0.0} _ c.in-Some.number g.met.O.TextOut.joined refl begin
+    (c.in_err-at.ensures.sent v r p).put))
 
 pub send_fields-fields-preserved : goal.send_fields-fields-preserved
 send_fields-fields-preserved g t c =
+    let T = g.S.Shapes.table c.args.shapes.now in
     let begin = c.in_ok-put_begin.ensures c.args.types.now c.requires.heads c.in-Some.ensures.some.2 in
     record {
       inside = c.in_ok-at.ensures.inside;
-      left = λ fs rest b. rw (later_on c.in-Some.number)
-          (field_put g.O.TextOut.puts g.met.O.TextOut.joined g.met.O.TextOut.cut c.args.body.now c.fields.at c.number_from-delta.result.1
-          (c.fields.invariant.left fs rest b) c.number_from-delta.ensures.found c.in-Some.number c.in-Some.field.now c.in-Some.ensures.some
-          (λ v r p. let s = c.in_ok-at.ensures.sent v r p in
-          (s.behind, head_put g.O.TextOut.puts _ c.in-Some.number g.met.O.TextOut.joined refl begin s.put)));
+      left = λ fs rest b.
+          field_put g.O.TextOut.puts g.met.O.TextOut.joined g.met.O.TextOut.cut c.args.body.now c.fields.at
+          c.number_from-delta.result.1 (c.fields.invariant.left fs rest b) c.number_from-delta.ensures.found
+          c.in-Some.number c.in-Some.field.now c.in-Some.ensures.some
+          (later_on c.in-Some.number) (λ v r p. let s = c.in_ok-at.ensures.sent v r p in (
+            s.behind,
+            head_put g.O.TextOut.puts
+                {value = compact_text (value_json T c.in-Some.field.now.id v) ++ 93 ∷ []}
+                {r = Ok tt} _ c.in-Some.number g.met.O.TextOut.joined refl begin s.put,
+          ));
     }
 
 -- ---- one field
@@ -256,3 +274,76 @@ pub send_value-returns-in-Opaque-clause-sent : goal.send_value-returns-in-Opaque
 send_value-returns-in-Opaque-clause-sent g t c = λ v rest b.
     let w = value_as c.in-Some.shape.now (sym c.in-Some.ensures) b in
     c.send_opaque.ensures.sent (g.S.Shapes.table c.args.shapes.now) c.args.id c.in-Opaque.field-0 v rest (subst (λ k. HoldsKind (g.S.Shapes.table c.args.shapes.now) k v (drop c.args.at c.args.body.now) rest) c.in-Opaque.is w)
+
+-- ---- where they end
+pub send_elements-returns-in_err-put-clause-inside : goal.send_elements-returns-in_err-put-clause-inside
+send_elements-returns-in_err-put-clause-inside g t c = IfOk-from_err c.from_residual.result _ c.from_residual.ensures.0
+
+pub send_values-returns-in_err-put_comma-clause-inside : goal.send_values-returns-in_err-put_comma-clause-inside
+send_values-returns-in_err-put_comma-clause-inside g t c =
+    IfOk-from_err c.from_residual.result _ c.from_residual.ensures.0
+
+pub send_values-returns-in_err-at-clause-inside : goal.send_values-returns-in_err-at-clause-inside
+send_values-returns-in_err-at-clause-inside g t c =
+    IfOk-from_err c.from_residual-in_err-at.result _ c.from_residual-in_err-at.ensures.0
+
+pub send_pairs-returns-in_err-put-clause-inside : goal.send_pairs-returns-in_err-put-clause-inside
+send_pairs-returns-in_err-put-clause-inside g t c = IfOk-from_err c.from_residual.result _ c.from_residual.ensures.0
+
+pub send_pairs-returns-in_err-put_comma-clause-inside : goal.send_pairs-returns-in_err-put_comma-clause-inside
+send_pairs-returns-in_err-put_comma-clause-inside g t c =
+    IfOk-from_err c.from_residual-in_err-put_comma.result _ c.from_residual-in_err-put_comma.ensures.0
+
+pub send_pairs-returns-in_err-at-clause-inside : goal.send_pairs-returns-in_err-at-clause-inside
+send_pairs-returns-in_err-at-clause-inside g t c =
+    IfOk-from_err c.from_residual-in_err-at.result _ c.from_residual-in_err-at.ensures.0
+
+pub send_pair-returns-in_err-put-clause-inside : goal.send_pair-returns-in_err-put-clause-inside
+send_pair-returns-in_err-put-clause-inside g t c = IfOk-from_err c.from_residual.result _ c.from_residual.ensures.0
+
+pub send_pair-returns-in_err-behind-clause-inside : goal.send_pair-returns-in_err-behind-clause-inside
+send_pair-returns-in_err-behind-clause-inside g t c =
+    IfOk-from_err c.from_residual-in_err-behind.result _ c.from_residual-in_err-behind.ensures.0
+
+pub send_pair-returns-in_err-put-2-clause-inside : goal.send_pair-returns-in_err-put-2-clause-inside
+send_pair-returns-in_err-put-2-clause-inside g t c =
+    IfOk-from_err c.from_residual-in_err-put-2.result _ c.from_residual-in_err-put-2.ensures.0
+
+pub send_pair-returns-in_err-end-clause-inside : goal.send_pair-returns-in_err-end-clause-inside
+send_pair-returns-in_err-end-clause-inside g t c =
+    IfOk-from_err c.from_residual-in_err-end.result _ c.from_residual-in_err-end.ensures.0
+
+pub send_fields-returns-in_err-put-clause-inside : goal.send_fields-returns-in_err-put-clause-inside
+send_fields-returns-in_err-put-clause-inside g t c = IfOk-from_err c.from_residual.result _ c.from_residual.ensures.0
+
+pub send_fields-returns-in_err-put_begin-clause-inside : goal.send_fields-returns-in_err-put_begin-clause-inside
+send_fields-returns-in_err-put_begin-clause-inside g t c =
+    IfOk-from_err c.from_residual-in_err-put_begin.result _ c.from_residual-in_err-put_begin.ensures.0
+
+pub send_fields-returns-in_err-at-clause-inside : goal.send_fields-returns-in_err-at-clause-inside
+send_fields-returns-in_err-at-clause-inside g t c =
+    IfOk-from_err c.from_residual-in_err-at.result _ c.from_residual-in_err-at.ensures.0
+
+pub send_field-returns-in_err-end-clause-inside : goal.send_field-returns-in_err-end-clause-inside
+send_field-returns-in_err-end-clause-inside g t c = IfOk-from_err c.from_residual.result _ c.from_residual.ensures.0
+
+pub send_values-returns-clause-inside : goal.send_values-returns-clause-inside
+send_values-returns-clause-inside g t c =
+    end_as _ c.elements.at c.put.result c.and.result c.and.ensures c.elements.invariant.inside
+
+pub send_pairs-returns-clause-inside : goal.send_pairs-returns-clause-inside
+send_pairs-returns-clause-inside g t c =
+    end_as _ c.pairs.at c.put-2.result c.and.result c.and.ensures c.pairs.invariant.inside
+
+pub send_pair-returns-clause-inside : goal.send_pair-returns-clause-inside
+send_pair-returns-clause-inside g t c =
+    end_as _ c.in_ok-end.end c.put-3.result c.and.result c.and.ensures c.in_ok-end.ensures.inside
+
+pub send_fields-returns-in_default-clause-inside : goal.send_fields-returns-in_default-clause-inside
+send_fields-returns-in_default-clause-inside g t c =
+    end_as _ c.number_from-delta.result.1 c.put-in_default.result c.and.result c.and.ensures
+    c.number_from-delta.ensures.inside
+
+pub send_field-returns-clause-inside : goal.send_field-returns-clause-inside
+send_field-returns-clause-inside g t c =
+    end_as _ c.in_ok-end.end c.put.result c.and.result c.and.ensures c.in_ok-end.ensures.inside

@@ -1,5 +1,5 @@
 -- Element by element the text goes out.
-use Rattle.std.proofs.Common.{◌+◌, ◌-◌, ◌≡◌, arith, drop, refl, subst}
+use Rattle.std.proofs.Common.{arith, drop, refl, subst}
 use Rattle.gob_json.specs.Machine.TextSent.{HoldsKind}
 use Rattle.gob_json.proofs.TextSteps.{later_on}
 use Rattle.gob_json.proofs.StandingLaws.{value_as}
@@ -10,8 +10,7 @@ pub elements-init : goal.elements-init
 elements-init g c = record {
   inside = c.requires;
   left = λ T e limit vs rest is b counted.
-      let all : c.args.count - 0 ≡ c.args.count = omega arith in
-      rw all (all_elements g.O.TextOut.puts g.met.O.TextOut.joined g.met.O.TextOut.cut b counted);
+      all_elements g.O.TextOut.puts g.met.O.TextOut.joined g.met.O.TextOut.cut b counted;
 }
 
 pub returns-in_err-put_comma-clause-sent : goal.returns-in_err-put_comma-clause-sent
@@ -32,12 +31,11 @@ pub elements-preserved : goal.elements-preserved
 elements-preserved g c = record {
   inside = c.in_ok-at.ensures.inside;
   left = λ T e limit vs rest is b counted.
-      let next = element_put g.O.TextOut.puts g.met.O.TextOut.joined g.met.O.TextOut.cut (c.elements.invariant.left T e limit vs rest is b counted)
-      (omega arith) c.in_ok-put_comma.ensures
+      element_put g.O.TextOut.puts g.met.O.TextOut.joined g.met.O.TextOut.cut
+      (c.elements.invariant.left T e limit vs rest is b counted) (omega arith) (omega arith)
+      (later_on c.elements.index) c.in_ok-put_comma.ensures
       (λ v r p. let s = c.in_ok-at.ensures.sent T e v r (subst (λ k. HoldsKind T k v (drop c.elements.at c.args.body.now) r) is.same
-      (value_as is.shape is.found p)) in (s.behind, s.put)) in
-      let fewer : c.args.count - (c.elements.index + 1) ≡ c.args.count - c.elements.index - 1 = omega arith in
-      rw fewer (rw (later_on c.elements.index) next);
+      (value_as is.shape is.found p)) in (s.behind, s.put));
 }
 
 pub returns-clause-sent : goal.returns-clause-sent

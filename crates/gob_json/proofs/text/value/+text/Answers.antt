@@ -1,5 +1,6 @@
 -- Part by part the text grows, and what is left shrinks.
 use Rattle.std.proofs.Common.{◌++◌, ◌∙◌, ap, arith, nat_lt, sym}
+use Rattle.std.proofs.lemmas.Result.{IfOk-from_err}
 use Rattle.gob_json.specs.Machine.TextParts.{field_head}
 use Rattle.gob_value.proofs.PublicLaws.{seen, both, all_three}
 use Rattle.gob_json.proofs.TextSteps.{if_ok, deeper_text, slice_text, array_text, map_text, struct_text, later_on, no_element_text}
@@ -85,3 +86,91 @@ pub put_typed-returns-in-Some : goal.put_typed-returns-in-Some
 put_typed-returns-in-Some g t c =
     if_ok c.put_basic.result (λ end s. seen (s _)
     (basic_text _ c.if-depth-gt0.true (sym c.basic_of.ensures ∙ c.in-Some.is))) c.put_basic.ensures
+
+-- ---- what stopped
+pub put_value-returns-in_err-push-in-Struct : goal.put_value-returns-in_err-push-in-Struct
+put_value-returns-in_err-push-in-Struct g t c = IfOk-from_err c.from_residual.result _ c.from_residual.ensures.0
+
+pub put_value-returns-in_err-count-in-Slice : goal.put_value-returns-in_err-count-in-Slice
+put_value-returns-in_err-count-in-Slice g t c =
+    IfOk-from_err c.from_residual-in_err-count-in-Slice.result _ c.from_residual-in_err-count-in-Slice.ensures.0
+
+pub put_value-returns-in_err-push-in-Slice : goal.put_value-returns-in_err-push-in-Slice
+put_value-returns-in_err-push-in-Slice g t c =
+    IfOk-from_err c.from_residual-in_err-push-in-Slice.result _ c.from_residual-in_err-push-in-Slice.ensures.0
+
+pub put_value-returns-in_err-count-in-Array : goal.put_value-returns-in_err-count-in-Array
+put_value-returns-in_err-count-in-Array g t c =
+    IfOk-from_err c.from_residual-in_err-count-in-Array.result _ c.from_residual-in_err-count-in-Array.ensures.0
+
+pub put_value-returns-in_err-push-in-Array : goal.put_value-returns-in_err-push-in-Array
+put_value-returns-in_err-push-in-Array g t c =
+    IfOk-from_err c.from_residual-in_err-push-in-Array.result _ c.from_residual-in_err-push-in-Array.ensures.0
+
+pub put_value-returns-in_err-count-in-Map : goal.put_value-returns-in_err-count-in-Map
+put_value-returns-in_err-count-in-Map g t c =
+    IfOk-from_err c.from_residual-in_err-count-in-Map.result _ c.from_residual-in_err-count-in-Map.ensures.0
+
+pub put_value-returns-in_err-push-in-Map : goal.put_value-returns-in_err-push-in-Map
+put_value-returns-in_err-push-in-Map g t c =
+    IfOk-from_err c.from_residual-in_err-push-in-Map.result _ c.from_residual-in_err-push-in-Map.ensures.0
+
+pub put_elements-returns-in_err-put_comma : goal.put_elements-returns-in_err-put_comma
+put_elements-returns-in_err-put_comma g t c = IfOk-from_err c.from_residual.result _ c.from_residual.ensures.0
+
+pub put_elements-returns-in_err-at : goal.put_elements-returns-in_err-at
+put_elements-returns-in_err-at g t c =
+    IfOk-from_err c.from_residual-in_err-at.result _ c.from_residual-in_err-at.ensures.0
+
+pub put_elements-returns-in_err-push : goal.put_elements-returns-in_err-push
+put_elements-returns-in_err-push g t c =
+    IfOk-from_err c.from_residual-in_err-push.result _ c.from_residual-in_err-push.ensures.0
+
+pub put_pairs-returns-in_err-put_comma : goal.put_pairs-returns-in_err-put_comma
+put_pairs-returns-in_err-put_comma g t c = IfOk-from_err c.from_residual.result _ c.from_residual.ensures.0
+
+pub put_pairs-returns-in_err-push : goal.put_pairs-returns-in_err-push
+put_pairs-returns-in_err-push g t c =
+    IfOk-from_err c.from_residual-in_err-push.result _ c.from_residual-in_err-push.ensures.0
+
+pub put_pairs-returns-in_err-behind : goal.put_pairs-returns-in_err-behind
+put_pairs-returns-in_err-behind g t c =
+    IfOk-from_err c.from_residual-in_err-behind.result _ c.from_residual-in_err-behind.ensures.0
+
+pub put_pairs-returns-in_err-push-2 : goal.put_pairs-returns-in_err-push-2
+put_pairs-returns-in_err-push-2 g t c =
+    IfOk-from_err c.from_residual-in_err-push-2.result _ c.from_residual-in_err-push-2.ensures.0
+
+pub put_pairs-returns-in_err-at : goal.put_pairs-returns-in_err-at
+put_pairs-returns-in_err-at g t c = IfOk-from_err c.from_residual-in_err-at.result _ c.from_residual-in_err-at.ensures.0
+
+pub put_pairs-returns-in_err-push-3 : goal.put_pairs-returns-in_err-push-3
+put_pairs-returns-in_err-push-3 g t c =
+    IfOk-from_err c.from_residual-in_err-push-3.result _ c.from_residual-in_err-push-3.ensures.0
+
+pub put_pairs-returns-in_err-push-4 : goal.put_pairs-returns-in_err-push-4
+put_pairs-returns-in_err-push-4 g t c =
+    IfOk-from_err c.from_residual-in_err-push-4.result _ c.from_residual-in_err-push-4.ensures.0
+
+pub put_fields-returns-in_err-delta : goal.put_fields-returns-in_err-delta
+put_fields-returns-in_err-delta g t c = IfOk-from_err c.from_residual.result _ c.from_residual.ensures.0
+
+pub put_fields-returns-in_err-push : goal.put_fields-returns-in_err-push
+put_fields-returns-in_err-push g t c =
+    IfOk-from_err c.from_residual-in_err-push.result _ c.from_residual-in_err-push.ensures.0
+
+pub put_fields-returns-in_err-number : goal.put_fields-returns-in_err-number
+put_fields-returns-in_err-number g t c =
+    IfOk-from_err c.from_residual-in_err-number.result _ c.from_residual-in_err-number.ensures.0
+
+pub put_fields-returns-in_err-put_field_head : goal.put_fields-returns-in_err-put_field_head
+put_fields-returns-in_err-put_field_head g t c =
+    IfOk-from_err c.from_residual-in_err-put_field_head.result _ c.from_residual-in_err-put_field_head.ensures.0
+
+pub put_fields-returns-in_err-at : goal.put_fields-returns-in_err-at
+put_fields-returns-in_err-at g t c =
+    IfOk-from_err c.from_residual-in_err-at.result _ c.from_residual-in_err-at.ensures.0
+
+pub put_fields-returns-in_err-push-2 : goal.put_fields-returns-in_err-push-2
+put_fields-returns-in_err-push-2 g t c =
+    IfOk-from_err c.from_residual-in_err-push-2.result _ c.from_residual-in_err-push-2.ensures.0

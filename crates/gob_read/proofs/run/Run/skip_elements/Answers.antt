@@ -1,6 +1,10 @@
 use Rattle.std.proofs.Common.{arith, refl}
+use Rattle.gob_read.proofs.Machine.BasicPartSteps.{frame_some}
 use Rattle.gob_read.proofs.Machine.Skips.{elements_skipped}
 use Rattle.gob_read.proofs.run.Run.skip_elements.Goals as goal
+
+pub replace-requires : goal.replace-requires
+replace-requires g c = frame_some _ c.requires.inside
 
 pub returns : goal.returns
 returns g c =

@@ -1,10 +1,14 @@
-use Rattle.std.proofs.Common.{◌+◌, ◌≤◌, ◌∙◌, arith, refl, ap, length, length-take}
+use Rattle.std.proofs.Common.{ℕ, ◌+◌, ◌-◌, ◌≤◌, ◌∙◌, List, take, drop, arith, refl, ap, length, length-take}
 use Rattle.std.specs.Prelude.{slice_get}
 use Rattle.gob_read.specs.declared.next.Next.TheVariants.{Number}
 use Rattle.gob_read.specs.Machine.BasicParts.{not_taken}
 use Rattle.gob_read.proofs.Machine.ToldLaws.{some}
 use Rattle.gob_read.proofs.Machine.BasicPartSteps.{can_tell_basic, basic_takes, untold, told_as, told_within, rest_some, told_stack, frame_some}
 use Rattle.gob_read.proofs.run.Run.take_basic_part.Goals as goal
+
+within_rest : {used more : ℕ} (rest : List ℕ) → used ≤ length rest
+    → more ≤ length (take (length rest - used) (drop used rest)) → used + more ≤ length rest
+within_rest {used = used} rest u l = omega (arith, rest_some rest used)
 
 pub returns-in_default : goal.returns-in_default
 returns-in_default g c = not_taken refl
@@ -20,9 +24,16 @@ returns-in_default-2 g c =
 pub replace-requires : goal.replace-requires
 replace-requires g c = frame_some _ (ap (λ fs. slice_get fs 0) (told_stack (told_as c.in-Some.is c.in_ok-more.ensures)) ∙ c.requires.inside.innermost)
 
+pub overflow_add-self : goal.overflow_add-self
+overflow_add-self g c =
+    let t = told_within (told_as c.in-Some.is c.in_ok-more.ensures) in
+    let w = within_rest c.args.rest.now c.in-Whole.ensures.0 t in
+    let r = c.requires.before.room in let f = c.fits-self in omega arith
+
 pub overflow_add-self-2 : goal.overflow_add-self-2
 overflow_add-self-2 g c =
-    let w : c.in-Whole.used + c.in-Some.more ≤ length c.args.rest.now = (let l = told_within (told_as c.in-Some.is c.in_ok-more.ensures) in let u = c.in-Whole.ensures.0 in omega (arith, rest_some c.args.rest.now c.in-Whole.used)) in
+    let t = told_within (told_as c.in-Some.is c.in_ok-more.ensures) in
+    let w = within_rest c.args.rest.now c.in-Whole.ensures.0 t in
     let r = c.requires.before.room in let f = c.fits-self in omega arith
 
 pub returns : goal.returns

@@ -1,7 +1,7 @@
 use Rattle.std.proofs.Common.{arith, refl, sym}
 use Rattle.gob_read.specs.Machine.BasicParts.{not_named, named}
 use Rattle.gob_read.proofs.Machine.FieldSteps.{can_name}
-use Rattle.gob_read.proofs.Machine.BasicPartSteps.{can_go_on, name_takes}
+use Rattle.gob_read.proofs.Machine.BasicPartSteps.{can_go_on, name_takes, frame_some}
 use Rattle.gob_read.proofs.run.Run.take_field_delta.Goals as goal
 
 pub returns-then-n-gt127 : goal.returns-then-n-gt127
@@ -14,6 +14,9 @@ pub name_field-requires-clause-named : goal.name_field-requires-clause-named
 name_field-requires-clause-named g c =
     let r = c.requires.before.room in
     can_name c.saturating_add-number.result (can_go_on {n = c.args.n} c.requires.before.expected c.requires.inside c.requires.struct_ c.requires.before.has_read c.requires.fresh (omega arith) (omega arith)) (let h = c.saturating_add-number.ensures in let s = c.in-Some.ensures.small in omega arith)
+
+pub name_field-requires-clause-inside : goal.name_field-requires-clause-inside
+name_field-requires-clause-inside g c = frame_some _ c.requires.inside
 
 pub returns : goal.returns
 returns g c =

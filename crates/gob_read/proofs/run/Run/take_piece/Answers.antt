@@ -6,6 +6,12 @@ use Rattle.gob_read.proofs.run.Run.take_piece.Goals as goal
 pub returns-in_err-judge : goal.returns-in_err-judge
 returns-in_err-judge g c = stop_passed _ _ _ _ _ _ c.from_residual.result c.from_residual.ensures.1 (judge_stops _ _ _ _ c.in_err-judge.field-0.0 (come_start c.args.piece.now) c.requires.room c.in_err-judge.ensures)
 
+pub items-init : goal.items-init
+items-init g c = record {
+  come = come_start c.args.piece.now;
+  opens = c.in_ok-judge.ensures (g.S.Shapes.table c.args.shapes.now);
+}
+
 pub returns-then-used-piece : goal.returns-then-used-piece
 returns-then-used-piece g c = come_all c.items.invariant.come c.items.invariant.opens (omega arith)
 

@@ -1,4 +1,4 @@
-use Rattle.std.proofs.Common.{arith, drop, length-take, refl, take}
+use Rattle.std.proofs.Common.{◌≡◌, arith, drop, length, length-take, refl, take}
 use Rattle.gob_read.proofs.Machine.Runs.{front_taken, open_in, raw_can_take, raw_some, raw_stepped, take_and_drop}
 use Rattle.gob_read.proofs.run.Run.take_raw_bytes.Goals as goal
 
@@ -10,15 +10,21 @@ take_raw_bytes-requires g c =
 pub returns-then-used-left : goal.returns-then-used-left
 returns-then-used-left g c =
     let s = c.args.rest.now in let n = c.min-used.result in let b = c.requires.before in
-    λ T. front_taken (take n s) (drop n s) (take_and_drop s n) (omega (arith, length-take n s)) (let l = raw_some b.expected (open_in c.requires) in let k = b.some in omega arith) (record {
-      more = record { taken = omega (arith, length-take n s); length_is = refl; depth_is = refl };
-      steps = raw_stepped c.args.left (take n s) b.expected (omega (arith, length-take n s)) refl (omega (arith, length-take n s)) refl (λ _. omega (arith, length-take n s)) (λ k. absurd (omega (arith, length-take n s))) c.in_ok-moved.ensures;
+    let few : length (take n s) ≡ n = omega (arith, length-take n s) in
+    let l = raw_some b.expected (open_in c.requires) in let k = b.some in
+    λ T. front_taken (take n s) (drop n s) (take_and_drop s n) (omega arith) (omega arith) (record {
+      more = record { taken = omega arith; length_is = refl; depth_is = refl };
+      steps = raw_stepped c.args.left (take n s) b.expected (omega arith) refl (omega arith) refl
+          (λ _. omega arith) (λ k. absurd (omega arith)) c.in_ok-moved.ensures;
     })
 
 pub returns-else-used-left : goal.returns-else-used-left
 returns-else-used-left g c =
     let s = c.args.rest.now in let n = c.min-used.result in let b = c.requires.before in
-    λ T. front_taken (take n s) (drop n s) (take_and_drop s n) (omega (arith, length-take n s)) (let l = raw_some b.expected (open_in c.requires) in let k = b.some in omega arith) (record {
-      more = record { taken = omega (arith, length-take n s); length_is = refl; depth_is = refl };
-      steps = raw_stepped c.args.left (take n s) b.expected (omega (arith, length-take n s)) refl (omega (arith, length-take n s)) refl (λ k. absurd (c.if-used-left.false (omega (arith, length-take n s)))) (λ _. refl) c.in_ok-moved.ensures;
+    let few : length (take n s) ≡ n = omega (arith, length-take n s) in
+    let l = raw_some b.expected (open_in c.requires) in let k = b.some in
+    λ T. front_taken (take n s) (drop n s) (take_and_drop s n) (omega arith) (omega arith) (record {
+      more = record { taken = omega arith; length_is = refl; depth_is = refl };
+      steps = raw_stepped c.args.left (take n s) b.expected (omega arith) refl (omega arith) refl
+          (λ k. absurd (c.if-used-left.false (omega arith))) (λ _. refl) c.in_ok-moved.ensures;
     })

@@ -1,3 +1,6 @@
+use Rattle.std.proofs.Common.{arith}
+use Rattle.gob_num.proofs.PublicLaws.{unsigned_length}
+use Rattle.gob_stream.proofs.Reader.CountSteps.{cut_length}
 use Rattle.gob_stream.proofs.Reader.CountSteps.{count_at_end, count_whole, count_more, count_bad, count_padded}
 use Rattle.gob_stream.proofs.count.CountStage.take.Goals as goal
 
@@ -15,3 +18,9 @@ returns-in-BadHead g c = count_bad c.in-BadHead.ensures.taken c.refusal.ensures
 
 pub returns-in-NotMinimal : goal.returns-in-NotMinimal
 returns-in-NotMinimal g c = count_padded c.in-NotMinimal.ensures.taken c.refusal-in-NotMinimal.ensures
+
+pub overflow_add-around : goal.overflow_add-around
+overflow_add-around g c =
+    let taken = c.in-Whole.ensures.taken in
+    let used = cut_length c.args.self.number c.args.piece.now c.in-Whole.used taken.0 in
+    omega (arith, c.requires.offset, c.requires.taken, used, unsigned_length taken.1)

@@ -75,3 +75,21 @@ returns-clause-fed g c = fed_all c.steps.invariant (let n = c.steps.invariant.on
 
 pub returns-clause-honest : goal.returns-clause-honest
 returns-clause-honest g c = always_feeds_honestly _ _ g.B.Builder.building.means _ _ c.steps.self c.args.piece.now (Ok tt) (returns-clause-fed g c)
+
+pub returns-in-Err-push_item-clause-stays : goal.returns-in-Err-push_item-clause-stays
+returns-in-Err-push_item-clause-stays g c = λ f. absurd (c.if-has_failed.ensures.failed f)
+
+pub returns-in-Err-clause-stays : goal.returns-in-Err-clause-stays
+returns-in-Err-clause-stays g c = λ f. absurd (c.if-has_failed.ensures.failed f)
+
+pub returns-then-used-piece-clause-stays : goal.returns-then-used-piece-clause-stays
+returns-then-used-piece-clause-stays g c = λ f. absurd (c.if-has_failed.ensures.failed f)
+
+pub returns-clause-stays : goal.returns-clause-stays
+returns-clause-stays g c = λ f. absurd (c.if-has_failed.ensures.failed f)
+
+pub returns-in-Err-clause-failed : goal.returns-in-Err-clause-failed
+returns-in-Err-clause-failed g c = c.in-Err.ensures.failed
+
+pub returns-in-Err-push_item-clause-failed : goal.returns-in-Err-push_item-clause-failed
+returns-in-Err-push_item-clause-failed g c = c.in-Err-push_item.ensures.failed

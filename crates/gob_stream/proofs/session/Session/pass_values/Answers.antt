@@ -1,4 +1,4 @@
-use Rattle.std.proofs.Common.{◌≡◌, ◌-◌, ◌≤◌, min, arith, ap, ◌∙◌}
+use Rattle.std.proofs.Common.{◌≡◌, ◌-◌, ◌≤◌, min, arith, ap, ◌∙◌, length-take}
 use Rattle.gob_stream.proofs.Reader.WholeSteps.{between_at, found_items, front_items, passes_items, passes_none}
 use Rattle.gob_stream.proofs.session.Session.pass_values.Goals as goal
 
@@ -32,3 +32,7 @@ returns-clause-passed g c =
     passes_items c.min-near.result c.args.piece.now
     (found_items g.B.Builder.DEPTH c.args.self.now c.args.piece.now c.min-near.result are
     (c.item.ensures ∙ ap (λ s. s.limits.item) c.self.view_is) depth near) c.go_past.ensures.passed
+
+pub slice_bounds-whole_values-end : goal.slice_bounds-whole_values-end
+slice_bounds-whole_values-end g c =
+    omega (arith, c.min-near.ensures, length-take c.min-near.result c.args.piece.now)

@@ -7,6 +7,7 @@ use Rattle.gob_stream.specs.Machine.ReadParts.{bytes_wanted}
 use Rattle.gob_stream.proofs.Reader.HonestLaws.{reads_honestly}
 use Rattle.gob_stream.proofs.Reader.SessionSteps.{told_trees, types_stay, on_err, consumed_nothing, all_taken, stood_first, after_room, stood_on, passed_on, IsRead, piece_length, piece_consumed, Stepped, stepped, stood_before, step_stops, read_stops, end_stops, counts_none, step_unread, end_unread, nothing_more, step_gives, gives_taken, step_taken, item_within, no_less, stood_further, sound_after}
 use Rattle.gob_stream.proofs.session.Session.read_item.Given as given
+use Rattle.gob_stream.proofs.Reader.FailedSteps.{not_read, rises, piece_within, chunk_taken}
 use Rattle.gob_stream.proofs.session.Session.read_item.Goals as goal
 use Rattle.gob_stream.proofs.session.Session.read_item.Goals.{In-Ok, In_err-step-in-Ok, In_ok-step-in-Ok}
 
@@ -241,3 +242,33 @@ returns-in-Err-clause-stays g c = λ f. absurd (sound_after c.pieces.invariant.b
 
 pub returns-in-Err-clause-limits : goal.returns-in-Err-clause-limits
 returns-in-Err-clause-limits g c = c.fail.ensures.limits ∙ c.pieces.invariant.limits
+
+pub returns-then-has_failed-clause-read : goal.returns-then-has_failed-clause-read
+returns-then-has_failed-clause-read g c = λ items bytes rest a e. not_read a c.if-has_failed.ensures.failed
+
+pub returns-in-Err-clause-counted : goal.returns-in-Err-clause-counted
+returns-in-Err-clause-counted g c = rises c.in-Err.ensures.counted.1 c.pieces.invariant.failures
+
+pub slice_bounds-step-end : goal.slice_bounds-step-end
+slice_bounds-step-end g c =
+    sym (piece_length (drop c.min-wanted.result c.pieces.chunk) (read_some g (goal.at.slice_bounds-step-end g c).In-Ok))
+
+pub slice_bounds-read-end : goal.slice_bounds-read-end
+slice_bounds-read-end g c = chunk_taken _ c.pieces.chunk c.min-wanted.ensures c.pieces.invariant.chunk
+
+pub slice_bounds-chunk-end-in-Ok : goal.slice_bounds-chunk-end-in-Ok
+slice_bounds-chunk-end-in-Ok g c =
+    piece_within (drop c.min-wanted.result c.pieces.chunk)
+    (read_some g (goal.at.slice_bounds-chunk-end-in-Ok g c).In-Ok)
+
+pub returns-in-Some-clause-honest : goal.returns-in-Some-clause-honest
+returns-in-Some-clause-honest g c = λ items bytes rest a e. tt
+
+pub returns-in-Ok-eq0-clause-honest : goal.returns-in-Ok-eq0-clause-honest
+returns-in-Ok-eq0-clause-honest g c = λ items bytes rest a e. tt
+
+pub returns-in-Err-clause-honest : goal.returns-in-Err-clause-honest
+returns-in-Err-clause-honest g c = λ items bytes rest a e. tt
+
+pub returns-then-has_failed-clause-honest : goal.returns-then-has_failed-clause-honest
+returns-then-has_failed-clause-honest g c = λ items bytes rest a e. tt

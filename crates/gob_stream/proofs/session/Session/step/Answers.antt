@@ -1,9 +1,11 @@
-use Rattle.std.proofs.Common.{ℕ, List, Err, arith, refl, subst}
+use Rattle.std.proofs.Common.{ℕ, List, Err, arith, ap, subst}
 use Rattle.std.proofs.lemmas.Grind.{common_steps}
 use Rattle.gob_stream.specs.Item.{StreamItem}
 use Rattle.gob_stream.specs.Calls.Session.{HasRead, StepAnswers}
 use Rattle.gob_stream.proofs.Reader.AdvanceSteps.{item_of, step_bound, step_between, advanced, usable_on, stopped_by, within_there, takes_on, stops_alike, over_nothing}
 use Rattle.gob_stream.proofs.Reader.NumberSteps.{steps_few}
+use Rattle.gob_stream.specs.Machine.HasRead.{has_failed}
+use Rattle.gob_stream.proofs.Reader.FailedSteps.{not_read}
 use Rattle.gob_stream.proofs.session.Session.step.Goals as goal
 
 pub returns-then-is_empty-clause-advances : goal.returns-then-is_empty-clause-advances
@@ -47,7 +49,7 @@ returns-in-Ok-clause-whole g c =
     rw (← c.self.view_is) (λ few. t.whole (rw c.replace-stage.ensures.value few))
 
 pub returns-in-Ok-clause-limits : goal.returns-in-Ok-clause-limits
-returns-in-Ok-clause-limits g c = rw (← c.self.view_is) refl
+returns-in-Ok-clause-limits g c = ap (λ s. s.limits) c.self.view_is
 
 pub returns-in-Err-clause-advances : goal.returns-in-Err-clause-advances
 returns-in-Err-clause-advances g c =
@@ -63,7 +65,25 @@ returns-in-Err-clause-types g c =
     rw (← c.self.view_is) (stops_alike (takes_on c.replace-stage.ensures.value c.in-Err.ensures w.in_item).steps)
 
 pub returns-in-Err-clause-taken : goal.returns-in-Err-clause-taken
-returns-in-Err-clause-taken g c = rw (← c.self.view_is) refl
+returns-in-Err-clause-taken g c = ap (λ s. s.taken) c.self.view_is
 
 pub returns-in-Err-clause-limits : goal.returns-in-Err-clause-limits
-returns-in-Err-clause-limits g c = rw (← c.self.view_is) refl
+returns-in-Err-clause-limits g c = ap (λ s. s.limits) c.self.view_is
+
+pub returns-in-Err-clause-stays : goal.returns-in-Err-clause-stays
+returns-in-Err-clause-stays g c = λ f. absurd (c.if-has_failed.ensures.failed f)
+
+pub returns-in-Ok-clause-stays : goal.returns-in-Ok-clause-stays
+returns-in-Ok-clause-stays g c = λ f. absurd (c.if-has_failed.ensures.failed f)
+
+pub returns-then-is_empty-clause-stays : goal.returns-then-is_empty-clause-stays
+returns-then-is_empty-clause-stays g c = λ f. absurd (c.if-has_failed.ensures.failed f)
+
+pub returns-then-has_failed-clause-advances : goal.returns-then-has_failed-clause-advances
+returns-then-has_failed-clause-advances g c = λ items bytes a. not_read a c.if-has_failed.ensures.failed
+
+pub invariant_of-self-in-Err : goal.invariant_of-self-in-Err
+invariant_of-self-in-Err g c = has_failed c.replace-stage.ensures.after
+
+pub returns-in-Err-clause-failed : goal.returns-in-Err-clause-failed
+returns-in-Err-clause-failed g c = c.replace-stage.ensures.after

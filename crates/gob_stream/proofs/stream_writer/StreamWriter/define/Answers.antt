@@ -8,6 +8,7 @@ use Rattle.gob_stream.specs.WriterRefusal.{refused_body}
 use Rattle.gob_stream.proofs.DenialLaws.{denial_weaker}
 use Rattle.gob_stream.proofs.Written.WritingLaws.{body_alone, whole_item}
 use Rattle.gob_stream.proofs.Written.WriterSteps.{denied_writes, trees_within, sent_writes, denied_effects, sent_effects}
+use Rattle.gob_stream.proofs.Written.WriterSteps.{failed_wrote, failed_effects}
 use Rattle.gob_stream.proofs.stream_writer.StreamWriter.define.Goals as goal
 
 pub returns-in_err-shape : goal.returns-in_err-shape
@@ -59,3 +60,9 @@ returns g c =
           c.send.ensures.sends;
       effects = sent_effects g.W.Write.contents w ready c.send.new.self _ c.args.output.now c.send.new.output c.send.result c.if-self.false c.send.ensures.sends c.send.ensures.counted;
     }
+
+pub returns-then-self : goal.returns-then-self
+returns-then-self g c = record {
+  writes = λ items bytes T written. failed_wrote c.if-self.true written;
+  effects = failed_effects g.W.Write.contents c.args.self.now c.args.output.now c.if-self.true;
+}

@@ -5,6 +5,7 @@ use Rattle.gob_stream.specs.WriterRefusal.{refused_type, refused_body}
 use Rattle.gob_stream.proofs.DenialLaws.{denial_weaker}
 use Rattle.gob_stream.proofs.Written.WritingLaws.{whole_item}
 use Rattle.gob_stream.proofs.Written.WriterSteps.{denied_writes, all_within, sent_writes, denied_effects, sent_effects}
+use Rattle.gob_stream.proofs.Written.WriterSteps.{failed_effects}
 use Rattle.gob_stream.proofs.stream_writer.StreamWriter.put_spelled.Goals as goal
 
 pub returns-in_err-spell_head-clause-writes : goal.returns-in_err-spell_head-clause-writes
@@ -47,3 +48,7 @@ returns-clause-effects g c =
     let w = c.args.self.now in
     let ready = record w { body = c.spell_head.new.head; item = c.begin_item.new.item } in
     sent_effects g.W.Write.contents w ready c.send.new.self _ c.args.output.now c.send.new.output c.send.result c.if-self.false c.send.ensures.sends c.send.ensures.counted
+
+pub returns-then-self-clause-effects : goal.returns-then-self-clause-effects
+returns-then-self-clause-effects g c =
+    failed_effects g.W.Write.contents c.args.self.now c.args.output.now c.if-self.true

@@ -1,4 +1,5 @@
-use Rattle.std.proofs.Common.{refl}
+use Rattle.std.proofs.Common.{◌+◌, false, refl, ap, arith, length-append}
+use Rattle.std.proofs.KnownBytes.{Appends-trans}
 use Rattle.std.proofs.lemmas.Result.{err_from_is_err_and}
 use Rattle.gob_stream.proofs.Written.WriterSteps.{front_of_more, front_behind}
 use Rattle.gob_stream.proofs.stream_writer.StreamWriter.send.Goals as goal
@@ -12,3 +13,17 @@ pub returns-in_err-send_all-2-clause-sends : goal.returns-in_err-send_all-2-clau
 returns-in_err-send_all-2-clause-sends g c =
     let p = err_from_is_err_and c.from_residual-in_err-send_all-2.result c.from_residual-in_err-send_all-2.ensures.1 in
     rw (p.1, p.2) (front_behind c.args.self.now.item.items (rw c.deref.ensures.value at c.in_ok-send_all.ensures.ok) c.in_err-send_all-2.ensures.front, refl, c.in_err-send_all-2.ensures.fault)
+
+pub overflow_add-self-2 : goal.overflow_add-self-2
+overflow_add-self-2 g c =
+    let item = c.args.self.now.item in
+    omega (arith, c.requires, c.len.ensures, item.ok.0, length-append item.items c.args.rest.now)
+
+pub returns-clause-sends : goal.returns-clause-sends
+returns-clause-sends g c =
+    let w = c.args.self.now in
+    let out = rw c.deref.ensures.value at c.in_ok-send_all.ensures.ok in (
+      Appends-trans _ _ _ _ _ out c.in_ok-send_all-2.ensures.ok,
+      ap (λ n. record w { offset = w.offset + n; failed = false })
+          (omega (arith, c.len.ensures, w.item.ok.0, length-append w.item.items c.args.rest.now)),
+    )

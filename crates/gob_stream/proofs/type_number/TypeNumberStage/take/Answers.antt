@@ -2,13 +2,16 @@ use Rattle.std.proofs.Common.{◌++◌, ◌≤◌, take, length, arith, refl}
 use Rattle.std.proofs.lemmas.List.{length-take}
 use Rattle.gob_stream.specs.Refusing as refusing
 use Rattle.gob_stream.proofs.Reader.NumberSteps.{number_refused, number_goes_on, goes_on_some, number_taken, steps_further, steps_stop, steps_few, number_there, rest_of, slice_rest, one_used}
+use Rattle.gob_stream.proofs.Reader.FailedSteps.{body_room, room_fits, used_fits, bad_head_stands, not_minimal_stands}
 use Rattle.gob_stream.proofs.type_number.TypeNumberStage.take.Goals as goal
 
 pub overflow_add-result : goal.overflow_add-result
 overflow_add-result g c =
     let at = c.args.self in
     let h = c.requires.counted in
-    let r = rest_of {body = at.body} at.number c.args.piece.now c.requires.begin (omega arith) (omega arith) c.in-Whole.ensures.taken.0 in
+    let fits = room_fits c.args.piece.now c.requires.room c.min-room.ensures in
+    let r = rest_of {body = at.body} at.number c.args.piece.now c.requires.begin fits.within fits.some
+    c.in-Whole.ensures.taken.0 in
     let few = steps_few (c.in-Ok.ensures h.offset h.size h.bytes (at.number ++ take c.in-Whole.used (take c.min-room.result c.args.piece.now)) at.body h.is refl c.in-Whole.ensures.taken.1 r) in
     omega arith
 
@@ -22,7 +25,9 @@ pub returns-in-Ok : goal.returns-in-Ok
 returns-in-Ok g c = λ offset m d k.
     let at = c.args.self in
     let e = k.end in
-    let r = rest_of {body = at.body} at.number c.args.piece.now c.requires.begin (omega arith) (omega arith) c.in-Whole.ensures.taken.0 in
+    let fits = room_fits c.args.piece.now c.requires.room c.min-room.ensures in
+    let r = rest_of {body = at.body} at.number c.args.piece.now c.requires.begin fits.within fits.some
+    c.in-Whole.ensures.taken.0 in
     let p = c.in-Ok.ensures offset m d (at.number ++ take c.in-Whole.used (take c.min-room.result c.args.piece.now)) at.body k refl c.in-Whole.ensures.taken.1 r in
     let few : c.in-Whole.used ≤ length c.args.piece.now = let l = c.in-Whole.ensures.taken.0 in let n = length-take c.min-room.result c.args.piece.now in omega arith in
     let n = number_taken _ _ c.requires.front c.in-Whole.ensures.taken.1 in
@@ -34,7 +39,9 @@ pub returns-in-Err : goal.returns-in-Err
 returns-in-Err g c = λ offset m d k.
     let at = c.args.self in
     let e = k.end in
-    let r = rest_of {body = at.body} at.number c.args.piece.now c.requires.begin (omega arith) (omega arith) c.in-Whole.ensures.taken.0 in
+    let fits = room_fits c.args.piece.now c.requires.room c.min-room.ensures in
+    let r = rest_of {body = at.body} at.number c.args.piece.now c.requires.begin fits.within fits.some
+    c.in-Whole.ensures.taken.0 in
     let p = c.in-Err.ensures offset m d (at.number ++ take c.in-Whole.used (take c.min-room.result c.args.piece.now)) at.body k refl c.in-Whole.ensures.taken.1 r in
     one_used
     (steps_stop (d ++ at.number) c.args.piece.now c.in-Whole.used (rw (number_there d at.number c.args.piece.now c.in-Whole.used c.min-room.result c.in-Whole.ensures.taken.0, slice_rest c.args.piece.now c.in-Whole.used) at p))
@@ -42,10 +49,25 @@ returns-in-Err g c = λ offset m d k.
 
 pub returns-in-BadHead : goal.returns-in-BadHead
 returns-in-BadHead g c = λ offset m d k.
-    let e = k.end in
-    one_used (number_refused d c.args.self.number c.args.piece.now k (omega arith) (omega arith) (refusing.RefusesBody.bad_head c.in-BadHead.ensures.taken) (λ e. cc) c.refusal.ensures) tt
+    let room = body_room c.args.self.body.begin c.args.self.number c.args.piece.now c.requires.begin c.requires.room
+    k.end c.min-room.ensures in
+    one_used (number_refused d c.args.self.number c.args.piece.now k room.within room.taken
+    (refusing.RefusesBody.bad_head c.in-BadHead.ensures.taken) bad_head_stands c.refusal.ensures) tt
 
 pub returns-in-NotMinimal : goal.returns-in-NotMinimal
 returns-in-NotMinimal g c = λ offset m d k.
-    let e = k.end in
-    one_used (number_refused d c.args.self.number c.args.piece.now k (omega arith) (omega arith) (refusing.RefusesBody.not_minimal c.in-NotMinimal.ensures.taken) (λ e. cc) c.refusal-in-NotMinimal.ensures) tt
+    let room = body_room c.args.self.body.begin c.args.self.number c.args.piece.now c.requires.begin c.requires.room
+    k.end c.min-room.ensures in
+    one_used (number_refused d c.args.self.number c.args.piece.now k room.within room.taken
+    (refusing.RefusesBody.not_minimal c.in-NotMinimal.ensures.taken) not_minimal_stands
+    c.refusal-in-NotMinimal.ensures) tt
+
+pub front_of_body-requires-clause-order : goal.front_of_body-requires-clause-order
+front_of_body-requires-clause-order g c =
+    (used_fits c.args.piece.now (room_fits c.args.piece.now c.requires.room c.min-room.ensures)
+    c.in-Whole.ensures.taken.0).within
+
+pub slice_bounds-front_of_body-count : goal.slice_bounds-front_of_body-count
+slice_bounds-front_of_body-count g c =
+    (used_fits c.args.piece.now (room_fits c.args.piece.now c.requires.room c.min-room.ensures)
+    c.in-Whole.ensures.taken.0).some

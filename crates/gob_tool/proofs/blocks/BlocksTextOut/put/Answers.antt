@@ -1,6 +1,7 @@
 -- What waits goes out where there is no room, and then the text if there is none yet.
-use Rattle.std.proofs.Common.{ℕ, List, ◌∙◌, subst}
+use Rattle.std.proofs.Common.{ℕ, List, [], ◌++◌, ◌∙◌, ap, sym, refl, subst}
 use Rattle.std.specs.Io.KnownBytes.{Appends}
+use Rattle.std.proofs.KnownBytes.{Appends-nil}
 use Rattle.gob_stream.specs.Ends.{writer_of}
 use Rattle.gob_tool.specs.Machine.Block.{waiting}
 use Rattle.gob_tool.specs.Machine.Blocks.{counts_both, tool_result}
@@ -28,3 +29,24 @@ returns g c =
           (c.keep-2.ensures.full c.if-keep-2.false ∙ c.in_ok-flush.ensures.empty),
       counts_both _ _ _ (tool_result c.write_out.result) c.in_ok-flush.ensures.counted c.write_out.ensures.counted,
     )
+
+pub returns-then-keep-2 : goal.returns-then-keep-2
+returns-then-keep-2 g c =
+    let contents = g.W.Write.contents in
+    let old = contents (writer_of c.args.self.now.output.now) in
+    let mid = contents (writer_of c.flush.new.self.output.now) in
+    let held = waiting c.args.self.now.block in (
+      c.in_ok-flush.ensures.same_output,
+      record {
+        written = held;
+        whole = ap (λ l. held ++ l)
+            (sym (c.if-keep-2.ensures.kept refl ∙ ap (λ l. l ++ c.args.text.now) c.in_ok-flush.ensures.empty));
+        out = subst (λ (t : List ℕ). Appends old mid t) (c.keep.ensures.full c.if-keep.false)
+            c.in_ok-flush.ensures.written;
+      },
+      c.in_ok-flush.ensures.counted,
+    )
+
+pub returns-then-keep : goal.returns-then-keep
+returns-then-keep g c =
+    (refl, record { written = []; whole = sym (c.if-keep.ensures.kept refl); out = Appends-nil _ }, refl)

@@ -1,7 +1,6 @@
 -- The line is the compact text of the item's JSON and a line feed.
 use Rattle.std.proofs.Common.{rules, ◌≡◌, ◌++◌, ◌∷◌, ◌∙◌, ap, [], List, ℕ}
 use Rattle.json.specs.Tree.{json_tokens}
-use Rattle.json.specs.Print.{print}
 use Rattle.serde_json.specs.Written.{outline}
 use Rattle.gob_stream.specs.Item.{item_view}
 use Rattle.gob_tool.specs.Line.{item_json}
@@ -12,11 +11,8 @@ pub returns-clause-ok : goal.returns-clause-ok
 returns-clause-ok g c =
     let shown = item_json (g.S.Shapes.table c.args.table.now) (item_view c.args.item.now) in
     let tokens : c.write_item-written.new.out.tokens ≡ json_tokens (outline shown) = search rules in
-    let before : c.write_item-written.new.out.before ≡ [] = search rules in
-    let whole : c.into_inner.result.items ≡ c.write_item-written.new.out.before ++ print
-    c.write_item-written.new.out.tokens = search rules in
-    let ended : c.push.new.self.items ≡ c.into_inner.result.items ++ 10 ∷ [] = search rules in
-    let joined : c.extend_from_slice.new.self.items
-    ≡ c.args.self.now.gathered.items ++ c.push.new.self.items = search rules in
-    let text = printed shown _ _ _ whole before tokens in
-    joined ∙ ap (λ (l : List ℕ). c.args.self.now.gathered.items ++ l) (ended ∙ ap (λ (l : List ℕ). l ++ 10 ∷ []) text)
+    let before = c.write_item-written.ensures.before ∙ c.new-out.ensures.before ∙ c.clear.ensures.items in
+    let text = printed shown _ _ _ c.into_inner.ensures.items before tokens in
+    c.in_ok-extend_from_slice.ensures.items
+    ∙ ap (λ (l : List ℕ). c.args.self.now.gathered.items ++ l)
+    (c.deref.ensures.value ∙ c.in_ok-push.ensures.items ∙ ap (λ (l : List ℕ). l ++ 10 ∷ []) text)
