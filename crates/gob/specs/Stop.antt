@@ -41,12 +41,11 @@ IsAnswered (order_fault.Help text) result = (result ≡ Ok tt) ⊎ (result ≡ E
 IsAnswered other result = result ≡ Err (Words other)
 
 -- a run of the order over a wanted stream and an input with these bytes, and an output with the old ones, ends so
-pub record EndsRun (order : Order) (wanted bytes : List ℕ) (old : Option (List ℕ))
+pub record EndsRun (order : Order) (wanted bytes : List ℕ) (old new : Option (List ℕ))
     (result : Result (Unit {0}) Stop) : Type 0 where
   pub answer : Result (Unit {0}) ToolFault
   pub answered : HasAnswered answer result
-  -- what is left of the wanted stream and of the input, and what the output has then
+  -- what is left of the wanted stream and of the input
   pub wanted_now : Option (List ℕ)
   pub now : Option (List ℕ)
-  pub new : Option (List ℕ)
   pub does : OrderAnswers order.command (order_limits order) wanted bytes wanted_now now old new answer

@@ -8,7 +8,7 @@
 //! don't match, and 2 for all else.
 #![tactic(auto)]
 
-ghost use Rattle.std.specs.Prelude.{◌≡◌, ℕ, List, Some, MatchResult};
+ghost use Rattle.std.specs.Prelude.{◌≡◌, ℕ, List, Some, IsTrue, MatchResult};
 ghost use Rattle.std.specs.Process.{exit_status};
 ghost use Rattle.gob_tool.specs.declared.fault.ToolFault.TheVariants as fault;
 ghost use Rattle.gob.specs.Stop.{stop_status, ending_status, HasAnswered, EndsRun, IsAnswered};
@@ -138,10 +138,10 @@ fn run_for(rt: &HostRuntime, order: &Order) -> Result<(), Stop> {
 // Opens the input, then runs.
 fn run_on<Q: Read + Drop>(rt: &HostRuntime, order: &Order, wanted: Q) -> Result<(), Stop> {
     match order.input {
-        None => carry_out(rt.alloc(), order, wanted, rt.stdin(), rt.stdout()),
+        None => carry_out(rt.alloc(), order, wanted, rt.stdin(), rt.stdout()).0,
         Some(path) => {
             let file = opened(File::open(rt, path))?;
-            carry_out(rt.alloc(), order, wanted, file, rt.stdout())
+            carry_out(rt.alloc(), order, wanted, file, rt.stdout()).0
         }
     }
 }
@@ -162,28 +162,31 @@ fn opened(file: io::Result<File>) -> Result<File, Stop>
     file.map_err(|_| Stop::Run(ToolFault::Read))
 }
 
-// The run reads in large pieces, so that nothing need be kept between it and the readers.
+// The run reads in large pieces, so that nothing need be kept between it and the readers. The writer is given back, as
+// the run left it.
 fn carry_out<Q: Read + Drop, R: Read + Drop, W: Write + Drop>(
     alloc: Global,
     order: &Order,
     wanted: Q,
     reader: R,
     writer: W,
-) -> Result<(), Stop>
+) -> (Result<(), Stop>, W)
     ensures { (wanted_bytes bytes : List ℕ) → Q.remaining wanted ≡ Some wanted_bytes → R.remaining reader ≡ Some bytes
-        → EndsRun order.now wanted_bytes bytes (W.contents writer) result }
+        → EndsRun order.now wanted_bytes bytes (W.contents writer) (W.contents result.1) result.0 }
 {
     let mut wanted = Input::new(wanted);
     let mut input = Input::new(reader);
     let mut output = Output::new(Pipe::new(writer));
     let answer = run_order(alloc, order, &mut wanted, &mut input, &mut output);
     let pipe = output.into_inner();
-    ended(answer, pipe.is_closed())
+    let ending = ended(answer, pipe.is_closed());
+    (ending, pipe.into_inner())
 }
 
 // What ends the program behind a run that answered this.
 fn ended(answer: Result<(), ToolFault>, is_unread: bool) -> Result<(), Stop>
-    ensures { HasAnswered answer result }
+    ensures answered { HasAnswered answer result }
+    ensures unread { result ≡ Err Stop.Unread → IsTrue is_unread }
 {
     match answer {
         Ok(()) => Ok(()),

@@ -33,6 +33,13 @@ impl<W> Pipe<W> {
         self.is_closed
     }
 
+    /// The writer, as the writes so far left it.
+    pub(crate) fn into_inner(self) -> W
+        ensures { result ≡ self.writer }
+    {
+        self.writer
+    }
+
     // Notes it where this error says so.
     fn note(&mut self, error: &io::Error)
         ensures { self.new.writer ≡ self.old.writer }

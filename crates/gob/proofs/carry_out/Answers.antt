@@ -1,5 +1,5 @@
 -- What is left of the inputs, and what the output has, is what the run left.
-use Rattle.std.proofs.Common.{◌∙◌, ap, subst}
+use Rattle.std.proofs.Common.{◌∙◌, ap, subst, sym}
 use Rattle.gob_tool.specs.Running.{OrderAnswers, order_limits}
 use Rattle.gob.proofs.carry_out.Goals as goal
 
@@ -14,10 +14,11 @@ returns g c = λ wanted_bytes bytes sought known.
     (ap (λ r. g.R.Read.remaining r) c.new-input.ensures.reader ∙ known) in
     record {
       answer = c.run_order-answer.result;
-      answered = c.ended.ensures;
+      answered = c.ended-ending.ensures.answered;
       wanted_now = wanted_now;
       now = now;
-      new = new;
-      does = subst (λ w. OrderAnswers order.command (order_limits order) wanted_bytes bytes wanted_now now (g.W.Write.contents w) new
-          c.run_order-answer.result) (ap (λ pipe. pipe.writer) c.new-output.ensures.writer ∙ c.new.ensures.writer) does;
+      does = subst (λ n. OrderAnswers order.command (order_limits order) wanted_bytes bytes wanted_now now (g.W.Write.contents c.args.writer) n
+          c.run_order-answer.result) (ap (λ w. g.W.Write.contents w) (sym (c.into_inner.ensures ∙ ap (λ p. p.writer) c.into_inner-pipe.ensures)))
+          (subst (λ w. OrderAnswers order.command (order_limits order) wanted_bytes bytes wanted_now now (g.W.Write.contents w) new
+          c.run_order-answer.result) (ap (λ pipe. pipe.writer) c.new-output.ensures.writer ∙ c.new.ensures.writer) does);
     }
