@@ -25,6 +25,7 @@ mod wanted;
 
 pub use check::run_check;
 pub use fault::{ToolFault, status};
+pub use gob_words::{Chosen, Order, OrderFault, order_of};
 pub use item_json::{json_of, json_of_tape};
 pub use rewrite::run_rewrite;
 pub use run::run_order;
