@@ -1,21 +1,23 @@
 -- Words and what they say.
-use Rattle.std.proofs.Common.{rules, ◌≡◌, ◌∙◌, ◌<◌, ◌≤◌, ◌^◌, ap, ap₂, sym, is_some, refl, codes, ℕ, List, [], Option, Some, None, Result, Ok, Err, option_map, MatchOption, slice_index, subst, ◌==◌, if◌then◌else◌, ok_or, MatchResult, IfOk, IsErrAnd, true, inl, inr}
+use Rattle.std.proofs.Common.{rules, ◌≡◌, ◌∙◌, ◌<◌, ◌≤◌, ◌^◌, ap, ap₂, sym, is_some, refl, codes, ℕ, List, [], ◌∷◌, Option, Some, None, Result, Ok, Err, option_map, MatchOption, slice_index, subst, ◌==◌, if◌then◌else◌, ok_or, MatchResult, IfOk, IfSome, IsErrAnd, true, inl, inr, ◌++◌, encode_utf8, length, arith}
 use Rattle.std.specs.Result.{result_ok}
 use Rattle.std.specs.List.{All}
 use Rattle.std.specs.Str.Parse.{ParsesUnsigned, digits_value}
+use Rattle.std.proofs.lemmas.List.{nil_from_length}
 use Rattle.std.proofs.lemmas.List.Elements.{All-nil, All-head, All-tail, All-cons}
 use Rattle.std.proofs.lemmas.Str.Parse.{IsDigitsTest, IsNumeralModel, numerals_by_value, parse_digits}
 use Rattle.clap.specs.Words.{App, Row, Text, first_of, subcommand_of, takes, fault_of, is_simple, is_simple_and_free}
 use Rattle.clap.specs.Words.{kind_of, HasKind, IsAmong}
 use Rattle.clap.proofs.OnLiterals.{clap_on_literals}
 use Rattle.clap.specs.declared.error.Error.{Error}
+use Rattle.clap.specs.declared.error.kind.ErrorKind.{ErrorKind}
 use Rattle.clap.specs.declared.error.kind.ErrorKind.TheVariants.{OutOfMemory}
 use Rattle.gob_words.specs.declared.words.OrderFault.{OrderFault}
 use Rattle.gob_words.specs.declared.words.OrderFault.TheVariants as fault
 use Rattle.std.specs.Borrow.{Bor}
 use Rattle.gob_words.specs.Depths.{most_depth}
 use Rattle.gob_words.specs.Words.{IsDigit, IsNumber, IsOrderOf, name_of, text_of, wanted_in}
-use Rattle.gob_words.specs.Words.{Asks, IsFaultOf, Refuses, program}
+use Rattle.gob_words.specs.Words.{Asks, IsFaultOf, IsWithoutLast, of_nothing, of_more, Refuses, program}
 use Rattle.gob_words.specs.declared.words.Order.{Order}
 use Rattle.gob_words.specs.declared.words.Chosen.{Chosen}
 use Rattle.gob_words.specs.declared.words.Chosen.TheVariants.{Show, Check, Rewrite, Take}
@@ -136,25 +138,51 @@ pub simple_and_free : (app : App) → app ≡ program → is_simple_and_free app
 unfolding clap_on_literals
 simple_and_free app e = ap is_simple_and_free e
 
+-- a list with a kind isn't empty
+some_fault : (k : ErrorKind) (rest : List ErrorKind) → k ∷ rest ≡ [] → ⊥
+some_fault k rest e = search rules
+
 -- clap's matches, and the order that they make
 pub asks_what_is_met : (words : List Text) (met : Option (Text × List Row)) (order : Option Order)
-    → met ≡ subcommand_of program words
+    → met ≡ subcommand_of program words → fault_of program words ≡ []
     → MatchOption order ((o : Order) → ¬ IsOrderOf met o) (IsOrderOf met)
     → MatchResult (ok_or order fault.Words) (Asks words) (Refuses words)
 unfolding Asks Refuses
-asks_what_is_met words met (Some order) e h = subst (λ m. IsOrderOf m order) e h
-asks_what_is_met words met None e h = λ taken order asked. h order (subst (λ m. IsOrderOf m order) (sym e) asked)
+asks_what_is_met words met (Some order) e none h = subst (λ m. IsOrderOf m order) e h
+asks_what_is_met words met None e none h =
+    (λ taken order asked. h order (subst (λ m. IsOrderOf m order) (sym e) asked), λ asks. some_fault _ _ (sym asks ∙ none))
+
+-- of one kind alone comes that one
+only : (k one : ErrorKind) → IsAmong k (one ∷ []) → k ≡ one
+only k one (inl e) = e
+only k one (inr none) = absurd none
+
+the_one : (k one : ErrorKind) (kinds : List ErrorKind) → kinds ≡ one ∷ [] → IsAmong k kinds → k ≡ one
+the_one k one kinds e among = only k one (subst (λ ks. IsAmong k ks) e among)
 
 -- the fault of words that clap refuses
-pub refuses_as_clap : (words : List Text) (error : Error) (fault : OrderFault) → IsFaultOf error fault
+pub refuses_as_clap : (words : List Text) (error : Error) (shown : Option Text) (fault : OrderFault)
+    → IsFaultOf (kind_of error) shown fault
     → (takes program words ≡ true → kind_of error ≡ OutOfMemory) → HasKind (fault_of program words) error
     → Refuses words fault
 unfolding Refuses
-refuses_as_clap words error (fault.Help text) is passes (inl lost) = absurd (search rules)
-refuses_as_clap words error (fault.Help text) is passes (inr among) =
-    subst (λ kind. IsAmong kind (fault_of program words)) is among
-refuses_as_clap words error fault.Words is passes kinds = λ taken order asked. is (passes taken)
-refuses_as_clap words error fault.Memory is passes kinds = tt
+refuses_as_clap words error shown (fault.Help text) is passes (inl lost) = absurd (search rules)
+refuses_as_clap words error shown (fault.Help text) is passes (inr among) =
+    subst (λ kind. IsAmong kind (fault_of program words)) is.0 among
+refuses_as_clap words error shown fault.Words is passes (inl lost) = absurd (is.0 lost)
+refuses_as_clap words error shown fault.Words is passes (inr among) =
+    (λ taken order asked. is.0 (passes taken), λ asks. is.1 (the_one _ _ _ asks among))
+refuses_as_clap words error shown fault.Memory is passes kinds = tt
+
+-- what is left where the last character is taken off
+pub without_last : (shown : Option Text) (old new : Text) (last : Option ℕ)
+    → IfSome shown (λ bytes. old ≡ bytes) → IfSome last (λ c. old ≡ new ++ encode_utf8 c)
+    → (last ≡ None → length old ≡ 0) → length new ≤ length old → IfSome shown (λ bytes. IsWithoutLast bytes new)
+without_last None old new last e some none fewer = tt
+without_last (Some bytes) old new (Some c) e some none fewer = of_more c (sym e ∙ some)
+without_last (Some bytes) old new None e some none fewer =
+    let empty = none refl in
+    of_nothing (sym e ∙ nil_from_length old empty) (nil_from_length new (omega arith))
 
 -- what holds of all results holds of one
 pub on_ok : {T E : Type 0} {P : Type 0} (r : Result T E) → P → IfOk r (λ _. P)

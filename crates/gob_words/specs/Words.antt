@@ -1,14 +1,14 @@
 -- What the words of the command line ask for. (docs/FORMAT.md, The program: this project's own.)
-use Rattle.std.specs.Prelude.{◌≡◌, ◌≢◌, ⊤, ◌<◌, ◌≤◌, ◌^◌, ℕ}
-use Rattle.std.specs.Prelude.{length, List, [], codes, Option, Some, None, option_map, true}
+use Rattle.std.specs.Prelude.{◌≡◌, ◌≢◌, ◌⊎◌, ⊤, ◌<◌, ◌≤◌, ◌^◌, ℕ, List, [], ◌∷◌, ◌++◌, length, codes, true}
+use Rattle.std.specs.Prelude.{Option, Some, None, option_map, IfSome, encode_utf8, string_bytes}
 use Rattle.std.specs.Borrow.{Bor}
 use Rattle.std.specs.Int.{IsInRange}
 use Rattle.std.specs.List.{All}
 use Rattle.std.specs.Str.Parse.{digits_value}
 use Rattle.clap.specs.Words.{App, Row, Rule, Text, first_of, new_app, new_rule, subcommand_of, with_rule}
-use Rattle.clap.specs.Words.{with_subcommand, takes, fault_of, kind_of, IsAmong}
+use Rattle.clap.specs.Words.{with_subcommand, takes, fault_of, IsAmong}
+use Rattle.clap.specs.declared.error.kind.ErrorKind.{ErrorKind}
 use Rattle.clap.specs.declared.error.kind.ErrorKind.TheVariants.{DisplayHelp, OutOfMemory}
-use Rattle.clap.specs.declared.error.Error.{Error}
 use Rattle.gob_words.specs.Depths.{most_depth}
 use Rattle.gob_words.specs.declared.words.Chosen.{Chosen}
 use Rattle.gob_words.specs.declared.words.Chosen.TheVariants as chosen
@@ -90,17 +90,28 @@ Asks words order = IsOrderOf (subcommand_of program words) order
 unfoldable pub HasNoFault : List Text → Type 0
 HasNoFault words = fault_of program words ≡ []
 
--- the fault that clap's answer gives
-abbrev pub IsFaultOf : Error → OrderFault → Type 0
-IsFaultOf error (fault.Help text) = kind_of error ≡ DisplayHelp
-IsFaultOf error fault.Words = kind_of error ≢ OutOfMemory
-IsFaultOf error fault.Memory = ⊤
+-- the text is what is shown, without its last character
+pub data IsWithoutLast (shown text : Text) : Type 0 where
+  of_nothing : shown ≡ [] → text ≡ [] → IsWithoutLast shown text
+  of_more : (last : ℕ) → shown ≡ text ++ encode_utf8 last → IsWithoutLast shown text
 
--- what the words do where they give no order: they ask for help, or clap refuses them or no order is what they ask for
+-- the fault of words that clap answers with an error of this kind, which shows this, where that is known
+abbrev pub IsFaultOf : ErrorKind → Option Text → OrderFault → Type 0
+IsFaultOf kind shown (fault.Help text) =
+    (kind ≡ DisplayHelp) × IfSome shown (λ bytes. IsWithoutLast bytes (string_bytes text))
+IsFaultOf kind shown fault.Words = (kind ≢ OutOfMemory) × (kind ≢ DisplayHelp)
+IsFaultOf kind shown fault.Memory = (kind ≡ OutOfMemory) ⊎ (kind ≡ DisplayHelp)
+
+-- clap has no other answer to the words than help
+abbrev pub AsksForHelp : List Text → Type 0
+AsksForHelp words = fault_of program words ≡ DisplayHelp ∷ []
+
+-- what the words do where they give no order: they ask for help, or clap refuses them or no order is what they ask for,
+-- and then help isn't all that they ask for
 unfoldable pub Refuses : List Text → OrderFault → Type 0
 Refuses words (fault.Help text) = IsAmong DisplayHelp (fault_of program words)
-Refuses words fault.Words = takes program words ≡ true
-    → (order : Order) → ¬ IsOrderOf (subcommand_of program words) order
+Refuses words fault.Words = (takes program words ≡ true
+    → (order : Order) → ¬ IsOrderOf (subcommand_of program words) order) × ¬ AsksForHelp words
 Refuses words fault.Memory = ⊤
 
 -- ---- what comes of them

@@ -1,17 +1,19 @@
 //! What the words of the command line ask for.
 
-ghost use Rattle.std.specs.Prelude.{◌≡◌, ◌≢◌, ℕ, IfOk, MatchOption, MatchResult, map, option_map};
+ghost use Rattle.std.specs.Prelude.{◌≡◌, ◌≢◌, ℕ, IfOk, IfSome, MatchOption, MatchResult, map, string_bytes};
 ghost use Rattle.clap.specs.Words.{found_of, rows_of, subcommand_rows_of};
 ghost use Rattle.gob_words.specs.declared.words.Chosen.{Chosen};
 ghost use Rattle.gob_words.specs.declared.words.Order.{Order};
-ghost use Rattle.gob_words.specs.Words.{Asks, HasNoFault, IsFaultOf, IsOrderOf, Refuses, name_of, text_of, wanted_in};
+ghost use Rattle.gob_words.specs.Words.{Asks, HasNoFault, IsFaultOf, IsOrderOf, IsWithoutLast, Refuses};
+ghost use Rattle.gob_words.specs.Words.{name_of, text_of, wanted_in};
 
 use crate::command_line::program;
 use crate::decimal::number_of;
 use crate::words::{Chosen, Order, OrderFault};
+use clap::ArgMatches;
 use clap::error::ErrorKind;
-use clap::{ArgMatches, Error};
 use std::alloc::{AllocError, Global};
+use std::fmt::Display;
 
 const USUAL_DEPTH: u64 = 1000;
 
@@ -26,16 +28,17 @@ pub fn order_of<'a>(alloc: Global, words: &'a [&'a str]) -> Result<Order<'a>, Or
 {
     match program(alloc)?.try_get_matches_from(words) {
         Ok(matches) => order_in(&matches).ok_or(OrderFault::Words),
-        Err(error) => Err(fault_of(alloc, &error)),
+        Err(error) => Err(fault_of(alloc, error.kind(), &error)),
     }
 }
 
-// The fault of words that clap gives no matches for.
-fn fault_of(alloc: Global, error: &Error) -> OrderFault
-    ensures { IsFaultOf error.now result }
+// The fault of words that clap answers with an error of this kind, which shows this. It is one function for all that is
+// shown, since clap's contracts don't say what its own error shows.
+fn fault_of<D: Display>(alloc: Global, kind: ErrorKind, shown: &D) -> OrderFault
+    ensures { IsFaultOf kind (D.output shown.now) result }
 {
-    match error.kind() {
-        ErrorKind::DisplayHelp => match help_in(alloc, error) {
+    match kind {
+        ErrorKind::DisplayHelp => match help_in(alloc, shown) {
             Ok(text) => OrderFault::Help(text),
             Err(_) => OrderFault::Memory,
         },
@@ -44,9 +47,11 @@ fn fault_of(alloc: Global, error: &Error) -> OrderFault
     }
 }
 
-// The help that clap answers with, without its last line feed.
-fn help_in(alloc: Global, error: &Error) -> Result<String, AllocError> {
-    let mut text = error.to_string(alloc)?;
+// The help that is shown, without its last character, which is a line feed.
+fn help_in<D: Display>(alloc: Global, shown: &D) -> Result<String, AllocError>
+    ensures { IfOk result (λ text. IfSome (D.output shown.now) (λ bytes. IsWithoutLast bytes (string_bytes text))) }
+{
+    let mut text = shown.to_string(alloc)?;
     text.pop();
     Ok(text)
 }
