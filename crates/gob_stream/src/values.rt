@@ -3,7 +3,8 @@
 ghost use Rattle.std.specs.Prelude.{◌≡◌, ℕ, ◌+◌, ◌<◌, ◌≤◌, IfSome, length};
 ghost use Rattle.gob_types.specs.Defined.{types};
 ghost use Rattle.gob_stream.specs.Bounds.{Bounds};
-ghost use Rattle.gob_stream.specs.Calls.Session.{IsBetweenItems, ReadsItems, table_of, taken_of, limits_of};
+ghost use Rattle.gob_stream.specs.Calls.Session.{HasFailed, IsBetweenItems, ReadsItems, StaysAsItWas};
+ghost use Rattle.gob_stream.specs.Calls.Session.{table_of, taken_of, limits_of};
 ghost use Rattle.gob_stream.specs.Whole.{AllowsIn, AreItemsBetween, IsOpenKind, IsValueBetween};
 
 use crate::session::Session;
@@ -31,10 +32,11 @@ impl Passed {
 impl<B: Builder> Session<B> {
     /// Goes past the items of values that stand whole at the front of the piece, one behind another, and keeps nothing
     /// of the values. It takes no memory. It may pass fewer than stand there, or none, which says nothing of the piece:
-    /// [`Session::step`] reads on, and refuses what is to be refused.
+    /// [`Session::step`] reads on, and refuses what is to be refused. After a fault it passes none.
     pub fn pass_values(&mut self, piece: &[u8]) -> Passed
         ensures passed { ReadsItems B.building self.old self.new result.items result.used piece.now }
         ensures between { 0 < result.used → IsBetweenItems self.new }
+        ensures stays { HasFailed self.old → (result.items ≡ 0) × (result.used ≡ 0) × StaysAsItWas self.old self.new }
         ensures taken { taken_of self.new ≡ taken_of self.old + result.used }
         ensures types { table_of self.new ≡ table_of self.old }
         ensures limits { limits_of self.new ≡ limits_of self.old }
