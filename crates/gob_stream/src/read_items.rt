@@ -21,8 +21,9 @@ use std::alloc::Global;
 use std::io::Read;
 
 /// Reads every item of a stream, and appends it to `out`. Ok at the end of the input behind a whole item, or
-/// before the first. The items before a fault are in `out`. No value may be deeper than the lesser of
-/// `limits.depth()` and 1000. It takes at most `limits.stream() + 9` bytes.
+/// before the first. The items before a refusal or a failed read are in `out`; after [`Fault::Memory`] those of the
+/// bytes that were taken, all but the last at most. No value may be deeper than the lesser of `limits.depth()` and
+/// 1000. It takes at most `limits.stream() + 9` bytes.
 pub fn read_stream<R: Read>(
     alloc: Global,
     input: &mut Input<R>,

@@ -99,7 +99,8 @@ impl<B: Builder> Session<B> {
     }
 
     /// Takes the next piece of the stream, and appends the items that are whole with it to `out`, also those before
-    /// a fault. A refusal comes in the call that brings the last of the bytes that show it, and never says `Ended`.
+    /// a refusal; after [`Fault::Memory`] those of the bytes that were taken are in `out`, all but the last at most.
+    /// A refusal comes in the call that brings the last of the bytes that show it, and never says `Ended`.
     /// Its place is honest, as [`crate::laws::places_are_honest`] has it.
     /// After a fault each call answers [`Fault::Failed`].
     pub fn feed(
