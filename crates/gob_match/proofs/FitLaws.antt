@@ -16,7 +16,7 @@ use Rattle.gob_value.specs.Spelling.{Spells, SpellsAs, SpellsEach, SpellsPairs, 
 use Rattle.gob_value.specs.Spelling as spelling
 use Rattle.gob_value.specs.TidyLaws.{HasSmallNumbers, AllHaveSmallNumbers, PairsHaveSmallNumbers}
 use Rattle.gob_value.specs.TidyLaws.{FieldsHaveSmallNumbers}
-use Rattle.gob_value.specs.Tree.{Tree, Trees, Pairs, Fields, tree_count, pair_count}
+use Rattle.gob_value.specs.Tree.{Tree, Trees, Pairs, Fields, depth, tree_count, pair_count}
 use Rattle.gob_value.specs.View.{view}
 use Rattle.gob_value.specs.Within.{FitsWithin}
 use Rattle.gob_match.specs.declared.pair.TypePair.{TypePair}
@@ -117,11 +117,9 @@ pub given : (T U : Table) (p : TypePair) (v : Tree) (r : Result Value Memory)
 given T U p v (Ok w) g = g.receives
 given T U p v (Err e) g = tt
 
-pub given_fits : (T U : Table) (p : TypePair) (v : Tree) (r : Result Value Memory) → FitsWithin T p.stream 1000 v
-    → IfOk r (λ w. IsReceived T U p v (view w)) → IfOk r (λ w. FitsWithin U p.wanted 1000 (view w))
+pub given_fits : (T U : Table) (p : TypePair) (v : Tree) (r : Result Value Memory) → Fits T p.stream v
+    → IfOk r (λ w. IsReceived T U p v (view w)) → IfOk r (λ w. FitsWithin U p.wanted (depth v) (view w))
 given_fits T U p v (Ok w) f g =
     let r = received_fits f.spelled g.receives g.small in
-    let d = no_deeper g.receives in
-    let l = f.within in
-    record { bytes = r.bytes; spelled = r.spelled; within = omega arith }
+    record { bytes = r.bytes; spelled = r.spelled; within = no_deeper g.receives }
 given_fits T U p v (Err e) f g = tt

@@ -1,6 +1,8 @@
 //! Values received under a match.
 
 ghost use Rattle.std.specs.Prelude.{◌≡◌, IfOk, MatchOption};
+ghost use Rattle.gob_value.specs.Fits.{Fits};
+ghost use Rattle.gob_value.specs.Tree.{depth};
 ghost use Rattle.gob_value.specs.View.{view, views, pair_views, field_views};
 ghost use Rattle.gob_value.specs.Within.{FitsWithin};
 ghost use Rattle.gob_value.specs.Written.{HasParts};
@@ -24,8 +26,8 @@ use std::alloc::Global;
 /// order of the wanted struct, and what is absent stays absent. (docs/FORMAT.md, Matching and receiving.)
 ///
 /// The match is one that [`match_types`](crate::match_types) gave, and the value fits the type of the stream that
-/// was matched and is at most 1000 deep; so what is received fits the wanted type, and is no deeper. Recursion is
-/// as deep as the value. After `Memory` nothing has changed.
+/// was matched, however deep it is; so what is received fits the wanted type, and is no deeper. Recursion is as deep
+/// as the value. After `Memory` nothing has changed.
 pub fn receive<S: Shapes, T: Shapes>(
     alloc: Global,
     matched: &Matched<'_, S, T>,
@@ -33,12 +35,12 @@ pub fn receive<S: Shapes, T: Shapes>(
 ) -> Result<Value, Memory>
     requires sound { IsSound S.table T.table matched.now }
     requires fits { let m = matched.now in
-        FitsWithin (S.table (stream_of m)) (stream_type m) 1000 (view value.now) }
+        Fits (S.table (stream_of m)) (stream_type m) (view value.now) }
     ensures received { let m = matched.now in IfOk result (λ w.
         Receives (S.table (stream_of m)) (T.table (wanted_types_of m)) (stream_type m) (wanted_type m)
         (view value.now) (view w)) }
     ensures fits { let m = matched.now in IfOk result (λ w.
-        FitsWithin (T.table (wanted_types_of m)) (wanted_type m) 1000 (view w)) }
+        FitsWithin (T.table (wanted_types_of m)) (wanted_type m) (depth (view value.now)) (view w)) }
 {
     let pair = TypePair {
         stream: matched.id,

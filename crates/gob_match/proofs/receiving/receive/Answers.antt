@@ -12,7 +12,7 @@ receive_value-requires g c = record {
     place = 0;
     at = c.requires.sound.begins;
   };
-  fits = record { bytes = c.requires.fits.bytes; spelled = c.requires.fits.spelled };
+  fits = c.requires.fits;
 }
 
 pub returns-clause-received : goal.returns-clause-received
