@@ -16,7 +16,8 @@ use Rattle.gob_stream.specs.declared.fault.WriteFault.{WriteFault}
 use Rattle.gob_stream.specs.declared.fault.WriteFault.TheVariants as fault
 use Rattle.gob_stream.specs.declared.fault.WriteStop.{WriteStop}
 use Rattle.gob_stream.specs.declared.output.Output.{Output}
-use Rattle.gob_stream.specs.declared.stream_writer.StreamWriter.{StreamWriter}
+use Rattle.gob_stream.specs.declared.place.Place.{Place}
+use Rattle.gob_stream.specs.Machine.WriterState.{WriterState}
 use Rattle.gob_stream.specs.Bounds.{Bounds}
 use Rattle.gob_stream.specs.Devices.{counts_up}
 use Rattle.gob_stream.specs.Ends.{failed_writes, writer_of}
@@ -26,23 +27,35 @@ use Rattle.gob_stream.specs.WriterRefusal.{RefusesItem}
 
 -- ---- what contracts see of a writer
 -- a write failed before, and it writes no more
-abbrev pub HasWriterFailed : StreamWriter → Type 0
-HasWriterFailed w = w.failed ≡ true
+abbrev pub HasWriterFailed : WriterState → Type 0
+HasWriterFailed w = w.place.failed ≡ true
 
 -- what it keeps to, and the types of its stream so far
-abbrev pub writer_limits : StreamWriter → Bounds
+abbrev pub writer_limits : WriterState → Bounds
 writer_limits w = w.limits
 
-abbrev pub writer_types : StreamWriter → Table
+abbrev pub writer_types : WriterState → Table
 writer_types w = types w.types
 
 -- the writer has written these items, as these bytes
-pub record HasWritten (w : StreamWriter) (items : List StreamItem) (bytes : List ℕ) (T : Table) : Type 0 where
+pub record HasWritten (w : WriterState) (items : List StreamItem) (bytes : List ℕ) (T : Table) : Type 0 where
   pub stream : Stream base_table w.limits items bytes T
   pub table : types w.types ≡ T
   pub room : w.types.most ≡ w.limits.types
-  pub offset : w.offset ≡ length bytes
-  pub sound : w.failed ≡ false
+  pub offset : w.place.offset ≡ length bytes
+  pub sound : w.place.failed ≡ false
+
+-- it has written some
+pub record HasWrittenSome (w : WriterState) : Type 0 where
+  pub items : List StreamItem
+  pub bytes : List ℕ
+  pub table : Table
+  pub written : HasWritten w items bytes table
+
+-- what is so of every writer: it has written some items, or a write failed
+pub data IsUsableWriter (w : WriterState) : Type 0 where
+  has_failed : HasWriterFailed w → IsUsableWriter w
+  has_written : HasWrittenSome w → IsUsableWriter w
 
 -- a front of the bytes of this item went out
 pub record WroteFront (L : Bounds) (T : Table) (offset : ℕ) (i : StreamItem) (old new : Option (List ℕ)) : Type 0 where
@@ -53,7 +66,7 @@ pub record WroteFront (L : Bounds) (T : Table) (offset : ℕ) (i : StreamItem) (
   pub out : Appends old new front
 
 -- the bytes of this item went out, and the writer stands behind them
-pub record WroteItem (L : Bounds) (w w' : StreamWriter) (items : List StreamItem) (bytes : List ℕ) (T : Table) (i : StreamItem) (old new : Option (List ℕ)) : Type 0 where
+pub record WroteItem (L : Bounds) (w w' : WriterState) (items : List StreamItem) (bytes : List ℕ) (T : Table) (i : StreamItem) (old new : Option (List ℕ)) : Type 0 where
   pub more : List ℕ
   pub table : Table
   pub item : IsItem base_table L T (length bytes) i more table
@@ -61,17 +74,13 @@ pub record WroteItem (L : Bounds) (w w' : StreamWriter) (items : List StreamItem
   pub limits : w'.limits ≡ w.limits
   pub written : HasWritten w' (items ++ i ∷ []) (bytes ++ more) table
 
--- the writer is as before, whatever stands in the memory in which it spells items
-abbrev pub IsUnchanged : (w w' : StreamWriter) → Type 0
-IsUnchanged w w' = w' ≡ record w { body = w'.body; item = w'.item }
-
 -- nothing went out, and the writer is as before
-abbrev pub WroteNothing : (w w' : StreamWriter) → (old new : Option (List ℕ)) → Type 0
-WroteNothing w w' old new = IsUnchanged w w' × Keeps old new
+abbrev pub WroteNothing : (w w' : WriterState) → (old new : Option (List ℕ)) → Type 0
+WroteNothing w w' old new = (w' ≡ w) × Keeps old new
 
 -- what writing an item that these limits admit answers, for a writer that has written the items, over an output with
 -- the old bytes
-abbrev pub WritesItem : Bounds → (w w' : StreamWriter) → List StreamItem → List ℕ → Table → StreamItem → (old new : Option (List ℕ)) → Result (Unit {0}) WriteFault → Type 0
+abbrev pub WritesItem : Bounds → (w w' : WriterState) → List StreamItem → List ℕ → Table → StreamItem → (old new : Option (List ℕ)) → Result (Unit {0}) WriteFault → Type 0
 WritesItem L w w' items bytes T i old new (Ok _) = WroteItem L w w' items bytes T i old new
 WritesItem L w w' items bytes T i old new (Err (fault.Refused r)) = RefusesItem base_table L T (length bytes) i r
 WritesItem L w w' items bytes T i old new (Err fault.Write) = WroteFront L T (length bytes) i old new
@@ -79,21 +88,21 @@ WritesItem L w w' items bytes T i old new (Err fault.Memory) = Unit {0}
 WritesItem L w w' items bytes T i old new (Err fault.Failed) = ⊥
 
 -- the same, whatever it has written
-abbrev pub WritesNext : Bounds → (w w' : StreamWriter) → StreamItem → (old new : Option (List ℕ)) → Result (Unit {0}) WriteFault → Type 0
+abbrev pub WritesNext : Bounds → (w w' : WriterState) → StreamItem → (old new : Option (List ℕ)) → Result (Unit {0}) WriteFault → Type 0
 WritesNext L w w' i old new result = (items : List StreamItem) (bytes : List ℕ) (T : Table) → HasWritten w items bytes T → WritesItem L w w' items bytes T i old new result
 
 -- what an answer leaves of any writer: after a refusal, or without memory, nothing went out and it is as before; after a
 -- failed write it writes no more
-abbrev pub Leaves : (w w' : StreamWriter) → (old new : Option (List ℕ)) → Result (Unit {0}) WriteFault → Type 0
-Leaves w w' old new (Ok _) = w'.failed ≡ false
+abbrev pub Leaves : (w w' : WriterState) → (old new : Option (List ℕ)) → Result (Unit {0}) WriteFault → Type 0
+Leaves w w' old new (Ok _) = w'.place.failed ≡ false
 Leaves w w' old new (Err (fault.Refused r)) = WroteNothing w w' old new
-Leaves w w' old new (Err fault.Write) = w'.failed ≡ true
+Leaves w w' old new (Err fault.Write) = HasWriterFailed w'
 Leaves w w' old new (Err fault.Memory) = WroteNothing w w' old new
-Leaves w w' old new (Err fault.Failed) = (w.failed ≡ true) × WroteNothing w w' old new
+Leaves w w' old new (Err fault.Failed) = HasWriterFailed w × WroteNothing w w' old new
 
 -- what a writer answers whose write failed: it writes nothing for good
-abbrev pub AnswersFailed : (w w' : StreamWriter) → (old new : Option (List ℕ)) → Result (Unit {0}) WriteFault → Type 0
-AnswersFailed w w' old new result = (result ≡ Err fault.Failed) × WroteNothing w w' old new
+abbrev pub AnswersFailed : (w w' : WriterState) → {W : Type 0} → (output output' : Output W) → Result (Unit {0}) WriteFault → Type 0
+AnswersFailed w w' output output' result = (result ≡ Err fault.Failed) × (w' ≡ w) × (output' ≡ output)
 
 -- the fault is `Write` exactly where a write failed, and the writer makes no further one
 abbrev pub CountsFault : (failures failures' : ℕ) → WriteFault → Type 0
@@ -110,20 +119,21 @@ abbrev pub CountsStop : (failures failures' : ℕ) → Result (Unit {0}) WriteSt
 CountsStop failures failures' (Ok _) = failures' ≡ failures
 CountsStop failures failures' (Err stop) = CountsFault failures failures' stop.fault
 
--- what a call that writes one item does to any writer and output, whatever was written: what its answer leaves, what it
--- answers where a write failed before, and how many writes failed
-pub record WriteEffects (w w' : StreamWriter) {W : Type 0} (contents : W → Option (List ℕ)) (output output' : Output W) (result : Result (Unit {0}) WriteFault) : Type 0 where
+-- what a call that writes one item does to any writer and output, whatever was written: what it was called on, what its
+-- answer leaves, what it answers where a write failed before, and how many writes failed
+pub record WriteEffects (w w' : WriterState) {W : Type 0} (contents : W → Option (List ℕ)) (output output' : Output W) (result : Result (Unit {0}) WriteFault) : Type 0 where
+  pub usable : IsUsableWriter w
   pub leaves : Leaves w w' (contents (writer_of output)) (contents (writer_of output')) result
-  pub failed : HasWriterFailed w → AnswersFailed w w' (contents (writer_of output)) (contents (writer_of output')) result
+  pub failed : HasWriterFailed w → AnswersFailed w w' output output' result
   pub counted : CountsWriterFaults (failed_writes output) (failed_writes output') result
 
 -- what a call answers that writes this item, as these limits admit it
-pub record WriteAnswers (L : Bounds) (w w' : StreamWriter) (i : StreamItem) {W : Type 0} (contents : W → Option (List ℕ)) (output output' : Output W) (result : Result (Unit {0}) WriteFault) : Type 0 where
+pub record WriteAnswers (L : Bounds) (w w' : WriterState) (i : StreamItem) {W : Type 0} (contents : W → Option (List ℕ)) (output output' : Output W) (result : Result (Unit {0}) WriteFault) : Type 0 where
   pub writes : WritesNext L w w' i (contents (writer_of output)) (contents (writer_of output')) result
   pub effects : WriteEffects w w' contents output output' result
 
 -- a new writer has written nothing
-pub record IsNew (w : StreamWriter) (L : Bounds) : Type 0 where
+pub record IsNew (w : WriterState) (L : Bounds) : Type 0 where
   pub limits : w.limits ≡ L
   pub nothing : HasWritten w [] [] base_table
 
@@ -134,10 +144,10 @@ pub record SentFront (bytes : List ℕ) (old new : Option (List ℕ)) : Type 0 w
   pub whole : bytes ≡ front ++ rest
   pub out : Appends old new front
 
--- what sending these bytes answers: the writer stands behind them, or writes no more, and a front of them is out
-abbrev pub SendAnswers : (w w' : StreamWriter) → List ℕ → (old new : Option (List ℕ)) → Result (Unit {0}) WriteFault → Type 0
-SendAnswers w w' bytes old new (Ok _) = Appends old new bytes × (w' ≡ record w { offset = w.offset + length bytes; failed = false })
-SendAnswers w w' bytes old new (Err f) = SentFront bytes old new × (w' ≡ record w { failed = true }) × (f ≡ fault.Write)
+-- what sending these bytes answers: the place is behind them, or no more is written, and a front of them is out
+abbrev pub SendAnswers : (p p' : Place) → List ℕ → (old new : Option (List ℕ)) → Result (Unit {0}) WriteFault → Type 0
+SendAnswers p p' bytes old new (Ok _) = Appends old new bytes × (p' ≡ record p { offset = p.offset + length bytes; failed = false })
+SendAnswers p p' bytes old new (Err f) = SentFront bytes old new × (p' ≡ record p { failed = true }) × (f ≡ fault.Write)
 
 -- the limits admit an item of this count and body at the offset
 pub record FitsLimits (L : Bounds) (offset : ℕ) (count body : List ℕ) : Type 0 where

@@ -35,6 +35,7 @@ pub mod laws;
 mod limits;
 mod next_item;
 mod output;
+mod place;
 mod read_items;
 mod session;
 mod stage;

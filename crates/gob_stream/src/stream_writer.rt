@@ -1,13 +1,13 @@
 //! Writing a stream item by item.
 
-ghost use Rattle.std.specs.Prelude.{◌+◌, ◌^◌, ◌<◌, ◌++◌, length, IfOk};
+ghost use Rattle.std.specs.Prelude.{IfOk};
 ghost use Rattle.gob_value.specs.Tree.{Tree};
 ghost use Rattle.gob_value.specs.View.{view};
 ghost use Rattle.gob_stream.specs.Bounds.{within_trees};
-ghost use Rattle.gob_stream.specs.Ends.{failed_writes, writer_of};
+ghost use Rattle.gob_stream.specs.Ends.{writer_of};
 ghost use Rattle.gob_stream.specs.Item.{defines, puts, item_view};
-ghost use Rattle.gob_stream.specs.Writing.{IsNew, WritesNext, WriteAnswers, WriteEffects, SendAnswers};
-ghost use Rattle.gob_stream.specs.Writing.{CountsWriterFaults, IsSpelling, IsSpelledAs, writer_limits, writer_types};
+ghost use Rattle.gob_stream.specs.Writing.{IsNew, WritesNext, WriteAnswers, WriteEffects};
+ghost use Rattle.gob_stream.specs.Writing.{IsSpelling, IsSpelledAs, writer_limits, writer_types};
 
 use crate::denial::define_admitted;
 use crate::fault::WriteFault;
@@ -15,11 +15,13 @@ use crate::item::Item;
 use crate::item_bytes::{begin_item, spell_definition, spell_head, spell_value};
 use crate::limits::Limits;
 use crate::output::Output;
+use crate::place::Place;
 use gob_num::Memory;
 use gob_types::{Table, TypeId};
 use gob_value::Value;
 use std::alloc::Global;
 use std::io::Write;
+use std::marker::Model;
 
 /// A writer of one stream, from its first byte on. Each item goes out whole or not at all, unless a write fails.
 /// Values as trees are no deeper than the lesser of the limit for depth and 1000.
@@ -27,9 +29,7 @@ pub struct StreamWriter {
     limits: Limits,
     // The types of the stream so far.
     types: Table,
-    // How many bytes of the stream are out.
-    offset: u64,
-    failed: bool,
+    place: Place,
     // Where the body of an item is spelled, and then the item, both without a spelling that the caller has: kept from
     // one item to the next.
     body: Vec<u8>,
@@ -42,12 +42,30 @@ impl Drop for StreamWriter {
         let StreamWriter {
             limits: _,
             types: _,
-            offset: _,
-            failed: _,
+            place: _,
             body: _,
             item: _,
         } = self;
     }
+}
+
+impl Model for StreamWriter {
+    ghost use Rattle.std.specs.Coded.{codes};
+    ghost use Rattle.gob_stream.specs.Machine.WriterState.{WriterState};
+    ghost use Rattle.gob_stream.specs.Writing.{IsUsableWriter};
+
+    ghost Value = { WriterState };
+
+    ghost coded = { Prim.hlevel codes };
+
+    ghost view = { λ writer. record { limits = writer.limits; types = writer.types; place = writer.place } };
+
+    // It has written some items, or a write failed.
+    ghost invariant = { λ writer. IsUsableWriter (record {
+      limits = writer.limits;
+      types = writer.types;
+      place = writer.place;
+    }) };
 }
 
 impl StreamWriter {
@@ -59,8 +77,10 @@ impl StreamWriter {
         Ok(StreamWriter {
             limits,
             types,
-            offset: 0,
-            failed: false,
+            place: Place {
+                offset: 0,
+                failed: false,
+            },
             body: Vec::new(alloc),
             item: Vec::new(alloc),
         })
@@ -83,14 +103,21 @@ impl StreamWriter {
         ensures { WriteAnswers (within_trees (writer_limits self.old)) self.old self.new
             (defines id (view described.now)) W.contents output.old output.new result }
     {
-        if self.failed {
+        if self.place.failed {
             return Err(WriteFault::Failed);
         }
         let limits = self.limits.up_to(Limits::GREATEST_DEPTH);
         let shape = spell_definition(alloc, &self.types, &limits, id, described, &mut self.body)?;
-        begin_item(alloc, &limits, self.offset, &self.body, &[], &mut self.item)?;
+        begin_item(
+            alloc,
+            &limits,
+            self.place.offset,
+            &self.body,
+            &[],
+            &mut self.item,
+        )?;
         define_admitted(alloc, &mut self.types, id, shape)?;
-        self.send(output, &[])
+        self.place.send(output, &self.item, &[])
     }
 
     /// Writes a value of a type. Refused, in this order: a type that leads to one that isn't defined, or is 24, as
@@ -108,13 +135,20 @@ impl StreamWriter {
         ensures { WriteAnswers (within_trees (writer_limits self.old)) self.old self.new
             (puts id (view value.now)) W.contents output.old output.new result }
     {
-        if self.failed {
+        if self.place.failed {
             return Err(WriteFault::Failed);
         }
         let limits = self.limits.up_to(Limits::GREATEST_DEPTH);
         spell_value(alloc, &self.types, &limits, id, value, &mut self.body)?;
-        begin_item(alloc, &limits, self.offset, &self.body, &[], &mut self.item)?;
-        self.send(output, &[])
+        begin_item(
+            alloc,
+            &limits,
+            self.place.offset,
+            &self.body,
+            &[],
+            &mut self.item,
+        )?;
+        self.place.send(output, &self.item, &[])
     }
 
     /// Writes a value of a type by its spelling. These are the bytes of the value alone: the tag is written before
@@ -137,19 +171,19 @@ impl StreamWriter {
             (W.contents (writer_of output.old)) (W.contents (writer_of output.new)) result }
         ensures effects { WriteEffects self.old self.new W.contents output.old output.new result }
     {
-        if self.failed {
+        if self.place.failed {
             return Err(WriteFault::Failed);
         }
         spell_head(alloc, &self.types, id, &mut self.body)?;
         begin_item(
             alloc,
             &self.limits,
-            self.offset,
+            self.place.offset,
             &self.body,
             spelling,
             &mut self.item,
         )?;
-        self.send(output, spelling)
+        self.place.send(output, &self.item, spelling)
     }
 
     /// Writes an item.
@@ -166,21 +200,5 @@ impl StreamWriter {
             Item::Define { id, described } => self.define(alloc, output, *id, described),
             Item::Put { id, value } => self.put(alloc, output, *id, value),
         }
-    }
-
-    // Sends the item that was begun, and behind it the rest of its bytes, which are the caller's. The writer counts as
-    // failed until the last of them is out.
-    fn send<W: Write>(&mut self, output: &mut Output<W>, rest: &[u8]) -> Result<(), WriteFault>
-        requires { self.old.offset + length (self.old.item.items ++ rest.now) < 2 ^ 64 }
-        ensures sends { SendAnswers self.old self.new (self.old.item.items ++ rest.now)
-            (W.contents (writer_of output.old)) (W.contents (writer_of output.new)) result }
-        ensures counted { CountsWriterFaults (failed_writes output.old) (failed_writes output.new) result }
-    {
-        self.failed = true;
-        output.send_all(&self.item)?;
-        output.send_all(rest)?;
-        self.failed = false;
-        self.offset += (self.item.len() + rest.len()) as u64;
-        Ok(())
     }
 }

@@ -12,7 +12,7 @@ use Rattle.gob_value.specs.declared.value.Value.{Value}
 use Rattle.gob_stream.specs.declared.item.Item as declared
 use Rattle.gob_stream.specs.declared.fault.WriteFault.{WriteFault}
 use Rattle.gob_stream.specs.declared.fault.WriteFault.TheVariants as fault
-use Rattle.gob_stream.specs.declared.stream_writer.StreamWriter.{StreamWriter}
+use Rattle.gob_stream.specs.Machine.WriterState.{WriterState}
 use Rattle.gob_stream.specs.Bounds.{Bounds}
 use Rattle.gob_stream.specs.Item.{StreamItem, item_view, item_views}
 use Rattle.gob_stream.specs.Stream.{Stream, HasStream, AreItems, no_more, and_then}
@@ -35,7 +35,7 @@ refused_ends {base = base} {M = M} {V = V} {before = j ∷ before} after {i = i}
     refused_ends after rest (omega (arith, length-append x y, e, e')) refused (subst (λ W. AreItems base M W m (before ++ i ∷ after) z V) (sym one.table) there)
 
 -- a writer under these limits has written so many of the items, and nothing else went out
-pub record WroteSome (L : Bounds) (items : List StreamItem) (n : ℕ) (w : StreamWriter) (old new : Option (List ℕ)) : Type 0 where
+pub record WroteSome (L : Bounds) (items : List StreamItem) (n : ℕ) (w : WriterState) (old new : Option (List ℕ)) : Type 0 where
   pub bytes : List ℕ
   pub table : Table
   pub written : HasWritten w (take n items) bytes table
@@ -48,10 +48,10 @@ item_at items n item is within = slice_get-map item_view items n ∙ rw (slice_g
 one_longer : (items : List StreamItem) (n : ℕ) (i : StreamItem) → slice_get items n ≡ Some i → take (n + 1) items ≡ take n items ++ i ∷ []
 one_longer items n i at = take_more items n i (slice_get_within items n i at) ∙ ap (λ j. take n items ++ j ∷ []) (get_or_from_slice_get items n i i at)
 
-pub wrote_none : (L : Bounds) (items : List StreamItem) (w : StreamWriter) (old : Option (List ℕ)) → IsNew w L → WroteSome L items 0 w old old
+pub wrote_none : (L : Bounds) (items : List StreamItem) (w : WriterState) (old : Option (List ℕ)) → IsNew w L → WroteSome L items 0 w old old
 wrote_none L items w old new = record { bytes = []; table = base_table; written = new.nothing; limits = new.limits; out = Appends-nil old }
 
-pub wrote_more : (L M : Bounds) (items : List StreamItem) (n : ℕ) (w w' : StreamWriter) (old mid new : Option (List ℕ)) (i : StreamItem) (u : Unit {0})
+pub wrote_more : (L M : Bounds) (items : List StreamItem) (n : ℕ) (w w' : WriterState) (old mid new : Option (List ℕ)) (i : StreamItem) (u : Unit {0})
     → WroteSome L items n w old mid → slice_get items n ≡ Some i → WritesNext M w w' i mid new (Ok u) → WroteSome L items (n + 1) w' old new
 wrote_more L M items n w w' old mid new i u wrote at writes =
     let next = writes (take n items) wrote.bytes wrote.table wrote.written in
@@ -73,7 +73,7 @@ no_stream : {M : Bounds} (items : List StreamItem) (n : ℕ) (i : StreamItem) {b
 no_stream {M = M} items n i at before refused has =
     refused_ends (drop (suc n) items) before (omega arith) refused (subst (λ l. Stream base_table M l has.bytes has.table) (split_at items n i at) has.stream)
 
-pub stopped : (L M : Bounds) (items : List StreamItem) (n : ℕ) (w w' : StreamWriter) (old mid new : Option (List ℕ)) (i : StreamItem) (f : WriteFault)
+pub stopped : (L M : Bounds) (items : List StreamItem) (n : ℕ) (w w' : WriterState) (old mid new : Option (List ℕ)) (i : StreamItem) (f : WriteFault)
     → M ≡ L → WroteSome L items n w old mid → slice_get items n ≡ Some i → WritesNext M w w' i mid new (Err f) → Leaves w w' mid new (Err f) → StoppedAt L items n old new f
 stopped L M items n w w' old mid new i (fault.Refused r) same wrote at writes leaves =
     let next = writes (take n items) wrote.bytes wrote.table wrote.written in
@@ -106,7 +106,7 @@ stopped L M items n w w' old mid new i fault.Memory same wrote at writes leaves 
     record { within = within; bytes = wrote.bytes; table = wrote.table; before = rw wrote.limits at wrote.written.stream; out = Appends-kept old mid new wrote.bytes wrote.out leaves.1 }
 stopped L M items n w w' old mid new i fault.Failed same wrote at writes leaves = absurd (writes (take n items) wrote.bytes wrote.table wrote.written)
 
-pub wrote_all : (L : Bounds) (items : List (declared.Item Value)) (n : ℕ) (w : StreamWriter) (old new : Option (List ℕ)) (u : Unit {0})
+pub wrote_all : (L : Bounds) (items : List (declared.Item Value)) (n : ℕ) (w : WriterState) (old new : Option (List ℕ)) (u : Unit {0})
     → WroteSome L (item_views items) n w old new → length items ≤ n → WritesStream L (item_views items) old new (Ok u)
 wrote_all L items n w old new u wrote past =
     let all : take n (item_views items) ≡ item_views items = take_all n (item_views items) (omega (arith, length-map items item_view)) in

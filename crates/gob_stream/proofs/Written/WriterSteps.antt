@@ -9,7 +9,8 @@ use Rattle.gob_types.specs.Defined.{types}
 use Rattle.gob_stream.specs.declared.fault.WriteFault.{WriteFault}
 use Rattle.gob_stream.specs.declared.fault.WriteFault.TheVariants as fault
 use Rattle.gob_stream.specs.declared.output.Output.{Output}
-use Rattle.gob_stream.specs.declared.stream_writer.StreamWriter.{StreamWriter}
+use Rattle.gob_stream.specs.declared.place.Place.{Place}
+use Rattle.gob_stream.specs.Machine.WriterState.{WriterState}
 use Rattle.gob_types.specs.declared.denial.Denial.{Denial}
 use Rattle.gob_types.specs.declared.denial.Denial.TheVariants as denial
 use Rattle.gob_stream.specs.Bounds.{Bounds, within_trees}
@@ -20,25 +21,27 @@ use Rattle.gob_stream.specs.Laws.{AtLeast}
 use Rattle.gob_stream.specs.Item.{StreamItem}
 use Rattle.gob_stream.specs.Stream.{Stream, IsItem}
 use Rattle.gob_stream.specs.WriterRefusal.{RefusesItem}
-use Rattle.gob_stream.specs.Writing.{HasWritten, WritesItem, Leaves, CountsWriterFaults, WriteEffects}
-use Rattle.gob_stream.specs.Writing.{IsUnchanged, WroteNothing, SentFront, SendAnswers}
+use Rattle.gob_stream.specs.Writing.{HasWritten, HasWrittenSome, HasWriterFailed, IsUsableWriter, has_failed, has_written}
+use Rattle.gob_stream.specs.Writing.{WritesItem, Leaves, CountsWriterFaults, WriteEffects, SentFront, SendAnswers}
 use Rattle.gob_stream.proofs.Stream.StreamLaws.{one_more, wider_counted}
 
 -- what is denied before any byte went out is a fault of the item
-pub denied_writes : (L : Bounds) (w w' : StreamWriter) (items : List StreamItem) (bytes : List ℕ) (T : Table) (i : StreamItem) (out : Option (List ℕ)) (d : Denial)
-    → HasWritten w items bytes T → IsDenial (RefusesItem base_table L (types w.types) w.offset i) d → WritesItem L w w' items bytes T i out out (Err (write_fault d))
+pub denied_writes : (L : Bounds) (w w' : WriterState) (items : List StreamItem) (bytes : List ℕ) (T : Table) (i : StreamItem) (out : Option (List ℕ)) (d : Denial)
+    → HasWritten w items bytes T → IsDenial (RefusesItem base_table L (types w.types) w.place.offset i) d → WritesItem L w w' items bytes T i out out (Err (write_fault d))
 denied_writes L w w' items bytes T i out (denial.Refused r) written refused = rw (← written.table, ← written.offset) refused
 denied_writes L w w' items bytes T i out denial.Memory written refused = tt
 
 -- and leaves all as it was
-denied_leaves : (w w' : StreamWriter) (out : Option (List ℕ)) (d : Denial) → IsUnchanged w w' → Leaves w w' out out (Err (write_fault d))
+denied_leaves : (w w' : WriterState) (out : Option (List ℕ)) (d : Denial) → w' ≡ w → Leaves w w' out out (Err (write_fault d))
 denied_leaves w w' out (denial.Refused r) same = (same, Keeps-refl out)
 denied_leaves w w' out denial.Memory same = (same, Keeps-refl out)
 
 -- a writer whose send failed writes no more
-sent_leaves : (w ready w' : StreamWriter) (bytes : List ℕ) (old new : Option (List ℕ)) (r : Result (Unit {0}) WriteFault) → SendAnswers ready w' bytes old new r → Leaves w w' old new r
-sent_leaves w ready w' bytes old new (Ok u) sent = ap (λ x. x.failed) sent.1
-sent_leaves w ready w' bytes old new (Err f) sent = subst (λ g. Leaves w w' old new (Err g)) (sym sent.2) (ap (λ x. x.failed) sent.1)
+sent_leaves : (w ready : WriterState) (place : Place) (bytes : List ℕ) (old new : Option (List ℕ)) (r : Result (Unit {0}) WriteFault) → SendAnswers ready.place place bytes old new r
+    → Leaves w (record ready { place = place }) old new r
+sent_leaves w ready place bytes old new (Ok u) sent = ap (λ p. p.failed) sent.1
+sent_leaves w ready place bytes old new (Err f) sent =
+    subst (λ g. Leaves w (record ready { place = place }) old new (Err g)) (sym sent.2) (ap (λ p. p.failed) sent.1)
 
 -- ---- what a call does to any writer and output
 denied_counts : (failures : ℕ) (d : Denial) → CountsWriterFaults failures failures (Err (write_fault d))
@@ -47,34 +50,39 @@ denied_counts failures denial.Memory = refl
 
 module _ {W : Type 0} (contents : W → Option (List ℕ)) where
   -- the item was denied before any byte went out
-  pub denied_effects : (w w' : StreamWriter) (output : Output W) (d : Denial) → w.failed ≡ false → IsUnchanged w w' → WriteEffects w w' contents output output (Err (write_fault d))
-  denied_effects w w' output d sound same = record {
+  pub denied_effects : (w w' : WriterState) (output : Output W) (d : Denial) → IsUsableWriter w → w.place.failed ≡ false → w' ≡ w
+      → WriteEffects w w' contents output output (Err (write_fault d))
+  denied_effects w w' output d usable sound same = record {
+    usable = usable;
     leaves = denied_leaves w w' (contents (writer_of output)) d same;
     failed = λ failed. absurd (cc);
     counted = denied_counts (failed_writes output) d;
   }
 
   -- its bytes were sent
-  pub sent_effects : (w ready w' : StreamWriter) (bytes : List ℕ) (output output' : Output W) (r : Result (Unit {0}) WriteFault) → w.failed ≡ false
-      → SendAnswers ready w' bytes (contents (writer_of output)) (contents (writer_of output')) r → CountsWriterFaults (failed_writes output) (failed_writes output') r
-      → WriteEffects w w' contents output output' r
-  sent_effects w ready w' bytes output output' r sound sent counted = record {
-    leaves = sent_leaves w ready w' bytes (contents (writer_of output)) (contents (writer_of output')) r sent;
+  pub sent_effects : (w ready : WriterState) (place : Place) (bytes : List ℕ) (output output' : Output W) (r : Result (Unit {0}) WriteFault) → IsUsableWriter w → w.place.failed ≡ false
+      → SendAnswers ready.place place bytes (contents (writer_of output)) (contents (writer_of output')) r → CountsWriterFaults (failed_writes output) (failed_writes output') r
+      → WriteEffects w (record ready { place = place }) contents output output' r
+  sent_effects w ready place bytes output output' r usable sound sent counted = record {
+    usable = usable;
+    leaves = sent_leaves w ready place bytes (contents (writer_of output)) (contents (writer_of output')) r sent;
     failed = λ failed. absurd (cc);
     counted = counted;
   }
 
   -- nothing was tried, since a write had failed
-  pub failed_effects : (w : StreamWriter) (output : Output W) → w.failed ≡ true
+  pub failed_effects : (w : WriterState) (output : Output W) → w.place.failed ≡ true
       → WriteEffects w w contents output output (Err fault.Failed)
-  failed_effects w output failed =
-      let out = contents (writer_of output) in
-      let nothing : WroteNothing w w out out = (refl, Keeps-refl out) in
-      record { leaves = (failed, nothing); failed = λ e. (refl, nothing); counted = refl }
+  failed_effects w output failed = record {
+    usable = has_failed failed;
+    leaves = (failed, (refl, Keeps-refl (contents (writer_of output))));
+    failed = λ e. (refl, refl, refl);
+    counted = refl;
+  }
 
 -- nor has it written items before
-pub failed_wrote : {A : Type 0} {w : StreamWriter} {items : List StreamItem} {bytes : List ℕ} {T : Table}
-    → w.failed ≡ true → HasWritten w items bytes T → A
+pub failed_wrote : {A : Type 0} {w : WriterState} {items : List StreamItem} {bytes : List ℕ} {T : Table}
+    → w.place.failed ≡ true → HasWritten w items bytes T → A
 failed_wrote failed written = let sound = written.sound in absurd (cc)
 
 -- what trees may be written under is no more than the limits
@@ -85,43 +93,52 @@ trees_within L = record { item = omega arith; depth = omega arith; types = omega
 pub all_within : (L : Bounds) → AtLeast L L
 all_within L = record { item = omega arith; depth = omega arith; types = omega arith; stream = omega arith }
 
--- the writer has begun this item, as these limits admit it, whose bytes end with the rest, and has the types behind it
-pub record HasItem (L : Bounds) (w ready : StreamWriter) (rest : List ℕ) (i : StreamItem) (U : Table) : Type 0 where
+-- the writer has begun this item of these bytes, as these limits admit it, and has the types behind it
+pub record HasItem (L : Bounds) (w ready : WriterState) (all : List ℕ) (i : StreamItem) (U : Table) : Type 0 where
   pub limits : ready.limits ≡ w.limits
-  pub offset : ready.offset ≡ w.offset
+  pub place : ready.place ≡ w.place
   pub most : ready.types.most ≡ w.types.most
   pub table : types ready.types ≡ U
   pub within : AtLeast L w.limits
-  pub item : IsItem base_table L (types w.types) w.offset i (ready.item.items ++ rest) U
+  pub item : IsItem base_table L (types w.types) w.place.offset i all U
 
 -- the item's bytes went out, or a front of them
-pub sent_writes : (L : Bounds) (w ready w' : StreamWriter) (rest : List ℕ) (items : List StreamItem) (bytes : List ℕ) (T U : Table) (i : StreamItem) (old new : Option (List ℕ))
-    (r : Result (Unit {0}) WriteFault) → HasWritten w items bytes T → HasItem L w ready rest i U
-    → SendAnswers ready w' (ready.item.items ++ rest) old new r
-    → WritesItem L w w' items bytes T i old new r
-sent_writes L w ready w' rest items bytes T U i old new (Ok u) written has sent =
-    let all = ready.item.items ++ rest in let behind = sent.1 in
+pub sent_writes : (L : Bounds) (w ready : WriterState) (place : Place) (all : List ℕ) (items : List StreamItem) (bytes : List ℕ) (T U : Table) (i : StreamItem) (old new : Option (List ℕ))
+    (r : Result (Unit {0}) WriteFault) → HasWritten w items bytes T → HasItem L w ready all i U
+    → SendAnswers ready.place place all old new r
+    → WritesItem L w (record ready { place = place }) items bytes T i old new r
+sent_writes L w ready place all items bytes T U i old new (Ok u) written has sent =
+    let behind = sent.1 in
     let here : IsItem base_table L T (length bytes) i all U = rw (← written.table, ← written.offset) has.item in
-    let limits : w'.limits ≡ w.limits = ap (λ x. x.limits) behind ∙ has.limits in
     record {
       more = all;
       table = U;
       item = here;
       out = sent.0;
-      limits = limits;
+      limits = has.limits;
       written = record {
-        stream = subst (λ M. Stream base_table M (items ++ i ∷ []) (bytes ++ all) U) (sym limits) (one_more written.stream (omega arith) (wider_counted has.within here));
-        table = ap (λ x. types x.types) behind ∙ has.table;
-        room = ap (λ x. x.types.most) behind ∙ has.most ∙ written.room ∙ ap (λ L. L.types) (sym limits);
-        offset = ap (λ x. x.offset) behind ∙ ap (λ o. o + length all) (has.offset ∙ written.offset) ∙ sym (length-append bytes all);
-        sound = ap (λ x. x.failed) behind;
+        stream = subst (λ M. Stream base_table M (items ++ i ∷ []) (bytes ++ all) U) (sym has.limits) (one_more written.stream (omega arith) (wider_counted has.within here));
+        table = has.table;
+        room = has.most ∙ written.room ∙ ap (λ L. L.types) (sym has.limits);
+        offset = ap (λ p. p.offset) behind ∙ ap (λ o. o + length all) (ap (λ p. p.offset) has.place ∙ written.offset) ∙ sym (length-append bytes all);
+        sound = ap (λ p. p.failed) behind;
       };
     }
-sent_writes L w ready w' rest items bytes T U i old new (Err f) written has sent =
-    let here : IsItem base_table L T (length bytes) i (ready.item.items ++ rest) U = rw (← written.table, ← written.offset) has.item in
+sent_writes L w ready place all items bytes T U i old new (Err f) written has sent =
+    let here : IsItem base_table L T (length bytes) i all U = rw (← written.table, ← written.offset) has.item in
     let front = sent.0 in
-    subst (λ g. WritesItem L w w' items bytes T i old new (Err g)) (sym sent.2)
+    subst (λ g. WritesItem L w (record ready { place = place }) items bytes T i old new (Err g)) (sym sent.2)
     (record { front = front.front; rest = front.rest; table = U; item = subst (λ b. IsItem base_table L T (length bytes) i b U) front.whole here; out = front.out })
+
+-- behind it the writer has written some items again, or a write failed
+pub usable_behind : (L : Bounds) (w ready : WriterState) (place : Place) (all : List ℕ) (U : Table) (i : StreamItem) (old new : Option (List ℕ)) (r : Result (Unit {0}) WriteFault)
+    → IsUsableWriter w → w.place.failed ≡ false → (HasWrittenSome w → HasItem L w ready all i U) → SendAnswers ready.place place all old new r
+    → IsUsableWriter (record ready { place = place })
+usable_behind L w ready place all U i old new r (has_failed failed) sound has sent = absurd (cc)
+usable_behind L w ready place all U i old new (Ok u) (has_written some) sound has sent =
+    let wrote = sent_writes L w ready place all some.items some.bytes some.table U i old new (Ok u) some.written (has some) sent in
+    has_written (record { items = some.items ++ i ∷ []; bytes = some.bytes ++ wrote.more; table = wrote.table; written = wrote.written })
+usable_behind L w ready place all U i old new (Err f) (has_written some) sound has sent = has_failed (ap (λ p. p.failed) sent.1)
 
 -- a front of these bytes is one of more
 pub front_of_more : {a : List ℕ} (b : List ℕ) {old new : Option (List ℕ)} → SentFront a old new → SentFront (a ++ b) old new
