@@ -17,3 +17,5 @@ pub mod ReadStreamSteps
 pub mod NumberSteps
 pub mod StageSteps
 pub mod AdvanceSteps
+pub mod WaitingLaws
+pub mod StreamReaderLaws

@@ -2,3 +2,4 @@
 pub mod Reads
 pub mod SessionLaws
 pub mod Session
+pub mod Reader

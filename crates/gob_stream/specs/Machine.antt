@@ -6,3 +6,4 @@ pub mod Stages
 pub mod HasRead
 pub mod ReadParts
 pub mod Between
+pub mod Waiting

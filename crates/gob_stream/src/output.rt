@@ -1,8 +1,8 @@
-//! A writer that counts its failed calls.
+//! A writer that counts its failed calls, and knows whether it was flushed since it was last written to.
 
-ghost use Rattle.std.specs.Prelude.{◌≡◌, OnOk, OnErr, IfErr};
+ghost use Rattle.std.specs.Prelude.{◌≡◌, OnOk, OnErr, IfErr, MatchResult, true, false};
 ghost use Rattle.gob_stream.specs.Devices.{WriteCounted, FlushCounted, counts_up};
-ghost use Rattle.gob_stream.specs.Ends.{failed_writes, writer_of};
+ghost use Rattle.gob_stream.specs.Ends.{failed_writes, is_unflushed, writer_of};
 ghost use Rattle.gob_stream.specs.Writing.{SentFront, CountsWriterFaults};
 ghost use Rattle.std.specs.Io.KnownBytes.{Appends, WriteAppends, Keeps};
 ghost use Rattle.std.specs.Io.{WritesAtMost};
@@ -12,11 +12,12 @@ use std::io;
 use std::io::Write;
 
 /// A writer that passes each write and flush on, and counts the calls that failed: an error, or no byte taken of
-/// some.
+/// some. It notes whether there was a write since the last flush that went well.
 #[derive(Drop)]
 pub struct Output<W> {
     writer: W,
     failures: u64,
+    unflushed: bool,
 }
 
 impl<W> Output<W> {
@@ -24,10 +25,12 @@ impl<W> Output<W> {
     pub fn new(writer: W) -> Output<W>
         ensures writer { writer_of result ≡ writer }
         ensures failures { failed_writes result ≡ 0 }
+        ensures flushed { is_unflushed result ≡ false }
     {
         Output {
             writer,
             failures: 0,
+            unflushed: false,
         }
     }
 
@@ -73,6 +76,19 @@ impl<W: Write> Output<W> {
         }
         Ok(())
     }
+
+    /// Flushes, where there was a write since the last flush that went well.
+    pub fn flush_written(&mut self) -> Result<(), WriteFault>
+        ensures bytes { Keeps (W.contents (writer_of self.old)) (W.contents (writer_of self.new)) }
+        ensures flushed { OnOk result (is_unflushed self.new ≡ false) }
+        ensures fault { IfErr result (λ fault. fault ≡ WriteFault.Write) }
+        ensures counted { CountsWriterFaults (failed_writes self.old) (failed_writes self.new) result }
+    {
+        if self.unflushed && self.flush().is_err() {
+            return Err(WriteFault::Write);
+        }
+        Ok(())
+    }
 }
 
 impl<W: Write> Write for Output<W> {
@@ -83,7 +99,9 @@ impl<W: Write> Write for Output<W> {
         ensures bytes { WriteAppends (W.contents (writer_of self.old)) (W.contents (writer_of self.new))
             result buf.now }
         ensures counted { WriteCounted (failed_writes self.old) (failed_writes self.new) result buf.now }
+        ensures noted { is_unflushed self.new ≡ true }
     {
+        self.unflushed = true;
         let result = self.writer.write(buf);
         let failed = match &result {
             Ok(n) => *n == 0 && !buf.is_empty(),
@@ -98,10 +116,14 @@ impl<W: Write> Write for Output<W> {
     fn flush(&mut self) -> io::Result<()>
         ensures bytes { Keeps (W.contents (writer_of self.old)) (W.contents (writer_of self.new)) }
         ensures counted { FlushCounted (failed_writes self.old) (failed_writes self.new) result }
+        ensures noted { MatchResult result (λ _. is_unflushed self.new ≡ false)
+            (λ _. is_unflushed self.new ≡ is_unflushed self.old) }
     {
         let result = self.writer.flush();
         if result.is_err() {
             self.count_failure();
+        } else {
+            self.unflushed = false;
         }
         result
     }

@@ -73,7 +73,7 @@ impl<B: Builder> Model for Session<B> {
 }
 
 impl<B: Builder> Session<B> {
-    ghost use Rattle.std.specs.Prelude.{◌≡◌, ◌-◌, ◌<◌, ◌≤◌, ◌++◌, ◌∷◌, ℕ, List, [], length, Err};
+    ghost use Rattle.std.specs.Prelude.{◌≡◌, ◌≢◌, ◌-◌, ◌<◌, ◌≤◌, ◌++◌, ◌∷◌, ℕ, List, [], length, Err};
     ghost use Rattle.std.specs.Prelude.{MatchBool, IfOk, IfErr, IfSome, OnOk, OnErr};
     ghost use Rattle.gob_stream.specs.Bounds.{AreLimits, deepest};
     ghost use Rattle.gob_stream.specs.Item.{StreamItem};
@@ -156,6 +156,7 @@ impl<B: Builder> Session<B> {
         ensures failed { OnErr result (HasFailed self.new) }
         ensures stays { HasFailed self.old
             → (result ≡ Err Fault.Failed) × StaysAsItWas self.old self.new }
+        ensures unread { IfErr result (λ fault. fault ≢ Fault.Read) }
         ensures types { OnErr result (table_of self.new ≡ table_of self.old) }
         ensures taken { OnErr result (taken_of self.new ≡ taken_of self.old) }
         ensures limits { limits_of self.new ≡ limits_of self.old }
@@ -200,6 +201,7 @@ impl<B: Builder> Session<B> {
         ensures failed { OnErr result (HasFailed self.new) }
         ensures stays { HasFailed self.old → (result ≡ Err Fault.Failed)
             × StaysAsItWas self.old self.new }
+        ensures unread { IfErr result (λ fault. fault ≢ Fault.Read) }
         ensures types { table_of self.new ≡ table_of self.old }
         ensures limits { limits_of self.new ≡ limits_of self.old }
     {

@@ -57,6 +57,7 @@ impl<B: Builder> Session<B> {
     /// The item of a value that stands whole at the front of the piece, where no byte of an item is under way: its type
     /// is ready and the limits allow its length. It takes no memory, and looks at no byte of the value. None says
     /// nothing of the piece, and is the answer after a fault.
+    #[inline(always)]
     pub fn whole_value<'a>(&self, piece: &'a [u8]) -> Option<Whole<'a>>
         ensures between { IfSome result (λ whole. IsBetweenItems self.now) }
         ensures body { IfSome result (λ whole.

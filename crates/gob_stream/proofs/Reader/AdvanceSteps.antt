@@ -9,6 +9,7 @@ use Rattle.gob_types.specs.Table.{Table}
 use Rattle.gob_value.specs.Tree.{Tree}
 use Rattle.gob_read.specs.declared.tree_builder.TreeBuilder.{TreeBuilder}
 use Rattle.gob_stream.specs.declared.fault.Fault.{Fault}
+use Rattle.gob_stream.specs.declared.fault.Fault.TheVariants as fault
 use Rattle.gob_stream.specs.declared.item.Item as declared
 use Rattle.gob_stream.specs.declared.stage.Stage.{Stage}
 use Rattle.gob_stream.specs.Machine.Stages.{count_at}
@@ -153,6 +154,11 @@ module _ {X O : Type 0} {received : Received X} {trees : Received TreeBuilder} {
   pub stops_alike : {L : Bounds} {d d' : Defined} {offset : ℕ} {z piece : List ℕ} {f : Fault} → StepsOn {X = X} {O = O} received trees means L d offset z piece d' (Err f) → d' ≡ d
   stops_alike (refuses_it e q n) = e
   stops_alike (no_memory e) = e
+
+  -- no read failed
+  pub never_read : {L : Bounds} {d d' : Defined} {offset : ℕ} {z piece : List ℕ} {f : Fault} → StepsOn {X = X} {O = O} received trees means L d offset z piece d' (Err f) → f ≡ fault.Read → ⊥
+  never_read (refuses_it e q n) is = cc
+  never_read (no_memory e) is = cc
 
 -- where the piece has no byte there is no step
 pub over_nothing : {X O : Type 0} {received : Received X} {trees : Received TreeBuilder} {means : O → Tree → Type 0} {most : ℕ} {s : SessionState X O} {items : List StreamItem} {bytes piece : List ℕ} → length piece ≡ 0 → SessionHasRead received trees most s items bytes

@@ -2,7 +2,7 @@ use Rattle.std.proofs.Common.{ℕ, List, Err, arith, ap, subst}
 use Rattle.std.proofs.lemmas.Grind.{common_steps}
 use Rattle.gob_stream.specs.Item.{StreamItem}
 use Rattle.gob_stream.specs.Calls.Session.{HasRead, StepAnswers}
-use Rattle.gob_stream.proofs.Reader.AdvanceSteps.{item_of, step_bound, step_between, advanced, usable_on, stopped_by, within_there, takes_on, stops_alike, over_nothing}
+use Rattle.gob_stream.proofs.Reader.AdvanceSteps.{item_of, never_read, step_bound, step_between, advanced, usable_on, stopped_by, within_there, takes_on, stops_alike, over_nothing}
 use Rattle.gob_stream.proofs.Reader.NumberSteps.{steps_few}
 use Rattle.gob_stream.specs.Machine.HasRead.{has_failed}
 use Rattle.gob_stream.proofs.Reader.FailedSteps.{not_read}
@@ -87,3 +87,8 @@ invariant_of-self-in-Err g c = has_failed c.replace-stage.ensures.after
 
 pub returns-in-Err-clause-failed : goal.returns-in-Err-clause-failed
 returns-in-Err-clause-failed g c = c.replace-stage.ensures.after
+
+pub returns-in-Err-clause-unread : goal.returns-in-Err-clause-unread
+returns-in-Err-clause-unread g c =
+    let a = rw (← c.self.view_is) at (c.has_failed.ensures.has_read c.if-has_failed.ensures.failed) in let w = item_of a.after in
+    never_read (takes_on c.replace-stage.ensures.value c.in-Err.ensures w.in_item).steps

@@ -1,0 +1,12 @@
+use Rattle.std.proofs.Common.{refl, subst}
+use Rattle.gob_stream.specs.Calls.Session.{ReadsItems}
+use Rattle.gob_stream.specs.Calls.Reader.{session_of}
+use Rattle.gob_stream.proofs.Reader.StreamReaderLaws.{passes_from}
+use Rattle.gob_stream.proofs.stream_reader.StreamReader.pass_values.Goals as goal
+
+pub returns-clause-passed : goal.returns-clause-passed
+returns-clause-passed g c =
+    let p = c.pass_values-passed.result in
+    passes_from g.B.Builder.building p
+    (subst (λ l. ReadsItems g.B.Builder.building (session_of c.args.self.now) c.pass_values-passed.new.self p.items p.used l)
+    c.bytes.ensures c.pass_values-passed.ensures.passed) c.pass.ensures refl
