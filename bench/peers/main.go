@@ -52,6 +52,7 @@ type kind struct {
 var kinds = map[string]kind{
 	"records": {func(n int) any { return record(n) }, func() any { return new(Record) }},
 	"ints":    {func(n int) any { return ints(n, 4096) }, func() any { return new([]int) }},
+	"sizes":   {func(n int) any { return sizes(n, 4096) }, func() any { return new([]int) }},
 	"msgs":    {func(n int) any { return Message{n%100 + 1} }, func() any { return new(Message) }},
 	"strings": {func(n int) any { return texts(n) }, func() any { return new([]string) }},
 	"maps":    {func(n int) any { return scores(n) }, func() any { return new(map[string]int) }},
@@ -73,6 +74,24 @@ func ints(n, count int) []int {
 	list := make([]int, count)
 	for i := range list {
 		list[i] = (n*7919 + i*104729) % 100000
+	}
+	return list
+}
+
+// sizes makes ints whose spellings are drawn evenly from all sizes, of one byte to nine.
+func sizes(n, count int) []int {
+	list := make([]int, count)
+	drawn := uint64(n)*0x9e3779b97f4a7c15 + 1
+	for i := range list {
+		drawn ^= drawn << 13
+		drawn ^= drawn >> 7
+		drawn ^= drawn << 17
+		bits := 7
+		if digits := int(drawn % 9); digits > 0 {
+			bits = 8 * digits
+		}
+		spelled := drawn*0x9e3779b97f4a7c15>>(64-bits) | 1<<(bits-1)
+		list[i] = int(spelled>>1) ^ -int(spelled&1)
 	}
 	return list
 }

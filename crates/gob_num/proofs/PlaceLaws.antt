@@ -3,6 +3,7 @@ use Rattle.std.proofs.Common.{◌≡◌, ℕ, zero, suc, ◌+◌, ◌-◌, ◌<�
 use Rattle.std.proofs.Common.{get_or, take, drop}
 use Rattle.std.proofs.Common.{arith, sym, ap, ◌∙◌, subst, refl, append-nil, append_assoc}
 use Rattle.std.proofs.Common.{length-append}
+use Rattle.std.proofs.Math.Nat.{lt_of_not-le}
 use Rattle.std.proofs.Math.Seq.{take-append_seam}
 use Rattle.std.proofs.lemmas.List.{drop_more, take-append-drop, length-drop, length-take-le, take_all}
 use Rattle.gob_num.specs.Unsigned.{big_endian, AreBytes, IsUnsigned, short, long, IsBadHead, IsNotMinimal}
@@ -141,6 +142,23 @@ counted_at {bytes = bytes} {at = at} {head = head} {d = d} (suc k) size s t b lo
       subst (λ i. IsUnsignedAt n bytes at i) end (taken_at bytes at n (suc (suc k)) (omega arith)
           (subst (λ piece. TakesUnsigned piece (Whole n (suc (suc k)))) (sym (two_at s t)) taken)),
     )
+
+-- a number whose head counts so many digits, or none where it is the number
+pub sized_at : {bytes : List ℕ} {at head d : ℕ} (count size : ℕ) → StandsAt head bytes at → StandsAt d bytes (at + 1)
+    → ((i : ℕ) → get_or bytes i 0 < 256) → (head < 128 → count ≡ 0) → (128 ≤ head → head + count ≡ 256) → count ≤ 8
+    → (0 < count → ¬ IsNotMinimal ((256 - count) ∷ d ∷ [])) → at + 9 ≤ length bytes → size ≡ count
+    → NumberStandsAt bytes at (at + (size + 1))
+sized_at {bytes = bytes} {at = at} {head = head} zero size s t b few more small p room same =
+    let byte : head < 256 = omega (arith, b at, s.is) in
+    let is_number : head < 128 = lt_of_not-le (λ l. omega (arith, more l)) in
+    let end : at + 1 ≡ at + (size + 1) = omega arith in
+    subst (λ e. NumberStandsAt bytes at e) end (head, short_at s is_number refl)
+sized_at {bytes = bytes} {at = at} {head = head} (suc k) size s t b few more small p room same =
+    let counts : 127 < head = lt_of_not-le (λ l. omega (arith, few (omega arith))) in
+    let all = more (omega arith) in
+    let end : at + 1 + size ≡ at + (size + 1) = omega arith in
+    subst (λ e. NumberStandsAt bytes at e) end
+    (counted_at (suc k) size s t b (omega arith) all (p (omega arith)) (omega arith) same)
 
 -- ---- numbers one behind another
 -- no spelling begins another, so a number ends at one place

@@ -99,7 +99,7 @@ pub fn uints_end(bytes: &[u8], begin: usize, count: u64) -> Option<usize>
     let mut left = count;
     'numbers: while left > 0 {
         let end = last.end_of_next(bytes, at)?;
-        let (place, rest) = last.pass_alike(bytes, end, left - 1);
+        let (place, rest) = last.pass_next(bytes, end, left - 1, end - at > 1);
         at = place;
         left = rest;
     }
@@ -108,6 +108,12 @@ pub fn uints_end(bytes: &[u8], begin: usize, count: u64) -> Option<usize>
 
 // As many bytes as a number has at the most.
 const LONGEST: usize = 9;
+
+// Fewer numbers of one size than these, one behind another, are no run.
+const LEAST_RUN: u64 = 2;
+
+// So many numbers of any size are gone over before a run is looked for again.
+const MIXED: u64 = 64;
 
 // The head of the last number of more than one byte, if there was one, and how many digits it counts. Lists have runs
 // of numbers of one size: so where the next ends is mostly there before its head is read.
@@ -118,6 +124,26 @@ struct Counted {
 }
 
 impl Counted {
+    // Goes over numbers that stand at the place one behind another, at the most so many, and tells where it ends and how
+    // many are left: a run of the last long one's size, and where that is short, numbers of any size. Whether the number
+    // before the place is `long` tells a list of mixed sizes from one of short numbers alone.
+    #[inline(always)]
+    fn pass_next(self, bytes: &[u8], begin: usize, most: u64, long: bool) -> (usize, u64)
+        requires counts { CountsDigits self.head self.count }
+        requires place { begin ≤ length bytes.now }
+        ensures { PassesNumbers bytes.now most begin result.1 result.0 }
+    {
+        if self.head < LEAST_HEAD {
+            return (begin, most);
+        }
+        let (at, left) = self.pass_alike(bytes, begin, most);
+        let run = most - left;
+        if run >= LEAST_RUN || (run == 0 && !long) {
+            return (at, left);
+        }
+        pass_mixed(bytes, at, left)
+    }
+
     // Where the number at the place ends.
     #[inline(always)]
     fn end_of_next(&mut self, bytes: &[u8], at: usize) -> Option<usize>
@@ -155,15 +181,13 @@ impl Counted {
     // waits for the size of the one before: a list of ints takes two thirds of the time of asking where each ends.
     #[inline(always)]
     fn pass_alike(self, bytes: &[u8], begin: usize, most: u64) -> (usize, u64)
-        requires counts { CountsDigits self.head self.count }
+        requires counts { (248 ≤ self.head) × (self.head + self.count ≡ 256) }
         requires place { begin ≤ length bytes.now }
-        ensures { PassesNumbers bytes.now most begin result.1 result.0 }
+        ensures passed { PassesNumbers bytes.now most begin result.1 result.0 }
+        ensures inside { result.0 ≤ length bytes.now }
     {
         let mut at = begin;
         let mut left = most;
-        if self.head < LEAST_HEAD {
-            return (at, left);
-        }
         let size = usize::from(self.count) + 1;
         let least = least_digit(self.count);
         'alike: while left > 0 && self.begins_number(least, bytes, at) {
@@ -201,4 +225,63 @@ fn least_digit(count: u8) -> u8
     ensures { (digit : ℕ) → result ≤ digit → ¬ IsNotMinimal ((256 - count) ∷ digit ∷ []) }
 {
     if count == 1 { 128 } else { 1 }
+}
+
+// Goes over numbers of any size that stand at the place one behind another, at the most so many and some of them, and
+// tells where it ends and how many are left. Where sizes change at random a branch on them would be missed each time.
+#[inline(always)]
+fn pass_mixed(bytes: &[u8], begin: usize, most: u64) -> (usize, u64)
+    requires place { begin ≤ length bytes.now }
+    ensures { PassesNumbers bytes.now most begin result.1 result.0 }
+{
+    let mut at = begin;
+    let mut left = most;
+    let least = most.saturating_sub(MIXED);
+    'mixed: while left > least {
+        let size = size_at(bytes, at);
+        if size == 0 {
+            break;
+        }
+        at += size;
+        left -= 1;
+    }
+    (at, left)
+}
+
+// How many bytes the number has that stands at the place, with room for the longest; 0 where none does. No branch is on
+// its size.
+#[inline(always)]
+fn size_at(bytes: &[u8], at: usize) -> usize
+    requires place { at ≤ length bytes.now }
+    ensures { 0 < result → NumberStandsAt bytes.now at (at + result) }
+{
+    if bytes.len() - at < LONGEST {
+        return 0;
+    }
+    let count = digits_behind(bytes[at]);
+    if count > 8 {
+        return 0;
+    }
+    if bytes[at + 1] < least_behind(count) {
+        return 0;
+    }
+    usize::from(count) + 1
+}
+
+// How many digits the head counts: none where it is the number.
+#[inline(always)]
+fn digits_behind(head: u8) -> u8
+    ensures short { head < 128 → result ≡ 0 }
+    ensures long { 128 ≤ head → head + result ≡ 256 }
+{
+    if head < 128 { 0 } else { 255 - head + 1 }
+}
+
+// The least byte behind a head that counts so many digits: their least first digit, or any byte where there are none.
+#[inline(always)]
+fn least_behind(count: u8) -> u8
+    requires { count ≤ 128 }
+    ensures { 0 < count → (digit : ℕ) → result ≤ digit → ¬ IsNotMinimal ((256 - count) ∷ digit ∷ []) }
+{
+    u8::from(count > 0) + 127 * u8::from(count == 1)
 }

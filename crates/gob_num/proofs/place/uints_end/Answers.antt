@@ -9,7 +9,7 @@ pub numbers-preserved : goal.numbers-preserved
 numbers-preserved c = record {
   counts = c.in_ok-end.ensures.counts;
   passed = passes_both (passes_one_more (omega (arith, c.numbers-test.true)) c.in_ok-end.ensures.found c.numbers.invariant.passed)
-      c.pass_alike-place.ensures;
+      c.pass_next-place.ensures;
 }
 
 pub returns-clause-found : goal.returns-clause-found

@@ -21,6 +21,3 @@ alike-preserved c =
       inside = here.1.inside;
       size = size;
     }
-
-pub returns-then-self-lt-LEAST_HEAD : goal.returns-then-self-lt-LEAST_HEAD
-returns-then-self-lt-LEAST_HEAD c = passes_none
