@@ -32,7 +32,7 @@ fault_at P (Err y) w e p = subst P (sym e) p
 
 -- ---- references
 
-pos_injective : {m n : ℕ} → pos m ≡ pos n → m ≡ n
+pub pos_injective : {m n : ℕ} → pos m ≡ pos n → m ≡ n
 pos_injective e = cc
 
 pub one_type : {i : ℤ} {t u : TypeId} → RefersTo i t → RefersTo i u → t ≡ u
@@ -115,7 +115,7 @@ good_length _ bad = bad
 
 -- ---- one shape, or one reason
 
-one_said : {o : Option Said} {a b : Said} → o ≡ Some a → o ≡ Some b → a ≡ b
+pub one_said : {o : Option Said} {a b : Said} → o ≡ Some a → o ≡ Some b → a ≡ b
 one_said e f = some_injective (sym e ∙ f)
 
 fields_once : {fs : List SaidField} {gs hs : List Field} → GivesFields fs gs → GivesFields fs hs → gs ≡ hs

@@ -17,6 +17,7 @@ pub mod StayLaws
 pub mod BytesLaws
 pub mod DescriptionSteps
 pub mod JudgedLaws
+pub mod LooseLaws
 pub mod DescribedLaws
 pub mod DefinableLaws
 pub mod TidySteps

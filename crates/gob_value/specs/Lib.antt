@@ -13,7 +13,9 @@ pub mod Bytes
 pub mod Description
 pub mod Described
 pub mod ShapeFaults
+pub mod Loose
 pub mod DescriptionLaws
+pub mod LooseLaws
 pub mod Tidy
 pub mod TidyLaws
 pub mod Machine

@@ -11,6 +11,8 @@ ghost use Rattle.gob_value.specs.Description.{present_field, number_in, name_in}
 ghost use Rattle.gob_value.specs.Description.{RefersTo, IsBadReference, GivesFields, GivesKind};
 ghost use Rattle.gob_value.specs.Machine.Saying.{kind_said, what_said, wire_number, IsTypeNumber, HaveTypes};
 ghost use Rattle.gob_value.specs.ShapeFaults.{IsShapeFault, IsKindFault};
+ghost use Rattle.gob_value.specs.Loose.{DescribesLoosely, IsLooseFault};
+ghost use Rattle.gob_value.specs.Machine.SaidId.{IsOpaqueField, IsReadUnder};
 
 use crate::description_fields::{fields_within, list_of, number_of, struct_of, text_of};
 use crate::fault::ShapeFault;
@@ -50,6 +52,52 @@ pub fn shape_from(alloc: Global, id: TypeId, described: &Value) -> Result<Shape,
     let kind = kind_from(alloc, wire, fields)?;
     let name = name_from(alloc, text_of(common, 0))?;
     Ok(Shape { name, kind })
+}
+
+/// The shape that a value of type 16 gives where Go's encoder wrote it. Go says another id than the defined one of a
+/// type that encodes itself and that it first met through a pointer, so of an opaque kind an id above this one will do
+/// too. Each fault is one that [`shape_from`] has, of a value that gives no shape here either; `Memory` comes only
+/// where it gives one.
+pub fn shape_from_loosely(alloc: Global, id: TypeId, described: &Value) -> Result<Shape, ShapeFault>
+    requires { Fits base_table wire_type (view described.now) }
+    ensures shape { IfOk result (λ shape. DescribesLoosely id (view described.now) shape) }
+    ensures definable { IfOk result IsDefinable }
+    ensures fault { IfErr result (λ fault. IsLooseFault id (view described.now) fault) }
+{
+    shape_from(alloc, said_id(id, described), described)
+}
+
+// The id under which a description of the type of this id is read: the one that it says, if that will do.
+fn said_id(id: TypeId, described: &Value) -> TypeId
+    ensures { IsReadUnder id (view described.now) result }
+{
+    let Some((wire, fields)) = wire_field(described) else {
+        return id;
+    };
+    if !is_opaque(wire) {
+        return id;
+    }
+    let number = number_of(struct_of(fields, 0), 1);
+    if number < 0 {
+        return id;
+    }
+    let said = number.unsigned_abs();
+    if said <= id.0 {
+        return id;
+    }
+    TypeId(said)
+}
+
+// Whether the field tells an opaque kind.
+fn is_opaque(wire: WireField) -> bool
+    ensures { IsTrue result ↔ IsOpaqueField wire }
+{
+    match wire {
+        WireField::GobEncoderT => true,
+        WireField::BinaryMarshalerT => true,
+        WireField::TextMarshalerT => true,
+        _ => false,
+    }
 }
 
 // The one field of wireType that is present, and the fields of the struct in it.

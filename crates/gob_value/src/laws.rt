@@ -8,6 +8,7 @@ ghost use Rattle.gob_value.specs.Laws.{EndByThemselves, AreOne, HaveOneValue, St
 ghost use Rattle.gob_value.specs.Bytes.{ConsistOfBytes};
 ghost use Rattle.gob_value.specs.DescriptionLaws.{DescribeTheShape, DescribeOneShape, DescribeDefinable};
 ghost use Rattle.gob_value.specs.DescriptionLaws.{AreNotRefused, DescriptionsHaveOneReason, AreJudged, AreOfWireType};
+ghost use Rattle.gob_value.specs.LooseLaws.{DescribeOneShapeLoosely, StrictIsLoose, LooseIsStrict, FaultsStayLoosely};
 ghost use Rattle.gob_value.specs.TidyLaws.{IsOneForm, HaveTidyForm, IsItsOwnForm, IsNoDeeper, IsNoLonger};
 ghost use Rattle.gob_value.specs.TidyLaws.{StaysFitting, KeepsTheShape, KeepsTheReason, MadeTidy};
 
@@ -65,6 +66,16 @@ pub fn described_shapes_are_definable()
 /// The description that is made of a shape is a value of type 16, no deeper than 5.
 pub fn descriptions_fit()
     ensures { AreOfWireType }
+{}
+
+/// A value describes one shape loosely, at most, under whatever ids. Only a wrong id is forgiven: where
+/// [`shape_from`](crate::shape_from) doesn't find one, [`shape_from_loosely`](crate::shape_from_loosely) gives the same
+/// shapes and the same faults.
+pub fn loose_descriptions_differ_in_ids()
+    ensures one { DescribeOneShapeLoosely }
+    ensures loose { StrictIsLoose }
+    ensures strict { LooseIsStrict }
+    ensures faults { FaultsStayLoosely }
 {}
 
 /// A value that fits its type has one tidy form.

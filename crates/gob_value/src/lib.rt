@@ -14,6 +14,7 @@
 //! - [`fits`] says whether a value is one of a type, and shallow enough.
 //! - [`spell`] appends the one spelling of a value that is.
 //! - [`shape_from`] gives the shape that a description gives, and [`describe`] a description of a shape.
+//!   [`shape_from_loosely`] takes a description that Go wrote under another id, too.
 //! - [`is_whole`] says whether bytes are a value of a type, and keeps nothing of it. [`is_tidy_whole`] says so of one
 //!   that is its own tidy form. [`whole_end`] says where a value ends that stands in more bytes, [`whole_elements`] and
 //!   [`whole_entries`] how much of a list or a map stands whole in a piece of it.
@@ -40,7 +41,7 @@ mod value_bytes;
 mod whole;
 mod whole_parts;
 
-pub use described_shape::shape_from;
+pub use described_shape::{shape_from, shape_from_loosely};
 pub use description::describe;
 pub use fault::{Misfit, ShapeFault, SpellFault};
 pub use fitting::fits;
