@@ -10,7 +10,7 @@ use Rattle.gob_value.specs.Description.{gives_struct, gives_map, gives_opaque, D
 use Rattle.gob_value.specs.Machine.Saying.{what_said}
 use Rattle.gob_value.specs.Machine.SaidId.{IsOpaqueSaid, IsOpaqueField, SaysAbove, IsReadUnder, as_defined, as_said}
 use Rattle.gob_value.specs.ShapeFaults.{IsShapeFault, IsDescription}
-use Rattle.gob_value.specs.Loose.{IsOpaque, DescribesLoosely, IsLooseDescription, IsLooseFault}
+use Rattle.gob_value.specs.Loose.{IsOpaque, IsHigherId, DescribesLoosely, IsLooseDescription, IsLooseFault}
 use Rattle.gob_value.specs.declared.described_shape.WireField.{WireField}
 use Rattle.gob_value.specs.declared.described_shape.WireField.TheVariants as wire
 use Rattle.gob_value.specs.declared.fault.ShapeFault.{ShapeFault}
@@ -73,14 +73,12 @@ read_kind w fs id e n = as_defined (λ other s. let one = one_said s.says e in
     n (opaque_said w fs (subst (λ (x : Said). IsOpaqueSaid x.kind) one s.opaque)))
 
 pub read_not_above : {v : Tree} (w : WireField) (fs : Fields) (id : TypeId) → said v ≡ Some (what_said w fs)
-    → ((n : ℕ) → (what_said w fs).id ≡ pos n → n ≤ id.0) → IsReadUnder id v id
+    → ((n : ℕ) → (what_said w fs).id ≡ pos n → id.0 < n → n ≤ 2147483647 → ⊥) → IsReadUnder id v id
 read_not_above w fs id e n = as_defined (λ other s.
-    let l = n other.0 (ap (λ (x : Said). x.id) (one_said e s.says) ∙ s.other_id) in
-    let m = s.above in
-    absurd (omega arith))
+    n other.0 (ap (λ (x : Said). x.id) (one_said e s.says) ∙ s.other_id) s.above.0 s.above.1)
 
 pub read_above : {v : Tree} (w : WireField) (fs : Fields) (id other : TypeId) → said v ≡ Some (what_said w fs)
-    → IsOpaqueField w → (what_said w fs).id ≡ pos other.0 → id.0 < other.0 → IsReadUnder id v other
+    → IsOpaqueField w → (what_said w fs).id ≡ pos other.0 → IsHigherId id other → IsReadUnder id v other
 read_above w fs id other e o i l = as_said
     (record { what = what_said w fs; says = e; other_id = i; above = l; opaque = opaque_field w fs o })
 
@@ -101,16 +99,17 @@ loosely r d = record { shape = d.shape; describes = loose_shape r d.describes }
 
 -- a loose description says the id, or another one that is above
 by_said : {v : Tree} {s : Shape} {id : TypeId} {A : Type 0} → DescribesLoosely id v s → (Describes id v s → A)
-    → ((other : TypeId) → Describes other v s → id.0 < other.0 → IsOpaque s.kind → A) → A
+    → ((other : TypeId) → Describes other v s → IsHigherId id other → IsOpaque s.kind → A) → A
 by_said {v = v} {s = s} {id = id} {A = A} l f g = by l.said l.describes l.allowed
   where
-    by : (said : TypeId) → Describes said v s → (said ≡ id) ⊎ ((id.0 < said.0) × IsOpaque s.kind) → A
+    by : (said : TypeId) → Describes said v s → (said ≡ id) ⊎ (IsHigherId id said × IsOpaque s.kind) → A
     by said d (inl e) = f (subst (λ i. Describes i v s) e d)
     by said d (inr a) = g said d a.0 a.1
 
 pub loose_is_strict : {id : TypeId} {v : Tree} {s : Shape} → DescribesLoosely id v s
     → ¬ Misdescribes id v reason.WrongId → Describes id v s
 loose_is_strict {id = id} l n = by_said l (λ d. d) (λ other d above o.
+    let m = above.0 in
     absurd (n (wrong_id d.says (λ e. let same = pos_injective (sym d.same_id ∙ e) in absurd (omega arith)))))
 
 none_said_above : {v : Tree} {id : TypeId} → ((other : TypeId) → ¬ SaysAbove id other v) → IsLooseDescription id v

@@ -1,6 +1,6 @@
 //! The shape that a description gives.
 
-ghost use Rattle.std.specs.Prelude.{◌≡◌, ◌↔◌, ◌<◌, pos, IsTrue, IfOk, IfErr};
+ghost use Rattle.std.specs.Prelude.{◌≡◌, ◌↔◌, ◌<◌, ◌≤◌, pos, IsTrue, IfOk, IfErr};
 ghost use Rattle.std.specs.Prelude.{MatchOption, MatchResult};
 ghost use Rattle.gob_types.specs.Base.{base_table, wire_type};
 ghost use Rattle.gob_types.specs.Definable.{IsDefinable};
@@ -82,10 +82,17 @@ fn said_id(id: TypeId, described: &Value) -> TypeId
         return id;
     }
     let said = number.unsigned_abs();
-    if said <= id.0 {
+    if !is_above(said, id) {
         return id;
     }
     TypeId(said)
+}
+
+// Whether the number is an id above this one.
+fn is_above(said: u64, id: TypeId) -> bool
+    ensures { IsTrue result ↔ ((id.0 < said) × (said ≤ 2147483647)) }
+{
+    said > id.0 && said <= TypeId::GREATEST.0
 }
 
 // Whether the field tells an opaque kind.

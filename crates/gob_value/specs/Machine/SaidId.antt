@@ -1,9 +1,10 @@
 -- The id under which a description is read loosely: where its kind is opaque, the one that it says, if that is above
 -- the one that is defined.
-use Rattle.std.specs.Prelude.{◌≡◌, ◌<◌, pos, Some}
+use Rattle.std.specs.Prelude.{◌≡◌, pos, Some}
 use Rattle.gob_types.specs.declared.id.TypeId.{TypeId}
 use Rattle.gob_value.specs.Tree.{Tree}
 use Rattle.gob_value.specs.Description.{Said, said, SaidKind, said_opaque}
+use Rattle.gob_value.specs.Loose.{IsHigherId}
 use Rattle.gob_value.specs.declared.described_shape.WireField.{WireField}
 use Rattle.gob_value.specs.declared.described_shape.WireField.TheVariants as wire
 
@@ -23,7 +24,7 @@ pub record SaysAbove (id other : TypeId) (v : Tree) : Type 0 where
   pub what : Said
   pub says : said v ≡ Some what
   pub other_id : what.id ≡ pos other.0
-  pub above : id.0 < other.0
+  pub above : IsHigherId id other
   pub opaque : IsOpaqueSaid what.kind
 
 -- the value is read under the last id

@@ -1,4 +1,4 @@
-use Rattle.std.proofs.Common.{◌≡◌, ◌≤◌, ℕ, ℤ, ◌≤ℤ◌, pos, arith, rules, sym, ap, ◌∙◌, w64}
+use Rattle.std.proofs.Common.{◌≡◌, ℕ, ℤ, ◌≤ℤ◌, pos, arith, rules, sym, ap, ◌∙◌, w64}
 use Rattle.std.proofs.Math.IntN.{nat_abs}
 use Rattle.std.proofs.lemmas.Int.{ints, to_z-of_z}
 use Rattle.gob_value.specs.View.{field_views}
@@ -15,8 +15,8 @@ pub returns-then-not-is_opaque : goal.returns-then-not-is_opaque
 returns-then-not-is_opaque c = read_kind c.in-Some.wire (field_views c.in-Some.fields.now) c.args.id c.in-Some.ensures
     (not_true c.if-not-is_opaque.true c.is_opaque.ensures)
 
-small : {i j : ℤ} {n s m : ℕ} → i ≡ j → s ≡ nat_abs i → s ≤ m → j ≡ pos n → n ≤ m
-small {n = n} {s = s} e a l f = let k : s ≡ n = a ∙ ap nat_abs (e ∙ f) in omega arith
+same_size : {i j : ℤ} {n s : ℕ} → i ≡ j → s ≡ nat_abs i → j ≡ pos n → s ≡ n
+same_size e a f = a ∙ ap nat_abs (e ∙ f)
 
 same_pos : {i j : ℤ} {s : ℕ} → i ≡ j → s ≡ nat_abs i → pos 0 ≤ℤ i → j ≡ pos s
 same_pos {i = i} e a l = sym e ∙ not_negative i l ∙ ap pos (sym a)
@@ -26,14 +26,15 @@ returns-then-number-lt0 c =
     let e = to_z-of_z w64 c.number_of-number.result (search rules) ∙ c.number_of-number.ensures
     ∙ ap (λ fs. number_in (present_field 1 fs)) c.struct_of.ensures in
     read_not_above c.in-Some.wire (field_views c.in-Some.fields.now) c.args.id c.in-Some.ensures
-    (λ n f. let k = e ∙ f in let l = c.if-number-lt0.true in absurd (omega (arith, ints)))
+    (λ n f l m. let k = e ∙ f in let low = c.if-number-lt0.true in absurd (omega (arith, ints)))
 
-pub returns-then-said-id : goal.returns-then-said-id
-returns-then-said-id c =
+pub returns-then-not-is_above : goal.returns-then-not-is_above
+returns-then-not-is_above c =
     let e = to_z-of_z w64 c.number_of-number.result (search rules) ∙ c.number_of-number.ensures
     ∙ ap (λ fs. number_in (present_field 1 fs)) c.struct_of.ensures in
     read_not_above c.in-Some.wire (field_views c.in-Some.fields.now) c.args.id c.in-Some.ensures
-    (λ n f. small e c.unsigned_abs-said.ensures.value c.if-said-id.true f)
+    (λ n f l m. let k = same_size e c.unsigned_abs-said.ensures.value f in
+    not_true c.if-not-is_above.true c.is_above.ensures (omega arith, omega arith))
 
 pub returns : goal.returns
 returns c =
@@ -41,4 +42,5 @@ returns c =
     ∙ ap (λ fs. number_in (present_field 1 fs)) c.struct_of.ensures in
     read_above c.in-Some.wire (field_views c.in-Some.fields.now) c.args.id _ c.in-Some.ensures
     (c.is_opaque.ensures.0 c.if-not-is_opaque.false)
-    (same_pos e c.unsigned_abs-said.ensures.value (omega (arith, ints))) (omega arith)
+    (same_pos e c.unsigned_abs-said.ensures.value (omega (arith, ints)))
+    (c.is_above.ensures.0 c.if-not-is_above.false)
