@@ -16,3 +16,5 @@ pub mod FieldSteps
 pub mod ItemSteps
 pub mod Pushed
 pub mod Skips
+pub mod Nils
+pub mod NilsStay

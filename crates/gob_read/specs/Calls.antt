@@ -3,3 +3,4 @@ pub mod Reader
 pub mod Builders
 pub mod UnderWay
 pub mod ReaderLaws
+pub mod UpToNil

@@ -8,3 +8,4 @@ pub mod BasicParts
 pub mod Built
 pub mod Stack
 pub mod Received
+pub mod Nil

@@ -261,8 +261,9 @@ impl<B: Builder> Run<B> {
     fn take_end(&mut self) -> Result<Moved, Memory>
         requires before { IsBeforeIn B.building.received self.old (Next.Number NextNumber.Delta) (0 ∷ []) }
         requires fresh { self.old.start ≡ self.old.taken }
-        ensures { IfOk result (λ moved.
+        ensures taken { IfOk result (λ moved.
             (T : Table) → TakesBytes T B.building.received self.old self.new (0 ∷ []) moved) }
+        ensures fresh { IfOk result (λ _. self.new.start ≡ self.new.taken) }
     {
         let moved = self.state.end_fields()?;
         self.taken += 1;

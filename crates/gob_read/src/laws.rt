@@ -20,6 +20,7 @@ ghost use Rattle.gob_read.specs.BuilderLaws.{EventsHaveOneValue, EventsAreWellFo
 ghost use Rattle.gob_read.specs.BuilderLaws.{EventsHaveTheWeight};
 ghost use Rattle.gob_read.specs.BuilderLaws.{WeighAtMostTheirLength};
 ghost use Rattle.gob_read.specs.Calls.ReaderLaws.{StaysRead, StaysUsable};
+ghost use Rattle.gob_read.specs.Calls.UpToNil.{BeginsClear, StaysClear, StaysBeforeNil};
 
 use crate::builder::Builder;
 use crate::reader::BodyReader;
@@ -131,4 +132,12 @@ pub fn weights_are_within_spellings()
 pub fn readers_stay<B: Builder>(reader: &BodyReader<B>)
     ensures read { StaysRead B.building reader.now }
     ensures usable { StaysUsable B.building reader.now }
+{}
+
+/// A reader that has taken nothing has begun no number of an interface, and none is begun by a table that grows, before
+/// which a reader stays where it is.
+pub fn nils_stay<B: Builder>(reader: &BodyReader<B>)
+    ensures begins { BeginsClear B.building reader.now }
+    ensures clear { StaysClear B.building reader.now }
+    ensures before { StaysBeforeNil reader.now }
 {}

@@ -32,7 +32,7 @@ pub enum Progress<O: Drop> {
 
 /// A reader of one body, from behind its type number on, in pieces of any lengths.
 pub struct BodyReader<B: Builder> {
-    run: Option<Run<B>>,
+    pub(crate) run: Option<Run<B>>,
 }
 
 // Not derived, so that a drop is one call in the proofs of what owns one.

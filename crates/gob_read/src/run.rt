@@ -1,6 +1,6 @@
 //! A reader under way.
 
-ghost use Rattle.std.specs.Prelude.{◌≡◌, ℕ, ◌+◌, ◌<◌, ◌≤◌, List, [], ◌∷◌, IfOk, length};
+ghost use Rattle.std.specs.Prelude.{◌≡◌, ℕ, ◌+◌, ◌<◌, ◌≤◌, List, [], ◌∷◌, IfOk, IfErr, length};
 ghost use Rattle.gob_types.specs.declared.id.TypeId.{TypeId};
 ghost use Rattle.gob_types.specs.Table.{Table};
 ghost use Rattle.gob_types.specs.Ready.{IsReady};
@@ -11,6 +11,7 @@ ghost use Rattle.gob_read.specs.Machine.Running.{BytesAnswers, RestAnswers, Numb
 ghost use Rattle.gob_read.specs.Machine.Running.{EndAnswers, PieceAnswers};
 ghost use Rattle.gob_read.specs.Calls.Reader.{HasReadSoFar};
 ghost use Rattle.gob_read.specs.Held.{IsHeld, counted_of};
+ghost use Rattle.gob_read.specs.Machine.Nil.{IsNotAtNil, IsClear, StepsClear, StopsHere, ClearOfParts, IsNoInterface};
 
 use crate::builder::{Builder, Stores};
 use crate::frames::Frames;
@@ -173,9 +174,10 @@ impl<B: Builder> Run<B> {
 
     /// Stops at a part that is too deep, and at the end of the body.
     #[inline(always)]
-    fn judge(&self) -> Result<(), Stop>
+    pub(crate) fn judge(&self) -> Result<(), Stop>
         requires { self.now.taken ≤ self.now.length }
-        ensures { JudgeAnswers B.building.received self.now result }
+        ensures judged { JudgeAnswers B.building.received self.now result }
+        ensures no_interface { IfErr result IsNoInterface }
     {
         if self.depth_now() > self.depth {
             return Err(self.refuse(self.taken, Reason::TooDeep));
@@ -187,9 +189,10 @@ impl<B: Builder> Run<B> {
     }
 
     /// Stops where the body goes on behind the value.
-    fn finish(&self) -> Result<(), Stop>
+    pub(crate) fn finish(&self) -> Result<(), Stop>
         requires { self.now.taken ≤ self.now.length }
-        ensures { EndAnswers B.building.received self.now result }
+        ensures ended { EndAnswers B.building.received self.now result }
+        ensures no_interface { IfErr result IsNoInterface }
     {
         if self.taken < self.length {
             return Err(self.refuse(self.taken, Reason::Extra));
@@ -226,14 +229,17 @@ impl<B: Builder> Run<B> {
 
     /// Takes the next item, or as much of it as there is, or parts that stand whole.
     #[inline(always)]
-    fn take_next<S: Shapes>(
+    pub(crate) fn take_next<S: Shapes>(
         &mut self,
         shapes: &S,
         rest: &[u8],
         cut: &mut bool,
     ) -> Result<Advance, Stop>
         requires { IsBefore (S.table shapes.now) B.building.received self.old self.old.state.expected rest.now }
-        ensures { RestAnswers (S.table shapes.now) B.building.received self.old self.new rest.now result }
+        ensures taken { RestAnswers (S.table shapes.now) B.building.received self.old self.new rest.now result }
+        ensures clear { IfOk result (λ _. IsNotAtNil (S.table shapes.now) self.old
+            → IsClear (S.table shapes.now) self.new) }
+        ensures here { IfErr result (StopsHere self.old) }
     {
         match self.state.expected {
             Next::Top { id: _ } => unreachable!(),
@@ -255,7 +261,9 @@ impl<B: Builder> Run<B> {
     ) -> Result<Advance, Stop>
         requires { IsBefore (S.table shapes.now) B.building.received self.old
             (Next.Number (NextNumber.Part id)) rest.now }
-        ensures { RestAnswers (S.table shapes.now) B.building.received self.old self.new rest.now result }
+        ensures taken { RestAnswers (S.table shapes.now) B.building.received self.old self.new rest.now result }
+        ensures clear { IfOk result (λ _. StepsClear self.old self.new) }
+        ensures here { IfErr result (StopsHere self.old) }
     {
         let skipped = self.skip_parts(shapes, id, rest, cut);
         if skipped.used > 0 {
@@ -277,7 +285,9 @@ impl<B: Builder> Run<B> {
         rest: &[u8],
     ) -> Result<Advance, Stop>
         requires { IsBefore (S.table shapes.now) B.building.received self.old (Next.Number item) rest.now }
-        ensures { RestAnswers (S.table shapes.now) B.building.received self.old self.new rest.now result }
+        ensures taken { RestAnswers (S.table shapes.now) B.building.received self.old self.new rest.now result }
+        ensures clear { IfOk result (λ _. StepsClear self.old self.new) }
+        ensures here { IfErr result (StopsHere self.old) }
     {
         if self.start == self.taken {
             if let Taken::Whole { number, used } = take_uint(rest) {
@@ -303,7 +313,9 @@ impl<B: Builder> Run<B> {
         b: u8,
     ) -> Result<Moved, Stop>
         requires { IsBefore (S.table shapes.now) B.building.received self.old (Next.Number item) (b ∷ []) }
-        ensures { BytesAnswers (S.table shapes.now) B.building.received self.old self.new (b ∷ []) result }
+        ensures taken { BytesAnswers (S.table shapes.now) B.building.received self.old self.new (b ∷ []) result }
+        ensures clear { IfOk result (λ _. StepsClear self.old self.new) }
+        ensures here { IfErr result (StopsHere self.old) }
     {
         self.taken += 1;
         match self.number.push(b) {
@@ -316,7 +328,7 @@ impl<B: Builder> Run<B> {
 
     /// Takes the expected number, whose last byte was taken, and answers where that leads.
     #[inline(always)]
-    fn take_whole_number<S: Shapes>(
+    pub(crate) fn take_whole_number<S: Shapes>(
         &mut self,
         shapes: &S,
         item: NextNumber,
@@ -338,8 +350,9 @@ impl<B: Builder> Run<B> {
     /// Takes as many of the expected raw bytes as there are.
     fn take_raw_bytes(&mut self, left: u64, rest: &[u8]) -> Result<Advance, Memory>
         requires { IsBeforeIn B.building.received self.old (Next.Raw left) rest.now }
-        ensures { IfOk result (λ taken.
+        ensures taken { IfOk result (λ taken.
             (T : Table) → TakesSome T B.building.received self.old self.new rest.now taken) }
+        ensures clear { IfOk result (λ _. ClearOfParts self.new) }
     {
         let used = left.min(rest.len() as u64) as usize;
         let moved = self.state.take_raw_bytes(left, &rest[..used])?;

@@ -399,17 +399,20 @@ go_on_ends {received = received} {state = state} {u = u} {types = types} {next =
 pub same_passed : {T : Table} {X O : Type 0} {received : X → List Event → Type 0} {old run new : Run X O} {rest : List ℕ} {step : Advance} → new ≡ run → TakesOfRest T received old run rest step → TakesOfRest T received old new rest step
 same_passed {T = T} {received = received} {old = old} {rest = rest} {step = step} e h = subst (λ r. TakesOfRest T received old r rest step) (sym e) h
 
+pub same_fresh : {X O : Type 0} {run new : Run X O} → new ≡ run → run.start ≡ run.taken → new.start ≡ new.taken
+same_fresh e h = subst (λ r. r.start ≡ r.taken) (sym e) h
+
 -- what was taken within a list, or nothing
 pub item_or_not : {T : Table} {X O : Type 0} {received : X → List Event → Type 0} {old run : Run X O} {rest : List ℕ} {used count : ℕ} {i : NextNumber} {f : Frame} → AtItem T received old run rest used count i f → (used ≡ 0 → run ≡ old) → TakesBasicParts T received old run rest (record { used = used; moved = ToNext })
 item_or_not {used = zero} h same = no_part_taken refl (same refl)
-item_or_not {used = suc used} h same = some_parts_taken (record { some = omega arith; takes = item_passed h })
+item_or_not {used = suc used} h same = some_parts_taken (record { some = omega arith; takes = item_passed h }) h.fresh
 
 pub taken_or_not : {T : Table} {X O : Type 0} {received : X → List Event → Type 0} {old run new : Run X O} {rest : List ℕ} {used count taken : ℕ} {f g : Frame} {part : TypeId} → AtItem T received old run rest used count (Part part) f → (used ≡ 0 → run ≡ old) → old.taken + length rest ≤ old.length → used < length rest
     → TakesBasicPart T received run new g (take (length rest - used) (drop used rest)) taken → TakesBasicParts T received old new rest (record { used = used + taken; moved = ToNext })
 taken_or_not {T = T} {received = received} {old = old} {new = new} {rest = rest} {used = used} h same room some (not_taken e) =
     subst (λ n. TakesBasicParts T received old new rest (record { used = n; moved = ToNext })) (omega arith) (subst (λ r. TakesBasicParts T received old r rest (record { used = used; moved = ToNext })) (sym e) (item_or_not h same))
 taken_or_not h same room some (part_taken s w p a k d) =
-    some_parts_taken (record { some = omega arith; takes = item_passed (basic_on h room some s (record { within = w; passes = p; expected = a; stack = k; as_deep = d })) })
+    some_parts_taken (record { some = omega arith; takes = item_passed (basic_on h room some s (record { within = w; passes = p; expected = a; stack = k; as_deep = d })) }) p.fresh
 
 -- in a list an element is expected
 element_within : {T : Table} {t : TypeId} {fs : List Frame} {z : List ℕ} {us : List Event} {u e : TypeId} {left : ℕ} → OpenPath T t fs z us u → IsInList e left fs → u ≡ e
@@ -437,8 +440,12 @@ part_deep {run = run} e o = subst (λ a. depth_of a run.state.stack ≤ run.dept
 -- what was taken, or not
 pub taken_parts : {T : Table} {X O : Type 0} {received : X → List Event → Type 0} {old new : Run X O} {rest : List ℕ} {s : Advance} → TakesBasicParts T received old new rest s → 0 < s.used → TakesSome T received old new rest s
 taken_parts (no_part_taken z e) l = absurd (omega arith)
-taken_parts (some_parts_taken h) l = h
+taken_parts (some_parts_taken h f) l = h
 
 pub no_parts : {T : Table} {X O : Type 0} {received : X → List Event → Type 0} {old new : Run X O} {rest : List ℕ} {s : Advance} → TakesBasicParts T received old new rest s → s.used ≤ 0 → new ≡ old
 no_parts (no_part_taken z e) l = e
-no_parts (some_parts_taken h) l = absurd (let k = h.some in omega arith)
+no_parts (some_parts_taken h f) l = absurd (let k = h.some in omega arith)
+
+pub parts_fresh : {T : Table} {X O : Type 0} {received : X → List Event → Type 0} {old new : Run X O} {rest : List ℕ} {s : Advance} → TakesBasicParts T received old new rest s → 0 < s.used → new.start ≡ new.taken
+parts_fresh (no_part_taken z e) l = absurd (omega arith)
+parts_fresh (some_parts_taken h f) l = f

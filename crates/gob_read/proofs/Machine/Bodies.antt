@@ -1,5 +1,5 @@
 -- What a reader of bodies has come to, push by push.
-use Rattle.std.proofs.Common.{◌≡◌, ℕ, zero, suc, ◌-◌, ◌<◌, ◌≤◌, inl, inr, List, [], ◌∷◌, ◌++◌, length, take, min, Option, Some, None, arith, refl, sym, ap, ◌∙◌, subst, length-append, length-take}
+use Rattle.std.proofs.Common.{◌≡◌, ℕ, zero, suc, ◌-◌, ◌<◌, ◌≤◌, inl, inr, List, [], ◌∷◌, ◌++◌, ◌+◌, length, take, min, Option, Some, None, arith, refl, sym, ap, ◌∙◌, subst, length-append, length-take}
 use Rattle.std.proofs.lemmas.Bool.{cases_lt}
 use Rattle.gob_types.specs.declared.id.TypeId.{TypeId}
 use Rattle.gob_types.specs.Table.{Table}
@@ -15,6 +15,8 @@ use Rattle.gob_read.specs.Machine.OpenPath.{AtNext, at_tag, at_part, at_once}
 use Rattle.gob_read.specs.Machine.Running.{IsReached, IsReachedSomewhere, StopsFor, RunGoesOn, RunFinishes, RefusesPiece}
 use Rattle.gob_read.specs.Calls.Reader.{HasReadSoFar, nothing_taken, taken_so_far, RunHasRead, ReaderHasRead, IsUsableReader, HasReadSome, ReaderTakesPiece, EndsBody, ReaderRefusesBody, Stops}
 use Rattle.gob_read.specs.Calls.Reader.{RefusesHonestly}
+use Rattle.gob_read.specs.Calls.UpToNil.{IsClearRun, IsRunAtNil, StopsAtNil}
+use Rattle.gob_read.specs.Machine.Nil.{IsAtNil, IsClear, ExpectsNil, ComesToNil}
 use Rattle.gob_read.specs.declared.frame.Frame.{Frame}
 use Rattle.gob_read.specs.declared.next.Next.{Next}
 use Rattle.gob_read.specs.declared.next.Next.TheVariants.{Top, Number}
@@ -162,6 +164,98 @@ push_more {T = T} {t = t} {limit = limit} {announced = announced} {received = re
       };
       viable = there;
     }
+
+pub push_nil : {T : Table} {t : TypeId} {limit announced : ℕ} {X O : Type 0} {received : X → List Event → Type 0} {run mid new : Run X O} {o : Option (Run X O)} {z piece : List ℕ} {count used : ℕ} → ReadsOn T run mid o piece count
+    → ComesToNil T received mid new (take count piece) used → ReaderHasRead T t limit announced received o z → StopsAtNil T t limit announced received (Some new) z piece used
+push_nil {T = T} {t = t} {limit = limit} {announced = announced} {received = received} {run = run} {mid = mid} {new = new} {z = z} {piece = piece} {count = count} {used = used} p g s =
+    let a : RunHasRead T t limit announced received run z = after_is p.was s in
+    let h = begun_reached p.begun a.so_far in
+    let depth = p.begun.depth_is ∙ a.depth_is in
+    let len = p.begun.length_is ∙ a.length_is in
+    let one : take used (take count piece) ≡ take used piece = take_fewer piece used count g.within in
+    let i : IsViable T t limit announced (z ++ take used (take count piece)) = subst (λ n. IsViable T t limit n (z ++ take used (take count piece))) len (subst (λ k. IsViable T t k mid.length (z ++ take used (take count piece))) depth (g.goes_on.viable t z h)) in
+    let there : IsViable T t limit announced (z ++ take used piece) = subst (λ l. IsViable T t limit announced (z ++ l)) one i in
+    record {
+      within = (let w = g.within in omega (arith, take_short piece count));
+      takes = record {
+        after = record {
+          so_far = taken_so_far (subst (λ l. IsReached T t received new (z ++ l)) one (g.goes_on.reached t z h));
+          depth_is = g.goes_on.same.depth_is ∙ depth;
+          length_is = g.goes_on.same.length_is ∙ len;
+          within = (let r = there.room in omega arith);
+        };
+        viable = there;
+      };
+      nil = subst (λ l. ExpectsNil T t (z ++ l)) one (g.nil t z h);
+    }
+
+begins_clear : {T : Table} {a a' : Next} {A : Type 0} → BeginsAs T a a' → (a ≡ a' → A) → ((t : TypeId) → a ≡ Top t → A) → A
+begins_clear (as_struct {t = t} i) f g = g t refl
+begins_clear (as_tagged {t = t} n) f g = g t refl
+begins_clear number_stays f g = f refl
+begins_clear raw_stays f g = f refl
+
+-- behind the start of a body, no part is expected without its number
+begins_new : {T : Table} {t v : TypeId} {X O : Type 0} (received : X → List Event → Type 0) (run : Run X O) {z : List ℕ} → HasReadSoFar T t received run z → run.state.expected ≡ Top v → run.start ≡ run.taken
+begins_new received run (nothing_taken n) f = n.start_is ∙ sym n.taken_is
+begins_new {T = T} {t = t} received run (taken_so_far r) f = absurd (no_top (subst (λ a. AtNext T t run.state.stack a r.before r.under_way r.placed.us) f r.placed.at))
+
+-- a body that begins has no number under way
+pub clear_begun : {T : Table} {X O : Type 0} (received : X → List Event → Type 0) (run : Run X O) (state : State X O) {o : Option (Run X O)} → Some run ≡ o → IsUsableReader T received o → BeginsAs T run.state.expected state.expected
+    → IsClearRun T o → IsClear T (record { state = state; number = run.number; start = run.start; taken = run.taken; length = run.length; depth = run.depth })
+clear_begun {T = T} {X = X} {O = O} received run state e h b c u g k =
+    begins_clear b (λ f. (subst (IsClearRun T) (sym e) c) u (f ∙ g) k) (λ v f. begins_new received run (usable_somewhere e h).after.so_far f)
+
+-- with another length announced
+pub announced_anew : {T : Table} {t : TypeId} {X O : Type 0} {received : X → List Event → Type 0} {run : Run X O} {z : List ℕ} (n : ℕ) → HasReadSoFar T t received run z
+    → HasReadSoFar T t received (record { state = run.state; number = run.number; start = run.start; taken = run.taken; length = n; depth = run.depth }) z
+announced_anew n (nothing_taken r) = nothing_taken (record { ready = r.ready; expected = r.expected; stack = r.stack; told = r.told; number_is = r.number_is; start_is = r.start_is; taken_is = r.taken_is })
+announced_anew n (taken_so_far r) = taken_so_far (record {
+  ready = r.ready;
+  before = r.before;
+  under_way = r.under_way;
+  placed = r.placed;
+  whole = r.whole;
+  number_is = r.number_is;
+  start_is = r.start_is;
+  taken_is = r.taken_is;
+  shallow = r.shallow;
+  judged = r.judged;
+})
+
+pub announced_left : {T : Table} {t : TypeId} {limit : ℕ} (announced : ℕ) {X O : Type 0} {received : X → List Event → Type 0} {run : Run X O} {o : Option (Run X O)} {z : List ℕ} (left n : ℕ) → Some run ≡ o → ReaderHasRead T t limit announced received o z
+    → n ≡ length z + left → RunHasRead T t limit (length z + left) received (record { state = run.state; number = run.number; start = run.start; taken = run.taken; length = n; depth = run.depth }) z
+announced_left {T = T} {t = t} {limit = limit} announced {received = received} {run = run} {z = z} left n e h i =
+    let a : RunHasRead T t limit announced received run z = after_is e h in
+    record { so_far = announced_anew n a.so_far; depth_is = a.depth_is; length_is = i; within = omega arith }
+
+pub room_announced : {T : Table} (t : TypeId) (limit announced : ℕ) {X O : Type 0} {received : X → List Event → Type 0} {run : Run X O} {o : Option (Run X O)} (z : List ℕ) (left n : ℕ) → Some run ≡ o → ReaderHasRead T t limit announced received o z → 0 < left
+    → n ≡ length z + left → (t' : TypeId) (limit' announced' : ℕ) (z' : List ℕ) → RunHasRead T t' limit' announced' received (record { state = run.state; number = run.number; start = run.start; taken = run.taken; length = n; depth = run.depth }) z' → length z' < announced'
+room_announced {T = T} t limit announced {received = received} {run = run} z left n e h some i t' limit' announced' z' h' =
+    let a : RunHasRead T t limit announced received run z = after_is e h in
+    let x = taken_is a.so_far in let y = taken_is h'.so_far in let l = h'.length_is in omega arith
+
+pub taken_now : (T : Table) (t : TypeId) (limit announced : ℕ) {X O : Type 0} (received : X → List Event → Type 0) (run : Run X O) {o : Option (Run X O)} (z : List ℕ) → Some run ≡ o → ReaderHasRead T t limit announced received o z → run.taken ≡ length z
+taken_now T t limit announced received run z e h =
+    let a : RunHasRead T t limit announced received run z = after_is e h in taken_is a.so_far
+
+-- no lookup is needed where the number of an interface comes next
+pub nil_stays : {T : Table} {X O : Type 0} (run : Run X O) → IsAtNil T run → BeginsAs T run.state.expected run.state.expected
+nil_stays {T = T} run n = subst (λ a. BeginsAs T a a) (sym n.expected) number_stays
+
+pub run_at_nil : {T : Table} {X O : Type 0} (run : Run X O) {o : Option (Run X O)} → Some run ≡ o → IsRunAtNil T o → IsAtNil T run
+run_at_nil {T = T} run e n = subst (IsRunAtNil T) (sym e) n
+
+pub run_clear : {T : Table} {X O : Type 0} (run : Run X O) {o : Option (Run X O)} → Some run ≡ o → IsClearRun T o → IsClear T run
+run_clear {T = T} run e c = subst (IsClearRun T) (sym e) c
+
+pub room_left : (T : Table) {X O : Type 0} (received : X → List Event → Type 0) (run : Run X O) {o : Option (Run X O)} → Some run ≡ o → IsUsableReader T received o
+    → ((t : TypeId) (limit announced : ℕ) (z : List ℕ) → ReaderHasRead T t limit announced received o z → length z < announced) → run.taken + 1 ≤ run.length
+room_left T received run e h room =
+    let s = usable_somewhere e h in
+    let l = room s.type s.limit s.announced s.bytes (subst (λ o. ReaderHasRead T s.type s.limit s.announced received o s.bytes) e s.after) in
+    let n = taken_is s.after.so_far in let m = s.after.length_is in
+    omega arith
 
 pub push_complete : {T : Table} {X O : Type 0} {received : X → List Event → Type 0} {mid new : Run X O} {piece : List ℕ} {used : ℕ} {builder : X} → IsReachedSomewhere T received mid → RunFinishes T received mid new piece used → builder ≡ new.state.builder → IsComplete received builder
 push_complete {received = received} s f one = let r = (f.finished s.type s.bytes s.reached).read in record { told = r.us; value = r.value; so_far = subst (λ b. received b r.us) (sym one) r.told; tells = r.tells }

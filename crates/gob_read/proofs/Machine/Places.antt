@@ -38,7 +38,7 @@ list_enters left is_array n r m = array_element n (each_spells r) (omega arith)
 entered : {T : Table} {t u v : TypeId} {d : ℕ} {k : Kind} {p q : List ℕ} → InsideTop T t p u d → HasKind T u k → Enters T k q v → InsideTop T t (p ++ q) v (suc d)
 entered {T = T} {v = v} {q = q} i h e = inside_more_top i h.there (subst (λ k. Enters T k q v) (sym h.kind) e)
 
-expected_in : {T : Table} {t u : TypeId} {d : ℕ} {k : Kind} {p q : List ℕ} {w : Expected} → InsideTop T t p u d → HasKind T u k → ExpectsAt T k q w → ExpectsTop T t (p ++ q) w (suc d)
+pub expected_in : {T : Table} {t u : TypeId} {d : ℕ} {k : Kind} {p q : List ℕ} {w : Expected} → InsideTop T t p u d → HasKind T u k → ExpectsAt T k q w → ExpectsTop T t (p ++ q) w (suc d)
 expected_in {T = T} {q = q} {w = w} i h a = inside_expects_top i h.there (subst (λ k. ExpectsAt T k q w) (sym h.kind) a)
 
 -- the open frames are the parts around the place

@@ -190,7 +190,7 @@ elements_skipped {T = T} {received = received} {old = old} {new = new} {e = e} {
         more = subst (λ n. TakesMore old new n) (sym p) (moves_more m);
         steps = subst (λ n. Steps T received old new (take n rest) s.moved) (sym p) (subst (Steps T received old new (take used rest)) (sym w) steps);
       };
-    })
+    }) m.start
 
 -- entries that stand whole
 pub entries_skipped : {T : Table} {X O : Type 0} {received : X → List Event → Type 0} {old new : Run X O} {k e : TypeId} {left count limit used : ℕ} {s : Advance} (rest : List ℕ) → old.state.expected ≡ Number (Part k) → IsInMap k e left old.state.stack
@@ -213,7 +213,7 @@ entries_skipped {T = T} {received = received} {old = old} {new = new} {k = key} 
         more = subst (λ n. TakesMore old new n) (sym p) (moves_more m);
         steps = subst (λ n. Steps T received old new (take n rest) s.moved) (sym p) (subst (Steps T received old new (take used rest)) (sym w) steps);
       };
-    })
+    }) m.start
 
 -- in a map a key is expected
 key_within : {T : Table} {t : TypeId} {fs : List Frame} {z : List ℕ} {us : List Event} {u k e : TypeId} {left : ℕ} → OpenPath T t fs z us u → IsInMap k e left fs → u ≡ k

@@ -71,10 +71,10 @@ pub data TakesBasicPart (T : Table) {X O : Type 0} (received : X → List Event 
   not_taken : new ≡ old → TakesBasicPart T received old new next rest 0
   part_taken : {used : ℕ} → 0 < used → used ≤ length rest → PassesParts T received old new (take used rest) → new.state.expected ≡ Number (item_of next) → new.state.stack ≡ next ∷ drop 1 old.state.stack → length new.state.stack ≡ length old.state.stack → TakesBasicPart T received old new next rest used
 
--- so much of the piece was taken, or nothing was done
+-- so much of the piece was taken, and the next item begins behind it, or nothing was done
 pub data TakesBasicParts (T : Table) {X O : Type 0} (received : X → List Event → Type 0) (old new : Run X O) (rest : List ℕ) (s : Advance) : Type 0 where
   no_part_taken : s.used ≡ 0 → new ≡ old → TakesBasicParts T received old new rest s
-  some_parts_taken : TakesSome T received old new rest s → TakesBasicParts T received old new rest s
+  some_parts_taken : TakesSome T received old new rest s → new.start ≡ new.taken → TakesBasicParts T received old new rest s
 
 -- the delta was taken, and a part of this type is expected in the struct
 pub record EntersField (T : Table) {X O : Type 0} (received : X → List Event → Type 0) (old new : Run X O) (n : ℕ) (u : TypeId) (next : ℕ) (part : TypeId) : Type 0 where

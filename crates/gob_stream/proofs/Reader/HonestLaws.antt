@@ -69,7 +69,7 @@ honest_from {T = T} {t = t} {limit = limit} {n = n} {k = k} {w = w} {z = z} {S =
     }
 
 -- of reasons that aren't those of a number, nor of depth, nothing is said
-nothing_said : {T : Table} {t : TypeId} {limit : ℕ} {z : List ℕ} {S : body.Refusal} → ¬ IsOfNumber S.reason → ¬ (S.reason ≡ reason.TooDeep) → body_honest.IsHonestBody T t limit z S
+pub nothing_said : {T : Table} {t : TypeId} {limit : ℕ} {z : List ℕ} {S : body.Refusal} → ¬ IsOfNumber S.reason → ¬ (S.reason ≡ reason.TooDeep) → body_honest.IsHonestBody T t limit z S
 nothing_said i d = record { number = λ n. absurd (i n); deep = λ e. absurd (d e) }
 
 description_number : {id : TypeId} {v : Tree} {r : Reason} → Misdescribes id v r → ¬ IsOfNumber r
@@ -106,7 +106,7 @@ one_number {b = b} {z = z} w x (of_definition s) (of_value r) e = absurd (let v 
 one_number {b = b} {z = z} w x (of_definition s) (of_definition r) e =
     let p = signed_prefix (w ++ x) z r s (sym (append_assoc b w x) ∙ e) in (refl, p.bytes, p.rest)
 
-body_refused_honestly : {L : Bounds} {T : Table} {offset m : ℕ} {t : TypeId} {y a z : List ℕ} {R : Refusal} (x : List ℕ) → IsTable T → RefusesBody base_table L T offset m y R → y ++ x ≡ a ++ z
+pub body_refused_honestly : {L : Bounds} {T : Table} {offset m : ℕ} {t : TypeId} {y a z : List ℕ} {R : Refusal} (x : List ℕ) → IsTable T → RefusesBody base_table L T offset m y R → y ++ x ≡ a ++ z
     → SpellsTypeNumber t a → offset + length a ≤ R.place → body_honest.IsHonestBody T t L.depth z (from (offset + length a) R)
 body_refused_honestly x h (refusing.RefusesBody.bad_head q) e s l = absurd (let n = some_number s in omega arith)
 body_refused_honestly x h (refusing.RefusesBody.not_minimal q) e s l = absurd (let n = some_number s in omega arith)

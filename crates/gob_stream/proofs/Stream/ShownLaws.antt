@@ -34,44 +34,44 @@ take_past w x m l =
     let sum : m ≡ length w + (m - length w) = omega arith in
     ap (λ n. take n (w ++ x)) sum ∙ take-append-add w x (m - length w)
 
-past_within : (w x : List ℕ) (m : ℕ) → length w < m → length (w ++ take (m - length w) x) ≤ m
+pub past_within : (w x : List ℕ) (m : ℕ) → length w < m → length (w ++ take (m - length w) x) ≤ m
 past_within w x m l = omega (arith, length-append w (take (m - length w) x), length-take (m - length w) x)
 
 rest_within : (w more x a : List ℕ) (m : ℕ) → length w ≡ length a + length more → length (w ++ x) ≤ m → length (more ++ x) ≤ m - length a
 rest_within w more x a m n l = omega (arith, length-append w x, length-append more x)
 
 -- ---- how bytes begin
-bad_shown : (y p x : List ℕ) → 0 < length y → IsBadHead (y ++ p) → IsBadHead (y ++ x)
+pub bad_shown : (y p x : List ℕ) → 0 < length y → IsBadHead (y ++ p) → IsBadHead (y ++ x)
 bad_shown [] p x l h = absurd (omega arith)
 bad_shown (a ∷ y) p x l h = h
 
-minimal_shown : (y p x : List ℕ) → 1 < length y → IsNotMinimal (y ++ p) → IsNotMinimal (y ++ x)
+pub minimal_shown : (y p x : List ℕ) → 1 < length y → IsNotMinimal (y ++ p) → IsNotMinimal (y ++ x)
 minimal_shown [] p x l h = absurd (omega arith)
 minimal_shown (a ∷ []) p x l h = absurd (omega arith)
 minimal_shown (a ∷ b ∷ y) p x l h = h
 
-some_bad : (z : List ℕ) → IsBadHead z → 0 < length z
+pub some_bad : (z : List ℕ) → IsBadHead z → 0 < length z
 some_bad [] h = absurd h
 some_bad (a ∷ z) h = omega arith
 
-two_padded : (z : List ℕ) → IsNotMinimal z → 1 < length z
+pub two_padded : (z : List ℕ) → IsNotMinimal z → 1 < length z
 two_padded [] h = absurd h
 two_padded (a ∷ []) h = absurd h
 two_padded (a ∷ b ∷ z) h = omega arith
 
 -- ---- a count
-count_seen : {L : Bounds} {offset : ℕ} {z : List ℕ} {R : Refusal} → RefusesCount L offset z R → R.seen ≤ offset + length z
+pub count_seen : {L : Bounds} {offset : ℕ} {z : List ℕ} {R : Refusal} → RefusesCount L offset z R → R.seen ≤ offset + length z
 count_seen {z = z} (refusing.RefusesCount.bad_head h) = let n = some_bad z h in omega arith
 count_seen {z = z} (refusing.RefusesCount.not_minimal h) = let n = two_padded z h in omega arith
 count_seen (item_too_long {c = c} r e u l) = omega (arith, ap length e, length-append c r)
 count_seen (stream_too_long {c = c} r e u l k) = omega (arith, ap length e, length-append c r)
 
-number_shown : (y p c r x : List ℕ) → y ++ p ≡ c ++ r → length c ≤ length y → (w : List ℕ) × (y ++ x ≡ c ++ w)
+pub number_shown : (y p c r x : List ℕ) → y ++ p ≡ c ++ r → length c ≤ length y → (w : List ℕ) × (y ++ x ≡ c ++ w)
 number_shown y p c r x e l =
     let g = goes_on_behind y p c r e l in
     (g.more ++ x, ap (λ l. l ++ x) g.front ∙ append_assoc c g.more x)
 
-count_shown : {L : Bounds} {offset : ℕ} {R : Refusal} (y p x : List ℕ) → RefusesCount L offset (y ++ p) R → R.seen ≤ offset + length y → RefusesCount L offset (y ++ x) R
+pub count_shown : {L : Bounds} {offset : ℕ} {R : Refusal} (y p x : List ℕ) → RefusesCount L offset (y ++ p) R → R.seen ≤ offset + length y → RefusesCount L offset (y ++ x) R
 count_shown y p x (refusing.RefusesCount.bad_head h) n = refusing.RefusesCount.bad_head (bad_shown y p x (omega arith) h)
 count_shown y p x (refusing.RefusesCount.not_minimal h) n = refusing.RefusesCount.not_minimal (minimal_shown y p x (omega arith) h)
 count_shown y p x (item_too_long {c = c} r e u l) n =
@@ -90,7 +90,7 @@ body_seen_behind (refused_value z e s p q) = omega arith
 body_seen_behind (refused_description z e n s p q) = omega arith
 body_seen_behind (described_wrongly e l n s p q d w) = omega arith
 
-body_seen : {base : Table} {L : Bounds} {T : Table} {offset m : ℕ} {y : List ℕ} {R : Refusal} → RefusesBody base L T offset m y R → R.seen ≤ offset + length y
+pub body_seen : {base : Table} {L : Bounds} {T : Table} {offset m : ℕ} {y : List ℕ} {R : Refusal} → RefusesBody base L T offset m y R → R.seen ≤ offset + length y
 body_seen {y = y} (refusing.RefusesBody.bad_head h) = let n = some_bad y h in omega arith
 body_seen {y = y} (refusing.RefusesBody.not_minimal h) = let n = two_padded y h in omega arith
 body_seen (short l h) = omega arith
@@ -100,7 +100,7 @@ body_seen (refused_value {a = a} z e s p q) = let n = seen_within q.refused in o
 body_seen (refused_description {a = a} z e k s p q) = let n = seen_within q.refused in omega (arith, ap length e, length-append a z)
 body_seen (described_wrongly e l n s p q d w) = omega arith
 
-first_shown : {T : Table} {t : TypeId} {limit announced : ℕ} {z : List ℕ} {R : body.Refusal} (w p x : List ℕ) → IsFirst T t limit announced z R → z ≡ w ++ p → R.seen ≤ length w
+pub first_shown : {T : Table} {t : TypeId} {limit announced : ℕ} {z : List ℕ} {R : body.Refusal} (w p x : List ℕ) → IsFirst T t limit announced z R → z ≡ w ++ p → R.seen ≤ length w
     → length (w ++ p) ≤ announced → length (w ++ x) ≤ announced → IsFirst T t limit announced (w ++ x) R
 first_shown {R = R} w p x f e n b t =
     shown_stays (w ++ x) f (omega (arith, ap length e)) t (take-append-le R.seen w x n ∙ sym (ap (λ l. take R.seen l) e ∙ take-append-le R.seen w p n))
@@ -126,7 +126,7 @@ within_shown {m = m} w p x (refused_description {a = a} {R = R} z e k s q f) l b
 within_shown w p x (described_wrongly e k i s q r d v) l b t n = absurd (omega arith)
 
 -- the same where more bytes are there than the body has
-body_shown : {base : Table} {L : Bounds} {T : Table} {offset m : ℕ} {R : Refusal} (w p x : List ℕ) → RefusesBody base L T offset m (take m (w ++ p)) R → R.seen ≤ offset + length w
+pub body_shown : {base : Table} {L : Bounds} {T : Table} {offset m : ℕ} {R : Refusal} (w p x : List ℕ) → RefusesBody base L T offset m (take m (w ++ p)) R → R.seen ≤ offset + length w
     → RefusesBody base L T offset m (take m (w ++ x)) R
 body_shown {base = base} {L = L} {T = T} {offset = offset} {m = m} {R = R} w p x q n =
     elim (cases_lt (length w) m) [

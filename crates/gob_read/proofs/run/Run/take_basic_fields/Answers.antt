@@ -3,7 +3,7 @@ use Rattle.gob_read.specs.declared.next.NextNumber.TheVariants.{Delta}
 use Rattle.gob_read.specs.Machine.Running.{item_depth}
 use Rattle.gob_read.specs.Machine.BasicParts.{no_part_taken, some_parts_taken}
 use Rattle.gob_read.specs.Machine.Frames.{to_delta}
-use Rattle.gob_read.proofs.Machine.BasicPartSteps.{item_start, item_before, byte_before, item_passed, item_or_not, taken_or_not, same_passed, part_deep, unnamed, named_as, named_on, field_on, taken_within, fewer, end_on, rest_some}
+use Rattle.gob_read.proofs.Machine.BasicPartSteps.{item_start, item_before, byte_before, item_passed, item_or_not, taken_or_not, same_passed, same_fresh, part_deep, unnamed, named_as, named_on, field_on, taken_within, fewer, end_on, rest_some}
 use Rattle.gob_read.proofs.run.Run.take_basic_fields.Goals as goal
 
 -- numbers that the answers below compare
@@ -79,8 +79,8 @@ returns-then-delta-eq0 g c =
           (field_on c.fields.invariant.at c.requires.before c.fields.invariant.some c.in_ok-taken.ensures
           (not_zero c.if-taken-eq0.false)) c.requires.before.room
           (rest_left c.args.rest.now c.fields.invariant.some (taken_within c.in_ok-taken.ensures) c.if-used-rest.false)
-          c.if-delta-eq0.true (c.in_ok-moved.ensures (g.S.Shapes.table c.args.shapes.now));
-    })
+          c.if-delta-eq0.true (c.in_ok-moved.ensures.taken (g.S.Shapes.table c.args.shapes.now));
+    }) c.in_ok-moved.ensures.fresh
 
 pub bounds-rest-used : goal.bounds-rest-used
 bounds-rest-used g c = rest_left c.args.rest.now c.fields.invariant.some (taken_within c.in_ok-taken.ensures)
@@ -103,24 +103,26 @@ take_field_delta-requires-clause-fresh g c =
     (not_zero c.if-taken-eq0.false)).fresh
 
 pub returns-in_default-2 : goal.returns-in_default-2
-returns-in_default-2 g c = some_parts_taken (record {
-  some = sum_some c.fields.used c.if-taken-eq0.false;
-  takes =
-      same_passed (unnamed c.in_default-2.is c.in_ok-entered.ensures)
-      (item_passed (field_on c.fields.invariant.at c.requires.before c.fields.invariant.some c.in_ok-taken.ensures
-      (not_zero c.if-taken-eq0.false)));
-})
+returns-in_default-2 g c =
+    let on = field_on c.fields.invariant.at c.requires.before c.fields.invariant.some c.in_ok-taken.ensures
+    (not_zero c.if-taken-eq0.false) in
+    let same = unnamed c.in_default-2.is c.in_ok-entered.ensures in
+    some_parts_taken (record {
+      some = sum_some c.fields.used c.if-taken-eq0.false;
+      takes = same_passed same (item_passed on);
+    }) (same_fresh same on.fresh)
 
 pub returns-then-used-rest-2 : goal.returns-then-used-rest-2
-returns-then-used-rest-2 g c = some_parts_taken (record {
-  some =
-      next_some (c.fields.used + c.in_ok-taken.taken);
-  takes = item_passed
-      (named_on (field_on c.fields.invariant.at c.requires.before c.fields.invariant.some c.in_ok-taken.ensures
-      (not_zero c.if-taken-eq0.false)) c.requires.before.room
-      (rest_left c.args.rest.now c.fields.invariant.some (taken_within c.in_ok-taken.ensures) c.if-used-rest.false)
-      (named_as c.in-Some-2.is c.in_ok-entered.ensures));
-})
+returns-then-used-rest-2 g c =
+    let on = field_on c.fields.invariant.at c.requires.before c.fields.invariant.some c.in_ok-taken.ensures
+    (not_zero c.if-taken-eq0.false) in
+    let left = rest_left c.args.rest.now c.fields.invariant.some (taken_within c.in_ok-taken.ensures)
+    c.if-used-rest.false in
+    let named = named_on on c.requires.before.room left (named_as c.in-Some-2.is c.in_ok-entered.ensures) in
+    some_parts_taken (record {
+      some = next_some (c.fields.used + c.in_ok-taken.taken);
+      takes = item_passed named;
+    }) named.fresh
 
 pub fields-preserved : goal.fields-preserved
 fields-preserved g c =

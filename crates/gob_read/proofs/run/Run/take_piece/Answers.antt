@@ -4,12 +4,12 @@ use Rattle.gob_read.proofs.Machine.BasicPartSteps.{rest_some}
 use Rattle.gob_read.proofs.run.Run.take_piece.Goals as goal
 
 pub returns-in_err-judge : goal.returns-in_err-judge
-returns-in_err-judge g c = stop_passed _ _ _ _ _ _ c.from_residual.result c.from_residual.ensures.1 (judge_stops _ _ _ _ c.in_err-judge.field-0.0 (come_start c.args.piece.now) c.requires.room c.in_err-judge.ensures)
+returns-in_err-judge g c = stop_passed _ _ _ _ _ _ c.from_residual.result c.from_residual.ensures.1 (judge_stops _ _ _ _ c.in_err-judge.field-0.0 (come_start c.args.piece.now) c.requires.room c.in_err-judge.ensures.judged)
 
 pub items-init : goal.items-init
 items-init g c = record {
   come = come_start c.args.piece.now;
-  opens = c.in_ok-judge.ensures (g.S.Shapes.table c.args.shapes.now);
+  opens = c.in_ok-judge.ensures.judged (g.S.Shapes.table c.args.shapes.now);
 }
 
 pub returns-then-used-piece : goal.returns-then-used-piece
@@ -25,25 +25,25 @@ take_next-requires g c = record {
 
 pub returns-in_err-taken : goal.returns-in_err-taken
 returns-in_err-taken g c =
-    stop_passed _ _ _ _ _ _ c.from_residual-in_err-taken.result c.from_residual-in_err-taken.ensures.1 (step_stops _ _ _ _ c.in_err-taken.field-0.0 c.items.invariant.come c.items.invariant.opens c.in_err-taken.ensures)
+    stop_passed _ _ _ _ _ _ c.from_residual-in_err-taken.result c.from_residual-in_err-taken.ensures.1 (step_stops _ _ _ _ c.in_err-taken.field-0.0 c.items.invariant.come c.items.invariant.opens c.in_err-taken.ensures.taken)
 
 pub returns-in-PastValue : goal.returns-in-PastValue
-returns-in-PastValue g c = ended_all (come_end c.items.invariant.come c.items.invariant.opens c.in_ok-taken.ensures c.in-PastValue.is) c.in_ok-finish-in-PastValue.ensures
+returns-in-PastValue g c = ended_all (come_end c.items.invariant.come c.items.invariant.opens c.in_ok-taken.ensures.taken c.in-PastValue.is) c.in_ok-finish-in-PastValue.ensures.ended
 
 pub returns-in_err-finish-in-PastValue : goal.returns-in_err-finish-in-PastValue
 returns-in_err-finish-in-PastValue g c =
     stop_passed _ _ _ _ _ _ c.from_residual-in_err-finish-in-PastValue.result c.from_residual-in_err-finish-in-PastValue.ensures.1
-    (end_stops _ _ _ _ c.in_err-finish-in-PastValue.field-0.0 (come_end c.items.invariant.come c.items.invariant.opens c.in_ok-taken.ensures c.in-PastValue.is) c.in_err-finish-in-PastValue.ensures)
+    (end_stops _ _ _ _ c.in_err-finish-in-PastValue.field-0.0 (come_end c.items.invariant.come c.items.invariant.opens c.in_ok-taken.ensures.taken c.in-PastValue.is) c.in_err-finish-in-PastValue.ensures.ended)
 
 pub returns-in_err-judge-in-ToNext : goal.returns-in_err-judge-in-ToNext
 returns-in_err-judge-in-ToNext g c =
     stop_passed _ _ _ _ _ _ c.from_residual-in_err-judge-in-ToNext.result c.from_residual-in_err-judge-in-ToNext.ensures.1
-    (judge_stops _ _ _ _ c.in_err-judge-in-ToNext.field-0.0 (come_on c.items.invariant.come c.items.invariant.opens c.in_ok-taken.ensures c.in-ToNext.is) c.requires.room c.in_err-judge-in-ToNext.ensures)
+    (judge_stops _ _ _ _ c.in_err-judge-in-ToNext.field-0.0 (come_on c.items.invariant.come c.items.invariant.opens c.in_ok-taken.ensures.taken c.in-ToNext.is) c.requires.room c.in_err-judge-in-ToNext.ensures.judged)
 
 pub items-preserved : goal.items-preserved
 items-preserved g c = record {
-  come = come_on c.items.invariant.come c.items.invariant.opens c.in_ok-taken.ensures c.in-ToNext.is;
-  opens = c.in_ok-judge-in-ToNext.ensures (g.S.Shapes.table c.args.shapes.now);
+  come = come_on c.items.invariant.come c.items.invariant.opens c.in_ok-taken.ensures.taken c.in-ToNext.is;
+  opens = c.in_ok-judge-in-ToNext.ensures.judged (g.S.Shapes.table c.args.shapes.now);
 }
 
 pub returns : goal.returns

@@ -1,5 +1,6 @@
 use Rattle.std.proofs.Common.{◌≡◌, arith, drop, length, length-take, refl, take}
 use Rattle.gob_read.proofs.Machine.Runs.{front_taken, open_in, raw_can_take, raw_some, raw_stepped, take_and_drop}
+use Rattle.gob_read.proofs.Machine.Nils.{raw_clear}
 use Rattle.gob_read.proofs.run.Run.take_raw_bytes.Goals as goal
 
 pub take_raw_bytes-requires : goal.take_raw_bytes-requires
@@ -7,8 +8,8 @@ take_raw_bytes-requires g c =
     let b = c.requires.before in let r = b.room in
     raw_can_take (take c.min-used.result c.args.rest.now) b.expected (open_in c.requires) (omega (arith, length-take c.min-used.result c.args.rest.now)) (omega (arith, length-take c.min-used.result c.args.rest.now))
 
-pub returns-then-used-left : goal.returns-then-used-left
-returns-then-used-left g c =
+pub returns-then-used-left-clause-taken : goal.returns-then-used-left-clause-taken
+returns-then-used-left-clause-taken g c =
     let s = c.args.rest.now in let n = c.min-used.result in let b = c.requires.before in
     let few : length (take n s) ≡ n = omega (arith, length-take n s) in
     let l = raw_some b.expected (open_in c.requires) in let k = b.some in
@@ -18,8 +19,8 @@ returns-then-used-left g c =
           (λ _. omega arith) (λ k. absurd (omega arith)) c.in_ok-moved.ensures;
     })
 
-pub returns-else-used-left : goal.returns-else-used-left
-returns-else-used-left g c =
+pub returns-else-used-left-clause-taken : goal.returns-else-used-left-clause-taken
+returns-else-used-left-clause-taken g c =
     let s = c.args.rest.now in let n = c.min-used.result in let b = c.requires.before in
     let few : length (take n s) ≡ n = omega (arith, length-take n s) in
     let l = raw_some b.expected (open_in c.requires) in let k = b.some in
@@ -28,3 +29,8 @@ returns-else-used-left g c =
       steps = raw_stepped c.args.left (take n s) b.expected (omega arith) refl (omega arith) refl
           (λ k. absurd (c.if-used-left.false (omega arith))) (λ _. refl) c.in_ok-moved.ensures;
     })
+
+pub returns-else-used-left-clause-clear : goal.returns-else-used-left-clause-clear
+returns-else-used-left-clause-clear g c =
+    let s = c.args.rest.now in let n = c.min-used.result in let b = c.requires.before in
+    λ u e. raw_clear u c.requires (let f : length (take n s) ≡ n = omega (arith, length-take n s) in let k = c.if-used-left.false in omega arith) c.in_ok-moved.ensures e
