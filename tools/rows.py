@@ -16,18 +16,18 @@ from collections import namedtuple
 
 ROOT = os.path.dirname(os.path.dirname(os.path.realpath(__file__)))
 
-# `wanted` is None where the stream is shown as it stands
-Row = namedtuple("Row", "name stream lines fault tidy wanted")
+# `wanted` is None where the stream is shown as it stands, and `limits` where it is under the standard ones
+Row = namedtuple("Row", "name stream lines fault tidy wanted limits")
 
 
-def rows():
-    """Yields the rows."""
+def rows(path=f"{ROOT}/interop/rows"):
+    """Yields the rows of this file."""
     named = {}
 
     def bytes_of(words):
         return b"".join(named[word] if word in named else bytes.fromhex(word) for word in words.split())
 
-    with open(f"{ROOT}/interop/rows", encoding="utf-8") as file:
+    with open(path, encoding="utf-8") as file:
         blocks = file.read().split("\n\n")
     for block in blocks:
         texts = [text for text in block.splitlines() if not text.startswith("#")]
@@ -42,6 +42,7 @@ def row_of(texts, bytes_of):
     """Returns the row of these texts: its name, its bytes, and what comes of it."""
     name, stream, *others = texts
     marked = {mark: bytes_of(words) for mark, words in (text.split(": ", 1) for text in others if text.startswith(("wanted:", "tidy:")))}
+    limits = [tuple(map(int, text.split()[1:])) for text in others if text.startswith("limits: ")]
     return Row(
         name,
         bytes_of(stream),
@@ -49,6 +50,7 @@ def row_of(texts, bytes_of):
         "".join(f"{text}\n" for text in others if text.startswith("gob: ")),
         marked.get("tidy", bytes_of(stream)),
         marked.get("wanted"),
+        limits[0] if limits else None,
     )
 
 
