@@ -320,36 +320,23 @@ func (w *writer) placeOf(key reflect.Value) int {
 	return bytes.Index(w.stream, spelled)
 }
 
+// encodedByItself returns what a value makes of itself. A pointer to it has its methods too.
 func encodedByItself(v reflect.Value) []byte {
-	for ; ; v = v.Elem() {
-		if v.Kind() != reflect.Pointer && !v.CanAddr() {
-			copied := reflect.New(v.Type()).Elem()
-			copied.Set(v)
-			v = copied
-		}
-		for _, candidate := range []reflect.Value{v, addressOf(v)} {
-			if !candidate.IsValid() {
-				continue
-			}
-			switch its := candidate.Interface().(type) {
-			case gob.GobEncoder:
-				b, err := its.GobEncode()
-				must(err)
-				return b
-			case encoding.BinaryMarshaler:
-				b, err := its.MarshalBinary()
-				must(err)
-				return b
-			}
-		}
+	for v.Kind() == reflect.Pointer {
+		v = v.Elem()
 	}
-}
-
-func addressOf(v reflect.Value) reflect.Value {
-	if v.CanAddr() {
-		return v.Addr()
+	pointer := reflect.New(v.Type())
+	pointer.Elem().Set(v)
+	var made []byte
+	var err error
+	switch its := pointer.Interface().(type) {
+	case gob.GobEncoder:
+		made, err = its.GobEncode()
+	case encoding.BinaryMarshaler:
+		made, err = its.MarshalBinary()
 	}
-	return reflect.Value{}
+	must(err)
+	return made
 }
 
 func pattern(f float64) string { return fmt.Sprintf("\"%016x\"", math.Float64bits(f)) }
