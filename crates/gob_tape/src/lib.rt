@@ -20,6 +20,7 @@
 //! - [`laws`] has what the definitions in `specs/` entail: a tape means one value.
 #![tactic(auto)]
 
+mod flat;
 mod kind;
 pub mod laws;
 mod node;
@@ -31,6 +32,7 @@ mod tidying;
 mod values;
 mod view;
 
+pub use flat::FlatNode;
 pub use kind::ValueKind;
 pub use tape::Tape;
 pub use tape_builder::TapeBuilder;

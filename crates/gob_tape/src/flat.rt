@@ -1,0 +1,119 @@
+//! A tape in words that programs in other languages read: its flat nodes, and its pool. (docs/FORMAT.md, Flat nodes.)
+
+ghost use Rattle.std.specs.Prelude.{◌≡◌, ◌≤◌, ◌++◌, IsTrue, false, length, map, drop};
+ghost use Rattle.gob_tape.specs.Flat.{flat, number_code, raw_code, group_code};
+
+use crate::node::{Content, Node};
+use crate::tape::Tape;
+use gob_read::{GroupKind, RawKind};
+use gob_types::Basic;
+
+/// A node of a tape, laid out as C has it. By its kind the other words are understood.
+#[repr(C)]
+#[derive(Clone, Copy)]
+pub struct FlatNode {
+    /// Its number in its struct, from 0, where it is a field; else 0.
+    pub number: u64,
+    /// Of a part that is told by its numbers the first; of raw bytes where they begin in the pool, from 0; else
+    /// how many elements, pairs or fields there are.
+    pub first: u64,
+    /// Of a part that is told by its numbers the second; of raw bytes how many there are; else how many nodes the part
+    /// has, its own among them.
+    pub second: u64,
+    /// 1 bool, 2 int, 3 uint, 4 float, 5 bytes, 6 string, 7 complex, 8 nil, 9 list, 10 map, 11 struct, 12 opaque. The
+    /// first eight are the type ids of the basic types.
+    pub kind: u32,
+    /// 1 where it is a field of a struct, else 0.
+    pub named: u32,
+}
+
+impl Tape {
+    /// How many nodes there are.
+    pub fn node_count(&self) -> usize
+        ensures { result ≡ length self.now.nodes.items }
+    {
+        self.nodes.len()
+    }
+
+    /// The raw bytes of all parts, in the order of the parts.
+    pub fn pool(&self) -> &[u8]
+        ensures { result.now ≡ self.now.pool.items }
+    {
+        &self.pool
+    }
+
+    /// Writes the words of all nodes to the front of `out`. False exactly where there is no room for them: then nothing
+    /// was written.
+    pub fn write_flat(&self, out: &mut [FlatNode]) -> bool
+        ensures written { IsTrue result
+            → out.new ≡ map flat self.now.nodes.items ++ drop (length self.now.nodes.items) out.old }
+        ensures kept { result ≡ false → out.new ≡ out.old }
+        ensures room { length self.now.nodes.items ≤ length out.old → IsTrue result }
+        ensures length { length out.new ≡ length out.old }
+    {
+        if self.nodes.len() > out.len() {
+            return false;
+        }
+        'nodes: for place in 0..self.nodes.len() {
+            out[place] = flatten(self.nodes[place]);
+        }
+        true
+    }
+}
+
+// The words of a node.
+fn flatten(node: Node) -> FlatNode
+    ensures { result ≡ flat node }
+{
+    let (kind, first, second) = match node.content() {
+        Content::Number(kind, first, second) => (number_code(kind), first, second),
+        Content::Raw(kind, start, count) => (raw_code(kind), start as u64, count as u64),
+        Content::Group(kind, count, nodes) => (group_code(kind), count as u64, nodes as u64),
+    };
+    let field = node.field();
+    FlatNode {
+        number: field.unwrap_or(0),
+        first,
+        second,
+        kind,
+        named: field.is_some() as u32,
+    }
+}
+
+// The code of a part that is told by its numbers.
+fn number_code(kind: Basic) -> u32
+    ensures { result ≡ number_code kind }
+{
+    match kind {
+        Basic::Bool => 1,
+        Basic::Int => 2,
+        Basic::Uint => 3,
+        Basic::Float => 4,
+        Basic::Bytes => 5,
+        Basic::Str => 6,
+        Basic::Complex => 7,
+        Basic::Interface => 8,
+    }
+}
+
+// The code of a part of raw bytes.
+fn raw_code(kind: RawKind) -> u32
+    ensures { result ≡ raw_code kind }
+{
+    match kind {
+        RawKind::Bytes => 5,
+        RawKind::Str => 6,
+        RawKind::Opaque => 12,
+    }
+}
+
+// The code of a part that has parts.
+fn group_code(kind: GroupKind) -> u32
+    ensures { result ≡ group_code kind }
+{
+    match kind {
+        GroupKind::Many => 9,
+        GroupKind::Pairs => 10,
+        GroupKind::Fields => 11,
+    }
+}
