@@ -1,0 +1,10 @@
+use Rattle.std.proofs.Common.{take, length, ◌≤◌}
+use Rattle.gob_types.specs.Defined.{types}
+use Rattle.gob_handed.specs.Handed.{AreHanded}
+use Rattle.gob_handed.proofs.handing.hand.Given as goal
+
+abbrev pub invariant-items : goal.invariant-items
+invariant-items l =
+    AreHanded (types l.table) (take l.index l.items) (take l.index l.heads)
+        (take l.at.nodes l.nodes) (take l.at.bytes l.pool)
+    × ((l.at.nodes ≤ length l.nodes) × (l.at.bytes ≤ length l.pool))

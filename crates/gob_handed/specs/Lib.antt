@@ -1,0 +1,4 @@
+pub mod Puts
+pub mod Definition
+pub mod Handed
+pub mod Waiting

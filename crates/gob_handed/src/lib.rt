@@ -1,0 +1,26 @@
+//! Items of a stream, handed out as flat nodes and bytes, for programs in other languages.
+//!
+//! A [`Reader`] takes a stream in any pieces. The items that are whole wait in it, until [`Reader::take`] writes as
+//! many of them as there is room for into three slices: a [`Head`] for each item, and the nodes and the bytes of all of
+//! them, one item's behind another's. A value's nodes are those of its tape, a definition's are its kind and name and
+//! the types that it names (docs/FORMAT.md, Flat nodes):
+//!
+//! ```text
+//! heads    define 65: 3 nodes from 0, 7 bytes from 0     value of 65: 3 nodes from 3, 0 bytes from 7
+//! nodes    struct, 2 fields, name 5 from 0               struct, 2 fields, 3 nodes
+//!            type 2, name 1 from 5                         field 0: int 44
+//!            type 2, name 1 from 6                         field 1: int 66
+//! bytes    P o i n t X Y
+//! ```
+//!
+//! [`Reader::shape`] writes the nodes of one type's definition, at any time and for the types of descriptions too.
+#![tactic(auto)]
+
+mod definition;
+mod handing;
+mod head;
+mod place;
+mod reader;
+
+pub use head::{HandedOut, Head};
+pub use reader::Reader;
