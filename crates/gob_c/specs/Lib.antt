@@ -1,0 +1,4 @@
+pub mod Held
+pub mod Asked
+pub mod Told
+pub mod Calls
