@@ -253,7 +253,7 @@ func registeredName(t reflect.Type) string {
 	if name, isThere := registered[base]; isThere {
 		return name
 	}
-	if base.String() == "big.Int" || base.Kind() == reflect.Interface {
+	if base.String() == "big.Int" || base.String() == "url.URL" || base.Kind() == reflect.Interface {
 		return "*" + base.String()
 	}
 	return base.String()

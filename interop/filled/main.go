@@ -125,6 +125,7 @@ var streams = map[string]func() (Some, []byte){
 	"long-name":       plain(Outer{1, Named{6}, 2}),
 	"bytes-200":       plain(of(bytes.Repeat([]byte{171}, 200)), of(strings.Repeat("é", 150))),
 	"held-bigint":     plain(of(big.NewInt(5))),
+	"held-url":        plain(Outer{1, &url.URL{Host: "a.b"}, 2}),
 	"pointer-bigint":  plain(big.NewInt(5), []*big.Int{big.NewInt(-6)}),
 	"pointer-time":    plain(pointerTo(at(1)), at(2)),
 	"pointer-url":     plain(&url.URL{Scheme: "http", Host: "a.b", Path: "/c"}),
@@ -205,7 +206,7 @@ func decoded(values Some, stream []byte) bool {
 func register() {
 	for _, value := range []any{
 		Reg{}, Pair{}, Both{}, Outer{}, Wrap{}, Point{}, Node{}, Forest{}, User{}, Grid{}, Holds{}, &Enc{}, Celsius(0),
-		of(nil), time.Time{}, big.NewInt(0), []any{}, []int{}, []string{}, []Reg{}, [2]bool{}, [2]Reg{},
+		of(nil), time.Time{}, big.NewInt(0), &url.URL{}, []any{}, []int{}, []string{}, []Reg{}, [2]bool{}, [2]Reg{},
 		map[string]any{}, map[string]int{}, map[string]Point{},
 	} {
 		gob.Register(value)
