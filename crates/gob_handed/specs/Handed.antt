@@ -6,7 +6,7 @@ use Rattle.gob_stream.specs.declared.item.Item.{Item}
 use Rattle.gob_stream.specs.declared.item.Item.TheVariants as item
 use Rattle.gob_tape.specs.declared.tape.Tape.{Tape}
 use Rattle.gob_tape.specs.declared.flat.FlatNode.{FlatNode}
-use Rattle.gob_tape.specs.Flat.{flat}
+use Rattle.gob_tape.specs.FlatNodes.{flat}
 use Rattle.gob_handed.specs.declared.head.Head.{Head}
 use Rattle.gob_handed.specs.Definition.{shape_nodes, shape_bytes}
 

@@ -4,7 +4,7 @@ ghost use Rattle.std.specs.Prelude.{◌≡◌, ◌+◌, ◌-◌, ◌^◌, ◌<�
 ghost use Rattle.std.specs.Prelude.{length, map, min, take, slice_get};
 ghost use Rattle.gob_types.specs.Defined.{types};
 ghost use Rattle.gob_types.specs.Table.{Table as Types};
-ghost use Rattle.gob_tape.specs.Flat.{flat};
+ghost use Rattle.gob_tape.specs.FlatNodes.{flat};
 ghost use Rattle.gob_tape.specs.declared.tape.Tape.{Tape};
 ghost use Rattle.gob_stream.specs.declared.item.Item.{Item};
 ghost use Rattle.gob_handed.specs.Puts.{PutsNodes, PutsBytes};

@@ -1,6 +1,7 @@
+pub mod Flat
 pub mod Meaning
 pub mod Seeing
 pub mod Laws
-pub mod Flat
+pub mod FlatNodes
 pub mod Calls
 pub mod Machine

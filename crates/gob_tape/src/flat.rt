@@ -1,7 +1,7 @@
 //! A tape in words that programs in other languages read: its flat nodes, and its pool. (docs/FORMAT.md, Flat nodes.)
 
 ghost use Rattle.std.specs.Prelude.{◌≡◌, ◌≤◌, ◌++◌, IsTrue, false, length, map, drop};
-ghost use Rattle.gob_tape.specs.Flat.{flat, number_code, raw_code, group_code};
+ghost use Rattle.gob_tape.specs.FlatNodes.{flat, number_code, raw_code, group_code};
 
 use crate::node::{Content, Node};
 use crate::tape::Tape;
@@ -30,14 +30,14 @@ pub struct FlatNode {
 impl Tape {
     /// How many nodes there are.
     pub fn node_count(&self) -> usize
-        ensures { result ≡ length self.now.nodes.items }
+        ensures { result ≡ length self.now.nodes }
     {
         self.nodes.len()
     }
 
     /// The raw bytes of all parts, in the order of the parts.
     pub fn pool(&self) -> &[u8]
-        ensures { result.now ≡ self.now.pool.items }
+        ensures { result.now ≡ self.now.pool }
     {
         &self.pool
     }
@@ -46,9 +46,9 @@ impl Tape {
     /// was written.
     pub fn write_flat(&self, out: &mut [FlatNode]) -> bool
         ensures written { IsTrue result
-            → out.new ≡ map flat self.now.nodes.items ++ drop (length self.now.nodes.items) out.old }
+            → out.new ≡ map flat self.now.nodes ++ drop (length self.now.nodes) out.old }
         ensures kept { result ≡ false → out.new ≡ out.old }
-        ensures room { length self.now.nodes.items ≤ length out.old → IsTrue result }
+        ensures room { length self.now.nodes ≤ length out.old → IsTrue result }
         ensures length { length out.new ≡ length out.old }
     {
         if self.nodes.len() > out.len() {

@@ -1,6 +1,6 @@
 //! Tapes: their views, and their spelling.
 
-ghost use Rattle.std.specs.Prelude.{◌≡◌, ℕ, ◌<◌, ◌≤◌, List, ◌++◌, None, OnOk, OnErr, IfOk, length};
+ghost use Rattle.std.specs.Prelude.{◌≡◌, ℕ, ◌≤◌, List, ◌++◌, None, OnOk, OnErr, IfOk};
 ghost use Rattle.gob_types.specs.declared.id.TypeId.{TypeId};
 ghost use Rattle.gob_types.specs.Table.{Table};
 ghost use Rattle.gob_value.specs.Tree.{Tree, depth as depth_of};
@@ -13,9 +13,10 @@ use crate::view::View;
 use gob_num::Memory;
 use gob_value::Value;
 use std::alloc::Global;
+use std::marker::Model;
 
-/// A value, kept flat. It means the value of which a [`TapeBuilder`](crate::TapeBuilder) was told.
-/// (docs/FORMAT.md, Tapes.)
+/// A value, kept flat. It means the value of which a [`TapeBuilder`](crate::TapeBuilder) was told, and there is no tape
+/// that means none. (docs/FORMAT.md, Tapes.)
 #[derive(Drop)]
 pub struct Tape {
     /// A node for each part, in the order of their first bytes.
@@ -24,13 +25,30 @@ pub struct Tape {
     pub(crate) pool: Vec<u8>,
     /// The depth of the value.
     pub(crate) depth: u64,
-    /// Each value has a part.
-    ghost some: { 0 < length nodes.items },
+}
+
+impl Model for Tape {
+    ghost use Rattle.std.specs.Coded.{codes};
+    ghost use Rattle.gob_tape.specs.Flat.{Flat};
+    ghost use Rattle.gob_tape.specs.Meaning.{MeansSome};
+
+    ghost Value = { Flat };
+
+    ghost coded = { Prim.hlevel codes };
+
+    ghost view = { λ tape. record { nodes = tape.nodes.items; pool = tape.pool.items; depth = tape.depth } };
+
+    // It means some value.
+    ghost invariant = { λ tape. MeansSome (record {
+      nodes = tape.nodes.items;
+      pool = tape.pool.items;
+      depth = tape.depth;
+    }) };
 }
 
 impl Tape {
     ghost use Rattle.gob_value.specs.View.{view};
-    ghost use Rattle.gob_tape.specs.Meaning.{Means};
+    ghost use Rattle.gob_tape.specs.Meaning.{Means, MeansSome};
     ghost use Rattle.gob_tape.specs.Seeing.{Sees};
 
     /// A view of the whole value.
@@ -44,9 +62,10 @@ impl Tape {
         }
     }
 
-    /// The depth of the value.
+    /// The depth of the value, of which there is one.
     pub fn depth(&self) -> u64
-        ensures { (v : Tree) → Means self.now v → result ≡ depth_of v }
+        ensures some { MeansSome self.now }
+        ensures depth { (v : Tree) → Means self.now v → result ≡ depth_of v }
     {
         self.depth
     }

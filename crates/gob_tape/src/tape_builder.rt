@@ -6,7 +6,8 @@ ghost use Rattle.gob_tape.specs.Machine.Received.{AreTaped, TapeGoesOn};
 ghost use Rattle.gob_tape.specs.Machine.Tidying.{name_told, content_told, IsPooled};
 ghost use Rattle.gob_tape.specs.Machine.State.{pushed_node, opened_node, added_node, with_begun, counted, ended_in};
 ghost use Rattle.gob_tape.specs.declared.node.Node.{Node};
-ghost use Rattle.gob_tape.specs.Machine.View.{state_of};
+ghost use Rattle.gob_tape.specs.Machine.View.{flat_of, state_of};
+ghost use Rattle.gob_tape.specs.Meaning.{MeansSome};
 
 use crate::node::{Begun, Content, Node};
 use crate::raw::raw_bytes;
@@ -136,12 +137,10 @@ impl TapeBuilder {
         }
     }
 
-    /// The tape of what was told.
+    /// The tape of a whole value that was told.
     pub(crate) fn into_tape(self) -> Tape
-        requires { 0 < length self.nodes.items }
-        ensures nodes { result.nodes ≡ self.nodes }
-        ensures pool { result.pool ≡ self.pool }
-        ensures deep { result.depth ≡ self.deepest }
+        requires { MeansSome (flat_of self) }
+        ensures { result ≡ flat_of self }
     {
         Tape {
             nodes: self.nodes,

@@ -1,6 +1,6 @@
 use Rattle.std.proofs.Common.{◌≡◌, ◌++◌, length, map, take, drop, set, arith, refl, ap, ◌∙◌}
 use Rattle.std.proofs.lemmas.List.{take_all}
-use Rattle.gob_tape.specs.Flat.{flat}
+use Rattle.gob_tape.specs.FlatNodes.{flat}
 use Rattle.gob_tape.proofs.FlatLaws.{put_next}
 use Rattle.gob_tape.proofs.tape.Tape.write_flat.Goals as goal
 
