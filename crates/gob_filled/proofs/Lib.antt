@@ -1,0 +1,14 @@
+pub mod Prefix
+pub mod Unique
+pub mod Strict
+pub mod Contained
+pub mod Items
+pub mod Sound
+pub mod OneWay
+pub mod Final
+pub mod Refused
+pub mod Complete
+pub mod Outcomes
+pub mod Shown
+pub mod Honest
+pub mod Example

@@ -1,0 +1,9 @@
+pub mod Definition
+pub mod Filled
+pub mod Laws
+pub mod Stream
+pub mod Standing
+pub mod Outcome
+pub mod OutcomeLaws
+pub mod Honest
+pub mod Example
