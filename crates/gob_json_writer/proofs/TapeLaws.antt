@@ -43,7 +43,7 @@ signed_odd n =
     let half : (2 * n + 1) / 2 ≡ n = omega arith in
     ap (λ r. if r == 0 then pos ((2 * n + 1) / 2) else negsuc ((2 * n + 1) / 2)) odd ∙ ap negsuc half
 
-signed_unsigned : (i : ℤ) → signed_of (unsigned_of i) ≡ i
+pub signed_unsigned : (i : ℤ) → signed_of (unsigned_of i) ≡ i
 signed_unsigned (pos n) = signed_even n
 signed_unsigned (negsuc n) = signed_odd n
 

@@ -40,7 +40,7 @@ pub(crate) fn write_opaque(alloc: Global, bytes: &[u8], out: &mut Writer) -> Res
 }
 
 /// Writes text as a string where it is UTF-8, else as an object that holds its bytes in hexadecimal.
-pub(crate) fn write_text(alloc: Global, bytes: &[u8], out: &mut Writer) -> Result<(), AllocError>
+pub fn write_text(alloc: Global, bytes: &[u8], out: &mut Writer) -> Result<(), AllocError>
     ensures { WritesJson result out.old out.new (text_json bytes.now) }
 {
     match str::from_utf8(bytes) {

@@ -12,5 +12,7 @@ mod tape_json;
 mod value_json;
 
 pub use definition_json::write_definition;
+pub use leaf::write_text;
+pub use part_types::{element_of, fields_of, key_of, name_at, type_at};
 pub use tape_json::write_tape;
 pub use value_json::write_put;

@@ -11,7 +11,7 @@ use gob_types::{Field, Shapes, TypeId};
 const NO_TYPE: TypeId = TypeId(0);
 
 /// The type of the elements of a slice, an array or a map.
-pub(crate) fn element_of<S: Shapes>(table: &S, id: TypeId) -> TypeId
+pub fn element_of<S: Shapes>(table: &S, id: TypeId) -> TypeId
     ensures { result ≡ element_type (shape_of (S.table table.now) id) }
 {
     table
@@ -21,7 +21,7 @@ pub(crate) fn element_of<S: Shapes>(table: &S, id: TypeId) -> TypeId
 }
 
 /// The type of the keys of a map.
-pub(crate) fn key_of<S: Shapes>(table: &S, id: TypeId) -> TypeId
+pub fn key_of<S: Shapes>(table: &S, id: TypeId) -> TypeId
     ensures { result ≡ key_type (shape_of (S.table table.now) id) }
 {
     table
@@ -31,7 +31,7 @@ pub(crate) fn key_of<S: Shapes>(table: &S, id: TypeId) -> TypeId
 }
 
 /// The fields of a struct.
-pub(crate) fn fields_of<S: Shapes>(table: &S, id: TypeId) -> &[Field]
+pub fn fields_of<S: Shapes>(table: &S, id: TypeId) -> &[Field]
     ensures { result.now ≡ struct_fields (shape_of (S.table table.now) id) }
 {
     match table.shape_of(id).and_then(|shape| shape.kind.fields()) {
@@ -41,7 +41,7 @@ pub(crate) fn fields_of<S: Shapes>(table: &S, id: TypeId) -> &[Field]
 }
 
 /// The name of the field of this number.
-pub(crate) fn name_at(fields: &[Field], number: u64) -> &[u8]
+pub fn name_at(fields: &[Field], number: u64) -> &[u8]
     ensures { result.now ≡ field_name (slice_get fields.now number) }
 {
     match fields.get(number as usize) {
@@ -51,7 +51,7 @@ pub(crate) fn name_at(fields: &[Field], number: u64) -> &[u8]
 }
 
 /// The type of the field of this number.
-pub(crate) fn type_at(fields: &[Field], number: u64) -> TypeId
+pub fn type_at(fields: &[Field], number: u64) -> TypeId
     ensures { result ≡ field_type (slice_get fields.now number) }
 {
     match fields.get(number as usize) {

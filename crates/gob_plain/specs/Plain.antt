@@ -1,0 +1,136 @@
+-- The JSON that says a value plainly, for programs that know nothing of gob: a struct is an object by the names of its
+-- present fields, a map whose keys are texts or whole numbers an object, a float a number. The parts' types are told as
+-- in the lines of a stream (gob_json's Json). Which digits a float's number has is left open: it reads back as the
+-- float. (docs/FORMAT.md, Plain values: this project's own.)
+use Rattle.std.specs.Prelude.{◌≡◌, ℕ, List, [], ◌++◌, Bool, true, false, ◌==◌, ◌||◌, if◌then◌else◌, codes, Some, slice_get, from_bits, ⊤}
+use Rattle.std.specs.Fmt.{decimal, signed_decimal}
+use Rattle.std.specs.Float.Ieee.{Float, binary64, nan, inf, fin}
+use Rattle.std.specs.Str.{is_utf8}
+use Rattle.ryu.specs.Parse.{parse_float}
+use Rattle.ryu.specs.Plain.{IsPlainNumber}
+use Rattle.hex.specs.Hex.{encode_lower}
+use Rattle.base64.specs.Engines.{standard}
+use Rattle.base64.specs.GeneralPurpose.{encode_of}
+use Rattle.json.specs.Json.{Json, Items, Members}
+use Rattle.json.specs.Json as json
+use Rattle.serde_json.specs.Written.{outline}
+use Rattle.gob_types.specs.declared.id.TypeId.{TypeId}
+use Rattle.gob_types.specs.declared.kind.Field.{Field}
+use Rattle.gob_types.specs.Table.{Table, shape_of}
+use Rattle.gob_value.specs.Tree.{Tree, Trees, no_tree, tree, Pairs, no_pair, pair, Fields, no_field, field}
+use Rattle.gob_value.specs.Tree as Value
+use Rattle.gob_json.specs.Json.{value_json, element_type, key_type, struct_fields, field_name, field_type}
+
+-- ---- floats
+
+-- a number in decimal that reads back as the float; JSON has none for a float that isn't finite, which is named
+abbrev pub SaysFloat : Float → Json → Type 0
+SaysFloat nan j = j ≡ json.string (codes "NaN")
+SaysFloat (inf true) j = j ≡ json.string (codes "-Infinity")
+SaysFloat (inf false) j = j ≡ json.string (codes "Infinity")
+SaysFloat (fin s m e) j = (text : List ℕ) × (j ≡ json.number text) × IsPlainNumber text
+    × (parse_float binary64 text ≡ Some (fin s m e))
+
+-- the float of these 64 bits
+abbrev pub SaysPattern : ℕ → Json → Type 0
+SaysPattern p j = SaysFloat (from_bits binary64 p) j
+
+-- [a,b]
+abbrev pub SaysBoth : (Json → Type 0) → (Json → Type 0) → Json → Type 0
+SaysBoth P Q j = (a : Json) × (b : Json) × (j ≡ json.array (json.item a (json.item b json.no_items))) × P a × Q b
+
+-- ---- bytes
+
+-- base64 with padding, as Go's encoding/json has it (RFC 4648, section 4)
+abbrev pub SaysBytes : List ℕ → Json → Type 0
+SaysBytes b j = j ≡ json.string (encode_of standard b)
+
+-- ---- names
+
+-- a name as it is where it is UTF-8, else 0x and its bytes in hexadecimal
+abbrev pub name_text : List ℕ → List ℕ
+name_text b = if is_utf8 b then b else (codes "0x" ++ encode_lower b)
+
+-- the name that a key of a map gives a member: a text, or a whole number in decimal
+abbrev pub key_text : Tree → List ℕ
+key_text (Value.text b) = name_text b
+key_text (Value.int i) = signed_decimal i
+key_text (Value.uint n) = decimal n
+key_text _ = []
+
+-- the keys of this type are texts or whole numbers: string, int or uint
+abbrev pub gives_names : TypeId → Bool
+gives_names k = (k.0 == 6) || ((k.0 == 2) || (k.0 == 3))
+
+-- ---- values
+
+-- an array of items, or an object of members, of which this holds
+abbrev pub IsArrayOf : (Items → Type 0) → Json → Type 0
+IsArrayOf P j = (js : Items) × (j ≡ json.array js) × P js
+
+abbrev pub IsObjectOf : (Members → Type 0) → Json → Type 0
+IsObjectOf P j = (ms : Members) × (j ≡ json.object ms) × P ms
+
+-- the entries of a map: an object where its keys give names, else an array
+abbrev pub IsMapOf : Bool → (Members → Type 0) → (Items → Type 0) → Json → Type 0
+IsMapOf true P Q j = IsObjectOf P j
+IsMapOf false P Q j = IsArrayOf Q j
+
+abbrev mutual
+  -- the JSON says the value as one of this type
+  pub Says : Table → TypeId → Tree → Json → Type 0
+  Says T t (Value.float p) j = SaysPattern p j
+  Says T t (Value.complex p q) j = SaysBoth (SaysPattern p) (SaysPattern q) j
+  Says T t (Value.bytes b) j = SaysBytes b j
+  Says T t (Value.opaque b) j = SaysBytes b j
+  Says T t (Value.many vs) j = IsArrayOf (λ js. SayEach T (element_type (shape_of T t)) vs js) j
+  Says T t (Value.pairs ps) j =
+      IsMapOf (gives_names (key_type (shape_of T t))) (λ ms. SayMembers T (element_type (shape_of T t)) ps ms)
+      (λ js. SayPairs T (key_type (shape_of T t)) (element_type (shape_of T t)) ps js) j
+  Says T t (Value.fields fs) j = IsObjectOf (λ ms. SayFields T (struct_fields (shape_of T t)) fs ms) j
+  -- all other values stand as they do in the lines of a stream
+  Says T t v j = j ≡ outline (value_json T t v)
+
+  -- each element, in order
+  pub SayEach : Table → TypeId → Trees → Items → Type 0
+  SayEach T e no_tree json.no_items = ⊤
+  SayEach T e (tree v vs) (json.item j js) = Says T e v j × SayEach T e vs js
+  SayEach T e _ _ = ⊥
+
+  -- a member for each entry, named by its key, in order; a repeated key is kept
+  pub SayMembers : Table → TypeId → Pairs → Members → Type 0
+  SayMembers T e no_pair json.no_members = ⊤
+  SayMembers T e (pair x v ps) (json.member name j ms) = (name ≡ key_text x) × Says T e v j × SayMembers T e ps ms
+  SayMembers T e _ _ = ⊥
+
+  -- [key,element] for each entry, in order
+  pub SayPairs : Table → TypeId → TypeId → Pairs → Items → Type 0
+  SayPairs T k e no_pair json.no_items = ⊤
+  SayPairs T k e (pair x v ps) (json.item j js) =
+      SaysBoth (λ a. Says T k x a) (λ b. Says T e v b) j × SayPairs T k e ps js
+  SayPairs T k e _ _ = ⊥
+
+  -- a member for each field that is present, in order
+  pub SayFields : Table → List Field → Fields → Members → Type 0
+  SayFields T types no_field json.no_members = ⊤
+  SayFields T types (field f v fs) (json.member name j ms) =
+      (name ≡ name_text (field_name (slice_get types f))) × Says T (field_type (slice_get types f)) v j
+      × SayFields T types fs ms
+  SayFields T types _ _ = ⊥
+
+-- ---- the same by the parts of a value
+
+abbrev pub SaysElements : Table → TypeId → Trees → Json → Type 0
+SaysElements T e vs j = IsArrayOf (λ js. SayEach T e vs js) j
+
+abbrev pub SaysMembers : Table → TypeId → Pairs → Json → Type 0
+SaysMembers T e ps j = IsObjectOf (λ ms. SayMembers T e ps ms) j
+
+abbrev pub SaysPairs : Table → TypeId → TypeId → Pairs → Json → Type 0
+SaysPairs T k e ps j = IsArrayOf (λ js. SayPairs T k e ps js) j
+
+abbrev pub SaysMap : Bool → Table → TypeId → TypeId → Pairs → Json → Type 0
+SaysMap named T k e ps j = IsMapOf named (λ ms. SayMembers T e ps ms) (λ js. SayPairs T k e ps js) j
+
+abbrev pub SaysStruct : Table → List Field → Fields → Json → Type 0
+SaysStruct T types fs j = IsObjectOf (λ ms. SayFields T types fs ms) j
