@@ -23,7 +23,7 @@ use Rattle.gob_value.specs.Spelling.{Spells}
 use Rattle.gob_value.specs.Top.{HasStructs, at_once}
 use Rattle.gob_types.specs.Base.{wire_type}
 use Rattle.gob_types.specs.declared.reason.Reason.{Reason}
-use Rattle.gob_value.specs.Description.{Said, Describes, Misdescribes, kind_count, wrong_id, bad_reference, bad_length}
+use Rattle.gob_value.specs.Description.{Said, Misdescribes, kind_count, wrong_id, bad_reference, bad_length}
 use Rattle.gob_value.specs.Description.{HasBadReference, HasBadLength}
 use Rattle.gob_value.proofs.JudgedLaws.{good_references, good_length}
 use Rattle.gob_value.proofs.LooseLaws.{strict_is_loose}

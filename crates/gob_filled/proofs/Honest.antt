@@ -1,5 +1,5 @@
 -- The place of a refusal is honest.
-use Rattle.std.proofs.Common.{◌≡◌, ℕ, negsuc, ◌+◌, ◌-◌, ◌≤◌, List, [], ◌∷◌, ◌++◌, length, take, arith, refl, sym, ap}
+use Rattle.std.proofs.Common.{◌≡◌, ℕ, negsuc, ◌+◌, ◌-◌, ◌≤◌, List, [], ◌∷◌, ◌++◌, length, take, arith, sym, ap}
 use Rattle.std.proofs.Common.{◌∙◌}
 use Rattle.std.proofs.Common.{subst}
 use Rattle.gob_num.specs.Signed.{IsSigned}
@@ -27,7 +27,7 @@ use Rattle.gob_filled.specs.Filled.{Definitions, Filled, Fillings, AreDefined, n
 use Rattle.gob_filled.specs.Filled.{with_fillings, Fills, as_it_stands, next_filled}
 use Rattle.gob_filled.specs.Stream as streams
 use Rattle.gob_filled.specs.Stream.{FilledItem, IsFilledItem, of_value, AreFilledItems, FilledStream}
-use Rattle.gob_filled.specs.Standing.{Level, Next, in_value, in_filling, Stands, at_value, behind_name}
+use Rattle.gob_filled.specs.Standing.{Level, Next, in_value, Stands, at_value, behind_name}
 use Rattle.gob_filled.specs.Standing.{behind_definition}
 use Rattle.gob_filled.specs.Standing.{at_inner, behind_inner}
 use Rattle.gob_filled.specs.Outcome.{RefusesAt, in_skeleton, short_name}

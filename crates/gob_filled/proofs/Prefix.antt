@@ -1,6 +1,6 @@
 -- No spelling of a filled value begins another of its type from the same table; equal ones have equal values and
 -- tables.
-use Rattle.std.proofs.Common.{◌≡◌, ℕ, pos, negsuc, ◌+◌, ◌-◌, ◌<◌, List, [], ◌∷◌, ◌++◌, length, Some, arith, refl, sym}
+use Rattle.std.proofs.Common.{◌≡◌, ℕ, pos, negsuc, ◌+◌, ◌-◌, ◌<◌, List, [], ◌∷◌, ◌++◌, length, arith, refl, sym}
 use Rattle.std.proofs.Common.{ap, ◌∙◌, subst, append_assoc}
 use Rattle.gob_num.specs.Unsigned.{IsUnsigned}
 use Rattle.gob_num.specs.Signed.{IsSigned}
@@ -11,7 +11,6 @@ use Rattle.gob_types.specs.declared.kind.Shape.{Shape}
 use Rattle.gob_types.specs.Table.{Table}
 use Rattle.gob_value.specs.Tree.{Tree}
 use Rattle.gob_value.specs.Top.{SpellsTop}
-use Rattle.gob_value.specs.Description.{Said, Describes}
 use Rattle.gob_value.proofs.PublicLaws.{same_spelling, same_top}
 use Rattle.gob_value.proofs.LooseLaws.{one_loose_shape}
 use Rattle.gob_read.specs.Expected.{a_number, nil}

@@ -1,18 +1,15 @@
 -- A refusal is the same whatever follows the bytes that show it.
-use Rattle.std.proofs.Common.{◌≡◌, ◌≢◌, ℕ, pos, ◌+◌, ◌-◌, ◌<◌, ◌≤◌, ◌⊎◌, inl, inr, List, [], ◌∷◌, ◌++◌, length, take}
+use Rattle.std.proofs.Common.{◌≡◌, ℕ, ◌+◌, ◌-◌, ◌<◌, ◌≤◌, ◌⊎◌, inl, inr, List, [], ◌∷◌, ◌++◌, length, take}
 use Rattle.std.proofs.Common.{drop}
 use Rattle.std.proofs.Common.{arith, refl, sym, ap, ◌∙◌, subst, append_assoc, length-append}
 use Rattle.std.proofs.lemmas.Bool.{cases_lt}
 use Rattle.std.proofs.lemmas.List.{take-append-le, take-append-drop, length-take}
 use Rattle.gob_num.specs.Unsigned.{IsUnsigned, IsUnsignedFront}
 use Rattle.gob_num.specs.Unsigned as unsigned
-use Rattle.gob_num.specs.Signed.{IsSigned}
 use Rattle.gob_num.proofs.PublicLaws.{unsigned_length}
-use Rattle.gob_types.specs.declared.id.TypeId.{TypeId}
 use Rattle.gob_types.specs.Base.{wire_type}
 use Rattle.gob_types.specs.Table.{Table}
 use Rattle.gob_types.proofs.PublicLaws.{Keeps}
-use Rattle.gob_value.specs.Tree.{Tree}
 use Rattle.gob_value.specs.Top.{HasStructs}
 use Rattle.gob_read.specs.Expected.{a_number, nil, within_number}
 use Rattle.gob_read.specs.Expects.{ExpectsTop}
@@ -22,7 +19,6 @@ use Rattle.gob_read.specs.Viable.{IsShallow, IsViable}
 use Rattle.gob_read.proofs.PublicLaws.{append_nil, nothing_yet, seen_within}
 use Rattle.gob_stream.specs.declared.fault.Refusal.{Refusal}
 use Rattle.gob_stream.specs.Bounds.{Bounds}
-use Rattle.gob_stream.specs.Body.{MayPut}
 use Rattle.gob_stream.specs.Refusing.{RefusesBody, RefusesCount}
 use Rattle.gob_stream.specs.Refusing as counts
 use Rattle.gob_stream.proofs.Stream.ShownLaws.{goes_on_behind, take_past, past_within, bad_shown, minimal_shown}
@@ -30,7 +26,6 @@ use Rattle.gob_stream.proofs.Stream.ShownLaws.{some_bad, two_padded}
 use Rattle.gob_stream.proofs.Stream.ShownLaws.{number_shown, first_shown, count_shown, count_seen, body_shown}
 use Rattle.gob_stream.proofs.Stream.ShownLaws.{body_seen}
 use Rattle.gob_stream.proofs.Stream.ShownLaws.{body_seen_behind}
-use Rattle.gob_filled.specs.Definition.{Defines}
 use Rattle.gob_filled.specs.Standing.{Level, Next, in_value, in_filling, Stands, at_value, behind_name}
 use Rattle.gob_filled.specs.Standing.{behind_definition}
 use Rattle.gob_filled.specs.Standing.{at_inner, behind_inner}
