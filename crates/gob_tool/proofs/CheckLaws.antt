@@ -47,7 +47,7 @@ one_first (StreamItem.defines id v) items = omega arith
 one_first (StreamItem.puts id v) items = omega arith
 
 -- a stream defines so many types
-stream_defines : {base : Table} {L : Bounds} {T U : Table} {offset : ℕ} {items : List StreamItem} {b : List ℕ}
+pub stream_defines : {base : Table} {L : Bounds} {T U : Table} {offset : ℕ} {items : List StreamItem} {b : List ℕ}
     → AreItems base L T offset items b U → length U ≡ length T + definitions_in items
 stream_defines no_more = omega arith
 stream_defines (and_then {i = i} {items = items} (counted u l s p) e r) =

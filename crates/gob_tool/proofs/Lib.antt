@@ -17,6 +17,7 @@ pub mod TakeRuns
 pub mod WantedLaws
 pub mod PieceRuns
 pub mod CheckLaws
+pub mod TallyLaws
 pub mod TidyStays
 pub mod RewriteLaws
 pub mod RewriteOut

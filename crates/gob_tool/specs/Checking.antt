@@ -5,11 +5,14 @@ use Rattle.std.specs.Fmt.{decimal}
 use Rattle.std.specs.Io.KnownBytes.{Appends}
 use Rattle.gob_types.specs.Base.{base_table}
 use Rattle.gob_types.specs.Table.{Table}
+use Rattle.gob_stream.specs.declared.fault.Fault.{Fault}
+use Rattle.gob_stream.specs.declared.fault.Fault.TheVariants as reading
 use Rattle.gob_stream.specs.Bounds.{Bounds}
 use Rattle.gob_stream.specs.Item.{StreamItem, defines, puts}
 use Rattle.gob_stream.specs.Outcome.{LongestStream, Outcome, refused}
 use Rattle.gob_stream.specs.Reading.{SomeTaken}
 use Rattle.gob_stream.specs.Stream.{Stream}
+use Rattle.gob_tool.specs.declared.check.Tally.{Tally}
 use Rattle.gob_tool.specs.declared.fault.ToolFault.{ToolFault}
 use Rattle.gob_tool.specs.declared.fault.ToolFault.TheVariants as fault
 use Rattle.gob_tool.specs.Showing.{AppendsFront}
@@ -52,3 +55,21 @@ pub data CheckAnswers (L : Bounds) (bytes : List ℕ) (now old new : Option (Lis
     is_accepted : {u : Unit {0}} → IsCountedStream L bytes now (Appends old new) → CheckAnswers L bytes now old new (Ok u)
     is_cut : IsCountedStream L bytes now (AppendsFront old new) → CheckAnswers L bytes now old new (Err fault.Write)
     is_stopped : {f : ToolFault} → IsNoStream L bytes now f → Appends old new [] → CheckAnswers L bytes now old new (Err f)
+
+-- the bytes are the stream of some items, and the tally is theirs
+pub record IsTallied (L : Bounds) (bytes : List ℕ) (tally : Tally) : Type 0 where
+  pub items : List StreamItem
+  pub table : Table
+  pub stream : Stream base_table L items bytes table
+  pub items_are : tally.items ≡ length items
+  pub types_are : tally.types ≡ definitions_in items
+  pub bytes_are : tally.bytes ≡ length bytes
+
+-- what counting a stream that is held in memory answers
+abbrev pub TalliesStream : Bounds → (bytes : List ℕ) → Result Tally Fault → Type 0
+TalliesStream L bytes (Ok tally) = IsTallied L bytes tally
+TalliesStream L bytes (Err (reading.Refused R)) =
+    (items : List StreamItem) × Outcome base_table L bytes items (refused R)
+TalliesStream L bytes (Err reading.Read) = ⊥
+TalliesStream L bytes (Err reading.Memory) = Unit {0}
+TalliesStream L bytes (Err reading.Failed) = ⊥

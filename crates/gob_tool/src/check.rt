@@ -4,7 +4,7 @@ ghost use Rattle.std.specs.Prelude.{◌≡◌, ◌<◌, ◌≤◌, ℕ, List, �
 ghost use Rattle.gob_stream.specs.Bounds.{AreLimits, deepest, no_deeper};
 ghost use Rattle.gob_stream.specs.Ends.{failed_reads, failed_writes, reader_of, writer_of};
 ghost use Rattle.gob_stream.specs.Calls.Session.{limits_of};
-ghost use Rattle.gob_tool.specs.Checking.{CheckAnswers};
+ghost use Rattle.gob_tool.specs.Checking.{CheckAnswers, TalliesStream};
 ghost use Rattle.gob_tool.specs.Machine.Counting.{EndsCounting, CountsCounting, tally_line};
 ghost use Rattle.gob_tool.specs.Machine.Counting.{HasCounted, CountsAll, CountsFront};
 ghost use Rattle.gob_tool.specs.Showing.{CountsReadFaults, CountsWriteFaults};
@@ -22,12 +22,14 @@ use std::io::{Read, Write};
 const PIECE: usize = 262_144;
 
 /// How much there is in a stream.
-#[derive(Clone, Copy)]
-pub(crate) struct Tally {
-    items: u64,
-    // How many of the items define a type.
-    types: u64,
-    bytes: u64,
+#[derive(Clone, Copy, Debug, PartialEq, Eq)]
+pub struct Tally {
+    /// How many items.
+    pub items: u64,
+    /// How many of the items define a type.
+    pub types: u64,
+    /// How many bytes.
+    pub bytes: u64,
 }
 
 /// Reads a stream to its end, and writes one line of it: `ok: I items, T types, B bytes`, of which T counts the
@@ -60,6 +62,22 @@ pub fn run_check<R: Read, W: Write>(
             Err(fault)
         }
     }
+}
+
+/// Goes through a stream that is held in memory, and counts what there is in it. Ok exactly where all of the bytes are
+/// a stream; else its refusal, or want of memory. Values aren't kept, and none may be deeper than `limits.depth()`.
+pub fn check_bytes(alloc: Global, bytes: &[u8], limits: Limits) -> Result<Tally, Fault>
+    ensures { TalliesStream (no_deeper deepest limits) bytes.now result }
+{
+    let mut session = Session::<SkipBuilder>::new(alloc, limits)?;
+    let mut items = 0;
+    count_piece(alloc, &mut session, bytes, &mut items)?;
+    session.finish()?;
+    Ok(Tally {
+        items,
+        types: session.table().count(),
+        bytes: bytes.len() as u64,
+    })
 }
 
 /// The line of the stream.

@@ -23,7 +23,7 @@ mod show;
 mod take;
 mod wanted;
 
-pub use check::run_check;
+pub use check::{Tally, check_bytes, run_check};
 pub use fault::{ToolFault, status};
 pub use gob_words::{Chosen, Order, OrderFault, order_of};
 pub use item_json::{json_of, json_of_tape};
