@@ -20,6 +20,9 @@ use Rattle.gob_handed.specs.Waiting.{waiting}
 use Rattle.gob_handed.specs.declared.head.HandedOut.{HandedOut}
 use Rattle.gob_handed.specs.declared.head.Head.{Head}
 use Rattle.gob_handed.specs.declared.reader.Reader.{Reader}
+use Rattle.gob_tool.specs.Checking.{IsTallied, TalliesStream}
+use Rattle.gob_tool.specs.declared.check.Tally.{Tally}
+use Rattle.gob_c.specs.declared.counts.Counts.{Counts}
 use Rattle.gob_c.specs.declared.told.Told.{Told}
 use Rattle.gob_c.specs.Told.{told_of, alone}
 
@@ -90,3 +93,11 @@ pub record ShapeTold (old : Reader) (id : TypeId) (room room' : List FlatNode) (
       × (told.next_nodes ≡ length (shape_nodes (shape_of (types_of old.session) id)))
       × (told.next_bytes ≡ min (length (shape_bytes (shape_of (types_of old.session) id))) (2 ^ 64 - 1))
   pub unknown : 0 < told.waiting → IsSome (shape_of (types_of old.session) id)
+
+-- what there is in the bytes was counted, where they are a stream; and how that ended is told
+pub data CheckTold (limits : Bounds) (bytes : List ℕ) (counts : Counts) (told : Told) : Type 0 where
+  is_counted : (tally : Tally) → IsTallied (no_deeper deepest limits) bytes tally → counts.items ≡ tally.items
+      → counts.types ≡ tally.types → told ≡ alone 0 → CheckTold limits bytes counts told
+  is_stopped : (e : Fault) → TalliesStream (no_deeper deepest limits) bytes (Err e) → told ≡ told_of (Err e)
+      → CheckTold limits bytes counts told
+  are_no_limits : (AreLimits deepest limits → ⊥) → told ≡ alone 4 → CheckTold limits bytes counts told

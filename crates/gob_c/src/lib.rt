@@ -7,16 +7,19 @@
 
 ghost use Rattle.std.specs.Prelude.{◌≡◌};
 ghost use Rattle.gob_c.specs.Asked.{asked_bounds};
-ghost use Rattle.gob_c.specs.Calls.{OpenTold, FeedTold, FinishTold, TakeTold, ShapeTold};
+ghost use Rattle.gob_c.specs.Calls.{OpenTold, FeedTold, FinishTold, TakeTold, ShapeTold, CheckTold};
 
+mod counts;
 mod handle;
 mod limits;
 mod parts;
 mod told;
 
+use counts::Counts;
 use gob_handed::{HandedOut, Head, Reader};
 use gob_stream::Limits;
 use gob_tape::FlatNode;
+use gob_tool::check_bytes;
 use gob_types::TypeId;
 use handle::Handle;
 use limits::Asked;
@@ -108,6 +111,34 @@ pub extern "C" fn gob_raw_type(
 #[unsafe(no_mangle)]
 pub extern "C" fn gob_raw_close(reader: Handle) {
     drop(taken(reader));
+}
+
+/// Goes through a stream that is held in memory, and keeps nothing of it. What there is in it is written to `counts`,
+/// where all of it is a stream; how that ended is told.
+#[unsafe(no_mangle)]
+pub extern "C" fn gob_raw_check(
+    alloc: Global,
+    bytes: &[u8],
+    asked: &Asked,
+    counts: &mut Counts,
+    told: &mut Told,
+)
+    ensures { CheckTold (asked_bounds asked.now) bytes.now counts.new told.new }
+{
+    let Some(limits) = asked.limits() else {
+        *told = Told::plain(4);
+        return;
+    };
+    match check_bytes(alloc, bytes, limits) {
+        Ok(tally) => {
+            *counts = Counts {
+                items: tally.items,
+                types: tally.types,
+            };
+            *told = Told::plain(0);
+        }
+        Err(fault) => *told = Told::of(Err(fault)),
+    }
 }
 
 // The pointer of a new reader, on the heap; None for want of memory.
