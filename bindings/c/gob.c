@@ -1,0 +1,236 @@
+/* The layer of C over the proved archive: its memory, the room that items are handed out into, and the definitions that
+ * were asked for. Nothing here is proved. */
+#include "raw.h"
+
+#include <stdlib.h>
+
+_Static_assert(sizeof(void *) == 8 && sizeof(size_t) == 8, "the archive is of a machine of 64 bits");
+
+/* ---- memory */
+
+static unsigned char nowhere;
+
+static struct raw_block block(void *at) {
+    return (struct raw_block){at != NULL, at != NULL ? at : &nowhere};
+}
+
+struct raw_block rattle_alloc(size_t size, size_t align) { return block(malloc(size != 0 ? size : align)); }
+
+struct raw_block rattle_realloc(unsigned char *at, size_t kept, size_t size, size_t align) {
+    (void)kept;
+    return block(realloc(at, size != 0 ? size : align));
+}
+
+void rattle_dealloc(unsigned char *at) { free(at); }
+
+/* ---- readers */
+
+/* So much room there is at first, for the items of a piece of 64 KiB or so. */
+enum { HEADS = 4096, NODES = 32768, BYTES = 262144 };
+
+struct gob_reader {
+    void *raw;
+    gob_head *heads;
+    gob_node *nodes;
+    unsigned char *bytes;
+    size_t node_room, byte_room;
+    struct raw_handed handed; /* what stands in the room */
+    uint64_t given;           /* how many of these items gob_next has given */
+    gob_item **types;         /* the definitions that were asked for, by their ids */
+    size_t type_count, type_room;
+};
+
+static const gob_limits standard = {67108864, 1000, 10000, 68719476736};
+
+/* The archive takes no NULL for bytes, also where there are none. */
+static const unsigned char *some_bytes(const void *bytes, size_t count) {
+    return count != 0 ? bytes : &nowhere;
+}
+
+static bool has_room(gob_reader *reader) {
+    reader->heads = malloc(HEADS * sizeof *reader->heads);
+    reader->nodes = malloc(NODES * sizeof *reader->nodes);
+    reader->bytes = malloc(BYTES);
+    reader->node_room = NODES;
+    reader->byte_room = BYTES;
+    return reader->heads != NULL && reader->nodes != NULL && reader->bytes != NULL;
+}
+
+gob_reader *gob_open(const gob_limits *limits, gob_fault *fault) {
+    gob_reader *reader = calloc(1, sizeof *reader);
+    *fault = (gob_fault){.status = GOB_NO_MEMORY};
+    if (reader != NULL && has_room(reader)) {
+        gob_raw_open(limits != NULL ? limits : &standard, fault, &reader->raw);
+    }
+    if (fault->status == GOB_OK) return reader;
+    gob_close(reader);
+    return NULL;
+}
+
+gob_status gob_feed(gob_reader *reader, const void *piece, size_t count, gob_fault *fault) {
+    gob_raw_feed(reader->raw, some_bytes(piece, count), count, fault, &reader->raw);
+    return fault->status;
+}
+
+gob_status gob_finish(gob_reader *reader, gob_fault *fault) {
+    gob_raw_finish(reader->raw, fault, &reader->raw);
+    return fault->status;
+}
+
+void gob_close(gob_reader *reader) {
+    if (reader == NULL) return;
+    if (reader->raw != NULL) gob_raw_close(reader->raw);
+    for (size_t i = 0; i < reader->type_count; i++) free(reader->types[i]);
+    free(reader->types);
+    free(reader->heads);
+    free(reader->nodes);
+    free(reader->bytes);
+    free(reader);
+}
+
+/* ---- items */
+
+/* Makes room for the item that waits next. */
+static bool more_room(gob_reader *reader) {
+    uint64_t nodes = reader->handed.next_nodes, bytes = reader->handed.next_bytes;
+    if (nodes > reader->node_room) {
+        if (nodes > SIZE_MAX / sizeof(gob_node)) return false;
+        gob_node *grown = realloc(reader->nodes, nodes * sizeof *grown);
+        if (grown == NULL) return false;
+        reader->nodes = grown;
+        reader->node_room = nodes;
+    }
+    if (bytes > reader->byte_room) {
+        unsigned char *grown = realloc(reader->bytes, bytes);
+        if (grown == NULL) return false;
+        reader->bytes = grown;
+        reader->byte_room = bytes;
+    }
+    return true;
+}
+
+static void hand_out(gob_reader *reader) {
+    gob_raw_take(reader->raw, reader->heads, HEADS, reader->nodes, reader->node_room, reader->bytes, reader->byte_room,
+                 &reader->handed, &reader->raw);
+    reader->given = 0;
+}
+
+/* Hands out some items, where none that was handed out is left to be given: 1, 0 or -1, as gob_next says. */
+static int some_items(gob_reader *reader) {
+    if (reader->given < reader->handed.items) return 1;
+    hand_out(reader);
+    if (reader->handed.items == 0 && reader->handed.waiting != 0) {
+        if (!more_room(reader)) return -1;
+        hand_out(reader);
+    }
+    return reader->handed.items != 0 ? 1 : reader->handed.waiting != 0 ? -1 : 0;
+}
+
+int gob_take(gob_reader *reader, gob_batch *batch) {
+    int some = some_items(reader);
+    *batch = (gob_batch){0};
+    if (some != 1) return some;
+    *batch = (gob_batch){
+        .heads = reader->heads + reader->given,
+        .nodes = reader->nodes,
+        .bytes = reader->bytes,
+        .items = reader->handed.items - reader->given,
+        .node_count = reader->handed.nodes,
+        .byte_count = reader->handed.bytes,
+    };
+    reader->given = reader->handed.items;
+    return 1;
+}
+
+int gob_next(gob_reader *reader, gob_item *item) {
+    int some = some_items(reader);
+    if (some != 1) return some;
+    const gob_head *head = &reader->heads[reader->given++];
+    *item = (gob_item){
+        .kind = head->kind,
+        .id = head->id,
+        .nodes = reader->nodes + head->node,
+        .count = head->nodes,
+        .bytes = reader->bytes + head->byte,
+        .size = head->bytes,
+    };
+    return 1;
+}
+
+/* ---- definitions */
+
+/* Where the type stands among those asked for, or would stand. */
+static size_t type_place(const gob_reader *reader, uint32_t id) {
+    size_t low = 0, high = reader->type_count;
+    while (low < high) {
+        size_t middle = low + (high - low) / 2;
+        if (reader->types[middle]->id < id) low = middle + 1;
+        else high = middle;
+    }
+    return low;
+}
+
+/* The definition of a type, in one block: the item, its nodes, its bytes. NULL where there is none, or no memory. */
+static gob_item *asked(gob_reader *reader, uint32_t id) {
+    struct raw_handed told;
+    gob_node no_node;
+    gob_raw_type(reader->raw, id, &no_node, 0, &nowhere, 0, &told, &reader->raw);
+    if (told.waiting == 0) return NULL;
+    size_t node_room = told.next_nodes, byte_room = told.next_bytes;
+    gob_item *item = malloc(sizeof *item + node_room * sizeof(gob_node) + byte_room + 1);
+    if (item == NULL) return NULL;
+    gob_node *nodes = (gob_node *)(item + 1);
+    unsigned char *bytes = (unsigned char *)(nodes + node_room);
+    gob_raw_type(reader->raw, id, nodes, node_room, bytes, byte_room, &told, &reader->raw);
+    *item = (gob_item){
+        .kind = GOB_DEFINE,
+        .id = id,
+        .nodes = nodes,
+        .count = told.nodes,
+        .bytes = bytes,
+        .size = told.bytes,
+    };
+    return item;
+}
+
+static bool has_type_room(gob_reader *reader) {
+    if (reader->type_count < reader->type_room) return true;
+    size_t room = reader->type_room != 0 ? 2 * reader->type_room : 16;
+    gob_item **types = realloc(reader->types, room * sizeof *types);
+    if (types == NULL) return false;
+    reader->types = types;
+    reader->type_room = room;
+    return true;
+}
+
+const gob_item *gob_type(gob_reader *reader, uint32_t id) {
+    size_t place = type_place(reader, id);
+    if (place < reader->type_count && reader->types[place]->id == id) return reader->types[place];
+    if (!has_type_room(reader)) return NULL;
+    gob_item *item = asked(reader, id);
+    if (item == NULL) return NULL;
+    gob_item **at = reader->types + place;
+    memmove(at + 1, at, (reader->type_count - place) * sizeof *at);
+    *at = item;
+    reader->type_count++;
+    return item;
+}
+
+/* ---- the rest */
+
+gob_status gob_check(const void *bytes, size_t count, const gob_limits *limits, gob_counts *counts, gob_fault *fault) {
+    gob_raw_check(some_bytes(bytes, count), count, limits != NULL ? limits : &standard, counts, fault);
+    return fault->status;
+}
+
+uint32_t gob_abi(void) { return GOB_ABI; }
+
+const char *gob_reason_name(uint32_t reason) {
+    static const char *const names[] = {
+        "",          "BadHead",      "NotMinimal",   "ItemTooLong",   "StreamTooLong", "Short",
+        "Extra",     "ReservedType", "DefinedTwice", "TooManyTypes",  "UndefinedType", "Bottomless",
+        "SingleTag", "Bool",         "ArrayCount",   "FieldNumber",   "InterfaceValue", "TooDeep",
+        "KindCount", "WrongId",      "BadReference", "BadLength",     "Ended",
+    };
+    return reason < sizeof names / sizeof *names ? names[reason] : "";
+}

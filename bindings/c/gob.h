@@ -1,0 +1,242 @@
+/* gob.h: gob streams, as Go's encoding/gob writes them, read exactly and without the Go types.
+ *
+ * Bytes are fed as they come, and items are taken as they are whole: definitions of types, and values. A value is a
+ * flat array of nodes and the raw bytes of all its parts. Where the bytes are no gob stream, a fault says why, at which
+ * byte, and how many bytes show it; the items before it can still be taken.
+ *
+ *     gob_fault fault;
+ *     gob_item item;
+ *     gob_reader *reader = gob_open(NULL, &fault);
+ *     while (fault.status == GOB_OK && (count = fread(piece, 1, sizeof piece, stdin)) > 0) {
+ *         gob_feed(reader, piece, count, &fault);
+ *         while (gob_next(reader, &item) == 1) use(&item);      (also the items before a fault)
+ *     }
+ *     if (fault.status == GOB_OK) gob_finish(reader, &fault);
+ *     gob_close(reader);
+ *
+ * Ownership. The caller owns the reader and lets it go by gob_close, once. The library keeps no pointer that it is
+ * given: a piece may be reused as soon as gob_feed returns. What it hands out it owns: see gob_next, gob_take and
+ * gob_type for how long that stands. All memory comes from malloc.
+ *
+ * Threads. A reader stays on the thread that opened it. Different readers may be used in different threads at once. No
+ * call may be made from a signal handler.
+ *
+ * Stack. Reading takes less than 32 KB of it however deep a value is, gob_check less than 128 KB.
+ *
+ * x86-64 Linux, from x86-64-v2 on. Link with -lgob, or take flags from pkg-config's gob.
+ */
+#ifndef GOB_H
+#define GOB_H
+
+#include <stddef.h>
+#include <stdint.h>
+#include <string.h>
+
+#ifdef __cplusplus
+extern "C" {
+#endif
+
+#if defined __GNUC__
+#define GOB_API __attribute__((visibility("default")))
+#else
+#define GOB_API
+#endif
+
+/* The interface that this header declares. It goes up where a program would have to be compiled anew. */
+#define GOB_ABI 1
+
+/* GOB_ABI of the library that was found, to be compared with the header's. */
+GOB_API uint32_t gob_abi(void);
+
+/* ---- How a call ends */
+
+typedef enum gob_status {
+    GOB_OK = 0,
+    GOB_REFUSED = 1,    /* the bytes are no gob stream: reason, place and seen say why */
+    GOB_NO_MEMORY = 2,  /* malloc had none */
+    GOB_FAILED = 3,     /* the reader met a fault in a call before, and reads no more */
+    GOB_BAD_LIMITS = 4  /* the depth is 0 or above 65536, or the stream above 2^63 - 1 */
+} gob_status;
+
+/* How a call ended. Offsets are those of the stream, in bytes from 0, whatever pieces it came in. */
+typedef struct gob_fault {
+    uint32_t status; /* a gob_status */
+    uint32_t reason; /* where refused, 1 to 22: why (gob_reason_name); else 0 */
+    uint64_t id;     /* the type id that the reason speaks of, where gob_speaks_of_id says so; else 0 */
+    uint64_t place;  /* where refused: the first refused byte; else 0 */
+    uint64_t seen;   /* where refused: how many bytes of the stream show it; else 0 */
+} gob_fault;
+
+/* The name of a reason: "BadHead" for 1, and so on; "" for any other number. It is never freed. */
+GOB_API const char *gob_reason_name(uint32_t reason);
+
+/* Whether a reason speaks of a type id, which may be 0: ReservedType, DefinedTwice, UndefinedType, Bottomless. */
+static inline int gob_speaks_of_id(uint32_t reason) {
+    return reason == 7 || reason == 8 || reason == 10 || reason == 11;
+}
+
+/* ---- Parts of values, and definitions */
+
+/* The kinds of nodes. The first eight are the type ids of the basic types. */
+enum {
+    GOB_BOOL = 1,
+    GOB_INT = 2,
+    GOB_UINT = 3,
+    GOB_FLOAT = 4,
+    GOB_BYTES = 5,
+    GOB_STRING = 6,
+    GOB_COMPLEX = 7,
+    GOB_NIL = 8,     /* a nil interface */
+    GOB_LIST = 9,    /* a slice or an array */
+    GOB_MAP = 10,    /* keys and elements, which alternate */
+    GOB_STRUCT = 11, /* the fields that are present, in order */
+    GOB_OPAQUE = 12, /* what GobEncode, MarshalBinary or MarshalText wrote: only the Go type explains it */
+    GOB_ARRAY = 13,  /* in definitions alone */
+    GOB_TYPE = 14    /* in definitions alone: names a type */
+};
+
+/* One part of a value. The parts of a part follow it at once, so that a whole value is one array of nodes.
+ *
+ *   kind                  first                               second
+ *   bool int uint         the unsigned number as spelled      0                               gob_int_of
+ *   float                 the 64 bits                         0                               gob_float_of
+ *   complex               the real part's bits                the imaginary part's bits       gob_double
+ *   bytes string opaque   where they begin in the item        how many there are              gob_bytes_of
+ *   nil                   0                                   0
+ *   list map struct       how many elements, pairs, fields    how many nodes, its own too     gob_after
+ *
+ * A definition has first a node of the type's kind: `first` and `second` are where its name stands and how long it
+ * is, and `number` is an array's length, how many fields a struct has, or of an opaque type 1 for GobEncode, 2 for
+ * MarshalBinary and 3 for MarshalText. Behind it stands a node of the kind GOB_TYPE for each type that it names,
+ * whose `number` is that type's id: of a list or an array the elements', of a map the keys' and then the elements',
+ * of a struct each field's, with the field's name. */
+typedef struct gob_node {
+    uint64_t number; /* of a field of a struct its number there, from 0; else 0 */
+    uint64_t first;
+    uint64_t second;
+    uint32_t kind;
+    uint32_t named;  /* 1 where it is a field of a struct, else 0 */
+} gob_node;
+
+enum { GOB_DEFINE = 1, GOB_VALUE = 2 };
+
+/* An item. */
+typedef struct gob_item {
+    uint32_t kind;              /* GOB_DEFINE or GOB_VALUE */
+    uint32_t id;                /* the type that is defined, or the value's type */
+    const gob_node *nodes;      /* its nodes, the whole value or the type itself first */
+    size_t count;               /* how many nodes there are, 1 at least */
+    const unsigned char *bytes; /* the raw bytes of all parts, or the names; they end with no 0 */
+    size_t size;                /* how many bytes there are */
+} gob_item;
+
+/* The number of an int. */
+static inline int64_t gob_int_of(const gob_node *node) {
+    return (int64_t)((node->first >> 1) ^ (0 - (node->first & 1)));
+}
+
+/* The double of these 64 bits. */
+static inline double gob_double(uint64_t bits) {
+    double number;
+    memcpy(&number, &bits, sizeof number);
+    return number;
+}
+
+/* The number of a float. */
+static inline double gob_float_of(const gob_node *node) { return gob_double(node->first); }
+
+/* Where the bytes of a byte string, a string or an opaque value begin; node->second says how many they are. */
+static inline const unsigned char *gob_bytes_of(const gob_item *item, const gob_node *node) {
+    return item->bytes + node->first;
+}
+
+/* The node behind this part and all that is in it. */
+static inline const gob_node *gob_after(const gob_node *node) {
+    return node + (node->kind >= GOB_LIST && node->kind <= GOB_STRUCT ? node->second : 1);
+}
+
+/* ---- Reading */
+
+/* What a stream may have. What goes beyond is refused. */
+typedef struct gob_limits {
+    uint64_t item;   /* bytes of an item's body; 67108864 in the standard limits */
+    uint64_t depth;  /* of a value, 1 to 65536; 1000 in the standard limits */
+    uint64_t types;  /* definitions; 10000 in the standard limits */
+    uint64_t stream; /* bytes of the whole stream, at most 2^63 - 1; 68719476736 in the standard limits */
+} gob_limits;
+
+/* A reader of one stream. */
+typedef struct gob_reader gob_reader;
+
+/* A new reader, which has taken no byte. `limits` may be NULL, for the standard ones. NULL where there is no memory, or
+ * where these are no limits: `fault` says which. */
+GOB_API gob_reader *gob_open(const gob_limits *limits, gob_fault *fault);
+
+/* Takes the next `count` bytes of the stream; `piece` may be NULL where they are none. The items that are whole with them
+ * can be taken then, also those before a fault. A refusal comes in the call that brings the last of the bytes that show
+ * it. After a fault the reader reads no more, and answers GOB_FAILED. Items that aren't taken are kept. The answer is
+ * fault->status. */
+GOB_API gob_status gob_feed(gob_reader *reader, const void *piece, size_t count, gob_fault *fault);
+
+/* Says that no byte follows. GOB_OK exactly between two items; else refused, with the reason Ended. The answer is
+ * fault->status. */
+GOB_API gob_status gob_finish(gob_reader *reader, gob_fault *fault);
+
+/* The next item that is whole. 1: it is in `item`, whose pointers stand until the next gob_next, gob_take or gob_close of
+ * this reader. 0: there is none until more is fed. -1: there is no memory for it, and it is kept. */
+GOB_API int gob_next(gob_reader *reader, gob_item *item);
+
+/* The definition of a type that the stream has given so far, or of one of the types 16 to 24 of which descriptions are
+ * made. NULL where there is none, and where there is no memory. It stands until gob_close. */
+GOB_API const gob_item *gob_type(gob_reader *reader, uint32_t id);
+
+/* Lets the reader go, with all that it handed out. NULL is let pass. */
+GOB_API void gob_close(gob_reader *reader);
+
+/* ---- Many items at once, for those who read from another language */
+
+/* Where an item stands in a batch: its type id, the place of its first node and how many it has, the place of its first
+ * byte and how many it has, and GOB_DEFINE or GOB_VALUE. */
+typedef struct gob_head {
+    uint64_t id;
+    uint64_t node;
+    uint64_t nodes;
+    uint64_t byte;
+    uint64_t bytes;
+    uint64_t kind;
+} gob_head;
+
+/* Items, one behind another. */
+typedef struct gob_batch {
+    const gob_head *heads;
+    const gob_node *nodes;
+    const unsigned char *bytes;
+    uint64_t items;      /* how many heads there are */
+    uint64_t node_count; /* how many nodes */
+    uint64_t byte_count; /* how many bytes */
+} gob_batch;
+
+/* The next items that are whole, some thousands at the most. 1: they are in `batch`, whose pointers stand until the next
+ * gob_next, gob_take or gob_close of this reader. 0: there is none until more is fed. -1: there is no memory for the
+ * next one, and it is kept. */
+GOB_API int gob_take(gob_reader *reader, gob_batch *batch);
+
+/* ---- Checking */
+
+/* What there is in a stream. */
+typedef struct gob_counts {
+    uint64_t items; /* those that define a type too */
+    uint64_t types; /* those that define a type */
+} gob_counts;
+
+/* Goes through a whole stream that is held in memory, and keeps nothing of it. `bytes` may be NULL where there are none,
+ * and `limits` for the standard ones. `counts` is written where the answer, which is fault->status, is GOB_OK: exactly
+ * where all of the bytes are a stream. */
+GOB_API gob_status gob_check(const void *bytes, size_t count, const gob_limits *limits, gob_counts *counts,
+                             gob_fault *fault);
+
+#ifdef __cplusplus
+}
+#endif
+
+#endif

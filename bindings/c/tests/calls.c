@@ -1,0 +1,168 @@
+/* The calls of gob.h, each with what is due of it, worked out by hand: the members of each struct that the library
+ * writes, readers used after a fault, let go of in the middle of a stream, and by gob_next and gob_take in turn. */
+#include "../gob.h"
+
+#include <stdio.h>
+#include <stdlib.h>
+
+/* type Point struct{ X, Y int }, and the value Point{22, 33} */
+static const unsigned char point[] = {
+    0x1f, 0xff, 0x81, 0x03, 0x01, 0x01, 0x05, 'P',  'o',  'i',  'n',  't',  0x01, 0xff, 0x82, 0x00,
+    0x01, 0x02, 0x01, 0x01, 'X',  0x01, 0x04, 0x00, 0x01, 0x01, 'Y',  0x01, 0x04, 0x00, 0x00, 0x00,
+    0x07, 0xff, 0x82, 0x01, 0x2c, 0x01, 0x42, 0x00,
+};
+enum { DEFINITION = 32 };
+
+static int failed;
+
+#define DUE(what)                                                         \
+    do {                                                                  \
+        if (!(what)) printf("line %d: %s\n", __LINE__, #what), failed++; \
+    } while (0)
+
+static int is_node(const gob_node *node, uint32_t kind, uint64_t number, uint64_t first, uint64_t second,
+                   uint32_t named) {
+    return node->kind == kind && node->number == number && node->first == first && node->second == second &&
+           node->named == named;
+}
+
+static int is_fault(const gob_fault *fault, uint32_t status, uint32_t reason, uint64_t id, uint64_t place,
+                    uint64_t seen) {
+    return fault->status == status && fault->reason == reason && fault->id == id && fault->place == place &&
+           fault->seen == seen;
+}
+
+static void due_definition(const gob_item *item) {
+    DUE(item->kind == GOB_DEFINE && item->id == 65 && item->count == 3 && item->size == 7);
+    DUE(memcmp(item->bytes, "PointXY", 7) == 0);
+    DUE(is_node(&item->nodes[0], GOB_STRUCT, 2, 0, 5, 0));
+    DUE(is_node(&item->nodes[1], GOB_TYPE, 2, 5, 1, 0));
+    DUE(is_node(&item->nodes[2], GOB_TYPE, 2, 6, 1, 0));
+}
+
+static void items_are_due(void) {
+    gob_fault fault;
+    gob_item item;
+    gob_reader *reader = gob_open(NULL, &fault);
+    DUE(reader != NULL && is_fault(&fault, GOB_OK, 0, 0, 0, 0));
+    DUE(gob_type(reader, 65) == NULL);
+    DUE(gob_next(reader, &item) == 0);
+    DUE(gob_feed(reader, NULL, 0, &fault) == GOB_OK);
+    DUE(gob_feed(reader, point, sizeof point, &fault) == GOB_OK && is_fault(&fault, GOB_OK, 0, 0, 0, 0));
+    DUE(gob_next(reader, &item) == 1);
+    due_definition(&item);
+    DUE(gob_next(reader, &item) == 1);
+    DUE(item.kind == GOB_VALUE && item.id == 65 && item.count == 3 && item.size == 0);
+    DUE(is_node(&item.nodes[0], GOB_STRUCT, 0, 2, 3, 0));
+    DUE(is_node(&item.nodes[1], GOB_INT, 0, 44, 0, 1) && gob_int_of(&item.nodes[1]) == 22);
+    DUE(is_node(&item.nodes[2], GOB_INT, 1, 66, 0, 1) && gob_int_of(&item.nodes[2]) == 33);
+    DUE(gob_after(item.nodes) == item.nodes + 3);
+    DUE(gob_next(reader, &item) == 0);
+    due_definition(gob_type(reader, 65));
+    DUE(gob_type(reader, 65) == gob_type(reader, 65));
+    DUE(gob_type(reader, 66) == NULL);
+    DUE(gob_type(reader, 23)->count == 4 && memcmp(gob_type(reader, 23)->bytes, "mapType", 7) == 0);
+    DUE(gob_finish(reader, &fault) == GOB_OK);
+    gob_close(reader);
+}
+
+static void batches_are_due(void) {
+    gob_fault fault;
+    gob_item item;
+    gob_batch batch;
+    gob_reader *reader = gob_open(NULL, &fault);
+    gob_feed(reader, point, sizeof point, &fault);
+    DUE(gob_next(reader, &item) == 1 && item.kind == GOB_DEFINE);
+    DUE(gob_take(reader, &batch) == 1);
+    DUE(batch.items == 1 && batch.node_count == 6 && batch.byte_count == 7);
+    DUE(batch.heads->id == 65 && batch.heads->node == 3 && batch.heads->nodes == 3);
+    DUE(batch.heads->byte == 7 && batch.heads->bytes == 0 && batch.heads->kind == GOB_VALUE);
+    DUE(gob_take(reader, &batch) == 0 && batch.items == 0);
+    DUE(gob_next(reader, &item) == 0);
+    gob_feed(reader, point + DEFINITION, sizeof point - DEFINITION, &fault);
+    DUE(gob_take(reader, &batch) == 1 && batch.items == 1);
+    gob_close(reader);
+}
+
+/* A delta of 3 leads to no field: the byte at 35 is refused, and shows it. */
+static void faults_are_due(void) {
+    gob_fault fault;
+    gob_item item;
+    unsigned char wrong[sizeof point];
+    memcpy(wrong, point, sizeof point);
+    wrong[35] = 3;
+    gob_reader *reader = gob_open(NULL, &fault);
+    DUE(gob_feed(reader, wrong, sizeof wrong, &fault) == GOB_REFUSED);
+    DUE(is_fault(&fault, GOB_REFUSED, 15, 0, 35, 36));
+    DUE(strcmp(gob_reason_name(fault.reason), "FieldNumber") == 0 && !gob_speaks_of_id(fault.reason));
+    DUE(gob_feed(reader, point, sizeof point, &fault) == GOB_FAILED && is_fault(&fault, GOB_FAILED, 0, 0, 0, 0));
+    DUE(gob_finish(reader, &fault) == GOB_FAILED);
+    DUE(gob_next(reader, &item) == 1);
+    due_definition(&item);
+    due_definition(gob_type(reader, 65));
+    DUE(gob_next(reader, &item) == 0);
+    gob_close(reader);
+    reader = gob_open(NULL, &fault);
+    gob_feed(reader, point + DEFINITION, 3, &fault);
+    DUE(is_fault(&fault, GOB_REFUSED, 10, 65, 1, 3) && gob_speaks_of_id(fault.reason));
+    gob_close(reader);
+    reader = gob_open(NULL, &fault);
+    gob_feed(reader, point, sizeof point - 1, &fault);
+    DUE(gob_finish(reader, &fault) == GOB_REFUSED && is_fault(&fault, GOB_REFUSED, 22, 0, 39, 39));
+    DUE(gob_finish(reader, &fault) == GOB_FAILED);
+    gob_close(reader);
+    gob_close(NULL);
+}
+
+static void limits_are_due(void) {
+    static const gob_limits wrong[] = {{9, 0, 9, 9}, {9, 65537, 9, 9}, {9, 9, 9, (uint64_t)1 << 63}};
+    static const gob_limits widest = {UINT64_MAX, 65536, UINT64_MAX, ((uint64_t)1 << 63) - 1}, narrow = {30, 9, 9, 99};
+    gob_fault fault;
+    gob_counts counts = {7, 7};
+    for (int i = 0; i < 3; i++) {
+        DUE(gob_open(&wrong[i], &fault) == NULL && is_fault(&fault, GOB_BAD_LIMITS, 0, 0, 0, 0));
+        DUE(gob_check(point, sizeof point, &wrong[i], &counts, &fault) == GOB_BAD_LIMITS);
+    }
+    DUE(counts.items == 7 && counts.types == 7);
+    gob_reader *reader = gob_open(&widest, &fault);
+    DUE(reader != NULL && gob_feed(reader, point, sizeof point, &fault) == GOB_OK);
+    gob_close(reader);
+    reader = gob_open(&narrow, &fault);
+    DUE(gob_feed(reader, point, sizeof point, &fault) == GOB_REFUSED && is_fault(&fault, GOB_REFUSED, 3, 0, 0, 1));
+    gob_close(reader);
+}
+
+static void counts_are_due(void) {
+    gob_fault fault;
+    gob_counts counts = {7, 7};
+    DUE(gob_check(NULL, 0, NULL, &counts, &fault) == GOB_OK && counts.items == 0 && counts.types == 0);
+    DUE(gob_check(point, sizeof point, NULL, &counts, &fault) == GOB_OK && counts.items == 2 && counts.types == 1);
+    DUE(gob_check(point, 36, NULL, &counts, &fault) == GOB_REFUSED && is_fault(&fault, GOB_REFUSED, 22, 0, 36, 36));
+    DUE(gob_abi() == GOB_ABI);
+    DUE(strcmp(gob_reason_name(0), "") == 0 && strcmp(gob_reason_name(23), "") == 0);
+}
+
+/* Let go of at every place of the stream, with items that were taken and with items that wait. */
+static void readers_are_let_go(void) {
+    gob_fault fault;
+    gob_item item;
+    for (size_t cut = 0; cut <= sizeof point; cut++) {
+        for (int takes = 0; takes < 2; takes++) {
+            gob_reader *reader = gob_open(NULL, &fault);
+            DUE(gob_feed(reader, point, cut, &fault) == GOB_OK);
+            if (takes) gob_next(reader, &item);
+            gob_close(reader);
+        }
+    }
+}
+
+int main(void) {
+    items_are_due();
+    batches_are_due();
+    faults_are_due();
+    limits_are_due();
+    counts_are_due();
+    readers_are_let_go();
+    printf("%d failed\n", failed);
+    return failed != 0;
+}

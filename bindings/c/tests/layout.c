@@ -1,0 +1,53 @@
+/* Prints each struct of gob.h with its size, and each of its members with its offset and size: a line for each, which
+ * the Python package compares with what it declares. */
+#include "../gob.h"
+
+#include <stdio.h>
+
+#define STRUCT(name) printf(#name " %zu\n", sizeof(name))
+#define MEMBER(name, member) printf(#name "." #member " %zu %zu\n", offsetof(name, member), sizeof(((name *)0)->member))
+
+int main(void) {
+    STRUCT(gob_fault);
+    MEMBER(gob_fault, status);
+    MEMBER(gob_fault, reason);
+    MEMBER(gob_fault, id);
+    MEMBER(gob_fault, place);
+    MEMBER(gob_fault, seen);
+    STRUCT(gob_limits);
+    MEMBER(gob_limits, item);
+    MEMBER(gob_limits, depth);
+    MEMBER(gob_limits, types);
+    MEMBER(gob_limits, stream);
+    STRUCT(gob_node);
+    MEMBER(gob_node, number);
+    MEMBER(gob_node, first);
+    MEMBER(gob_node, second);
+    MEMBER(gob_node, kind);
+    MEMBER(gob_node, named);
+    STRUCT(gob_item);
+    MEMBER(gob_item, kind);
+    MEMBER(gob_item, id);
+    MEMBER(gob_item, nodes);
+    MEMBER(gob_item, count);
+    MEMBER(gob_item, bytes);
+    MEMBER(gob_item, size);
+    STRUCT(gob_head);
+    MEMBER(gob_head, id);
+    MEMBER(gob_head, node);
+    MEMBER(gob_head, nodes);
+    MEMBER(gob_head, byte);
+    MEMBER(gob_head, bytes);
+    MEMBER(gob_head, kind);
+    STRUCT(gob_batch);
+    MEMBER(gob_batch, heads);
+    MEMBER(gob_batch, nodes);
+    MEMBER(gob_batch, bytes);
+    MEMBER(gob_batch, items);
+    MEMBER(gob_batch, node_count);
+    MEMBER(gob_batch, byte_count);
+    STRUCT(gob_counts);
+    MEMBER(gob_counts, items);
+    MEMBER(gob_counts, types);
+    return 0;
+}

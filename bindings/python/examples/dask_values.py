@@ -1,0 +1,50 @@
+"""Counts the values of a folder of gob streams by their types, over the cores of this machine or of a cluster.
+
+    python3 dask_values.py FOLDER [SCHEDULER]
+
+FOLDER's files end in .gob; each is read as one task, in bounded memory. SCHEDULER is the address of a dask scheduler,
+as tcp://host:8786, whose workers have the package and see the folder; without one the processes of this machine are
+taken. A file that is no stream is named, with what it has before the fault counted.
+"""
+import collections
+import pathlib
+import sys
+
+import dask.bag
+import gob
+
+
+def counts(path):
+    """How many values of each type a file has, and its fault, if it has one."""
+    found = collections.Counter()
+    try:
+        for type, _ in gob.iter_items(path):
+            found[type.name or type.kind] += 1
+    except gob.Refused as refused:
+        return found, [f"{path}: {refused}"]
+    return found, []
+
+
+def both(one, other):
+    return one[0] + other[0], one[1] + other[1]
+
+
+def main(folder, scheduler=None):
+    paths = sorted(str(path) for path in pathlib.Path(folder).glob("*.gob"))
+    files = dask.bag.from_sequence(paths, npartitions=len(paths))
+    bag = files.map(counts).fold(both, initial=(collections.Counter(), []))
+    if scheduler is None:
+        found, faults = bag.compute(scheduler="processes")
+    else:
+        from dask.distributed import Client
+
+        with Client(scheduler):
+            found, faults = bag.compute()
+    for name, count in found.most_common():
+        print(f"{count:10} {name}")
+    for fault in faults:
+        print(fault, file=sys.stderr)
+
+
+if __name__ == "__main__":
+    main(*sys.argv[1:])

@@ -1,0 +1,302 @@
+"""Gob streams (Go's encoding/gob) as Python values, read exactly and without the Go types.
+
+    import gob
+
+    for point in gob.iter_values("points.gob"):
+        print(point)                          # {'X': 22, 'Y': 33}
+    points = gob.load("points.gob")           # a list, with points.types
+    frame = pandas.DataFrame(gob.iter_values("points.gob", zeros=True))
+    gob.check("points.gob")                   # Summary(values=1, types=1, bytes=40), or Refused
+
+Structs are dicts by field name (or namedtuples), maps are dicts, floats are floats, `[]byte` is bytes, strings are str
+(bytes that aren't UTF-8 as surrogates, which `s.encode("utf-8", "surrogateescape")` gives back), a nil interface is
+None, and what a Go type encoded itself is an `Opaque`. A field that the stream doesn't have is absent; with `zeros` it
+has its zero value, as Go's decoder would leave it.
+
+The bytes are read by a library whose reader is proved; this package and what explains opaque values are not. Values are
+made by recursion: one deeper than Python's recursion limit allows raises RecursionError.
+"""
+from __future__ import annotations
+
+import ctypes
+import os
+from enum import IntEnum
+from itertools import groupby, repeat
+from typing import Any, BinaryIO, Callable, Iterable, Iterator, Mapping, NamedTuple, Union
+
+from ._decode import Decoder, Opaque, Options, Pairs
+from ._library import Batch, Counts, Fault, Limits as _Limits, library
+from ._types import Field, Type, type_of
+from . import go
+
+__all__ = ["Field", "Limits", "Opaque", "Pairs", "Reader", "Reason", "Refused", "Summary", "Type", "check", "go",
+           "iter_items", "iter_values", "load", "loads"]
+
+Source = Union[str, "os.PathLike[str]", bytes, bytearray, memoryview, BinaryIO, Iterable[bytes]]
+
+Reason = IntEnum("Reason", [library.gob_reason_name(n).decode() for n in range(1, 23)])
+_SPEAK_OF_A_TYPE = (Reason.ReservedType, Reason.DefinedTwice, Reason.UndefinedType, Reason.Bottomless)
+Reason.__doc__ = "Why bytes are no gob stream: see docs/FORMAT.md, Refusals."
+
+
+class Limits(NamedTuple):
+    """What a stream may have: bytes of an item, depth of a value, definitions, bytes of the stream."""
+
+    item: int = 64 << 20
+    depth: int = 1000
+    types: int = 10_000
+    stream: int = 64 << 30
+
+
+class Refused(ValueError):
+    """The bytes are no gob stream.
+
+    `reason` says why, `place` is the offset of the first refused byte, and `seen` how many bytes of the stream show it.
+    `type` is the id that the reason speaks of, or None, and `path` that of the file, where one was read. `values` has
+    what was read before: where `load` raised it all values of the stream, where `Reader.feed` did those of the piece.
+    """
+
+    def __init__(self, reason: Reason, place: int, seen: int, type: int | None = None):
+        of = "" if type is None else f"({type})"
+        super().__init__(f"refused {int(reason)} {reason.name}{of} at {place} seen {seen}")
+        self.reason, self.place, self.seen, self.type = reason, place, seen, type
+        self.path: str | None = None
+        self.values: list[Any] = []
+
+    def __reduce__(self):
+        return Refused, (self.reason, self.place, self.seen, self.type), {"path": self.path, "values": self.values}
+
+
+class Summary(NamedTuple):
+    """What a whole stream has."""
+
+    values: int
+    types: int
+    bytes: int
+
+
+class Values(list):
+    """The values of a stream, and its types by their ids."""
+
+    types: Mapping[int, Type]
+
+
+class Reader:
+    """Takes a stream piece by piece: `feed` gives the values that are whole, `finish` says that no byte follows.
+
+    `structs` is "dict" or "namedtuple". With `zeros` an absent field has its zero value. With `tagged` a dict has the
+    name of its struct's type under that key, first. `opaque` is called with each `Opaque`, and gives what stands for it.
+
+    A reader stays on the thread that made it, and is let go of there: by `close`, as a context manager, or with its
+    last reference. Readers in several threads are independent of each other.
+    """
+
+    def __init__(self, *, limits: Limits | None = None, structs: str = "dict", zeros: bool = False,
+                 tagged: str | None = None, opaque: Callable[[Opaque], Any] | None = None):
+        self._handle = None
+        self._fault = Fault()
+        chosen = None if limits is None else ctypes.byref(_Limits(*limits))
+        self._handle = library.gob_open(chosen, ctypes.byref(self._fault))
+        if not self._handle:
+            _raise(self._fault)
+        self._types: dict[int, Type] = {}
+        self._order: list[int] = []
+        self._decoder = Decoder(self._type, Options(structs, zeros, tagged, opaque))
+
+    def close(self) -> None:
+        """Lets the reader go. It can be called again."""
+        handle, self._handle = self._handle, None
+        if handle:
+            library.gob_close(handle)
+
+    __del__ = close
+
+    def __enter__(self) -> Reader:
+        return self
+
+    def __exit__(self, *_: object) -> None:
+        self.close()
+
+    @property
+    def types(self) -> dict[int, Type]:
+        """The types that the stream has defined so far, in their order."""
+        return {id: self._types[id] for id in self._order}
+
+    def feed(self, piece: bytes | bytearray | memoryview) -> list[tuple[Type, Any]]:
+        """Takes the next piece, and gives the values that are whole with it, each behind its type.
+
+        Where the bytes are refused, `Refused` has those before the fault as its `values`. After a fault, of whatever
+        kind, no more is read.
+        """
+        return self._fed(piece, _typed)
+
+    def _fed(self, piece, made: Callable[[Type, Iterator[Any]], Iterable[Any]]) -> list[Any]:
+        data = piece if isinstance(piece, bytes) else bytes(piece)  # by ctypes no other read-only buffer goes
+        library.gob_feed(self._open(), data, len(data), ctypes.byref(self._fault))
+        taken = self._taken(made)
+        try:
+            _raise(self._fault)
+        except Refused as refused:
+            refused.values = taken
+            raise
+        return taken
+
+    def finish(self) -> None:
+        """Says that no byte follows. Raises `Refused` with the reason `Ended` inside an item."""
+        library.gob_finish(self._open(), ctypes.byref(self._fault))
+        _raise(self._fault)
+
+    def _open(self):
+        if not self._handle:
+            raise ValueError("the reader is closed")
+        return self._handle
+
+    def _taken(self, made: Callable[[Type, Iterator[Any]], Iterable[Any]]) -> list[Any]:
+        batch, decoder, taken = Batch(), self._decoder, []
+        while (some := library.gob_take(self._handle, ctypes.byref(batch))) == 1:
+            heads = _copied(batch.heads, 48 * batch.items).cast("Q")
+            nodes = ctypes.string_at(batch.nodes, 32 * batch.node_count)
+            pool = ctypes.string_at(batch.bytes, batch.byte_count) if batch.byte_count else b""
+            decoder.fill(nodes, pool)
+            first, base = heads[1::6].tolist(), heads[3::6].tolist()
+            at = 0
+            # items of one kind and type that follow one another
+            for (id, kind), run in groupby(zip(heads[0::6].tolist(), heads[5::6].tolist())):
+                end = at + sum(1 for _ in run)
+                if kind == 1:
+                    words = memoryview(nodes).cast("Q")[4 * first[at]:4 * (first[at] + heads[6 * at + 2])].tolist()
+                    self._define(id, words, pool[base[at]:base[at] + heads[6 * at + 4]])
+                else:
+                    taken.extend(made(self._type(id), map(decoder.of(id), first[at:end], base[at:end])))
+                at = end
+        if some < 0:
+            raise MemoryError
+        return taken
+
+    def _define(self, id: int, words: list[int], names: bytes) -> None:
+        self._types[id] = _type_from(id, words, names)
+        self._order.append(id)
+
+    def _type(self, id: int) -> Type:
+        known = self._types.get(id)
+        if known is None:
+            found = library.gob_type(self._handle, id)
+            if not found:
+                raise KeyError(id)
+            item = found.contents
+            words = _copied(ctypes.cast(item.nodes, ctypes.c_void_p).value, 32 * item.count).cast("Q").tolist()
+            known = self._types[id] = _type_from(id, words, ctypes.string_at(item.bytes, item.size))
+        return known
+
+
+def _raise(fault: Fault) -> None:
+    if fault.status == 1:
+        reason = Reason(fault.reason)
+        raise Refused(reason, fault.place, fault.seen, fault.id if reason in _SPEAK_OF_A_TYPE else None)
+    if fault.status == 2:
+        raise MemoryError
+    if fault.status == 3:
+        raise ValueError("the reader met a fault before")
+    if fault.status == 4:
+        raise ValueError("a depth of 0 or above 65536, or a stream above 2**63 - 1 bytes")
+
+
+def _typed(type: Type, values: Iterator[Any]) -> Iterator[tuple[Type, Any]]:
+    return zip(repeat(type), values)
+
+
+def _bare(type: Type, values: Iterator[Any]) -> Iterator[Any]:
+    return values
+
+
+def _copied(at: int | None, size: int) -> memoryview:
+    return memoryview(ctypes.string_at(at, size) if size else b"")
+
+
+def _type_from(id: int, words: list[int], names: bytes) -> Type:
+    nodes = [(*words[i:i + 3], words[i + 3] & 0xFFFFFFFF) for i in range(0, len(words), 4)]
+    return type_of(id, nodes, lambda start, count: names[start:start + count].decode("utf-8", "surrogateescape"))
+
+
+def _path(source: Any) -> str | None:
+    return os.fspath(source) if isinstance(source, (str, os.PathLike)) else None
+
+
+def _pieces(source: Any, size: int) -> Iterator[bytes]:
+    if isinstance(source, (str, os.PathLike)):
+        with open(source, "rb", buffering=0) as stream:
+            while piece := stream.read(size):
+                yield piece
+    elif isinstance(source, (bytes, bytearray, memoryview)):
+        view = memoryview(source).cast("B")
+        for at in range(0, len(view), size):
+            yield bytes(view[at:at + size])
+    elif hasattr(source, "read"):
+        while piece := source.read(size):
+            yield piece
+    else:
+        yield from source
+
+
+def iter_items(source: Source, **options: Any) -> Iterator[tuple[Type, Any]]:
+    """The values of a stream one by one, each behind its type, in little memory however long the stream is.
+
+    The source is a path, bytes, a binary file, or an iterable of bytes. The options are those of `Reader`, and `piece`,
+    how many bytes are read at a time.
+    """
+    return _each(source, _typed, **options)
+
+
+def iter_values(source: Source, **options: Any) -> Iterator[Any]:
+    """The values of a stream alone."""
+    return _each(source, _bare, **options)
+
+
+def _each(source: Any, made: Any, *, piece: int = 65536, **options: Any) -> Iterator[Any]:
+    with Reader(**options) as reader:
+        try:
+            for part in _pieces(source, piece):
+                try:
+                    taken = reader._fed(part, made)
+                except Refused as refused:
+                    yield from refused.values
+                    raise
+                yield from taken
+            reader.finish()
+        except Refused as refused:
+            refused.path = _path(source)
+            raise
+
+
+def load(source: Source, *, piece: int = 1 << 20, **options: Any) -> Values:
+    """All values of a stream, as a list with `types`."""
+    values = Values()
+    with Reader(**options) as reader:
+        try:
+            for part in _pieces(source, piece):
+                values += reader._fed(part, _bare)
+            reader.finish()
+        except Refused as refused:
+            refused.values, refused.path = values + refused.values, _path(source)
+            raise
+        values.types = reader.types
+    return values
+
+
+def loads(data: bytes | bytearray | memoryview, **options: Any) -> Values:
+    """All values of a stream that is held in memory."""
+    return load(bytes(data), **options)
+
+
+def check(source: Source, *, limits: Limits | None = None) -> Summary:
+    """Goes through a whole stream, which is held in memory, and makes no values. Raises `Refused` where it is none."""
+    data = source if isinstance(source, bytes) else b"".join(_pieces(source, 1 << 20))
+    counts, fault = Counts(), Fault()
+    chosen = None if limits is None else ctypes.byref(_Limits(*limits))
+    library.gob_check(data, len(data), chosen, ctypes.byref(counts), ctypes.byref(fault))
+    try:
+        _raise(fault)
+    except Refused as refused:
+        refused.path = _path(source)
+        raise
+    return Summary(counts.items - counts.types, counts.types, len(data))

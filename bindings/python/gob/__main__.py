@@ -1,0 +1,38 @@
+"""python -m gob [--zeros] [--types] [--check] [FILE]: prints the values of a gob stream, one a line."""
+from __future__ import annotations
+
+import argparse
+import sys
+
+import gob
+
+
+def main() -> int:
+    parser = argparse.ArgumentParser(prog="python -m gob", description="Prints the values of a gob stream, one a line.")
+    parser.add_argument("file", nargs="?", help="the file; standard input if none is named")
+    parser.add_argument("--zeros", action="store_true", help="show absent fields with their zero values")
+    parser.add_argument("--types", action="store_true", help="print the types that the stream defines, as Go source")
+    parser.add_argument("--check", action="store_true", help="say how many values, types and bytes there are")
+    words = parser.parse_args()
+    source = words.file or sys.stdin.buffer
+    try:
+        if words.check:
+            print(gob.check(source))
+        elif words.types:
+            types = gob.load(source).types
+            print("\n".join(type.go(types) for type in types.values()))
+        else:
+            for value in gob.iter_values(source, zeros=words.zeros, opaque=gob.go.known):
+                print(value)
+    except gob.Refused as refused:
+        sys.stdout.flush()
+        print(f"gob: {refused}", file=sys.stderr)
+        return 1
+    except OSError as error:
+        print(f"gob: {error}", file=sys.stderr)
+        return 2
+    return 0
+
+
+if __name__ == "__main__":
+    sys.exit(main())

@@ -1,0 +1,223 @@
+"""Natural values of nodes: a decoder for each type, made once.
+
+A decoder takes a node's place in the batch under way, and where the item's bytes begin in the batch's. The words of the
+nodes stand in lists, which are filled anew for each batch, so that decoders can keep them.
+"""
+from __future__ import annotations
+
+import keyword
+import struct
+from collections import namedtuple
+from typing import Any, Callable, NamedTuple
+
+from ._types import Type
+
+_double = struct.Struct("<d").unpack
+
+
+class Opaque(NamedTuple):
+    """What a type that encodes itself wrote. Only the Go type explains the bytes; `gob.go` knows some of them."""
+
+    type: str
+    marshal: str
+    data: bytes
+
+
+class Pairs(list):
+    """The keys and elements of a map that can't be a dict: a key isn't hashable, or is there twice."""
+
+
+class Options(NamedTuple):
+    structs: str = "dict"
+    zeros: bool = False
+    tagged: str | None = None
+    opaque: Callable[[Opaque], Any] | None = None
+
+
+class Decoder:
+    def __init__(self, shape_of: Callable[[int], Type], options: Options):
+        if options.structs not in ("dict", "namedtuple"):
+            raise ValueError("structs is 'dict' or 'namedtuple'")
+        self.shape_of = shape_of
+        self.options = options
+        self.number: list[int] = []
+        self.first: list[int] = []
+        self.second: list[int] = []
+        self.reals: list[float] = []
+        self.pool: list[bytes] = [b""]
+        self.text: list[str | None] = [None]
+        self.made: dict[int, Callable[[int, int], Any]] = {}
+
+    def fill(self, nodes: bytes, pool: bytes) -> None:
+        """Takes the next batch: its nodes, four words each, and its bytes."""
+        words = memoryview(nodes).cast("Q")
+        self.number[:] = words[0::4].tolist()
+        self.first[:] = words[1::4].tolist()
+        self.second[:] = words[2::4].tolist()
+        self.reals[:] = memoryview(nodes).cast("d")[1::4].tolist()
+        self.pool[0] = pool
+        self.text[0] = pool.decode("ascii") if pool.isascii() else None
+
+    def of(self, id: int) -> Callable[[int, int], Any]:
+        """The decoder of a type."""
+        made = self.made.get(id)
+        if made is None:
+            basic = self._basic(id)
+            if basic is not None:
+                made = self.made[id] = basic
+            else:
+                # a type may lead to itself: until its own is made, whoever asks gets one that looks it up
+                self.made[id] = lambda i, base: self.made[id](i, base)
+                made = self.made[id] = self._make(self.shape_of(id))
+        return made
+
+    def _basic(self, id: int):
+        first, second, reals, pool, text = self.first, self.second, self.reals, self.pool, self.text
+
+        def truth(i, base):
+            return first[i] == 1
+
+        def integer(i, base):
+            x = first[i]
+            return (x >> 1) ^ -(x & 1)
+
+        def unsigned(i, base):
+            return first[i]
+
+        def real(i, base):
+            return reals[i]
+
+        def raw(i, base):
+            at = base + first[i]
+            return pool[0][at:at + second[i]]
+
+        def string(i, base):
+            at = base + first[i]
+            known = text[0]
+            if known is not None:
+                return known[at:at + second[i]]
+            return pool[0][at:at + second[i]].decode("utf-8", "surrogateescape")
+
+        def imaginary(i, base):
+            return complex(reals[i], _double(second[i].to_bytes(8, "little"))[0])
+
+        def nil(i, base):
+            return None
+
+        return {1: truth, 2: integer, 3: unsigned, 4: real, 5: raw, 6: string, 7: imaginary, 8: nil}.get(id)
+
+    def _is_leaf(self, id: int) -> bool:
+        return id <= 8 or self.shape_of(id).kind == "opaque"
+
+    def _make(self, shape: Type):
+        if shape.kind == "struct":
+            return self._struct(shape)
+        if shape.kind == "map":
+            return self._map(shape)
+        if shape.kind == "opaque":
+            return self._opaque(shape)
+        return self._list(shape)
+
+    def _opaque(self, shape: Type):
+        first, second, pool, explain = self.first, self.second, self.pool, self.options.opaque
+        name, marshal = shape.name, shape.marshal
+
+        def opaque(i, base):
+            at = base + first[i]
+            value = Opaque(name, marshal, pool[0][at:at + second[i]])
+            return value if explain is None else explain(value)
+
+        return opaque
+
+    def _list(self, shape: Type):
+        first, second = self.first, self.second
+        element = self.of(shape.elem)
+        if self._is_leaf(shape.elem):
+            def flat(i, base):
+                return [element(k, base) for k in range(i + 1, i + second[i])]
+            return flat
+
+        def nested(i, base):
+            end, k, out = i + second[i], i + 1, []
+            while k < end:
+                out.append(element(k, base))
+                k += second[k]
+            return out
+
+        return nested
+
+    def _map(self, shape: Type):
+        first, second = self.first, self.second
+        key, element = self.of(shape.key), self.of(shape.elem)
+        key_leaf, leaf = self._is_leaf(shape.key), self._is_leaf(shape.elem)
+
+        def entries(i, base):
+            end, k, out = i + second[i], i + 1, []
+            while k < end:
+                name = key(k, base)
+                k += 1 if key_leaf else second[k]
+                out.append((name, element(k, base)))
+                k += 1 if leaf else second[k]
+            try:
+                found = dict(out)
+            except TypeError:
+                return Pairs(out)
+            return found if len(found) == len(out) else Pairs(out)
+
+        return entries
+
+    def _struct(self, shape: Type):
+        number, second, zeros = self.number, self.second, self.options.zeros
+        names = shape.names
+        fields = [(name, self.of(field.type), self._is_leaf(field.type)) for name, field in zip(names, shape.fields)]
+        fresh = [(name, self.zero(field.type)) for name, field in zip(names, shape.fields)] if zeros else []
+        tag = {} if self.options.tagged is None else {self.options.tagged: shape.name}
+
+        def present(i, base):
+            end, k, out = i + second[i], i + 1, tag.copy()
+            while k < end:
+                name, decode, leaf = fields[number[k]]
+                out[name] = decode(k, base)
+                k += 1 if leaf else second[k]
+            return out
+
+        def filled(i, base):
+            end, k, out = i + second[i], i + 1, {**tag, **{name: zero() for name, zero in fresh}}
+            while k < end:
+                name, decode, leaf = fields[number[k]]
+                out[name] = decode(k, base)
+                k += 1 if leaf else second[k]
+            return out
+
+        if self.options.structs == "dict":
+            return filled if zeros else present
+        kind = namedtuple(shape.name if shape.name.isidentifier() and not keyword.iskeyword(shape.name) else "Struct",
+                          names, rename=True, defaults=(None,) * len(names))
+
+        def as_tuple(i, base):
+            end, k = i + second[i], i + 1
+            out = [zero() for _, zero in fresh] if zeros else [None] * len(names)
+            while k < end:
+                n = number[k]
+                _, decode, leaf = fields[n]
+                out[n] = decode(k, base)
+                k += 1 if leaf else second[k]
+            return kind(*out)
+
+        return as_tuple
+
+    def zero(self, id: int) -> Callable[[], Any]:
+        """What makes the value of a field that is absent.
+
+        A struct or an array is sent even if all in it is zero, unless it is behind a nil pointer: so it is None. A type
+        that encodes itself isn't sent where it is zero, and None too.
+        """
+        if id <= 8:
+            zero = (None, False, 0, 0, 0.0, b"", "", 0j, None)[id]
+            return lambda: zero
+        shape = self.shape_of(id)
+        if shape.kind == "slice":
+            return list
+        if shape.kind == "map":
+            return dict
+        return lambda: None

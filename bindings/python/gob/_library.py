@@ -1,0 +1,102 @@
+"""The C library, by ctypes. Its structures are those of gob.h, written by hand; the tests compare
+their sizes and offsets with the header's."""
+from __future__ import annotations
+
+import ctypes
+import ctypes.util
+import os
+import pathlib
+
+ABI = 1  # GOB_ABI of gob.h
+
+
+class Fault(ctypes.Structure):
+    """gob_fault."""
+
+    _fields_ = [("status", ctypes.c_uint32), ("reason", ctypes.c_uint32), ("id", ctypes.c_uint64),
+                ("place", ctypes.c_uint64), ("seen", ctypes.c_uint64)]
+
+
+class Limits(ctypes.Structure):
+    """gob_limits."""
+
+    _fields_ = [("item", ctypes.c_uint64), ("depth", ctypes.c_uint64), ("types", ctypes.c_uint64),
+                ("stream", ctypes.c_uint64)]
+
+
+class Head(ctypes.Structure):
+    """gob_head."""
+
+    _fields_ = [("id", ctypes.c_uint64), ("node", ctypes.c_uint64), ("nodes", ctypes.c_uint64),
+                ("byte", ctypes.c_uint64), ("bytes", ctypes.c_uint64), ("kind", ctypes.c_uint64)]
+
+
+class Batch(ctypes.Structure):
+    """gob_batch."""
+
+    _fields_ = [("heads", ctypes.c_void_p), ("nodes", ctypes.c_void_p), ("bytes", ctypes.c_void_p),
+                ("items", ctypes.c_uint64), ("node_count", ctypes.c_uint64), ("byte_count", ctypes.c_uint64)]
+
+
+class Counts(ctypes.Structure):
+    """gob_counts."""
+
+    _fields_ = [("items", ctypes.c_uint64), ("types", ctypes.c_uint64)]
+
+
+class Node(ctypes.Structure):
+    """gob_node."""
+
+    _fields_ = [("number", ctypes.c_uint64), ("first", ctypes.c_uint64), ("second", ctypes.c_uint64),
+                ("kind", ctypes.c_uint32), ("named", ctypes.c_uint32)]
+
+
+class Item(ctypes.Structure):
+    """gob_item."""
+
+    _fields_ = [("kind", ctypes.c_uint32), ("id", ctypes.c_uint32), ("nodes", ctypes.POINTER(Node)),
+                ("count", ctypes.c_size_t), ("bytes", ctypes.c_void_p), ("size", ctypes.c_size_t)]
+
+
+def _candidates():
+    named = os.environ.get("GOB_LIBRARY")
+    if named:
+        yield named
+        return
+    yield str(pathlib.Path(__file__).with_name("libgob.so.1"))
+    found = ctypes.util.find_library("gob")
+    if found:
+        yield found
+    yield "libgob.so.1"
+
+
+def _load():
+    tried = []
+    for name in _candidates():
+        try:
+            library = ctypes.CDLL(name)
+            number = library.gob_abi()
+        except (OSError, AttributeError) as error:
+            tried.append(f"{name}: {error}")
+            continue
+        if number == ABI:
+            return library
+        tried.append(f"{name}: ABI {number}, not {ABI}")
+    raise ImportError("libgob.so.1 is not found; set GOB_LIBRARY to its path. Tried: " + "; ".join(tried))
+
+
+library = _load()
+_reader, _fault = ctypes.c_void_p, ctypes.POINTER(Fault)
+for _name, _result, *_words in [
+    ("gob_open", _reader, ctypes.POINTER(Limits), _fault),
+    ("gob_feed", ctypes.c_int, _reader, ctypes.c_void_p, ctypes.c_size_t, _fault),
+    ("gob_finish", ctypes.c_int, _reader, _fault),
+    ("gob_take", ctypes.c_int, _reader, ctypes.POINTER(Batch)),
+    ("gob_type", ctypes.POINTER(Item), _reader, ctypes.c_uint32),
+    ("gob_close", None, _reader),
+    ("gob_check", ctypes.c_int, ctypes.c_char_p, ctypes.c_size_t, ctypes.POINTER(Limits), ctypes.POINTER(Counts),
+     _fault),
+    ("gob_reason_name", ctypes.c_char_p, ctypes.c_uint32),
+]:
+    _function = getattr(library, _name)
+    _function.restype, _function.argtypes = _result, _words

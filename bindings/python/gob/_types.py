@@ -1,0 +1,78 @@
+"""The types of a stream."""
+from __future__ import annotations
+
+from dataclasses import dataclass
+from typing import Mapping, NamedTuple
+
+BASIC = {1: "bool", 2: "int", 3: "uint", 4: "float64", 5: "[]byte", 6: "string", 7: "complex128", 8: "interface{}"}
+MARSHAL = {1: "GobEncode", 2: "MarshalBinary", 3: "MarshalText"}
+_KINDS = {9: "slice", 10: "map", 11: "struct", 12: "opaque", 13: "array", 14: "basic"}
+
+
+class Field(NamedTuple):
+    """A field of a struct: its name, and the id of its type."""
+
+    name: str
+    type: int
+
+
+@dataclass(frozen=True)
+class Type:
+    """What a type id stands for. `kind` is "basic", "array", "slice", "map", "struct" or "opaque"."""
+
+    id: int
+    name: str
+    kind: str
+    elem: int = 0
+    key: int = 0
+    len: int = 0
+    fields: tuple[Field, ...] = ()
+    marshal: str = ""  # of an opaque type: "GobEncode", "MarshalBinary" or "MarshalText"
+
+    @property
+    def names(self) -> tuple[str, ...]:
+        """The names of the fields; where one is there twice, which Go never writes, the later one as "Name#3"."""
+        names: list[str] = []
+        for number, field in enumerate(self.fields):
+            names.append(f"{field.name}#{number}" if field.name in names else field.name)
+        return tuple(names)
+
+    def go(self, types: Mapping[int, Type]) -> str:
+        """The type as Go source declares it. The stream doesn't tell the widths of numbers, nor pointers."""
+        if self.kind == "struct":
+            lines = "".join(f"\t{field.name} {go_name(field.type, types)}\n" for field in self.fields)
+            return f"type {self.name or '_'} struct {{\n{lines}}}"
+        if self.kind == "opaque":
+            return f"type {self.name or '_'} any // encodes itself: {self.marshal}"
+        return f"type {self.name or '_'} {go_name(self.id, types)}"
+
+
+def go_name(id: int, types: Mapping[int, Type]) -> str:
+    """How Go source names the type."""
+    if id in BASIC:
+        return BASIC[id]
+    known = types.get(id)
+    if known is None:
+        return f"type{id}"
+    if known.kind == "slice":
+        return "[]" + go_name(known.elem, types)
+    if known.kind == "array":
+        return f"[{known.len}]" + go_name(known.elem, types)
+    if known.kind == "map":
+        return f"map[{go_name(known.key, types)}]{go_name(known.elem, types)}"
+    return known.name or f"type{id}"
+
+
+def type_of(id: int, nodes, text) -> Type:
+    """The type that a definition's nodes give: a list of (number, first, second, kind), and what gives a name."""
+    number, first, second, kind = nodes[0]
+    name, kind, rest = text(first, second), _KINDS[kind], nodes[1:]
+    if kind == "struct":
+        return Type(id, name, kind, fields=tuple(Field(text(f, s), n) for n, f, s, _ in rest))
+    if kind == "map":
+        return Type(id, name, kind, key=rest[0][0], elem=rest[1][0])
+    if kind == "array":
+        return Type(id, name, kind, elem=rest[0][0], len=number)
+    if kind == "slice":
+        return Type(id, name, kind, elem=rest[0][0])
+    return Type(id, name, kind, marshal=MARSHAL.get(number, ""))
