@@ -16,6 +16,8 @@
 #[cfg(test)]
 mod deep;
 #[cfg(test)]
+mod flat;
+#[cfg(test)]
 mod summed;
 pub mod sums;
 #[cfg(test)]

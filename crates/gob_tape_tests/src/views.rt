@@ -53,7 +53,8 @@ fn is_field(field: Option<u64>, due: &str) -> bool {
     }
 }
 
-fn is_text(bytes: &[u8], due: &str) -> bool {
+/// Whether these are the bytes of the text; `-` stands for none.
+pub(crate) fn is_text(bytes: &[u8], due: &str) -> bool {
     if bytes.is_empty() {
         due == "-"
     } else {
