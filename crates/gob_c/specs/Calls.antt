@@ -6,7 +6,7 @@ use Rattle.gob_types.specs.declared.id.TypeId.{TypeId}
 use Rattle.gob_types.specs.Table.{shape_of}
 use Rattle.gob_tape.specs.Calls.Builder.{tape_building}
 use Rattle.gob_tape.specs.declared.flat.FlatNode.{FlatNode}
-use Rattle.gob_tape.specs.declared.tape.Tape.{Tape}
+use Rattle.gob_tape.specs.Flat.{Flat}
 use Rattle.gob_stream.specs.Bounds.{Bounds, AreLimits, deepest, no_deeper}
 use Rattle.gob_stream.specs.Item.{StreamItem}
 use Rattle.gob_stream.specs.Reading.{Given}
@@ -69,10 +69,10 @@ pub record TakeTold (old : Reader) (before after : Room) (told : HandedOut) : Ty
   pub new : Reader
   pub handed : AreHanded (types_of old.session) (take told.items (waiting old)) (take told.items after.heads)
       (take told.nodes after.nodes) (take told.bytes after.pool)
-  pub room : (i : Item Tape) → slice_get (waiting old) told.items ≡ Some i → told.items < length before.heads
+  pub room : (i : Item Flat) → slice_get (waiting old) told.items ≡ Some i → told.items < length before.heads
       → told.nodes + length (item_nodes (types_of old.session) i) ≤ length before.nodes
       → told.bytes + length (item_bytes (types_of old.session) i) ≤ length before.pool → ⊥
-  pub next : (i : Item Tape) → slice_get (waiting old) told.items ≡ Some i
+  pub next : (i : Item Flat) → slice_get (waiting old) told.items ≡ Some i
       → (told.next_nodes ≡ length (item_nodes (types_of old.session) i))
       × (told.next_bytes ≡ min (length (item_bytes (types_of old.session) i)) (2 ^ 64 - 1))
   pub count : told.items ≤ length (waiting old)

@@ -7,7 +7,7 @@ use Rattle.gob_tape.specs.declared.flat.FlatNode.{FlatNode}
 use Rattle.gob_types.specs.declared.kind.Field.{Field}
 use Rattle.gob_types.specs.Table.{Table}
 use Rattle.gob_stream.specs.declared.item.Item.{Item}
-use Rattle.gob_tape.specs.declared.tape.Tape.{Tape}
+use Rattle.gob_tape.specs.Flat.{Flat}
 use Rattle.gob_handed.specs.declared.head.Head.{Head}
 use Rattle.gob_handed.specs.Handed.{AreHanded, one_more, item_head, item_nodes, item_bytes}
 use Rattle.gob_handed.specs.declared.place.Place.{Place}
@@ -153,7 +153,7 @@ names_step fs i f b m lt is before =
 
 -- ---- items
 -- one more item
-pub hand_step : (T : Table) (items : List (Item Tape)) (i : ℕ) (item : Item Tape) (heads : List Head) (head : Head)
+pub hand_step : (T : Table) (items : List (Item Flat)) (i : ℕ) (item : Item Flat) (heads : List Head) (head : Head)
     (at to : Place) (nodes nodes' : List FlatNode) (pool pool' : List ℕ)
     → i < length items → i < length heads → item ≡ get_or items i item
     → AreHanded T (take i items) (take i heads) (take at.nodes nodes) (take at.bytes pool)

@@ -4,34 +4,34 @@ use Rattle.gob_types.specs.declared.id.TypeId.{TypeId}
 use Rattle.gob_types.specs.Table.{Table, shape_of}
 use Rattle.gob_stream.specs.declared.item.Item.{Item}
 use Rattle.gob_stream.specs.declared.item.Item.TheVariants as item
-use Rattle.gob_tape.specs.declared.tape.Tape.{Tape}
+use Rattle.gob_tape.specs.Flat.{Flat}
 use Rattle.gob_tape.specs.declared.flat.FlatNode.{FlatNode}
 use Rattle.gob_tape.specs.FlatNodes.{flat}
 use Rattle.gob_handed.specs.declared.head.Head.{Head}
 use Rattle.gob_handed.specs.Definition.{shape_nodes, shape_bytes}
 
 -- the type that an item defines, or that its value has
-abbrev pub item_id : Item Tape → TypeId
+abbrev pub item_id : Item Flat → TypeId
 item_id (item.Define id described) = id
 item_id (item.Put id tape) = id
 
 -- 1 for a definition, 2 for a value
-abbrev pub item_kind : Item Tape → ℕ
+abbrev pub item_kind : Item Flat → ℕ
 item_kind (item.Define id described) = 1
 item_kind (item.Put id tape) = 2
 
 -- its nodes: of a definition those of the shape that the type has in the table
-abbrev pub item_nodes : Table → Item Tape → List FlatNode
+abbrev pub item_nodes : Table → Item Flat → List FlatNode
 item_nodes T (item.Define id described) = shape_nodes (shape_of T id)
-item_nodes T (item.Put id tape) = map flat tape.nodes.items
+item_nodes T (item.Put id tape) = map flat tape.nodes
 
 -- and its bytes
-abbrev pub item_bytes : Table → Item Tape → List ℕ
+abbrev pub item_bytes : Table → Item Flat → List ℕ
 item_bytes T (item.Define id described) = shape_bytes (shape_of T id)
-item_bytes T (item.Put id tape) = tape.pool.items
+item_bytes T (item.Put id tape) = tape.pool
 
 -- the head of an item before whose own nodes and bytes stand so many
-abbrev pub item_head : Table → Item Tape → (nodes bytes : ℕ) → Head
+abbrev pub item_head : Table → Item Flat → (nodes bytes : ℕ) → Head
 item_head T i nodes bytes = record {
   id = (item_id i).0;
   node = nodes;
@@ -42,9 +42,9 @@ item_head T i nodes bytes = record {
 }
 
 -- these heads, nodes and bytes are those of the items, one behind another
-pub data AreHanded (T : Table) : List (Item Tape) → List Head → List FlatNode → List ℕ → Type 0 where
+pub data AreHanded (T : Table) : List (Item Flat) → List Head → List FlatNode → List ℕ → Type 0 where
   none_handed : AreHanded T [] [] [] []
-  one_more : {is : List (Item Tape)} {hs : List Head} {ns : List FlatNode} {bs : List ℕ} (i : Item Tape)
+  one_more : {is : List (Item Flat)} {hs : List Head} {ns : List FlatNode} {bs : List ℕ} (i : Item Flat)
       → AreHanded T is hs ns bs
       → AreHanded T (is ++ i ∷ []) (hs ++ item_head T i (length ns) (length bs) ∷ [])
       (ns ++ item_nodes T i) (bs ++ item_bytes T i)

@@ -98,7 +98,7 @@ impl Reader {
 impl Reader {
     ghost use Rattle.std.specs.Prelude.{◌≡◌, ◌+◌, ◌-◌, ◌^◌, ◌<◌, Some, IsSome, min, take, drop, slice_get};
     ghost use Rattle.gob_types.specs.Table.{shape_of};
-    ghost use Rattle.gob_tape.specs.declared.tape.Tape.{Tape};
+    ghost use Rattle.gob_tape.specs.Flat.{Flat};
     ghost use Rattle.gob_stream.specs.declared.item.Item.{Item};
     ghost use Rattle.gob_stream.specs.Calls.Session.{types_of};
     ghost use Rattle.gob_handed.specs.Definition.{shape_nodes, shape_bytes};
@@ -111,11 +111,11 @@ impl Reader {
     pub fn take(&mut self, heads: &mut [Head], nodes: &mut [FlatNode], pool: &mut [u8]) -> HandedOut
         ensures handed { AreHanded (types_of self.old.session) (take result.items (waiting self.old))
             (take result.items heads.new) (take result.nodes nodes.new) (take result.bytes pool.new) }
-        ensures room { (i : Item Tape) → slice_get (waiting self.old) result.items ≡ Some i
+        ensures room { (i : Item Flat) → slice_get (waiting self.old) result.items ≡ Some i
             → result.items < length heads.old
             → result.nodes + length (item_nodes (types_of self.old.session) i) ≤ length nodes.old
             → result.bytes + length (item_bytes (types_of self.old.session) i) ≤ length pool.old → ⊥ }
-        ensures next { (i : Item Tape) → slice_get (waiting self.old) result.items ≡ Some i
+        ensures next { (i : Item Flat) → slice_get (waiting self.old) result.items ≡ Some i
             → (result.next_nodes ≡ length (item_nodes (types_of self.old.session) i))
             × (result.next_bytes ≡ min (length (item_bytes (types_of self.old.session) i)) (2 ^ 64 - 1)) }
         ensures count { result.items ≤ length (waiting self.old) }
