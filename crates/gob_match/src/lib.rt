@@ -23,6 +23,7 @@ mod common;
 mod conversion;
 mod fault;
 mod found;
+mod kept;
 mod kinds;
 pub mod laws;
 mod matched;
@@ -34,6 +35,7 @@ mod receiving;
 mod step;
 
 pub use fault::MatchFault;
+pub use kept::KeptMatch;
 pub use matched::Matched;
 pub use matching::match_types;
 pub use pair::TypePair;

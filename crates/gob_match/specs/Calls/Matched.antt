@@ -3,6 +3,7 @@
 use Rattle.std.specs.Prelude.{◌≡◌}
 use Rattle.gob_types.specs.declared.id.TypeId.{TypeId}
 use Rattle.gob_types.specs.Table.{Table}
+use Rattle.gob_match.specs.declared.kept.KeptMatch.{KeptMatch}
 use Rattle.gob_match.specs.declared.matched.Matched.{Matched}
 use Rattle.gob_match.specs.Machine.Kept.{IsMatched}
 
@@ -31,3 +32,10 @@ pub record IsMatchOf {S W : Type 0} (stream : S) (t : TypeId) (wanted : W) (u : 
 abbrev pub IsSound : {S W : Type 0} → (S → Table) → (W → Table) → Matched S W → Type 0
 IsSound stream wanted m = IsMatched (stream m.stream.now) (wanted m.wanted.now) m.id m.wanted_id m.found
     m.conversions.items
+
+-- a match that is kept: its type of the stream, and that it is right where these are the tables and the two types
+abbrev pub kept_type : KeptMatch → TypeId
+kept_type k = k.id
+
+abbrev pub IsKeptMatch : (T U : Table) → (t u : TypeId) → KeptMatch → Type 0
+IsKeptMatch T U t u k = (k.id ≡ t) × IsMatched T U t u k.found k.conversions.items
