@@ -70,6 +70,7 @@ impl<B: Builder> StreamReader<B> {
             → Fills B.building (session_of self.old) self.new read (R.remaining (reader_of input.new)) items result }
         ensures counted { CountsReads (failed_reads input.old) (failed_reads input.new) result }
         ensures some { IfOk result (λ more. IsTrue more → 0 < length (waits_in self.new)) }
+        ensures same { IfOk result (λ more. IsTrue more → session_of self.new ≡ session_of self.old) }
         ensures limits { limits_of (session_of self.new) ≡ limits_of (session_of self.old) }
     {
         'reads: loop {
