@@ -1,5 +1,6 @@
 -- How the program ends. (docs/FORMAT.md, The program: this project's own.)
-use Rattle.std.specs.Prelude.{◌≡◌, ◌⊎◌, ℕ, List, Option, Result, Ok, Err}
+use Rattle.std.specs.Prelude.{◌≡◌, ◌≢◌, ◌⊎◌, ℕ, List, [], Option, Result, Ok, Err}
+use Rattle.std.specs.Io.KnownBytes.{append_known}
 use Rattle.gob_tool.specs.declared.fault.ToolFault.{ToolFault}
 use Rattle.gob_tool.specs.declared.fault.ToolFault.TheVariants as run_fault
 use Rattle.gob_words.specs.declared.words.Order.{Order}
@@ -40,12 +41,23 @@ abbrev pub IsAnswered : OrderFault → Result (Unit {0}) Stop → Type 0
 IsAnswered (order_fault.Help text) result = (result ≡ Ok tt) ⊎ (result ≡ Err (Run run_fault.Write))
 IsAnswered other result = result ≡ Err (Words other)
 
+-- what is told of a run that answered so: where its last bytes, these, were lost, that a write failed
+pub record IsTold (answer : Result (Unit {0}) ToolFault) (lost : List ℕ)
+    (told : Result (Unit {0}) ToolFault) : Type 0 where
+  pub whole : lost ≡ [] → told ≡ answer
+  pub cut : lost ≢ [] → told ≡ Err run_fault.Write
+
 -- a run of the order over a wanted stream and an input with these bytes, and an output with the old ones, ends so
 pub record EndsRun (order : Order) (wanted bytes : List ℕ) (old new : Option (List ℕ))
     (result : Result (Unit {0}) Stop) : Type 0 where
   pub answer : Result (Unit {0}) ToolFault
-  pub answered : HasAnswered answer result
+  -- what it wrote and the writer behind it didn't take
+  pub lost : List ℕ
+  pub told : Result (Unit {0}) ToolFault
+  pub tells : IsTold answer lost told
+  pub answered : HasAnswered told result
   -- what is left of the wanted stream and of the input
   pub wanted_now : Option (List ℕ)
   pub now : Option (List ℕ)
-  pub does : OrderAnswers order.command (order_limits order) wanted bytes wanted_now now old new answer
+  pub does : OrderAnswers order.command (order_limits order) wanted bytes wanted_now now old (append_known new lost)
+      answer

@@ -8,7 +8,9 @@
 //! don't match, and 2 for all else.
 #![tactic(auto)]
 
-ghost use Rattle.std.specs.Prelude.{◌≡◌, ℕ, List, Some, IsTrue, MatchResult};
+ghost use Rattle.std.specs.Prelude.{◌≡◌, ◌≢◌, ℕ, List, [], Some, IfOk, IsTrue, MatchResult};
+ghost use Rattle.std.specs.Io.Buffered.{writer_contents};
+ghost use Rattle.std.specs.Io.KnownBytes.{append_known};
 ghost use Rattle.std.specs.Process.{exit_status};
 ghost use Rattle.gob_tool.specs.declared.fault.ToolFault.TheVariants as fault;
 ghost use Rattle.gob.specs.Stop.{stop_status, ending_status, HasAnswered, EndsRun, IsAnswered};
@@ -21,9 +23,12 @@ use gob_tool::{ToolFault, run_order, status};
 use gob_words::{Order, OrderFault, order_of};
 use std::alloc::{AllocError, Global};
 use std::fs::File;
-use std::io::{ErrorKind, Read, Write};
+use std::io::{BufWriter, ErrorKind, Read, Write};
 use std::process::ExitCode;
 use std::{env, fmt, io};
+
+// How many bytes of output wait before they are written.
+const BLOCK: usize = 65536;
 
 // What ends the program with a line on standard error.
 #[derive(Drop)]
@@ -137,12 +142,24 @@ fn run_for(rt: &HostRuntime, order: &Order) -> Result<(), Stop> {
 
 // Opens the input, then runs.
 fn run_on<Q: Read + Drop>(rt: &HostRuntime, order: &Order, wanted: Q) -> Result<(), Stop> {
+    let writer = buffered(rt.alloc(), rt.stdout())?;
     match order.input {
-        None => carry_out(rt.alloc(), order, wanted, rt.stdin(), rt.stdout()).0,
+        None => carry_out(rt.alloc(), order, wanted, rt.stdin(), writer).0,
         Some(path) => {
             let file = opened(File::open(rt, path))?;
-            carry_out(rt.alloc(), order, wanted, file, rt.stdout()).0
+            carry_out(rt.alloc(), order, wanted, file, writer).0
         }
+    }
+}
+
+// A run writes line by line, and each write to the system is dear.
+fn buffered<W: Write + Drop>(alloc: Global, writer: W) -> Result<BufWriter<Pipe<W>>, Stop>
+    ensures { IfOk result (λ buffered.
+        writer_contents (λ pipe. W.contents pipe.writer) buffered ≡ append_known (W.contents writer) []) }
+{
+    match BufWriter::with_capacity(alloc, BLOCK, Pipe::new(writer)) {
+        Ok(buffered) => Ok(buffered),
+        Err(_) => Err(Stop::Run(ToolFault::Memory)),
     }
 }
 
@@ -163,24 +180,37 @@ fn opened(file: io::Result<File>) -> Result<File, Stop>
 }
 
 // The run reads in large pieces, so that nothing need be kept between it and the readers. The writer is given back, as
-// the run left it.
+// the run left it: no buffer is dropped that would write again behind a failed write.
 fn carry_out<Q: Read + Drop, R: Read + Drop, W: Write + Drop>(
     alloc: Global,
     order: &Order,
     wanted: Q,
     reader: R,
-    writer: W,
+    writer: BufWriter<Pipe<W>>,
 ) -> (Result<(), Stop>, W)
     ensures { (wanted_bytes bytes : List ℕ) → Q.remaining wanted ≡ Some wanted_bytes → R.remaining reader ≡ Some bytes
-        → EndsRun order.now wanted_bytes bytes (W.contents writer) (W.contents result.1) result.0 }
+        → EndsRun order.now wanted_bytes bytes (writer_contents (λ pipe. W.contents pipe.writer) writer)
+        (W.contents result.1) result.0 }
 {
     let mut wanted = Input::new(wanted);
     let mut input = Input::new(reader);
-    let mut output = Output::new(Pipe::new(writer));
+    let mut output = Output::new(writer);
     let answer = run_order(alloc, order, &mut wanted, &mut input, &mut output);
-    let pipe = output.into_inner();
+    let (pipe, unwritten) = output.into_inner().into_parts();
+    let answer = but_for_lost(answer, &unwritten);
     let ending = ended(answer, pipe.is_closed());
     (ending, pipe.into_inner())
+}
+
+// What a run has answered: a failed write where bytes of it were lost, whatever stopped it.
+fn but_for_lost(answer: Result<(), ToolFault>, lost: &[u8]) -> Result<(), ToolFault>
+    ensures whole { lost.now ≡ [] → result ≡ answer }
+    ensures cut { lost.now ≢ [] → result ≡ Err fault.Write }
+{
+    if lost.is_empty() {
+        return answer;
+    }
+    Err(ToolFault::Write)
 }
 
 // What ends the program behind a run that answered this.

@@ -21,7 +21,7 @@ use Rattle.gob_handed.specs.declared.head.HandedOut.{HandedOut}
 use Rattle.gob_handed.specs.declared.head.Head.{Head}
 use Rattle.gob_handed.specs.declared.reader.Reader.{Reader}
 use Rattle.gob_tool.specs.Checking.{IsTallied, TalliesStream}
-use Rattle.gob_tool.specs.declared.check.Tally.{Tally}
+use Rattle.gob_tool.specs.declared.in_memory.Tally.{Tally}
 use Rattle.gob_c.specs.declared.counts.Counts.{Counts}
 use Rattle.gob_c.specs.declared.told.Told.{Told}
 use Rattle.gob_c.specs.Told.{told_of, alone}

@@ -52,6 +52,7 @@ pub record HasBegun (L : Bounds) (T : Table) (offset : ℕ) (id : TypeId) (head 
   pub whole : piece ≡ count ++ (number ++ rest)
   pub before : head ≡ length count + length number
   pub all : size ≡ length count + announced
+  pub item : announced ≤ L.item
   pub stream : offset + size ≤ L.stream
   pub may : MayPut T id
   pub short : length piece < size

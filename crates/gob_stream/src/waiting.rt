@@ -28,11 +28,12 @@ pub(crate) struct Waiting {
 }
 
 impl Waiting {
-    ghost use Rattle.gob_stream.specs.Machine.Waiting.{waiting, HasRoom, ReadsMore};
+    ghost use Rattle.gob_stream.specs.Machine.Waiting.{waiting, Grows, HasRoom, ReadsMore};
 
     /// No bytes.
     pub(crate) fn new(alloc: Global) -> Result<Waiting, Memory>
-        ensures { IfOk result (λ new. waiting new ≡ []) }
+        ensures none { IfOk result (λ new. waiting new ≡ []) }
+        ensures room { IfOk result (λ new. vec_len new.room ≡ 65536) }
     {
         let room = vec![in alloc; 0; PIECE].map_err(Memory::from)?;
         Ok(Waiting {
@@ -54,7 +55,8 @@ impl Waiting {
     #[inline(always)]
     pub(crate) fn pass(&mut self, used: usize)
         requires { used ≤ length (waiting self.old) }
-        ensures { waiting self.new ≡ drop used (waiting self.old) }
+        ensures bytes { waiting self.new ≡ drop used (waiting self.old) }
+        ensures room { vec_len self.new.room ≡ vec_len self.old.room }
     {
         self.start += used;
     }
@@ -71,6 +73,7 @@ impl Waiting {
     pub(crate) fn read_more<R: Read>(&mut self, input: &mut Input<R>) -> Result<usize, Fault>
         ensures read { ReadsMore (R.remaining (reader_of input.old)) (R.remaining (reader_of input.new))
             (waiting self.old) (waiting self.new) result }
+        ensures grown { Grows (vec_len self.old.room) (vec_len self.new.room) (length (waiting self.old)) }
         ensures reads { CountsReads (failed_reads input.old) (failed_reads input.new) result }
     {
         self.make_room()?;
@@ -87,6 +90,7 @@ impl Waiting {
     fn make_room(&mut self) -> Result<(), Memory>
         ensures kept { waiting self.new ≡ waiting self.old }
         ensures room { OnOk result (self.new.end < vec_len self.new.room) }
+        ensures grown { Grows (vec_len self.old.room) (vec_len self.new.room) (length (waiting self.old)) }
     {
         let (start, end) = (self.start, self.end);
         if start > 0 {

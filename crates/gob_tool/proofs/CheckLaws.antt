@@ -1,39 +1,40 @@
--- How a run that counts goes on from piece to piece, and how it ends.
-use Rattle.std.proofs.Common.{◌≡◌, ℕ, ◌+◌, ◌-◌, ◌<◌, ◌≤◌, ◌^◌, arith, List, [], ◌∷◌, ◌++◌, length, take, drop}
-use Rattle.std.proofs.Common.{Option, Some, None, Result, Ok, Err, ◌∙◌, ap, sym, subst, refl, length-append}
-use Rattle.std.proofs.Common.{append_assoc, append-nil, take-append-drop}
+-- How a run that counts goes on, and how it ends.
+use Rattle.std.proofs.Common.{◌≡◌, ℕ, ◌+◌, ◌-◌, ◌<◌, ◌≤◌, arith, List, [], ◌∷◌, ◌++◌, length, Option}
+use Rattle.std.proofs.Common.{Bool, true, Result, Ok, Err, ◌∙◌, ap, sym, subst, refl, length-append, append-nil}
+use Rattle.std.specs.Io.KnownBytes.{Keeps}
 use Rattle.std.specs.Result.{IsErrAnd}
-use Rattle.std.specs.Io.KnownBytes.{Consumes, Keeps, IsAtEnd}
-use Rattle.std.proofs.KnownBytes.{Consumes-nil, Consumes-trans, Consumes-kept}
-use Rattle.gob_types.specs.Base.{base_table}
-use Rattle.gob_types.specs.Defined.{types, definition_count}
+use Rattle.std.proofs.KnownBytes.{Appends-kept}
+use Rattle.gob_types.specs.Defined.{Defined, types, definition_count}
 use Rattle.gob_types.specs.Table.{Table}
-use Rattle.gob_read.specs.Calls.Builders.{skip_building, tree_building}
+use Rattle.gob_value.specs.Tree.{Tree}
+use Rattle.gob_read.specs.Calls.Builders.{skip_building}
 use Rattle.gob_read.specs.declared.skip_builder.SkipBuilder.{SkipBuilder}
+use Rattle.gob_stream.specs.Body.{Body, definition, value}
+use Rattle.gob_stream.specs.Bounds.{Bounds, AreLimits, deepest, no_deeper}
+use Rattle.gob_stream.specs.Calls.Session.{HasRead, limits_of, table_of, taken_of, types_of}
+use Rattle.gob_stream.specs.Item.{StreamItem}
+use Rattle.gob_stream.specs.Machine.SessionState.{SessionState}
+use Rattle.gob_stream.specs.Devices.{counts_up}
+use Rattle.gob_stream.specs.Reading.{CountsReads}
+use Rattle.gob_stream.specs.Stream.{AreItems, no_more, and_then, counted}
 use Rattle.gob_stream.specs.declared.fault.Fault.{Fault}
 use Rattle.gob_stream.specs.declared.fault.Fault.TheVariants as reading
 use Rattle.gob_stream.specs.declared.item.Item as declared
-use Rattle.gob_stream.specs.Machine.SessionState.{SessionState}
-use Rattle.gob_stream.specs.Body.{Body, definition, value}
-use Rattle.gob_stream.specs.Bounds.{Bounds, AreLimits, deepest, no_deeper}
-use Rattle.gob_stream.specs.Item.{StreamItem}
-use Rattle.gob_stream.specs.Outcome.{Outcome, refused}
-use Rattle.gob_stream.specs.Machine.ReadParts.{AdvancesOver, over_some, over_item}
-use Rattle.gob_stream.specs.Reading.{Taken}
-use Rattle.gob_stream.specs.Calls.Reads.{ReadingFinishes}
-use Rattle.gob_stream.specs.Calls.Session.{ReadsItems, StepAnswers}
-use Rattle.gob_stream.specs.Stream.{Stream, AreItems, no_more, and_then, counted}
-use Rattle.gob_stream.proofs.PublicLaws.{after_gives, stands_within}
-use Rattle.gob_tool.specs.declared.check.Tally.{Tally}
+use Rattle.gob_stream.specs.declared.session.Step.{Step}
+use Rattle.gob_stream.specs.declared.values.Passed.{Passed}
+use Rattle.gob_stream.proofs.PublicLaws.{counted_some, stands_within}
+use Rattle.gob_stream.specs.Calls.Reader.{EndsWith, Fills, GivesItems, gives_none, gives_one, HasReadFrom, PassesFrom, StepsOnFrom, Stops}
+use Rattle.gob_stream.specs.Calls.Reader.{StopsFrom, session_of}
+use Rattle.gob_stream.specs.declared.stream_reader.StreamReader.{StreamReader}
+use Rattle.gob_stream.proofs.PublicLaws.{goes_on}
+use Rattle.gob_tool.specs.declared.in_memory.Tally.{Tally}
 use Rattle.gob_tool.specs.declared.fault.ToolFault.{ToolFault}
-use Rattle.gob_tool.specs.declared.fault.ToolFault.TheVariants as fault
-use Rattle.gob_tool.specs.Checking.{definitions_in, counts_line, IsCountedStream, IsNoStream, CheckAnswers, is_cut}
-use Rattle.gob_tool.specs.Showing.{AppendsFront}
-use Rattle.gob_tool.specs.Machine.Counting.{GaveCounts, CountsIn, EndsCounting, CountsCounting, tally_line, HasCounted}
-use Rattle.gob_tool.specs.Machine.Counting.{CountsOn, CountsUpTo, StopsCounting, CountsFront, CountsAll}
+use Rattle.gob_tool.specs.Checking.{definitions_in, counts_line, CheckAnswers, IsCountedStream, IsNoStream, is_accepted, is_cut}
+use Rattle.gob_tool.specs.Checking.{is_stopped}
+use Rattle.gob_tool.specs.Machine.Counting.{CountsCounting, CountsNext, CountsOn, CountsSo, EndsCounting, given_count, tally_line}
+use Rattle.gob_tool.specs.Machine.Ending.{EndsRun, ends_so, flush_fails}
 use Rattle.gob_tool.specs.Fault.{reading_fault}
-use Rattle.gob_tool.proofs.PieceRuns.{shown_more, items_within}
-use Rattle.gob_tool.proofs.ShowLaws.{known_taken, all_taken, whole_stream}
+use Rattle.gob_tool.proofs.EndLaws.{front_kept}
 
 -- ---- definitions
 body_defines : {base : Table} {L : Bounds} {T U : Table} {i : StreamItem} {d : List ℕ} → Body base L T i d U
@@ -55,267 +56,164 @@ stream_defines (and_then {i = i} {items = items} (counted u l s p) e r) =
     let rest = stream_defines r in
     omega (arith, one_first i items, one, rest)
 
--- ---- from piece to piece
+-- ---- how many items and bytes there are at most
+pub items_few : {base : Table} {L : Bounds} {T U : Table} {offset : ℕ} {items : List StreamItem} {bytes : List ℕ}
+    → AreItems base L T offset items bytes U → length items ≤ length bytes
+items_few no_more = omega arith
+items_few (and_then {b = b} {c = c} q e r) = let some = counted_some q in let few = items_few r in
+    omega (arith, length-append b c)
+
+items_within : {s : SessionState SkipBuilder (Unit {0})} {items : List StreamItem} {taken : List ℕ}
+    → HasRead skip_building s items taken → length items ≤ length taken
+items_within a = let few = items_few a.stream in omega (arith, ap length a.whole, length-append a.front a.under_way)
+
 pub limits_as : {L M : Bounds} → L ≡ M → AreLimits deepest M → AreLimits deepest L
 limits_as same l = subst (λ (L : Bounds). AreLimits deepest L) (sym same) l
 
-pub counts_first : (s : SessionState SkipBuilder (Unit {0})) (read : Option (List ℕ)) → GaveCounts s [] []
-    → CountsIn s read read 0 0
-counts_first s read gave = record
-    { given = []; taken = []; input = Consumes-nil read; gave = gave; items_are = refl; bytes_are = refl }
+module _ {r : StreamReader SkipBuilder (Unit {0})} {read now : Option (List ℕ)} {n m : ℕ} (i : CountsSo r read now n m) where
+  pub items_end : n ≤ (limits_of (session_of r)).stream + 9
+  items_end =
+      let bound = stands_within i.has.gave in
+      let few = items_within i.has.gave in
+      omega (arith, i.items_are)
 
-module _ {s : SessionState SkipBuilder (Unit {0})} {read now : Option (List ℕ)} {n m : ℕ} (i : CountsIn s read now n m) where
-  pub counts_on : {s' : SessionState SkipBuilder (Unit {0})} {k : ℕ} (next : Option (List ℕ)) (piece : List ℕ) (j : ℕ)
-      → Consumes now next piece → j ≡ length piece → HasCounted s' k (i.taken ++ piece)
-      → CountsIn s' read next k (m + j)
-  counts_on next piece j c long h = record {
-    given = h.given;
-    taken = i.taken ++ piece;
-    input = Consumes-trans read now next i.taken piece i.input c;
-    gave = h.gave;
-    items_are = h.items_are;
-    bytes_are = omega (arith, i.bytes_are, long, length-append i.taken piece);
-  }
+  pub bytes_end : m ≤ (limits_of (session_of r)).stream + 9
+  bytes_end = let bound = stands_within i.has.gave in omega (arith, i.bytes_are, i.has.gave.taken)
 
-  -- the count has 64 bits
-  pub bytes_fit : AreLimits deepest s.limits → m < 2 ^ 64
-  bytes_fit l = let bound = stands_within i.gave in omega (arith, l.stream, i.bytes_are)
+no_items : (items : List StreamItem) → length items ≡ 0 → items ≡ []
+no_items [] l = refl
+no_items (i ∷ items) l = absurd (omega arith)
 
-  known_so : {next : Option (List ℕ)} (piece bytes : List ℕ) → read ≡ Some bytes → Consumes now next piece
-      → Taken bytes next (i.taken ++ piece)
-  known_so {next = next} piece bytes known c = known_taken read next bytes (i.taken ++ piece) known
-      (Consumes-trans read now next i.taken piece i.input c)
+-- ---- from step to step
+pub counts_first : (r : StreamReader SkipBuilder (Unit {0})) (read : Option (List ℕ)) → HasReadFrom skip_building r read read []
+    → taken_of (session_of r) ≡ 0 → CountsSo r read read 0 0
+counts_first r read has none = record { given = []; has = has; items_are = refl; bytes_are = sym none }
 
-  -- ---- the ends
-  -- the input ended between two items
-  pub counted_whole : (M : Bounds) (s' : SessionState SkipBuilder (Unit {0})) (next : Option (List ℕ)) (bytes : List ℕ) (u : Unit {0})
-      (tally : Tally) → s.limits ≡ M → read ≡ Some bytes → Consumes now next [] → IsAtEnd next
-      → ReadingFinishes deepest s s' i.given i.taken (Ok u) → tally.items ≡ n
-      → tally.types ≡ definition_count (types s.types) → tally.bytes ≡ m
-      → EndsCounting tally_line (no_deeper deepest M) bytes next (Ok tally)
-  counted_whole M s' next bytes u tally same known c end finish items_are types_are bytes_are =
-      let all = all_taken read now next bytes i.taken known i.input c end in
-      let w = whole_stream finish.0.ends in
-      let defined = stream_defines i.gave.stream in
-      let items_so : tally.items ≡ length i.given = items_are ∙ i.items_are in
-      let types_so : tally.types ≡ definitions_in i.given = omega (arith, types_are, defined) in
-      let bytes_so : tally.bytes ≡ length bytes = bytes_are ∙ i.bytes_are ∙ ap length all.0 in
-      subst (λ (L : Bounds). EndsCounting tally_line (no_deeper deepest L) bytes next (Ok tally)) same (record {
-        items = i.given;
-        table = w.table;
-        stream = subst (λ (l : List ℕ). Stream base_table (no_deeper deepest s.limits) i.given l w.table) all.0 w.stream;
-        end = all.1;
-        holds = ap (λ (k : ℕ). counts_line k tally.types tally.bytes) items_so
-            ∙ ap (λ (k : ℕ). counts_line (length i.given) k tally.bytes) types_so
-            ∙ ap (λ (k : ℕ). counts_line (length i.given) (definitions_in i.given) k) bytes_so;
-      })
-
-  -- or within an item
-  pub counted_within : (M : Bounds) (s' : SessionState SkipBuilder (Unit {0})) (next : Option (List ℕ)) (bytes : List ℕ) (e : Fault)
-      → s.limits ≡ M → read ≡ Some bytes → Consumes now next [] → IsAtEnd next
-      → ReadingFinishes deepest s s' i.given i.taken (Err e)
-      → IsNoStream (no_deeper deepest M) bytes next (reading_fault e)
-  counted_within M s' next bytes (reading.Refused R) same known c end finish =
-      let all = all_taken read now next bytes i.taken known i.input c end in
-      subst (λ (L : Bounds). IsNoStream (no_deeper deepest L) bytes next (fault.Refused R)) same
-      (i.given, subst (λ (l : List ℕ). Outcome base_table (no_deeper deepest s.limits) l i.given (refused R)) all.0 finish.0)
-  counted_within M s' next bytes reading.Read same known c end finish = absurd finish
-  counted_within M s' next bytes reading.Memory same known c end finish = absurd finish
-  counted_within M s' next bytes reading.Failed same known c end finish = absurd finish
-
-  -- a read failed
-  pub count_failed : (M : Bounds) (next : Option (List ℕ)) (bytes : List ℕ) → s.limits ≡ M → read ≡ Some bytes → Keeps now next
-      → IsNoStream (no_deeper deepest M) bytes next fault.Read
-  count_failed M next bytes same known k =
-      subst (λ (L : Bounds). IsNoStream (no_deeper deepest L) bytes next fault.Read) same (record {
-        bytes = i.taken;
-        taken = known_taken read next bytes i.taken known (Consumes-kept read now next i.taken i.input k);
-        holds = (i.given, after_gives i.gave);
-      })
-
-  -- what counting the items of a piece needs to know
-  pub counted_so : HasCounted s n i.taken
-  counted_so = record { given = i.given; gave = i.gave; items_are = i.items_are }
-
-  -- a piece was refused
-  pub count_stopped : (M : Bounds) (next : Option (List ℕ)) (piece bytes : List ℕ) (e : Fault) → s.limits ≡ M
-      → read ≡ Some bytes → Consumes now next piece
-      → StopsCounting (no_deeper deepest s.limits) (i.taken ++ piece) e
-      → IsNoStream (no_deeper deepest M) bytes next (reading_fault e)
-  count_stopped M next piece bytes (reading.Refused R) same known c f =
-      let t = known_so piece bytes known c in
-      subst (λ (L : Bounds). IsNoStream (no_deeper deepest L) bytes next (fault.Refused R)) same
-      (f.0, (shown_more t.left t.whole f.1).outcome)
-  count_stopped M next piece bytes reading.Read same known c f = absurd f
-  count_stopped M next piece bytes reading.Memory same known c f = tt
-  count_stopped M next piece bytes reading.Failed same known c f = absurd f
-
--- ---- within a piece
-pub items_fit : {s : SessionState SkipBuilder (Unit {0})} {n : ℕ} {bytes : List ℕ} → HasCounted s n bytes
-    → AreLimits deepest s.limits → n < 2 ^ 64
-items_fit h l =
-    let bound = stands_within h.gave in
-    let few = items_within h.gave in
-    omega (arith, l.stream, h.items_are)
-
--- so many bytes and items, and no more, can be counted
-pub items_end : {s : SessionState SkipBuilder (Unit {0})} {n : ℕ} {bytes : List ℕ} → HasCounted s n bytes
-    → n ≤ s.limits.stream + 9
-items_end h = let bound = stands_within h.gave in let few = items_within h.gave in omega (arith, h.items_are)
+pub counts_on : {r r' : StreamReader SkipBuilder (Unit {0})} {read now : Option (List ℕ)} {n m : ℕ} (given : List StreamItem)
+    (passed : Passed) → n ≡ length given → m ≡ taken_of (session_of r) → CountsOn r r' read now given passed
+    → CountsSo r' read now (n + passed.items) (m + passed.used)
+counts_on given passed items bytes on = record {
+  given = given ++ on.more;
+  has = on.takes.after;
+  items_are = omega (arith, items, on.counted, length-append given on.more);
+  bytes_are = omega (arith, bytes, on.takes.onward);
+}
 
 -- items of values that stand whole
-pub counts_passed : {s s' : SessionState SkipBuilder (Unit {0})} {count used n n' : ℕ} {piece : List ℕ}
-    → ReadsItems skip_building s s' count used piece → 0 < count → n' ≡ n + count
-    → (bytes : List ℕ) → HasCounted s n bytes → CountsOn s' n n' bytes piece used
-counts_passed p some e bytes h = record {
-  within = p.within;
-  nearer = omega (arith, e);
-  counted = record {
-    given = h.given ++ p.given;
-    gave = p.passed h.given bytes h.gave;
-    items_are = omega (arith, e, p.counted, h.items_are, length-append h.given p.given);
-  };
+pub counts_passed : {r r' : StreamReader SkipBuilder (Unit {0})} {read now : Option (List ℕ)} {given : List StreamItem}
+    {passed : Passed} (p : PassesFrom skip_building r r' passed) → HasReadFrom skip_building r read now given
+    → CountsOn r r' read now given passed
+counts_passed {read = read} {now = now} {given = given} p h = record
+    { more = p.more; counted = p.counted; takes = p.each read now given h }
+
+-- none of them
+pub passes_none : {r r' : StreamReader SkipBuilder (Unit {0})} {read now : Option (List ℕ)} {given : List StreamItem}
+    {passed : Passed} → PassesFrom skip_building r r' passed → passed.items ≡ 0 → HasReadFrom skip_building r read now given
+    → HasReadFrom skip_building r' read now given × (taken_of (session_of r') ≡ taken_of (session_of r))
+passes_none {r' = r'} {read = read} {now = now} {given = given} p none h =
+    let t = p.each read now given h in
+    let empty = no_items p.more (omega (arith, none, p.counted)) in (
+      subst (λ l. HasReadFrom skip_building r' read now l) (ap (λ l. given ++ l) empty ∙ append-nil given) t.after,
+      omega (arith, t.onward, p.none none),
+    )
+
+-- as many items as a step gave
+given_so : {means : Unit {0} → Tree → Type 0} {o : Option (declared.Item (Unit {0}))} {more : List StreamItem}
+    → GivesItems means o more → given_count o ≡ length more
+given_so gives_none = refl
+given_so (gives_one m) = refl
+
+pub counts_step : {r q r' : StreamReader SkipBuilder (Unit {0})} {read now : Option (List ℕ)} {given : List StreamItem}
+    {step : Step (Unit {0})} (passed : Passed) → taken_of (session_of q) ≡ taken_of (session_of r)
+    → StepsOnFrom skip_building q r' read now given step → passed.used ≡ step.used → passed.items ≡ given_count step.item
+    → CountsOn r r' read now given passed
+counts_step passed same st used items = record {
+  more = st.more;
+  counted = items ∙ given_so st.gives;
+  takes = record { after = st.takes.after; onward = omega (arith, same, st.takes.onward, used) };
 }
 
--- or none of them
-pub counted_still : {s s' : SessionState SkipBuilder (Unit {0})} {count used n : ℕ} {piece bytes : List ℕ}
-    → ReadsItems skip_building s s' count used piece → count ≡ 0 → HasCounted s n bytes → HasCounted s' n bytes
-counted_still {s' = s'} {piece = piece} {bytes = bytes} p none h =
-    let same : bytes ++ take _ piece ≡ bytes = ap (λ n. bytes ++ take n piece) (p.none none) ∙ append-nil bytes in
+-- what stops it, in the words of the session as it was before
+pub stops_still : (s t : SessionState SkipBuilder (Unit {0})) (read now : Option (List ℕ)) (given : List StreamItem) (e : Fault)
+    → limits_of t ≡ limits_of s → table_of t ≡ table_of s → StopsFrom skip_building t read now given e
+    → StopsFrom skip_building s read now given e
+stops_still s t read now given e same_limits same_table f = λ bytes known.
+    subst (λ (L : Bounds). Stops (no_deeper deepest L) (types_of s) given bytes now e) same_limits
+    (subst (λ (d : Defined). Stops (no_deeper deepest (limits_of t)) (types d) given bytes now e) same_table (f bytes known))
+
+pub next_at : (r r' : StreamReader SkipBuilder (Unit {0})) (read now : Option (List ℕ)) (given : List StreamItem)
+    (res : Result Passed Fault) (e : Fault) → IsErrAnd res (λ x. x ≡ e)
+    → StopsFrom skip_building (session_of r) read now given e → CountsNext r r' read now given res
+next_at r r' read now given (Ok passed) e is h = absurd is
+next_at r r' read now given (Err f) e is h =
+    subst (λ e. StopsFrom skip_building (session_of r) read now given e) (sym is) h
+
+-- what was counted with a turn of the loop
+pub counts_turn : {r : StreamReader SkipBuilder (Unit {0})} {read now : Option (List ℕ)} {n m : ℕ}
+    (q r' : StreamReader SkipBuilder (Unit {0})) (next : Option (List ℕ)) (more : Bool) (passed : Passed) → more ≡ true
+    → (i : CountsSo r read now n m) → Fills skip_building (session_of r) q read next i.given (Ok more)
+    → ((read now : Option (List ℕ)) (given : List StreamItem) → HasReadFrom skip_building q read now given
+    → CountsNext q r' read now given (Ok passed)) → CountsSo r' read next (n + passed.items) (m + passed.used)
+counts_turn {r = r} {read = read} q r' next more passed e i f next_so =
+    let on = goes_on skip_building (session_of r) q read next i.given more e f in
+    counts_on i.given passed i.items_are (i.bytes_are ∙ sym on.1) (next_so read next i.given on.0)
+
+-- the two counts rise, and no further than the limit
+pub counts_fall : {r r' : StreamReader SkipBuilder (Unit {0})} {read now later : Option (List ℕ)} {n m : ℕ} (j k : ℕ)
+    → limits_of (session_of r') ≡ limits_of (session_of r) → CountsSo r read now n m → CountsSo r' read later (n + j) (m + k)
+    → 0 < j + k
+    → ((limits_of (session_of r')).stream + 9 - (n + j)) + ((limits_of (session_of r')).stream + 9 - (m + k))
+    < ((limits_of (session_of r)).stream + 9 - n) + ((limits_of (session_of r)).stream + 9 - m)
+counts_fall j k same h on some =
+    let stream = ap (λ (L : Bounds). L.stream) same in
+    let items = items_end on in
+    let bytes = bytes_end on in
+    omega (arith, items, bytes, stream, some)
+
+-- ---- the ends
+pub counted_whole : {L : Bounds} {T : Table} {items : List StreamItem} {bytes : List ℕ} {now : Option (List ℕ)} {taken : ℕ}
+    (tally : Tally) → tally.items ≡ length items → tally.types ≡ definition_count T → tally.bytes ≡ taken
+    → EndsWith L T taken items bytes now → EndsCounting tally_line L bytes now (Ok tally)
+counted_whole {T = T} {items = items} {bytes = bytes} tally items_so types_are bytes_are e =
+    let defined = stream_defines e.stream in
+    let types_so : tally.types ≡ definitions_in items = omega (arith, types_are, defined) in
+    let bytes_so : tally.bytes ≡ length bytes = bytes_are ∙ e.count in
     record {
-      given = h.given ++ p.given;
-      gave = subst (λ z. GaveCounts s' (h.given ++ p.given) z) same (p.passed h.given bytes h.gave);
-      items_are = omega (arith, none, p.counted, h.items_are, length-append h.given p.given);
+      items = items;
+      table = T;
+      stream = e.stream;
+      end = e.end;
+      holds = ap (λ (k : ℕ). counts_line k tally.types tally.bytes) items_so
+          ∙ ap (λ (k : ℕ). counts_line (length items) k tally.bytes) types_so
+          ∙ ap (λ (k : ℕ). counts_line (length items) (definitions_in items) k) bytes_so;
     }
 
--- an item that is whole with the bytes of a step
-pub counts_item : {s s' : SessionState SkipBuilder (Unit {0})} {used n n' : ℕ} {bytes piece : List ℕ}
-    {o : Option (declared.Item (Unit {0}))} {given : declared.Item (Unit {0})} → o ≡ Some given → n' ≡ n + 1
-    → (h : HasCounted s n bytes)
-    → AdvancesOver skip_building.received tree_building.received skip_building.means deepest s'
-    h.given bytes piece used o → CountsOn s' n n' bytes piece used
-counts_item f e h (over_some l w a) = cc
-counts_item f e h (over_item {i = i} l w m a) = record {
-  within = w;
-  nearer = omega (arith, e);
-  counted = record {
-    given = h.given ++ i ∷ [];
-    gave = a;
-    items_are = omega (arith, e, h.items_are, length-append h.given (i ∷ []));
-  };
-}
+pub counted_stops : (L : Bounds) (T : Table) (items : List StreamItem) (bytes : List ℕ) (now : Option (List ℕ)) (e : Fault)
+    → Stops L T items bytes now e → IsNoStream L bytes now (reading_fault e)
+counted_stops L T items bytes now (reading.Refused R) h = (items, h.outcome)
+counted_stops L T items bytes now reading.Read h = record
+    { bytes = h.bytes; taken = h.taken; holds = (items, h.holds.gives) }
+counted_stops L T items bytes now reading.Memory h = tt
+counted_stops L T items bytes now reading.Failed h = absurd h
 
--- or none is
-pub counts_none : {s s' : SessionState SkipBuilder (Unit {0})} {used n : ℕ} {bytes piece : List ℕ}
-    {o : Option (declared.Item (Unit {0}))} → 0 < length piece → o ≡ None → (h : HasCounted s n bytes)
-    → AdvancesOver skip_building.received tree_building.received skip_building.means deepest s'
-    h.given bytes piece used o → CountsOn s' n n bytes piece used
-counts_none some f h (over_some l w a) = record {
-  within = w;
-  nearer = omega arith;
-  counted = record { given = h.given; gave = a; items_are = h.items_are };
-}
-counts_none some f h (over_item l w m a) = cc
+pub counting_stops : (B : Type 0) (old mid new : ℕ) (e : Fault) → mid ≡ old → CountsReads {A = B} mid new (Err e)
+    → CountsCounting {A = Tally} old new (Err (reading_fault e))
+counting_stops B old mid new (reading.Refused R) same h = h ∙ same
+counting_stops B old mid new reading.Read same h = h.0 ∙ ap (λ n. counts_up n 1) same
+counting_stops B old mid new reading.Memory same h = h ∙ same
+counting_stops B old mid new reading.Failed same h = h ∙ same
 
--- a step was refused
-pub step_stops : (s s' : SessionState SkipBuilder (Unit {0})) (items : List StreamItem) (bytes piece : List ℕ) (e : Fault)
-    → StepAnswers skip_building s s'
-    items bytes piece (Err e) → StopsCounting (no_deeper deepest s.limits) (bytes ++ piece) e
-step_stops s s' items bytes piece (reading.Refused R) f = (items, f.0)
-step_stops s s' items bytes piece reading.Read f = absurd f
-step_stops s s' items bytes piece reading.Memory f = tt
-step_stops s s' items bytes piece reading.Failed f = absurd f
+-- where no read failed
+pub counting_unread : (old new : ℕ) (e : Fault) → new ≡ old → (e ≡ reading.Read → ⊥)
+    → CountsCounting {A = Tally} old new (Err (reading_fault e))
+counting_unread old new (reading.Refused R) same other = same
+counting_unread old new reading.Read same other = absurd (other refl)
+counting_unread old new reading.Memory same other = same
+counting_unread old new reading.Failed same other = same
 
--- from item to item
-pub counts_none_yet : {s : SessionState SkipBuilder (Unit {0})} {n : ℕ} (piece bytes : List ℕ) → HasCounted s n bytes
-    → CountsUpTo s n bytes piece piece
-counts_none_yet {s = s} {n = n} piece bytes h = record {
-  front = [];
-  whole = refl;
-  counted = subst (λ (l : List ℕ). HasCounted s n l) (sym (append-nil bytes)) h;
-}
-
-pub counts_up_to : {s s' : SessionState SkipBuilder (Unit {0})} {n n' used : ℕ} {bytes piece rest later : List ℕ}
-    → later ≡ drop used rest → (u : CountsUpTo s n bytes piece rest) → CountsOn s' n n' (bytes ++ u.front) rest used
-    → CountsUpTo s' n' bytes piece later
-counts_up_to {s' = s'} {n' = n'} {used = used} {bytes = bytes} {rest = rest} so u on = record {
-  front = u.front ++ take used rest;
-  whole = u.whole
-      ∙ ap (λ (l : List ℕ). u.front ++ l)
-      (sym (take-append-drop used rest) ∙ ap (λ (l : List ℕ). take used rest ++ l) (sym so))
-      ∙ sym (append_assoc u.front (take used rest) _);
-  counted = subst (λ (l : List ℕ). HasCounted s' n' l) (append_assoc bytes u.front (take used rest)) on.counted;
-}
-
-pub counts_falls : {s s' : SessionState SkipBuilder (Unit {0})} {n n' used : ℕ} {bytes rest : List ℕ} → s'.limits ≡ s.limits
-    → HasCounted s n bytes → CountsOn s' n n' bytes rest used
-    → length rest - used + (s'.limits.stream + 9 - n') < length rest + (s.limits.stream + 9 - n)
-counts_falls same h on =
-    let stream = ap (λ (L : Bounds). L.stream) same in
-    let now = items_end h in
-    let then = items_end on.counted in
-    omega (arith, on.within, on.nearer)
-
--- all of the piece was taken
-pub counts_piece : {s : SessionState SkipBuilder (Unit {0})} {n : ℕ} {bytes piece rest : List ℕ} → length rest ≡ 0
-    → CountsUpTo s n bytes piece rest → HasCounted s n (bytes ++ piece)
-counts_piece {s = s} {n = n} {bytes = bytes} {rest = []} none u =
-    subst (λ (l : List ℕ). HasCounted s n (bytes ++ l)) (sym (u.whole ∙ append-nil u.front)) u.counted
-counts_piece {rest = b ∷ rest} none u = absurd (omega (arith, none))
-
--- the same under limits that are these
-pub stops_under : (L M : Bounds) (bytes : List ℕ) (e : Fault) → L ≡ M → StopsCounting (no_deeper deepest L) bytes e
-    → StopsCounting (no_deeper deepest M) bytes e
-stops_under L M bytes e same f = subst (λ (L : Bounds). StopsCounting (no_deeper deepest L) bytes e) same f
-
--- or the rest of it is refused
-pub stops_piece : {s : SessionState SkipBuilder (Unit {0})} {n : ℕ} {bytes piece rest : List ℕ} (L M : Bounds) (e : Fault)
-    → L ≡ M → (u : CountsUpTo s n bytes piece rest)
-    → StopsCounting (no_deeper deepest L) ((bytes ++ u.front) ++ rest) e
-    → StopsCounting (no_deeper deepest M) (bytes ++ piece) e
-stops_piece {bytes = bytes} {piece = piece} {rest = rest} L M e same u f =
-    stops_under L M (bytes ++ piece) e same
-    (subst (λ (l : List ℕ). StopsCounting (no_deeper deepest L) l e)
-    (append_assoc bytes u.front rest ∙ ap (λ (l : List ℕ). bytes ++ l) (sym u.whole)) f)
-
--- at the error that a `?` returns
-pub counts_all_at : (L : Bounds) (s : SessionState SkipBuilder (Unit {0})) (n : ℕ) (bytes : List ℕ)
-    (r : Result (Unit {0}) Fault) (e : Fault) → IsErrAnd r (λ x. x ≡ e) → StopsCounting L bytes e → CountsAll L s n bytes r
-counts_all_at L s n bytes (Ok u) e is h = absurd is
-counts_all_at L s n bytes (Err g) e is h = subst (λ e. StopsCounting L bytes e) (sym is) h
-
-pub counts_front_at : (L : Bounds) (s : SessionState SkipBuilder (Unit {0})) (n n' : ℕ) (bytes piece : List ℕ)
-    (r : Result ℕ Fault) (e : Fault) → IsErrAnd r (λ x. x ≡ e) → StopsCounting L (bytes ++ piece) e
-    → CountsFront L s n n' bytes piece r
-counts_front_at L s n n' bytes piece (Ok u) e is h = absurd is
-counts_front_at L s n n' bytes piece (Err g) e is h = subst (λ e. StopsCounting L (bytes ++ piece) e) (sym is) h
-
--- ---- at the error that a `?` returns
-pub counting_at : {A : Type 0} (line_of : A → List ℕ) (L : Bounds) (bytes : List ℕ) (now : Option (List ℕ))
-    (r : Result A ToolFault) (f : ToolFault) → IsErrAnd r (λ e. e ≡ f) → IsNoStream L bytes now f
-    → EndsCounting line_of L bytes now r
-counting_at line_of L bytes now (Ok a) f e h = absurd e
-counting_at line_of L bytes now (Err g) f e h = subst (λ f. IsNoStream L bytes now f) (sym e) h
-
-pub counting_reads_at : {A : Type 0} (failures failures' : ℕ) (r : Result A ToolFault) (f : ToolFault) → IsErrAnd r (λ e. e ≡ f)
-    → CountsCounting {A = A} failures failures' (Err f) → CountsCounting failures failures' r
-counting_reads_at failures failures' (Ok a) f e h = absurd e
-counting_reads_at {A = A} failures failures' (Err g) f e h = subst (λ f. CountsCounting {A = A} failures failures' (Err f)) (sym e) h
-
-pub finish_reads : (A : Type 0) (s s' : SessionState SkipBuilder (Unit {0})) (items : List StreamItem) (bytes : List ℕ)
-    (failures failures' : ℕ) (e : Fault) → ReadingFinishes deepest s s' items bytes (Err e) → failures' ≡ failures
-    → CountsCounting {A = A} failures failures' (Err (reading_fault e))
-finish_reads A s s' items bytes failures failures' (reading.Refused R) f h = h
-finish_reads A s s' items bytes failures failures' reading.Read f h = absurd f
-finish_reads A s s' items bytes failures failures' reading.Memory f h = absurd f
-finish_reads A s s' items bytes failures failures' reading.Failed f h = absurd f
-
-pub stop_reads : (A : Type 0) (L : Bounds) (bytes : List ℕ) (failures failures' : ℕ) (e : Fault)
-    → StopsCounting L bytes e → failures' ≡ failures → CountsCounting {A = A} failures failures' (Err (reading_fault e))
-stop_reads A L bytes failures failures' (reading.Refused R) f h = h
-stop_reads A L bytes failures failures' reading.Read f h = absurd f
-stop_reads A L bytes failures failures' reading.Memory f h = h
-stop_reads A L bytes failures failures' reading.Failed f h = absurd f
+pub no_stream_under : (L M : Bounds) (bytes : List ℕ) (now : Option (List ℕ)) (f : ToolFault) → L ≡ M
+    → IsNoStream (no_deeper deepest L) bytes now f → IsNoStream (no_deeper deepest M) bytes now f
+no_stream_under L M bytes now f same h = subst (λ (L : Bounds). IsNoStream (no_deeper deepest L) bytes now f) same h
 
 -- ---- the run
 pub counted_as : {L : Bounds} {bytes : List ℕ} {now : Option (List ℕ)} {P Q : List ℕ → Type 0} → IsCountedStream L bytes now P
@@ -327,9 +225,19 @@ pub written_as : {L : Bounds} {bytes : List ℕ} {now : Option (List ℕ)} (Q : 
     → IsCountedStream L bytes now (λ line. text ≡ line) → out ≡ text → Q out → IsCountedStream L bytes now Q
 written_as Q text out c same q = counted_as c (λ line e. subst Q (same ∙ e) q)
 
-pub checks_cut : (L : Bounds) (bytes : List ℕ) (now old new : Option (List ℕ)) (r : Result (Unit {0}) ToolFault)
-    (f : ToolFault) → IsErrAnd r (λ e. e ≡ f) → f ≡ fault.Write → IsCountedStream L bytes now (AppendsFront old new)
-    → CheckAnswers L bytes now old new r
-checks_cut L bytes now old new (Ok u) f e write h = absurd e
-checks_cut L bytes now old new (Err g) f e write h = subst (λ f. CheckAnswers L bytes now old new (Err f)) (sym (e ∙ write))
-    (is_cut h)
+-- behind the flush
+checks_kept : {L : Bounds} {bytes : List ℕ} {now : Option (List ℕ)} (old mid new : Option (List ℕ)) {r : Result (Unit {0}) ToolFault}
+    → Keeps mid new → CheckAnswers L bytes now old mid r → CheckAnswers L bytes now old new r
+checks_kept old mid new k (is_accepted c) = is_accepted (counted_as c (λ line a. Appends-kept old mid new line a k))
+checks_kept old mid new k (is_cut c) = is_cut (counted_as c (λ line a. front_kept old mid new line a k))
+checks_kept old mid new k (is_stopped n a) = is_stopped n (Appends-kept old mid new [] a k)
+
+pub checks_ended : (L : Bounds) (bytes : List ℕ) (now old mid new : Option (List ℕ)) (answer result : Result (Unit {0}) ToolFault)
+    → Keeps mid new → EndsRun answer result → CheckAnswers L bytes now old mid answer → CheckAnswers L bytes now old new result
+checks_ended L bytes now old mid new answer result k (ends_so e) h =
+    subst (λ r. CheckAnswers L bytes now old new r) (sym e) (checks_kept old mid new k h)
+checks_ended L bytes now old mid new answer result k (flush_fails o e) (is_accepted c) =
+    subst (λ r. CheckAnswers L bytes now old new r) (sym e)
+    (is_cut (counted_as c (λ line a. record { front = line; rest = []; whole = sym (append-nil line); out = Appends-kept old mid new line a k })))
+checks_ended L bytes now old mid new answer result k (flush_fails o e) (is_cut c) = cc
+checks_ended L bytes now old mid new answer result k (flush_fails o e) (is_stopped n a) = cc

@@ -43,13 +43,6 @@ pub no_memory_reads : (old new : ℕ) (r : Result (Unit {0}) ToolFault) → IsEr
 no_memory_reads old new (Ok u) e h = absurd e
 no_memory_reads old new (Err g) e h = subst (λ f. CountsOnlyReads old new (Err f)) (sym e) h
 
--- where a write failed
-pub cut_writes : {B : Type 0} (old mid new : ℕ) (r : Result B ToolFault) (f : ToolFault) → IsErrAnd r (λ e. e ≡ f)
-    → f ≡ fault.Write → mid ≡ old → new ≡ counts_up mid 1 → CountsOnlyWrites {A = B} old new r
-cut_writes old mid new (Ok u) f e write same h = absurd e
-cut_writes {B = B} old mid new (Err g) f e write same h =
-    subst (λ f. CountsOnlyWrites {A = B} old new (Err f)) (sym (e ∙ write)) (h ∙ ap (λ n. counts_up n 1) same)
-
 pub many_counts : (out now : Option (List ℕ)) (before after : List ℕ) (old new : ℕ) (r : Result (Unit {0}) ToolFault)
     → CountsWrites old new r → Passes out now before after r → CountsOnlyWrites old new r
 many_counts out now before after old new (Ok u) h p = h

@@ -1,4 +1,3 @@
-pub mod BlockLaws
 pub mod PrintLaws
 pub mod LinesStay
 pub mod CountLaws
@@ -7,7 +6,6 @@ pub mod GatherLaws
 pub mod ShowLaws
 pub mod ShowWhole
 pub mod ShowFront
-pub mod LargeLaws
 pub mod KeepLaws
 pub mod MatchedLaws
 pub mod TakeLaws
@@ -16,6 +14,8 @@ pub mod ReceivedLaws
 pub mod TakeRuns
 pub mod WantedLaws
 pub mod PieceRuns
+pub mod EndLaws
+pub mod ShowRuns
 pub mod CheckLaws
 pub mod TallyLaws
 pub mod TidyStays

@@ -19,16 +19,6 @@ use Rattle.gob_stream.specs.Stream.{AreItems, no_more, and_then}
 use Rattle.gob_stream.proofs.PublicLaws.{shown_there, shown_refusal_stays, stands_within}
 use Rattle.gob_stream.proofs.PublicLaws.{counted_some}
 
--- what was appended to nothing is all that there is
-pub only_given : {A : Type 0} {old new given : List A} → new ≡ old ++ given → old ≡ [] → new ≡ given
-only_given {A = A} {given = given} appended none = appended ∙ ap (λ (l : List A). l ++ given) none
-
--- as many items were given as they stand for
-pub given_length : {O : Type 0} {means : O → Tree → Type 0} {given : List (declared.Item O)} {items : List StreamItem}
-    → ItemsMean means given items → length items ≡ length given
-given_length mean_none = refl
-given_length (mean_more m more) = let rest = given_length more in omega (arith, rest)
-
 -- the bytes that a refusal is shown by are followed by others
 pub shown_more : {L : Bounds} {bytes all : List ℕ} {items : List StreamItem} {R : Refusal} (more : List ℕ) → all
     ≡ bytes ++ more → ShowsRefusal L bytes items R → ShowsRefusal L all items R

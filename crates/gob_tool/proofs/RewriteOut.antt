@@ -77,12 +77,6 @@ module _ {s : SessionState TapeBuilder Tape} {w : StreamWriter} {h : HasRewritte
       → PushesOut n w' out out before after (Err fault.Memory)
   none_gathered w' out same = record { written = []; whole = sym same; out = Appends-nil out }
 
-  -- what was gathered was not all written
-  pub gathered_cut : (w' : StreamWriter) (old new : Option (List ℕ)) (before after : List ℕ) {f : ToolFault}
-      → Writes old new before (Err f) → PushesOut n w' old new before after (Err f)
-  gathered_cut w' old new before after cut =
-      subst (λ f. PushesOut n w' old new before after (Err f)) (sym cut.0) (inl cut.1)
-
   -- it was, and the item behind it
   pub put_behind : (w' : StreamWriter) (old mid new : Option (List ℕ)) (before after : List ℕ)
       (r : Result (Unit {0}) ToolFault) → Appends old mid before → after ≡ [] → PutsOut n w' mid new r

@@ -535,12 +535,6 @@ module _ {s : SessionState TapeBuilder Tape} {w : StreamWriter} {read now old mi
     out = adds_out gathered after i.so_far.written i.out o.next.written o.adds;
   }
 
-  pub rewrites_nearer : {s' : SessionState TapeBuilder Tape} {w' : StreamWriter} {P : List ℕ → Type 0} (piece : List ℕ)
-      → RewritesOn i.so_far s' w' piece P → s'.limits ≡ s.limits → 0 < length piece
-      → s'.limits.stream + 9 - s'.taken < s.limits.stream + 9 - s.taken
-  rewrites_nearer {s' = s'} piece o same some =
-      nearer piece i.so_far.gave (subst (λ (l : List ℕ). GaveTapes s' o.next.items l) o.taken o.next.gave) same some
-
   -- the tidy stream of what was given
   tidy_so : (P : List ℕ → Type 0) → P i.so_far.written
       → (b : BeginsWithStream base_table (no_deeper deepest s.limits) i.so_far.taken i.so_far.items)
@@ -597,20 +591,6 @@ module _ {s : SessionState TapeBuilder Tape} {w : StreamWriter} {read now old mi
   rewritten_within M s' next bytes C reading.Read same known c end finish = absurd finish
   rewritten_within M s' next bytes C reading.Memory same known c end finish = absurd finish
   rewritten_within M s' next bytes C reading.Failed same known c end finish = absurd finish
-
-  -- a read failed
-  pub rewritten_unread : (M : Bounds) (next : Option (List ℕ)) (bytes : List ℕ) → s.limits ≡ M → read ≡ Some bytes
-      → Keeps now next
-      → SomeTaken bytes next (λ taken. RewritesGiven (no_deeper deepest M) taken (Gathered old mid gathered))
-  rewritten_unread M next bytes same known k =
-      let h = i.so_far in
-      let g = after_gives h.gave in
-      subst (λ (L : Bounds). SomeTaken bytes next (λ taken. RewritesGiven (no_deeper deepest L) taken (Gathered old mid gathered)))
-      same (record {
-        bytes = h.taken;
-        taken = known_taken read next bytes h.taken known (Consumes-kept read now next h.taken i.input k);
-        holds = record { items = h.items; given = g; tidy = tidy_so (Gathered old mid gathered) i.out g.begins };
-      })
 
   -- a piece ended the run
   rewritten_stopped_there : (s' : SessionState TapeBuilder Tape) (w' : StreamWriter) (next new : Option (List ℕ)) (after : List ℕ)

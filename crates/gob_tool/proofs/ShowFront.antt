@@ -25,7 +25,7 @@ use Rattle.gob_tool.specs.Line.{line, lines}
 use Rattle.gob_tool.specs.Machine.Pieces.{TypesBehind}
 use Rattle.gob_tool.specs.Showing.{AppendsFront, BeginsOutcome}
 use Rattle.gob_tool.specs.Machine.Gathering.{Gathered, GaveItems, StandsBehind, PassesSome, TakesPiece, CountsOnlyWrites}
-use Rattle.gob_tool.specs.Machine.Gathering.{GathersWhole, GathersGiven, StopsShowing, TakesFront, StandsUpTo}
+use Rattle.gob_tool.specs.Machine.Gathering.{GathersGiven, StopsShowing, TakesFront, StandsUpTo}
 use Rattle.gob_tool.proofs.GatherLaws.{lines_append}
 use Rattle.gob_tool.proofs.ShowLaws.{lines_once, same_lines, types_behind, begins_lines, begins_at, front_out}
 
@@ -60,14 +60,6 @@ stands_on {old = old} {mid = mid} {new = new} {after = after} b p = record {
         ∙ b.out.whole;
   };
 }
-
--- or a write failed
-pub cut_so_far : {s : SessionState TreeBuilder Value} {bytes : List ℕ} {old mid new : Option (List ℕ)} {gathered : List ℕ}
-    (more : List ℕ) → StandsBehind s bytes old mid gathered → AppendsFront mid new gathered
-    → BeginsOutcome (within_trees s.limits) (bytes ++ more) (AppendsFront old new)
-cut_so_far {s = s} {old = old} {mid = mid} {new = new} {gathered = gathered} more b f =
-    begins_at (AppendsFront old new) (types_so_far more b.gave)
-    (front_out old mid new gathered (lines (types s.types) b.items) b.out f)
 
 -- ---- the front of a piece
 module _ {s s' : SessionState TreeBuilder Value} {bytes : List ℕ} {old new : Option (List ℕ)} {gathered : List ℕ}
@@ -114,26 +106,6 @@ module _ {s s' : SessionState TreeBuilder Value} {bytes : List ℕ} {old new : O
         };
       }
 
-  -- a whole item
-  pub whole_taken : {piece after : List ℕ} {used : ℕ} → GathersWhole s s' piece gathered after used
-      → StandsBehind s' (bytes ++ take used piece) old new after
-  whole_taken {piece = piece} {used = used} w =
-      one_more (take used piece) w.item (w.passed b.items bytes b.gave)
-      (w.line ∙ ap (λ U. gathered ++ line (types U) w.item) (sym w.same))
-
-  -- the bytes of a step
-  pub step_taken : {piece after : List ℕ} {used : ℕ} {o : Option (declared.Item Value)}
-      → AdvancesOver tree_building.received tree_building.received tree_building.means
-      greatest_depth s' b.items bytes piece used o → GathersGiven (types s'.types) o gathered after
-      → StandsBehind s' (bytes ++ take used piece) old new after
-  step_taken {piece = piece} {used = used} (over_some l w a) e =
-      subst (λ (l : List ℕ). StandsBehind s' (bytes ++ take used piece) old new l) (sym e)
-      (none_more (take used piece) a)
-  step_taken {piece = piece} {after = after} {used = used} (over_item {given = given} {i = i} l w m a) e =
-      let one : item_view given ∷ [] ≡ i ∷ [] = views_meant (mean_more m mean_none) in
-      let seen : item_view given ≡ i = cc in
-      one_more (take used piece) i a (e ∙ ap (λ (i : StreamItem). gathered ++ line (types s'.types) i) seen)
-
 -- no memory was had for what a step gave
 pub memory_stops : {s : SessionState TreeBuilder Value} {bytes : List ℕ} {old new : Option (List ℕ)}
     {gathered after : List ℕ} (piece : List ℕ) → after ≡ gathered → StandsBehind s bytes old new gathered
@@ -168,13 +140,6 @@ pub stands_still : {s s' : SessionState TreeBuilder Value} {bytes : List ℕ} {o
 stands_still {s' = s'} {bytes = bytes} {old = old} {new = new} {gathered = gathered} e b =
     subst (λ (l : List ℕ). StandsBehind s' bytes old new l) (sym e.1)
     (subst (λ (s : SessionState TreeBuilder Value). StandsBehind s bytes old new gathered) (sym e.0) b)
-
--- the same under limits that are these
-pub front_under : (L M : Bounds) (s : SessionState TreeBuilder Value) (bytes piece : List ℕ) (old new : Option (List ℕ))
-    (gathered : List ℕ) (r : Result ℕ Fault) → L ≡ M → TakesFront (within_trees L) s bytes piece old new gathered r
-    → TakesFront (within_trees M) s bytes piece old new gathered r
-front_under L M s bytes piece old new gathered r same f =
-    subst (λ (L : Bounds). TakesFront (within_trees L) s bytes piece old new gathered r) same f
 
 -- at the error that a `?` returns
 pub front_at : (L : Bounds) (s : SessionState TreeBuilder Value) (bytes piece : List ℕ) (old new : Option (List ℕ))
@@ -216,53 +181,3 @@ pub up_to_all : {s : SessionState TreeBuilder Value} {bytes piece rest : List �
 up_to_all {s = s} {bytes = bytes} {rest = []} {old = old} {new = new} {gathered = gathered} none u =
     subst (λ (l : List ℕ). StandsBehind s (bytes ++ l) old new gathered) (sym (u.whole ∙ append-nil u.front)) u.behind
 up_to_all {rest = b ∷ rest} none u = absurd (omega (arith, none))
-
--- the bytes up to the rest, and the rest
-whole_again : {s : SessionState TreeBuilder Value} {bytes piece rest : List ℕ} {old new : Option (List ℕ)}
-    {gathered : List ℕ} (u : StandsUpTo s bytes piece rest old new gathered)
-    → (bytes ++ u.front) ++ rest ≡ bytes ++ piece
-whole_again {bytes = bytes} {rest = rest} u = append_assoc bytes u.front rest
-    ∙ ap (λ (l : List ℕ). bytes ++ l) (sym u.whole)
-
--- the rest of it was refused
-stops_there : (L : Bounds) (s : SessionState TreeBuilder Value) (bytes : List ℕ) (old new : Option (List ℕ))
-    (gathered : List ℕ) (e : Fault) → StopsShowing L bytes old new gathered e
-    → TakesPiece L s bytes old new gathered (Err (reading_fault e))
-stops_there L s bytes old new gathered (reading.Refused R) f = f
-stops_there L s bytes old new gathered reading.Read f = absurd f
-stops_there L s bytes old new gathered reading.Memory f = f
-stops_there L s bytes old new gathered reading.Failed f = absurd f
-
-pub rest_stops : {s : SessionState TreeBuilder Value} {bytes piece rest : List ℕ} {old new : Option (List ℕ)}
-    {gathered : List ℕ} (after : List ℕ) (L M : Bounds) (s' : SessionState TreeBuilder Value) (e : Fault) → L ≡ M
-    → (u : StandsUpTo s bytes piece rest old new gathered)
-    → StopsShowing (within_trees L) ((bytes ++ u.front) ++ rest) old new after e
-    → TakesPiece (within_trees M) s' (bytes ++ piece) old new after (Err (reading_fault e))
-rest_stops {bytes = bytes} {piece = piece} {old = old} {new = new} after L M s' e same u f =
-    stops_there (within_trees M) s' (bytes ++ piece) old new after e
-    (subst (λ (L : Bounds). StopsShowing (within_trees L) (bytes ++ piece) old new after e) same
-    (subst (λ (l : List ℕ). StopsShowing (within_trees L) l old new after e) (whole_again u) f))
-
--- a write failed
-pub rest_cut : {s s' : SessionState TreeBuilder Value} {bytes piece rest : List ℕ} {old mid new : Option (List ℕ)}
-    {gathered pushed : List ℕ} (used : ℕ) (after : List ℕ) (M : Bounds) (f : ToolFault) → s'.limits ≡ M
-    → (u : StandsUpTo s bytes piece rest old mid gathered)
-    → StandsBehind s' ((bytes ++ u.front) ++ take used rest) old mid pushed → f ≡ fault.Write
-    → AppendsFront mid new pushed → TakesPiece (within_trees M) s' (bytes ++ piece) old new after (Err f)
-rest_cut {s' = s'} {bytes = bytes} {piece = piece} {rest = rest} {old = old} {new = new} used after M f same u b write
-    cut =
-    let all : ((bytes ++ u.front) ++ take used rest) ++ drop used rest ≡ bytes ++ piece =
-    append_assoc (bytes ++ u.front) (take used rest) (drop used rest)
-    ∙ ap (λ (l : List ℕ). (bytes ++ u.front) ++ l) (take-append-drop used rest) ∙ whole_again u in
-    subst (λ f. TakesPiece (within_trees M) s' (bytes ++ piece) old new after (Err f)) (sym write)
-    (subst (λ (L : Bounds). BeginsOutcome (within_trees L) (bytes ++ piece) (AppendsFront old new)) same
-    (subst (λ (l : List ℕ). BeginsOutcome (within_trees s'.limits) l (AppendsFront old new)) all
-    (cut_so_far (drop used rest) b cut)))
-
--- no write failed where a reader stopped
-pub stop_writes : (failures failures' : ℕ) (e : Fault) → failures' ≡ failures
-    → CountsOnlyWrites {A = Unit {0}} failures failures' (Err (reading_fault e))
-stop_writes failures failures' (reading.Refused R) h = h
-stop_writes failures failures' reading.Read h = h
-stop_writes failures failures' reading.Memory h = h
-stop_writes failures failures' reading.Failed h = h

@@ -146,12 +146,6 @@ reads_first s read out gathered gave none = record {
   behind = record { items = []; gave = gave; out = record { written = []; out = Appends-nil out; whole = none } };
 }
 
-pub reads_on : {s s' : SessionState TreeBuilder Value} (read now next old mid new : Option (List ℕ))
-    (gathered after piece : List ℕ) (i : StandsGathered s read now old mid gathered) → Consumes now next piece
-    → StandsBehind s' (i.taken ++ piece) old new after → StandsGathered s' read next old new after
-reads_on read now next old mid new gathered after piece i c b = record
-    { taken = i.taken ++ piece; input = Consumes-trans read now next i.taken piece i.input c; behind = b }
-
 -- what was consumed of known bytes
 taken_of : (bytes : List ℕ) (now : Option (List ℕ)) (taken : List ℕ) → Consumes (Some bytes) now taken
     → Taken bytes now taken
@@ -217,52 +211,6 @@ ended M s s' read now next old new bytes gathered u same i known c h finish =
           (gave_lines [] (sym (append-nil i.taken)) b.gave begins) b.out;
     })
 
--- or within an item
-pub ended_within : (M : Bounds) (s s' : SessionState TreeBuilder Value) (read now next old new : Option (List ℕ))
-    (bytes gathered : List ℕ) (C : List ℕ → Type 0) (e : Fault) → s.limits ≡ M
-    → (i : StandsGathered s read now old new gathered) → read ≡ Some bytes → Consumes now next [] → IsAtEnd next
-    → ((items : List StreamItem) (taken : List ℕ) → GaveItems s items taken
-    → ReadingFinishes greatest_depth s s' items taken (Err e))
-    → RunAnswers (within_trees M) bytes next (Gathered old new gathered) C (Err (reading_fault e))
-ended_within M s s' read now next old new bytes gathered C (reading.Refused R) same i known c h finish =
-    let all = all_taken read now next bytes i.taken known i.input c h in
-    let b = i.behind in
-    let o = (finish b.items i.taken b.gave).0 in
-    subst (λ (L : Bounds). IsRefused (within_trees L) bytes R (Gathered old new gathered)) same
-    (subst (λ l. IsRefused (within_trees s.limits) l R (Gathered old new gathered)) all.0
-    (record {
-      items = b.items;
-      outcome = o;
-      holds = subst (λ (l : List ℕ). Gathered old new gathered l)
-          (gave_lines [] (sym (append-nil i.taken)) b.gave o.gives.begins) b.out;
-    }))
-ended_within M s s' read now next old new bytes gathered C reading.Read same i known c h finish = absurd
-    (finish i.behind.items i.taken i.behind.gave)
-ended_within M s s' read now next old new bytes gathered C reading.Memory same i known c h finish = absurd
-    (finish i.behind.items i.taken i.behind.gave)
-ended_within M s s' read now next old new bytes gathered C reading.Failed same i known c h finish = absurd
-    (finish i.behind.items i.taken i.behind.gave)
-
--- a read failed
-pub read_failed : (M : Bounds) (s : SessionState TreeBuilder Value) (read now next old new : Option (List ℕ))
-    (bytes gathered : List ℕ) → s.limits ≡ M → (i : StandsGathered s read now old new gathered) → read ≡ Some bytes
-    → Keeps now next
-    → SomeTaken bytes next (λ taken. GivesOutcome (within_trees M) taken (Gathered old new gathered))
-read_failed M s read now next old new bytes gathered same i known k =
-    let b = i.behind in
-    let g = after_gives b.gave in
-    subst (λ (L : Bounds). SomeTaken bytes next (λ taken. GivesOutcome (within_trees L) taken (Gathered old new gathered)))
-    same (record {
-      bytes = i.taken;
-      taken = known_taken read next bytes i.taken known (Consumes-kept read now next i.taken i.input k);
-      holds = record {
-        items = b.items;
-        given = g;
-        holds = subst (λ (l : List ℕ). Gathered old new gathered l)
-            (gave_lines [] (sym (append-nil i.taken)) b.gave g.begins) b.out;
-      };
-    })
-
 -- the same of more bytes
 pub begins_more : {L : Bounds} {bytes all : List ℕ} {P : List ℕ → Type 0} (more : List ℕ) → all ≡ bytes ++ more
     → BeginsOutcome L bytes P → BeginsOutcome L all P
@@ -298,56 +246,10 @@ refused_more {L = L} {bytes = bytes} {all = all} {R = R} {P = P} more e n b =
           (lines_once b.items is.rest (was.rest ++ more) is.stream was.stream begins) b.holds;
     }
 
--- a piece ended the run
-stopped_there : (L : Bounds) (s : SessionState TreeBuilder Value) (read next old new : Option (List ℕ))
-    (bytes gathered taken : List ℕ) (f : ToolFault) → read ≡ Some bytes → Consumes read next taken
-    → TakesPiece L s taken old new gathered (Err f)
-    → RunAnswers L bytes next (Gathered old new gathered) (AppendsFront old new) (Err f)
-stopped_there L s read next old new bytes gathered taken (fault.Refused R) known c h = let t = known_taken read next
-    bytes taken known c in refused_more t.left t.whole h.1 h.0
-stopped_there L s read next old new bytes gathered taken (fault.Wanted R) known c h = absurd h
-stopped_there L s read next old new bytes gathered taken fault.NoWantedType known c h = absurd h
-stopped_there L s read next old new bytes gathered taken (fault.Clash path reason) known c h = absurd h
-stopped_there L s read next old new bytes gathered taken fault.Read known c h = absurd h
-stopped_there L s read next old new bytes gathered taken fault.Write known c h = let t = known_taken read next bytes
-    taken known c in begins_more t.left t.whole h
-stopped_there L s read next old new bytes gathered taken fault.Memory known c h = let t = known_taken read next bytes
-    taken known c in begins_more t.left t.whole h
-
-pub stopped : (L M : Bounds) (s : SessionState TreeBuilder Value) (read next old new : Option (List ℕ))
-    (bytes gathered taken : List ℕ) (f : ToolFault) → L ≡ M → read ≡ Some bytes → Consumes read next taken
-    → TakesPiece (within_trees L) s taken old new gathered (Err f)
-    → RunAnswers (within_trees M) bytes next (Gathered old new gathered) (AppendsFront old new) (Err f)
-stopped L M s read next old new bytes gathered taken f same known c h =
-    subst (λ (L : Bounds). RunAnswers (within_trees L) bytes next (Gathered old new gathered) (AppendsFront old new) (Err f))
-    same (stopped_there (within_trees L) s read next old new bytes gathered taken f known c h)
-
 -- no bytes were read
 pub read_none : (now next : Option (List ℕ)) (n : ℕ) (buffer : List ℕ) → n ≡ 0 → Consumes now next (take n buffer)
     → Consumes now next []
 read_none now next n buffer e c = subst (λ k. Consumes now next (take k buffer)) e c
-
--- reads that failed are counted: none at the end of the input
-pub finish_counts : (s s' : SessionState TreeBuilder Value) (items : List StreamItem) (bytes : List ℕ)
-    (failures failures' : ℕ) (e : Fault) → ReadingFinishes greatest_depth s s' items bytes (Err e) → failures' ≡ failures
-    → CountsOnlyReads failures failures' (Err (reading_fault e))
-finish_counts s s' items bytes failures failures' (reading.Refused R) f h = h
-finish_counts s s' items bytes failures failures' reading.Read f h = absurd f
-finish_counts s s' items bytes failures failures' reading.Memory f h = h
-finish_counts s s' items bytes failures failures' reading.Failed f h = h
-
--- nor while a piece is taken
-pub piece_counts : (L : Bounds) (s : SessionState TreeBuilder Value) (bytes : List ℕ) (old new : Option (List ℕ))
-    (gathered : List ℕ) (failures failures' : ℕ) (f : ToolFault) → TakesPiece L s bytes old new gathered (Err f)
-    → failures' ≡ failures
-    → CountsOnlyReads failures failures' (Err f)
-piece_counts L s bytes old new gathered failures failures' (fault.Refused R) h e = e
-piece_counts L s bytes old new gathered failures failures' (fault.Wanted R) h e = absurd h
-piece_counts L s bytes old new gathered failures failures' fault.NoWantedType h e = absurd h
-piece_counts L s bytes old new gathered failures failures' (fault.Clash path reason) h e = absurd h
-piece_counts L s bytes old new gathered failures failures' fault.Read h e = absurd h
-piece_counts L s bytes old new gathered failures failures' fault.Write h e = e
-piece_counts L s bytes old new gathered failures failures' fault.Memory h e = e
 
 pub reads_at : (failures failures' : ℕ) (r : Result (Unit {0}) ToolFault) (f : ToolFault) → IsErrAnd r (λ e. e ≡ f)
     → CountsOnlyReads failures failures' (Err f) → CountsOnlyReads failures failures' r
@@ -362,69 +264,3 @@ falls s s' items others taken piece a b same some =
     let bound = stands_within b in
     let stream = ap (λ (L : Bounds). L.stream) same in
     omega (arith, a.taken, b.taken, length-append taken piece)
-
--- ---- the run
--- how the run ends at the error that a `?` returns
-pub runs_at : (L : Bounds) (bytes : List ℕ) (now : Option (List ℕ)) (P C : List ℕ → Type 0)
-    (r : Result (Unit {0}) ToolFault) (f : ToolFault) → IsErrAnd r (λ e. e ≡ f) → RunAnswers L bytes now P C (Err f)
-    → RunAnswers L bytes now P C r
-runs_at L bytes now P C (Ok u) f e h = absurd e
-runs_at L bytes now P C (Err g) f e h = subst (λ f. RunAnswers L bytes now P C (Err f)) (sym e) h
-
-pub runs_cut : (L : Bounds) (bytes : List ℕ) (now : Option (List ℕ)) (P C : List ℕ → Type 0)
-    (r : Result (Unit {0}) ToolFault) (f : ToolFault) → IsErrAnd r (λ e. e ≡ f) → f ≡ fault.Write → BeginsOutcome L bytes C
-    → RunAnswers L bytes now P C r
-runs_cut L bytes now P C r f e write h = runs_at L bytes now P C r f e
-    (subst (λ f. RunAnswers L bytes now P C (Err f)) (sym write) h)
-
--- no memory was had before the first item
-pub begun_first : (L : Bounds) (bytes : List ℕ) (out : Option (List ℕ)) (gathered : List ℕ) → gathered ≡ []
-    → BeginsOutcome L bytes (Gathered out out gathered)
-begun_first L bytes out gathered none = record {
-  items = [];
-  begins = record { front = []; rest = bytes; table = base_table; stream = no_more; whole = refl };
-  holds = record { written = []; out = Appends-nil out; whole = none };
-}
-
--- what holds of the lines may be said in other words
-pub begun_as : (L : Bounds) (bytes : List ℕ) (P Q : List ℕ → Type 0) → BeginsOutcome L bytes P
-    → ((all : List ℕ) → P all → Q all) → BeginsOutcome L bytes Q
-begun_as L bytes P Q b f = record { items = b.items; begins = b.begins; holds = f _ b.holds }
-
--- the lines before any end but a failed write
-pub begun_before : (L : Bounds) (bytes : List ℕ) (now : Option (List ℕ)) (P C : List ℕ → Type 0)
-    (r : Result (Unit {0}) ToolFault) → RunAnswers L bytes now P C r → (r ≡ Err fault.Write → ⊥) → BeginsOutcome L bytes P
-begun_before L bytes now P C (Ok u) e other = record {
-  items = e.items;
-  begins = record { front = bytes; rest = []; table = e.table; stream = e.stream; whole = sym (append-nil bytes) };
-  holds = e.holds;
-}
-begun_before L bytes now P C (Err (fault.Refused R)) e other = record
-    { items = e.items; begins = e.outcome.gives.begins; holds = e.holds }
-begun_before L bytes now P C (Err fault.Read) e other =
-    begins_more e.taken.left e.taken.whole
-    (record { items = e.holds.items; begins = e.holds.given.begins; holds = e.holds.holds })
-begun_before L bytes now P C (Err (fault.Wanted R)) e other = absurd e
-begun_before L bytes now P C (Err fault.NoWantedType) e other = absurd e
-begun_before L bytes now P C (Err (fault.Clash path reason)) e other = absurd e
-begun_before L bytes now P C (Err fault.Write) e other = absurd (other refl)
-begun_before L bytes now P C (Err fault.Memory) e other = e
-
-pub runs_as : (L : Bounds) (bytes : List ℕ) (now : Option (List ℕ)) (P Q C D : List ℕ → Type 0)
-    (r : Result (Unit {0}) ToolFault) → RunAnswers L bytes now P C r → (r ≡ Err fault.Write → ⊥)
-    → ((all : List ℕ) → P all → Q all) → RunAnswers L bytes now Q D r
-runs_as L bytes now P Q C D (Ok u) e other f = record
-    { items = e.items; table = e.table; stream = e.stream; end = e.end; holds = f _ e.holds }
-runs_as L bytes now P Q C D (Err (fault.Refused R)) e other f = record
-    { items = e.items; outcome = e.outcome; holds = f _ e.holds }
-runs_as L bytes now P Q C D (Err fault.Read) e other f = record {
-  bytes = e.bytes;
-  taken = e.taken;
-  holds = record
-      { items = e.holds.items; given = e.holds.given; holds = f _ e.holds.holds };
-}
-runs_as L bytes now P Q C D (Err (fault.Wanted R)) e other f = absurd e
-runs_as L bytes now P Q C D (Err fault.NoWantedType) e other f = absurd e
-runs_as L bytes now P Q C D (Err (fault.Clash path reason)) e other f = absurd e
-runs_as L bytes now P Q C D (Err fault.Write) e other f = absurd (other refl)
-runs_as L bytes now P Q C D (Err fault.Memory) e other f = begun_as L bytes P Q e f

@@ -16,7 +16,7 @@ use Rattle.gob_stream.specs.Stream.{IsItem}
 use Rattle.gob_stream.specs.Whole.{HasBody}
 use Rattle.gob_stream.proofs.PublicLaws.{whole_item}
 use Rattle.gob_json.specs.TextWhole.{LineOfWhole}
-use Rattle.gob_tool.specs.Machine.Gathering.{GaveItems, GathersWhole}
+use Rattle.gob_tool.specs.Machine.Gathering.{GaveItems}
 
 pub whole_of : {T : Table} {t : TypeId} {limit : ℕ} {bytes old new : List ℕ} → LineOfWhole T t limit bytes old new
     → IsWhole T t limit bytes
@@ -28,23 +28,3 @@ pub body_some : {L : Bounds} {T : Table} {offset : ℕ} {id : TypeId} {body : Li
 body_some {body = body} {used = used} {piece = piece} b =
     let some = (unsigned_length b.counts).0 in
     omega (arith, ap length b.whole, length-take-le used piece b.within, length-append b.count (b.number ++ body))
-
-pub gathers_whole : {s s' : SessionState TreeBuilder Value} {id : TypeId} {body : List ℕ} {used d : ℕ}
-    {piece before after : List ℕ} → d ≡ min s.limits.depth greatest_depth
-    → HasBody s.limits (types s.types) s.taken id body used piece → LineOfWhole (types s.types) id d body before after
-    → s'.types ≡ s.types
-    → ((items : List StreamItem) (bytes : List ℕ) (item : StreamItem) (z : List ℕ) → GaveItems s items bytes
-    → IsItem base_table (no_deeper greatest_depth s.limits) (types s.types) s.taken item z (types s.types)
-    → length z ≡ used → GaveItems s' (items ++ item ∷ []) (bytes ++ z))
-    → GathersWhole s s' piece before after used
-unfolding whole_of
-gathers_whole {id = id} {used = used} {piece = piece} e b l same f = record {
-  item = puts id l.value;
-  some = body_some b;
-  within = b.within;
-  line = l.text;
-  same = same;
-  passed =
-      λ items bytes a. f items bytes (puts id l.value) (take used piece) a (whole_item greatest_depth e b (whole_of l))
-      (length-take-le used piece b.within);
-}

@@ -1,26 +1,194 @@
--- How the counting of a stream that is held in memory ends.
-use Rattle.std.proofs.Common.{◌≡◌, ℕ, List, [], length, Result, Ok, Err, ◌∙◌, sym, subst, refl, arith}
+-- How the counting of a stream that is held in memory goes on, and how it ends.
+use Rattle.std.proofs.Common.{◌≡◌, ℕ, ◌+◌, ◌-◌, ◌<◌, ◌≤◌, ◌^◌, arith, List, [], ◌∷◌, ◌++◌, length, take, drop}
+use Rattle.std.proofs.Common.{Option, Some, None, Result, Ok, Err, ◌∙◌, ap, sym, subst, refl, length-append}
+use Rattle.std.proofs.Common.{append_assoc, append-nil, take-append-drop}
 use Rattle.std.specs.Result.{IsErrAnd}
+use Rattle.std.specs.Io.KnownBytes.{Consumes, Keeps, IsAtEnd}
+use Rattle.std.proofs.KnownBytes.{Consumes-nil, Consumes-trans, Consumes-kept}
 use Rattle.gob_types.specs.Base.{base_table}
 use Rattle.gob_types.specs.Defined.{types, definition_count}
+use Rattle.gob_types.specs.Table.{Table}
+use Rattle.gob_read.specs.Calls.Builders.{skip_building, tree_building}
 use Rattle.gob_read.specs.declared.skip_builder.SkipBuilder.{SkipBuilder}
 use Rattle.gob_stream.specs.declared.fault.Fault.{Fault}
 use Rattle.gob_stream.specs.declared.fault.Fault.TheVariants as reading
-use Rattle.gob_stream.specs.Bounds.{Bounds, deepest, no_deeper}
-use Rattle.gob_stream.specs.Calls.Reads.{ReadingFinishes}
+use Rattle.gob_stream.specs.declared.item.Item as declared
 use Rattle.gob_stream.specs.Machine.SessionState.{SessionState}
+use Rattle.gob_stream.specs.Body.{Body, definition, value}
+use Rattle.gob_stream.specs.Bounds.{Bounds, AreLimits, deepest, no_deeper}
+use Rattle.gob_stream.specs.Item.{StreamItem}
 use Rattle.gob_stream.specs.Outcome.{Outcome, refused}
-use Rattle.gob_tool.specs.declared.check.Tally.{Tally}
+use Rattle.gob_stream.specs.Machine.ReadParts.{AdvancesOver, over_some, over_item}
+use Rattle.gob_stream.specs.Reading.{Taken}
+use Rattle.gob_stream.specs.Calls.Reads.{ReadingFinishes}
+use Rattle.gob_stream.specs.Calls.Session.{ReadsItems, StepAnswers}
+use Rattle.gob_stream.specs.Stream.{Stream, AreItems, no_more, and_then, counted}
+use Rattle.gob_stream.proofs.PublicLaws.{after_gives, stands_within}
+use Rattle.gob_tool.specs.declared.in_memory.Tally.{Tally}
+use Rattle.gob_tool.specs.declared.fault.ToolFault.{ToolFault}
+use Rattle.gob_tool.specs.declared.fault.ToolFault.TheVariants as fault
+use Rattle.gob_tool.specs.Checking.{definitions_in, counts_line, IsCountedStream, IsNoStream, CheckAnswers, is_cut}
+use Rattle.gob_tool.specs.Showing.{AppendsFront}
+use Rattle.gob_tool.specs.Machine.Tallying.{GaveTallied, CountsIn, EndsCounting, CountsCounting, tally_line, HasTallied}
+use Rattle.gob_tool.specs.Machine.Tallying.{TalliesOn, TalliesUpTo, StopsTallying, TalliesFront, TalliesAll}
+use Rattle.gob_tool.specs.Fault.{reading_fault}
+use Rattle.gob_tool.proofs.PieceRuns.{shown_more, items_within}
+use Rattle.gob_tool.proofs.ShowLaws.{known_taken, all_taken, whole_stream}
+use Rattle.std.proofs.Common.{◌≡◌, ℕ, List, [], length, Result, Ok, Err, ◌∙◌, sym, subst, refl, arith}
+use Rattle.gob_stream.specs.Bounds.{Bounds, deepest, no_deeper}
 use Rattle.gob_tool.specs.Checking.{IsTallied, TalliesStream}
-use Rattle.gob_tool.specs.Machine.Counting.{GaveCounts, HasCounted, StopsCounting}
+use Rattle.gob_tool.specs.Machine.Tallying.{GaveTallied, HasTallied, StopsTallying}
 use Rattle.gob_tool.proofs.CheckLaws.{stream_defines}
 use Rattle.gob_tool.proofs.ShowLaws.{whole_stream}
 
+pub limits_as : {L M : Bounds} → L ≡ M → AreLimits deepest M → AreLimits deepest L
+limits_as same l = subst (λ (L : Bounds). AreLimits deepest L) (sym same) l
+
+-- ---- within a piece
+pub items_fit : {s : SessionState SkipBuilder (Unit {0})} {n : ℕ} {bytes : List ℕ} → HasTallied s n bytes
+    → AreLimits deepest s.limits → n < 2 ^ 64
+items_fit h l =
+    let bound = stands_within h.gave in
+    let few = items_within h.gave in
+    omega (arith, l.stream, h.items_are)
+
+-- so many bytes and items, and no more, can be counted
+pub items_end : {s : SessionState SkipBuilder (Unit {0})} {n : ℕ} {bytes : List ℕ} → HasTallied s n bytes
+    → n ≤ s.limits.stream + 9
+items_end h = let bound = stands_within h.gave in let few = items_within h.gave in omega (arith, h.items_are)
+
+-- items of values that stand whole
+pub counts_passed : {s s' : SessionState SkipBuilder (Unit {0})} {count used n n' : ℕ} {piece : List ℕ}
+    → ReadsItems skip_building s s' count used piece → 0 < count → n' ≡ n + count
+    → (bytes : List ℕ) → HasTallied s n bytes → TalliesOn s' n n' bytes piece used
+counts_passed p some e bytes h = record {
+  within = p.within;
+  nearer = omega (arith, e);
+  counted = record {
+    given = h.given ++ p.given;
+    gave = p.passed h.given bytes h.gave;
+    items_are = omega (arith, e, p.counted, h.items_are, length-append h.given p.given);
+  };
+}
+
+-- or none of them
+pub counted_still : {s s' : SessionState SkipBuilder (Unit {0})} {count used n : ℕ} {piece bytes : List ℕ}
+    → ReadsItems skip_building s s' count used piece → count ≡ 0 → HasTallied s n bytes → HasTallied s' n bytes
+counted_still {s' = s'} {piece = piece} {bytes = bytes} p none h =
+    let same : bytes ++ take _ piece ≡ bytes = ap (λ n. bytes ++ take n piece) (p.none none) ∙ append-nil bytes in
+    record {
+      given = h.given ++ p.given;
+      gave = subst (λ z. GaveTallied s' (h.given ++ p.given) z) same (p.passed h.given bytes h.gave);
+      items_are = omega (arith, none, p.counted, h.items_are, length-append h.given p.given);
+    }
+
+-- an item that is whole with the bytes of a step
+pub counts_item : {s s' : SessionState SkipBuilder (Unit {0})} {used n n' : ℕ} {bytes piece : List ℕ}
+    {o : Option (declared.Item (Unit {0}))} {given : declared.Item (Unit {0})} → o ≡ Some given → n' ≡ n + 1
+    → (h : HasTallied s n bytes)
+    → AdvancesOver skip_building.received tree_building.received skip_building.means deepest s'
+    h.given bytes piece used o → TalliesOn s' n n' bytes piece used
+counts_item f e h (over_some l w a) = cc
+counts_item f e h (over_item {i = i} l w m a) = record {
+  within = w;
+  nearer = omega (arith, e);
+  counted = record {
+    given = h.given ++ i ∷ [];
+    gave = a;
+    items_are = omega (arith, e, h.items_are, length-append h.given (i ∷ []));
+  };
+}
+
+-- or none is
+pub counts_none : {s s' : SessionState SkipBuilder (Unit {0})} {used n : ℕ} {bytes piece : List ℕ}
+    {o : Option (declared.Item (Unit {0}))} → 0 < length piece → o ≡ None → (h : HasTallied s n bytes)
+    → AdvancesOver skip_building.received tree_building.received skip_building.means deepest s'
+    h.given bytes piece used o → TalliesOn s' n n bytes piece used
+counts_none some f h (over_some l w a) = record {
+  within = w;
+  nearer = omega arith;
+  counted = record { given = h.given; gave = a; items_are = h.items_are };
+}
+counts_none some f h (over_item l w m a) = cc
+
+-- a step was refused
+pub step_stops : (s s' : SessionState SkipBuilder (Unit {0})) (items : List StreamItem) (bytes piece : List ℕ) (e : Fault)
+    → StepAnswers skip_building s s'
+    items bytes piece (Err e) → StopsTallying (no_deeper deepest s.limits) (bytes ++ piece) e
+step_stops s s' items bytes piece (reading.Refused R) f = (items, f.0)
+step_stops s s' items bytes piece reading.Read f = absurd f
+step_stops s s' items bytes piece reading.Memory f = tt
+step_stops s s' items bytes piece reading.Failed f = absurd f
+
+-- from item to item
+pub counts_none_yet : {s : SessionState SkipBuilder (Unit {0})} {n : ℕ} (piece bytes : List ℕ) → HasTallied s n bytes
+    → TalliesUpTo s n bytes piece piece
+counts_none_yet {s = s} {n = n} piece bytes h = record {
+  front = [];
+  whole = refl;
+  counted = subst (λ (l : List ℕ). HasTallied s n l) (sym (append-nil bytes)) h;
+}
+
+pub counts_up_to : {s s' : SessionState SkipBuilder (Unit {0})} {n n' used : ℕ} {bytes piece rest later : List ℕ}
+    → later ≡ drop used rest → (u : TalliesUpTo s n bytes piece rest) → TalliesOn s' n n' (bytes ++ u.front) rest used
+    → TalliesUpTo s' n' bytes piece later
+counts_up_to {s' = s'} {n' = n'} {used = used} {bytes = bytes} {rest = rest} so u on = record {
+  front = u.front ++ take used rest;
+  whole = u.whole
+      ∙ ap (λ (l : List ℕ). u.front ++ l)
+      (sym (take-append-drop used rest) ∙ ap (λ (l : List ℕ). take used rest ++ l) (sym so))
+      ∙ sym (append_assoc u.front (take used rest) _);
+  counted = subst (λ (l : List ℕ). HasTallied s' n' l) (append_assoc bytes u.front (take used rest)) on.counted;
+}
+
+pub counts_falls : {s s' : SessionState SkipBuilder (Unit {0})} {n n' used : ℕ} {bytes rest : List ℕ} → s'.limits ≡ s.limits
+    → HasTallied s n bytes → TalliesOn s' n n' bytes rest used
+    → length rest - used + (s'.limits.stream + 9 - n') < length rest + (s.limits.stream + 9 - n)
+counts_falls same h on =
+    let stream = ap (λ (L : Bounds). L.stream) same in
+    let now = items_end h in
+    let then = items_end on.counted in
+    omega (arith, on.within, on.nearer)
+
+-- all of the piece was taken
+pub counts_piece : {s : SessionState SkipBuilder (Unit {0})} {n : ℕ} {bytes piece rest : List ℕ} → length rest ≡ 0
+    → TalliesUpTo s n bytes piece rest → HasTallied s n (bytes ++ piece)
+counts_piece {s = s} {n = n} {bytes = bytes} {rest = []} none u =
+    subst (λ (l : List ℕ). HasTallied s n (bytes ++ l)) (sym (u.whole ∙ append-nil u.front)) u.counted
+counts_piece {rest = b ∷ rest} none u = absurd (omega (arith, none))
+
+-- the same under limits that are these
+pub stops_under : (L M : Bounds) (bytes : List ℕ) (e : Fault) → L ≡ M → StopsTallying (no_deeper deepest L) bytes e
+    → StopsTallying (no_deeper deepest M) bytes e
+stops_under L M bytes e same f = subst (λ (L : Bounds). StopsTallying (no_deeper deepest L) bytes e) same f
+
+-- or the rest of it is refused
+pub stops_piece : {s : SessionState SkipBuilder (Unit {0})} {n : ℕ} {bytes piece rest : List ℕ} (L M : Bounds) (e : Fault)
+    → L ≡ M → (u : TalliesUpTo s n bytes piece rest)
+    → StopsTallying (no_deeper deepest L) ((bytes ++ u.front) ++ rest) e
+    → StopsTallying (no_deeper deepest M) (bytes ++ piece) e
+stops_piece {bytes = bytes} {piece = piece} {rest = rest} L M e same u f =
+    stops_under L M (bytes ++ piece) e same
+    (subst (λ (l : List ℕ). StopsTallying (no_deeper deepest L) l e)
+    (append_assoc bytes u.front rest ∙ ap (λ (l : List ℕ). bytes ++ l) (sym u.whole)) f)
+
+-- at the error that a `?` returns
+pub counts_all_at : (L : Bounds) (s : SessionState SkipBuilder (Unit {0})) (n : ℕ) (bytes : List ℕ)
+    (r : Result (Unit {0}) Fault) (e : Fault) → IsErrAnd r (λ x. x ≡ e) → StopsTallying L bytes e → TalliesAll L s n bytes r
+counts_all_at L s n bytes (Ok u) e is h = absurd is
+counts_all_at L s n bytes (Err g) e is h = subst (λ e. StopsTallying L bytes e) (sym is) h
+
+pub counts_front_at : (L : Bounds) (s : SessionState SkipBuilder (Unit {0})) (n n' : ℕ) (bytes piece : List ℕ)
+    (r : Result ℕ Fault) (e : Fault) → IsErrAnd r (λ x. x ≡ e) → StopsTallying L (bytes ++ piece) e
+    → TalliesFront L s n n' bytes piece r
+counts_front_at L s n n' bytes piece (Ok u) e is h = absurd is
+counts_front_at L s n n' bytes piece (Err g) e is h = subst (λ e. StopsTallying L (bytes ++ piece) e) (sym is) h
+
 -- no byte was taken
-pub counted_none : (s : SessionState SkipBuilder (Unit {0})) → GaveCounts s [] [] → HasCounted s 0 []
+pub counted_none : (s : SessionState SkipBuilder (Unit {0})) → GaveTallied s [] [] → HasTallied s 0 []
 counted_none s gave = record { given = []; gave = gave; items_are = refl }
 
-module _ {s : SessionState SkipBuilder (Unit {0})} {n : ℕ} {bytes : List ℕ} (h : HasCounted s n bytes) where
+module _ {s : SessionState SkipBuilder (Unit {0})} {n : ℕ} {bytes : List ℕ} (h : HasTallied s n bytes) where
   -- all bytes are items
   pub tallied_whole : (M : Bounds) (s' : SessionState SkipBuilder (Unit {0})) (u : Unit {0}) (tally : Tally)
       → s.limits ≡ M → ReadingFinishes deepest s s' h.given bytes (Ok u)
@@ -49,7 +217,7 @@ module _ {s : SessionState SkipBuilder (Unit {0})} {n : ℕ} {bytes : List ℕ} 
   tallied_within M s' reading.Failed same finish = absurd finish
 
 -- or some are refused
-pub tally_stopped : (M : Bounds) (bytes : List ℕ) (e : Fault) → StopsCounting (no_deeper deepest M) bytes e
+pub tally_stopped : (M : Bounds) (bytes : List ℕ) (e : Fault) → StopsTallying (no_deeper deepest M) bytes e
     → TalliesStream (no_deeper deepest M) bytes (Err e)
 tally_stopped M bytes (reading.Refused R) f = (f.0, f.1.outcome)
 tally_stopped M bytes reading.Read f = absurd f

@@ -92,12 +92,6 @@ read_all L s s' {bytes = bytes} {taken = taken} items T k ends t =
       a.1,
     )
 
--- ---- from piece to piece
-pub finds_first : (s : SessionState TreeBuilder Value) (start : Option (List ℕ)) (first : Option TypeId) → GaveItems s [] []
-    → first ≡ None → StandsAt s start start (λ items. first ≡ first_type items)
-finds_first s start first gave none = record
-    { taken = []; items = []; input = Consumes-nil start; gave = gave; holds = none }
-
 module _ (M : Bounds) (s s' : SessionState TreeBuilder Value) (start now next : Option (List ℕ)) (first : Option TypeId)
     (given : List StreamItem) (same : s.limits ≡ M) (i : StandsAt s start now (λ items. first ≡ first_type items)) where
   known_so : (bytes : List ℕ) {result : Result Bool Fault} (p : GivesPiece s s' i.items i.taken given now next result)

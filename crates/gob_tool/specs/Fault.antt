@@ -5,6 +5,8 @@ use Rattle.gob_match.specs.declared.fault.MatchFault.TheVariants as matching
 use Rattle.gob_match.specs.ClashText.{clash_text}
 use Rattle.gob_stream.specs.declared.fault.Fault.{Fault}
 use Rattle.gob_stream.specs.declared.fault.Fault.TheVariants as reading
+use Rattle.gob_stream.specs.declared.fault.WriteFault.{WriteFault}
+use Rattle.gob_stream.specs.declared.fault.WriteFault.TheVariants as writing
 use Rattle.gob_stream.specs.RefusalText.{refusal_text}
 use Rattle.gob_tool.specs.declared.fault.ToolFault.{ToolFault}
 use Rattle.gob_tool.specs.declared.fault.ToolFault.TheVariants as fault
@@ -36,7 +38,14 @@ reading_fault reading.Read = fault.Read
 reading_fault reading.Memory = fault.Memory
 reading_fault reading.Failed = fault.Memory
 
--- the same of the reader of the wanted stream
+-- the fault of a run whose output met this one first
+abbrev pub writing_fault : WriteFault → ToolFault
+writing_fault (writing.Refused r) = fault.Write
+writing_fault writing.Write = fault.Write
+writing_fault writing.Memory = fault.Memory
+writing_fault writing.Failed = fault.Write
+
+-- the fault of a run whose reader of the wanted stream met this one first
 abbrev pub wanted_fault : Fault → ToolFault
 wanted_fault (reading.Refused r) = fault.Wanted r
 wanted_fault reading.Read = fault.Read

@@ -1,11 +1,12 @@
 -- Where a run stands, piece by piece, and what is gathered or kept then. No clause of a public call names these.
 pub mod Gathering
 pub mod Keeping
-pub mod Large
-pub mod Block
-pub mod Blocks
 pub mod Pieces
 pub mod Wanting
 pub mod Receiver
+pub mod Ending
+pub mod Lines
+pub mod Sending
 pub mod Counting
+pub mod Tallying
 pub mod Rewritten

@@ -1,6 +1,6 @@
 -- What a run over a stream answers, and what it has written then.
 -- (docs/FORMAT.md, The JSON lines; The program: this project's own.)
-use Rattle.std.specs.Prelude.{◌≡◌, ℕ, ◌⊎◌, List, [], ◌++◌, Option, Some, Result, Ok, Err}
+use Rattle.std.specs.Prelude.{◌≡◌, ℕ, ◌⊎◌, false, List, [], ◌++◌, Option, Some, Result, Ok, Err}
 use Rattle.std.specs.Io.KnownBytes.{Appends}
 use Rattle.gob_types.specs.Table.{Table}
 use Rattle.gob_types.specs.Base.{base_table}
@@ -11,6 +11,10 @@ use Rattle.gob_stream.specs.Stream.{Stream}
 use Rattle.gob_stream.specs.Outcome.{BeginsWithStream, LongestStream, Outcome, refused}
 use Rattle.gob_stream.specs.Devices.{counts_up}
 use Rattle.gob_stream.specs.Reading.{SomeTaken}
+use Rattle.gob_stream.specs.Calls.Reader.{GivesAllBut}
+use Rattle.gob_stream.specs.Devices.{Rose}
+use Rattle.gob_stream.specs.Ends.{failed_writes, is_unflushed}
+use Rattle.gob_stream.specs.declared.output.Output.{Output}
 use Rattle.gob_tool.specs.declared.fault.ToolFault.{ToolFault}
 use Rattle.gob_tool.specs.declared.fault.ToolFault.TheVariants as fault
 use Rattle.gob_tool.specs.Line.{lines}
@@ -42,6 +46,14 @@ pub record BeginsOutcome (L : Bounds) (bytes : List ℕ) (P : List ℕ → Type 
   pub begins : BeginsWithStream base_table L bytes items
   pub holds : P (lines begins.table items)
 
+-- of these bytes all but the last ones were taken, of which no more waited than what is read ahead; this holds of the lines
+-- of all items that those taken give
+pub record GivesTaken (L : Bounds) (bytes : List ℕ) (P : List ℕ → Type 0) : Type 0 where
+  pub items : List StreamItem
+  pub table : Table
+  pub given : GivesAllBut L table items bytes
+  pub holds : P (lines table items)
+
 -- how a run over an input with these bytes left ends, where `Whole` holds of the lines that were to go out, or `Cut`
 -- after a failed write
 abbrev pub RunAnswers : Bounds → (bytes : List ℕ) → (now : Option (List ℕ)) → (Whole Cut : List ℕ → Type 0)
@@ -50,7 +62,7 @@ RunAnswers L bytes now Whole Cut (Ok _) = EndsWhole L bytes now Whole
 RunAnswers L bytes now Whole Cut (Err (fault.Refused R)) = IsRefused L bytes R Whole
 RunAnswers L bytes now Whole Cut (Err fault.Read) = SomeTaken bytes now (λ taken. GivesOutcome L taken Whole)
 RunAnswers L bytes now Whole Cut (Err fault.Write) = BeginsOutcome L bytes Cut
-RunAnswers L bytes now Whole Cut (Err fault.Memory) = BeginsOutcome L bytes Whole
+RunAnswers L bytes now Whole Cut (Err fault.Memory) = SomeTaken bytes now (λ read. GivesTaken L read Whole)
 RunAnswers L bytes now Whole Cut (Err (fault.Wanted R)) = ⊥
 RunAnswers L bytes now Whole Cut (Err fault.NoWantedType) = ⊥
 RunAnswers L bytes now Whole Cut (Err (fault.Clash path reason)) = ⊥
@@ -82,3 +94,7 @@ abbrev pub CountsWriteFaults : (failures failures' : ℕ) → Result (Unit {0}) 
 CountsWriteFaults failures failures' (Ok _) = failures' ≡ failures
 CountsWriteFaults failures failures' (Err fault.Write) = failures' ≡ counts_up failures 1
 CountsWriteFaults failures failures' (Err _) = MayCount failures failures'
+
+-- what was written is flushed, or a write or a flush has failed since so many had
+abbrev pub IsFlushedSince : {W : Type 0} → (failures : ℕ) → Output W → Type 0
+IsFlushedSince failures output = (is_unflushed output ≡ false) ⊎ Rose failures (failed_writes output)

@@ -1,42 +1,30 @@
 //! The run that says whether bytes are a stream, and how much there is in it.
 
-ghost use Rattle.std.specs.Prelude.{◌≡◌, ◌<◌, ◌≤◌, ℕ, List, ◌++◌, Some, IfOk, length, string_bytes};
-ghost use Rattle.gob_stream.specs.Bounds.{AreLimits, deepest, no_deeper};
-ghost use Rattle.gob_stream.specs.Ends.{failed_reads, failed_writes, reader_of, writer_of};
+ghost use Rattle.std.specs.Prelude.{◌≡◌, ◌≢◌, ◌+◌, ◌<◌, ℕ, List, Option, Some, IfErr, IfOk, length, string_bytes};
+ghost use Rattle.gob_read.specs.Calls.Builders.{skip_building};
+ghost use Rattle.gob_stream.specs.Bounds.{deepest, no_deeper};
 ghost use Rattle.gob_stream.specs.Calls.Session.{limits_of};
-ghost use Rattle.gob_tool.specs.Checking.{CheckAnswers, TalliesStream};
-ghost use Rattle.gob_tool.specs.Machine.Counting.{EndsCounting, CountsCounting, tally_line};
-ghost use Rattle.gob_tool.specs.Machine.Counting.{HasCounted, CountsAll, CountsFront};
-ghost use Rattle.gob_tool.specs.Showing.{CountsReadFaults, CountsWriteFaults};
+ghost use Rattle.gob_stream.specs.Ends.{failed_reads, failed_writes, reader_of, writer_of};
+ghost use Rattle.gob_stream.specs.Item.{StreamItem};
+ghost use Rattle.gob_stream.specs.Calls.Reader.{HasReadFrom, session_of, waits_in};
+ghost use Rattle.gob_tool.specs.Checking.{CheckAnswers};
+ghost use Rattle.gob_tool.specs.Machine.Counting.{CountsNext, given_count, EndsCounting, CountsCounting, tally_line};
+ghost use Rattle.gob_tool.specs.Showing.{CountsReadFaults, CountsWriteFaults, IsFlushedSince};
+ghost use Rattle.gob_tool.specs.Machine.Ending.{CountsOnlyWrites};
 
+use crate::end::end_run;
 use crate::fault::ToolFault;
-use crate::lines::write_whole;
+use crate::in_memory::Tally;
 use gob_num::Memory;
 use gob_read::SkipBuilder;
-use gob_stream::{Fault, Input, Limits, Output, Session};
-use std::alloc::{AllocError, Global};
+use gob_stream::{Fault, Input, Item, Limits, Output, Passed, StreamReader};
+use std::alloc::Global;
 use std::io::{Read, Write};
-
-// How many bytes are asked of the input at a time: more than where text goes out too, since of long texts the kernel's
-// reading is nearly all that is left to do.
-const PIECE: usize = 262_144;
-
-/// How much there is in a stream.
-#[derive(Clone, Copy, Debug, PartialEq, Eq)]
-pub struct Tally {
-    /// How many items.
-    pub items: u64,
-    /// How many of the items define a type.
-    pub types: u64,
-    /// How many bytes.
-    pub bytes: u64,
-}
 
 /// Reads a stream to its end, and writes one line of it: `ok: I items, T types, B bytes`, of which T counts the
 /// definitions. Ok exactly at the end of a whole stream; before any other answer but `ToolFault::Write` nothing is
-/// written, and at that one a front of the line may be. The run ends with a flush. The input is read in pieces of
-/// 256 KiB. Values aren't kept, so that it takes no more memory for a large one; none may be deeper than
-/// `limits.depth()`.
+/// written, and at that one a front of the line may be. The run ends with a flush. Values aren't kept, so that it takes
+/// no more memory for a large one; none may be deeper than `limits.depth()`.
 pub fn run_check<R: Read, W: Write>(
     alloc: Global,
     input: &mut Input<R>,
@@ -48,62 +36,37 @@ pub fn run_check<R: Read, W: Write>(
         (W.contents (writer_of output.old)) (W.contents (writer_of output.new)) result }
     ensures reads { CountsReadFaults (failed_reads input.old) (failed_reads input.new) result }
     ensures writes { CountsWriteFaults (failed_writes output.old) (failed_writes output.new) result }
+    ensures flushed { IsFlushedSince (failed_writes output.old) output.new }
 {
-    match check_stream(alloc, input, limits) {
-        Ok(line) => {
-            write_whole(line.as_bytes(), output)?;
-            match output.flush() {
-                Ok(()) => Ok(()),
-                Err(_) => Err(ToolFault::Write),
-            }
-        }
-        Err(fault) => {
-            let _ = output.flush();
-            Err(fault)
-        }
-    }
+    end_run(check_stream(alloc, input, output, limits), output)
 }
 
-/// Goes through a stream that is held in memory, and counts what there is in it. Ok exactly where all of the bytes are
-/// a stream; else its refusal, or want of memory. Values aren't kept, and none may be deeper than `limits.depth()`.
-pub fn check_bytes(alloc: Global, bytes: &[u8], limits: Limits) -> Result<Tally, Fault>
-    ensures { TalliesStream (no_deeper deepest limits) bytes.now result }
-{
-    let mut session = Session::<SkipBuilder>::new(alloc, limits)?;
-    let mut items = 0;
-    count_piece(alloc, &mut session, bytes, &mut items)?;
-    session.finish()?;
-    Ok(Tally {
-        items,
-        types: session.table().count(),
-        bytes: bytes.len() as u64,
-    })
-}
-
-/// The line of the stream.
-fn check_stream<R: Read>(
+/// Writes the line of the stream.
+fn check_stream<R: Read, W: Write>(
     alloc: Global,
     input: &mut Input<R>,
+    output: &mut Output<W>,
     limits: Limits,
-) -> Result<String, ToolFault>
+) -> Result<(), ToolFault>
     ensures checked { (bytes : List ℕ) → R.remaining (reader_of input.old) ≡ Some bytes
-        → EndsCounting (λ line. string_bytes line) (no_deeper deepest limits) bytes
-        (R.remaining (reader_of input.new)) result }
-    ensures reads { CountsCounting (failed_reads input.old) (failed_reads input.new) result }
+        → CheckAnswers (no_deeper deepest limits) bytes (R.remaining (reader_of input.new))
+        (W.contents (writer_of output.old)) (W.contents (writer_of output.new)) result }
+    ensures reads { CountsReadFaults (failed_reads input.old) (failed_reads input.new) result }
+    ensures writes { CountsOnlyWrites (failed_writes output.old) (failed_writes output.new) result }
 {
     let tally = count_stream(alloc, input, limits)?;
-    let line = counts_line(alloc, tally).map_err(Memory::from)?;
-    Ok(line)
+    let line = counts_line(alloc, tally)?;
+    Ok(output.send_all(line.as_bytes())?)
 }
 
 /// The line of what was counted.
-fn counts_line(alloc: Global, tally: Tally) -> Result<String, AllocError>
+fn counts_line(alloc: Global, tally: Tally) -> Result<String, Memory>
     ensures { IfOk result (λ line. string_bytes line ≡ tally_line tally) }
 {
     let items = tally.items;
     let types = tally.types;
     let bytes = tally.bytes;
-    format!(in alloc; "ok: {items} items, {types} types, {bytes} bytes\n")
+    Ok(format!(in alloc; "ok: {items} items, {types} types, {bytes} bytes\n")?)
 }
 
 /// Counts what there is in the stream.
@@ -116,82 +79,52 @@ fn count_stream<R: Read>(
         → EndsCounting tally_line (no_deeper deepest limits) bytes (R.remaining (reader_of input.new)) result }
     ensures reads { CountsCounting (failed_reads input.old) (failed_reads input.new) result }
 {
-    let mut buffer = vec![in alloc; 0; PIECE].map_err(Memory::from)?;
-    let room = buffer.as_mut_slice();
-    let mut session = Session::<SkipBuilder>::new(alloc, limits)?;
+    let mut reader = StreamReader::<SkipBuilder>::new(alloc, limits)?;
     let mut items = 0;
     let mut bytes = 0;
-    'pieces: loop {
-        match input.read(room) {
-            Ok(0) => {
-                session.finish()?;
-                let types = session.table().count();
-                return Ok(Tally {
-                    items,
-                    types,
-                    bytes,
-                });
-            }
-            Ok(count) => {
-                count_piece(alloc, &mut session, &room[..count], &mut items)?;
-                bytes += count as u64;
-            }
-            Err(_) => return Err(ToolFault::Read),
-        }
+    while reader.more(input)? {
+        let passed = count_next(alloc, &mut reader)?;
+        items += passed.items;
+        bytes += passed.used as u64;
     }
+    let types = reader.table().count();
+    Ok(Tally {
+        items,
+        types,
+        bytes,
+    })
 }
 
-/// Takes a piece of the stream, and counts the items that are whole with it.
-fn count_piece(
-    alloc: Global,
-    session: &mut Session<SkipBuilder>,
-    piece: &[u8],
-    items: &mut u64,
-) -> Result<(), Fault>
-    requires counted { (bytes : List ℕ) × HasCounted session.old items.old bytes }
-    requires limits { AreLimits deepest (limits_of session.old) }
-    ensures counted { (bytes : List ℕ) → HasCounted session.old items.old bytes
-        → CountsAll (no_deeper deepest (limits_of session.old)) session.new items.new
-        (bytes ++ piece.now) result }
-    ensures limits { limits_of session.new ≡ limits_of session.old }
+/// Takes some of the bytes that wait: items of values that stand whole, or else one item at the most. How many items are
+/// whole with them, and how many bytes they are. Nothing is built of a value that stands whole.
+fn count_next(alloc: Global, reader: &mut StreamReader<SkipBuilder>) -> Result<Passed, Fault>
+    requires { 0 < length (waits_in reader.old) }
+    ensures counted { (read now : Option (List ℕ)) (given : List StreamItem)
+        → HasReadFrom skip_building reader.old read now given
+        → CountsNext reader.old reader.new read now given result }
+    ensures onward { IfOk result (λ passed. 0 < passed.items + passed.used) }
+    ensures unread { IfErr result (λ fault. fault ≢ Fault.Read) }
+    ensures limits { limits_of (session_of reader.new) ≡ limits_of (session_of reader.old) }
 {
-    let mut rest = piece;
-    while !rest.is_empty() {
-        let used = count_front(alloc, session, rest, items)?;
-        rest = &rest[used..];
-    }
-    Ok(())
-}
-
-/// Takes bytes from the front of the piece, and counts the items that are whole with them: those of values that stand
-/// whole, or else one at the most. Answers how many bytes it took. Nothing is built of a value that stands whole.
-fn count_front(
-    alloc: Global,
-    session: &mut Session<SkipBuilder>,
-    piece: &[u8],
-    items: &mut u64,
-) -> Result<usize, Fault>
-    requires some { 0 < length piece.now }
-    requires counted { (bytes : List ℕ) × HasCounted session.old items.old bytes }
-    requires limits { AreLimits deepest (limits_of session.old) }
-    ensures counted { (bytes : List ℕ) → HasCounted session.old items.old bytes
-        → CountsFront (no_deeper deepest (limits_of session.old)) session.new items.old items.new bytes
-        piece.now result }
-    ensures used { IfOk result (λ used. used ≤ length piece.now) }
-    ensures limits { limits_of session.new ≡ limits_of session.old }
-{
-    let passed = session.pass_values(piece);
+    let passed = reader.pass_values();
     if passed.items > 0 {
-        *items += passed.items;
-        return Ok(passed.used);
+        return Ok(passed);
     }
-    let step = session.step(alloc, piece)?;
-    let used = step.used;
-    match &step.item {
-        Some(_) => {
-            *items += 1;
-            Ok(used)
-        }
-        None => Ok(used),
+    let step = reader.step(alloc)?;
+    let passed = Passed {
+        items: count_given(&step.item),
+        used: step.used,
+    };
+    drop(step);
+    Ok(passed)
+}
+
+/// How many items a step gave.
+fn count_given(item: &Option<Item<()>>) -> u64
+    ensures { result ≡ given_count item.now }
+{
+    match item {
+        Some(_) => 1,
+        None => 0,
     }
 }

@@ -5,7 +5,7 @@ ghost use Rattle.gob_tool.specs.Fault.{fault_status, wanted_fault};
 
 use gob_match::{ClashReason, MatchFault, PathText, Step};
 use gob_num::Memory;
-use gob_stream::{Fault, Refusal};
+use gob_stream::{Fault, Refusal, WriteFault};
 use std::fmt;
 
 /// What stops a run. Display writes the line that the program prints, without the line feed.
@@ -78,6 +78,21 @@ impl From<Fault> for ToolFault {
             Fault::Refused(refusal) => ToolFault::Refused(refusal),
             Fault::Read => ToolFault::Read,
             Fault::Memory | Fault::Failed => ToolFault::Memory,
+        }
+    }
+}
+
+impl From<WriteFault> for ToolFault {
+    ghost use Rattle.std.specs.Prelude.{◌≡◌};
+    ghost use Rattle.gob_tool.specs.Fault.{writing_fault};
+
+    ghost from_gives = { λ given fault. fault ≡ writing_fault given };
+
+    // What is written is refused by no limit, and a writer answers `Failed` behind a failed write alone.
+    fn from(fault: WriteFault) -> ToolFault {
+        match fault {
+            WriteFault::Memory => ToolFault::Memory,
+            WriteFault::Refused(_) | WriteFault::Write | WriteFault::Failed => ToolFault::Write,
         }
     }
 }

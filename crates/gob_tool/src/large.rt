@@ -1,66 +1,129 @@
-//! The line of an item that is too large to be gathered, which goes out in blocks while it is made.
+//! The line of a large item, which goes out while it is made.
 
-ghost use Rattle.std.specs.Prelude.{◌≡◌, List, ℕ, min, Option, IfSome, ◌++◌};
-ghost use Rattle.gob_stream.specs.Bounds.{greatest_depth, within_trees};
-ghost use Rattle.gob_stream.specs.Ends.{failed_writes, writer_of};
+ghost use Rattle.std.specs.Prelude.{◌≡◌, ◌≤◌, ℕ, List, IfErr, IfSome, Option, min};
+ghost use Rattle.gob_read.specs.Calls.Builders.{tree_building};
+ghost use Rattle.gob_value.specs.Whole.{IsWhole};
+ghost use Rattle.gob_stream.specs.Bounds.{greatest_depth};
 ghost use Rattle.gob_stream.specs.Calls.Session.{limits_of};
-ghost use Rattle.gob_tool.specs.Machine.Gathering.{CountsOnlyWrites, StandsBehind, TakesPiece};
-ghost use Rattle.gob_tool.specs.Machine.Large.{IsLargeItem};
+ghost use Rattle.gob_stream.specs.Ends.{failed_writes, writer_of};
+ghost use Rattle.gob_stream.specs.Item.{StreamItem, puts};
+ghost use Rattle.gob_stream.specs.Writing.{CountsWriterFaults};
+ghost use Rattle.gob_stream.specs.Calls.Reader.{HasReadFrom, session_of};
+ghost use Rattle.gob_tool.specs.Line.{line};
+ghost use Rattle.gob_tool.specs.Machine.Sending.{CountsFaults, IsLargeItem, Sends, ShowsLarge, ShowsNone};
 
-use crate::block::Block;
-use crate::blocks::send_item;
-use crate::fault::ToolFault;
-use crate::lines::Lines;
-use gob_num::Memory;
-use gob_read::TreeBuilder;
-use gob_stream::{Output, Session, Whole};
+use gob_json::{TextOut, send_line};
+use gob_read::{Builder, TreeBuilder};
+use gob_stream::{Output, StreamReader, Whole, WriteFault};
+use gob_types::{Shapes, TypeId};
 use gob_value::is_whole;
-use std::alloc::Global;
 use std::io::Write;
 
-// The most bytes of an item whose line is gathered.
+// The most bytes of an item whose line is made before it goes out.
 const MOST_GATHERED: usize = 65536;
 
-/// The large item that the piece is, all of it, with a value no deeper than `depth`. None says nothing of the piece.
-pub(crate) fn large_item<'a>(
-    piece: &'a [u8],
-    depth: u64,
-    session: &Session<TreeBuilder>,
-) -> Option<Whole<'a>>
-    ensures { IfSome result (λ item. IsLargeItem session.now depth piece.now item.id item.body.now item.used) }
-{
-    if piece.len() <= MOST_GATHERED {
-        return None;
+// An output that text is sent to. It is taken apart in the end, and not dropped: so what it did to the output is known.
+struct Sending<'a, W: Write> {
+    output: &'a mut Output<W>,
+}
+
+impl<W: Write> TextOut for Sending<'_, W> {
+    ghost use Rattle.gob_tool.specs.Machine.Sending.{sends_both, sends_more, sent_counts};
+    ghost use Rattle.gob_stream.specs.declared.fault.WriteFault.TheVariants as fault;
+    ghost use Rattle.std.proofs.Common.{refl, ◌∙◌};
+    ghost use Rattle.std.proofs.KnownBytes.{Appends-nil};
+
+    type Fault = WriteFault;
+
+    ghost puts = { λ old new text result. (new.output.ghost_name ≡ old.output.ghost_name)
+        × Sends (W.contents (writer_of old.output.now)) (W.contents (writer_of new.output.now)) text result
+        × CountsWriterFaults (failed_writes old.output.now) (failed_writes new.output.now) result };
+
+    #[inline(always)]
+    fn put(&mut self, text: &[u8]) -> Result<(), WriteFault> {
+        self.output.send_all(text)
     }
-    let item = session.whole_value(piece)?;
-    if item.used < piece.len() || !is_whole(session.table(), item.id, item.body, depth) {
+
+    ghost nothing = { λ a. (refl, Appends-nil (W.contents (writer_of a.output.now)), refl) };
+
+    ghost joined = { λ a b c x y r p q. (
+      q.0 ∙ p.0,
+      sends_both (W.contents (writer_of a.output.now)) (W.contents (writer_of b.output.now))
+          (W.contents (writer_of c.output.now)) x y r p.1 q.1,
+      sent_counts (failed_writes a.output.now) (failed_writes b.output.now) (failed_writes c.output.now) r p.2 q.2,
+    ) };
+
+    ghost cut = { λ a b x y e p. (
+      p.0,
+      sends_more (W.contents (writer_of a.output.now)) (W.contents (writer_of b.output.now)) x y e p.1,
+      p.2,
+    ) };
+}
+
+// Writes the line of the item that puts the value of the type that the body spells, as is known of it, while it is made.
+fn send_item<S: Shapes, W: Write>(
+    shapes: &S,
+    id: TypeId,
+    body: &[u8],
+    depth: u64,
+    output: &mut Output<W>,
+) -> Result<(), WriteFault>
+    requires depth { depth ≤ 1000 }
+    requires whole { IsWhole (S.table shapes.now) id depth body.now }
+    ensures sent { (w : IsWhole (S.table shapes.now) id depth body.now)
+        → Sends (W.contents (writer_of output.old)) (W.contents (writer_of output.new))
+        (line (S.table shapes.now) (puts id w.value)) result }
+    ensures counted { CountsWriterFaults (failed_writes output.old) (failed_writes output.new) result }
+{
+    let mut sending = Sending { output };
+    let sent = send_line(shapes, id, body, depth, &mut sending);
+    let Sending { output: _sent_to } = sending;
+    sent
+}
+
+// How deep a value may be whose line is made of its bytes: no deeper than one that the session builds.
+pub(crate) fn shown_depth(reader: &StreamReader<TreeBuilder>) -> u64
+    ensures { result ≡ min (limits_of (session_of reader.now)).depth greatest_depth }
+{
+    reader.limits().depth().min(TreeBuilder::DEPTH)
+}
+
+// The large item of a value that waits as a whole. None says nothing of what waits.
+fn large_item(reader: &StreamReader<TreeBuilder>, depth: u64) -> Option<Whole<'_>>
+    ensures { IfSome result (λ item. IsLargeItem reader.now depth item.id item.body.now item.used) }
+{
+    let item = reader.whole()?;
+    if item.used <= MOST_GATHERED || !is_whole(reader.table(), item.id, item.body, depth) {
         return None;
     }
     Some(item)
 }
 
-/// Takes the item, and writes the lines that are gathered and its own. What it takes in memory is taken before the
-/// first byte of its line is written.
+/// Writes the line of the large item of a value that waits as a whole, if there is one, and goes past it. It takes no
+/// memory. False where there is none; nothing has changed then.
 pub(crate) fn show_large<W: Write>(
-    alloc: Global,
-    piece: &[u8],
-    depth: u64,
-    item: Whole<'_>,
-    session: &mut Session<TreeBuilder>,
-    lines: &mut Lines,
+    reader: &mut StreamReader<TreeBuilder>,
     output: &mut Output<W>,
-) -> Result<(), ToolFault>
-    requires depth { depth ≡ min (limits_of session.old).depth greatest_depth }
-    requires large { IsLargeItem session.old depth piece.now item.id item.body.now item.used }
-    ensures shown { (bytes : List ℕ) (start : Option (List ℕ))
-        → StandsBehind session.old bytes start (W.contents (writer_of output.old)) lines.old.gathered.items
-        → TakesPiece (within_trees (limits_of session.old)) session.new (bytes ++ piece.now)
-        start (W.contents (writer_of output.new)) lines.new.gathered.items result }
-    ensures limits { limits_of session.new ≡ limits_of session.old }
-    ensures writes { CountsOnlyWrites (failed_writes output.old) (failed_writes output.new) result }
+) -> Result<bool, WriteFault>
+    ensures shown { (read now : Option (List ℕ)) (given : List StreamItem)
+        → HasReadFrom tree_building reader.old read now given
+        → ShowsLarge reader.old reader.new read now given (W.contents (writer_of output.old))
+        (W.contents (writer_of output.new)) result }
+    ensures same { ShowsNone reader.old reader.new output.old output.new result }
+    ensures limits { limits_of (session_of reader.new) ≡ limits_of (session_of reader.old) }
+    ensures fault { IfErr result (λ fault. fault ≡ WriteFault.Write) }
+    ensures counted { CountsFaults (failed_writes output.old) (failed_writes output.new) result }
 {
-    let block = Block::new(alloc)?;
-    session.pass(item.used);
-    lines.write_to(output)?;
-    send_item(session.table(), item.id, item.body, depth, block, output)
+    if reader.waiting() <= MOST_GATHERED {
+        return Ok(false);
+    }
+    let depth = shown_depth(reader);
+    let Some(item) = large_item(reader, depth) else {
+        return Ok(false);
+    };
+    let used = item.used;
+    let sent = send_item(reader.table(), item.id, item.body, depth, output);
+    reader.pass(used);
+    sent?;
+    Ok(true)
 }

@@ -6,10 +6,10 @@
 //! ```
 #![tactic(auto)]
 
-mod block;
-mod blocks;
 mod check;
+mod end;
 mod fault;
+mod in_memory;
 mod item_json;
 mod large;
 mod lines;
@@ -23,9 +23,10 @@ mod show;
 mod take;
 mod wanted;
 
-pub use check::{Tally, check_bytes, run_check};
+pub use check::run_check;
 pub use fault::{ToolFault, status};
 pub use gob_words::{Chosen, Order, OrderFault, order_of};
+pub use in_memory::{Tally, check_bytes};
 pub use item_json::{json_of, json_of_tape};
 pub use rewrite::run_rewrite;
 pub use run::run_order;

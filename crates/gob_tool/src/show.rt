@@ -1,33 +1,37 @@
 //! The run that prints a stream.
 
-ghost use Rattle.std.specs.Prelude.{◌≡◌, ℕ, ◌<◌, ◌≤◌, List, [], ◌++◌, length, min, Option, Some, IfOk, IfSome, OnOk};
-ghost use Rattle.gob_stream.specs.Ends.{failed_reads, failed_writes, reader_of, writer_of};
+ghost use Rattle.std.specs.Prelude.{◌≡◌, ◌≢◌, ℕ, ◌<◌, List, [], length, Option, Some, IfErr, OnOk};
+ghost use Rattle.gob_read.specs.Calls.Builders.{tree_building};
+ghost use Rattle.gob_stream.specs.Bounds.{within_trees};
 ghost use Rattle.gob_stream.specs.Calls.Session.{limits_of};
-ghost use Rattle.gob_tool.specs.Showing.{RunAnswers, ShowAnswers, AppendsFront, CountsReadFaults, CountsWriteFaults};
-ghost use Rattle.gob_stream.specs.Bounds.{greatest_depth, within_trees};
-ghost use Rattle.gob_tool.specs.Machine.Gathering.{Gathered, StandsBehind, TakesPiece};
-ghost use Rattle.gob_tool.specs.Machine.Gathering.{CountsOnlyReads, CountsOnlyWrites};
-ghost use Rattle.gob_tool.specs.Machine.Gathering.{MayGatherWhole, TakesFront};
-ghost use Rattle.gob_tool.specs.Machine.Keeping.{KeepsBehind, TakesKeeping, MayTakeFront};
+ghost use Rattle.gob_types.specs.Defined.{types};
+ghost use Rattle.gob_stream.specs.Ends.{failed_reads, failed_writes, reader_of, writer_of};
+ghost use Rattle.gob_stream.specs.Item.{StreamItem};
+ghost use Rattle.gob_stream.specs.Calls.Reader.{HasReadFrom, session_of, waits_in};
+ghost use Rattle.gob_tool.specs.Machine.Ending.{CountsOnlyWrites};
+ghost use Rattle.gob_tool.specs.Machine.Lines.{MakesLine, MakesWhole, ShowsNext, line_given};
+ghost use Rattle.gob_tool.specs.Showing.{ShowAnswers, CountsReadFaults, CountsWriteFaults, IsFlushedSince};
 
+use crate::end::{end_run, flush_before_waiting};
 use crate::fault::ToolFault;
-use crate::large::{large_item, show_large};
-use crate::lines::Lines;
-use crate::pending::{Pending, is_begun};
+use crate::item_json::write_item;
+use crate::large::{show_large, shown_depth};
+use gob_json::line_of_whole;
 use gob_num::Memory;
-use gob_read::{Builder, TreeBuilder};
-use gob_stream::{Fault, Input, Limits, Output, Session};
+use gob_read::TreeBuilder;
+use gob_stream::{Fault, Input, Item, Limits, Output, StreamReader};
+use gob_types::Table;
+use gob_value::Value;
+use json::Writer;
 use std::alloc::Global;
 use std::io::{Read, Write};
-
-// How many bytes are asked of the input at a time.
-const PIECE: usize = 65536;
+use std::mem;
 
 /// Writes the JSON line of each item of a stream, and nothing else, and ends with a flush. Ok exactly at the
 /// end of a whole stream. Before a fault is answered the lines of the items before it are written; at
 /// `ToolFault::Write` a front of them may be. A flush that fails is that fault where no other came before it.
-/// The input is read in pieces of 64 KiB. What it takes in memory grows with the types and the largest item alone. No
-/// value may be deeper than the lesser of `limits.depth()` and 1000.
+/// What it takes in memory grows with the types and the largest item alone. No value may be deeper than the lesser of
+/// `limits.depth()` and 1000.
 pub fn run_show<R: Read, W: Write>(
     alloc: Global,
     input: &mut Input<R>,
@@ -39,292 +43,139 @@ pub fn run_show<R: Read, W: Write>(
         (W.contents (writer_of output.old)) (W.contents (writer_of output.new)) result }
     ensures reads { CountsReadFaults (failed_reads input.old) (failed_reads input.new) result }
     ensures writes { CountsWriteFaults (failed_writes output.old) (failed_writes output.new) result }
+    ensures flushed { IsFlushedSince (failed_writes output.old) output.new }
 {
-    let mut lines = Lines::new(alloc);
-    let shown = show_items(alloc, input, output, limits, &mut lines);
-    if matches!(shown, Err(ToolFault::Write)) {
-        return shown;
-    }
-    lines.write_to(output)?;
-    let flushed = output.flush();
-    match shown {
-        Ok(()) if flushed.is_err() => Err(ToolFault::Write),
-        _ => shown,
-    }
+    end_run(show_items(alloc, input, output, limits), output)
 }
 
-/// Reads the items, and writes their lines as they become many. Those that are left over stay in `lines`.
+/// Writes the lines.
 fn show_items<R: Read, W: Write>(
     alloc: Global,
     input: &mut Input<R>,
     output: &mut Output<W>,
     limits: Limits,
-    lines: &mut Lines,
 ) -> Result<(), ToolFault>
-    requires { lines.old.gathered.items ≡ [] }
     ensures shown { (bytes : List ℕ) → R.remaining (reader_of input.old) ≡ Some bytes
-        → RunAnswers (within_trees limits) bytes (R.remaining (reader_of input.new))
-        (Gathered (W.contents (writer_of output.old)) (W.contents (writer_of output.new)) lines.new.gathered.items)
-        (AppendsFront (W.contents (writer_of output.old)) (W.contents (writer_of output.new))) result }
-    ensures reads { CountsOnlyReads (failed_reads input.old) (failed_reads input.new) result }
+        → ShowAnswers (within_trees limits) bytes (R.remaining (reader_of input.new))
+        (W.contents (writer_of output.old)) (W.contents (writer_of output.new)) result }
+    ensures reads { CountsReadFaults (failed_reads input.old) (failed_reads input.new) result }
     ensures writes { CountsOnlyWrites (failed_writes output.old) (failed_writes output.new) result }
 {
-    let mut buffer = vec![in alloc; 0; PIECE].map_err(Memory::from)?;
-    let room = buffer.as_mut_slice();
-    let mut session = Session::<TreeBuilder>::new(alloc, limits)?;
-    let mut pending = Pending::new(alloc);
-    'pieces: loop {
-        match input.read(room) {
-            Ok(0) => return show_end(alloc, pending.bytes(), &mut session, lines, output),
-            Ok(count) => {
-                let piece = &room[..count];
-                show_next(alloc, piece, &mut session, &mut pending, lines, output)?;
-            }
-            Err(_) => return Err(ToolFault::Read),
-        }
+    let mut reader = StreamReader::<TreeBuilder>::new(alloc, limits)?;
+    let mut line = Vec::new(alloc);
+    while reader.fill(input)? {
+        show_next(alloc, &mut reader, &mut line, output)?;
+        flush_before_waiting(&reader, output)?;
     }
+    Ok(())
 }
 
-/// Takes the kept bytes at the end of the input, and says whether the stream ends there.
-fn show_end<W: Write>(
-    alloc: Global,
-    kept: &[u8],
-    session: &mut Session<TreeBuilder>,
-    lines: &mut Lines,
-    output: &mut Output<W>,
-) -> Result<(), ToolFault>
-    ensures shown { (bytes : List ℕ) (start : Option (List ℕ))
-        → KeepsBehind session.old kept.now bytes start (W.contents (writer_of output.old)) lines.old.gathered.items
-        → RunAnswers (within_trees (limits_of session.old)) bytes (Some [])
-        (Gathered start (W.contents (writer_of output.new)) lines.new.gathered.items)
-        (AppendsFront start (W.contents (writer_of output.new))) result }
-    ensures reads { (bytes : List ℕ) (start : Option (List ℕ)) (failures : ℕ)
-        → KeepsBehind session.old kept.now bytes start (W.contents (writer_of output.old)) lines.old.gathered.items
-        → CountsOnlyReads failures failures result }
-    ensures writes { CountsOnlyWrites (failed_writes output.old) (failed_writes output.new) result }
-{
-    show_piece(alloc, kept, session, lines, output)?;
-    Ok(session.finish()?)
-}
-
-/// Takes a piece of the stream, and gathers the lines of the items that are whole with it, also of those before a
-/// refusal. The first bytes of an item that isn't are kept.
+/// Takes some of the bytes that wait, and writes the line of the item that is whole with them. `line` is room for it;
+/// that of a large item goes out while it is made.
 fn show_next<W: Write>(
     alloc: Global,
-    piece: &[u8],
-    session: &mut Session<TreeBuilder>,
-    pending: &mut Pending,
-    lines: &mut Lines,
+    reader: &mut StreamReader<TreeBuilder>,
+    line: &mut Vec<u8>,
     output: &mut Output<W>,
 ) -> Result<(), ToolFault>
-    ensures shown { (bytes : List ℕ) (start : Option (List ℕ))
-        → KeepsBehind session.old pending.old.bytes.items bytes start (W.contents (writer_of output.old))
-        lines.old.gathered.items
-        → TakesKeeping (within_trees (limits_of session.old)) session.new pending.new.bytes.items
-        (bytes ++ piece.now) start (W.contents (writer_of output.new)) lines.new.gathered.items result }
-    ensures limits { limits_of session.new ≡ limits_of session.old }
+    requires { 0 < length (waits_in reader.old) }
+    ensures shown { (read now : Option (List ℕ)) (given : List StreamItem)
+        → HasReadFrom tree_building reader.old read now given
+        → ShowsNext reader.old reader.new read now given (W.contents (writer_of output.old))
+        (W.contents (writer_of output.new)) result }
+    ensures unread { IfErr result (λ fault. fault ≢ ToolFault.Read) }
+    ensures limits { limits_of (session_of reader.new) ≡ limits_of (session_of reader.old) }
     ensures writes { CountsOnlyWrites (failed_writes output.old) (failed_writes output.new) result }
 {
-    let missing = pending.missing(session);
-    if (piece.len() as u64) < missing {
-        return Ok(pending.keep(piece)?);
+    if show_large(reader, output)? {
+        return Ok(());
     }
-    let (front, behind) = piece.split_at(missing as usize);
-    show_kept(alloc, front, session, pending, lines, output)?;
-    show_behind(alloc, behind, session, pending, lines, output)
+    show_line(alloc, reader, line, output)
 }
 
-/// Takes what the kept bytes lacked, and them before it. None are kept then.
-fn show_kept<W: Write>(
+/// Takes some of the bytes that wait, and writes the line of the item that is whole with them, which is made in `line`
+/// before it goes out.
+fn show_line<W: Write>(
     alloc: Global,
-    front: &[u8],
-    session: &mut Session<TreeBuilder>,
-    pending: &mut Pending,
-    lines: &mut Lines,
+    reader: &mut StreamReader<TreeBuilder>,
+    line: &mut Vec<u8>,
     output: &mut Output<W>,
 ) -> Result<(), ToolFault>
-    ensures shown { (bytes : List ℕ) (start : Option (List ℕ))
-        → KeepsBehind session.old pending.old.bytes.items bytes start (W.contents (writer_of output.old))
-        lines.old.gathered.items
-        → TakesPiece (within_trees (limits_of session.old)) session.new (bytes ++ front.now)
-        start (W.contents (writer_of output.new)) lines.new.gathered.items result }
-    ensures none { OnOk result (pending.new.bytes.items ≡ []) }
-    ensures limits { limits_of session.new ≡ limits_of session.old }
+    requires { 0 < length (waits_in reader.old) }
+    ensures shown { (read now : Option (List ℕ)) (given : List StreamItem)
+        → HasReadFrom tree_building reader.old read now given
+        → ShowsNext reader.old reader.new read now given (W.contents (writer_of output.old))
+        (W.contents (writer_of output.new)) result }
+    ensures unread { IfErr result (λ fault. fault ≢ ToolFault.Read) }
+    ensures limits { limits_of (session_of reader.new) ≡ limits_of (session_of reader.old) }
     ensures writes { CountsOnlyWrites (failed_writes output.old) (failed_writes output.new) result }
 {
-    pending.keep(front)?;
-    show_item(alloc, pending.bytes(), session, lines, output)?;
-    pending.clear();
-    Ok(())
+    line.clear();
+    next_line(alloc, reader, line)?;
+    Ok(output.send_all(line)?)
 }
 
-/// The same as [`show_piece`] of a piece that may be one large item, whose line goes out while it is made.
-fn show_item<W: Write>(
+/// Takes some of the bytes that wait, and makes in `line`, which is empty, the line of the item that is whole with them.
+fn next_line(
     alloc: Global,
-    piece: &[u8],
-    session: &mut Session<TreeBuilder>,
-    lines: &mut Lines,
-    output: &mut Output<W>,
-) -> Result<(), ToolFault>
-    ensures shown { (bytes : List ℕ) (start : Option (List ℕ))
-        → StandsBehind session.old bytes start (W.contents (writer_of output.old)) lines.old.gathered.items
-        → TakesPiece (within_trees (limits_of session.old)) session.new (bytes ++ piece.now)
-        start (W.contents (writer_of output.new)) lines.new.gathered.items result }
-    ensures limits { limits_of session.new ≡ limits_of session.old }
-    ensures writes { CountsOnlyWrites (failed_writes output.old) (failed_writes output.new) result }
+    reader: &mut StreamReader<TreeBuilder>,
+    line: &mut Vec<u8>,
+) -> Result<(), Fault>
+    requires some { 0 < length (waits_in reader.old) }
+    requires empty { line.old.items ≡ [] }
+    ensures made { (read now : Option (List ℕ)) (given : List StreamItem)
+        → HasReadFrom tree_building reader.old read now given
+        → MakesLine reader.old reader.new read now given line.new.items result }
+    ensures unread { IfErr result (λ fault. fault ≢ Fault.Read) }
+    ensures limits { limits_of (session_of reader.new) ≡ limits_of (session_of reader.old) }
 {
-    let limit = shown_depth(session);
-    match large_item(piece, limit, session) {
-        Some(item) => show_large(alloc, piece, limit, item, session, lines, output),
-        None => show_piece(alloc, piece, session, lines, output),
+    if let Some(used) = whole_line(alloc, reader, line)? {
+        reader.pass(used);
+        return Ok(());
     }
+    let step = reader.step(alloc)?;
+    let made = given_line(alloc, &step.item, reader.table(), line);
+    drop(step);
+    Ok(made?)
 }
 
-/// Takes the items that are whole in the piece, and keeps what is behind them where it is the first bytes of one.
-fn show_behind<W: Write>(
+/// Makes the line of the item of a value that waits as a whole, of which nothing is built. How many bytes it has. None
+/// says nothing of what waits, and no line is made.
+fn whole_line(
     alloc: Global,
-    piece: &[u8],
-    session: &mut Session<TreeBuilder>,
-    pending: &mut Pending,
-    lines: &mut Lines,
-    output: &mut Output<W>,
-) -> Result<(), ToolFault>
-    requires none { pending.old.bytes.items ≡ [] }
-    ensures shown { (bytes : List ℕ) (start : Option (List ℕ))
-        → StandsBehind session.old bytes start (W.contents (writer_of output.old)) lines.old.gathered.items
-        → TakesKeeping (within_trees (limits_of session.old)) session.new pending.new.bytes.items
-        (bytes ++ piece.now) start (W.contents (writer_of output.new)) lines.new.gathered.items result }
-    ensures limits { limits_of session.new ≡ limits_of session.old }
-    ensures writes { CountsOnlyWrites (failed_writes output.old) (failed_writes output.new) result }
-{
-    let mut rest = piece;
-    'items: loop {
-        match show_ready(alloc, rest, session, lines)? {
-            Some(used) => {
-                lines.write_many(output)?;
-                rest = &rest[used..];
-            }
-            None => return Ok(pending.keep(rest)?),
-        }
-    }
-}
-
-/// Takes bytes from the front of the piece as [`show_front`] does. None where the piece is the first bytes of an item
-/// of a value, or empty, and then nothing has changed.
-fn show_ready(
-    alloc: Global,
-    piece: &[u8],
-    session: &mut Session<TreeBuilder>,
-    lines: &mut Lines,
-) -> Result<Option<usize>, Fault>
-    ensures shown { (bytes : List ℕ) (start now : Option (List ℕ))
-        → StandsBehind session.old bytes start now lines.old.gathered.items
-        → MayTakeFront (within_trees (limits_of session.old)) session.new bytes piece.now
-        start now lines.new.gathered.items result }
-    ensures used { IfOk result (λ taken. IfSome taken (λ used. (0 < used) × (used ≤ length piece.now))) }
-    ensures limits { limits_of session.new ≡ limits_of session.old }
-{
-    match show_whole(piece, session, lines)? {
-        Some(used) => Ok(Some(used)),
-        None if is_begun(session, piece) => Ok(None),
-        None => Ok(Some(show_step(alloc, piece, session, lines)?)),
-    }
-}
-
-/// Takes the piece, and gathers the lines of the items that are whole with it, also of those before a refusal.
-fn show_piece<W: Write>(
-    alloc: Global,
-    piece: &[u8],
-    session: &mut Session<TreeBuilder>,
-    lines: &mut Lines,
-    output: &mut Output<W>,
-) -> Result<(), ToolFault>
-    ensures shown { (bytes : List ℕ) (start : Option (List ℕ))
-        → StandsBehind session.old bytes start (W.contents (writer_of output.old)) lines.old.gathered.items
-        → TakesPiece (within_trees (limits_of session.old)) session.new (bytes ++ piece.now)
-        start (W.contents (writer_of output.new)) lines.new.gathered.items result }
-    ensures limits { limits_of session.new ≡ limits_of session.old }
-    ensures writes { CountsOnlyWrites (failed_writes output.old) (failed_writes output.new) result }
-{
-    let mut rest = piece;
-    while !rest.is_empty() {
-        let used = show_front(alloc, rest, session, lines)?;
-        lines.write_many(output)?;
-        rest = &rest[used..];
-    }
-    Ok(())
-}
-
-/// Takes bytes from the front of the piece, none behind the end of an item, and gathers the line of the item that is
-/// whole with them. Answers how many it took, one at least.
-fn show_front(
-    alloc: Global,
-    piece: &[u8],
-    session: &mut Session<TreeBuilder>,
-    lines: &mut Lines,
-) -> Result<usize, Fault>
-    requires some { 0 < length piece.now }
-    ensures shown { (bytes : List ℕ) (start now : Option (List ℕ))
-        → StandsBehind session.old bytes start now lines.old.gathered.items
-        → TakesFront (within_trees (limits_of session.old)) session.new bytes piece.now
-        start now lines.new.gathered.items result }
-    ensures used { IfOk result (λ used. (0 < used) × (used ≤ length piece.now)) }
-    ensures limits { limits_of session.new ≡ limits_of session.old }
-{
-    match show_whole(piece, session, lines)? {
-        Some(used) => Ok(used),
-        None => show_step(alloc, piece, session, lines),
-    }
-}
-
-/// The same of an item that stands whole at the front of the piece, of which nothing is built. None where there is
-/// none, and then, as after an error, nothing has changed.
-fn show_whole(
-    piece: &[u8],
-    session: &mut Session<TreeBuilder>,
-    lines: &mut Lines,
+    reader: &StreamReader<TreeBuilder>,
+    line: &mut Vec<u8>,
 ) -> Result<Option<usize>, Memory>
-    ensures shown { MayGatherWhole session.old session.new piece.now lines.old.gathered.items
-        lines.new.gathered.items result }
-    ensures limits { limits_of session.new ≡ limits_of session.old }
+    requires { line.old.items ≡ [] }
+    ensures { MakesWhole reader.now line.new.items result }
 {
-    let Some(whole) = session.whole_value(piece) else {
+    let Some(item) = reader.whole() else {
         return Ok(None);
     };
-    let most = shown_depth(session);
-    if !lines.push_whole(session.table(), whole.id, whole.body, most)? {
+    let depth = shown_depth(reader);
+    let mut room = Vec::new(alloc);
+    if !line_of_whole(reader.table(), item.id, item.body, depth, &mut room, line)? {
         return Ok(None);
     }
-    session.pass(whole.used);
-    Ok(Some(whole.used))
+    Ok(Some(item.used))
 }
 
-/// How deep a value may be whose line is made of its bytes: no deeper than one that the session builds.
-fn shown_depth(session: &Session<TreeBuilder>) -> u64
-    ensures { result ≡ min (limits_of session.now).depth greatest_depth }
-{
-    session.limits().depth().min(TreeBuilder::DEPTH)
-}
-
-/// The same by a step of the session, which builds the value.
-fn show_step(
+/// Makes the line of an item, if there is one.
+fn given_line(
     alloc: Global,
-    piece: &[u8],
-    session: &mut Session<TreeBuilder>,
-    lines: &mut Lines,
-) -> Result<usize, Fault>
-    requires some { 0 < length piece.now }
-    ensures shown { (bytes : List ℕ) (start now : Option (List ℕ))
-        → StandsBehind session.old bytes start now lines.old.gathered.items
-        → TakesFront (within_trees (limits_of session.old)) session.new bytes piece.now
-        start now lines.new.gathered.items result }
-    ensures used { IfOk result (λ used. (0 < used) × (used ≤ length piece.now)) }
-    ensures limits { limits_of session.new ≡ limits_of session.old }
+    item: &Option<Item<Value>>,
+    table: &Table,
+    line: &mut Vec<u8>,
+) -> Result<(), Memory>
+    requires { line.old.items ≡ [] }
+    ensures { OnOk result (line.new.items ≡ line_given (types table.now) item.now) }
 {
-    let step = session.step(alloc, piece)?;
-    let used = step.used;
-    let pushed = lines.push_given(alloc, &step, session.table());
-    drop(step);
-    pushed?;
-    Ok(used)
+    let Some(item) = item else {
+        return Ok(());
+    };
+    let mut out = Writer::new(mem::replace(line, Vec::new(alloc)));
+    let written = write_item(alloc, item, table, &mut out);
+    *line = out.into_inner();
+    written?;
+    Ok(line.push(b'\n')?)
 }

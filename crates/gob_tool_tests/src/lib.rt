@@ -13,6 +13,8 @@ mod endings;
 #[cfg(test)]
 mod faults;
 #[cfg(test)]
+mod flushes;
+#[cfg(test)]
 mod large;
 #[cfg(test)]
 mod large_items;

@@ -1,7 +1,7 @@
 -- What a reader has read goes on from call to call, and how it ends.
 use Rattle.std.proofs.Common.{◌≡◌, ℕ, ◌+◌, ◌<◌, ◌≤◌, arith, List, [], ◌∷◌, ◌++◌, length, take, drop, Option, Some, None}
 use Rattle.std.proofs.Common.{Result, Ok, Err, Bool, true, false, ◌∙◌, ap, sym, subst, refl, append_assoc, append-nil}
-use Rattle.std.proofs.Common.{length-append, take-append-drop, is_some, not, IfErr, IfSome, ◌≢◌}
+use Rattle.std.proofs.Common.{◌-◌, inl, inr, length-append, length-take, take-append-drop, is_some, not, IfErr, IfSome, ◌≢◌}
 use Rattle.std.proofs.lemmas.List.{take-append-le, length-take-le}
 use Rattle.std.specs.Result.{IsErrAnd}
 use Rattle.std.specs.Io.KnownBytes.{Consumes, Keeps, IsAtEnd}
@@ -17,7 +17,7 @@ use Rattle.gob_stream.specs.Item.{StreamItem}
 use Rattle.gob_stream.specs.Machine.ReadParts.{AdvancesOver, over_some, over_item}
 use Rattle.gob_stream.specs.Machine.SessionState.{SessionState}
 use Rattle.gob_stream.specs.Outcome.{BeginsWithStream, LongestStream, Outcome, EndsSo, the_end, at_the_end, refused}
-use Rattle.gob_stream.specs.Reading.{CountsReads, ShowsRefusal, Taken}
+use Rattle.gob_stream.specs.Reading.{CountsReads, ShowsRefusal, SomeTaken, Taken}
 use Rattle.gob_stream.specs.Stream.{Stream}
 use Rattle.gob_stream.specs.declared.fault.Fault.{Fault}
 use Rattle.gob_stream.specs.declared.fault.Fault.TheVariants as fault
@@ -32,7 +32,9 @@ use Rattle.gob_stream.proofs.Reader.WholeSteps.{begun_gives}
 use Rattle.gob_stream.proofs.Stream.StayLaws.{shown_refusal_stays, shown_there}
 use Rattle.gob_stream.specs.Calls.Reader.{BringsOnce, EndsWith, left_to_read, ReadsOnce, Fills, HasReadFrom, Lacks, Begins, PassesFrom, PassesOne}
 use Rattle.gob_stream.specs.Calls.Reader.{StepsFrom, StepsOnFrom, StopsFrom, GivesItems, gives_none, gives_one}
-use Rattle.gob_stream.specs.Calls.Reader.{none_wait, some_wait, session_of, waits_in}
+use Rattle.gob_stream.specs.Calls.Reader.{GivesAllBut, none_wait, some_wait, most_ahead, room_in, session_of, waits_in}
+use Rattle.gob_stream.specs.Machine.Waiting.{Grows}
+use Rattle.gob_num.proofs.PublicLaws.{unsigned_length}
 use Rattle.gob_stream.specs.declared.stream_reader.StreamReader.{StreamReader}
 
 -- ---- known bytes
@@ -95,6 +97,26 @@ reads_fall {X = X} {O = O} {r = r} {r' = r'} same b l open_ =
     (subst (λ (e : Bool). left_to_read r'.ended (waits_in r') T S < left_to_read e (waits_in r) T S) (sym open_)
     (falls r'.ended (waits_in r) b.more (waits_in r') T S b.behind b.some (lacks_few l)))
 
+-- the room doesn't grow beyond what an item wants
+grows_few : {X O : Type 0} {r : StreamReader X O} {room : ℕ} → Lacks r → Grows (room_in r) room (length (waits_in r))
+    → room_in r ≤ most_ahead (limits_of (session_of r)) → room ≤ most_ahead (limits_of (session_of r))
+grows_few l (inl less) few = omega (arith, less, few)
+grows_few (none_wait e) (inr more) few = omega (arith, more, ap length e)
+grows_few (some_wait between begun open_) (inr more) few =
+    let head = unsigned_length begun.counts in
+    omega (arith, more, begun.short, begun.all, begun.item, head.1)
+
+-- no more wait than there is room for
+waits_few : {X O : Type 0} (r : StreamReader X O) → length (waits_in r) ≤ room_in r
+waits_few r = let few = length-take (r.waiting.end - r.waiting.start) (drop r.waiting.start r.waiting.room.items) in
+    omega (arith, few, r.waiting.in_bounds)
+
+-- the room and the limits are as they were
+pub record IsAsWide {X O : Type 0} (r r' : StreamReader X O) : Type 0 where
+  pub ended : r'.ended ≡ r.ended
+  pub room : room_in r' ≡ room_in r
+  pub limits : limits_of (session_of r') ≡ limits_of (session_of r)
+
 -- what the item that is awaited says of what waits
 pub lacks_some : {X O : Type 0} (r : StreamReader X O) (piece : List ℕ) (o : Option Awaited) (none : Bool)
     → is_some o ≡ not none → none ≡ false → IfSome o (λ a. IsBetweenItems (session_of r))
@@ -128,6 +150,24 @@ counts_nothing A old new (Err fault.Read) same other = absurd (other refl)
 counts_nothing A old new (Err fault.Memory) same other = same
 counts_nothing A old new (Err fault.Failed) same other = same
 
+-- so the items begin the bytes
+pub ahead_begins : {L : Bounds} {T : Table} {items : List StreamItem} {bytes : List ℕ} {now : Option (List ℕ)}
+    → SomeTaken bytes now (GivesAllBut L T items) → Begins L T items bytes
+ahead_begins s =
+    let b = s.holds.gives.begins in
+    record {
+      begins = record {
+        front = b.front;
+        rest = (b.rest ++ s.holds.rest) ++ s.taken.left;
+        table = b.table;
+        stream = b.stream;
+        whole = s.taken.whole ∙ ap (λ (l : List ℕ). l ++ s.taken.left) (s.holds.whole
+            ∙ ap (λ (l : List ℕ). l ++ s.holds.rest) b.whole ∙ append_assoc b.front b.rest s.holds.rest)
+            ∙ append_assoc b.front (b.rest ++ s.holds.rest) s.taken.left;
+      };
+      table = s.holds.table;
+    }
+
 module _ {X O : Type 0} {most : ℕ} (building : Building X O most) where
   -- behind the items of bytes with which others begin there is the table of what gave them
   table_is : {s : SessionState X O} {items : List StreamItem} {taken bytes : List ℕ} (more : List ℕ)
@@ -145,12 +185,13 @@ module _ {X O : Type 0} {most : ℕ} (building : Building X O most) where
 
   -- a reader that has read nothing
   pub first_read : (r : StreamReader X O) (read : Option (List ℕ)) → HasRead building (session_of r) [] []
-      → waits_in r ≡ [] → r.ended ≡ false → HasReadFrom building r read read []
-  first_read r read gave none open_ = record {
+      → waits_in r ≡ [] → r.ended ≡ false → room_in r ≡ 65536 → HasReadFrom building r read read []
+  first_read r read gave none open_ room = record {
     taken = [];
     input = subst (λ (l : List ℕ). Consumes read read l) (sym none) (Consumes-nil read);
     gave = gave;
     end = λ e. let no : true ≡ false = sym e ∙ open_ in cc;
+    room = omega (arith, room);
   }
 
   -- the begin of what was read, of known bytes
@@ -178,17 +219,44 @@ module _ {X O : Type 0} {most : ℕ} (building : Building X O most) where
         table = refl;
       }
 
+  -- all of what was read but what waits was taken
+  ahead_in : {items : List StreamItem} (r : StreamReader X O) (read now : Option (List ℕ)) (bytes taken : List ℕ)
+      → Consumes read now (taken ++ waits_in r) → HasRead building (session_of r) items taken
+      → room_in r ≤ most_ahead (limits_of (session_of r)) → read ≡ Some bytes
+      → SomeTaken bytes now (GivesAllBut (no_deeper most (limits_of (session_of r))) (types_of (session_of r)) items)
+  ahead_in r read now bytes taken input gave room known =
+      let g = after_gives gave in
+      let few = waits_few r in
+      record {
+        bytes = taken ++ waits_in r;
+        taken = taken_known read now bytes (taken ++ waits_in r) known input;
+        holds = record {
+          front = taken;
+          rest = waits_in r;
+          whole = refl;
+          few = omega (arith, few, room);
+          gives = g;
+          table = table_is [] (sym (append-nil taken)) gave g.begins;
+        };
+      }
+
+  pub ahead_so : {r : StreamReader X O} {read now : Option (List ℕ)} {items : List StreamItem} (bytes : List ℕ)
+      → HasReadFrom building r read now items → read ≡ Some bytes
+      → SomeTaken bytes now (GivesAllBut (no_deeper most (limits_of (session_of r))) (types_of (session_of r)) items)
+  ahead_so {r = r} {read = read} {now = now} bytes h known = ahead_in r read now bytes h.taken h.input h.gave h.room known
+
   -- ---- reading on
   pub read_on : {r r' : StreamReader X O} {read old new : Option (List ℕ)} {items : List StreamItem}
-      → session_of r' ≡ session_of r → BringsOnce r r' old new → HasReadFrom building r read old items
+      → session_of r' ≡ session_of r → Lacks r → BringsOnce r r' old new → HasReadFrom building r read old items
       → HasReadFrom building r' read new items
-  read_on {r = r} {r' = r'} {read = read} {old = old} {new = new} {items = items} same b h = record {
+  read_on {r = r} {r' = r'} {read = read} {old = old} {new = new} {items = items} same l b h = record {
     taken = h.taken;
     input = subst (λ (l : List ℕ). Consumes read new l)
         (append_assoc h.taken (waits_in r) b.more ∙ ap (λ (l : List ℕ). h.taken ++ l) (sym b.behind))
         (Consumes-trans read old new (h.taken ++ waits_in r) b.more h.input b.read);
     gave = subst (λ (s : SessionState X O). HasRead building s items h.taken) (sym same) h.gave;
     end = b.end;
+    room = subst (λ (s : SessionState X O). room_in r' ≤ most_ahead (limits_of s)) (sym same) (grows_few l b.room h.room);
   }
 
   -- what waits and isn't whole gives no item
@@ -218,7 +286,8 @@ module _ {X O : Type 0} {most : ℕ} (building : Building X O most) where
       → StopsFrom building (session_of r) read new items e
   read_stops r' new (fault.Refused R) l o h = absurd o
   read_stops r' new fault.Read l o h = read_failed l o.1 h
-  read_stops r' new fault.Memory l o h = λ bytes known. begins_so bytes h known
+  read_stops {r = r} {read = read} {old = old} r' new fault.Memory l o h = λ bytes known.
+      ahead_in r read new bytes h.taken (Consumes-kept read old new (h.taken ++ waits_in r) h.input o.1) h.gave h.room known
   read_stops r' new fault.Failed l o h = absurd o
 
   -- ---- the ends
@@ -271,7 +340,7 @@ module _ {X O : Type 0} {most : ℕ} (building : Building X O most) where
 
   -- ---- taking what waits
   takes_on : {r r' : StreamReader X O} {read now : Option (List ℕ)} {items all : List StreamItem} (used : ℕ)
-      (h : HasReadFrom building r read now items) → waits_in r' ≡ drop used (waits_in r) → r'.ended ≡ r.ended
+      (h : HasReadFrom building r read now items) → waits_in r' ≡ drop used (waits_in r) → IsAsWide r r'
       → HasRead building (session_of r') all (h.taken ++ take used (waits_in r))
       → HasReadFrom building r' read now all
   takes_on {r = r} {r' = r'} {read = read} {now = now} used h left same a = record {
@@ -282,7 +351,8 @@ module _ {X O : Type 0} {most : ℕ} (building : Building X O most) where
         ∙ sym (append_assoc h.taken (take used (waits_in r)) (waits_in r')))
         h.input;
     gave = a;
-    end = λ e. h.end (sym same ∙ e);
+    end = λ e. h.end (sym same.ended ∙ e);
+    room = omega (arith, h.room, same.room, ap (λ (L : Bounds). L.item) same.limits);
   }
 
   onward_so : {s s' : SessionState X O} {items all : List StreamItem} {taken : List ℕ} (waits : List ℕ) (used : ℕ) → used ≤ length waits
@@ -293,7 +363,7 @@ module _ {X O : Type 0} {most : ℕ} (building : Building X O most) where
 
   -- a step
   pub steps_on : {r r' : StreamReader X O} {read now : Option (List ℕ)} {items : List StreamItem} (step : Step O)
-      → (h : HasReadFrom building r read now items) → waits_in r' ≡ drop step.used (waits_in r) → r'.ended ≡ r.ended
+      → (h : HasReadFrom building r read now items) → waits_in r' ≡ drop step.used (waits_in r) → IsAsWide r r'
       → StepAnswers building (session_of r) (session_of r') items h.taken (waits_in r) (Ok step)
       → StepsOnFrom building r r' read now items step
   steps_on {r = r} {r' = r'} {read = read} {now = now} {items = items} step h left same answers = on refl answers
@@ -327,12 +397,12 @@ module _ {X O : Type 0} {most : ℕ} (building : Building X O most) where
         table = table_is (waits_in r ++ t.left) (t.whole ∙ append_assoc h.taken (waits_in r) t.left) h.gave o.gives.begins;
       }
   step_stops s' fault.Read h f = absurd f
-  step_stops s' fault.Memory h f = λ bytes known. begins_so bytes h known
+  step_stops s' fault.Memory h f = λ bytes known. ahead_so bytes h known
   step_stops s' fault.Failed h f = absurd f
 
   -- past one item
   pub passes_one : {r r' : StreamReader X O} (used : ℕ) → used ≤ length (waits_in r) → waits_in r' ≡ drop used (waits_in r)
-      → r'.ended ≡ r.ended → ReadsOn building (session_of r) (session_of r') used → PassesOne building r r' used
+      → IsAsWide r r' → ReadsOn building (session_of r) (session_of r') used → PassesOne building r r' used
   passes_one {r = r} used within left same on = λ read now items item h there.
       let a = on items h.taken item (take used (waits_in r)) h.gave there (length-take-le used (waits_in r) within) in
       record { after = takes_on used h left same a; onward = onward_so (waits_in r) used within h.gave a }
@@ -340,7 +410,7 @@ module _ {X O : Type 0} {most : ℕ} (building : Building X O most) where
   -- past items of values that stand whole
   pub passes_from : {r r' : StreamReader X O} (passed : Passed)
       → ReadsItems building (session_of r) (session_of r') passed.items passed.used (waits_in r)
-      → waits_in r' ≡ drop passed.used (waits_in r) → r'.ended ≡ r.ended → PassesFrom building r r' passed
+      → waits_in r' ≡ drop passed.used (waits_in r) → IsAsWide r r' → PassesFrom building r r' passed
   passes_from {r = r} passed p left same = record {
     more = p.given;
     counted = p.counted;

@@ -106,6 +106,7 @@ has_begun L T offset id piece used count end a few named may =
           ∙ ap (λ y. take used piece ++ y) (sym (take-append-drop (end - used) (drop used piece)));
       before = omega arith;
       all = omega arith;
+      item = a.item;
       stream = omega (arith, a.stream);
       may = may;
       short = omega arith;

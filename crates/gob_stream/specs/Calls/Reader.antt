@@ -1,5 +1,5 @@
 -- What a reader has read of its input, and what its calls answer.
-use Rattle.std.specs.Prelude.{◌≡◌, ℕ, ◌+◌, ◌-◌, ◌<◌, List, [], ◌∷◌, ◌++◌, length, take, Option, Some, None, Result, Ok, Err}
+use Rattle.std.specs.Prelude.{◌≡◌, ℕ, ◌+◌, ◌-◌, ◌*◌, ◌<◌, ◌≤◌, vec_len, List, [], ◌∷◌, ◌++◌, length, take, Option, Some, None, Result, Ok, Err}
 use Rattle.std.specs.Prelude.{Bool, true, false}
 use Rattle.std.specs.Io.KnownBytes.{Consumes, Keeps, IsAtEnd}
 use Rattle.gob_types.specs.Base.{base_table}
@@ -20,7 +20,7 @@ use Rattle.gob_stream.specs.declared.fault.Fault.TheVariants as fault
 use Rattle.gob_stream.specs.declared.item.Item as declared
 use Rattle.gob_stream.specs.declared.session.Step.{Step}
 use Rattle.gob_stream.specs.declared.values.Passed.{Passed}
-use Rattle.gob_stream.specs.Machine.Waiting.{HasRoom, waiting}
+use Rattle.gob_stream.specs.Machine.Waiting.{Grows, HasRoom, waiting}
 use Rattle.gob_stream.specs.declared.stream_reader.StreamReader.{StreamReader}
 
 -- ---- what contracts see of a reader
@@ -30,6 +30,14 @@ session_of r = r.session
 -- the bytes that were read and not yet taken
 abbrev pub waits_in : {X O : Type 0} → StreamReader X O → List ℕ
 waits_in r = waiting r.waiting
+
+-- the room that it has for them
+abbrev pub room_in : {X O : Type 0} → StreamReader X O → ℕ
+room_in r = vec_len r.waiting.room
+
+-- how many bytes wait at most: as many as are read behind the first bytes of an item, which are no more than the item's
+abbrev pub most_ahead : Bounds → ℕ
+most_ahead L = 2 * L.item + 65554
 
 -- the last read gave less than was asked for, or there was none
 abbrev pub IsShort : {X O : Type 0} → StreamReader X O → Type 0
@@ -43,6 +51,16 @@ pub record HasReadFrom {X O : Type 0} {most : ℕ} (building : Building X O most
   pub input : Consumes read now (taken ++ waits_in r)
   pub gave : HasRead building (session_of r) items taken
   pub end : r.ended ≡ true → IsAtEnd now
+  pub room : room_in r ≤ most_ahead (limits_of (session_of r))
+
+-- all of the bytes but the last ones, of which no more waited, give the items, with this table behind them
+pub record GivesAllBut (L : Bounds) (T : Table) (items : List StreamItem) (bytes : List ℕ) : Type 0 where
+  pub front : List ℕ
+  pub rest : List ℕ
+  pub whole : bytes ≡ front ++ rest
+  pub few : length rest ≤ most_ahead L
+  pub gives : LongestStream base_table L front items
+  pub table : gives.begins.table ≡ T
 
 -- ---- what its calls answer
 -- bytes are the stream of the items with this table behind it, and all of them, so many, were read
@@ -68,7 +86,7 @@ pub record Begins (L : Bounds) (T : Table) (items : List StreamItem) (bytes : Li
 abbrev pub Stops : Bounds → Table → List StreamItem → (bytes : List ℕ) → (now : Option (List ℕ)) → Fault → Type 0
 Stops L T items bytes now (fault.Refused R) = Refuses L T items bytes R
 Stops L T items bytes now fault.Read = SomeTaken bytes now (λ taken. Longest L T items taken)
-Stops L T items bytes now fault.Memory = Begins L T items bytes
+Stops L T items bytes now fault.Memory = SomeTaken bytes now (GivesAllBut L T items)
 Stops L T items bytes now fault.Failed = ⊥
 
 abbrev pub StopsFrom : {X O : Type 0} {most : ℕ} → Building X O most → SessionState X O → (read now : Option (List ℕ))
@@ -136,6 +154,7 @@ pub record BringsOnce {X O : Type 0} (r r' : StreamReader X O) (old new : Option
   pub more : List ℕ
   pub read : Consumes old new more
   pub behind : waits_in r' ≡ waits_in r ++ more
+  pub room : Grows (room_in r) (room_in r') (length (waits_in r))
   pub some : r'.ended ≡ false → 0 < length more
   pub end : r'.ended ≡ true → IsAtEnd new
 

@@ -19,6 +19,7 @@ use Rattle.gob_stream.specs.Devices.{counts_up}
 use Rattle.gob_stream.specs.Calls.Session.{HasRead}
 use Rattle.gob_tool.specs.declared.fault.ToolFault.{ToolFault}
 use Rattle.gob_tool.specs.declared.fault.ToolFault.TheVariants as fault
+pub use Rattle.gob_tool.specs.Machine.Ending.{CountsOnlyReads, CountsOnlyWrites}
 use Rattle.gob_tool.specs.Line.{line, lines}
 use Rattle.gob_tool.specs.Showing.{AppendsFront, IsRefused, BeginsOutcome}
 
@@ -78,32 +79,6 @@ pub record StandsGathered (s : SessionState TreeBuilder Value) (read now old new
 abbrev pub CountsWrites : (failures failures' : ℕ) → Result (Unit {0}) ToolFault → Type 0
 CountsWrites failures failures' (Ok _) = failures' ≡ failures
 CountsWrites failures failures' (Err _) = failures' ≡ counts_up failures 1
-
--- before the end of a run, a read or a write failed exactly where the fault says so
-abbrev pub CountsOnlyReads : (failures failures' : ℕ) → Result (Unit {0}) ToolFault → Type 0
-CountsOnlyReads failures failures' (Err fault.Read) = failures' ≡ counts_up failures 1
-CountsOnlyReads failures failures' _ = failures' ≡ failures
-
-abbrev pub CountsOnlyWrites : {A : Type 0} → (failures failures' : ℕ) → Result A ToolFault → Type 0
-CountsOnlyWrites failures failures' (Err fault.Write) = failures' ≡ counts_up failures 1
-CountsOnlyWrites failures failures' _ = failures' ≡ failures
-
--- the line of a whole item at the front of a piece was gathered, and the reader is behind the item
-pub record GathersWhole (s s' : SessionState TreeBuilder Value) (piece before after : List ℕ) (used : ℕ) : Type 0 where
-  pub item : StreamItem
-  pub some : 0 < used
-  pub within : used ≤ length piece
-  pub line : after ≡ before ++ line (types s.types) item
-  pub same : s'.types ≡ s.types
-  pub passed : (items : List StreamItem) (bytes : List ℕ) → GaveItems s items bytes
-      → GaveItems s' (items ++ item ∷ []) (bytes ++ take used piece)
-
--- or nothing has changed
-abbrev pub MayGatherWhole : (s s' : SessionState TreeBuilder Value) → (piece before after : List ℕ)
-    → Result (Option ℕ) Memory → Type 0
-MayGatherWhole s s' piece before after (Ok (Some used)) = GathersWhole s s' piece before after used
-MayGatherWhole s s' piece before after (Ok None) = (s' ≡ s) × (after ≡ before)
-MayGatherWhole s s' piece before after (Err _) = (s' ≡ s) × (after ≡ before)
 
 -- the line of the item was gathered, if there is one
 abbrev pub GathersGiven : Table → Option (declared.Item Value) → (before after : List ℕ) → Type 0

@@ -1,15 +1,18 @@
--- The session stands behind what was read, and all of it was counted.
-use Rattle.std.proofs.Common.{◌≡◌, ◌<◌, ◌+◌, ◌-◌, length}
+-- All that was taken was counted.
+use Rattle.std.proofs.Common.{◌≡◌, ◌+◌, ◌-◌}
+use Rattle.gob_stream.specs.Calls.Session.{limits_of}
 use Rattle.gob_stream.specs.Ends.{failed_reads, reader_of}
-use Rattle.gob_tool.specs.Machine.Counting.{CountsIn}
+use Rattle.gob_stream.specs.Calls.Reader.{session_of}
+use Rattle.gob_tool.specs.Machine.Counting.{CountsSo}
 use Rattle.gob_tool.proofs.check.count_stream.Given as goal
 
-abbrev pub invariant-pieces : goal.invariant-pieces
-invariant-pieces g l =
-    (l.session.limits ≡ l.fn.limits)
+abbrev pub invariant-loop-reader : goal.invariant-loop-reader
+invariant-loop-reader g l =
+    (limits_of (session_of l.reader) ≡ l.fn.limits)
     × (failed_reads l.input ≡ failed_reads l.fn.input)
-    × CountsIn l.session (g.R.Read.remaining (reader_of l.fn.input)) (g.R.Read.remaining (reader_of l.input)) l.items l.bytes
-    × (0 < length l.room)
+    × CountsSo l.reader (g.R.Read.remaining (reader_of l.fn.input)) (g.R.Read.remaining (reader_of l.input)) l.items l.bytes
 
-abbrev pub decreases-pieces : goal.decreases-pieces
-decreases-pieces g l = l.session.limits.stream + 9 - l.session.taken
+-- each turn takes a byte or counts an item
+abbrev pub decreases-loop-reader : goal.decreases-loop-reader
+decreases-loop-reader g l =
+    ((limits_of (session_of l.reader)).stream + 9 - l.items) + ((limits_of (session_of l.reader)).stream + 9 - l.bytes)

@@ -9,7 +9,8 @@ reads-preserved g c =
     let i = c.reads.invariant in (
       c.in_ok-read_once.ensures.same ∙ i.0,
       c.in_ok-read_once.ensures.reads ∙ i.1,
-      λ read items h. read_on g.B.Builder.building c.in_ok-read_once.ensures.same c.in_ok-read_once.ensures.read (i.2 read items h),
+      λ read items h. read_on g.B.Builder.building c.in_ok-read_once.ensures.same (c.has_next.ensures.lacks c.if-has_next.false)
+          c.in_ok-read_once.ensures.read (i.2 read items h),
     )
 
 pub reads-smaller : goal.reads-smaller

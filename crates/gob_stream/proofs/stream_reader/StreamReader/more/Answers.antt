@@ -25,7 +25,8 @@ returns-then-is_empty-clause-filled g c = λ read items h.
     fills_from g.B.Builder.building (session_of c.args.self.now) c.read_once.new.self c.end.new.self read
     (g.R.Read.remaining (reader_of c.read_once.new.input)) items c.end.result c.in_ok-read_once.ensures.same
     (c.end.ensures.filled read (g.R.Read.remaining (reader_of c.read_once.new.input)) items
-    (read_on g.B.Builder.building c.in_ok-read_once.ensures.same c.in_ok-read_once.ensures.read h))
+    (read_on g.B.Builder.building c.in_ok-read_once.ensures.same
+    (none_wait (sym c.bytes.ensures ∙ no_bytes c.bytes.result.now (search rules))) c.in_ok-read_once.ensures.read h))
 
 pub returns-then-is_empty-clause-counted : goal.returns-then-is_empty-clause-counted
 returns-then-is_empty-clause-counted g c =
@@ -35,7 +36,8 @@ returns-then-is_empty-clause-counted g c =
 pub returns-clause-filled : goal.returns-clause-filled
 returns-clause-filled g c = λ read items h.
     let same = c.in_ok-read_once.ensures.same in (
-      read_on g.B.Builder.building same c.in_ok-read_once.ensures.read h,
+      read_on g.B.Builder.building same (none_wait (sym c.bytes.ensures ∙ no_bytes c.bytes.result.now (search rules)))
+          c.in_ok-read_once.ensures.read h,
       ap (λ s. taken_of s) same,
       ap (λ s. types_of s) same,
     )

@@ -9,6 +9,7 @@ returns-clause-read g c =
       more = b.more;
       read = b.read;
       behind = b.behind;
+      room = c.in_ok-count.ensures.grown;
       some = λ e. omega (arith, eqb-false c.in_ok-count.count 0 e, b.counted);
       end = λ e. b.end (eqb-true c.in_ok-count.count 0 e);
     }

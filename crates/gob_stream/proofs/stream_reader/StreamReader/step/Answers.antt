@@ -14,6 +14,7 @@ returns-in_err-step-clause-stepped g c = λ read now items h.
 
 pub returns-clause-stepped : goal.returns-clause-stepped
 returns-clause-stepped g c = λ read now items h.
-    steps_on g.B.Builder.building c.in_ok-step.step h c.pass.ensures refl
+    steps_on g.B.Builder.building c.in_ok-step.step h c.pass.ensures.bytes
+    (record { ended = refl; room = c.pass.ensures.room; limits = c.in_ok-step.ensures.limits })
     (subst (λ l. StepAnswers g.B.Builder.building (session_of c.args.self.now) c.step.new.self items h.taken l
     (Ok c.in_ok-step.step)) c.bytes.ensures (c.in_ok-step.ensures.advances items h.taken h.gave))

@@ -1,0 +1,71 @@
+-- Where a run stands that writes lines. For private clauses.
+use Rattle.std.specs.Prelude.{◌≡◌, ℕ, ◌<◌, List, [], ◌++◌, Option, Some, None, Result, Ok, Err}
+use Rattle.std.specs.Io.KnownBytes.{Appends}
+use Rattle.gob_num.specs.declared.memory.Memory.{Memory}
+use Rattle.gob_read.specs.Calls.Builders.{tree_building}
+use Rattle.gob_read.specs.declared.tree_builder.TreeBuilder.{TreeBuilder}
+use Rattle.gob_types.specs.Table.{Table}
+use Rattle.gob_types.specs.declared.id.TypeId.{TypeId}
+use Rattle.gob_value.specs.Whole.{IsWhole}
+use Rattle.gob_value.specs.declared.value.Value.{Value}
+use Rattle.gob_stream.specs.Bounds.{within_trees}
+use Rattle.gob_stream.specs.Calls.Session.{HasBodyNext, IsBetweenItems, limits_of, taken_of, types_of}
+use Rattle.gob_stream.specs.Item.{StreamItem, item_view, puts}
+use Rattle.gob_stream.specs.declared.fault.Fault.{Fault}
+use Rattle.gob_stream.specs.declared.item.Item as declared
+use Rattle.gob_stream.specs.Calls.Reader.{HasReadFrom, StopsFrom, session_of, waits_in}
+use Rattle.gob_stream.specs.declared.stream_reader.StreamReader.{StreamReader}
+use Rattle.gob_tool.specs.declared.fault.ToolFault.{ToolFault}
+use Rattle.gob_tool.specs.Line.{line, lines}
+use Rattle.gob_tool.specs.Showing.{AppendsFront, RunAnswers}
+
+-- the reader of trees
+abbrev pub Trees : Type 0
+Trees = StreamReader TreeBuilder Value
+
+-- the items that were read have these lines in what went out
+pub record ShowsSo (r : Trees) (read now old new : Option (List ℕ)) : Type 0 where
+  pub given : List StreamItem
+  pub has : HasReadFrom tree_building r read now given
+  pub out : (bytes : List ℕ) → read ≡ Some bytes → Appends old new (lines (types_of (session_of r)) given)
+
+-- the lines of the items that are whole with what was taken
+pub record MakesLines (r r' : Trees) (read now : Option (List ℕ)) (given : List StreamItem) (made : List ℕ) : Type 0 where
+  pub more : List StreamItem
+  pub after : HasReadFrom tree_building r' read now (given ++ more)
+  pub onward : taken_of (session_of r) < taken_of (session_of r')
+  pub made_of : made ≡ lines (types_of (session_of r')) more
+
+abbrev pub MakesLine : (r r' : Trees) → (read now : Option (List ℕ)) → List StreamItem → (made : List ℕ)
+    → Result (Unit {0}) Fault → Type 0
+MakesLine r r' read now given made (Ok _) = MakesLines r r' read now given made
+MakesLine r r' read now given made (Err e) = StopsFrom tree_building (session_of r) read now given e
+
+-- the line of the item of a value that waits as a whole
+pub record IsWholeLine (r : Trees) (used : ℕ) (made : List ℕ) : Type 0 where
+  pub id : TypeId
+  pub body : List ℕ
+  pub between : IsBetweenItems (session_of r)
+  pub next : HasBodyNext (session_of r) id body used (waits_in r)
+  pub depth : ℕ
+  pub depth_is : depth ≡ (within_trees (limits_of (session_of r))).depth
+  pub whole : IsWhole (types_of (session_of r)) id depth body
+  pub made_of : made ≡ line (types_of (session_of r)) (puts id whole.value)
+
+abbrev pub MakesWhole : (r : Trees) → (made : List ℕ) → Result (Option ℕ) Memory → Type 0
+MakesWhole r made (Ok (Some used)) = IsWholeLine r used made
+MakesWhole r made (Ok None) = made ≡ []
+MakesWhole r made (Err _) = Unit {0}
+
+-- the line of what a step gave
+abbrev pub line_given : Table → Option (declared.Item Value) → List ℕ
+line_given T None = []
+line_given T (Some given) = line T (item_view given)
+
+-- the line went out, or a front of it
+abbrev pub ShowsNext : (r r' : Trees) → (read now : Option (List ℕ)) → List StreamItem → (old new : Option (List ℕ))
+    → Result (Unit {0}) ToolFault → Type 0
+ShowsNext r r' read now given old new (Ok _) = (made : List ℕ) × MakesLines r r' read now given made × Appends old new made
+ShowsNext r r' read now given old new (Err f) = (bytes : List ℕ) → read ≡ Some bytes → (start : Option (List ℕ))
+    → Appends start old (lines (types_of (session_of r)) given)
+    → RunAnswers (within_trees (limits_of (session_of r))) bytes now (Appends start new) (AppendsFront start new) (Err f)
