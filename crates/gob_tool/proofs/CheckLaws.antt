@@ -63,7 +63,7 @@ items_few no_more = omega arith
 items_few (and_then {b = b} {c = c} q e r) = let some = counted_some q in let few = items_few r in
     omega (arith, length-append b c)
 
-items_within : {s : SessionState SkipBuilder (Unit {0})} {items : List StreamItem} {taken : List ℕ}
+pub items_within : {s : SessionState SkipBuilder (Unit {0})} {items : List StreamItem} {taken : List ℕ}
     → HasRead skip_building s items taken → length items ≤ length taken
 items_within a = let few = items_few a.stream in omega (arith, ap length a.whole, length-append a.front a.under_way)
 

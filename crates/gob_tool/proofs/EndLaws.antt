@@ -92,3 +92,15 @@ flushed_so (Err e) answer failures old new was is noted counted other h =
 
 pub sent_front : (old new : Option (List ℕ)) (bytes : List ℕ) → SentFront bytes old new → AppendsFront old new bytes
 sent_front old new bytes s = record { front = s.front; rest = s.rest; whole = s.whole; out = s.out }
+
+-- behind reads that didn't fail
+pub faults_still : (old new : ℕ) (r : Result (Unit {0}) ToolFault) → new ≡ old
+    → ((failures : ℕ) → CountsReadFaults failures failures r) → CountsReadFaults old new r
+faults_still old new r same h = subst (λ n. CountsReadFaults old n r) (sym same) (h old)
+
+-- a step counts none
+pub reads_nothing : (failures : ℕ) (e : Fault) → (e ≡ reading.Read → ⊥) → CountsReadFaults failures failures (Err (reading_fault e))
+reads_nothing failures (reading.Refused R) h = refl
+reads_nothing failures reading.Read h = absurd (h refl)
+reads_nothing failures reading.Memory h = refl
+reads_nothing failures reading.Failed h = refl

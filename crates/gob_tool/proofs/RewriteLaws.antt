@@ -1,8 +1,6 @@
 -- What a writer of tidy forms does with an item.
-use Rattle.std.proofs.Common.{◌≡◌, ◌≢◌, ℕ, ◌≤◌, ◌⊎◌, inl, inr, arith, List, [], ◌∷◌, ◌++◌, length, take, Option, Some, Result, Ok, Err}
+use Rattle.std.proofs.Common.{◌≡◌, ◌≢◌, ℕ, ◌≤◌, ◌⊎◌, inl, inr, arith, List, [], ◌∷◌, ◌++◌, length, Option, Result, Ok, Err}
 use Rattle.std.proofs.Common.{◌∙◌, ap, sym, subst, refl, length-append}
-use Rattle.std.proofs.lemmas.List.{take-append-le}
-use Rattle.std.proofs.Math.Seq.{take-length}
 use Rattle.std.specs.Io.KnownBytes.{Appends}
 use Rattle.std.specs.Result.{IsErrAnd}
 use Rattle.gob_types.specs.declared.id.TypeId.{TypeId}
@@ -27,11 +25,11 @@ use Rattle.gob_stream.specs.declared.item.Item as declared
 use Rattle.gob_stream.specs.declared.item.Item.TheVariants as variant
 use Rattle.gob_stream.specs.Machine.SessionState.{SessionState}
 use Rattle.gob_stream.specs.declared.stream_writer.StreamWriter.{StreamWriter}
-use Rattle.gob_stream.specs.Body.{definition, value}
+use Rattle.gob_stream.specs.Body.{Body, definition, value}
 use Rattle.gob_stream.specs.Bounds.{Bounds, deepest, no_deeper, within_trees}
 use Rattle.gob_stream.specs.Item.{StreamItem, defines, puts, ItemMeans, means_definition, means_value}
 use Rattle.gob_stream.specs.Stream.{no_more, and_then, IsItem, counted, Stream}
-use Rattle.gob_stream.specs.Writing.{HasWritten, WritesNext, Leaves, IsSpelledAs, IsSpelling}
+use Rattle.gob_stream.specs.Writing.{HasWritten, WritesNext, IsSpelledAs, IsSpelling}
 use Rattle.gob_stream.specs.Writing.{writer_limits, writer_types}
 use Rattle.gob_stream.proofs.PublicLaws.{not_counted, one_counted}
 use Rattle.gob_stream.proofs.PublicLaws.{counted_prefix, one_more}
@@ -40,8 +38,8 @@ use Rattle.gob_tape.specs.declared.tape.Tape.{Tape}
 use Rattle.gob_tape.specs.declared.tape_builder.TapeBuilder.{TapeBuilder}
 use Rattle.gob_tape.specs.Meaning.{Means, MeansFitting}
 use Rattle.gob_tool.specs.Rewriting.{content, content_type, with_content, AreItemsTidied, no_item, and_item}
-use Rattle.gob_tool.specs.Machine.Rewritten.{IsTape, bounds_for, StandsThere, StandsNext, IsOfStream, WritesForm, WritesTidy, HasRewritten}
-use Rattle.gob_tool.specs.Machine.Rewritten.{ComesNext, IsNextTape, SpellsTidy, Pushes, GoesOnRewriting, IsTidiedItem}
+use Rattle.gob_tool.specs.Machine.Rewritten.{IsTape, bounds_for, StandsThere, StandsNext, WritesForm, WritesTidy, HasRewritten}
+use Rattle.gob_tool.specs.Machine.Rewritten.{ComesNext, SpellsTidy, GoesOnRewriting, IsTidiedItem}
 use Rattle.gob_tool.specs.Showing.{AppendsFront}
 use Rattle.gob_tool.proofs.LinesStay.{stream_keeps, keeps_on}
 use Rattle.gob_tool.proofs.TidyStays.{tidies_on, tidies_back, CountedShort, form_counted}
@@ -266,50 +264,28 @@ module _ {s : SessionState TapeBuilder Tape} {w : StreamWriter} {h : HasRewritte
         o.out,
       )
 
-  -- it was gathered
-  pub pushed : {w' : StreamWriter} {before after : List ℕ} {r : Result (Unit {0}) WriteFault} (u : Unit {0})
-      → WritesIt w' (Some before) (Some after) r → r ≡ Ok u → Pushes n w' before after (Ok u)
-  pushed u writes same = went_out u writes same
+-- what these limits admit, a description as a tree, they admit
+shallower : {L : Bounds} {T U : Table} {i : StreamItem} {d : List ℕ} → Body base_table (within_trees L) T i d U
+    → Body base_table L T i d U
+shallower (definition may deep describes e n k) =
+    definition (record { own = may.own; new = may.new; room = may.room }) (omega arith) describes e n k
+shallower (value may deep n k) = value may (omega arith) n k
 
-  -- or a front of it, which is taken back
-  pub taken_back : {w' : StreamWriter} {before some : List ℕ} {r : Result (Unit {0}) WriteFault} (e : WriteFault)
-      → WritesIt w' (Some before) (Some some) r → Leaves w w' (Some before) (Some some) r → r ≡ Err e
-      → take (length before) some ≡ before
-  taken_back {w' = w'} {before = before} {some = some} (write.Refused reason) writes leaves same =
-      let l = subst (λ r. Leaves w w' (Some before) (Some some) r) same leaves in
-      ap (λ (l : List ℕ). take (length before) l) l.1 ∙ take-length before
-  taken_back {w' = w'} {before = before} {some = some} write.Memory writes leaves same =
-      let l = subst (λ r. Leaves w w' (Some before) (Some some) r) same leaves in
-      ap (λ (l : List ℕ). take (length before) l) l.1 ∙ take-length before
-  taken_back {w' = w'} {before = before} {some = some} write.Failed writes leaves same =
-      let l = subst (λ r. Leaves w w' (Some before) (Some some) r) same leaves in
-      ap (λ (l : List ℕ). take (length before) l) l.1.1 ∙ take-length before
-  taken_back {w' = w'} {before = before} {some = some} write.Write writes leaves same =
-      let x = wrote writes (λ (memory : _ ≡ Err write.Memory). cc) in
-      let cut = subst (λ r. WritesNext (bounds_for s.limits i) w w' (with_content i x.form) (Some before) (Some some) r)
-      same x.writes in
-      let o = cut h.tidy h.written (types s.types) h.has in
-      ap (λ (l : List ℕ). take (length before) l) o.out
-      ∙ take-append-le (length before) before o.front (omega arith) ∙ take-length before
+as_admitted : {L : Bounds} {T U : Table} {o : ℕ} {j : StreamItem} {b : List ℕ} (i : StreamItem)
+    → IsItem base_table (bounds_for L i) T o j b U → IsItem base_table L T o j b U
+as_admitted (defines id v) (counted u l s b) = counted u l s (shallower b)
+as_admitted (puts id v) q = q
 
-  pub pushes_as : {w' : StreamWriter} {before before' after after' : List ℕ} (u : Unit {0}) → before ≡ before'
-      → after ≡ after' → Pushes n w' before after (Ok u) → Pushes n w' before' after' (Ok u)
-  pushes_as u e f p = (p.0, sym f ∙ p.1 ∙ ap (λ (l : List ℕ). l ++ p.0.more) e)
-
-pub of_stream : {s : SessionState TapeBuilder Tape} {w : StreamWriter} {h : HasRewritten s w} {U : Table}
-    {g : declared.Item Tape} → IsNextTape h U g → IsOfStream w U g
-of_stream n = record { item = n.item; meant = n.meant; next = next_stands n.next }
-
--- a front of a value went out
-pub cut_out : {s : SessionState TapeBuilder Tape} {w : StreamWriter} {h : HasRewritten s w} {t : TypeId} {v : Tree} {U : Table}
-    (n : ComesNext h (puts t v) U) {w' : StreamWriter} {old new : Option (List ℕ)} {r : Result (Unit {0}) WriteFault}
+-- a front of it went out
+pub cut_out : {s : SessionState TapeBuilder Tape} {w : StreamWriter} {h : HasRewritten s w} {i : StreamItem} {U : Table}
+    (n : ComesNext h i U) {w' : StreamWriter} {old new : Option (List ℕ)} {r : Result (Unit {0}) WriteFault}
     → WritesIt n w' old new r → r ≡ Err write.Write
     → (more : List ℕ) × IsTidiedItem n more × AppendsFront old new more
-cut_out {s = s} {w = w} {h = h} {t = t} {v = v} n {w' = w'} {old = old} {new = new} writes same =
+cut_out {s = s} {w = w} {h = h} {i = i} n {w' = w'} {old = old} {new = new} writes same =
     let x = wrote n writes (λ (memory : _ ≡ Err write.Memory). cc) in
     let c = can_stand n x.form x.tidies x.fits in
-    let j = puts t x.form in
-    let cut = subst (λ r. WritesNext s.limits w w' j old new r) same x.writes in
+    let j = with_content i x.form in
+    let cut = subst (λ r. WritesNext (bounds_for s.limits i) w w' j old new r) same x.writes in
     let o = cut h.tidy h.written (types s.types) h.has in
     let all = o.front ++ o.rest in
     let one = counted_prefix [] [] o.item c.counted (ap (λ (l : List ℕ). l ++ []) (one_counted o.item c.counted)) in
@@ -317,9 +293,9 @@ cut_out {s = s} {w = w} {h = h} {t = t} {v = v} n {w' = w'} {old = old} {new = n
       all,
       record {
         tidy = h.tidy ++ j ∷ [];
-        tidied = tidied_more (puts t v) (keeps_to n.counted h.tidied) (tidies_on (item_keeps n.counted) x.tidies);
+        tidied = tidied_more i (keeps_to n.counted h.tidied) (tidies_on (item_keeps n.counted) x.tidies);
         stream = subst (λ (T : Table). Stream base_table s.limits (h.tidy ++ j ∷ []) (h.written ++ all) T) one.table
-            (one_more before (omega arith) o.item);
+            (one_more before (omega arith) (as_admitted i o.item));
       },
       record { front = o.front; rest = o.rest; whole = refl; out = o.out },
     )

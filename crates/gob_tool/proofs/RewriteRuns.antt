@@ -1,712 +1,511 @@
--- How a run that rewrites goes on from piece to piece, and how it ends.
-use Rattle.std.proofs.Common.{◌≡◌, ◌≢◌, ℕ, ◌+◌, ◌-◌, ◌<◌, arith, List, [], ◌∷◌, ◌++◌, length, take, drop, Option, Some}
-use Rattle.std.proofs.Common.{Result, Ok, Err, take-append-drop}
-use Rattle.std.proofs.Common.{◌∙◌, ap, sym, subst, refl, append_assoc, append-nil, length-append}
-use Rattle.std.specs.Result.{IsErrAnd}
-use Rattle.gob_num.specs.declared.memory.Memory.{Memory}
-use Rattle.std.specs.Io.KnownBytes.{Consumes, Keeps, IsAtEnd}
-use Rattle.std.proofs.KnownBytes.{Appends-nil, Appends-trans, Consumes-nil, Consumes-trans, Consumes-kept}
-use Rattle.gob_types.specs.declared.reason.Reason.TheVariants as reason
+-- How a run that rewrites goes on from item to item, and how it ends.
+use Rattle.std.proofs.Common.{◌≡◌, ◌≢◌, ℕ, ◌+◌, ◌-◌, ◌<◌, ◌≤◌, ◌⊎◌, inl, inr, arith, List, [], ◌∷◌, ◌++◌, length, take, Option}
+use Rattle.std.proofs.Common.{Some, Result, Ok, Err, ◌∙◌, ap, sym, subst, refl, append_assoc, append-nil, length-append}
+use Rattle.std.proofs.lemmas.List.{length-take-le}
+use Rattle.std.specs.Io.KnownBytes.{Appends, Consumes, Keeps}
+use Rattle.std.proofs.KnownBytes.{Appends-nil, Appends-trans, Appends-kept}
+use Rattle.gob_num.proofs.PublicLaws.{unsigned_length}
+use Rattle.gob_types.specs.declared.id.TypeId.{TypeId}
 use Rattle.gob_types.specs.Base.{base_table}
-use Rattle.gob_types.specs.Defined.{types}
 use Rattle.gob_types.specs.Table.{Table}
-use Rattle.gob_read.specs.Calls.Builders.{tree_building}
+use Rattle.gob_value.specs.Whole.{IsWhole, IsTidyWhole}
+use Rattle.gob_stream.specs.Bounds.{Bounds, AreLimits, deepest, no_deeper}
+use Rattle.gob_stream.specs.Calls.Session.{limits_of, taken_of, types_of}
+use Rattle.gob_stream.specs.Item.{StreamItem, ItemMeans, puts}
+use Rattle.gob_stream.specs.Machine.SessionState.{SessionState}
+use Rattle.gob_stream.specs.Reading.{SomeTaken}
+use Rattle.gob_stream.specs.Stream.{IsItem, Stream, counted, no_more}
+use Rattle.gob_stream.specs.Whole.{HasBody}
+use Rattle.gob_stream.specs.Writing.{CountsWriterFaults, HasWritten, IsNew, Leaves}
 use Rattle.gob_stream.specs.declared.fault.Fault.{Fault}
 use Rattle.gob_stream.specs.declared.fault.Fault.TheVariants as reading
-use Rattle.gob_stream.specs.declared.fault.Refusal.{Refusal}
+use Rattle.gob_stream.specs.declared.fault.WriteFault.{WriteFault}
+use Rattle.gob_stream.specs.declared.fault.WriteFault.TheVariants as write
 use Rattle.gob_stream.specs.declared.item.Item as declared
-use Rattle.gob_stream.specs.Machine.SessionState.{SessionState}
+use Rattle.gob_stream.specs.declared.session.Step.{Step}
 use Rattle.gob_stream.specs.declared.stream_writer.StreamWriter.{StreamWriter}
-use Rattle.gob_stream.specs.Bounds.{Bounds, AreLimits, deepest, no_deeper}
-use Rattle.gob_stream.specs.Item.{StreamItem, ItemMeans}
-use Rattle.gob_stream.specs.Outcome.{BeginsWithStream, Outcome, refused}
-use Rattle.gob_stream.specs.Machine.ReadParts.{AdvancesOver, over_some, over_item}
-use Rattle.gob_stream.specs.Reading.{SomeTaken}
-use Rattle.gob_stream.specs.Calls.Reads.{ReadingFinishes}
-use Rattle.gob_stream.specs.Calls.Session.{StepAnswers}
-use Rattle.gob_stream.specs.Stream.{Stream, AreItems, no_more, and_then, IsItem}
-use Rattle.gob_stream.specs.Writing.{HasWritten, IsNew}
-use Rattle.gob_stream.proofs.PublicLaws.{after_gives, one_table, limits_stay}
-use Rattle.gob_stream.proofs.PublicLaws.{one_front}
+use Rattle.gob_stream.proofs.PublicLaws.{limits_stay, stands_within, whole_item}
 use Rattle.gob_tape.specs.Calls.Builder.{tape_building}
 use Rattle.gob_tape.specs.declared.tape.Tape.{Tape}
 use Rattle.gob_tape.specs.declared.tape_builder.TapeBuilder.{TapeBuilder}
+use Rattle.gob_stream.specs.Calls.Reader.{Begins, EndsWith, HasReadFrom, PassesOne, StepsOnFrom, Stops, StopsFrom, session_of}
+use Rattle.gob_stream.specs.Calls.Reader.{most_ahead, room_in, waits_in}
+use Rattle.gob_stream.proofs.PublicLaws.{ahead_so, begins_so}
 use Rattle.gob_tool.specs.declared.fault.ToolFault.{ToolFault}
 use Rattle.gob_tool.specs.declared.fault.ToolFault.TheVariants as fault
-use Rattle.gob_tool.specs.Fault.{reading_fault}
-use Rattle.gob_tool.specs.Machine.Gathering.{Gathered, PassesSome, CountsOnlyReads}
+use Rattle.gob_tool.specs.Machine.Ending.{CountsOnlyWrites, EndsRun, ends_so, flush_fails}
+use Rattle.gob_tool.specs.Fault.{reading_fault, writing_fault}
+use Rattle.gob_tool.specs.Rewriting.{AreItemsTidied, no_item, HasTidyStream, RewriteAnswers, RewritesFront, RewritesSo, RewritesTaken}
+use Rattle.gob_tool.specs.Rewriting.{RewritesWhole}
+use Rattle.gob_tool.specs.Machine.Rewritten.{ComesNext, GaveTapes, HasRewritten, IsTape, Rewrites, RewritesNext, SpellsTidy}
+use Rattle.gob_tool.specs.Machine.Rewritten.{StandsNext, Tapes, WaitsTidy, WritesTidy}
 use Rattle.gob_tool.specs.Showing.{AppendsFront}
-use Rattle.gob_tool.specs.Rewriting.{AreItemsTidied, no_item, HasTidyStream, RewritesWhole, RewritesToRefusal, RewritesGiven}
-use Rattle.gob_tool.specs.Rewriting.{RewritesFront, RewritesSo}
-use Rattle.gob_tool.specs.Machine.Rewritten.{GaveTapes, IsTape, HasRewritten, ComesNext, IsNextTape, GoesOnRewriting, Pushes, Adds, RewritesOn}
-use Rattle.gob_tool.specs.Machine.Rewritten.{RewritesSome, RewritesUpTo, RewritesPiece, RewritesIn, RewritesUsed, StandsStill}
-use Rattle.gob_tool.proofs.PieceRuns.{shown_more, nearer}
-use Rattle.gob_tool.proofs.ShowLaws.{gathered_grown, front_grown, known_taken, all_taken, whole_stream}
-
--- ---- a stream and what follows it
-record Splits (L : Bounds) (T : Table) (offset : ℕ) (items others : List StreamItem) (b : List ℕ) (V : Table) : Type 0 where
-  front : List ℕ
-  rest : List ℕ
-  table : Table
-  first : AreItems base_table L T offset items front table
-  later : AreItems base_table L table (offset + length front) others rest V
-  whole : b ≡ front ++ rest
-
-split : {L : Bounds} {T V : Table} {b : List ℕ} {offset : ℕ} (items others : List StreamItem)
-    → AreItems base_table L T offset (items ++ others) b V → Splits L T offset items others b V
-split {L = L} {T = T} {V = V} {b = b} {offset = offset} [] others p =
-    let at : offset ≡ offset + 0 = omega arith in
-    record {
-      front = [];
-      rest = b;
-      table = T;
-      first = no_more;
-      later = subst (λ (n : ℕ). AreItems base_table L T n others b V) at p;
-      whole = refl;
-    }
-split {L = L} {V = V} {offset = offset} (i ∷ items) others (and_then {next = next} {b = a} q e r) =
-    let s = split items others r in
-    let at : next + length s.front ≡ offset + length (a ++ s.front) = omega (arith, length-append a s.front) in
-    record {
-      front = a ++ s.front;
-      rest = s.rest;
-      table = s.table;
-      first = and_then q e s.first;
-      later = subst (λ (n : ℕ). AreItems base_table L s.table n others s.rest V) at s.later;
-      whole = ap (λ (l : List ℕ). a ++ l) s.whole ∙ sym (append_assoc a s.front s.rest);
-    }
+use Rattle.gob_tool.proofs.EndLaws.{front_kept, reads_nothing}
+use Rattle.gob_tool.proofs.ReaderRuns.{GoesOn, ReadsTo, TakesBehind, ends_there, follows, goes_by, none_given, nothing_given, one_given, read_alone}
+use Rattle.gob_tool.proofs.ReaderRuns.{reads_behind, reads_more, steps_behind, takes_behind}
+use Rattle.gob_tool.proofs.RewriteLaws.{cut_out, next_stands, only_wanting, went_out}
 
 -- the limits of a reader of tapes are those that it was given
-pub same_bounds : {L : Bounds} → AreLimits deepest L → no_deeper deepest L ≡ L
+same_bounds : {L : Bounds} → AreLimits deepest L → no_deeper deepest L ≡ L
 same_bounds {L = L} a = limits_stay deepest L a.depth
 
-ends_there : {L : Bounds} {T U : Table} {o : ℕ} {items : List StreamItem} {rest : List ℕ}
-    → AreItems base_table L T o items rest U → items ≡ [] → T ≡ U
-ends_there no_more e = refl
-ends_there (and_then q f r) e = absurd (cc e)
-
--- one item that follows
-record Follows (L : Bounds) (T : Table) (o : ℕ) (i : StreamItem) (rest : List ℕ) (U : Table) : Type 0 where
-  bytes : List ℕ
-  counted : IsItem base_table L T o i bytes U
-  whole : rest ≡ bytes
-
-follows : {L : Bounds} {T U : Table} {o : ℕ} {i : StreamItem} {items : List StreamItem} {rest : List ℕ}
-    → AreItems base_table L T o (i ∷ items) rest U → items ≡ [] → Follows L T o i rest U
-follows {L = L} {T = T} {o = o} {i = i} (and_then {b = b} q f r) e =
-    let done = nothing_more r e in
-    record { bytes = b; counted = subst (λ (U : Table). IsItem base_table L T o i b U) done.0 q; whole = ap (λ (l : List ℕ). b ++ l) done.1 ∙ append-nil b }
-  where
-    nothing_more : {V W : Table} {next : ℕ} {items : List StreamItem} {c : List ℕ} → AreItems base_table L V next items c W
-        → items ≡ [] → (V ≡ W) × (c ≡ [])
-    nothing_more no_more e = (refl, refl)
-    nothing_more (and_then q f r) e = absurd (cc e)
-
 -- ---- from item to item
-module _ {s : SessionState TapeBuilder Tape} {w : StreamWriter} (h : HasRewritten s w) where
-  pub tidy_there : (P : List ℕ → Type 0) → P h.written
-      → HasTidyStream (no_deeper deepest s.limits) (types s.types) h.items P
-  tidy_there P holds = record {
-    tidy = h.tidy;
-    tidied = h.tidied;
-    bytes = h.written;
-    stream = subst (λ (L : Bounds). Stream base_table L h.tidy h.written (types s.types))
-        (h.limits ∙ sym (same_bounds h.allowed)) h.has.stream;
-    holds = holds;
-  }
-
-  begins_there : (more : List ℕ) → BeginsWithStream base_table (no_deeper deepest s.limits) (h.taken ++ more) h.items
-  begins_there more = record {
-    front = h.gave.front;
-    rest = h.gave.under_way ++ more;
-    table = types s.types;
-    stream = h.gave.stream;
-    whole = ap (λ (l : List ℕ). l ++ more) h.gave.whole ∙ append_assoc h.gave.front h.gave.under_way more;
-  }
-
-  -- what was written so far, whatever follows
-  pub front_there : (more : List ℕ) (P : List ℕ → Type 0) → P h.written
-      → RewritesFront (no_deeper deepest s.limits) (h.taken ++ more) P
-  unfolding begins_there
-  front_there more P holds = record { items = h.items; begins = begins_there more; tidy = tidy_there P holds }
-
-  -- what follows is refused
-  pub refused_there : (more : List ℕ) (P : List ℕ → Type 0) {R : Refusal} → P h.written
-      → Outcome base_table (no_deeper deepest s.limits) (h.taken ++ more) h.items (refused R)
-      → RewritesToRefusal (no_deeper deepest s.limits) (h.taken ++ more) R P
-  unfolding begins_there
-  refused_there more P holds o =
-      let L = no_deeper deepest s.limits in
-      let was = begins_there more in
-      let is = o.gives.begins in
-      let table = one_table L (h.taken ++ more) h.items (types s.types) is.table
-      (record { front = was.front; rest = was.rest; stream = h.gave.stream; whole = was.whole })
-      (record { front = is.front; rest = is.rest; stream = is.stream; whole = is.whole }) in
-      record {
-        items = h.items;
-        outcome = o;
-        tidy = subst (λ (T : Table). HasTidyStream L T h.items P) table (tidy_there P holds);
-      }
-
-module _ {s : SessionState TapeBuilder Tape} {w : StreamWriter} (s' : SessionState TapeBuilder Tape) (h : HasRewritten s w)
-    (z : List ℕ) (same : s'.limits ≡ s.limits) where
-  -- the bytes before and these, in two ways
-  in_two_ways : {items : List StreamItem} (a : GaveTapes s' items (h.taken ++ z))
-      → h.gave.front ++ (h.gave.under_way ++ z) ≡ a.front ++ a.under_way
-  in_two_ways a = sym (append_assoc h.gave.front h.gave.under_way z) ∙ ap (λ (l : List ℕ). l ++ z) (sym h.gave.whole)
-      ∙ a.whole
-
-  stream_so : {items : List StreamItem} (a : GaveTapes s' items (h.taken ++ z))
-      → Stream base_table (no_deeper deepest s.limits) items a.front (types s'.types)
-  stream_so {items = items} a =
-      subst (λ (L : Bounds). Stream base_table (no_deeper deepest L) items a.front (types s'.types)) same a.stream
-
-  -- no item was whole with the bytes
-  pub none_rewritten : (P : List ℕ → Type 0) → P [] → GaveTapes s' h.items (h.taken ++ z) → RewritesOn h s' w z P
-  none_rewritten P holds a =
-      let o = one_front (h.gave.under_way ++ z) a.under_way h.gave.stream (stream_so a) (in_two_ways a) in
-      record {
-        next = record {
-          items = h.items;
-          taken = h.taken ++ z;
-          gave = a;
-          tidy = h.tidy;
-          tidied = subst (λ (T : Table). AreItemsTidied T h.items h.tidy) o.table h.tidied;
-          written = h.written;
-          has = subst (λ (T : Table). HasWritten w h.tidy h.written T) o.table h.has;
-          limits = h.limits ∙ sym same;
-          allowed = subst (λ (L : Bounds). AreLimits deepest L) (sym same) h.allowed;
-          no_longer = omega (arith, h.no_longer, ap length o.front);
-        };
-        taken = refl;
-        adds = ([], sym (append-nil h.written), holds);
-      }
-
-  -- one was, which comes next
-  pub record ComesWith (i : StreamItem) : Type 0 where
-    pub gave : GaveTapes s' (h.items ++ i ∷ []) (h.taken ++ z)
-    pub next : ComesNext h i (types s'.types)
-    pub front : gave.front ≡ h.gave.front ++ next.bytes
-
-  pub comes_with : (i : StreamItem) → GaveTapes s' (h.items ++ i ∷ []) (h.taken ++ z) → ComesWith i
-  comes_with i a =
-      let L = no_deeper deepest s.limits in
-      let p = split h.items (i ∷ []) (stream_so a) in
-      let whole = in_two_ways a ∙ ap (λ (l : List ℕ). l ++ a.under_way) p.whole ∙ append_assoc p.front p.rest a.under_way in
-      let o = one_front (h.gave.under_way ++ z) (p.rest ++ a.under_way) h.gave.stream p.first whole in
-      let f = follows p.later refl in
-      let at : 0 + length p.front ≡ length h.gave.front = omega (arith, ap length o.front) in
-      record {
-        gave = a;
-        next = record {
-          bytes = f.bytes;
-          counted = subst (λ (T : Table). IsItem base_table L T (length h.gave.front) i f.bytes (types s'.types)) (sym o.table)
-              (subst (λ (n : ℕ). IsItem base_table L p.table n i f.bytes (types s'.types)) at f.counted);
-        };
-        front = p.whole ∙ ap (λ (l : List ℕ). l ++ p.rest) (sym o.front) ∙ ap (λ (l : List ℕ). h.gave.front ++ l) f.whole;
-      }
-
-  -- and it was written
-  pub one_rewritten : {i : StreamItem} {w' : StreamWriter} (P : List ℕ → Type 0) (c : ComesWith i) (g : GoesOnRewriting c.next w')
-      → P g.more → RewritesOn h s' w' z P
-  one_rewritten {i = i} P c g holds = record {
-    next = record {
-      items = h.items ++ i ∷ [];
-      taken = h.taken ++ z;
-      gave = c.gave;
-      tidy = g.tidy;
-      tidied = g.tidied;
-      written = h.written ++ g.more;
-      has = g.has;
-      limits = g.limits ∙ sym same;
-      allowed = subst (λ (L : Bounds). AreLimits deepest L) (sym same) h.allowed;
-      no_longer = omega (arith, g.no_longer, ap length c.front);
-    };
-    taken = refl;
-    adds = (g.more, refl, holds);
-  }
-
-pub tidy_as : {L : Bounds} {T : Table} {items : List StreamItem} {P Q : List ℕ → Type 0} → HasTidyStream L T items P
-    → ((b : List ℕ) → P b → Q b) → HasTidyStream L T items Q
-tidy_as t f = record { tidy = t.tidy; tidied = t.tidied; bytes = t.bytes; stream = t.stream; holds = f _ t.holds }
-
--- ---- what taking the front of a piece answers
-pub some_at : {s : SessionState TapeBuilder Tape} {w : StreamWriter} (h : HasRewritten s w) (s' : SessionState TapeBuilder Tape)
-    (w' : StreamWriter) (piece before after : List ℕ) (r : Result ℕ Fault) (e : Fault) → IsErrAnd r (λ x. x ≡ e)
-    → RewritesSome h s' w' piece before after (Err e) → RewritesSome h s' w' piece before after r
-some_at h s' w' piece before after (Ok used) e is x = absurd is
-some_at h s' w' piece before after (Err f) e is x =
-    subst (λ e. RewritesSome h s' w' piece before after (Err e)) (sym is) x
-
-module _ {s : SessionState TapeBuilder Tape} {w : StreamWriter} (h : HasRewritten s w) where
-  nothing_more : {before after : List ℕ} → after ≡ before → Adds h.written (λ more. after ≡ before ++ more) h.written
-  nothing_more {before = before} e = ([], sym (append-nil h.written), e ∙ sym (append-nil before))
-
-  -- no memory was had, and nothing more was gathered
-  pub memory_stops : (s' : SessionState TapeBuilder Tape) (w' : StreamWriter) (piece : List ℕ) {before after : List ℕ}
-      → after ≡ before → RewritesSome h s' w' piece before after (Err reading.Memory)
-  memory_stops s' w' piece {before = before} {after = after} e =
-      front_there h piece (Adds h.written (λ more. after ≡ before ++ more)) (nothing_more e)
-
-  -- a step was refused
-  pub step_stops : (s' : SessionState TapeBuilder Tape) (w' : StreamWriter) (piece : List ℕ) {before after : List ℕ} (e : Fault)
-      → after ≡ before
-      → StepAnswers tape_building s s' h.items
-      h.taken piece (Err e) → RewritesSome h s' w' piece before after (Err e)
-  step_stops s' w' piece {before = before} {after = after} (reading.Refused R) e f =
-      let shown = f.0 in (
-        refused_there h piece (Adds h.written (λ more. after ≡ before ++ more)) (nothing_more e) shown.outcome,
-        shown.shown,
-      )
-  step_stops s' w' piece reading.Read e f = absurd f
-  step_stops s' w' piece reading.Memory e f = memory_stops s' w' piece e
-  step_stops s' w' piece reading.Failed e f = absurd f
-
--- a step gave nothing
-module _ {s : SessionState TapeBuilder Tape} {w : StreamWriter} (h : HasRewritten s w) (s' : SessionState TapeBuilder Tape)
-    (same : s'.limits ≡ s.limits) (piece : List ℕ) (used : ℕ) where
-  pub step_without : {o : Option (declared.Item Tape)} {before after : List ℕ}
-      → AdvancesOver tape_building.received tree_building.received tape_building.means deepest s'
-      h.items h.taken piece used o → ((given : declared.Item Tape) → ¬ (o ≡ Some given)) → after ≡ before
-      → RewritesOn h s' w (take used piece) (λ more. after ≡ before ++ more)
-  step_without {before = before} {after = after} (over_some l k a) none e =
-      none_rewritten s' h (take used piece) same (λ more. after ≡ before ++ more) (e ∙ sym (append-nil before)) a
-  step_without (over_item {given = given} l k m a) none e = absurd (none given refl)
-
-  -- or an item, which comes next
-  pub record StepGives (given : declared.Item Tape) : Type 0 where
-    pub item : StreamItem
-    pub meant : ItemMeans IsTape given item
-    pub comes : ComesWith s' h (take used piece) same item
-
-  pub step_gives : {o : Option (declared.Item Tape)} {given : declared.Item Tape}
-      → AdvancesOver tape_building.received tree_building.received tape_building.means deepest s'
-      h.items h.taken piece used o → o ≡ Some given → StepGives given
-  step_gives (over_some l k a) is = absurd (cc is)
-  step_gives {given = given} (over_item {given = g} {i = i} l k m a) is =
-      let same_item : g ≡ given = cc in
-      record {
-        item = i;
-        meant = subst (λ (g : declared.Item Tape). ItemMeans IsTape g i) same_item m;
-        comes = comes_with s' h (take used piece) same i a;
-      }
-
-  pub given_next : {given : declared.Item Tape} → StepGives given → IsNextTape h (types s'.types) given
-  given_next g = record { item = g.item; meant = g.meant; next = g.comes.next }
-
-  pub step_pushed : {given : declared.Item Tape} {w' : StreamWriter} (before after : List ℕ) (u : Unit {0}) (g : StepGives given)
-      → ((r : SessionState TapeBuilder Tape) (k : HasRewritten r w) (n : IsNextTape k (types s'.types) given)
-      → Pushes n.next w' before after (Ok u))
-      → RewritesOn h s' w' (take used piece) (λ more. after ≡ before ++ more)
-  step_pushed before after u g push =
-      let p = push s h (record { item = g.item; meant = g.meant; next = g.comes.next }) in
-      one_rewritten s' h (take used piece) same (λ more. after ≡ before ++ more) g.comes p.0 p.1
-
--- by the types of a table that are these
-pub pushes_by : {w : StreamWriter} {U V : Table} {given : declared.Item Tape} (w' : StreamWriter) (before after : List ℕ)
-    (r : Result (Unit {0}) Memory) → U ≡ V
-    → ((s : SessionState TapeBuilder Tape) (h : HasRewritten s w) (n : IsNextTape h U given) → Pushes n.next w' before after r)
-    → (s : SessionState TapeBuilder Tape) (h : HasRewritten s w) (n : IsNextTape h V given) → Pushes n.next w' before after r
-pushes_by {w = w} {given = given} w' before after r e p =
-    subst (λ V. (s : SessionState TapeBuilder Tape) (h : HasRewritten s w) (n : IsNextTape h V given) → Pushes n.next w' before after r)
-    e p
-
--- where nothing has changed
-pub stands_still : {s s' : SessionState TapeBuilder Tape} {w w' : StreamWriter} → s' ≡ s → w' ≡ w → HasRewritten s w
-    → HasRewritten s' w'
-stands_still {s = s} {w' = w'} e f h = subst (λ (s : SessionState TapeBuilder Tape). HasRewritten s w') (sym e)
-    (subst (λ (w : StreamWriter). HasRewritten s w) (sym f) h)
-
-pub still_used : {s s' : SessionState TapeBuilder Tape} {w w' : StreamWriter} {old mid : Option (List ℕ)} {before g1 : List ℕ}
-    (s2 : SessionState TapeBuilder Tape) (w2 : StreamWriter) (piece : List ℕ) (new : Option (List ℕ)) (after : List ℕ)
-    (r : Result ℕ ToolFault) → StandsStill s s' w w' old mid before g1
-    → ((h : HasRewritten s' w') → RewritesUsed h s2 w2 piece mid new g1 after r)
-    → (h : HasRewritten s w) → RewritesUsed h s2 w2 piece old new before after r
-still_used {s = s} {w = w} {w' = w'} {old = old} {mid = mid} {g1 = g1} s2 w2 piece new after r still x =
-    subst (λ (b : List ℕ). (h : HasRewritten s w) → RewritesUsed h s2 w2 piece old new b after r) still.3
-    (subst (λ (o : Option (List ℕ)). (h : HasRewritten s w) → RewritesUsed h s2 w2 piece o new g1 after r) still.2
-    (subst (λ (w : StreamWriter). (h : HasRewritten s w) → RewritesUsed h s2 w2 piece mid new g1 after r) still.1
-    (subst (λ (s : SessionState TapeBuilder Tape). (h : HasRewritten s w') → RewritesUsed h s2 w2 piece mid new g1 after r)
-    still.0 x)))
-
--- a step was refused, or no memory was had for it: nothing is written then
-module _ {s : SessionState TapeBuilder Tape} {w : StreamWriter} (h : HasRewritten s w) where
-  passes_none : (out : Option (List ℕ)) (before after b : List ℕ) → Adds h.written (λ more. after ≡ before ++ more) b
-      → Adds h.written (λ more. PassesSome out out (before ++ more) after) b
-  passes_none out before after b a = (a.0, a.1, record { written = []; whole = sym a.2; out = Appends-nil out })
-
-  pub step_refused : (s2 : SessionState TapeBuilder Tape) (w2 : StreamWriter) (piece : List ℕ) (out : Option (List ℕ))
-      (before after : List ℕ) (e : Fault) → RewritesSome h s2 w2 piece before after (Err e)
-      → RewritesPiece (no_deeper deepest s.limits) h s2 w2 piece out out before after (Err (reading_fault e))
-  step_refused s2 w2 piece out before after (reading.Refused R) f = (
-    record { items = f.0.items; outcome = f.0.outcome; tidy = tidy_as f.0.tidy (passes_none out before after) },
-    f.1,
-  )
-  step_refused s2 w2 piece out before after reading.Memory f =
-      record { items = f.items; begins = f.begins; tidy = tidy_as f.tidy (passes_none out before after) }
-  step_refused s2 w2 piece out before after reading.Read f = absurd f
-  step_refused s2 w2 piece out before after reading.Failed f = absurd f
-
-  -- the write behind it failed
-  pub step_cut : {s2 : SessionState TapeBuilder Tape} {w2 : StreamWriter} (w3 : StreamWriter) (piece : List ℕ) (old new : Option (List ℕ))
-      (before : List ℕ) {g2 : List ℕ} (after : List ℕ) (used : ℕ) (f : ToolFault) → s2.limits ≡ s.limits → f ≡ fault.Write
-      → RewritesOn h s2 w2 (take used piece) (λ more. g2 ≡ before ++ more) → AppendsFront old new g2
-      → RewritesPiece (no_deeper deepest s.limits) h s2 w3 piece old new before after (Err f)
-  step_cut {s2 = s2} w3 piece old new before after used f same write x cut =
-      let P = Adds h.written (λ more. AppendsFront old new (before ++ more)) in
-      let holds : P x.next.written = (x.adds.0, x.adds.1, subst (λ (l : List ℕ). AppendsFront old new l) x.adds.2 cut) in
-      let all : x.next.taken ++ drop used piece ≡ h.taken ++ piece =
-      ap (λ (l : List ℕ). l ++ drop used piece) x.taken
-      ∙ append_assoc h.taken (take used piece) (drop used piece)
-      ∙ ap (λ (l : List ℕ). h.taken ++ l) (take-append-drop used piece) in
-      subst (λ f. RewritesPiece (no_deeper deepest s.limits) h s2 w3 piece old new before after (Err f)) (sym write)
-      (subst (λ (L : Bounds). RewritesFront (no_deeper deepest L) (h.taken ++ piece) P) same
-      (subst (λ (l : List ℕ). RewritesFront (no_deeper deepest s2.limits) l P) all
-      (front_there x.next (drop used piece) P holds)))
-
--- at the fault that a `?` returns
-pub used_at : {s : SessionState TapeBuilder Tape} {w : StreamWriter} (h : HasRewritten s w) (s' : SessionState TapeBuilder Tape)
-    (w' : StreamWriter) (piece : List ℕ) (old new : Option (List ℕ)) (before after : List ℕ) (r : Result ℕ ToolFault)
-    (f : ToolFault) → IsErrAnd r (λ x. x ≡ f)
-    → RewritesPiece (no_deeper deepest s.limits) h s' w' piece old new before after (Err f)
-    → RewritesUsed h s' w' piece old new before after r
-used_at h s' w' piece old new before after (Ok used) f is x = absurd is
-used_at {s = s} h s' w' piece old new before after (Err e) f is x =
-    subst (λ f. RewritesPiece (no_deeper deepest s.limits) h s' w' piece old new before after (Err f)) (sym is) x
-
--- what was gathered with some bytes went out in part
-pub used_passed : {s : SessionState TapeBuilder Tape} {w : StreamWriter} {h : HasRewritten s w} {s2 : SessionState TapeBuilder Tape}
-    {w2 w3 : StreamWriter} {z : List ℕ} (old new : Option (List ℕ)) (before : List ℕ) {g2 : List ℕ} (g3 : List ℕ)
-    → RewritesOn h s2 w2 z (λ more. g2 ≡ before ++ more) → PassesSome old new g2 g3 → w3 ≡ w2
-    → RewritesOn h s2 w3 z (λ more. PassesSome old new (before ++ more) g3)
-used_passed {h = h} {s2 = s2} {z = z} old new before g3 x passes same =
-    subst (λ (w : StreamWriter). RewritesOn h s2 w z (λ more. PassesSome old new (before ++ more) g3)) (sym same) (record {
-      next = x.next;
-      taken = x.taken;
-      adds = (x.adds.0, x.adds.1, subst (λ (l : List ℕ). PassesSome old new l g3) x.adds.2 passes);
-    })
-
--- ---- from item to item of a piece
-module _ {s : SessionState TapeBuilder Tape} {w : StreamWriter} (h : HasRewritten s w) where
-  pub up_to_none : (piece : List ℕ) (out : Option (List ℕ)) (before : List ℕ) → RewritesUpTo h s w piece piece out out before before
-  up_to_none piece out before = record {
-    front = [];
-    whole = refl;
-    on = record {
-      next = h;
-      taken = sym (append-nil h.taken);
-      adds = ([], sym (append-nil h.written), record { written = []; whole = append-nil before; out = Appends-nil out });
-    };
-  }
-
-  module _ {s1 : SessionState TapeBuilder Tape} {w1 : StreamWriter} {piece rest : List ℕ} {old mid : Option (List ℕ)}
-      {before g1 : List ℕ} (u : RewritesUpTo h s1 w1 piece rest old mid before g1) where
-    pub up_to_more : {s2 : SessionState TapeBuilder Tape} {w2 : StreamWriter} {later g3 : List ℕ} {new : Option (List ℕ)}
-        (used : ℕ) → later ≡ drop used rest
-        → RewritesOn u.on.next s2 w2 (take used rest) (λ more. PassesSome mid new (g1 ++ more) g3)
-        → RewritesUpTo h s2 w2 piece later old new before g3
-    up_to_more {later = later} {g3 = g3} {new = new} used so x =
-        let was = u.on.adds in
-        let passed = was.2 in
-        let more = x.adds.0 in
-        let passes = x.adds.2 in
-        record {
-          front = u.front ++ take used rest;
-          whole = u.whole
-              ∙ ap (λ (l : List ℕ). u.front ++ l)
-              (sym (take-append-drop used rest) ∙ ap (λ (l : List ℕ). take used rest ++ l) (sym so))
-              ∙ sym (append_assoc u.front (take used rest) later);
-          on = record {
-            next = x.next;
-            taken = x.taken ∙ ap (λ (l : List ℕ). l ++ take used rest) u.on.taken
-                ∙ append_assoc h.taken u.front (take used rest);
-            adds = (
-              was.0 ++ more,
-              x.adds.1 ∙ ap (λ (l : List ℕ). l ++ more) was.1 ∙ append_assoc h.written was.0 more,
-              record {
-                written = passed.written ++ passes.written;
-                whole = sym (append_assoc before was.0 more) ∙ ap (λ (l : List ℕ). l ++ more) passed.whole
-                    ∙ append_assoc passed.written g1 more
-                    ∙ ap (λ (l : List ℕ). passed.written ++ l) passes.whole
-                    ∙ sym (append_assoc passed.written passes.written g3);
-                out = Appends-trans old mid new passed.written passes.written passed.out passes.out;
-              },
-            );
-          };
-        }
-
-    -- all of the piece was taken
-    pub up_to_all : length rest ≡ 0 → RewritesOn h s1 w1 piece (λ more. PassesSome old mid (before ++ more) g1)
-    up_to_all none = record {
-      next = u.on.next;
-      taken = u.on.taken
-          ∙ ap (λ (l : List ℕ). h.taken ++ l)
-          (sym (u.whole ∙ ap (λ (l : List ℕ). u.front ++ l) (nothing rest none) ∙ append-nil u.front));
-      adds = u.on.adds;
-    }
-      where
-        nothing : (l : List ℕ) → length l ≡ 0 → l ≡ []
-        nothing [] h = refl
-        nothing (x ∷ xs) h = absurd (omega arith)
-
-pub piece_at : (L : Bounds) {s : SessionState TapeBuilder Tape} {w : StreamWriter} (h : HasRewritten s w)
-    (s' : SessionState TapeBuilder Tape) (w' : StreamWriter) (piece : List ℕ) (old new : Option (List ℕ))
-    (before after : List ℕ) (r : Result (Unit {0}) ToolFault) (f : ToolFault) → IsErrAnd r (λ e. e ≡ f)
-    → RewritesPiece L h s' w' piece old new before after (Err f) → RewritesPiece L h s' w' piece old new before after r
-piece_at L h s' w' piece old new before after (Ok u) f e x = absurd e
-piece_at L h s' w' piece old new before after (Err g) f e x = subst
-    (λ f. RewritesPiece L h s' w' piece old new before after (Err f)) (sym e) x
-
--- ---- where more bytes follow
-pub front_more : {L : Bounds} {bytes all : List ℕ} {P Q : List ℕ → Type 0} (more : List ℕ) → all ≡ bytes ++ more
-    → RewritesFront L bytes P → ((b : List ℕ) → P b → Q b) → RewritesFront L all Q
-front_more more e f turn = record {
-  items = f.items;
-  begins = record {
-    front = f.begins.front;
-    rest = f.begins.rest ++ more;
-    table = f.begins.table;
-    stream = f.begins.stream;
-    whole = e ∙ ap (λ (l : List ℕ). l ++ more) f.begins.whole ∙ append_assoc f.begins.front f.begins.rest more;
-  };
-  tidy = tidy_as f.tidy turn;
+pub tidy_there : {s : SessionState TapeBuilder Tape} {w : StreamWriter} (h : HasRewritten s w) (P : List ℕ → Type 0)
+    → P h.written → HasTidyStream (no_deeper deepest (limits_of s)) (types_of s) h.items P
+tidy_there {s = s} h P holds = record {
+  tidy = h.tidy;
+  tidied = h.tidied;
+  bytes = h.written;
+  stream = subst (λ (L : Bounds). Stream base_table L h.tidy h.written (types_of s))
+      (h.limits ∙ sym (same_bounds h.allowed)) h.has.stream;
+  holds = holds;
 }
 
-pub refused_more : {L : Bounds} {bytes all : List ℕ} {R : Refusal} {P Q : List ℕ → Type 0} (more : List ℕ) → all ≡ bytes ++ more
-    → RewritesToRefusal L bytes R P → R.reason ≢ reason.Ended → ((b : List ℕ) → P b → Q b) → RewritesToRefusal L all R Q
-refused_more {L = L} {all = all} {P = P} {Q = Q} more e f shown turn =
-    let o = (shown_more more e (record { outcome = f.outcome; shown = shown })).outcome in
-    let was = f.outcome.gives.begins in
-    let is = o.gives.begins in
-    let table = one_table L all f.items was.table is.table
-    (record {
-      front = was.front;
-      rest = was.rest ++ more;
-      stream = was.stream;
-      whole = e ∙ ap (λ (l : List ℕ). l ++ more) was.whole ∙ append_assoc was.front was.rest more;
-    }) (record { front = is.front; rest = is.rest; stream = is.stream; whole = is.whole }) in
-    record {
-      items = f.items;
-      outcome = o;
-      tidy = subst (λ (T : Table). HasTidyStream L T f.items Q) table (tidy_as f.tidy turn);
-    }
+-- an item comes next that the reader took with these bytes
+comes_with : {s s' : SessionState TapeBuilder Tape} {w : StreamWriter} {h : HasRewritten s w} {i : StreamItem} {z : List ℕ}
+    → GoesOn tape_building h.gave s' (i ∷ []) z → ComesNext h i (types_of s')
+comes_with g = let f = follows g.later refl in record { bytes = f.bytes; counted = f.counted }
 
--- ---- from piece to piece
-adds_out : {old mid new : Option (List ℕ)} (gathered after written : List ℕ) → Gathered old mid gathered written
-    → (b : List ℕ) → Adds written (λ more. PassesSome mid new (gathered ++ more) after) b → Gathered old new after b
-adds_out {old = old} {mid = mid} {new = new} gathered after written g b a =
-    subst (λ (l : List ℕ). Gathered old new after l) (sym a.1) (gathered_grown old mid new gathered a.0 after written g a.2)
-
-adds_front : {old mid new : Option (List ℕ)} (gathered written : List ℕ) → Gathered old mid gathered written
-    → (b : List ℕ) → Adds written (λ more. AppendsFront mid new (gathered ++ more)) b → AppendsFront old new b
-adds_front {old = old} {mid = mid} {new = new} gathered written g b a =
-    subst (λ (l : List ℕ). AppendsFront old new l) (sym a.1) (front_grown old mid new gathered a.0 written g a.2)
-
-pub rewrites_first : (s : SessionState TapeBuilder Tape) (w : StreamWriter) (read out : Option (List ℕ)) (gathered : List ℕ)
-    → GaveTapes s [] [] → AreLimits deepest s.limits → IsNew w s.limits → gathered ≡ []
-    → RewritesIn s w read read out out gathered
-rewrites_first s w read out gathered gave allowed fresh none = record {
+-- ---- from turn to turn
+pub rewrites_first : (r : Tapes) (w : StreamWriter) (read out : Option (List ℕ)) → HasReadFrom tape_building r read read []
+    → taken_of (session_of r) ≡ 0 → AreLimits deepest (limits_of (session_of r)) → IsNew w (limits_of (session_of r))
+    → Rewrites r w read read out out
+rewrites_first r w read out has none allowed fresh = record {
   so_far = record {
     items = [];
-    taken = [];
-    gave = gave;
+    taken = has.taken;
+    gave = has.gave;
     tidy = [];
     tidied = no_item;
     written = [];
-    has = subst (λ (T : Table). HasWritten w [] [] T) (ends_there gave.stream refl) fresh.nothing;
+    has = subst (λ (T : Table). HasWritten w [] [] T) (ends_there has.gave.stream refl) fresh.nothing;
     limits = fresh.limits;
     allowed = allowed;
     no_longer = omega arith;
   };
-  input = Consumes-nil read;
-  out = record { written = []; out = Appends-nil out; whole = none };
+  has = has;
+  same = refl;
+  out = Appends-nil out;
 }
 
-module _ {s : SessionState TapeBuilder Tape} {w : StreamWriter} {read now old mid : Option (List ℕ)} {gathered : List ℕ}
-    (i : RewritesIn s w read now old mid gathered) where
-  pub rewrites_on : {s' : SessionState TapeBuilder Tape} {w' : StreamWriter} {next new : Option (List ℕ)} {after : List ℕ}
-      (piece : List ℕ) → Consumes now next piece
-      → RewritesOn i.so_far s' w' piece (λ more. PassesSome mid new (gathered ++ more) after)
-      → RewritesIn s' w' read next old new after
-  rewrites_on {next = next} {after = after} piece c o = record {
-    so_far = o.next;
-    input = subst (λ (l : List ℕ). Consumes read next l) (sym o.taken)
-        (Consumes-trans read now next i.so_far.taken piece i.input c);
-    out = adds_out gathered after i.so_far.written i.out o.next.written o.adds;
-  }
+-- the session is the same one
+record RewrittenAs (s : SessionState TapeBuilder Tape) (w : StreamWriter) (items : List StreamItem) (taken written : List ℕ)
+    : Type 0 where
+  so_far : HasRewritten s w
+  items_are : so_far.items ≡ items
+  taken_is : so_far.taken ≡ taken
+  written_is : so_far.written ≡ written
 
-  -- the tidy stream of what was given
-  tidy_so : (P : List ℕ → Type 0) → P i.so_far.written
-      → (b : BeginsWithStream base_table (no_deeper deepest s.limits) i.so_far.taken i.so_far.items)
-      → HasTidyStream (no_deeper deepest s.limits) b.table i.so_far.items P
-  tidy_so P holds b =
-      let h = i.so_far in
-      let L = no_deeper deepest s.limits in
-      let table = one_table L h.taken h.items (types s.types) b.table
-      (record { front = h.gave.front; rest = h.gave.under_way; stream = h.gave.stream; whole = h.gave.whole })
-      (record { front = b.front; rest = b.rest; stream = b.stream; whole = b.whole }) in
+pub rewrites_filled : {r r' : Tapes} {w : StreamWriter} {read now next old new : Option (List ℕ)}
+    → (p : Rewrites r w read now old new) → session_of r' ≡ session_of r
+    → HasReadFrom tape_building r' read next p.so_far.items → Rewrites r' w read next old new
+rewrites_filled {r' = r'} {w = w} {read = read} {next = next} {old = old} {new = new} p same q =
+    let h = p.so_far in
+    let a = subst (λ (s : SessionState TapeBuilder Tape). RewrittenAs s w h.items h.taken h.written) (sym same)
+    (record { so_far = h; items_are = refl; taken_is = refl; written_is = refl }) in
+    let t = subst (λ (l : List StreamItem). ReadsTo tape_building r' read next l a.so_far.taken) (sym a.items_are)
+    (subst (λ (l : List ℕ). ReadsTo tape_building r' read next h.items l) (sym a.taken_is)
+    (reads_more tape_building same p.has p.same q)) in
+    record {
+      so_far = a.so_far;
+      has = t.has;
+      same = t.same;
+      out = subst (λ (l : List ℕ). Appends old new l) (sym a.written_is) p.out;
+    }
+
+-- the session has given the items, the last of which ends at the offset or behind it
+record StillRead (s : SessionState TapeBuilder Tape) (items : List StreamItem) (bytes : List ℕ) (offset : ℕ) : Type 0 where
+  gave : GaveTapes s items bytes
+  longer : offset ≤ length gave.front
+
+-- what was read and taken so far, and what waits behind it
+input_so : {r : Tapes} {w : StreamWriter} {read now old new : Option (List ℕ)} → (p : Rewrites r w read now old new)
+    → Consumes read now (p.so_far.taken ++ waits_in r)
+input_so {r = r} {read = read} {now = now} p =
+    subst (λ (l : List ℕ). Consumes read now (l ++ waits_in r)) p.same p.has.input
+
+module _ {r r' : Tapes} {w : StreamWriter} {read now start mid : Option (List ℕ)} (p : Rewrites r w read now start mid)
+    (same : limits_of (session_of r') ≡ limits_of (session_of r)) {used : ℕ} {others : List StreamItem}
+    (q : HasReadFrom tape_building r' read now others) where
+  -- no item was whole
+  pub rewrites_none : TakesBehind tape_building r r' p.so_far.items [] p.so_far.taken used
+      → Rewrites r' w read now start mid
+  rewrites_none b =
+      let h = p.so_far in
+      let s' = session_of r' in
+      let z = take used (waits_in r) in
+      let t = subst (λ (l : List StreamItem). ReadsTo tape_building r' read now l (h.taken ++ z)) (append-nil h.items)
+      (reads_behind tape_building (input_so p) b q) in
+      let g = goes_by tape_building h.gave [] z same b.gave in
+      let table = ends_there g.later refl in
+      let a = subst (λ (l : List StreamItem). StillRead s' l (h.taken ++ z) (length h.gave.front)) (append-nil h.items)
+      (record { gave = g.gave; longer = omega (arith, ap length g.front, length-append h.gave.front g.bytes) }) in
       record {
-        tidy = h.tidy;
-        tidied = subst (λ (T : Table). AreItemsTidied T h.items h.tidy) table h.tidied;
-        bytes = h.written;
-        stream = subst (λ (T : Table). Stream base_table L h.tidy h.written T) table
-            (subst (λ (L : Bounds). Stream base_table L h.tidy h.written (types s.types))
-            (h.limits ∙ sym (same_bounds h.allowed)) h.has.stream);
-        holds = holds;
+        so_far = record {
+          items = h.items;
+          taken = h.taken ++ z;
+          gave = a.gave;
+          tidy = h.tidy;
+          tidied = subst (λ (T : Table). AreItemsTidied T h.items h.tidy) table h.tidied;
+          written = h.written;
+          has = subst (λ (T : Table). HasWritten w h.tidy h.written T) table h.has;
+          limits = h.limits ∙ sym same;
+          allowed = subst (λ (L : Bounds). AreLimits deepest L) (sym same) h.allowed;
+          no_longer = omega (arith, h.no_longer, a.longer);
+        };
+        has = t.has;
+        same = t.same;
+        out = p.out;
       }
 
-  -- the input ended between two items
-  pub rewritten_whole : (M : Bounds) (s' : SessionState TapeBuilder Tape) (next : Option (List ℕ)) (bytes : List ℕ) (u : Unit {0})
-      → s.limits ≡ M → read ≡ Some bytes → Consumes now next [] → IsAtEnd next
-      → ReadingFinishes deepest s s' i.so_far.items i.so_far.taken (Ok u)
-      → RewritesWhole (no_deeper deepest M) bytes next (Gathered old mid gathered)
-  rewritten_whole M s' next bytes u same known c end finish =
-      let h = i.so_far in
-      let all = all_taken read now next bytes h.taken known i.input c end in
-      let w = whole_stream finish.0.ends in
-      subst (λ (L : Bounds). RewritesWhole (no_deeper deepest L) bytes next (Gathered old mid gathered)) same (record {
-        items = h.items;
-        table = w.table;
-        stream = subst (λ (l : List ℕ). Stream base_table (no_deeper deepest s.limits) h.items l w.table) all.0 w.stream;
-        end = all.1;
-        tidy = tidy_so (Gathered old mid gathered) i.out (record
-            { front = h.taken; rest = []; table = w.table; stream = w.stream; whole = sym (append-nil h.taken) });
-      })
+  module _ {i : StreamItem} (b : TakesBehind tape_building r r' p.so_far.items (i ∷ []) p.so_far.taken used) where
+    goes : GoesOn tape_building p.so_far.gave (session_of r') (i ∷ []) (take used (waits_in r))
+    goes = goes_by tape_building p.so_far.gave (i ∷ []) (take used (waits_in r)) same b.gave
 
-  -- or within an item
-  pub rewritten_within : (M : Bounds) (s' : SessionState TapeBuilder Tape) (next : Option (List ℕ)) (bytes : List ℕ)
-      (C : List ℕ → Type 0) (e : Fault) → s.limits ≡ M → read ≡ Some bytes → Consumes now next [] → IsAtEnd next
-      → ReadingFinishes deepest s s' i.so_far.items i.so_far.taken (Err e)
-      → RewritesSo (no_deeper deepest M) bytes next (Gathered old mid gathered) C (Err (reading_fault e))
-  rewritten_within M s' next bytes C (reading.Refused R) same known c end finish =
-      let h = i.so_far in
-      let all = all_taken read now next bytes h.taken known i.input c end in
-      subst (λ (L : Bounds). RewritesToRefusal (no_deeper deepest L) bytes R (Gathered old mid gathered)) same
-      (subst (λ (l : List ℕ). RewritesToRefusal (no_deeper deepest s.limits) l R (Gathered old mid gathered)) all.0
-      (record {
-        items = h.items;
-        outcome = finish.0;
-        tidy = tidy_so (Gathered old mid gathered) i.out finish.0.gives.begins;
-      }))
-  rewritten_within M s' next bytes C reading.Read same known c end finish = absurd finish
-  rewritten_within M s' next bytes C reading.Memory same known c end finish = absurd finish
-  rewritten_within M s' next bytes C reading.Failed same known c end finish = absurd finish
+    comes : ComesNext p.so_far i (types_of (session_of r'))
+    comes = comes_with goes
 
-  -- a piece ended the run
-  rewritten_stopped_there : (s' : SessionState TapeBuilder Tape) (w' : StreamWriter) (next new : Option (List ℕ)) (after : List ℕ)
-      (piece bytes : List ℕ) (f : ToolFault) → read ≡ Some bytes → Consumes now next piece
-      → RewritesPiece (no_deeper deepest s.limits) i.so_far s' w' piece mid new gathered after (Err f)
-      → RewritesSo (no_deeper deepest s.limits) bytes next (Gathered old new after) (AppendsFront old new) (Err f)
-  rewritten_stopped_there s' w' next new after piece bytes (fault.Refused R) known c x =
-      let t = known_taken read next bytes (i.so_far.taken ++ piece) known (Consumes-trans read now next i.so_far.taken piece i.input c) in
-      refused_more t.left t.whole x.0 x.1 (adds_out gathered after i.so_far.written i.out)
-  rewritten_stopped_there s' w' next new after piece bytes fault.Write known c x =
-      let t = known_taken read next bytes (i.so_far.taken ++ piece) known (Consumes-trans read now next i.so_far.taken piece i.input c) in
-      front_more t.left t.whole x (adds_front gathered i.so_far.written i.out)
-  rewritten_stopped_there s' w' next new after piece bytes fault.Memory known c x =
-      let t = known_taken read next bytes (i.so_far.taken ++ piece) known (Consumes-trans read now next i.so_far.taken piece i.input c) in
-      front_more t.left t.whole x (adds_out gathered after i.so_far.written i.out)
-  rewritten_stopped_there s' w' next new after piece bytes (fault.Wanted R) known c x = absurd x
-  rewritten_stopped_there s' w' next new after piece bytes fault.NoWantedType known c x = absurd x
-  rewritten_stopped_there s' w' next new after piece bytes (fault.Clash path why) known c x = absurd x
-  rewritten_stopped_there s' w' next new after piece bytes fault.Read known c x = absurd x
+    longer : goes.gave.front ≡ p.so_far.gave.front ++ comes.bytes
+    unfolding comes comes_with
+    longer = goes.front ∙ ap (λ (l : List ℕ). p.so_far.gave.front ++ l) (follows goes.later refl).whole
 
-  pub rewritten_stopped : (M : Bounds) (s' : SessionState TapeBuilder Tape) (w' : StreamWriter) (next new : Option (List ℕ))
-      (after piece bytes : List ℕ) (f : ToolFault) → s.limits ≡ M → read ≡ Some bytes → Consumes now next piece
-      → RewritesPiece (no_deeper deepest s.limits) i.so_far s' w' piece mid new gathered after (Err f)
-      → RewritesSo (no_deeper deepest M) bytes next (Gathered old new after) (AppendsFront old new) (Err f)
-  rewritten_stopped M s' w' next new after piece bytes f same known c x =
-      subst (λ (L : Bounds). RewritesSo (no_deeper deepest L) bytes next (Gathered old new after) (AppendsFront old new) (Err f))
-      same (rewritten_stopped_there s' w' next new after piece bytes f known c x)
+    -- one was, and its tidy form is out
+    pub rewrites_one : {w' : StreamWriter} {new : Option (List ℕ)} {res : Result (Unit {0}) WriteFault} (u : Unit {0})
+        → (res ≢ Err write.Memory → WritesTidy w w' i mid new res) → res ≡ Ok u → Rewrites r' w' read now start new
+    rewrites_one {new = new} u writes is =
+        let h = p.so_far in
+        let z = take used (waits_in r) in
+        let t = reads_behind tape_building (input_so p) b q in
+        let out = went_out comes u writes is in
+        let g = out.0 in
+        record {
+          so_far = record {
+            items = h.items ++ i ∷ [];
+            taken = h.taken ++ z;
+            gave = goes.gave;
+            tidy = g.tidy;
+            tidied = g.tidied;
+            written = h.written ++ g.more;
+            has = g.has;
+            limits = g.limits ∙ sym same;
+            allowed = subst (λ (L : Bounds). AreLimits deepest L) (sym same) h.allowed;
+            no_longer = omega (arith, g.no_longer, ap length longer);
+          };
+          has = t.has;
+          same = t.same;
+          out = Appends-trans start mid new h.written g.more p.out out.1;
+        }
 
--- reads that failed are counted: none at the end of the input, nor while a piece is taken
-pub end_reads : (s s' : SessionState TapeBuilder Tape) (items : List StreamItem) (bytes : List ℕ)
-    (failures failures' : ℕ) (e : Fault) → ReadingFinishes deepest s s' items bytes (Err e) → failures' ≡ failures
-    → CountsOnlyReads failures failures' (Err (reading_fault e))
-end_reads s s' items bytes failures failures' (reading.Refused R) f h = h
-end_reads s s' items bytes failures failures' reading.Read f h = absurd f
-end_reads s s' items bytes failures failures' reading.Memory f h = h
-end_reads s s' items bytes failures failures' reading.Failed f h = h
+    -- or a front of it
+    rewrites_cut : {w' : StreamWriter} {new : Option (List ℕ)} {res : Result (Unit {0}) WriteFault}
+        → (res ≢ Err write.Memory → WritesTidy w w' i mid new res) → res ≡ Err write.Write → (bytes : List ℕ)
+        → read ≡ Some bytes
+        → RewritesFront (no_deeper deepest (limits_of (session_of r))) bytes (AppendsFront start new)
+    rewrites_cut {new = new} writes is bytes known =
+        let h = p.so_far in
+        let L = no_deeper deepest (limits_of (session_of r)) in
+        let U = types_of (session_of r') in
+        let items = h.items ++ i ∷ [] in
+        let t = reads_behind tape_building (input_so p) b q in
+        let begins = subst (λ (L : Bounds). Begins (no_deeper deepest L) U items bytes) same
+        (begins_so tape_building bytes t.has known) in
+        let cut = cut_out comes writes is in
+        let tidied = cut.1 in
+        let front = cut.2 in
+        let tidy : HasTidyStream L U items (AppendsFront start new) = record {
+          tidy = tidied.tidy;
+          tidied = tidied.tidied;
+          bytes = h.written ++ cut.0;
+          stream = subst (λ (M : Bounds). Stream base_table M tidied.tidy (h.written ++ cut.0) U) (sym (same_bounds h.allowed))
+              tidied.stream;
+          holds = record {
+            front = h.written ++ front.front;
+            rest = front.rest;
+            whole = ap (λ (l : List ℕ). h.written ++ l) front.whole ∙ sym (append_assoc h.written front.front front.rest);
+            out = Appends-trans start mid new h.written front.front p.out front.out;
+          };
+        } in
+        record {
+          items = items;
+          begins = begins.begins;
+          tidy = subst (λ (T : Table). HasTidyStream L T items (AppendsFront start new)) (sym begins.table) tidy;
+        }
 
-pub piece_reads : (L : Bounds) {s : SessionState TapeBuilder Tape} {w : StreamWriter} (h : HasRewritten s w)
-    (s' : SessionState TapeBuilder Tape) (w' : StreamWriter) (piece : List ℕ) (old new : Option (List ℕ)) (before after : List ℕ)
-    (failures failures' : ℕ) (f : ToolFault) → RewritesPiece L h s' w' piece old new before after (Err f)
-    → failures' ≡ failures → CountsOnlyReads failures failures' (Err f)
-piece_reads L h s' w' piece old new before after failures failures' (fault.Refused R) x e = e
-piece_reads L h s' w' piece old new before after failures failures' (fault.Wanted R) x e = absurd x
-piece_reads L h s' w' piece old new before after failures failures' fault.NoWantedType x e = absurd x
-piece_reads L h s' w' piece old new before after failures failures' (fault.Clash path why) x e = absurd x
-piece_reads L h s' w' piece old new before after failures failures' fault.Read x e = absurd x
-piece_reads L h s' w' piece old new before after failures failures' fault.Write x e = e
-piece_reads L h s' w' piece old new before after failures failures' fault.Memory x e = e
+    -- no memory was had for it
+    rewrites_kept : (new : Option (List ℕ)) → Keeps mid new → (bytes : List ℕ) → read ≡ Some bytes
+        → SomeTaken bytes now (λ read. RewritesTaken (no_deeper deepest (limits_of (session_of r))) read (Appends start new))
+    rewrites_kept new kept bytes known =
+        let h = p.so_far in
+        let a = ahead_so tape_building bytes p.has known in
+        record {
+          bytes = a.bytes;
+          taken = a.taken;
+          holds = record {
+            items = h.items;
+            table = types_of (session_of r);
+            given = a.holds;
+            tidy = tidy_there h (Appends start new) (Appends-kept start mid new h.written p.out kept);
+          };
+        }
 
--- ---- the run
-pub rewrites_at : (L : Bounds) (bytes : List ℕ) (now : Option (List ℕ)) (P C : List ℕ → Type 0)
-    (r : Result (Unit {0}) ToolFault) (f : ToolFault) → IsErrAnd r (λ e. e ≡ f) → RewritesSo L bytes now P C (Err f)
-    → RewritesSo L bytes now P C r
-rewrites_at L bytes now P C (Ok u) f e h = absurd e
-rewrites_at L bytes now P C (Err g) f e h = subst (λ f. RewritesSo L bytes now P C (Err f)) (sym e) h
+    -- what stopped the writing of it
+    pub rewrites_stopped : (r'' : Tapes) (w' w'' : StreamWriter) (new : Option (List ℕ)) {res : Result (Unit {0}) WriteFault}
+        (e : WriteFault) → (res ≢ Err write.Memory → WritesTidy w w' i mid new res) → Leaves w w' mid new res
+        → res ≡ Err e → RewritesNext r r'' w'' read now start new (Err (writing_fault e))
+    rewrites_stopped r'' w' w'' new {res = res} e writes leaves is = at (only_wanting comes e writes is)
+      where
+        at : (e ≡ write.Write) ⊎ (e ≡ write.Memory) → RewritesNext r r'' w'' read now start new (Err (writing_fault e))
+        at (inl same) = subst (λ e. RewritesNext r r'' w'' read now start new (Err (writing_fault e))) (sym same)
+            (λ bytes known. rewrites_cut writes (is ∙ ap (λ e. Err e) same) bytes known, λ failures. inl refl)
+        at (inr same) =
+            let left = subst (λ x. Leaves w w' mid new x) (is ∙ ap (λ e. Err e) same) leaves in
+            subst (λ e. RewritesNext r r'' w'' read now start new (Err (writing_fault e))) (sym same)
+            (λ bytes known. rewrites_kept new left.1 bytes known, λ failures. refl)
 
-pub rewrites_cut : (L : Bounds) (bytes : List ℕ) (now : Option (List ℕ)) (P C : List ℕ → Type 0)
-    (r : Result (Unit {0}) ToolFault) (f : ToolFault) → IsErrAnd r (λ e. e ≡ f) → f ≡ fault.Write → RewritesFront L bytes C
-    → RewritesSo L bytes now P C r
-rewrites_cut L bytes now P C r f e write h = rewrites_at L bytes now P C r f e
-    (subst (λ f. RewritesSo L bytes now P C (Err f)) (sym write) h)
+-- the item that comes next, whatever the input
+module _ {r r' : Tapes} {w : StreamWriter} (h : HasRewritten (session_of r) w)
+    (same : limits_of (session_of r') ≡ limits_of (session_of r)) {used : ℕ} {i : StreamItem}
+    (b : TakesBehind tape_building r r' h.items (i ∷ []) h.taken used) where
+  next_comes : ComesNext h i (types_of (session_of r'))
+  next_comes = comes_with (goes_by tape_building h.gave (i ∷ []) (take used (waits_in r)) same b.gave)
 
--- no memory was had before the first item
-pub rewritten_none : (L : Bounds) (bytes : List ℕ) (P : List ℕ → Type 0) → P [] → RewritesFront L bytes P
-rewritten_none L bytes P holds = record {
-  items = [];
-  begins = record { front = []; rest = bytes; table = base_table; stream = no_more; whole = refl };
-  tidy = record { tidy = []; tidied = no_item; bytes = []; stream = no_more; holds = holds };
-}
+  pub next_there : StandsNext w (types_of (session_of r')) i
+  next_there = next_stands next_comes
 
-pub front_as : (L : Bounds) (bytes : List ℕ) (P Q : List ℕ → Type 0) → RewritesFront L bytes P
-    → ((all : List ℕ) → P all → Q all) → RewritesFront L bytes Q
-front_as L bytes P Q b f = record { items = b.items; begins = b.begins; tidy = tidy_as b.tidy f }
+  pub next_wanting : {w' : StreamWriter} {old new : Option (List ℕ)} {res : Result (Unit {0}) WriteFault} (e : WriteFault)
+      → (res ≢ Err write.Memory → WritesTidy w w' i old new res) → res ≡ Err e → (e ≡ write.Write) ⊎ (e ≡ write.Memory)
+  next_wanting e writes is = only_wanting next_comes e writes is
 
--- what was written before any end but a failed write
-pub rewritten_before : (L : Bounds) (bytes : List ℕ) (now : Option (List ℕ)) (P C : List ℕ → Type 0)
-    (r : Result (Unit {0}) ToolFault) → RewritesSo L bytes now P C r → (r ≡ Err fault.Write → ⊥) → RewritesFront L bytes P
-rewritten_before L bytes now P C (Ok u) e other = record {
-  items = e.items;
-  begins = record { front = bytes; rest = []; table = e.table; stream = e.stream; whole = sym (append-nil bytes) };
-  tidy = e.tidy;
-}
-rewritten_before L bytes now P C (Err (fault.Refused R)) e other = record
-    { items = e.items; begins = e.outcome.gives.begins; tidy = e.tidy }
-rewritten_before L bytes now P C (Err fault.Read) e other = record {
-  items = e.holds.items;
-  begins = record {
-    front = e.holds.given.begins.front;
-    rest = e.holds.given.begins.rest ++ e.taken.left;
-    table = e.holds.given.begins.table;
-    stream = e.holds.given.begins.stream;
-    whole = e.taken.whole ∙ ap (λ (l : List ℕ). l ++ e.taken.left) e.holds.given.begins.whole
-        ∙ append_assoc e.holds.given.begins.front e.holds.given.begins.rest e.taken.left;
+pub wanting_counts : (old new : ℕ) {res : Result (Unit {0}) WriteFault} (e : WriteFault) → (e ≡ write.Write) ⊎ (e ≡ write.Memory)
+    → CountsWriterFaults old new res → res ≡ Err e → CountsOnlyWrites {A = Unit {0}} old new (Err (writing_fault e))
+wanting_counts old new e (inl same) counts is =
+    subst (λ e. CountsOnlyWrites {A = Unit {0}} old new (Err (writing_fault e))) (sym same)
+    (subst (λ res. CountsWriterFaults old new res) (is ∙ ap (λ e. Err e) same) counts)
+wanting_counts old new e (inr same) counts is =
+    subst (λ e. CountsOnlyWrites {A = Unit {0}} old new (Err (writing_fault e))) (sym same)
+    (subst (λ res. CountsWriterFaults old new res) (is ∙ ap (λ e. Err e) same) counts)
+
+-- ---- an item that is tidy already
+pub whole_of : {T : Table} {t : TypeId} {limit : ℕ} {bytes : List ℕ} → IsTidyWhole T t limit bytes
+    → IsWhole T t limit bytes
+whole_of v = record { value = v.value; spelled = v.spelled; within = v.within }
+
+pub tidy_item : {r : Tapes} {id : TypeId} {body : List ℕ} {used : ℕ} (x : WaitsTidy r id body used)
+    → IsItem base_table (no_deeper deepest (limits_of (session_of r))) (types_of (session_of r)) (taken_of (session_of r))
+    (puts id x.whole.value) (take used (waits_in r)) (types_of (session_of r))
+unfolding whole_of
+tidy_item x = whole_item deepest x.depth_is x.next (whole_of x.whole)
+
+pub tidy_spelled : {r : Tapes} {id : TypeId} {body : List ℕ} {used : ℕ} (x : WaitsTidy r id body used)
+    → SpellsTidy (types_of (session_of r)) id x.whole.value body
+tidy_spelled x = record { spelled = x.whole.spelled; tidied = x.whole.tidied }
+
+-- a whole item has a byte at least
+pub body_some : {L : Bounds} {T : Table} {offset : ℕ} {id : TypeId} {body : List ℕ} {used : ℕ} {piece : List ℕ}
+    → HasBody L T offset id body used piece → 0 < used
+body_some {body = body} {used = used} {piece = piece} b =
+    let some = (unsigned_length b.counts).0 in
+    omega (arith, ap length b.whole, length-take-le used piece b.within, length-append b.count (b.number ++ body))
+
+-- what is an item at an offset is one at any before it
+sooner : {L : Bounds} {T U : Table} {o n : ℕ} {i : StreamItem} {b : List ℕ} → n ≤ o → IsItem base_table L T o i b U
+    → IsItem base_table L T n i b U
+sooner l (counted u k s b) = counted u k (omega arith) b
+
+pub tidy_next : {r : Tapes} {w : StreamWriter} {id : TypeId} {body : List ℕ} {used : ℕ} (h : HasRewritten (session_of r) w)
+    (x : WaitsTidy r id body used) → StandsNext w (types_of (session_of r)) (puts id x.whole.value)
+tidy_next {r = r} {id = id} {used = used} h x =
+    let before : length h.gave.front ≤ taken_of (session_of r) =
+    omega (arith, h.gave.taken, ap length h.gave.whole, length-append h.gave.front h.gave.under_way) in
+    let n : ComesNext h (puts id x.whole.value) (types_of (session_of r)) = record
+    { bytes = take used (waits_in r); counted = sooner before (tidy_item x) } in
+    next_stands n
+
+pub tidy_behind : {r r' : Tapes} {w : StreamWriter} {id : TypeId} {body : List ℕ} {used : ℕ} (h : HasRewritten (session_of r) w)
+    → room_in r ≤ most_ahead (limits_of (session_of r)) → (x : WaitsTidy r id body used) → PassesOne tape_building r r' used
+    → TakesBehind tape_building r r' h.items (puts id x.whole.value ∷ []) h.taken used
+tidy_behind {r = r} {id = id} h room x passed =
+    takes_behind tape_building h.gave
+    (passed (Some (h.taken ++ waits_in r)) (Some []) h.items (puts id x.whole.value) (read_alone tape_building h.gave room)
+    (tidy_item x))
+
+-- ---- what a step gave
+pub record GivesTape (r r' : Tapes) (items : List StreamItem) (taken : List ℕ) (used : ℕ) (given : declared.Item Tape) : Type 0
+  where
+    pub item : StreamItem
+    pub meant : ItemMeans IsTape given item
+    pub behind : TakesBehind tape_building r r' items (item ∷ []) taken used
+
+pub tape_given : {r r' : Tapes} {w : StreamWriter} {step : Step Tape} (h : HasRewritten (session_of r) w)
+    (given : declared.Item Tape) → step.item ≡ Some given
+    → StepsOnFrom tape_building r r' (Some (h.taken ++ waits_in r)) (Some []) h.items step
+    → GivesTape r r' h.items h.taken step.used given
+tape_given {r = r} {r' = r'} {step = step} h given is t =
+    let b = steps_behind tape_building h.gave t in
+    let one = one_given given is b.gives in
+    record {
+      item = one.item;
+      meant = one.meant;
+      behind = subst (λ (l : List StreamItem). TakesBehind tape_building r r' h.items l h.taken step.used) one.only b.behind;
+    }
+
+pub none_taken : {r r' : Tapes} {w : StreamWriter} {step : Step Tape} (h : HasRewritten (session_of r) w)
+    → ((given : declared.Item Tape) → step.item ≡ Some given → ⊥)
+    → StepsOnFrom tape_building r r' (Some (h.taken ++ waits_in r)) (Some []) h.items step
+    → TakesBehind tape_building r r' h.items [] h.taken step.used
+none_taken {r = r} {r' = r'} {step = step} h n t =
+    let b = steps_behind tape_building h.gave t in
+    subst (λ (l : List StreamItem). TakesBehind tape_building r r' h.items l h.taken step.used) (none_given n b.gives) b.behind
+
+-- ---- the ends
+pub rewritten_stops : (L : Bounds) (T : Table) (items : List StreamItem) (bytes : List ℕ) (now : Option (List ℕ))
+    (P C : List ℕ → Type 0) (e : Fault) → Stops L T items bytes now e → HasTidyStream L T items P
+    → RewritesSo L bytes now P C (Err (reading_fault e))
+rewritten_stops L T items bytes now P C (reading.Refused R) s t = record
+    { items = items; outcome = s.outcome; tidy = subst (λ (U : Table). HasTidyStream L U items P) (sym s.table) t }
+rewritten_stops L T items bytes now P C reading.Read s t = record {
+  bytes = s.bytes;
+  taken = s.taken;
+  holds = record {
+    items = items;
+    given = s.holds.gives;
+    tidy = subst (λ (U : Table). HasTidyStream L U items P) (sym s.holds.table) t;
   };
-  tidy = e.holds.tidy;
 }
-rewritten_before L bytes now P C (Err (fault.Wanted R)) e other = absurd e
-rewritten_before L bytes now P C (Err fault.NoWantedType) e other = absurd e
-rewritten_before L bytes now P C (Err (fault.Clash path why)) e other = absurd e
-rewritten_before L bytes now P C (Err fault.Write) e other = absurd (other refl)
-rewritten_before L bytes now P C (Err fault.Memory) e other = e
+rewritten_stops L T items bytes now P C reading.Memory s t = record
+    { bytes = s.bytes; taken = s.taken; holds = record { items = items; table = T; given = s.holds; tidy = t } }
+rewritten_stops L T items bytes now P C reading.Failed s t = absurd s
 
-pub rewrites_as : (L : Bounds) (bytes : List ℕ) (now : Option (List ℕ)) (P Q C D : List ℕ → Type 0)
-    (r : Result (Unit {0}) ToolFault) → RewritesSo L bytes now P C r → (r ≡ Err fault.Write → ⊥)
-    → ((all : List ℕ) → P all → Q all) → RewritesSo L bytes now Q D r
-rewrites_as L bytes now P Q C D (Ok u) e other f = record
+-- a step was refused, or had no memory
+pub step_stopped : {r : Tapes} {w : StreamWriter} {read now start out : Option (List ℕ)} (r' : Tapes) (w' : StreamWriter)
+    (e : Fault) (p : Rewrites r w read now start out) → StopsFrom tape_building (session_of r) read now p.so_far.items e
+    → (e ≡ reading.Read → ⊥) → RewritesNext r r' w' read now start out (Err (reading_fault e))
+step_stopped {r = r} {read = read} {now = now} {start = start} {out = out} r' w' e p stops none = (
+  λ bytes known.
+      let s = session_of r in
+      rewritten_stops (no_deeper deepest (limits_of s)) (types_of s) p.so_far.items bytes now (Appends start out)
+      (AppendsFront start out) e (stops bytes known) (tidy_there p.so_far (Appends start out) p.out),
+  λ failures. reads_nothing failures e none,
+)
+
+pub rewritten_whole : {r : Tapes} {w : StreamWriter} {read now old new next : Option (List ℕ)} {bytes : List ℕ} {taken : ℕ}
+    (p : Rewrites r w read now old new)
+    → EndsWith (no_deeper deepest (limits_of (session_of r))) (types_of (session_of r)) taken p.so_far.items bytes next
+    → RewritesWhole (no_deeper deepest (limits_of (session_of r))) bytes next (Appends old new)
+rewritten_whole {r = r} {old = old} {new = new} p e = record {
+  items = p.so_far.items;
+  table = types_of (session_of r);
+  stream = e.stream;
+  end = e.end;
+  tidy = tidy_there p.so_far (Appends old new) p.out;
+}
+
+-- ---- a flush
+pub rewrites_flushed : {r : Tapes} {w : StreamWriter} {read now old mid new : Option (List ℕ)} → Rewrites r w read now old mid
+    → Keeps mid new → Rewrites r w read now old new
+rewrites_flushed {old = old} {mid = mid} {new = new} p k = record {
+  so_far = p.so_far;
+  has = p.has;
+  same = p.same;
+  out = Appends-kept old mid new p.so_far.written p.out k;
+}
+
+-- that failed
+pub rewrites_unflushed : {r : Tapes} {w : StreamWriter} {read now old new : Option (List ℕ)} (p : Rewrites r w read now old new)
+    (bytes : List ℕ) → read ≡ Some bytes
+    → RewritesFront (no_deeper deepest (limits_of (session_of r))) bytes (AppendsFront old new)
+rewrites_unflushed {r = r} {old = old} {new = new} p bytes known =
+    let h = p.so_far in
+    let L = no_deeper deepest (limits_of (session_of r)) in
+    let begins = begins_so tape_building bytes p.has known in
+    record {
+      items = h.items;
+      begins = begins.begins;
+      tidy = subst (λ (T : Table). HasTidyStream L T h.items (AppendsFront old new)) (sym begins.table)
+          (tidy_there h (AppendsFront old new)
+          (record { front = h.written; rest = []; whole = sym (append-nil h.written); out = p.out }));
+    }
+
+-- no memory was had before the first byte was read
+pub rewritten_none : (L : Bounds) (bytes : List ℕ) (now : Option (List ℕ)) (P C : List ℕ → Type 0) → now ≡ Some bytes → P []
+    → RewritesSo L bytes now P C (Err fault.Memory)
+rewritten_none L bytes now P C known holds = record {
+  bytes = [];
+  taken = record { left = bytes; known = known; whole = refl };
+  holds = record {
+    items = [];
+    table = base_table;
+    given = nothing_given L;
+    tidy = record { tidy = []; tidied = no_item; bytes = []; stream = no_more; holds = holds };
+  };
+}
+
+pub answers_under : (L M : Bounds) (bytes : List ℕ) (now old new : Option (List ℕ)) (res : Result (Unit {0}) ToolFault)
+    → L ≡ M → RewriteAnswers (no_deeper deepest L) bytes now old new res
+    → RewriteAnswers (no_deeper deepest M) bytes now old new res
+answers_under L M bytes now old new res same h =
+    subst (λ (L : Bounds). RewriteAnswers (no_deeper deepest L) bytes now old new res) same h
+
+-- each turn takes a byte at least
+pub rewrites_fall : {r' : Tapes} {w' : StreamWriter} {read now old new : Option (List ℕ)} (r : Tapes) (before : ℕ)
+    → limits_of (session_of r') ≡ limits_of (session_of r) → Rewrites r' w' read now old new
+    → before < taken_of (session_of r')
+    → (limits_of (session_of r')).stream + 9 - taken_of (session_of r') < (limits_of (session_of r)).stream + 9 - before
+rewrites_fall r before same p onward =
+    let bound = stands_within p.so_far.gave in
+    let stream = ap (λ (L : Bounds). L.stream) same in
+    omega (arith, p.so_far.gave.taken, onward, stream, bound)
+
+-- ---- behind the flush
+tidy_as : {L : Bounds} {T : Table} {items : List StreamItem} {P Q : List ℕ → Type 0} → HasTidyStream L T items P
+    → ((b : List ℕ) → P b → Q b) → HasTidyStream L T items Q
+tidy_as t f = record { tidy = t.tidy; tidied = t.tidied; bytes = t.bytes; stream = t.stream; holds = f _ t.holds }
+
+front_as : {L : Bounds} {bytes : List ℕ} {P Q : List ℕ → Type 0} → RewritesFront L bytes P
+    → ((all : List ℕ) → P all → Q all) → RewritesFront L bytes Q
+front_as b f = record { items = b.items; begins = b.begins; tidy = tidy_as b.tidy f }
+
+rewrites_as : (L : Bounds) (bytes : List ℕ) (now : Option (List ℕ)) (P Q C D : List ℕ → Type 0)
+    (res : Result (Unit {0}) ToolFault) → RewritesSo L bytes now P C res → ((all : List ℕ) → P all → Q all)
+    → ((all : List ℕ) → C all → D all) → RewritesSo L bytes now Q D res
+rewrites_as L bytes now P Q C D (Ok u) e f g = record
     { items = e.items; table = e.table; stream = e.stream; end = e.end; tidy = tidy_as e.tidy f }
-rewrites_as L bytes now P Q C D (Err (fault.Refused R)) e other f = record
+rewrites_as L bytes now P Q C D (Err (fault.Refused R)) e f g = record
     { items = e.items; outcome = e.outcome; tidy = tidy_as e.tidy f }
-rewrites_as L bytes now P Q C D (Err fault.Read) e other f = record {
+rewrites_as L bytes now P Q C D (Err fault.Read) e f g = record {
   bytes = e.bytes;
   taken = e.taken;
   holds = record { items = e.holds.items; given = e.holds.given; tidy = tidy_as e.holds.tidy f };
 }
-rewrites_as L bytes now P Q C D (Err (fault.Wanted R)) e other f = absurd e
-rewrites_as L bytes now P Q C D (Err fault.NoWantedType) e other f = absurd e
-rewrites_as L bytes now P Q C D (Err (fault.Clash path why)) e other f = absurd e
-rewrites_as L bytes now P Q C D (Err fault.Write) e other f = absurd (other refl)
-rewrites_as L bytes now P Q C D (Err fault.Memory) e other f = front_as L bytes P Q e f
+rewrites_as L bytes now P Q C D (Err (fault.Wanted R)) e f g = absurd e
+rewrites_as L bytes now P Q C D (Err fault.NoWantedType) e f g = absurd e
+rewrites_as L bytes now P Q C D (Err (fault.Clash path why)) e f g = absurd e
+rewrites_as L bytes now P Q C D (Err fault.Write) e f g = front_as e g
+rewrites_as L bytes now P Q C D (Err fault.Memory) e f g = record {
+  bytes = e.bytes;
+  taken = e.taken;
+  holds = record { items = e.holds.items; table = e.holds.table; given = e.holds.given; tidy = tidy_as e.holds.tidy f };
+}
+
+pub rewrites_ended : (L : Bounds) (bytes : List ℕ) (now old mid new : Option (List ℕ))
+    (answer result : Result (Unit {0}) ToolFault) → Keeps mid new → EndsRun answer result
+    → RewriteAnswers L bytes now old mid answer → RewriteAnswers L bytes now old new result
+rewrites_ended L bytes now old mid new answer result k (ends_so e) h =
+    subst (λ r. RewriteAnswers L bytes now old new r) (sym e)
+    (rewrites_as L bytes now (Appends old mid) (Appends old new) (AppendsFront old mid) (AppendsFront old new) answer h
+    (λ all a. Appends-kept old mid new all a k) (λ all a. front_kept old mid new all a k))
+rewrites_ended L bytes now old mid new answer result k (flush_fails o e) h =
+    subst (λ r. RewriteAnswers L bytes now old new r) (sym e)
+    (whole (subst (λ r. RewriteAnswers L bytes now old mid r) o h))
+  where
+    whole : RewritesWhole L bytes now (Appends old mid) → RewritesFront L bytes (AppendsFront old new)
+    whole w = record {
+      items = w.items;
+      begins = record { front = bytes; rest = []; table = w.table; stream = w.stream; whole = sym (append-nil bytes) };
+      tidy = tidy_as w.tidy (λ all a. record {
+        front = all;
+        rest = [];
+        whole = sym (append-nil all);
+        out = Appends-kept old mid new all a k;
+      });
+    }

@@ -1,431 +1,494 @@
--- How a run that receives values goes on from piece to piece, and how it ends.
-use Rattle.std.proofs.Common.{◌≡◌, ◌≢◌, ℕ, ◌≤◌, ◌<◌, inl, inr, ◌⊎◌, arith, Bool, true, false, List, [], ◌∷◌, ◌++◌, take}
-use Rattle.std.proofs.Common.{Option, Some, Result, Ok, Err, ◌∙◌, ap, sym, subst, refl, append_assoc, append-nil}
-use Rattle.std.proofs.lemmas.List.{take-append-le}
-use Rattle.std.specs.Result.{IsErrAnd}
-use Rattle.std.specs.Io.KnownBytes.{Appends, IsAtEnd}
-use Rattle.std.proofs.KnownBytes.{Appends-nil, Appends-trans, Consumes-nil, Consumes-trans}
-use Rattle.gob_types.specs.declared.id.TypeId.{TypeId}
-use Rattle.gob_types.specs.declared.reason.Reason.TheVariants as reason
+-- How a run that receives values goes on from item to item, and how it ends.
+use Rattle.std.proofs.Common.{◌≡◌, ℕ, ◌+◌, ◌-◌, ◌<◌, arith, List, [], ◌∷◌, ◌++◌, take, Option, Some}
+use Rattle.std.proofs.Common.{Result, Ok, Err, ◌∙◌, ap, sym, subst, refl, append_assoc, append-nil, inl, inr}
+use Rattle.std.specs.Io.KnownBytes.{Appends, Keeps}
+use Rattle.std.proofs.KnownBytes.{Appends-nil, Appends-trans, Appends-kept}
 use Rattle.gob_types.specs.Base.{base_table}
-use Rattle.gob_types.specs.Defined.{types}
 use Rattle.gob_types.specs.Ready.{IsReady}
 use Rattle.gob_types.specs.Table.{Table}
-use Rattle.gob_types.proofs.PublicLaws.{Keeps}
+use Rattle.gob_types.specs.declared.id.TypeId.{TypeId}
+use Rattle.gob_match.specs.Clashing.{IsLeastClash}
+use Rattle.gob_match.specs.Matching.{Match}
+use Rattle.gob_match.specs.Received.{Receives}
+use Rattle.gob_read.specs.Calls.Builders.{tree_building}
+use Rattle.gob_value.specs.Tree.{Tree}
+use Rattle.gob_value.specs.View.{view}
 use Rattle.gob_value.specs.declared.value.Value.{Value}
-use Rattle.gob_read.specs.declared.tree_builder.TreeBuilder.{TreeBuilder}
-use Rattle.gob_stream.specs.declared.fault.Refusal.{Refusal}
+use Rattle.gob_stream.specs.Body.{value as of_value}
+use Rattle.gob_stream.specs.Bounds.{Bounds, within_trees}
+use Rattle.gob_stream.specs.Calls.Session.{HasRead, limits_of, taken_of, types_of}
+use Rattle.gob_stream.specs.Item.{StreamItem, defines, mean_more, mean_none, means_definition, means_value, puts}
+use Rattle.gob_stream.specs.Reading.{SomeTaken}
+use Rattle.gob_stream.specs.Stream.{AreItems, and_then, counted, no_more}
 use Rattle.gob_stream.specs.declared.fault.Fault.{Fault}
 use Rattle.gob_stream.specs.declared.fault.Fault.TheVariants as reading
-use Rattle.gob_stream.specs.Machine.SessionState.{SessionState}
-use Rattle.gob_stream.specs.Bounds.{Bounds, within_trees}
-use Rattle.gob_stream.specs.Item.{StreamItem, puts}
-use Rattle.gob_stream.specs.Outcome.{Outcome, BeginsWithStream, refused}
-use Rattle.gob_stream.specs.Reading.{ShowsRefusal, Taken}
-use Rattle.gob_stream.specs.Stream.{Stream, no_more}
-use Rattle.gob_stream.proofs.PublicLaws.{shown_there, shown_refusal_stays}
+use Rattle.gob_stream.specs.declared.item.Item as declared
+use Rattle.gob_stream.specs.declared.item.Item.TheVariants as variant
+use Rattle.gob_stream.proofs.PublicLaws.{stands_within, views_meant}
+use Rattle.gob_stream.specs.Calls.Reader.{Begins, EndsWith, GivesItems, gives_none, gives_one, HasReadFrom, Stops, StopsFrom}
+use Rattle.gob_stream.specs.Calls.Reader.{session_of, waits_in}
+use Rattle.gob_stream.proofs.PublicLaws.{ahead_so, begins_so}
 use Rattle.gob_tool.specs.declared.fault.ToolFault.{ToolFault}
 use Rattle.gob_tool.specs.declared.fault.ToolFault.TheVariants as fault
+use Rattle.gob_tool.specs.declared.receiver.Receiver.{Receiver}
+use Rattle.gob_tool.specs.Machine.Ending.{CountsOnlyWrites, EndsRun, ends_so, flush_fails}
 use Rattle.gob_tool.specs.Fault.{reading_fault}
-use Rattle.gob_tool.specs.Machine.Gathering.{GaveItems, PassesSome}
-use Rattle.gob_tool.specs.Machine.Pieces.{TypesBehind, EndsPiece, GivesPiece, StandsAt, AreSent, TakesItems, unread}
-use Rattle.gob_tool.specs.Showing.{AppendsFront}
-use Rattle.gob_tool.specs.Taking.{no_item, HasTakenItems, ReceivesWhole, ReceivesFront, Receiving}
-use Rattle.gob_tool.proofs.LinesStay.{keeps_itself}
-use Rattle.gob_tool.proofs.ShowLaws.{known_taken, none_left, whole_stream}
-use Rattle.gob_tool.proofs.TakeLaws.{takes_then, passed_more}
-use Rattle.gob_tool.proofs.ReceivedLaws.{stream_sent, sent_first, sent_later, received_on, keeps_of, received_begins}
-use Rattle.gob_tool.proofs.ReceivedLaws.{received_front, clashes_behind}
+use Rattle.gob_tool.specs.Line.{line}
+use Rattle.gob_tool.specs.Machine.Lines.{Trees}
+use Rattle.gob_tool.specs.Machine.Receiver.{IsReceiver}
+use Rattle.gob_tool.specs.Showing.{AppendsFront, CountsReadFaults}
+use Rattle.gob_tool.specs.Machine.Taken.{AreSent, CountsWanted, StaysReceiver, Takes, TakesGiven, TakesNext, WritesText, sent, views_given}
+use Rattle.gob_tool.specs.Taking.{AreReceived, CountsTakeReads, HasTakenItems, ReceivesFront, ReceivesTaken, ReceivesWhole, Receiving}
+use Rattle.gob_tool.specs.Taking.{TakeAnswers}
+use Rattle.gob_tool.specs.Taking.{definition, no_item, stops_at_wanted, takes_behind as received_behind, value as received_value}
+use Rattle.gob_tool.proofs.EndLaws.{front_kept, reads_nothing}
+use Rattle.gob_tool.proofs.LinesStay.{keeps_itself, stream_keeps}
+use Rattle.gob_tool.proofs.ReaderRuns.{GoesOn, TakesBehind, goes_by, nothing_given, reads_behind}
+use Rattle.gob_tool.proofs.ReceivedLaws.{received_append, received_on, stream_sent}
 
--- no value that a reader of trees gives is deeper
-pub trees_deep : (L : Bounds) → (within_trees L).depth ≤ 1000
-trees_deep L = omega arith
+-- ---- what a step gave
+pub given_views : {o : Option (declared.Item Value)} {more : List StreamItem} → GivesItems tree_building.means o more
+    → views_given o ≡ more
+given_views gives_none = refl
+given_views (gives_one m) = views_meant (mean_more m mean_none)
 
--- ---- what a piece gave
-module _ {s s' : SessionState TreeBuilder Value} {items : List StreamItem} {taken : List ℕ} {given : List StreamItem}
-    {read now : Option (List ℕ)} {result : Result Bool Fault} (p : GivesPiece s s' items taken given read now result)
-  where
-    -- was sent
-    pub piece_sent : AreSent (types s'.types) given
-    piece_sent =
-        let t = p.types_behind in
-        sent_later items given (sent_first (items ++ given) t.more
-        (stream_sent (trees_deep s.limits) t.stream (keeps_itself (types s'.types))))
+-- where no type is defined the match that is kept is one of the types behind it
+pub stays_known : {base : Table} {L : Bounds} {T T' : Table} {offset : ℕ} {o : Option (declared.Item Value)}
+    {more : List StreamItem} {z : List ℕ} (v : Receiver) → GivesItems tree_building.means o more
+    → AreItems base L T offset more z T' → IsReceiver T v → StaysReceiver T' v o
+stays_known v gives_none no_more h = h
+stays_known v (gives_one means_definition) p h = tt
+stays_known v (gives_one (means_value m)) (and_then (counted u l s (of_value may deep n k)) e no_more) h = h
 
-    -- the types of before stay
-    piece_keeps : GaveItems s items taken → Keeps (types s.types) (types s'.types)
-    piece_keeps gave =
-        let t = p.types_behind in
-        keeps_of {items = items} (record {
-          more = given ++ t.more;
-          front = t.front;
-          rest = t.rest;
-          stream = subst
-              (λ (l : List StreamItem). Stream base_table (within_trees s.limits) l t.front (types s'.types))
-              (append_assoc items given t.more) t.stream;
-          whole = t.whole;
-        })
-        (record {
-          front = gave.front;
-          rest = gave.under_way ++ p.piece;
-          table = types s.types;
-          stream = gave.stream;
-          whole = ap (λ (l : List ℕ). l ++ p.piece) gave.whole ∙ append_assoc gave.front gave.under_way p.piece;
-        })
-
-    pub piece_received : {U : Table} {u : TypeId} {P : List ℕ → Type 0} → IsReady U u → GaveItems s items taken
-        → HasTakenItems (types s.types) U u items P → HasTakenItems (types s'.types) U u items P
-    piece_received wanted gave h = record
-        { lines = h.lines; received = received_on wanted gave.stream (piece_keeps gave) h.received; holds = h.holds }
-
--- ---- known bytes
-types_more : {L : Bounds} {bytes all : List ℕ} {items : List StreamItem} {T : Table} (more : List ℕ) → all
-    ≡ bytes ++ more → TypesBehind L bytes items T → TypesBehind L all items T
-types_more more e t = record {
-  more = t.more;
-  front = t.front;
-  rest = t.rest ++ more;
-  stream = t.stream;
-  whole = e
-      ∙ ap (λ (l : List ℕ). l ++ more) t.whole ∙ append_assoc t.front t.rest more;
+-- ---- from item to item
+pub takes_first : (r : Trees) (U : Table) (u : TypeId) (read out : Option (List ℕ))
+    → HasReadFrom tree_building r read read [] → Takes r U u read read out out
+takes_first r U u read out has = record {
+  given = [];
+  has = has;
+  taken = record { lines = []; received = no_item; holds = Appends-nil out };
 }
 
--- a refusal that was shown stays
-refused_more : {L : Bounds} {bytes all : List ℕ} {items : List StreamItem} {R : Refusal} (more : List ℕ) → all
-    ≡ bytes ++ more → R.reason ≢ reason.Ended → Outcome base_table L bytes items (refused R)
-    → Outcome base_table L all items (refused R)
-refused_more {L = L} {bytes = bytes} {all = all} {items = items} {R = R} more e n o =
-    let shown : ShowsRefusal L bytes items R = record { outcome = o; shown = n } in
-    let there = shown_there shown in
-    let same : take R.seen all ≡ take R.seen bytes = ap (λ (l : List ℕ). take R.seen l) e
-    ∙ take-append-le R.seen bytes more there in
-    (shown_refusal_stays L bytes all items R shown same).1.outcome
+pub takes_filled : {r r' : Trees} {U : Table} {u : TypeId} {read now next old new : Option (List ℕ)}
+    (p : Takes r U u read now old new) → types_of (session_of r') ≡ types_of (session_of r)
+    → HasReadFrom tree_building r' read next p.given → Takes r' U u read next old new
+takes_filled {U = U} {u = u} {old = old} {new = new} p same q = record {
+  given = p.given;
+  has = q;
+  taken = subst (λ (T : Table). HasTakenItems T U u p.given (Appends old new)) (sym same) p.taken;
+}
 
-pub at_end : {now : Option (List ℕ)} {bytes taken : List ℕ} → Taken bytes now taken → IsAtEnd now → (taken ≡ bytes)
-    × (now ≡ Some [])
-at_end {now = now} {bytes = bytes} {taken = taken} t end =
-    let none = none_left now t.left t.known end in
-    (sym (t.whole ∙ ap (λ (l : List ℕ). taken ++ l) none ∙ append-nil taken), t.known ∙ ap Some none)
+module _ {r r' : Trees} {U : Table} {u : TypeId} {read now start mid : Option (List ℕ)} (wanted : IsReady U u)
+    (p : Takes r U u read now start mid) (same : limits_of (session_of r') ≡ limits_of (session_of r)) {used : ℕ}
+    {more others : List StreamItem} (q : HasReadFrom tree_building r' read now others)
+    (b : TakesBehind tree_building r r' p.given more p.has.taken used) where
+  went_on : GoesOn tree_building p.has.gave (session_of r') more (take used (waits_in r))
+  went_on = goes_by tree_building p.has.gave more (take used (waits_in r)) same b.gave
 
-pub refused_known : {L : Bounds} {bytes taken : List ℕ} {now : Option (List ℕ)} {items : List StreamItem} {R : Refusal}
-    → Taken bytes now taken → Outcome base_table L taken items (refused R) → (R.reason ≢ reason.Ended) ⊎ IsAtEnd now
-    → Outcome base_table L bytes items (refused R)
-refused_known t o (inl n) = refused_more t.left t.whole n o
-refused_known {L = L} {items = items} {R = R} t o (inr end) = subst
-    (λ (l : List ℕ). Outcome base_table L l items (refused R)) (at_end t end).0 o
+  -- the lines of before, by the types behind
+  received_before : AreReceived (types_of (session_of r')) U u p.given p.taken.lines
+  received_before = received_on wanted p.has.gave.stream (stream_keeps went_on.later) p.taken.received
 
--- the stream of all known bytes
-pub record IsAll (L : Bounds) (bytes : List ℕ) (now : Option (List ℕ)) (items : List StreamItem) : Type 0 where
-  pub table : Table
-  pub stream : Stream base_table L items bytes table
-  pub end : now ≡ Some []
+  -- the items begin known bytes
+  begins_behind : (bytes : List ℕ) → read ≡ Some bytes
+      → Begins (within_trees (limits_of (session_of r))) (types_of (session_of r')) (p.given ++ more) bytes
+  begins_behind bytes known =
+      subst (λ (L : Bounds). Begins (within_trees L) (types_of (session_of r')) (p.given ++ more) bytes) same
+      (begins_so tree_building bytes (reads_behind tree_building p.has.input b q).has known)
 
-pub all_known : {L : Bounds} {bytes taken : List ℕ} {now : Option (List ℕ)} {items : List StreamItem}
-    (s s' : SessionState TreeBuilder Value) → Taken bytes now taken → EndsPiece L s s' items taken now (Ok false)
-    → IsAll L bytes now items
-all_known {L = L} {items = items} s s' t ends =
-    let a = at_end t ends.1 in
-    let w = whole_stream ends.0.ends in
-    record {
-      table = w.table;
-      stream = subst (λ (l : List ℕ). Stream base_table L items l w.table) a.0 w.stream;
-      end =
-          a.1;
-    }
-
--- ---- how the run ends
--- at the error that a `?` returns
-pub receiving_at : (L : Bounds) (bytes : List ℕ) (now : Option (List ℕ)) (U : Table) (u : TypeId)
-    (P C : List ℕ → Type 0) (r : Result (Unit {0}) ToolFault) (f : ToolFault) → IsErrAnd r (λ e. e ≡ f)
-    → Receiving L bytes now U u P C (Err f) → Receiving L bytes now U u P C r
-receiving_at L bytes now U u P C (Ok x) f e h = absurd e
-receiving_at L bytes now U u P C (Err g) f e h = subst (λ f. Receiving L bytes now U u P C (Err f)) (sym e) h
-
-module _ (L : Bounds) (bytes : List ℕ) (next : Option (List ℕ)) (T U : Table) (u : TypeId) (wanted : IsReady U u) where
-  -- at a fault of the items
-  stops_at_items : (items : List StreamItem) (old new : Option (List ℕ)) (after : List ℕ) (f : ToolFault)
-      → TypesBehind L bytes items T → TakesItems T U u items old new [] after (Err f)
-      → Receiving L bytes next U u (λ lines. PassesSome old new lines after) (AppendsFront old new) (Err f)
-  stops_at_items items old new after fault.Write t h = received_front wanted t h
-  stops_at_items items old new after fault.Memory t h = received_front wanted t h
-  stops_at_items items old new after (fault.Clash path reason) t h = clashes_behind wanted t h
-  stops_at_items items old new after (fault.Refused R) t h = absurd h
-  stops_at_items items old new after (fault.Wanted R) t h = absurd h
-  stops_at_items items old new after fault.NoWantedType t h = absurd h
-  stops_at_items items old new after fault.Read t h = absurd h
-
-  -- at a fault of the reader
-  stops_at_reader : (s s' : SessionState TreeBuilder Value) (items : List StreamItem) (taken : List ℕ)
-      (P C : List ℕ → Type 0) (e : Fault) → Taken bytes next taken → TypesBehind L taken items T
-      → HasTakenItems T U u items P
-      → EndsPiece L s s' items taken next (Err e) → Receiving L bytes next U u P C (Err (reading_fault e))
-  stops_at_reader s s' items taken P C (reading.Refused R) k t h ends =
-      let o = refused_known k ends.0 ends.1 in
-      record {
-        items = items;
-        outcome = o;
-        received = received_begins wanted (types_more k.left k.whole t)
-            o.gives.begins h;
-      }
-  stops_at_reader s s' items taken P C reading.Read k t h ends = record {
-    bytes = taken;
-    taken = k;
-    holds = record { items = items; given = ends; received = received_begins wanted t ends.begins h };
+  pub takes_more : {new : Option (List ℕ)} → HasTakenItems (types_of (session_of r')) U u more (Appends mid new)
+      → Takes r' U u read now start new
+  takes_more {new = new} h = record {
+    given = p.given ++ more;
+    has = (reads_behind tree_building p.has.input b q).has;
+    taken = record {
+      lines = p.taken.lines ++ h.lines;
+      received = received_append received_before h.received;
+      holds = Appends-trans start mid new p.taken.lines h.lines p.taken.holds h.holds;
+    };
   }
-  stops_at_reader s s' items taken P C reading.Memory k t h ends =
-      let more = types_more k.left k.whole t in
-      received_front wanted more (record { first = items; left = []; whole = sym (append-nil items); received = h })
-  stops_at_reader s s' items taken P C reading.Failed k t h ends = absurd ends
 
-  -- at the end of the input
-  ends_there : (s s' : SessionState TreeBuilder Value) (items : List StreamItem) (taken : List ℕ) (P : List ℕ → Type 0)
-      → Taken bytes next taken → TypesBehind L taken items T → HasTakenItems T U u items P
-      → EndsPiece L s s' items taken next (Ok false) → ReceivesWhole L bytes next U u P
-  ends_there s s' items taken P k t h ends =
-      let a = all_known s s' k ends in
-      let b : BeginsWithStream base_table L bytes items = record
-      { front = bytes; rest = []; table = a.table; stream = a.stream; whole = sym (append-nil bytes) } in
+  -- a write failed
+  takes_cut : {new : Option (List ℕ)} → HasTakenItems (types_of (session_of r')) U u more (AppendsFront mid new)
+      → (bytes : List ℕ) → read ≡ Some bytes
+      → ReceivesFront (within_trees (limits_of (session_of r))) bytes U u (AppendsFront start new)
+  takes_cut {new = new} h bytes known =
+      let begins = begins_behind bytes known in
+      let front = h.holds in
       record {
-        items = items;
-        table = a.table;
-        stream = a.stream;
-        end = a.end;
-        received = received_begins wanted
-            (types_more k.left k.whole t) b h;
+        items = p.given ++ more;
+        begins = begins.begins;
+        received = subst (λ (T : Table). HasTakenItems T U u (p.given ++ more) (AppendsFront start new)) (sym begins.table)
+            (record {
+              lines = p.taken.lines ++ h.lines;
+              received = received_append received_before h.received;
+              holds = record {
+                front = p.taken.lines ++ front.front;
+                rest = front.rest;
+                whole = ap (λ (l : List ℕ). p.taken.lines ++ l) front.whole
+                    ∙ sym (append_assoc p.taken.lines front.front front.rest);
+                out = Appends-trans start mid new p.taken.lines front.front p.taken.holds front.out;
+              };
+            });
       }
 
--- ---- from piece to piece
-abbrev pub StandsTaking : (s : SessionState TreeBuilder Value) (start now : Option (List ℕ)) → Table → TypeId
-    → (old new : Option (List ℕ)) → (gathered : List ℕ) → Type 0
-StandsTaking s start now U u old new gathered = StandsAt s start now
-    (λ items. HasTakenItems (types s.types) U u items (λ lines. PassesSome old new lines gathered))
+  -- no memory was had
+  takes_none : (new : Option (List ℕ)) → Keeps mid new → (bytes : List ℕ) → read ≡ Some bytes
+      → SomeTaken bytes now (λ read. ReceivesTaken (within_trees (limits_of (session_of r))) read U u (Appends start new))
+  takes_none new kept bytes known =
+      let a = ahead_so tree_building bytes p.has known in
+      record {
+        bytes = a.bytes;
+        taken = a.taken;
+        holds = record {
+          items = p.given;
+          table = types_of (session_of r);
+          given = a.holds;
+          received = record {
+            lines = p.taken.lines;
+            received = p.taken.received;
+            holds = Appends-kept start mid new p.taken.lines p.taken.holds kept;
+          };
+        };
+      }
 
-pub takes_first : (s : SessionState TreeBuilder Value) (start : Option (List ℕ)) (U : Table) (u : TypeId)
-    (out : Option (List ℕ)) (gathered : List ℕ) → GaveItems s [] [] → gathered ≡ []
-    → StandsTaking s start start U u out out gathered
-takes_first s start U u out gathered gave none = record {
-  taken = [];
-  items = [];
-  input = Consumes-nil start;
-  gave = gave;
+  -- what stopped it
+  pub takes_stopped : (r'' : Trees) (new : Option (List ℕ)) (o : Option (declared.Item Value)) (f : ToolFault)
+      → GivesItems tree_building.means o more
+      → TakesGiven (types_of (session_of r')) U u o mid new (Err f)
+      → TakesNext r r'' U u read now start new (Err f)
+  takes_stopped r'' new o fault.Write gives h = (
+    λ bytes known. takes_cut (subst (λ (l : List StreamItem). HasTakenItems (types_of (session_of r')) U u l (AppendsFront mid new))
+        (given_views gives) h) bytes known,
+    λ failures. inl refl,
+  )
+  takes_stopped r'' new o fault.Memory gives h = (λ bytes known. takes_none new h bytes known, λ failures. refl)
+  takes_stopped r'' new o (fault.Clash path reason) gives h = (
+    λ bytes known.
+        let c = h.1 in
+        let i = puts c.id (view c.value) in
+        let only : more ≡ i ∷ [] = sym (given_views gives) ∙ ap (λ o. views_given o) c.is in
+        let begins = subst (λ (l : List StreamItem). Begins (within_trees (limits_of (session_of r)))
+        (types_of (session_of r')) (p.given ++ l) bytes) only (begins_behind bytes known) in
+        record {
+          items = p.given;
+          id = c.id;
+          value = view c.value;
+          begins = begins.begins;
+          received = subst (λ (T : Table). HasTakenItems T U u p.given (Appends start new)) (sym begins.table) (record {
+            lines = p.taken.lines;
+            received = received_before;
+            holds = Appends-kept start mid new p.taken.lines p.taken.holds h.0;
+          });
+          clash = subst (λ (T : Table). IsLeastClash T U c.id u path.items reason) (sym begins.table) c.clash;
+        },
+    λ failures. refl,
+  )
+  takes_stopped r'' new o (fault.Refused R) gives h = absurd h
+  takes_stopped r'' new o (fault.Wanted R) gives h = absurd h
+  takes_stopped r'' new o fault.NoWantedType gives h = absurd h
+  takes_stopped r'' new o fault.Read gives h = absurd h
+
+-- one way or the other
+pub next_taken : {r r' : Trees} {U : Table} {u : TypeId} {read now start mid : Option (List ℕ)} (wanted : IsReady U u)
+    (p : Takes r U u read now start mid) (same : limits_of (session_of r') ≡ limits_of (session_of r)) {used : ℕ}
+    {more others : List StreamItem} (q : HasReadFrom tree_building r' read now others)
+    (b : TakesBehind tree_building r r' p.given more p.has.taken used) (new : Option (List ℕ))
+    (o : Option (declared.Item Value)) (res : Result (Unit {0}) ToolFault) → GivesItems tree_building.means o more
+    → taken_of (session_of r) < taken_of (session_of r') → TakesGiven (types_of (session_of r')) U u o mid new res
+    → TakesNext r r' U u read now start new res
+next_taken {r' = r'} {U = U} {u = u} {mid = mid} wanted p same q b new o (Ok x) gives onward h = (
+  takes_more wanted p same q b (subst (λ (l : List StreamItem). HasTakenItems (types_of (session_of r')) U u l (Appends mid new))
+      (given_views gives) h),
+  onward,
+)
+next_taken {r' = r'} wanted p same q b new o (Err f) gives onward h = takes_stopped wanted p same q b r' new o f gives h
+
+-- what was sent with a step, whatever the input
+module _ {r r' : Trees} {items more : List StreamItem} {bytes : List ℕ} {used : ℕ}
+    (a : HasRead tree_building (session_of r) items bytes) (same : limits_of (session_of r') ≡ limits_of (session_of r))
+    (b : TakesBehind tree_building r r' items more bytes used) where
+  later_on : GoesOn tree_building a (session_of r') more (take used (waits_in r))
+  later_on = goes_by tree_building a more (take used (waits_in r)) same b.gave
+
+  pub step_sent : {o : Option (declared.Item Value)} → GivesItems tree_building.means o more
+      → AreSent (types_of (session_of r')) (views_given o)
+  step_sent gives = subst (λ (l : List StreamItem). AreSent (types_of (session_of r')) l) (sym (given_views gives))
+      (stream_sent (omega arith) later_on.later (keeps_itself (types_of (session_of r'))))
+
+  pub step_known : {o : Option (declared.Item Value)} (v : Receiver) → GivesItems tree_building.means o more
+      → IsReceiver (types_of (session_of r)) v → StaysReceiver (types_of (session_of r')) v o
+  step_known v gives h = stays_known v gives later_on.later h
+
+-- ---- the ends
+pub received_stops : (L : Bounds) (T U : Table) (u : TypeId) (items : List StreamItem) (bytes : List ℕ)
+    (now : Option (List ℕ)) (P C : List ℕ → Type 0) (e : Fault) → Stops L T items bytes now e → HasTakenItems T U u items P
+    → Receiving L bytes now U u P C (Err (reading_fault e))
+received_stops L T U u items bytes now P C (reading.Refused R) s t = record
+    { items = items; outcome = s.outcome; received = subst (λ (T : Table). HasTakenItems T U u items P) (sym s.table) t }
+received_stops L T U u items bytes now P C reading.Read s t = record {
+  bytes = s.bytes;
+  taken = s.taken;
   holds = record {
-    lines = [];
-    received = no_item;
-    holds = record
-        { written = []; whole = sym none; out = Appends-nil out };
+    items = items;
+    given = s.holds.gives;
+    received = subst (λ (T : Table). HasTakenItems T U u items P) (sym s.holds.table) t;
+  };
+}
+received_stops L T U u items bytes now P C reading.Memory s t = record
+    { bytes = s.bytes; taken = s.taken; holds = record { items = items; table = T; given = s.holds; received = t } }
+received_stops L T U u items bytes now P C reading.Failed s t = absurd s
+
+-- a step was refused, or had no memory
+pub step_refused : {r : Trees} {U : Table} {u : TypeId} {read now start out : Option (List ℕ)} (r' : Trees) (e : Fault)
+    (p : Takes r U u read now start out) → StopsFrom tree_building (session_of r) read now p.given e
+    → (e ≡ reading.Read → ⊥) → TakesNext r r' U u read now start out (Err (reading_fault e))
+step_refused {r = r} {U = U} {u = u} {now = now} {start = start} {out = out} r' e p stops none = (
+  λ bytes known.
+      let s = session_of r in
+      received_stops (within_trees (limits_of s)) (types_of s) U u p.given bytes now (Appends start out)
+      (AppendsFront start out) e (stops bytes known) p.taken,
+  λ failures. reads_nothing failures e none,
+)
+
+pub received_whole : {r : Trees} {U : Table} {u : TypeId} {read now old new next : Option (List ℕ)} {bytes : List ℕ} {taken : ℕ}
+    (p : Takes r U u read now old new)
+    → EndsWith (within_trees (limits_of (session_of r))) (types_of (session_of r)) taken p.given bytes next
+    → ReceivesWhole (within_trees (limits_of (session_of r))) bytes next U u (Appends old new)
+received_whole {r = r} p e = record
+    { items = p.given; table = types_of (session_of r); stream = e.stream; end = e.end; received = p.taken }
+
+-- ---- a flush
+pub takes_flushed : {r : Trees} {U : Table} {u : TypeId} {read now old mid new : Option (List ℕ)} → Takes r U u read now old mid
+    → Keeps mid new → Takes r U u read now old new
+takes_flushed {old = old} {mid = mid} {new = new} p k = record {
+  given = p.given;
+  has = p.has;
+  taken = record {
+    lines = p.taken.lines;
+    received = p.taken.received;
+    holds = Appends-kept old mid new p.taken.lines p.taken.holds k;
   };
 }
 
-module _ (M : Bounds) (s s' : SessionState TreeBuilder Value) (start now next old out : Option (List ℕ)) (U : Table)
-    (u : TypeId) (gathered : List ℕ) (given : List StreamItem) (wanted : IsReady U u) (same : s.limits ≡ M)
-    (i : StandsTaking s start now U u old out gathered) where
-  module _ {result : Result Bool Fault} (p : GivesPiece s s' i.items i.taken given now next result) where
-    so : HasTakenItems (types s'.types) U u i.items (λ lines. PassesSome old out lines gathered)
-    so = piece_received p wanted i.gave i.holds
-
-    -- all lines were gathered
-    all_taken_so : (new : Option (List ℕ)) (after : List ℕ)
-        → HasTakenItems (types s'.types) U u given (λ lines. PassesSome out new (gathered ++ lines) after)
-        → HasTakenItems (types s'.types) U u (i.items ++ given) (λ lines. PassesSome old new lines after)
-    all_taken_so new after h = passed_more (types s'.types) U u i.items given old out new [] gathered after so h
-
-    known_so : (bytes : List ℕ) → start ≡ Some bytes → Taken bytes next (i.taken ++ p.piece)
-    known_so bytes known = known_taken start next bytes (i.taken ++ p.piece) known
-        (Consumes-trans start now next i.taken p.piece i.input p.input)
-
-    pub stopped_at_items : (bytes : List ℕ) (new : Option (List ℕ)) (after : List ℕ) (f : ToolFault) → start
-        ≡ Some bytes → TakesItems (types s'.types) U u given out new gathered after (Err f)
-        → Receiving (within_trees M) bytes next U u (λ lines. PassesSome old new lines after) (AppendsFront old new)
-        (Err f)
-    stopped_at_items bytes new after f known h =
-        let k = known_so bytes known in
-        let all = takes_then (types s'.types) U u i.items given old out new [] gathered after so [] f h in
-        let items = subst (λ (l : List StreamItem). TakesItems (types s'.types) U u (i.items ++ l) old new [] after
-        (Err f)) (append-nil given) all in
-        subst (λ (L : Bounds). Receiving (within_trees L) bytes next U u (λ lines. PassesSome old new lines after)
-        (AppendsFront old new) (Err f)) same
-        (stops_at_items (within_trees s.limits) bytes next (types s'.types) U u wanted (i.items ++ given) old new after
-        f (types_more k.left k.whole p.types_behind) items)
-
-  -- a read failed, and no item came
-  pub stopped_at_read : (bytes : List ℕ) (result : Result Bool Fault) (C : List ℕ → Type 0) → result ≡ Err reading.Read
-      → start ≡ Some bytes → GivesPiece s s' i.items i.taken given now next result
-      → Receiving (within_trees M) bytes next U u (λ lines. PassesSome old out lines gathered) C (Err fault.Read)
-  stopped_at_read bytes result C e known q =
-      let p = subst (λ (r : Result Bool Fault). GivesPiece s s' i.items i.taken given now next r) e q in
-      let none = p.unfed refl in
-      let same_items : i.items ≡ i.items ++ given = sym (append-nil i.items)
-      ∙ ap (λ (l : List StreamItem). i.items ++ l) (sym none) in
-      let h = subst (λ (l : List StreamItem). HasTakenItems (types s'.types) U u l
-      (λ lines. PassesSome old out lines gathered)) same_items (so p) in
-      subst (λ (L : Bounds). Receiving (within_trees L) bytes next U u (λ lines. PassesSome old out lines gathered) C
-      (Err fault.Read)) same
-      (stops_at_reader (within_trees s.limits) bytes next (types s'.types) U u wanted s s' (i.items ++ given)
-      (i.taken ++ p.piece) (λ lines. PassesSome old out lines gathered) C reading.Read (known_so p bytes known)
-      p.types_behind h p.ends)
-
-  pub stopped_at_reader : (bytes : List ℕ) (new : Option (List ℕ)) (after : List ℕ) (C : List ℕ → Type 0) (e : Fault)
-      → start ≡ Some bytes → GivesPiece s s' i.items i.taken given now next (Err e)
-      → HasTakenItems (types s'.types) U u given (λ lines. PassesSome out new (gathered ++ lines) after)
-      → Receiving (within_trees M) bytes next U u (λ lines. PassesSome old new lines after) C
-      (Err (reading_fault e))
-  stopped_at_reader bytes new after C e known p h =
-      subst (λ (L : Bounds). Receiving (within_trees L) bytes next U u (λ lines. PassesSome old new lines after) C
-      (Err (reading_fault e))) same
-      (stops_at_reader (within_trees s.limits) bytes next (types s'.types) U u wanted s s' (i.items ++ given)
-      (i.taken ++ p.piece) (λ lines. PassesSome old new lines after) C e (known_so p bytes known) p.types_behind
-      (all_taken_so p new after h) p.ends)
-
-  pub ended_whole : (bytes : List ℕ) (new : Option (List ℕ)) (after : List ℕ) (more : Bool) → more ≡ false → start
-      ≡ Some bytes → GivesPiece s s' i.items i.taken given now next (Ok more)
-      → HasTakenItems (types s'.types) U u given (λ lines. PassesSome out new (gathered ++ lines) after)
-      → ReceivesWhole (within_trees M) bytes next U u (λ lines. PassesSome old new lines after)
-  ended_whole bytes new after more e known q h =
-      let p = subst (λ (b : Bool). GivesPiece s s' i.items i.taken given now next (Ok b)) e q in
-      subst (λ (L : Bounds). ReceivesWhole (within_trees L) bytes next U u (λ lines. PassesSome old new lines after))
-      same
-      (ends_there (within_trees s.limits) bytes next (types s'.types) U u wanted s s' (i.items ++ given)
-      (i.taken ++ p.piece) (λ lines. PassesSome old new lines after) (known_so p bytes known) p.types_behind
-      (all_taken_so p new after h) p.ends)
-
-  pub takes_on : (new : Option (List ℕ)) (after : List ℕ) (more : Bool) → more ≡ true
-      → GivesPiece s s' i.items i.taken given now next (Ok more)
-      → HasTakenItems (types s'.types) U u given (λ lines. PassesSome out new (gathered ++ lines) after)
-      → StandsTaking s' start next U u old new after
-  takes_on new after more e q h =
-      let p = subst (λ (b : Bool). GivesPiece s s' i.items i.taken given now next (Ok b)) e q in
-      record {
-        taken = i.taken ++ p.piece;
-        items = i.items ++ given;
-        input = Consumes-trans start now next i.taken p.piece i.input p.input;
-        gave = p.ends.0;
-        holds = all_taken_so p new after h;
-      }
-
--- each piece brings the reader nearer to where it has to stop
-pub nearer : (s s' : SessionState TreeBuilder Value) (items : List StreamItem) (taken : List ℕ) (given : List StreamItem)
-    (read now : Option (List ℕ)) (more : Bool) → more ≡ true → GivesPiece s s' items taken given read now (Ok more)
-    → unread s' < unread s
-nearer s s' items taken given read now more e q = let p = subst
-    (λ (b : Bool). GivesPiece s s' items taken given read now (Ok b)) e q in p.ends.1
-
--- the same of a table and items that are these
-pub takes_of : {T V : Table} {shown given : List StreamItem} (U : Table) (u : TypeId) (old new : Option (List ℕ))
-    (before after : List ℕ) (r : Result (Unit {0}) ToolFault) → T ≡ V → shown ≡ given
-    → TakesItems T U u shown old new before after r → TakesItems V U u given old new before after r
-takes_of {V = V} {shown = shown} U u old new before after r e f h =
-    subst (λ (l : List StreamItem). TakesItems V U u l old new before after r) f
-    (subst (λ (T : Table). TakesItems T U u shown old new before after r) e h)
-
-pub sent_of : {T V : Table} {given shown : List StreamItem} → T ≡ V → shown ≡ given → AreSent V given → AreSent T shown
-sent_of {V = V} {shown = shown} e f s = subst (λ (T : Table). AreSent T shown) (sym e)
-    (subst (λ (l : List StreamItem). AreSent V l) (sym f) s)
-
--- ---- what was gathered goes out
--- no memory was had before the first item
-pub received_first : (L : Bounds) (bytes : List ℕ) (U : Table) (u : TypeId) (out : Option (List ℕ)) (gathered : List ℕ)
-    → gathered ≡ [] → ReceivesFront L bytes U u (λ lines. PassesSome out out lines gathered)
-received_first L bytes U u out gathered none = record {
-  items = [];
-  begins = record { front = []; rest = bytes; table = base_table; stream = no_more; whole = refl };
-  received = record {
-    lines = [];
-    received = no_item;
-    holds = record
-        { written = []; whole = sym none; out = Appends-nil out };
-  };
-}
-
--- what holds of the lines may be said in other words
-as_said : {T U : Table} {u : TypeId} {items : List StreamItem} {P Q : List ℕ → Type 0}
-    → ((lines : List ℕ) → P lines → Q lines) → HasTakenItems T U u items P → HasTakenItems T U u items Q
-as_said f h = record { lines = h.lines; received = h.received; holds = f _ h.holds }
-
-pub front_as : (L : Bounds) (bytes : List ℕ) (U : Table) (u : TypeId) (P Q : List ℕ → Type 0)
-    → ReceivesFront L bytes U u P → ((lines : List ℕ) → P lines → Q lines) → ReceivesFront L bytes U u Q
-front_as L bytes U u P Q h f = record { items = h.items; begins = h.begins; received = as_said f h.received }
-
--- some of the items were received before any end but a failed write
-pub received_before : (L : Bounds) (bytes : List ℕ) (now : Option (List ℕ)) (U : Table) (u : TypeId)
-    (P C : List ℕ → Type 0) (r : Result (Unit {0}) ToolFault) → IsReady U u → Receiving L bytes now U u P C r
-    → (r ≡ Err fault.Write → ⊥)
-    → ReceivesFront L bytes U u P
-received_before L bytes now U u P C (Ok x) wanted e other = record {
-  items = e.items;
-  begins = record { front = bytes; rest = []; table = e.table; stream = e.stream; whole = sym (append-nil bytes) };
-  received = e.received;
-}
-received_before L bytes now U u P C (Err (fault.Refused R)) wanted e other = record
-    { items = e.items; begins = e.outcome.gives.begins; received = e.received }
-received_before L bytes now U u P C (Err (fault.Clash path reason)) wanted e other =
-    let t : TypesBehind L bytes (e.items ++ puts e.id e.value ∷ []) e.begins.table = record {
-      more = [];
-      front = e.begins.front;
-      rest = e.begins.rest;
-      stream = subst (λ (l : List StreamItem). Stream base_table L l e.begins.front e.begins.table)
-          (sym (append-nil (e.items ++ puts e.id e.value ∷ []))) e.begins.stream;
-      whole = e.begins.whole;
-    } in
-    received_front wanted t (record
-    { first = e.items; left = puts e.id e.value ∷ []; whole = refl; received = e.received })
-received_before L bytes now U u P C (Err fault.Read) wanted e other =
-    let b = e.holds.given.begins in
+-- that failed
+pub takes_unflushed : {r : Trees} {U : Table} {u : TypeId} {read now old new : Option (List ℕ)} (p : Takes r U u read now old new)
+    (bytes : List ℕ) → read ≡ Some bytes
+    → ReceivesFront (within_trees (limits_of (session_of r))) bytes U u (AppendsFront old new)
+takes_unflushed {r = r} {U = U} {u = u} {old = old} {new = new} p bytes known =
+    let begins = begins_so tree_building bytes p.has known in
     record {
-      items = e.holds.items;
-      begins = record {
-        front = b.front;
-        rest = b.rest ++ e.taken.left;
-        table = b.table;
-        stream = b.stream;
-        whole =
-            e.taken.whole ∙ ap (λ (l : List ℕ). l ++ e.taken.left) b.whole ∙ append_assoc b.front b.rest e.taken.left;
-      };
-      received = e.holds.received;
+      items = p.given;
+      begins = begins.begins;
+      received = subst (λ (T : Table). HasTakenItems T U u p.given (AppendsFront old new)) (sym begins.table) (record {
+        lines = p.taken.lines;
+        received = p.taken.received;
+        holds = record { front = p.taken.lines; rest = []; whole = sym (append-nil p.taken.lines); out = p.taken.holds };
+      });
     }
-received_before L bytes now U u P C (Err fault.Write) wanted e other = absurd (other refl)
-received_before L bytes now U u P C (Err fault.Memory) wanted e other = e
-received_before L bytes now U u P C (Err (fault.Wanted R)) wanted e other = absurd e
-received_before L bytes now U u P C (Err fault.NoWantedType) wanted e other = absurd e
 
-pub receiving_as : (L : Bounds) (bytes : List ℕ) (now : Option (List ℕ)) (U : Table) (u : TypeId)
-    (P Q C D : List ℕ → Type 0) (r : Result (Unit {0}) ToolFault) → Receiving L bytes now U u P C r
-    → (r ≡ Err fault.Write → ⊥)
-    → ((lines : List ℕ) → P lines → Q lines) → Receiving L bytes now U u Q D r
-receiving_as L bytes now U u P Q C D (Ok x) e other f = record
-    { items = e.items; table = e.table; stream = e.stream; end = e.end; received = as_said f e.received }
-receiving_as L bytes now U u P Q C D (Err (fault.Refused R)) e other f = record
-    { items = e.items; outcome = e.outcome; received = as_said f e.received }
-receiving_as L bytes now U u P Q C D (Err (fault.Clash path reason)) e other f = record
-    { items = e.items; id = e.id; value = e.value; begins = e.begins; received = as_said f e.received; clash = e.clash }
-receiving_as L bytes now U u P Q C D (Err fault.Read) e other f = record {
+-- no memory was had before the first byte was read
+pub received_none : (L : Bounds) (bytes : List ℕ) (now : Option (List ℕ)) (U : Table) (u : TypeId) (P C : List ℕ → Type 0)
+    → now ≡ Some bytes → P [] → Receiving L bytes now U u P C (Err fault.Memory)
+received_none L bytes now U u P C known holds = record {
+  bytes = [];
+  taken = record { left = bytes; known = known; whole = refl };
+  holds = record {
+    items = [];
+    table = base_table;
+    given = nothing_given L;
+    received = record { lines = []; received = no_item; holds = holds };
+  };
+}
+
+pub receiving_under : (L M : Bounds) (bytes : List ℕ) (now : Option (List ℕ)) (U : Table) (u : TypeId)
+    (P C : List ℕ → Type 0) (res : Result (Unit {0}) ToolFault) → L ≡ M → Receiving (within_trees L) bytes now U u P C res
+    → Receiving (within_trees M) bytes now U u P C res
+receiving_under L M bytes now U u P C res same h =
+    subst (λ (L : Bounds). Receiving (within_trees L) bytes now U u P C res) same h
+
+-- each turn takes a byte at least
+pub takes_fall : {r' : Trees} {U : Table} {u : TypeId} {read now old new : Option (List ℕ)} (r : Trees) (before : ℕ)
+    → limits_of (session_of r') ≡ limits_of (session_of r) → Takes r' U u read now old new
+    → before < taken_of (session_of r')
+    → (limits_of (session_of r')).stream + 9 - taken_of (session_of r') < (limits_of (session_of r)).stream + 9 - before
+takes_fall r before same p onward =
+    let bound = stands_within p.has.gave in
+    let stream = ap (λ (L : Bounds). L.stream) same in
+    omega (arith, p.has.gave.taken, onward, stream, bound)
+
+-- ---- behind the flush
+taken_as : {T U : Table} {u : TypeId} {items : List StreamItem} {P Q : List ℕ → Type 0} → HasTakenItems T U u items P
+    → ((b : List ℕ) → P b → Q b) → HasTakenItems T U u items Q
+taken_as t f = record { lines = t.lines; received = t.received; holds = f _ t.holds }
+
+receiving_as : (L : Bounds) (bytes : List ℕ) (now : Option (List ℕ)) (U : Table) (u : TypeId) (P Q C D : List ℕ → Type 0)
+    (res : Result (Unit {0}) ToolFault) → Receiving L bytes now U u P C res → ((all : List ℕ) → P all → Q all)
+    → ((all : List ℕ) → C all → D all) → Receiving L bytes now U u Q D res
+receiving_as L bytes now U u P Q C D (Ok x) e f g = record
+    { items = e.items; table = e.table; stream = e.stream; end = e.end; received = taken_as e.received f }
+receiving_as L bytes now U u P Q C D (Err (fault.Refused R)) e f g = record
+    { items = e.items; outcome = e.outcome; received = taken_as e.received f }
+receiving_as L bytes now U u P Q C D (Err (fault.Clash path why)) e f g = record {
+  items = e.items;
+  id = e.id;
+  value = e.value;
+  begins = e.begins;
+  received = taken_as e.received f;
+  clash = e.clash;
+}
+receiving_as L bytes now U u P Q C D (Err fault.Read) e f g = record {
+  bytes = e.bytes;
+  taken = e.taken;
+  holds = record { items = e.holds.items; given = e.holds.given; received = taken_as e.holds.received f };
+}
+receiving_as L bytes now U u P Q C D (Err fault.Write) e f g = record
+    { items = e.items; begins = e.begins; received = taken_as e.received g }
+receiving_as L bytes now U u P Q C D (Err fault.Memory) e f g = record {
   bytes = e.bytes;
   taken = e.taken;
   holds = record
-      { items = e.holds.items; given = e.holds.given; received = as_said f e.holds.received };
+      { items = e.holds.items; table = e.holds.table; given = e.holds.given; received = taken_as e.holds.received f };
 }
-receiving_as L bytes now U u P Q C D (Err fault.Write) e other f = absurd (other refl)
-receiving_as L bytes now U u P Q C D (Err fault.Memory) e other f = front_as L bytes U u P Q e f
-receiving_as L bytes now U u P Q C D (Err (fault.Wanted R)) e other f = absurd e
-receiving_as L bytes now U u P Q C D (Err fault.NoWantedType) e other f = absurd e
+receiving_as L bytes now U u P Q C D (Err (fault.Wanted R)) e f g = absurd e
+receiving_as L bytes now U u P Q C D (Err fault.NoWantedType) e f g = absurd e
 
-pub receiving_cut : (L : Bounds) (bytes : List ℕ) (now : Option (List ℕ)) (U : Table) (u : TypeId)
-    (P C : List ℕ → Type 0) (r : Result (Unit {0}) ToolFault) (f : ToolFault) → IsErrAnd r (λ e. e ≡ f) → f
-    ≡ fault.Write → ReceivesFront L bytes U u C
-    → Receiving L bytes now U u P C r
-receiving_cut L bytes now U u P C r f e write h = receiving_at L bytes now U u P C r f e
-    (subst (λ f. Receiving L bytes now U u P C (Err f)) (sym write) h)
+pub takes_ended : (L : Bounds) (wanted bytes : List ℕ) (wanted_now now old mid new : Option (List ℕ))
+    (answer result : Result (Unit {0}) ToolFault) → Keeps mid new → EndsRun answer result
+    → TakeAnswers L wanted bytes wanted_now now old mid answer → TakeAnswers L wanted bytes wanted_now now old new result
+takes_ended L wanted bytes wanted_now now old mid new answer result k ends h = at ends h
+  where
+    at : {answer result : Result (Unit {0}) ToolFault} → EndsRun answer result
+        → TakeAnswers L wanted bytes wanted_now now old mid answer → TakeAnswers L wanted bytes wanted_now now old new result
+    at {answer = answer} {result = result} (ends_so e) (stops_at_wanted {f = f} lacks untouched) =
+        subst (λ r. TakeAnswers L wanted bytes wanted_now now old new r) (sym e) (stops_at_wanted lacks (record {
+          unread = untouched.unread;
+          unwritten = Appends-kept old mid new [] untouched.unwritten k;
+        }))
+    at {answer = answer} {result = result} (ends_so e) (received_behind h) =
+        subst (λ r. TakeAnswers L wanted bytes wanted_now now old new r) (sym e) (received_behind (record {
+          items = h.items;
+          table = h.table;
+          stream = h.stream;
+          end = h.end;
+          id = h.id;
+          first = h.first;
+          holds = receiving_as L bytes now h.table h.id (Appends old mid) (Appends old new) (AppendsFront old mid)
+              (AppendsFront old new) answer h.holds (λ all a. Appends-kept old mid new all a k)
+              (λ all a. front_kept old mid new all a k);
+        }))
+    at (flush_fails o e) (stops_at_wanted lacks untouched) = absurd (cc o)
+    at {result = result} (flush_fails o e) (received_behind h) =
+        subst (λ r. TakeAnswers L wanted bytes wanted_now now old new r) (sym e) (received_behind (record {
+          items = h.items;
+          table = h.table;
+          stream = h.stream;
+          end = h.end;
+          id = h.id;
+          first = h.first;
+          holds = whole (subst (λ r. Receiving L bytes now h.table h.id (Appends old mid) (AppendsFront old mid) r) o h.holds);
+        }))
+      where
+        whole : {U : Table} {u : TypeId} → ReceivesWhole L bytes now U u (Appends old mid)
+            → ReceivesFront L bytes U u (AppendsFront old new)
+        whole w = record {
+          items = w.items;
+          begins = record { front = bytes; rest = []; table = w.table; stream = w.stream; whole = sym (append-nil bytes) };
+          received = taken_as w.received (λ all a. record {
+            front = all;
+            rest = [];
+            whole = sym (append-nil all);
+            out = Appends-kept old mid new all a k;
+          });
+        }
 
--- all lines that passed and the others went out, or a front of them
-pub rest_out : (old mid new : Option (List ℕ)) (gathered all : List ℕ) → PassesSome old mid all gathered
-    → Appends mid new gathered → Appends old new all
-rest_out old mid new gathered all p a = subst (λ (l : List ℕ). Appends old new l) (sym p.whole)
-    (Appends-trans old mid new p.written gathered p.out a)
+-- ---- at the wanted type of a receiver that is this one
+pub ready_as : {T U : Table} {t u : TypeId} → T ≡ U → t ≡ u → IsReady U u → IsReady T t
+ready_as {U = U} {t = t} e f h = subst (λ (T : Table). IsReady T t) (sym e)
+    (subst (λ (u : TypeId). IsReady U u) (sym f) h)
 
-pub front_out : (old mid new : Option (List ℕ)) (gathered all : List ℕ) → PassesSome old mid all gathered
-    → AppendsFront mid new gathered → AppendsFront old new all
-front_out old mid new gathered all p f = record {
-  front = p.written ++ f.front;
-  rest = f.rest;
-  whole = p.whole ∙ ap (λ (l : List ℕ). p.written ++ l) f.whole ∙ sym (append_assoc p.written f.front f.rest);
-  out = Appends-trans old mid new p.written f.front p.out f.out;
+pub next_as : {U V : Table} {u v : TypeId} (r r' : Trees) (read now start old new : Option (List ℕ))
+    (res : Result (Unit {0}) ToolFault) → U ≡ V → u ≡ v
+    → (Takes r U u read now start old → TakesNext r r' U u read now start new res)
+    → Takes r V v read now start old → TakesNext r r' V v read now start new res
+next_as {U = U} {V = V} {u = u} r r' read now start old new res e f h =
+    subst (λ (v : TypeId). Takes r V v read now start old → TakesNext r r' V v read now start new res) f
+    (subst (λ (V : Table). Takes r V u read now start old → TakesNext r r' V u read now start new res) e h)
+
+-- ---- reads that failed
+pub take_counts : (wanted wanted' failures failures' : ℕ) (answer result : Result (Unit {0}) ToolFault) → EndsRun answer result
+    → CountsTakeReads wanted wanted' failures failures' answer → CountsTakeReads wanted wanted' failures failures' result
+take_counts wanted wanted' failures failures' answer result (ends_so e) h =
+    subst (λ r. CountsTakeReads wanted wanted' failures failures' r) (sym e) h
+take_counts wanted wanted' failures failures' answer result (flush_fails o e) h =
+    let both = subst (λ r. CountsTakeReads wanted wanted' failures failures' r) o h in
+    subst (λ r. CountsTakeReads wanted wanted' failures failures' r) (sym e) (both.0, inl both.1)
+
+-- the wanted stream was read before
+pub then_counts : (wanted wanted' failures failures' : ℕ) (res : Result (Unit {0}) ToolFault) → wanted' ≡ wanted
+    → CountsReadFaults failures failures' res → CountsTakeReads wanted wanted' failures failures' res
+then_counts wanted wanted' failures failures' (Ok u) same h = (same, h)
+then_counts wanted wanted' failures failures' (Err (fault.Refused R)) same h = (same, h)
+then_counts wanted wanted' failures failures' (Err (fault.Wanted R)) same h = (same, h)
+then_counts wanted wanted' failures failures' (Err fault.NoWantedType) same h = (same, h)
+then_counts wanted wanted' failures failures' (Err (fault.Clash path why)) same h = (same, h)
+then_counts wanted wanted' failures failures' (Err fault.Read) same h = inr (same, h)
+then_counts wanted wanted' failures failures' (Err fault.Write) same h = (same, h)
+then_counts wanted wanted' failures failures' (Err fault.Memory) same h = (same, h)
+
+-- or alone
+pub wanted_alone : (wanted wanted' failures : ℕ) (f : ToolFault) → CountsWanted wanted wanted' (Err f)
+    → CountsTakeReads wanted wanted' failures failures (Err f)
+wanted_alone wanted wanted' failures (fault.Refused R) h = (h, refl)
+wanted_alone wanted wanted' failures (fault.Wanted R) h = (h, refl)
+wanted_alone wanted wanted' failures fault.NoWantedType h = (h, refl)
+wanted_alone wanted wanted' failures (fault.Clash path why) h = (h, refl)
+wanted_alone wanted wanted' failures fault.Read h = inl (h, refl)
+wanted_alone wanted wanted' failures fault.Write h = absurd h
+wanted_alone wanted wanted' failures fault.Memory h = (h, refl)
+
+pub wanted_unwritten : (wanted wanted' out : ℕ) (f : ToolFault) → CountsWanted wanted wanted' (Err f)
+    → CountsOnlyWrites {A = Unit {0}} out out (Err f)
+wanted_unwritten wanted wanted' out (fault.Refused R) h = refl
+wanted_unwritten wanted wanted' out (fault.Wanted R) h = refl
+wanted_unwritten wanted wanted' out fault.NoWantedType h = refl
+wanted_unwritten wanted wanted' out (fault.Clash path why) h = refl
+wanted_unwritten wanted wanted' out fault.Read h = refl
+wanted_unwritten wanted wanted' out fault.Write h = absurd h
+wanted_unwritten wanted wanted' out fault.Memory h = refl
+
+-- ---- an item
+pub sent_ready : {T : Table} {t : TypeId} {v : Tree} → AreSent T (puts t v ∷ []) → IsReady T t
+sent_ready (sent r f s) = r
+
+-- a definition gives no line
+pub definition_taken : {T U : Table} {u : TypeId} (id : TypeId) (v : Tree) (out : Option (List ℕ))
+    → HasTakenItems T U u (defines id v ∷ []) (Appends out out)
+definition_taken id v out = record { lines = []; received = definition no_item; holds = Appends-nil out }
+
+pub nothing_taken : {T U : Table} {u : TypeId} (out : Option (List ℕ)) → HasTakenItems T U u [] (Appends out out)
+nothing_taken out = record { lines = []; received = no_item; holds = Appends-nil out }
+
+-- its line was written, or a front of it
+pub value_taken : {T U : Table} {u : TypeId} (id : TypeId) (value : Value) (w : Tree) (old new : Option (List ℕ))
+    (res : Result (Unit {0}) ToolFault) → Match T U id u → Receives T U id u (view value) w
+    → WritesText old new (line U (puts u w)) res → TakesGiven T U u (Some (variant.Put id value)) old new res
+value_taken {U = U} {u = u} id value w old new (Ok x) m r h = record {
+  lines = line U (puts u w) ++ [];
+  received = received_value m r no_item;
+  holds = subst (λ (l : List ℕ). Appends old new l) (sym (append-nil (line U (puts u w)))) h;
 }
+value_taken {U = U} {u = u} id value w old new (Err fault.Write) m r h = record {
+  lines = line U (puts u w) ++ [];
+  received = received_value m r no_item;
+  holds = subst (λ (l : List ℕ). AppendsFront old new l) (sym (append-nil (line U (puts u w)))) h;
+}
+value_taken id value w old new (Err fault.Memory) m r h = h
+value_taken id value w old new (Err (fault.Refused R)) m r h = absurd h
+value_taken id value w old new (Err (fault.Wanted R)) m r h = absurd h
+value_taken id value w old new (Err fault.NoWantedType) m r h = absurd h
+value_taken id value w old new (Err (fault.Clash path why)) m r h = absurd h
+value_taken id value w old new (Err fault.Read) m r h = absurd h
+
+pub line_as : {T U : Table} {t u : TypeId} (v : Tree) → T ≡ U → t ≡ u → line T (puts t v) ≡ line U (puts u v)
+line_as v e f = cc

@@ -3,48 +3,30 @@ use Rattle.std.proofs.Common.{◌≡◌, ℕ, ◌+◌, ◌-◌, ◌<◌, ◌≤�
 use Rattle.std.proofs.Common.{Option, Some, None, Result, Ok, Err, ◌∙◌, ap, sym, subst, refl, length-append}
 use Rattle.std.proofs.Common.{append_assoc, append-nil, take-append-drop}
 use Rattle.std.specs.Result.{IsErrAnd}
-use Rattle.std.specs.Io.KnownBytes.{Consumes, Keeps, IsAtEnd}
-use Rattle.std.proofs.KnownBytes.{Consumes-nil, Consumes-trans, Consumes-kept}
 use Rattle.gob_types.specs.Base.{base_table}
 use Rattle.gob_types.specs.Defined.{types, definition_count}
-use Rattle.gob_types.specs.Table.{Table}
 use Rattle.gob_read.specs.Calls.Builders.{skip_building, tree_building}
 use Rattle.gob_read.specs.declared.skip_builder.SkipBuilder.{SkipBuilder}
 use Rattle.gob_stream.specs.declared.fault.Fault.{Fault}
 use Rattle.gob_stream.specs.declared.fault.Fault.TheVariants as reading
 use Rattle.gob_stream.specs.declared.item.Item as declared
 use Rattle.gob_stream.specs.Machine.SessionState.{SessionState}
-use Rattle.gob_stream.specs.Body.{Body, definition, value}
 use Rattle.gob_stream.specs.Bounds.{Bounds, AreLimits, deepest, no_deeper}
 use Rattle.gob_stream.specs.Item.{StreamItem}
-use Rattle.gob_stream.specs.Outcome.{Outcome, refused}
 use Rattle.gob_stream.specs.Machine.ReadParts.{AdvancesOver, over_some, over_item}
-use Rattle.gob_stream.specs.Reading.{Taken}
 use Rattle.gob_stream.specs.Calls.Reads.{ReadingFinishes}
 use Rattle.gob_stream.specs.Calls.Session.{ReadsItems, StepAnswers}
-use Rattle.gob_stream.specs.Stream.{Stream, AreItems, no_more, and_then, counted}
-use Rattle.gob_stream.proofs.PublicLaws.{after_gives, stands_within}
+use Rattle.gob_stream.specs.Outcome.{EndsSo, at_the_end, the_end, refused}
+use Rattle.gob_stream.specs.Stream.{Stream}
+use Rattle.gob_types.specs.Table.{Table}
+use Rattle.gob_stream.proofs.PublicLaws.{stands_within}
 use Rattle.gob_tool.specs.declared.in_memory.Tally.{Tally}
-use Rattle.gob_tool.specs.declared.fault.ToolFault.{ToolFault}
-use Rattle.gob_tool.specs.declared.fault.ToolFault.TheVariants as fault
-use Rattle.gob_tool.specs.Checking.{definitions_in, counts_line, IsCountedStream, IsNoStream, CheckAnswers, is_cut}
-use Rattle.gob_tool.specs.Showing.{AppendsFront}
-use Rattle.gob_tool.specs.Machine.Tallying.{GaveTallied, CountsIn, EndsCounting, CountsCounting, tally_line, HasTallied}
-use Rattle.gob_tool.specs.Machine.Tallying.{TalliesOn, TalliesUpTo, StopsTallying, TalliesFront, TalliesAll}
-use Rattle.gob_tool.specs.Fault.{reading_fault}
-use Rattle.gob_tool.proofs.PieceRuns.{shown_more, items_within}
-use Rattle.gob_tool.proofs.ShowLaws.{known_taken, all_taken, whole_stream}
-use Rattle.std.proofs.Common.{◌≡◌, ℕ, List, [], length, Result, Ok, Err, ◌∙◌, sym, subst, refl, arith}
-use Rattle.gob_stream.specs.Bounds.{Bounds, deepest, no_deeper}
 use Rattle.gob_tool.specs.Checking.{IsTallied, TalliesStream}
-use Rattle.gob_tool.specs.Machine.Tallying.{GaveTallied, HasTallied, StopsTallying}
-use Rattle.gob_tool.proofs.CheckLaws.{stream_defines}
-use Rattle.gob_tool.proofs.ShowLaws.{whole_stream}
+use Rattle.gob_tool.specs.Machine.Tallying.{GaveTallied, HasTallied, TalliesOn, TalliesUpTo, StopsTallying}
+use Rattle.gob_tool.specs.Machine.Tallying.{TalliesFront, TalliesAll}
+use Rattle.gob_tool.proofs.CheckLaws.{items_within, limits_as, stream_defines}
 
-pub limits_as : {L M : Bounds} → L ≡ M → AreLimits deepest M → AreLimits deepest L
-limits_as same l = subst (λ (L : Bounds). AreLimits deepest L) (sym same) l
-
--- ---- within a piece
+-- ---- within the bytes
 pub items_fit : {s : SessionState SkipBuilder (Unit {0})} {n : ℕ} {bytes : List ℕ} → HasTallied s n bytes
     → AreLimits deepest s.limits → n < 2 ^ 64
 items_fit h l =
@@ -183,6 +165,15 @@ pub counts_front_at : (L : Bounds) (s : SessionState SkipBuilder (Unit {0})) (n 
     → TalliesFront L s n n' bytes piece r
 counts_front_at L s n n' bytes piece (Ok u) e is h = absurd is
 counts_front_at L s n n' bytes piece (Err g) e is h = subst (λ e. StopsTallying L (bytes ++ piece) e) (sym is) h
+
+-- the table of a stream that ends between two items
+record HasTable (L : Bounds) (bytes : List ℕ) (items : List StreamItem) : Type 0 where
+  table : Table
+  stream : Stream base_table L items bytes table
+
+whole_stream : {L : Bounds} {bytes : List ℕ} {items : List StreamItem} → EndsSo base_table L bytes items the_end
+    → HasTable L bytes items
+whole_stream (at_the_end {T = T} p) = record { table = T; stream = p }
 
 -- no byte was taken
 pub counted_none : (s : SessionState SkipBuilder (Unit {0})) → GaveTallied s [] [] → HasTallied s 0 []

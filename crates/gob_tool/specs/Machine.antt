@@ -1,8 +1,4 @@
 -- Where a run stands, piece by piece, and what is gathered or kept then. No clause of a public call names these.
-pub mod Gathering
-pub mod Keeping
-pub mod Pieces
-pub mod Wanting
 pub mod Receiver
 pub mod Ending
 pub mod Lines
@@ -10,3 +6,4 @@ pub mod Sending
 pub mod Counting
 pub mod Tallying
 pub mod Rewritten
+pub mod Taken

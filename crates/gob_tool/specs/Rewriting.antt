@@ -9,6 +9,7 @@ use Rattle.gob_value.specs.Tidy.{Tidies}
 use Rattle.gob_value.specs.Tree.{Tree}
 use Rattle.gob_stream.specs.declared.fault.Refusal.{Refusal}
 use Rattle.gob_stream.specs.Bounds.{Bounds}
+use Rattle.gob_stream.specs.Calls.Reader.{GivesAllBut}
 use Rattle.gob_stream.specs.Item.{StreamItem, defines, puts}
 use Rattle.gob_stream.specs.Outcome.{BeginsWithStream, LongestStream, Outcome, refused}
 use Rattle.gob_stream.specs.Reading.{SomeTaken}
@@ -73,6 +74,14 @@ pub record RewritesFront (L : Bounds) (bytes : List ℕ) (P : List ℕ → Type 
   pub begins : BeginsWithStream base_table L bytes items
   pub tidy : HasTidyStream L begins.table items P
 
+-- of these bytes all but the last ones were taken, of which no more waited than what is read ahead; this holds of the
+-- tidy stream of all items that those taken give
+pub record RewritesTaken (L : Bounds) (bytes : List ℕ) (P : List ℕ → Type 0) : Type 0 where
+  pub items : List StreamItem
+  pub table : Table
+  pub given : GivesAllBut L table items bytes
+  pub tidy : HasTidyStream L table items P
+
 -- how the run ends, over an input with these bytes left, where `Whole` holds of the bytes that were to go out, or `Cut`
 -- after a failed write
 abbrev pub RewritesSo : Bounds → (bytes : List ℕ) → (now : Option (List ℕ)) → (Whole Cut : List ℕ → Type 0)
@@ -81,7 +90,7 @@ RewritesSo L bytes now Whole Cut (Ok _) = RewritesWhole L bytes now Whole
 RewritesSo L bytes now Whole Cut (Err (fault.Refused R)) = RewritesToRefusal L bytes R Whole
 RewritesSo L bytes now Whole Cut (Err fault.Read) = SomeTaken bytes now (λ taken. RewritesGiven L taken Whole)
 RewritesSo L bytes now Whole Cut (Err fault.Write) = RewritesFront L bytes Cut
-RewritesSo L bytes now Whole Cut (Err fault.Memory) = RewritesFront L bytes Whole
+RewritesSo L bytes now Whole Cut (Err fault.Memory) = SomeTaken bytes now (λ read. RewritesTaken L read Whole)
 RewritesSo L bytes now Whole Cut (Err (fault.Wanted R)) = ⊥
 RewritesSo L bytes now Whole Cut (Err fault.NoWantedType) = ⊥
 RewritesSo L bytes now Whole Cut (Err (fault.Clash path reason)) = ⊥

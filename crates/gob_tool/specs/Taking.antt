@@ -13,6 +13,7 @@ use Rattle.gob_match.specs.Matching.{Match}
 use Rattle.gob_match.specs.Received.{Receives}
 use Rattle.gob_stream.specs.declared.fault.Refusal.{Refusal}
 use Rattle.gob_stream.specs.Bounds.{Bounds}
+use Rattle.gob_stream.specs.Calls.Reader.{GivesAllBut}
 use Rattle.gob_stream.specs.Devices.{counts_up}
 use Rattle.gob_stream.specs.Item.{StreamItem, defines, puts}
 use Rattle.gob_stream.specs.Outcome.{BeginsWithStream, LongestStream, Outcome, refused}
@@ -97,6 +98,14 @@ pub record ReceivesFront (L : Bounds) (bytes : List ℕ) (U : Table) (u : TypeId
   pub begins : BeginsWithStream base_table L bytes items
   pub received : HasTakenItems begins.table U u items P
 
+-- of these bytes all but the last ones were taken, of which no more waited than what is read ahead; this holds of the
+-- lines of all items that those taken give
+pub record ReceivesTaken (L : Bounds) (bytes : List ℕ) (U : Table) (u : TypeId) (P : List ℕ → Type 0) : Type 0 where
+  pub items : List StreamItem
+  pub table : Table
+  pub given : GivesAllBut L table items bytes
+  pub received : HasTakenItems table U u items P
+
 -- how the part of the run behind the wanted stream ends, over an input with these bytes left, where `Whole` holds of
 -- the
 -- lines that were to go out, or `Cut` after a failed write
@@ -107,7 +116,7 @@ Receiving L bytes now U u Whole Cut (Err (fault.Refused R)) = IsRefusedBehind L 
 Receiving L bytes now U u Whole Cut (Err (fault.Clash path reason)) = ClashesBehind L bytes U u path.items reason Whole
 Receiving L bytes now U u Whole Cut (Err fault.Read) = SomeTaken bytes now (λ taken. ReceivesGiven L taken U u Whole)
 Receiving L bytes now U u Whole Cut (Err fault.Write) = ReceivesFront L bytes U u Cut
-Receiving L bytes now U u Whole Cut (Err fault.Memory) = ReceivesFront L bytes U u Whole
+Receiving L bytes now U u Whole Cut (Err fault.Memory) = SomeTaken bytes now (λ read. ReceivesTaken L read U u Whole)
 Receiving L bytes now U u Whole Cut (Err (fault.Wanted R)) = ⊥
 Receiving L bytes now U u Whole Cut (Err fault.NoWantedType) = ⊥
 

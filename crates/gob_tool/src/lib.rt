@@ -12,15 +12,13 @@ mod fault;
 mod in_memory;
 mod item_json;
 mod large;
-mod lines;
-mod pending;
-mod pieces;
+mod received;
 mod receiver;
 mod rewrite;
-mod rewriter;
 mod run;
 mod show;
 mod take;
+mod tidied;
 mod wanted;
 
 pub use check::run_check;

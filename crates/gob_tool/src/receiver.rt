@@ -1,47 +1,39 @@
 //! Values of a stream received as values of a wanted type.
 
-ghost use Rattle.std.specs.Prelude.{◌≡◌, None, IfOk, IfErr, MatchResult};
+ghost use Rattle.std.specs.Prelude.{◌≡◌, IfErr, IfOk, IfSome, OnOk};
 ghost use Rattle.gob_types.specs.Defined.{types};
 ghost use Rattle.gob_types.specs.Ready.{IsReady};
+ghost use Rattle.gob_types.specs.Table.{Table as Types};
 ghost use Rattle.gob_value.specs.View.{view};
 ghost use Rattle.gob_value.specs.Within.{FitsWithin};
+ghost use Rattle.gob_match.specs.Calls.Matched.{IsMatchOf, IsSound};
 ghost use Rattle.gob_match.specs.Matching.{Match};
 ghost use Rattle.gob_match.specs.Received.{Receives};
 ghost use Rattle.gob_match.specs.Faults.{IsMatchFault};
-ghost use Rattle.gob_tool.specs.Machine.Receiver.{IsReceiver, IsSameReceiver};
+ghost use Rattle.gob_tool.specs.Machine.Receiver.{IsKnown, IsReceiver, IsSameReceiver};
 
-use gob_match::{MatchFault, Matched, match_types, receive};
+use gob_match::{KeptMatch, MatchFault, Matched, match_types, receive};
 use gob_types::{Table, TypeId};
 use gob_value::Value;
 use std::alloc::Global;
 
-/// What receives values of a stream: the types of both sides, and the wanted type.
+/// What receives values of a stream: the wanted type, and the match of the type of the last value, since the next value
+/// is mostly of that type too.
 #[derive(Drop)]
 pub(crate) struct Receiver<'a> {
-    pub(crate) stream: &'a Table,
     pub(crate) wanted: &'a Table,
     pub(crate) wanted_id: TypeId,
-    // The match of the type of the last value, since the next value is mostly of that type too.
-    last: Option<Known<'a>>,
-}
-
-/// A type of the stream, and its match with the wanted type.
-#[derive(Drop)]
-pub(crate) struct Known<'a> {
-    id: TypeId,
-    matched: Matched<'a, Table, Table>,
+    last: Option<KeptMatch>,
 }
 
 impl<'a> Receiver<'a> {
-    /// What receives values of this stream as values of this type.
-    pub(crate) fn new(stream: &'a Table, wanted: &'a Table, wanted_id: TypeId) -> Receiver<'a>
-        ensures stream { result.stream.now ≡ stream.now }
+    /// What receives values as values of this type.
+    pub(crate) fn new(wanted: &'a Table, wanted_id: TypeId) -> Receiver<'a>
         ensures wanted { result.wanted.now ≡ wanted.now }
         ensures wanted_id { result.wanted_id ≡ wanted_id }
-        ensures receiver { IsReceiver result }
+        ensures receiver { (T : Types) → IsReceiver T result }
     {
         Receiver {
-            stream,
             wanted,
             wanted_id,
             last: None,
@@ -52,31 +44,60 @@ impl<'a> Receiver<'a> {
     pub(crate) fn receive(
         &mut self,
         alloc: Global,
+        stream: &Table,
         id: TypeId,
         value: &Value,
     ) -> Result<Value, MatchFault>
-        requires receiver { IsReceiver self.old }
-        requires ready { IsReady (types self.old.stream.now) id }
+        requires receiver { IsReceiver (types stream.now) self.old }
+        requires ready { IsReady (types stream.now) id }
         requires wanted_ready { IsReady (types self.old.wanted.now) self.old.wanted_id }
-        requires fits { FitsWithin (types self.old.stream.now) id 1000 (view value.now) }
-        ensures receiver { IsReceiver self.new }
+        requires fits { FitsWithin (types stream.now) id 1000 (view value.now) }
+        ensures receiver { OnOk result (IsReceiver (types stream.now) self.new) }
         ensures same { IsSameReceiver self.old self.new }
-        ensures matched { IfOk result (λ _. Match (types self.old.stream.now) (types self.old.wanted.now) id
-            self.old.wanted_id) }
-        ensures received { IfOk result (λ w. Receives (types self.old.stream.now) (types self.old.wanted.now) id
+        ensures matched { OnOk result (Match (types stream.now) (types self.old.wanted.now) id self.old.wanted_id) }
+        ensures received { IfOk result (λ w. Receives (types stream.now) (types self.old.wanted.now) id
             self.old.wanted_id (view value.now) (view w)) }
-        ensures fault { IfErr result (IsMatchFault (types self.old.stream.now) (types self.old.wanted.now) id
+        ensures fault { IfErr result (IsMatchFault (types stream.now) (types self.old.wanted.now) id
             self.old.wanted_id) }
     {
-        if let Some(known) = &self.last {
-            if known.id == id {
-                return Ok(receive(alloc, &known.matched, value)?);
-            }
-        }
-        let matched = match_types(alloc, self.stream, id, self.wanted, self.wanted_id)?;
-        let received = receive(alloc, &matched, value);
-        // (By a call, as in `run_take`.)
-        drop(self.last.replace(Known { id, matched }));
-        Ok(received?)
+        let last = self.last.take();
+        let matched = match_again(alloc, last, stream, id, self.wanted, self.wanted_id)?;
+        let received = receive(alloc, &matched, value)?;
+        self.last = Some(KeptMatch::of(matched));
+        Ok(received)
     }
+
+    /// Lets go of the match that is kept, before the types of the stream change.
+    pub(crate) fn forget(&mut self)
+        ensures receiver { (T : Types) → IsReceiver T self.new }
+        ensures same { IsSameReceiver self.old self.new }
+    {
+        drop(self.last.take());
+    }
+}
+
+/// The match of a type of the stream with the wanted one: the last one, where that is of this type.
+fn match_again<'a>(
+    alloc: Global,
+    last: Option<KeptMatch>,
+    stream: &'a Table,
+    id: TypeId,
+    wanted: &'a Table,
+    wanted_id: TypeId,
+) -> Result<Matched<'a, Table, Table>, MatchFault>
+    requires known { IfSome last (IsKnown (types stream.now) (types wanted.now) wanted_id) }
+    requires ready { IsReady (types stream.now) id }
+    requires wanted_ready { IsReady (types wanted.now) wanted_id }
+    ensures matched { OnOk result (Match (types stream.now) (types wanted.now) id wanted_id) }
+    ensures of { IfOk result (IsMatchOf stream.now id wanted.now wanted_id) }
+    ensures sound { IfOk result (IsSound types types) }
+    ensures fault { IfErr result (IsMatchFault (types stream.now) (types wanted.now) id wanted_id) }
+{
+    if let Some(kept) = last {
+        if kept.id() == id {
+            return Ok(kept.over(stream, wanted, wanted_id));
+        }
+        drop(kept);
+    }
+    match_types(alloc, stream, id, wanted, wanted_id)
 }

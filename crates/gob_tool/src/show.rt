@@ -161,7 +161,7 @@ fn whole_line(
 }
 
 /// Makes the line of an item, if there is one.
-fn given_line(
+pub(crate) fn given_line(
     alloc: Global,
     item: &Option<Item<Value>>,
     table: &Table,

@@ -1,7 +1,8 @@
 -- What stands whole is passed, and anything else is read on with a step.
 use Rattle.std.proofs.Common.{◌∙◌, refl, arith}
 use Rattle.gob_tool.proofs.TallyLaws.{items_fit, counts_passed, counts_item, counts_none, counted_still, step_stops}
-use Rattle.gob_tool.proofs.TallyLaws.{counts_front_at, stops_under, limits_as}
+use Rattle.gob_tool.proofs.TallyLaws.{counts_front_at, stops_under}
+use Rattle.gob_tool.proofs.CheckLaws.{limits_as}
 use Rattle.gob_tool.proofs.in_memory.count_front.Goals as goal
 
 pub overflow_add-items : goal.overflow_add-items

@@ -2,7 +2,8 @@
 use Rattle.std.proofs.Common.{rules, ◌≡◌, ◌-◌, ◌∙◌, ◌++◌, refl, arith, drop, length-drop, take, length, ap, sym, ℕ}
 use Rattle.std.proofs.Math.Seq.{take-length}
 use Rattle.gob_tool.proofs.TallyLaws.{counts_none_yet, counts_up_to, counts_falls, counts_piece, stops_piece}
-use Rattle.gob_tool.proofs.TallyLaws.{counts_all_at, limits_as}
+use Rattle.gob_tool.proofs.TallyLaws.{counts_all_at}
+use Rattle.gob_tool.proofs.CheckLaws.{limits_as}
 use Rattle.gob_tool.proofs.in_memory.count_piece.Goals as goal
 
 pub loop-rest-init : goal.loop-rest-init

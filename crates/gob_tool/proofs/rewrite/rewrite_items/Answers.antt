@@ -1,154 +1,216 @@
--- From piece to piece the session stands behind what was read and isn't kept, and each end is that of the stream.
-use Rattle.std.proofs.Common.{[], ◌≡◌, ◌<◌, ◌∙◌, ◌++◌, length, take, arith, refl, sym, subst, length-take, ap}
-use Rattle.std.specs.Io.KnownBytes.{Consumes}
+-- From turn to turn what was read is out in its tidy form, and each end is that of the stream.
+use Rattle.std.proofs.Common.{rules, ◌≡◌, ◌<◌, Bool, Err, Ok, ◌∙◌, refl, subst, sym}
+use Rattle.std.specs.Io.KnownBytes.{Appends}
 use Rattle.std.proofs.KnownBytes.{Appends-nil}
-use Rattle.gob_tool.specs.declared.fault.ToolFault.TheVariants as fault
-use Rattle.gob_stream.specs.Devices.{counts_up}
+use Rattle.gob_stream.specs.Bounds.{AreLimits, Bounds, deepest, no_deeper}
+use Rattle.gob_stream.specs.Calls.Session.{limits_of, taken_of, types_of}
 use Rattle.gob_stream.specs.Ends.{failed_reads, failed_writes, reader_of, writer_of}
+use Rattle.gob_stream.specs.Machine.SessionState.{SessionState}
 use Rattle.gob_stream.specs.Writing.{IsNew}
-use Rattle.gob_tool.proofs.CheckLaws.{limits_as}
-use Rattle.gob_stream.specs.Bounds.{Bounds, deepest, no_deeper}
-use Rattle.gob_tool.specs.Machine.Gathering.{Gathered, CountsOnlyReads, CountsOnlyWrites}
-use Rattle.gob_tool.specs.Rewriting.{RewritesSo}
-use Rattle.gob_tool.specs.Showing.{AppendsFront}
-use Rattle.gob_tool.proofs.RewriteRuns.{rewritten_none, rewritten_stopped, piece_reads, rewrites_at}
-use Rattle.gob_tool.proofs.RewriteKeeping.{keeps_first, keeps_on, falls_keeping, taken_more, taken_all, unread_keeping}
-use Rattle.gob_tool.proofs.ShowLaws.{read_none, reads_at}
-use Rattle.gob_tool.proofs.CountLaws.{writes_at}
-use Rattle.gob_tool.proofs.RoomLaws.{same_ok, room_some}
+use Rattle.gob_tape.specs.Calls.Builder.{tape_building}
+use Rattle.gob_tape.specs.declared.tape.Tape.{Tape}
+use Rattle.gob_tape.specs.declared.tape_builder.TapeBuilder.{TapeBuilder}
+use Rattle.gob_stream.specs.Calls.Reader.{session_of}
+use Rattle.gob_stream.proofs.PublicLaws.{goes_on, has_ended}
+use Rattle.gob_tool.specs.Fault.{reading_fault, writing_fault}
+use Rattle.gob_tool.specs.Machine.Ending.{CountsOnlyWrites}
+use Rattle.gob_tool.specs.Rewriting.{RewriteAnswers}
+use Rattle.gob_tool.specs.Machine.Rewritten.{HasRewritten}
+use Rattle.gob_tool.specs.Showing.{AppendsFront, CountsReadFaults}
+use Rattle.gob_tool.specs.declared.fault.ToolFault.TheVariants as fault
+use Rattle.gob_tool.proofs.EndLaws.{at_error, faults_still, reads_unread, write_counts, writing_unread}
+use Rattle.gob_tool.proofs.RewriteRuns.{answers_under, rewrites_fall, rewrites_filled, rewrites_first, rewritten_none, rewritten_stops}
+use Rattle.gob_tool.proofs.RewriteRuns.{rewrites_flushed, rewrites_unflushed, rewritten_whole, tidy_there}
+use Rattle.gob_tool.proofs.ShowRuns.{stop_faults}
 use Rattle.gob_tool.proofs.rewrite.rewrite_items.Goals as goal
 
-pub returns-in_err-buffer-clause-rewritten : goal.returns-in_err-buffer-clause-rewritten
-returns-in_err-buffer-clause-rewritten g c = λ bytes known.
+pub returns-in_err-reader-clause-rewritten : goal.returns-in_err-reader-clause-rewritten
+returns-in_err-reader-clause-rewritten g c = λ bytes known.
     let out = g.W.Write.contents (writer_of c.args.output.now) in
-    let gathered = c.args.rewriter.now.gathered.items in
-    rewrites_at (no_deeper deepest c.args.limits) bytes (g.R.Read.remaining (reader_of c.args.input.now))
-    (Gathered out out gathered) (AppendsFront out out) c.from_residual.result fault.Memory c.from_residual.ensures.1
-    (rewritten_none (no_deeper deepest c.args.limits) bytes (Gathered out out gathered)
-    (record { written = []; out = Appends-nil out; whole = c.requires.empty }))
+    let L = no_deeper deepest c.args.limits in
+    at_error (λ r. RewriteAnswers L bytes (g.R.Read.remaining (reader_of c.args.input.now)) out out r) c.from_residual.result
+    fault.Memory c.from_residual.ensures.1 (rewritten_none L bytes (g.R.Read.remaining (reader_of c.args.input.now)) (Appends out out) (AppendsFront out out) known
+    (Appends-nil out))
 
-pub returns-in_err-session-clause-rewritten : goal.returns-in_err-session-clause-rewritten
-returns-in_err-session-clause-rewritten g c = λ bytes known.
+pub returns-in_err-writer-clause-rewritten : goal.returns-in_err-writer-clause-rewritten
+returns-in_err-writer-clause-rewritten g c = λ bytes known.
     let out = g.W.Write.contents (writer_of c.args.output.now) in
-    let gathered = c.args.rewriter.now.gathered.items in
-    rewrites_at (no_deeper deepest c.args.limits) bytes (g.R.Read.remaining (reader_of c.args.input.now))
-    (Gathered out out gathered) (AppendsFront out out) c.from_residual-in_err-session.result fault.Memory
-    c.from_residual-in_err-session.ensures.1
-    (rewritten_none (no_deeper deepest c.args.limits) bytes (Gathered out out gathered)
-    (record { written = []; out = Appends-nil out; whole = c.requires.empty }))
+    let L = no_deeper deepest c.args.limits in
+    at_error (λ r. RewriteAnswers L bytes (g.R.Read.remaining (reader_of c.args.input.now)) out out r)
+    c.from_residual-in_err-writer.result fault.Memory c.from_residual-in_err-writer.ensures.1
+    (rewritten_none L bytes (g.R.Read.remaining (reader_of c.args.input.now)) (Appends out out) (AppendsFront out out) known
+    (Appends-nil out))
 
-pub pieces-init : goal.pieces-init
-pieces-init g c = (
-  c.in_ok-session.ensures.limits,
-  refl,
-  refl,
-  keeps_first _ _ _ _ _ _ c.in_ok-session.ensures.has_read
-      (limits_as c.in_ok-session.ensures.limits c.in_ok-session.ensures.allowed)
-      (subst (λ L. IsNew c.args.rewriter.now.writer L) (sym c.in_ok-session.ensures.limits) c.requires.new)
-      c.requires.empty c.new-pending.ensures,
-  room_some c.as_mut_slice-room.ensures.len
-      (same_ok _ _ c.vec.result c.map_err.result c.in_ok-buffer.buffer c.map_err.ensures.cases c.map_err.ensures.variant
-      c.in_ok-buffer.was c.vec.ensures.len),
-)
-
-pub rewrite_end-requires : goal.rewrite_end-requires
-rewrite_end-requires g c = record { so_far = c.pieces.invariant.3.taken.so_far }
-
-pub rewrite_next-requires : goal.rewrite_next-requires
-rewrite_next-requires g c = record { so_far = c.pieces.invariant.3.taken.so_far }
-
-pub returns-in-Ok-eq0-clause-rewritten : goal.returns-in-Ok-eq0-clause-rewritten
-returns-in-Ok-eq0-clause-rewritten g c = λ bytes known.
+pub items-init : goal.items-init
+items-init g c =
     let read = g.R.Read.remaining (reader_of c.args.input.now) in
-    let now = g.R.Read.remaining (reader_of c.pieces.input) in
-    let next = g.R.Read.remaining (reader_of c.read.new.self) in
-    let old = g.W.Write.contents (writer_of c.args.output.now) in
-    let new = g.W.Write.contents (writer_of c.rewrite_end.new.output) in
-    let i = c.pieces.invariant.3 in
-    let none : c.in-Ok-eq0.field-0 ≡ 0 = omega arith in
-    let room : 0 < length c.read.new.buf = omega (arith, c.pieces.invariant.4, c.read.auto.buf) in
-    let all = taken_all i next (read_none now next c.in-Ok-eq0.field-0 c.read.new.buf none c.in-Ok-eq0.ensures.bytes.0) in
-    subst (λ (L : Bounds). RewritesSo (no_deeper deepest L) bytes next
-    (Gathered old new c.rewrite_end.new.rewriter.gathered.items) (AppendsFront old new) c.rewrite_end.result)
-    c.pieces.invariant.0
-    (c.rewrite_end.ensures.rewritten bytes read i.behind next old i.taken known
-    (subst (λ l. Consumes i.behind next l) (sym c.bytes.ensures) all) (c.in-Ok-eq0.ensures.bytes.1 none room))
-
-pub returns-in-Ok-eq0-clause-reads : goal.returns-in-Ok-eq0-clause-reads
-returns-in-Ok-eq0-clause-reads g c =
-    subst (λ n. CountsOnlyReads (failed_reads c.args.input.now) n c.rewrite_end.result)
-    (sym (c.in-Ok-eq0.ensures.counted.1 ∙ c.pieces.invariant.1))
-    (c.rewrite_end.ensures.reads (failed_reads c.args.input.now))
-
-pub pieces-smaller : goal.pieces-smaller
-pieces-smaller g c =
-    let i = c.pieces.invariant.3 in
-    let piece = take c.in-Ok.count c.read.new.buf in
-    let some : 0 < length piece = omega (arith, length-take c.in-Ok.count c.read.new.buf, c.in-Ok.ensures.bound) in
-    falls_keeping i piece (c.in_ok-rewrite_next-in-Ok.ensures.rewritten i.taken.so_far)
-    c.in_ok-rewrite_next-in-Ok.ensures.limits some
-
-pub pieces-preserved : goal.pieces-preserved
-pieces-preserved g c =
-    let i = c.pieces.invariant.3 in (
-      c.in_ok-rewrite_next-in-Ok.ensures.limits ∙ c.pieces.invariant.0,
-      c.in-Ok.ensures.counted.1 ∙ c.pieces.invariant.1,
-      c.in_ok-rewrite_next-in-Ok.ensures.writes ∙ c.pieces.invariant.2,
-      keeps_on i (take c.in-Ok.count c.read.new.buf) c.in-Ok.ensures.bytes.0
-          (c.in_ok-rewrite_next-in-Ok.ensures.rewritten i.taken.so_far),
-      omega (arith, c.pieces.invariant.4, c.read.auto.buf),
+    let same = sym c.in_ok-reader.ensures.limits in (
+      c.in_ok-reader.ensures.limits,
+      refl,
+      refl,
+      rewrites_first c.in_ok-reader.reader c.in_ok-writer.writer read (g.W.Write.contents (writer_of c.args.output.now))
+          (c.in_ok-reader.ensures.new read) c.in_ok-reader.ensures.taken
+          (subst (λ (L : Bounds). AreLimits deepest L) same c.in_ok-reader.ensures.allowed)
+          (subst (λ (L : Bounds). IsNew c.in_ok-writer.writer L) same c.in_ok-writer.ensures),
     )
 
-pub returns-in_err-rewrite_next-in-Ok-clause-rewritten : goal.returns-in_err-rewrite_next-in-Ok-clause-rewritten
-returns-in_err-rewrite_next-in-Ok-clause-rewritten g c = λ bytes known.
-    let next = g.R.Read.remaining (reader_of c.read.new.self) in
+pub returns-in_err-fill-clause-rewritten : goal.returns-in_err-fill-clause-rewritten
+returns-in_err-fill-clause-rewritten g c = λ bytes known.
+    let i = c.items.invariant in
+    let p = i.3 in
+    let e = c.in_err-fill.field-0.0 in
+    let read = g.R.Read.remaining (reader_of c.args.input.now) in
+    let next = g.R.Read.remaining (reader_of c.fill.new.input) in
+    let old = g.W.Write.contents (writer_of c.args.output.now) in
+    let out = g.W.Write.contents (writer_of c.items.output) in
+    let s = session_of c.items.reader in
+    at_error (λ r. RewriteAnswers (no_deeper deepest c.args.limits) bytes next old out r) c.from_residual-in_err-fill.result
+    (reading_fault e) c.from_residual-in_err-fill.ensures.1
+    (answers_under (limits_of s) c.args.limits bytes next old out (Err (reading_fault e)) i.0
+    (rewritten_stops (no_deeper deepest (limits_of s)) (types_of s) p.so_far.items bytes next (Appends old out)
+    (AppendsFront old out) e (c.in_err-fill.ensures.filled read p.so_far.items p.has bytes known)
+    (tidy_there p.so_far (Appends old out) p.out)))
+
+pub returns-in_err-fill-clause-reads : goal.returns-in_err-fill-clause-reads
+returns-in_err-fill-clause-reads g c =
+    let i = c.items.invariant in
+    let e = c.in_err-fill.field-0.0 in
+    at_error (λ r. CountsReadFaults (failed_reads c.args.input.now) (failed_reads c.fill.new.input) r)
+    c.from_residual-in_err-fill.result (reading_fault e) c.from_residual-in_err-fill.ensures.1
+    (stop_faults Bool (failed_reads c.args.input.now) (failed_reads c.items.input) (failed_reads c.fill.new.input) e i.1
+    c.in_err-fill.ensures.counted)
+
+pub rewrite_next-requires-clause-so_far : goal.rewrite_next-requires-clause-so_far
+rewrite_next-requires-clause-so_far g c =
+    let p = c.items.invariant.3 in
+    let read = g.R.Read.remaining (reader_of c.args.input.now) in
+    let next = g.R.Read.remaining (reader_of c.fill.new.input) in
+    let same : session_of c.fill.new.self ≡ session_of c.items.reader = search rules in
+    let on = goes_on tape_building (session_of c.items.reader) c.fill.new.self read next p.so_far.items c.in_ok-fill.field-0
+    c.if-branch.true (c.in_ok-fill.ensures.filled read p.so_far.items p.has) in
+    record {
+      so_far = subst (λ (s : SessionState TapeBuilder Tape). HasRewritten s c.items.writer) (sym same) p.so_far;
+      room = on.0.room;
+    }
+
+pub items-smaller : goal.items-smaller
+items-smaller g c =
+    let i = c.items.invariant in
+    let p = i.3 in
+    let read = g.R.Read.remaining (reader_of c.args.input.now) in
+    let next = g.R.Read.remaining (reader_of c.fill.new.input) in
+    let old = g.W.Write.contents (writer_of c.args.output.now) in
+    let same : session_of c.fill.new.self ≡ session_of c.items.reader = search rules in
+    let on = goes_on tape_building (session_of c.items.reader) c.fill.new.self read next p.so_far.items c.in_ok-fill.field-0
+    c.if-branch.true (c.in_ok-fill.ensures.filled read p.so_far.items p.has) in
+    let n = c.in_ok-rewrite_next.ensures.rewritten read next old (rewrites_filled p same on.0) in
+    rewrites_fall c.items.reader (taken_of (session_of c.items.reader))
+    (c.in_ok-rewrite_next.ensures.limits ∙ c.in_ok-fill.ensures.limits) n.0
+    (subst (λ (s : SessionState TapeBuilder Tape). taken_of s < taken_of (session_of c.rewrite_next.new.reader)) same n.1)
+
+pub items-preserved : goal.items-preserved
+items-preserved g c =
+    let i = c.items.invariant in
+    let p = i.3 in
+    let read = g.R.Read.remaining (reader_of c.args.input.now) in
+    let next = g.R.Read.remaining (reader_of c.fill.new.input) in
+    let old = g.W.Write.contents (writer_of c.args.output.now) in
+    let same : session_of c.fill.new.self ≡ session_of c.items.reader = search rules in
+    let on = goes_on tape_building (session_of c.items.reader) c.fill.new.self read next p.so_far.items c.in_ok-fill.field-0
+    c.if-branch.true (c.in_ok-fill.ensures.filled read p.so_far.items p.has) in (
+      c.in_ok-rewrite_next.ensures.limits ∙ c.in_ok-fill.ensures.limits ∙ i.0,
+      c.in_ok-fill.ensures.counted ∙ i.1,
+      c.in_ok-flush_before_waiting.ensures.counted ∙ c.in_ok-rewrite_next.ensures.writes ∙ i.2,
+      rewrites_flushed (c.in_ok-rewrite_next.ensures.rewritten read next old (rewrites_filled p same on.0)).0
+          c.in_ok-flush_before_waiting.ensures.bytes,
+    )
+
+pub returns-in_err-rewrite_next-clause-rewritten : goal.returns-in_err-rewrite_next-clause-rewritten
+returns-in_err-rewrite_next-clause-rewritten g c = λ bytes known.
+    let i = c.items.invariant in
+    let p = i.3 in
+    let f = c.in_err-rewrite_next.field-0.0 in
+    let read = g.R.Read.remaining (reader_of c.args.input.now) in
+    let next = g.R.Read.remaining (reader_of c.fill.new.input) in
     let old = g.W.Write.contents (writer_of c.args.output.now) in
     let new = g.W.Write.contents (writer_of c.rewrite_next.new.output) in
-    let after = c.rewrite_next.new.rewriter.gathered.items in
-    let piece = take c.in-Ok.count c.read.new.buf in
-    let M = c.args.limits in
-    let i = c.pieces.invariant.3 in
-    let f = c.in_err-rewrite_next-in-Ok.field-0.0 in
-    rewrites_at (no_deeper deepest M) bytes next (Gathered old new after) (AppendsFront old new)
-    c.from_residual-in_err-rewrite_next-in-Ok.result f c.from_residual-in_err-rewrite_next-in-Ok.ensures.1
-    (rewritten_stopped i.taken M c.rewrite_next.new.session c.rewrite_next.new.rewriter.writer next new after
-    (c.pieces.pending.bytes.items ++ piece) bytes f c.pieces.invariant.0 known
-    (taken_more i next piece c.in-Ok.ensures.bytes.0) (c.in_err-rewrite_next-in-Ok.ensures.rewritten i.taken.so_far))
+    let same : session_of c.fill.new.self ≡ session_of c.items.reader = search rules in
+    let on = goes_on tape_building (session_of c.items.reader) c.fill.new.self read next p.so_far.items c.in_ok-fill.field-0
+    c.if-branch.true (c.in_ok-fill.ensures.filled read p.so_far.items p.has) in
+    at_error (λ r. RewriteAnswers (no_deeper deepest c.args.limits) bytes next old new r)
+    c.from_residual-in_err-rewrite_next.result f c.from_residual-in_err-rewrite_next.ensures.1
+    (answers_under (limits_of (session_of c.fill.new.self)) c.args.limits bytes next old new (Err f)
+    (c.in_ok-fill.ensures.limits ∙ i.0)
+    ((c.in_err-rewrite_next.ensures.rewritten read next old (rewrites_filled p same on.0)).0 bytes known))
 
-pub returns-in_err-rewrite_next-in-Ok-clause-reads : goal.returns-in_err-rewrite_next-in-Ok-clause-reads
-returns-in_err-rewrite_next-in-Ok-clause-reads g c =
-    let i = c.pieces.invariant.3 in
-    let f = c.in_err-rewrite_next-in-Ok.field-0.0 in
-    reads_at _ _ c.from_residual-in_err-rewrite_next-in-Ok.result f c.from_residual-in_err-rewrite_next-in-Ok.ensures.1
-    (piece_reads (no_deeper deepest c.pieces.session.limits) i.taken.so_far c.rewrite_next.new.session
-    c.rewrite_next.new.rewriter.writer (c.pieces.pending.bytes.items ++ take c.in-Ok.count c.read.new.buf) _ _ _ _ _ _ f
-    (c.in_err-rewrite_next-in-Ok.ensures.rewritten i.taken.so_far)
-    (c.in-Ok.ensures.counted.1 ∙ c.pieces.invariant.1))
+pub returns-in_err-rewrite_next-clause-reads : goal.returns-in_err-rewrite_next-clause-reads
+returns-in_err-rewrite_next-clause-reads g c =
+    let i = c.items.invariant in
+    let p = i.3 in
+    let f = c.in_err-rewrite_next.field-0.0 in
+    let read = g.R.Read.remaining (reader_of c.args.input.now) in
+    let next = g.R.Read.remaining (reader_of c.fill.new.input) in
+    let old = g.W.Write.contents (writer_of c.args.output.now) in
+    let same : session_of c.fill.new.self ≡ session_of c.items.reader = search rules in
+    let on = goes_on tape_building (session_of c.items.reader) c.fill.new.self read next p.so_far.items c.in_ok-fill.field-0
+    c.if-branch.true (c.in_ok-fill.ensures.filled read p.so_far.items p.has) in
+    at_error (λ r. CountsReadFaults (failed_reads c.args.input.now) (failed_reads c.fill.new.input) r)
+    c.from_residual-in_err-rewrite_next.result f c.from_residual-in_err-rewrite_next.ensures.1
+    (faults_still (failed_reads c.args.input.now) (failed_reads c.fill.new.input) (Err f) (c.in_ok-fill.ensures.counted ∙ i.1)
+    (c.in_err-rewrite_next.ensures.rewritten read next old (rewrites_filled p same on.0)).1)
 
-pub returns-in-Err-clause-rewritten : goal.returns-in-Err-clause-rewritten
-returns-in-Err-clause-rewritten g c = λ bytes known.
-    let next = g.R.Read.remaining (reader_of c.read.new.self) in
-    unread_keeping c.pieces.invariant.3 c.args.limits next bytes c.pieces.invariant.0 known
-    c.in-Err.ensures.bytes
+pub returns-clause-rewritten : goal.returns-clause-rewritten
+returns-clause-rewritten g c = λ bytes known.
+    let i = c.items.invariant in
+    let p = i.3 in
+    let read = g.R.Read.remaining (reader_of c.args.input.now) in
+    let next = g.R.Read.remaining (reader_of c.fill.new.input) in
+    let old = g.W.Write.contents (writer_of c.args.output.now) in
+    let out = g.W.Write.contents (writer_of c.items.output) in
+    let s = session_of c.items.reader in
+    let end = has_ended tape_building s c.fill.new.self read next p.so_far.items c.in_ok-fill.field-0 c.if-branch.false
+    (c.in_ok-fill.ensures.filled read p.so_far.items p.has) in
+    answers_under (limits_of s) c.args.limits bytes next old out (Ok tt) i.0 (rewritten_whole p (end.0 bytes known))
 
-pub slice_bounds-piece-end : goal.slice_bounds-piece-end
-slice_bounds-piece-end g c = c.in-Ok.ensures.bound.0
+pub returns-clause-reads : goal.returns-clause-reads
+returns-clause-reads g c = c.in_ok-fill.ensures.counted ∙ c.items.invariant.1
 
-pub slice_bounds-piece-end-in-Ok : goal.slice_bounds-piece-end-in-Ok
-slice_bounds-piece-end-in-Ok g c = c.in-Ok.ensures.bound.1
+pub returns-in_err-flush_before_waiting-clause-rewritten : goal.returns-in_err-flush_before_waiting-clause-rewritten
+returns-in_err-flush_before_waiting-clause-rewritten g c = λ bytes known.
+    let i = c.items.invariant in
+    let p = i.3 in
+    let e = c.in_err-flush_before_waiting.field-0.0 in
+    let read = g.R.Read.remaining (reader_of c.args.input.now) in
+    let next = g.R.Read.remaining (reader_of c.fill.new.input) in
+    let old = g.W.Write.contents (writer_of c.args.output.now) in
+    let new = g.W.Write.contents (writer_of c.flush_before_waiting.new.output) in
+    let same : session_of c.fill.new.self ≡ session_of c.items.reader = search rules in
+    let on = goes_on tape_building (session_of c.items.reader) c.fill.new.self read next p.so_far.items c.in_ok-fill.field-0
+    c.if-branch.true (c.in_ok-fill.ensures.filled read p.so_far.items p.has) in
+    let so = rewrites_flushed (c.in_ok-rewrite_next.ensures.rewritten read next old (rewrites_filled p same on.0)).0
+    c.in_err-flush_before_waiting.ensures.bytes in
+    at_error (λ r. RewriteAnswers (no_deeper deepest c.args.limits) bytes next old new r)
+    c.from_residual-in_err-flush_before_waiting.result (writing_fault e)
+    c.from_residual-in_err-flush_before_waiting.ensures.1
+    (answers_under (limits_of (session_of c.rewrite_next.new.reader)) c.args.limits bytes next old new (Err (writing_fault e))
+    (c.in_ok-rewrite_next.ensures.limits ∙ c.in_ok-fill.ensures.limits ∙ i.0)
+    (rw c.in_err-flush_before_waiting.ensures.fault (rewrites_unflushed so bytes known)))
 
-pub returns-in-Err-clause-reads : goal.returns-in-Err-clause-reads
-returns-in-Err-clause-reads g c = c.in-Err.ensures.counted.1 ∙ ap (λ n. counts_up n 1) c.pieces.invariant.1
+pub returns-in_err-flush_before_waiting-clause-reads : goal.returns-in_err-flush_before_waiting-clause-reads
+returns-in_err-flush_before_waiting-clause-reads g c =
+    let e = c.in_err-flush_before_waiting.field-0.0 in
+    at_error (λ r. CountsReadFaults (failed_reads c.args.input.now) (failed_reads c.fill.new.input) r)
+    c.from_residual-in_err-flush_before_waiting.result (writing_fault e)
+    c.from_residual-in_err-flush_before_waiting.ensures.1
+    (reads_unread (failed_reads c.args.input.now) (failed_reads c.fill.new.input) (Err (writing_fault e))
+    (c.in_ok-fill.ensures.counted ∙ c.items.invariant.1) (writing_unread e))
 
-pub returns-in-Err-clause-writes : goal.returns-in-Err-clause-writes
-returns-in-Err-clause-writes g c = c.pieces.invariant.2
-
-pub returns-in-Ok-eq0-clause-writes : goal.returns-in-Ok-eq0-clause-writes
-returns-in-Ok-eq0-clause-writes g c =
-    subst (λ n. CountsOnlyWrites n (failed_writes c.rewrite_end.new.output) c.rewrite_end.result) c.pieces.invariant.2
-    c.rewrite_end.ensures.writes
-
-pub returns-in_err-rewrite_next-in-Ok-clause-writes : goal.returns-in_err-rewrite_next-in-Ok-clause-writes
-returns-in_err-rewrite_next-in-Ok-clause-writes g c =
-    writes_at (Unit {0}) _ _ _ c.from_residual-in_err-rewrite_next-in-Ok.result c.in_err-rewrite_next-in-Ok.field-0.0
-    c.from_residual-in_err-rewrite_next-in-Ok.ensures.1 c.pieces.invariant.2 c.in_err-rewrite_next-in-Ok.ensures.writes
+pub returns-in_err-flush_before_waiting-clause-writes : goal.returns-in_err-flush_before_waiting-clause-writes
+returns-in_err-flush_before_waiting-clause-writes g c =
+    let e = c.in_err-flush_before_waiting.field-0.0 in
+    at_error (λ r. CountsOnlyWrites (failed_writes c.args.output.now) (failed_writes c.flush_before_waiting.new.output) r)
+    c.from_residual-in_err-flush_before_waiting.result (writing_fault e)
+    c.from_residual-in_err-flush_before_waiting.ensures.1
+    (write_counts (failed_writes c.args.output.now) (failed_writes c.rewrite_next.new.output)
+    (failed_writes c.flush_before_waiting.new.output) e c.in_err-flush_before_waiting.ensures.fault
+    (c.in_ok-rewrite_next.ensures.writes ∙ c.items.invariant.2) c.in_err-flush_before_waiting.ensures.counted)

@@ -1,62 +1,78 @@
--- What the kept bytes lack comes from the front of the piece, and all of it where it isn't enough.
-use Rattle.std.proofs.Common.{◌<◌, ◌++◌, ◌∙◌, ap, sym, subst, length, arith, append_assoc}
-use Rattle.gob_tool.specs.declared.fault.ToolFault.TheVariants as fault
+-- A whole item that is tidy already is written as it stands, and the reader goes past it.
+use Rattle.std.proofs.Common.{arith, refl, subst, sym}
+use Rattle.gob_types.specs.Defined.{Defined, types}
+use Rattle.gob_stream.specs.Bounds.{deepest}
 use Rattle.gob_stream.specs.Ends.{failed_writes, writer_of}
-use Rattle.gob_stream.specs.Bounds.{deepest, no_deeper}
-use Rattle.gob_tool.specs.Machine.Gathering.{CountsOnlyWrites}
-use Rattle.gob_tool.proofs.KeepLaws.{front_behind}
-use Rattle.gob_tool.proofs.RewriteKeeping.{keeping_at, memory_kept, kept_more, fault_more, two_keeping}
+use Rattle.gob_stream.specs.Item.{puts}
+use Rattle.gob_stream.proofs.PublicLaws.{has_item}
+use Rattle.gob_tool.specs.Machine.Ending.{CountsOnlyWrites}
+use Rattle.gob_tool.specs.Fault.{writing_fault}
+use Rattle.gob_tool.specs.Machine.Rewritten.{RewritesNext, SpellsTidy, StandsNext}
+use Rattle.gob_tool.proofs.EndLaws.{at_error}
+use Rattle.gob_tool.proofs.RewriteRuns.{body_some, next_wanting, rewrites_one, rewrites_stopped, tidy_behind, tidy_item, tidy_next}
+use Rattle.gob_tool.proofs.RewriteRuns.{tidy_spelled, wanting_counts, whole_of}
 use Rattle.gob_tool.proofs.rewrite.rewrite_next.Goals as goal
 
-pub returns-in_err-keep-clause-rewritten : goal.returns-in_err-keep-clause-rewritten
-returns-in_err-keep-clause-rewritten g c = λ h.
-    let all = c.args.pending.now.bytes.items ++ c.args.piece.now in
-    keeping_at (no_deeper deepest c.args.session.now.limits) h c.args.session.now
-    c.args.rewriter.now.writer c.keep.new.self.bytes.items all _ _ _ _ c.from_residual.result fault.Memory
-    c.from_residual.ensures.1 (memory_kept h all _ _)
+pub write_as_spelled-written-requires : goal.write_as_spelled-written-requires
+write_as_spelled-written-requires g c =
+    let x = c.in-Some.ensures in
+    let item = c.in-Some.item in
+    let v = x.whole.value in (
+      v,
+      subst (λ (d : Defined). SpellsTidy (types d) item.id v item.body.now) (sym c.table.ensures) (tidy_spelled x),
+      subst (λ (d : Defined). StandsNext c.args.writer.now (types d) (puts item.id v)) (sym c.table.ensures)
+          (tidy_next c.requires.so_far.so_far x),
+    )
 
-pub returns-then-piece-missing-clause-rewritten : goal.returns-then-piece-missing-clause-rewritten
-returns-then-piece-missing-clause-rewritten g c = λ h.
-    let few : length c.args.piece.now < c.missing-missing.result = omega arith in
-    kept_more h c.args.piece.now _ _ (c.missing-missing.ensures (omega arith)) few c.in_ok-keep.ensures.kept
-
-pub rewrite_behind-requires-clause-so_far : goal.rewrite_behind-requires-clause-so_far
-rewrite_behind-requires-clause-so_far g c =
-    let x = c.in_ok-rewrite_kept.ensures.rewritten c.requires.so_far in x.next
-
-pub returns-in_err-rewrite_kept-clause-rewritten : goal.returns-in_err-rewrite_kept-clause-rewritten
-returns-in_err-rewrite_kept-clause-rewritten g c = λ h.
-    let L = no_deeper deepest c.args.session.now.limits in
-    let s = c.rewrite_kept.new.session in
-    let w = c.rewrite_kept.new.rewriter.writer in
-    let kept = c.args.pending.now.bytes.items in
-    let piece = c.args.piece.now in
-    let front = c.split_at.result.0.now in
-    let behind = c.split_at.result.1.now in
-    let f = c.in_err-rewrite_kept.field-0.0 in
-    let whole = append_assoc kept front behind
-    ∙ ap (λ l. kept ++ l) (front_behind _ piece c.split_at.ensures.front c.split_at.ensures.back) in
-    keeping_at L h s w c.rewrite_kept.new.pending.bytes.items (kept ++ piece) _ _ _ _
-    c.from_residual-in_err-rewrite_kept.result f c.from_residual-in_err-rewrite_kept.ensures.1
-    (fault_more h L s s w w (kept ++ front) (kept ++ piece) behind _ _ _ _ f (sym whole)
-    (c.in_err-rewrite_kept.ensures.rewritten h))
+pub pass-requires-clause-item : goal.pass-requires-clause-item
+pass-requires-clause-item g c =
+    let x = c.in-Some.ensures in has_item deepest x.depth_is x.next (whole_of x.whole)
 
 pub returns-clause-rewritten : goal.returns-clause-rewritten
-returns-clause-rewritten g c = λ h.
-    let kept = c.args.pending.now.bytes.items in
-    let piece = c.args.piece.now in
-    let front = c.split_at.result.0.now in
-    let behind = c.split_at.result.1.now in
-    let whole = append_assoc kept front behind
-    ∙ ap (λ l. kept ++ l) (front_behind _ piece c.split_at.ensures.front c.split_at.ensures.back) in
-    let x = c.in_ok-rewrite_kept.ensures.rewritten h in
-    two_keeping h (g.W.Write.contents (writer_of c.args.output.now)) (g.W.Write.contents (writer_of c.rewrite_kept.new.output))
-    c.args.rewriter.now.gathered.items c.rewrite_kept.new.rewriter.gathered.items x c.args.session.now.limits behind (kept ++ piece) c.rewrite_behind.new.session
-    c.rewrite_behind.new.rewriter.writer c.rewrite_behind.new.pending.bytes.items
-    (g.W.Write.contents (writer_of c.rewrite_behind.new.output)) c.rewrite_behind.new.rewriter.gathered.items
-    c.rewrite_behind.result c.in_ok-rewrite_kept.ensures.limits whole (c.rewrite_behind.ensures.rewritten x.next)
+returns-clause-rewritten g c = λ read now start p.
+    let x = c.in-Some.ensures in
+    let item = c.in-Some.item in
+    let v = x.whole.value in
+    let spells = subst (λ (d : Defined). SpellsTidy (types d) item.id v item.body.now) (sym c.table.ensures) (tidy_spelled x) in
+    let there = subst (λ (d : Defined). StandsNext c.args.writer.now (types d) (puts item.id v)) (sym c.table.ensures)
+    (tidy_next p.so_far x) in
+    let real = c.pass.ensures.passed read now p.so_far.items (puts item.id v) p.has (tidy_item x) in
+    let some = body_some x.next in (
+      rewrites_one p c.pass.ensures.limits real.after (tidy_behind p.so_far p.has.room x c.pass.ensures.passed) c.in_ok-written.field-0
+          (λ other. c.in_ok-written.ensures.written v spells there) refl,
+      omega (arith, some, real.onward),
+    )
 
-pub returns-clause-writes : goal.returns-clause-writes
-returns-clause-writes g c =
-    subst (λ n. CountsOnlyWrites n (failed_writes c.rewrite_behind.new.output) c.rewrite_behind.result)
-    c.in_ok-rewrite_kept.ensures.writes c.rewrite_behind.ensures.writes
+pub returns-in_err-written-clause-rewritten : goal.returns-in_err-written-clause-rewritten
+returns-in_err-written-clause-rewritten g c = λ read now start p.
+    let x = c.in-Some.ensures in
+    let item = c.in-Some.item in
+    let v = x.whole.value in
+    let spells = subst (λ (d : Defined). SpellsTidy (types d) item.id v item.body.now) (sym c.table.ensures) (tidy_spelled x) in
+    let there = subst (λ (d : Defined). StandsNext c.args.writer.now (types d) (puts item.id v)) (sym c.table.ensures)
+    (tidy_next p.so_far x) in
+    let real = c.pass.ensures.passed read now p.so_far.items (puts item.id v) p.has (tidy_item x) in
+    let r' = c.pass.new.self in
+    let w' = c.write_as_spelled-written.new.writer in
+    let e = c.in_err-written.field-0.0 in
+    let new = g.W.Write.contents (writer_of c.write_as_spelled-written.new.output) in
+    at_error (λ a. RewritesNext c.args.reader.now r' w' read now start new a) c.from_residual.result (writing_fault e)
+    c.from_residual.ensures.1
+    (rewrites_stopped p c.pass.ensures.limits real.after (tidy_behind p.so_far p.has.room x c.pass.ensures.passed) r' w' w' new e
+    (λ other. c.in_err-written.ensures.written v spells there) c.in_err-written.ensures.leaves refl)
+
+pub returns-in_err-written-clause-writes : goal.returns-in_err-written-clause-writes
+returns-in_err-written-clause-writes g c =
+    let h = c.requires.so_far.so_far in
+    let x = c.in-Some.ensures in
+    let item = c.in-Some.item in
+    let v = x.whole.value in
+    let spells = subst (λ (d : Defined). SpellsTidy (types d) item.id v item.body.now) (sym c.table.ensures) (tidy_spelled x) in
+    let there = subst (λ (d : Defined). StandsNext c.args.writer.now (types d) (puts item.id v)) (sym c.table.ensures)
+    (tidy_next h x) in
+    let e = c.in_err-written.field-0.0 in
+    at_error (λ a. CountsOnlyWrites (failed_writes c.args.output.now) (failed_writes c.write_as_spelled-written.new.output) a)
+    c.from_residual.result (writing_fault e) c.from_residual.ensures.1
+    (wanting_counts (failed_writes c.args.output.now) (failed_writes c.write_as_spelled-written.new.output) e
+    (next_wanting h c.pass.ensures.limits (tidy_behind h c.requires.so_far.room x c.pass.ensures.passed) e
+    (λ other. c.in_err-written.ensures.written v spells there) refl) c.in_err-written.ensures.counted refl)

@@ -1,15 +1,17 @@
--- Where no memory is had for a writer, nothing is written.
-use Rattle.std.proofs.Common.{[]}
-use Rattle.std.specs.Io.KnownBytes.{Appends}
-use Rattle.std.proofs.KnownBytes.{Appends-nil, Appends-kept}
-use Rattle.gob_stream.specs.Ends.{writer_of}
 use Rattle.gob_stream.specs.Bounds.{deepest, no_deeper}
-use Rattle.gob_tool.proofs.RewriteRuns.{rewritten_none}
+use Rattle.gob_stream.specs.Ends.{failed_writes, reader_of, writer_of}
+use Rattle.gob_tool.proofs.RewriteRuns.{rewrites_ended}
 use Rattle.gob_tool.proofs.rewrite.run_rewrite.Goals as goal
 
-pub returns-in-Err-clause-rewritten : goal.returns-in-Err-clause-rewritten
-returns-in-Err-clause-rewritten g c = λ bytes known.
-    let old = g.W.Write.contents (writer_of c.args.output.now) in
-    let new = g.W.Write.contents (writer_of c.flush.new.self) in
-    rewritten_none (no_deeper deepest c.args.limits) bytes (λ all. Appends old new all)
-    (Appends-kept old old new [] (Appends-nil old) c.flush.ensures.bytes)
+pub returns-clause-rewritten : goal.returns-clause-rewritten
+returns-clause-rewritten g c = λ bytes known.
+    rewrites_ended (no_deeper deepest c.args.limits) bytes (g.R.Read.remaining (reader_of c.rewrite_items.new.input))
+    (g.W.Write.contents (writer_of c.args.output.now)) (g.W.Write.contents (writer_of c.rewrite_items.new.output))
+    (g.W.Write.contents (writer_of c.end_run.new.output)) c.rewrite_items.result c.end_run.result c.end_run.ensures.bytes
+    c.end_run.ensures.ends (c.rewrite_items.ensures.rewritten bytes known)
+
+pub returns-clause-writes : goal.returns-clause-writes
+returns-clause-writes g c = c.end_run.ensures.writes (failed_writes c.args.output.now) c.rewrite_items.ensures.writes
+
+pub returns-clause-flushed : goal.returns-clause-flushed
+returns-clause-flushed g c = c.end_run.ensures.flushed (failed_writes c.args.output.now) c.rewrite_items.ensures.writes

@@ -1,20 +1,24 @@
--- Where no session is had nothing is done.
-use Rattle.std.proofs.Common.{[]}
-use Rattle.std.proofs.KnownBytes.{Appends-nil, Appends-kept}
-use Rattle.gob_stream.specs.Ends.{writer_of}
-use Rattle.gob_tool.specs.Taking.{stops_at_wanted}
+use Rattle.gob_stream.specs.Bounds.{within_trees}
+use Rattle.gob_stream.specs.Ends.{failed_reads, failed_writes, reader_of, writer_of}
+use Rattle.gob_tool.proofs.TakeRuns.{take_counts, takes_ended}
 use Rattle.gob_tool.proofs.take.run_take.Goals as goal
 
-pub take_as_wanted-taken-requires-clause-within : goal.take_as_wanted-taken-requires-clause-within
-take_as_wanted-taken-requires-clause-within g c =
-    c.in-Ok.ensures.limits
+pub returns-clause-taken : goal.returns-clause-taken
+returns-clause-taken g c = λ wanted bytes known left.
+    takes_ended (within_trees c.args.limits) wanted bytes (g.Q.Read.remaining (reader_of c.take_as_wanted.new.wanted))
+    (g.R.Read.remaining (reader_of c.take_as_wanted.new.input))
+    (g.W.Write.contents (writer_of c.args.output.now)) (g.W.Write.contents (writer_of c.take_as_wanted.new.output))
+    (g.W.Write.contents (writer_of c.end_run.new.output)) c.take_as_wanted.result c.end_run.result c.end_run.ensures.bytes
+    c.end_run.ensures.ends (c.take_as_wanted.ensures.taken wanted bytes known left)
 
-pub returns-in-Err-clause-taken : goal.returns-in-Err-clause-taken
-returns-in-Err-clause-taken g c = λ wanted_bytes bytes known left.
-    let old = g.W.Write.contents (writer_of c.args.output.now) in
-    let new = g.W.Write.contents (writer_of c.flush.new.self) in
-    stops_at_wanted tt (record {
-      unread = left;
-      unwritten = Appends-kept old old new [] (Appends-nil old)
-          c.flush.ensures.bytes;
-    })
+pub returns-clause-reads : goal.returns-clause-reads
+returns-clause-reads g c =
+    take_counts (failed_reads c.args.wanted.now) (failed_reads c.take_as_wanted.new.wanted) (failed_reads c.args.input.now)
+    (failed_reads c.take_as_wanted.new.input) c.take_as_wanted.result c.end_run.result c.end_run.ensures.ends
+    c.take_as_wanted.ensures.reads
+
+pub returns-clause-writes : goal.returns-clause-writes
+returns-clause-writes g c = c.end_run.ensures.writes (failed_writes c.args.output.now) c.take_as_wanted.ensures.writes
+
+pub returns-clause-flushed : goal.returns-clause-flushed
+returns-clause-flushed g c = c.end_run.ensures.flushed (failed_writes c.args.output.now) c.take_as_wanted.ensures.writes

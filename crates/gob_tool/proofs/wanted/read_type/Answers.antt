@@ -1,69 +1,118 @@
--- From piece to piece the session stands behind what was read, and the first value is known once it came.
-use Rattle.std.proofs.Common.{◌∙◌, List, ap}
-use Rattle.gob_types.specs.Defined.{types}
-use Rattle.gob_value.specs.declared.value.Value.{Value}
-use Rattle.gob_stream.specs.Ends.{reader_of}
-use Rattle.gob_stream.specs.declared.item.Item as declared
-use Rattle.gob_stream.specs.Item.{item_views}
+-- From step to step the type of the first value that was read is known.
+use Rattle.std.proofs.Common.{Bool, Option, ◌∙◌, arith, refl}
+use Rattle.gob_types.specs.declared.id.TypeId.{TypeId}
+use Rattle.gob_read.specs.Calls.Builders.{tree_building}
 use Rattle.gob_stream.specs.Bounds.{within_trees}
-use Rattle.gob_tool.specs.Machine.Pieces.{first_type_of}
-use Rattle.gob_tool.specs.Taking.{first_type}
-use Rattle.gob_tool.proofs.TakeRuns.{nearer}
-use Rattle.gob_tool.proofs.WantedLaws.{first_more, wanted_ready, finds_on, wanted_read, wanted_stopped, wanted_at}
+use Rattle.gob_stream.specs.Calls.Session.{limits_of, taken_of, types_of}
+use Rattle.gob_stream.specs.Ends.{failed_reads, reader_of}
+use Rattle.gob_stream.specs.Calls.Reader.{session_of}
+use Rattle.gob_stream.proofs.PublicLaws.{goes_on, has_ended}
+use Rattle.gob_tool.proofs.WantedLaws.{finds_fall, finds_first, finds_step, first_at, first_ready, piece_at, step_counts, wanted_at}
+use Rattle.gob_tool.proofs.WantedLaws.{wanted_ends, wanted_stops}
 use Rattle.gob_tool.proofs.wanted.read_type.Goals as goal
 
-pub pieces-smaller : goal.pieces-smaller
-pieces-smaller g c =
-    let i = c.pieces.invariant.2 in
-    nearer _ _ _ _ _ _ _ c.in_ok-more.more c.if-not-more.false (c.in_ok-more.ensures.gave i.items i.taken i.gave)
+pub steps-init : goal.steps-init
+steps-init g c =
+    let read = g.Q.Read.remaining (reader_of c.args.input.now) in
+    (refl, refl, finds_first c.args.reader.now read (c.requires read))
 
-pub pieces-preserved : goal.pieces-preserved
-pieces-preserved g c =
-    let i = c.pieces.invariant.2 in
-    let known = c.first_put-first.ensures
-    ∙ ap (λ (l : List (declared.Item Value)). first_type_of c.pieces.first (first_type (item_views l)))
-    c.deref.ensures.value in (
-      c.in_ok-more.ensures.limits ∙ c.pieces.invariant.0,
-      c.in_ok-more.ensures.reads ∙ c.pieces.invariant.1,
-      finds_on c.args.session.now.limits c.pieces.session c.next_items.new.session _ _ _
-          c.pieces.first _ c.pieces.invariant.0 i c.first_put-first.result c.in_ok-more.more c.if-not-more.false
-          (c.in_ok-more.ensures.gave i.items i.taken i.gave)
-          (first_more c.pieces.first c.first_put-first.result i.items (item_views c.next_items.new.items.items)
-          i.holds known),
+pub steps-smaller : goal.steps-smaller
+steps-smaller g c =
+    let i = c.steps.invariant in
+    let p = i.2 in
+    let read = g.Q.Read.remaining (reader_of c.args.input.now) in
+    let next = g.Q.Read.remaining (reader_of c.more.new.input) in
+    let on = goes_on tree_building (session_of c.steps.reader) c.more.new.self read next p.given c.in_ok-more.field-0
+    c.if-branch.true (c.in_ok-more.ensures.filled read p.given p.has) in
+    let t = c.in_ok-step.ensures.stepped read next p.given on.0 in
+    finds_fall c.steps.reader (taken_of (session_of c.steps.reader)) (c.in_ok-step.ensures.limits ∙ c.in_ok-more.ensures.limits)
+    t.takes.after (omega (arith, on.1, t.takes.onward, c.in_ok-step.ensures.used))
+
+pub steps-preserved : goal.steps-preserved
+steps-preserved g c =
+    let i = c.steps.invariant in
+    let p = i.2 in
+    let read = g.Q.Read.remaining (reader_of c.args.input.now) in
+    let next = g.Q.Read.remaining (reader_of c.more.new.input) in
+    let on = goes_on tree_building (session_of c.steps.reader) c.more.new.self read next p.given c.in_ok-more.field-0
+    c.if-branch.true (c.in_ok-more.ensures.filled read p.given p.has) in (
+      c.in_ok-step.ensures.limits ∙ c.in_ok-more.ensures.limits ∙ i.0,
+      c.in_ok-more.ensures.counted ∙ i.1,
+      finds_step p (c.in_ok-step.ensures.stepped read next p.given on.0) c.first_put-first.ensures,
     )
 
 pub returns-in_err-more-clause-read : goal.returns-in_err-more-clause-read
 returns-in_err-more-clause-read g c = λ bytes known.
-    let i = c.pieces.invariant.2 in
+    let i = c.steps.invariant in
+    let p = i.2 in
     let e = c.in_err-more.field-0.0 in
-    let M = c.args.session.now.limits in
-    let next = g.Q.Read.remaining (reader_of c.next_items.new.input) in
-    wanted_at (within_trees M) bytes next (types c.next_items.new.session.types) c.from_residual.result e
-    c.from_residual.ensures.1
-    (wanted_stopped M c.pieces.session c.next_items.new.session _ _ next c.pieces.first _
-    c.pieces.invariant.0 i bytes e known (c.in_err-more.ensures.gave i.items i.taken i.gave))
+    let M = limits_of (session_of c.args.reader.now) in
+    let s = session_of c.steps.reader in
+    let read = g.Q.Read.remaining (reader_of c.args.input.now) in
+    let next = g.Q.Read.remaining (reader_of c.more.new.input) in
+    let T = types_of (session_of c.more.new.self) in
+    wanted_at (within_trees M) bytes next T c.from_residual.result e c.from_residual.ensures.1
+    (wanted_stops (limits_of s) M (types_of s) T p.given bytes next e i.0
+    (c.in_err-more.ensures.filled read p.given p.has bytes known))
 
-pub returns-then-not-more-clause-read : goal.returns-then-not-more-clause-read
-returns-then-not-more-clause-read g c = λ bytes given.
-    let i = c.pieces.invariant.2 in
-    let known = c.first_put-first.ensures
-    ∙ ap (λ (l : List (declared.Item Value)). first_type_of c.pieces.first (first_type (item_views l)))
-    c.deref.ensures.value in
-    wanted_read c.args.session.now.limits c.pieces.session c.next_items.new.session _ _ _
-    c.pieces.first _ c.pieces.invariant.0 i bytes c.first_put-first.result c.in_ok-more.more c.if-not-more.true
-    given
-    (c.in_ok-more.ensures.gave i.items i.taken i.gave)
-    (first_more c.pieces.first c.first_put-first.result i.items (item_views c.next_items.new.items.items) i.holds
-    known)
+pub returns-in_err-more-clause-ready : goal.returns-in_err-more-clause-ready
+returns-in_err-more-clause-ready g c =
+    first_at (types_of (session_of c.more.new.self)) c.from_residual.result c.in_err-more.field-0.0 c.from_residual.ensures.1
 
-pub returns-then-not-more-clause-ready : goal.returns-then-not-more-clause-ready
-returns-then-not-more-clause-ready g c =
-    let i = c.pieces.invariant.2 in
-    let known = c.first_put-first.ensures
-    ∙ ap (λ (l : List (declared.Item Value)). first_type_of c.pieces.first (first_type (item_views l)))
-    c.deref.ensures.value in
-    wanted_ready c.args.session.now.limits c.pieces.session c.next_items.new.session _ _ _
-    c.pieces.first _ c.pieces.invariant.0 i c.first_put-first.result
-    (c.in_ok-more.ensures.gave i.items i.taken i.gave)
-    (first_more c.pieces.first c.first_put-first.result i.items (item_views c.next_items.new.items.items) i.holds
-    known)
+pub returns-in_err-more-clause-reads : goal.returns-in_err-more-clause-reads
+returns-in_err-more-clause-reads g c =
+    piece_at (Option TypeId) Bool (failed_reads c.args.input.now) (failed_reads c.steps.input) (failed_reads c.more.new.input)
+    c.from_residual.result c.in_err-more.field-0.0 c.from_residual.ensures.1 c.steps.invariant.1 c.in_err-more.ensures.counted
+
+pub returns-in_err-step-clause-read : goal.returns-in_err-step-clause-read
+returns-in_err-step-clause-read g c = λ bytes known.
+    let i = c.steps.invariant in
+    let p = i.2 in
+    let e = c.in_err-step.field-0.0 in
+    let M = limits_of (session_of c.args.reader.now) in
+    let s = session_of c.more.new.self in
+    let read = g.Q.Read.remaining (reader_of c.args.input.now) in
+    let next = g.Q.Read.remaining (reader_of c.more.new.input) in
+    let T = types_of (session_of c.step.new.self) in
+    let on = goes_on tree_building (session_of c.steps.reader) c.more.new.self read next p.given c.in_ok-more.field-0
+    c.if-branch.true (c.in_ok-more.ensures.filled read p.given p.has) in
+    wanted_at (within_trees M) bytes next T c.from_residual-in_err-step.result e c.from_residual-in_err-step.ensures.1
+    (wanted_stops (limits_of s) M (types_of s) T p.given bytes next e (c.in_ok-more.ensures.limits ∙ i.0)
+    (c.in_err-step.ensures.stepped read next p.given on.0 bytes known))
+
+pub returns-in_err-step-clause-ready : goal.returns-in_err-step-clause-ready
+returns-in_err-step-clause-ready g c =
+    first_at (types_of (session_of c.step.new.self)) c.from_residual-in_err-step.result c.in_err-step.field-0.0
+    c.from_residual-in_err-step.ensures.1
+
+pub returns-in_err-step-clause-reads : goal.returns-in_err-step-clause-reads
+returns-in_err-step-clause-reads g c =
+    step_counts (failed_reads c.args.input.now) (failed_reads c.more.new.input) c.from_residual-in_err-step.result
+    c.in_err-step.field-0.0 c.from_residual-in_err-step.ensures.1 (c.in_ok-more.ensures.counted ∙ c.steps.invariant.1)
+    c.in_err-step.ensures.unread
+
+pub returns-clause-read : goal.returns-clause-read
+returns-clause-read g c = λ bytes known.
+    let i = c.steps.invariant in
+    let p = i.2 in
+    let M = limits_of (session_of c.args.reader.now) in
+    let s = session_of c.steps.reader in
+    let read = g.Q.Read.remaining (reader_of c.args.input.now) in
+    let next = g.Q.Read.remaining (reader_of c.more.new.input) in
+    let end = has_ended tree_building s c.more.new.self read next p.given c.in_ok-more.field-0 c.if-branch.false
+    (c.in_ok-more.ensures.filled read p.given p.has) in
+    wanted_ends (limits_of s) M (types_of s) (types_of (session_of c.more.new.self)) (taken_of s) p.given bytes next c.steps.first
+    i.0 end.1 (end.0 bytes known) p.is
+
+pub returns-clause-ready : goal.returns-clause-ready
+returns-clause-ready g c =
+    let p = c.steps.invariant.2 in
+    let s = session_of c.steps.reader in
+    let read = g.Q.Read.remaining (reader_of c.args.input.now) in
+    let next = g.Q.Read.remaining (reader_of c.more.new.input) in
+    let end = has_ended tree_building s c.more.new.self read next p.given c.in_ok-more.field-0 c.if-branch.false
+    (c.in_ok-more.ensures.filled read p.given p.has) in
+    first_ready (types_of (session_of c.more.new.self)) c.steps.first end.1 p
+
+pub returns-clause-reads : goal.returns-clause-reads
+returns-clause-reads g c = c.in_ok-more.ensures.counted ∙ c.steps.invariant.1

@@ -1,16 +1,16 @@
--- The session stands behind what was read, and the first value so far is known.
-use Rattle.std.proofs.Common.{◌≡◌}
+-- The type of the first value that was read is known.
+use Rattle.std.proofs.Common.{◌≡◌, ◌+◌, ◌-◌}
+use Rattle.gob_stream.specs.Calls.Session.{limits_of, taken_of}
 use Rattle.gob_stream.specs.Ends.{failed_reads, reader_of}
-use Rattle.gob_tool.specs.Machine.Pieces.{StandsAt, unread}
-use Rattle.gob_tool.specs.Taking.{first_type}
+use Rattle.gob_stream.specs.Calls.Reader.{session_of}
+use Rattle.gob_tool.specs.Machine.Taken.{FindsSo}
 use Rattle.gob_tool.proofs.wanted.read_type.Given as goal
 
-abbrev pub invariant-pieces : goal.invariant-pieces
-invariant-pieces g l =
-    (l.session.limits ≡ l.fn.session.limits)
+abbrev pub invariant-steps : goal.invariant-steps
+invariant-steps g l =
+    (limits_of (session_of l.reader) ≡ limits_of (session_of l.fn.reader))
     × (failed_reads l.input ≡ failed_reads l.fn.input)
-    × StandsAt l.session (g.Q.Read.remaining (reader_of l.fn.input)) (g.Q.Read.remaining (reader_of l.input))
-    (λ items. l.first ≡ first_type items)
+    × FindsSo l.reader (g.Q.Read.remaining (reader_of l.fn.input)) (g.Q.Read.remaining (reader_of l.input)) l.first
 
-abbrev pub decreases-pieces : goal.decreases-pieces
-decreases-pieces g l = unread l.session
+abbrev pub decreases-steps : goal.decreases-steps
+decreases-steps g l = (limits_of (session_of l.reader)).stream + 9 - taken_of (session_of l.reader)

@@ -1,0 +1,243 @@
+-- What a reader of a stream has taken, in bytes: how a call goes on from those that were taken before it.
+use Rattle.std.proofs.Common.{◌≡◌, ℕ, ◌+◌, ◌≤◌, arith, List, [], ◌∷◌, ◌++◌, length, take, drop, Option, Some, None}
+use Rattle.std.proofs.Common.{◌∙◌, ap, sym, subst, refl, append_assoc, append-nil, length-append, take-append-drop}
+use Rattle.std.proofs.lemmas.List.{length-take-le}
+use Rattle.std.specs.Io.KnownBytes.{Consumes}
+use Rattle.gob_num.proofs.PublicLaws.{append_split}
+use Rattle.gob_types.specs.Base.{base_table}
+use Rattle.gob_types.specs.Table.{Table}
+use Rattle.gob_read.specs.Building.{Building}
+use Rattle.gob_value.specs.Tree.{Tree}
+use Rattle.gob_stream.specs.Bounds.{Bounds, no_deeper}
+use Rattle.gob_stream.specs.Calls.Session.{HasRead, limits_of, taken_of, types_of}
+use Rattle.gob_stream.specs.Item.{StreamItem, ItemMeans}
+use Rattle.gob_stream.specs.Machine.SessionState.{SessionState}
+use Rattle.gob_stream.specs.Stream.{AreItems, IsItem, Stream, and_then, no_more}
+use Rattle.gob_stream.specs.declared.item.Item as declared
+use Rattle.gob_stream.specs.declared.session.Step.{Step}
+use Rattle.gob_stream.proofs.PublicLaws.{one_front}
+use Rattle.gob_stream.specs.Calls.Reader.{GivesAllBut, GivesItems, gives_none, gives_one, HasReadFrom, StepsOnFrom, TakesItems, most_ahead, room_in, session_of}
+use Rattle.gob_stream.specs.Calls.Reader.{waits_in}
+use Rattle.gob_tool.proofs.CheckLaws.{items_few}
+use Rattle.gob_stream.specs.declared.stream_reader.StreamReader.{StreamReader}
+
+-- bytes of one length that both come first are the same, where they are known
+same_first : (read now next : Option (List ℕ)) (a b x y : List ℕ) → length a ≡ length b → Consumes read now (a ++ x)
+    → Consumes read next (b ++ y) → Consumes read next (a ++ y)
+same_first None now next a b x y e c d = tt
+same_first (Some z) None next a b x y e c d = absurd c
+same_first (Some z) (Some l) None a b x y e c d = absurd d
+same_first (Some z) (Some l) (Some m) a b x y e c d =
+    let same = append_split a b (x ++ l) (y ++ m) e
+    (sym (append_assoc a x l) ∙ sym c ∙ d ∙ append_assoc b y m) in
+    subst (λ (k : List ℕ). Consumes (Some z) (Some m) (k ++ y)) (sym same.0) d
+
+-- what a step gave is an item, or none
+pub record GivesOne {O : Type 0} (means : O → Tree → Type 0) (given : declared.Item O) (more : List StreamItem) : Type 0 where
+  pub item : StreamItem
+  pub meant : ItemMeans means given item
+  pub only : more ≡ item ∷ []
+
+pub one_given : {O : Type 0} {means : O → Tree → Type 0} {o : Option (declared.Item O)} {more : List StreamItem}
+    (given : declared.Item O) → o ≡ Some given → GivesItems means o more → GivesOne means given more
+one_given given e gives_none = absurd (cc e)
+one_given {means = means} given e (gives_one {given = g} {i = i} m) =
+    let same : g ≡ given = cc in
+    record { item = i; meant = subst (λ g. ItemMeans means g i) same m; only = refl }
+
+pub none_given : {O : Type 0} {means : O → Tree → Type 0} {o : Option (declared.Item O)} {more : List StreamItem}
+    → ((given : declared.Item O) → o ≡ Some given → ⊥) → GivesItems means o more → more ≡ []
+none_given n gives_none = refl
+none_given n (gives_one {given = g} m) = absurd (n g refl)
+
+-- ---- a stream and what follows it
+record Splits (L : Bounds) (T : Table) (offset : ℕ) (items others : List StreamItem) (b : List ℕ) (V : Table) : Type 0 where
+  front : List ℕ
+  rest : List ℕ
+  table : Table
+  first : AreItems base_table L T offset items front table
+  later : AreItems base_table L table (offset + length front) others rest V
+  whole : b ≡ front ++ rest
+
+split : {L : Bounds} {T V : Table} {b : List ℕ} {offset : ℕ} (items others : List StreamItem)
+    → AreItems base_table L T offset (items ++ others) b V → Splits L T offset items others b V
+split {L = L} {T = T} {V = V} {b = b} {offset = offset} [] others p =
+    let at : offset ≡ offset + 0 = omega arith in
+    record {
+      front = [];
+      rest = b;
+      table = T;
+      first = no_more;
+      later = subst (λ (n : ℕ). AreItems base_table L T n others b V) at p;
+      whole = refl;
+    }
+split {L = L} {V = V} {offset = offset} (i ∷ items) others (and_then {next = next} {b = a} q e r) =
+    let s = split items others r in
+    let at : next + length s.front ≡ offset + length (a ++ s.front) = omega (arith, length-append a s.front) in
+    record {
+      front = a ++ s.front;
+      rest = s.rest;
+      table = s.table;
+      first = and_then q e s.first;
+      later = subst (λ (n : ℕ). AreItems base_table L s.table n others s.rest V) at s.later;
+      whole = ap (λ (l : List ℕ). a ++ l) s.whole ∙ sym (append_assoc a s.front s.rest);
+    }
+
+pub ends_there : {L : Bounds} {T U : Table} {o : ℕ} {items : List StreamItem} {rest : List ℕ}
+    → AreItems base_table L T o items rest U → items ≡ [] → T ≡ U
+ends_there no_more e = refl
+ends_there (and_then q f r) e = absurd (cc e)
+
+-- one item that follows
+pub record Follows (L : Bounds) (T : Table) (o : ℕ) (i : StreamItem) (rest : List ℕ) (U : Table) : Type 0 where
+  pub bytes : List ℕ
+  pub counted : IsItem base_table L T o i bytes U
+  pub whole : rest ≡ bytes
+
+pub follows : {L : Bounds} {T U : Table} {o : ℕ} {i : StreamItem} {items : List StreamItem} {rest : List ℕ}
+    → AreItems base_table L T o (i ∷ items) rest U → items ≡ [] → Follows L T o i rest U
+follows {L = L} {T = T} {o = o} {i = i} (and_then {b = b} q f r) e =
+    let done = nothing_more r e in
+    record { bytes = b; counted = subst (λ (U : Table). IsItem base_table L T o i b U) done.0 q; whole = ap (λ (l : List ℕ). b ++ l) done.1 ∙ append-nil b }
+  where
+    nothing_more : {V W : Table} {next : ℕ} {items : List StreamItem} {c : List ℕ} → AreItems base_table L V next items c W
+        → items ≡ [] → (V ≡ W) × (c ≡ [])
+    nothing_more no_more e = (refl, refl)
+    nothing_more (and_then q f r) e = absurd (cc e)
+
+-- no byte gives no item
+pub nothing_given : (L : Bounds) → GivesAllBut L base_table [] []
+nothing_given L = record {
+  front = [];
+  rest = [];
+  whole = refl;
+  few = omega arith;
+  gives = record {
+    begins = record { front = []; rest = []; table = base_table; stream = no_more; whole = refl };
+    longest = λ others b.
+        let few = items_few b.stream in
+        omega (arith, few, ap length b.whole, length-append b.front b.rest);
+  };
+  table = refl;
+}
+
+module _ {X O : Type 0} {most : ℕ} (building : Building X O most) where
+  -- an input of just those bytes that were read
+  pub read_alone : {r : StreamReader X O} {items : List StreamItem} {taken : List ℕ} → HasRead building (session_of r) items taken
+      → room_in r ≤ most_ahead (limits_of (session_of r))
+      → HasReadFrom building r (Some (taken ++ waits_in r)) (Some []) items
+  read_alone {r = r} {taken = taken} a room = record
+      { taken = taken; input = sym (append-nil (taken ++ waits_in r)); gave = a; end = λ e. refl; room = room }
+
+  -- so many of the bytes that waited were taken, and the others wait
+  pub record TakesBehind (r r' : StreamReader X O) (items more : List StreamItem) (taken : List ℕ) (used : ℕ) : Type 0 where
+    pub gave : HasRead building (session_of r') (items ++ more) (taken ++ take used (waits_in r))
+    pub left : waits_in r ≡ take used (waits_in r) ++ waits_in r'
+
+  pub takes_behind : {r r' : StreamReader X O} {items more : List StreamItem} {taken : List ℕ} {used : ℕ}
+      (a : HasRead building (session_of r) items taken)
+      → TakesItems building r r' (Some (taken ++ waits_in r)) (Some []) items more used
+      → TakesBehind r r' items more taken used
+  takes_behind {r = r} {r' = r'} {items = items} {more = more} {taken = taken} {used = used} a t =
+      let h = t.after in
+      let whole : taken ++ waits_in r ≡ h.taken ++ waits_in r' = h.input ∙ append-nil (h.taken ++ waits_in r') in
+      let lengths : length h.taken ≡ length taken + used = omega (arith, a.taken, h.gave.taken, t.onward) in
+      let within : used ≤ length (waits_in r) = omega (
+        arith,
+        lengths,
+        ap length whole,
+        length-append taken (waits_in r),
+        length-append h.taken (waits_in r'),
+      ) in
+      let z = take used (waits_in r) in
+      let parts = append_split (taken ++ z) h.taken (drop used (waits_in r)) (waits_in r')
+      (omega (arith, lengths, length-append taken z, length-take-le used (waits_in r) within))
+      (append_assoc taken z (drop used (waits_in r))
+      ∙ ap (λ (l : List ℕ). taken ++ l) (take-append-drop used (waits_in r)) ∙ whole) in
+      record {
+        gave = subst (λ (l : List ℕ). HasRead building (session_of r') (items ++ more) l) (sym parts.0) h.gave;
+        left = sym (take-append-drop used (waits_in r)) ∙ ap (λ (l : List ℕ). z ++ l) parts.1;
+      }
+
+  -- by a step
+  pub record StepsBehind (r r' : StreamReader X O) (items : List StreamItem) (taken : List ℕ) (step : Step O) : Type 0 where
+    pub more : List StreamItem
+    pub gives : GivesItems building.means step.item more
+    pub behind : TakesBehind r r' items more taken step.used
+
+  pub steps_behind : {r r' : StreamReader X O} {items : List StreamItem} {taken : List ℕ} {step : Step O}
+      (a : HasRead building (session_of r) items taken)
+      → StepsOnFrom building r r' (Some (taken ++ waits_in r)) (Some []) items step
+      → StepsBehind r r' items taken step
+  steps_behind a t = record { more = t.more; gives = t.gives; behind = takes_behind a t.takes }
+
+  -- of an input it has taken these bytes
+  pub record ReadsTo (r : StreamReader X O) (read now : Option (List ℕ)) (items : List StreamItem) (taken : List ℕ) : Type 0 where
+    pub has : HasReadFrom building r read now items
+    pub same : has.taken ≡ taken
+
+  pub reads_behind : {r r' : StreamReader X O} {read now : Option (List ℕ)} {items more others : List StreamItem}
+      {taken : List ℕ} {used : ℕ} → Consumes read now (taken ++ waits_in r) → TakesBehind r r' items more taken used
+      → HasReadFrom building r' read now others
+      → ReadsTo r' read now (items ++ more) (taken ++ take used (waits_in r))
+  reads_behind {r = r} {r' = r'} {read = read} {now = now} {taken = taken} {used = used} c b q =
+      let z = take used (waits_in r) in
+      record {
+        has = record {
+          taken = taken ++ z;
+          input = subst (λ (l : List ℕ). Consumes read now l)
+              (ap (λ (l : List ℕ). taken ++ l) b.left ∙ sym (append_assoc taken z (waits_in r'))) c;
+          gave = b.gave;
+          end = q.end;
+          room = q.room;
+        };
+        same = refl;
+      }
+
+  -- where more waits the same bytes were taken
+  pub reads_more : {r r' : StreamReader X O} {read now next : Option (List ℕ)} {items : List StreamItem} {taken : List ℕ}
+      → session_of r' ≡ session_of r → (h : HasReadFrom building r read now items) → h.taken ≡ taken
+      → HasReadFrom building r' read next items → ReadsTo r' read next items taken
+  reads_more {r = r} {r' = r'} {read = read} {now = now} {next = next} {items = items} {taken = taken} same h e q =
+      let lengths : length h.taken ≡ length q.taken =
+      sym h.gave.taken ∙ ap (λ s. taken_of s) (sym same) ∙ q.gave.taken in
+      record {
+        has = record {
+          taken = taken;
+          input = subst (λ (l : List ℕ). Consumes read next (l ++ waits_in r')) e
+              (same_first read now next h.taken q.taken (waits_in r) (waits_in r') lengths h.input q.input);
+          gave = subst (λ (l : List ℕ). HasRead building (session_of r') items l) e
+              (subst (λ (s : SessionState X O). HasRead building s items h.taken) (sym same) h.gave);
+          end = q.end;
+          room = q.room;
+        };
+        same = refl;
+      }
+
+  -- the session went on by bytes with which these items are whole
+  pub record GoesOn {s : SessionState X O} {items : List StreamItem} {taken : List ℕ} (a : HasRead building s items taken)
+      (s' : SessionState X O) (more : List StreamItem) (z : List ℕ) : Type 0 where
+    pub gave : HasRead building s' (items ++ more) (taken ++ z)
+    pub bytes : List ℕ
+    pub later : AreItems base_table (no_deeper most (limits_of s)) (types_of s) (length a.front) more bytes (types_of s')
+    pub front : gave.front ≡ a.front ++ bytes
+
+  pub goes_by : {s s' : SessionState X O} {items : List StreamItem} {taken : List ℕ} (a : HasRead building s items taken)
+      (more : List StreamItem) (z : List ℕ) → limits_of s' ≡ limits_of s
+      → HasRead building s' (items ++ more) (taken ++ z) → GoesOn a s' more z
+  goes_by {s = s} {s' = s'} {items = items} a more z same b =
+      let L = no_deeper most (limits_of s) in
+      let stream = subst (λ (M : Bounds). Stream base_table (no_deeper most M) (items ++ more) b.front (types_of s')) same
+      b.stream in
+      let p = split items more stream in
+      let whole = sym (append_assoc a.front a.under_way z) ∙ ap (λ (l : List ℕ). l ++ z) (sym a.whole) ∙ b.whole
+      ∙ ap (λ (l : List ℕ). l ++ b.under_way) p.whole ∙ append_assoc p.front p.rest b.under_way in
+      let o = one_front (a.under_way ++ z) (p.rest ++ b.under_way) a.stream p.first whole in
+      let at : 0 + length p.front ≡ length a.front = omega (arith, ap length o.front) in
+      record {
+        gave = b;
+        bytes = p.rest;
+        later = subst (λ (T : Table). AreItems base_table L T (length a.front) more p.rest (types_of s')) (sym o.table)
+            (subst (λ (n : ℕ). AreItems base_table L p.table n more p.rest (types_of s')) at p.later);
+        front = p.whole ∙ ap (λ (l : List ℕ). l ++ p.rest) (sym o.front);
+      }
