@@ -1,18 +1,16 @@
-# Completion of the command gob for bash: source this file, or put it as `gob` into a folder of bash-completion.
+# Made by tools/words: completion of gob for bash, to be sourced, or put into a folder of bash-completion.
 _gob() {
-    local current=${COMP_WORDS[COMP_CWORD]} previous=${COMP_WORDS[COMP_CWORD - 1]}
-    local commands='show check rewrite take help' words=
+    local current=${COMP_WORDS[COMP_CWORD]} previous=${COMP_WORDS[COMP_CWORD - 1]} words=
     COMPREPLY=()
     case $previous in
-    # (a number)
     --depth | --item) return ;;
     esac
     if [ "$COMP_CWORD" -eq 1 ]; then
-        words="$commands --help -h"
+        words='show check rewrite take help --help -h'
     elif [ "${COMP_WORDS[1]}" = help ]; then
-        words=$commands
+        words='show check rewrite take help'
     elif [[ $current == -* ]]; then
-        words='--depth --item --help -h'
+        words='--depth --item -h --help'
     else
         mapfile -t COMPREPLY < <(compgen -f -- "$current")
         return

@@ -1,4 +1,4 @@
-# Completion of the command gob for fish: put this file into ~/.config/fish/completions.
+# Made by tools/words: completion of gob for fish, to be put into ~/.config/fish/completions.
 complete -c gob -f
 complete -c gob -n __fish_use_subcommand -a show -d 'Print each item of a stream as a line of JSON'
 complete -c gob -n __fish_use_subcommand -a check -d 'Read a whole stream, and print how many items, types and bytes it has'
