@@ -6,5 +6,5 @@ use Rattle.gob_handed.proofs.handing.hand.Given as goal
 abbrev pub invariant-items : goal.invariant-items
 invariant-items l =
     AreHanded (types l.table) (take l.index l.items) (take l.index l.heads)
-        (take l.at.nodes l.nodes) (take l.at.bytes l.pool)
+    (take l.at.nodes l.nodes) (take l.at.bytes l.pool)
     × ((l.at.nodes ≤ length l.nodes) × (l.at.bytes ≤ length l.pool))
