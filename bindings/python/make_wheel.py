@@ -24,7 +24,7 @@ def main(library, folder):
     info = f"{NAME}-{VERSION}.dist-info"
     files[f"{info}/METADATA"] = (
         f"Metadata-Version: 2.1\nName: {NAME}\nVersion: {VERSION}\n"
-        "Summary: Reads Go's gob streams exactly, without the Go types\nRequires-Python: >=3.8\n"
+        "Summary: Reads Go's gob streams exactly, without the Go types\nRequires-Python: >=3.9\n"
     ).encode()
     files[f"{info}/WHEEL"] = f"Wheel-Version: 1.0\nGenerator: make_wheel\nRoot-Is-Purelib: false\nTag: {TAG}\n".encode()
     rows = []
