@@ -3,7 +3,7 @@
 
     tools/damage.py SEED COUNT FOLDER
 
-writes so many damaged streams of those in FOLDER, as crates/gob_vectors reads them: each with limits and how it is cut.
+writes so many damaged streams of those in FOLDER, as crates/gob_show_many reads them: each with limits and how it is cut.
 """
 import pathlib
 import random

@@ -16,7 +16,7 @@
  *
  * Ownership. The caller owns the reader and lets it go by gob_close, once. The library keeps no pointer that it is
  * given: a piece may be reused as soon as gob_feed returns. What it hands out it owns: see gob_next, gob_take and
- * gob_type for how long that stands. All memory comes from malloc.
+ * gob_type for how long that stands. All memory comes from malloc: 1.5 MB for a reader, and more for larger items.
  *
  * Threads. A reader stays on the thread that opened it. Different readers may be used in different threads at once. No
  * call may be made from a signal handler.
@@ -58,7 +58,8 @@ typedef enum gob_status {
     GOB_BAD_LIMITS = 4  /* the depth is 0 or above 65536, or the stream above 2^63 - 1 */
 } gob_status;
 
-/* How a call ended. Offsets are those of the stream, in bytes from 0, whatever pieces it came in. */
+/* How a call ended. Offsets are those of the stream, in bytes from 0, whatever pieces it came in. Each call that takes a
+ * gob_fault writes all of it, and takes no NULL for it. */
 typedef struct gob_fault {
     uint32_t status; /* a gob_status */
     uint32_t reason; /* where refused, 1 to 22: why (gob_reason_name); else 0 */

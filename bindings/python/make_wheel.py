@@ -1,3 +1,4 @@
+#!/usr/bin/env python3
 """Makes a wheel of the package with the library inside, by nothing but Python's own modules:
 
     make_wheel.py LIBGOB.SO.1 FOLDER
@@ -40,4 +41,6 @@ def main(library, folder):
 
 
 if __name__ == "__main__":
-    main(*sys.argv[1:3])
+    if len(sys.argv) != 3:
+        sys.exit(__doc__)
+    main(*sys.argv[1:])

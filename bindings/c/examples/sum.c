@@ -1,4 +1,4 @@
-/* Sums a field of the structs in a gob stream, where it is an int: sum FIELD <STREAM
+/* Sums a field of the structs in a gob stream, where it is an int: sum FIELD <STREAM. The sum wraps around.
  *
  *     cc sum.c $(pkg-config --cflags --libs gob) -o sum
  */
@@ -29,7 +29,7 @@ static int64_t field_of(gob_reader *reader, const gob_item *value, const char *n
 int main(int argc, char **argv) {
     unsigned char piece[65536];
     size_t count;
-    int64_t sum = 0;
+    uint64_t sum = 0;
     gob_fault fault;
     gob_item item;
     if (argc != 2) return fprintf(stderr, "usage: sum FIELD <STREAM\n"), 2;
@@ -37,11 +37,11 @@ int main(int argc, char **argv) {
     while (fault.status == GOB_OK && (count = fread(piece, 1, sizeof piece, stdin)) > 0) {
         gob_feed(reader, piece, count, &fault);
         while (gob_next(reader, &item) == 1) {
-            if (item.kind == GOB_VALUE) sum += field_of(reader, &item, argv[1]);
+            if (item.kind == GOB_VALUE) sum += (uint64_t)field_of(reader, &item, argv[1]);
         }
     }
     if (fault.status == GOB_OK) gob_finish(reader, &fault);
     gob_close(reader);
-    printf("%" PRId64 "\n", sum);
+    printf("%" PRId64 "\n", (int64_t)sum);
     return fault.status != GOB_OK;
 }

@@ -1,4 +1,4 @@
-/* threads N <STREAM: the stream by N readers in N threads at once, each in pieces of another size. */
+/* threads N <STREAM: the stream by N readers in N threads at once, each in pieces of another size. All find as many items. */
 #include "../gob.h"
 
 #include <pthread.h>
@@ -29,12 +29,15 @@ int main(int argc, char **argv) {
     pthread_t *threads = calloc(n, sizeof *threads);
     for (size_t i = 0; i < n; i++)
         if (pthread_create(&threads[i], NULL, run, (void *)i) != 0) return 1;
+    size_t first = 0, differ = 0;
     for (size_t i = 0; i < n; i++) {
         void *items;
         pthread_join(threads[i], &items);
+        if (i == 0) first = (size_t)items;
+        if ((size_t)items != first) differ++;
         printf("%zu%c", (size_t)items, i + 1 < n ? ' ' : '\n');
     }
     free(threads);
     free(bytes);
-    return 0;
+    return first == 0 || differ != 0;
 }

@@ -1,4 +1,4 @@
-/* What crates/gob_vectors does, by the library, so that its output can be compared with what that writes. */
+/* What crates/gob_show_many does, by the library, so that its output can be compared with what that writes. */
 #define main show_main
 #include "show.c"
 #undef main

@@ -33,10 +33,37 @@ __all__ = ["Field", "Limits", "Opaque", "Pairs", "Reader", "Reason", "Refused", 
            "iter_items", "iter_values", "load", "loads"]
 
 Source = Union[str, "os.PathLike[str]", bytes, bytearray, memoryview, BinaryIO, Iterable[bytes]]
+_Made = Callable[[Type, Iterator[Any]], Iterable[Any]]
 
-Reason = IntEnum("Reason", [library.gob_reason_name(n).decode() for n in range(1, 23)])
+
+class Reason(IntEnum):
+    """Why bytes are no gob stream: see docs/FORMAT.md, Refusals."""
+
+    BadHead = 1
+    NotMinimal = 2
+    ItemTooLong = 3
+    StreamTooLong = 4
+    Short = 5
+    Extra = 6
+    ReservedType = 7
+    DefinedTwice = 8
+    TooManyTypes = 9
+    UndefinedType = 10
+    Bottomless = 11
+    SingleTag = 12
+    Bool = 13
+    ArrayCount = 14
+    FieldNumber = 15
+    InterfaceValue = 16
+    TooDeep = 17
+    KindCount = 18
+    WrongId = 19
+    BadReference = 20
+    BadLength = 21
+    Ended = 22
+
+
 _SPEAK_OF_A_TYPE = (Reason.ReservedType, Reason.DefinedTwice, Reason.UndefinedType, Reason.Bottomless)
-Reason.__doc__ = "Why bytes are no gob stream: see docs/FORMAT.md, Refusals."
 
 
 class Limits(NamedTuple):
@@ -63,7 +90,7 @@ class Refused(ValueError):
         self.path: str | None = None
         self.values: list[Any] = []
 
-    def __reduce__(self):
+    def __reduce__(self) -> tuple[Any, ...]:
         return Refused, (self.reason, self.place, self.seen, self.type), {"path": self.path, "values": self.values}
 
 
@@ -75,7 +102,7 @@ class Summary(NamedTuple):
     bytes: int
 
 
-class Values(list):
+class Values(list[Any]):
     """The values of a stream, and its types by their ids."""
 
     types: Mapping[int, Type]
@@ -85,7 +112,8 @@ class Reader:
     """Takes a stream piece by piece: `feed` gives the values that are whole, `finish` says that no byte follows.
 
     `structs` is "dict" or "namedtuple". With `zeros` an absent field has its zero value. With `tagged` a dict has the
-    name of its struct's type under that key, first. `opaque` is called with each `Opaque`, and gives what stands for it.
+    name of its struct's type under that key, first. `opaque` is called with each `Opaque`, and gives what stands for
+    it.
 
     A reader stays on the thread that made it, and is let go of there: by `close`, as a context manager, or with its
     last reference. Readers in several threads are independent of each other.
@@ -93,7 +121,7 @@ class Reader:
 
     def __init__(self, *, limits: Limits | None = None, structs: str = "dict", zeros: bool = False,
                  tagged: str | None = None, opaque: Callable[[Opaque], Any] | None = None):
-        self._handle = None
+        self._handle: int | None = None
         self._fault = Fault()
         chosen = None if limits is None else ctypes.byref(_Limits(*limits))
         self._handle = library.gob_open(chosen, ctypes.byref(self._fault))
@@ -130,7 +158,7 @@ class Reader:
         """
         return self._fed(piece, _typed)
 
-    def _fed(self, piece, made: Callable[[Type, Iterator[Any]], Iterable[Any]]) -> list[Any]:
+    def _fed(self, piece: bytes | bytearray | memoryview, made: _Made) -> list[Any]:
         data = piece if isinstance(piece, bytes) else bytes(piece)  # by ctypes no other read-only buffer goes
         library.gob_feed(self._open(), data, len(data), ctypes.byref(self._fault))
         taken = self._taken(made)
@@ -146,13 +174,14 @@ class Reader:
         library.gob_finish(self._open(), ctypes.byref(self._fault))
         _raise(self._fault)
 
-    def _open(self):
+    def _open(self) -> int:
         if not self._handle:
             raise ValueError("the reader is closed")
         return self._handle
 
-    def _taken(self, made: Callable[[Type, Iterator[Any]], Iterable[Any]]) -> list[Any]:
-        batch, decoder, taken = Batch(), self._decoder, []
+    def _taken(self, made: _Made) -> list[Any]:
+        batch, decoder = Batch(), self._decoder
+        taken: list[Any] = []
         while (some := library.gob_take(self._handle, ctypes.byref(batch))) == 1:
             heads = _copied(batch.heads, 48 * batch.items).cast("Q")
             nodes = ctypes.string_at(batch.nodes, 32 * batch.node_count)
@@ -210,7 +239,7 @@ def _bare(type: Type, values: Iterator[Any]) -> Iterator[Any]:
 
 
 def _copied(at: int | None, size: int) -> memoryview:
-    return memoryview(ctypes.string_at(at, size) if size else b"")
+    return memoryview(ctypes.string_at(at, size) if at is not None and size else b"")
 
 
 def _type_from(id: int, words: list[int], names: bytes) -> Type:
@@ -252,7 +281,7 @@ def iter_values(source: Source, **options: Any) -> Iterator[Any]:
     return _each(source, _bare, **options)
 
 
-def _each(source: Any, made: Any, *, piece: int = 65536, **options: Any) -> Iterator[Any]:
+def _each(source: Source, made: _Made, *, piece: int = 65536, **options: Any) -> Iterator[Any]:
     with Reader(**options) as reader:
         try:
             for part in _pieces(source, piece):

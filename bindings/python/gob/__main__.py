@@ -2,6 +2,7 @@
 from __future__ import annotations
 
 import argparse
+import os
 import sys
 
 import gob
@@ -24,10 +25,15 @@ def main() -> int:
         else:
             for value in gob.iter_values(source, zeros=words.zeros, opaque=gob.go.known):
                 print(value)
+        sys.stdout.flush()
     except gob.Refused as refused:
         sys.stdout.flush()
         print(f"gob: {refused}", file=sys.stderr)
         return 1
+    except BrokenPipeError:
+        # whoever closed the pipe has what they wanted; so that nothing more is written at the end
+        os.dup2(os.open(os.devnull, os.O_WRONLY), sys.stdout.fileno())
+        return 2
     except OSError as error:
         print(f"gob: {error}", file=sys.stderr)
         return 2

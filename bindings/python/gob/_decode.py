@@ -13,6 +13,7 @@ from typing import Any, Callable, NamedTuple
 from ._types import Type
 
 _double = struct.Struct("<d").unpack
+_Decode = Callable[[int, int], Any]
 
 
 class Opaque(NamedTuple):
@@ -23,7 +24,7 @@ class Opaque(NamedTuple):
     data: bytes
 
 
-class Pairs(list):
+class Pairs(list[Any]):
     """The keys and elements of a map that can't be a dict: a key isn't hashable, or is there twice."""
 
 
@@ -46,7 +47,7 @@ class Decoder:
         self.reals: list[float] = []
         self.pool: list[bytes] = [b""]
         self.text: list[str | None] = [None]
-        self.made: dict[int, Callable[[int, int], Any]] = {}
+        self.made: dict[int, _Decode] = {}
 
     def fill(self, nodes: bytes, pool: bytes) -> None:
         """Takes the next batch: its nodes, four words each, and its bytes."""
@@ -58,7 +59,7 @@ class Decoder:
         self.pool[0] = pool
         self.text[0] = pool.decode("ascii") if pool.isascii() else None
 
-    def of(self, id: int) -> Callable[[int, int], Any]:
+    def of(self, id: int) -> _Decode:
         """The decoder of a type."""
         made = self.made.get(id)
         if made is None:
@@ -71,37 +72,37 @@ class Decoder:
                 made = self.made[id] = self._make(self.shape_of(id))
         return made
 
-    def _basic(self, id: int):
+    def _basic(self, id: int) -> _Decode | None:
         first, second, reals, pool, text = self.first, self.second, self.reals, self.pool, self.text
 
-        def truth(i, base):
+        def truth(i: int, base: int) -> bool:
             return first[i] == 1
 
-        def integer(i, base):
+        def integer(i: int, base: int) -> int:
             x = first[i]
             return (x >> 1) ^ -(x & 1)
 
-        def unsigned(i, base):
+        def unsigned(i: int, base: int) -> int:
             return first[i]
 
-        def real(i, base):
+        def real(i: int, base: int) -> float:
             return reals[i]
 
-        def raw(i, base):
+        def raw(i: int, base: int) -> bytes:
             at = base + first[i]
             return pool[0][at:at + second[i]]
 
-        def string(i, base):
+        def string(i: int, base: int) -> str:
             at = base + first[i]
             known = text[0]
             if known is not None:
                 return known[at:at + second[i]]
             return pool[0][at:at + second[i]].decode("utf-8", "surrogateescape")
 
-        def imaginary(i, base):
+        def imaginary(i: int, base: int) -> complex:
             return complex(reals[i], _double(second[i].to_bytes(8, "little"))[0])
 
-        def nil(i, base):
+        def nil(i: int, base: int) -> None:
             return None
 
         return {1: truth, 2: integer, 3: unsigned, 4: real, 5: raw, 6: string, 7: imaginary, 8: nil}.get(id)
@@ -109,7 +110,7 @@ class Decoder:
     def _is_leaf(self, id: int) -> bool:
         return id <= 8 or self.shape_of(id).kind == "opaque"
 
-    def _make(self, shape: Type):
+    def _make(self, shape: Type) -> _Decode:
         if shape.kind == "struct":
             return self._struct(shape)
         if shape.kind == "map":
@@ -118,26 +119,26 @@ class Decoder:
             return self._opaque(shape)
         return self._list(shape)
 
-    def _opaque(self, shape: Type):
+    def _opaque(self, shape: Type) -> _Decode:
         first, second, pool, explain = self.first, self.second, self.pool, self.options.opaque
         name, marshal = shape.name, shape.marshal
 
-        def opaque(i, base):
+        def opaque(i: int, base: int) -> Any:
             at = base + first[i]
             value = Opaque(name, marshal, pool[0][at:at + second[i]])
             return value if explain is None else explain(value)
 
         return opaque
 
-    def _list(self, shape: Type):
+    def _list(self, shape: Type) -> _Decode:
         first, second = self.first, self.second
         element = self.of(shape.elem)
         if self._is_leaf(shape.elem):
-            def flat(i, base):
+            def flat(i: int, base: int) -> list[Any]:
                 return [element(k, base) for k in range(i + 1, i + second[i])]
             return flat
 
-        def nested(i, base):
+        def nested(i: int, base: int) -> list[Any]:
             end, k, out = i + second[i], i + 1, []
             while k < end:
                 out.append(element(k, base))
@@ -146,12 +147,12 @@ class Decoder:
 
         return nested
 
-    def _map(self, shape: Type):
+    def _map(self, shape: Type) -> _Decode:
         first, second = self.first, self.second
         key, element = self.of(shape.key), self.of(shape.elem)
         key_leaf, leaf = self._is_leaf(shape.key), self._is_leaf(shape.elem)
 
-        def entries(i, base):
+        def entries(i: int, base: int) -> dict[Any, Any] | Pairs:
             end, k, out = i + second[i], i + 1, []
             while k < end:
                 name = key(k, base)
@@ -166,14 +167,14 @@ class Decoder:
 
         return entries
 
-    def _struct(self, shape: Type):
+    def _struct(self, shape: Type) -> _Decode:
         number, second, zeros = self.number, self.second, self.options.zeros
         names = shape.names
         fields = [(name, self.of(field.type), self._is_leaf(field.type)) for name, field in zip(names, shape.fields)]
         fresh = [(name, self.zero(field.type)) for name, field in zip(names, shape.fields)] if zeros else []
         tag = {} if self.options.tagged is None else {self.options.tagged: shape.name}
 
-        def present(i, base):
+        def present(i: int, base: int) -> dict[str, Any]:
             end, k, out = i + second[i], i + 1, tag.copy()
             while k < end:
                 name, decode, leaf = fields[number[k]]
@@ -181,7 +182,7 @@ class Decoder:
                 k += 1 if leaf else second[k]
             return out
 
-        def filled(i, base):
+        def filled(i: int, base: int) -> dict[str, Any]:
             end, k, out = i + second[i], i + 1, {**tag, **{name: zero() for name, zero in fresh}}
             while k < end:
                 name, decode, leaf = fields[number[k]]
@@ -191,10 +192,11 @@ class Decoder:
 
         if self.options.structs == "dict":
             return filled if zeros else present
-        kind = namedtuple(shape.name if shape.name.isidentifier() and not keyword.iskeyword(shape.name) else "Struct",
-                          names, rename=True, defaults=(None,) * len(names))
+        named: Callable[..., Any] = namedtuple
+        kind = named(shape.name if shape.name.isidentifier() and not keyword.iskeyword(shape.name) else "Struct",
+                     names, rename=True, defaults=(None,) * len(names))
 
-        def as_tuple(i, base):
+        def as_tuple(i: int, base: int) -> Any:
             end, k = i + second[i], i + 1
             out = [zero() for _, zero in fresh] if zeros else [None] * len(names)
             while k < end:

@@ -6,6 +6,7 @@ import ctypes
 import ctypes.util
 import os
 import pathlib
+from typing import Any, Iterator
 
 ABI = 1  # GOB_ABI of gob.h
 
@@ -58,7 +59,7 @@ class Item(ctypes.Structure):
                 ("count", ctypes.c_size_t), ("bytes", ctypes.c_void_p), ("size", ctypes.c_size_t)]
 
 
-def _candidates():
+def _candidates() -> Iterator[str]:
     named = os.environ.get("GOB_LIBRARY")
     if named:
         yield named
@@ -70,7 +71,7 @@ def _candidates():
     yield "libgob.so.1"
 
 
-def _load():
+def _load() -> ctypes.CDLL:
     tried = []
     for name in _candidates():
         try:
@@ -87,7 +88,7 @@ def _load():
 
 library = _load()
 _reader, _fault = ctypes.c_void_p, ctypes.POINTER(Fault)
-for _name, _result, *_words in [
+_calls: list[tuple[Any, ...]] = [
     ("gob_open", _reader, ctypes.POINTER(Limits), _fault),
     ("gob_feed", ctypes.c_int, _reader, ctypes.c_void_p, ctypes.c_size_t, _fault),
     ("gob_finish", ctypes.c_int, _reader, _fault),
@@ -97,6 +98,7 @@ for _name, _result, *_words in [
     ("gob_check", ctypes.c_int, ctypes.c_char_p, ctypes.c_size_t, ctypes.POINTER(Limits), ctypes.POINTER(Counts),
      _fault),
     ("gob_reason_name", ctypes.c_char_p, ctypes.c_uint32),
-]:
+]
+for _name, _result, *_words in _calls:
     _function = getattr(library, _name)
     _function.restype, _function.argtypes = _result, _words

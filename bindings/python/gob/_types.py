@@ -2,7 +2,7 @@
 from __future__ import annotations
 
 from dataclasses import dataclass
-from typing import Mapping, NamedTuple
+from typing import Callable, Mapping, NamedTuple, Sequence
 
 BASIC = {1: "bool", 2: "int", 3: "uint", 4: "float64", 5: "[]byte", 6: "string", 7: "complex128", 8: "interface{}"}
 MARSHAL = {1: "GobEncode", 2: "MarshalBinary", 3: "MarshalText"}
@@ -63,10 +63,10 @@ def go_name(id: int, types: Mapping[int, Type]) -> str:
     return known.name or f"type{id}"
 
 
-def type_of(id: int, nodes, text) -> Type:
+def type_of(id: int, nodes: Sequence[Sequence[int]], text: Callable[[int, int], str]) -> Type:
     """The type that a definition's nodes give: a list of (number, first, second, kind), and what gives a name."""
-    number, first, second, kind = nodes[0]
-    name, kind, rest = text(first, second), _KINDS[kind], nodes[1:]
+    number, first, second, word = nodes[0]
+    name, kind, rest = text(first, second), _KINDS[word], nodes[1:]
     if kind == "struct":
         return Type(id, name, kind, fields=tuple(Field(text(f, s), n) for n, f, s, _ in rest))
     if kind == "map":

@@ -9,40 +9,51 @@ objects, as `gob.load` gives them, and None where they are absent, but for text 
 from __future__ import annotations
 
 import ctypes
-from typing import Any
+from typing import TYPE_CHECKING, Any
 
 import numpy as np
 
-from . import Reader, Type, _pieces, _raise
+from . import Reader, Refused, Type, _path, _pieces, _raise
 from ._library import Batch, library
+
+if TYPE_CHECKING:
+    _Array = np.ndarray[Any, Any]
 
 _HEAD = np.dtype([("id", "<u8"), ("node", "<u8"), ("nodes", "<u8"), ("byte", "<u8"), ("bytes", "<u8"), ("kind", "<u8")])
 _NODE = np.dtype([("number", "<u8"), ("first", "<u8"), ("second", "<u8"), ("kind", "<u4"), ("named", "<u4")])
 _DTYPES = {1: np.dtype(bool), 2: np.dtype("<i8"), 3: np.dtype("<u8"), 4: np.dtype("<f8"), 7: np.dtype("<c16")}
 
 
-def load(source: Any, *, piece: int = 1 << 20, **options: Any) -> dict[str, dict[str, np.ndarray]]:
+def load(source: Any, *, piece: int = 1 << 20, **options: Any) -> dict[str, dict[str, _Array]]:
     """The columns of each struct type of which the stream has values, by the type's name.
 
     Two types of one name are told apart by their ids, as "Name" and "Name#70". Values that aren't structs are left out.
     """
-    parts: dict[int, list[dict[str, np.ndarray]]] = {}
+    parts: dict[int, list[dict[str, _Array]]] = {}
     with Reader(zeros=True, **options) as reader:
-        batch = Batch()
-        for data in _pieces(source, piece):
-            library.gob_feed(reader._handle, data, len(data), ctypes.byref(reader._fault))
-            while (some := library.gob_take(reader._handle, ctypes.byref(batch))) == 1:
-                _add(reader, batch, parts)
-            if some < 0:
-                raise MemoryError
-            _raise(reader._fault)
-        reader.finish()
-        named: dict[str, dict[str, np.ndarray]] = {}
+        try:
+            _read(reader, source, piece, parts)
+        except Refused as refused:
+            refused.path = _path(source)
+            raise
+        named: dict[str, dict[str, _Array]] = {}
         for id, chunks in parts.items():
             name = reader._type(id).name
             key = name if name not in named else f"{name}#{id}"
             named[key] = {field: np.concatenate([chunk[field] for chunk in chunks]) for field in chunks[0]}
         return named
+
+
+def _read(reader: Reader, source: Any, piece: int, parts: dict[int, list[dict[str, _Array]]]) -> None:
+    batch = Batch()
+    for data in map(bytes, _pieces(source, piece)):
+        library.gob_feed(reader._handle, data, len(data), ctypes.byref(reader._fault))
+        while (some := library.gob_take(reader._handle, ctypes.byref(batch))) == 1:
+            _add(reader, batch, parts)
+        if some < 0:
+            raise MemoryError
+        _raise(reader._fault)
+    reader.finish()
 
 
 def frames(source: Any, **options: Any) -> dict[str, Any]:
@@ -52,7 +63,7 @@ def frames(source: Any, **options: Any) -> dict[str, Any]:
     return {name: pandas.DataFrame(columns) for name, columns in load(source, **options).items()}
 
 
-def _add(reader: Reader, batch: Batch, parts: dict[int, list[dict[str, np.ndarray]]]) -> None:
+def _add(reader: Reader, batch: Batch, parts: dict[int, list[dict[str, _Array]]]) -> None:
     heads = np.frombuffer(ctypes.string_at(batch.heads, 48 * batch.items), _HEAD)
     copied = ctypes.string_at(batch.nodes, 32 * batch.node_count)
     nodes = np.frombuffer(copied, _NODE)
@@ -78,7 +89,8 @@ def _add(reader: Reader, batch: Batch, parts: dict[int, list[dict[str, np.ndarra
         parts.setdefault(id, []).append(_columns(reader, shape, nodes, heads, item, row_of, places, int(mine.sum())))
 
 
-def _columns(reader, shape: Type, nodes, heads, item, row_of, places, rows: int) -> dict[str, np.ndarray]:
+def _columns(reader: Reader, shape: Type, nodes: _Array, heads: _Array, item: _Array, row_of: _Array, places: _Array,
+             rows: int) -> dict[str, _Array]:
     numbers = nodes["number"][places]
     columns = {}
     for number, (name, field) in enumerate(zip(shape.names, shape.fields)):
@@ -98,7 +110,7 @@ def _columns(reader, shape: Type, nodes, heads, item, row_of, places, rows: int)
     return columns
 
 
-def _objects(values: list[Any]) -> np.ndarray:
+def _objects(values: list[Any]) -> _Array:
     out = np.empty(len(values), object)
     out[:] = values if not values or not isinstance(values[0], (list, tuple)) else None
     if values and isinstance(values[0], (list, tuple)):
@@ -107,9 +119,10 @@ def _objects(values: list[Any]) -> np.ndarray:
     return out
 
 
-def _numbers(id: int, first, second):
+def _numbers(id: int, first: _Array, second: _Array) -> _Array:
     if id == 1:
-        return first == 1
+        truths: _Array = first == 1
+        return truths
     if id == 2:
         return (first >> np.uint64(1)).astype(np.int64) ^ -(first & np.uint64(1)).astype(np.int64)
     if id == 4:
@@ -119,7 +132,7 @@ def _numbers(id: int, first, second):
     return first
 
 
-def _depths(nodes, is_value) -> np.ndarray:
+def _depths(nodes: _Array, is_value: _Array) -> _Array:
     """How deep each node lies in its item, the whole value at 0."""
     groups = np.flatnonzero(is_value & (nodes["kind"] >= 9) & (nodes["kind"] <= 11))
     change = np.zeros(len(nodes) + 1, np.int64)

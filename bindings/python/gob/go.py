@@ -83,7 +83,7 @@ def big_float(value: Opaque) -> Fraction | float:
     if form == 1:
         if len(data) < 10:
             raise ValueError("no big.Float")
-        power = struct.unpack(">i", data[6:10])[0] - 8 * (len(data) - 10)
+        power: int = struct.unpack(">i", data[6:10])[0] - 8 * (len(data) - 10)
         digits = _signed(int.from_bytes(data[10:], "big"), negative)
         return Fraction(digits) * Fraction(2) ** power
     if form > 2 or len(data) != 6:

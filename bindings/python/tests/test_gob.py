@@ -14,6 +14,7 @@ import os
 import pathlib
 import pickle
 import struct
+import subprocess
 import sys
 import tempfile
 import threading
@@ -157,6 +158,11 @@ class Values(unittest.TestCase):
             gob.loads(POINT[:36])
         self.assertEqual(str(caught.exception), "refused 22 Ended at 36 seen 36")
 
+    def test_the_reasons_are_those_of_the_library(self):
+        names = [gob._library.library.gob_reason_name(number).decode() for number in range(1, 24)]
+        self.assertEqual(names, [reason.name for reason in gob.Reason] + [""])
+        self.assertEqual([int(reason) for reason in gob.Reason], list(range(1, 23)))
+
     def test_after_a_fault(self):
         with gob.Reader() as reader:
             with self.assertRaises(gob.Refused):
@@ -203,6 +209,14 @@ class Values(unittest.TestCase):
                 with mock.patch.object(sys, "argv", ["gob", *words, str(path)]), contextlib.redirect_stdout(said):
                     self.assertEqual(gob.__main__.main(), 0)
                 self.assertEqual(said.getvalue(), due)
+
+    def test_a_closed_pipe_ends_the_command(self):
+        read, written = os.pipe()
+        os.close(read)
+        words = [sys.executable, "-m", "gob"]
+        ran = subprocess.run(words, input=POINT, stdout=written, stderr=subprocess.PIPE, check=False)
+        os.close(written)
+        self.assertEqual((ran.returncode, ran.stderr), (2, b""))
 
     def test_any_cut(self):
         whole = gob.loads(POINT)
@@ -264,6 +278,17 @@ class Columns(unittest.TestCase):
                     # an absent list or map is None in a column
                     due = [None if value[field] in ([], {}) else value[field] for value in values]
                     self.assertEqual(column.tolist(), due, (name, struct, field))
+
+    def test_a_refused_file_is_named(self):
+        import gob.columns
+
+        self.assertEqual(gob.columns.load([bytearray(POINT)])["Point"]["Y"].tolist(), [33])
+        with tempfile.TemporaryDirectory() as folder:
+            path = pathlib.Path(folder) / "cut.gob"
+            path.write_bytes(POINT[:-1])
+            with self.assertRaises(gob.Refused) as caught:
+                gob.columns.load(path)
+        self.assertEqual(caught.exception.path, str(path))
 
 
 class Layout(unittest.TestCase):

@@ -3,24 +3,28 @@
 //! `gob show [IN]` reads the file IN, or standard input without one, and prints a line of JSON for each item on
 //! standard output. `gob check [IN]` prints one line that says how much there is in a whole stream.
 //! `gob take WANTED [IN]` receives each value of IN as one of the type of the first value in the file WANTED, and
-//! prints a line for each. `gob help` says the rest. Where the program stops at a fault, it prints a line on standard
-//! error. Its exit status is 0 for a whole stream and for help, 1 for an input that is no stream or has values that
-//! don't match, and 2 for all else.
+//! prints a line for each. `gob values [IN]` prints each value as plain JSON, `gob types [IN]` the types as Go source,
+//! and `gob version` the version. `gob help` says the rest. Where the program stops at a fault, it prints a line on
+//! standard error. Its exit status is 0 for a whole stream and for help, 1 for an input that is no stream or has values
+//! that don't match, and 2 for all else.
 #![tactic(auto)]
 
-ghost use Rattle.std.specs.Prelude.{◌≡◌, ◌≢◌, ℕ, List, [], Some, IfOk, IsTrue, MatchResult};
+ghost use Rattle.std.specs.Prelude.{◌≡◌, ◌≢◌, ℕ, List, [], Some, IfOk, IsErrAnd, IsTrue, MatchResult};
 ghost use Rattle.std.specs.Io.Buffered.{writer_contents};
 ghost use Rattle.std.specs.Io.KnownBytes.{append_known};
 ghost use Rattle.std.specs.Process.{exit_status};
+ghost use Rattle.gob_stream.specs.Ends.{writer_of};
 ghost use Rattle.gob_tool.specs.declared.fault.ToolFault.TheVariants as fault;
-ghost use Rattle.gob.specs.Stop.{stop_status, ending_status, HasAnswered, EndsRun, IsAnswered};
+ghost use Rattle.gob.specs.Stop.{stop_status, ending_status, HasAnswered, EndsRun, EndsView, IsAnswered, IsSettled};
+ghost use Rattle.gob.specs.Stop.{IsUnopened};
 
 mod pipe;
 
 use crate::pipe::Pipe;
 use gob_stream::{Input, Output};
 use gob_tool::{ToolFault, run_order, status};
-use gob_words::{Order, OrderFault, order_of};
+use gob_views::run_view;
+use gob_words::{Order, OrderFault, View, ViewFault, escaped, order_of, view_of};
 use std::alloc::{AllocError, Global};
 use std::fs::File;
 use std::io::{BufWriter, ErrorKind, Read, Write};
@@ -35,6 +39,8 @@ const BLOCK: usize = 65536;
 enum Stop {
     Words(OrderFault),
     Run(ToolFault),
+    // What is wrong with the words of a view, or with the file that they name.
+    View(String),
     // Nobody reads what is written any more.
     Unread,
 }
@@ -46,7 +52,7 @@ impl Stop {
         match self {
             Stop::Words(fault) => fault.status(),
             Stop::Run(fault) => status(fault),
-            Stop::Unread => 2,
+            Stop::View(_) | Stop::Unread => 2,
         }
     }
 }
@@ -61,6 +67,7 @@ impl fmt::Display for Stop {
         match self {
             Stop::Words(fault) => write!(f, "{fault}"),
             Stop::Run(fault) => write!(f, "{fault}"),
+            Stop::View(line) => write!(f, "gob: {line}"),
             Stop::Unread => write!(f, "gob: write fault"),
         }
     }
@@ -107,7 +114,17 @@ fn run(rt: &HostRuntime) -> Result<(), Stop> {
         .collect::<Vec<&str>>(rt.alloc())?;
     match order_of(rt.alloc(), &names) {
         Ok(order) => run_for(rt, &order),
+        Err(OrderFault::Words) => run_shown(rt, &names),
         Err(fault) => answer(rt, fault),
+    }
+}
+
+// Judges the words that give no order, and shows what they ask for.
+fn run_shown(rt: &HostRuntime, names: &[&str]) -> Result<(), Stop> {
+    match view_of(rt.alloc(), names) {
+        Ok(view) => run_view_on(rt, &view),
+        Err(ViewFault::Order(fault)) => answer(rt, fault),
+        Err(ViewFault::Word(line)) => Err(Stop::View(line)),
     }
 }
 
@@ -152,6 +169,18 @@ fn run_on<Q: Read + Drop>(rt: &HostRuntime, order: &Order, wanted: Q) -> Result<
     }
 }
 
+// Opens the input of a view, then shows it.
+fn run_view_on(rt: &HostRuntime, view: &View) -> Result<(), Stop> {
+    let writer = buffered(rt.alloc(), rt.stdout())?;
+    match view.input {
+        None => show_out(rt.alloc(), view, rt.stdin(), writer).0,
+        Some(path) => {
+            let file = opened_by_name(rt.alloc(), path, File::open(rt, path))?;
+            show_out(rt.alloc(), view, file, writer).0
+        }
+    }
+}
+
 // A run writes line by line, and each write to the system is dear.
 fn buffered<W: Write + Drop>(alloc: Global, writer: W) -> Result<BufWriter<Pipe<W>>, Stop>
     ensures { IfOk result (λ buffered.
@@ -179,6 +208,25 @@ fn opened(file: io::Result<File>) -> Result<File, Stop>
     file.map_err(|_| Stop::Run(ToolFault::Read))
 }
 
+// A view's file that isn't opened is told by its name, with the system's reason.
+fn opened_by_name(alloc: Global, path: &str, file: io::Result<File>) -> Result<File, Stop>
+    ensures { MatchResult file (λ file. result ≡ Ok file) (λ _. IsErrAnd result IsUnopened) }
+{
+    match file {
+        Ok(file) => Ok(file),
+        Err(error) => match unopened_line(alloc, path, &error) {
+            Ok(line) => Err(Stop::View(line)),
+            Err(_) => Err(Stop::Run(ToolFault::Memory)),
+        },
+    }
+}
+
+// What is said of it.
+fn unopened_line(alloc: Global, path: &str, error: &io::Error) -> Result<String, AllocError> {
+    let line = format!(in alloc; "{path}: {error}")?;
+    escaped(alloc, line.as_str())
+}
+
 // The run reads in large pieces, so that nothing need be kept between it and the readers. The writer is given back, as
 // the run left it: no buffer is dropped that would write again behind a failed write.
 fn carry_out<Q: Read + Drop, R: Read + Drop, W: Write + Drop>(
@@ -196,6 +244,34 @@ fn carry_out<Q: Read + Drop, R: Read + Drop, W: Write + Drop>(
     let mut input = Input::new(reader);
     let mut output = Output::new(writer);
     let answer = run_order(alloc, order, &mut wanted, &mut input, &mut output);
+    settled(answer, output)
+}
+
+// The run of a view, as that of an order.
+fn show_out<R: Read + Drop, W: Write + Drop>(
+    alloc: Global,
+    view: &View,
+    reader: R,
+    writer: BufWriter<Pipe<W>>,
+) -> (Result<(), Stop>, W)
+    ensures { (bytes : List ℕ) → R.remaining reader ≡ Some bytes
+        → EndsView view.now bytes (writer_contents (λ pipe. W.contents pipe.writer) writer)
+        (W.contents result.1) result.0 }
+{
+    let mut viewed = Input::new(reader);
+    let mut output = Output::new(writer);
+    let answer = run_view(alloc, view, &mut viewed, &mut output);
+    settled(answer, output)
+}
+
+// What comes of a run that answered this, and the writer behind what it wrote to.
+fn settled<W: Write + Drop>(
+    answer: Result<(), ToolFault>,
+    output: Output<BufWriter<Pipe<W>>>,
+) -> (Result<(), Stop>, W)
+    ensures { IsSettled answer
+        (writer_contents (λ pipe. W.contents pipe.writer) (writer_of output)) (W.contents result.1) result.0 }
+{
     let (pipe, unwritten) = output.into_inner().into_parts();
     let answer = but_for_lost(answer, &unwritten);
     let ending = ended(answer, pipe.is_closed());

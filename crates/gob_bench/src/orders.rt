@@ -54,7 +54,7 @@ pub(crate) enum Order {
     Endless,
     /// A ring of which each type names one of its own that comes later, which names the ring's first.
     Exits,
-    /// The same, where the last one's comes first.
+    /// Such a ring, where the last one's comes first.
     ExitsBack,
 }
 

@@ -12,7 +12,7 @@ use Rattle.gob_read.specs.Expects.{ExpectsTop}
 use Rattle.gob_read.specs.Viable.{IsShallow}
 use Rattle.gob_read.proofs.Grammar.Deep.{expects_top_within, within_shallow}
 use Rattle.gob_read.proofs.Grammar.Onward.{shallow_before}
-use Rattle.gob_read.proofs.Grammar.Fronts.{append_nil}
+use Rattle.gob_read.proofs.Grammar.Prefixes.{append_nil}
 use Rattle.gob_stream.specs.Bounds.{Bounds}
 use Rattle.gob_filled.specs.Filled.{cut, Definitions, Filled, Fillings, AreSegments, last_segment, next_segment}
 use Rattle.gob_filled.specs.Filled.{AreDefined}
@@ -73,16 +73,16 @@ split_end p q s e o l = record {
 
 record Later (p q s x : List ℕ) : Type 0 where
   pub tail : List ℕ
-  pub front : s ≡ p ++ tail
+  pub prefix : s ≡ p ++ tail
   pub back : q ≡ tail ++ (cut ∷ x)
 
 later : (p q s x : List ℕ) → AreBytes p → p ++ q ≡ s ++ (cut ∷ x) → Later p q s x
-later [] q s x o e = record { tail = s; front = refl; back = e }
+later [] q s x o e = record { tail = s; prefix = refl; back = e }
 later (a ∷ p) q [] x o e = absurd (let h = (cons_inj e).0 in let l = o.0 in omega arith)
 later (a ∷ p) q (b ∷ s) x o e =
     let h = cons_inj e in
     let r = later p q s x o.1 h.1 in
-    record { tail = r.tail; front = two (sym h.0) r.front; back = r.back }
+    record { tail = r.tail; prefix = two (sym h.0) r.prefix; back = r.back }
   where
     two : {x y : ℕ} {l k : List ℕ} → x ≡ y → l ≡ k → x ∷ l ≡ y ∷ k
     two e f = cc
@@ -94,10 +94,10 @@ split {M = M} {at = at} {end = end} p q o e (with_more {ls = ls} {f = f} s r l m
     let k = later p q s ls o e in
     record {
       rest = k.tail ++ f;
-      whole = ap (λ (x : List ℕ). x ++ f) k.front ∙ append_assoc p k.tail f;
+      whole = ap (λ (x : List ℕ). x ++ f) k.prefix ∙ append_assoc p k.tail f;
       continues = subst (λ q. Continues M (at + length p) end q (k.tail ++ f)) (sym k.back)
-          (with_more k.tail (bytes_rest p k.tail (subst AreBytes k.front r))
-          (omega (arith, ap length k.front, length-append p k.tail)) m);
+          (with_more k.tail (bytes_rest p k.tail (subst AreBytes k.prefix r))
+          (omega (arith, ap length k.prefix, length-append p k.tail)) m);
     }
 
 record Cut (M : List ℕ → List ℕ → Type 0) (at end : ℕ) (b q g : List ℕ) : Type 0 where
@@ -111,7 +111,7 @@ at_cut : {M : List ℕ → List ℕ → Type 0} {at end : ℕ} {ms g : List ℕ}
 at_cut b q o e (to_the_end s r l) = no_cut b q (subst AreBytes (sym e) r)
 at_cut {M = M} {at = at} {end = end} b q o e (with_more {ls = ls} {f = f} s r l m) =
     let k = later b (cut ∷ q) s ls o e in
-    by k.tail k.front k.back
+    by k.tail k.prefix k.back
   where
     by : (t : List ℕ) → s ≡ b ++ t → cut ∷ q ≡ t ++ (cut ∷ ls) → Cut M at end b q (s ++ f)
     by [] h j = record {

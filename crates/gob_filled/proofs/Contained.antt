@@ -2,7 +2,7 @@
 use Rattle.std.proofs.Common.{◌≡◌, ◌≢◌, ℕ, zero, suc, pos, negsuc, ◌+◌, ◌-◌, ◌<◌, ◌≤◌, ◌⊎◌, inl, inr, List, [], ◌∷◌}
 use Rattle.std.proofs.Common.{◌++◌, length}
 use Rattle.std.proofs.Common.{take, Some, None, arith, refl, sym, ap, ◌∙◌, subst, append_assoc, length-append}
-use Rattle.gob_num.specs.Unsigned.{IsUnsigned, AreBytes, IsBadHead, IsNotMinimal, IsUnsignedFront}
+use Rattle.gob_num.specs.Unsigned.{IsUnsigned, AreBytes, IsBadHead, IsNotMinimal, IsUnsignedPrefix}
 use Rattle.gob_num.specs.Signed.{IsSigned, not_negative, negative}
 use Rattle.gob_num.proofs.PublicLaws.{signed_prefix, bytes_rest, bad_head_none, not_minimal_none}
 use Rattle.gob_types.specs.declared.id.TypeId.{TypeId}
@@ -10,8 +10,8 @@ use Rattle.gob_types.specs.declared.reason.Reason.TheVariants as reason
 use Rattle.gob_types.specs.Table.{Table}
 use Rattle.gob_read.specs.Refusal as body
 use Rattle.gob_read.specs.First.{IsFirst}
-use Rattle.gob_read.proofs.Grammar.Firsts.{front_not_number}
-use Rattle.gob_read.proofs.Grammar.Fronts.{append_nil}
+use Rattle.gob_read.proofs.Grammar.Firsts.{prefix_not_number}
+use Rattle.gob_read.proofs.Grammar.Prefixes.{append_nil}
 use Rattle.gob_stream.specs.declared.fault.Refusal.{Refusal}
 use Rattle.gob_stream.specs.Bounds.{Bounds}
 use Rattle.gob_stream.specs.Item.{StreamItem}
@@ -69,8 +69,8 @@ behind_bad {y = y} h u n q e (not_negative s) may = bad_head_none y h [] q s (ap
 behind_minimal : {T : Table} {y : List ℕ} → IsNotMinimal y → NoTypeFollows T y
 behind_minimal {y = y} h u n q e (not_negative s) may = not_minimal_none y h [] q s (append_nil y ∙ e)
 
-behind_front : {T : Table} {y : List ℕ} → IsUnsignedFront y → NoTypeFollows T y
-behind_front h u n q e (not_negative s) may = front_not_number q h s e
+behind_prefix : {T : Table} {y : List ℕ} → IsUnsignedPrefix y → NoTypeFollows T y
+behind_prefix h u n q e (not_negative s) may = prefix_not_number q h s e
 
 behind_id : {T : Table} {y a : List ℕ} {k : ℕ} (z : List ℕ) → y ≡ a ++ z → IsSigned (negsuc k) a → NoTypeFollows T y
 behind_id z e s u n q f t may = pos_negsuc (signed_prefix q z t s (sym f ∙ e)).value
@@ -205,7 +205,7 @@ pub no_type_or_value : {base : Table} {L : Bounds} {T : Table} {offset m : ℕ} 
     → IsSigned (pos t.0) a → MayPut T t → IsFirst T t L.depth (m - length a) z S → A) → (NoTypeFollows T y → A) → A
 no_type_or_value (strict.bad_head h) found none = none (behind_bad h)
 no_type_or_value (strict.not_minimal h) found none = none (behind_minimal h)
-no_type_or_value (strict.short k h) found none = none (behind_front h)
+no_type_or_value (strict.short k h) found none = none (behind_prefix h)
 no_type_or_value (strict.refused_id z f i sg h) found none = none (behind_id z f sg)
 no_type_or_value (strict.refused_type z f sg h) found none = none (behind_type z f sg (λ may. type_met h may))
 no_type_or_value (strict.refused_value {t = t} {a = a} {R = S} z f sg may h) found none = found t a z S refl f sg may h
@@ -220,7 +220,7 @@ no_whole_definition {y = y} g (strict.bad_head h) w id v U k d =
     no_number (λ c q n p f. bad_head_none y h [] q p (append_nil y ∙ f)) d refl
 no_whole_definition {y = y} g (strict.not_minimal h) w id v U k d =
     no_number (λ c q n p f. not_minimal_none y h [] q p (append_nil y ∙ f)) d refl
-no_whole_definition g (strict.short e h) w id v U k d = no_number (λ c q n p f. front_not_number q h p f) d refl
+no_whole_definition g (strict.short e h) w id v U k d = no_number (λ c q n p f. prefix_not_number q h p f) d refl
 no_whole_definition g (strict.refused_id z f i sg h) w id v U k d = id_met h (same_id_there z f i sg d refl).1
 no_whole_definition g (strict.refused_type z f sg h) w id v U k d = no_type_there z f sg d refl
 no_whole_definition g (strict.refused_value z f sg may h) w id v U k d = no_type_there z f sg d refl

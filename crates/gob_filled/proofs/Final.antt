@@ -3,15 +3,15 @@ use Rattle.std.proofs.Common.{◌≡◌, ℕ, ◌+◌, ◌-◌, ◌≤◌, List,
 use Rattle.std.proofs.Common.{subst, append_assoc, length-append}
 use Rattle.gob_num.specs.Unsigned.{IsUnsigned}
 use Rattle.gob_num.proofs.PublicLaws.{unsigned_prefix, signed_prefix, bad_head_none, not_minimal_none}
-use Rattle.gob_num.proofs.PublicLaws.{bad_head_not_padded, front_not_bad_head, front_not_padded}
+use Rattle.gob_num.proofs.PublicLaws.{bad_head_not_padded, prefix_not_bad_head, prefix_not_padded}
 use Rattle.gob_types.specs.declared.reason.Reason.TheVariants as reason
 use Rattle.gob_types.specs.Table.{Table}
 use Rattle.gob_read.specs.Refusal as body
 use Rattle.gob_read.specs.Refusal.{Refused}
-use Rattle.gob_read.proofs.PublicLaws.{only_extra, given_once, not_allowed_first, front_not_number, append_nil}
+use Rattle.gob_read.proofs.PublicLaws.{only_extra, given_once, not_allowed_first, prefix_not_number, append_nil}
 use Rattle.gob_read.proofs.Grammar.Compare.{whole_meets_top, unmet_once}
 use Rattle.gob_read.proofs.Grammar.Firsts.{not_allowed_not_met}
-use Rattle.gob_read.proofs.Grammar.Fronts.{same_end}
+use Rattle.gob_read.proofs.Grammar.Prefixes.{same_end}
 use Rattle.gob_stream.specs.declared.fault.Refusal.{Refusal}
 use Rattle.gob_stream.specs.Bounds.{Bounds}
 use Rattle.gob_stream.specs.Refusing.{RefusesCount, refuses}
@@ -31,8 +31,8 @@ take_all : (p x : List ℕ) (m : ℕ) → m ≡ length p → take m (p ++ x) ≡
 take_all p x m e = take_past p x m (omega arith) ∙ ap (λ k. p ++ take k x) (let n : m - length p ≡ 0 = omega arith in n)
     ∙ append_nil p
 
-front : (p x w : List ℕ) (m : ℕ) → p ++ x ≡ w → length p ≤ m → take m w ≡ p ++ take (m - length p) x
-front p x w m e l = ap (λ w. take m w) (sym e) ∙ take_past p x m l
+prefix : (p x w : List ℕ) (m : ℕ) → p ++ x ≡ w → length p ≤ m → take m w ≡ p ++ take (m - length p) x
+prefix p x w m e l = ap (λ w. take m w) (sym e) ∙ take_past p x m l
 
 pub whole : (p x w : List ℕ) (m : ℕ) → p ++ x ≡ w → m ≡ length p → take m w ≡ p
 whole p x w m e l = ap (λ w. take m w) (sym e) ∙ take_all p x m l
@@ -42,7 +42,7 @@ fits : {at end m : ℕ} {q c : List ℕ} {R : Refusal} (x : List ℕ) → Refuse
     → at + length c + m ≤ end → ⊥
 fits {q = q} x (bad_head h) u e l = bad_head_none q h [] x u (append_nil q ∙ e)
 fits {q = q} x (not_minimal h) u e l = not_minimal_none q h [] x u (append_nil q ∙ e)
-fits x (short k h) u e l = front_not_number x h u e
+fits x (short k h) u e l = prefix_not_number x h u e
 fits x (too_long r e' u' f) u e l = let p = unsigned_prefix r x u' u (sym e' ∙ e) in let v = p.value in
     let n = ap length p.bytes in omega arith
 
@@ -70,7 +70,7 @@ pub stuck : {base : Table} {L : Bounds} {offset at left : ℕ} {U : Table} {w p 
 stuck {at = at} {w = w} {z = z} x k (in_skeleton {lv = lv} h n pl se re) (by_name {a = a} c s ex dl sh some u fit) e =
     let short : length (c ++ (a ++ s)) ≤ lv.end - at = omega (arith, length-append z (c ++ (a ++ s))) in
     let rest = take (lv.end - at - length (c ++ (a ++ s))) x in
-    let there = ap (λ (l : List ℕ). lv.done ++ l) (front (c ++ (a ++ s)) x w (lv.end - at) e short)
+    let there = ap (λ (l : List ℕ). lv.done ++ l) (prefix (c ++ (a ++ s)) x w (lv.end - at) e short)
     ∙ grouped lv.done c a s rest in
     n (is_interface (given_once h (not_allowed_first (s ++ rest) ex dl sh there u (λ e. omega arith))) refl)
 stuck {at = at} {w = w} {z = z} x k (in_skeleton {lv = lv} {S = S} h n pl se re) (by_end b sp de ends) e =
@@ -85,7 +85,7 @@ stuck {at = at} {w = w} {z = z} x k (short_name {lv = lv} {n = n} {a = a} c r ex
     (by_name {a = a'} c' s ex' dl' sh' some u' fit) e =
     let short : length (c' ++ (a' ++ s)) ≤ lv.end - at = omega (arith, length-append z (c' ++ (a' ++ s))) in
     let rest = take (lv.end - at - length (c' ++ (a' ++ s))) x in
-    let there : c ++ (a ++ r) ≡ c' ++ (a' ++ (s ++ rest)) = sym eq ∙ front (c' ++ (a' ++ s)) x w (lv.end - at) e short
+    let there : c ++ (a ++ r) ≡ c' ++ (a' ++ (s ++ rest)) = sym eq ∙ prefix (c' ++ (a' ++ s)) x w (lv.end - at) e short
     ∙ apart c' a' s rest in
     let one = unmet_once (a ++ r) (a' ++ (s ++ rest)) ex ex' (further lv.done c (a ++ r)
     ∙ ap (λ (l : List ℕ). lv.done ++ l) there ∙ sym (further lv.done c' (a' ++ (s ++ rest))))
@@ -105,7 +105,7 @@ stuck {base = base} {L = L} {at = at} {U = U} {w = w} {z = z} x k (as_in_an_item
 stuck {at = at} {w = w} {z = z} x k (as_in_an_item {lv = lv} h ns)
     (by_type {n = n} {c = c} {u = u} may sg count f l) e =
     let short : length n ≤ lv.end - at = omega (arith, length-append z (n ++ c), length-append n c) in
-    ns.no_type u n (take (lv.end - at - length n) (c ++ x)) (front n (c ++ x) w (lv.end - at)
+    ns.no_type u n (take (lv.end - at - length n) (c ++ x)) (prefix n (c ++ x) w (lv.end - at)
     (sym (append_assoc n c x) ∙ e) short) sg may
 stuck {at = at} {w = w} {z = z} x k (inner_count {lv = lv} {n = n} {q = q} eq sg may h)
     (by_definition {b = b} {c = c} def ends i) e =
@@ -116,7 +116,7 @@ stuck {offset = offset} {at = at} {w = w} {z = z} x k (inner_count {lv = lv} {n 
     (by_type {n = n'} {c = c} {m = m} may' sg' count f l) e =
     let short : length (n' ++ c) ≤ lv.end - at = omega (arith, length-append z (n' ++ c)) in
     let rest = take (lv.end - at - length (n' ++ c)) x in
-    let number = signed_prefix q (c ++ rest) sg sg' (sym eq ∙ front (n' ++ c) x w (lv.end - at) e short
+    let number = signed_prefix q (c ++ rest) sg sg' (sym eq ∙ prefix (n' ++ c) x w (lv.end - at) e short
     ∙ append_assoc n' c rest) in
     let same = ap length number.bytes in
     fits rest h count number.rest (omega (arith, length-append z (n' ++ c), length-append n' c))
@@ -131,19 +131,19 @@ stuck x k (next_count q eq def ends h) (by_type {n = n} {c = c} may sg count f l
 inner_once : {at end : ℕ} {q : List ℕ} {R S : Refusal} → RefusesInner at end q R → RefusesInner at end q S → R ≡ S
 inner_once (bad_head h) (bad_head k) = refl
 inner_once {q = q} (bad_head h) (not_minimal k) = absurd (bad_head_not_padded q h k)
-inner_once (bad_head h) (short e k) = absurd (front_not_bad_head k h)
+inner_once (bad_head h) (short e k) = absurd (prefix_not_bad_head k h)
 inner_once {q = q} (bad_head h) (too_long r e u l) = absurd (bad_head_none q h [] r u (append_nil q ∙ e))
 inner_once {q = q} (not_minimal h) (bad_head k) = absurd (bad_head_not_padded q k h)
 inner_once (not_minimal h) (not_minimal k) = refl
-inner_once (not_minimal h) (short e k) = absurd (front_not_padded k h)
+inner_once (not_minimal h) (short e k) = absurd (prefix_not_padded k h)
 inner_once {q = q} (not_minimal h) (too_long r e u l) = absurd (not_minimal_none q h [] r u (append_nil q ∙ e))
-inner_once (short e k) (bad_head h) = absurd (front_not_bad_head k h)
-inner_once (short e k) (not_minimal h) = absurd (front_not_padded k h)
+inner_once (short e k) (bad_head h) = absurd (prefix_not_bad_head k h)
+inner_once (short e k) (not_minimal h) = absurd (prefix_not_padded k h)
 inner_once (short e k) (short f l) = refl
-inner_once (short e k) (too_long r f u l) = absurd (front_not_number r k u f)
+inner_once (short e k) (too_long r f u l) = absurd (prefix_not_number r k u f)
 inner_once {q = q} (too_long r e u l) (bad_head h) = absurd (bad_head_none q h [] r u (append_nil q ∙ e))
 inner_once {q = q} (too_long r e u l) (not_minimal h) = absurd (not_minimal_none q h [] r u (append_nil q ∙ e))
-inner_once (too_long r e u l) (short f k) = absurd (front_not_number r k u e)
+inner_once (too_long r e u l) (short f k) = absurd (prefix_not_number r k u e)
 inner_once {at = at} (too_long r e u l) (too_long x f v k) = ap
     (λ (c : List ℕ). refuses at (at + length c) reason.ItemTooLong) (unsigned_prefix r x u v (sym e ∙ f)).bytes
 

@@ -31,7 +31,7 @@ use Rattle.gob_filled.specs.Standing.{Level, Next, in_value, Stands, at_value, b
 use Rattle.gob_filled.specs.Standing.{behind_definition}
 use Rattle.gob_filled.specs.Standing.{at_inner, behind_inner}
 use Rattle.gob_filled.specs.Outcome.{RefusesAt, in_skeleton, short_name}
-use Rattle.gob_filled.specs.Honest.{IsCountedIn}
+use Rattle.gob_filled.specs.Honest.{IsCountedFrom}
 
 -- ---- the tables behind definitions, values and items
 
@@ -57,7 +57,7 @@ mutual
   fills_table (next_filled c oc ex l o u ds may i vs g fl) h =
       fills_table fl (value_table vs (definitions_table ds h))
 
-items_table : {L : Bounds} {T U : Table} {offset : ℕ} {list : List FilledItem} {b : List ℕ}
+pub items_table : {L : Bounds} {T U : Table} {offset : ℕ} {list : List FilledItem} {b : List ℕ}
     → AreFilledItems base_table L T offset list b U → IsTable T → IsTable U
 items_table streams.no_more h = h
 items_table (streams.and_then (streams.of_definition n l s d) e is) h = items_table is (definition_table d h)
@@ -65,11 +65,11 @@ items_table (streams.and_then (of_value may sg k cs) e is) h = items_table is (v
 
 -- ---- the tables of levels
 
-record IsOfTable (lv : Level) : Type 0 where
+pub record IsOfTable (lv : Level) : Type 0 where
   pub is_table : IsTable lv.table
   pub ready : IsReady lv.table lv.type
 
-data AreOfTables : List Level → Type 0 where
+pub data AreOfTables : List Level → Type 0 where
   no_level : AreOfTables []
   and_level : {lv : Level} {levels : List Level} → IsOfTable lv → AreOfTables levels → AreOfTables (lv ∷ levels)
 
@@ -79,7 +79,7 @@ innermost (and_level p ps) = p
 around_it : {lv : Level} {levels : List Level} → AreOfTables (lv ∷ levels) → AreOfTables levels
 around_it (and_level p ps) = ps
 
-levels_tables : {L : Bounds} {T : Table} {offset : ℕ} {z : List ℕ} {U : Table} {levels : List Level} {next : Next}
+pub levels_tables : {L : Bounds} {T : Table} {offset : ℕ} {z : List ℕ} {U : Table} {levels : List Level} {next : Next}
     {left : ℕ} → Stands base_table L T offset z U levels next left → IsTable T → IsTable U × AreOfTables levels
 levels_tables (at_value u l e s sg short may k) h =
     (h, and_level (record { is_table = h; ready = may.ready }) no_level)
@@ -107,7 +107,7 @@ short_not_deep e = cc
 
 at_honest : {L : Bounds} {at : ℕ} {U : Table} {w : List ℕ} {lv : Level} {levels : List Level} {left : ℕ} {R : Refusal}
     {S : body.Refusal} → IsOfTable lv → RefusesAt base_table L at U w (lv ∷ levels) in_value left R
-    → IsCountedIn lv at R S → IsHonestBody lv.table lv.type lv.limit (lv.done ++ take (lv.end - at) w) S
+    → IsCountedFrom (length lv.done) at R S → IsHonestBody lv.table lv.type lv.limit (lv.done ++ take (lv.end - at) w) S
 at_honest {at = at} {w = w} {lv = lv} {S = S} p (in_skeleton {S = Q} h n pl se re) k =
     let place = k.place in let seen = k.seen in
     let same : Q ≡ S = same_refusal (omega arith) (omega arith) (sym re ∙ k.reason) in
@@ -119,7 +119,7 @@ at_honest p (short_name c r ex dl sh eq u full few) k =
 pub value_honest : {L : Bounds} {items : List FilledItem} {f y w : List ℕ} {T U : Table} {lv : Level}
     {levels : List Level} {left at : ℕ} {R : Refusal} {S : body.Refusal} → FilledStream base_table L items f T
     → Stands base_table L T (length f) y U (lv ∷ levels) in_value left
-    → RefusesAt base_table L at U w (lv ∷ levels) in_value left R → IsCountedIn lv at R S
+    → RefusesAt base_table L at U w (lv ∷ levels) in_value left R → IsCountedFrom (length lv.done) at R S
     → IsHonestBody lv.table lv.type lv.limit (lv.done ++ take (lv.end - at) w) S
 value_honest s p h k = at_honest (innermost (levels_tables p (items_table s base_is_table)).1) h k
 

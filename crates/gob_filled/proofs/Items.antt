@@ -6,7 +6,7 @@ use Rattle.gob_num.proofs.PublicLaws.{append_split, unsigned_prefix, signed_pref
 use Rattle.gob_types.specs.declared.id.TypeId.{TypeId}
 use Rattle.gob_types.specs.Table.{Table}
 use Rattle.gob_value.specs.Tree.{Tree}
-use Rattle.gob_read.proofs.Grammar.Fronts.{append_nil}
+use Rattle.gob_read.proofs.Grammar.Prefixes.{append_nil}
 use Rattle.gob_stream.specs.Bounds.{Bounds}
 use Rattle.gob_stream.proofs.PublicLaws.{same_id}
 use Rattle.gob_filled.specs.Definition.{Defines, defines}

@@ -11,4 +11,8 @@ pub mod Complete
 pub mod Outcomes
 pub mod Shown
 pub mod Honest
+pub mod Uncounted
+pub mod CountsLeftOut
+pub mod CountsPutBack
+pub mod WholeHonest
 pub mod Example

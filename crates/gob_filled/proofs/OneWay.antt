@@ -13,7 +13,7 @@ use Rattle.gob_read.specs.Expected.{a_number, nil}
 use Rattle.gob_read.specs.Expects.{ExpectsTop}
 use Rattle.gob_read.specs.Viable.{IsShallow}
 use Rattle.gob_read.proofs.Grammar.Compare.{whole_meets_top, unmet_once}
-use Rattle.gob_read.proofs.Grammar.Fronts.{same_end}
+use Rattle.gob_read.proofs.Grammar.Prefixes.{same_end}
 use Rattle.gob_stream.specs.Bounds.{Bounds}
 use Rattle.gob_stream.specs.Body.{MayPut}
 use Rattle.gob_stream.proofs.PublicLaws.{same_id}

@@ -7,7 +7,7 @@ use Rattle.gob_types.specs.Table.{Table}
 use Rattle.gob_types.proofs.PublicLaws.{Keeps}
 use Rattle.gob_value.specs.Top.{HasStructs}
 use Rattle.gob_read.proofs.PublicLaws.{append_nil}
-use Rattle.gob_read.proofs.Grammar.Fronts.{same_end}
+use Rattle.gob_read.proofs.Grammar.Prefixes.{same_end}
 use Rattle.gob_stream.specs.declared.fault.Refusal.{Refusal}
 use Rattle.gob_stream.specs.Bounds.{Bounds}
 use Rattle.gob_stream.specs.Refusing.{RefusesCount}

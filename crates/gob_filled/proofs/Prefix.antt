@@ -17,7 +17,7 @@ use Rattle.gob_read.specs.Expected.{a_number, nil}
 use Rattle.gob_read.proofs.Grammar.Whole.{Meets}
 use Rattle.gob_read.proofs.Grammar.Firsts.{not_allowed_not_met}
 use Rattle.gob_read.proofs.Grammar.Compare.{whole_meets_top, unmet_once}
-use Rattle.gob_read.proofs.Grammar.Fronts.{same_end, append_nil}
+use Rattle.gob_read.proofs.Grammar.Prefixes.{same_end, append_nil}
 use Rattle.gob_stream.specs.Bounds.{Bounds}
 use Rattle.gob_filled.specs.Definition.{Defines, defines}
 use Rattle.gob_value.specs.Loose.{DescribesLoosely}
@@ -94,9 +94,9 @@ pub one_loosely : {t u : TypeId} {v w : Tree} {r s : Shape} → DescribesLoosely
     → r ≡ s
 one_loosely {u = u} {s = s} d e h = one_loose_shape d (subst (λ v. DescribesLoosely u v s) (sym h) e)
 
-pub same_definition : {base : Table} {L : Bounds} {T U V : Table} {id other : TypeId} {v w : Tree} {b c : List ℕ}
+pub same_definition : {base : Table} {L M : Bounds} {T U V : Table} {id other : TypeId} {v w : Tree} {b c : List ℕ}
     (x y : List ℕ)
-    → Defines base L T id v b U → Defines base L T other w c V → b ++ x ≡ c ++ y → OneDefined id other v w b c x y U V
+    → Defines base L T id v b U → Defines base M T other w c V → b ++ x ≡ c ++ y → OneDefined id other v w b c x y U V
 same_definition {T = T} x y (defines {id = t} {n = m} {v = v} {s = r} {a = a} {b = b} may de d i s k)
     (defines {id = u} {n = n} {v = w} {s = r'} {a = a'} {b = b'} may' de' d' i' s' k') e =
     let number = signed_prefix (b ++ x) (b' ++ y) s s' (regroup a b x a' b' y e) in

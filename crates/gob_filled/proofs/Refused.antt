@@ -14,7 +14,7 @@ use Rattle.gob_read.specs.Refusal.{Refused}
 use Rattle.gob_read.proofs.PublicLaws.{only_extra, append_nil}
 use Rattle.gob_read.proofs.Grammar.Compare.{whole_meets_top}
 use Rattle.gob_read.proofs.Grammar.Firsts.{not_allowed_not_met}
-use Rattle.gob_read.proofs.Grammar.Fronts.{same_end}
+use Rattle.gob_read.proofs.Grammar.Prefixes.{same_end}
 use Rattle.gob_stream.specs.declared.fault.Refusal.{Refusal}
 use Rattle.gob_stream.specs.Bounds.{Bounds}
 use Rattle.gob_stream.specs.Body.{MayPut}
@@ -93,8 +93,8 @@ begins w z p e =
     let m = goes_on s.onto in
     of_start (m.0 ++ w) z s.start (e ∙ ap (λ (l : List ℕ). l ++ w) m.1 ∙ append_assoc (bytes_of s.from) m.0 w)
 
-front_of_body : (n q r : List ℕ) (m : ℕ) → r ≡ n ++ q → length n ≤ m → take m r ≡ n ++ take (m - length n) q
-front_of_body n q r m e l = ap (λ r. take m r) e ∙ take_past n q m l
+prefix_of_body : (n q r : List ℕ) (m : ℕ) → r ≡ n ++ q → length n ≤ m → take m r ≡ n ++ take (m - length n) q
+prefix_of_body n q r m e l = ap (λ r. take m r) e ∙ take_past n q m l
 
 not_body : {base : Table} {L : Bounds} {T : Table} {offset m : ℕ} {z c : List ℕ} → Begins L T offset z → (r : List ℕ)
     → z ≡ c ++ r → IsUnsigned m c → NothingStands base L T m (take m r) → ⊥
@@ -102,9 +102,9 @@ not_body {m = m} b r e u ns =
     let count = unsigned_prefix (b.number ++ b.rest) r b.counts u (sym b.whole ∙ e) in
     let few = b.short in let v = count.value in
     ns.no_type b.type b.number (take (m - length b.number) b.rest)
-    (front_of_body b.number b.rest r m (sym count.rest) (omega arith)) b.names b.may
+    (prefix_of_body b.number b.rest r m (sym count.rest) (omega arith)) b.names b.may
 
--- a count that is refused, or a body that is for its front, begins no value
+-- a count that is refused, or a body that is for its prefix, begins no value
 not_begun : {base : Table} {L : Bounds} {T : Table} {offset : ℕ} {z : List ℕ} {R : Refusal} → Begins L T offset z
     → RefusesFilled base L T offset z R
     → ((U : Table) (y w : List ℕ) (levels : List Level) (next : Next) (left : ℕ) → z ≡ y ++ w

@@ -4,7 +4,7 @@ use Rattle.std.proofs.Common.{drop}
 use Rattle.std.proofs.Common.{arith, refl, sym, ap, ◌∙◌, subst, append_assoc, length-append}
 use Rattle.std.proofs.lemmas.Bool.{cases_lt}
 use Rattle.std.proofs.lemmas.List.{take-append-le, take-append-drop, length-take}
-use Rattle.gob_num.specs.Unsigned.{IsUnsigned, IsUnsignedFront}
+use Rattle.gob_num.specs.Unsigned.{IsUnsigned, IsUnsignedPrefix}
 use Rattle.gob_num.specs.Unsigned as unsigned
 use Rattle.gob_num.proofs.PublicLaws.{unsigned_length}
 use Rattle.gob_types.specs.Base.{wire_type}
@@ -95,10 +95,10 @@ body_nothing {base = base} {L = L} {T = T} {offset = offset} {m = m} {R = R} y p
         no_type = no_type_or_value there
             (λ t a z S same e sg may first. absurd
             (let seen = ap (λ (R : Refusal). R.seen) same in
-            let front = sym (take_past y x m (omega arith)) ∙ e in
-            let g = goes_on_behind y (take (m - length y) x) a z front (omega arith) in
+            let prefix = sym (take_past y x m (omega arith)) ∙ e in
+            let g = goes_on_behind y (take (m - length y) x) a z prefix (omega arith) in
             ns.no_type t a (g.more ++ take (m - length y) p)
-            (take_past y p m (omega arith) ∙ ap (λ (l : List ℕ). l ++ take (m - length y) p) g.front
+            (take_past y p m (omega arith) ∙ ap (λ (l : List ℕ). l ++ take (m - length y) p) g.prefix
             ∙ append_assoc a g.more (take (m - length y) p)) sg may))
             (λ none. none);
         no_definition = no_whole_definition wire there (inr (omega arith));
@@ -220,16 +220,16 @@ at_shown {at = at} y p x wire (in_skeleton {lv = lv} {S = S} h n pl se re) l =
         → IsFirst lv.table lv.type lv.limit (length lv.done + (lv.end - at)) (lv.done ++ take (lv.end - at) (y ++ x)) S
     longer few =
         let m = lv.end - at in
-        let front = take (m - length y) p in
+        let prefix = take (m - length y) p in
         let rest = take (m - length y) x in
         let size = length-append lv.done y in
         let before = ap (λ (l : List ℕ). lv.done ++ l) (take_past y p m (omega arith))
-        ∙ sym (append_assoc lv.done y front) in
+        ∙ sym (append_assoc lv.done y prefix) in
         let behind = append_assoc lv.done y rest
         ∙ ap (λ (l : List ℕ). lv.done ++ l) (sym (take_past y x m (omega arith))) in
         subst (λ z. IsFirst lv.table lv.type lv.limit (length lv.done + (lv.end - at)) z S) behind
-        (first_shown (lv.done ++ y) front rest h before (omega arith)
-        (omega (arith, past_within y p m few, length-append (lv.done ++ y) front, length-append y front))
+        (first_shown (lv.done ++ y) prefix rest h before (omega arith)
+        (omega (arith, past_within y p m few, length-append (lv.done ++ y) prefix, length-append y prefix))
         (omega (arith, past_within y x m few, length-append (lv.done ++ y) rest, length-append y rest)))
 at_shown {at = at} y p x wire (short_name {lv = lv} c r ex dl sh eq u full few) l =
     let same = all_of y p x (lv.end - at) (omega arith) in
@@ -239,14 +239,14 @@ at_shown {at = at} y p x wire (inner_count {lv = lv} {n = n} {q = q} {R = R} eq 
     elim (cases_lt (length y) (lv.end - at)) [
       | inl few ↦
           let m = lv.end - at in
-          let front = take (m - length y) p in
+          let prefix = take (m - length y) p in
           let rest = take (m - length y) x in
           let s = inner_seen_behind h in
-          let g = goes_on_behind y front n q (sym (take_past y p m (omega arith)) ∙ eq) (omega arith) in
-          let size : length y ≡ length n + length g.more = ap length g.front ∙ length-append n g.more in
+          let g = goes_on_behind y prefix n q (sym (take_past y p m (omega arith)) ∙ eq) (omega arith) in
+          let size : length y ≡ length n + length g.more = ap length g.prefix ∙ length-append n g.more in
           inner_count
-          (take_past y x m (omega arith) ∙ ap (λ (l : List ℕ). l ++ rest) g.front ∙ append_assoc n g.more rest) sg may
-          (inner_within g.more front rest (subst (λ q. RefusesInner (at + length n) lv.end q R) g.rest h) (omega arith)
+          (take_past y x m (omega arith) ∙ ap (λ (l : List ℕ). l ++ rest) g.prefix ∙ append_assoc n g.more rest) sg may
+          (inner_within g.more prefix rest (subst (λ q. RefusesInner (at + length n) lv.end q R) g.rest h) (omega arith)
           (omega arith))
       | inr all ↦ inner_count (all_of y p x (lv.end - at) all ∙ eq) sg may h
     ]
@@ -254,8 +254,8 @@ at_shown {L = L} {at = at} y p x wire (next_count {lv = lv} {levels = levels} {l
     {R = R} q eq def ends h) l =
     let s = next_seen_behind L left lv.end q R levels h in
     let g = goes_on_behind y p b q eq (omega arith) in
-    let size : length y ≡ length b + length g.more = ap length g.front ∙ length-append b g.more in
-    next_count (g.more ++ x) (ap (λ (l : List ℕ). l ++ x) g.front ∙ append_assoc b g.more x) def ends
+    let size : length y ≡ length b + length g.more = ap length g.prefix ∙ length-append b g.more in
+    next_count (g.more ++ x) (ap (λ (l : List ℕ). l ++ x) g.prefix ∙ append_assoc b g.more x) def ends
     (next_shown L left lv.end g.more p x R levels
     (subst (λ q. RefusesNextCount L left lv.end levels q R) g.rest h) (omega arith))
 
@@ -270,17 +270,17 @@ filled_shown {base = base} {L = L} {T = T} {offset = offset} {R = R} y p x wire
     (refused_body {m = m} {c = c} r e u l s h ns) n =
     let b = body_seen_behind h in
     let g = goes_on_behind y p c r e (omega arith) in
-    let size : length y ≡ length c + length g.more = ap length g.front ∙ length-append c g.more in
+    let size : length y ≡ length c + length g.more = ap length g.prefix ∙ length-append c g.more in
     let there = subst (λ r. RefusesBody base L T (offset + length c) m (take m r) R) g.rest h in
-    refused_body (g.more ++ x) (ap (λ (l : List ℕ). l ++ x) g.front ∙ append_assoc c g.more x) u l s
+    refused_body (g.more ++ x) (ap (λ (l : List ℕ). l ++ x) g.prefix ∙ append_assoc c g.more x) u l s
     (body_shown g.more p x there (omega arith))
     (body_nothing g.more p x wire there (subst (λ r. NothingStands base L T m (take m r)) g.rest ns) (omega arith))
 filled_shown {base = base} {L = L} {offset = offset} {R = R} y p x wire
     (refused_value {U = U} {y = z} {w = w} {levels = levels} {next = next} {left = left} e k h) n =
     let s = at_seen k h in
     let g = goes_on_behind y p z w e (omega arith) in
-    let size : length y ≡ length z + length g.more = ap length g.front ∙ length-append z g.more in
-    refused_value (ap (λ (l : List ℕ). l ++ x) g.front ∙ append_assoc z g.more x) k
+    let size : length y ≡ length z + length g.more = ap length g.prefix ∙ length-append z g.more in
+    refused_value (ap (λ (l : List ℕ). l ++ x) g.prefix ∙ append_assoc z g.more x) k
     (at_shown g.more p x (wire_in (stands_keep k) wire)
     (subst (λ w. RefusesAt base L (offset + length z) U w levels next left R) g.rest h) (omega arith))
 

@@ -3,7 +3,7 @@ use Rattle.std.proofs.Common.{◌≡◌, ℕ, pos, ◌+◌, ◌-◌, ◌≤◌, 
 use Rattle.std.proofs.Common.{append_assoc, length-append}
 use Rattle.gob_num.specs.Unsigned.{IsUnsigned, AreBytes}
 use Rattle.gob_num.specs.Signed.{IsSigned}
-use Rattle.gob_num.proofs.PublicLaws.{bytes_rest, bytes_front, bytes-append, unsigned_bytes}
+use Rattle.gob_num.proofs.PublicLaws.{bytes_rest, bytes_prefix, bytes-append, unsigned_bytes}
 use Rattle.gob_types.specs.declared.id.TypeId.{TypeId}
 use Rattle.gob_types.specs.Table.{Table}
 use Rattle.gob_value.specs.Tree.{Tree, depth}
@@ -171,10 +171,10 @@ standing {base = base} {L = L} {T = T} {offset = offset} o (at_value {t = t} {m 
 standing {base = base} {L = L} {T = T} {offset = offset} {left = left} o
     (behind_name {z = z} {a = a} {lv = lv} {levels = levels} {d = d} c s p ex dl sh some u fit) = λ g X h.
     let all = bytes_rest z (c ++ (a ++ s)) o in
-    let oc = bytes_front c (a ++ s) all in
+    let oc = bytes_prefix c (a ++ s) all in
     let os = bytes_rest a s (bytes_rest c (a ++ s) all) in
     then_at base L T X offset left levels (sym (append_assoc z (c ++ (a ++ s)) g))
-    (standing (bytes_front z (c ++ (a ++ s)) o) p ((c ++ (a ++ s)) ++ g) X (record {
+    (standing (bytes_prefix z (c ++ (a ++ s)) o) p ((c ++ (a ++ s)) ++ g) X (record {
       value = h.value;
       rest = c ++ (0 ∷ h.rest);
       fillings = filling (length (lv.done ++ c)) s h.defs h.type h.inner h.fillings;
@@ -191,10 +191,10 @@ standing {base = base} {L = L} {T = T} {offset = offset} {left = left'} o
     (behind_definition {z = z} {b = b} {c = c} {lv = lv} {levels = levels} {id = id} {v = v} {d = d}
     {left = left} p def_ ends k) = λ g X h.
     let all = bytes_rest z (b ++ c) o in
-    let ob = bytes_front b c all in
+    let ob = bytes_prefix b c all in
     then_left base T X offset _ k (then_at base L T X offset left levels
     (ap (λ (l : List ℕ). z ++ l) (sym (append_assoc b c g)) ∙ sym (append_assoc z (b ++ c) g))
-    (standing (bytes_front z (b ++ c) o) p (b ++ (c ++ g)) X (record {
+    (standing (bytes_prefix z (b ++ c) o) p (b ++ (c ++ g)) X (record {
       defs = definition id v h.defs;
       table = h.table;
       type = h.type;
@@ -230,9 +230,9 @@ standing {base = base} {L = L} {T = T} {offset = offset} {left = left} o
     let all = bytes_rest z (n ++ c) o in
     let og = continued_bytes h.continues in
     let f : AreSegments h.letters (c ++ g) = starts k e h.continues in
-    let read = bytes-append n (c ++ g) (bytes_front n c all) (bytes-append c g (bytes_rest n c all) og) in
+    let read = bytes-append n (c ++ g) (bytes_prefix n c all) (bytes-append c g (bytes_rest n c all) og) in
     then_at base L T Y offset left levels (regrouped z n c g g')
-    (standing (bytes_front z (n ++ c) o) p ((n ++ (c ++ g)) ++ g') Y (record {
+    (standing (bytes_prefix z (n ++ c) o) p ((n ++ (c ++ g)) ++ g') Y (record {
       defs = no_definitions;
       table = _;
       type = u;
@@ -269,7 +269,7 @@ standing {base = base} {L = L} {T = T} {offset = offset} {left = left} o
     regrouped z n c g h = simp append_assoc
 standing {offset = offset} o (behind_inner {z = z} {lv = lv} {around = around} {levels = levels}
     {v = v} b p sp de ends) = λ g X h.
-    standing (bytes_front z b o) p b _ (record {
+    standing (bytes_prefix z b o) p b _ (record {
       value = v;
       rest = b;
       fillings = no_filling;
@@ -286,7 +286,7 @@ pub read_so : {base : Table} {L : Bounds} {T U : Table} {offset : ℕ} {b : List
 read_so {base = base} {L = L} {T = T} {U = U} {offset = offset} {b = b} o k =
     let all = subst AreBytes k.whole o in
     let or = bytes_rest k.before k.rest all in
-    let item = standing (bytes_front k.before k.rest all) k.stands k.rest U (record {
+    let item = standing (bytes_prefix k.before k.rest all) k.stands k.rest U (record {
       value = k.value;
       rest = k.rest;
       fillings = no_filling;

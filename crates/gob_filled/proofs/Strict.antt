@@ -16,7 +16,7 @@ use Rattle.gob_read.specs.Refusal.{Refusal}
 use Rattle.gob_read.proofs.Grammar.Deep.{expects_top_within, within_shallow}
 use Rattle.gob_read.proofs.Grammar.Onward.{shallow_before}
 use Rattle.gob_read.proofs.Grammar.Firsts.{not_allowed_first}
-use Rattle.gob_read.proofs.Grammar.Fronts.{front_of, append_nil}
+use Rattle.gob_read.proofs.Grammar.Prefixes.{prefix_of, append_nil}
 use Rattle.gob_stream.specs.Bounds.{Bounds}
 use Rattle.gob_filled.specs.Definition.{Defines, defines}
 use Rattle.gob_filled.specs.Filled.{Definitions, Filled, filled, Fillings, no_filling, filling, AreDefined}
@@ -76,13 +76,13 @@ first_filled
       whole = spread c a (s ++ (e ++ (n ++ f))) m;
     }
 
-pub refused_strictly : {T : Table} {t : TypeId} {limit announced place : ℕ} {front : List ℕ} (rest : List ℕ)
-    → FirstFilled T t limit place (front ++ rest) → place + 9 ≤ length front
-    → (R : Refusal) × (R.place ≡ place) × (R.reason ≡ reason.InterfaceValue) × IsFirst T t limit announced front R
-refused_strictly {announced = announced} {front = front} rest k far =
+pub refused_strictly : {T : Table} {t : TypeId} {limit announced place : ℕ} {prefix : List ℕ} (rest : List ℕ)
+    → FirstFilled T t limit place (prefix ++ rest) → place + 9 ≤ length prefix
+    → (R : Refusal) × (R.place ≡ place) × (R.reason ≡ reason.InterfaceValue) × IsFirst T t limit announced prefix R
+refused_strictly {announced = announced} {prefix = prefix} rest k far =
     let few = unsigned_length k.counts in
     let at = k.at in
-    let f = front_of (k.before ++ k.count) front k.rest rest (append_assoc k.before k.count k.rest ∙ sym k.whole)
+    let f = prefix_of (k.before ++ k.count) prefix k.rest rest (append_assoc k.before k.count k.rest ∙ sym k.whole)
     (omega (arith, length-append k.before k.count)) in
     let deep = expects_top_within (0 ∷ k.left) [] k.spelled k.expects (sym (append_nil (k.before ++ (0 ∷ k.left)))) in
     let low = k.shallow in (
@@ -122,7 +122,8 @@ mutual
       (in_turn (filled_keeps vs) (fills_keep fl))
 
 pub first_of : {base : Table} {L : Bounds} {T U : Table} {t u : TypeId} {limit announced place : ℕ} {v : Tree}
-    {s front : List ℕ} (rest : List ℕ) {ds : Definitions} {w : Filled} {fs : Fillings}
-    → SpellsFilled base L T t limit (filled v (filling place s ds u w fs)) (front ++ rest) U → place + 9 ≤ length front
-    → (R : Refusal) × (R.place ≡ place) × (R.reason ≡ reason.InterfaceValue) × IsFirst T t limit announced front R
+    {s prefix : List ℕ} (rest : List ℕ) {ds : Definitions} {w : Filled} {fs : Fillings}
+    → SpellsFilled base L T t limit (filled v (filling place s ds u w fs)) (prefix ++ rest) U
+    → place + 9 ≤ length prefix
+    → (R : Refusal) × (R.place ≡ place) × (R.reason ≡ reason.InterfaceValue) × IsFirst T t limit announced prefix R
 first_of rest p l = refused_strictly rest (first_filled p) l

@@ -3,7 +3,7 @@
 -- anew.
 -- (docs/FORMAT.md, What Go's encoder writes beyond its documentation, Refusals.)
 use Rattle.std.specs.Prelude.{◌≡◌, ◌≢◌, ℕ, pos, ◌+◌, ◌-◌, ◌<◌, ◌≤◌, List, [], ◌∷◌, ◌++◌, length, take}
-use Rattle.gob_num.specs.Unsigned.{IsUnsigned, IsUnsignedFront, IsBadHead, IsNotMinimal}
+use Rattle.gob_num.specs.Unsigned.{IsUnsigned, IsUnsignedPrefix, IsBadHead, IsNotMinimal}
 use Rattle.gob_num.specs.Signed.{IsSigned}
 use Rattle.gob_types.specs.declared.id.TypeId.{TypeId}
 use Rattle.gob_types.specs.declared.reason.Reason.TheVariants as reason
@@ -27,7 +27,7 @@ use Rattle.gob_filled.specs.Standing.{Level, Next, in_value, in_filling, Stands}
 pub data RefusesInner (at end : ℕ) (q : List ℕ) : Refusal → Type 0 where
   bad_head : IsBadHead q → RefusesInner at end q (refuses at (at + 1) reason.BadHead)
   not_minimal : IsNotMinimal q → RefusesInner at end q (refuses at (at + 2) reason.NotMinimal)
-  short : at + length q ≡ end → IsUnsignedFront q → RefusesInner at end q (refuses end end reason.Short)
+  short : at + length q ≡ end → IsUnsignedPrefix q → RefusesInner at end q (refuses end end reason.Short)
   too_long : {m : ℕ} {c : List ℕ} (r : List ℕ) → q ≡ c ++ r → IsUnsigned m c → end < at + length c + m
       → RefusesInner at end q (refuses at (at + length c) reason.ItemTooLong)
 
@@ -36,7 +36,7 @@ abbrev pub RefusesNextCount : Bounds → (left at : ℕ) → List Level → List
 RefusesNextCount L left at [] q R = RefusesCount (record L { item = left }) at q R
 RefusesNextCount L left at (around ∷ levels) q R = RefusesInner at around.end (take (around.end - at) q) R
 
--- of a body of m bytes these are there, and neither does a type whose values may come stand at their front, nor are
+-- of a body of m bytes these are there, and neither does a type whose values may come stand at their prefix, nor are
 -- they a whole definition
 pub record NothingStands (base : Table) (L : Bounds) (T : Table) (m : ℕ) (y : List ℕ) : Type 0 where
   pub no_type : (u : TypeId) (n r : List ℕ) → y ≡ n ++ r → IsSigned (pos u.0) n → ¬ MayPut T u
@@ -103,11 +103,11 @@ pub data EndsFilled (base : Table) (L : Bounds) (bytes : List ℕ) (items : List
 
 -- the bytes begin with the stream of the items
 pub record BeginsFilled (base : Table) (L : Bounds) (bytes : List ℕ) (items : List FilledItem) : Type 0 where
-  pub front : List ℕ
+  pub prefix : List ℕ
   pub rest : List ℕ
   pub table : Table
-  pub stream : FilledStream base L items front table
-  pub whole : bytes ≡ front ++ rest
+  pub stream : FilledStream base L items prefix table
+  pub whole : bytes ≡ prefix ++ rest
 
 -- what the bytes give, and how they end
 pub record FilledOutcome (base : Table) (L : Bounds) (bytes : List ℕ) (items : List FilledItem)

@@ -2,10 +2,11 @@
 //! that is proved here, once.
 
 ghost use Rattle.gob_filled.specs.Laws.{EndByThemselves, SegmentsEndByThemselves, AreUnique};
+ghost use Rattle.gob_filled.specs.Laws.{AreSpelledUncounted, AreSpelledCounted};
 ghost use Rattle.gob_filled.specs.OutcomeLaws.{ItemsStay, RefusalsStay, ItemsEndByThemselves, StandingIsReading};
 ghost use Rattle.gob_filled.specs.OutcomeLaws.{RefuseOnce, StandingIsNotRefused, DefinitionsAreNotRefused};
 ghost use Rattle.gob_filled.specs.Example.{GoListIsRead};
-ghost use Rattle.gob_filled.specs.Honest.{ValuesAreHonest, DefinitionsAreHonest};
+ghost use Rattle.gob_filled.specs.Honest.{ValuesAreHonest, DefinitionsAreHonest, WholeValuesAreHonest};
 ghost use Rattle.gob_filled.specs.OutcomeLaws.{ItemsStand, RefusedIsNoItem, HaveOneOutcome, RefusalsStayShown};
 ghost use Rattle.gob_filled.specs.Laws.{ContainStrict, AreStrictUnfilled, AreRefusedStrictly, KeepTheTable};
 
@@ -15,6 +16,13 @@ pub fn filled_values_end_by_themselves()
     ensures value { EndByThemselves }
     ensures segments { SegmentsEndByThemselves }
     ensures unique { AreUnique }
+{}
+
+/// A filled value has a spelling without the counts of its segments too, in which it is no deeper than the limit. What
+/// has such a spelling, in bytes few enough for all counts, is a filled value.
+pub fn counts_can_be_left_out()
+    ensures uncounted { AreSpelledUncounted }
+    ensures counted { AreSpelledCounted }
 {}
 
 /// A value of which no nil is filled is spelled as the format has it. Where one is, the format refuses the value as one
@@ -74,8 +82,10 @@ pub fn shown_refusals_stay()
 /// The place of a refusal is honest in the value at hand, with 00 for what fills its nils: where a number is refused,
 /// the bytes before it begin a value of the type, in the grammar without limits, and those up to its end begin none;
 /// where a part is too deep, those before it begin one, and only such as are too deep. So it is in the description of
-/// a definition within a value.
+/// a definition within a value, and so in the whole value of the item: without the counts of segments, the bytes before
+/// the place begin a filled value, and those that show the refusal begin none, or only such as are too deep.
 pub fn places_are_honest()
     ensures values { ValuesAreHonest }
     ensures definitions { DefinitionsAreHonest }
+    ensures whole { WholeValuesAreHonest }
 {}

@@ -42,6 +42,7 @@
 //! - `specs/Stream.antt`: items in segments, and streams of them.
 //! - `specs/Standing.antt`: how far bytes have come in an item, level by level.
 //! - `specs/Outcome.antt`: why bytes are refused, and what any bytes give.
+//! - `specs/Uncounted.antt`: the bytes of a filled value without the counts of its segments.
 //! - `specs/Honest.antt`: what the bytes begin before the place of a refusal, and those that show it.
 //! - [`laws`] has the laws: no spelling begins another, what the format takes or refuses stays so, and any bytes have
 //!   one outcome.

@@ -18,7 +18,7 @@ use Rattle.gob_handed.specs.Definition.{name_node, field_nodes, field_names}
 pub nodes_on : {a b c : Place} {o n m xs ys : List FlatNode} → PutsNodes a b o n xs → PutsNodes b c n m ys
     → PutsNodes a c o m (xs ++ ys)
 nodes_on {xs = xs} {ys = ys} p q = record {
-  front = q.front ∙ ap (λ l. l ++ ys) p.front ∙ append_assoc _ xs ys;
+  prefix = q.prefix ∙ ap (λ l. l ++ ys) p.prefix ∙ append_assoc _ xs ys;
   end = omega (arith, length-append xs ys, p.end, q.end);
   room = q.room;
 }
@@ -26,7 +26,7 @@ nodes_on {xs = xs} {ys = ys} p q = record {
 pub bytes_on : {a b c : Place} {o n m xs ys : List ℕ} → PutsBytes a b o n xs → PutsBytes b c n m ys
     → PutsBytes a c o m (xs ++ ys)
 bytes_on {xs = xs} {ys = ys} p q = record {
-  front = q.front ∙ ap (λ l. l ++ ys) p.front ∙ append_assoc _ xs ys;
+  prefix = q.prefix ∙ ap (λ l. l ++ ys) p.prefix ∙ append_assoc _ xs ys;
   end = omega (arith, length-append xs ys, p.end, q.end);
   room = q.room;
 }
@@ -34,14 +34,14 @@ bytes_on {xs = xs} {ys = ys} p q = record {
 -- where nothing is put
 pub no_nodes : (a b : Place) (ns : List FlatNode) → a.nodes ≤ length ns → b.nodes ≡ a.nodes → PutsNodes a b ns ns []
 no_nodes a b ns le same = record {
-  front = ap (λ n. take n ns) same ∙ sym (append-nil _);
+  prefix = ap (λ n. take n ns) same ∙ sym (append-nil _);
   end = omega arith;
   room = omega arith;
 }
 
 pub no_bytes : (a b : Place) (bs : List ℕ) → a.bytes ≤ length bs → b.bytes ≡ a.bytes → PutsBytes a b bs bs []
 no_bytes a b bs le same = record {
-  front = ap (λ n. take n bs) same ∙ sym (append-nil _);
+  prefix = ap (λ n. take n bs) same ∙ sym (append-nil _);
   end = omega arith;
   room = omega arith;
 }
@@ -91,13 +91,13 @@ pub field_step : (from at to : Place) (base : ℕ) (o n m : List FlatNode) (p q 
     × PutsBytes from to p r (field_names (take (i + 1) fs))
 field_step from at to base o n m p q r fs i f name lt is named le before ns bs =
     let s = from.bytes - base in
-    let front = field_nodes s (take i fs) in
+    let prefix = field_nodes s (take i fs) in
     let more : take (i + 1) fs ≡ take i fs ++ f ∷ [] = take_more fs i f lt ∙ ap (λ x. take i fs ++ x ∷ []) (sym is) in
     let start : s + length (field_names (take i fs)) ≡ at.bytes - base = omega (arith, before.1.end) in
-    let nodes : field_nodes s (take (i + 1) fs) ≡ front ++ name_node 14 f.id.0 (at.bytes - base) name ∷ [] =
+    let nodes : field_nodes s (take (i + 1) fs) ≡ prefix ++ name_node 14 f.id.0 (at.bytes - base) name ∷ [] =
     ap (λ l. field_nodes s l) more ∙ field_nodes-more s (take i fs) f
-    ∙ ap (λ k. front ++ name_node 14 f.id.0 k f.name ∷ []) start
-    ∙ ap (λ l. front ++ name_node 14 f.id.0 (at.bytes - base) l ∷ []) (sym named) in
+    ∙ ap (λ k. prefix ++ name_node 14 f.id.0 k f.name ∷ []) start
+    ∙ ap (λ l. prefix ++ name_node 14 f.id.0 (at.bytes - base) l ∷ []) (sym named) in
     let bytes : field_names (take (i + 1) fs) ≡ field_names (take i fs) ++ name =
     ap field_names more ∙ field_names-more (take i fs) f ∙ ap (λ l. field_names (take i fs) ++ l) (sym named) in (
       subst (λ l. PutsNodes from to o m l) (sym nodes) (nodes_on before.0 ns),
@@ -175,8 +175,8 @@ hand_step T items i item heads head at to nodes nodes' pool pool' lt lt' is befo
     let ns' = take at.nodes nodes ++ item_nodes T item in (
       subst (λ l. AreHanded T l (take (i + 1) (set heads i head)) (take to.nodes nodes') (take to.bytes pool')) (sym so)
           (subst (λ l. AreHanded T is' l (take to.nodes nodes') (take to.bytes pool')) (sym hs)
-          (subst (λ l. AreHanded T is' now l (take to.bytes pool')) (sym ns.front)
-          (subst (λ l. AreHanded T is' now ns' l) (sym bs.front) (one_more item before.0)))),
+          (subst (λ l. AreHanded T is' now l (take to.bytes pool')) (sym ns.prefix)
+          (subst (λ l. AreHanded T is' now ns' l) (sym bs.prefix) (one_more item before.0)))),
       (ns.room, bs.room),
     )
 

@@ -1,5 +1,5 @@
 -- A definition as nodes: one of its kind and name, and behind it one for each type that it names. Names stand in the
--- item's bytes. (docs/FORMAT.md, Flat nodes: this project's own.)
+-- item's bytes. (docs/LIBRARY.md, Flat nodes: this project's own.)
 use Rattle.std.specs.Prelude.{ℕ, ◌+◌, List, [], ◌∷◌, ◌++◌, Option, Some, None, length}
 use Rattle.gob_types.specs.declared.id.TypeId.{TypeId}
 use Rattle.gob_types.specs.declared.kind.Field.{Field}

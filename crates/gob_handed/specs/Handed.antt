@@ -1,4 +1,4 @@
--- What is handed out of items: heads, nodes and bytes. (docs/FORMAT.md, Flat nodes: this project's own.)
+-- What is handed out of items: heads, nodes and bytes. (docs/LIBRARY.md, Flat nodes: this project's own.)
 use Rattle.std.specs.Prelude.{ℕ, List, [], ◌∷◌, ◌++◌, length, map}
 use Rattle.gob_types.specs.declared.id.TypeId.{TypeId}
 use Rattle.gob_types.specs.Table.{Table, shape_of}

@@ -3,7 +3,7 @@
 //! A [`Reader`] takes a stream in any pieces. The items that are whole wait in it, until [`Reader::take`] writes as
 //! many of them as there is room for into three slices: a [`Head`] for each item, and the nodes and the bytes of all of
 //! them, one item's behind another's. A value's nodes are those of its tape, a definition's are its kind and name and
-//! the types that it names (docs/FORMAT.md, Flat nodes):
+//! the types that it names (docs/LIBRARY.md, Flat nodes):
 //!
 //! ```text
 //! heads    define 65: 3 nodes from 0, 7 bytes from 0     value of 65: 3 nodes from 3, 0 bytes from 7

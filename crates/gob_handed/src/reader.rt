@@ -64,7 +64,8 @@ impl Reader {
         ensures fed { Given (waiting self.old) (waiting self.new) (λ given. (items : List StreamItem) (bytes : List ℕ)
             → HasRead tape_building self.old.session items bytes
             → FeedAnswers tape_building self.old.session self.new.session items bytes piece.now given result) }
-        ensures honest { Given (waiting self.old) (waiting self.new) (λ given. (items : List StreamItem) (bytes : List ℕ)
+        ensures honest { Given (waiting self.old) (waiting self.new) (λ given.
+            (items : List StreamItem) (bytes : List ℕ)
             → HasRead tape_building self.old.session items bytes
             → FeedsHonestlyFrom tape_building self.old.session items (bytes ++ piece.now) given result) }
         ensures failed { OnErr result (HasFailed self.new.session) }

@@ -1,9 +1,11 @@
 -- The digits of a number, three at a time.
-use Rattle.std.proofs.Common.{◌≡◌, ℕ, suc, ◌+◌, ◌-◌, ◌*◌, ◌/◌, ◌%◌, ◌^◌, ◌<◌, ◌≤◌, List, [], ◌∷◌, ◌++◌, ap, ◌∙◌, inl, inr, arith, eq-zero-or-pos, append_assoc}
+use Rattle.std.proofs.Common.{◌≡◌, ℕ, suc, ◌+◌, ◌-◌, ◌*◌, ◌/◌, ◌%◌, ◌^◌, ◌<◌, ◌≤◌, List, [], ◌∷◌, ◌++◌, ap, ◌∙◌, inl}
+use Rattle.std.proofs.Common.{inr, arith, eq-zero-or-pos, append_assoc}
 use Rattle.std.proofs.Common.{append-nil, length, length-append, take, drop, refl, sym, set, length-set, nat_lt}
 use mir.Val.{bool_byte}
 use Rattle.std.proofs.lemmas.Bool.{lt-ltb, le-ltb}
-use Rattle.std.proofs.lemmas.List.{take_more_set, take-append-drop, drop-append-le, drop-drop, length-drop, length-take-le}
+use Rattle.std.proofs.lemmas.List.{take_more_set, take-append-drop, drop-append-le, drop-drop, length-drop}
+use Rattle.std.proofs.lemmas.List.{length-take-le}
 use Rattle.std.proofs.Math.Seq.{take-append_seam, take-append-add}
 use borrow.Rule.Slice.PartMut.{put_mid}
 use Rattle.std.proofs.lemmas.Grind.{take-set_at}
@@ -75,7 +77,8 @@ pub decimal_millions : (n : ℕ) → 1000000 ≤ n → n < 2 ^ 64
     → decimal n ≡ decimal (n / 1000000) ++ (three_digits (n / 1000 % 1000) ++ three_digits (n % 1000))
 decimal_millions n lo hi =
     let a : n / 1000 / 1000 ≡ n / 1000000 = omega arith in
-    rw (decimal_thousands n (omega arith) hi, decimal_thousands (n / 1000) (omega arith) (omega arith), append_assoc, a) refl
+    rw (decimal_thousands n (omega arith) hi, decimal_thousands (n / 1000) (omega arith) (omega arith), append_assoc, a)
+    refl
 
 pub all_digits : (n : ℕ) → 100 ≤ n → n < 1000 → three_digits n ≡ decimal n
 all_digits n lo hi =
@@ -122,26 +125,28 @@ zeros_dropped n a b h p q =
     ]
 
 -- bytes that are stored, of which some don't count
-stored_front : (b xs more : List ℕ) (at k : ℕ) → at ≤ length b
+stored_prefix : (b xs more : List ℕ) (at k : ℕ) → at ≤ length b
     → take (at + length xs) (put_mid at k b (xs ++ more)) ≡ take at b ++ xs
-stored_front b xs more at k place =
-    let front = take at b in
+stored_prefix b xs more at k place =
+    let prefix = take at b in
     let behind = drop k (drop at b) in
-    let here : at + length xs ≡ length front + length xs = omega (arith, length-take-le at b place) in
-    ap (λ (l : List ℕ). take (at + length xs) (front ++ l)) (append_assoc xs more behind)
-    ∙ ap (λ (n : ℕ). take n (front ++ (xs ++ (more ++ behind)))) here
-    ∙ take-append-add front (xs ++ (more ++ behind)) (length xs)
-    ∙ ap (λ (l : List ℕ). front ++ l) (take-append_seam xs (more ++ behind))
+    let here : at + length xs ≡ length prefix + length xs = omega (arith, length-take-le at b place) in
+    ap (λ (l : List ℕ). take (at + length xs) (prefix ++ l)) (append_assoc xs more behind)
+    ∙ ap (λ (n : ℕ). take n (prefix ++ (xs ++ (more ++ behind)))) here
+    ∙ take-append-add prefix (xs ++ (more ++ behind)) (length xs)
+    ∙ ap (λ (l : List ℕ). prefix ++ l) (take-append_seam xs (more ++ behind))
 
 -- the two digits of a byte
 pub two_hex_stored : (b : List ℕ) (at n k row_at size : ℕ) → at ≤ length b → n < 256 → row_at ≡ n * 2 → size ≡ 2
     → take (at + 2) (put_mid at k b (take size (drop row_at HEX_PAIRS))) ≡ take at b ++ hex_pair n
 two_hex_stored b at n k row_at size place h is two =
-    ap (λ (l : List ℕ). take (at + 2) (put_mid at k b l)) (hex_row n row_at size h is two ∙ sym (append-nil (hex_pair n)))
-    ∙ stored_front b (hex_pair n) [] at k place
+    ap (λ (l : List ℕ). take (at + 2) (put_mid at k b l)) (hex_row n row_at size h is two
+    ∙ sym (append-nil (hex_pair n)))
+    ∙ stored_prefix b (hex_pair n) [] at k place
 
 -- what is stored in the place of as many bytes changes no length
-pub length_stored : (b xs : List ℕ) (at k : ℕ) → at + k ≤ length b → length xs ≡ k → length (put_mid at k b xs) ≡ length b
+pub length_stored : (b xs : List ℕ) (at k : ℕ) → at + k ≤ length b → length xs ≡ k
+    → length (put_mid at k b xs) ≡ length b
 length_stored b xs at k place size =
     let behind = drop k (drop at b) in
     omega (
@@ -162,11 +167,12 @@ between_stored b xs at k end new x y last behind place size =
     let stored = put_mid (at + 1) k first xs in
     let there : at + 1 ≤ length first = omega (arith, place, last, behind, length-set b at x) in
     let long : length stored ≡ length b =
-    length_stored first xs (at + 1) k (omega (arith, place, last, behind, size, length-set b at x)) size ∙ length-set b at x in
+    length_stored first xs (at + 1) k (omega (arith, place, last, behind, size, length-set b at x)) size
+    ∙ length-set b at x in
     take-set_at stored end new y (omega (arith, behind)) (omega (arith, long, place, behind))
     ∙ ap (λ l. l ++ y ∷ []) (ap (λ n. take n stored) last
     ∙ ap (λ l. take (at + 1 + length xs) (put_mid (at + 1) k first l)) (sym (append-nil xs))
-    ∙ stored_front first xs [] (at + 1) k there
+    ∙ stored_prefix first xs [] (at + 1) k there
     ∙ ap (λ l. l ++ xs) (take_more_set b at x (omega (arith, place, last, behind)))
     ∙ append_assoc (take at b) (x ∷ []) xs)
     ∙ append_assoc (take at b) (x ∷ xs) (y ∷ [])
@@ -178,7 +184,7 @@ kept_stored b xs at k n place most =
     let long : n ≡ length (take n xs) = sym (length-take-le n xs most) in
     ap (λ (m : ℕ). take (at + m) (put_mid at k b xs)) long
     ∙ ap (λ (l : List ℕ). take (at + length (take n xs)) (put_mid at k b l)) (sym (take-append-drop n xs))
-    ∙ stored_front b (take n xs) (drop n xs) at k place
+    ∙ stored_prefix b (take n xs) (drop n xs) at k place
 
 -- four bytes of the table from a digit of the number on
 pub first_stored : (b : List ℕ) (at n x y k j : ℕ) → n < 1000 → at ≤ length b → Counts n 10 x → Counts n 100 y → j ≡ 4
@@ -197,7 +203,7 @@ first_stored b at n x y k j h place p q four =
     ap (take j) bytes ∙ ap (λ (m : ℕ). take m (kept ++ rest)) whole ∙ take-append-add kept rest (suc z) in
     ap (λ (l : List ℕ). take (at + (3 - z)) (put_mid at k b l)) these
     ∙ ap (λ (m : ℕ). take (at + m) (put_mid at k b (kept ++ take (suc z) rest))) (sym long)
-    ∙ stored_front b kept (take (suc z) rest) at k place ∙ ap (λ (l : List ℕ). take at b ++ l) d.0
+    ∙ stored_prefix b kept (take (suc z) rest) at k place ∙ ap (λ (l : List ℕ). take at b ++ l) d.0
 
 pub three_stored : (b : List ℕ) (at n k j : ℕ) → n < 1000 → at ≤ length b → j ≡ 4
     → take (at + 3) (put_mid at k b (take j (drop (n * 4) TRIPLES))) ≡ take at b ++ three_digits n
@@ -206,4 +212,5 @@ three_stored b at n k j h place four =
     let these : take j (drop (n * 4) TRIPLES) ≡ three_digits n ++ take 1 rest =
     ap (take j) (row_of_table n h) ∙ ap (λ (m : ℕ). take m (three_digits n ++ rest)) four
     ∙ take-append-add (three_digits n) rest 1 in
-    ap (λ (l : List ℕ). take (at + 3) (put_mid at k b l)) these ∙ stored_front b (three_digits n) (take 1 rest) at k place
+    ap (λ (l : List ℕ). take (at + 3) (put_mid at k b l)) these ∙ stored_prefix b (three_digits n) (take 1 rest) at k
+    place

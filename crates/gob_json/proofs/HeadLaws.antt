@@ -37,7 +37,8 @@ pub plain_head : (later : Bool) (number : ℕ) (name : List ℕ) → number < 10
     → (comma_if later ++ digit_head number) ++ (name ++ 34 ∷ 44 ∷ []) ≡ field_head later number name
 plain_head later number name small plain =
     append_assoc (comma_if later) (digit_head number) (name ++ 34 ∷ 44 ∷ [])
-    ∙ ap (λ (l : List ℕ). comma_if later ++ 91 ∷ (48 + number) ∷ 44 ∷ 34 ∷ l) (sym (append_assoc name (34 ∷ []) (44 ∷ [])))
+    ∙ ap (λ (l : List ℕ). comma_if later ++ 91 ∷ (48 + number) ∷ 44 ∷ 34 ∷ l)
+    (sym (append_assoc name (34 ∷ []) (44 ∷ [])))
     ∙ ap (λ (l : List ℕ). comma_if later ++ 91 ∷ (48 + number) ∷ 44 ∷ (l ++ 44 ∷ [])) (plain_text name plain)
     ∙ ap (λ (l : List ℕ). comma_if later ++ 91 ∷ (l ++ 44 ∷ (compact_text (text_json name) ++ 44 ∷ [])))
     (sym (decimal_digit number small))
@@ -47,4 +48,5 @@ pub long_head : (later : Bool) (number : ℕ) (name : List ℕ)
     → comma_if later ++ ((91 ∷ (decimal number ++ 44 ∷ [])) ++ (compact_text (text_json name) ++ 44 ∷ []))
     ≡ field_head later number name
 long_head later number name =
-    ap (λ (l : List ℕ). comma_if later ++ 91 ∷ l) (append_assoc (decimal number) (44 ∷ []) (compact_text (text_json name) ++ 44 ∷ []))
+    ap (λ (l : List ℕ). comma_if later ++ 91 ∷ l) (append_assoc (decimal number) (44 ∷ [])
+    (compact_text (text_json name) ++ 44 ∷ []))

@@ -88,11 +88,11 @@ plain_text b h =
     ap (λ (t : List ℕ). 34 ∷ (t ++ 34 ∷ [])) (sym same) ∙ sym (ap compact_text (plain_utf8 b h))
 
 -- ---- hexadecimal between quotes
-pub hex_behind : (front bytes : List ℕ) → IsBytes bytes → front ++ (encode_lower bytes ++ 34 ∷ 125 ∷ [])
-    ≡ front ++ ((escape (encode_lower bytes) ++ 34 ∷ []) ++ 125 ∷ [])
-hex_behind front bytes h =
-    ap (λ (l : List ℕ). front ++ (l ++ 34 ∷ 125 ∷ [])) (sym (hex_plain bytes h))
-    ∙ ap (λ l. front ++ l) (sym (append_assoc (escape (encode_lower bytes)) (34 ∷ []) (125 ∷ [])))
+pub hex_behind : (prefix bytes : List ℕ) → IsBytes bytes → prefix ++ (encode_lower bytes ++ 34 ∷ 125 ∷ [])
+    ≡ prefix ++ ((escape (encode_lower bytes) ++ 34 ∷ []) ++ 125 ∷ [])
+hex_behind prefix bytes h =
+    ap (λ (l : List ℕ). prefix ++ (l ++ 34 ∷ 125 ∷ [])) (sym (hex_plain bytes h))
+    ∙ ap (λ l. prefix ++ l) (sym (append_assoc (escape (encode_lower bytes)) (34 ∷ []) (125 ∷ [])))
 
 pattern_digits : (p : ℕ) (bytes digits : List ℕ) → bytes ≡ to_be_bytes w64 p → digits ≡ encode_lower bytes
     → digits ≡ escape (encode_lower (to_be_bytes w64 p))
@@ -112,4 +112,5 @@ complex_text p q b c x y e f g h =
     let text : (91 ∷ 34 ∷ (first ++ 34 ∷ 44 ∷ 34 ∷ [])) ++ (second ++ 34 ∷ 93 ∷ [])
     ≡ compact_text (pair_json (pattern_json p) (pattern_json q)) = simp append_assoc in
     ap (λ (l : List ℕ). (91 ∷ 34 ∷ (l ++ 34 ∷ 44 ∷ 34 ∷ [])) ++ (y ++ 34 ∷ 93 ∷ [])) (pattern_digits p b x e f)
-    ∙ ap (λ (l : List ℕ). (91 ∷ 34 ∷ (first ++ 34 ∷ 44 ∷ 34 ∷ [])) ++ (l ++ 34 ∷ 93 ∷ [])) (pattern_digits q c y g h) ∙ text
+    ∙ ap (λ (l : List ℕ). (91 ∷ 34 ∷ (first ++ 34 ∷ 44 ∷ 34 ∷ [])) ++ (l ++ 34 ∷ 93 ∷ [])) (pattern_digits q c y g h)
+    ∙ text

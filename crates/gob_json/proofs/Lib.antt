@@ -7,8 +7,8 @@ pub mod PlainLaws
 pub mod EscapeLaws
 pub mod LeafLaws
 pub mod HeadLaws
-pub mod TextSteps
 pub mod StandingLaws
 pub mod SendLaws
+pub mod EndLaws
 pub mod LineLaws
 pub mod PublicLaws

@@ -4,7 +4,7 @@ use Rattle.std.specs.Result.{IsErrAnd}
 
 module _ {O E : Type 0} (puts : O → O → List ℕ → Result (Unit {0}) E → Type 0) where
   -- the error that a `?` returns
-  ended : {a b : O} {x : List ℕ} {f : E} (r : Result (Unit {0}) E) → IsErrAnd r (λ e. e ≡ f) → puts a b x (Err f)
+  pub ended : {a b : O} {x : List ℕ} {f : E} (r : Result (Unit {0}) E) → IsErrAnd r (λ e. e ≡ f) → puts a b x (Err f)
       → puts a b x r
   ended (Ok u) h p = absurd h
   ended {a = a} {b = b} {x = x} (Err e) h p = subst (λ e. puts a b x (Err e)) (sym h) p

@@ -39,4 +39,5 @@ said (suc n) byte t some = (is_true _ (and_l _ _ t), ltb_yes (and_r (is_plain by
 pub stands : (byte : ℕ) → byte < 256 → get_or STANDS byte 0 ≢ 0 → (is_plain byte ≡ true) × (byte < 128)
 stands byte h =
     let place : 0 + byte ≡ byte = omega arith in
-    said (get_or STANDS byte 0) byte (subst (λ (b : ℕ). T (says (get_or STANDS byte 0) b)) place (entry_says STANDS 0 byte tt h))
+    said (get_or STANDS byte 0) byte (subst (λ (b : ℕ). T (says (get_or STANDS byte 0) b)) place
+    (entry_says STANDS 0 byte tt h))

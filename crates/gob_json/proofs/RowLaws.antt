@@ -29,11 +29,12 @@ pub row : (width size : ℕ) (shown : ℕ → List ℕ) (l : List ℕ) (n rows i
 row width size shown l n zero i m e t h = absurd (omega arith)
 row width size shown l n (suc rows) zero m e t h =
     let here : n ≡ m = omega arith in
-    let front : zero * width ≡ 0 = omega arith in
-    ap (λ (k : ℕ). take size (drop k l)) front ∙ are_same (take size l) (shown n) (and_l _ _ t) ∙ ap shown here
+    let prefix : zero * width ≡ 0 = omega arith in
+    ap (λ (k : ℕ). take size (drop k l)) prefix ∙ are_same (take size l) (shown n) (and_l _ _ t) ∙ ap shown here
 row width size shown l n (suc rows) (suc i) m e t h =
     let behind : width + i * width ≡ suc i * width = omega arith in
     let place : drop (i * width) (drop width l) ≡ drop (suc i * width) l =
     drop-drop (i * width) width l ∙ ap (λ (k : ℕ). drop k l) behind in
     subst (λ (r : List ℕ). take size r ≡ shown m) place
-    (row width size shown (drop width l) (suc n) rows i m (omega arith) (and_r (same (take size l) (shown n)) _ t) (omega arith))
+    (row width size shown (drop width l) (suc n) rows i m (omega arith) (and_r (same (take size l) (shown n)) _ t)
+    (omega arith))

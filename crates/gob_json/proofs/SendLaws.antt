@@ -1,6 +1,7 @@
 -- The text of values that are known to stand in a body, as it is put out part by part.
 use Rattle.std.proofs.Common.{◌≡◌, ℕ, ◌+◌, ◌-◌, ◌==◌, ◌<◌, Bool, true, false, List, [], ◌∷◌, ◌++◌, drop, Some}
-use Rattle.std.proofs.Common.{Option, Result, Ok, Err, IfOk, arith, refl, sym, ap, ◌∙◌, subst, append_assoc}
+use Rattle.std.proofs.Common.{nat_lt, Option, Result, Ok, Err, IfOk, arith, refl, sym, ap, ◌∙◌, subst, append_assoc}
+use Rattle.std.proofs.lemmas.Bool.{lt-ltb}
 use Rattle.std.specs.Fmt.{decimal}
 use Rattle.std.specs.Result.{IsErrAnd, result_and}
 use Rattle.serde_json.specs.Data.{boolean, null}
@@ -18,23 +19,80 @@ use Rattle.gob_types.specs.declared.kind.Shape.{Shape}
 use Rattle.gob_types.specs.Table.{Table, shape_of}
 use Rattle.gob_value.specs.Tree.{Tree, Trees, Pairs, Fields, tree_count, pair_count, depth}
 use Rattle.gob_value.specs.Spelling.{truth, SpellsAs, SpellsEach, SpellsPairs, no_element, element, no_entry, entry}
-use Rattle.gob_json.specs.Json.{value_json, elements_json, pairs_json, fields_json, element_type, key_type, struct_fields}
+use Rattle.gob_value.specs.Whole.{BeginsThisNumber}
+use Rattle.gob_json.specs.Json.{value_json, elements_json, pairs_json, fields_json, element_type, key_type}
+use Rattle.gob_json.specs.Json.{struct_fields}
 use Rattle.gob_json.specs.Json.{field_name, field_type, hex_json, integer_json, natural_json, opaque_json, pair_json}
 use Rattle.gob_json.specs.Json.{pattern_json, text_json, triple_json}
+use Rattle.gob_json.specs.TextWhole.{IsOfKind}
 use Rattle.gob_json.specs.Machine.TextParts.{field_head}
-use Rattle.gob_json.specs.Machine.TextSent.{HoldsKind, HoldsValue, BeginsElements, BeginsList, BeginsEntries, BeginsMap, BeginsEntry}
-use Rattle.gob_json.specs.Machine.TextSent.{BeginsPresent, IsNextField, NumberFrom, BytesFrom, Sends, without_end}
-use Rattle.gob_json.proofs.TextSteps.{slice_element, array_element, map_element, map_key, struct_types}
-use Rattle.gob_json.proofs.StandingLaws.{bool_parts, int_parts, uint_parts, float_parts, complex_parts, nil_parts, bytes_parts}
-use Rattle.gob_json.proofs.StandingLaws.{text_parts, opaque_parts, these_begin, value_as, slice_parts, array_parts, list_begins}
-use Rattle.gob_json.proofs.StandingLaws.{ListIn, map_parts, map_begins, struct_parts, next_element, next_entry, some_field, no_more_fields}
-use Rattle.gob_json.proofs.StandingLaws.{NextElement, NextEntry, NextPresent}
+use Rattle.gob_json.specs.Machine.TextSent.{HoldsKind, HoldsValue, BeginsElements, BeginsEntries, BeginsEntry}
+use Rattle.gob_json.specs.Machine.TextSent.{BeginsPresent, IsNextField, NumberFrom, Reaches, Sends, as_stop}
+use Rattle.gob_json.specs.Machine.TextSent.{without_end}
+use Rattle.gob_json.specs.declared.text.stop.Stop.{Stop}
+use Rattle.gob_json.specs.declared.text.stop.Stop.TheVariants as stops
+use Rattle.gob_json.proofs.StandingLaws.{bool_parts, int_parts, uint_parts, float_parts, complex_parts, nil_parts}
+use Rattle.gob_json.proofs.StandingLaws.{bytes_parts}
+use Rattle.gob_json.proofs.StandingLaws.{text_parts, opaque_parts, these_begin, value_as, slice_parts, array_parts}
+use Rattle.gob_json.proofs.StandingLaws.{list_begins}
+use Rattle.gob_json.proofs.StandingLaws.{ListIn, map_parts, map_begins, struct_parts, next_element, next_entry}
+use Rattle.gob_json.proofs.StandingLaws.{some_field, field_or_end, number_first}
+use Rattle.gob_json.proofs.StandingLaws.{NextElement, NextEntry, NextPresent, BeginsList, BeginsMap, BytesFrom}
+
+-- a number above another is above 0
+pub later_on : (n : ℕ) → nat_lt 0 (n + 1) ≡ true
+later_on n = lt-ltb 0 (n + 1) (omega arith)
+
+-- ---- the types of parts
+slice_element : (s : Shape) (e : TypeId) → s.kind ≡ kind.Slice e → element_type (Some s) ≡ e
+slice_element s e h = rw h refl
+
+array_element : (s : Shape) (e : TypeId) (n : ℕ) → s.kind ≡ kind.Array e n → element_type (Some s) ≡ e
+array_element s e n h = rw h refl
+
+map_element : (s : Shape) (k e : TypeId) → s.kind ≡ kind.Map k e → element_type (Some s) ≡ e
+map_element s k e h = rw h refl
+
+map_key : (s : Shape) (k e : TypeId) → s.kind ≡ kind.Map k e → key_type (Some s) ≡ k
+map_key s k e h = rw h refl
+
+struct_types : (s : Shape) (types : List Field) → s.kind ≡ kind.Struct types → struct_fields (Some s) ≡ types
+struct_types s types h = rw h refl
+
+-- ---- answers of an output
+module _ {O E : Type 0} (puts : O → O → List ℕ → Result (Unit {0}) E → Type 0) where
+  pub reached : {old new : O} {text : List ℕ} (r : Result (Unit {0}) E) → puts old new text r
+      → Reaches puts old new text (as_stop r)
+  reached (Ok u) p = record { answers = p }
+  reached (Err e) p = record { answers = p }
+
+  pub took : {old new : O} {text : List ℕ} → puts old new text (Ok tt) → Reaches puts old new text (Ok tt)
+  took p = record { answers = p }
+
+  pub stopped : {old new : O} {text : List ℕ} {e : E} → puts old new text (Err e)
+      → Reaches puts old new text (Err (stops.Out e))
+  stopped p = record { answers = p }
+
+  pub reached_both : ((a b c : O) (x y : List ℕ) (r : Result (Unit {0}) E) → puts a b x (Ok tt) → puts b c y r
+      → puts a c (x ++ y) r)
+      → (a b c : O) (x y : List ℕ) (r : Result (Unit {0}) (Stop E)) → Reaches puts a b x (Ok tt) → Reaches puts b c y r
+      → Reaches puts a c (x ++ y) r
+  reached_both joined a b c x y (Ok u) p q = record { answers = joined a b c x y (Ok u) p.answers q.answers }
+  reached_both joined a b c x y (Err (stops.Out e)) p q =
+      record { answers = joined a b c x y (Err e) p.answers q.answers }
+  reached_both joined a b c x y (Err stops.NotWhole) p q = absurd q.answers
+
+  pub reached_prefix : ((a b : O) (x y : List ℕ) (e : E) → puts a b x (Err e) → puts a b (x ++ y) (Err e))
+      → (a b : O) (x y : List ℕ) (e : Stop E) → Reaches puts a b x (Err e) → Reaches puts a b (x ++ y) (Err e)
+  reached_prefix cut a b x y (stops.Out e) p = record { answers = cut a b x y e p.answers }
+  reached_prefix cut a b x y stops.NotWhole p = absurd p.answers
 
 truth_is : (x : Bool) (n : ℕ) → n ≡ truth x → (n == 1) ≡ x
 truth_is false n e = rw e refl
 truth_is true n e = rw e refl
 
-shown_as : (T : Table) (t : TypeId) {v w : Tree} → v ≡ w → compact_text (value_json T t w) ≡ compact_text (value_json T t v)
+shown_as : (T : Table) (t : TypeId) {v w : Tree} → v ≡ w → compact_text (value_json T t w) ≡ compact_text
+    (value_json T t v)
 shown_as T t same = ap (λ v. compact_text (value_json T t v)) (sym same)
 
 end_so : {E : Type 0} (P : ℕ → Type 0) (end : ℕ) (r : Result (Unit {0}) E) → P end → IfOk (result_and r (Ok end)) P
@@ -96,7 +154,8 @@ module _ {O E : Type 0} (puts : O → O → List ℕ → Result (Unit {0}) E →
         let one = found (truth x.0) rest (record { bytes = b.bytes; spelled = x.2; whole = b.whole }) in
         sent_behind end r q last one.1 (ap (λ y. compact_text (boolean y)) (truth_is x.0 n one.0) ∙ shown_as T t x.1) p
 
-    pub int_sent : (n : ℕ) (i : _) → NumberFrom body at n end → ((bytes : List ℕ) → IsUnsigned n bytes → IsSigned i bytes)
+    pub int_sent : (n : ℕ) (i : _) → NumberFrom body at n end → ((bytes : List ℕ) → IsUnsigned n bytes
+        → IsSigned i bytes)
         → puts old new (compact_text (integer_json i)) r → HoldsKind T (kind.Basic basic.Int) v (drop at body) rest
         → Sends puts old new (compact_text (value_json T t v)) body rest q
     int_sent n i found means p b =
@@ -117,7 +176,8 @@ module _ {O E : Type 0} (puts : O → O → List ℕ → Result (Unit {0}) E →
         let x = float_parts b.spelled in
         let u = pattern_unsigned x.2 in
         let one = found u.0 rest (record { bytes = b.bytes; spelled = u.1; whole = b.whole }) in
-        let same = pattern_prefix rest rest (means b.bytes (subst (λ k. IsUnsigned k b.bytes) (sym one.0) u.1)) x.2 refl in
+        let same = pattern_prefix rest rest (means b.bytes (subst (λ k. IsUnsigned k b.bytes) (sym one.0) u.1)) x.2 refl
+        in
         sent_behind end r q last one.1 (ap (λ f. compact_text (pattern_json f)) same.value ∙ shown_as T t x.1) p
 
     pub complex_sent : (m n f g behind : ℕ) → NumberFrom body at m behind → NumberFrom body behind n end
@@ -136,12 +196,14 @@ module _ {O E : Type 0} (puts : O → O → List ℕ → Result (Unit {0}) E →
           whole = b.whole ∙ ap (λ l. l ++ rest) x.whole ∙ append_assoc x.first x.second rest;
         }) in
         let two = found' w.0 rest (record { bytes = x.second; spelled = w.1; whole = one.1 }) in
-        let real = pattern_prefix rest rest (means x.first (subst (λ k. IsUnsigned k x.first) (sym one.0) u.1)) x.reals refl in
+        let real = pattern_prefix rest rest (means x.first (subst (λ k. IsUnsigned k x.first) (sym one.0) u.1)) x.reals
+        refl in
         let imaginary = pattern_prefix rest rest (means' x.second (subst (λ k. IsUnsigned k x.second) (sym two.0) w.1))
         x.imaginaries refl in
         sent_behind end r q last two.1
         (ap (λ f. compact_text (pair_json (pattern_json f) (pattern_json g))) real.value
-        ∙ ap (λ g. compact_text (pair_json (pattern_json x.real) (pattern_json g))) imaginary.value ∙ shown_as T t x.same) p
+        ∙ ap (λ g. compact_text (pair_json (pattern_json x.real) (pattern_json g))) imaginary.value
+        ∙ shown_as T t x.same) p
 
     pub nil_sent : (n : ℕ) → NumberFrom body at n end → puts old new (compact_text null) r
         → HoldsKind T (kind.Basic basic.Interface) v (drop at body) rest
@@ -279,6 +341,14 @@ list_elements {vs = vs} body at end found b =
     let w = b.elements in
     (record { bytes = w.bytes; spelled = w.spelled; within = w.within; whole = one.1 ∙ w.whole }, sym one.0)
 
+pub map_entries : {T : Table} {k e : TypeId} {limit count : ℕ} {ps : Pairs} {rest : List ℕ} (body : List ℕ) (at end : ℕ)
+    → NumberFrom body at count end → BeginsMap T k e limit ps (drop at body) rest
+    → BeginsEntries T k e limit ps (drop end body) rest × (pair_count ps ≡ count)
+map_entries {ps = ps} body at end found b =
+    let one = found (pair_count ps) b.behind b.counted in
+    let w = b.entries in
+    (record { bytes = w.bytes; spelled = w.spelled; within = w.within; whole = one.1 ∙ w.whole }, sym one.0)
+
 no_element_left : {T : Table} {e : TypeId} {vs : Trees} {b piece rest : List ℕ} (later : Bool) → SpellsEach T e vs b
     → piece ≡ b ++ rest → tree_count vs ≡ 0 → (items_text later (elements_json T e vs) ≡ 93 ∷ []) × (piece ≡ rest)
 no_element_left later no_element whole none = (refl, whole)
@@ -309,23 +379,25 @@ module _ {O E : Type 0} (puts : O → O → List ℕ → Result (Unit {0}) E →
   pub head_failed : {old mid : O} {shown name : List ℕ} {f : E} (later : Bool) (number : ℕ) (value : List ℕ)
       → ((a b : O) (x y : List ℕ) (e : E) → puts a b x (Err e) → puts a b (x ++ y) (Err e)) → shown ≡ name
       → puts old mid (field_head later number shown) (Err f)
-      → puts old mid (comma_if later ++ 91 ∷ (decimal number ++ 44 ∷ (compact_text (text_json name) ++ 44 ∷ value))) (Err f)
+      → puts old mid (comma_if later ++ 91 ∷ (decimal number ++ 44 ∷ (compact_text (text_json name) ++ 44 ∷ value)))
+      (Err f)
   head_failed {old = old} {mid = mid} {name = name} {f = f} later number value cut e p =
       subst (λ t. puts old mid t (Err f)) (head_and_value later number name value)
       (cut old mid (field_head later number name) value f
       (subst (λ (n : List ℕ). puts old mid (field_head later number n) (Err f)) e p))
 
 module _ {O E : Type 0} (puts : O → O → List ℕ → Result (Unit {0}) E → Type 0)
-    (joined : (a b c : O) (x y : List ℕ) (r : Result (Unit {0}) E) → puts a b x (Ok tt) → puts b c y r → puts a c (x ++ y) r)
+    (joined : (a b c : O) (x y : List ℕ) (r : Result (Unit {0}) E) → puts a b x (Ok tt) → puts b c y r
+    → puts a c (x ++ y) r)
     (cut : (a b : O) (x y : List ℕ) (e : E) → puts a b x (Err e) → puts a b (x ++ y) (Err e)) where
-  front_failed : {old now new : O} {f : E} {text all : List ℕ} (part others : List ℕ) → GoesOn puts old now text all
+  prefix_failed : {old now new : O} {f : E} {text all : List ℕ} (part others : List ℕ) → GoesOn puts old now text all
       → text ≡ part ++ others → puts now new part (Err f) → puts old new all (Err f)
-  front_failed {now = now} {new = new} {f = f} part others on e p =
+  prefix_failed {now = now} {new = new} {f = f} part others on e p =
       on new (Err f) (subst (λ t. puts now new t (Err f)) (sym e) (cut now new part others f p))
 
-  front_put : {old now after : O} {text all : List ℕ} (part others : List ℕ) → GoesOn puts old now text all
+  prefix_put : {old now after : O} {text all : List ℕ} (part others : List ℕ) → GoesOn puts old now text all
       → text ≡ part ++ others → puts now after part (Ok tt) → GoesOn puts old after others all
-  front_put {now = now} {after = after} part others on e p new r w =
+  prefix_put {now = now} {after = after} part others on e p new r w =
       on new r (subst (λ t. puts now new t r) (sym e) (joined now after new part others r p w))
 
   part_failed : {old now mid new : O} {f : E} {text all : List ℕ} (comma part others : List ℕ)
@@ -359,19 +431,18 @@ module _ {O E : Type 0} (puts : O → O → List ℕ → Result (Unit {0}) E →
   all_elements {vs = vs} b counted =
       record { values = vs; begins = b; counted = omega (arith, counted); text = λ new r p. p }
 
-  pub first_entries : {T : Table} {k e : TypeId} {limit count : ℕ} {ps : Pairs} {old now : O} {rest : List ℕ}
-      (body : List ℕ) (at end : ℕ) → NumberFrom body at count end → BeginsMap T k e limit ps (drop at body) rest
-      → puts old now (91 ∷ []) (Ok tt) → EntriesLeft puts T k e limit (count - 0) false old now (drop end body) rest
-      (91 ∷ items_text false (pairs_json T k e ps))
-  first_entries {ps = ps} {rest = rest} body at end found b p =
-      let one = found (pair_count ps) b.behind b.counted in
-      let w = b.entries in
-      record {
-        pairs = ps;
-        begins = record { bytes = w.bytes; spelled = w.spelled; within = w.within; whole = one.1 ∙ w.whole };
-        counted = omega (arith, one.0);
-        text = begun (91 ∷ []) _ p;
-      }
+  -- all parts, behind the bracket
+  pub first_elements : {T : Table} {e : TypeId} {limit count : ℕ} {vs : Trees} {old now : O} {piece rest : List ℕ}
+      → BeginsElements T e limit vs piece rest → tree_count vs ≡ count → puts old now (91 ∷ []) (Ok tt)
+      → ElementsLeft puts T e limit (count - 0) false old now piece rest (91 ∷ items_text false (elements_json T e vs))
+  first_elements {vs = vs} b counted p =
+      record { values = vs; begins = b; counted = omega (arith, counted); text = begun (91 ∷ []) _ p }
+
+  pub first_entries : {T : Table} {k e : TypeId} {limit count : ℕ} {ps : Pairs} {old now : O} {piece rest : List ℕ}
+      → BeginsEntries T k e limit ps piece rest → pair_count ps ≡ count → puts old now (91 ∷ []) (Ok tt)
+      → EntriesLeft puts T k e limit (count - 0) false old now piece rest (91 ∷ items_text false (pairs_json T k e ps))
+  first_entries {ps = ps} b counted p =
+      record { pairs = ps; begins = b; counted = omega (arith, counted); text = begun (91 ∷ []) _ p }
 
   pub first_present : {T : Table} {types : List Field} {limit : ℕ} {fs : Fields} {old now : O} {piece rest : List ℕ}
       → BeginsPresent T types 0 limit fs piece rest → puts old now (91 ∷ []) (Ok tt)
@@ -386,21 +457,24 @@ module _ {O E : Type 0} (puts : O → O → List ℕ → Result (Unit {0}) E →
         → Sends puts old new all body rest q
     elements_ended {new = new} at r q last here none p =
         let end = no_element_left later l.begins.spelled l.begins.whole (l.counted ∙ none) in
-        sent_behind puts at r q last (sym here ∙ end.1) refl (l.text new r (subst (λ t. puts now new t r) (sym end.0) p))
+        sent_behind puts at r q last (sym here ∙ end.1) refl
+        (l.text new r (subst (λ t. puts now new t r) (sym end.0) p))
 
     module _ (some : 0 < count) where
       next : NextElement T e limit l.values piece rest
       next = next_element l.begins (omega (arith, l.counted))
 
       shown : items_text later (elements_json T e l.values)
-          ≡ comma_if later ++ (compact_text (value_json T e next.first) ++ items_text true (elements_json T e next.others))
+          ≡ comma_if later ++ (compact_text (value_json T e next.first)
+          ++ items_text true (elements_json T e next.others))
       shown = ap (λ vs. items_text later (elements_json T e vs)) next.same
 
       pub element_comma_failed : {new : O} {f : E} → puts now new (comma_if later) (Err f) → puts old new all (Err f)
-      element_comma_failed p = front_failed (comma_if later) _ l.text shown p
+      element_comma_failed p = prefix_failed (comma_if later) _ l.text shown p
 
       pub element_failed : {mid new : O} {f : E} → puts now mid (comma_if later) (Ok tt)
-          → ((v : Tree) (rest : List ℕ) → HoldsValue T e limit v piece rest → puts mid new (compact_text (value_json T e v)) (Err f))
+          → ((v : Tree) (rest : List ℕ) → HoldsValue T e limit v piece rest
+          → puts mid new (compact_text (value_json T e v)) (Err f))
           → puts old new all (Err f)
       element_failed p sent = part_failed (comma_if later) _ _ l.text shown p (sent next.first next.behind next.value)
 
@@ -428,7 +502,7 @@ module _ {O E : Type 0} (puts : O → O → List ℕ → Result (Unit {0}) E →
   module _ {T : Table} {e : TypeId} {limit count : ℕ} {later : Bool} {old now : O} {waits piece rest all : List ℕ}
       (l : ElementsWait puts T e limit count later old now waits piece rest all) where
     pub waiting_failed : {new : O} {f : E} → puts now new waits (Err f) → puts old new all (Err f)
-    waiting_failed p = front_failed waits _ l.text refl p
+    waiting_failed p = prefix_failed waits _ l.text refl p
 
     -- what waited is put out
     pub waiting_put : {after : O} → puts now after waits (Ok tt)
@@ -437,7 +511,7 @@ module _ {O E : Type 0} (puts : O → O → List ℕ → Result (Unit {0}) E →
       values = l.values;
       begins = l.begins;
       counted = l.counted;
-      text = front_put waits _ l.text refl p;
+      text = prefix_put waits _ l.text refl p;
     }
 
     pub waiting_gone : {after : O} → puts now after waits (Ok tt)
@@ -446,8 +520,21 @@ module _ {O E : Type 0} (puts : O → O → List ℕ → Result (Unit {0}) E →
       values = l.values;
       begins = l.begins;
       counted = l.counted;
-      text = front_put waits _ l.text refl p;
+      text = prefix_put waits _ l.text refl p;
     }
+
+    -- the next int's number stands there
+    pub waiting_first : IsOfKind T e (kind.Basic basic.Int) → 0 < count → (n : ℕ) × (r : List ℕ)
+        × BeginsThisNumber n piece r
+    waiting_first is some =
+        let one = (next_element l.begins (omega (arith, l.counted))).value in
+        let held = value_as is.shape is.found one in
+        number_first (record {
+          bytes = held.bytes;
+          spelled = subst (λ k. SpellsAs T k _ held.bytes) is.same
+              held.spelled;
+          whole = held.whole;
+        })
 
     -- the text of the next waits too
     pub next_waits : {place more : List ℕ} → 0 < count → ((v : Tree) (rest : List ℕ) → HoldsValue T e limit v piece rest
@@ -477,7 +564,8 @@ module _ {O E : Type 0} (puts : O → O → List ℕ → Result (Unit {0}) E →
         → Sends puts old new all body rest q
     entries_ended {new = new} at r q last here none p =
         let end = no_entry_left later l.begins.spelled l.begins.whole (l.counted ∙ none) in
-        sent_behind puts at r q last (sym here ∙ end.1) refl (l.text new r (subst (λ t. puts now new t r) (sym end.0) p))
+        sent_behind puts at r q last (sym here ∙ end.1) refl
+        (l.text new r (subst (λ t. puts now new t r) (sym end.0) p))
 
     module _ (some : 0 < count) where
       next_pair : NextEntry T k e limit l.pairs piece rest
@@ -489,14 +577,15 @@ module _ {O E : Type 0} (puts : O → O → List ℕ → Result (Unit {0}) E →
       pair_shown = ap (λ ps. items_text later (pairs_json T k e ps)) next_pair.same
 
       pub entry_comma_failed : {new : O} {f : E} → puts now new (comma_if later) (Err f) → puts old new all (Err f)
-      entry_comma_failed p = front_failed (comma_if later) _ l.text pair_shown p
+      entry_comma_failed p = prefix_failed (comma_if later) _ l.text pair_shown p
 
       pub entry_failed : {mid new : O} {f : E} → puts now mid (comma_if later) (Ok tt)
           → ((x v : Tree) (rest : List ℕ) → BeginsEntry T k e limit x v piece rest
           → puts mid new (compact_text (pair_json (value_json T k x) (value_json T e v))) (Err f))
           → puts old new all (Err f)
       entry_failed p sent =
-          part_failed (comma_if later) _ _ l.text pair_shown p (sent next_pair.key next_pair.value next_pair.behind next_pair.entry)
+          part_failed (comma_if later) _ _ l.text pair_shown p (sent next_pair.key next_pair.value next_pair.behind
+          next_pair.entry)
 
       pub entry_put : {mid after : O} {place : List ℕ} {left : ℕ} {behind : Bool} → left ≡ count - 1 → behind ≡ true
           → puts now mid (comma_if later) (Ok tt)
@@ -521,10 +610,14 @@ module _ {O E : Type 0} (puts : O → O → List ℕ → Result (Unit {0}) E →
         → ((f : ℕ) (e : Field) → ¬ IsNextField types next delta f e) → puts now new (93 ∷ []) r
         → Sends puts old new all body rest q
     fields_ended {new = new} r q last none p =
-        let done = no_more_fields body at end l.begins.spelled l.begins.whole number none in
+        let done = field_or_end body at end l.begins.spelled l.begins.whole number none in
         let text : items_text later (fields_json T types l.fields) ≡ 93 ∷ [] =
-        ap (λ fs. items_text later (fields_json T types fs)) done.0 in
-        sent_behind puts end r q last done.1 refl (l.text new r (subst (λ t. puts now new t r) (sym text) p))
+        ap (λ fs. items_text later (fields_json T types fs)) done.1 in
+        sent_behind puts end r q last done.2 refl (l.text new r (subst (λ t. puts now new t r) (sym text) p))
+
+    -- there is a field, if it isn't the end
+    pub field_stands : ¬ (delta ≡ 0) → ¬ ((f : ℕ) (e : Field) → ¬ IsNextField types next delta f e)
+    field_stands more none = more (field_or_end body at end l.begins.spelled l.begins.whole number none).0
 
     module _ (f : ℕ) (e : Field) (is : IsNextField types next delta f e) where
       next_one : NextPresent T types next limit delta f e l.fields (drop at body) rest
@@ -534,7 +627,8 @@ module _ {O E : Type 0} (puts : O → O → List ℕ → Result (Unit {0}) E →
       behind_number = (number delta next_one.behind next_one.counted).1
 
       field_shown : items_text later (fields_json T types l.fields)
-          ≡ (comma_if later ++ compact_text (triple_json (natural_json f) (text_json e.name) (value_json T e.id next_one.value)))
+          ≡ (comma_if later ++ compact_text (triple_json (natural_json f) (text_json e.name)
+          (value_json T e.id next_one.value)))
           ++ items_text true (fields_json T types next_one.others)
       field_shown =
           let value = λ (g : Option Field). compact_text (triple_json (natural_json f) (text_json (field_name g))
@@ -545,13 +639,14 @@ module _ {O E : Type 0} (puts : O → O → List ℕ → Result (Unit {0}) E →
           ∙ sym (append_assoc (comma_if later) (value (Some e)) others)
 
       value_there : HoldsValue T e.id limit next_one.value (drop end body) next_one.after
-      value_there = subst (λ p. HoldsValue T e.id limit next_one.value p next_one.after) (sym behind_number) next_one.begins
+      value_there = subst (λ p. HoldsValue T e.id limit next_one.value p next_one.after) (sym behind_number)
+          next_one.begins
 
       pub field_failed : {new : O} {g : E}
           → ((v : Tree) (rest : List ℕ) → HoldsValue T e.id limit v (drop end body) rest → puts now new (comma_if later
           ++ compact_text (triple_json (natural_json f) (text_json e.name) (value_json T e.id v))) (Err g))
           → puts old new all (Err g)
-      field_failed sent = front_failed _ _ l.text field_shown (sent next_one.value next_one.after value_there)
+      field_failed sent = prefix_failed _ _ l.text field_shown (sent next_one.value next_one.after value_there)
 
       pub field_put : {after : O} {place : List ℕ} {behind : Bool} → behind ≡ true
           → ((v : Tree) (rest : List ℕ) → HoldsValue T e.id limit v (drop end body) rest
@@ -564,5 +659,5 @@ module _ {O E : Type 0} (puts : O → O → List ℕ → Result (Unit {0}) E →
           rw more (record {
             fields = next_one.others;
             begins = record { bytes = w.bytes; spelled = w.spelled; within = w.within; whole = one.0 ∙ w.whole };
-            text = front_put _ _ l.text field_shown one.1;
+            text = prefix_put _ _ l.text field_shown one.1;
           })

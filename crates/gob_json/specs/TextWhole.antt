@@ -9,7 +9,7 @@ use Rattle.gob_types.specs.declared.kind.Shape.{Shape}
 use Rattle.gob_types.specs.Table.{Table, shape_of}
 use Rattle.gob_value.specs.Tree.{Tree, depth}
 use Rattle.gob_value.specs.Top.{SpellsTop}
-use Rattle.gob_json.specs.Json.{value_json, put_json}
+use Rattle.gob_json.specs.Json.{put_json}
 
 -- the type is one of this kind
 pub record IsOfKind (T : Table) (t : TypeId) (k : Kind) : Type 0 where
@@ -17,14 +17,7 @@ pub record IsOfKind (T : Table) (t : TypeId) (k : Kind) : Type 0 where
   pub found : shape_of T t ≡ Some shape
   pub same : shape.kind ≡ k
 
--- the bytes are a value of the type behind its tag, and its text was appended
-pub record TextOfWhole (T : Table) (t : TypeId) (limit : ℕ) (bytes old new : List ℕ) : Type 0 where
-  pub value : Tree
-  pub spelled : SpellsTop T t value bytes
-  pub within : depth value ≤ limit
-  pub text : new ≡ old ++ compact_text (value_json T t value)
-
--- the same of the line of the value with its type
+-- the bytes are a value of the type behind its tag, and the line of the value with its type was appended
 pub record LineOfWhole (T : Table) (t : TypeId) (limit : ℕ) (bytes old new : List ℕ) : Type 0 where
   pub value : Tree
   pub spelled : SpellsTop T t value bytes

@@ -14,7 +14,6 @@ mod number;
 mod out;
 mod piece;
 mod plain;
-mod send;
 mod stop;
 mod value;
 mod whole;

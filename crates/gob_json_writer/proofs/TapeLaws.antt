@@ -126,30 +126,36 @@ still_fewer p e h = let f = fewer_left p e in omega arith
 -- ---- elements
 
 -- these elements are to come, and with what is written of them the tokens are all
-pub record ElementsLeft (T : Table) (e : TypeId) (parts : Children) (old now : Written) (all : List Token) : Type 0 where
+pub record ElementsLeft (T : Table) (e : TypeId) (parts : Children) (old now : Written) (all : List Token) : Type
+    0 where
   pub rest : Trees
   pub gives : Gives parts (elements rest)
   pub left : IsLeft old now (items_tokens (items_outline (elements_json T e rest))) all
 
-pub elements_begun : {E : Type 0} {u : Unit {0}} {T : Table} {e : TypeId} {parts : Children} {old now : Written} (vs : Trees)
+pub elements_begun : {E : Type 0} {u : Unit {0}} {T : Table} {e : TypeId} {parts : Children} {old now : Written}
+    (vs : Trees)
     → WritesTokens {E = E} (Ok u) old now (Token.begin_array ∷ []) → Gives parts (elements vs)
     → ElementsLeft T e parts old now (json_tokens (outline (array (elements_json T e vs))))
 elements_begun vs w g = record { rest = vs; gives = g; left = left_begun _ w }
 
-pub elements_on : {E : Type 0} {u : Unit {0}} {T : Table} {e : TypeId} {parts others : Children} {part : View} {old now new : Written} {all : List Token}
+pub elements_on : {E : Type 0} {u : Unit {0}} {T : Table} {e : TypeId} {parts others : Children} {part : View}
+    {old now new : Written} {all : List Token}
     → ElementsLeft T e parts old now all → NextIs parts (Some part) others
     → WritesJsonOf {E = E} (Ok u) now new (Shows part) (value_json T e) → ElementsLeft T e others old new all
-elements_on {T = T} {e = e} {others = others} {part = part} {old = old} {now = now} {new = new} {all = all} l n w = by l.rest l.left (n _ l.gives)
+elements_on {T = T} {e = e} {others = others} {part = part} {old = old} {now = now} {new = new} {all = all} l n w =
+    by l.rest l.left (n _ l.gives)
   where
     by : (vs : Trees) → IsLeft old now (items_tokens (items_outline (elements_json T e vs))) all
         → GivesNext others (elements vs) (Some part) → ElementsLeft T e others old new all
     by no_tree q h = elim h [ ]
     by (tree v vs) q (gives_one s g) = record { rest = vs; gives = g; left = left_on _ q (w.each v (None, s)) }
 
-pub elements_end : {E : Type 0} {r : Result (Unit {0}) E} {T : Table} {e : TypeId} {parts others : Children} {old now new : Written} {all : List Token}
+pub elements_end : {E : Type 0} {r : Result (Unit {0}) E} {T : Table} {e : TypeId} {parts others : Children}
+    {old now new : Written} {all : List Token}
     → ElementsLeft T e parts old now all → NextIs parts None others
     → WritesTokens r now new (Token.end_array ∷ []) → WritesTokens r old new all
-elements_end {r = r} {T = T} {e = e} {others = others} {old = old} {now = now} {new = new} {all = all} l n w = by l.rest l.left (n _ l.gives)
+elements_end {r = r} {T = T} {e = e} {others = others} {old = old} {now = now} {new = new} {all = all} l n w =
+    by l.rest l.left (n _ l.gives)
   where
     by : (vs : Trees) → IsLeft old now (items_tokens (items_outline (elements_json T e vs))) all
         → GivesNext others (elements vs) None → WritesTokens r old new all
@@ -158,7 +164,8 @@ elements_end {r = r} {T = T} {e = e} {others = others} {old = old} {now = now} {
 
 -- ---- fields
 
-pub record FieldsLeft (T : Table) (types : List Field) (parts : Children) (old now : Written) (all : List Token) : Type 0 where
+pub record FieldsLeft (T : Table) (types : List Field) (parts : Children) (old now : Written) (all : List Token) : Type
+    0 where
   pub rest : Fields
   pub gives : Gives parts (present rest)
   pub left : IsLeft old now (items_tokens (items_outline (fields_json T types rest))) all
@@ -168,26 +175,31 @@ abbrev pub field_json : Table → List Field → ℕ → Tree → Data
 field_json T types f v = triple_json (natural_json f) (text_json (field_name (slice_get types f)))
     (value_json T (field_type (slice_get types f)) v)
 
-pub fields_begun : {E : Type 0} {u : Unit {0}} {T : Table} {types : List Field} {parts : Children} {old now : Written} (fs : Fields)
+pub fields_begun : {E : Type 0} {u : Unit {0}} {T : Table} {types : List Field} {parts : Children} {old now : Written}
+    (fs : Fields)
     → WritesTokens {E = E} (Ok u) old now (Token.begin_array ∷ []) → Gives parts (present fs)
     → FieldsLeft T types parts old now (json_tokens (outline (array (fields_json T types fs))))
 fields_begun fs w g = record { rest = fs; gives = g; left = left_begun _ w }
 
-pub fields_on : {E : Type 0} {u : Unit {0}} {T : Table} {types : List Field} {parts others : Children} {part : View} {old now new : Written} {all : List Token}
+pub fields_on : {E : Type 0} {u : Unit {0}} {T : Table} {types : List Field} {parts others : Children} {part : View}
+    {old now new : Written} {all : List Token}
     → FieldsLeft T types parts old now all → NextIs parts (Some part) others
     → ((f : ℕ) (v : Tree) → Sees part (Some f) v → WritesJson {E = E} (Ok u) now new (field_json T types f v))
     → FieldsLeft T types others old new all
-fields_on {T = T} {types = types} {others = others} {part = part} {old = old} {now = now} {new = new} {all = all} l n w = by l.rest l.left (n _ l.gives)
+fields_on {T = T} {types = types} {others = others} {part = part} {old = old} {now = now} {new = new} {all = all} l n
+    w = by l.rest l.left (n _ l.gives)
   where
     by : (fs : Fields) → IsLeft old now (items_tokens (items_outline (fields_json T types fs))) all
         → GivesNext others (present fs) (Some part) → FieldsLeft T types others old new all
     by no_field q h = elim h [ ]
     by (field f v fs) q (gives_one s g) = record { rest = fs; gives = g; left = left_on _ q (w f v s) }
 
-pub fields_end : {E : Type 0} {r : Result (Unit {0}) E} {T : Table} {types : List Field} {parts others : Children} {old now new : Written} {all : List Token}
+pub fields_end : {E : Type 0} {r : Result (Unit {0}) E} {T : Table} {types : List Field} {parts others : Children}
+    {old now new : Written} {all : List Token}
     → FieldsLeft T types parts old now all → NextIs parts None others
     → WritesTokens r now new (Token.end_array ∷ []) → WritesTokens r old new all
-fields_end {r = r} {T = T} {types = types} {others = others} {old = old} {now = now} {new = new} {all = all} l n w = by l.rest l.left (n _ l.gives)
+fields_end {r = r} {T = T} {types = types} {others = others} {old = old} {now = now} {new = new} {all = all} l n w =
+    by l.rest l.left (n _ l.gives)
   where
     by : (fs : Fields) → IsLeft old now (items_tokens (items_outline (fields_json T types fs))) all
         → GivesNext others (present fs) None → WritesTokens r old new all
@@ -197,13 +209,17 @@ fields_end {r = r} {T = T} {types = types} {others = others} {old = old} {now = 
 -- ---- entries
 
 -- the element of a key that was written, and then these entries, are to come; or these entries
-pub data EntriesLeft (T : Table) (k e : TypeId) (parts : Children) (old now : Written) (all : List Token) : Bool → Type 0 where
+pub data EntriesLeft (T : Table) (k e : TypeId) (parts : Children) (old now : Written) (all : List Token) : Bool
+    → Type 0 where
   key_next : (ps : Pairs) → Gives parts (alternating ps)
-      → IsLeft old now (items_tokens (items_outline (pairs_json T k e ps))) all → EntriesLeft T k e parts old now all true
+      → IsLeft old now (items_tokens (items_outline (pairs_json T k e ps))) all
+      → EntriesLeft T k e parts old now all true
   element_next : (v : Tree) (ps : Pairs) → Gives parts ((None, v) ∷ alternating ps)
-      → IsLeft old now ((json_tokens (outline (value_json T e v)) ++ Token.end_array ∷ []) ++ items_tokens (items_outline (pairs_json T k e ps))) all → EntriesLeft T k e parts old now all false
+      → IsLeft old now ((json_tokens (outline (value_json T e v)) ++ Token.end_array ∷ [])
+      ++ items_tokens (items_outline (pairs_json T k e ps))) all → EntriesLeft T k e parts old now all false
 
-pub entries_begun : {E : Type 0} {u : Unit {0}} {T : Table} {k e : TypeId} {parts : Children} {old now : Written} (ps : Pairs)
+pub entries_begun : {E : Type 0} {u : Unit {0}} {T : Table} {k e : TypeId} {parts : Children} {old now : Written}
+    (ps : Pairs)
     → WritesTokens {E = E} (Ok u) old now (Token.begin_array ∷ []) → Gives parts (alternating ps)
     → EntriesLeft T k e parts old now (json_tokens (outline (array (pairs_json T k e ps)))) true
 entries_begun ps w g = key_next ps g (left_begun _ w)
@@ -254,7 +270,8 @@ module _ {E : Type 0} {u : Unit {0}} {T : Table} {k e : TypeId} {parts others : 
       (subst (λ x. EntriesLeft T k e others old new all (not x)) (sym h)
       (element_on (subst (λ x. EntriesLeft T k e parts old now all x) h l) n w d))
 
-pub entries_end : {E : Type 0} {r : Result (Unit {0}) E} {T : Table} {k e : TypeId} {parts others : Children} {old now new : Written} {all : List Token} {is_key : Bool}
+pub entries_end : {E : Type 0} {r : Result (Unit {0}) E} {T : Table} {k e : TypeId} {parts others : Children}
+    {old now new : Written} {all : List Token} {is_key : Bool}
     → EntriesLeft T k e parts old now all is_key → NextIs parts None others
     → WritesTokens r now new (Token.end_array ∷ []) → WritesTokens r old new all
 entries_end {r = r} {T = T} {k = k} {e = e} {others = others} {old = old} {now = now} {new = new} {all = all}

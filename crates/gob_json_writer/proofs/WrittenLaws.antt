@@ -53,7 +53,8 @@ left_begun {old = old} {xs = xs} rest w = record {
   before = w.before;
 }
 
-pub left_on : {E : Type 0} {u : Unit {0}} {old now new : Written} {xs : List Token} (rest : List Token) {all : List Token}
+pub left_on : {E : Type 0} {u : Unit {0}} {old now new : Written} {xs : List Token} (rest : List Token)
+    {all : List Token}
     → IsLeft old now (xs ++ rest) all → WritesTokens {E = E} (Ok u) now new xs → IsLeft old new rest all
 left_on {now = now} {xs = xs} rest l w = record {
   tokens = ap (λ (l : List Token). l ++ rest) w.tokens ∙ append_assoc now.tokens xs rest ∙ l.tokens;
@@ -68,7 +69,8 @@ left_end {r = r} l w = record {
 }
 
 -- one more of the list was written
-pub left_more : {E X : Type 0} {u : Unit {0}} (tokens : List X → List Token) {xs shown : List X} {i : ℕ} {x : X} {one : List Token} {old now new : Written} {all : List Token}
+pub left_more : {E X : Type 0} {u : Unit {0}} (tokens : List X → List Token) {xs shown : List X} {i : ℕ} {x : X}
+    {one : List Token} {old now new : Written} {all : List Token}
     → shown ≡ xs → x ≡ get_or shown i x → i < length shown
     → tokens (x ∷ drop (i + 1) xs) ≡ one ++ tokens (drop (i + 1) xs) → IsLeft old now (tokens (drop i xs)) all
     → WritesTokens {E = E} (Ok u) now new one → IsLeft old new (tokens (drop (i + 1) xs)) all

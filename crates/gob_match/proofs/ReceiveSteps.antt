@@ -32,7 +32,8 @@ use Rattle.gob_match.specs.declared.step.Step.TheVariants as step
 use Rattle.gob_match.specs.Machine.Conversions.{IsConversion, ConversionNames}
 use Rattle.gob_match.specs.Machine.Conversions as kept
 use Rattle.gob_match.specs.Machine.Exploring.{ConvertsAt}
-use Rattle.gob_match.specs.Machine.Receiving.{IsReceived, AreElementsReceived, PairsReceived, FieldsReceived, no_more, absent}
+use Rattle.gob_match.specs.Machine.Receiving.{IsReceived, AreElementsReceived, PairsReceived, FieldsReceived, no_more}
+use Rattle.gob_match.specs.Machine.Receiving.{absent}
 use Rattle.gob_match.specs.Machine.Receiving.{present, IsOfMatch, IsReceivable, AreReceivable, PairsReceivable}
 use Rattle.gob_match.specs.Machine.Receiving.{FieldsReceivable, HaveRisingNumbers}
 use Rattle.gob_match.specs.Machine.Search.{Entry}
@@ -51,10 +52,10 @@ pub each_fits : {T : Table} {e : TypeId} (vs : List Value) (k : ℕ) {v : Value}
     → SpellsEach T e (views vs) b → slice_get vs k ≡ Some v → Fits T e (view v)
 each_fits [] k s there = absurd (true≢false (sym (ap is_some there)))
 each_fits {T = T} {e = e} (x ∷ xs) zero s there = subst (λ (v : Value). Fits T e (view v)) (some_injective there)
-    (front s)
+    (prefix s)
   where
-    front : {T : Table} {e : TypeId} {v : Tree} {vs : Trees} {b : List ℕ} → SpellsEach T e (tree v vs) b → Fits T e v
-    front (spelling.element {b = b} p ps) = record { bytes = b; spelled = p }
+    prefix : {T : Table} {e : TypeId} {v : Tree} {vs : Trees} {b : List ℕ} → SpellsEach T e (tree v vs) b → Fits T e v
+    prefix (spelling.element {b = b} p ps) = record { bytes = b; spelled = p }
 each_fits {T = T} {e = e} (x ∷ xs) (suc k) s there = let r = behind s in each_fits xs k r.1 there
   where
     behind : {T : Table} {e : TypeId} {v : Tree} {vs : Trees} {b : List ℕ} → SpellsEach T e (tree v vs) b → (c : List ℕ)
@@ -71,11 +72,11 @@ pub pair_fits : {T : Table} {k e : TypeId} (ps : List (Value × Value)) (i : ℕ
     → SpellsPairs T k e (pair_views ps) b → slice_get ps i ≡ Some p → Fits T k (view p.0) × Fits T e (view p.1)
 pair_fits [] i s there = absurd (true≢false (sym (ap is_some there)))
 pair_fits {T = T} {k = k} {e = e} (x ∷ xs) zero s there = subst
-    (λ (p : Value × Value). Fits T k (view p.0) × Fits T e (view p.1)) (some_injective there) (front s)
+    (λ (p : Value × Value). Fits T k (view p.0) × Fits T e (view p.1)) (some_injective there) (prefix s)
   where
-    front : {T : Table} {k e : TypeId} {x v : Tree} {ps : Pairs} {b : List ℕ} → SpellsPairs T k e (pair x v ps) b
+    prefix : {T : Table} {k e : TypeId} {x v : Tree} {ps : Pairs} {b : List ℕ} → SpellsPairs T k e (pair x v ps) b
         → Fits T k x × Fits T e v
-    front (spelling.entry {a = a} {b = b} o p ps) =
+    prefix (spelling.entry {a = a} {b = b} o p ps) =
         (record { bytes = a; spelled = o }, record { bytes = b; spelled = p })
 pair_fits (x ∷ xs) (suc i) s there = let r = behind s in pair_fits xs i r.1 there
   where
@@ -99,17 +100,17 @@ present_fits (next_field l at a p ps) (later h) there = present_fits ps h there
 present_fits (spelling.end_of_fields e) h there = elim h [ ]
 
 -- the first field has at least the number that is next, and those behind it have greater ones
-fields_front : {T : Table} {types : List Field} {next f : ℕ} {v : Tree} {fs : Fields} {b : List ℕ}
+fields_prefix : {T : Table} {types : List Field} {next f : ℕ} {v : Tree} {fs : Fields} {b : List ℕ}
     → SpellsFields T types next (field f v fs) b → (next ≤ f) × (c : List ℕ) × SpellsFields T types (f + 1) fs c
-fields_front (next_field {c = c} l at a p ps) = (l, c, ps)
+fields_prefix (next_field {c = c} l at a p ps) = (l, c, ps)
 
 -- the numbers of the present fields rise
 at_least : {T : Table} {types : List Field} (ps : List (ℕ × Value)) (j : ℕ) {next : ℕ} {q : ℕ × Value} {b : List ℕ}
     → SpellsFields T types next (field_views ps) b → slice_get ps j ≡ Some q → next ≤ q.0
 at_least [] j s there = absurd (true≢false (sym (ap is_some there)))
 at_least (x ∷ xs) zero s there = let e = ap (λ (p : ℕ × Value). p.0) (some_injective there) in let l =
-    (fields_front s).0 in omega arith
-at_least (x ∷ xs) (suc j) s there = let r = fields_front s in let h = at_least xs j r.2 there in let l = r.0 in omega
+    (fields_prefix s).0 in omega arith
+at_least (x ∷ xs) (suc j) s there = let r = fields_prefix s in let h = at_least xs j r.2 there in let l = r.0 in omega
     arith
 
 pub rising : {T : Table} {types : List Field} (ps : List (ℕ × Value)) {next : ℕ} {b : List ℕ}
@@ -117,9 +118,9 @@ pub rising : {T : Table} {types : List Field} (ps : List (ℕ × Value)) {next :
 rising [] s i j p q below one other = absurd (true≢false (sym (ap is_some one)))
 rising (x ∷ xs) s zero zero p q below one other = absurd (omega arith)
 rising (x ∷ xs) s (suc i) zero p q below one other = absurd (omega arith)
-rising (x ∷ xs) s zero (suc j) p q below one other = let h = at_least xs j (fields_front s).2 other in let e = ap
+rising (x ∷ xs) s zero (suc j) p q below one other = let h = at_least xs j (fields_prefix s).2 other in let e = ap
     (λ (p : ℕ × Value). p.0) (some_injective one) in omega arith
-rising (x ∷ xs) s (suc i) (suc j) p q below one other = rising xs (fields_front s).2 i j p q (omega arith) one other
+rising (x ∷ xs) s (suc i) (suc j) p q below one other = rising xs (fields_prefix s).2 i j p q (omega arith) one other
 
 -- ---- the pairs that a conversion leads to
 

@@ -110,7 +110,8 @@ pub record IsReadyPair (T U : Table) (p : TypePair) : Type 0 where
   pub stream : IsReady T p.stream
   pub wanted : IsReady U p.wanted
 
-pub named_ready : {T U : Table} {p q : TypePair} {s : Step} → IsReadyPair T U p → NamesByStep T U p s q → IsReadyPair T U q
+pub named_ready : {T U : Table} {p q : TypePair} {s : Step} → IsReadyPair T U p → NamesByStep T U p s q
+    → IsReadyPair T U q
 named_ready r n = record {
   stream = growth.names_ready r.stream n.shapes.stream (stream_named n.named);
   wanted =

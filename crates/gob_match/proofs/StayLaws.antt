@@ -106,7 +106,8 @@ module _ {T V U : Table} (keeps : Keeps T V) where
         h.named;
   }
 
-  leads_back : {path : List Step} {p q : TypePair} → IsReadyPair T U p → LeadsBySteps V U path p q → LeadsReady T U path p q
+  leads_back : {path : List Step} {p q : TypePair} → IsReadyPair T U p → LeadsBySteps V U path p q
+      → LeadsReady T U path p q
   leads_back ready here = record { leads = here; ready = ready }
   leads_back ready (onward m n l) =
       let named = names_back ready n in

@@ -1,4 +1,4 @@
--- A clash as it is printed. (docs/FORMAT.md, Matching and receiving, Path text: this project's own.)
+-- A clash as it is printed. (docs/LIBRARY.md, Matching and receiving, Path text: this project's own.)
 use Rattle.std.specs.Prelude.{ℕ, ◌/◌, ◌%◌, List, [], ◌∷◌, ◌++◌, codes, false, if◌then◌else◌}
 use Rattle.std.specs.Fmt.{decimal, digits}
 use Rattle.std.specs.List.{flat_map}

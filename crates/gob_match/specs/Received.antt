@@ -1,4 +1,4 @@
--- What is received of a value under two matching types. (docs/FORMAT.md, Matching and receiving.)
+-- What is received of a value under two matching types. (docs/LIBRARY.md, Matching and receiving.)
 use Rattle.std.specs.Prelude.{◌≡◌, ℕ, ◌+◌, List, [], ◌∷◌, Some, slice_get}
 use Rattle.gob_types.specs.declared.basic.Basic.{Basic}
 use Rattle.gob_types.specs.declared.id.TypeId.{TypeId}

@@ -121,7 +121,7 @@ fn match_fields(alloc: Global, stream: &Fields, wanted: &Fields) -> Result<Conve
     match_named(alloc, stream, &names, wanted)
 }
 
-// The same, where these are the names of the stream's fields.
+// Matches the fields of a struct, where these are the names of the stream's.
 fn match_named(
     alloc: Global,
     stream: &Fields,

@@ -23,7 +23,7 @@ use gob_value::Value;
 use std::alloc::Global;
 
 /// The value that is received of a value of the stream's type: the fields of its structs are taken by name, in the
-/// order of the wanted struct, and what is absent stays absent. (docs/FORMAT.md, Matching and receiving.)
+/// order of the wanted struct, and what is absent stays absent. (docs/LIBRARY.md, Matching and receiving.)
 ///
 /// The match is one that [`match_types`](crate::match_types) gave, and the value fits the type of the stream that
 /// was matched, however deep it is; so what is received fits the wanted type, and is no deeper. Recursion is as deep

@@ -1,7 +1,7 @@
 //! Which types match, and where others clash.
 use crate::rows::{Wrong, table_of, type_of};
 use gob_match::{ClashReason, MatchFault, Step, match_types};
-use gob_read_support::part;
+use gob_test_rows::part;
 use gob_types::{Table, TypeId};
 use std::alloc::Global;
 use std::test::*;

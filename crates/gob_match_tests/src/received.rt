@@ -1,7 +1,7 @@
 //! What is received of values.
 use crate::rows::{Wrong, table_of, type_of};
 use gob_match::{match_types, receive};
-use gob_read_support::{bytes_of, part, value_of};
+use gob_test_rows::{bytes_of, part, value_of};
 use gob_types::{Table, TypeId};
 use gob_value::{Value, fits, spell};
 use std::alloc::Global;

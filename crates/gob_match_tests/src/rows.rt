@@ -5,7 +5,7 @@
 //! `opaque`. The name `0xff` is one byte.
 use gob_match::MatchFault;
 use gob_num::Memory;
-use gob_read_support::number;
+use gob_test_rows::number;
 use gob_types::{DefineFault, Field, Fields, Kind, Marshal, Name, NotReady, Shape, Table, TypeId};
 use gob_value::{Misfit, SpellFault};
 use std::alloc::{AllocError, AllocFailed, Global};

@@ -34,9 +34,9 @@ append_split (d ∷ a) (c ∷ b) x y l e =
     let r = append_split a b x y n t in
     (let q : a ≡ b = r.0 in cc, r.1)
 
-pub bytes_front : (a b : List ℕ) → AreBytes (a ++ b) → AreBytes a
-bytes_front [] b p = tt
-bytes_front (d ∷ a) b p = (p.0, bytes_front a b p.1)
+pub bytes_prefix : (a b : List ℕ) → AreBytes (a ++ b) → AreBytes a
+bytes_prefix [] b p = tt
+bytes_prefix (d ∷ a) b p = (p.0, bytes_prefix a b p.1)
 
 pub bytes-append : (a b : List ℕ) → AreBytes a → AreBytes b → AreBytes (a ++ b)
 bytes-append [] b p q = q

@@ -8,12 +8,13 @@ use Rattle.std.proofs.Math.Seq.{take-append_seam}
 use Rattle.std.proofs.lemmas.List.{drop_more, take-append-drop, length-drop, length-take-le, take_all}
 use Rattle.gob_num.specs.Unsigned.{big_endian, AreBytes, IsUnsigned, short, long, IsBadHead, IsNotMinimal}
 use Rattle.gob_num.specs.Taken.{TakesUnsigned}
-use Rattle.gob_num.specs.Place.{IsUnsignedAt, NumberStandsAt, NoNumberStandsAt, AreUnsignedAt, no_number, one_more, PassesNumbers, IsOnlyNumberAt}
+use Rattle.gob_num.specs.Place.{IsUnsignedAt, NumberStandsAt, NoNumberStandsAt, AreUnsignedAt, no_number, one_more}
+use Rattle.gob_num.specs.Place.{PassesNumbers, IsOnlyNumberAt}
 use Rattle.gob_num.specs.declared.unsigned.Taken.{Taken}
 use Rattle.gob_num.specs.declared.unsigned.Taken.TheVariants.{Whole, More, BadHead, NotMinimal}
 use Rattle.gob_num.proofs.DigitLaws.{bytes_each, bytes_rest}
 use Rattle.gob_num.proofs.UnsignedLaws.{unsigned_prefix, unsigned_length}
-use Rattle.gob_num.proofs.FrontLaws.{bad_head_none, not_minimal_none}
+use Rattle.gob_num.proofs.PrefixLaws.{bad_head_none, not_minimal_none}
 use Rattle.gob_num.proofs.TakenLaws.{short_taken, digits_spell, chunk_taken}
 
 -- a byte stands at the place
@@ -55,7 +56,8 @@ pub record DigitsAt (head : ℕ) (eight bytes : List ℕ) (at : ℕ) : Type 0 wh
   pub same : eight ≡ take 8 (take (length bytes - (at + 1)) (drop (at + 1) bytes))
 
 -- they show what the piece is
-pub chunk_taken_at : {head at : ℕ} {eight bytes : List ℕ} (t : Taken) → DigitsAt head eight bytes at → TakesUnsigned (head ∷ eight) t
+pub chunk_taken_at : {head at : ℕ} {eight bytes : List ℕ} (t : Taken) → DigitsAt head eight bytes at
+    → TakesUnsigned (head ∷ eight) t
     → TakesUnsigned (drop at bytes) t
 chunk_taken_at {head = head} {at = at} {eight = eight} {bytes = bytes} t d p =
     chunk_taken (drop at bytes) (take (length bytes - (at + 1)) (drop (at + 1) bytes)) eight head t
@@ -65,16 +67,19 @@ last_empty : (a b : List ℕ) → [] ≡ a ++ b → b ≡ []
 last_empty [] b e = sym e
 last_empty (x ∷ a) b e = cc
 
-none_before : (a b : List ℕ) (n : ℕ) (t : Taken) → IsUnsigned n a → TakesUnsigned (a ++ b) t → ((m used : ℕ) → t ≡ Whole m used → ⊥) → ⊥
+none_before : (a b : List ℕ) (n : ℕ) (t : Taken) → IsUnsigned n a → TakesUnsigned (a ++ b) t
+    → ((m used : ℕ) → t ≡ Whole m used → ⊥) → ⊥
 none_before a b n (Whole m used) s p other = other m used refl
 none_before a b n More s p other =
-    let same = unsigned_prefix [] (b ++ p.rest) p.spelled s (append-nil ((a ++ b) ++ p.rest) ∙ append_assoc a b p.rest) in
+    let same = unsigned_prefix [] (b ++ p.rest) p.spelled s (append-nil ((a ++ b) ++ p.rest) ∙ append_assoc a b p.rest)
+    in
     p.more (last_empty b p.rest same.rest)
 none_before a b n BadHead s p other = bad_head_none (a ++ b) p [] b s (append-nil (a ++ b))
 none_before a b n NotMinimal s p other = not_minimal_none (a ++ b) p [] b s (append-nil (a ++ b))
 
 -- where something else than a number is taken, none stands
-pub none_at : (bytes : List ℕ) (at : ℕ) (t : Taken) → TakesUnsigned (drop at bytes) t → ((n used : ℕ) → t ≡ Whole n used → ⊥)
+pub none_at : (bytes : List ℕ) (at : ℕ) (t : Taken) → TakesUnsigned (drop at bytes) t
+    → ((n used : ℕ) → t ≡ Whole n used → ⊥)
     → NoNumberStandsAt bytes at
 none_at bytes at t p other n end s =
     let piece = drop at bytes in
@@ -82,7 +87,8 @@ none_at bytes at t p other n end s =
     (subst (λ b. TakesUnsigned b t) (sym (take-append-drop (end - at) piece)) p) other
 
 -- ---- what stands where a head is read
-pub bad_head_at : {bytes : List ℕ} {at head : ℕ} → StandsAt head bytes at → 128 ≤ head → head < 248 → NoNumberStandsAt bytes at
+pub bad_head_at : {bytes : List ℕ} {at head : ℕ} → StandsAt head bytes at → 128 ≤ head → head < 248
+    → NoNumberStandsAt bytes at
 bad_head_at {bytes = bytes} {at = at} s l h =
     none_at bytes at BadHead (subst IsBadHead (sym (piece_at s)) (l, h)) (λ n used e. cc)
 
@@ -102,17 +108,18 @@ head_tells : {n head : ℕ} {ds : List ℕ} → 128 ≤ head → IsUnsigned n (h
 head_tells l (short p) = absurd (omega arith)
 head_tells l (long c) = c.head_counts
 
-front_tells : (n head k : ℕ) (ds : List ℕ) → 128 ≤ head → 0 < k → k ≤ length ds + 1 → IsUnsigned n (take k (head ∷ ds))
+prefix_tells : (n head k : ℕ) (ds : List ℕ) → 128 ≤ head → 0 < k → k ≤ length ds + 1 → IsUnsigned n (take k (head ∷ ds))
     → head + k ≡ 257
-front_tells n head zero ds l o m s = absurd (omega arith)
-front_tells n head (suc j) ds l o m s = omega (arith, head_tells l s, length-take-le j ds (omega arith))
+prefix_tells n head zero ds l o m s = absurd (omega arith)
+prefix_tells n head (suc j) ds l o m s = omega (arith, head_tells l s, length-take-le j ds (omega arith))
 
-pub number_takes : {bytes : List ℕ} {at head n end : ℕ} → StandsAt head bytes at → 128 ≤ head → IsUnsignedAt n bytes at end
+pub number_takes : {bytes : List ℕ} {at head n end : ℕ} → StandsAt head bytes at → 128 ≤ head
+    → IsUnsignedAt n bytes at end
     → head + (end - at) ≡ 257
 number_takes {bytes = bytes} {at = at} {head = head} {n = n} {end = end} s l u =
     let size = length-drop (at + 1) bytes in
     let order = u.order in let inside = u.inside in let here = s.inside in
-    front_tells n head (end - at) (drop (at + 1) bytes) l (omega arith) (omega arith)
+    prefix_tells n head (end - at) (drop (at + 1) bytes) l (omega arith) (omega arith)
     (subst (λ p. IsUnsigned n (take (end - at) p)) (piece_at s) u.spelled)
 
 -- so none stands where the bytes end before that
@@ -130,7 +137,8 @@ counted_at {bytes = bytes} {at = at} {head = head} {d = d} (suc k) size s t b lo
     let long_enough = length-drop (at + 1 + 1) bytes in
     let all : AreBytes (take (at + 1) bytes ++ drop (at + 1) bytes) =
     subst AreBytes (sym (take-append-drop (at + 1) bytes)) (bytes_each bytes b) in
-    let behind : AreBytes (d ∷ ds) = subst AreBytes (piece_at t) (bytes_rest (take (at + 1) bytes) (drop (at + 1) bytes) all) in
+    let behind : AreBytes (d ∷ ds) = subst AreBytes (piece_at t) (bytes_rest (take (at + 1) bytes) (drop (at + 1) bytes)
+    all) in
     let head_is : 256 - suc k ≡ head = omega arith in
     let minimal : ¬ IsNotMinimal (head ∷ d ∷ []) = subst (λ h. ¬ IsNotMinimal (h ∷ d ∷ [])) head_is p in
     let n = big_endian (d ∷ take k ds) in
@@ -184,16 +192,17 @@ only_number {bytes = bytes} {at = at} {i = i} p n e u =
     )
 
 -- a number that the rest of the bytes begin with stands there
-pub number_stands : {bytes b : List ℕ} {at n : ℕ} (rest : List ℕ) → at ≤ length bytes → IsUnsigned n b → drop at bytes ≡ b ++ rest
+pub number_stands : {bytes b : List ℕ} {at n : ℕ} (rest : List ℕ) → at ≤ length bytes → IsUnsigned n b
+    → drop at bytes ≡ b ++ rest
     → IsUnsignedAt n bytes at (at + length b)
 number_stands {bytes = bytes} {b = b} {at = at} {n = n} rest l p e =
-    let front : take (at + length b - at) (drop at bytes) ≡ b =
+    let prefix : take (at + length b - at) (drop at bytes) ≡ b =
     let same : at + length b - at ≡ length b = omega arith in
     ap (λ k. take k (drop at bytes)) same ∙ ap (λ y. take (length b) y) e ∙ take-append_seam b rest in
     record {
       order = omega (arith, (unsigned_length p).0);
       inside = omega (arith, ap length e, length-drop at bytes, length-append b rest);
-      spelled = subst (IsUnsigned n) (sym front) p;
+      spelled = subst (IsUnsigned n) (sym prefix) p;
     }
 
 -- where one is known to stand, its digits tell it
@@ -202,8 +211,10 @@ pub known_digits_at : {head at number used : ℕ} {eight bytes : List ℕ} → D
     → IsOnlyNumberAt bytes at number (at + used)
 known_digits_at {head = head} {at = at} {number = number} {used = used} {eight = eight} {bytes = bytes} d taken n e u =
     let here = d.stands.inside in
-    let minimal : ¬ IsNotMinimal (head ∷ eight) = λ p. none_at bytes at NotMinimal (chunk_taken_at NotMinimal d p) (λ m i q. cc) n e u in
-    only_number (taken_at bytes at number used (omega arith) (chunk_taken_at (Whole number used) d (taken minimal))) n e u
+    let minimal : ¬ IsNotMinimal (head ∷ eight) = λ p. none_at bytes at NotMinimal (chunk_taken_at NotMinimal d p)
+    (λ m i q. cc) n e u in
+    only_number (taken_at bytes at number used (omega arith) (chunk_taken_at (Whole number used) d (taken minimal))) n e
+    u
 
 -- numbers of which there is one more, and the place behind the first
 pub with_first : {bytes : List ℕ} {n count more at next end : ℕ} → more ≡ count + 1 → IsUnsignedAt n bytes at next
@@ -219,7 +230,8 @@ without_first {bytes = bytes} {count = count} {next = next} {end = end} e p (one
     let same : k ≡ count = omega arith in
     subst (λ c. AreUnsignedAt bytes c next end) same (subst (λ i. AreUnsignedAt bytes k i end) (ends_at q p) r)
 
-pub none_of_some : {bytes : List ℕ} {more at end : ℕ} → 0 < more → NoNumberStandsAt bytes at → ¬ AreUnsignedAt bytes more at end
+pub none_of_some : {bytes : List ℕ} {more at end : ℕ} → 0 < more → NoNumberStandsAt bytes at
+    → ¬ AreUnsignedAt bytes more at end
 none_of_some o none (no_number) = omega arith
 none_of_some o none (one_more p q) = none _ _ p
 
@@ -230,7 +242,8 @@ none_left e = rw e no_number
 pub passes_none : {bytes : List ℕ} {most at : ℕ} → PassesNumbers bytes most at most at
 passes_none = record { fewer = omega arith; more = λ end p. p; all = λ end p. p }
 
-pub passes_one_more : {bytes : List ℕ} {most begin left less at next : ℕ} → left ≡ less + 1 → NumberStandsAt bytes at next
+pub passes_one_more : {bytes : List ℕ} {most begin left less at next : ℕ} → left ≡ less + 1
+    → NumberStandsAt bytes at next
     → PassesNumbers bytes most begin left at → PassesNumbers bytes most begin less next
 passes_one_more e p s = let few = s.fewer in record {
   fewer = omega (arith, few);

@@ -4,11 +4,11 @@ use Rattle.std.proofs.Common.{length, arith, refl, sym, ap, ◌∙◌, subst, le
 use Rattle.std.proofs.Math.Nat.{pow-succ'}
 use Rattle.std.proofs.lemmas.Bool.{cases_lt}
 use Rattle.std.proofs.lemmas.Nat.{mul-add-lt}
-use Rattle.gob_num.specs.Unsigned.{big_endian, IsUnsigned, IsUnsignedFront, BeginsNumber, IsNotMinimal}
+use Rattle.gob_num.specs.Unsigned.{big_endian, IsUnsigned, IsUnsignedPrefix, BeginsNumber, IsNotMinimal}
 use Rattle.gob_num.specs.Machine.Counters.{digits, pushed, AreCounters}
 use Rattle.gob_num.proofs.DigitLaws.{pow256_mono, bytes-append, big_endian-snoc, two_digits, length-digits}
 use Rattle.gob_num.proofs.DigitLaws.{big_endian-digits, digits-step, no_digits}
-use Rattle.gob_num.proofs.FrontLaws.{counted, begins_front}
+use Rattle.gob_num.proofs.PrefixLaws.{counted, begins_prefix}
 
 -- one digit more, and some are still to come
 grows : (h : ℕ) (ds : List ℕ) (b : ℕ) → BeginsNumber (h ∷ ds) → b < 256 → (ds ≡ [] → 0 < b) → h + length ds + 1 < 256
@@ -55,12 +55,12 @@ module _ (c left value b : ℕ) (a : AreCounters (suc c) left value) (byte : b <
           | inl p ↦ absurd (let q = some_digit e in first q (inl (omega arith, p)))
         ]
 
-    pub more_front : 1 < left → BeginsNumber (pushed (suc c) left value ++ b ∷ [])
-    more_front l =
+    pub more_prefix : 1 < left → BeginsNumber (pushed (suc c) left value ++ b ∷ [])
+    more_prefix l =
         let n = length-digits (suc c - left) value in
         let f = a.few in
         let le = a.left_le in
-        grows (255 - c) (digits (suc c - left) value) b a.front byte (λ e. not_zero e l) (omega arith)
+        grows (255 - c) (digits (suc c - left) value) b a.prefix byte (λ e. not_zero e l) (omega arith)
 
     pub done_spells : left ≡ 1 → IsUnsigned (value * 256 + b) (pushed (suc c) left value ++ b ∷ [])
     done_spells l =
@@ -68,7 +68,7 @@ module _ (c left value b : ℕ) (a : AreCounters (suc c) left value) (byte : b <
         let f = a.few in
         let v : big_endian (digits (suc c - left) value) ≡ value = big_endian-digits (suc c - left) value a.fits in
         subst (λ k. IsUnsigned (k * 256 + b) (pushed (suc c) left value ++ b ∷ [])) v
-        (ends (255 - c) (digits (suc c - left) value) b a.front byte (λ e. not_low e l) (omega arith))
+        (ends (255 - c) (digits (suc c - left) value) b a.prefix byte (λ e. not_low e l) (omega arith))
 
     pub more_pushed : 1 < left → pushed (suc c) (left - 1) (value * 256 + b) ≡ pushed (suc c) left value ++ b ∷ []
     more_pushed l =
@@ -86,7 +86,7 @@ module _ (c left value b : ℕ) (a : AreCounters (suc c) left value) (byte : b <
           left_le = omega arith;
           some_left = λ _. omega arith;
           fits = rw (e, pow-succ' 256 (suc c - left)) (mul-add-lt value 256 b (256 ^ (suc c - left)) a.fits byte);
-          front = subst BeginsNumber (sym (more_pushed l)) (more_front l);
+          prefix = subst BeginsNumber (sym (more_pushed l)) (more_prefix l);
         }
 
     pub fits_more : 0 < left → value * 256 + b < 2 ^ 64
@@ -99,7 +99,7 @@ module _ (c left value b : ℕ) (a : AreCounters (suc c) left value) (byte : b <
 pub record AfterDigit (count left value b r : ℕ) (bytes : List ℕ) : Type 0 where
   pub fits : value * 256 + r < 2 ^ 64
   pub done : left ≡ 1 → IsUnsigned (value * 256 + r) (bytes ++ b ∷ [])
-  pub front : left ≢ 1 → IsUnsignedFront (bytes ++ b ∷ [])
+  pub prefix : left ≢ 1 → IsUnsignedPrefix (bytes ++ b ∷ [])
   pub counters : left ≢ 1 → AreCounters count (left - 1) (value * 256 + r)
   pub next : left ≢ 1 → pushed count (left - 1) (value * 256 + r) ≡ bytes ++ b ∷ []
 
@@ -114,8 +114,8 @@ after_digit (suc c) left value b r bytes a v z l e p =
       fits = subst (λ k. k < 2 ^ 64) same (fits_more c left value b a l p some);
       done = λ o. subst (λ k. IsUnsigned k (bytes ++ b ∷ [])) same
           (subst (λ bs. IsUnsigned (value * 256 + b) (bs ++ b ∷ [])) v (done_spells c left value b a l p o));
-      front = λ o. begins_front (subst (λ bs. BeginsNumber (bs ++ b ∷ [])) v
-          (more_front c left value b a l p (omega arith)));
+      prefix = λ o. begins_prefix (subst (λ bs. BeginsNumber (bs ++ b ∷ [])) v
+          (more_prefix c left value b a l p (omega arith)));
       counters = λ o. subst (λ k. AreCounters (suc c) (left - 1) k) same
           (more_counters c left value b a l p (omega arith));
       next = λ o. subst (λ k. pushed (suc c) (left - 1) k ≡ bytes ++ b ∷ []) same
@@ -146,7 +146,7 @@ begun b (suc c) l h e =
         left_le = omega arith;
         some_left = λ _. omega arith;
         fits = rw z (omega arith);
-        front = subst BeginsNumber (sym same) (l, h);
+        prefix = subst BeginsNumber (sym same) (l, h);
       },
       same,
     )

@@ -4,16 +4,18 @@ use Rattle.std.proofs.Common.{length, get_or, take, drop, w64, arith, sym, ap, �
 use Rattle.std.specs.Int.{from_be_bytes}
 use Rattle.std.proofs.lemmas.Bool.{cases_lt}
 use Rattle.std.proofs.lemmas.List.{take-append-le, take-append-drop, length-take-le}
-use Rattle.gob_num.specs.Unsigned.{big_endian, AreBytes, IsUnsigned, short, IsUnsignedFront, BeginsNumber, IsNotMinimal}
+use Rattle.gob_num.specs.Unsigned.{big_endian, AreBytes, IsUnsigned, short, IsUnsignedPrefix, BeginsNumber}
+use Rattle.gob_num.specs.Unsigned.{IsNotMinimal}
 use Rattle.gob_num.specs.Taken.{TakesUnsigned}
 use Rattle.gob_num.specs.declared.unsigned.Taken.{Taken}
 use Rattle.gob_num.specs.declared.unsigned.Taken.TheVariants.{Whole, More, BadHead, NotMinimal}
-use Rattle.gob_num.proofs.DigitLaws.{bytes_front, bytes_each, big_endian-take, from_be_bytes-big_endian, bits_of_digits}
+use Rattle.gob_num.proofs.DigitLaws.{bytes_prefix, bytes_each, big_endian-take, from_be_bytes-big_endian}
+use Rattle.gob_num.proofs.DigitLaws.{bits_of_digits}
 use Rattle.gob_num.proofs.DigitLaws.{two_digits}
-use Rattle.gob_num.proofs.FrontLaws.{counted, begins_front, front_begins}
+use Rattle.gob_num.proofs.PrefixLaws.{counted, begins_prefix, prefix_begins}
 
-pub empty_taken : (piece : List ℕ) → length piece ≡ 0 → IsUnsignedFront piece
-empty_taken [] e = begins_front tt
+pub empty_taken : (piece : List ℕ) → length piece ≡ 0 → IsUnsignedPrefix piece
+empty_taken [] e = begins_prefix tt
 empty_taken (b ∷ piece) e = absurd (omega arith)
 
 pub short_taken : (piece rest : List ℕ) (h n : ℕ) → piece ≡ h ∷ rest → h < 128 → n ≡ h → TakesUnsigned piece (Whole n 1)
@@ -24,7 +26,7 @@ pub digits_spell : (h d k : ℕ) (ds : List ℕ) → 248 ≤ h → h + suc k ≡
     → ¬ IsNotMinimal (h ∷ d ∷ []) → IsUnsigned (big_endian (d ∷ take k ds)) (h ∷ d ∷ take k ds)
 digits_spell h d k ds low e l b p =
     let size : length (take k ds) ≡ k = length-take-le k ds l in
-    let bytes : AreBytes (take k ds) = bytes_front (take k ds) (drop k ds)
+    let bytes : AreBytes (take k ds) = bytes_prefix (take k ds) (drop k ds)
     (subst AreBytes (sym (take-append-drop k ds)) b.1) in
     elim (cases_lt 0 d) [
       | inr z ↦ absurd (elim (cases_lt h 255) [
@@ -74,7 +76,7 @@ not_padded h count (d ∷ ds) l e p =
 -- nine bytes show what any more of them would
 pub taken_before : (a b : List ℕ) (t : Taken) → 9 ≤ length a → TakesUnsigned a t → TakesUnsigned (a ++ b) t
 taken_before a b (Whole n used) l s = (omega (arith, length-append a b), rw (take-append-le used a b s.0) s.1)
-taken_before a b More l s = absurd (too_long a l (front_begins s))
+taken_before a b More l s = absurd (too_long a l (prefix_begins s))
   where
     too_long : (a : List ℕ) → 9 ≤ length a → BeginsNumber a → ⊥
     too_long [] l s = omega arith
@@ -90,6 +92,7 @@ pub chunk_taken : (piece rest eight : List ℕ) (h : ℕ) (t : Taken) → piece 
     → eight ≡ take 8 rest → TakesUnsigned (h ∷ eight) t → TakesUnsigned piece t
 chunk_taken piece rest eight h t e l s p =
     let size : length (take 8 rest) ≡ 8 = length-take-le 8 rest l in
-    let q : TakesUnsigned (h ∷ take 8 rest ++ drop 8 rest) t = taken_before (h ∷ take 8 rest) (drop 8 rest) t (omega arith)
+    let q : TakesUnsigned (h ∷ take 8 rest ++ drop 8 rest) t = taken_before (h ∷ take 8 rest) (drop 8 rest) t
+    (omega arith)
     (subst (λ ds. TakesUnsigned (h ∷ ds) t) s p) in
     subst (λ ds. TakesUnsigned ds t) (sym (e ∙ ap (λ ds. h ∷ ds) (sym (take-append-drop 8 rest)))) q

@@ -12,7 +12,7 @@ use Rattle.gob_num.proofs.DigitLaws.{length-digits, bits_of_digits}
 use Rattle.gob_num.proofs.UnsignedLaws.{counted_digits}
 
 -- the low digits stand behind the others
-digits-add : (j k n : ℕ) → (front : List ℕ) × (length front ≡ j) × (digits (j + k) n ≡ front ++ digits k n)
+digits-add : (j k n : ℕ) → (prefix : List ℕ) × (length prefix ≡ j) × (digits (j + k) n ≡ prefix ++ digits k n)
 unfolding digits
 digits-add j zero n = (digits j n, length-digits j n, rw add-zero (sym (append-nil (digits j n))))
 digits-add j (suc k) n =
@@ -34,13 +34,13 @@ last_digits count n bytes l e =
     let s : (8 - count) + count ≡ 8 = omega arith in
     let t : 8 - (8 - count) ≡ count = omega arith in
     let whole : bytes ≡ r.0 ++ digits count n = e ∙ ap (λ k. digits k n) (sym s) ∙ r.2 in
-    let behind : drop (8 - count) bytes ≡ digits count n = after_front r.0 (digits count n) (8 - count) bytes r.1 whole
+    let behind : drop (8 - count) bytes ≡ digits count n = after_prefix r.0 (digits count n) (8 - count) bytes r.1 whole
     in
     rw (t, behind) (take_whole count (digits count n) (length-digits count n))
   where
-    after_front : (front xs : List ℕ) (k : ℕ) (bytes : List ℕ) → length front ≡ k → bytes ≡ front ++ xs
+    after_prefix : (prefix xs : List ℕ) (k : ℕ) (bytes : List ℕ) → length prefix ≡ k → bytes ≡ prefix ++ xs
         → drop k bytes ≡ xs
-    after_front front xs k bytes e w = rw (w, ← e) (drop-append_seam front xs)
+    after_prefix prefix xs k bytes e w = rw (w, ← e) (drop-append_seam prefix xs)
 
     take_whole : (k : ℕ) (xs : List ℕ) → length xs ≡ k → take k xs ≡ xs
     take_whole k xs e = rw (← e) (take-length xs)

@@ -1,7 +1,7 @@
 -- The laws of numbers' spellings, each for any relation `Spells` of a value with bytes.
 -- Source: they follow from Go's encoding/gob documentation, Encoding Details; docs/FORMAT.md, Numbers.
 use Rattle.std.specs.Prelude.{◌≡◌, ◌↔◌, ℕ, List, ◌++◌}
-use Rattle.gob_num.specs.Unsigned.{AreBytes, IsUnsigned, IsUnsignedFront, BeginsNumber, GoesPastNumber, IsBadHead}
+use Rattle.gob_num.specs.Unsigned.{AreBytes, IsUnsigned, IsUnsignedPrefix, BeginsNumber, GoesPastNumber, IsBadHead}
 use Rattle.gob_num.specs.Unsigned.{IsNotMinimal}
 use Rattle.gob_num.specs.Spelled.{IsSpelled, Same}
 
@@ -24,14 +24,14 @@ SpellAll A Fits Spells = (v : A) → Fits v ↔ IsSpelled (Spells v)
 
 -- what bytes are to the spellings of unsigned numbers
 pub data Beginning : Type 0 where
-  front : Beginning
+  prefix : Beginning
   whole : Beginning
   past : Beginning
   bad_head : Beginning
   not_minimal : Beginning
 
 abbrev pub Begins : Beginning → List ℕ → Type 0
-Begins front bytes = IsUnsignedFront bytes
+Begins prefix bytes = IsUnsignedPrefix bytes
 Begins whole bytes = (n : ℕ) × IsUnsigned n bytes
 Begins past bytes = GoesPastNumber bytes
 Begins bad_head bytes = IsBadHead bytes
@@ -45,6 +45,6 @@ BeginSomehow = (bytes : List ℕ) → AreBytes bytes → (k : Beginning) × Begi
 abbrev pub BeginOneWay : Type 0
 BeginOneWay = (j k : Beginning) (bytes : List ℕ) → Begins j bytes → Begins k bytes → j ≡ k
 
--- a proper front of a spelling is known by its own bytes
-abbrev pub FrontsAreKnown : Type 0
-FrontsAreKnown = (bytes : List ℕ) → IsUnsignedFront bytes ↔ BeginsNumber bytes
+-- a proper prefix of a spelling is known by its own bytes
+abbrev pub PrefixesAreKnown : Type 0
+PrefixesAreKnown = (bytes : List ℕ) → IsUnsignedPrefix bytes ↔ BeginsNumber bytes

@@ -26,8 +26,8 @@ pub data IsUnsigned : ℕ → List ℕ → Type 0 where
   short : {n : ℕ} → n < 128 → IsUnsigned n (n ∷ [])
   long : {n head : ℕ} {digits : List ℕ} → IsCounted n head digits → IsUnsigned n (head ∷ digits)
 
--- the bytes are a proper front of a spelling: it goes on after them
-pub record IsUnsignedFront (bytes : List ℕ) : Type 0 where
+-- the bytes are a proper prefix of a spelling: it goes on after them
+pub record IsUnsignedPrefix (bytes : List ℕ) : Type 0 where
   pub number : ℕ
   pub rest : List ℕ
   pub more : rest ≢ []
@@ -42,11 +42,11 @@ BeginsNumber (head ∷ d ∷ ds) = (248 ≤ head) × (head + length (d ∷ ds) <
 -- a whole spelling and something after it
 pub record GoesPastNumber (bytes : List ℕ) : Type 0 where
   pub number : ℕ
-  pub front : List ℕ
+  pub prefix : List ℕ
   pub rest : List ℕ
   pub more : rest ≢ []
-  pub spelled : IsUnsigned number front
-  pub whole : bytes ≡ front ++ rest
+  pub spelled : IsUnsigned number prefix
+  pub whole : bytes ≡ prefix ++ rest
 
 -- the first byte is neither a number below 128 nor a head that counts eight digits at most
 abbrev pub IsBadHead : List ℕ → Type 0

@@ -8,7 +8,7 @@ ghost use Rattle.gob_num.specs.Unsigned.{IsUnsigned};
 ghost use Rattle.gob_num.specs.Signed.{IsSigned};
 ghost use Rattle.gob_num.specs.Pattern.{IsPattern};
 ghost use Rattle.gob_num.specs.Laws.{BeginNoOther, AreUnique, TellTheValue, SpellAll};
-ghost use Rattle.gob_num.specs.Laws.{BeginSomehow, BeginOneWay, FrontsAreKnown};
+ghost use Rattle.gob_num.specs.Laws.{BeginSomehow, BeginOneWay, PrefixesAreKnown};
 
 /// No spelling of a kind of number begins another of that kind, so a reader knows where each ends.
 pub fn spellings_begin_no_other()
@@ -38,14 +38,14 @@ pub fn numbers_of_64_bits_are_spelled()
     ensures pattern { SpellAll ℕ (λ p. p < 2 ^ 64) IsPattern }
 {}
 
-/// Bytes are a proper front of an unsigned number's spelling, a whole one, a whole one with more behind it,
+/// Bytes are a proper prefix of an unsigned number's spelling, a whole one, a whole one with more behind it,
 /// have a bad head, or are not minimal: each list of bytes is one of these, and none is two of them.
 pub fn bytes_begin_in_one_way()
     ensures somehow { BeginSomehow }
     ensures one_way { BeginOneWay }
 {}
 
-/// Whether bytes are a proper front of a spelling shows in these bytes alone.
+/// Whether bytes are a proper prefix of a spelling shows in these bytes alone.
 pub fn fronts_are_known()
-    ensures { FrontsAreKnown }
+    ensures { PrefixesAreKnown }
 {}

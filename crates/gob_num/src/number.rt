@@ -5,7 +5,7 @@ use std::marker::Model;
 /// What the bytes of a number so far are.
 #[derive(Clone, Copy, Debug, PartialEq, Eq)]
 pub enum Step {
-    /// A proper front of a spelling: the number goes on.
+    /// A proper prefix of a spelling: the number goes on.
     More,
     /// The spelling of this number, whole.
     Done(u64),
@@ -91,12 +91,12 @@ impl Number {
         }
     }
 
-    /// The same, byte by byte.
+    /// Takes bytes from the front of the piece, one by one, until the number is whole.
     pub(crate) fn take_by_bytes(&mut self, piece: &[u8]) -> Taken
         ensures taken { TakesOn self.old piece.now result }
         ensures left { self.new ≡ left result (self.old ++ piece.now) }
     {
-        let _front = self.count;
+        let _prefix = self.count;
         for (i, b) in piece.iter().enumerate() {
             match self.push(*b) {
                 Step::More => {}

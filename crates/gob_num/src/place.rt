@@ -55,7 +55,7 @@ pub fn known_uint_at(bytes: &[u8], at: usize) -> (u64, usize)
     }
 }
 
-// The same of a number that stands near the end of the bytes.
+// The number that begins at the place, fewer than nine bytes before the end, and the place behind it.
 #[inline(never)]
 fn known_near_the_end(bytes: &[u8], at: usize) -> (u64, usize)
     requires { at ≤ length bytes.now }
@@ -124,9 +124,9 @@ struct Counted {
 }
 
 impl Counted {
-    // Goes over numbers that stand at the place one behind another, at the most so many, and tells where it ends and how
-    // many are left: a run of the last long one's size, and where that is short, numbers of any size. Whether the number
-    // before the place is `long` tells a list of mixed sizes from one of short numbers alone.
+    // Goes over numbers that stand at the place one behind another, at the most so many, and tells where it ends and
+    // how many are left: a run of the last long one's size, and where that is short, numbers of any size. Whether the
+    // number before the place is `long` tells a list of mixed sizes from one of short numbers alone.
     #[inline(always)]
     fn pass_next(self, bytes: &[u8], begin: usize, most: u64, long: bool) -> (usize, u64)
         requires counts { CountsDigits self.head self.count }

@@ -17,7 +17,7 @@ pub(crate) const LEAST_HEAD: u8 = 248;
 pub enum Taken {
     /// The first `used` bytes of the piece spell the number.
     Whole { number: u64, used: usize },
-    /// The whole piece is a proper front of a spelling, as the empty one is: the number goes on behind it.
+    /// The whole piece is a proper prefix of a spelling, as the empty one is: the number goes on behind it.
     More,
     /// The first byte begins no number: it is one of `80` to `f7`.
     BadHead,
@@ -46,8 +46,8 @@ pub fn write_uint(_alloc: Global, n: u64, out: &mut Vec<u8>) -> Result<(), Memor
 
 /// Takes a whole number from the front of the piece, and says what stands there.
 ///
-/// It is faster than [`Number`], and judges as it does. A number of which the piece has a front alone is left
-/// to [`Number`], which keeps that front.
+/// It is faster than [`Number`], and judges as it does. A number of which the piece has a prefix alone is left
+/// to [`Number`], which keeps that prefix.
 pub fn take_uint(piece: &[u8]) -> Taken
     ensures { TakesUnsigned piece.now result }
 {

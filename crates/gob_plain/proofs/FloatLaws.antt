@@ -1,5 +1,6 @@
 -- What a float is by its bits, and how JSON says it.
-use Rattle.std.proofs.Common.{◌≡◌, ℕ, zero, suc, ◌+◌, ◌/◌, ◌%◌, ◌<◌, ◌≤◌, List, Bool, true, false, cond, eqb, leb, Some, refl, sym, ap, ◌∙◌, subst, arith, true≢false}
+use Rattle.std.proofs.Common.{◌≡◌, ℕ, zero, suc, ◌+◌, ◌/◌, ◌%◌, ◌<◌, ◌≤◌, List, Bool, true, false, cond, eqb, leb, Some}
+use Rattle.std.proofs.Common.{refl, sym, ap, ◌∙◌, subst, arith, true≢false}
 use Rattle.std.specs.Prelude.{codes}
 use Rattle.std.specs.Float.{float_is_finite}
 use Rattle.std.specs.Float.Ieee.{Float, nan, inf, fin, binary64, of_bits, of_fields, odd}
@@ -33,10 +34,12 @@ fields_finite s (suc x) t h = below_ones s x t (eqb (suc x) 2047) refl (by (eqb 
     by false e = refl
     by true e = let is = eqb-true (suc x) 2047 e in absurd (omega arith)
 
-pub finite_is : (b : ℕ) → b % 0x8000_0000_0000_0000 < 0x7ff0_0000_0000_0000 → float_is_finite (of_bits binary64 b) ≡ true
+pub finite_is : (b : ℕ) → b % 0x8000_0000_0000_0000 < 0x7ff0_0000_0000_0000
+    → float_is_finite (of_bits binary64 b) ≡ true
 unfolding of_bits
 finite_is b h =
-    fields_finite (leb 0x8000_0000_0000_0000 b) (b % 0x8000_0000_0000_0000 / 0x10_0000_0000_0000) (b % 0x10_0000_0000_0000)
+    fields_finite (leb 0x8000_0000_0000_0000 b) (b % 0x8000_0000_0000_0000 / 0x10_0000_0000_0000)
+    (b % 0x10_0000_0000_0000)
     (omega arith)
 
 -- the digits below all ones
@@ -68,7 +71,8 @@ inf_is b h =
 
 -- ---- what is said of it
 
-pub finite_says : (x : Float) (text : List ℕ) → float_is_finite x ≡ true → IsPlainNumber text → parse_float binary64 text ≡ Some x
+pub finite_says : (x : Float) (text : List ℕ) → float_is_finite x ≡ true → IsPlainNumber text
+    → parse_float binary64 text ≡ Some x
     → SaysFloat x (json.number text)
 unfolding float_is_finite
 finite_says nan text h p q = absurd (true≢false (sym h))

@@ -1,5 +1,6 @@
 -- What is written of the parts that the children of a view give, and what is left to be written.
-use Rattle.std.proofs.Common.{◌≡◌, ◌≢◌, ℕ, List, [], ◌∷◌, ◌++◌, ◌∙◌, Some, None, Bool, true, false, not, refl, sym, ap, subst}
+use Rattle.std.proofs.Common.{◌≡◌, ◌≢◌, ℕ, List, [], ◌∷◌, ◌++◌, ◌∙◌, Some, None, Bool, true, false, not, refl, sym, ap}
+use Rattle.std.proofs.Common.{subst}
 use Rattle.std.proofs.Common.{append_assoc, Result, Ok}
 use Rattle.std.specs.Prelude.{slice_get}
 use Rattle.json.specs.Token.{Token}
@@ -17,27 +18,32 @@ use Rattle.gob_tape.specs.declared.kind.ValueKind.{ValueKind}
 use Rattle.gob_tape.specs.declared.kind.ValueKind.TheVariants as kind
 use Rattle.gob_tape.specs.declared.view.View.{View}
 use Rattle.gob_tape.specs.declared.view.Children.{Children}
-use Rattle.gob_tape.specs.Seeing.{kind_of, numbers_of, bytes_of, elements, alternating, present, Sees, Gives, gives_one, GivesNext}
+use Rattle.gob_tape.specs.Seeing.{kind_of, numbers_of, bytes_of, elements, alternating, present, Sees, Gives, gives_one}
+use Rattle.gob_tape.specs.Seeing.{GivesNext}
 use Rattle.gob_json.specs.Json.{field_name, field_type}
 use Rattle.gob_json_writer.specs.WritesJson.{WritesTokens}
 use Rattle.std.specs.Fmt.{decimal, signed_decimal}
 use Rattle.gob_read.specs.Leaf.{signed_of}
 use Rattle.gob_json_writer.proofs.TapeLaws.{NextIs, leaf_seen, signed_unsigned}
-use Rattle.gob_plain.specs.Plain.{Says, SayEach, SayMembers, SayPairs, SayFields, SaysElements, SaysMembers, SaysPairs, SaysStruct}
+use Rattle.gob_plain.specs.Plain.{Says, SayEach, SayMembers, SayPairs, SayFields, SaysElements, SaysMembers, SaysPairs}
+use Rattle.gob_plain.specs.Plain.{SaysStruct}
 use Rattle.gob_plain.specs.Plain.{name_text, key_text}
 use Rattle.gob_plain.specs.Leaf.{SaysLeaf}
 use Rattle.gob_plain.specs.WritesPlain.{WritesSome, AreTokensOf, WritesPlain, WritesPlainOf, Shows}
-use Rattle.gob_plain.proofs.SomeLaws.{IsLeft, left_begun, left_on, left_end, some_behind, some_then, some_of, ItemsTokens, MembersTokens, MemberTokens, both_same}
+use Rattle.gob_plain.proofs.SomeLaws.{IsLeft, left_begun, left_on, left_end, some_behind, some_then, some_of}
+use Rattle.gob_plain.proofs.SomeLaws.{ItemsTokens, MembersTokens, MemberTokens, both_same}
 
 -- ---- elements
 
 -- these elements are to come, and with what is written of them the tokens are all
-pub record ElementsLeft (T : Table) (e : TypeId) (parts : Children) (old now : Written) (All : List Token → Type 0) : Type 0 where
+pub record ElementsLeft (T : Table) (e : TypeId) (parts : Children) (old now : Written) (All : List Token → Type 0) :
+    Type 0 where
   pub rest : Trees
   pub gives : Gives parts (elements rest)
   pub left : IsLeft old now (ItemsTokens (SayEach T e rest)) All
 
-pub elements_begun : {E : Type 0} {u : Unit {0}} {T : Table} {e : TypeId} {parts : Children} {old now : Written} (vs : Trees)
+pub elements_begun : {E : Type 0} {u : Unit {0}} {T : Table} {e : TypeId} {parts : Children} {old now : Written}
+    (vs : Trees)
     → WritesTokens {E = E} (Ok u) old now (Token.begin_array ∷ []) → Gives parts (elements vs)
     → ElementsLeft T e parts old now (AreTokensOf (SaysElements T e vs))
 elements_begun vs w g = record {
@@ -46,10 +52,12 @@ elements_begun vs w g = record {
   left = left_begun w (λ ys h. (json.array h.0, (h.0, refl, h.1), ap (λ (l : List Token). Token.begin_array ∷ l) h.2));
 }
 
-pub elements_on : {E : Type 0} {u : Unit {0}} {T : Table} {e : TypeId} {parts others : Children} {part : View} {old now new : Written} {All : List Token → Type 0}
+pub elements_on : {E : Type 0} {u : Unit {0}} {T : Table} {e : TypeId} {parts others : Children} {part : View}
+    {old now new : Written} {All : List Token → Type 0}
     → ElementsLeft T e parts old now All → NextIs parts (Some part) others
     → WritesPlainOf {E = E} (Ok u) now new (Shows part) (Says T e) → ElementsLeft T e others old new All
-elements_on {T = T} {e = e} {others = others} {part = part} {old = old} {now = now} {new = new} {All = All} l n w = by l.rest l.left (n _ l.gives)
+elements_on {T = T} {e = e} {others = others} {part = part} {old = old} {now = now} {new = new} {All = All} l n w =
+    by l.rest l.left (n _ l.gives)
   where
     by : (vs : Trees) → IsLeft old now (ItemsTokens (SayEach T e vs)) All → GivesNext others (elements vs) (Some part)
         → ElementsLeft T e others old new All
@@ -61,10 +69,12 @@ elements_on {T = T} {e = e} {others = others} {part = part} {old = old} {now = n
           (λ xs ys p h. (json.item p.0 h.0, (p.1, h.1), both_same p.2 h.2));
     }
 
-pub elements_end : {E : Type 0} {r : Result (Unit {0}) E} {T : Table} {e : TypeId} {parts others : Children} {old now new : Written} {All : List Token → Type 0}
+pub elements_end : {E : Type 0} {r : Result (Unit {0}) E} {T : Table} {e : TypeId} {parts others : Children}
+    {old now new : Written} {All : List Token → Type 0}
     → ElementsLeft T e parts old now All → NextIs parts None others
     → WritesTokens r now new (Token.end_array ∷ []) → WritesSome r old new All
-elements_end {r = r} {T = T} {e = e} {others = others} {old = old} {now = now} {new = new} {All = All} l n w = by l.rest l.left (n _ l.gives)
+elements_end {r = r} {T = T} {e = e} {others = others} {old = old} {now = now} {new = new} {All = All} l n w =
+    by l.rest l.left (n _ l.gives)
   where
     by : (vs : Trees) → IsLeft old now (ItemsTokens (SayEach T e vs)) All → GivesNext others (elements vs) None
         → WritesSome r old new All
@@ -73,31 +83,42 @@ elements_end {r = r} {T = T} {e = e} {others = others} {old = old} {now = now} {
 
 -- ---- fields
 
-pub record FieldsLeft (T : Table) (types : List Field) (parts : Children) (old now : Written) (All : List Token → Type 0) : Type 0 where
+pub record FieldsLeft (T : Table) (types : List Field) (parts : Children) (old now : Written) (All : List Token
+    → Type 0) : Type 0 where
   pub rest : Fields
   pub gives : Gives parts (present rest)
   pub left : IsLeft old now (MembersTokens (SayFields T types rest)) All
 
 -- the name and the value of a field
 abbrev pub FieldTokens : Table → List Field → ℕ → Tree → List Token → Type 0
-FieldTokens T types f v = MemberTokens (name_text (field_name (slice_get types f))) (Says T (field_type (slice_get types f)) v)
+FieldTokens T types f v = MemberTokens (name_text (field_name (slice_get types f)))
+    (Says T (field_type (slice_get types f)) v)
 
-pub fields_begun : {E : Type 0} {u : Unit {0}} {T : Table} {types : List Field} {parts : Children} {old now : Written} (fs : Fields)
+pub fields_begun : {E : Type 0} {u : Unit {0}} {T : Table} {types : List Field} {parts : Children} {old now : Written}
+    (fs : Fields)
     → WritesTokens {E = E} (Ok u) old now (Token.begin_object ∷ []) → Gives parts (present fs)
     → FieldsLeft T types parts old now (AreTokensOf (SaysStruct T types fs))
 fields_begun fs w g = record {
   rest = fs;
   gives = g;
-  left = left_begun w (λ ys h. (json.object h.0, (h.0, refl, h.1), ap (λ (l : List Token). Token.begin_object ∷ l) h.2));
+  left = left_begun w (λ ys h. (
+    json.object h.0,
+    (h.0, refl, h.1),
+    ap (λ (l : List Token). Token.begin_object ∷ l)
+        h.2,
+  ));
 }
 
-pub fields_on : {E : Type 0} {u : Unit {0}} {T : Table} {types : List Field} {parts others : Children} {part : View} {old now new : Written} {All : List Token → Type 0}
+pub fields_on : {E : Type 0} {u : Unit {0}} {T : Table} {types : List Field} {parts others : Children} {part : View}
+    {old now new : Written} {All : List Token → Type 0}
     → FieldsLeft T types parts old now All → NextIs parts (Some part) others
     → ((f : ℕ) (v : Tree) → Sees part (Some f) v → WritesSome {E = E} (Ok u) now new (FieldTokens T types f v))
     → FieldsLeft T types others old new All
-fields_on {T = T} {types = types} {others = others} {part = part} {old = old} {now = now} {new = new} {All = All} l n w = by l.rest l.left (n _ l.gives)
+fields_on {T = T} {types = types} {others = others} {part = part} {old = old} {now = now} {new = new} {All = All} l n
+    w = by l.rest l.left (n _ l.gives)
   where
-    by : (fs : Fields) → IsLeft old now (MembersTokens (SayFields T types fs)) All → GivesNext others (present fs) (Some part)
+    by : (fs : Fields) → IsLeft old now (MembersTokens (SayFields T types fs)) All
+        → GivesNext others (present fs) (Some part)
         → FieldsLeft T types others old new All
     by no_field q h = elim h [ ]
     by (field f v fs) q (gives_one s g) = record {
@@ -108,10 +129,12 @@ fields_on {T = T} {types = types} {others = others} {part = part} {old = old} {n
           (json.member (name_text (field_name (slice_get types f))) p.0 h.0, (refl, p.1, h.1), both_same p.2 h.2));
     }
 
-pub fields_end : {E : Type 0} {r : Result (Unit {0}) E} {T : Table} {types : List Field} {parts others : Children} {old now new : Written} {All : List Token → Type 0}
+pub fields_end : {E : Type 0} {r : Result (Unit {0}) E} {T : Table} {types : List Field} {parts others : Children}
+    {old now new : Written} {All : List Token → Type 0}
     → FieldsLeft T types parts old now All → NextIs parts None others
     → WritesTokens r now new (Token.end_object ∷ []) → WritesSome r old new All
-fields_end {r = r} {T = T} {types = types} {others = others} {old = old} {now = now} {new = new} {All = All} l n w = by l.rest l.left (n _ l.gives)
+fields_end {r = r} {T = T} {types = types} {others = others} {old = old} {now = now} {new = new} {All = All} l n w =
+    by l.rest l.left (n _ l.gives)
   where
     by : (fs : Fields) → IsLeft old now (MembersTokens (SayFields T types fs)) All → GivesNext others (present fs) None
         → WritesSome r old new All
@@ -119,14 +142,17 @@ fields_end {r = r} {T = T} {types = types} {others = others} {old = old} {now = 
     by (field f v fs) q h = elim h [ ]
 
 -- the name, and then the value, of a field or an entry
-pub member_some : {E F : Type 0} {u : Unit {0}} {r : Result (Unit {0}) F} {old mid new : Written} {name : List ℕ} {P : Json → Type 0}
+pub member_some : {E F : Type 0} {u : Unit {0}} {r : Result (Unit {0}) F} {old mid new : Written} {name : List ℕ}
+    {P : Json → Type 0}
     → WritesTokens {E = E} (Ok u) old mid (Token.key name ∷ []) → WritesPlain r mid new P
     → WritesSome r old new (MemberTokens name P)
 member_some {name = name} v w = some_behind v w (λ ys q. (q.0, q.1, ap (λ (l : List Token). Token.key name ∷ l) q.2))
 
 -- the same of a field whose name and type were looked up
-pub field_some : {E F : Type 0} {u : Unit {0}} {r : Result (Unit {0}) F} {old mid new : Written} (T : Table) (types : List Field) (v : Tree)
-    {f n : ℕ} {name : List ℕ} {e : TypeId} → n ≡ f → name ≡ field_name (slice_get types n) → e ≡ field_type (slice_get types n)
+pub field_some : {E F : Type 0} {u : Unit {0}} {r : Result (Unit {0}) F} {old mid new : Written} (T : Table)
+    (types : List Field) (v : Tree)
+    {f n : ℕ} {name : List ℕ} {e : TypeId} → n ≡ f → name ≡ field_name (slice_get types n)
+    → e ≡ field_type (slice_get types n)
     → WritesTokens {E = E} (Ok u) old mid (Token.key (name_text name) ∷ []) → WritesPlain r mid new (Says T e v)
     → WritesSome r old new (FieldTokens T types f v)
 field_some {r = r} {old = old} {new = new} T types v {n = n} {e = e} is named typed w x =
@@ -137,7 +163,8 @@ field_some {r = r} {old = old} {new = new} T types v {n = n} {e = e} is named ty
 -- ---- entries of an object
 
 -- the value of a name that was written, and then these entries, are to come; or these entries
-pub data MembersLeft (T : Table) (e : TypeId) (parts : Children) (old now : Written) (All : List Token → Type 0) : Bool → Type 0 where
+pub data MembersLeft (T : Table) (e : TypeId) (parts : Children) (old now : Written) (All : List Token → Type 0) : Bool
+    → Type 0 where
   name_next : (ps : Pairs) → Gives parts (alternating ps) → IsLeft old now (MembersTokens (SayMembers T e ps)) All
       → MembersLeft T e parts old now All true
   value_next : (v : Tree) (ps : Pairs) → Gives parts ((None, v) ∷ alternating ps)
@@ -145,7 +172,8 @@ pub data MembersLeft (T : Table) (e : TypeId) (parts : Children) (old now : Writ
       × (ts ≡ json_tokens j ++ members_tokens ms)) All
       → MembersLeft T e parts old now All false
 
-pub members_begun : {E : Type 0} {u : Unit {0}} {T : Table} {e : TypeId} {parts : Children} {old now : Written} (ps : Pairs)
+pub members_begun : {E : Type 0} {u : Unit {0}} {T : Table} {e : TypeId} {parts : Children} {old now : Written}
+    (ps : Pairs)
     → WritesTokens {E = E} (Ok u) old now (Token.begin_object ∷ []) → Gives parts (alternating ps)
     → MembersLeft T e parts old now (AreTokensOf (SaysMembers T e ps)) true
 members_begun ps w g = name_next ps g
@@ -165,8 +193,16 @@ module _ {E : Type 0} {u : Unit {0}} {T : Table} {e : TypeId} {parts others : Ch
           let name = Token.key (key_text x) in
           value_next v ps g (record {
             each = λ ys h.
-                let t = q.each (name ∷ ys) (json.member (key_text x) h.0 h.1, (refl, h.2.0, h.2.1), ap (λ (l : List Token). name ∷ l) h.3) in
-                (t.0, t.1, ap (λ (l : List Token). l ++ ys) (w x (None, s)).tokens ∙ append_assoc now.tokens (name ∷ []) ys ∙ t.2);
+                let t = q.each (name ∷ ys) (
+                  json.member (key_text x) h.0 h.1,
+                  (refl, h.2.0, h.2.1),
+                  ap (λ (l : List Token). name ∷ l) h.3,
+                ) in (
+                  t.0,
+                  t.1,
+                  ap (λ (l : List Token). l ++ ys) (w x (None, s)).tokens
+                      ∙ append_assoc now.tokens (name ∷ []) ys ∙ t.2,
+                );
             before = (w x (None, s)).before ∙ q.before;
           })
 
@@ -197,10 +233,12 @@ module _ {E : Type 0} {u : Unit {0}} {T : Table} {e : TypeId} {parts others : Ch
       (subst (λ x. MembersLeft T e others old new All (not x)) (sym h)
       (value_on (subst (λ x. MembersLeft T e parts old now All x) h l) n w))
 
-pub members_end : {E : Type 0} {r : Result (Unit {0}) E} {T : Table} {e : TypeId} {parts others : Children} {old now new : Written} {All : List Token → Type 0} {is_key : Bool}
+pub members_end : {E : Type 0} {r : Result (Unit {0}) E} {T : Table} {e : TypeId} {parts others : Children}
+    {old now new : Written} {All : List Token → Type 0} {is_key : Bool}
     → MembersLeft T e parts old now All is_key → NextIs parts None others
     → WritesTokens r now new (Token.end_object ∷ []) → WritesSome r old new All
-members_end {r = r} {T = T} {e = e} {others = others} {old = old} {now = now} {new = new} {All = All} (name_next ps g q) n w = by ps q (n _ g)
+members_end {r = r} {T = T} {e = e} {others = others} {old = old} {now = now} {new = new} {All = All} (name_next ps g q)
+    n w = by ps q (n _ g)
   where
     by : (ps : Pairs) → IsLeft old now (MembersTokens (SayMembers T e ps)) All → GivesNext others (alternating ps) None
         → WritesSome r old new All
@@ -219,13 +257,15 @@ ElementTokens T k e v ps ts = (b : Json) × (js : Items) × (Says T e v b × Say
     × (ts ≡ (json_tokens b ++ Token.end_array ∷ []) ++ items_tokens js)
 
 -- the element of a key that was written, and then these entries, are to come; or these entries
-pub data PairsLeft (T : Table) (k e : TypeId) (parts : Children) (old now : Written) (All : List Token → Type 0) : Bool → Type 0 where
+pub data PairsLeft (T : Table) (k e : TypeId) (parts : Children) (old now : Written) (All : List Token → Type 0) : Bool
+    → Type 0 where
   key_next : (ps : Pairs) → Gives parts (alternating ps) → IsLeft old now (ItemsTokens (SayPairs T k e ps)) All
       → PairsLeft T k e parts old now All true
   element_next : (v : Tree) (ps : Pairs) → Gives parts ((None, v) ∷ alternating ps)
       → IsLeft old now (ElementTokens T k e v ps) All → PairsLeft T k e parts old now All false
 
-pub pairs_begun : {E : Type 0} {u : Unit {0}} {T : Table} {k e : TypeId} {parts : Children} {old now : Written} (ps : Pairs)
+pub pairs_begun : {E : Type 0} {u : Unit {0}} {T : Table} {k e : TypeId} {parts : Children} {old now : Written}
+    (ps : Pairs)
     → WritesTokens {E = E} (Ok u) old now (Token.begin_array ∷ []) → Gives parts (alternating ps)
     → PairsLeft T k e parts old now (AreTokensOf (SaysPairs T k e ps)) true
 pairs_begun ps w g = key_next ps g
@@ -251,7 +291,8 @@ module _ {E : Type 0} {u : Unit {0}} {T : Table} {k e : TypeId} {parts others : 
             json.item one h.1,
             ((p.0, h.0, refl, p.1, h.2.0), h.2.1),
             both_same p.2 h.3
-                ∙ ap (λ (l : List Token). Token.begin_array ∷ l) (sym (append_assoc (json_tokens p.0) last (items_tokens h.1))),
+                ∙ ap (λ (l : List Token). Token.begin_array ∷ l)
+                (sym (append_assoc (json_tokens p.0) last (items_tokens h.1))),
           )))
 
   element_on : PairsLeft T k e parts old now All false → NextIs parts (Some part) others
@@ -288,10 +329,12 @@ module _ {E : Type 0} {u : Unit {0}} {T : Table} {k e : TypeId} {parts others : 
       (subst (λ x. PairsLeft T k e others old new All (not x)) (sym h)
       (element_on (subst (λ x. PairsLeft T k e parts old now All x) h l) n w d))
 
-pub pairs_end : {E : Type 0} {r : Result (Unit {0}) E} {T : Table} {k e : TypeId} {parts others : Children} {old now new : Written} {All : List Token → Type 0} {is_key : Bool}
+pub pairs_end : {E : Type 0} {r : Result (Unit {0}) E} {T : Table} {k e : TypeId} {parts others : Children}
+    {old now new : Written} {All : List Token → Type 0} {is_key : Bool}
     → PairsLeft T k e parts old now All is_key → NextIs parts None others
     → WritesTokens r now new (Token.end_array ∷ []) → WritesSome r old new All
-pairs_end {r = r} {T = T} {k = k} {e = e} {others = others} {old = old} {now = now} {new = new} {All = All} (key_next ps g q) n w = by ps q (n _ g)
+pairs_end {r = r} {T = T} {k = k} {e = e} {others = others} {old = old} {now = now} {new = new} {All = All}
+    (key_next ps g q) n w = by ps q (n _ g)
   where
     by : (ps : Pairs) → IsLeft old now (ItemsTokens (SayPairs T k e ps)) All → GivesNext others (alternating ps) None
         → WritesSome r old new All
@@ -304,7 +347,8 @@ pairs_end {r = r} {others = others} {old = old} {new = new} {All = All} (element
 
 -- ---- parts without parts
 
-leaf_is : (T : Table) (t : TypeId) (v : Tree) → (kind_of v ≢ kind.Many) → (kind_of v ≢ kind.Pairs) → (kind_of v ≢ kind.Fields)
+leaf_is : (T : Table) (t : TypeId) (v : Tree) → (kind_of v ≢ kind.Many) → (kind_of v ≢ kind.Pairs)
+    → (kind_of v ≢ kind.Fields)
     → (j : Json) → SaysLeaf (kind_of v) (numbers_of v).0 (numbers_of v).1 (bytes_of v) j → Says T t v j
 leaf_is T t (Value.float x) m p f j h = h
 leaf_is T t (Value.complex x y) m p f j h = h
@@ -371,12 +415,14 @@ other_key (Value.opaque b) s i u = refl
 
 -- ---- what is written of a part without parts
 
-pub leaf_plain : {E : Type 0} {r : Result (Unit {0}) E} {old new : Written} {k l : ValueKind} (a b : ℕ) (s : List ℕ) → l ≡ k
+pub leaf_plain : {E : Type 0} {r : Result (Unit {0}) E} {old new : Written} {k l : ValueKind} (a b : ℕ) (s : List ℕ)
+    → l ≡ k
     → WritesPlain r old new (SaysLeaf k a b s) → WritesPlain r old new (SaysLeaf l a b s)
 leaf_plain {r = r} {old = old} {new = new} a b s e w =
     subst (λ k. WritesPlain r old new (SaysLeaf k a b s)) (sym e) w
 
-pub null_leaf : (k : ValueKind) (a b : ℕ) (s : List ℕ) → (k ≢ kind.Bool) → (k ≢ kind.Int) → (k ≢ kind.Uint) → (k ≢ kind.Float)
+pub null_leaf : (k : ValueKind) (a b : ℕ) (s : List ℕ) → (k ≢ kind.Bool) → (k ≢ kind.Int) → (k ≢ kind.Uint)
+    → (k ≢ kind.Float)
     → (k ≢ kind.Complex) → (k ≢ kind.Bytes) → (k ≢ kind.Str) → (k ≢ kind.Opaque) → SaysLeaf k a b s json.null
 null_leaf kind.Bool a b s x0 x1 x2 x3 x4 x5 x6 x7 = absurd (x0 refl)
 null_leaf kind.Int a b s x0 x1 x2 x3 x4 x5 x6 x7 = absurd (x1 refl)

@@ -22,7 +22,8 @@ some_weaker {r = r} f w = record {
   before = w.before;
 }
 
-pub some_then : {E F : Type 0} {u : Unit {0}} {r : Result (Unit {0}) F} {old mid new : Written} {P Q R : List Token → Type 0}
+pub some_then : {E F : Type 0} {u : Unit {0}} {r : Result (Unit {0}) F} {old mid new : Written} {P Q R : List Token
+    → Type 0}
     → WritesSome {E = E} (Ok u) old mid P → WritesSome r mid new Q
     → ((xs ys : List Token) → P xs → Q ys → R (xs ++ ys)) → WritesSome r old new R
 some_then {r = r} {old = old} v w f =
@@ -36,7 +37,8 @@ some_then {r = r} {old = old} v w f =
       before = w.before ∙ v.before;
     }
 
-pub some_behind : {E F : Type 0} {u : Unit {0}} {r : Result (Unit {0}) F} {old mid new : Written} {xs : List Token} {Q R : List Token → Type 0}
+pub some_behind : {E F : Type 0} {u : Unit {0}} {r : Result (Unit {0}) F} {old mid new : Written} {xs : List Token}
+    {Q R : List Token → Type 0}
     → WritesTokens {E = E} (Ok u) old mid xs → WritesSome r mid new Q
     → ((ys : List Token) → Q ys → R (xs ++ ys)) → WritesSome r old new R
 some_behind {r = r} {old = old} {xs = xs} v w f = record {
@@ -54,7 +56,8 @@ some_failed {r = r} {old = old} {new = new} {P = P} e b = record {
   before = b;
 }
 
-pub plain_failed : {E V : Type 0} {r : Result (Unit {0}) E} {old new : Written} {Is : V → Type 0} {Says : V → Json → Type 0}
+pub plain_failed : {E V : Type 0} {r : Result (Unit {0}) E} {old new : Written} {Is : V → Type 0} {Says : V → Json
+    → Type 0}
     → IsErr r → new.before ≡ old.before → WritesPlainOf r old new Is Says
 plain_failed e b = record { before = b; each = λ v h. some_failed e b }
 
@@ -83,7 +86,8 @@ left_on {now = now} l w f =
       before = w.before ∙ l.before;
     }
 
-pub left_end : {E : Type 0} {r : Result (Unit {0}) E} {old now new : Written} {xs : List Token} {Rest All : List Token → Type 0}
+pub left_end : {E : Type 0} {r : Result (Unit {0}) E} {old now new : Written} {xs : List Token} {Rest All : List Token
+    → Type 0}
     → IsLeft old now Rest All → WritesTokens r now new xs → Rest xs → WritesSome r old new All
 left_end {r = r} {xs = xs} l w h =
     let g = l.each xs h in record {

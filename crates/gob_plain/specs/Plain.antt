@@ -2,7 +2,8 @@
 -- present fields, a map whose keys are texts or whole numbers an object, a float a number. The parts' types are told as
 -- in the lines of a stream (gob_json's Json). Which digits a float's number has is left open: it reads back as the
 -- float. (docs/FORMAT.md, Plain values: this project's own.)
-use Rattle.std.specs.Prelude.{◌≡◌, ℕ, List, [], ◌++◌, Bool, true, false, ◌==◌, ◌||◌, if◌then◌else◌, codes, Some, slice_get, from_bits, ⊤}
+use Rattle.std.specs.Prelude.{◌≡◌, ℕ, List, [], ◌++◌, Bool, true, false, ◌==◌, ◌||◌, if◌then◌else◌, codes, Some}
+use Rattle.std.specs.Prelude.{slice_get, from_bits, ⊤}
 use Rattle.std.specs.Fmt.{decimal, signed_decimal}
 use Rattle.std.specs.Float.Ieee.{Float, binary64, nan, inf, fin}
 use Rattle.std.specs.Str.{is_utf8}

@@ -1,7 +1,7 @@
 -- What follows from the grammar alone: what is expected, what is refused, and where values begin and end.
 pub mod Whole
 pub mod Once
-pub mod Fronts
+pub mod Prefixes
 pub mod Compare
 pub mod Firsts
 pub mod Onward

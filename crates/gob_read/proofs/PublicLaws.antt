@@ -3,9 +3,10 @@ pub use Rattle.gob_read.proofs.Events.BuiltLaws.{all_told-append, signed_is, tel
 pub use Rattle.gob_read.proofs.Grammar.Compare.{expects_once}
 pub use Rattle.gob_read.proofs.Events.CountLaws.{counting, parts_told-append, raw_told-append}
 pub use Rattle.gob_read.proofs.Grammar.ArrayLengths.{table_counted}
-pub use Rattle.gob_read.proofs.Grammar.Firsts.{bad_head_first, ends_number, extra_first, front_not_number, not_allowed_first}
+pub use Rattle.gob_read.proofs.Grammar.Firsts.{bad_head_first, ends_number, extra_first, prefix_not_number}
+pub use Rattle.gob_read.proofs.Grammar.Firsts.{not_allowed_first}
 pub use Rattle.gob_read.proofs.Grammar.Firsts.{not_minimal_first, short_first, too_deep_first}
-pub use Rattle.gob_read.proofs.Grammar.Fronts.{append_nil, front_of, rest_behind}
+pub use Rattle.gob_read.proofs.Grammar.Prefixes.{append_nil, prefix_of, rest_behind}
 pub use Rattle.gob_read.proofs.Grammar.Honest.{first_honest}
 pub use Rattle.gob_read.proofs.Grammar.Onward.{nothing_yet}
 pub use Rattle.gob_read.proofs.Machine.Pushed.{IsPushed, usable, usable_pushed}

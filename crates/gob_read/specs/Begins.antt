@@ -15,8 +15,8 @@ pub record BeginsValue (T : Table) (t : TypeId) (p : List ℕ) : Type 0 where
 abbrev pub BeginsNone : Table → TypeId → List ℕ → Type 0
 BeginsNone T t p = ¬ BeginsValue T t p
 
--- a proper front of a spelling: more bytes go on to a whole one
-pub record IsProperFront (T : Table) (t : TypeId) (p : List ℕ) : Type 0 where
+-- a proper prefix of a spelling: more bytes go on to a whole one
+pub record IsProperPrefix (T : Table) (t : TypeId) (p : List ℕ) : Type 0 where
   pub begins : BeginsValue T t p
   pub more : begins.rest ≢ []
 

@@ -1,5 +1,5 @@
 -- The laws of events and weights.
--- (docs/FORMAT.md, Events.)
+-- (docs/LIBRARY.md, Events.)
 use Rattle.std.specs.Prelude.{◌≡◌, ℕ, ◌+◌, ◌≤◌, List, ◌++◌, length}
 use Rattle.gob_types.specs.declared.id.TypeId.{TypeId}
 use Rattle.gob_types.specs.Table.{Table}
@@ -15,11 +15,12 @@ EventsHaveOneValue = (us : List Event) (v w : Tree) → HasEvents v us → HasEv
 
 -- the events of a value that a type has are well formed
 abbrev pub EventsAreWellFormed : Type 0
-EventsAreWellFormed = (T : Table) (t : TypeId) (v : Tree) (b : List ℕ) (us : List Event) → Spells T t v b → HasEvents v us → IsWellFormed us
+EventsAreWellFormed = (T : Table) (t : TypeId) (v : Tree) (b : List ℕ) (us : List Event) → Spells T t v b
+    → HasEvents v us → IsWellFormed us
 
--- so is each front of a well formed list
-abbrev pub HaveWellFormedFronts : Type 0
-HaveWellFormedFronts = (us ws : List Event) → IsWellFormed (us ++ ws) → IsWellFormed us
+-- so is each prefix of a well formed list
+abbrev pub HaveWellFormedPrefixes : Type 0
+HaveWellFormedPrefixes = (us ws : List Event) → IsWellFormed (us ++ ws) → IsWellFormed us
 
 -- the events of a value have its parts and raw bytes
 abbrev pub EventsHaveTheWeight : Type 0

@@ -1,6 +1,5 @@
--- What builders are, and what the trait `Builder` asks, in words of the relation between a builder and the lists of events
--- that it has received.
--- (docs/FORMAT.md, Events.)
+-- What builders are, and what the trait `Builder` asks, in words of the relation between a builder and the lists of
+-- events that it has received. (docs/LIBRARY.md, Events.)
 use Rattle.std.specs.Prelude.{ℕ, ◌+◌, ◌^◌, ◌<◌, List, [], ◌∷◌, ◌++◌}
 use Rattle.gob_value.specs.Tree.{Tree}
 use Rattle.gob_read.specs.Event.{Event, HasEvents}

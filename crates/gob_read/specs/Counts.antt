@@ -1,5 +1,5 @@
 -- What a builder's counts count.
--- (docs/FORMAT.md, Events.)
+-- (docs/LIBRARY.md, Events.)
 use Rattle.std.specs.Prelude.{◌≡◌, List}
 use Rattle.gob_value.specs.Tree.{Tree}
 use Rattle.gob_read.specs.declared.check_builder.Counts.{Counts}

@@ -1,5 +1,5 @@
 -- What a builder is told of a value, part by part, in the order of the first bytes.
--- (docs/FORMAT.md, Events.)
+-- (docs/LIBRARY.md, Events.)
 use Rattle.std.specs.Prelude.{ℕ, pos, negsuc, ◌+◌, ◌*◌, Bool, List, [], ◌∷◌, ◌++◌}
 use Rattle.gob_types.specs.declared.basic.Basic.{Basic}
 use Rattle.gob_types.specs.declared.basic.Basic.TheVariants as basic
@@ -28,7 +28,8 @@ pub data Event : Type 0 where
 -- these raw bytes, in any pieces
 pub data HasRawEvents : List ℕ → List Event → Type 0 where
   no_bytes : HasRawEvents [] []
-  more_bytes : {s : List ℕ} {us : List Event} (c : List ℕ) → HasRawEvents s us → HasRawEvents (s ++ c) (us ++ raw_more c ∷ [])
+  more_bytes : {s : List ℕ} {us : List Event} (c : List ℕ) → HasRawEvents s us
+      → HasRawEvents (s ++ c) (us ++ raw_more c ∷ [])
 
 mutual
   pub data HasEvents : Tree → List Event → Type 0 where
@@ -39,24 +40,33 @@ mutual
     tell_float : {p : ℕ} → HasEvents (Value.float p) (number basic.Float p 0 ∷ [])
     tell_complex : {p q : ℕ} → HasEvents (Value.complex p q) (number basic.Complex p q ∷ [])
     tell_nil : HasEvents Value.nil (number basic.Interface 0 0 ∷ [])
-    tell_bytes : {s : List ℕ} {us : List Event} → HasRawEvents s us → HasEvents (Value.bytes s) ((raw_start raw.Bytes ∷ us) ++ leave ∷ [])
-    tell_text : {s : List ℕ} {us : List Event} → HasRawEvents s us → HasEvents (Value.text s) ((raw_start raw.Str ∷ us) ++ leave ∷ [])
-    tell_opaque : {s : List ℕ} {us : List Event} → HasRawEvents s us → HasEvents (Value.opaque s) ((raw_start raw.Opaque ∷ us) ++ leave ∷ [])
-    tell_many : {vs : Trees} {us : List Event} → HaveEvents vs us → HasEvents (Value.many vs) ((enter group.Many ∷ us) ++ leave ∷ [])
-    tell_pairs : {ps : Pairs} {us : List Event} → PairsHaveEvents ps us → HasEvents (Value.pairs ps) ((enter group.Pairs ∷ us) ++ leave ∷ [])
-    tell_fields : {fs : Fields} {us : List Event} → FieldsHaveEvents fs us → HasEvents (Value.fields fs) ((enter group.Fields ∷ us) ++ leave ∷ [])
+    tell_bytes : {s : List ℕ} {us : List Event} → HasRawEvents s us
+        → HasEvents (Value.bytes s) ((raw_start raw.Bytes ∷ us) ++ leave ∷ [])
+    tell_text : {s : List ℕ} {us : List Event} → HasRawEvents s us → HasEvents (Value.text s) ((raw_start raw.Str ∷ us)
+        ++ leave ∷ [])
+    tell_opaque : {s : List ℕ} {us : List Event} → HasRawEvents s us
+        → HasEvents (Value.opaque s) ((raw_start raw.Opaque ∷ us) ++ leave ∷ [])
+    tell_many : {vs : Trees} {us : List Event} → HaveEvents vs us → HasEvents (Value.many vs) ((enter group.Many ∷ us)
+        ++ leave ∷ [])
+    tell_pairs : {ps : Pairs} {us : List Event} → PairsHaveEvents ps us
+        → HasEvents (Value.pairs ps) ((enter group.Pairs ∷ us) ++ leave ∷ [])
+    tell_fields : {fs : Fields} {us : List Event} → FieldsHaveEvents fs us
+        → HasEvents (Value.fields fs) ((enter group.Fields ∷ us) ++ leave ∷ [])
 
   -- the elements of a list, one after another
   pub data HaveEvents : Trees → List Event → Type 0 where
     tell_none : HaveEvents no_tree []
-    tell_each : {v : Tree} {vs : Trees} {us ws : List Event} → HasEvents v us → HaveEvents vs ws → HaveEvents (tree v vs) (us ++ ws)
+    tell_each : {v : Tree} {vs : Trees} {us ws : List Event} → HasEvents v us → HaveEvents vs ws
+        → HaveEvents (tree v vs) (us ++ ws)
 
   -- a key, its element, and so on
   pub data PairsHaveEvents : Pairs → List Event → Type 0 where
     tell_no_pair : PairsHaveEvents no_pair []
-    tell_pair : {k e : Tree} {ps : Pairs} {us ws xs : List Event} → HasEvents k us → HasEvents e ws → PairsHaveEvents ps xs → PairsHaveEvents (pair k e ps) (us ++ (ws ++ xs))
+    tell_pair : {k e : Tree} {ps : Pairs} {us ws xs : List Event} → HasEvents k us → HasEvents e ws
+        → PairsHaveEvents ps xs → PairsHaveEvents (pair k e ps) (us ++ (ws ++ xs))
 
   -- the fields that are present, each behind its number
   pub data FieldsHaveEvents : Fields → List Event → Type 0 where
     tell_no_field : FieldsHaveEvents no_field []
-    tell_field : {f : ℕ} {v : Tree} {fs : Fields} {us ws : List Event} → HasEvents v us → FieldsHaveEvents fs ws → FieldsHaveEvents (Value.field f v fs) (field f ∷ (us ++ ws))
+    tell_field : {f : ℕ} {v : Tree} {fs : Fields} {us ws : List Event} → HasEvents v us → FieldsHaveEvents fs ws
+        → FieldsHaveEvents (Value.field f v fs) (field f ∷ (us ++ ws))

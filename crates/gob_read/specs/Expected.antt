@@ -1,7 +1,7 @@
 -- What the next bytes of a value are: a number, of which not all may be allowed, or so many raw bytes.
 -- (Go's encoding/gob documentation, Encoding Details; docs/FORMAT.md, Refusals.)
 use Rattle.std.specs.Prelude.{◌≡◌, ℕ, ◌<◌, ◌≤◌, List, length}
-use Rattle.gob_num.specs.Unsigned.{IsUnsignedFront}
+use Rattle.gob_num.specs.Unsigned.{IsUnsignedPrefix}
 use Rattle.gob_types.specs.declared.basic.Basic.TheVariants as basic
 use Rattle.gob_types.specs.declared.kind.Kind.{Kind}
 use Rattle.gob_types.specs.declared.kind.Kind.TheVariants as kind
@@ -51,5 +51,5 @@ first_allowed (kind.Opaque marshal) = any
 
 -- the bytes end before what is expected does
 pub data EndsWithin : Expected → List ℕ → Type 0 where
-  within_number : {a : Allowed} {r : List ℕ} → IsUnsignedFront r → EndsWithin (a_number a) r
+  within_number : {a : Allowed} {r : List ℕ} → IsUnsignedPrefix r → EndsWithin (a_number a) r
   within_raw : {n : ℕ} {r : List ℕ} → length r < n → EndsWithin (raw n) r

@@ -19,4 +19,5 @@ pub record IsHonestBody (T : Table) (t : TypeId) (limit : ℕ) (z : List ℕ) (R
 
 -- the refusal that is given is honest
 abbrev pub FirstIsHonest : Type 0
-FirstIsHonest = (T : Table) (t : TypeId) (limit announced : ℕ) (z : List ℕ) (R : Refusal) → HasCountedArrays T → IsReady T t → IsFirst T t limit announced z R → IsHonestBody T t limit z R
+FirstIsHonest = (T : Table) (t : TypeId) (limit announced : ℕ) (z : List ℕ) (R : Refusal) → HasCountedArrays T
+    → IsReady T t → IsFirst T t limit announced z R → IsHonestBody T t limit z R

@@ -1,5 +1,5 @@
 -- What a part without parts is, by the numbers or the raw bytes that it is told by.
--- (docs/FORMAT.md, Events.)
+-- (docs/LIBRARY.md, Events.)
 use Rattle.std.specs.Prelude.{ℕ, ℤ, pos, negsuc, ◌/◌, ◌%◌, ◌==◌, if◌then◌else◌, List}
 use Rattle.gob_types.specs.declared.basic.Basic.{Basic}
 use Rattle.gob_types.specs.declared.basic.Basic.TheVariants as basic

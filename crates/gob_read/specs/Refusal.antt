@@ -25,11 +25,15 @@ pub data Refused (T : Table) (t : TypeId) (limit announced : ℕ) (z : List ℕ)
       → Refused T t limit announced z (record { place = length f; seen = length f; reason = reason.Extra })
   too_deep : {p : List ℕ} (r : List ℕ) {w : Expected} {d : ℕ} → ExpectsTop T t p w d → z ≡ p ++ r → limit < d
       → Refused T t limit announced z (record { place = length p; seen = length p; reason = reason.TooDeep })
-  short_of : {p : List ℕ} (r : List ℕ) {w : Expected} {d : ℕ} → ExpectsTop T t p w d → z ≡ p ++ r → length z ≡ announced → EndsWithin w r
+  short_of : {p : List ℕ} (r : List ℕ) {w : Expected} {d : ℕ} → ExpectsTop T t p w d → z ≡ p ++ r → length z ≡ announced
+      → EndsWithin w r
       → Refused T t limit announced z (record { place = announced; seen = announced; reason = reason.Short })
-  bad_head_at : {p : List ℕ} (r : List ℕ) {a : Allowed} {d : ℕ} → ExpectsTop T t p (a_number a) d → z ≡ p ++ r → IsBadHead r
+  bad_head_at : {p : List ℕ} (r : List ℕ) {a : Allowed} {d : ℕ} → ExpectsTop T t p (a_number a) d → z ≡ p ++ r
+      → IsBadHead r
       → Refused T t limit announced z (record { place = length p; seen = length p + 1; reason = reason.BadHead })
-  not_minimal_at : {p : List ℕ} (r : List ℕ) {a : Allowed} {d : ℕ} → ExpectsTop T t p (a_number a) d → z ≡ p ++ r → IsNotMinimal r
+  not_minimal_at : {p : List ℕ} (r : List ℕ) {a : Allowed} {d : ℕ} → ExpectsTop T t p (a_number a) d → z ≡ p ++ r
+      → IsNotMinimal r
       → Refused T t limit announced z (record { place = length p; seen = length p + 2; reason = reason.NotMinimal })
-  not_allowed : {p c : List ℕ} (r : List ℕ) {a : Allowed} {d n : ℕ} → ExpectsTop T t p (a_number a) d → z ≡ p ++ (c ++ r) → IsUnsigned n c → ¬ Allows a n
+  not_allowed : {p c : List ℕ} (r : List ℕ) {a : Allowed} {d n : ℕ} → ExpectsTop T t p (a_number a) d → z ≡ p
+      ++ (c ++ r) → IsUnsigned n c → ¬ Allows a n
       → Refused T t limit announced z (record { place = length p; seen = length p + length c; reason = reason_of a })

@@ -1,5 +1,5 @@
 -- What a value costs at least: its parts, itself included, and its raw bytes; and how many of either are told.
--- (docs/FORMAT.md, Events.)
+-- (docs/LIBRARY.md, Events.)
 use Rattle.std.specs.Prelude.{ℕ, ◌+◌, List, [], ◌∷◌, length}
 use Rattle.gob_value.specs.Tree.{Tree, Trees, no_tree, tree, Pairs, no_pair, pair, Fields, no_field}
 use Rattle.gob_value.specs.Tree as Value

@@ -1,5 +1,5 @@
 -- Which lists of events are well formed, said by a fold over the parts that are open.
--- (docs/FORMAT.md, Events.)
+-- (docs/LIBRARY.md, Events.)
 use Rattle.std.specs.Prelude.{◌≡◌, ℕ, ◌+◌, ◌≤◌, List, [], ◌∷◌}
 use Rattle.gob_types.specs.declared.basic.Basic.{Basic}
 use Rattle.gob_types.specs.declared.basic.Basic.TheVariants as basic
@@ -45,7 +45,8 @@ pub data Follows : Place → Event → Place → Type 0 where
   a_list : {p q : Place} → BeginsPlace p q → Follows p (enter group.Many) (in_many q)
   a_map : {p q : Place} → BeginsPlace p q → Follows p (enter group.Pairs) (before_key q)
   a_struct : {p q : Place} → BeginsPlace p q → Follows p (enter group.Fields) (before_field 0 q)
-  a_number_of_field : {next f above : ℕ} {p : Place} → next ≤ f → above ≡ f + 1 → Follows (before_field next p) (field f) (behind_number above p)
+  a_number_of_field : {next f above : ℕ} {p : Place} → next ≤ f → above ≡ f + 1
+      → Follows (before_field next p) (field f) (behind_number above p)
   end_of_raw : {p : Place} → Follows (in_raw p) leave p
   end_of_list : {p : Place} → Follows (in_many p) leave p
   end_of_map : {p : Place} → Follows (before_key p) leave p

@@ -29,7 +29,7 @@ pub enum Stores {
 ///
 /// An event is a call of `number`, `raw_start`, `raw_more`, `enter`, `field` or `leave`. It may come where the list
 /// of all events so far stays well formed with it, and their parts and raw bytes together are fewer than 2^64
-/// (docs/FORMAT.md, Events). After [`Memory`] nothing is said of the builder, which can then only be dropped.
+/// (docs/LIBRARY.md, Events). After [`Memory`] nothing is said of the builder, which can then only be dropped.
 pub trait Builder: Drop {
     /// What is made of a value.
     type Out: Drop;

@@ -10,13 +10,13 @@ ghost use Rattle.gob_read.specs.Laws.{StopOnce, WholeIsExtraAlone, ExtraIsGiven,
 ghost use Rattle.gob_read.specs.Laws.{GiveOne, BodiesStayShown, RefusesPromptly, ViableBeforeTheEnd};
 ghost use Rattle.gob_read.specs.Laws.{StayExpected, ExpectNoMore, StayViable, StayRefused, RefuseNoMore};
 ghost use Rattle.gob_read.specs.Laws.{SeenBeginNone, DeepBeginDeep, PlacesBegin, ExpectingGoesOn, TablesCountArrays};
-ghost use Rattle.gob_read.specs.Laws.{FrontsExpectMore, ExpectingAreFronts};
+ghost use Rattle.gob_read.specs.Laws.{PrefixesExpectMore, ExpectingArePrefixes};
 ghost use Rattle.gob_read.specs.Honest.{FirstIsHonest};
 ghost use Rattle.gob_read.specs.Held.{ViableArePartial, HoldOnce, HoldAtMostTheirLength};
 ghost use Rattle.gob_read.specs.declared.check_builder.Counts.{Counts};
 ghost use Rattle.gob_read.specs.Weight.{weight};
 ghost use Rattle.gob_read.specs.Counts.{AreCountsOf};
-ghost use Rattle.gob_read.specs.BuilderLaws.{EventsHaveOneValue, EventsAreWellFormed, HaveWellFormedFronts};
+ghost use Rattle.gob_read.specs.BuilderLaws.{EventsHaveOneValue, EventsAreWellFormed, HaveWellFormedPrefixes};
 ghost use Rattle.gob_read.specs.BuilderLaws.{EventsHaveTheWeight};
 ghost use Rattle.gob_read.specs.BuilderLaws.{WeighAtMostTheirLength};
 ghost use Rattle.gob_read.specs.Calls.ReaderLaws.{StaysRead, StaysUsable};
@@ -76,16 +76,16 @@ pub fn places_begin_values()
     ensures honest { FirstIsHonest }
 {}
 
-/// Where something is expected, the bytes before it are a proper front of a spelling.
+/// Where something is expected, the bytes before it are a proper prefix of a spelling.
 pub fn expecting_goes_on()
     ensures { ExpectingGoesOn }
 {}
 
-/// A proper front of a spelling stands in a value: after its first bytes something is expected, and the others
-/// begin an allowed item of it. Bytes of a ready type that stand so are a proper front of a spelling.
+/// A proper prefix of a spelling stands in a value: after its first bytes something is expected, and the others
+/// begin an allowed item of it. Bytes of a ready type that stand so are a proper prefix of a spelling.
 pub fn fronts_expect_more()
-    ensures more { FrontsExpectMore }
-    ensures front { ExpectingAreFronts }
+    ensures more { PrefixesExpectMore }
+    ensures prefix { ExpectingArePrefixes }
 {}
 
 /// Of bytes that stand one number of parts and raw bytes is held, and at most as many as there are bytes, whatever
@@ -106,10 +106,10 @@ pub fn events_have_one_value()
     ensures { EventsHaveOneValue }
 {}
 
-/// The events of a value that a type has may be told: they are well formed, and so is each front of them.
+/// The events of a value that a type has may be told: they are well formed, and so is each prefix of them.
 pub fn events_are_well_formed()
     ensures whole { EventsAreWellFormed }
-    ensures fronts { HaveWellFormedFronts }
+    ensures prefixes { HaveWellFormedPrefixes }
 {}
 
 /// The events of a value have its parts and raw bytes.

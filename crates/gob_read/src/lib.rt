@@ -16,8 +16,8 @@
 //!
 //! - [`BodyReader`] reads one body. It refuses at the place and for the reason that the grammar gives, in the
 //!   call that brings the last byte that shows it. It keeps a stack of the open parts, and nothing of what is
-//!   only announced. It reads on to the end, or up to the number of an interface, which the caller fills: then [`Front`]
-//!   tells how far it came.
+//!   only announced. It reads on to the end, or up to the number of an interface, which the caller fills: then
+//!   [`Reached`] tells how far it came.
 //! - A [`Builder`] makes something of what is told: [`TreeBuilder`] the value, [`CheckBuilder`] its [`Counts`],
 //!   and [`SkipBuilder`] nothing.
 //! - [`laws`] has the laws that readers, writers and builders rely on: of bodies, of events and weights, of readers.
@@ -30,10 +30,10 @@ mod event;
 mod fields;
 mod frame;
 mod frames;
-mod front;
 pub mod laws;
 mod next;
 mod part;
+mod reached;
 mod reader;
 mod run;
 mod skip;
@@ -48,7 +48,7 @@ mod tree_stack;
 pub use builder::{Builder, Stores};
 pub use check_builder::{CheckBuilder, Counts};
 pub use event::{GroupKind, RawKind};
-pub use front::Front;
+pub use reached::Reached;
 pub use reader::{BodyReader, Progress};
 pub use skip_builder::SkipBuilder;
 pub use stop::Stop;

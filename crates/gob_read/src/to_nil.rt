@@ -22,8 +22,8 @@ pub(crate) enum Came {
 }
 
 impl<B: Builder> Run<B> {
-    /// Reads on until the piece is taken, the number of an interface comes next, or the value is whole and the body with
-    /// it. It never refuses an interface.
+    /// Reads on until the piece is taken, the number of an interface comes next, or the value is whole and the body
+    /// with it. It never refuses an interface.
     pub(crate) fn take_to_nil<S: Shapes>(&mut self, shapes: &S, piece: &[u8]) -> Result<Came, Stop>
         requires has_read { IsReachedSomewhere (S.table shapes.now) B.building.received self.old }
         requires room { self.old.taken + length piece.now ≤ self.old.length }

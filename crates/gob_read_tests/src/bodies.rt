@@ -3,7 +3,7 @@
 use crate::types::table;
 use gob_num::Memory;
 use gob_read::{CheckBuilder, Counts, SkipBuilder, Stop, TreeBuilder};
-use gob_read_support::{Body, body_of, numbers, part, read};
+use gob_test_rows::{Body, body_of, numbers, part, read};
 use gob_types::{Table, TypeId};
 use gob_value::{SpellFault, Value, spell};
 use std::alloc::Global;

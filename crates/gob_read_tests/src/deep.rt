@@ -4,7 +4,7 @@ use crate::bodies::{is_built, is_counted, is_refusal};
 use crate::types::table;
 use gob_num::Memory;
 use gob_read::{Builder, CheckBuilder, TreeBuilder};
-use gob_read_support::{Body, read};
+use gob_test_rows::{Body, read};
 use gob_types::Table;
 use std::alloc::Global;
 use std::test::*;

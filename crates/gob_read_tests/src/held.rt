@@ -7,7 +7,7 @@ ghost use Rattle.gob_read.specs.Calls.UnderWay.{FitsTable};
 use crate::types::table;
 use gob_num::Memory;
 use gob_read::{BodyReader, Builder, CheckBuilder, SkipBuilder, Stop, TreeBuilder};
-use gob_read_support::{body_of, numbers, part, reader};
+use gob_test_rows::{body_of, numbers, part, reader};
 use gob_types::Table;
 use std::alloc::Global;
 use std::test::*;

@@ -1,6 +1,6 @@
 //! Tests of `gob_read` by its public calls: bodies of each shape, whole and in pieces, bodies that are refused, values
-//! as deep as builders take them, how much is held of a body under way, parts that stand whole in a piece, and reading
-//! where memory may be refused.
+//! as deep as builders take them, how much is held of a body under way, parts that stand whole in a piece, interfaces
+//! that are filled, and reading where memory may be refused.
 //!
 //! Rows are lines of text, one for each body:
 //!
@@ -17,5 +17,7 @@ mod deep;
 mod held;
 #[cfg(test)]
 mod skipped;
+#[cfg(test)]
+mod to_nil;
 #[cfg(test)]
 mod types;

@@ -4,7 +4,7 @@ use crate::bodies::is_refusal;
 use crate::types::table;
 use gob_num::Memory;
 use gob_read::{BodyReader, Builder, CheckBuilder, Progress, SkipBuilder, Stop};
-use gob_read_support::{Body, body_of, numbers, part, reader};
+use gob_test_rows::{Body, body_of, numbers, part, reader};
 use gob_types::Table;
 use std::alloc::Global;
 use std::test::*;

@@ -1,12 +1,12 @@
 //! The types of the bodies that are read.
 
 use gob_num::Memory;
-use gob_read_support::{Form, table_of};
+use gob_test_rows::{Form, table_of};
 use gob_types::Table;
 use std::alloc::Global;
 
 // The types of the rows.
-const TYPES: [(u64, Form); 10] = [
+const TYPES: [(u64, Form); 13] = [
     // two ints
     (65, Form::Struct(&[2, 2])),
     // an int and another such struct
@@ -26,6 +26,12 @@ const TYPES: [(u64, Form); 10] = [
     (73, Form::Struct(&[1, 2, 3, 4, 5, 6, 7, 8, 72, 69, 70, 73])),
     // of 65
     (74, Form::Slice(65)),
+    // an int, an interface and an int
+    (75, Form::Struct(&[2, 8, 2])),
+    // of interfaces
+    (76, Form::Slice(8)),
+    // from strings to interfaces
+    (77, Form::Map(6, 8)),
 ];
 
 /// The table of these types.

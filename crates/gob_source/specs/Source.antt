@@ -90,7 +90,8 @@ has_parts s = has_parts_kind s.name s.kind
 abbrev pub basic_text : ℕ → Option (List ℕ)
 basic_text n =
     if n == 1 then Some (codes "bool") else if n == 2 then Some (codes "int") else
-    if n == 3 then Some (codes "uint") else if n == 4 then Some (codes "float64") else if n == 5 then Some (codes "[]byte") else
+    if n == 3 then Some (codes "uint") else if n == 4 then Some (codes "float64") else if n == 5 then
+    Some (codes "[]byte") else
     if n == 6 then Some (codes "string") else if n == 7 then Some (codes "complex128") else
     if n == 8 then Some (codes "interface{}") else None
 

@@ -3,9 +3,9 @@
 use crate::rows::{ROWS, Row};
 use gob_num::Memory;
 use gob_read::TreeBuilder;
-use gob_read_support::bytes_of;
 use gob_source::source_of;
 use gob_stream::{Fault, Item, Limits, Session};
+use gob_test_rows::bytes_of;
 use std::alloc::Global;
 use std::test::*;
 

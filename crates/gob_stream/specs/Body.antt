@@ -33,7 +33,9 @@ pub record MayPut (T : Table) (t : TypeId) : Type 0 where
 -- the bytes are the body of the item where the types are those of T, and behind it they are those of the last table
 pub data Body (base : Table) (L : Bounds) (T : Table) : StreamItem → List ℕ → Table → Type 0 where
   -- the type number of a definition is the id below 0
-  definition : {id : TypeId} {n : ℕ} {v : Tree} {s : Shape} {a b : List ℕ} → MayDefine base L T id → depth v ≤ L.depth → Describes id v s
-      → id.0 ≡ n + 1 → IsSigned (negsuc n) a → Spells T wire_type v b → Body base L T (defines id v) (a ++ b) (T ++ (id, s) ∷ [])
+  definition : {id : TypeId} {n : ℕ} {v : Tree} {s : Shape} {a b : List ℕ} → MayDefine base L T id → depth v ≤ L.depth
+      → Describes id v s
+      → id.0 ≡ n + 1 → IsSigned (negsuc n) a → Spells T wire_type v b → Body base L T (defines id v) (a ++ b) (T
+      ++ (id, s) ∷ [])
   value : {t : TypeId} {v : Tree} {a b : List ℕ} → MayPut T t → depth v ≤ L.depth
       → IsSigned (pos t.0) a → SpellsTop T t v b → Body base L T (puts t v) (a ++ b) T

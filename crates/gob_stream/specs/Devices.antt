@@ -22,7 +22,8 @@ WriteCounted failures failures' result buffer =
     × (¬ WriteFailed result buffer → failures' ≡ failures)
 
 abbrev pub FlushCounted : {E : Type 0} → (failures failures' : ℕ) → Result (Unit {0}) E → Type 0
-FlushCounted failures failures' result = MatchResult result (λ _. failures' ≡ failures) (λ _. failures' ≡ counts_up failures 1)
+FlushCounted failures failures' result = MatchResult result (λ _. failures' ≡ failures)
+    (λ _. failures' ≡ counts_up failures 1)
 
 -- the count of failed calls rose, or stands at its ceiling
 abbrev pub Rose : ℕ → ℕ → Type 0

@@ -1,5 +1,5 @@
--- What contracts see of the two ends of a stream: the reader that it comes from and the writer that it goes to, as the calls
--- so far left them, and what was counted there.
+-- What contracts see of the two ends of a stream: the reader that it comes from and the writer that it goes to, as
+-- the calls so far left them, and what was counted there.
 use Rattle.std.specs.Prelude.{Bool, ℕ}
 use Rattle.gob_stream.specs.declared.input.Input.{Input}
 use Rattle.gob_stream.specs.declared.output.Output.{Output}

@@ -1,5 +1,6 @@
--- The place of a refusal is honest in a stream: where what stands behind a type number is refused, what the bytes behind it
--- begin, those before the place and those that show the refusal. (docs/FORMAT.md, Refusals: the place of a refusal is honest.)
+-- The place of a refusal is honest in a stream: where what stands behind a type number is refused, what the bytes
+-- behind it begin, those before the place and those that show the refusal. (docs/FORMAT.md, Refusals: the place of a
+-- refusal is honest.)
 use Rattle.std.specs.Prelude.{◌≡◌, ℕ, pos, negsuc, ◌+◌, ◌-◌, ◌≤◌, List, ◌++◌, length, Option, Result, Ok, Err}
 use Rattle.gob_num.specs.Unsigned.{IsUnsigned}
 use Rattle.gob_num.specs.Signed.{IsSigned}
@@ -24,20 +25,23 @@ pub data SpellsTypeNumber : TypeId → List ℕ → Type 0 where
   of_value : {t : TypeId} {a : List ℕ} → IsSigned (pos t.0) a → SpellsTypeNumber t a
   of_definition : {n : ℕ} {a : List ℕ} → IsSigned (negsuc n) a → SpellsTypeNumber wire_type a
 
--- the bytes are the stream of the items, and behind it the count and the type number of an item, and z of what follows these
-pub record HasTypeNumber (L : Bounds) (bytes : List ℕ) (items : List StreamItem) (T : Table) (t : TypeId) (z : List ℕ) : Type 0 where
-  pub front : List ℕ
+-- the bytes are the stream of the items, and behind it the count and the type number of an item, and z of what follows
+-- these
+pub record HasTypeNumber (L : Bounds) (bytes : List ℕ) (items : List StreamItem) (T : Table) (t : TypeId) (z : List ℕ) :
+    Type 0 where
+  pub prefix : List ℕ
   pub count : List ℕ
   pub number : List ℕ
   pub size : ℕ
-  pub stream : Stream base_table L items front T
+  pub stream : Stream base_table L items prefix T
   pub counted : IsUnsigned size count
   pub numbered : SpellsTypeNumber t number
-  pub whole : bytes ≡ front ++ (count ++ (number ++ z))
+  pub whole : bytes ≡ prefix ++ (count ++ (number ++ z))
 
 -- where that begins
-abbrev pub value_at : {L : Bounds} {bytes : List ℕ} {items : List StreamItem} {T : Table} {t : TypeId} {z : List ℕ} → HasTypeNumber L bytes items T t z → ℕ
-value_at h = length h.front + length h.count + length h.number
+abbrev pub value_at : {L : Bounds} {bytes : List ℕ} {items : List StreamItem} {T : Table} {t : TypeId} {z : List ℕ}
+    → HasTypeNumber L bytes items T t z → ℕ
+value_at h = length h.prefix + length h.count + length h.number
 
 -- the refusal, counted from there
 abbrev pub from : ℕ → Refusal → body.Refusal
@@ -45,11 +49,13 @@ from start R = record { place = R.place - start; seen = R.seen - start; reason =
 
 -- what is refused behind a type number is refused honestly
 pub record IsHonest (L : Bounds) (bytes : List ℕ) (items : List StreamItem) (R : Refusal) : Type 0 where
-  pub each : (T : Table) (t : TypeId) (z : List ℕ) (h : HasTypeNumber L bytes items T t z) → value_at h ≤ R.place → body_honest.IsHonestBody T t L.depth z (from (value_at h) R)
+  pub each : (T : Table) (t : TypeId) (z : List ℕ) (h : HasTypeNumber L bytes items T t z) → value_at h ≤ R.place
+      → body_honest.IsHonestBody T t L.depth z (from (value_at h) R)
 
 -- the refusal of each outcome is honest
 abbrev pub OutcomesAreHonest : Type 0
-OutcomesAreHonest = (L : Bounds) (bytes : List ℕ) (items : List StreamItem) (R : Refusal) → Outcome base_table L bytes items (refused R) → IsHonest L bytes items R
+OutcomesAreHonest = (L : Bounds) (bytes : List ℕ) (items : List StreamItem) (R : Refusal)
+    → Outcome base_table L bytes items (refused R) → IsHonest L bytes items R
 
 -- what a call answers: this holds of the refusal, if there is one
 abbrev pub OfRefusal : {A : Type 0} → (Refusal → Type 0) → Result A Fault → Type 0
@@ -60,9 +66,13 @@ OfRefusal why (Err fault.Memory) = Unit {0}
 OfRefusal why (Err fault.Failed) = Unit {0}
 
 -- what a piece is refused for, with which these items were given behind the others
-abbrev pub FeedsHonestly : {O : Type 0} → (means : O → Tree → Type 0) → Bounds → List StreamItem → (bytes : List ℕ) → List (declared.Item O) → Result (Unit {0}) Fault → Type 0
-FeedsHonestly means L items bytes given result = OfRefusal (λ R. GivesOn means given items (λ all. IsHonest L bytes all R)) result
+abbrev pub FeedsHonestly : {O : Type 0} → (means : O → Tree → Type 0) → Bounds → List StreamItem → (bytes : List ℕ)
+    → List (declared.Item O) → Result (Unit {0}) Fault → Type 0
+FeedsHonestly means L items bytes given result =
+    OfRefusal (λ R. GivesOn means given items (λ all. IsHonest L bytes all R)) result
 
 -- what the next item is refused for, some of the rest being taken
-abbrev pub ReadsHonestly : {A : Type 0} → Bounds → List StreamItem → (bytes rest : List ℕ) → Option (List ℕ) → Result A Fault → Type 0
-ReadsHonestly L items bytes rest now result = OfRefusal (λ R. SomeTaken rest now (λ taken. IsHonest L (bytes ++ taken) items R)) result
+abbrev pub ReadsHonestly : {A : Type 0} → Bounds → List StreamItem → (bytes rest : List ℕ) → Option (List ℕ)
+    → Result A Fault → Type 0
+ReadsHonestly L items bytes rest now result =
+    OfRefusal (λ R. SomeTaken rest now (λ taken. IsHonest L (bytes ++ taken) items R)) result

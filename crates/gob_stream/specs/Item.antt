@@ -23,11 +23,13 @@ item_views items = map item_view items
 
 -- what was made of an item stands for it, where `means` tells it of a value
 pub data ItemMeans {O : Type 0} (means : O → Tree → Type 0) : declared.Item O → StreamItem → Type 0 where
-  means_definition : {id : TypeId} {described : Value} → ItemMeans means (variant.Define id described) (defines id (view described))
+  means_definition : {id : TypeId} {described : Value} → ItemMeans means (variant.Define id described)
+      (defines id (view described))
   means_value : {id : TypeId} {out : O} {v : Tree} → means out v → ItemMeans means (variant.Put id out) (puts id v)
 
 -- the same of each item of a list
 pub data ItemsMean {O : Type 0} (means : O → Tree → Type 0) : List (declared.Item O) → List StreamItem → Type 0 where
   mean_none : ItemsMean means [] []
-  mean_more : {given : declared.Item O} {i : StreamItem} {all : List (declared.Item O)} {items : List StreamItem} → ItemMeans means given i → ItemsMean means all items
+  mean_more : {given : declared.Item O} {i : StreamItem} {all : List (declared.Item O)} {items : List StreamItem}
+      → ItemMeans means given i → ItemsMean means all items
       → ItemsMean means (given ∷ all) (i ∷ items)

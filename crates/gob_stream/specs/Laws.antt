@@ -27,7 +27,8 @@ pub record ItemsGoOn (items others : List StreamItem) : Type 0 where
 -- of two streams with which bytes begin, one begins the other
 abbrev pub BeginOneAnother : Type 0
 BeginOneAnother = (base : Table) (L : Bounds) (bytes : List ℕ) (items others : List StreamItem)
-    → BeginsWithStream base L bytes items → BeginsWithStream base L bytes others → ItemsGoOn items others ⊎ ItemsGoOn others items
+    → BeginsWithStream base L bytes items → BeginsWithStream base L bytes others → ItemsGoOn items others
+    ⊎ ItemsGoOn others items
 
 -- bytes give one list of items
 abbrev pub GiveOneList : Type 0
@@ -52,7 +53,7 @@ pub record WrittenWithin (M : Bounds) (items : List StreamItem) (bytes : List �
   pub within : AtLeast limits M
   pub written : WritesStream limits items (Some []) (Some bytes) (Ok tt)
 
--- what a reader gives of the stream of the items: those at Ok, a front of them before a failed read or without memory,
+-- what a reader gives of the stream of the items: those at Ok, a prefix of them before a failed read or without memory,
 -- and no refusal
 abbrev pub ReadsThese : (given items : List StreamItem) → Result (Unit {0}) Fault → Type 0
 ReadsThese given items (Ok _) = given ≡ items
@@ -63,16 +64,19 @@ ReadsThese given items (Err fault.Failed) = ⊥
 
 -- what is written is read back as that list, under limits that are each at least the writer's
 abbrev pub AreReadBack : Type 0
-AreReadBack = (M : Bounds) (items given : List StreamItem) (bytes : List ℕ) (now : Option (List ℕ)) (result : Result (Unit {0}) Fault)
+AreReadBack = (M : Bounds) (items given : List StreamItem) (bytes : List ℕ) (now : Option (List ℕ))
+    (result : Result (Unit {0}) Fault)
     → WrittenWithin M items bytes → ReadsStream M bytes now given result → ReadsThese given items result
 
--- nor does any front of it show a refusal
+-- nor does any prefix of it show a refusal
 abbrev pub ShowNoRefusal : Type 0
-ShowNoRefusal = (M : Bounds) (items given : List StreamItem) (front rest : List ℕ) (R : Refusal) → WrittenWithin M items (front ++ rest) → ¬ ShowsRefusal M front given R
+ShowNoRefusal = (M : Bounds) (items given : List StreamItem) (prefix rest : List ℕ) (R : Refusal)
+    → WrittenWithin M items (prefix ++ rest) → ¬ ShowsRefusal M prefix given R
 
 -- behind the items with which bytes begin there is one table of types
 abbrev pub HaveOneTable : Type 0
-HaveOneTable = (L : Bounds) (bytes : List ℕ) (items : List StreamItem) (T U : Table) → HasTypesBehind L bytes items T → HasTypesBehind L bytes items U → T ≡ U
+HaveOneTable = (L : Bounds) (bytes : List ℕ) (items : List StreamItem) (T U : Table) → HasTypesBehind L bytes items T
+    → HasTypesBehind L bytes items U → T ≡ U
 
 -- limits that are no deeper than a builder goes are the limits themselves
 abbrev pub StayLimits : Type 0
@@ -85,14 +89,17 @@ HaveOneOutcome = (L : Bounds) (bytes : List ℕ) (items others : List StreamItem
 
 -- and no bytes are without one
 abbrev pub HaveAnOutcome : Type 0
-HaveAnOutcome = (L : Bounds) (bytes : List ℕ) → ¬ ((items : List StreamItem) (e : Ending) → ¬ Outcome base_table L bytes items e)
+HaveAnOutcome = (L : Bounds) (bytes : List ℕ) → ¬ ((items : List StreamItem) (e : Ending)
+    → ¬ Outcome base_table L bytes items e)
 
 -- what is refused behind a stream is no item
 abbrev pub RefuseNoItem : Type 0
-RefuseNoItem = (L : Bounds) (items : List StreamItem) (front z : List ℕ) (T : Table) (R : Refusal) → Stream base_table L items front T → RefusesNext base_table L T (length front) z R
-    → (i : StreamItem) (b y : List ℕ) (U : Table) → IsItem base_table L T (length front) i b U → ¬ (z ≡ b ++ y)
+RefuseNoItem = (L : Bounds) (items : List StreamItem) (prefix z : List ℕ) (T : Table) (R : Refusal)
+    → Stream base_table L items prefix T → RefusesNext base_table L T (length prefix) z R
+    → (i : StreamItem) (b y : List ℕ) (U : Table) → IsItem base_table L T (length prefix) i b U → ¬ (z ≡ b ++ y)
 
 -- the bytes that show a refusal are there, and it is the one of all bytes that begin with them
 abbrev pub StreamsStayShown : Type 0
-StreamsStayShown = (L : Bounds) (bytes others : List ℕ) (items : List StreamItem) (R : Refusal) → ShowsRefusal L bytes items R → take R.seen others ≡ take R.seen bytes
+StreamsStayShown = (L : Bounds) (bytes others : List ℕ) (items : List StreamItem) (R : Refusal)
+    → ShowsRefusal L bytes items R → take R.seen others ≡ take R.seen bytes
     → (R.seen ≤ length bytes) × ShowsRefusal L others items R

@@ -34,7 +34,8 @@ pub record Given {A : Type 0} (old new : List A) (P : List A → Type 0) : Type 
   pub holds : P given
 
 -- the items were given, those stand for items of the stream, and of these and the ones before this holds
-pub record GivesOn {O : Type 0} (means : O → Tree → Type 0) (given : List (declared.Item O)) (before : List StreamItem) (P : List StreamItem → Type 0) : Type 0 where
+pub record GivesOn {O : Type 0} (means : O → Tree → Type 0) (given : List (declared.Item O)) (before : List StreamItem)
+    (P : List StreamItem → Type 0) : Type 0 where
   pub more : List StreamItem
   pub mean : ItemsMean means given more
   pub holds : P (before ++ more)
@@ -46,10 +47,10 @@ pub record ShowsRefusal (L : Bounds) (bytes : List ℕ) (items : List StreamItem
 
 -- the bytes begin with the stream of the items, and these are the types behind it
 pub record HasTypesBehind (L : Bounds) (bytes : List ℕ) (items : List StreamItem) (T : Table) : Type 0 where
-  pub front : List ℕ
+  pub prefix : List ℕ
   pub rest : List ℕ
-  pub stream : Stream base_table L items front T
-  pub whole : bytes ≡ front ++ rest
+  pub stream : Stream base_table L items prefix T
+  pub whole : bytes ≡ prefix ++ rest
 
 -- or these are the types behind one item more
 pub record HasTypesBeyond (L : Bounds) (bytes : List ℕ) (items : List StreamItem) (T : Table) : Type 0 where
@@ -59,37 +60,44 @@ pub record HasTypesBeyond (L : Bounds) (bytes : List ℕ) (items : List StreamIt
 
 -- so many of the bytes were taken, and of the items that these give, all but the last at most are these
 pub record GivesOfTaken (L : Bounds) (taken : ℕ) (bytes : List ℕ) (items : List StreamItem) : Type 0 where
-  pub front : List ℕ
+  pub prefix : List ℕ
   pub rest : List ℕ
-  pub whole : bytes ≡ front ++ rest
-  pub taken_is : taken ≡ length front
-  pub given : LongestButLast base_table L front items
+  pub whole : bytes ≡ prefix ++ rest
+  pub taken_is : taken ≡ length prefix
+  pub given : LongestButLast base_table L prefix items
 
--- the bytes z of an item that begins at the offset are no more than those that show the refusal, or than its count and its body
+-- the bytes z of an item that begins at the offset are no more than those that show the refusal, or than its count and
+-- its body
 pub data IsNoFurther (L : Bounds) (offset : ℕ) (z : List ℕ) (R : Refusal) : Type 0 where
   up_to_the_last_shown : R.seen ≡ offset + length z → IsNoFurther L offset z R
-  within_the_item : {m : ℕ} {c : List ℕ} (y : List ℕ) → z ≡ c ++ y → IsUnsigned m c → m ≤ L.item → offset + length c + m ≤ L.stream → length y ≤ m
+  within_the_item : {m : ℕ} {c : List ℕ} (y : List ℕ) → z ≡ c ++ y → IsUnsigned m c → m ≤ L.item
+      → offset + length c + m ≤ L.stream → length y ≤ m
       → IsNoFurther L offset z R
 
 -- the bytes are those of the items, and of the one that is refused behind them no more than that
 pub record EndsInItem (L : Bounds) (bytes : List ℕ) (items : List StreamItem) (R : Refusal) : Type 0 where
-  pub front : List ℕ
+  pub prefix : List ℕ
   pub item : List ℕ
   pub table : Table
-  pub stream : Stream base_table L items front table
-  pub whole : bytes ≡ front ++ item
-  pub no_further : IsNoFurther L (length front) item R
+  pub stream : Stream base_table L items prefix table
+  pub whole : bytes ≡ prefix ++ item
+  pub no_further : IsNoFurther L (length prefix) item R
 
 -- the next item is refused: for what the bytes show with some of the rest, or since all of it ends within the item
-pub data RefusesNextItem (L : Bounds) (items : List StreamItem) (bytes rest : List ℕ) (now : Option (List ℕ)) (R : Refusal) : Type 0 where
-  shown : SomeTaken rest now (λ taken. ShowsRefusal L (bytes ++ taken) items R × EndsInItem L (bytes ++ taken) items R) → RefusesNextItem L items bytes rest now R
-  ended : now ≡ Some [] → Outcome base_table L (bytes ++ rest) items (refused R) → R.reason ≡ reason.Ended → RefusesNextItem L items bytes rest now R
+pub data RefusesNextItem (L : Bounds) (items : List StreamItem) (bytes rest : List ℕ) (now : Option (List ℕ))
+    (R : Refusal) : Type 0 where
+  shown : SomeTaken rest now (λ taken. ShowsRefusal L (bytes ++ taken) items R × EndsInItem L (bytes ++ taken) items R)
+      → RefusesNextItem L items bytes rest now R
+  ended : now ≡ Some [] → Outcome base_table L (bytes ++ rest) items (refused R) → R.reason ≡ reason.Ended
+      → RefusesNextItem L items bytes rest now R
 
 -- what stops a session that had given the items, of these bytes, over a reader with the rest left
 abbrev pub StopsNext : Bounds → List StreamItem → (bytes rest : List ℕ) → Option (List ℕ) → Fault → Type 0
 StopsNext L items bytes rest now (fault.Refused R) = RefusesNextItem L items bytes rest now R
-StopsNext L items bytes rest now fault.Read = SomeTaken rest now (λ taken. LongestStream base_table L (bytes ++ taken) items)
-StopsNext L items bytes rest now fault.Memory = SomeTaken rest now (λ taken. LongestButLast base_table L (bytes ++ taken) items)
+StopsNext L items bytes rest now fault.Read = SomeTaken rest now (λ taken. LongestStream base_table L (bytes ++ taken)
+    items)
+StopsNext L items bytes rest now fault.Memory = SomeTaken rest now (λ taken. LongestButLast base_table L (bytes
+    ++ taken) items)
 StopsNext L items bytes rest now fault.Failed = ⊥
 
 -- what reading a whole stream answers, over a reader with these bytes left, where the items were given
@@ -97,7 +105,8 @@ abbrev pub ReadsStream : Bounds → List ℕ → Option (List ℕ) → List Stre
 ReadsStream L bytes now items (Ok _) = (T : Table) × Stream base_table L items bytes T × (now ≡ Some [])
 ReadsStream L bytes now items (Err (fault.Refused R)) = Outcome base_table L bytes items (refused R)
 ReadsStream L bytes now items (Err fault.Read) = SomeTaken bytes now (λ taken. LongestStream base_table L taken items)
-ReadsStream L bytes now items (Err fault.Memory) = SomeTaken bytes now (λ taken. LongestButLast base_table L taken items)
+ReadsStream L bytes now items (Err fault.Memory) =
+    SomeTaken bytes now (λ taken. LongestButLast base_table L taken items)
 ReadsStream L bytes now items (Err fault.Failed) = ⊥
 
 -- a call answers `Read` exactly where a read failed in it, which ended the call

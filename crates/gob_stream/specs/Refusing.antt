@@ -1,7 +1,7 @@
 -- Why a reader refuses what stands behind the items of a stream: a count, a type number, a value or a description.
 -- (docs/FORMAT.md, Refusals: this project's own.)
 use Rattle.std.specs.Prelude.{◌≡◌, ℕ, pos, negsuc, ◌+◌, ◌-◌, ◌<◌, ◌≤◌, List, ◌++◌, length}
-use Rattle.gob_num.specs.Unsigned.{IsUnsigned, IsUnsignedFront, IsBadHead, IsNotMinimal}
+use Rattle.gob_num.specs.Unsigned.{IsUnsigned, IsUnsignedPrefix, IsBadHead, IsNotMinimal}
 use Rattle.gob_num.specs.Signed.{IsSigned}
 use Rattle.gob_types.specs.declared.id.TypeId.{TypeId}
 use Rattle.gob_types.specs.declared.reason.Reason.{Reason}
@@ -32,7 +32,8 @@ pub data RefusesCount (L : Bounds) (offset : ℕ) (z : List ℕ) : Refusal → T
   not_minimal : IsNotMinimal z → RefusesCount L offset z (refuses offset (offset + 2) reason.NotMinimal)
   item_too_long : {m : ℕ} {c : List ℕ} (r : List ℕ) → z ≡ c ++ r → IsUnsigned m c → L.item < m
       → RefusesCount L offset z (refuses offset (offset + length c) reason.ItemTooLong)
-  stream_too_long : {m : ℕ} {c : List ℕ} (r : List ℕ) → z ≡ c ++ r → IsUnsigned m c → m ≤ L.item → L.stream < offset + length c + m
+  stream_too_long : {m : ℕ} {c : List ℕ} (r : List ℕ) → z ≡ c ++ r → IsUnsigned m c → m ≤ L.item
+      → L.stream < offset + length c + m
       → RefusesCount L offset z (refuses offset (offset + length c) reason.StreamTooLong)
 
 -- y is what is there of a body of m bytes, which begins at this offset of the stream, where the types are those of T
@@ -40,17 +41,23 @@ pub data RefusesBody (base : Table) (L : Bounds) (T : Table) (offset m : ℕ) (y
   -- the type number
   bad_head : IsBadHead y → RefusesBody base L T offset m y (refuses offset (offset + 1) reason.BadHead)
   not_minimal : IsNotMinimal y → RefusesBody base L T offset m y (refuses offset (offset + 2) reason.NotMinimal)
-  short : length y ≡ m → IsUnsignedFront y → RefusesBody base L T offset m y (refuses (offset + m) (offset + m) reason.Short)
-  refused_id : {id : TypeId} {n : ℕ} {a : List ℕ} {r : Reason} (z : List ℕ) → y ≡ a ++ z → id.0 ≡ n + 1 → IsSigned (negsuc n) a
+  short : length y ≡ m → IsUnsignedPrefix y
+      → RefusesBody base L T offset m y (refuses (offset + m) (offset + m) reason.Short)
+  refused_id : {id : TypeId} {n : ℕ} {a : List ℕ} {r : Reason} (z : List ℕ) → y ≡ a ++ z → id.0 ≡ n + 1
+      → IsSigned (negsuc n) a
       → RefusesId base L T id r → RefusesBody base L T offset m y (refuses offset (offset + length a) r)
   refused_type : {t : TypeId} {a : List ℕ} {r : Reason} (z : List ℕ) → y ≡ a ++ z → IsSigned (pos t.0) a
       → RefusesType T t r → RefusesBody base L T offset m y (refuses offset (offset + length a) r)
   -- what follows it
-  refused_value : {t : TypeId} {a : List ℕ} {R : body.Refusal} (z : List ℕ) → y ≡ a ++ z → IsSigned (pos t.0) a → MayPut T t
+  refused_value : {t : TypeId} {a : List ℕ} {R : body.Refusal} (z : List ℕ) → y ≡ a ++ z → IsSigned (pos t.0) a
+      → MayPut T t
       → IsFirst T t L.depth (m - length a) z R → RefusesBody base L T offset m y (behind (offset + length a) R)
-  refused_description : {id : TypeId} {n : ℕ} {a : List ℕ} {R : body.Refusal} (z : List ℕ) → y ≡ a ++ z → id.0 ≡ n + 1 → IsSigned (negsuc n) a
-      → MayDefine base L T id → IsFirst T wire_type L.depth (m - length a) z R → RefusesBody base L T offset m y (behind (offset + length a) R)
+  refused_description : {id : TypeId} {n : ℕ} {a : List ℕ} {R : body.Refusal} (z : List ℕ) → y ≡ a ++ z → id.0 ≡ n + 1
+      → IsSigned (negsuc n) a
+      → MayDefine base L T id → IsFirst T wire_type L.depth (m - length a) z R
+      → RefusesBody base L T offset m y (behind (offset + length a) R)
   -- a whole description that describes no type
-  described_wrongly : {id : TypeId} {n : ℕ} {v : Tree} {a z : List ℕ} {r : Reason} → y ≡ a ++ z → length y ≡ m → id.0 ≡ n + 1 → IsSigned (negsuc n) a
+  described_wrongly : {id : TypeId} {n : ℕ} {v : Tree} {a z : List ℕ} {r : Reason} → y ≡ a ++ z → length y ≡ m
+      → id.0 ≡ n + 1 → IsSigned (negsuc n) a
       → MayDefine base L T id → Spells T wire_type v z → depth v ≤ L.depth → Misdescribes id v r
       → RefusesBody base L T offset m y (refuses (offset + length a) (offset + m) r)

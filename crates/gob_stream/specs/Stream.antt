@@ -9,13 +9,15 @@ use Rattle.gob_stream.specs.Body.{Body}
 
 -- at this offset the bytes are the item, its count and its body, and the second table is the one behind it
 pub data IsItem (base : Table) (L : Bounds) (T : Table) (offset : ℕ) : StreamItem → List ℕ → Table → Type 0 where
-  counted : {i : StreamItem} {c d : List ℕ} {U : Table} → IsUnsigned (length d) c → length d ≤ L.item → offset + length (c ++ d) ≤ L.stream
+  counted : {i : StreamItem} {c d : List ℕ} {U : Table} → IsUnsigned (length d) c → length d ≤ L.item
+      → offset + length (c ++ d) ≤ L.stream
       → Body base L T i d U → IsItem base L T offset i (c ++ d) U
 
 -- from this table and offset on, the bytes are these items, and behind them the types are those of the last table
 pub data AreItems (base : Table) (L : Bounds) : Table → ℕ → List StreamItem → List ℕ → Table → Type 0 where
   no_more : {T : Table} {offset : ℕ} → AreItems base L T offset [] [] T
-  and_then : {T U V : Table} {offset next : ℕ} {i : StreamItem} {items : List StreamItem} {b c : List ℕ} → IsItem base L T offset i b U
+  and_then : {T U V : Table} {offset next : ℕ} {i : StreamItem} {items : List StreamItem} {b c : List ℕ}
+      → IsItem base L T offset i b U
       → next ≡ offset + length b → AreItems base L U next items c V → AreItems base L T offset (i ∷ items) (b ++ c) V
 
 -- the bytes are the stream of the items, and the types behind it are those of the table

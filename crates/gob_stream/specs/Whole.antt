@@ -40,8 +40,8 @@ pub record NamesTypeAt (id : TypeId) (piece : List ℕ) (at end : ℕ) : Type 0 
   pub inside : end ≤ length piece
   pub names : IsSigned (pos id.0) (take (end - at) (drop at piece))
 
--- at this offset the piece is the first bytes of an item of so many bytes, and not all of them: its count, and in its head
--- the number of a type whose values may come
+-- at this offset the piece is the first bytes of an item of so many bytes, and not all of them: its count, and in its
+-- head the number of a type whose values may come
 pub record HasBegun (L : Bounds) (T : Table) (offset : ℕ) (id : TypeId) (head size : ℕ) (piece : List ℕ) : Type 0 where
   pub announced : ℕ
   pub count : List ℕ
@@ -85,7 +85,8 @@ pub record AllowsIn (L : Bounds) (item depth offset : ℕ) (piece : List ℕ) : 
   pub stream_is : length piece ≤ L.stream - offset
 
 -- the bytes of the piece, which begins at this offset, from one place up to the other are the item of a value
-pub record IsValueBetween (L : Bounds) (T : Table) (offset : ℕ) (id : TypeId) (piece : List ℕ) (at end : ℕ) : Type 0 where
+pub record IsValueBetween (L : Bounds) (T : Table) (offset : ℕ) (id : TypeId) (piece : List ℕ) (at end : ℕ) : Type
+    0 where
   pub value : Tree
   pub order : at < end
   pub inside : end ≤ length piece

@@ -27,9 +27,11 @@ pub data RefusesId (base : Table) (L : Bounds) (T : Table) (id : TypeId) : Reaso
 -- which has no finite values
 pub data RefusesType (T : Table) (t : TypeId) : Reason → Type 0 where
   private_type : t ≡ gob_encoder_type → RefusesType T t (reason.UndefinedType t)
-  undefined : {u : TypeId} → t ≢ gob_encoder_type → Reaches T t u → ¬ IsDefined T u → ((w : TypeId) → Reaches T t w → ¬ IsDefined T w → u.0 ≤ w.0)
+  undefined : {u : TypeId} → t ≢ gob_encoder_type → Reaches T t u → ¬ IsDefined T u
+      → ((w : TypeId) → Reaches T t w → ¬ IsDefined T w → u.0 ≤ w.0)
       → RefusesType T t (reason.UndefinedType u)
-  bottomless : {u : TypeId} → t ≢ gob_encoder_type → ((w : TypeId) → Reaches T t w → IsDefined T w) → Reaches T t u → ¬ IsGrounded T u
+  bottomless : {u : TypeId} → t ≢ gob_encoder_type → ((w : TypeId) → Reaches T t w → IsDefined T w) → Reaches T t u
+      → ¬ IsGrounded T u
       → ((w : TypeId) → Reaches T t w → ¬ IsGrounded T w → u.0 ≤ w.0) → RefusesType T t (reason.Bottomless u)
 
 -- why a value isn't written at a type
@@ -40,24 +42,31 @@ pub data RefusesValue (L : Bounds) (T : Table) (t : TypeId) (v : Tree) : Reason 
 -- why a body isn't written at this offset
 pub data WriterRefusesBody (L : Bounds) (offset : ℕ) (body : List ℕ) : Reason → Type 0 where
   item_too_long : L.item < length body → WriterRefusesBody L offset body reason.ItemTooLong
-  stream_too_long : {c : List ℕ} → length body ≤ L.item → IsUnsigned (length body) c → L.stream < offset + length (c ++ body)
+  stream_too_long : {c : List ℕ} → length body ≤ L.item → IsUnsigned (length body) c
+      → L.stream < offset + length (c ++ body)
       → WriterRefusesBody L offset body reason.StreamTooLong
 
 -- why the item isn't written where the types are those of T, at this offset
 pub data RefusesItem (base : Table) (L : Bounds) (T : Table) (offset : ℕ) : StreamItem → Reason → Type 0 where
-  refused_id : {id : TypeId} {v : Tree} {r : Reason} → RefusesId base L T id r → RefusesItem base L T offset (defines id v) r
+  refused_id : {id : TypeId} {v : Tree} {r : Reason} → RefusesId base L T id r
+      → RefusesItem base L T offset (defines id v) r
   refused_description : {id : TypeId} {v : Tree} {r : Reason} → MayDefine base L T id → RefusesValue L T wire_type v r
       → RefusesItem base L T offset (defines id v) r
-  described_wrongly : {id : TypeId} {v : Tree} {r : Reason} → MayDefine base L T id → depth v ≤ L.depth → Fits T wire_type v → Misdescribes id v r
+  described_wrongly : {id : TypeId} {v : Tree} {r : Reason} → MayDefine base L T id → depth v ≤ L.depth
+      → Fits T wire_type v → Misdescribes id v r
       → RefusesItem base L T offset (defines id v) r
   refused_type : {t : TypeId} {v : Tree} {r : Reason} → RefusesType T t r → RefusesItem base L T offset (puts t v) r
-  refused_value : {t : TypeId} {v : Tree} {r : Reason} → MayPut T t → RefusesValue L T t v r → RefusesItem base L T offset (puts t v) r
-  refused_body : {i : StreamItem} {d : List ℕ} {U : Table} {r : Reason} → Body base L T i d U → WriterRefusesBody L offset d r → RefusesItem base L T offset i r
+  refused_value : {t : TypeId} {v : Tree} {r : Reason} → MayPut T t → RefusesValue L T t v r
+      → RefusesItem base L T offset (puts t v) r
+  refused_body : {i : StreamItem} {d : List ℕ} {U : Table} {r : Reason} → Body base L T i d U
+      → WriterRefusesBody L offset d r → RefusesItem base L T offset i r
 
 -- an item isn't written for one reason
 abbrev pub WritersHaveOneReason : Type 0
-WritersHaveOneReason = (base : Table) (L : Bounds) (T : Table) (offset : ℕ) (i : StreamItem) (r s : Reason) → RefusesItem base L T offset i r → RefusesItem base L T offset i s → r ≡ s
+WritersHaveOneReason = (base : Table) (L : Bounds) (T : Table) (offset : ℕ) (i : StreamItem) (r s : Reason)
+    → RefusesItem base L T offset i r → RefusesItem base L T offset i s → r ≡ s
 
 -- and no bytes are that item there
 abbrev pub AreNoItem : Type 0
-AreNoItem = (base : Table) (L : Bounds) (T U : Table) (offset : ℕ) (i : StreamItem) (r : Reason) (b : List ℕ) → RefusesItem base L T offset i r → ¬ IsItem base L T offset i b U
+AreNoItem = (base : Table) (L : Bounds) (T U : Table) (offset : ℕ) (i : StreamItem) (r : Reason) (b : List ℕ)
+    → RefusesItem base L T offset i r → ¬ IsItem base L T offset i b U

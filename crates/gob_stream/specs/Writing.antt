@@ -1,5 +1,6 @@
 -- What the writing calls answer, in the words of streams.
-use Rattle.std.specs.Prelude.{◌≡◌, ℕ, pos, ◌+◌, ◌≤◌, List, [], ◌∷◌, ◌++◌, length, take, slice_get, true, false, Option, Some, Result, Ok, Err}
+use Rattle.std.specs.Prelude.{◌≡◌, ℕ, pos, ◌+◌, ◌≤◌, List, [], ◌∷◌, ◌++◌, length, take, slice_get, true, false, Option}
+use Rattle.std.specs.Prelude.{Some, Result, Ok, Err}
 use Rattle.std.specs.Io.KnownBytes.{Appends, Keeps}
 use Rattle.gob_types.specs.Table.{Table}
 use Rattle.gob_types.specs.Base.{base_table}
@@ -57,16 +58,17 @@ pub data IsUsableWriter (w : WriterState) : Type 0 where
   has_failed : HasWriterFailed w → IsUsableWriter w
   has_written : HasWrittenSome w → IsUsableWriter w
 
--- a front of the bytes of this item went out
-pub record WroteFront (L : Bounds) (T : Table) (offset : ℕ) (i : StreamItem) (old new : Option (List ℕ)) : Type 0 where
-  pub front : List ℕ
+-- a prefix of the bytes of this item went out
+pub record WrotePrefix (L : Bounds) (T : Table) (offset : ℕ) (i : StreamItem) (old new : Option (List ℕ)) : Type 0 where
+  pub prefix : List ℕ
   pub rest : List ℕ
   pub table : Table
-  pub item : IsItem base_table L T offset i (front ++ rest) table
-  pub out : Appends old new front
+  pub item : IsItem base_table L T offset i (prefix ++ rest) table
+  pub out : Appends old new prefix
 
 -- the bytes of this item went out, and the writer stands behind them
-pub record WroteItem (L : Bounds) (w w' : WriterState) (items : List StreamItem) (bytes : List ℕ) (T : Table) (i : StreamItem) (old new : Option (List ℕ)) : Type 0 where
+pub record WroteItem (L : Bounds) (w w' : WriterState) (items : List StreamItem) (bytes : List ℕ) (T : Table)
+    (i : StreamItem) (old new : Option (List ℕ)) : Type 0 where
   pub more : List ℕ
   pub table : Table
   pub item : IsItem base_table L T (length bytes) i more table
@@ -80,19 +82,22 @@ WroteNothing w w' old new = (w' ≡ w) × Keeps old new
 
 -- what writing an item that these limits admit answers, for a writer that has written the items, over an output with
 -- the old bytes
-abbrev pub WritesItem : Bounds → (w w' : WriterState) → List StreamItem → List ℕ → Table → StreamItem → (old new : Option (List ℕ)) → Result (Unit {0}) WriteFault → Type 0
+abbrev pub WritesItem : Bounds → (w w' : WriterState) → List StreamItem → List ℕ → Table → StreamItem
+    → (old new : Option (List ℕ)) → Result (Unit {0}) WriteFault → Type 0
 WritesItem L w w' items bytes T i old new (Ok _) = WroteItem L w w' items bytes T i old new
 WritesItem L w w' items bytes T i old new (Err (fault.Refused r)) = RefusesItem base_table L T (length bytes) i r
-WritesItem L w w' items bytes T i old new (Err fault.Write) = WroteFront L T (length bytes) i old new
+WritesItem L w w' items bytes T i old new (Err fault.Write) = WrotePrefix L T (length bytes) i old new
 WritesItem L w w' items bytes T i old new (Err fault.Memory) = Unit {0}
 WritesItem L w w' items bytes T i old new (Err fault.Failed) = ⊥
 
 -- the same, whatever it has written
-abbrev pub WritesNext : Bounds → (w w' : WriterState) → StreamItem → (old new : Option (List ℕ)) → Result (Unit {0}) WriteFault → Type 0
-WritesNext L w w' i old new result = (items : List StreamItem) (bytes : List ℕ) (T : Table) → HasWritten w items bytes T → WritesItem L w w' items bytes T i old new result
+abbrev pub WritesNext : Bounds → (w w' : WriterState) → StreamItem → (old new : Option (List ℕ))
+    → Result (Unit {0}) WriteFault → Type 0
+WritesNext L w w' i old new result = (items : List StreamItem) (bytes : List ℕ) (T : Table) → HasWritten w items bytes T
+    → WritesItem L w w' items bytes T i old new result
 
--- what an answer leaves of any writer: after a refusal, or without memory, nothing went out and it is as before; after a
--- failed write it writes no more
+-- what an answer leaves of any writer: after a refusal, or without memory, nothing went out and it is as before;
+-- after a failed write it writes no more
 abbrev pub Leaves : (w w' : WriterState) → (old new : Option (List ℕ)) → Result (Unit {0}) WriteFault → Type 0
 Leaves w w' old new (Ok _) = w'.place.failed ≡ false
 Leaves w w' old new (Err (fault.Refused r)) = WroteNothing w w' old new
@@ -101,7 +106,8 @@ Leaves w w' old new (Err fault.Memory) = WroteNothing w w' old new
 Leaves w w' old new (Err fault.Failed) = HasWriterFailed w × WroteNothing w w' old new
 
 -- what a writer answers whose write failed: it writes nothing for good
-abbrev pub AnswersFailed : (w w' : WriterState) → {W : Type 0} → (output output' : Output W) → Result (Unit {0}) WriteFault → Type 0
+abbrev pub AnswersFailed : (w w' : WriterState) → {W : Type 0} → (output output' : Output W)
+    → Result (Unit {0}) WriteFault → Type 0
 AnswersFailed w w' output output' result = (result ≡ Err fault.Failed) × (w' ≡ w) × (output' ≡ output)
 
 -- the fault is `Write` exactly where a write failed, and the writer makes no further one
@@ -121,14 +127,16 @@ CountsStop failures failures' (Err stop) = CountsFault failures failures' stop.f
 
 -- what a call that writes one item does to any writer and output, whatever was written: what it was called on, what its
 -- answer leaves, what it answers where a write failed before, and how many writes failed
-pub record WriteEffects (w w' : WriterState) {W : Type 0} (contents : W → Option (List ℕ)) (output output' : Output W) (result : Result (Unit {0}) WriteFault) : Type 0 where
+pub record WriteEffects (w w' : WriterState) {W : Type 0} (contents : W → Option (List ℕ)) (output output' : Output W)
+    (result : Result (Unit {0}) WriteFault) : Type 0 where
   pub usable : IsUsableWriter w
   pub leaves : Leaves w w' (contents (writer_of output)) (contents (writer_of output')) result
   pub failed : HasWriterFailed w → AnswersFailed w w' output output' result
   pub counted : CountsWriterFaults (failed_writes output) (failed_writes output') result
 
 -- what a call answers that writes this item, as these limits admit it
-pub record WriteAnswers (L : Bounds) (w w' : WriterState) (i : StreamItem) {W : Type 0} (contents : W → Option (List ℕ)) (output output' : Output W) (result : Result (Unit {0}) WriteFault) : Type 0 where
+pub record WriteAnswers (L : Bounds) (w w' : WriterState) (i : StreamItem) {W : Type 0} (contents : W → Option (List ℕ))
+    (output output' : Output W) (result : Result (Unit {0}) WriteFault) : Type 0 where
   pub writes : WritesNext L w w' i (contents (writer_of output)) (contents (writer_of output')) result
   pub effects : WriteEffects w w' contents output output' result
 
@@ -137,17 +145,19 @@ pub record IsNew (w : WriterState) (L : Bounds) : Type 0 where
   pub limits : w.limits ≡ L
   pub nothing : HasWritten w [] [] base_table
 
--- a front of the bytes went out
-pub record SentFront (bytes : List ℕ) (old new : Option (List ℕ)) : Type 0 where
-  pub front : List ℕ
+-- a prefix of the bytes went out
+pub record SentPrefix (bytes : List ℕ) (old new : Option (List ℕ)) : Type 0 where
+  pub prefix : List ℕ
   pub rest : List ℕ
-  pub whole : bytes ≡ front ++ rest
-  pub out : Appends old new front
+  pub whole : bytes ≡ prefix ++ rest
+  pub out : Appends old new prefix
 
--- what sending these bytes answers: the place is behind them, or no more is written, and a front of them is out
+-- what sending these bytes answers: the place is behind them, or no more is written, and a prefix of them is out
 abbrev pub SendAnswers : (p p' : Place) → List ℕ → (old new : Option (List ℕ)) → Result (Unit {0}) WriteFault → Type 0
-SendAnswers p p' bytes old new (Ok _) = Appends old new bytes × (p' ≡ record p { offset = p.offset + length bytes; failed = false })
-SendAnswers p p' bytes old new (Err f) = SentFront bytes old new × (p' ≡ record p { failed = true }) × (f ≡ fault.Write)
+SendAnswers p p' bytes old new (Ok _) = Appends old new bytes
+    × (p' ≡ record p { offset = p.offset + length bytes; failed = false })
+SendAnswers p p' bytes old new (Err f) = SentPrefix bytes old new × (p' ≡ record p { failed = true })
+    × (f ≡ fault.Write)
 
 -- the limits admit an item of this count and body at the offset
 pub record FitsLimits (L : Bounds) (offset : ℕ) (count body : List ℕ) : Type 0 where
@@ -184,7 +194,8 @@ pub record WroteBefore (L : Bounds) (items : List StreamItem) (n : ℕ) (old new
   pub out : Appends old new bytes
 
 -- and this one is refused, so that no stream has all of them
-pub record RefusedThere (L : Bounds) (items : List StreamItem) (n : ℕ) (r : Reason) (old new : Option (List ℕ)) : Type 0 where
+pub record RefusedThere (L : Bounds) (items : List StreamItem) (n : ℕ) (r : Reason) (old new : Option (List ℕ)) : Type
+    0 where
   pub bytes : List ℕ
   pub table : Table
   pub item : StreamItem
@@ -194,18 +205,18 @@ pub record RefusedThere (L : Bounds) (items : List StreamItem) (n : ℕ) (r : Re
   pub refused : RefusesItem base_table L table (length bytes) item r
   pub none : ¬ HasStream base_table L items
 
--- the items before this one went out whole, and a front of this one
+-- the items before this one went out whole, and a prefix of this one
 pub record CutThere (L : Bounds) (items : List StreamItem) (n : ℕ) (old new : Option (List ℕ)) : Type 0 where
   pub bytes : List ℕ
-  pub front : List ℕ
+  pub prefix : List ℕ
   pub rest : List ℕ
   pub table : Table
   pub last : Table
   pub item : StreamItem
   pub before : Stream base_table L (take n items) bytes table
-  pub out : Appends old new (bytes ++ front)
+  pub out : Appends old new (bytes ++ prefix)
   pub at : slice_get items n ≡ Some item
-  pub counted : IsItem base_table L table (length bytes) item (front ++ rest) last
+  pub counted : IsItem base_table L table (length bytes) item (prefix ++ rest) last
 
 -- what stopped the writing of a list of items, at this one
 abbrev pub StoppedAt : Bounds → List StreamItem → ℕ → (old new : Option (List ℕ)) → WriteFault → Type 0
@@ -216,5 +227,6 @@ StoppedAt L items n old new fault.Failed = ⊥
 
 -- what writing a list of items answers
 abbrev pub WritesStream : Bounds → List StreamItem → (old new : Option (List ℕ)) → Result (Unit {0}) WriteStop → Type 0
-WritesStream L items old new (Ok _) = (bytes : List ℕ) × (T : Table) × Stream base_table L items bytes T × Appends old new bytes
+WritesStream L items old new (Ok _) = (bytes : List ℕ) × (T : Table) × Stream base_table L items bytes T
+    × Appends old new bytes
 WritesStream L items old new (Err stop) = StoppedAt L items stop.item old new stop.fault

@@ -1,7 +1,7 @@
 //! The count at which an item begins.
 
 ghost use Rattle.std.specs.Prelude.{◌≡◌, ◌+◌, ◌≤◌, [], length};
-ghost use Rattle.gob_num.specs.Unsigned.{IsUnsignedFront};
+ghost use Rattle.gob_num.specs.Unsigned.{IsUnsignedPrefix};
 ghost use Rattle.gob_stream.specs.Bounds.{greatest_stream};
 ghost use Rattle.gob_stream.specs.Refusing.{refuses};
 ghost use Rattle.gob_stream.specs.Machine.ReadParts.{CountAnswers, JudgesCount};
@@ -38,7 +38,7 @@ impl CountStage {
     pub(crate) fn take<B: Builder>(self, around: &Around, piece: &[u8]) -> Result<Stepped<B>, Fault>
         requires offset { self.begin ≤ greatest_stream }
         requires taken { around.now.taken ≡ self.begin + length self.number }
-        requires front { IsUnsignedFront self.number }
+        requires prefix { IsUnsignedPrefix self.number }
         ensures { CountAnswers around.now.limits self.begin self.number piece.now result }
     {
         let CountStage { begin, mut number } = self;

@@ -49,7 +49,8 @@ pub enum Fault {
 pub enum WriteFault {
     /// The item doesn't continue the stream. Nothing of it went out, and the writer is as before.
     Refused(Reason),
-    /// A write failed, and the output counted it. A front of the item may have gone out, and the writer writes no more.
+    /// A write failed, and the output counted it. A prefix of the item may have gone out, and the writer writes no
+    /// more.
     Write,
     /// No memory was had. Nothing of the item went out, and the writer is as before.
     Memory,

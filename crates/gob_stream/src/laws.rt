@@ -29,10 +29,10 @@ pub fn streams_stay()
 {}
 
 /// What `write_stream` writes, `read_stream` reads back as that list, under limits that are each at least the
-/// writer's. No front of it shows a refusal.
+/// writer's. No prefix of it shows a refusal.
 pub fn streams_are_read_back()
     ensures whole { AreReadBack }
-    ensures fronts { ShowNoRefusal }
+    ensures prefixes { ShowNoRefusal }
 {}
 
 /// What `write_stream` writes, a session reads back in whatever pieces it is fed, under limits that are each at least

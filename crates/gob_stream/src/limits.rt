@@ -47,9 +47,9 @@ impl Limits {
         Limits::within(Limits::GREATEST_DEPTH, item, depth, types, stream)
     }
 
-    /// The same, for readers whose builder makes no tree and for writing what they made: None exactly where `depth`
-    /// is 0 or above 65536, or `stream` is above 9223372036854775807. What reads or writes values as trees keeps to a
-    /// depth of 1000 under these limits too.
+    /// Limits as [`Limits::new`] makes them, but for readers whose builder makes no tree, and for writing what they
+    /// made. `depth` goes further: None exactly where `depth` is 0 or above 65536, or `stream` is above
+    /// 9223372036854775807. What reads or writes values as trees keeps to a depth of 1000 under these limits too.
     pub fn deep(item: u64, depth: u64, types: u64, stream: u64) -> Option<Limits>
         ensures some { IsSome result
             ↔ AreLimits deepest (record { item = item; depth = depth; types = types; stream = stream }) }
@@ -105,7 +105,7 @@ impl Limits {
         self.depth
     }
 
-    /// The same limits with the lesser of their depth and this one, which is above 0.
+    /// These limits with the lesser of their depth and this one, which is above 0.
     pub fn up_to(&self, depth: u64) -> Limits
         requires { 0 < depth }
         ensures { result ≡ no_deeper depth self.now }

@@ -3,7 +3,7 @@
 ghost use Rattle.std.specs.Prelude.{◌≡◌, OnOk, OnErr, IfErr, MatchResult, true, false};
 ghost use Rattle.gob_stream.specs.Devices.{WriteCounted, FlushCounted, counts_up};
 ghost use Rattle.gob_stream.specs.Ends.{failed_writes, is_unflushed, writer_of};
-ghost use Rattle.gob_stream.specs.Writing.{SentFront, CountsWriterFaults};
+ghost use Rattle.gob_stream.specs.Writing.{SentPrefix, CountsWriterFaults};
 ghost use Rattle.std.specs.Io.KnownBytes.{Appends, WriteAppends, Keeps};
 ghost use Rattle.std.specs.Io.{WritesAtMost};
 
@@ -58,12 +58,12 @@ impl<W> Output<W> {
 
 impl<W: Write> Output<W> {
     /// Sends all the bytes, in as many writes as the writer wants. It stops at the first write that fails, with
-    /// `Write`; a front of the bytes is then out. A write that was interrupted is one that failed.
+    /// `Write`; a prefix of the bytes is then out. A write that was interrupted is one that failed.
     pub fn send_all(&mut self, bytes: &[u8]) -> Result<(), WriteFault>
         ensures ok { OnOk result
             (Appends (W.contents (writer_of self.old)) (W.contents (writer_of self.new)) bytes.now) }
-        ensures front { OnErr result
-            (SentFront bytes.now (W.contents (writer_of self.old)) (W.contents (writer_of self.new))) }
+        ensures prefix { OnErr result
+            (SentPrefix bytes.now (W.contents (writer_of self.old)) (W.contents (writer_of self.new))) }
         ensures fault { IfErr result (λ fault. fault ≡ WriteFault.Write) }
         ensures counted { CountsWriterFaults (failed_writes self.old) (failed_writes self.new) result }
     {

@@ -43,7 +43,7 @@ pub fn read_stream<R: Read>(
     read_items(alloc, input, &mut session, out)
 }
 
-/// The same, over a session that has read nothing.
+/// Reads the whole stream over a session that has read nothing, and keeps its items in `out`.
 fn read_items<R: Read>(
     alloc: Global,
     input: &mut Input<R>,

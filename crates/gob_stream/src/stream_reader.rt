@@ -1,13 +1,15 @@
 //! A reader of a stream that owns the bytes that it has read and not yet taken.
 
 ghost use Rattle.std.specs.Prelude.{◌≡◌, ◌+◌, ◌<◌, ◌≤◌, ◌++◌, ◌∷◌, ℕ, List, [], Option, Some, None, true, false};
-ghost use Rattle.std.specs.Prelude.{◌≢◌, length, take, drop, IsTrue, IfErr, IfOk, IfSome};
+ghost use Rattle.std.specs.Prelude.{◌≢◌, length, take, drop, IsTrue, IfErr, IfOk, IfSome, OnErr};
 ghost use Rattle.gob_stream.specs.Bounds.{AreLimits, deepest};
-ghost use Rattle.gob_stream.specs.Calls.Session.{HasBodyNext, HasItemNext, IsBetweenItems, ReadsOn, limits_of, table_of, taken_of};
+ghost use Rattle.gob_stream.specs.Calls.Session.{HasBodyNext, HasItemNext, IsBetweenItems, ReadsOn, limits_of};
+ghost use Rattle.gob_stream.specs.Calls.Session.{table_of, taken_of};
 ghost use Rattle.gob_stream.specs.Ends.{failed_reads, reader_of};
 ghost use Rattle.gob_stream.specs.Item.{StreamItem};
 ghost use Rattle.gob_stream.specs.Reading.{CountsReads};
-ghost use Rattle.gob_stream.specs.Calls.Reader.{HasReadFrom, Fills, IsShort, Lacks, ReadsOnce, StepsFrom, PassesFrom, PassesOne};
+ghost use Rattle.gob_stream.specs.Calls.Reader.{HasReadFrom, Fills, IsShort, Lacks, ReadsOnce, StepsFrom, PassesFrom};
+ghost use Rattle.gob_stream.specs.Calls.Reader.{PassesOne};
 ghost use Rattle.gob_stream.specs.Calls.Reader.{session_of, waits_in};
 
 use crate::fault::Fault;
@@ -72,6 +74,7 @@ impl<B: Builder> StreamReader<B> {
         ensures some { IfOk result (λ more. IsTrue more → 0 < length (waits_in self.new)) }
         ensures same { IfOk result (λ more. IsTrue more → session_of self.new ≡ session_of self.old) }
         ensures limits { limits_of (session_of self.new) ≡ limits_of (session_of self.old) }
+        ensures types { table_of (session_of self.new) ≡ table_of (session_of self.old) }
     {
         'reads: loop {
             if self.has_next() {
@@ -92,6 +95,7 @@ impl<B: Builder> StreamReader<B> {
         ensures counted { CountsReads (failed_reads input.old) (failed_reads input.new) result }
         ensures some { IfOk result (λ more. IsTrue more → 0 < length (waits_in self.new)) }
         ensures limits { limits_of (session_of self.new) ≡ limits_of (session_of self.old) }
+        ensures types { table_of (session_of self.new) ≡ table_of (session_of self.old) }
     {
         if !self.waiting.bytes().is_empty() {
             return Ok(true);
@@ -104,7 +108,8 @@ impl<B: Builder> StreamReader<B> {
     }
 
     /// Whether the next [`StreamReader::fill`] may have to wait for its input: at most the first bytes of an item of a
-    /// value wait, and the last read gave less than was asked for. What was made of the items before is to go out first.
+    /// value wait, and the last read gave less than was asked for. What was made of the items before is to go out
+    /// first.
     #[inline(always)]
     pub fn may_wait(&self) -> bool
         ensures lacks { IsTrue result → Lacks self.now }
@@ -124,12 +129,14 @@ impl<B: Builder> StreamReader<B> {
         ensures unread { IfErr result (λ fault. fault ≢ Fault.Read) }
         ensures no_more { IfOk result (λ more. more ≡ false) }
         ensures limits { limits_of (session_of self.new) ≡ limits_of (session_of self.old) }
+        ensures types { table_of (session_of self.new) ≡ table_of (session_of self.old) }
     {
         self.session.finish()?;
         Ok(false)
     }
 
     // Whether bytes wait, and more than the first ones of an item of a value that is to come.
+    #[inline(always)]
     fn has_next(&self) -> bool
         ensures some { IsTrue result → 0 < length (waits_in self.now) }
         ensures lacks { result ≡ false → Lacks self.now }
@@ -186,8 +193,8 @@ impl<B: Builder> StreamReader<B> {
         self.waiting.pass(used);
     }
 
-    /// Goes past the items of values that wait in front, one behind another, and keeps nothing of the values. It takes no
-    /// memory. It may pass fewer than wait there, or none, which says nothing of what waits.
+    /// Goes past the items of values that wait in front, one behind another, and keeps nothing of the values. It takes
+    /// no memory. It may pass fewer than wait there, or none, which says nothing of what waits.
     pub fn pass_values(&mut self) -> Passed
         ensures passed { PassesFrom B.building self.old self.new result }
         ensures left { waits_in self.new ≡ drop result.used (waits_in self.old) }
@@ -208,6 +215,7 @@ impl<B: Builder> StreamReader<B> {
         ensures used { IfOk result (λ step. 0 < step.used) }
         ensures unread { IfErr result (λ fault. fault ≢ Fault.Read) }
         ensures limits { limits_of (session_of self.new) ≡ limits_of (session_of self.old) }
+        ensures types { OnErr result (table_of (session_of self.new) ≡ table_of (session_of self.old)) }
     {
         let step = self.session.step(alloc, self.waiting.bytes())?;
         self.waiting.pass(step.used);

@@ -2,7 +2,7 @@
 
 ghost use Rattle.std.specs.Prelude.{◌≡◌, ℕ, ◌+◌, ◌<◌, ◌≤◌, ◌++◌, List, length, pos, negsuc};
 ghost use Rattle.gob_num.specs.Signed.{IsSigned};
-ghost use Rattle.gob_num.specs.Unsigned.{IsUnsigned, IsUnsignedFront};
+ghost use Rattle.gob_num.specs.Unsigned.{IsUnsigned, IsUnsignedPrefix};
 ghost use Rattle.gob_types.specs.Defined.{types};
 ghost use Rattle.gob_read.specs.Calls.Builders.{tree_building};
 ghost use Rattle.gob_stream.specs.Bounds.{greatest_stream, no_deeper};
@@ -41,7 +41,7 @@ impl TypeNumberStage {
         requires begin { self.body.begin + length self.number ≡ around.now.taken }
         requires room { around.now.taken < self.body.end }
         requires end { self.body.end ≤ greatest_stream }
-        requires front { IsUnsignedFront self.number }
+        requires prefix { IsUnsignedPrefix self.number }
         requires some { 0 < length piece.now }
         ensures { let L = no_deeper B.DEPTH around.now.limits in (offset m : ℕ) (c : List ℕ)
             → IsCount L offset m c self.body
@@ -51,7 +51,7 @@ impl TypeNumberStage {
         let TypeNumberStage { body, mut number } = self;
         let room = (body.end - around.taken).min(piece.len() as u64) as usize;
         match number.take(&piece[..room]) {
-            Taken::More => front_of_type_number(body, around.taken, number, room),
+            Taken::More => prefix_of_type_number(body, around.taken, number, room),
             // The body goes on in this call, also where the piece ends here: if it has nothing behind its type number,
             // no further byte of the item comes, and it is refused with the last one of that number.
             Taken::Whole { number, used } => {
@@ -59,7 +59,7 @@ impl TypeNumberStage {
                     begin: around.taken + used as u64,
                     end: body.end,
                 };
-                match front_of_body(around, table, body.begin, rest, number, &piece[used..]) {
+                match prefix_of_body(around, table, body.begin, rest, number, &piece[used..]) {
                     Ok(stepped) => Ok(Stepped {
                         used: used + stepped.used,
                         stage: stepped.stage,
@@ -83,7 +83,7 @@ impl TypeNumberStage {
 }
 
 // The first bytes of a type number, of which so many stand in the piece: it goes on where the body does.
-fn front_of_type_number<B: Builder>(
+fn prefix_of_type_number<B: Builder>(
     body: Extent,
     taken: u64,
     number: Number,
@@ -104,7 +104,7 @@ fn front_of_type_number<B: Builder>(
 }
 
 // Takes the first bytes of what follows the type number, which stands at the place.
-fn front_of_body<B: Builder>(
+fn prefix_of_body<B: Builder>(
     around: &Around,
     table: &mut Table,
     place: u64,
@@ -123,13 +123,13 @@ fn front_of_body<B: Builder>(
     let number = to_signed(number);
     let id = TypeId(number.unsigned_abs());
     if number < 0 {
-        return front_of_description(around, table, place, rest, id, piece);
+        return prefix_of_description(around, table, place, rest, id, piece);
     }
-    front_of_value(around, table, place, rest, id, piece)
+    prefix_of_value(around, table, place, rest, id, piece)
 }
 
 // Takes the first bytes of the description of the type whose number stands at the place.
-fn front_of_description<B: Builder>(
+fn prefix_of_description<B: Builder>(
     around: &Around,
     table: &mut Table,
     place: u64,
@@ -162,7 +162,7 @@ fn front_of_description<B: Builder>(
 }
 
 // Takes the first bytes of a value of the type whose number stands at the place.
-fn front_of_value<B: Builder>(
+fn prefix_of_value<B: Builder>(
     around: &Around,
     table: &Table,
     place: u64,

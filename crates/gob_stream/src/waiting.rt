@@ -15,7 +15,7 @@ use std::io;
 use std::io::Read;
 
 // How many bytes there is room for at first, and by how many it grows at least.
-const PIECE: usize = 65536;
+const PIECE: usize = 262144;
 
 /// Bytes that were read and not yet taken: those of the room from the start to the end.
 #[derive(Drop)]
@@ -33,7 +33,7 @@ impl Waiting {
     /// No bytes.
     pub(crate) fn new(alloc: Global) -> Result<Waiting, Memory>
         ensures none { IfOk result (λ new. waiting new ≡ []) }
-        ensures room { IfOk result (λ new. vec_len new.room ≡ 65536) }
+        ensures room { IfOk result (λ new. vec_len new.room ≡ 262144) }
     {
         let room = vec![in alloc; 0; PIECE].map_err(Memory::from)?;
         Ok(Waiting {
@@ -112,7 +112,7 @@ impl Waiting {
 fn read_behind<R: Read>(input: &mut Input<R>, room: &mut Vec<u8>, end: usize) -> io::Result<usize>
     requires { end < vec_len room.old }
     ensures len { vec_len room.new ≡ vec_len room.old }
-    ensures front { take end room.new.items ≡ take end room.old.items }
+    ensures prefix { take end room.new.items ≡ take end room.old.items }
     ensures bound { IfOk result (λ count. end + count ≤ vec_len room.new) }
     ensures ok { IfOk result (λ count. Consumes (R.remaining (reader_of input.old)) (R.remaining (reader_of input.new))
         (take count (drop end room.new.items))) }

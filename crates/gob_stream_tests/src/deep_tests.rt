@@ -2,8 +2,8 @@
 
 use gob_num::Memory;
 use gob_read::{Builder, CheckBuilder, TreeBuilder};
-use gob_read_support::{bytes_of, number, part};
 use gob_stream::{Fault, Input, Limits, Refusal, Session, read_stream};
+use gob_test_rows::{bytes_of, number, part};
 use gob_types::Reason;
 use std::alloc::{AllocError, Global};
 use std::test::*;
@@ -17,7 +17,7 @@ const COUNTED: &str = "
 65537 | LIST fd 01 00 04 ff 82 00 | 65536 | 65557
 ";
 
-// The same for trees.
+// How deep the slices go that are built as trees, what stands before them, the limit, and where they are refused.
 const BUILT: &str = "
 1000 | LIST fe 03 eb ff 82 00 | 65536
 2000 | LIST fe 07 d3 ff 82 00 | 65536 | 1020

@@ -5,8 +5,8 @@ use crate::devices::Small;
 use crate::sessions::feed_both;
 use crate::values::{VALUES, is_written, is_written_spelled};
 use gob_num::Memory;
-use gob_read_support::{bytes_of, numbers, part};
 use gob_stream::{Fault, Input, Item, Limits, Output, WriteFault, read_stream, write_stream};
+use gob_test_rows::{bytes_of, numbers, part};
 use gob_value::Value;
 use std::alloc::{AllocError, Global};
 use std::test::*;
@@ -88,17 +88,17 @@ fn writing_spelled_values_wants_memory(rt: HostRuntime) {
     }
 }
 
-// Whether the items are written as these bytes, or a front of the items for want of memory.
+// Whether the items are written as these bytes, or a prefix of the items for want of memory.
 fn are_written(alloc: Global, items: &[Item<Value>], bytes: &[u8]) -> bool {
     let mut small = Small::new();
     let answer = {
         let mut output = Output::new(&mut small);
         write_stream(alloc, &mut output, items, Limits::standard())
     };
-    let front = small.taken().unwrap_or(&[]);
+    let prefix = small.taken().unwrap_or(&[]);
     match answer {
-        Ok(()) => front == bytes,
-        Err(stop) => stop.fault == WriteFault::Memory && bytes.starts_with(front),
+        Ok(()) => prefix == bytes,
+        Err(stop) => stop.fault == WriteFault::Memory && bytes.starts_with(prefix),
     }
 }
 

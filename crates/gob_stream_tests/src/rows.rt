@@ -2,8 +2,8 @@
 //! how many items it begins with and what is refused behind these, and the limits: for an item, for the depth, for
 //! types and for the stream.
 
-use gob_read_support::{number, part};
 use gob_stream::Limits;
+use gob_test_rows::{number, part};
 
 /// The rows. Those without limits are read under the standard ones.
 pub(crate) const ROWS: &str = "

@@ -2,8 +2,8 @@
 
 use crate::devices::{Device, Small, Wrong};
 use gob_num::Memory;
-use gob_read_support::{bytes_of, number, part, value_of};
 use gob_stream::{Limits, Output, StreamWriter, WriteFault};
+use gob_test_rows::{bytes_of, number, part, value_of};
 use gob_types::{Table, TypeId};
 use gob_value::{Value, spell};
 use std::alloc::Global;

@@ -3,10 +3,10 @@
 use crate::devices::{Device, Wrong};
 use crate::values::{VALUES, is_cut_spelled, is_written, is_written_spelled};
 use gob_num::Memory;
-use gob_read_support::{bytes_of, number, part, value_of};
 use gob_stream::{
     Input, Item, Limits, Output, StreamWriter, WriteFault, WriteStop, read_stream, write_stream,
 };
+use gob_test_rows::{bytes_of, number, part, value_of};
 use gob_types::{Reason, TypeId};
 use gob_value::Value;
 use std::alloc::{AllocError, Global};

@@ -7,9 +7,9 @@ pub put_next : {X Y : Type 0} (f : X → Y) (xs : List X) (zs ys : List Y) (i : 
     → length xs ≤ length zs → ys ≡ map f (take i xs) ++ drop i zs → x ≡ get_or xs i x
     → set ys i (f x) ≡ map f (take (i + 1) xs) ++ drop (i + 1) zs
 put_next f xs zs ys i x lt le h is =
-    let front = map f (take i xs) in
-    let long : length front ≡ i = length-map (take i xs) f ∙ omega (arith, length-take i xs) in
-    let parts : ys ≡ front ++ get_or zs i (f x) ∷ drop (i + 1) zs =
-    h ∙ ap (λ l. front ++ l) (drop_more zs i (f x) (omega arith)) in
-    ap (λ l. set l i (f x)) parts ∙ set_at front _ _ (f x) i long ∙ sym (append_assoc front (f x ∷ []) _)
-    ∙ ap (λ l. l ++ drop (i + 1) zs) (ap (λ y. front ++ f y ∷ []) is ∙ sym (map_more f xs i x lt))
+    let prefix = map f (take i xs) in
+    let long : length prefix ≡ i = length-map (take i xs) f ∙ omega (arith, length-take i xs) in
+    let parts : ys ≡ prefix ++ get_or zs i (f x) ∷ drop (i + 1) zs =
+    h ∙ ap (λ l. prefix ++ l) (drop_more zs i (f x) (omega arith)) in
+    ap (λ l. set l i (f x)) parts ∙ set_at prefix _ _ (f x) i long ∙ sym (append_assoc prefix (f x ∷ []) _)
+    ∙ ap (λ l. l ++ drop (i + 1) zs) (ap (λ y. prefix ++ f y ∷ []) is ∙ sym (map_more f xs i x lt))

@@ -1,5 +1,7 @@
 -- What a node shows of the value that its part means.
-use Rattle.std.proofs.Common.{◌≡◌, ℕ, zero, suc, ◌+◌, ◌*◌, ◌/◌, ◌%◌, ◌<◌, ◌≤◌, ◌-◌, ◌^◌, max, min, ◌⊎◌, inl, inr, List, [], ◌∷◌, length, take, drop, get_or, Option, Some, None, arith, refl, sym, ap, ◌∙◌, subst, pos, negsuc}
+use Rattle.std.proofs.Common.{◌≡◌, ℕ, zero, suc, ◌+◌, ◌*◌, ◌/◌, ◌%◌, ◌<◌, ◌≤◌, ◌-◌, ◌^◌, max, min, ◌⊎◌, inl, inr, List}
+use Rattle.std.proofs.Common.{[], ◌∷◌, length, take, drop, get_or, Option, Some, None, arith, refl, sym, ap, ◌∙◌, subst}
+use Rattle.std.proofs.Common.{pos, negsuc}
 use Rattle.std.specs.Prelude.{◌==◌, if◌then◌else◌}
 use Rattle.std.proofs.lemmas.List.{length-take, length-drop}
 use Rattle.std.proofs.lemmas.Option.{slice_get-get_or}
@@ -18,14 +20,17 @@ use Rattle.gob_tape.specs.declared.node.Content.{Content}
 use Rattle.gob_tape.specs.declared.node.Content.TheVariants as content
 use Rattle.gob_tape.specs.declared.node.Node.{Node}
 use Rattle.gob_tape.specs.declared.view.View.{View}
-use Rattle.gob_tape.specs.Meaning.{node, MeansAt, MeansEach, no_part, part, MeansPairs, no_entry, entry, MeansFields, end_of_fields, next_field}
-use Rattle.gob_tape.specs.Seeing.{kind_of, bytes_of, numbers_of, unsigned_of, elements, alternating, present, parts_of, Sees, AreParts, no_more, one_more, Gives, GivesNext, gives_none, gives_one}
+use Rattle.gob_tape.specs.Meaning.{node, MeansAt, MeansEach, no_part, part, MeansPairs, no_entry, entry, MeansFields}
+use Rattle.gob_tape.specs.Meaning.{end_of_fields, next_field}
+use Rattle.gob_tape.specs.Seeing.{kind_of, bytes_of, numbers_of, unsigned_of, elements, alternating, present, parts_of}
+use Rattle.gob_tape.specs.Seeing.{Sees, AreParts, no_more, one_more, Gives, GivesNext, gives_none, gives_one}
 use Rattle.gob_tape.specs.Machine.State.{extent_of}
 use Rattle.gob_tape.specs.declared.view.Children.{Children}
 use Rattle.gob_tape.proofs.MeaningLaws.{Says, node_says, at_rises, at_within, at_one}
 
 -- the node in its place says what the part is
-pub seen_says : {view : View} {f : Option ℕ} {v : Tree} (c : Content) (d : Node) → view.place < length view.nodes.now → (get_or view.nodes.now view.place d).content ≡ c → (s : Sees view f v)
+pub seen_says : {view : View} {f : Option ℕ} {v : Tree} (c : Content) (d : Node) → view.place < length view.nodes.now
+    → (get_or view.nodes.now view.place d).content ≡ c → (s : Sees view f v)
     → ((get_or view.nodes.now view.place d).field ≡ f) × Says view.nodes.now view.pool.now c view.place s.end v
 seen_says {view = view} c d l e s =
     let x = get_or view.nodes.now view.place d in
@@ -37,8 +42,10 @@ pub unsigned_signed : (a : ℕ) → unsigned_of (signed_of a) ≡ a
 unsigned_signed a = by (a % 2) refl
   where
     by : (r : ℕ) → a % 2 ≡ r → unsigned_of (signed_of a) ≡ a
-    by zero e = let half : 2 * (a / 2) ≡ a = omega arith in ap (λ r. unsigned_of (if r == 0 then pos (a / 2) else negsuc (a / 2))) e ∙ half
-    by (suc zero) e = let half : 2 * (a / 2) + 1 ≡ a = omega arith in ap (λ r. unsigned_of (if r == 0 then pos (a / 2) else negsuc (a / 2))) e ∙ half
+    by zero e = let half : 2 * (a / 2) ≡ a = omega arith in
+        ap (λ r. unsigned_of (if r == 0 then pos (a / 2) else negsuc (a / 2))) e ∙ half
+    by (suc zero) e = let half : 2 * (a / 2) + 1 ≡ a = omega arith in
+        ap (λ r. unsigned_of (if r == 0 then pos (a / 2) else negsuc (a / 2))) e ∙ half
     by (suc (suc r)) e = absurd (omega arith)
 
 pub truth_number : (a : ℕ) → a ≤ 1 → truth (a == 1) ≡ a
@@ -59,31 +66,41 @@ raw_numbers raw.Bytes s = refl
 raw_numbers raw.Str s = refl
 raw_numbers raw.Opaque s = refl
 
-pub says_numbers : (nodes : List Node) (pool : List ℕ) (i j : ℕ) (v : Tree) (k : Basic) (a b : ℕ) → Says nodes pool (content.Number k a b) i j v → (a, b) ≡ numbers_of v
+pub says_numbers : (nodes : List Node) (pool : List ℕ) (i j : ℕ) (v : Tree) (k : Basic) (a b : ℕ)
+    → Says nodes pool (content.Number k a b) i j v → (a, b) ≡ numbers_of v
 says_numbers nodes pool i j v k a b s = number_numbers s.numbers ∙ ap numbers_of (sym s.value)
 
-pub says_bytes : (nodes : List Node) (pool : List ℕ) (i j : ℕ) (v : Tree) (k : RawKind) (start count : ℕ) → Says nodes pool (content.Raw k start count) i j v → (count, 0) ≡ numbers_of v
+pub says_bytes : (nodes : List Node) (pool : List ℕ) (i j : ℕ) (v : Tree) (k : RawKind) (start count : ℕ)
+    → Says nodes pool (content.Raw k start count) i j v → (count, 0) ≡ numbers_of v
 says_bytes nodes pool i j v k start count s =
     let within : start + count ≤ length pool = s.within in
-    let same : length (take count (drop start pool)) ≡ count = omega (arith, length-take count (drop start pool), length-drop start pool) in
+    let same : length (take count (drop start pool)) ≡ count = omega (
+      arith,
+      length-take count (drop start pool),
+      length-drop start pool,
+    ) in
     sym (ap numbers_of s.value ∙ raw_numbers k (take count (drop start pool)) ∙ ap (λ n. (n, 0)) same)
 
-pub says_count : (nodes : List Node) (pool : List ℕ) (i j : ℕ) (v : Tree) (k : GroupKind) (count extent : ℕ) → Says nodes pool (content.Group k count extent) i j v → (count, 0) ≡ numbers_of v
+pub says_count : (nodes : List Node) (pool : List ℕ) (i j : ℕ) (v : Tree) (k : GroupKind) (count extent : ℕ)
+    → Says nodes pool (content.Group k count extent) i j v → (count, 0) ≡ numbers_of v
 says_count nodes pool i j v group.Many count extent s = ap (λ n. (n, 0)) s.counts ∙ ap numbers_of (sym s.value)
 says_count nodes pool i j v group.Pairs count extent s = ap (λ n. (n, 0)) s.counts ∙ ap numbers_of (sym s.value)
 says_count nodes pool i j v group.Fields count extent s = ap (λ n. (n, 0)) s.counts ∙ ap numbers_of (sym s.value)
 
 -- ---- parts
 
-each_parts : {nodes : List Node} {pool : List ℕ} {i j : ℕ} {vs : Trees} → MeansEach nodes pool i j vs → AreParts nodes pool i j (elements vs)
+each_parts : {nodes : List Node} {pool : List ℕ} {i j : ℕ} {vs : Trees} → MeansEach nodes pool i j vs
+    → AreParts nodes pool i j (elements vs)
 each_parts no_part = no_more
 each_parts (part m ms) = one_more m (each_parts ms)
 
-pair_parts : {nodes : List Node} {pool : List ℕ} {i j : ℕ} {ps : Pairs} → MeansPairs nodes pool i j ps → AreParts nodes pool i j (alternating ps)
+pair_parts : {nodes : List Node} {pool : List ℕ} {i j : ℕ} {ps : Pairs} → MeansPairs nodes pool i j ps
+    → AreParts nodes pool i j (alternating ps)
 pair_parts no_entry = no_more
 pair_parts (entry m n ms) = one_more m (one_more n (pair_parts ms))
 
-field_parts : {nodes : List Node} {pool : List ℕ} {i j : ℕ} {fs : Fields} → MeansFields nodes pool i j fs → AreParts nodes pool i j (present fs)
+field_parts : {nodes : List Node} {pool : List ℕ} {i j : ℕ} {fs : Fields} → MeansFields nodes pool i j fs
+    → AreParts nodes pool i j (present fs)
 field_parts end_of_fields = no_more
 field_parts (next_field m ms) = one_more m (field_parts ms)
 
@@ -102,29 +119,39 @@ raw_parts raw.Bytes s = refl
 raw_parts raw.Str s = refl
 raw_parts raw.Opaque s = refl
 
-leaf_parts : {nodes : List Node} {pool : List ℕ} {i : ℕ} (v : Tree) → parts_of v ≡ [] → AreParts nodes pool i i (parts_of v)
+leaf_parts : {nodes : List Node} {pool : List ℕ} {i : ℕ} (v : Tree) → parts_of v ≡ []
+    → AreParts nodes pool i i (parts_of v)
 leaf_parts {nodes = nodes} {pool = pool} {i = i} v e = subst (AreParts nodes pool i i) (sym e) no_more
 
-pub says_parts : (nodes : List Node) (pool : List ℕ) (i j : ℕ) (v : Tree) (c : Content) → Says nodes pool c i j v → AreParts nodes pool (i + 1) j (parts_of v)
+pub says_parts : (nodes : List Node) (pool : List ℕ) (i j : ℕ) (v : Tree) (c : Content) → Says nodes pool c i j v
+    → AreParts nodes pool (i + 1) j (parts_of v)
 says_parts nodes pool i j v (content.Number k a b) s =
-    subst (λ j. AreParts nodes pool (i + 1) j (parts_of v)) (sym s.end) (leaf_parts v (ap parts_of s.value ∙ number_parts k a b))
+    subst (λ j. AreParts nodes pool (i + 1) j (parts_of v)) (sym s.end) (leaf_parts v (ap parts_of s.value
+    ∙ number_parts k a b))
 says_parts nodes pool i j v (content.Raw k a b) s =
-    subst (λ j. AreParts nodes pool (i + 1) j (parts_of v)) (sym s.end) (leaf_parts v (ap parts_of s.value ∙ raw_parts k (take b (drop a pool))))
-says_parts nodes pool i j v (content.Group group.Many count extent) s = subst (λ v. AreParts nodes pool (i + 1) j (parts_of v)) (sym s.value) (each_parts s.each)
-says_parts nodes pool i j v (content.Group group.Pairs count extent) s = subst (λ v. AreParts nodes pool (i + 1) j (parts_of v)) (sym s.value) (pair_parts s.each)
-says_parts nodes pool i j v (content.Group group.Fields count extent) s = subst (λ v. AreParts nodes pool (i + 1) j (parts_of v)) (sym s.value) (field_parts s.each)
+    subst (λ j. AreParts nodes pool (i + 1) j (parts_of v)) (sym s.end) (leaf_parts v (ap parts_of s.value
+    ∙ raw_parts k (take b (drop a pool))))
+says_parts nodes pool i j v (content.Group group.Many count extent) s =
+    subst (λ v. AreParts nodes pool (i + 1) j (parts_of v)) (sym s.value) (each_parts s.each)
+says_parts nodes pool i j v (content.Group group.Pairs count extent) s =
+    subst (λ v. AreParts nodes pool (i + 1) j (parts_of v)) (sym s.value) (pair_parts s.each)
+says_parts nodes pool i j v (content.Group group.Fields count extent) s =
+    subst (λ v. AreParts nodes pool (i + 1) j (parts_of v)) (sym s.value) (field_parts s.each)
 
 -- where it ends
-pub says_end : (nodes : List Node) (pool : List ℕ) (i j : ℕ) (v : Tree) (c : Content) → Says nodes pool c i j v → j ≡ i + extent_of c
+pub says_end : (nodes : List Node) (pool : List ℕ) (i j : ℕ) (v : Tree) (c : Content) → Says nodes pool c i j v
+    → j ≡ i + extent_of c
 says_end nodes pool i j v (content.Number k a b) s = s.end
 says_end nodes pool i j v (content.Raw k a b) s = s.end
 says_end nodes pool i j v (content.Group group.Many count extent) s = s.end
 says_end nodes pool i j v (content.Group group.Pairs count extent) s = s.end
 says_end nodes pool i j v (content.Group group.Fields count extent) s = s.end
 
-pub seen_parts : (view : View) (children : Children) {f : Option ℕ} {v : Tree} (c : Content) (d : Node) → view.place < length view.nodes.now → length view.nodes.now < 2 ^ 64
+pub seen_parts : (view : View) (children : Children) {f : Option ℕ} {v : Tree} (c : Content) (d : Node)
+    → view.place < length view.nodes.now → length view.nodes.now < 2 ^ 64
     → (get_or view.nodes.now view.place d).content ≡ c
-    → children.nodes ≡ view.nodes → children.pool ≡ view.pool → children.place ≡ view.place + 1 → children.end ≡ min (view.place + extent_of c) (2 ^ 64 - 1)
+    → children.nodes ≡ view.nodes → children.pool ≡ view.pool → children.place ≡ view.place + 1
+    → children.end ≡ min (view.place + extent_of c) (2 ^ 64 - 1)
     → Sees view f v → Gives children (parts_of v)
 seen_parts view children {v = v} c d l n h e g p q s =
     let ns = view.nodes.now in
@@ -135,39 +162,49 @@ seen_parts view children {v = v} c d l n h e g p q s =
 
 -- ---- the next part
 
-pub parts_rise : {nodes : List Node} {pool : List ℕ} {i j : ℕ} {xs : List (Option ℕ × Tree)} → AreParts nodes pool i j xs → i ≤ j
+pub parts_rise : {nodes : List Node} {pool : List ℕ} {i j : ℕ} {xs : List (Option ℕ × Tree)}
+    → AreParts nodes pool i j xs → i ≤ j
 parts_rise no_more = omega arith
 parts_rise (one_more m ms) = omega (arith, at_rises m, parts_rise ms)
 
-parts_within : {nodes : List Node} {pool : List ℕ} {i j : ℕ} {f : Option ℕ} {v : Tree} {xs : List (Option ℕ × Tree)} → AreParts nodes pool i j ((f, v) ∷ xs) → (i < j) × (i < length nodes)
+parts_within : {nodes : List Node} {pool : List ℕ} {i j : ℕ} {f : Option ℕ} {v : Tree} {xs : List (Option ℕ × Tree)}
+    → AreParts nodes pool i j ((f, v) ∷ xs) → (i < j) × (i < length nodes)
 parts_within (one_more m ms) = (omega (arith, at_rises m, parts_rise ms), omega (arith, at_rises m, at_within m))
 
 -- two lists of parts between two places are one
-pub parts_one : {nodes : List Node} {pool : List ℕ} {i j k : ℕ} {xs ys : List (Option ℕ × Tree)} → AreParts nodes pool i j xs → AreParts nodes pool i k ys → j ≡ k → xs ≡ ys
+pub parts_one : {nodes : List Node} {pool : List ℕ} {i j k : ℕ} {xs ys : List (Option ℕ × Tree)}
+    → AreParts nodes pool i j xs → AreParts nodes pool i k ys → j ≡ k → xs ≡ ys
 parts_one no_more no_more e = refl
 parts_one no_more (one_more n ns) e = absurd (omega (arith, at_rises n, parts_rise ns))
 parts_one (one_more m ms) no_more e = absurd (omega (arith, at_rises m, parts_rise ms))
-parts_one {nodes = nodes} {pool = pool} {k = k} (one_more {f = f} {v = v} {xs = xs} m ms) (one_more {f = g} {v = w} {xs = ys} n ns) e =
+parts_one {nodes = nodes} {pool = pool} {k = k} (one_more {f = f} {v = v} {xs = xs} m ms)
+    (one_more {f = g} {v = w} {xs = ys} n ns) e =
     let x = at_one m n in
     let rest = parts_one ms (subst (λ i. AreParts nodes pool i k ys) (sym x.end) ns) e in
     ap (λ f. (f, v) ∷ xs) x.field ∙ ap (λ v. (g, v) ∷ xs) x.value ∙ ap (λ l. (g, w) ∷ l) rest
 
 -- no part is left at the end
-pub none_gives : (old : Children) (xs : List (Option ℕ × Tree)) → (old.end ≤ old.place) ⊎ (length old.nodes.now ≤ old.place) → Gives old xs → GivesNext old xs None
+pub none_gives : (old : Children) (xs : List (Option ℕ × Tree)) → (old.end ≤ old.place)
+    ⊎ (length old.nodes.now ≤ old.place) → Gives old xs → GivesNext old xs None
 none_gives old [] h g = gives_none g
 none_gives old ((f, v) ∷ xs) h g = absurd (by h (parts_within g.parts))
   where
-    by : (old.end ≤ old.place) ⊎ (length old.nodes.now ≤ old.place) → (old.place < old.end) × (old.place < length old.nodes.now) → ⊥
+    by : (old.end ≤ old.place) ⊎ (length old.nodes.now ≤ old.place) → (old.place < old.end)
+        × (old.place < length old.nodes.now) → ⊥
     by (inl a) b = omega arith
     by (inr a) b = omega arith
 
-pub some_gives : (old new : Children) (view : View) (xs : List (Option ℕ × Tree)) (c : Content) (d : Node) → old.place < old.end → old.place < length old.nodes.now → length old.nodes.now < 2 ^ 64
+pub some_gives : (old new : Children) (view : View) (xs : List (Option ℕ × Tree)) (c : Content) (d : Node)
+    → old.place < old.end → old.place < length old.nodes.now → length old.nodes.now < 2 ^ 64
     → (get_or old.nodes.now old.place d).content ≡ c
-    → new.nodes ≡ old.nodes → new.pool ≡ old.pool → new.end ≡ old.end → new.place ≡ max (min (old.place + extent_of c) (2 ^ 64 - 1)) (old.place + 1)
-    → view.nodes ≡ old.nodes → view.pool ≡ old.pool → view.place ≡ old.place → Gives old xs → GivesNext new xs (Some view)
+    → new.nodes ≡ old.nodes → new.pool ≡ old.pool → new.end ≡ old.end
+    → new.place ≡ max (min (old.place + extent_of c) (2 ^ 64 - 1)) (old.place + 1)
+    → view.nodes ≡ old.nodes → view.pool ≡ old.pool → view.place ≡ old.place → Gives old xs
+    → GivesNext new xs (Some view)
 some_gives old new view xs c d l m n s e g h p a b k gives = by gives.parts refl refl
   where
-    by : {i j : ℕ} {ys : List (Option ℕ × Tree)} → AreParts old.nodes.now old.pool.now i j ys → i ≡ old.place → j ≡ old.end → GivesNext new ys (Some view)
+    by : {i j : ℕ} {ys : List (Option ℕ × Tree)} → AreParts old.nodes.now old.pool.now i j ys → i ≡ old.place
+        → j ≡ old.end → GivesNext new ys (Some view)
     by no_more q t = absurd (omega arith)
     by {i = i} {j = z} (one_more {j = j} {f = f} {v = v} {xs = rest} q ms) o t =
         let here = subst (λ i. MeansAt old.nodes.now old.pool.now i j f v) o q in
@@ -195,13 +232,16 @@ raw_kind raw.Bytes s = refl
 raw_kind raw.Str s = refl
 raw_kind raw.Opaque s = refl
 
-pub says_number_kind : (nodes : List Node) (pool : List ℕ) (i j : ℕ) (v : Tree) (k : Basic) (a b : ℕ) → Says nodes pool (content.Number k a b) i j v → kind_of (number_tree k 0 0) ≡ kind_of v
+pub says_number_kind : (nodes : List Node) (pool : List ℕ) (i j : ℕ) (v : Tree) (k : Basic) (a b : ℕ)
+    → Says nodes pool (content.Number k a b) i j v → kind_of (number_tree k 0 0) ≡ kind_of v
 says_number_kind nodes pool i j v k a b s = number_kind k a b ∙ ap kind_of (sym s.value)
 
-pub says_raw_kind : (nodes : List Node) (pool : List ℕ) (i j : ℕ) (v : Tree) (k : RawKind) (start count : ℕ) → Says nodes pool (content.Raw k start count) i j v → kind_of (raw_tree k []) ≡ kind_of v
+pub says_raw_kind : (nodes : List Node) (pool : List ℕ) (i j : ℕ) (v : Tree) (k : RawKind) (start count : ℕ)
+    → Says nodes pool (content.Raw k start count) i j v → kind_of (raw_tree k []) ≡ kind_of v
 says_raw_kind nodes pool i j v k start count s = raw_kind k (take count (drop start pool)) ∙ ap kind_of (sym s.value)
 
-pub says_group_kind : (nodes : List Node) (pool : List ℕ) (i j : ℕ) (v : Tree) (k : GroupKind) (count extent : ℕ) → Says nodes pool (content.Group k count extent) i j v → kind_of (closed (opened_part k)) ≡ kind_of v
+pub says_group_kind : (nodes : List Node) (pool : List ℕ) (i j : ℕ) (v : Tree) (k : GroupKind) (count extent : ℕ)
+    → Says nodes pool (content.Group k count extent) i j v → kind_of (closed (opened_part k)) ≡ kind_of v
 says_group_kind nodes pool i j v group.Many count extent s = ap kind_of (sym s.value)
 says_group_kind nodes pool i j v group.Pairs count extent s = ap kind_of (sym s.value)
 says_group_kind nodes pool i j v group.Fields count extent s = ap kind_of (sym s.value)
@@ -221,14 +261,18 @@ raw_bytes raw.Bytes s = refl
 raw_bytes raw.Str s = refl
 raw_bytes raw.Opaque s = refl
 
-pub says_no_number_bytes : (nodes : List Node) (pool : List ℕ) (i j : ℕ) (v : Tree) (k : Basic) (a b : ℕ) → Says nodes pool (content.Number k a b) i j v → [] ≡ bytes_of v
+pub says_no_number_bytes : (nodes : List Node) (pool : List ℕ) (i j : ℕ) (v : Tree) (k : Basic) (a b : ℕ)
+    → Says nodes pool (content.Number k a b) i j v → [] ≡ bytes_of v
 says_no_number_bytes nodes pool i j v k a b s = sym (ap bytes_of s.value ∙ number_bytes k a b)
 
-pub says_raw_bytes : (nodes : List Node) (pool : List ℕ) (i j : ℕ) (v : Tree) (k : RawKind) (start count : ℕ) {r : List ℕ} → (start + count ≤ length pool → r ≡ take count (drop start pool))
+pub says_raw_bytes : (nodes : List Node) (pool : List ℕ) (i j : ℕ) (v : Tree) (k : RawKind) (start count : ℕ)
+    {r : List ℕ} → (start + count ≤ length pool → r ≡ take count (drop start pool))
     → Says nodes pool (content.Raw k start count) i j v → r ≡ bytes_of v
-says_raw_bytes nodes pool i j v k start count e s = e s.within ∙ sym (ap bytes_of s.value ∙ raw_bytes k (take count (drop start pool)))
+says_raw_bytes nodes pool i j v k start count e s = e s.within
+    ∙ sym (ap bytes_of s.value ∙ raw_bytes k (take count (drop start pool)))
 
-pub says_no_group_bytes : (nodes : List Node) (pool : List ℕ) (i j : ℕ) (v : Tree) (k : GroupKind) (count extent : ℕ) → Says nodes pool (content.Group k count extent) i j v → [] ≡ bytes_of v
+pub says_no_group_bytes : (nodes : List Node) (pool : List ℕ) (i j : ℕ) (v : Tree) (k : GroupKind) (count extent : ℕ)
+    → Says nodes pool (content.Group k count extent) i j v → [] ≡ bytes_of v
 says_no_group_bytes nodes pool i j v group.Many count extent s = ap bytes_of (sym s.value)
 says_no_group_bytes nodes pool i j v group.Pairs count extent s = ap bytes_of (sym s.value)
 says_no_group_bytes nodes pool i j v group.Fields count extent s = ap bytes_of (sym s.value)

@@ -29,7 +29,8 @@ use Rattle.gob_read.specs.declared.event.GroupKind.TheVariants as group
 use Rattle.gob_read.specs.Event.{Event, number, raw_start, raw_more, enter, leave, HasRawEvents, no_bytes, more_bytes}
 use Rattle.gob_read.specs.Event.{HasEvents, tell_bool, tell_not_negative, tell_negative, tell_uint, tell_float}
 use Rattle.gob_read.specs.Event.{tell_complex, tell_nil, tell_bytes, tell_text, tell_opaque, tell_many, tell_pairs}
-use Rattle.gob_read.specs.Event.{tell_fields, HaveEvents, tell_none, tell_each, PairsHaveEvents, tell_no_pair, tell_pair}
+use Rattle.gob_read.specs.Event.{tell_fields, HaveEvents, tell_none, tell_each, PairsHaveEvents, tell_no_pair}
+use Rattle.gob_read.specs.Event.{tell_pair}
 use Rattle.gob_read.specs.Event.{FieldsHaveEvents, tell_no_field, tell_field}
 use Rattle.gob_read.specs.Leaf.{number_tree, raw_tree}
 use Rattle.gob_read.specs.WellFormed.{AreNumbers}
@@ -48,10 +49,13 @@ use Rattle.gob_tape.specs.Machine.State.{State}
 use Rattle.gob_tape.specs.Machine.Received.{IsTapeOf, TapeGoesOn}
 use Rattle.gob_tape.specs.Machine.Tidying.{events, each_told, pairs_told, fields_told, name_told, content_told}
 use Rattle.gob_tape.specs.Machine.Tidying.{IsZeroContent, IsDroppedContent, IsPooled, open_to, innermost, has_field}
-use Rattle.gob_tape.specs.Machine.Tidying.{IsNextType, the_whole, an_element, a_key_or_element, a_field, turned, advanced}
-use Rattle.gob_tape.specs.Machine.Tidying.{types_in, entered_as, entered_open, HasOpenEnd, PartHasEvents, Due, none_due, element}
+use Rattle.gob_tape.specs.Machine.Tidying.{IsNextType, the_whole, an_element, a_key_or_element, a_field, turned}
+use Rattle.gob_tape.specs.Machine.Tidying.{advanced}
+use Rattle.gob_tape.specs.Machine.Tidying.{types_in, entered_as, entered_open, HasOpenEnd, PartHasEvents, Due, none_due}
+use Rattle.gob_tape.specs.Machine.Tidying.{element}
 use Rattle.gob_tape.specs.Machine.Tidying.{key_or_element, dropped, kept, Left, at_end, at_start, in_part, IsInsideOpen}
-use Rattle.gob_tape.specs.Machine.Tidying.{TidyGoes, TidyEnds, none_ends, one_ends, TidyEnded, TidyEnding, TidyUpTo, TidyReaches, TakesEvents}
+use Rattle.gob_tape.specs.Machine.Tidying.{TidyGoes, TidyEnds, none_ends, one_ends, TidyEnded, TidyEnding, TidyUpTo}
+use Rattle.gob_tape.specs.Machine.Tidying.{TidyReaches, TakesEvents}
 use Rattle.gob_tape.specs.Machine.Tidying.{HasSmallNumber}
 use Rattle.gob_tape.proofs.BegunLaws.{last_first, last_changed}
 use Rattle.gob_tape.proofs.MeaningLaws.{at_rises, at_within, Says, node_says, has_node}
@@ -577,15 +581,15 @@ module _ {T : Table} {t : TypeId} {nodes : List Node} {pool : List ℕ} where
           let y = part_goes i e s x.content w.1 b p r in
           let k = all_end z.ends (subst (λ os. Left T t nodes pool (i + 1) os y.left) (sym (c.opens
           (ends_open nodes pool i j v x.content w.1 (at_within m) n))) y.more) in
-          let front = name_told x.field ++ content_told pool x.content in
+          let prefix = name_told x.field ++ content_told pool x.content in
           record {
-            told = front ++ z.told;
+            told = prefix ++ z.told;
             left = k.left;
             splits =
                 ap (λ f. name_told f ++ (events u ++ us)) (sym w.0) ∙ ap (λ l. name_told x.field ++ l) (y.splits
                 ∙ ap (λ l. content_told pool x.content ++ l) k.splits)
                 ∙ sym (append_assoc (name_told x.field) (content_told pool x.content) (z.told ++ k.left))
-                ∙ sym (append_assoc front z.told k.left);
+                ∙ sym (append_assoc prefix z.told k.left);
             stands = goes_then c.stands z.stands;
             inside = k.inside;
             more = k.more;
@@ -667,7 +671,8 @@ none_ended = record { told = []; completes = λ us after d. d; stands = goes_non
 -- one more part has ended
 pub one_ended : (now popped : List Open) {i : ℕ} {before : List Open} {old mid new : State} (o : Open)
     → TidyEnding i before (reverse now) old mid → slice_get now (length now - 1) ≡ Some o → o.end ≡ i
-    → popped ≡ take (length now - 1) now → TapeGoesOn mid new (leave ∷ []) → TidyEnding i before (reverse popped) old new
+    → popped ≡ take (length now - 1) now → TapeGoesOn mid new (leave ∷ [])
+    → TidyEnding i before (reverse popped) old new
 one_ended now popped {i = i} {before = before} o e g h p n = record {
   told = e.told ++ leave ∷ [];
   completes = λ us after d.

@@ -1,4 +1,4 @@
--- What contracts see of a tape: its nodes and its pool, and how deep its value is. (docs/FORMAT.md, Tapes.)
+-- What contracts see of a tape: its nodes and its pool, and how deep its value is. (docs/LIBRARY.md, Tapes.)
 use Rattle.std.specs.Prelude.{ℕ, List}
 use Rattle.gob_tape.specs.declared.node.Node.{Node}
 

@@ -1,4 +1,4 @@
--- The words of a node, as programs in other languages see it. (docs/FORMAT.md, Flat nodes: this project's own.)
+-- The words of a node, as programs in other languages see it. (docs/LIBRARY.md, Flat nodes: this project's own.)
 use Rattle.std.specs.Prelude.{ℕ, Option, Some, None}
 use Rattle.gob_types.specs.declared.basic.Basic.{Basic}
 use Rattle.gob_types.specs.declared.basic.Basic.TheVariants as basic

@@ -1,7 +1,8 @@
 -- What the views of a tape show of the value that it means.
--- (docs/FORMAT.md, Tapes.)
+-- (docs/LIBRARY.md, Tapes.)
 use Rattle.std.specs.Prelude.{ℕ, ℤ, pos, negsuc, ◌+◌, ◌-◌, ◌*◌, ◌<◌, ◌≤◌, List, [], ◌∷◌, Option, Some, None, length}
-use Rattle.gob_value.specs.Tree.{Tree, Trees, no_tree, tree, Pairs, no_pair, pair, Fields, no_field, field, tree_count, pair_count}
+use Rattle.gob_value.specs.Tree.{Tree, Trees, no_tree, tree, Pairs, no_pair, pair, Fields, no_field, field, tree_count}
+use Rattle.gob_value.specs.Tree.{pair_count}
 use Rattle.gob_value.specs.Tree as Value
 use Rattle.gob_value.specs.Spelling.{truth}
 use Rattle.gob_tape.specs.declared.node.Node.{Node}
@@ -79,7 +80,8 @@ pub record Sees (view : View) (f : Option ℕ) (v : Tree) : Type 0 where
 -- the nodes between are these parts
 pub data AreParts (nodes : List Node) (pool : List ℕ) : ℕ → ℕ → List (Option ℕ × Tree) → Type 0 where
   no_more : {i : ℕ} → AreParts nodes pool i i []
-  one_more : {i j k : ℕ} {f : Option ℕ} {v : Tree} {xs : List (Option ℕ × Tree)} → MeansAt nodes pool i j f v → AreParts nodes pool j k xs → AreParts nodes pool i k ((f, v) ∷ xs)
+  one_more : {i j k : ℕ} {f : Option ℕ} {v : Tree} {xs : List (Option ℕ × Tree)} → MeansAt nodes pool i j f v
+      → AreParts nodes pool j k xs → AreParts nodes pool i k ((f, v) ∷ xs)
 
 -- these parts are to come
 pub record Gives (children : Children) (xs : List (Option ℕ × Tree)) : Type 0 where
@@ -101,7 +103,8 @@ nodes_left children = length children.nodes.now - children.place
 -- a part has no more nodes than were left, and the others have fewer: so what goes down a view comes to an end
 pub data TakesNodes (old new : Children) : Option View → Type 0 where
   takes_none : nodes_left new ≤ nodes_left old → TakesNodes old new None
-  takes_some : {view : View} → nodes_from view ≤ nodes_left old → nodes_left new < nodes_left old → TakesNodes old new (Some view)
+  takes_some : {view : View} → nodes_from view ≤ nodes_left old → nodes_left new < nodes_left old
+      → TakesNodes old new (Some view)
 
 pub record GivesPart (old : Children) (part : Option View) (new : Children) : Type 0 where
   pub next : (xs : List (Option ℕ × Tree)) → Gives old xs → GivesNext new xs part

@@ -1,4 +1,4 @@
-//! A tape in words that programs in other languages read: its flat nodes, and its pool. (docs/FORMAT.md, Flat nodes.)
+//! A tape in words that programs in other languages read: its flat nodes, and its pool. (docs/LIBRARY.md, Flat nodes.)
 
 ghost use Rattle.std.specs.Prelude.{◌≡◌, ◌≤◌, ◌++◌, IsTrue, false, length, map, drop};
 ghost use Rattle.gob_tape.specs.FlatNodes.{flat, number_code, raw_code, group_code};

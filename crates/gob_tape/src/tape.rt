@@ -16,7 +16,7 @@ use std::alloc::Global;
 use std::marker::Model;
 
 /// A value, kept flat. It means the value of which a [`TapeBuilder`](crate::TapeBuilder) was told, and there is no tape
-/// that means none. (docs/FORMAT.md, Tapes.)
+/// that means none. (docs/LIBRARY.md, Tapes.)
 #[derive(Drop)]
 pub struct Tape {
     /// A node for each part, in the order of their first bytes.

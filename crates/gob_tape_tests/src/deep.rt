@@ -3,8 +3,8 @@
 use crate::types::table;
 use gob_num::Memory;
 use gob_read::Stop;
-use gob_read_support::{Body, read};
 use gob_tape::TapeBuilder;
+use gob_test_rows::{Body, read};
 use gob_types::Table;
 use std::alloc::Global;
 use std::test::*;

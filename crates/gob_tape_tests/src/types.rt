@@ -1,7 +1,7 @@
 //! The types of the bodies that are read.
 
 use gob_num::Memory;
-use gob_read_support::{Form, table_of};
+use gob_test_rows::{Form, table_of};
 use gob_types::Table;
 use std::alloc::Global;
 

@@ -1,8 +1,8 @@
 //! What the views of a tape show.
 
 use gob_num::Memory;
-use gob_read_support::number;
 use gob_tape::{Tape, ValueKind, View};
+use gob_test_rows::number;
 use std::alloc::Global;
 use std::str::SplitWhitespace;
 

@@ -23,18 +23,21 @@ use Rattle.gob_stream.specs.declared.item.Item as declared
 use Rattle.gob_stream.specs.declared.session.Step.{Step}
 use Rattle.gob_stream.specs.declared.values.Passed.{Passed}
 use Rattle.gob_stream.proofs.PublicLaws.{counted_some, stands_within}
-use Rattle.gob_stream.specs.Calls.Reader.{EndsWith, Fills, GivesItems, gives_none, gives_one, HasReadFrom, PassesFrom, StepsOnFrom, Stops}
+use Rattle.gob_stream.specs.Calls.Reader.{EndsWith, Fills, GivesItems, gives_none, gives_one, HasReadFrom, PassesFrom}
+use Rattle.gob_stream.specs.Calls.Reader.{StepsOnFrom, Stops}
 use Rattle.gob_stream.specs.Calls.Reader.{StopsFrom, session_of}
 use Rattle.gob_stream.specs.declared.stream_reader.StreamReader.{StreamReader}
 use Rattle.gob_stream.proofs.PublicLaws.{goes_on}
 use Rattle.gob_tool.specs.declared.in_memory.Tally.{Tally}
 use Rattle.gob_tool.specs.declared.fault.ToolFault.{ToolFault}
-use Rattle.gob_tool.specs.Checking.{definitions_in, counts_line, CheckAnswers, IsCountedStream, IsNoStream, is_accepted, is_cut}
+use Rattle.gob_tool.specs.Checking.{definitions_in, counts_line, CheckAnswers, IsCountedStream, IsNoStream, is_accepted}
+use Rattle.gob_tool.specs.Checking.{is_cut}
 use Rattle.gob_tool.specs.Checking.{is_stopped}
-use Rattle.gob_tool.specs.Machine.Counting.{CountsCounting, CountsNext, CountsOn, CountsSo, EndsCounting, given_count, tally_line}
-use Rattle.gob_tool.specs.Machine.Ending.{EndsRun, ends_so, flush_fails}
+use Rattle.gob_tool.specs.Machine.Counting.{CountsCounting, CountsNext, CountsOn, CountsSo, EndsCounting, given_count}
+use Rattle.gob_tool.specs.Machine.Counting.{tally_line}
+use Rattle.gob_tool.specs.Ending.{EndsRun, ends_so, flush_fails}
 use Rattle.gob_tool.specs.Fault.{reading_fault}
-use Rattle.gob_tool.proofs.EndLaws.{front_kept}
+use Rattle.gob_tool.proofs.EndLaws.{prefix_kept}
 
 -- ---- definitions
 body_defines : {base : Table} {L : Bounds} {T U : Table} {i : StreamItem} {d : List ℕ} → Body base L T i d U
@@ -65,12 +68,13 @@ items_few (and_then {b = b} {c = c} q e r) = let some = counted_some q in let fe
 
 pub items_within : {s : SessionState SkipBuilder (Unit {0})} {items : List StreamItem} {taken : List ℕ}
     → HasRead skip_building s items taken → length items ≤ length taken
-items_within a = let few = items_few a.stream in omega (arith, ap length a.whole, length-append a.front a.under_way)
+items_within a = let few = items_few a.stream in omega (arith, ap length a.whole, length-append a.prefix a.under_way)
 
 pub limits_as : {L M : Bounds} → L ≡ M → AreLimits deepest M → AreLimits deepest L
 limits_as same l = subst (λ (L : Bounds). AreLimits deepest L) (sym same) l
 
-module _ {r : StreamReader SkipBuilder (Unit {0})} {read now : Option (List ℕ)} {n m : ℕ} (i : CountsSo r read now n m) where
+module _ {r : StreamReader SkipBuilder (Unit {0})} {read now : Option (List ℕ)} {n m : ℕ}
+    (i : CountsSo r read now n m) where
   pub items_end : n ≤ (limits_of (session_of r)).stream + 9
   items_end =
       let bound = stands_within i.has.gave in
@@ -85,11 +89,13 @@ no_items [] l = refl
 no_items (i ∷ items) l = absurd (omega arith)
 
 -- ---- from step to step
-pub counts_first : (r : StreamReader SkipBuilder (Unit {0})) (read : Option (List ℕ)) → HasReadFrom skip_building r read read []
+pub counts_first : (r : StreamReader SkipBuilder (Unit {0})) (read : Option (List ℕ))
+    → HasReadFrom skip_building r read read []
     → taken_of (session_of r) ≡ 0 → CountsSo r read read 0 0
 counts_first r read has none = record { given = []; has = has; items_are = refl; bytes_are = sym none }
 
-pub counts_on : {r r' : StreamReader SkipBuilder (Unit {0})} {read now : Option (List ℕ)} {n m : ℕ} (given : List StreamItem)
+pub counts_on : {r r' : StreamReader SkipBuilder (Unit {0})} {read now : Option (List ℕ)} {n m : ℕ}
+    (given : List StreamItem)
     (passed : Passed) → n ≡ length given → m ≡ taken_of (session_of r) → CountsOn r r' read now given passed
     → CountsSo r' read now (n + passed.items) (m + passed.used)
 counts_on given passed items bytes on = record {
@@ -108,7 +114,8 @@ counts_passed {read = read} {now = now} {given = given} p h = record
 
 -- none of them
 pub passes_none : {r r' : StreamReader SkipBuilder (Unit {0})} {read now : Option (List ℕ)} {given : List StreamItem}
-    {passed : Passed} → PassesFrom skip_building r r' passed → passed.items ≡ 0 → HasReadFrom skip_building r read now given
+    {passed : Passed} → PassesFrom skip_building r r' passed → passed.items ≡ 0
+    → HasReadFrom skip_building r read now given
     → HasReadFrom skip_building r' read now given × (taken_of (session_of r') ≡ taken_of (session_of r))
 passes_none {r' = r'} {read = read} {now = now} {given = given} p none h =
     let t = p.each read now given h in
@@ -125,7 +132,8 @@ given_so (gives_one m) = refl
 
 pub counts_step : {r q r' : StreamReader SkipBuilder (Unit {0})} {read now : Option (List ℕ)} {given : List StreamItem}
     {step : Step (Unit {0})} (passed : Passed) → taken_of (session_of q) ≡ taken_of (session_of r)
-    → StepsOnFrom skip_building q r' read now given step → passed.used ≡ step.used → passed.items ≡ given_count step.item
+    → StepsOnFrom skip_building q r' read now given step → passed.used ≡ step.used
+    → passed.items ≡ given_count step.item
     → CountsOn r r' read now given passed
 counts_step passed same st used items = record {
   more = st.more;
@@ -134,12 +142,14 @@ counts_step passed same st used items = record {
 }
 
 -- what stops it, in the words of the session as it was before
-pub stops_still : (s t : SessionState SkipBuilder (Unit {0})) (read now : Option (List ℕ)) (given : List StreamItem) (e : Fault)
+pub stops_still : (s t : SessionState SkipBuilder (Unit {0})) (read now : Option (List ℕ)) (given : List StreamItem)
+    (e : Fault)
     → limits_of t ≡ limits_of s → table_of t ≡ table_of s → StopsFrom skip_building t read now given e
     → StopsFrom skip_building s read now given e
 stops_still s t read now given e same_limits same_table f = λ bytes known.
     subst (λ (L : Bounds). Stops (no_deeper deepest L) (types_of s) given bytes now e) same_limits
-    (subst (λ (d : Defined). Stops (no_deeper deepest (limits_of t)) (types d) given bytes now e) same_table (f bytes known))
+    (subst (λ (d : Defined). Stops (no_deeper deepest (limits_of t)) (types d) given bytes now e) same_table
+    (f bytes known))
 
 pub next_at : (r r' : StreamReader SkipBuilder (Unit {0})) (read now : Option (List ℕ)) (given : List StreamItem)
     (res : Result Passed Fault) (e : Fault) → IsErrAnd res (λ x. x ≡ e)
@@ -160,7 +170,8 @@ counts_turn {r = r} {read = read} q r' next more passed e i f next_so =
 
 -- the two counts rise, and no further than the limit
 pub counts_fall : {r r' : StreamReader SkipBuilder (Unit {0})} {read now later : Option (List ℕ)} {n m : ℕ} (j k : ℕ)
-    → limits_of (session_of r') ≡ limits_of (session_of r) → CountsSo r read now n m → CountsSo r' read later (n + j) (m + k)
+    → limits_of (session_of r') ≡ limits_of (session_of r) → CountsSo r read now n m
+    → CountsSo r' read later (n + j) (m + k)
     → 0 < j + k
     → ((limits_of (session_of r')).stream + 9 - (n + j)) + ((limits_of (session_of r')).stream + 9 - (m + k))
     < ((limits_of (session_of r)).stream + 9 - n) + ((limits_of (session_of r)).stream + 9 - m)
@@ -171,7 +182,8 @@ counts_fall j k same h on some =
     omega (arith, items, bytes, stream, some)
 
 -- ---- the ends
-pub counted_whole : {L : Bounds} {T : Table} {items : List StreamItem} {bytes : List ℕ} {now : Option (List ℕ)} {taken : ℕ}
+pub counted_whole : {L : Bounds} {T : Table} {items : List StreamItem} {bytes : List ℕ} {now : Option (List ℕ)}
+    {taken : ℕ}
     (tally : Tally) → tally.items ≡ length items → tally.types ≡ definition_count T → tally.bytes ≡ taken
     → EndsWith L T taken items bytes now → EndsCounting tally_line L bytes now (Ok tally)
 counted_whole {T = T} {items = items} {bytes = bytes} tally items_so types_are bytes_are e =
@@ -188,7 +200,8 @@ counted_whole {T = T} {items = items} {bytes = bytes} tally items_so types_are b
           ∙ ap (λ (k : ℕ). counts_line (length items) (definitions_in items) k) bytes_so;
     }
 
-pub counted_stops : (L : Bounds) (T : Table) (items : List StreamItem) (bytes : List ℕ) (now : Option (List ℕ)) (e : Fault)
+pub counted_stops : (L : Bounds) (T : Table) (items : List StreamItem) (bytes : List ℕ) (now : Option (List ℕ))
+    (e : Fault)
     → Stops L T items bytes now e → IsNoStream L bytes now (reading_fault e)
 counted_stops L T items bytes now (reading.Refused R) h = (items, h.outcome)
 counted_stops L T items bytes now reading.Read h = record
@@ -216,7 +229,8 @@ pub no_stream_under : (L M : Bounds) (bytes : List ℕ) (now : Option (List ℕ)
 no_stream_under L M bytes now f same h = subst (λ (L : Bounds). IsNoStream (no_deeper deepest L) bytes now f) same h
 
 -- ---- the run
-pub counted_as : {L : Bounds} {bytes : List ℕ} {now : Option (List ℕ)} {P Q : List ℕ → Type 0} → IsCountedStream L bytes now P
+pub counted_as : {L : Bounds} {bytes : List ℕ} {now : Option (List ℕ)} {P Q : List ℕ → Type 0}
+    → IsCountedStream L bytes now P
     → ((line : List ℕ) → P line → Q line) → IsCountedStream L bytes now Q
 counted_as c f = record { items = c.items; table = c.table; stream = c.stream; end = c.end; holds = f _ c.holds }
 
@@ -226,18 +240,27 @@ pub written_as : {L : Bounds} {bytes : List ℕ} {now : Option (List ℕ)} (Q : 
 written_as Q text out c same q = counted_as c (λ line e. subst Q (same ∙ e) q)
 
 -- behind the flush
-checks_kept : {L : Bounds} {bytes : List ℕ} {now : Option (List ℕ)} (old mid new : Option (List ℕ)) {r : Result (Unit {0}) ToolFault}
+checks_kept : {L : Bounds} {bytes : List ℕ} {now : Option (List ℕ)} (old mid new : Option (List ℕ))
+    {r : Result (Unit {0}) ToolFault}
     → Keeps mid new → CheckAnswers L bytes now old mid r → CheckAnswers L bytes now old new r
 checks_kept old mid new k (is_accepted c) = is_accepted (counted_as c (λ line a. Appends-kept old mid new line a k))
-checks_kept old mid new k (is_cut c) = is_cut (counted_as c (λ line a. front_kept old mid new line a k))
+checks_kept old mid new k (is_cut c) = is_cut (counted_as c (λ line a. prefix_kept old mid new line a k))
 checks_kept old mid new k (is_stopped n a) = is_stopped n (Appends-kept old mid new [] a k)
 
-pub checks_ended : (L : Bounds) (bytes : List ℕ) (now old mid new : Option (List ℕ)) (answer result : Result (Unit {0}) ToolFault)
-    → Keeps mid new → EndsRun answer result → CheckAnswers L bytes now old mid answer → CheckAnswers L bytes now old new result
+pub checks_ended : (L : Bounds) (bytes : List ℕ) (now old mid new : Option (List ℕ))
+    (answer result : Result (Unit {0}) ToolFault)
+    → Keeps mid new → EndsRun answer result → CheckAnswers L bytes now old mid answer
+    → CheckAnswers L bytes now old new result
 checks_ended L bytes now old mid new answer result k (ends_so e) h =
     subst (λ r. CheckAnswers L bytes now old new r) (sym e) (checks_kept old mid new k h)
 checks_ended L bytes now old mid new answer result k (flush_fails o e) (is_accepted c) =
     subst (λ r. CheckAnswers L bytes now old new r) (sym e)
-    (is_cut (counted_as c (λ line a. record { front = line; rest = []; whole = sym (append-nil line); out = Appends-kept old mid new line a k })))
+    (is_cut (counted_as c (λ line a. record {
+      prefix = line;
+      rest = [];
+      whole = sym (append-nil line);
+      out =
+          Appends-kept old mid new line a k;
+    })))
 checks_ended L bytes now old mid new answer result k (flush_fails o e) (is_cut c) = cc
 checks_ended L bytes now old mid new answer result k (flush_fails o e) (is_stopped n a) = cc

@@ -1,10 +1,12 @@
 -- How runs end.
-use Rattle.std.proofs.Common.{◌≡◌, ℕ, Bool, false, List, Option, IfErr, MatchResult, Result, Ok, Err, ◌∙◌, ◌+◌, ◌-◌, ◌^◌, ◌<◌, ◌≤◌, ◌⊎◌, arith, ap, sym, subst, refl, inl, inr}
+use Rattle.std.proofs.Common.{◌≡◌, ℕ, Bool, false, List, Option, [], IfErr, MatchResult, Result, Ok, Err, ◌∙◌, ◌+◌, ◌-◌}
+use Rattle.std.proofs.Common.{append-nil}
+use Rattle.std.proofs.Common.{◌^◌, ◌<◌, ◌≤◌, ◌⊎◌, arith, ap, sym, subst, refl, inl, inr}
 use Rattle.std.proofs.Math.Nat.{eq-or-lt_of_le}
 use Rattle.std.specs.Result.{IsErrAnd}
-use Rattle.std.specs.Io.KnownBytes.{Keeps}
+use Rattle.std.specs.Io.KnownBytes.{Appends, Keeps}
 use Rattle.std.proofs.KnownBytes.{Appends-kept}
-use Rattle.gob_stream.specs.Writing.{CountsWriterFaults, SentFront}
+use Rattle.gob_stream.specs.Writing.{CountsWriterFaults, SentPrefix}
 use Rattle.gob_stream.specs.Devices.{counts_up, FlushCounted, Rose}
 use Rattle.gob_stream.specs.declared.fault.Fault.{Fault}
 use Rattle.gob_stream.specs.declared.fault.Fault.TheVariants as reading
@@ -12,9 +14,9 @@ use Rattle.gob_stream.specs.declared.fault.WriteFault.{WriteFault}
 use Rattle.gob_stream.specs.declared.fault.WriteFault.TheVariants as writing
 use Rattle.gob_tool.specs.declared.fault.ToolFault.{ToolFault}
 use Rattle.gob_tool.specs.declared.fault.ToolFault.TheVariants as fault
-use Rattle.gob_tool.specs.Machine.Ending.{CountsOnlyWrites}
-use Rattle.gob_tool.specs.Fault.{reading_fault, writing_fault}
-use Rattle.gob_tool.specs.Showing.{AppendsFront, CountsReadFaults}
+use Rattle.gob_tool.specs.Ending.{CountsOnlyWrites, EndsRun, ends_so, flush_fails}
+use Rattle.gob_tool.specs.Fault.{IsOfWanted, reading_fault, writing_fault}
+use Rattle.gob_tool.specs.Showing.{AppendsPrefix, CountsReadFaults}
 
 -- what holds of the error holds of the answer that a `?` returns with it
 pub at_error : {A : Type 0} (P : Result A ToolFault → Type 0) (r : Result A ToolFault) (f : ToolFault)
@@ -23,10 +25,16 @@ at_error P (Ok u) f e h = absurd e
 at_error P (Err g) f e h = subst (λ f. P (Err f)) (sym e) h
 
 -- ---- what is counted
-pub front_kept : (old mid new : Option (List ℕ)) (all : List ℕ) → AppendsFront old mid all → Keeps mid new
-    → AppendsFront old new all
-front_kept old mid new all f k = record
-    { front = f.front; rest = f.rest; whole = f.whole; out = Appends-kept old mid new f.front f.out k }
+pub prefix_kept : (old mid new : Option (List ℕ)) (all : List ℕ) → AppendsPrefix old mid all → Keeps mid new
+    → AppendsPrefix old new all
+prefix_kept old mid new all f k = record
+    { prefix = f.prefix; rest = f.rest; whole = f.whole; out = Appends-kept old mid new f.prefix f.out k }
+
+-- all of it is a prefix
+pub all_kept : (old mid new : Option (List ℕ)) (all : List ℕ) → Appends old mid all → Keeps mid new
+    → AppendsPrefix old new all
+all_kept old mid new all a k = record
+    { prefix = all; rest = []; whole = sym (append-nil all); out = Appends-kept old mid new all a k }
 
 -- a read failed in no other call than the reader's
 pub reading_unread : (e : Fault) → (e ≡ reading.Read → ⊥) → reading_fault e ≡ fault.Read → ⊥
@@ -69,11 +77,13 @@ rose_up old new e = by_place (eq-or-lt_of_le (omega (arith, e)))
     by_place (inr less) = inl (omega (arith, e, less))
 
 -- a write failed
-pub write_rose : (old new : ℕ) (r : Result (Unit {0}) ToolFault) → r ≡ Err fault.Write → CountsOnlyWrites old new r → Rose old new
+pub write_rose : (old new : ℕ) (r : Result (Unit {0}) ToolFault) → r ≡ Err fault.Write → CountsOnlyWrites old new r
+    → Rose old new
 write_rose old new r is h = rose_up old new (subst (λ r. CountsOnlyWrites old new r) is h)
 
 -- none did
-no_write : (old new : ℕ) (r : Result (Unit {0}) ToolFault) → (r ≡ Err fault.Write → ⊥) → CountsOnlyWrites old new r → new ≡ old
+no_write : (old new : ℕ) (r : Result (Unit {0}) ToolFault) → (r ≡ Err fault.Write → ⊥) → CountsOnlyWrites old new r
+    → new ≡ old
 no_write old new (Ok u) other h = h
 no_write old new (Err (fault.Refused R)) other h = h
 no_write old new (Err (fault.Wanted R)) other h = h
@@ -90,8 +100,8 @@ flushed_so (Ok u) answer failures old new was is noted counted other h = inl not
 flushed_so (Err e) answer failures old new was is noted counted other h =
     inr (rose_up failures new (counted ∙ ap (λ n. counts_up n 1) (no_write failures old answer other h)))
 
-pub sent_front : (old new : Option (List ℕ)) (bytes : List ℕ) → SentFront bytes old new → AppendsFront old new bytes
-sent_front old new bytes s = record { front = s.front; rest = s.rest; whole = s.whole; out = s.out }
+pub sent_prefix : (old new : Option (List ℕ)) (bytes : List ℕ) → SentPrefix bytes old new → AppendsPrefix old new bytes
+sent_prefix old new bytes s = record { prefix = s.prefix; rest = s.rest; whole = s.whole; out = s.out }
 
 -- behind reads that didn't fail
 pub faults_still : (old new : ℕ) (r : Result (Unit {0}) ToolFault) → new ≡ old
@@ -99,8 +109,17 @@ pub faults_still : (old new : ℕ) (r : Result (Unit {0}) ToolFault) → new ≡
 faults_still old new r same h = subst (λ n. CountsReadFaults old n r) (sym same) (h old)
 
 -- a step counts none
-pub reads_nothing : (failures : ℕ) (e : Fault) → (e ≡ reading.Read → ⊥) → CountsReadFaults failures failures (Err (reading_fault e))
+pub reads_nothing : (failures : ℕ) (e : Fault) → (e ≡ reading.Read → ⊥)
+    → CountsReadFaults failures failures (Err (reading_fault e))
 reads_nothing failures (reading.Refused R) h = refl
 reads_nothing failures reading.Read h = absurd (h refl)
 reads_nothing failures reading.Memory h = refl
 reads_nothing failures reading.Failed h = refl
+
+-- ---- what only the stream that has the wanted type can show
+-- the flush at the end isn't that
+pub ended_wanted : (P : Type 0) {answer result : Result (Unit {0}) ToolFault} → EndsRun answer result
+    → IfErr answer (λ f. IsOfWanted f → P) → IfErr result (λ f. IsOfWanted f → P)
+ended_wanted P (ends_so e) h = subst (λ (r : Result (Unit {0}) ToolFault). IfErr r (λ f. IsOfWanted f → P)) (sym e) h
+ended_wanted P (flush_fails a e) h =
+    subst (λ (r : Result (Unit {0}) ToolFault). IfErr r (λ f. IsOfWanted f → P)) (sym e) (λ w. absurd w)

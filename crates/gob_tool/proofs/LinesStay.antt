@@ -27,25 +27,26 @@ use Rattle.gob_json.specs.DefinitionJson.{definition_json}
 use Rattle.gob_tool.specs.Line.{line, lines}
 
 -- the type has a shape of this kind
-record HasKind (T : Table) (t : TypeId) (k : Kind) : Type 0 where
-  shape : Shape
-  there : shape_of T t ≡ Some shape
-  kind : shape.kind ≡ k
+pub record HasKind (T : Table) (t : TypeId) (k : Kind) : Type 0 where
+  pub shape : Shape
+  pub there : shape_of T t ≡ Some shape
+  pub kind : shape.kind ≡ k
 
-kept_kind : {T U : Table} {t : TypeId} {k : Kind} → Keeps T U → HasKind T t k → HasKind U t k
+pub kept_kind : {T U : Table} {t : TypeId} {k : Kind} → Keeps T U → HasKind T t k → HasKind U t k
 kept_kind keeps h = record { shape = h.shape; there = keeps.shape _ _ h.there; kind = h.kind }
 
 -- what the shape says of the parts
-elements_of : {T : Table} {t e : TypeId} {k : Kind} → HasKind T t k
+pub elements_of : {T : Table} {t e : TypeId} {k : Kind} → HasKind T t k
     → element_type (Some (record { name = []; kind = k })) ≡ e → element_type (shape_of T t) ≡ e
 elements_of h e = ap element_type h.there ∙ ap (λ (k : Kind). element_type (Some (record { name = []; kind = k })))
     h.kind ∙ e
 
-keys_of : {T : Table} {t e : TypeId} {k : Kind} → HasKind T t k → key_type (Some (record { name = []; kind = k })) ≡ e
+pub keys_of : {T : Table} {t e : TypeId} {k : Kind} → HasKind T t k
+    → key_type (Some (record { name = []; kind = k })) ≡ e
     → key_type (shape_of T t) ≡ e
 keys_of h e = ap key_type h.there ∙ ap (λ (k : Kind). key_type (Some (record { name = []; kind = k }))) h.kind ∙ e
 
-fields_of : {T : Table} {t : TypeId} {fs : List Field} → HasKind T t (kind.Struct fs) → struct_fields (shape_of T t)
+pub fields_of : {T : Table} {t : TypeId} {fs : List Field} → HasKind T t (kind.Struct fs) → struct_fields (shape_of T t)
     ≡ fs
 fields_of h = ap struct_fields h.there ∙ ap (λ (k : Kind). struct_fields (Some (record { name = []; kind = k }))) h.kind
 
@@ -126,7 +127,8 @@ pub keeps_on : {T U V : Table} → Keeps T U → Keeps U V → Keeps T V
 keeps_on p q = record { shape = λ t s e. q.shape t s (p.shape t s e) }
 
 -- an item keeps the types before it, and the table behind it has its own
-body_keeps : {base : Table} {L : Bounds} {T U : Table} {i : StreamItem} {d : List ℕ} → Body base L T i d U → Keeps T U
+pub body_keeps : {base : Table} {L : Bounds} {T U : Table} {i : StreamItem} {d : List ℕ} → Body base L T i d U
+    → Keeps T U
 body_keeps {T = T} (definition {id = id} {s = s} p l x n q k) = record
     { shape = λ t r e. shape_of-append T ((id, s) ∷ []) t r e }
 body_keeps {T = T} (value p l n k) = keeps_itself T
@@ -135,7 +137,7 @@ spelled_there : {T : Table} {t : TypeId} {v : Tree} {b : List ℕ} → SpellsTop
 spelled_there (at_once e s p) = fits_there p
 spelled_there (tagged e s p) = fits_there p
 
-body_types : {base : Table} {L : Bounds} {T U : Table} {i : StreamItem} {d : List ℕ} → Body base L T i d U
+pub body_types : {base : Table} {L : Bounds} {T U : Table} {i : StreamItem} {d : List ℕ} → Body base L T i d U
     → HasTypesOf U i
 body_types {T = T} (definition {id = id} {s = s} p l x n q k) = is_defined
     (shape_of-append_new T ((id, s) ∷ []) id p.new ∙ ap (λ b. cond b (Some s) None) (nat_eq_equiv.refl id.0))
@@ -161,25 +163,25 @@ lines_stay (and_then (counted u l s p) e r) keeps =
 -- the stream of the first of these items, whose types are kept
 pub record BeginsThere (base : Table) (L : Bounds) (T : Table) (offset : ℕ) (items : List StreamItem) (b : List ℕ)
     (V : Table) : Type 0 where
-  pub front : List ℕ
+  pub prefix : List ℕ
   pub rest : List ℕ
   pub table : Table
-  pub stream : AreItems base L T offset items front table
+  pub stream : AreItems base L T offset items prefix table
   pub keeps : Keeps table V
-  pub whole : b ≡ front ++ rest
+  pub whole : b ≡ prefix ++ rest
 
 -- the stream of some items and others begins with the stream of the first
 pub first_items : {base : Table} {L : Bounds} {T V : Table} {offset : ℕ} {b : List ℕ} (items others : List StreamItem)
     → AreItems base L T offset (items ++ others) b V → BeginsThere base L T offset items b V
 first_items {T = T} {b = b} [] others p = record
-    { front = []; rest = b; table = T; stream = no_more; keeps = stream_keeps p; whole = refl }
+    { prefix = []; rest = b; table = T; stream = no_more; keeps = stream_keeps p; whole = refl }
 first_items (i ∷ items) others (and_then {b = a} {c = c} q e r) =
     let t = first_items items others r in
     record {
-      front = a ++ t.front;
+      prefix = a ++ t.prefix;
       rest = t.rest;
       table = t.table;
       stream = and_then q e t.stream;
       keeps = t.keeps;
-      whole = ap (λ l. a ++ l) t.whole ∙ sym (append_assoc a t.front t.rest);
+      whole = ap (λ l. a ++ l) t.whole ∙ sym (append_assoc a t.prefix t.rest);
     }

@@ -15,8 +15,9 @@ use Rattle.gob_stream.specs.Machine.SessionState.{SessionState}
 use Rattle.gob_stream.specs.Stream.{AreItems, IsItem, Stream, and_then, no_more}
 use Rattle.gob_stream.specs.declared.item.Item as declared
 use Rattle.gob_stream.specs.declared.session.Step.{Step}
-use Rattle.gob_stream.proofs.PublicLaws.{one_front}
-use Rattle.gob_stream.specs.Calls.Reader.{GivesAllBut, GivesItems, gives_none, gives_one, HasReadFrom, StepsOnFrom, TakesItems, most_ahead, room_in, session_of}
+use Rattle.gob_stream.proofs.PublicLaws.{one_prefix}
+use Rattle.gob_stream.specs.Calls.Reader.{GivesAllBut, GivesItems, gives_none, gives_one, HasReadFrom, StepsOnFrom}
+use Rattle.gob_stream.specs.Calls.Reader.{TakesItems, most_ahead, room_in, session_of}
 use Rattle.gob_stream.specs.Calls.Reader.{waits_in}
 use Rattle.gob_tool.proofs.CheckLaws.{items_few}
 use Rattle.gob_stream.specs.declared.stream_reader.StreamReader.{StreamReader}
@@ -33,7 +34,8 @@ same_first (Some z) (Some l) (Some m) a b x y e c d =
     subst (λ (k : List ℕ). Consumes (Some z) (Some m) (k ++ y)) (sym same.0) d
 
 -- what a step gave is an item, or none
-pub record GivesOne {O : Type 0} (means : O → Tree → Type 0) (given : declared.Item O) (more : List StreamItem) : Type 0 where
+pub record GivesOne {O : Type 0} (means : O → Tree → Type 0) (given : declared.Item O) (more : List StreamItem) : Type
+    0 where
   pub item : StreamItem
   pub meant : ItemMeans means given item
   pub only : more ≡ item ∷ []
@@ -51,20 +53,21 @@ none_given n gives_none = refl
 none_given n (gives_one {given = g} m) = absurd (n g refl)
 
 -- ---- a stream and what follows it
-record Splits (L : Bounds) (T : Table) (offset : ℕ) (items others : List StreamItem) (b : List ℕ) (V : Table) : Type 0 where
-  front : List ℕ
+record Splits (L : Bounds) (T : Table) (offset : ℕ) (items others : List StreamItem) (b : List ℕ) (V : Table) : Type
+    0 where
+  prefix : List ℕ
   rest : List ℕ
   table : Table
-  first : AreItems base_table L T offset items front table
-  later : AreItems base_table L table (offset + length front) others rest V
-  whole : b ≡ front ++ rest
+  first : AreItems base_table L T offset items prefix table
+  later : AreItems base_table L table (offset + length prefix) others rest V
+  whole : b ≡ prefix ++ rest
 
 split : {L : Bounds} {T V : Table} {b : List ℕ} {offset : ℕ} (items others : List StreamItem)
     → AreItems base_table L T offset (items ++ others) b V → Splits L T offset items others b V
 split {L = L} {T = T} {V = V} {b = b} {offset = offset} [] others p =
     let at : offset ≡ offset + 0 = omega arith in
     record {
-      front = [];
+      prefix = [];
       rest = b;
       table = T;
       first = no_more;
@@ -73,14 +76,14 @@ split {L = L} {T = T} {V = V} {b = b} {offset = offset} [] others p =
     }
 split {L = L} {V = V} {offset = offset} (i ∷ items) others (and_then {next = next} {b = a} q e r) =
     let s = split items others r in
-    let at : next + length s.front ≡ offset + length (a ++ s.front) = omega (arith, length-append a s.front) in
+    let at : next + length s.prefix ≡ offset + length (a ++ s.prefix) = omega (arith, length-append a s.prefix) in
     record {
-      front = a ++ s.front;
+      prefix = a ++ s.prefix;
       rest = s.rest;
       table = s.table;
       first = and_then q e s.first;
       later = subst (λ (n : ℕ). AreItems base_table L s.table n others s.rest V) at s.later;
-      whole = ap (λ (l : List ℕ). a ++ l) s.whole ∙ sym (append_assoc a s.front s.rest);
+      whole = ap (λ (l : List ℕ). a ++ l) s.whole ∙ sym (append_assoc a s.prefix s.rest);
     }
 
 pub ends_there : {L : Bounds} {T U : Table} {o : ℕ} {items : List StreamItem} {rest : List ℕ}
@@ -98,9 +101,15 @@ pub follows : {L : Bounds} {T U : Table} {o : ℕ} {i : StreamItem} {items : Lis
     → AreItems base_table L T o (i ∷ items) rest U → items ≡ [] → Follows L T o i rest U
 follows {L = L} {T = T} {o = o} {i = i} (and_then {b = b} q f r) e =
     let done = nothing_more r e in
-    record { bytes = b; counted = subst (λ (U : Table). IsItem base_table L T o i b U) done.0 q; whole = ap (λ (l : List ℕ). b ++ l) done.1 ∙ append-nil b }
+    record {
+      bytes = b;
+      counted = subst (λ (U : Table). IsItem base_table L T o i b U) done.0 q;
+      whole =
+          ap (λ (l : List ℕ). b ++ l) done.1 ∙ append-nil b;
+    }
   where
-    nothing_more : {V W : Table} {next : ℕ} {items : List StreamItem} {c : List ℕ} → AreItems base_table L V next items c W
+    nothing_more : {V W : Table} {next : ℕ} {items : List StreamItem} {c : List ℕ}
+        → AreItems base_table L V next items c W
         → items ≡ [] → (V ≡ W) × (c ≡ [])
     nothing_more no_more e = (refl, refl)
     nothing_more (and_then q f r) e = absurd (cc e)
@@ -108,29 +117,31 @@ follows {L = L} {T = T} {o = o} {i = i} (and_then {b = b} q f r) e =
 -- no byte gives no item
 pub nothing_given : (L : Bounds) → GivesAllBut L base_table [] []
 nothing_given L = record {
-  front = [];
+  prefix = [];
   rest = [];
   whole = refl;
   few = omega arith;
   gives = record {
-    begins = record { front = []; rest = []; table = base_table; stream = no_more; whole = refl };
+    begins = record { prefix = []; rest = []; table = base_table; stream = no_more; whole = refl };
     longest = λ others b.
         let few = items_few b.stream in
-        omega (arith, few, ap length b.whole, length-append b.front b.rest);
+        omega (arith, few, ap length b.whole, length-append b.prefix b.rest);
   };
   table = refl;
 }
 
 module _ {X O : Type 0} {most : ℕ} (building : Building X O most) where
   -- an input of just those bytes that were read
-  pub read_alone : {r : StreamReader X O} {items : List StreamItem} {taken : List ℕ} → HasRead building (session_of r) items taken
+  pub read_alone : {r : StreamReader X O} {items : List StreamItem} {taken : List ℕ}
+      → HasRead building (session_of r) items taken
       → room_in r ≤ most_ahead (limits_of (session_of r))
       → HasReadFrom building r (Some (taken ++ waits_in r)) (Some []) items
   read_alone {r = r} {taken = taken} a room = record
       { taken = taken; input = sym (append-nil (taken ++ waits_in r)); gave = a; end = λ e. refl; room = room }
 
   -- so many of the bytes that waited were taken, and the others wait
-  pub record TakesBehind (r r' : StreamReader X O) (items more : List StreamItem) (taken : List ℕ) (used : ℕ) : Type 0 where
+  pub record TakesBehind (r r' : StreamReader X O) (items more : List StreamItem) (taken : List ℕ) (used : ℕ) : Type
+      0 where
     pub gave : HasRead building (session_of r') (items ++ more) (taken ++ take used (waits_in r))
     pub left : waits_in r ≡ take used (waits_in r) ++ waits_in r'
 
@@ -160,7 +171,8 @@ module _ {X O : Type 0} {most : ℕ} (building : Building X O most) where
       }
 
   -- by a step
-  pub record StepsBehind (r r' : StreamReader X O) (items : List StreamItem) (taken : List ℕ) (step : Step O) : Type 0 where
+  pub record StepsBehind (r r' : StreamReader X O) (items : List StreamItem) (taken : List ℕ) (step : Step O) : Type
+      0 where
     pub more : List StreamItem
     pub gives : GivesItems building.means step.item more
     pub behind : TakesBehind r r' items more taken step.used
@@ -172,7 +184,8 @@ module _ {X O : Type 0} {most : ℕ} (building : Building X O most) where
   steps_behind a t = record { more = t.more; gives = t.gives; behind = takes_behind a t.takes }
 
   -- of an input it has taken these bytes
-  pub record ReadsTo (r : StreamReader X O) (read now : Option (List ℕ)) (items : List StreamItem) (taken : List ℕ) : Type 0 where
+  pub record ReadsTo (r : StreamReader X O) (read now : Option (List ℕ)) (items : List StreamItem) (taken : List ℕ) :
+      Type 0 where
     pub has : HasReadFrom building r read now items
     pub same : has.taken ≡ taken
 
@@ -195,7 +208,8 @@ module _ {X O : Type 0} {most : ℕ} (building : Building X O most) where
       }
 
   -- where more waits the same bytes were taken
-  pub reads_more : {r r' : StreamReader X O} {read now next : Option (List ℕ)} {items : List StreamItem} {taken : List ℕ}
+  pub reads_more : {r r' : StreamReader X O} {read now next : Option (List ℕ)} {items : List StreamItem}
+      {taken : List ℕ}
       → session_of r' ≡ session_of r → (h : HasReadFrom building r read now items) → h.taken ≡ taken
       → HasReadFrom building r' read next items → ReadsTo r' read next items taken
   reads_more {r = r} {r' = r'} {read = read} {now = now} {next = next} {items = items} {taken = taken} same h e q =
@@ -215,29 +229,33 @@ module _ {X O : Type 0} {most : ℕ} (building : Building X O most) where
       }
 
   -- the session went on by bytes with which these items are whole
-  pub record GoesOn {s : SessionState X O} {items : List StreamItem} {taken : List ℕ} (a : HasRead building s items taken)
+  pub record GoesOn {s : SessionState X O} {items : List StreamItem} {taken : List ℕ}
+      (a : HasRead building s items taken)
       (s' : SessionState X O) (more : List StreamItem) (z : List ℕ) : Type 0 where
     pub gave : HasRead building s' (items ++ more) (taken ++ z)
     pub bytes : List ℕ
-    pub later : AreItems base_table (no_deeper most (limits_of s)) (types_of s) (length a.front) more bytes (types_of s')
-    pub front : gave.front ≡ a.front ++ bytes
+    pub later : AreItems base_table (no_deeper most (limits_of s)) (types_of s) (length a.prefix) more bytes
+        (types_of s')
+    pub prefix : gave.prefix ≡ a.prefix ++ bytes
 
-  pub goes_by : {s s' : SessionState X O} {items : List StreamItem} {taken : List ℕ} (a : HasRead building s items taken)
+  pub goes_by : {s s' : SessionState X O} {items : List StreamItem} {taken : List ℕ}
+      (a : HasRead building s items taken)
       (more : List StreamItem) (z : List ℕ) → limits_of s' ≡ limits_of s
       → HasRead building s' (items ++ more) (taken ++ z) → GoesOn a s' more z
   goes_by {s = s} {s' = s'} {items = items} a more z same b =
       let L = no_deeper most (limits_of s) in
-      let stream = subst (λ (M : Bounds). Stream base_table (no_deeper most M) (items ++ more) b.front (types_of s')) same
+      let stream = subst (λ (M : Bounds). Stream base_table (no_deeper most M) (items ++ more) b.prefix (types_of s'))
+      same
       b.stream in
       let p = split items more stream in
-      let whole = sym (append_assoc a.front a.under_way z) ∙ ap (λ (l : List ℕ). l ++ z) (sym a.whole) ∙ b.whole
-      ∙ ap (λ (l : List ℕ). l ++ b.under_way) p.whole ∙ append_assoc p.front p.rest b.under_way in
-      let o = one_front (a.under_way ++ z) (p.rest ++ b.under_way) a.stream p.first whole in
-      let at : 0 + length p.front ≡ length a.front = omega (arith, ap length o.front) in
+      let whole = sym (append_assoc a.prefix a.under_way z) ∙ ap (λ (l : List ℕ). l ++ z) (sym a.whole) ∙ b.whole
+      ∙ ap (λ (l : List ℕ). l ++ b.under_way) p.whole ∙ append_assoc p.prefix p.rest b.under_way in
+      let o = one_prefix (a.under_way ++ z) (p.rest ++ b.under_way) a.stream p.first whole in
+      let at : 0 + length p.prefix ≡ length a.prefix = omega (arith, ap length o.prefix) in
       record {
         gave = b;
         bytes = p.rest;
-        later = subst (λ (T : Table). AreItems base_table L T (length a.front) more p.rest (types_of s')) (sym o.table)
+        later = subst (λ (T : Table). AreItems base_table L T (length a.prefix) more p.rest (types_of s')) (sym o.table)
             (subst (λ (n : ℕ). AreItems base_table L p.table n more p.rest (types_of s')) at p.later);
-        front = p.whole ∙ ap (λ (l : List ℕ). l ++ p.rest) (sym o.front);
+        prefix = p.whole ∙ ap (λ (l : List ℕ). l ++ p.rest) (sym o.prefix);
       }

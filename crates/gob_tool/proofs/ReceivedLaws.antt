@@ -36,20 +36,24 @@ stream_sent deep (and_then (counted u l s (of_value p d n k)) e r) keeps =
     sent (ready_on on p.ready) (fits_on on (spelled (omega arith) k)) (stream_sent deep r keeps)
 
 -- ---- what is received
-pub received_on : {U : Table} {u : TypeId} (wanted : IsReady U u) {base : Table} {L : Bounds} {T V W : Table} {offset : ℕ}
+pub received_on : {U : Table} {u : TypeId} (wanted : IsReady U u) {base : Table} {L : Bounds} {T V W : Table}
+    {offset : ℕ}
     {items : List StreamItem} {b lines : List ℕ} → AreItems base L T offset items b V → Keeps V W
     → AreReceived V U u items lines → AreReceived W U u items lines
 received_on wanted no_more keeps no_item = no_item
 received_on wanted (and_then (counted x l s (of_definition p d y n q k)) e r) keeps (definition h) = definition
     (received_on wanted r keeps h)
 received_on wanted (and_then (counted x l s (of_value p d n k)) e r) keeps (value m w h) =
-    value (match_on keeps (ready_on (stream_keeps r) p.ready) wanted m) (receives_on keeps w) (received_on wanted r keeps h)
+    value (match_on keeps (ready_on (stream_keeps r) p.ready) wanted m) (receives_on keeps w)
+    (received_on wanted r keeps h)
 
 -- one behind another
-pub received_append : {T U : Table} {u : TypeId} {items others : List StreamItem} {a b : List ℕ} → AreReceived T U u items a
+pub received_append : {T U : Table} {u : TypeId} {items others : List StreamItem} {a b : List ℕ}
+    → AreReceived T U u items a
     → AreReceived T U u others b → AreReceived T U u (items ++ others) (a ++ b)
 received_append no_item q = q
 received_append (definition p) q = definition (received_append p q)
-received_append {T = T} {U = U} {u = u} {others = others} {b = b} (value {t = t} {v = v} {w = w} {items = items} {lines = lines} m r p) q =
+received_append {T = T} {U = U} {u = u} {others = others} {b = b} (value {t = t} {v = v} {w = w} {items = items}
+    {lines = lines} m r p) q =
     subst (λ (l : List ℕ). AreReceived T U u (puts t v ∷ (items ++ others)) l)
     (sym (append_assoc (line U (puts u w)) lines b)) (value m r (received_append p q))

@@ -1,5 +1,6 @@
 -- What a writer of tidy forms does with an item.
-use Rattle.std.proofs.Common.{◌≡◌, ◌≢◌, ℕ, ◌≤◌, ◌⊎◌, inl, inr, arith, List, [], ◌∷◌, ◌++◌, length, Option, Result, Ok, Err}
+use Rattle.std.proofs.Common.{◌≡◌, ◌≢◌, ℕ, ◌≤◌, ◌⊎◌, inl, inr, arith, List, [], ◌∷◌, ◌++◌, length, Option, Result, Ok}
+use Rattle.std.proofs.Common.{Err}
 use Rattle.std.proofs.Common.{◌∙◌, ap, sym, subst, refl, length-append}
 use Rattle.std.specs.Io.KnownBytes.{Appends}
 use Rattle.std.specs.Result.{IsErrAnd}
@@ -38,9 +39,10 @@ use Rattle.gob_tape.specs.declared.tape.Tape.{Tape}
 use Rattle.gob_tape.specs.declared.tape_builder.TapeBuilder.{TapeBuilder}
 use Rattle.gob_tape.specs.Meaning.{Means, MeansFitting}
 use Rattle.gob_tool.specs.Rewriting.{content, content_type, with_content, AreItemsTidied, no_item, and_item}
-use Rattle.gob_tool.specs.Machine.Rewritten.{IsTape, bounds_for, StandsThere, StandsNext, WritesForm, WritesTidy, HasRewritten}
+use Rattle.gob_tool.specs.Machine.Rewritten.{IsTape, bounds_for, StandsThere, StandsNext, WritesForm, WritesTidy}
+use Rattle.gob_tool.specs.Machine.Rewritten.{HasRewritten}
 use Rattle.gob_tool.specs.Machine.Rewritten.{ComesNext, SpellsTidy, GoesOnRewriting, IsTidiedItem}
-use Rattle.gob_tool.specs.Showing.{AppendsFront}
+use Rattle.gob_tool.specs.Showing.{AppendsPrefix}
 use Rattle.gob_tool.proofs.LinesStay.{stream_keeps, keeps_on}
 use Rattle.gob_tool.proofs.TidyStays.{tidies_on, tidies_back, CountedShort, form_counted}
 
@@ -109,7 +111,8 @@ pub record IsFormSpelled (L : Bounds) (T : Table) (t : TypeId) (v : Tree) (spell
   pub fits : Fits T t form
   pub spelled : IsSpelledAs L T t spelling form
 
-pub form_spelled : {L : Bounds} {T U : Table} {t : TypeId} {tape tidied : Tape} {spelling : List ℕ} (v : Tree) → IsTape tape v
+pub form_spelled : {L : Bounds} {T U : Table} {t : TypeId} {tape tidied : Tape} {spelling : List ℕ} (v : Tree)
+    → IsTape tape v
     → StandsThere (no_deeper deepest L) T U (puts t v)
     → ((v w : Tree) → Means tape v → Tidies U t v w → Means tidied w)
     → ((v w : Tree) → Means tape v → Means tidied w → FitsWithin U t (depth v) w)
@@ -149,7 +152,8 @@ value_written {L = L} {T = T} {t = t} same f writes = record {
 }
 
 -- no memory was had
-pub not_memory : {A : Type 0} (r : Result (Unit {0}) WriteFault) {f : WriteFault} → IsErrAnd r (λ e. e ≡ f) → f ≡ write.Memory
+pub not_memory : {A : Type 0} (r : Result (Unit {0}) WriteFault) {f : WriteFault} → IsErrAnd r (λ e. e ≡ f)
+    → f ≡ write.Memory
     → r ≢ Err write.Memory → A
 not_memory (Ok u) e same other = absurd e
 not_memory (Err g) e same other = let memory : g ≡ write.Memory = e ∙ same in absurd (other (cc memory))
@@ -171,7 +175,11 @@ value_meant means_definition e = absurd (cc e)
 value_meant (means_value {id = t} {out = out} {v = v} m) e =
     let tapes : out ≡ _ = cc in
     let ids : t ≡ _ = cc in
-    record { value = v; means = subst (λ (x : Tape). IsTape x v) tapes m; same = ap (λ (t : TypeId). puts t v) (sym ids) }
+    record {
+      value = v;
+      means = subst (λ (x : Tape). IsTape x v) tapes m;
+      same = ap (λ (t : TypeId). puts t v) (sym ids);
+    }
 
 -- ---- from item to item
 pub keeps_to : {L : Bounds} {T V : Table} {o : ℕ} {i : StreamItem} {b : List ℕ} {items others : List StreamItem}
@@ -189,7 +197,7 @@ module _ {s : SessionState TapeBuilder Tape} {w : StreamWriter} {h : HasRewritte
   there : StandsThere (no_deeper deepest s.limits) (types s.types) U i
   there = record {
     items = h.items;
-    front = h.gave.front;
+    prefix = h.gave.prefix;
     earlier = h.gave.stream;
     bytes = n.bytes;
     next = U;
@@ -258,7 +266,7 @@ module _ {s : SessionState TapeBuilder Tape} {w : StreamWriter} {h : HasRewritte
             c.no_longer,
             ap length bytes,
             length-append h.written o.more,
-            length-append h.gave.front n.bytes,
+            length-append h.gave.prefix n.bytes,
           );
         },
         o.out,
@@ -276,18 +284,18 @@ as_admitted : {L : Bounds} {T U : Table} {o : ℕ} {j : StreamItem} {b : List �
 as_admitted (defines id v) (counted u l s b) = counted u l s (shallower b)
 as_admitted (puts id v) q = q
 
--- a front of it went out
+-- a prefix of it went out
 pub cut_out : {s : SessionState TapeBuilder Tape} {w : StreamWriter} {h : HasRewritten s w} {i : StreamItem} {U : Table}
     (n : ComesNext h i U) {w' : StreamWriter} {old new : Option (List ℕ)} {r : Result (Unit {0}) WriteFault}
     → WritesIt n w' old new r → r ≡ Err write.Write
-    → (more : List ℕ) × IsTidiedItem n more × AppendsFront old new more
+    → (more : List ℕ) × IsTidiedItem n more × AppendsPrefix old new more
 cut_out {s = s} {w = w} {h = h} {i = i} n {w' = w'} {old = old} {new = new} writes same =
     let x = wrote n writes (λ (memory : _ ≡ Err write.Memory). cc) in
     let c = can_stand n x.form x.tidies x.fits in
     let j = with_content i x.form in
     let cut = subst (λ r. WritesNext (bounds_for s.limits i) w w' j old new r) same x.writes in
     let o = cut h.tidy h.written (types s.types) h.has in
-    let all = o.front ++ o.rest in
+    let all = o.prefix ++ o.rest in
     let one = counted_prefix [] [] o.item c.counted (ap (λ (l : List ℕ). l ++ []) (one_counted o.item c.counted)) in
     let before = subst (λ (L : Bounds). Stream base_table L h.tidy h.written (types s.types)) h.limits h.has.stream in (
       all,
@@ -297,7 +305,7 @@ cut_out {s = s} {w = w} {h = h} {i = i} n {w' = w'} {old = old} {new = new} writ
         stream = subst (λ (T : Table). Stream base_table s.limits (h.tidy ++ j ∷ []) (h.written ++ all) T) one.table
             (one_more before (omega arith) (as_admitted i o.item));
       },
-      record { front = o.front; rest = o.rest; whole = refl; out = o.out },
+      record { prefix = o.prefix; rest = o.rest; whole = refl; out = o.out },
     )
 
 -- ---- a value that is its own tidy form

@@ -1,5 +1,6 @@
 -- How a run that rewrites goes on from item to item, and how it ends.
-use Rattle.std.proofs.Common.{◌≡◌, ◌≢◌, ℕ, ◌+◌, ◌-◌, ◌<◌, ◌≤◌, ◌⊎◌, inl, inr, arith, List, [], ◌∷◌, ◌++◌, length, take, Option}
+use Rattle.std.proofs.Common.{◌≡◌, ◌≢◌, ℕ, ◌+◌, ◌-◌, ◌<◌, ◌≤◌, ◌⊎◌, inl, inr, arith, List, [], ◌∷◌, ◌++◌, length, take}
+use Rattle.std.proofs.Common.{Option}
 use Rattle.std.proofs.Common.{Some, Result, Ok, Err, ◌∙◌, ap, sym, subst, refl, append_assoc, append-nil, length-append}
 use Rattle.std.proofs.lemmas.List.{length-take-le}
 use Rattle.std.specs.Io.KnownBytes.{Appends, Consumes, Keeps}
@@ -28,20 +29,24 @@ use Rattle.gob_stream.proofs.PublicLaws.{limits_stay, stands_within, whole_item}
 use Rattle.gob_tape.specs.Calls.Builder.{tape_building}
 use Rattle.gob_tape.specs.declared.tape.Tape.{Tape}
 use Rattle.gob_tape.specs.declared.tape_builder.TapeBuilder.{TapeBuilder}
-use Rattle.gob_stream.specs.Calls.Reader.{Begins, EndsWith, HasReadFrom, PassesOne, StepsOnFrom, Stops, StopsFrom, session_of}
+use Rattle.gob_stream.specs.Calls.Reader.{Begins, EndsWith, HasReadFrom, PassesOne, StepsOnFrom, Stops, StopsFrom}
+use Rattle.gob_stream.specs.Calls.Reader.{session_of}
 use Rattle.gob_stream.specs.Calls.Reader.{most_ahead, room_in, waits_in}
 use Rattle.gob_stream.proofs.PublicLaws.{ahead_so, begins_so}
 use Rattle.gob_tool.specs.declared.fault.ToolFault.{ToolFault}
 use Rattle.gob_tool.specs.declared.fault.ToolFault.TheVariants as fault
-use Rattle.gob_tool.specs.Machine.Ending.{CountsOnlyWrites, EndsRun, ends_so, flush_fails}
+use Rattle.gob_tool.specs.Ending.{CountsOnlyWrites, EndsRun, ends_so, flush_fails}
 use Rattle.gob_tool.specs.Fault.{reading_fault, writing_fault}
-use Rattle.gob_tool.specs.Rewriting.{AreItemsTidied, no_item, HasTidyStream, RewriteAnswers, RewritesFront, RewritesSo, RewritesTaken}
+use Rattle.gob_tool.specs.Rewriting.{AreItemsTidied, no_item, HasTidyStream, RewriteAnswers, RewritesPrefix, RewritesSo}
+use Rattle.gob_tool.specs.Rewriting.{RewritesTaken}
 use Rattle.gob_tool.specs.Rewriting.{RewritesWhole}
-use Rattle.gob_tool.specs.Machine.Rewritten.{ComesNext, GaveTapes, HasRewritten, IsTape, Rewrites, RewritesNext, SpellsTidy}
+use Rattle.gob_tool.specs.Machine.Rewritten.{ComesNext, GaveTapes, HasRewritten, IsTape, Rewrites, RewritesNext}
+use Rattle.gob_tool.specs.Machine.Rewritten.{SpellsTidy}
 use Rattle.gob_tool.specs.Machine.Rewritten.{StandsNext, Tapes, WaitsTidy, WritesTidy}
-use Rattle.gob_tool.specs.Showing.{AppendsFront}
-use Rattle.gob_tool.proofs.EndLaws.{front_kept, reads_nothing}
-use Rattle.gob_tool.proofs.ReaderRuns.{GoesOn, ReadsTo, TakesBehind, ends_there, follows, goes_by, none_given, nothing_given, one_given, read_alone}
+use Rattle.gob_tool.specs.Showing.{AppendsPrefix}
+use Rattle.gob_tool.proofs.EndLaws.{prefix_kept, reads_nothing}
+use Rattle.gob_tool.proofs.ReaderRuns.{GoesOn, ReadsTo, TakesBehind, ends_there, follows, goes_by, none_given}
+use Rattle.gob_tool.proofs.ReaderRuns.{nothing_given, one_given, read_alone}
 use Rattle.gob_tool.proofs.ReaderRuns.{reads_behind, reads_more, steps_behind, takes_behind}
 use Rattle.gob_tool.proofs.RewriteLaws.{cut_out, next_stands, only_wanting, went_out}
 
@@ -62,12 +67,14 @@ tidy_there {s = s} h P holds = record {
 }
 
 -- an item comes next that the reader took with these bytes
-comes_with : {s s' : SessionState TapeBuilder Tape} {w : StreamWriter} {h : HasRewritten s w} {i : StreamItem} {z : List ℕ}
+comes_with : {s s' : SessionState TapeBuilder Tape} {w : StreamWriter} {h : HasRewritten s w} {i : StreamItem}
+    {z : List ℕ}
     → GoesOn tape_building h.gave s' (i ∷ []) z → ComesNext h i (types_of s')
 comes_with g = let f = follows g.later refl in record { bytes = f.bytes; counted = f.counted }
 
 -- ---- from turn to turn
-pub rewrites_first : (r : Tapes) (w : StreamWriter) (read out : Option (List ℕ)) → HasReadFrom tape_building r read read []
+pub rewrites_first : (r : Tapes) (w : StreamWriter) (read out : Option (List ℕ))
+    → HasReadFrom tape_building r read read []
     → taken_of (session_of r) ≡ 0 → AreLimits deepest (limits_of (session_of r)) → IsNew w (limits_of (session_of r))
     → Rewrites r w read read out out
 rewrites_first r w read out has none allowed fresh = record {
@@ -89,7 +96,8 @@ rewrites_first r w read out has none allowed fresh = record {
 }
 
 -- the session is the same one
-record RewrittenAs (s : SessionState TapeBuilder Tape) (w : StreamWriter) (items : List StreamItem) (taken written : List ℕ)
+record RewrittenAs (s : SessionState TapeBuilder Tape) (w : StreamWriter) (items : List StreamItem)
+    (taken written : List ℕ)
     : Type 0 where
   so_far : HasRewritten s w
   items_are : so_far.items ≡ items
@@ -114,9 +122,10 @@ rewrites_filled {r' = r'} {w = w} {read = read} {next = next} {old = old} {new =
     }
 
 -- the session has given the items, the last of which ends at the offset or behind it
-record StillRead (s : SessionState TapeBuilder Tape) (items : List StreamItem) (bytes : List ℕ) (offset : ℕ) : Type 0 where
+record StillRead (s : SessionState TapeBuilder Tape) (items : List StreamItem) (bytes : List ℕ) (offset : ℕ) : Type
+    0 where
   gave : GaveTapes s items bytes
-  longer : offset ≤ length gave.front
+  longer : offset ≤ length gave.prefix
 
 -- what was read and taken so far, and what waits behind it
 input_so : {r : Tapes} {w : StreamWriter} {read now old new : Option (List ℕ)} → (p : Rewrites r w read now old new)
@@ -138,8 +147,8 @@ module _ {r r' : Tapes} {w : StreamWriter} {read now start mid : Option (List �
       (reads_behind tape_building (input_so p) b q) in
       let g = goes_by tape_building h.gave [] z same b.gave in
       let table = ends_there g.later refl in
-      let a = subst (λ (l : List StreamItem). StillRead s' l (h.taken ++ z) (length h.gave.front)) (append-nil h.items)
-      (record { gave = g.gave; longer = omega (arith, ap length g.front, length-append h.gave.front g.bytes) }) in
+      let a = subst (λ (l : List StreamItem). StillRead s' l (h.taken ++ z) (length h.gave.prefix)) (append-nil h.items)
+      (record { gave = g.gave; longer = omega (arith, ap length g.prefix, length-append h.gave.prefix g.bytes) }) in
       record {
         so_far = record {
           items = h.items;
@@ -165,9 +174,9 @@ module _ {r r' : Tapes} {w : StreamWriter} {read now start mid : Option (List �
     comes : ComesNext p.so_far i (types_of (session_of r'))
     comes = comes_with goes
 
-    longer : goes.gave.front ≡ p.so_far.gave.front ++ comes.bytes
+    longer : goes.gave.prefix ≡ p.so_far.gave.prefix ++ comes.bytes
     unfolding comes comes_with
-    longer = goes.front ∙ ap (λ (l : List ℕ). p.so_far.gave.front ++ l) (follows goes.later refl).whole
+    longer = goes.prefix ∙ ap (λ (l : List ℕ). p.so_far.gave.prefix ++ l) (follows goes.later refl).whole
 
     -- one was, and its tidy form is out
     pub rewrites_one : {w' : StreamWriter} {new : Option (List ℕ)} {res : Result (Unit {0}) WriteFault} (u : Unit {0})
@@ -196,11 +205,11 @@ module _ {r r' : Tapes} {w : StreamWriter} {read now start mid : Option (List �
           out = Appends-trans start mid new h.written g.more p.out out.1;
         }
 
-    -- or a front of it
+    -- or a prefix of it
     rewrites_cut : {w' : StreamWriter} {new : Option (List ℕ)} {res : Result (Unit {0}) WriteFault}
         → (res ≢ Err write.Memory → WritesTidy w w' i mid new res) → res ≡ Err write.Write → (bytes : List ℕ)
         → read ≡ Some bytes
-        → RewritesFront (no_deeper deepest (limits_of (session_of r))) bytes (AppendsFront start new)
+        → RewritesPrefix (no_deeper deepest (limits_of (session_of r))) bytes (AppendsPrefix start new)
     rewrites_cut {new = new} writes is bytes known =
         let h = p.so_far in
         let L = no_deeper deepest (limits_of (session_of r)) in
@@ -211,29 +220,32 @@ module _ {r r' : Tapes} {w : StreamWriter} {read now start mid : Option (List �
         (begins_so tape_building bytes t.has known) in
         let cut = cut_out comes writes is in
         let tidied = cut.1 in
-        let front = cut.2 in
-        let tidy : HasTidyStream L U items (AppendsFront start new) = record {
+        let prefix = cut.2 in
+        let tidy : HasTidyStream L U items (AppendsPrefix start new) = record {
           tidy = tidied.tidy;
           tidied = tidied.tidied;
           bytes = h.written ++ cut.0;
-          stream = subst (λ (M : Bounds). Stream base_table M tidied.tidy (h.written ++ cut.0) U) (sym (same_bounds h.allowed))
+          stream = subst (λ (M : Bounds). Stream base_table M tidied.tidy (h.written ++ cut.0) U)
+              (sym (same_bounds h.allowed))
               tidied.stream;
           holds = record {
-            front = h.written ++ front.front;
-            rest = front.rest;
-            whole = ap (λ (l : List ℕ). h.written ++ l) front.whole ∙ sym (append_assoc h.written front.front front.rest);
-            out = Appends-trans start mid new h.written front.front p.out front.out;
+            prefix = h.written ++ prefix.prefix;
+            rest = prefix.rest;
+            whole = ap (λ (l : List ℕ). h.written ++ l) prefix.whole
+                ∙ sym (append_assoc h.written prefix.prefix prefix.rest);
+            out = Appends-trans start mid new h.written prefix.prefix p.out prefix.out;
           };
         } in
         record {
           items = items;
           begins = begins.begins;
-          tidy = subst (λ (T : Table). HasTidyStream L T items (AppendsFront start new)) (sym begins.table) tidy;
+          tidy = subst (λ (T : Table). HasTidyStream L T items (AppendsPrefix start new)) (sym begins.table) tidy;
         }
 
     -- no memory was had for it
     rewrites_kept : (new : Option (List ℕ)) → Keeps mid new → (bytes : List ℕ) → read ≡ Some bytes
-        → SomeTaken bytes now (λ read. RewritesTaken (no_deeper deepest (limits_of (session_of r))) read (Appends start new))
+        → SomeTaken bytes now (λ read. RewritesTaken (no_deeper deepest (limits_of (session_of r))) read
+        (Appends start new))
     rewrites_kept new kept bytes known =
         let h = p.so_far in
         let a = ahead_so tape_building bytes p.has known in
@@ -249,7 +261,8 @@ module _ {r r' : Tapes} {w : StreamWriter} {read now start mid : Option (List �
         }
 
     -- what stopped the writing of it
-    pub rewrites_stopped : (r'' : Tapes) (w' w'' : StreamWriter) (new : Option (List ℕ)) {res : Result (Unit {0}) WriteFault}
+    pub rewrites_stopped : (r'' : Tapes) (w' w'' : StreamWriter) (new : Option (List ℕ))
+        {res : Result (Unit {0}) WriteFault}
         (e : WriteFault) → (res ≢ Err write.Memory → WritesTidy w w' i mid new res) → Leaves w w' mid new res
         → res ≡ Err e → RewritesNext r r'' w'' read now start new (Err (writing_fault e))
     rewrites_stopped r'' w' w'' new {res = res} e writes leaves is = at (only_wanting comes e writes is)
@@ -272,11 +285,13 @@ module _ {r r' : Tapes} {w : StreamWriter} (h : HasRewritten (session_of r) w)
   pub next_there : StandsNext w (types_of (session_of r')) i
   next_there = next_stands next_comes
 
-  pub next_wanting : {w' : StreamWriter} {old new : Option (List ℕ)} {res : Result (Unit {0}) WriteFault} (e : WriteFault)
+  pub next_wanting : {w' : StreamWriter} {old new : Option (List ℕ)} {res : Result (Unit {0}) WriteFault}
+      (e : WriteFault)
       → (res ≢ Err write.Memory → WritesTidy w w' i old new res) → res ≡ Err e → (e ≡ write.Write) ⊎ (e ≡ write.Memory)
   next_wanting e writes is = only_wanting next_comes e writes is
 
-pub wanting_counts : (old new : ℕ) {res : Result (Unit {0}) WriteFault} (e : WriteFault) → (e ≡ write.Write) ⊎ (e ≡ write.Memory)
+pub wanting_counts : (old new : ℕ) {res : Result (Unit {0}) WriteFault} (e : WriteFault) → (e ≡ write.Write)
+    ⊎ (e ≡ write.Memory)
     → CountsWriterFaults old new res → res ≡ Err e → CountsOnlyWrites {A = Unit {0}} old new (Err (writing_fault e))
 wanting_counts old new e (inl same) counts is =
     subst (λ e. CountsOnlyWrites {A = Unit {0}} old new (Err (writing_fault e))) (sym same)
@@ -291,7 +306,8 @@ pub whole_of : {T : Table} {t : TypeId} {limit : ℕ} {bytes : List ℕ} → IsT
 whole_of v = record { value = v.value; spelled = v.spelled; within = v.within }
 
 pub tidy_item : {r : Tapes} {id : TypeId} {body : List ℕ} {used : ℕ} (x : WaitsTidy r id body used)
-    → IsItem base_table (no_deeper deepest (limits_of (session_of r))) (types_of (session_of r)) (taken_of (session_of r))
+    → IsItem base_table (no_deeper deepest (limits_of (session_of r))) (types_of (session_of r))
+    (taken_of (session_of r))
     (puts id x.whole.value) (take used (waits_in r)) (types_of (session_of r))
 unfolding whole_of
 tidy_item x = whole_item deepest x.depth_is x.next (whole_of x.whole)
@@ -312,25 +328,30 @@ sooner : {L : Bounds} {T U : Table} {o n : ℕ} {i : StreamItem} {b : List ℕ} 
     → IsItem base_table L T n i b U
 sooner l (counted u k s b) = counted u k (omega arith) b
 
-pub tidy_next : {r : Tapes} {w : StreamWriter} {id : TypeId} {body : List ℕ} {used : ℕ} (h : HasRewritten (session_of r) w)
+pub tidy_next : {r : Tapes} {w : StreamWriter} {id : TypeId} {body : List ℕ} {used : ℕ}
+    (h : HasRewritten (session_of r) w)
     (x : WaitsTidy r id body used) → StandsNext w (types_of (session_of r)) (puts id x.whole.value)
 tidy_next {r = r} {id = id} {used = used} h x =
-    let before : length h.gave.front ≤ taken_of (session_of r) =
-    omega (arith, h.gave.taken, ap length h.gave.whole, length-append h.gave.front h.gave.under_way) in
+    let before : length h.gave.prefix ≤ taken_of (session_of r) =
+    omega (arith, h.gave.taken, ap length h.gave.whole, length-append h.gave.prefix h.gave.under_way) in
     let n : ComesNext h (puts id x.whole.value) (types_of (session_of r)) = record
     { bytes = take used (waits_in r); counted = sooner before (tidy_item x) } in
     next_stands n
 
-pub tidy_behind : {r r' : Tapes} {w : StreamWriter} {id : TypeId} {body : List ℕ} {used : ℕ} (h : HasRewritten (session_of r) w)
-    → room_in r ≤ most_ahead (limits_of (session_of r)) → (x : WaitsTidy r id body used) → PassesOne tape_building r r' used
+pub tidy_behind : {r r' : Tapes} {w : StreamWriter} {id : TypeId} {body : List ℕ} {used : ℕ}
+    (h : HasRewritten (session_of r) w)
+    → room_in r ≤ most_ahead (limits_of (session_of r)) → (x : WaitsTidy r id body used)
+    → PassesOne tape_building r r' used
     → TakesBehind tape_building r r' h.items (puts id x.whole.value ∷ []) h.taken used
 tidy_behind {r = r} {id = id} h room x passed =
     takes_behind tape_building h.gave
-    (passed (Some (h.taken ++ waits_in r)) (Some []) h.items (puts id x.whole.value) (read_alone tape_building h.gave room)
+    (passed (Some (h.taken ++ waits_in r)) (Some []) h.items (puts id x.whole.value)
+    (read_alone tape_building h.gave room)
     (tidy_item x))
 
 -- ---- what a step gave
-pub record GivesTape (r r' : Tapes) (items : List StreamItem) (taken : List ℕ) (used : ℕ) (given : declared.Item Tape) : Type 0
+pub record GivesTape (r r' : Tapes) (items : List StreamItem) (taken : List ℕ) (used : ℕ) (given : declared.Item Tape) :
+    Type 0
   where
     pub item : StreamItem
     pub meant : ItemMeans IsTape given item
@@ -346,7 +367,8 @@ tape_given {r = r} {r' = r'} {step = step} h given is t =
     record {
       item = one.item;
       meant = one.meant;
-      behind = subst (λ (l : List StreamItem). TakesBehind tape_building r r' h.items l h.taken step.used) one.only b.behind;
+      behind = subst (λ (l : List StreamItem). TakesBehind tape_building r r' h.items l h.taken step.used) one.only
+          b.behind;
     }
 
 pub none_taken : {r r' : Tapes} {w : StreamWriter} {step : Step Tape} (h : HasRewritten (session_of r) w)
@@ -355,7 +377,8 @@ pub none_taken : {r r' : Tapes} {w : StreamWriter} {step : Step Tape} (h : HasRe
     → TakesBehind tape_building r r' h.items [] h.taken step.used
 none_taken {r = r} {r' = r'} {step = step} h n t =
     let b = steps_behind tape_building h.gave t in
-    subst (λ (l : List StreamItem). TakesBehind tape_building r r' h.items l h.taken step.used) (none_given n b.gives) b.behind
+    subst (λ (l : List StreamItem). TakesBehind tape_building r r' h.items l h.taken step.used) (none_given n b.gives)
+    b.behind
 
 -- ---- the ends
 pub rewritten_stops : (L : Bounds) (T : Table) (items : List StreamItem) (bytes : List ℕ) (now : Option (List ℕ))
@@ -377,18 +400,20 @@ rewritten_stops L T items bytes now P C reading.Memory s t = record
 rewritten_stops L T items bytes now P C reading.Failed s t = absurd s
 
 -- a step was refused, or had no memory
-pub step_stopped : {r : Tapes} {w : StreamWriter} {read now start out : Option (List ℕ)} (r' : Tapes) (w' : StreamWriter)
+pub step_stopped : {r : Tapes} {w : StreamWriter} {read now start out : Option (List ℕ)} (r' : Tapes)
+    (w' : StreamWriter)
     (e : Fault) (p : Rewrites r w read now start out) → StopsFrom tape_building (session_of r) read now p.so_far.items e
     → (e ≡ reading.Read → ⊥) → RewritesNext r r' w' read now start out (Err (reading_fault e))
 step_stopped {r = r} {read = read} {now = now} {start = start} {out = out} r' w' e p stops none = (
   λ bytes known.
       let s = session_of r in
       rewritten_stops (no_deeper deepest (limits_of s)) (types_of s) p.so_far.items bytes now (Appends start out)
-      (AppendsFront start out) e (stops bytes known) (tidy_there p.so_far (Appends start out) p.out),
+      (AppendsPrefix start out) e (stops bytes known) (tidy_there p.so_far (Appends start out) p.out),
   λ failures. reads_nothing failures e none,
 )
 
-pub rewritten_whole : {r : Tapes} {w : StreamWriter} {read now old new next : Option (List ℕ)} {bytes : List ℕ} {taken : ℕ}
+pub rewritten_whole : {r : Tapes} {w : StreamWriter} {read now old new next : Option (List ℕ)} {bytes : List ℕ}
+    {taken : ℕ}
     (p : Rewrites r w read now old new)
     → EndsWith (no_deeper deepest (limits_of (session_of r))) (types_of (session_of r)) taken p.so_far.items bytes next
     → RewritesWhole (no_deeper deepest (limits_of (session_of r))) bytes next (Appends old new)
@@ -401,7 +426,8 @@ rewritten_whole {r = r} {old = old} {new = new} p e = record {
 }
 
 -- ---- a flush
-pub rewrites_flushed : {r : Tapes} {w : StreamWriter} {read now old mid new : Option (List ℕ)} → Rewrites r w read now old mid
+pub rewrites_flushed : {r : Tapes} {w : StreamWriter} {read now old mid new : Option (List ℕ)}
+    → Rewrites r w read now old mid
     → Keeps mid new → Rewrites r w read now old new
 rewrites_flushed {old = old} {mid = mid} {new = new} p k = record {
   so_far = p.so_far;
@@ -411,9 +437,10 @@ rewrites_flushed {old = old} {mid = mid} {new = new} p k = record {
 }
 
 -- that failed
-pub rewrites_unflushed : {r : Tapes} {w : StreamWriter} {read now old new : Option (List ℕ)} (p : Rewrites r w read now old new)
+pub rewrites_unflushed : {r : Tapes} {w : StreamWriter} {read now old new : Option (List ℕ)}
+    (p : Rewrites r w read now old new)
     (bytes : List ℕ) → read ≡ Some bytes
-    → RewritesFront (no_deeper deepest (limits_of (session_of r))) bytes (AppendsFront old new)
+    → RewritesPrefix (no_deeper deepest (limits_of (session_of r))) bytes (AppendsPrefix old new)
 rewrites_unflushed {r = r} {old = old} {new = new} p bytes known =
     let h = p.so_far in
     let L = no_deeper deepest (limits_of (session_of r)) in
@@ -421,13 +448,14 @@ rewrites_unflushed {r = r} {old = old} {new = new} p bytes known =
     record {
       items = h.items;
       begins = begins.begins;
-      tidy = subst (λ (T : Table). HasTidyStream L T h.items (AppendsFront old new)) (sym begins.table)
-          (tidy_there h (AppendsFront old new)
-          (record { front = h.written; rest = []; whole = sym (append-nil h.written); out = p.out }));
+      tidy = subst (λ (T : Table). HasTidyStream L T h.items (AppendsPrefix old new)) (sym begins.table)
+          (tidy_there h (AppendsPrefix old new)
+          (record { prefix = h.written; rest = []; whole = sym (append-nil h.written); out = p.out }));
     }
 
 -- no memory was had before the first byte was read
-pub rewritten_none : (L : Bounds) (bytes : List ℕ) (now : Option (List ℕ)) (P C : List ℕ → Type 0) → now ≡ Some bytes → P []
+pub rewritten_none : (L : Bounds) (bytes : List ℕ) (now : Option (List ℕ)) (P C : List ℕ → Type 0) → now ≡ Some bytes
+    → P []
     → RewritesSo L bytes now P C (Err fault.Memory)
 rewritten_none L bytes now P C known holds = record {
   bytes = [];
@@ -461,9 +489,9 @@ tidy_as : {L : Bounds} {T : Table} {items : List StreamItem} {P Q : List ℕ →
     → ((b : List ℕ) → P b → Q b) → HasTidyStream L T items Q
 tidy_as t f = record { tidy = t.tidy; tidied = t.tidied; bytes = t.bytes; stream = t.stream; holds = f _ t.holds }
 
-front_as : {L : Bounds} {bytes : List ℕ} {P Q : List ℕ → Type 0} → RewritesFront L bytes P
-    → ((all : List ℕ) → P all → Q all) → RewritesFront L bytes Q
-front_as b f = record { items = b.items; begins = b.begins; tidy = tidy_as b.tidy f }
+prefix_as : {L : Bounds} {bytes : List ℕ} {P Q : List ℕ → Type 0} → RewritesPrefix L bytes P
+    → ((all : List ℕ) → P all → Q all) → RewritesPrefix L bytes Q
+prefix_as b f = record { items = b.items; begins = b.begins; tidy = tidy_as b.tidy f }
 
 rewrites_as : (L : Bounds) (bytes : List ℕ) (now : Option (List ℕ)) (P Q C D : List ℕ → Type 0)
     (res : Result (Unit {0}) ToolFault) → RewritesSo L bytes now P C res → ((all : List ℕ) → P all → Q all)
@@ -480,7 +508,7 @@ rewrites_as L bytes now P Q C D (Err fault.Read) e f g = record {
 rewrites_as L bytes now P Q C D (Err (fault.Wanted R)) e f g = absurd e
 rewrites_as L bytes now P Q C D (Err fault.NoWantedType) e f g = absurd e
 rewrites_as L bytes now P Q C D (Err (fault.Clash path why)) e f g = absurd e
-rewrites_as L bytes now P Q C D (Err fault.Write) e f g = front_as e g
+rewrites_as L bytes now P Q C D (Err fault.Write) e f g = prefix_as e g
 rewrites_as L bytes now P Q C D (Err fault.Memory) e f g = record {
   bytes = e.bytes;
   taken = e.taken;
@@ -492,18 +520,19 @@ pub rewrites_ended : (L : Bounds) (bytes : List ℕ) (now old mid new : Option (
     → RewriteAnswers L bytes now old mid answer → RewriteAnswers L bytes now old new result
 rewrites_ended L bytes now old mid new answer result k (ends_so e) h =
     subst (λ r. RewriteAnswers L bytes now old new r) (sym e)
-    (rewrites_as L bytes now (Appends old mid) (Appends old new) (AppendsFront old mid) (AppendsFront old new) answer h
-    (λ all a. Appends-kept old mid new all a k) (λ all a. front_kept old mid new all a k))
+    (rewrites_as L bytes now (Appends old mid) (Appends old new) (AppendsPrefix old mid) (AppendsPrefix old new) answer
+    h
+    (λ all a. Appends-kept old mid new all a k) (λ all a. prefix_kept old mid new all a k))
 rewrites_ended L bytes now old mid new answer result k (flush_fails o e) h =
     subst (λ r. RewriteAnswers L bytes now old new r) (sym e)
     (whole (subst (λ r. RewriteAnswers L bytes now old mid r) o h))
   where
-    whole : RewritesWhole L bytes now (Appends old mid) → RewritesFront L bytes (AppendsFront old new)
+    whole : RewritesWhole L bytes now (Appends old mid) → RewritesPrefix L bytes (AppendsPrefix old new)
     whole w = record {
       items = w.items;
-      begins = record { front = bytes; rest = []; table = w.table; stream = w.stream; whole = sym (append-nil bytes) };
+      begins = record { prefix = bytes; rest = []; table = w.table; stream = w.stream; whole = sym (append-nil bytes) };
       tidy = tidy_as w.tidy (λ all a. record {
-        front = all;
+        prefix = all;
         rest = [];
         whole = sym (append-nil all);
         out = Appends-kept old mid new all a k;

@@ -1,6 +1,7 @@
 -- How a run that writes lines goes on, and how it ends.
 use Rattle.std.proofs.Common.{◌≡◌, ℕ, ◌+◌, ◌-◌, ◌<◌, arith, List, [], ◌∷◌, ◌++◌, length, Option, Some, None}
-use Rattle.std.proofs.Common.{Bool, true, false, IfErr, Result, Ok, Err, ◌∙◌, ap, sym, subst, refl, append_assoc, append-nil, length-append}
+use Rattle.std.proofs.Common.{Bool, true, false, IfErr, Result, Ok, Err, ◌∙◌, ap, sym, subst, refl, append_assoc}
+use Rattle.std.proofs.Common.{append-nil, length-append}
 use Rattle.std.proofs.lemmas.List.{length-take-le}
 use Rattle.std.specs.Result.{IsErrAnd}
 use Rattle.gob_num.proofs.PublicLaws.{unsigned_length}
@@ -22,7 +23,7 @@ use Rattle.gob_stream.specs.Item.{StreamItem, item_view, mean_none, mean_more, p
 use Rattle.gob_stream.specs.Outcome.{BeginsWithStream, LongestStream}
 use Rattle.gob_stream.specs.Stream.{no_more}
 use Rattle.gob_stream.specs.Ends.{writer_of}
-use Rattle.gob_stream.specs.Writing.{CountsWriterFaults, SentFront}
+use Rattle.gob_stream.specs.Writing.{CountsWriterFaults, SentPrefix}
 use Rattle.gob_stream.specs.declared.fault.WriteFault.{WriteFault}
 use Rattle.gob_stream.specs.declared.fault.WriteFault.TheVariants as writing
 use Rattle.gob_stream.specs.declared.output.Output.{Output}
@@ -32,17 +33,20 @@ use Rattle.gob_stream.specs.declared.fault.Fault.TheVariants as reading
 use Rattle.gob_stream.specs.declared.item.Item as declared
 use Rattle.gob_stream.proofs.PublicLaws.{one_table, stands_within, views_meant, whole_item}
 use Rattle.gob_stream.proofs.PublicLaws.{ahead_so, begins_so}
-use Rattle.gob_stream.specs.Calls.Reader.{Begins, EndsWith, GivesItems, gives_none, gives_one, HasReadFrom, PassesOne, StepsOnFrom}
+use Rattle.gob_stream.specs.Calls.Reader.{Begins, EndsWith, GivesItems, gives_none, gives_one, HasReadFrom, PassesOne}
+use Rattle.gob_stream.specs.Calls.Reader.{StepsOnFrom}
 use Rattle.gob_stream.specs.Calls.Reader.{Stops, StopsFrom, session_of}
 use Rattle.gob_tool.specs.declared.fault.ToolFault.{ToolFault}
 use Rattle.gob_tool.specs.declared.fault.ToolFault.TheVariants as fault
-use Rattle.gob_tool.specs.Machine.Ending.{EndsRun, ends_so, flush_fails}
+use Rattle.gob_tool.specs.Ending.{EndsRun, ends_so, flush_fails}
 use Rattle.gob_tool.specs.Fault.{reading_fault}
 use Rattle.gob_tool.specs.Line.{line, lines}
-use Rattle.gob_tool.specs.Machine.Lines.{IsWholeLine, line_given, MakesLine, MakesLines, MakesWhole, ShowsNext, ShowsSo, Trees}
-use Rattle.gob_tool.specs.Showing.{AppendsFront, BeginsOutcome, CountsReadFaults, EndsWhole, RunAnswers, ShowAnswers}
+use Rattle.gob_tool.specs.Machine.Lines.{IsWholeLine, line_given, MakesLine, MakesLines, MakesWhole, ShowsNext, ShowsSo}
+use Rattle.gob_tool.specs.Machine.Lines.{Trees}
+use Rattle.gob_tool.specs.Showing.{AppendsPrefix, BeginsOutcome, CountsReadFaults, EndsWhole, OfLines, RunAnswers}
+use Rattle.gob_tool.specs.Showing.{ShowAnswers}
 use Rattle.gob_tool.proofs.CheckLaws.{items_few}
-use Rattle.gob_tool.proofs.EndLaws.{front_kept}
+use Rattle.gob_tool.proofs.EndLaws.{all_kept, prefix_kept}
 use Rattle.gob_tool.proofs.LinesStay.{first_items, lines_stay}
 
 -- a whole item has a byte at least
@@ -53,30 +57,33 @@ body_some {body = body} {used = used} {piece = piece} b =
     omega (arith, ap length b.whole, length-take-le used piece b.within, length-append b.count (b.number ++ body))
 
 -- ---- lines of the items of a stream
-pub lines_append : (T : Table) (items others : List StreamItem) → lines T (items ++ others) ≡ lines T items ++ lines T others
+pub lines_append : (T : Table) (items others : List StreamItem) → lines T (items ++ others) ≡ lines T items
+    ++ lines T others
 lines_append T [] others = refl
 lines_append T (i ∷ items) others = ap (λ (l : List ℕ). line T i ++ l) (lines_append T items others)
     ∙ sym (append_assoc (line T i) (lines T items) (lines T others))
 
 -- bytes begin with a stream and with a longer one: the lines of the first items are the same by the types behind either
 same_lines : {L : Bounds} {U V : Table} {bytes : List ℕ} (items others : List StreamItem)
-    (p : BeginsWithStream base_table L bytes items) (q : BeginsWithStream base_table L bytes (items ++ others)) → p.table ≡ U
+    (p : BeginsWithStream base_table L bytes items) (q : BeginsWithStream base_table L bytes (items ++ others))
+    → p.table ≡ U
     → q.table ≡ V → lines V items ≡ lines U items
 same_lines {L = L} {U = U} {V = V} {bytes = bytes} items others p q is_u is_v =
     let t = first_items items others q.stream in
     let one : p.table ≡ t.table = one_table L bytes items p.table t.table
-    (record { front = p.front; rest = p.rest; stream = p.stream; whole = p.whole })
+    (record { prefix = p.prefix; rest = p.rest; stream = p.stream; whole = p.whole })
     (record {
-      front = t.front;
+      prefix = t.prefix;
       rest = t.rest ++ q.rest;
       stream = t.stream;
-      whole = q.whole ∙ ap (λ (l : List ℕ). l ++ q.rest) t.whole ∙ append_assoc t.front t.rest q.rest;
+      whole = q.whole ∙ ap (λ (l : List ℕ). l ++ q.rest) t.whole ∙ append_assoc t.prefix t.rest q.rest;
     }) in
     ap (λ (T : Table). lines T items) (sym is_v) ∙ lines_stay t.stream t.keeps
     ∙ ap (λ (T : Table). lines T items) (sym one ∙ is_u)
 
 -- ---- from item to item
-pub shows_first : (r : Trees) (read out : Option (List ℕ)) → HasReadFrom tree_building r read read [] → ShowsSo r read read out out
+pub shows_first : (r : Trees) (read out : Option (List ℕ)) → HasReadFrom tree_building r read read []
+    → ShowsSo r read read out out
 shows_first r read out has = record { given = []; has = has; out = λ bytes known. Appends-nil out }
 
 more_lines : {r r' : Trees} {read now : Option (List ℕ)} {given : List StreamItem} {made : List ℕ}
@@ -86,13 +93,16 @@ more_lines : {r r' : Trees} {read now : Option (List ℕ)} {given : List StreamI
 more_lines {r = r} {r' = r'} {read = read} {given = given} {made = made} same h m bytes known =
     let T' = types_of (session_of r') in
     let p = begins_so tree_building bytes h known in
-    let q = subst (λ (L : Bounds). Begins (within_trees L) T' (given ++ m.more) bytes) same (begins_so tree_building bytes m.after known) in
+    let q = subst (λ (L : Bounds). Begins (within_trees L) T' (given ++ m.more) bytes) same
+    (begins_so tree_building bytes m.after known) in
     lines_append T' given m.more ∙ ap (λ (l : List ℕ). lines T' given ++ l) (sym m.made_of)
     ∙ ap (λ (l : List ℕ). l ++ made) (same_lines given m.more p.begins q.begins p.table q.table)
 
-pub shows_turn : {r q r' : Trees} {read now next old mid new : Option (List ℕ)} {made : List ℕ} (s : ShowsSo r read now old mid)
+pub shows_turn : {r q r' : Trees} {read now next old mid new : Option (List ℕ)} {made : List ℕ}
+    (s : ShowsSo r read now old mid)
     → types_of (session_of q) ≡ types_of (session_of r) → HasReadFrom tree_building q read next s.given
-    → limits_of (session_of r') ≡ limits_of (session_of q) → MakesLines q r' read next s.given made → Appends mid new made
+    → limits_of (session_of r') ≡ limits_of (session_of q) → MakesLines q r' read next s.given made
+    → Appends mid new made
     → ShowsSo r' read next old new
 shows_turn {old = old} {mid = mid} {new = new} {made = made} s same_types h same m b = record {
   given = s.given ++ m.more;
@@ -113,12 +123,13 @@ shows_flushed {old = old} {mid = mid} {new = new} s k = record {
 
 -- where it failed
 pub shows_unflushed : {r : Trees} {read now old new : Option (List ℕ)} → ShowsSo r read now old new → (bytes : List ℕ)
-    → read ≡ Some bytes → BeginsOutcome (within_trees (limits_of (session_of r))) bytes (AppendsFront old new)
+    → read ≡ Some bytes → BeginsOutcome (within_trees (limits_of (session_of r))) bytes
+    (OfLines (AppendsPrefix old new))
 shows_unflushed {r = r} {old = old} {new = new} s bytes known =
     let T = types_of (session_of r) in
     let b = begins_so tree_building bytes s.has known in
-    let all : AppendsFront old new (lines T s.given) = record {
-      front = lines T s.given;
+    let all : AppendsPrefix old new (lines T s.given) = record {
+      prefix = lines T s.given;
       rest = [];
       whole = sym (append-nil (lines T s.given));
       out = s.out bytes known;
@@ -126,30 +137,32 @@ shows_unflushed {r = r} {old = old} {new = new} s bytes known =
     record {
       items = s.given;
       begins = b.begins;
-      holds = subst (λ (U : Table). AppendsFront old new (lines U s.given)) (sym b.table) all;
+      holds = subst (λ (U : Table). AppendsPrefix old new (lines U s.given)) (sym b.table) all;
     }
 
 -- a write failed
-pub shows_cut : {r r' : Trees} {read now : Option (List ℕ)} {given : List StreamItem} {made : List ℕ} (old mid new : Option (List ℕ))
+pub shows_cut : {r r' : Trees} {read now : Option (List ℕ)} {given : List StreamItem} {made : List ℕ}
+    (old mid new : Option (List ℕ))
     → limits_of (session_of r') ≡ limits_of (session_of r) → HasReadFrom tree_building r read now given
-    → MakesLines r r' read now given made → SentFront made mid new → (bytes : List ℕ) → read ≡ Some bytes
+    → MakesLines r r' read now given made → SentPrefix made mid new → (bytes : List ℕ) → read ≡ Some bytes
     → Appends old mid (lines (types_of (session_of r)) given)
-    → BeginsOutcome (within_trees (limits_of (session_of r))) bytes (AppendsFront old new)
+    → BeginsOutcome (within_trees (limits_of (session_of r))) bytes (OfLines (AppendsPrefix old new))
 shows_cut {r = r} {r' = r'} {given = given} {made = made} old mid new same h m cut bytes known a =
     let T = types_of (session_of r) in
     let T' = types_of (session_of r') in
-    let q = subst (λ (L : Bounds). Begins (within_trees L) T' (given ++ m.more) bytes) same (begins_so tree_building bytes m.after known) in
-    let all : AppendsFront old new (lines T' (given ++ m.more)) = record {
-      front = lines T given ++ cut.front;
+    let q = subst (λ (L : Bounds). Begins (within_trees L) T' (given ++ m.more) bytes) same
+    (begins_so tree_building bytes m.after known) in
+    let all : AppendsPrefix old new (lines T' (given ++ m.more)) = record {
+      prefix = lines T given ++ cut.prefix;
       rest = cut.rest;
       whole = more_lines same h m bytes known ∙ ap (λ (l : List ℕ). lines T given ++ l) cut.whole
-          ∙ sym (append_assoc (lines T given) cut.front cut.rest);
-      out = Appends-trans old mid new (lines T given) cut.front a cut.out;
+          ∙ sym (append_assoc (lines T given) cut.prefix cut.rest);
+      out = Appends-trans old mid new (lines T given) cut.prefix a cut.out;
     } in
     record {
       items = given ++ m.more;
       begins = q.begins;
-      holds = subst (λ (U : Table). AppendsFront old new (lines U (given ++ m.more))) (sym q.table) all;
+      holds = subst (λ (U : Table). AppendsPrefix old new (lines U (given ++ m.more))) (sym q.table) all;
     }
 
 -- ---- a line
@@ -159,7 +172,8 @@ whole_some r made used None e w = cc
 whole_some r made used (Some n) e w = let same : n ≡ used = cc in subst (λ n. IsWholeLine r n made) same w
 
 pub whole_line_made : {r r' : Trees} {read now : Option (List ℕ)} {given : List StreamItem} {made : List ℕ} {used : ℕ}
-    → (w : IsWholeLine r used made) → table_of (session_of r') ≡ table_of (session_of r) → PassesOne tree_building r r' used
+    → (w : IsWholeLine r used made) → table_of (session_of r') ≡ table_of (session_of r)
+    → PassesOne tree_building r r' used
     → HasReadFrom tree_building r read now given → MakesLines r r' read now given made
 whole_line_made {r = r} {r' = r'} {read = read} {now = now} {given = given} {made = made} {used = used} w same p h =
     let i = puts w.id w.whole.value in
@@ -169,10 +183,12 @@ whole_line_made {r = r} {r' = r'} {read = read} {now = now} {given = given} {mad
       more = i ∷ [];
       after = t.after;
       onward = omega (arith, t.onward, some);
-      made_of = w.made_of ∙ ap (λ d. line (types d) i) (sym same) ∙ sym (append-nil (line (types_of (session_of r')) i));
+      made_of = w.made_of ∙ ap (λ d. line (types d) i) (sym same)
+          ∙ sym (append-nil (line (types_of (session_of r')) i));
     }
 
-given_lines : {o : Option (declared.Item Value)} {more : List StreamItem} (T : Table) → GivesItems tree_building.means o more
+given_lines : {o : Option (declared.Item Value)} {more : List StreamItem} (T : Table)
+    → GivesItems tree_building.means o more
     → line_given T o ≡ lines T more
 given_lines T gives_none = refl
 given_lines T (gives_one {given = given} {i = i} m) =
@@ -180,8 +196,10 @@ given_lines T (gives_one {given = given} {i = i} m) =
     let seen : item_view given ≡ i = cc in
     ap (λ (i : StreamItem). line T i) seen ∙ sym (append-nil (line T i))
 
-pub step_line_made : {r r' : Trees} {read now : Option (List ℕ)} {given : List StreamItem} {step : Step Value} {made : List ℕ}
-    → 0 < step.used → StepsOnFrom tree_building r r' read now given step → made ≡ line_given (types_of (session_of r')) step.item
+pub step_line_made : {r r' : Trees} {read now : Option (List ℕ)} {given : List StreamItem} {step : Step Value}
+    {made : List ℕ}
+    → 0 < step.used → StepsOnFrom tree_building r r' read now given step → made ≡ line_given (types_of (session_of r'))
+    step.item
     → MakesLines r r' read now given made
 step_line_made {r' = r'} some st e = record {
   more = st.more;
@@ -191,58 +209,70 @@ step_line_made {r' = r'} some st e = record {
 }
 
 -- at the error that a `?` returns
-pub makes_at : (r r' : Trees) (read now : Option (List ℕ)) (given : List StreamItem) (made : List ℕ) (res : Result (Unit {0}) Fault)
+pub makes_at : (r r' : Trees) (read now : Option (List ℕ)) (given : List StreamItem) (made : List ℕ)
+    (res : Result (Unit {0}) Fault)
     (e : Fault) → IsErrAnd res (λ x. x ≡ e) → StopsFrom tree_building (session_of r) read now given e
     → MakesLine r r' read now given made res
 makes_at r r' read now given made (Ok u) e is h = absurd is
 makes_at r r' read now given made (Err f) e is h =
     subst (λ e. StopsFrom tree_building (session_of r) read now given e) (sym is) h
 
-pub no_memory : {r : Trees} {read now : Option (List ℕ)} {given : List StreamItem} → HasReadFrom tree_building r read now given
+pub no_memory : {r : Trees} {read now : Option (List ℕ)} {given : List StreamItem}
+    → HasReadFrom tree_building r read now given
     → StopsFrom tree_building (session_of r) read now given reading.Memory
 no_memory h = λ bytes known. ahead_so tree_building bytes h known
 
 pub next_at : (r r' : Trees) (read now : Option (List ℕ)) (given : List StreamItem) (old new : Option (List ℕ))
-    (res : Result (Unit {0}) ToolFault) (f : ToolFault) → IsErrAnd res (λ x. x ≡ f) → ShowsNext r r' read now given old new (Err f)
+    (res : Result (Unit {0}) ToolFault) (f : ToolFault) → IsErrAnd res (λ x. x ≡ f)
+    → ShowsNext r r' read now given old new (Err f)
     → ShowsNext r r' read now given old new res
 next_at r r' read now given old new (Ok u) f is h = absurd is
 next_at r r' read now given old new (Err g) f is h =
     subst (λ f. ShowsNext r r' read now given old new (Err f)) (sym is) h
 
 -- where no large item waits nothing has changed
-pub none_shown : {W : Type 0} {r r' : Trees} {o o' : Output W} (done : Bool) → done ≡ false → ShowsNone r r' o o' (Ok done)
+pub none_shown : {W : Type 0} {r r' : Trees} {o o' : Output W} (done : Bool) → done ≡ false
+    → ShowsNone r r' o o' (Ok done)
     → (r' ≡ r) × (o' ≡ o)
 none_shown true e h = cc
 none_shown false e h = h
 
-pub some_shown : (r r' : Trees) (read now old new : Option (List ℕ)) (given : List StreamItem) (done : Bool) → done ≡ true
+pub some_shown : (r r' : Trees) (read now old new : Option (List ℕ)) (given : List StreamItem) (done : Bool)
+    → done ≡ true
     → ShowsLarge r r' read now given old new (Ok done)
     → (made : List ℕ) × MakesLines r r' read now given made × Appends old new made
 some_shown r r' read now old new given true e h = h
 some_shown r r' read now old new given false e h = cc
 
-pub next_still : {W : Type 0} (contents : W → Option (List ℕ)) (r q r' : Trees) (o p o' : Output W) (read now : Option (List ℕ))
+pub next_still : {W : Type 0} (contents : W → Option (List ℕ)) (r q r' : Trees) (o p o' : Output W)
+    (read now : Option (List ℕ))
     (given : List StreamItem) (res : Result (Unit {0}) ToolFault) → (q ≡ r) × (p ≡ o)
     → ((read now : Option (List ℕ)) (given : List StreamItem) → HasReadFrom tree_building q read now given
     → ShowsNext q r' read now given (contents (writer_of p)) (contents (writer_of o')) res)
     → HasReadFrom tree_building r read now given
     → ShowsNext r r' read now given (contents (writer_of o)) (contents (writer_of o')) res
 next_still {W = W} contents r q r' o p o' read now given res same f h =
-    subst (λ (p : Output W). ShowsNext r r' read now given (contents (writer_of p)) (contents (writer_of o')) res) same.1
+    subst (λ (p : Output W). ShowsNext r r' read now given (contents (writer_of p)) (contents (writer_of o')) res)
+    same.1
     (subst (λ (q : Trees). (HasReadFrom tree_building q read now given
-    → ShowsNext q r' read now given (contents (writer_of p)) (contents (writer_of o')) res)) same.0 (f read now given) h)
+    → ShowsNext q r' read now given (contents (writer_of p)) (contents (writer_of o')) res)) same.0 (f read now given)
+    h)
 
-pub large_at : (r r' : Trees) (read now old new : Option (List ℕ)) (given : List StreamItem) (res : Result Bool WriteFault) (e : WriteFault)
-    → IsErrAnd res (λ x. x ≡ e) → ShowsLarge r r' read now given old new (Err e) → ShowsLarge r r' read now given old new res
+pub large_at : (r r' : Trees) (read now old new : Option (List ℕ)) (given : List StreamItem)
+    (res : Result Bool WriteFault) (e : WriteFault)
+    → IsErrAnd res (λ x. x ≡ e) → ShowsLarge r r' read now given old new (Err e)
+    → ShowsLarge r r' read now given old new res
 large_at r r' read now old new given (Ok done) e is h = absurd is
-large_at r r' read now old new given (Err f) e is h = subst (λ e. ShowsLarge r r' read now given old new (Err e)) (sym is) h
+large_at r r' read now old new given (Err f) e is h = subst (λ e. ShowsLarge r r' read now given old new (Err e))
+    (sym is) h
 
 pub large_fault : (res : Result Bool WriteFault) (e : WriteFault) → IsErrAnd res (λ x. x ≡ e) → e ≡ writing.Write
     → IfErr res (λ x. x ≡ writing.Write)
 large_fault (Ok done) e is write = tt
 large_fault (Err f) e is write = is ∙ write
 
-pub large_counts : (old new : ℕ) (res : Result Bool WriteFault) (e : WriteFault) → IsErrAnd res (λ x. x ≡ e) → e ≡ writing.Write
+pub large_counts : (old new : ℕ) (res : Result Bool WriteFault) (e : WriteFault) → IsErrAnd res (λ x. x ≡ e)
+    → e ≡ writing.Write
     → CountsWriterFaults old new (Err e) → CountsFaults old new res
 large_counts old new (Ok done) e is write h = absurd is
 large_counts old new (Err f) e is write h = subst (λ e. CountsWriterFaults old new (Err e)) write h
@@ -254,7 +284,8 @@ stop_faults A old mid new reading.Read same h = h.0 ∙ ap (λ n. counts_up n 1)
 stop_faults A old mid new reading.Memory same h = h ∙ same
 stop_faults A old mid new reading.Failed same h = h ∙ same
 
-pub runs_under : (L M : Bounds) (bytes : List ℕ) (now : Option (List ℕ)) (P C : List ℕ → Type 0) (r : Result (Unit {0}) ToolFault)
+pub runs_under : (L M : Bounds) (bytes : List ℕ) (now : Option (List ℕ))
+    (P C : Table → List StreamItem → Type 0) (r : Result (Unit {0}) ToolFault)
     → L ≡ M → RunAnswers (within_trees L) bytes now P C r → RunAnswers (within_trees M) bytes now P C r
 runs_under L M bytes now P C r same h = subst (λ (L : Bounds). RunAnswers (within_trees L) bytes now P C r) same h
 
@@ -269,18 +300,32 @@ shows_fall r before same h onward =
     omega (arith, h.gave.taken, onward, stream, bound)
 
 -- ---- the ends
-pub shown_whole : {L : Bounds} {T : Table} {items : List StreamItem} {bytes : List ℕ} {now : Option (List ℕ)} {taken : ℕ}
-    (P : List ℕ → Type 0) → EndsWith L T taken items bytes now → P (lines T items) → EndsWhole L bytes now P
-shown_whole {T = T} {items = items} P e h = record { items = items; table = T; stream = e.stream; end = e.end; holds = h }
+pub shown_whole : {L : Bounds} {T : Table} {items : List StreamItem} {bytes : List ℕ} {now : Option (List ℕ)}
+    {taken : ℕ}
+    (P : Table → List StreamItem → Type 0) → EndsWith L T taken items bytes now → P T items → EndsWhole L bytes now P
+shown_whole {T = T} {items = items} P e h = record {
+  items = items;
+  table = T;
+  stream = e.stream;
+  end = e.end;
+  holds =
+      h;
+}
 
-pub shown_stops : (L : Bounds) (T : Table) (items : List StreamItem) (bytes : List ℕ) (now : Option (List ℕ)) (P C : List ℕ → Type 0)
-    (e : Fault) → Stops L T items bytes now e → P (lines T items) → RunAnswers L bytes now P C (Err (reading_fault e))
+pub shown_stops : (L : Bounds) (T : Table) (items : List StreamItem) (bytes : List ℕ) (now : Option (List ℕ))
+    (P C : Table → List StreamItem → Type 0)
+    (e : Fault) → Stops L T items bytes now e → P T items → RunAnswers L bytes now P C (Err (reading_fault e))
 shown_stops L T items bytes now P C (reading.Refused R) s h = record
-    { items = items; outcome = s.outcome; holds = subst (λ (U : Table). P (lines U items)) (sym s.table) h }
+    { items = items; outcome = s.outcome; holds = subst (λ (U : Table). P U items) (sym s.table) h }
 shown_stops L T items bytes now P C reading.Read s h = record {
   bytes = s.bytes;
   taken = s.taken;
-  holds = record { items = items; given = s.holds.gives; holds = subst (λ (U : Table). P (lines U items)) (sym s.holds.table) h };
+  holds = record {
+    items = items;
+    given = s.holds.gives;
+    holds = subst (λ (U : Table). P U items)
+        (sym s.holds.table) h;
+  };
 }
 shown_stops L T items bytes now P C reading.Memory s h = record {
   bytes = s.bytes;
@@ -292,15 +337,16 @@ shown_stops L T items bytes now P C reading.Failed s h = absurd s
 -- no byte gives no item
 none_longest : (L : Bounds) → LongestStream base_table L [] []
 none_longest L = record {
-  begins = record { front = []; rest = []; table = base_table; stream = no_more; whole = refl };
+  begins = record { prefix = []; rest = []; table = base_table; stream = no_more; whole = refl };
   longest = λ others b.
       let few = items_few b.stream in
-      omega (arith, few, ap length b.whole, length-append b.front b.rest);
+      omega (arith, few, ap length b.whole, length-append b.prefix b.rest);
 }
 
 -- no memory was had before the first byte was read
-pub shown_none : (L : Bounds) (bytes : List ℕ) (now : Option (List ℕ)) (P C : List ℕ → Type 0) → now ≡ Some bytes → P []
-    → RunAnswers L bytes now P C (Err fault.Memory)
+pub shown_none : (L : Bounds) (bytes : List ℕ) (now : Option (List ℕ))
+    (P C : Table → List StreamItem → Type 0) → now ≡ Some bytes → P base_table [] → RunAnswers L bytes now P C
+    (Err fault.Memory)
 unfolding none_longest
 shown_none L bytes now P C known h = record {
   bytes = [];
@@ -308,27 +354,29 @@ shown_none L bytes now P C known h = record {
   holds = record {
     items = [];
     table = base_table;
-    given = record { front = []; rest = []; whole = refl; few = omega arith; gives = none_longest L; table = refl };
+    given = record { prefix = []; rest = []; whole = refl; few = omega arith; gives = none_longest L; table = refl };
     holds = h;
   };
 }
 
 -- ---- behind the flush
-begun_as : {L : Bounds} {bytes : List ℕ} {P Q : List ℕ → Type 0} → BeginsOutcome L bytes P
-    → ((all : List ℕ) → P all → Q all) → BeginsOutcome L bytes Q
-begun_as b f = record { items = b.items; begins = b.begins; holds = f _ b.holds }
+begun_as : {L : Bounds} {bytes : List ℕ} {P Q : Table → List StreamItem → Type 0} → BeginsOutcome L bytes P
+    → ((T : Table) (items : List StreamItem) → P T items → Q T items) → BeginsOutcome L bytes Q
+begun_as b f = record { items = b.items; begins = b.begins; holds = f _ _ b.holds }
 
-runs_as : (L : Bounds) (bytes : List ℕ) (now : Option (List ℕ)) (P Q C D : List ℕ → Type 0) (r : Result (Unit {0}) ToolFault)
-    → RunAnswers L bytes now P C r → ((all : List ℕ) → P all → Q all) → ((all : List ℕ) → C all → D all)
+runs_as : (L : Bounds) (bytes : List ℕ) (now : Option (List ℕ)) (P Q C D : Table → List StreamItem → Type 0)
+    (r : Result (Unit {0}) ToolFault)
+    → RunAnswers L bytes now P C r → ((T : Table) (items : List StreamItem) → P T items → Q T items)
+    → ((T : Table) (items : List StreamItem) → C T items → D T items)
     → RunAnswers L bytes now Q D r
 runs_as L bytes now P Q C D (Ok u) e f g = record
-    { items = e.items; table = e.table; stream = e.stream; end = e.end; holds = f _ e.holds }
+    { items = e.items; table = e.table; stream = e.stream; end = e.end; holds = f _ _ e.holds }
 runs_as L bytes now P Q C D (Err (fault.Refused R)) e f g = record
-    { items = e.items; outcome = e.outcome; holds = f _ e.holds }
+    { items = e.items; outcome = e.outcome; holds = f _ _ e.holds }
 runs_as L bytes now P Q C D (Err fault.Read) e f g = record {
   bytes = e.bytes;
   taken = e.taken;
-  holds = record { items = e.holds.items; given = e.holds.given; holds = f _ e.holds.holds };
+  holds = record { items = e.holds.items; given = e.holds.given; holds = f _ _ e.holds.holds };
 }
 runs_as L bytes now P Q C D (Err (fault.Wanted R)) e f g = absurd e
 runs_as L bytes now P Q C D (Err fault.NoWantedType) e f g = absurd e
@@ -338,27 +386,35 @@ runs_as L bytes now P Q C D (Err fault.Memory) e f g = record {
   bytes = e.bytes;
   taken = e.taken;
   holds = record
-      { items = e.holds.items; table = e.holds.table; given = e.holds.given; holds = f _ e.holds.holds };
+      { items = e.holds.items; table = e.holds.table; given = e.holds.given; holds = f _ _ e.holds.holds };
 }
 
-pub shows_ended : (L : Bounds) (bytes : List ℕ) (now old mid new : Option (List ℕ)) (answer result : Result (Unit {0}) ToolFault)
-    → Keeps mid new → EndsRun answer result → ShowAnswers L bytes now old mid answer → ShowAnswers L bytes now old new result
-shows_ended L bytes now old mid new answer result k (ends_so e) h =
-    subst (λ r. ShowAnswers L bytes now old new r) (sym e)
-    (runs_as L bytes now (Appends old mid) (Appends old new) (AppendsFront old mid) (AppendsFront old new) answer h
-    (λ all a. Appends-kept old mid new all a k) (λ all a. front_kept old mid new all a k))
-shows_ended L bytes now old mid new answer result k (flush_fails o e) h =
-    subst (λ r. ShowAnswers L bytes now old new r) (sym e)
-    (whole (subst (λ r. ShowAnswers L bytes now old mid r) o h))
+-- what held behind the run holds behind the flush; and where that failed, this holds of what went out
+pub runs_ended : (L : Bounds) (bytes : List ℕ) (now : Option (List ℕ)) (P Q C D : Table → List StreamItem → Type 0)
+    (answer result : Result (Unit {0}) ToolFault) → EndsRun answer result
+    → ((T : Table) (items : List StreamItem) → P T items → Q T items)
+    → ((T : Table) (items : List StreamItem) → C T items → D T items)
+    → ((T : Table) (items : List StreamItem) → P T items → D T items) → RunAnswers L bytes now P C answer
+    → RunAnswers L bytes now Q D result
+runs_ended L bytes now P Q C D answer result (ends_so e) f g cut h =
+    subst (λ r. RunAnswers L bytes now Q D r) (sym e) (runs_as L bytes now P Q C D answer h f g)
+runs_ended L bytes now P Q C D answer result (flush_fails o e) f g cut h =
+    subst (λ r. RunAnswers L bytes now Q D r) (sym e) (whole (subst (λ r. RunAnswers L bytes now P C r) o h))
   where
-    whole : EndsWhole L bytes now (Appends old mid) → BeginsOutcome L bytes (AppendsFront old new)
+    whole : EndsWhole L bytes now P → BeginsOutcome L bytes D
     whole w = record {
       items = w.items;
-      begins = record { front = bytes; rest = []; table = w.table; stream = w.stream; whole = sym (append-nil bytes) };
-      holds = record {
-        front = lines w.table w.items;
-        rest = [];
-        whole = sym (append-nil (lines w.table w.items));
-        out = Appends-kept old mid new (lines w.table w.items) w.holds k;
-      };
+      begins = record { prefix = bytes; rest = []; table = w.table; stream = w.stream; whole = sym (append-nil bytes) };
+      holds = cut _ _ w.holds;
     }
+
+pub shows_ended : (L : Bounds) (bytes : List ℕ) (now old mid new : Option (List ℕ))
+    (answer result : Result (Unit {0}) ToolFault)
+    → Keeps mid new → EndsRun answer result → ShowAnswers L bytes now old mid answer
+    → ShowAnswers L bytes now old new result
+shows_ended L bytes now old mid new answer result k ends h =
+    runs_ended L bytes now (OfLines (Appends old mid)) (OfLines (Appends old new)) (OfLines (AppendsPrefix old mid))
+    (OfLines (AppendsPrefix old new)) answer result ends
+    (λ T items a. Appends-kept old mid new (lines T items) a k)
+    (λ T items a. prefix_kept old mid new (lines T items) a k)
+    (λ T items a. all_kept old mid new (lines T items) a k) h

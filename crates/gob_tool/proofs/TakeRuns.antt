@@ -25,23 +25,27 @@ use Rattle.gob_stream.specs.declared.fault.Fault.TheVariants as reading
 use Rattle.gob_stream.specs.declared.item.Item as declared
 use Rattle.gob_stream.specs.declared.item.Item.TheVariants as variant
 use Rattle.gob_stream.proofs.PublicLaws.{stands_within, views_meant}
-use Rattle.gob_stream.specs.Calls.Reader.{Begins, EndsWith, GivesItems, gives_none, gives_one, HasReadFrom, Stops, StopsFrom}
+use Rattle.gob_stream.specs.Calls.Reader.{Begins, EndsWith, GivesItems, gives_none, gives_one, HasReadFrom, Stops}
+use Rattle.gob_stream.specs.Calls.Reader.{StopsFrom}
 use Rattle.gob_stream.specs.Calls.Reader.{session_of, waits_in}
 use Rattle.gob_stream.proofs.PublicLaws.{ahead_so, begins_so}
 use Rattle.gob_tool.specs.declared.fault.ToolFault.{ToolFault}
 use Rattle.gob_tool.specs.declared.fault.ToolFault.TheVariants as fault
 use Rattle.gob_tool.specs.declared.receiver.Receiver.{Receiver}
-use Rattle.gob_tool.specs.Machine.Ending.{CountsOnlyWrites, EndsRun, ends_so, flush_fails}
+use Rattle.gob_tool.specs.Ending.{CountsOnlyWrites, EndsRun, ends_so, flush_fails}
 use Rattle.gob_tool.specs.Fault.{reading_fault}
 use Rattle.gob_tool.specs.Line.{line}
 use Rattle.gob_tool.specs.Machine.Lines.{Trees}
 use Rattle.gob_tool.specs.Machine.Receiver.{IsReceiver}
-use Rattle.gob_tool.specs.Showing.{AppendsFront, CountsReadFaults}
-use Rattle.gob_tool.specs.Machine.Taken.{AreSent, CountsWanted, StaysReceiver, Takes, TakesGiven, TakesNext, WritesText, sent, views_given}
-use Rattle.gob_tool.specs.Taking.{AreReceived, CountsTakeReads, HasTakenItems, ReceivesFront, ReceivesTaken, ReceivesWhole, Receiving}
+use Rattle.gob_tool.specs.Showing.{AppendsPrefix, CountsReadFaults}
+use Rattle.gob_tool.specs.Machine.Taken.{AreSent, CountsWanted, StaysReceiver, Takes, TakesGiven, TakesNext, WritesText}
+use Rattle.gob_tool.specs.Machine.Taken.{sent, views_given}
+use Rattle.gob_tool.specs.Taking.{AreReceived, CountsTakeReads, HasTakenItems, ReceivesPrefix, ReceivesTaken}
+use Rattle.gob_tool.specs.Taking.{ReceivesWhole, Receiving}
 use Rattle.gob_tool.specs.Taking.{TakeAnswers}
-use Rattle.gob_tool.specs.Taking.{definition, no_item, stops_at_wanted, takes_behind as received_behind, value as received_value}
-use Rattle.gob_tool.proofs.EndLaws.{front_kept, reads_nothing}
+use Rattle.gob_tool.specs.Taking.{definition, no_item, stops_at_wanted, takes_behind as received_behind}
+use Rattle.gob_tool.specs.Taking.{value as received_value}
+use Rattle.gob_tool.proofs.EndLaws.{prefix_kept, reads_nothing}
 use Rattle.gob_tool.proofs.LinesStay.{keeps_itself, stream_keeps}
 use Rattle.gob_tool.proofs.ReaderRuns.{GoesOn, TakesBehind, goes_by, nothing_given, reads_behind}
 use Rattle.gob_tool.proofs.ReceivedLaws.{received_append, received_on, stream_sent}
@@ -109,32 +113,34 @@ module _ {r r' : Trees} {U : Table} {u : TypeId} {read now start mid : Option (L
   }
 
   -- a write failed
-  takes_cut : {new : Option (List ℕ)} → HasTakenItems (types_of (session_of r')) U u more (AppendsFront mid new)
+  takes_cut : {new : Option (List ℕ)} → HasTakenItems (types_of (session_of r')) U u more (AppendsPrefix mid new)
       → (bytes : List ℕ) → read ≡ Some bytes
-      → ReceivesFront (within_trees (limits_of (session_of r))) bytes U u (AppendsFront start new)
+      → ReceivesPrefix (within_trees (limits_of (session_of r))) bytes U u (AppendsPrefix start new)
   takes_cut {new = new} h bytes known =
       let begins = begins_behind bytes known in
-      let front = h.holds in
+      let prefix = h.holds in
       record {
         items = p.given ++ more;
         begins = begins.begins;
-        received = subst (λ (T : Table). HasTakenItems T U u (p.given ++ more) (AppendsFront start new)) (sym begins.table)
+        received = subst (λ (T : Table). HasTakenItems T U u (p.given ++ more) (AppendsPrefix start new))
+            (sym begins.table)
             (record {
               lines = p.taken.lines ++ h.lines;
               received = received_append received_before h.received;
               holds = record {
-                front = p.taken.lines ++ front.front;
-                rest = front.rest;
-                whole = ap (λ (l : List ℕ). p.taken.lines ++ l) front.whole
-                    ∙ sym (append_assoc p.taken.lines front.front front.rest);
-                out = Appends-trans start mid new p.taken.lines front.front p.taken.holds front.out;
+                prefix = p.taken.lines ++ prefix.prefix;
+                rest = prefix.rest;
+                whole = ap (λ (l : List ℕ). p.taken.lines ++ l) prefix.whole
+                    ∙ sym (append_assoc p.taken.lines prefix.prefix prefix.rest);
+                out = Appends-trans start mid new p.taken.lines prefix.prefix p.taken.holds prefix.out;
               };
             });
       }
 
   -- no memory was had
   takes_none : (new : Option (List ℕ)) → Keeps mid new → (bytes : List ℕ) → read ≡ Some bytes
-      → SomeTaken bytes now (λ read. ReceivesTaken (within_trees (limits_of (session_of r))) read U u (Appends start new))
+      → SomeTaken bytes now (λ read. ReceivesTaken (within_trees (limits_of (session_of r))) read U u
+      (Appends start new))
   takes_none new kept bytes known =
       let a = ahead_so tree_building bytes p.has known in
       record {
@@ -158,7 +164,8 @@ module _ {r r' : Trees} {U : Table} {u : TypeId} {read now start mid : Option (L
       → TakesGiven (types_of (session_of r')) U u o mid new (Err f)
       → TakesNext r r'' U u read now start new (Err f)
   takes_stopped r'' new o fault.Write gives h = (
-    λ bytes known. takes_cut (subst (λ (l : List StreamItem). HasTakenItems (types_of (session_of r')) U u l (AppendsFront mid new))
+    λ bytes known. takes_cut (subst (λ (l : List StreamItem). HasTakenItems (types_of (session_of r')) U u l
+        (AppendsPrefix mid new))
         (given_views gives) h) bytes known,
     λ failures. inl refl,
   )
@@ -198,7 +205,8 @@ pub next_taken : {r r' : Trees} {U : Table} {u : TypeId} {read now start mid : O
     → taken_of (session_of r) < taken_of (session_of r') → TakesGiven (types_of (session_of r')) U u o mid new res
     → TakesNext r r' U u read now start new res
 next_taken {r' = r'} {U = U} {u = u} {mid = mid} wanted p same q b new o (Ok x) gives onward h = (
-  takes_more wanted p same q b (subst (λ (l : List StreamItem). HasTakenItems (types_of (session_of r')) U u l (Appends mid new))
+  takes_more wanted p same q b (subst (λ (l : List StreamItem). HasTakenItems (types_of (session_of r')) U u l
+      (Appends mid new))
       (given_views gives) h),
   onward,
 )
@@ -222,10 +230,14 @@ module _ {r r' : Trees} {items more : List StreamItem} {bytes : List ℕ} {used 
 
 -- ---- the ends
 pub received_stops : (L : Bounds) (T U : Table) (u : TypeId) (items : List StreamItem) (bytes : List ℕ)
-    (now : Option (List ℕ)) (P C : List ℕ → Type 0) (e : Fault) → Stops L T items bytes now e → HasTakenItems T U u items P
+    (now : Option (List ℕ)) (P C : List ℕ → Type 0) (e : Fault) → Stops L T items bytes now e
+    → HasTakenItems T U u items P
     → Receiving L bytes now U u P C (Err (reading_fault e))
-received_stops L T U u items bytes now P C (reading.Refused R) s t = record
-    { items = items; outcome = s.outcome; received = subst (λ (T : Table). HasTakenItems T U u items P) (sym s.table) t }
+received_stops L T U u items bytes now P C (reading.Refused R) s t = record {
+  items = items;
+  outcome = s.outcome;
+  received = subst (λ (T : Table). HasTakenItems T U u items P) (sym s.table) t;
+}
 received_stops L T U u items bytes now P C reading.Read s t = record {
   bytes = s.bytes;
   taken = s.taken;
@@ -247,11 +259,12 @@ step_refused {r = r} {U = U} {u = u} {now = now} {start = start} {out = out} r' 
   λ bytes known.
       let s = session_of r in
       received_stops (within_trees (limits_of s)) (types_of s) U u p.given bytes now (Appends start out)
-      (AppendsFront start out) e (stops bytes known) p.taken,
+      (AppendsPrefix start out) e (stops bytes known) p.taken,
   λ failures. reads_nothing failures e none,
 )
 
-pub received_whole : {r : Trees} {U : Table} {u : TypeId} {read now old new next : Option (List ℕ)} {bytes : List ℕ} {taken : ℕ}
+pub received_whole : {r : Trees} {U : Table} {u : TypeId} {read now old new next : Option (List ℕ)} {bytes : List ℕ}
+    {taken : ℕ}
     (p : Takes r U u read now old new)
     → EndsWith (within_trees (limits_of (session_of r))) (types_of (session_of r)) taken p.given bytes next
     → ReceivesWhole (within_trees (limits_of (session_of r))) bytes next U u (Appends old new)
@@ -259,7 +272,8 @@ received_whole {r = r} p e = record
     { items = p.given; table = types_of (session_of r); stream = e.stream; end = e.end; received = p.taken }
 
 -- ---- a flush
-pub takes_flushed : {r : Trees} {U : Table} {u : TypeId} {read now old mid new : Option (List ℕ)} → Takes r U u read now old mid
+pub takes_flushed : {r : Trees} {U : Table} {u : TypeId} {read now old mid new : Option (List ℕ)}
+    → Takes r U u read now old mid
     → Keeps mid new → Takes r U u read now old new
 takes_flushed {old = old} {mid = mid} {new = new} p k = record {
   given = p.given;
@@ -272,23 +286,31 @@ takes_flushed {old = old} {mid = mid} {new = new} p k = record {
 }
 
 -- that failed
-pub takes_unflushed : {r : Trees} {U : Table} {u : TypeId} {read now old new : Option (List ℕ)} (p : Takes r U u read now old new)
+pub takes_unflushed : {r : Trees} {U : Table} {u : TypeId} {read now old new : Option (List ℕ)}
+    (p : Takes r U u read now old new)
     (bytes : List ℕ) → read ≡ Some bytes
-    → ReceivesFront (within_trees (limits_of (session_of r))) bytes U u (AppendsFront old new)
+    → ReceivesPrefix (within_trees (limits_of (session_of r))) bytes U u (AppendsPrefix old new)
 takes_unflushed {r = r} {U = U} {u = u} {old = old} {new = new} p bytes known =
     let begins = begins_so tree_building bytes p.has known in
     record {
       items = p.given;
       begins = begins.begins;
-      received = subst (λ (T : Table). HasTakenItems T U u p.given (AppendsFront old new)) (sym begins.table) (record {
+      received = subst (λ (T : Table). HasTakenItems T U u p.given (AppendsPrefix old new)) (sym begins.table) (record {
         lines = p.taken.lines;
         received = p.taken.received;
-        holds = record { front = p.taken.lines; rest = []; whole = sym (append-nil p.taken.lines); out = p.taken.holds };
+        holds = record {
+          prefix = p.taken.lines;
+          rest = [];
+          whole = sym (append-nil p.taken.lines);
+          out =
+              p.taken.holds;
+        };
       });
     }
 
 -- no memory was had before the first byte was read
-pub received_none : (L : Bounds) (bytes : List ℕ) (now : Option (List ℕ)) (U : Table) (u : TypeId) (P C : List ℕ → Type 0)
+pub received_none : (L : Bounds) (bytes : List ℕ) (now : Option (List ℕ)) (U : Table) (u : TypeId) (P C : List ℕ
+    → Type 0)
     → now ≡ Some bytes → P [] → Receiving L bytes now U u P C (Err fault.Memory)
 received_none L bytes now U u P C known holds = record {
   bytes = [];
@@ -302,7 +324,8 @@ received_none L bytes now U u P C known holds = record {
 }
 
 pub receiving_under : (L M : Bounds) (bytes : List ℕ) (now : Option (List ℕ)) (U : Table) (u : TypeId)
-    (P C : List ℕ → Type 0) (res : Result (Unit {0}) ToolFault) → L ≡ M → Receiving (within_trees L) bytes now U u P C res
+    (P C : List ℕ → Type 0) (res : Result (Unit {0}) ToolFault) → L ≡ M → Receiving (within_trees L) bytes now U u P C
+    res
     → Receiving (within_trees M) bytes now U u P C res
 receiving_under L M bytes now U u P C res same h =
     subst (λ (L : Bounds). Receiving (within_trees L) bytes now U u P C res) same h
@@ -322,7 +345,8 @@ taken_as : {T U : Table} {u : TypeId} {items : List StreamItem} {P Q : List ℕ 
     → ((b : List ℕ) → P b → Q b) → HasTakenItems T U u items Q
 taken_as t f = record { lines = t.lines; received = t.received; holds = f _ t.holds }
 
-receiving_as : (L : Bounds) (bytes : List ℕ) (now : Option (List ℕ)) (U : Table) (u : TypeId) (P Q C D : List ℕ → Type 0)
+receiving_as : (L : Bounds) (bytes : List ℕ) (now : Option (List ℕ)) (U : Table) (u : TypeId) (P Q C D : List ℕ
+    → Type 0)
     (res : Result (Unit {0}) ToolFault) → Receiving L bytes now U u P C res → ((all : List ℕ) → P all → Q all)
     → ((all : List ℕ) → C all → D all) → Receiving L bytes now U u Q D res
 receiving_as L bytes now U u P Q C D (Ok x) e f g = record
@@ -355,11 +379,13 @@ receiving_as L bytes now U u P Q C D (Err fault.NoWantedType) e f g = absurd e
 
 pub takes_ended : (L : Bounds) (wanted bytes : List ℕ) (wanted_now now old mid new : Option (List ℕ))
     (answer result : Result (Unit {0}) ToolFault) → Keeps mid new → EndsRun answer result
-    → TakeAnswers L wanted bytes wanted_now now old mid answer → TakeAnswers L wanted bytes wanted_now now old new result
+    → TakeAnswers L wanted bytes wanted_now now old mid answer → TakeAnswers L wanted bytes wanted_now now old new
+    result
 takes_ended L wanted bytes wanted_now now old mid new answer result k ends h = at ends h
   where
     at : {answer result : Result (Unit {0}) ToolFault} → EndsRun answer result
-        → TakeAnswers L wanted bytes wanted_now now old mid answer → TakeAnswers L wanted bytes wanted_now now old new result
+        → TakeAnswers L wanted bytes wanted_now now old mid answer → TakeAnswers L wanted bytes wanted_now now old new
+        result
     at {answer = answer} {result = result} (ends_so e) (stops_at_wanted {f = f} lacks untouched) =
         subst (λ r. TakeAnswers L wanted bytes wanted_now now old new r) (sym e) (stops_at_wanted lacks (record {
           unread = untouched.unread;
@@ -373,9 +399,9 @@ takes_ended L wanted bytes wanted_now now old mid new answer result k ends h = a
           end = h.end;
           id = h.id;
           first = h.first;
-          holds = receiving_as L bytes now h.table h.id (Appends old mid) (Appends old new) (AppendsFront old mid)
-              (AppendsFront old new) answer h.holds (λ all a. Appends-kept old mid new all a k)
-              (λ all a. front_kept old mid new all a k);
+          holds = receiving_as L bytes now h.table h.id (Appends old mid) (Appends old new) (AppendsPrefix old mid)
+              (AppendsPrefix old new) answer h.holds (λ all a. Appends-kept old mid new all a k)
+              (λ all a. prefix_kept old mid new all a k);
         }))
     at (flush_fails o e) (stops_at_wanted lacks untouched) = absurd (cc o)
     at {result = result} (flush_fails o e) (received_behind h) =
@@ -386,16 +412,24 @@ takes_ended L wanted bytes wanted_now now old mid new answer result k ends h = a
           end = h.end;
           id = h.id;
           first = h.first;
-          holds = whole (subst (λ r. Receiving L bytes now h.table h.id (Appends old mid) (AppendsFront old mid) r) o h.holds);
+          holds = whole (subst (λ r. Receiving L bytes now h.table h.id (Appends old mid) (AppendsPrefix old mid) r) o
+              h.holds);
         }))
       where
         whole : {U : Table} {u : TypeId} → ReceivesWhole L bytes now U u (Appends old mid)
-            → ReceivesFront L bytes U u (AppendsFront old new)
+            → ReceivesPrefix L bytes U u (AppendsPrefix old new)
         whole w = record {
           items = w.items;
-          begins = record { front = bytes; rest = []; table = w.table; stream = w.stream; whole = sym (append-nil bytes) };
+          begins = record {
+            prefix = bytes;
+            rest = [];
+            table = w.table;
+            stream = w.stream;
+            whole =
+                sym (append-nil bytes);
+          };
           received = taken_as w.received (λ all a. record {
-            front = all;
+            prefix = all;
             rest = [];
             whole = sym (append-nil all);
             out = Appends-kept old mid new all a k;
@@ -416,8 +450,10 @@ next_as {U = U} {V = V} {u = u} r r' read now start old new res e f h =
     (subst (λ (V : Table). Takes r V u read now start old → TakesNext r r' V u read now start new res) e h)
 
 -- ---- reads that failed
-pub take_counts : (wanted wanted' failures failures' : ℕ) (answer result : Result (Unit {0}) ToolFault) → EndsRun answer result
-    → CountsTakeReads wanted wanted' failures failures' answer → CountsTakeReads wanted wanted' failures failures' result
+pub take_counts : (wanted wanted' failures failures' : ℕ) (answer result : Result (Unit {0}) ToolFault)
+    → EndsRun answer result
+    → CountsTakeReads wanted wanted' failures failures' answer → CountsTakeReads wanted wanted' failures failures'
+    result
 take_counts wanted wanted' failures failures' answer result (ends_so e) h =
     subst (λ r. CountsTakeReads wanted wanted' failures failures' r) (sym e) h
 take_counts wanted wanted' failures failures' answer result (flush_fails o e) h =
@@ -469,7 +505,7 @@ definition_taken id v out = record { lines = []; received = definition no_item; 
 pub nothing_taken : {T U : Table} {u : TypeId} (out : Option (List ℕ)) → HasTakenItems T U u [] (Appends out out)
 nothing_taken out = record { lines = []; received = no_item; holds = Appends-nil out }
 
--- its line was written, or a front of it
+-- its line was written, or a prefix of it
 pub value_taken : {T U : Table} {u : TypeId} (id : TypeId) (value : Value) (w : Tree) (old new : Option (List ℕ))
     (res : Result (Unit {0}) ToolFault) → Match T U id u → Receives T U id u (view value) w
     → WritesText old new (line U (puts u w)) res → TakesGiven T U u (Some (variant.Put id value)) old new res
@@ -481,7 +517,7 @@ value_taken {U = U} {u = u} id value w old new (Ok x) m r h = record {
 value_taken {U = U} {u = u} id value w old new (Err fault.Write) m r h = record {
   lines = line U (puts u w) ++ [];
   received = received_value m r no_item;
-  holds = subst (λ (l : List ℕ). AppendsFront old new l) (sym (append-nil (line U (puts u w)))) h;
+  holds = subst (λ (l : List ℕ). AppendsPrefix old new l) (sym (append-nil (line U (puts u w)))) h;
 }
 value_taken id value w old new (Err fault.Memory) m r h = h
 value_taken id value w old new (Err (fault.Refused R)) m r h = absurd h

@@ -23,7 +23,7 @@ use Rattle.gob_stream.proofs.PublicLaws.{stands_within}
 use Rattle.gob_tool.specs.declared.in_memory.Tally.{Tally}
 use Rattle.gob_tool.specs.Checking.{IsTallied, TalliesStream}
 use Rattle.gob_tool.specs.Machine.Tallying.{GaveTallied, HasTallied, TalliesOn, TalliesUpTo, StopsTallying}
-use Rattle.gob_tool.specs.Machine.Tallying.{TalliesFront, TalliesAll}
+use Rattle.gob_tool.specs.Machine.Tallying.{TalliesPrefix, TalliesAll}
 use Rattle.gob_tool.proofs.CheckLaws.{items_within, limits_as, stream_defines}
 
 -- ---- within the bytes
@@ -94,7 +94,8 @@ counts_none some f h (over_some l w a) = record {
 counts_none some f h (over_item l w m a) = cc
 
 -- a step was refused
-pub step_stops : (s s' : SessionState SkipBuilder (Unit {0})) (items : List StreamItem) (bytes piece : List ℕ) (e : Fault)
+pub step_stops : (s s' : SessionState SkipBuilder (Unit {0})) (items : List StreamItem) (bytes piece : List ℕ)
+    (e : Fault)
     → StepAnswers skip_building s s'
     items bytes piece (Err e) → StopsTallying (no_deeper deepest s.limits) (bytes ++ piece) e
 step_stops s s' items bytes piece (reading.Refused R) f = (items, f.0)
@@ -106,24 +107,25 @@ step_stops s s' items bytes piece reading.Failed f = absurd f
 pub counts_none_yet : {s : SessionState SkipBuilder (Unit {0})} {n : ℕ} (piece bytes : List ℕ) → HasTallied s n bytes
     → TalliesUpTo s n bytes piece piece
 counts_none_yet {s = s} {n = n} piece bytes h = record {
-  front = [];
+  prefix = [];
   whole = refl;
   counted = subst (λ (l : List ℕ). HasTallied s n l) (sym (append-nil bytes)) h;
 }
 
 pub counts_up_to : {s s' : SessionState SkipBuilder (Unit {0})} {n n' used : ℕ} {bytes piece rest later : List ℕ}
-    → later ≡ drop used rest → (u : TalliesUpTo s n bytes piece rest) → TalliesOn s' n n' (bytes ++ u.front) rest used
+    → later ≡ drop used rest → (u : TalliesUpTo s n bytes piece rest) → TalliesOn s' n n' (bytes ++ u.prefix) rest used
     → TalliesUpTo s' n' bytes piece later
 counts_up_to {s' = s'} {n' = n'} {used = used} {bytes = bytes} {rest = rest} so u on = record {
-  front = u.front ++ take used rest;
+  prefix = u.prefix ++ take used rest;
   whole = u.whole
-      ∙ ap (λ (l : List ℕ). u.front ++ l)
+      ∙ ap (λ (l : List ℕ). u.prefix ++ l)
       (sym (take-append-drop used rest) ∙ ap (λ (l : List ℕ). take used rest ++ l) (sym so))
-      ∙ sym (append_assoc u.front (take used rest) _);
-  counted = subst (λ (l : List ℕ). HasTallied s' n' l) (append_assoc bytes u.front (take used rest)) on.counted;
+      ∙ sym (append_assoc u.prefix (take used rest) _);
+  counted = subst (λ (l : List ℕ). HasTallied s' n' l) (append_assoc bytes u.prefix (take used rest)) on.counted;
 }
 
-pub counts_falls : {s s' : SessionState SkipBuilder (Unit {0})} {n n' used : ℕ} {bytes rest : List ℕ} → s'.limits ≡ s.limits
+pub counts_falls : {s s' : SessionState SkipBuilder (Unit {0})} {n n' used : ℕ} {bytes rest : List ℕ}
+    → s'.limits ≡ s.limits
     → HasTallied s n bytes → TalliesOn s' n n' bytes rest used
     → length rest - used + (s'.limits.stream + 9 - n') < length rest + (s.limits.stream + 9 - n)
 counts_falls same h on =
@@ -136,7 +138,7 @@ counts_falls same h on =
 pub counts_piece : {s : SessionState SkipBuilder (Unit {0})} {n : ℕ} {bytes piece rest : List ℕ} → length rest ≡ 0
     → TalliesUpTo s n bytes piece rest → HasTallied s n (bytes ++ piece)
 counts_piece {s = s} {n = n} {bytes = bytes} {rest = []} none u =
-    subst (λ (l : List ℕ). HasTallied s n (bytes ++ l)) (sym (u.whole ∙ append-nil u.front)) u.counted
+    subst (λ (l : List ℕ). HasTallied s n (bytes ++ l)) (sym (u.whole ∙ append-nil u.prefix)) u.counted
 counts_piece {rest = b ∷ rest} none u = absurd (omega (arith, none))
 
 -- the same under limits that are these
@@ -145,26 +147,28 @@ pub stops_under : (L M : Bounds) (bytes : List ℕ) (e : Fault) → L ≡ M → 
 stops_under L M bytes e same f = subst (λ (L : Bounds). StopsTallying (no_deeper deepest L) bytes e) same f
 
 -- or the rest of it is refused
-pub stops_piece : {s : SessionState SkipBuilder (Unit {0})} {n : ℕ} {bytes piece rest : List ℕ} (L M : Bounds) (e : Fault)
+pub stops_piece : {s : SessionState SkipBuilder (Unit {0})} {n : ℕ} {bytes piece rest : List ℕ} (L M : Bounds)
+    (e : Fault)
     → L ≡ M → (u : TalliesUpTo s n bytes piece rest)
-    → StopsTallying (no_deeper deepest L) ((bytes ++ u.front) ++ rest) e
+    → StopsTallying (no_deeper deepest L) ((bytes ++ u.prefix) ++ rest) e
     → StopsTallying (no_deeper deepest M) (bytes ++ piece) e
 stops_piece {bytes = bytes} {piece = piece} {rest = rest} L M e same u f =
     stops_under L M (bytes ++ piece) e same
     (subst (λ (l : List ℕ). StopsTallying (no_deeper deepest L) l e)
-    (append_assoc bytes u.front rest ∙ ap (λ (l : List ℕ). bytes ++ l) (sym u.whole)) f)
+    (append_assoc bytes u.prefix rest ∙ ap (λ (l : List ℕ). bytes ++ l) (sym u.whole)) f)
 
 -- at the error that a `?` returns
 pub counts_all_at : (L : Bounds) (s : SessionState SkipBuilder (Unit {0})) (n : ℕ) (bytes : List ℕ)
-    (r : Result (Unit {0}) Fault) (e : Fault) → IsErrAnd r (λ x. x ≡ e) → StopsTallying L bytes e → TalliesAll L s n bytes r
+    (r : Result (Unit {0}) Fault) (e : Fault) → IsErrAnd r (λ x. x ≡ e) → StopsTallying L bytes e
+    → TalliesAll L s n bytes r
 counts_all_at L s n bytes (Ok u) e is h = absurd is
 counts_all_at L s n bytes (Err g) e is h = subst (λ e. StopsTallying L bytes e) (sym is) h
 
-pub counts_front_at : (L : Bounds) (s : SessionState SkipBuilder (Unit {0})) (n n' : ℕ) (bytes piece : List ℕ)
+pub counts_prefix_at : (L : Bounds) (s : SessionState SkipBuilder (Unit {0})) (n n' : ℕ) (bytes piece : List ℕ)
     (r : Result ℕ Fault) (e : Fault) → IsErrAnd r (λ x. x ≡ e) → StopsTallying L (bytes ++ piece) e
-    → TalliesFront L s n n' bytes piece r
-counts_front_at L s n n' bytes piece (Ok u) e is h = absurd is
-counts_front_at L s n n' bytes piece (Err g) e is h = subst (λ e. StopsTallying L (bytes ++ piece) e) (sym is) h
+    → TalliesPrefix L s n n' bytes piece r
+counts_prefix_at L s n n' bytes piece (Ok u) e is h = absurd is
+counts_prefix_at L s n n' bytes piece (Err g) e is h = subst (λ e. StopsTallying L (bytes ++ piece) e) (sym is) h
 
 -- the table of a stream that ends between two items
 record HasTable (L : Bounds) (bytes : List ℕ) (items : List StreamItem) : Type 0 where

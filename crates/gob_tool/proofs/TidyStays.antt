@@ -179,18 +179,22 @@ pub form_counted : (L : Bounds) {T V : Table} {i : StreamItem} {offset : ℕ} {b
     → IsItem base_table (no_deeper deepest L) T offset i bytes V → Keeps base_table T
     → Tidies T (content_type i) (content i) form → Fits T (content_type i) form → low ≤ offset
     → CountedShort (bounds_for L i) T low (with_content i form) V (length bytes)
-form_counted L {offset = offset} low form (counted {c = c} u l s (value {v = v} {a = a} {b = b} may deep n k)) base p f before =
+form_counted L {offset = offset} low form (counted {c = c} u l s (value {v = v} {a = a} {b = b} may deep n k)) base p f
+    before =
     let top = top_form k p f in
     let less = tidy_no_deeper p in
     counted_short (no_deeper deepest L) L offset low c (a ++ b) (a ++ top.bytes) refl refl u l s before
     (omega (arith, top.no_longer, length-append a b, length-append a top.bytes))
     (value may (omega (arith, deep, less)) n top.spelled)
-form_counted L {T = T} {offset = offset} low form (counted {c = c} u l s (definition {id = id} {v = v} {a = a} {b = b} may deep describes e n k)) base p f before =
+form_counted L {T = T} {offset = offset} low form
+    (counted {c = c} u l s (definition {id = id} {v = v} {a = a} {b = b} may deep describes e n k)) base p f before =
     let less = tidy_no_deeper p in
     let shallow = description_depth base k in
     let there = spells_back base wire_ready k in
     let alike = described_alike (said_stays there (tidies_back base there p)) describes in
     let short = spelled_no_longer p k f.spelled in
-    counted_short (no_deeper deepest L) (bounds_for L (StreamItem.defines id form)) offset low c (a ++ b) (a ++ f.bytes) refl refl u l s before
+    counted_short (no_deeper deepest L) (bounds_for L (StreamItem.defines id form)) offset low c (a ++ b) (a ++ f.bytes)
+    refl refl u l s before
     (omega (arith, short, length-append a b, length-append a f.bytes))
-    (definition (record { own = may.own; new = may.new; room = may.room }) (omega (arith, deep, less, shallow)) alike e n f.spelled)
+    (definition (record { own = may.own; new = may.new; room = may.room }) (omega (arith, deep, less, shallow)) alike e
+    n f.spelled)

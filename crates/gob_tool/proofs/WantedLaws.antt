@@ -1,5 +1,6 @@
 -- How a stream is read for the type of its first value.
-use Rattle.std.proofs.Common.{◌≡◌, ℕ, ◌+◌, ◌-◌, ◌<◌, arith, List, [], ◌∷◌, ◌++◌, Option, Some, None, Result, Ok, Err, ◌∙◌, ap, sym, subst, refl}
+use Rattle.std.proofs.Common.{◌≡◌, ℕ, ◌+◌, ◌-◌, ◌<◌, arith, List, [], ◌∷◌, ◌++◌, Option, Some, None, Result, Ok, Err}
+use Rattle.std.proofs.Common.{◌∙◌, ap, sym, subst, refl}
 use Rattle.std.specs.Result.{IsErrAnd}
 use Rattle.gob_types.specs.declared.id.TypeId.{TypeId}
 use Rattle.gob_types.specs.Ready.{IsReady}
@@ -18,7 +19,8 @@ use Rattle.gob_stream.specs.Calls.Reader.{EndsWith, HasReadFrom, StepsOnFrom, St
 use Rattle.gob_tool.specs.declared.fault.ToolFault.{ToolFault}
 use Rattle.gob_tool.specs.declared.fault.ToolFault.TheVariants as fault
 use Rattle.gob_tool.specs.Fault.{wanted_fault}
-use Rattle.gob_tool.specs.Machine.Taken.{AreSent, CountsPiece, FindsSo, FirstIsReady, ReadsWanted, defined, first_type_of}
+use Rattle.gob_tool.specs.Machine.Taken.{AreSent, CountsPiece, FindsSo, FirstIsReady, ReadsWanted, defined}
+use Rattle.gob_tool.specs.Machine.Taken.{first_type_of}
 use Rattle.gob_tool.specs.Machine.Taken.{sent, views_given}
 use Rattle.gob_tool.specs.Machine.Lines.{Trees}
 use Rattle.gob_tool.specs.Taking.{HasWanted, LacksWanted, Receiving, first_type}
@@ -33,20 +35,25 @@ first_append (defines id v ∷ items) others = first_append items others
 first_append (puts id v ∷ items) others = refl
 
 -- it is ready
-first_sent : {T : Table} (items : List StreamItem) (id : TypeId) → AreSent T items → first_type items ≡ Some id → IsReady T id
+first_sent : {T : Table} (items : List StreamItem) (id : TypeId) → AreSent T items → first_type items ≡ Some id
+    → IsReady T id
 first_sent [] id s e = cc
 first_sent (defines i v ∷ items) id (defined s) e = first_sent items id s e
-first_sent {T = T} (puts i v ∷ items) id (sent r f s) e = let same : i ≡ id = cc in subst (λ (t : TypeId). IsReady T t) same r
+first_sent {T = T} (puts i v ∷ items) id (sent r f s) e = let same : i ≡ id = cc in subst (λ (t : TypeId). IsReady T t)
+    same r
 
-pub first_ready : {r : Trees} {read now : Option (List ℕ)} (T : Table) (first : Option TypeId) → T ≡ types_of (session_of r)
+pub first_ready : {r : Trees} {read now : Option (List ℕ)} (T : Table) (first : Option TypeId)
+    → T ≡ types_of (session_of r)
     → FindsSo r read now first → FirstIsReady T (Ok first)
 first_ready T None same p = tt
 first_ready {r = r} T (Some id) same p =
     subst (λ (T : Table). IsReady T id) (sym same)
-    (first_sent p.given id (stream_sent (omega arith) p.has.gave.stream (keeps_itself (types_of (session_of r)))) (sym p.is))
+    (first_sent p.given id (stream_sent (omega arith) p.has.gave.stream (keeps_itself (types_of (session_of r))))
+    (sym p.is))
 
 -- ---- from step to step
-pub finds_first : (r : Trees) (read : Option (List ℕ)) → HasReadFrom tree_building r read read [] → FindsSo r read read None
+pub finds_first : (r : Trees) (read : Option (List ℕ)) → HasReadFrom tree_building r read read []
+    → FindsSo r read read None
 finds_first r read has = record { given = []; has = has; is = refl }
 
 pub finds_step : {r q r' : Trees} {read now next : Option (List ℕ)} {first found : Option TypeId} {step : Step Value}
@@ -61,22 +68,32 @@ finds_step {first = first} {step = step} p t e = record {
 }
 
 -- ---- the ends
-pub wanted_stops : (L M : Bounds) (T T' : Table) (items : List StreamItem) (bytes : List ℕ) (now : Option (List ℕ)) (e : Fault)
+pub wanted_stops : (L M : Bounds) (T T' : Table) (items : List StreamItem) (bytes : List ℕ) (now : Option (List ℕ))
+    (e : Fault)
     → L ≡ M → Stops (within_trees L) T items bytes now e → ReadsWanted (within_trees M) bytes now T' (Err e)
 wanted_stops L M T T' items bytes now e same s =
     subst (λ (L : Bounds). LacksWanted (within_trees L) bytes now (wanted_fault e)) same (at e s)
   where
-    at : (e : Fault) → Stops (within_trees L) T items bytes now e → LacksWanted (within_trees L) bytes now (wanted_fault e)
+    at : (e : Fault) → Stops (within_trees L) T items bytes now e
+        → LacksWanted (within_trees L) bytes now (wanted_fault e)
     at (reading.Refused R) s = (items, s.outcome)
     at reading.Read s = record { bytes = s.bytes; taken = s.taken; holds = (items, s.holds.gives) }
     at reading.Memory s = tt
     at reading.Failed s = absurd s
 
-pub wanted_ends : (L M : Bounds) (T T' : Table) (taken : ℕ) (items : List StreamItem) (bytes : List ℕ) (now : Option (List ℕ))
-    (first : Option TypeId) → L ≡ M → T' ≡ T → EndsWith (within_trees L) T taken items bytes now → first ≡ first_type items
+pub wanted_ends : (L M : Bounds) (T T' : Table) (taken : ℕ) (items : List StreamItem) (bytes : List ℕ)
+    (now : Option (List ℕ))
+    (first : Option TypeId) → L ≡ M → T' ≡ T → EndsWith (within_trees L) T taken items bytes now
+    → first ≡ first_type items
     → ReadsWanted (within_trees M) bytes now T' (Ok first)
 wanted_ends L M T T' taken items bytes now None same table e is =
-    subst (λ (L : Bounds). LacksWanted (within_trees L) bytes now fault.NoWantedType) same (items, T, e.stream, e.end, sym is)
+    subst (λ (L : Bounds). LacksWanted (within_trees L) bytes now fault.NoWantedType) same (
+      items,
+      T,
+      e.stream,
+      e.end,
+      sym is,
+    )
 wanted_ends L M T T' taken items bytes now (Some id) same table e is =
     subst (λ (L : Bounds). HasWanted (within_trees L) bytes now (λ U u. (U ≡ T') × (u ≡ id))) same (record {
       items = items;
@@ -112,7 +129,8 @@ pub piece_at : (A B : Type 0) (old mid new : ℕ) (r : Result A Fault) (e : Faul
     → CountsReads {A = B} mid new (Err e) → CountsPiece old new r
 piece_at A B old mid new (Ok a) e x same h = absurd x
 piece_at A B old mid new (Err f) e x same h =
-    subst (λ e. CountsPiece {A = A} old new (Err e)) (sym x) (subst (λ n. CountsPiece {A = A} n new (Err e)) same (at e h))
+    subst (λ e. CountsPiece {A = A} old new (Err e)) (sym x) (subst (λ n. CountsPiece {A = A} n new (Err e)) same
+    (at e h))
   where
     at : (e : Fault) → CountsReads {A = B} mid new (Err e) → CountsPiece {A = A} mid new (Err e)
     at (reading.Refused R) h = h

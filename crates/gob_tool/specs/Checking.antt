@@ -15,7 +15,7 @@ use Rattle.gob_stream.specs.Stream.{Stream}
 use Rattle.gob_tool.specs.declared.in_memory.Tally.{Tally}
 use Rattle.gob_tool.specs.declared.fault.ToolFault.{ToolFault}
 use Rattle.gob_tool.specs.declared.fault.ToolFault.TheVariants as fault
-use Rattle.gob_tool.specs.Showing.{AppendsFront}
+use Rattle.gob_tool.specs.Showing.{AppendsPrefix}
 
 -- how many of the items define a type
 abbrev pub definitions_in : List StreamItem → ℕ
@@ -49,12 +49,15 @@ IsNoStream L bytes now fault.NoWantedType = ⊥
 IsNoStream L bytes now (fault.Clash path reason) = ⊥
 
 -- how the run ends, over an input with these bytes left and an output with the old bytes: the line of the whole stream
--- went out, or a front of it where the output failed; or nothing was written
-pub data CheckAnswers (L : Bounds) (bytes : List ℕ) (now old new : Option (List ℕ)) : Result (Unit {0}) ToolFault → Type 0
+-- went out, or a prefix of it where the output failed; or nothing was written
+pub data CheckAnswers (L : Bounds) (bytes : List ℕ) (now old new : Option (List ℕ)) : Result (Unit {0}) ToolFault
+    → Type 0
   where
-    is_accepted : {u : Unit {0}} → IsCountedStream L bytes now (Appends old new) → CheckAnswers L bytes now old new (Ok u)
-    is_cut : IsCountedStream L bytes now (AppendsFront old new) → CheckAnswers L bytes now old new (Err fault.Write)
-    is_stopped : {f : ToolFault} → IsNoStream L bytes now f → Appends old new [] → CheckAnswers L bytes now old new (Err f)
+    is_accepted : {u : Unit {0}} → IsCountedStream L bytes now (Appends old new)
+        → CheckAnswers L bytes now old new (Ok u)
+    is_cut : IsCountedStream L bytes now (AppendsPrefix old new) → CheckAnswers L bytes now old new (Err fault.Write)
+    is_stopped : {f : ToolFault} → IsNoStream L bytes now f → Appends old new []
+        → CheckAnswers L bytes now old new (Err f)
 
 -- the bytes are the stream of some items, and the tally is theirs
 pub record IsTallied (L : Bounds) (bytes : List ℕ) (tally : Tally) : Type 0 where

@@ -21,6 +21,16 @@ fault_status fault.Read = 2
 fault_status fault.Write = 2
 fault_status fault.Memory = 2
 
+-- whether it is one of the stream that should have the wanted type
+abbrev pub IsOfWanted : ToolFault → Type 0
+IsOfWanted (fault.Wanted r) = Unit {0}
+IsOfWanted fault.NoWantedType = Unit {0}
+IsOfWanted (fault.Refused r) = ⊥
+IsOfWanted (fault.Clash path reason) = ⊥
+IsOfWanted fault.Read = ⊥
+IsOfWanted fault.Write = ⊥
+IsOfWanted fault.Memory = ⊥
+
 -- its line
 abbrev pub fault_line : ToolFault → List ℕ
 fault_line (fault.Refused R) = codes "gob: " ++ refusal_text R

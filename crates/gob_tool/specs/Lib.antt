@@ -1,4 +1,5 @@
 pub mod Line
+pub mod Ending
 pub mod Fault
 pub mod Showing
 pub mod Taking

@@ -1,6 +1,5 @@
 -- Where a run stands, piece by piece, and what is gathered or kept then. No clause of a public call names these.
 pub mod Receiver
-pub mod Ending
 pub mod Lines
 pub mod Sending
 pub mod Counting

@@ -16,7 +16,7 @@ use Rattle.gob_stream.specs.Reading.{SomeTaken}
 use Rattle.gob_stream.specs.Stream.{Stream}
 use Rattle.gob_tool.specs.declared.fault.ToolFault.{ToolFault}
 use Rattle.gob_tool.specs.declared.fault.ToolFault.TheVariants as fault
-use Rattle.gob_tool.specs.Showing.{AppendsFront}
+use Rattle.gob_tool.specs.Showing.{AppendsPrefix}
 
 -- what an item says, a description or a value, and of which type that is
 abbrev pub content : StreamItem → Tree
@@ -47,8 +47,8 @@ pub record HasTidyStream (L : Bounds) (T : Table) (items : List StreamItem) (P :
   pub stream : Stream base_table L tidy bytes T
   pub holds : P bytes
 
--- the bytes are the stream of some items, all of them were read, and this holds of the stream of the items in their tidy
--- form
+-- the bytes are the stream of some items, all of them were read, and this holds of the stream of the items in their
+-- tidy form
 pub record RewritesWhole (L : Bounds) (bytes : List ℕ) (now : Option (List ℕ)) (P : List ℕ → Type 0) : Type 0 where
   pub items : List StreamItem
   pub table : Table
@@ -69,7 +69,7 @@ pub record RewritesGiven (L : Bounds) (bytes : List ℕ) (P : List ℕ → Type 
   pub tidy : HasTidyStream L given.begins.table items P
 
 -- this holds of the tidy stream of the items of some stream that the bytes begin with
-pub record RewritesFront (L : Bounds) (bytes : List ℕ) (P : List ℕ → Type 0) : Type 0 where
+pub record RewritesPrefix (L : Bounds) (bytes : List ℕ) (P : List ℕ → Type 0) : Type 0 where
   pub items : List StreamItem
   pub begins : BeginsWithStream base_table L bytes items
   pub tidy : HasTidyStream L begins.table items P
@@ -89,12 +89,13 @@ abbrev pub RewritesSo : Bounds → (bytes : List ℕ) → (now : Option (List �
 RewritesSo L bytes now Whole Cut (Ok _) = RewritesWhole L bytes now Whole
 RewritesSo L bytes now Whole Cut (Err (fault.Refused R)) = RewritesToRefusal L bytes R Whole
 RewritesSo L bytes now Whole Cut (Err fault.Read) = SomeTaken bytes now (λ taken. RewritesGiven L taken Whole)
-RewritesSo L bytes now Whole Cut (Err fault.Write) = RewritesFront L bytes Cut
+RewritesSo L bytes now Whole Cut (Err fault.Write) = RewritesPrefix L bytes Cut
 RewritesSo L bytes now Whole Cut (Err fault.Memory) = SomeTaken bytes now (λ read. RewritesTaken L read Whole)
 RewritesSo L bytes now Whole Cut (Err (fault.Wanted R)) = ⊥
 RewritesSo L bytes now Whole Cut (Err fault.NoWantedType) = ⊥
 RewritesSo L bytes now Whole Cut (Err (fault.Clash path reason)) = ⊥
 
--- over an output with the old bytes: the tidy stream went out, and nothing else, or after a failed write a front of it
-abbrev pub RewriteAnswers : Bounds → (bytes : List ℕ) → (now old new : Option (List ℕ)) → Result (Unit {0}) ToolFault → Type 0
-RewriteAnswers L bytes now old new result = RewritesSo L bytes now (Appends old new) (AppendsFront old new) result
+-- over an output with the old bytes: the tidy stream went out, and nothing else, or after a failed write a prefix of it
+abbrev pub RewriteAnswers : Bounds → (bytes : List ℕ) → (now old new : Option (List ℕ)) → Result (Unit {0}) ToolFault
+    → Type 0
+RewriteAnswers L bytes now old new result = RewritesSo L bytes now (Appends old new) (AppendsPrefix old new) result

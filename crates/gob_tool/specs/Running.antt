@@ -20,4 +20,5 @@ abbrev pub OrderAnswers : Chosen → Bounds → (wanted bytes : List ℕ) → (w
 OrderAnswers chosen.Show L wanted bytes wanted_now now old new result = ShowAnswers L bytes now old new result
 OrderAnswers chosen.Check L wanted bytes wanted_now now old new result = CheckAnswers L bytes now old new result
 OrderAnswers chosen.Rewrite L wanted bytes wanted_now now old new result = RewriteAnswers L bytes now old new result
-OrderAnswers chosen.Take L wanted bytes wanted_now now old new result = TakeAnswers L wanted bytes wanted_now now old new result
+OrderAnswers chosen.Take L wanted bytes wanted_now now old new result = TakeAnswers L wanted bytes wanted_now now old
+    new result

@@ -19,45 +19,45 @@ use Rattle.gob_tool.specs.declared.fault.ToolFault.{ToolFault}
 use Rattle.gob_tool.specs.declared.fault.ToolFault.TheVariants as fault
 use Rattle.gob_tool.specs.Line.{lines}
 
--- the bytes are the stream of some items, all of them were read, and this holds of the lines of the items by the types
--- behind them
-pub record EndsWhole (L : Bounds) (bytes : List ℕ) (now : Option (List ℕ)) (P : List ℕ → Type 0) : Type 0 where
+-- the bytes are the stream of some items, all of them were read, and this holds of the items and the types behind them
+pub record EndsWhole (L : Bounds) (bytes : List ℕ) (now : Option (List ℕ)) (P : Table → List StreamItem → Type 0) : Type
+    0 where
   pub items : List StreamItem
   pub table : Table
   pub stream : Stream base_table L items bytes table
   pub end : now ≡ Some []
-  pub holds : P (lines table items)
+  pub holds : P table items
 
--- the bytes are refused so, and this holds of the lines of the items before the refusal
-pub record IsRefused (L : Bounds) (bytes : List ℕ) (R : Refusal) (P : List ℕ → Type 0) : Type 0 where
+-- the bytes are refused so, and this holds of the items before the refusal and the types behind them
+pub record IsRefused (L : Bounds) (bytes : List ℕ) (R : Refusal) (P : Table → List StreamItem → Type 0) : Type 0 where
   pub items : List StreamItem
   pub outcome : Outcome base_table L bytes items (refused R)
-  pub holds : P (lines outcome.gives.begins.table items)
+  pub holds : P outcome.gives.begins.table items
 
--- this holds of the lines of the items of the longest stream that the bytes begin with
-pub record GivesOutcome (L : Bounds) (bytes : List ℕ) (P : List ℕ → Type 0) : Type 0 where
+-- this holds of the items of the longest stream that the bytes begin with, and the types behind them
+pub record GivesOutcome (L : Bounds) (bytes : List ℕ) (P : Table → List StreamItem → Type 0) : Type 0 where
   pub items : List StreamItem
   pub given : LongestStream base_table L bytes items
-  pub holds : P (lines given.begins.table items)
+  pub holds : P given.begins.table items
 
--- this holds of the lines of the items of some stream that the bytes begin with
-pub record BeginsOutcome (L : Bounds) (bytes : List ℕ) (P : List ℕ → Type 0) : Type 0 where
+-- this holds of the items of some stream that the bytes begin with, and the types behind them
+pub record BeginsOutcome (L : Bounds) (bytes : List ℕ) (P : Table → List StreamItem → Type 0) : Type 0 where
   pub items : List StreamItem
   pub begins : BeginsWithStream base_table L bytes items
-  pub holds : P (lines begins.table items)
+  pub holds : P begins.table items
 
--- of these bytes all but the last ones were taken, of which no more waited than what is read ahead; this holds of the lines
--- of all items that those taken give
-pub record GivesTaken (L : Bounds) (bytes : List ℕ) (P : List ℕ → Type 0) : Type 0 where
+-- of these bytes all but the last ones were taken, of which no more waited than what is read ahead; this holds of all
+-- items that those taken give, and the types behind them
+pub record GivesTaken (L : Bounds) (bytes : List ℕ) (P : Table → List StreamItem → Type 0) : Type 0 where
   pub items : List StreamItem
   pub table : Table
   pub given : GivesAllBut L table items bytes
-  pub holds : P (lines table items)
+  pub holds : P table items
 
--- how a run over an input with these bytes left ends, where `Whole` holds of the lines that were to go out, or `Cut`
--- after a failed write
-abbrev pub RunAnswers : Bounds → (bytes : List ℕ) → (now : Option (List ℕ)) → (Whole Cut : List ℕ → Type 0)
-    → Result (Unit {0}) ToolFault → Type 0
+-- how a run over an input with these bytes left ends, where `Whole` holds of the items if all went out that was to be
+-- written of them, or `Cut` after a failed write
+abbrev pub RunAnswers : Bounds → (bytes : List ℕ) → (now : Option (List ℕ))
+    → (Whole Cut : Table → List StreamItem → Type 0) → Result (Unit {0}) ToolFault → Type 0
 RunAnswers L bytes now Whole Cut (Ok _) = EndsWhole L bytes now Whole
 RunAnswers L bytes now Whole Cut (Err (fault.Refused R)) = IsRefused L bytes R Whole
 RunAnswers L bytes now Whole Cut (Err fault.Read) = SomeTaken bytes now (λ taken. GivesOutcome L taken Whole)
@@ -67,17 +67,23 @@ RunAnswers L bytes now Whole Cut (Err (fault.Wanted R)) = ⊥
 RunAnswers L bytes now Whole Cut (Err fault.NoWantedType) = ⊥
 RunAnswers L bytes now Whole Cut (Err (fault.Clash path reason)) = ⊥
 
--- known bytes grow by a front of these
-pub record AppendsFront (old new : Option (List ℕ)) (bytes : List ℕ) : Type 0 where
-  pub front : List ℕ
+-- known bytes grow by a prefix of these
+pub record AppendsPrefix (old new : Option (List ℕ)) (bytes : List ℕ) : Type 0 where
+  pub prefix : List ℕ
   pub rest : List ℕ
-  pub whole : bytes ≡ front ++ rest
-  pub out : Appends old new front
+  pub whole : bytes ≡ prefix ++ rest
+  pub out : Appends old new prefix
+
+-- this holds of the lines of the items by these types
+abbrev pub OfLines : (List ℕ → Type 0) → Table → List StreamItem → Type 0
+OfLines P T items = P (lines T items)
 
 -- how the run that shows a stream ends, over an input with these bytes left and an output with the old bytes: the lines
--- went out, and nothing else, or after a failed write a front of them
-abbrev pub ShowAnswers : Bounds → (bytes : List ℕ) → (now old new : Option (List ℕ)) → Result (Unit {0}) ToolFault → Type 0
-ShowAnswers L bytes now old new result = RunAnswers L bytes now (Appends old new) (AppendsFront old new) result
+-- went out, and nothing else, or after a failed write a prefix of them
+abbrev pub ShowAnswers : Bounds → (bytes : List ℕ) → (now old new : Option (List ℕ)) → Result (Unit {0}) ToolFault
+    → Type 0
+ShowAnswers L bytes now old new result =
+    RunAnswers L bytes now (OfLines (Appends old new)) (OfLines (AppendsPrefix old new)) result
 
 -- the count is the same, or one higher
 abbrev pub MayCount : (failures failures' : ℕ) → Type 0

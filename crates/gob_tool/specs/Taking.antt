@@ -1,5 +1,5 @@
 -- What a run answers that receives the values of a stream as values of a wanted type, and what it has written then.
--- (docs/FORMAT.md, Matching and receiving; The program: this project's own.)
+-- (docs/LIBRARY.md, Matching and receiving; docs/FORMAT.md, The program: this project's own.)
 use Rattle.std.specs.Prelude.{◌≡◌, ℕ, ◌⊎◌, List, [], ◌∷◌, ◌++◌, Option, Some, None, Result, Ok, Err}
 use Rattle.std.specs.Io.KnownBytes.{Appends}
 use Rattle.gob_types.specs.declared.id.TypeId.{TypeId}
@@ -22,7 +22,7 @@ use Rattle.gob_stream.specs.Stream.{Stream}
 use Rattle.gob_tool.specs.declared.fault.ToolFault.{ToolFault}
 use Rattle.gob_tool.specs.declared.fault.ToolFault.TheVariants as fault
 use Rattle.gob_tool.specs.Line.{line}
-use Rattle.gob_tool.specs.Showing.{AppendsFront, MayCount}
+use Rattle.gob_tool.specs.Showing.{AppendsPrefix, MayCount}
 
 -- the type of the first value among the items
 abbrev pub first_type : List StreamItem → Option TypeId
@@ -42,8 +42,7 @@ pub record HasWanted (L : Bounds) (bytes : List ℕ) (now : Option (List ℕ)) (
   pub holds : P table id
 
 -- T has the types of the stream, and u is the wanted type, one of U: each value among the items is of a type that
--- matches
--- it, and these are the lines of what is received of them
+-- matches it, and these are the lines of what is received of them
 pub data AreReceived (T U : Table) (u : TypeId) : List StreamItem → List ℕ → Type 0 where
   no_item : AreReceived T U u [] []
   definition : {id : TypeId} {described : Tree} {items : List StreamItem} {lines : List ℕ}
@@ -74,9 +73,8 @@ pub record IsRefusedBehind (L : Bounds) (bytes : List ℕ) (R : Refusal) (U : Ta
   pub outcome : Outcome base_table L bytes items (refused R)
   pub received : HasTakenItems outcome.gives.begins.table U u items P
 
--- the bytes begin with the stream of some items and of a value whose type clashes with the wanted one, on this path of
--- the
--- fewest steps and for this reason, and this holds of the lines of the items before it
+-- the bytes begin with the stream of some items and of a value whose type clashes with the wanted one, on this path
+-- of the fewest steps and for this reason, and this holds of the lines of the items before it
 pub record ClashesBehind (L : Bounds) (bytes : List ℕ) (U : Table) (u : TypeId) (path : List Step)
     (reason : ClashReason) (P : List ℕ → Type 0) : Type 0 where
   pub items : List StreamItem
@@ -93,7 +91,7 @@ pub record ReceivesGiven (L : Bounds) (bytes : List ℕ) (U : Table) (u : TypeId
   pub received : HasTakenItems given.begins.table U u items P
 
 -- this holds of the lines of the items of some stream that the bytes begin with
-pub record ReceivesFront (L : Bounds) (bytes : List ℕ) (U : Table) (u : TypeId) (P : List ℕ → Type 0) : Type 0 where
+pub record ReceivesPrefix (L : Bounds) (bytes : List ℕ) (U : Table) (u : TypeId) (P : List ℕ → Type 0) : Type 0 where
   pub items : List StreamItem
   pub begins : BeginsWithStream base_table L bytes items
   pub received : HasTakenItems begins.table U u items P
@@ -107,15 +105,14 @@ pub record ReceivesTaken (L : Bounds) (bytes : List ℕ) (U : Table) (u : TypeId
   pub received : HasTakenItems table U u items P
 
 -- how the part of the run behind the wanted stream ends, over an input with these bytes left, where `Whole` holds of
--- the
--- lines that were to go out, or `Cut` after a failed write
+-- the lines that were to go out, or `Cut` after a failed write
 abbrev pub Receiving : Bounds → (bytes : List ℕ) → (now : Option (List ℕ)) → Table → TypeId
     → (Whole Cut : List ℕ → Type 0) → Result (Unit {0}) ToolFault → Type 0
 Receiving L bytes now U u Whole Cut (Ok _) = ReceivesWhole L bytes now U u Whole
 Receiving L bytes now U u Whole Cut (Err (fault.Refused R)) = IsRefusedBehind L bytes R U u Whole
 Receiving L bytes now U u Whole Cut (Err (fault.Clash path reason)) = ClashesBehind L bytes U u path.items reason Whole
 Receiving L bytes now U u Whole Cut (Err fault.Read) = SomeTaken bytes now (λ taken. ReceivesGiven L taken U u Whole)
-Receiving L bytes now U u Whole Cut (Err fault.Write) = ReceivesFront L bytes U u Cut
+Receiving L bytes now U u Whole Cut (Err fault.Write) = ReceivesPrefix L bytes U u Cut
 Receiving L bytes now U u Whole Cut (Err fault.Memory) = SomeTaken bytes now (λ read. ReceivesTaken L read U u Whole)
 Receiving L bytes now U u Whole Cut (Err (fault.Wanted R)) = ⊥
 Receiving L bytes now U u Whole Cut (Err fault.NoWantedType) = ⊥
@@ -138,15 +135,14 @@ LacksWanted L bytes now (fault.Clash path reason) = ⊥
 LacksWanted L bytes now fault.Write = ⊥
 
 -- how the run ends, over a wanted stream and an input with these bytes left, and an output with the old bytes: the
--- wanted
--- stream has no wanted type, and nothing else is done; or the lines of what is received went out, and nothing else, or
--- after a failed write a front of them
+-- wanted stream has no wanted type, and nothing else is done; or the lines of what is received went out, and nothing
+-- else, or after a failed write a prefix of them
 pub data TakeAnswers (L : Bounds) (wanted bytes : List ℕ) (wanted_now now old new : Option (List ℕ)) : Result (Unit {0})
     ToolFault → Type 0 where
   stops_at_wanted : {f : ToolFault} → LacksWanted L wanted wanted_now f → Untouched bytes now old new
       → TakeAnswers L wanted bytes wanted_now now old new (Err f)
   takes_behind : {r : Result (Unit {0}) ToolFault}
-      → HasWanted L wanted wanted_now (λ U u. Receiving L bytes now U u (Appends old new) (AppendsFront old new) r)
+      → HasWanted L wanted wanted_now (λ U u. Receiving L bytes now U u (Appends old new) (AppendsPrefix old new) r)
       → TakeAnswers L wanted bytes wanted_now now old new r
 
 -- a read of the one input or of the other failed where the fault is `Read`, and else only before a failed write

@@ -10,7 +10,7 @@ ghost use Rattle.gob_stream.specs.Calls.Reader.{HasReadFrom, session_of, waits_i
 ghost use Rattle.gob_tool.specs.Checking.{CheckAnswers};
 ghost use Rattle.gob_tool.specs.Machine.Counting.{CountsNext, given_count, EndsCounting, CountsCounting, tally_line};
 ghost use Rattle.gob_tool.specs.Showing.{CountsReadFaults, CountsWriteFaults, IsFlushedSince};
-ghost use Rattle.gob_tool.specs.Machine.Ending.{CountsOnlyWrites};
+ghost use Rattle.gob_tool.specs.Ending.{CountsOnlyWrites};
 
 use crate::end::end_run;
 use crate::fault::ToolFault;
@@ -23,8 +23,8 @@ use std::io::{Read, Write};
 
 /// Reads a stream to its end, and writes one line of it: `ok: I items, T types, B bytes`, of which T counts the
 /// definitions. Ok exactly at the end of a whole stream; before any other answer but `ToolFault::Write` nothing is
-/// written, and at that one a front of the line may be. The run ends with a flush. Values aren't kept, so that it takes
-/// no more memory for a large one; none may be deeper than `limits.depth()`.
+/// written, and at that one a prefix of the line may be. The run ends with a flush. Values aren't kept, so that it
+/// takes no more memory for a large one; none may be deeper than `limits.depth()`.
 pub fn run_check<R: Read, W: Write>(
     alloc: Global,
     input: &mut Input<R>,
@@ -95,8 +95,8 @@ fn count_stream<R: Read>(
     })
 }
 
-/// Takes some of the bytes that wait: items of values that stand whole, or else one item at the most. How many items are
-/// whole with them, and how many bytes they are. Nothing is built of a value that stands whole.
+/// Takes some of the bytes that wait: items of values that stand whole, or else one item at the most. How many items
+/// are whole with them, and how many bytes they are. Nothing is built of a value that stands whole.
 fn count_next(alloc: Global, reader: &mut StreamReader<SkipBuilder>) -> Result<Passed, Fault>
     requires { 0 < length (waits_in reader.old) }
     ensures counted { (read now : Option (List ℕ)) (given : List StreamItem)

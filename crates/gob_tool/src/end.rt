@@ -3,7 +3,7 @@
 ghost use Rattle.std.specs.Prelude.{◌≡◌, ℕ, IfErr};
 ghost use Rattle.std.specs.Io.KnownBytes.{Keeps};
 ghost use Rattle.gob_stream.specs.Ends.{failed_writes, writer_of};
-ghost use Rattle.gob_tool.specs.Machine.Ending.{CountsOnlyWrites, EndsRun};
+ghost use Rattle.gob_tool.specs.Ending.{CountsOnlyWrites, EndsRun};
 ghost use Rattle.gob_tool.specs.Showing.{CountsWriteFaults, IsFlushedSince};
 ghost use Rattle.gob_stream.specs.Writing.{CountsWriterFaults};
 
@@ -13,7 +13,7 @@ use gob_stream::{Output, StreamReader, WriteFault};
 use std::io::Write;
 
 /// Flushes behind what was written, unless a write failed. The first fault is answered.
-pub(crate) fn end_run<W: Write>(
+pub fn end_run<W: Write>(
     answer: Result<(), ToolFault>,
     output: &mut Output<W>,
 ) -> Result<(), ToolFault>
@@ -36,7 +36,8 @@ pub(crate) fn end_run<W: Write>(
 
 /// Flushes where the reader may have to wait for its input, so that what is made of an item is out as soon as the item
 /// is whole.
-pub(crate) fn flush_before_waiting<B: Builder, W: Write>(
+#[inline(always)]
+pub fn flush_before_waiting<B: Builder, W: Write>(
     reader: &StreamReader<B>,
     output: &mut Output<W>,
 ) -> Result<(), WriteFault>

@@ -4,7 +4,7 @@ ghost use Rattle.std.specs.Prelude.{◌≡◌, ◌<◌, ◌≤◌, ℕ, List, �
 ghost use Rattle.gob_stream.specs.Bounds.{AreLimits, deepest, no_deeper};
 ghost use Rattle.gob_stream.specs.Calls.Session.{limits_of};
 ghost use Rattle.gob_tool.specs.Checking.{TalliesStream};
-ghost use Rattle.gob_tool.specs.Machine.Tallying.{HasTallied, TalliesAll, TalliesFront};
+ghost use Rattle.gob_tool.specs.Machine.Tallying.{HasTallied, TalliesAll, TalliesPrefix};
 
 use gob_read::SkipBuilder;
 use gob_stream::{Fault, Limits, Session};
@@ -53,7 +53,7 @@ fn count_piece(
 {
     let mut rest = piece;
     while !rest.is_empty() {
-        let used = count_front(alloc, session, rest, items)?;
+        let used = count_prefix(alloc, session, rest, items)?;
         rest = &rest[used..];
     }
     Ok(())
@@ -61,7 +61,7 @@ fn count_piece(
 
 /// Takes bytes from the front of the piece, and counts the items that are whole with them: those of values that stand
 /// whole, or else one at the most. Answers how many bytes it took. Nothing is built of a value that stands whole.
-fn count_front(
+fn count_prefix(
     alloc: Global,
     session: &mut Session<SkipBuilder>,
     piece: &[u8],
@@ -71,7 +71,7 @@ fn count_front(
     requires counted { (bytes : List ℕ) × HasTallied session.old items.old bytes }
     requires limits { AreLimits deepest (limits_of session.old) }
     ensures counted { (bytes : List ℕ) → HasTallied session.old items.old bytes
-        → TalliesFront (no_deeper deepest (limits_of session.old)) session.new items.old items.new bytes
+        → TalliesPrefix (no_deeper deepest (limits_of session.old)) session.new items.old items.new bytes
         piece.now result }
     ensures used { IfOk result (λ used. used ≤ length piece.now) }
     ensures limits { limits_of session.new ≡ limits_of session.old }

@@ -60,7 +60,8 @@ impl<W: Write> TextOut for Sending<'_, W> {
     ) };
 }
 
-// Writes the line of the item that puts the value of the type that the body spells, as is known of it, while it is made.
+// Writes the line of the item that puts the value of the type that the body spells, as is known of it, while it is
+// made.
 fn send_item<S: Shapes, W: Write>(
     shapes: &S,
     id: TypeId,

@@ -12,6 +12,7 @@ mod fault;
 mod in_memory;
 mod item_json;
 mod large;
+mod next_line;
 mod received;
 mod receiver;
 mod rewrite;
@@ -22,6 +23,7 @@ mod tidied;
 mod wanted;
 
 pub use check::run_check;
+pub use end::{end_run, flush_before_waiting};
 pub use fault::{ToolFault, status};
 pub use gob_words::{Chosen, Order, OrderFault, order_of};
 pub use in_memory::{Tally, check_bytes};

@@ -4,24 +4,58 @@ ghost use Rattle.gob_types.specs.Defined.{types};
 ghost use Rattle.gob_types.specs.Ready.{IsReady};
 ghost use Rattle.gob_stream.specs.Ends.{failed_writes, writer_of};
 ghost use Rattle.gob_stream.specs.Item.{item_view};
-ghost use Rattle.gob_tool.specs.Machine.Ending.{CountsOnlyWrites};
+ghost use Rattle.gob_tool.specs.Fault.{IsOfWanted};
+ghost use Rattle.gob_tool.specs.Ending.{CountsOnlyWrites};
 ghost use Rattle.gob_tool.specs.Line.{line as line_of};
 ghost use Rattle.gob_tool.specs.Machine.Receiver.{IsReceiver, IsSameReceiver};
-ghost use Rattle.gob_tool.specs.Machine.Taken.{AreSent, StaysReceiver, TakesGiven, WritesText, views_given};
-ghost use Rattle.std.specs.Prelude.{OnOk};
+ghost use Rattle.gob_tool.specs.Machine.Taken.{AreSent, HasReadTrees, StaysReceiver, Takes, TakesGiven};
+ghost use Rattle.gob_tool.specs.Machine.Taken.{TakesNext, WritesText, views_given};
+ghost use Rattle.gob_stream.specs.Calls.Reader.{session_of, waits_in};
+ghost use Rattle.gob_stream.specs.Calls.Session.{limits_of, types_of};
+ghost use Rattle.std.specs.Prelude.{◌≡◌, ◌<◌, ℕ, Option, List, IfErr, OnOk, length};
 
 use crate::fault::ToolFault;
+use crate::next_line::given_line;
 use crate::receiver::Receiver;
-use crate::show::given_line;
-use gob_stream::{Item, Output};
+use gob_read::TreeBuilder;
+use gob_stream::{Item, Output, StreamReader};
 use gob_types::Table;
 use gob_value::Value;
 use std::alloc::Global;
 use std::io::Write;
 
+/// Takes some of the bytes that wait, and writes the line of the value that is whole with them; `line` is room for it.
+pub(crate) fn take_next<W: Write>(
+    alloc: Global,
+    reader: &mut StreamReader<TreeBuilder>,
+    receiver: &mut Receiver<'_>,
+    line: &mut Vec<u8>,
+    output: &mut Output<W>,
+) -> Result<(), ToolFault>
+    requires some { 0 < length (waits_in reader.old) }
+    requires read { HasReadTrees reader.old }
+    requires receiver { IsReceiver (types_of (session_of reader.old)) receiver.old }
+    requires ready { IsReady (types receiver.old.wanted.now) receiver.old.wanted_id }
+    ensures taken { (read now start : Option (List ℕ))
+        → Takes reader.old (types receiver.old.wanted.now) receiver.old.wanted_id read now start
+        (W.contents (writer_of output.old))
+        → TakesNext reader.old reader.new (types receiver.old.wanted.now) receiver.old.wanted_id read now start
+        (W.contents (writer_of output.new)) result }
+    ensures receiver { OnOk result (IsReceiver (types_of (session_of reader.new)) receiver.new) }
+    ensures same { IsSameReceiver receiver.old receiver.new }
+    ensures limits { limits_of (session_of reader.new) ≡ limits_of (session_of reader.old) }
+    ensures own { IfErr result (λ fault. IsOfWanted fault → ⊥) }
+    ensures writes { CountsOnlyWrites (failed_writes output.old) (failed_writes output.new) result }
+{
+    let step = reader.step(alloc)?;
+    let written = write_received(alloc, &step.item, reader.table(), receiver, line, output);
+    drop(step);
+    written
+}
+
 /// Writes the line of what is received of an item, if it is a value. `stream` has the types behind it, and `line` is
 /// room.
-pub(crate) fn write_received<W: Write>(
+fn write_received<W: Write>(
     alloc: Global,
     item: &Option<Item<Value>>,
     stream: &Table,
@@ -36,6 +70,7 @@ pub(crate) fn write_received<W: Write>(
         (W.contents (writer_of output.old)) (W.contents (writer_of output.new)) result }
     ensures receiver { OnOk result (IsReceiver (types stream.now) receiver.new) }
     ensures same { IsSameReceiver receiver.old receiver.new }
+    ensures own { IfErr result (λ fault. IsOfWanted fault → ⊥) }
     ensures writes { CountsOnlyWrites (failed_writes output.old) (failed_writes output.new) result }
 {
     let Some(item) = item else {
@@ -65,6 +100,7 @@ fn write_line<W: Write>(
 ) -> Result<(), ToolFault>
     ensures written { WritesText (W.contents (writer_of output.old)) (W.contents (writer_of output.new))
         (line_of (types table.now) (item_view item)) result }
+    ensures own { IfErr result (λ fault. IsOfWanted fault → ⊥) }
     ensures writes { CountsOnlyWrites (failed_writes output.old) (failed_writes output.new) result }
 {
     line.clear();

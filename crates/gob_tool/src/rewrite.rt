@@ -5,7 +5,7 @@ ghost use Rattle.gob_stream.specs.Bounds.{deepest, no_deeper};
 ghost use Rattle.gob_stream.specs.Calls.Session.{limits_of};
 ghost use Rattle.gob_stream.specs.Ends.{failed_reads, failed_writes, reader_of, writer_of};
 ghost use Rattle.gob_stream.specs.Calls.Reader.{session_of, waits_in};
-ghost use Rattle.gob_tool.specs.Machine.Ending.{CountsOnlyWrites};
+ghost use Rattle.gob_tool.specs.Ending.{CountsOnlyWrites};
 ghost use Rattle.gob_tool.specs.Rewriting.{RewriteAnswers};
 ghost use Rattle.gob_tool.specs.Machine.Rewritten.{Rewrites, RewritesNext, RewritesSome, WaitsTidy};
 ghost use Rattle.gob_tool.specs.Showing.{CountsReadFaults, CountsWriteFaults, IsFlushedSince};
@@ -22,7 +22,7 @@ use std::io::{Read, Write};
 
 /// Writes the stream of the items of a stream, each in its tidy form, and ends with a flush. Ok exactly at the end of
 /// a whole stream; no limit refuses what is written, as it is no longer and no deeper than what was read. Before a
-/// fault is answered the items before it are written; at `ToolFault::Write` a front of them may be. What it takes in
+/// fault is answered the items before it are written; at `ToolFault::Write` a prefix of them may be. What it takes in
 /// memory grows with the types and the largest item alone. No value may be deeper than `limits.depth()`.
 pub fn run_rewrite<R: Read, W: Write>(
     alloc: Global,

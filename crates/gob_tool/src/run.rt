@@ -1,9 +1,10 @@
 //! The run that the words ask for.
 
-ghost use Rattle.std.specs.Prelude.{◌≡◌, ℕ, List, Some, false};
+ghost use Rattle.std.specs.Prelude.{◌≡◌, ℕ, List, Some, true, false, IfErr};
 ghost use Rattle.gob_words.specs.Depths.{wants_type};
+ghost use Rattle.gob_tool.specs.Fault.{IsOfWanted};
 ghost use Rattle.gob_tool.specs.Running.{OrderAnswers, order_limits};
-ghost use Rattle.gob_tool.specs.Showing.{CountsWriteFaults};
+ghost use Rattle.gob_tool.specs.Showing.{CountsWriteFaults, IsFlushedSince};
 ghost use Rattle.gob_tool.specs.Taking.{CountsTakeReads};
 ghost use Rattle.gob_stream.specs.Ends.{failed_reads, failed_writes, reader_of, writer_of};
 
@@ -32,10 +33,13 @@ pub fn run_order<Q: Read, R: Read, W: Write>(
         (Q.remaining (reader_of wanted.new)) (R.remaining (reader_of input.new))
         (W.contents (writer_of output.old)) (W.contents (writer_of output.new)) result }
     ensures unread { wants_type order.now.command ≡ false → wanted.new ≡ wanted.old }
+    ensures untouched { wants_type order.now.command ≡ true
+        → IfErr result (λ fault. IsOfWanted fault → input.new ≡ input.old) }
     ensures reads { CountsTakeReads (failed_reads wanted.old) (failed_reads wanted.new)
         (failed_reads input.old) (failed_reads input.new)
         result }
     ensures writes { CountsWriteFaults (failed_writes output.old) (failed_writes output.new) result }
+    ensures flushed { IsFlushedSince (failed_writes output.old) output.new }
 {
     let limits = limits_of(order);
     match order.command {

@@ -1,35 +1,28 @@
 //! The run that prints a stream.
 
-ghost use Rattle.std.specs.Prelude.{◌≡◌, ◌≢◌, ℕ, ◌<◌, List, [], length, Option, Some, IfErr, OnOk};
+ghost use Rattle.std.specs.Prelude.{◌≡◌, ◌≢◌, ℕ, ◌<◌, List, length, Option, Some, IfErr};
 ghost use Rattle.gob_read.specs.Calls.Builders.{tree_building};
 ghost use Rattle.gob_stream.specs.Bounds.{within_trees};
 ghost use Rattle.gob_stream.specs.Calls.Session.{limits_of};
-ghost use Rattle.gob_types.specs.Defined.{types};
 ghost use Rattle.gob_stream.specs.Ends.{failed_reads, failed_writes, reader_of, writer_of};
 ghost use Rattle.gob_stream.specs.Item.{StreamItem};
 ghost use Rattle.gob_stream.specs.Calls.Reader.{HasReadFrom, session_of, waits_in};
-ghost use Rattle.gob_tool.specs.Machine.Ending.{CountsOnlyWrites};
-ghost use Rattle.gob_tool.specs.Machine.Lines.{MakesLine, MakesWhole, ShowsNext, line_given};
+ghost use Rattle.gob_tool.specs.Ending.{CountsOnlyWrites};
+ghost use Rattle.gob_tool.specs.Machine.Lines.{ShowsNext};
 ghost use Rattle.gob_tool.specs.Showing.{ShowAnswers, CountsReadFaults, CountsWriteFaults, IsFlushedSince};
 
 use crate::end::{end_run, flush_before_waiting};
 use crate::fault::ToolFault;
-use crate::item_json::write_item;
-use crate::large::{show_large, shown_depth};
-use gob_json::line_of_whole;
-use gob_num::Memory;
+use crate::large::show_large;
+use crate::next_line::next_line;
 use gob_read::TreeBuilder;
-use gob_stream::{Fault, Input, Item, Limits, Output, StreamReader};
-use gob_types::Table;
-use gob_value::Value;
-use json::Writer;
+use gob_stream::{Input, Limits, Output, StreamReader};
 use std::alloc::Global;
 use std::io::{Read, Write};
-use std::mem;
 
 /// Writes the JSON line of each item of a stream, and nothing else, and ends with a flush. Ok exactly at the
 /// end of a whole stream. Before a fault is answered the lines of the items before it are written; at
-/// `ToolFault::Write` a front of them may be. A flush that fails is that fault where no other came before it.
+/// `ToolFault::Write` a prefix of them may be. A flush that fails is that fault where no other came before it.
 /// What it takes in memory grows with the types and the largest item alone. No value may be deeper than the lesser of
 /// `limits.depth()` and 1000.
 pub fn run_show<R: Read, W: Write>(
@@ -113,69 +106,4 @@ fn show_line<W: Write>(
     line.clear();
     next_line(alloc, reader, line)?;
     Ok(output.send_all(line)?)
-}
-
-/// Takes some of the bytes that wait, and makes in `line`, which is empty, the line of the item that is whole with them.
-fn next_line(
-    alloc: Global,
-    reader: &mut StreamReader<TreeBuilder>,
-    line: &mut Vec<u8>,
-) -> Result<(), Fault>
-    requires some { 0 < length (waits_in reader.old) }
-    requires empty { line.old.items ≡ [] }
-    ensures made { (read now : Option (List ℕ)) (given : List StreamItem)
-        → HasReadFrom tree_building reader.old read now given
-        → MakesLine reader.old reader.new read now given line.new.items result }
-    ensures unread { IfErr result (λ fault. fault ≢ Fault.Read) }
-    ensures limits { limits_of (session_of reader.new) ≡ limits_of (session_of reader.old) }
-{
-    if let Some(used) = whole_line(alloc, reader, line)? {
-        reader.pass(used);
-        return Ok(());
-    }
-    let step = reader.step(alloc)?;
-    let made = given_line(alloc, &step.item, reader.table(), line);
-    drop(step);
-    Ok(made?)
-}
-
-/// Makes the line of the item of a value that waits as a whole, of which nothing is built. How many bytes it has. None
-/// says nothing of what waits, and no line is made.
-fn whole_line(
-    alloc: Global,
-    reader: &StreamReader<TreeBuilder>,
-    line: &mut Vec<u8>,
-) -> Result<Option<usize>, Memory>
-    requires { line.old.items ≡ [] }
-    ensures { MakesWhole reader.now line.new.items result }
-{
-    let Some(item) = reader.whole() else {
-        return Ok(None);
-    };
-    let depth = shown_depth(reader);
-    let mut room = Vec::new(alloc);
-    if !line_of_whole(reader.table(), item.id, item.body, depth, &mut room, line)? {
-        return Ok(None);
-    }
-    Ok(Some(item.used))
-}
-
-/// Makes the line of an item, if there is one.
-pub(crate) fn given_line(
-    alloc: Global,
-    item: &Option<Item<Value>>,
-    table: &Table,
-    line: &mut Vec<u8>,
-) -> Result<(), Memory>
-    requires { line.old.items ≡ [] }
-    ensures { OnOk result (line.new.items ≡ line_given (types table.now) item.now) }
-{
-    let Some(item) = item else {
-        return Ok(());
-    };
-    let mut out = Writer::new(mem::replace(line, Vec::new(alloc)));
-    let written = write_item(alloc, item, table, &mut out);
-    *line = out.into_inner();
-    written?;
-    Ok(line.push(b'\n')?)
 }

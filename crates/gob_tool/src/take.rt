@@ -1,6 +1,6 @@
 //! The run that receives the values of a stream as values of a type of another.
 
-ghost use Rattle.std.specs.Prelude.{◌≡◌, ◌<◌, ℕ, List, Option, Some, OnOk, length};
+ghost use Rattle.std.specs.Prelude.{◌≡◌, ◌<◌, ℕ, List, Option, Some, IfErr, OnOk, length};
 ghost use Rattle.std.specs.Io.KnownBytes.{Appends};
 ghost use Rattle.gob_types.specs.Defined.{types};
 ghost use Rattle.gob_types.specs.Ready.{IsReady};
@@ -8,15 +8,15 @@ ghost use Rattle.gob_stream.specs.Bounds.{within_trees};
 ghost use Rattle.gob_stream.specs.Ends.{failed_reads, failed_writes, reader_of, writer_of};
 ghost use Rattle.gob_stream.specs.Calls.Session.{limits_of, types_of};
 ghost use Rattle.gob_stream.specs.Calls.Reader.{session_of, waits_in};
-ghost use Rattle.gob_tool.specs.Machine.Ending.{CountsOnlyWrites};
+ghost use Rattle.gob_tool.specs.Fault.{IsOfWanted};
+ghost use Rattle.gob_tool.specs.Ending.{CountsOnlyWrites};
 ghost use Rattle.gob_tool.specs.Machine.Receiver.{IsReceiver, IsSameReceiver};
-ghost use Rattle.gob_tool.specs.Showing.{AppendsFront, CountsReadFaults, CountsWriteFaults, IsFlushedSince};
-ghost use Rattle.gob_tool.specs.Machine.Taken.{HasReadTrees, Takes, TakesNext};
+ghost use Rattle.gob_tool.specs.Showing.{AppendsPrefix, CountsReadFaults, CountsWriteFaults, IsFlushedSince};
 ghost use Rattle.gob_tool.specs.Taking.{CountsTakeReads, Receiving, TakeAnswers};
 
 use crate::end::{end_run, flush_before_waiting};
 use crate::fault::ToolFault;
-use crate::received::write_received;
+use crate::received::take_next;
 use crate::receiver::Receiver;
 use crate::wanted::read_wanted;
 use gob_read::TreeBuilder;
@@ -30,7 +30,7 @@ use std::io::{Read, Write};
 /// `wanted` is read whole first: where it is refused the answer is `ToolFault::Wanted`, and without a value
 /// `ToolFault::NoWantedType`; the input isn't read then, and nothing is written. Ok exactly at the end of a whole
 /// stream of values that match; where a value doesn't, `ToolFault::Clash` says where and why. Before a fault the lines
-/// of the values before it are written; at `ToolFault::Write` a front of them may be. The run ends with a flush. Its
+/// of the values before it are written; at `ToolFault::Write` a prefix of them may be. The run ends with a flush. Its
 /// memory grows with the types and the largest item alone. No value may be deeper than `limits.depth()` or than 1000.
 pub fn run_take<Q: Read, R: Read, W: Write>(
     alloc: Global,
@@ -44,6 +44,7 @@ pub fn run_take<Q: Read, R: Read, W: Write>(
         → TakeAnswers (within_trees limits) wanted_bytes bytes (Q.remaining (reader_of wanted.new))
         (R.remaining (reader_of input.new))
         (W.contents (writer_of output.old)) (W.contents (writer_of output.new)) result }
+    ensures unread { IfErr result (λ fault. IsOfWanted fault → input.new ≡ input.old) }
     ensures reads { CountsTakeReads (failed_reads wanted.old) (failed_reads wanted.new)
         (failed_reads input.old) (failed_reads input.new) result }
     ensures writes { CountsWriteFaults (failed_writes output.old) (failed_writes output.new) result }
@@ -65,6 +66,7 @@ fn take_as_wanted<Q: Read, R: Read, W: Write>(
         → TakeAnswers (within_trees limits) wanted_bytes bytes (Q.remaining (reader_of wanted.new))
         (R.remaining (reader_of input.new))
         (W.contents (writer_of output.old)) (W.contents (writer_of output.new)) result }
+    ensures unread { IfErr result (λ fault. IsOfWanted fault → input.new ≡ input.old) }
     ensures reads { CountsTakeReads (failed_reads wanted.old) (failed_reads wanted.new) (failed_reads input.old)
         (failed_reads input.new) result }
     ensures writes { CountsOnlyWrites (failed_writes output.old) (failed_writes output.new) result }
@@ -87,8 +89,9 @@ fn take_values<R: Read, W: Write>(
     ensures taken { (bytes : List ℕ) → R.remaining (reader_of input.old) ≡ Some bytes
         → Receiving (within_trees limits) bytes (R.remaining (reader_of input.new)) (types wanted.now) wanted_id
         (Appends (W.contents (writer_of output.old)) (W.contents (writer_of output.new)))
-        (AppendsFront (W.contents (writer_of output.old)) (W.contents (writer_of output.new))) result }
+        (AppendsPrefix (W.contents (writer_of output.old)) (W.contents (writer_of output.new))) result }
     ensures reads { CountsReadFaults (failed_reads input.old) (failed_reads input.new) result }
+    ensures own { IfErr result (λ fault. IsOfWanted fault → ⊥) }
     ensures writes { CountsOnlyWrites (failed_writes output.old) (failed_writes output.new) result }
 {
     let mut reader = StreamReader::<TreeBuilder>::new(alloc, limits)?;
@@ -99,32 +102,4 @@ fn take_values<R: Read, W: Write>(
         flush_before_waiting(&reader, output)?;
     }
     Ok(())
-}
-
-/// Takes some of the bytes that wait, and writes the line of the value that is whole with them; `line` is room for it.
-fn take_next<W: Write>(
-    alloc: Global,
-    reader: &mut StreamReader<TreeBuilder>,
-    receiver: &mut Receiver<'_>,
-    line: &mut Vec<u8>,
-    output: &mut Output<W>,
-) -> Result<(), ToolFault>
-    requires some { 0 < length (waits_in reader.old) }
-    requires read { HasReadTrees reader.old }
-    requires receiver { IsReceiver (types_of (session_of reader.old)) receiver.old }
-    requires ready { IsReady (types receiver.old.wanted.now) receiver.old.wanted_id }
-    ensures taken { (read now start : Option (List ℕ))
-        → Takes reader.old (types receiver.old.wanted.now) receiver.old.wanted_id read now start
-        (W.contents (writer_of output.old))
-        → TakesNext reader.old reader.new (types receiver.old.wanted.now) receiver.old.wanted_id read now start
-        (W.contents (writer_of output.new)) result }
-    ensures receiver { OnOk result (IsReceiver (types_of (session_of reader.new)) receiver.new) }
-    ensures same { IsSameReceiver receiver.old receiver.new }
-    ensures limits { limits_of (session_of reader.new) ≡ limits_of (session_of reader.old) }
-    ensures writes { CountsOnlyWrites (failed_writes output.old) (failed_writes output.new) result }
-{
-    let step = reader.step(alloc)?;
-    let written = write_received(alloc, &step.item, reader.table(), receiver, line, output);
-    drop(step);
-    written
 }

@@ -7,7 +7,8 @@ ghost use Rattle.gob_stream.specs.Ends.{failed_reads, reader_of};
 ghost use Rattle.gob_stream.specs.Bounds.{within_trees};
 ghost use Rattle.gob_stream.specs.Calls.Session.{limits_of, types_of};
 ghost use Rattle.gob_stream.specs.Calls.Reader.{HasReadFrom, session_of};
-ghost use Rattle.gob_tool.specs.Machine.Taken.{CountsPiece, CountsWanted, FindsWanted, ReadsWanted, first_type_of, views_given};
+ghost use Rattle.gob_tool.specs.Machine.Taken.{CountsPiece, CountsWanted, FindsWanted, ReadsWanted, first_type_of};
+ghost use Rattle.gob_tool.specs.Machine.Taken.{views_given};
 ghost use Rattle.gob_tool.specs.Machine.Taken.{FirstIsReady};
 ghost use Rattle.gob_tool.specs.Taking.{first_type};
 

@@ -18,7 +18,7 @@ const TEN: &[u8] = b"\x0a\x0a\x0a\x0a\x0a\x0a\x0a\x0a\x0a\x0a";
 // An int behind the slice, and a bool.
 const TAIL: &[u8] = b"\x03\x04\x00\x06\x03\x02\x00\x01";
 
-// The same of the lines.
+// The line of the definition, and what stands before the second element in the line of the slice.
 const DEFINITION: &str = "{\"define\":66,\"elem\":2,\"kind\":\"slice\",\"name\":\"\"}\n";
 
 const HEAD_LINES: &str =
@@ -107,7 +107,7 @@ pub(crate) fn is_failed(alloc: Global, reader: PieceReader, writer: &mut SlowWri
     ends_so(alloc, &result, b"gob: write fault") && output.failures() == 1
 }
 
-// Whether a run whose write behind so many bytes fails has written a front of the lines.
+// Whether a run whose write behind so many bytes fails has written a prefix of the lines.
 fn is_cut(alloc: Global, fails_at: usize) -> Result<bool, AllocError> {
     let head = HEAD_LINES.as_bytes();
     let lines = repeated(alloc, head, TEN_LINES.as_bytes(), TAIL_LINES.as_bytes())?;
@@ -118,7 +118,7 @@ fn is_cut(alloc: Global, fails_at: usize) -> Result<bool, AllocError> {
     Ok(is_failed && lines.get(..fails_at) == Some(writer.held.as_slice()))
 }
 
-// A front of the lines is written: the call of so many bytes fails, of which there is one for each.
+// A prefix of the lines is written: the call of so many bytes fails, of which there is one for each.
 #[test]
 fn a_write_fails_in_its_middle(rt: HostRuntime) -> Result<(), Fail> {
     for fails_at in [
@@ -170,7 +170,8 @@ fn an_item_is_cut_off_in_its_middle(rt: HostRuntime) -> Result<(), Fail> {
 #[test]
 fn a_read_fails_in_its_middle(rt: HostRuntime) -> Result<(), Fail> {
     let alloc = rt.alloc();
-    // There is room for 65536 bytes at first: the 13 of the definition are passed, and so many are read behind the others.
+    // There is room for 65536 bytes at first: the 13 of the definition are passed, and so many are read behind the
+    // others.
     for (most, read) in [(7usize, 14u64), (100, 200), (65536, 65549)] {
         let reader = PieceReader::new(large(alloc)?, most, 2);
         assert!(rt;

@@ -88,7 +88,7 @@ fn large_items_are_shown(rt: HostRuntime) -> Result<(), Fail> {
     Ok(())
 }
 
-// Whether a run whose write behind so many bytes fails has written a front of the lines.
+// Whether a run whose write behind so many bytes fails has written a prefix of the lines.
 fn is_cut(alloc: Global, row: &Row, fails_at: usize) -> Result<bool, AllocError> {
     let due = lines(alloc, row)?;
     let reader = PieceReader::new(stream(alloc, row)?, 65536, usize::MAX);

@@ -2,8 +2,8 @@
 
 use crate::endings::ends_so;
 use crate::streams::lines_of;
-use gob_read_support::{bytes_of, part};
 use gob_stream::{Input, Limits, Output};
+use gob_test_rows::{bytes_of, part};
 use gob_tool::{ToolFault, run_take};
 use std::alloc::{AllocError, Global};
 use std::io::{Read, Write};

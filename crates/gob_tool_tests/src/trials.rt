@@ -24,7 +24,7 @@ pub(crate) struct Trial {
     pub(crate) stream: &'static [u8],
     /// All that is written.
     pub(crate) written: &'static [u8],
-    /// How much of that is written of a front of the stream, behind which a reader fails: from so many bytes on, so
+    /// How much of that is written of a prefix of the stream, behind which a reader fails: from so many bytes on, so
     /// many.
     pub(crate) ends: &'static [(usize, usize)],
 }

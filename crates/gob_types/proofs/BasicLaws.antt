@@ -26,9 +26,11 @@ defined_kind (kind.Opaque m) l = refl
 pub basic_of-table : {T : Table} → IsTable T → (t : TypeId) → basic_of T t ≡ basic_of base_table t
 basic_of-table {T = T} table t = by (shape_of base_table t) refl (shape_of T t) refl
   where
-    by : (a : Option Shape) → shape_of base_table t ≡ a → (b : Option Shape) → shape_of T t ≡ b → basic_of T t ≡ basic_of base_table t
+    by : (a : Option Shape) → shape_of base_table t ≡ a → (b : Option Shape) → shape_of T t ≡ b
+        → basic_of T t ≡ basic_of base_table t
     by (Some s) e b f =
-        let grown : shape_of T t ≡ Some s = subst (λ U. shape_of U t ≡ Some s) (sym table.behind_base) (shape_of-append base_table table.definitions t s e) in
+        let grown : shape_of T t ≡ Some s = subst (λ U. shape_of U t ≡ Some s) (sym table.behind_base)
+        (shape_of-append base_table table.definitions t s e) in
         ap basic_shape (grown ∙ sym e)
     by None e None f = ap basic_shape (f ∙ sym e)
     by None e (Some s) f = ap basic_shape f ∙ only (shape_of-table table t s f) ∙ sym (ap basic_shape e)
@@ -38,7 +40,8 @@ basic_of-table {T = T} table t = by (shape_of base_table t) refl (shape_of T t) 
         only (inr d) = defined_kind s.kind d.1.length
 
 -- a basic type has a shape, which says so
-pub basic_shape_of : (T : Table) (t : TypeId) {b : Basic} → basic_of T t ≡ Some b → (s : Shape) × (shape_of T t ≡ Some s) × (s.kind ≡ kind.Basic b)
+pub basic_shape_of : (T : Table) (t : TypeId) {b : Basic} → basic_of T t ≡ Some b → (s : Shape)
+    × (shape_of T t ≡ Some s) × (s.kind ≡ kind.Basic b)
 basic_shape_of T t {b = b} e = by (shape_of T t) refl e
   where
     of_kind : (k : Kind) → basic_kind k ≡ Some b → k ≡ kind.Basic b
@@ -49,6 +52,7 @@ basic_shape_of T t {b = b} e = by (shape_of T t) refl e
     of_kind (kind.Map c d) f = absurd (none-some _ f)
     of_kind (kind.Opaque c) f = absurd (none-some _ f)
 
-    by : (o : Option Shape) → shape_of T t ≡ o → basic_shape o ≡ Some b → (s : Shape) × (shape_of T t ≡ Some s) × (s.kind ≡ kind.Basic b)
+    by : (o : Option Shape) → shape_of T t ≡ o → basic_shape o ≡ Some b → (s : Shape) × (shape_of T t ≡ Some s)
+        × (s.kind ≡ kind.Basic b)
     by None g f = absurd (none-some _ f)
     by (Some s) g f = (s, g, of_kind s.kind f)

@@ -13,4 +13,8 @@ pub grows_not : {ids : List TypeId} → Grows ids ids
 grows_not {ids = ids} = record { more = []; grown = sym (append-nil ids) }
 
 pub grows_then : {a b c : List TypeId} → Grows a b → Grows b c → Grows a c
-grows_then {a = a} g h = record { more = g.more ++ h.more; grown = h.grown ∙ ap (λ l. l ++ h.more) g.grown ∙ append_assoc a g.more h.more }
+grows_then {a = a} g h = record {
+  more = g.more ++ h.more;
+  grown = h.grown ∙ ap (λ l. l ++ h.more) g.grown
+      ∙ append_assoc a g.more h.more;
+}

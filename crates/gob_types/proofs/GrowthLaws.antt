@@ -1,5 +1,6 @@
 -- What a table says of a ready type, it says when it has grown.
-use Rattle.std.proofs.Common.{◌≡◌, ℕ, suc, Bool, true, false, cond, [], ◌∷◌, ◌++◌, Option, Some, None, refl, sym, ap, ◌∙◌, subst}
+use Rattle.std.proofs.Common.{◌≡◌, ℕ, suc, Bool, true, false, cond, [], ◌∷◌, ◌++◌, Option, Some, None, refl, sym, ap}
+use Rattle.std.proofs.Common.{◌∙◌, subst}
 use Rattle.std.specs.Prelude.{◌==◌}
 use Rattle.gob_types.specs.declared.id.TypeId.{TypeId}
 use Rattle.gob_types.specs.declared.kind.Shape.{Shape}
@@ -10,20 +11,25 @@ pub some_injective : {A : Type 0} {a b : A} → Some a ≡ Some b → a ≡ b
 some_injective e = cc
 
 -- the first entry of a type that is there stays the first
-pub shape_of-append : (T more : Table) (t : TypeId) (s : Shape) → shape_of T t ≡ Some s → shape_of (T ++ more) t ≡ Some s
+pub shape_of-append : (T more : Table) (t : TypeId) (s : Shape) → shape_of T t ≡ Some s
+    → shape_of (T ++ more) t ≡ Some s
 shape_of-append [] more t s e = cc
-shape_of-append (entry ∷ T) more t s e = found (entry.0.0 == t.0) (Some entry.1) (shape_of T t) (shape_of (T ++ more) t) s (shape_of-append T more t s) e
+shape_of-append (entry ∷ T) more t s e = found (entry.0.0 == t.0) (Some entry.1) (shape_of T t) (shape_of (T ++ more) t)
+    s (shape_of-append T more t s) e
   where
-    found : (b : Bool) (a x y : Option Shape) (s : Shape) → (x ≡ Some s → y ≡ Some s) → cond b a x ≡ Some s → cond b a y ≡ Some s
+    found : (b : Bool) (a x y : Option Shape) (s : Shape) → (x ≡ Some s → y ≡ Some s) → cond b a x ≡ Some s
+        → cond b a y ≡ Some s
     found true a x y s f e = e
     found false a x y s f e = f e
 
 -- a type that isn't there has the shape that the rest gives it
 pub shape_of-append_new : (T more : Table) (t : TypeId) → shape_of T t ≡ None → shape_of (T ++ more) t ≡ shape_of more t
 shape_of-append_new [] more t e = refl
-shape_of-append_new (entry ∷ T) more t e = missed (entry.0.0 == t.0) entry.1 (shape_of T t) (shape_of (T ++ more) t) (shape_of more t) (shape_of-append_new T more t) e
+shape_of-append_new (entry ∷ T) more t e = missed (entry.0.0 == t.0) entry.1 (shape_of T t) (shape_of (T ++ more) t)
+    (shape_of more t) (shape_of-append_new T more t) e
   where
-    missed : (b : Bool) (a : Shape) (x y z : Option Shape) → (x ≡ None → y ≡ z) → cond b (Some a) x ≡ None → cond b (Some a) y ≡ z
+    missed : (b : Bool) (a : Shape) (x y z : Option Shape) → (x ≡ None → y ≡ z) → cond b (Some a) x ≡ None
+        → cond b (Some a) y ≡ z
     missed true a x y z f e = cc
     missed false a x y z f e = f e
 
@@ -32,17 +38,22 @@ pub record Keeps (T U : Table) : Type 0 where
   pub shape : (t : TypeId) (s : Shape) → shape_of T t ≡ Some s → shape_of U t ≡ Some s
 
 pub extends_keeps : {T U : Table} → Extends T U → Keeps T U
-extends_keeps {T = T} {U = U} e = record { shape = λ t s f. subst (λ W. shape_of W t ≡ Some s) (sym e.grown) (shape_of-append T e.more t s f) }
+extends_keeps {T = T} {U = U} e = record {
+  shape = λ t s f. subst (λ W. shape_of W t ≡ Some s) (sym e.grown)
+      (shape_of-append T e.more t s f);
+}
 
 -- what a shape names is reached
-pub reaches_onward : {T : Table} {t w u : TypeId} {s : Shape} → shape_of T t ≡ Some s → Names s.kind w → Reaches T w u → Reaches T t u
+pub reaches_onward : {T : Table} {t w u : TypeId} {s : Shape} → shape_of T t ≡ Some s → Names s.kind w → Reaches T w u
+    → Reaches T t u
 reaches_onward e n h = record { steps = suc h.steps; leads = onward e n h.leads }
 
 pub reaches_itself : {T : Table} {t : TypeId} → Reaches T t t
 reaches_itself = record { steps = 0; leads = here }
 
 -- each type that a ready type's shape names is ready
-pub names_ready : {T : Table} {t w : TypeId} {s : Shape} → IsReady T t → shape_of T t ≡ Some s → Names s.kind w → IsReady T w
+pub names_ready : {T : Table} {t w : TypeId} {s : Shape} → IsReady T t → shape_of T t ≡ Some s → Names s.kind w
+    → IsReady T w
 names_ready r e n u h = r u (reaches_onward e n h)
 
 -- a ready type is defined
@@ -54,7 +65,8 @@ pub ready_grounded : {T : Table} {t : TypeId} → IsReady T t → IsGrounded T t
 ready_grounded {t = t} r = (r t reaches_itself).1
 
 -- a ready type's shape in the larger table is its shape
-pub shape_back : {T U : Table} {t : TypeId} {s : Shape} → Keeps T U → IsReady T t → shape_of U t ≡ Some s → shape_of T t ≡ Some s
+pub shape_back : {T U : Table} {t : TypeId} {s : Shape} → Keeps T U → IsReady T t → shape_of U t ≡ Some s
+    → shape_of T t ≡ Some s
 shape_back {T = T} {U = U} {t = t} {s = s} keeps r e =
     let d = ready_defined r in
     let same : d.0 ≡ s = some_injective (sym (keeps.shape _ _ d.1) ∙ e) in

@@ -10,7 +10,8 @@ use Rattle.gob_types.specs.Machine.Walk.{IsFilledOf, IsFilledIn}
 use Rattle.gob_types.proofs.GrowthLaws.{some_injective, reaches_onward}
 
 -- the array's rank is one above its element's
-pub rank_below : {T : Table} {t e : TypeId} {r : ℕ} → IsFilledOf T t e → HasRank T r t → (m : ℕ) × (r ≡ suc m) × HasRank T m e
+pub rank_below : {T : Table} {t e : TypeId} {r : ℕ} → IsFilledOf T t e → HasRank T r t → (m : ℕ) × (r ≡ suc m)
+    × HasRank T m e
 rank_below {e = e} f (plain {s = s} there not_filled) =
     let same : f.shape ≡ s = some_injective (sym f.there ∙ there) in
     absurd (not_filled (subst IsFilledArray (sym f.kind ∙ ap (λ (x : Shape). x.kind) same) f.filled))
@@ -36,7 +37,8 @@ one_rank (filled {s = r} f k l h) b =
     ap suc (one_rank h below.2) ∙ sym below.1
 
 -- what the elements of a shape's arrays tell of the type
-pub filled_told : (T : Table) (t : TypeId) (s : Shape) → shape_of T t ≡ Some s → (o : Option TypeId) → MatchOption o (¬ IsFilledArray s.kind) (λ e. (n : ℕ) × (s.kind ≡ kind.Array e n) × (0 < n))
+pub filled_told : (T : Table) (t : TypeId) (s : Shape) → shape_of T t ≡ Some s → (o : Option TypeId)
+    → MatchOption o (¬ IsFilledArray s.kind) (λ e. (n : ℕ) × (s.kind ≡ kind.Array e n) × (0 < n))
     → MatchOption o (IsDefined T t → IsGrounded T t) (λ e. IsFilledOf T t e)
 filled_told T t s there None h = λ _. record { rank = 0; has = plain there h }
 filled_told T t s there (Some e) h = record { shape = s; count = h.0; there = there; kind = h.1; filled = h.2 }
@@ -49,7 +51,8 @@ pub filled_grounded : {T : Table} {t e : TypeId} → IsFilledOf T t e → IsGrou
 filled_grounded f g = record { rank = suc g.rank; has = rank_above f g.has }
 
 -- arrays that are arrays of one another have no rank
-pub closed_rankless : {T : Table} {P : TypeId → Type 0} → ((u : TypeId) → P u → IsFilledIn T P u) → (r : ℕ) (t : TypeId) → P t → ¬ HasRank T r t
+pub closed_rankless : {T : Table} {P : TypeId → Type 0} → ((u : TypeId) → P u → IsFilledIn T P u) → (r : ℕ) (t : TypeId)
+    → P t → ¬ HasRank T r t
 closed_rankless closed zero t p h = let below = rank_below (closed t p).array h in absurd (omega (arith, below.1))
 closed_rankless {T = T} closed (suc r) t p h =
     let c = closed t p in
@@ -57,5 +60,6 @@ closed_rankless {T = T} closed (suc r) t p h =
     let same : below.0 ≡ r = omega (arith, below.1) in
     closed_rankless closed r c.element c.within (subst (λ m. HasRank T m c.element) same below.2)
 
-pub closed_bottomless : {T : Table} {P : TypeId → Type 0} → ((u : TypeId) → P u → IsFilledIn T P u) → (t : TypeId) → P t → ¬ IsGrounded T t
+pub closed_bottomless : {T : Table} {P : TypeId → Type 0} → ((u : TypeId) → P u → IsFilledIn T P u) → (t : TypeId) → P t
+    → ¬ IsGrounded T t
 closed_bottomless closed t p g = closed_rankless closed g.rank t p g.has

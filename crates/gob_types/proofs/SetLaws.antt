@@ -1,5 +1,6 @@
 -- Lists of ids to which ids are added, but for those that are there.
-use Rattle.std.proofs.Common.{◌≡◌, ℕ, suc, ◌+◌, ◌-◌, ◌<◌, ◌≤◌, ◌⊎◌, inl, inr, Bool, true, false, List, [], ◌∷◌, ◌++◌, length, Contains, Some, arith, refl, sym, ap, ◌∙◌, subst}
+use Rattle.std.proofs.Common.{◌≡◌, ℕ, suc, ◌+◌, ◌-◌, ◌<◌, ◌≤◌, ◌⊎◌, inl, inr, Bool, true, false, List, [], ◌∷◌, ◌++◌}
+use Rattle.std.proofs.Common.{length, Contains, Some, arith, refl, sym, ap, ◌∙◌, subst}
 use Rattle.std.specs.Prelude.{slice_get}
 use Rattle.std.specs.Cmp.{IsEquivalence, nat_eq_equiv}
 use Rattle.std.proofs.lemmas.Option.{slice_get_within}
@@ -19,20 +20,33 @@ use Rattle.gob_types.specs.Machine.Walk.{AddsAll, AddsOne}
 
 -- equality of ids is that of their numbers
 pub same_laws : IsEquivalence same_id
-same_laws = record { refl = λ x. nat_eq_equiv.refl x.0; symm = λ x y. nat_eq_equiv.symm x.0 y.0; congr = λ x y z. nat_eq_equiv.congr x.0 y.0 z.0 }
+same_laws = record {
+  refl = λ x. nat_eq_equiv.refl x.0;
+  symm = λ x y. nat_eq_equiv.symm x.0 y.0;
+  congr =
+      λ x y z. nat_eq_equiv.congr x.0 y.0 z.0;
+}
 
 pub same_exact : (x y : TypeId) → same_id x y ≡ true → x ≡ y
 same_exact x y e = ap (λ (n : ℕ). let t : TypeId = record { 0 = n } in t) (eqb-true x.0 y.0 e)
 
 -- what was there is there
-pub adds_keeps : {xs ys : List TypeId} {P : TypeId → Type 0} → AddsAll xs ys P → (u : TypeId) → Contains xs u → Contains ys u
+pub adds_keeps : {xs ys : List TypeId} {P : TypeId → Type 0} → AddsAll xs ys P → (u : TypeId) → Contains xs u
+    → Contains ys u
 adds_keeps {xs = xs} a u there = subst (λ zs. Contains zs u) (sym a.grown) (Contains-append_left xs a.more u there)
 
 pub adds_nothing : {xs : List TypeId} {P : TypeId → Type 0} → ((u : TypeId) → P u → ⊥) → AddsAll xs xs P
-adds_nothing {xs = xs} none = record { more = []; grown = sym (append-nil xs); has = λ u p. absurd (none u p); only = λ u there. inl there }
+adds_nothing {xs = xs} none = record {
+  more = [];
+  grown = sym (append-nil xs);
+  has = λ u p. absurd (none u p);
+  only =
+      λ u there. inl there;
+}
 
 -- the same ids, said in another way
-pub adds_as : {xs ys : List TypeId} {P Q : TypeId → Type 0} → AddsAll xs ys P → ((u : TypeId) → P u → Q u) → ((u : TypeId) → Q u → P u) → AddsAll xs ys Q
+pub adds_as : {xs ys : List TypeId} {P Q : TypeId → Type 0} → AddsAll xs ys P → ((u : TypeId) → P u → Q u)
+    → ((u : TypeId) → Q u → P u) → AddsAll xs ys Q
 adds_as {xs = xs} {ys = ys} {P = P} {Q = Q} a on back = record {
   more = a.more;
   grown = a.grown;
@@ -56,7 +70,8 @@ adds_one {xs = xs} {ys = ys} {t = t} false h = record {
 }
 
 -- the room that is left falls with each new id
-pub added_less : (xs ys : List TypeId) (t : TypeId) {m : ℕ} → AddsOne xs ys t true → length xs < m → m - length ys < m - length xs
+pub added_less : (xs ys : List TypeId) (t : TypeId) {m : ℕ} → AddsOne xs ys t true → length xs < m
+    → m - length ys < m - length xs
 added_less xs ys t h within = omega (arith, within, ap length h.1 ∙ length-append xs (t ∷ []))
 
 -- one of the first n of these has this id
@@ -67,11 +82,13 @@ pub record IsAmongFirst {X : Type 0} (id_of : X → TypeId) (xs : List X) (n : �
   pub there : slice_get xs place ≡ Some item
   pub is : id_of item ≡ u
 
-pub adds_none_yet : {X : Type 0} {id_of : X → TypeId} {xs : List X} {ids : List TypeId} → AddsAll ids ids (IsAmongFirst id_of xs 0)
+pub adds_none_yet : {X : Type 0} {id_of : X → TypeId} {xs : List X} {ids : List TypeId}
+    → AddsAll ids ids (IsAmongFirst id_of xs 0)
 adds_none_yet = adds_nothing (λ u h. omega (arith, h.below))
 
 pub adds_next : {X : Type 0} {id_of : X → TypeId} {xs : List X} {n : ℕ} {old now new : List TypeId} {x : X}
-    → AddsAll old now (IsAmongFirst id_of xs n) → slice_get xs n ≡ Some x → AddsAll now new (λ u. id_of x ≡ u) → AddsAll old new (IsAmongFirst id_of xs (n + 1))
+    → AddsAll old now (IsAmongFirst id_of xs n) → slice_get xs n ≡ Some x → AddsAll now new (λ u. id_of x ≡ u)
+    → AddsAll old new (IsAmongFirst id_of xs (n + 1))
 adds_next {id_of = id_of} {xs = xs} {n = n} {old = old} {now = now} {new = new} {x = x} a here b = record {
   more = a.more ++ b.more;
   grown = b.grown ∙ ap (λ zs. zs ++ b.more) a.grown ∙ append_assoc old a.more b.more;
@@ -80,7 +97,8 @@ adds_next {id_of = id_of} {xs = xs} {n = n} {old = old} {now = now} {new = new} 
 }
   where
     among : (u : TypeId) (h : IsAmongFirst id_of xs (n + 1) u) → (h.place ≡ n) ⊎ (h.place < n) → Contains new u
-    among u h (inr below) = adds_keeps b u (a.has u (record { place = h.place; item = h.item; below = below; there = h.there; is = h.is }))
+    among u h (inr below) =
+        adds_keeps b u (a.has u (record { place = h.place; item = h.item; below = below; there = h.there; is = h.is }))
     among u h (inl same) =
         let item : x ≡ h.item = some_injective (sym here ∙ sym (ap (slice_get xs) same) ∙ h.there) in
         b.has u (ap id_of item ∙ h.is)
@@ -93,22 +111,36 @@ adds_next {id_of = id_of} {xs = xs} {n = n} {old = old} {now = now} {new = new} 
 
     only_from : (u : TypeId) → Contains now u ⊎ (id_of x ≡ u) → Contains old u ⊎ IsAmongFirst id_of xs (n + 1) u
     only_from u (inr e) = inr (last u e)
-    only_from u (inl there) = elim (a.only u there) as (λ _. Contains old u ⊎ IsAmongFirst id_of xs (n + 1) u) [ inl h ↦ inl h | inr h ↦ inr (later u h) ]
+    only_from u (inl there) = elim (a.only u there) as (λ _. Contains old u ⊎ IsAmongFirst id_of xs (n + 1) u) [
+      | inl h ↦
+          inl h
+      | inr h ↦ inr (later u h)
+    ]
 
 -- all of them, at the end
 pub adds_each : {X : Type 0} {id_of : X → TypeId} {xs : List X} {n : ℕ} {old new : List TypeId} {P : TypeId → Type 0}
     → AddsAll old new (IsAmongFirst id_of xs n) → length xs ≤ n
-    → ((k : ℕ) (x : X) → slice_get xs k ≡ Some x → P (id_of x)) → ((u : TypeId) → P u → (k : ℕ) × (x : X) × (slice_get xs k ≡ Some x) × (id_of x ≡ u)) → AddsAll old new P
+    → ((k : ℕ) (x : X) → slice_get xs k ≡ Some x → P (id_of x)) → ((u : TypeId) → P u → (k : ℕ) × (x : X)
+    × (slice_get xs k ≡ Some x) × (id_of x ≡ u)) → AddsAll old new P
 adds_each {id_of = id_of} {xs = xs} {P = P} a whole each found =
     adds_as a (λ u h. subst P h.is (each h.place h.item h.there))
-    (λ u p. let f = found u p in record { place = f.0; item = f.1; below = omega (arith, slice_get_within xs f.0 f.1 f.2); there = f.2; is = f.3 })
+    (λ u p. let f = found u p in record {
+      place = f.0;
+      item = f.1;
+      below =
+          omega (arith, slice_get_within xs f.0 f.1 f.2);
+      there = f.2;
+      is = f.3;
+    })
 
 -- what a set answers when an id is added
-pub added_told : (keys new : List TypeId) (t : TypeId) (m n : ℕ) → new ≡ (if list_any (same_id t) keys then keys else keys ++ t ∷ []) → m ≡ length keys → n ≡ length new
+pub added_told : (keys new : List TypeId) (t : TypeId) (m n : ℕ) → new ≡ (if list_any (same_id t) keys then keys else
+    keys ++ t ∷ []) → m ≡ length keys → n ≡ length new
     → AddsOne keys new t (ltb m n)
 added_told keys new t m n e em en = by (list_any (same_id t) keys) refl (leb_tells (suc m) n)
   where
-    by : (b : Bool) → list_any (same_id t) keys ≡ b → ((leb (suc m) n ≡ true) × (suc m ≤ n)) ⊎ ((leb (suc m) n ≡ false) × (n < suc m))
+    by : (b : Bool) → list_any (same_id t) keys ≡ b → ((leb (suc m) n ≡ true) × (suc m ≤ n))
+        ⊎ ((leb (suc m) n ≡ false) × (n < suc m))
         → AddsOne keys new t (ltb m n)
     by true f (inl h) =
         let same : new ≡ keys = e ∙ ap (λ c. if c then keys else keys ++ t ∷ []) f in
@@ -118,7 +150,11 @@ added_told keys new t m n e em en = by (list_any (same_id t) keys) refl (leb_tel
         subst (AddsOne keys new t) (sym h.0) (Contains-from_any same_exact t keys f, same)
     by false f (inl h) =
         let grown : new ≡ keys ++ t ∷ [] = e ∙ ap (λ c. if c then keys else keys ++ t ∷ []) f in
-        subst (AddsOne keys new t) (sym h.0) (λ there. true≢false (sym (list_any-from_Contains same_laws t keys there) ∙ f), grown)
+        subst (AddsOne keys new t) (sym h.0) (
+          λ there. true≢false (sym (list_any-from_Contains same_laws t keys there)
+              ∙ f),
+          grown,
+        )
     by false f (inr h) =
         let grown : new ≡ keys ++ t ∷ [] = e ∙ ap (λ c. if c then keys else keys ++ t ∷ []) f in
         absurd (omega (arith, h.1, ap length grown ∙ length-append keys (t ∷ [])))

@@ -29,7 +29,9 @@ gob_encoder_type = id 24
 
 -- the fields of wireType: the one that is present tells the kind
 abbrev pub wire_type_fields : List Field
-wire_type_fields = field (codes "ArrayT") 17 ∷ field (codes "SliceT") 19 ∷ field (codes "StructT") 20 ∷ field (codes "MapT") 23 ∷ field (codes "GobEncoderT") 24 ∷ field (codes "BinaryMarshalerT") 24 ∷ field (codes "TextMarshalerT") 24 ∷ []
+wire_type_fields = field (codes "ArrayT") 17 ∷ field (codes "SliceT") 19 ∷ field (codes "StructT") 20 ∷ field
+    (codes "MapT") 23 ∷ field (codes "GobEncoderT") 24 ∷ field (codes "BinaryMarshalerT") 24 ∷ field
+    (codes "TextMarshalerT") 24 ∷ []
 
 abbrev pub base_table : Table
 base_table =
@@ -42,12 +44,14 @@ base_table =
     ∷ entry 7 (codes "complex") (kind.Basic basic.Complex)
     ∷ entry 8 (codes "interface") (kind.Basic basic.Interface)
     ∷ entry 16 (codes "wireType") (kind.Struct wire_type_fields)
-    ∷ entry 17 (codes "arrayType") (kind.Struct (field (codes "CommonType") 18 ∷ field (codes "Elem") 2 ∷ field (codes "Len") 2 ∷ []))
+    ∷ entry 17 (codes "arrayType") (kind.Struct (field (codes "CommonType") 18 ∷ field (codes "Elem") 2 ∷ field
+    (codes "Len") 2 ∷ []))
     ∷ entry 18 (codes "CommonType") (kind.Struct (field (codes "Name") 6 ∷ field (codes "Id") 2 ∷ []))
     ∷ entry 19 (codes "sliceType") (kind.Struct (field (codes "CommonType") 18 ∷ field (codes "Elem") 2 ∷ []))
     ∷ entry 20 (codes "structType") (kind.Struct (field (codes "CommonType") 18 ∷ field (codes "Field") 22 ∷ []))
     ∷ entry 21 (codes "fieldType") (kind.Struct (field (codes "Name") 6 ∷ field (codes "Id") 2 ∷ []))
     ∷ entry 22 [] (kind.Slice (id 21))
-    ∷ entry 23 (codes "mapType") (kind.Struct (field (codes "CommonType") 18 ∷ field (codes "Key") 2 ∷ field (codes "Elem") 2 ∷ []))
+    ∷ entry 23 (codes "mapType") (kind.Struct (field (codes "CommonType") 18 ∷ field (codes "Key") 2 ∷ field
+    (codes "Elem") 2 ∷ []))
     ∷ entry 24 (codes "gobEncoderType") (kind.Struct (field (codes "CommonType") 18 ∷ []))
     ∷ []

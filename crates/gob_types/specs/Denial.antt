@@ -1,5 +1,5 @@
--- Why something isn't read, or isn't written, wherever it stands: what denies it by such reasons alone, and what a fault
--- of this crate is as a denial. (docs/FORMAT.md, Refusals.)
+-- Why something isn't read, or isn't written, wherever it stands: what denies it by such reasons alone, and what a
+-- fault of this crate is as a denial. (docs/FORMAT.md, Refusals.)
 use Rattle.gob_types.specs.declared.reason.Reason.{Reason}
 use Rattle.gob_types.specs.declared.reason.Reason.TheVariants as reason
 use Rattle.gob_types.specs.declared.readiness.NotReady.{NotReady}

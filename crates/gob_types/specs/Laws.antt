@@ -21,7 +21,8 @@ KeepsReach = (T U : Table) (t u : TypeId) → Extends T U → IsReady T t → Re
 
 -- which have the shapes that they had
 abbrev pub KeepsReachedShapes : Type 0
-KeepsReachedShapes = (T U : Table) (t u : TypeId) → Extends T U → IsReady T t → Reaches T t u → shape_of U u ≡ shape_of T u
+KeepsReachedShapes = (T U : Table) (t u : TypeId) → Extends T U → IsReady T t → Reaches T t u
+    → shape_of U u ≡ shape_of T u
 
 -- each type that the shape of a ready type names is ready
 abbrev pub NamesReady : Type 0
@@ -29,7 +30,8 @@ NamesReady = (T : Table) (t u : TypeId) (s : Shape) → IsReady T t → shape_of
 
 -- a ready array that holds something has a rank, which is one above that of its elements
 abbrev pub RanksArrays : Type 0
-RanksArrays = (T : Table) (t e : TypeId) (n : ℕ) (s : Shape) → IsReady T t → shape_of T t ≡ Some s → s.kind ≡ kind.Array e n → 0 < n → (rank : ℕ) × HasRank T rank e × HasRank T (suc rank) t
+RanksArrays = (T : Table) (t e : TypeId) (n : ℕ) (s : Shape) → IsReady T t → shape_of T t ≡ Some s
+    → s.kind ≡ kind.Array e n → 0 < n → (rank : ℕ) × HasRank T rank e × HasRank T (suc rank) t
 
 -- no type has two ranks
 abbrev pub HasOneRank : Type 0

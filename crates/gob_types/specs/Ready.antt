@@ -27,7 +27,8 @@ Names (kind.Opaque m) u = ⊥
 -- so many steps lead from one type to the other, each from a type to one that its shape names
 pub data Leads (T : Table) : ℕ → TypeId → TypeId → Type 0 where
   here : {t : TypeId} → Leads T zero t t
-  onward : {n : ℕ} {t w u : TypeId} {s : Shape} → shape_of T t ≡ Some s → Names s.kind w → Leads T n w u → Leads T (suc n) t u
+  onward : {n : ℕ} {t w u : TypeId} {s : Shape} → shape_of T t ≡ Some s → Names s.kind w → Leads T n w u
+      → Leads T (suc n) t u
 
 -- the type is reached from the other
 pub record Reaches (T : Table) (t u : TypeId) : Type 0 where
@@ -42,7 +43,8 @@ IsFilledArray _ = ⊥
 -- how many filled arrays stand inside one another before something else does
 pub data HasRank (T : Table) : ℕ → TypeId → Type 0 where
   plain : {t : TypeId} {s : Shape} → shape_of T t ≡ Some s → ¬ IsFilledArray s.kind → HasRank T zero t
-  filled : {rank n : ℕ} {t e : TypeId} {s : Shape} → shape_of T t ≡ Some s → s.kind ≡ kind.Array e n → 0 < n → HasRank T rank e → HasRank T (suc rank) t
+  filled : {rank n : ℕ} {t e : TypeId} {s : Shape} → shape_of T t ≡ Some s → s.kind ≡ kind.Array e n → 0 < n
+      → HasRank T rank e → HasRank T (suc rank) t
 
 -- the type has finite values: what stands inside its arrays comes to an end
 pub record IsGrounded (T : Table) (t : TypeId) : Type 0 where

@@ -12,5 +12,6 @@ use Rattle.gob_types.specs.Defined.{Defined, types, definition_count, Admits}
 abbrev pub RefusesToDefine : Defined → TypeId → DefineFault → Type 0
 RefusesToDefine d t fault.ReservedType = ¬ IsOwnId t
 RefusesToDefine d t fault.DefinedTwice = IsOwnId t × IsDefined (types d) t
-RefusesToDefine d t fault.TooManyTypes = IsOwnId t × (shape_of (types d) t ≡ None) × (d.most ≤ definition_count (types d))
+RefusesToDefine d t fault.TooManyTypes = IsOwnId t × (shape_of (types d) t ≡ None)
+    × (d.most ≤ definition_count (types d))
 RefusesToDefine d t fault.Memory = Admits d t

@@ -6,7 +6,7 @@ ghost use Rattle.gob_types.specs.Base.{base_table};
 ghost use Rattle.gob_types.specs.Definable.{IsDefinable};
 ghost use Rattle.gob_types.specs.Defined.{IsTable, Admits, types, definition_count};
 ghost use Rattle.gob_types.specs.Refused.{RefusesToDefine};
-ghost use Rattle.gob_types.specs.Machine.Kept.{front};
+ghost use Rattle.gob_types.specs.Machine.Kept.{prefix};
 
 use crate::base::enter_base;
 use crate::basic::Basic;
@@ -126,8 +126,8 @@ impl Definitions {
 
     /// Takes the last definition back.
     pub(crate) fn undo(&mut self)
-        requires { IsTable (front self.old.entries) }
-        ensures entries { self.new.entries ≡ front self.old.entries }
+        requires { IsTable (prefix self.old.entries) }
+        ensures entries { self.new.entries ≡ prefix self.old.entries }
         ensures most { self.new.most ≡ self.old.most }
     {
         let count = self.entries.count();

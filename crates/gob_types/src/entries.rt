@@ -68,7 +68,7 @@ impl Entries {
         }
     }
 
-    // The same, without a guess. It stands apart, so that the look-up that hashes is no part of the loops that look up.
+    // The shape of a type, found by its hash. It stands apart, so that this is no part of the loops that look up.
     #[cold]
     #[inline(never)]
     fn search(&self, id: TypeId) -> Option<&Shape>

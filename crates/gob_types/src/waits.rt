@@ -137,7 +137,7 @@ impl Waits {
         Err(Memory)
     }
 
-    // The same, where so many steps from the one type tell it.
+    // Whether the one type waits for the other, where so many steps from the one type tell it.
     fn ahead(&self, from: TypeId, id: TypeId, steps: usize) -> Option<bool>
         ensures { IfSome result (λ yes.
             MatchBool yes (WaitsFor self.now.awaited from id) (¬ WaitsFor self.now.awaited from id)) }
@@ -155,7 +155,7 @@ impl Waits {
         None
     }
 
-    // The same, where so many of those that wait for the other type tell it.
+    // Whether the one type waits for the other, where so many of those that wait for the other tell it.
     fn behind(
         &self,
         alloc: Global,

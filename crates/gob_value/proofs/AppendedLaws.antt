@@ -64,14 +64,14 @@ goes_ends {W = W} {old = old} g a f = subst (Appends W old) (sym a.appended) (g.
 
 -- one thing behind another
 pub record Behind (First Second : List ℕ → Type 0) (bytes : List ℕ) : Type 0 where
-  pub front : List ℕ
+  pub prefix : List ℕ
   pub back : List ℕ
-  pub first : First front
+  pub first : First prefix
   pub second : Second back
-  pub whole : bytes ≡ front ++ back
+  pub whole : bytes ≡ prefix ++ back
 
 pub behind : {P Q : List ℕ → Type 0} (b c : List ℕ) → P b → Q c → Behind P Q (b ++ c)
-behind b c p q = record { front = b; back = c; first = p; second = q; whole = refl }
+behind b c p q = record { prefix = b; back = c; first = p; second = q; whole = refl }
 
 pub on_err_any : {A E P : Type 0} (r : Result A E) → P → OnErr r P
 on_err_any (Ok a) p = tt

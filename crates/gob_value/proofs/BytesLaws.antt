@@ -2,7 +2,7 @@
 use Rattle.std.proofs.Common.{ℕ, ◌<◌, List, [], ◌++◌, arith}
 use Rattle.std.specs.Prelude.{◌↔◌}
 use Rattle.gob_num.specs.Unsigned.{AreBytes}
-use Rattle.gob_num.proofs.PublicLaws.{unsigned_bytes, signed_unsigned, pattern_unsigned, bytes-append, bytes_front}
+use Rattle.gob_num.proofs.PublicLaws.{unsigned_bytes, signed_unsigned, pattern_unsigned, bytes-append, bytes_prefix}
 use Rattle.gob_num.proofs.PublicLaws.{bytes_rest}
 use Rattle.gob_types.specs.declared.id.TypeId.{TypeId}
 use Rattle.gob_types.specs.declared.kind.Field.{Field}
@@ -28,13 +28,13 @@ itself : (s : List ℕ) → AreBytes s ↔ AreBytes s
 itself s = (λ p. p, λ p. p)
 
 both : (b c : List ℕ) {P Q : Type 0} → AreBytes b ↔ P → AreBytes c ↔ Q → AreBytes (b ++ c) ↔ (P × Q)
-both b c d e = (λ q. (d.0 (bytes_front b c q), e.0 (bytes_rest b c q)), λ q. bytes-append b c (d.1 q.0) (e.1 q.1))
+both b c d e = (λ q. (d.0 (bytes_prefix b c q), e.0 (bytes_rest b c q)), λ q. bytes-append b c (d.1 q.0) (e.1 q.1))
 
 three : (a b c : List ℕ) {P Q R : Type 0} → AreBytes a ↔ P → AreBytes b ↔ Q → AreBytes c ↔ R → AreBytes (a ++ (b ++ c))
     ↔ (P × Q × R)
 three a b c d e f =
     let g = both b c e f in (
-      λ q. let r = g.0 (bytes_rest a (b ++ c) q) in (d.0 (bytes_front a (b ++ c) q), r.0, r.1),
+      λ q. let r = g.0 (bytes_rest a (b ++ c) q) in (d.0 (bytes_prefix a (b ++ c) q), r.0, r.1),
       λ q. bytes-append a
           (b ++ c) (d.1 q.0) (g.1 (q.1, q.2)),
     )

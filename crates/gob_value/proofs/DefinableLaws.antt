@@ -22,7 +22,8 @@ use Rattle.gob_value.specs.Tree.{Tree, Fields, no_field, field}
 use Rattle.gob_value.specs.Spelling.{Spells, of_type, SpellsAs, of_int, of_struct, SpellsFields, end_of_fields}
 use Rattle.gob_value.specs.Spelling.{next_field}
 use Rattle.gob_value.specs.Fits.{Fits}
-use Rattle.gob_value.specs.Description.{present_field, number_in, fields_in, said, said_kind, said_with, Said, SaidField}
+use Rattle.gob_value.specs.Description.{present_field, number_in, fields_in, said, said_kind, said_with, Said}
+use Rattle.gob_value.specs.Description.{SaidField}
 use Rattle.gob_value.specs.Description.{SaidKind, said_array, said_opaque, GivesFields, no_more, and_field, GivesKind}
 use Rattle.gob_value.specs.Description.{gives_array, gives_slice, gives_struct, gives_map, gives_opaque, Describes}
 

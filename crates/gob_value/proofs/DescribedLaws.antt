@@ -23,7 +23,8 @@ use Rattle.gob_value.specs.declared.value.Value.{Value}
 use Rattle.gob_value.specs.Spelling.{of_type, of_int, of_text, of_slice, of_struct, no_element, element, end_of_fields}
 use Rattle.gob_value.specs.Spelling.{next_field, SpellsEach, SpellsFields}
 use Rattle.gob_value.specs.Within.{FitsWithin, IsSpelledWithin}
-use Rattle.gob_value.specs.Description.{said, present_field, number_in, name_in, elements_in, said_fields, Said, SaidKind}
+use Rattle.gob_value.specs.Description.{said, present_field, number_in, name_in, elements_in, said_fields, Said}
+use Rattle.gob_value.specs.Description.{SaidKind}
 use Rattle.gob_value.specs.Description.{said_array, said_slice, said_struct, said_map, said_opaque, RefersTo}
 use Rattle.gob_value.specs.Description.{GivesFields, no_more, and_field, gives_array, gives_slice, gives_struct}
 use Rattle.gob_value.specs.Description.{gives_map, gives_opaque, Describes}
@@ -143,7 +144,8 @@ text_fits s limit h l = let c = unsigned_spelled (length s) h in record
     { bytes = c.bytes ++ s; spelled = of_type refl (of_text c.spelled); within = omega arith }
 
 -- a struct with these fields
-no_fields : {types : List Field} {next limit : ℕ} → IsSpelledWithin (SpellsFields base_table types next) fields_depth limit no_field
+no_fields : {types : List Field} {next limit : ℕ} → IsSpelledWithin (SpellsFields base_table types next) fields_depth
+    limit no_field
 no_fields = let s = unsigned_spelled 0 (omega arith) in record
     { bytes = s.bytes; spelled = end_of_fields s.spelled; within = omega arith }
 
@@ -171,7 +173,8 @@ struct_fits e k p = let w = p.within in record {
 
 -- CommonType and fieldType
 names_fit : {a b : List ℕ} (name : List ℕ) (t : TypeId) (limit : ℕ) → IsCountedName name → t.0 < 2 ^ 63 → 0 < limit
-    → IsSpelledWithin (SpellsFields base_table (base.field a 6 ∷ base.field b 2 ∷ []) 0) fields_depth limit (name_and_id name t)
+    → IsSpelledWithin (SpellsFields base_table (base.field a 6 ∷ base.field b 2 ∷ []) 0) fields_depth limit
+    (name_and_id name t)
 names_fit [] t limit c h l = one_more (omega arith) (omega arith) refl (int_fits t.0 limit h l) no_fields
 names_fit (x ∷ xs) t limit c h l = one_more (omega arith) (omega arith) refl (text_fits (x ∷ xs) limit c l)
     (one_more (omega arith) (omega arith) refl (int_fits t.0 limit h l) no_fields)
@@ -226,11 +229,13 @@ fits t s d c h = by s.kind d.length d.references c.fields
 
     -- Len, where it is there
     length_fits : {a b c : List ℕ} (n : ℕ) → n ≤ greatest_length
-        → IsSpelledWithin (SpellsFields base_table (base.field a 18 ∷ base.field b 2 ∷ base.field c 2 ∷ []) 2) fields_depth 3 (array_length n)
+        → IsSpelledWithin (SpellsFields base_table (base.field a 18 ∷ base.field b 2 ∷ base.field c 2 ∷ []) 2)
+        fields_depth 3 (array_length n)
     length_fits {a = a} {b = b} {c = c} n l = by (eqb n 0) refl
       where
         by : (z : Bool) → eqb n 0 ≡ z
-            → IsSpelledWithin (SpellsFields base_table (base.field a 18 ∷ base.field b 2 ∷ base.field c 2 ∷ []) 2) fields_depth 3 (array_length n)
+            → IsSpelledWithin (SpellsFields base_table (base.field a 18 ∷ base.field b 2 ∷ base.field c 2 ∷ []) 2)
+            fields_depth 3 (array_length n)
         by true e = rw e no_fields
         by false e = rw e (one_more (omega arith) (omega arith) refl (int_fits n 3 (omega arith) (omega arith))
             no_fields)
@@ -238,7 +243,8 @@ fits t s d c h = by s.kind d.length d.references c.fields
     -- Field, where it is there
     list_field_fits : {a b : List ℕ} (fs : List Field) → length fs < 2 ^ 64 → AreCounted fs
         → ((u : TypeId) → HasFieldOf fs u → IsReference u)
-        → IsSpelledWithin (SpellsFields base_table (base.field a 18 ∷ base.field b 22 ∷ []) 1) fields_depth 3 (field_list fs)
+        → IsSpelledWithin (SpellsFields base_table (base.field a 18 ∷ base.field b 22 ∷ []) 1) fields_depth 3
+        (field_list fs)
     list_field_fits [] l n each = no_fields
     list_field_fits (f ∷ fs) l n each = one_more (omega arith) (omega arith) refl (list_fits (f ∷ fs) l n each)
         no_fields
@@ -278,7 +284,8 @@ pub made_described : {E : Type 0} (t : TypeId) (s : Shape) (k : Kind) (common : 
     → IfOk r (λ v. t.0 < 2 ^ 63 → view v ≡ described t s)
 made_described t s k common (Err e) is first made = tt
 made_described t s k common (Ok v) is first made = λ h.
-    made ∙ ap (λ (c : Tree). described_kind c k) (first h) ∙ ap (described_kind (Tree.fields (name_and_id s.name t))) (sym is)
+    made ∙ ap (λ (c : Tree). described_kind c k) (first h) ∙ ap (described_kind (Tree.fields (name_and_id s.name t)))
+    (sym is)
 
 -- and it fits
 pub made_fits : {E : Type 0} (t : TypeId) (s : Shape) (k : Kind) (common : Tree) (r : Result Value E) → IsDefinable s

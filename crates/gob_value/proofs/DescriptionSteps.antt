@@ -12,7 +12,8 @@ use Rattle.gob_types.specs.Definable.{IsReference}
 use Rattle.gob_value.specs.Tree.{Tree, tree, Fields, no_field, field}
 use Rattle.gob_value.specs.View.{view, views, field_views, trees_of}
 use Rattle.gob_value.specs.Described.{name_and_id, field_types}
-use Rattle.gob_value.specs.Description.{present_field, said, said_with, said_kind, said_fields, fields_in, number_in, name_in}
+use Rattle.gob_value.specs.Description.{present_field, said, said_with, said_kind, said_fields, fields_in, number_in}
+use Rattle.gob_value.specs.Description.{name_in}
 use Rattle.gob_value.specs.Description.{RefersTo, Said, GivesFields, no_more, and_field}
 use Rattle.gob_value.specs.DescriptionLaws.{IsCountedName, AreCounted}
 use Rattle.gob_value.specs.Machine.Saying.{IsTypeNumber, HaveTypes, no_type, and_type}
@@ -35,7 +36,8 @@ present_later n fs i f is h ne = rw (field_item fs i f is h) (by (eqb f.0 n) ref
     by true e = absurd (ne (eqb-true f.0 n e))
     by false e = refl
 
-pub present_none : (n : ℕ) (fs : List (ℕ × Value)) (i : ℕ) → length fs ≤ i → present_field n (field_views (drop i fs)) ≡ None
+pub present_none : (n : ℕ) (fs : List (ℕ × Value)) (i : ℕ) → length fs ≤ i → present_field n (field_views (drop i fs)) ≡
+    None
 present_none n fs i h = rw (none_left fs i h) refl
 
 -- a value with no field or with several says nothing

@@ -128,8 +128,10 @@ module _ {types : List Field} {fs gs : Fields} {b : List ℕ} (p : TidiesFields 
     (q : WrittenFields 0 fs b) where
   -- the CommonType of each kind
   common_at : slice_get types 0 ≡ Some (base.field (codes "CommonType") 18)
-      → (name_in (present_field 0 (fields_in (present_field 0 gs))) ≡ name_in (present_field 0 (fields_in (present_field 0 fs))))
-      × (number_in (present_field 1 (fields_in (present_field 0 gs))) ≡ number_in (present_field 1 (fields_in (present_field 0 fs))))
+      → (name_in (present_field 0 (fields_in (present_field 0 gs))) ≡ name_in
+      (present_field 0 (fields_in (present_field 0 fs))))
+      × (number_in (present_field 1 (fields_in (present_field 0 gs))) ≡ number_in
+      (present_field 1 (fields_in (present_field 0 fs))))
   common_at h =
       let l = struct_left (left_of 0 (base.field (codes "CommonType") 18)
       (struct_shape (codes "CommonType") name_and_id) h refl p q) in
@@ -153,7 +155,8 @@ same_fields (element {v = v} {w = w} (of_type {s = s} e p) ps) (written.element 
     )
 
 same_said : (c d : Fields) (k l : SaidKind) → (name_in (present_field 0 c) ≡ name_in (present_field 0 d))
-    × (number_in (present_field 1 c) ≡ number_in (present_field 1 d)) → k ≡ l → said_with c (Some k) ≡ said_with d (Some l)
+    × (number_in (present_field 1 c) ≡ number_in (present_field 1 d)) → k ≡ l
+    → said_with c (Some k) ≡ said_with d (Some l)
 same_said c d k l h e = rw (h.0, h.1, e)
 
 -- ---- what the one field of wireType says

@@ -32,7 +32,8 @@ chosen true x e h = (refl, some_injective h)
 chosen false x e h = cc
 
 -- an array's element type, where the length is right
-pub array_length : (x e : TypeId) (n count : ℕ) → element_type_at (kind.Array x n) count ≡ Some e → (count ≡ n) × (x ≡ e)
+pub array_length : (x e : TypeId) (n count : ℕ) → element_type_at (kind.Array x n) count ≡ Some e → (count ≡ n)
+    × (x ≡ e)
 array_length x e n count h = let r = chosen (eqb n count) x e h in (sym (eqb-true n count r.0), r.1)
 
 array_element : (x : TypeId) (n count : ℕ) → count ≡ n → element_type_at (kind.Array x n) count ≡ Some x
@@ -60,7 +61,8 @@ module _ (T : Table) where
 
   pub fits_many : (k : Kind) (vs : Trees) (e : TypeId) (limit : ℕ) → element_type_at k (tree_count vs) ≡ Some e
       → tree_count vs < 2 ^ 64 → 0 < limit
-      → IsSpelledWithin (SpellsEach T e) trees_depth (limit - 1) vs ↔ IsSpelledWithin (SpellsAs T k) depth limit (Tree.many vs)
+      → IsSpelledWithin (SpellsEach T e) trees_depth (limit - 1) vs ↔ IsSpelledWithin (SpellsAs T k) depth limit
+      (Tree.many vs)
   fits_many k vs e limit h l o = (
     λ f. let r = on k vs e h l f.bytes f.spelled in let w = f.within in record
         { bytes = r.bytes; spelled = r.spelled; within = omega arith },
@@ -101,7 +103,8 @@ module _ (T : Table) where
       nowhere {vs = vs} (of_array {e = e} {n = n} m p ps) h = let g = array_element e n (tree_count vs) m in cc
 
   pub fits_map : (k e : TypeId) (ps : Pairs) (limit : ℕ) → pair_count ps < 2 ^ 64 → 0 < limit
-      → IsSpelledWithin (SpellsPairs T k e) pairs_depth (limit - 1) ps ↔ IsSpelledWithin (SpellsAs T (kind.Map k e)) depth limit (Tree.pairs ps)
+      → IsSpelledWithin (SpellsPairs T k e) pairs_depth (limit - 1) ps ↔ IsSpelledWithin (SpellsAs T (kind.Map k e))
+      depth limit (Tree.pairs ps)
   fits_map k e ps limit l o = (
     λ f. let c = unsigned_spelled (pair_count ps) l in let w = f.within in record
         { bytes = c.bytes ++ f.bytes; spelled = of_map c.spelled f.spelled; within = omega arith },
@@ -113,7 +116,8 @@ module _ (T : Table) where
       back (of_map {b = c} p ps) = (c, ps)
 
   pub fits_struct : (types : List Field) (fs : Fields) (limit : ℕ) → 0 < limit
-      → IsSpelledWithin (SpellsFields T types 0) fields_depth (limit - 1) fs ↔ IsSpelledWithin (SpellsAs T (kind.Struct types)) depth limit (Tree.fields fs)
+      → IsSpelledWithin (SpellsFields T types 0) fields_depth (limit - 1) fs
+      ↔ IsSpelledWithin (SpellsAs T (kind.Struct types)) depth limit (Tree.fields fs)
   fits_struct types fs limit o = (
     λ f. let w = f.within in record { bytes = f.bytes; spelled = of_struct f.spelled; within = omega arith },
     λ f. let w = f.within in record { bytes = f.bytes; spelled = back f.spelled; within = omega arith },
@@ -190,7 +194,8 @@ module _ (T : Table) where
   module _ (types : List Field) (limit : ℕ) where
     pub field_fits_item : (next : ℕ) (fs : List (ℕ × Value)) (i : ℕ) (f : ℕ × Value) (e : Field) → f ≡ get_or fs i f
         → i < length fs → next ≤ f.0 → f.0 + 1 < 2 ^ 64 → slice_get types f.0 ≡ Some e
-        → (FitsWithin T e.id limit (view f.1) × IsSpelledWithin (SpellsFields T types (f.0 + 1)) fields_depth limit (field_views (drop (i + 1) fs)))
+        → (FitsWithin T e.id limit (view f.1) × IsSpelledWithin (SpellsFields T types (f.0 + 1)) fields_depth limit
+        (field_views (drop (i + 1) fs)))
         ↔ IsSpelledWithin (SpellsFields T types next) fields_depth limit (field_views (drop i fs))
     field_fits_item next fs i f e is h l b m = rw (field_item fs i f is h)
         (more next f.0 e (view f.1) (field_views (drop (i + 1) fs)) l b m)
@@ -236,7 +241,8 @@ module _ (T : Table) where
         nowhere (next_field l m p q ps) n = omega arith
 
     pub field_past : (next : ℕ) (fs : List (ℕ × Value)) (i : ℕ) (f : ℕ × Value) → f ≡ get_or fs i f → i < length fs
-        → slice_get types f.0 ≡ None → ¬ IsSpelledWithin (SpellsFields T types next) fields_depth limit (field_views (drop i fs))
+        → slice_get types f.0 ≡ None → ¬ IsSpelledWithin (SpellsFields T types next) fields_depth limit
+        (field_views (drop i fs))
     field_past next fs i f is h l = rw (field_item fs i f is h) (λ g. nowhere g.spelled l)
       where
         nowhere : {next f : ℕ} {v : Tree} {fs : Fields} {b : List ℕ} → SpellsFields T types next (field f v fs) b
@@ -249,7 +255,8 @@ pub record MapFitted (k : Kind) : Type 0 where
   pub elem : TypeId
   pub is : k ≡ kind.Map key elem
 
-pub map_fitted : {T : Table} {k : Kind} {limit : ℕ} {ps : Pairs} → IsSpelledWithin (SpellsAs T k) depth limit (Tree.pairs ps)
+pub map_fitted : {T : Table} {k : Kind} {limit : ℕ} {ps : Pairs} → IsSpelledWithin (SpellsAs T k) depth limit
+    (Tree.pairs ps)
     → MapFitted k
 map_fitted f = inside f.spelled
   where
@@ -261,7 +268,8 @@ pub record StructFitted (k : Kind) : Type 0 where
   pub types : List Field
   pub is : k ≡ kind.Struct types
 
-pub struct_fitted : {T : Table} {k : Kind} {limit : ℕ} {fs : Fields} → IsSpelledWithin (SpellsAs T k) depth limit (Tree.fields fs)
+pub struct_fitted : {T : Table} {k : Kind} {limit : ℕ} {fs : Fields}
+    → IsSpelledWithin (SpellsAs T k) depth limit (Tree.fields fs)
     → StructFitted k
 struct_fitted f = inside f.spelled
   where

@@ -40,31 +40,31 @@ record HasZero (bytes : List ℕ) : Type 0 where
   more : List ℕ
   whole : bytes ≡ 0 ∷ more
 
-in_front : {bytes : List ℕ} (more : List ℕ) → bytes ≡ 0 ∷ [] → HasZero (bytes ++ more)
-in_front more e = record { more = more; whole = ap (λ l. l ++ more) e }
+in_prefix : {bytes : List ℕ} (more : List ℕ) → bytes ≡ 0 ∷ [] → HasZero (bytes ++ more)
+in_prefix more e = record { more = more; whole = ap (λ l. l ++ more) e }
 
 alone : {bytes : List ℕ} → bytes ≡ 0 ∷ [] → HasZero bytes
 alone e = record { more = []; whole = e }
 
-zero_front : {T : Table} {b : Basic} {v : Tree} {bytes : List ℕ} → IsZero v → SpellsAs T (kind.Basic b) v bytes
+zero_prefix : {T : Table} {b : Basic} {v : Tree} {bytes : List ℕ} → IsZero v → SpellsAs T (kind.Basic b) v bytes
     → HasZero bytes
-zero_front zero_bool (of_bool s) = alone (none_spelled s)
-zero_front zero_int (of_int (not_negative s)) = alone (none_spelled s)
-zero_front zero_uint (of_uint s) = alone (none_spelled s)
-zero_front zero_float (of_float s) = alone (pattern_spelled s)
-zero_front zero_complex (of_complex {c = c} s t) = in_front c (pattern_spelled s)
-zero_front zero_bytes (of_bytes s) = in_front [] (none_spelled s)
-zero_front zero_text (of_text s) = in_front [] (none_spelled s)
+zero_prefix zero_bool (of_bool s) = alone (none_spelled s)
+zero_prefix zero_int (of_int (not_negative s)) = alone (none_spelled s)
+zero_prefix zero_uint (of_uint s) = alone (none_spelled s)
+zero_prefix zero_float (of_float s) = alone (pattern_spelled s)
+zero_prefix zero_complex (of_complex {c = c} s t) = in_prefix c (pattern_spelled s)
+zero_prefix zero_bytes (of_bytes s) = in_prefix [] (none_spelled s)
+zero_prefix zero_text (of_text s) = in_prefix [] (none_spelled s)
 
-dropped_front : {T : Table} {k : Kind} {v : Tree} {bytes : List ℕ} → IsDropped k v → SpellsAs T k v bytes
+dropped_prefix : {T : Table} {k : Kind} {v : Tree} {bytes : List ℕ} → IsDropped k v → SpellsAs T k v bytes
     → HasZero bytes
-dropped_front (zero_basic z) s = zero_front z s
-dropped_front empty_slice (of_slice {b = b} s p) = in_front b (none_spelled s)
+dropped_prefix (zero_basic z) s = zero_prefix z s
+dropped_prefix empty_slice (of_slice {b = b} s p) = in_prefix b (none_spelled s)
 
 -- a complex number has two
-complex_front : {T : Table} {v : Tree} {bytes : List ℕ} → IsDropped (kind.Basic basic.Complex) v
+complex_prefix : {T : Table} {v : Tree} {bytes : List ℕ} → IsDropped (kind.Basic basic.Complex) v
     → SpellsAs T (kind.Basic basic.Complex) v bytes → bytes ≡ 0 ∷ 0 ∷ []
-complex_front (zero_basic z) s = inside z s
+complex_prefix (zero_basic z) s = inside z s
   where
     inside : {T : Table} {v : Tree} {bytes : List ℕ} → IsZero v → SpellsAs T (kind.Basic basic.Complex) v bytes
         → bytes ≡ 0 ∷ 0 ∷ []
@@ -82,9 +82,9 @@ stands_at body at i e =
 -- a byte that isn't 0 tells that the value is kept
 pub kept_at : (k : Kind) (body : List ℕ) (at : ℕ) → slice_get body at ≢ Some 0 → BeginsKept k (drop at body)
 kept_at k body at other T v bytes rest s e d =
-    let front = dropped_front d s in
+    let prefix = dropped_prefix d s in
     let first : slice_get (drop at body) 0 ≡ Some 0 =
-    ap (λ l. slice_get l 0) (e ∙ ap (λ l. l ++ rest) front.whole) in
+    ap (λ l. slice_get l 0) (e ∙ ap (λ l. l ++ rest) prefix.whole) in
     let here : at + 0 ≡ at = omega arith in
     other (subst (λ n. slice_get body n ≡ Some 0) here (stands_at body at 0 first))
 
@@ -92,7 +92,7 @@ pub complex_kept_at : (body : List ℕ) (at : ℕ) → slice_get body (at + 1) �
     → BeginsKept (kind.Basic basic.Complex) (drop at body)
 complex_kept_at body at other T v bytes rest s e d =
     let second : slice_get (drop at body) 1 ≡ Some 0 =
-    ap (λ l. slice_get l 1) (e ∙ ap (λ l. l ++ rest) (complex_front d s)) in
+    ap (λ l. slice_get l 1) (e ∙ ap (λ l. l ++ rest) (complex_prefix d s)) in
     other (stands_at body at 1 second)
 
 -- an interface's value is kept

@@ -60,12 +60,14 @@ mutual
       { tidy = Value.fields r.tidy; tidies = of_struct r.tidies }
   tidy_form_as {v = v} _ = record { tidy = v; tidies = of_basic (λ h. h) }
 
-  tidy_forms : {T : Table} {e : TypeId} {vs : Trees} {b : List ℕ} → SpellsEach T e vs b → HasTidyForm (TidiesEach T e vs)
+  tidy_forms : {T : Table} {e : TypeId} {vs : Trees} {b : List ℕ} → SpellsEach T e vs b
+      → HasTidyForm (TidiesEach T e vs)
   tidy_forms spelling.no_element = record { tidy = no_tree; tidies = no_element }
   tidy_forms (spelling.element p ps) = let r = tidy_form p in let rs = tidy_forms ps in record
       { tidy = tree r.tidy rs.tidy; tidies = element r.tidies rs.tidies }
 
-  tidy_pairs : {T : Table} {k e : TypeId} {ps : Pairs} {b : List ℕ} → SpellsPairs T k e ps b → HasTidyForm (TidiesPairs T k e ps)
+  tidy_pairs : {T : Table} {k e : TypeId} {ps : Pairs} {b : List ℕ} → SpellsPairs T k e ps b
+      → HasTidyForm (TidiesPairs T k e ps)
   tidy_pairs spelling.no_entry = record { tidy = no_pair; tidies = no_entry }
   tidy_pairs (spelling.entry p q ps) =
       let r = tidy_form p in let s = tidy_form q in let rs = tidy_pairs ps in

@@ -40,13 +40,13 @@ pub record Goes {A : Type 0} (Tidy : List A → List A → Type 0) (Known : List
 module _ {A : Type 0} {Tidy : List A → List A → Type 0} {Known : List A → Type 0} {deep : List A → ℕ}
     {whole more tidied new rest : List A} where
   -- a part becomes those in front
-  pub goes_on : (front : List A) {part : A} → Goes Tidy Known deep whole more tidied → more ≡ part ∷ rest
-      → new ≡ tidied ++ front
-      → ((r : List A) → Tidy rest r → Tidy (part ∷ rest) (front ++ r)) → Known rest → deep rest ≤ deep (part ∷ rest)
+  pub goes_on : (prefix : List A) {part : A} → Goes Tidy Known deep whole more tidied → more ≡ part ∷ rest
+      → new ≡ tidied ++ prefix
+      → ((r : List A) → Tidy rest r → Tidy (part ∷ rest) (prefix ++ r)) → Known rest → deep rest ≤ deep (part ∷ rest)
       → Goes Tidy Known deep whole rest new
-  goes_on front {part = part} g h n step k d = record {
-    completes = λ r p. subst (Tidy whole) (sym (ap (λ l. l ++ r) n ∙ append_assoc tidied front r))
-        (g.completes (front ++ r) (subst (λ l. Tidy l (front ++ r)) (sym h) (step r p)));
+  goes_on prefix {part = part} g h n step k d = record {
+    completes = λ r p. subst (Tidy whole) (sym (ap (λ l. l ++ r) n ∙ append_assoc tidied prefix r))
+        (g.completes (prefix ++ r) (subst (λ l. Tidy l (prefix ++ r)) (sym h) (step r p)));
     known = k;
     shallow = let s = subst (λ l. deep l ≤ deep whole) h g.shallow in omega arith;
   }
@@ -67,7 +67,8 @@ module _ {A : Type 0} {Tidy : List A → List A → Type 0} {Known : List A → 
       nothing (x ∷ xs) h = absurd (omega arith)
 
 abbrev pub EachGoes : Table → TypeId → List Value → List Value → List Value → Type 0
-EachGoes T e = Goes (λ vs ws. IsTidied (TidiesEach T e) AllHaveSmallNumbers (views vs) (views ws)) (λ vs. HasTidyForm (TidiesEach T e (views vs)))
+EachGoes T e = Goes (λ vs ws. IsTidied (TidiesEach T e) AllHaveSmallNumbers (views vs) (views ws))
+    (λ vs. HasTidyForm (TidiesEach T e (views vs)))
     (λ vs. trees_depth (views vs))
 
 abbrev pub PairsGo : Table → TypeId → TypeId → List (Value × Value) → List (Value × Value) → List (Value × Value)
@@ -76,7 +77,8 @@ PairsGo T k e = Goes (λ ps qs. IsTidied (TidiesPairs T k e) PairsHaveSmallNumbe
     (λ ps. HasTidyForm (TidiesPairs T k e (pair_views ps))) (λ ps. pairs_depth (pair_views ps))
 
 abbrev pub FieldsGo : Table → List Field → List (ℕ × Value) → List (ℕ × Value) → List (ℕ × Value) → Type 0
-FieldsGo T types = Goes (λ fs gs. IsTidied (TidiesFields T types) FieldsHaveSmallNumbers (field_views fs) (field_views gs))
+FieldsGo T types = Goes (λ fs gs. IsTidied (TidiesFields T types) FieldsHaveSmallNumbers (field_views fs)
+    (field_views gs))
     (λ fs. HasTidyForm (TidiesFields T types (field_views fs))) (λ fs. fields_depth (field_views fs))
 
 -- ---- kinds and values with parts
@@ -153,7 +155,8 @@ module _ {T : Table} where
       inside (element {w = w} {ws = ws} p ps) = (record { tidy = w; tidies = p }, record { tidy = ws; tidies = ps })
 
   pub each_on : {e : TypeId} {whole more tidied new rest : List Value} {part : Value} (made : Value)
-      → EachGoes T e whole more tidied → more ≡ part ∷ rest → IsTidied (Tidies T e) HasSmallNumbers (view part) (view made)
+      → EachGoes T e whole more tidied → more ≡ part ∷ rest → IsTidied (Tidies T e) HasSmallNumbers (view part)
+      (view made)
       → new ≡ tidied ++ made ∷ [] → EachGoes T e whole rest new
   each_on made g h p n = let l = each_left g h in goes_on (made ∷ []) g h n
       (λ r q. record { tidies = element p.tidies q.tidies; small = (p.small, q.small) }) l.forms (omega arith)
@@ -169,14 +172,16 @@ module _ {T : Table} where
       g.shallow in
       record { key = r.0; form = r.1; forms = r.2; key_shallow = omega arith; shallow = omega arith }
     where
-      inside : {k e : TypeId} {x v : Tree} {ps qs : Pairs} → TidiesPairs T k e (pair x v ps) qs → HasTidyForm (Tidies T k x)
+      inside : {k e : TypeId} {x v : Tree} {ps qs : Pairs} → TidiesPairs T k e (pair x v ps) qs
+          → HasTidyForm (Tidies T k x)
           × HasTidyForm (Tidies T e v) × HasTidyForm (TidiesPairs T k e ps)
       inside (entry {y = y} {w = w} {qs = qs} o p ps) =
           (record { tidy = y; tidies = o }, record { tidy = w; tidies = p }, record { tidy = qs; tidies = ps })
 
   pub pairs_on : {k e : TypeId} {whole more tidied new rest : List (Value × Value)} {part : Value × Value}
       (made : Value × Value) → PairsGo T k e whole more tidied → more ≡ part ∷ rest
-      → IsTidied (Tidies T k) HasSmallNumbers (view part.0) (view made.0) → IsTidied (Tidies T e) HasSmallNumbers (view part.1) (view made.1) → new ≡ tidied ++ made ∷ []
+      → IsTidied (Tidies T k) HasSmallNumbers (view part.0) (view made.0)
+      → IsTidied (Tidies T e) HasSmallNumbers (view part.1) (view made.1) → new ≡ tidied ++ made ∷ []
       → PairsGo T k e whole rest new
   pairs_on made g h o p n = let l = pairs_left g h in goes_on (made ∷ []) g h n
       (λ r q. record { tidies = entry o.tidies p.tidies q.tidies; small = (o.small, p.small, q.small) }) l.forms
@@ -237,14 +242,16 @@ module _ {T : Table} where
 
       pub field_kept : {new : List (ℕ × Value)} (w : Value) → FieldsGo T types whole more tidied → more ≡ (f, v) ∷ rest
           → slice_get types f ≡ Some e → shape_of T e.id ≡ Some s → ¬ IsDropped s.kind (view v)
-          → IsTidied (TidiesAs T s.kind) HasSmallNumbers (view v) (view w) → f + 1 < 2 ^ 64 → new ≡ tidied ++ (f, w) ∷ []
+          → IsTidied (TidiesAs T s.kind) HasSmallNumbers (view v) (view w) → f + 1 < 2 ^ 64 → new ≡ tidied
+          ++ (f, w) ∷ []
           → FieldsGo T types whole rest new
       field_kept w g h m p n o b k = let l = field_left g h in goes_on ((f, w) ∷ []) g h k
           (λ r q. record { tidies = kept m p n o.tidies q.tidies; small = (b, o.small, q.small) }) l.forms (omega arith)
 
   -- ---- a value with parts, and its parts
 
-  pub many_of_parts : {k : Kind} {e : TypeId} {vs ws : Trees} → IsListOf k e → IsTidied (TidiesEach T e) AllHaveSmallNumbers vs ws
+  pub many_of_parts : {k : Kind} {e : TypeId} {vs ws : Trees} → IsListOf k e
+      → IsTidied (TidiesEach T e) AllHaveSmallNumbers vs ws
       → IsTidied (TidiesAs T k) HasSmallNumbers (Tree.many vs) (Tree.many ws)
   many_of_parts {vs = vs} {ws = ws} (inl h) ps = record {
     tidies = subst (λ (k : Kind). TidiesAs T k (Tree.many vs) (Tree.many ws)) (sym h) (of_slice ps.tidies);
@@ -277,7 +284,8 @@ module _ {T : Table} where
           → HasTidyForm (TidiesPairs T k e ps)
       inside (of_map {qs = qs} ps) = record { tidy = qs; tidies = ps }
 
-  pub parts_of_fields : {types : List Field} {fs : Fields} → HasTidyForm (TidiesAs T (kind.Struct types) (Tree.fields fs))
+  pub parts_of_fields : {types : List Field} {fs : Fields}
+      → HasTidyForm (TidiesAs T (kind.Struct types) (Tree.fields fs))
       → HasTidyForm (TidiesFields T types fs)
   parts_of_fields r = inside r.tidies
     where
@@ -289,7 +297,8 @@ module _ {T : Table} where
       → HasTidyForm (TidiesAs T s.kind v)
   form_at {v = v} r e = inside r.tidies e
     where
-      inside : {t : TypeId} {w : Tree} {s : Shape} → Tidies T t v w → shape_of T t ≡ Some s → HasTidyForm (TidiesAs T s.kind v)
+      inside : {t : TypeId} {w : Tree} {s : Shape} → Tidies T t v w → shape_of T t ≡ Some s
+          → HasTidyForm (TidiesAs T s.kind v)
       inside {w = w} {s = s} (of_type {s = r} f p) e =
           let one : r ≡ s = some_injective (sym f ∙ e) in
           record { tidy = w; tidies = subst (λ (s : Shape). TidiesAs T s.kind v w) one p }
@@ -300,7 +309,8 @@ module _ {T : Table} where
       inside : {t : TypeId} {w : Tree} → Tidies T t v w → shape_of T t ≡ None → ⊥
       inside (of_type f p) e = cc
 
-  pub plain_stays : {k : Kind} {v : Tree} → IsPlain k → HasTidyForm (TidiesAs T k v) → IsTidied (TidiesAs T k) HasSmallNumbers v v
+  pub plain_stays : {k : Kind} {v : Tree} → IsPlain k → HasTidyForm (TidiesAs T k v)
+      → IsTidied (TidiesAs T k) HasSmallNumbers v v
   plain_stays {v = v} (inl h) r =
       let p = inside (subst (λ (k : Kind). TidiesAs T k v r.tidy) h.1 r.tidies) in
       record { tidies = subst (λ (k : Kind). TidiesAs T k v v) (sym h.1) (of_basic p); small = no_numbers v p }
@@ -343,6 +353,7 @@ nowhere T types f {e = e} {g = g} m n p q = let one : e ≡ g = some_injective (
     (λ (e : Field). shape_of T e.id) one in cc
 
 pub typed : (T : Table) (t : TypeId) (v : Value) {s : Shape} → shape_of T t ≡ Some s → (r : Result Value Memory)
-    → IfOk r (λ w. IsTidied (TidiesAs T s.kind) HasSmallNumbers (view v) (view w)) → IfOk r (λ w. IsTidied (Tidies T t) HasSmallNumbers (view v) (view w))
+    → IfOk r (λ w. IsTidied (TidiesAs T s.kind) HasSmallNumbers (view v) (view w))
+    → IfOk r (λ w. IsTidied (Tidies T t) HasSmallNumbers (view v) (view w))
 typed T t v e (Ok w) p = record { tidies = of_type e p.tidies; small = p.small }
 typed T t v e (Err m) p = tt

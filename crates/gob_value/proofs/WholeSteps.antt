@@ -1,6 +1,7 @@
 -- Values that stand whole at a place of a body, from their parts.
 use Rattle.std.proofs.Common.{◌≡◌, ℕ, zero, suc, ◌+◌, ◌-◌, ◌<◌, ◌≤◌, true, false, List, [], ◌++◌, length, Option}
-use Rattle.std.proofs.Common.{Some, None, IfSome, Bool, IsTrue, take, drop, arith, refl, sym, ap, ◌∙◌, subst, append_assoc}
+use Rattle.std.proofs.Common.{Some, None, IfSome, Bool, IsTrue, take, drop, arith, refl, sym, ap, ◌∙◌, subst}
+use Rattle.std.proofs.Common.{append_assoc}
 use Rattle.std.specs.Prelude.{slice_get}
 use Rattle.std.proofs.lemmas.List.{drop-drop, take-append-drop, length-drop, length-take-le}
 use Rattle.gob_num.specs.Unsigned.{IsUnsigned}
@@ -18,20 +19,23 @@ use Rattle.gob_types.specs.Table.{Table, shape_of, basic_of}
 use Rattle.gob_types.specs.declared.basic.Basic.{Basic}
 use Rattle.gob_types.proofs.PublicLaws.{basic_shape_of}
 use Rattle.gob_value.specs.Tree.{Tree, no_tree, tree, no_pair, pair, no_field, field}
-use Rattle.gob_value.specs.Spelling.{SpellsAs, of_type, of_bool, of_int, of_uint, of_float, of_complex, of_nil, of_bytes}
+use Rattle.gob_value.specs.Spelling.{SpellsAs, of_type, of_bool, of_int, of_uint, of_float, of_complex, of_nil}
+use Rattle.gob_value.specs.Spelling.{of_bytes}
 use Rattle.gob_value.specs.Spelling.{of_text, of_opaque, of_slice, of_array, of_map, of_struct, no_element, element}
 use Rattle.gob_value.specs.Spelling.{no_entry, entry, end_of_fields, next_field}
 use Rattle.gob_value.specs.Tidy.{of_basic, of_opaque, of_slice as slice_tidy, of_array as array_tidy}
 use Rattle.gob_value.specs.Tidy.{of_map as map_tidy, of_struct as struct_tidy, of_type as type_tidy}
 use Rattle.gob_value.specs.Tidy.{no_element as no_element_tidy, element as element_tidy, no_entry as no_entry_tidy}
 use Rattle.gob_value.specs.Tidy.{entry as entry_tidy, no_more as no_field_tidy, kept as field_tidy}
-use Rattle.gob_value.specs.Whole.{HoldsNumbers, HoldsBetween, BeginsKind, BeginsEach, BeginsPairs, BeginsFields, BeginsThisNumber}
+use Rattle.gob_value.specs.Whole.{HoldsNumbers, HoldsBetween, BeginsKind, BeginsEach, BeginsPairs, BeginsFields}
+use Rattle.gob_value.specs.Whole.{BeginsThisNumber}
 use Rattle.gob_value.specs.Whole.{BeginsField, BeginsRaw, BeginsKept}
 use Rattle.gob_value.specs.Written.{HasParts}
 use Rattle.gob_value.proofs.WithinLaws.{leaf_within}
 
 -- what begins at one place and ends at the next, and what begins there
-pub both : {P Q R : List ℕ → List ℕ → Type 0} {body : List ℕ} {a b c : ℕ} → HoldsBetween P body a b → HoldsBetween Q body b c
+pub both : {P Q R : List ℕ → List ℕ → Type 0} {body : List ℕ} {a b c : ℕ} → HoldsBetween P body a b
+    → HoldsBetween Q body b c
     → ((x y z : List ℕ) → P x y → Q y z → R x z) → HoldsBetween R body a c
 both {body = body} {a = a} {b = b} {c = c} p q f = record {
   order = omega (arith, p.order, q.order);
@@ -57,12 +61,13 @@ all_three {body = body} {a = a} {b = b} {c = c} {d = d} p q r f = record {
   begins = f (drop a body) (drop b body) (drop c body) (drop d body) p.begins q.begins r.begins;
 }
 
--- two fronts of a piece are one
+-- two prefixes of a piece are one
 pub whole_of_two : (b c z : List ℕ) {x y : List ℕ} → x ≡ b ++ y → y ≡ c ++ z → x ≡ (b ++ c) ++ z
 whole_of_two b c z e f = e ∙ ap (λ r. b ++ r) f ∙ sym (append_assoc b c z)
 
 -- ---- numbers and bytes
-pub number_stands : {n at end : ℕ} {body : List ℕ} → IsUnsignedAt n body at end → HoldsBetween (BeginsThisNumber n) body at end
+pub number_stands : {n at end : ℕ} {body : List ℕ} → IsUnsignedAt n body at end
+    → HoldsBetween (BeginsThisNumber n) body at end
 number_stands {at = at} {end = end} {body = body} p =
     let up : at + (end - at) ≡ end = let o = p.order in omega arith in
     record {
@@ -127,7 +132,8 @@ module _ (T : Table) (tidy : Bool) where
       let g = unsigned_pattern q.spelled in
       basic_begins (Tree.complex f.0 g.0) (λ h. h) (of_complex f.1 g.1) (whole_of_two p.bytes q.bytes z p.whole q.whole)
 
-  pub bool_begins : (n : ℕ) → n ≤ 1 → (x y : List ℕ) → BeginsThisNumber n x y → BeginsKind T tidy (kind.Basic basic.Bool) 1 x y
+  pub bool_begins : (n : ℕ) → n ≤ 1 → (x y : List ℕ) → BeginsThisNumber n x y
+      → BeginsKind T tidy (kind.Basic basic.Bool) 1 x y
   bool_begins zero l x y p = basic_begins (Tree.bool false) (λ h. h) (of_bool p.spelled) p.whole
   bool_begins (suc zero) l x y p = basic_begins (Tree.bool true) (λ h. h) (of_bool p.spelled) p.whole
   bool_begins (suc (suc n)) l x y p = absurd (omega arith)
@@ -167,7 +173,8 @@ module _ (T : Table) (tidy : Bool) where
         whole = p.whole;
       }
 
-  number_begins : (k : Kind) → HoldsNumbers k → (n : ℕ) (x y : List ℕ) → BeginsThisNumber n x y → BeginsKind T tidy k 1 x y
+  number_begins : (k : Kind) → HoldsNumbers k → (n : ℕ) (x y : List ℕ) → BeginsThisNumber n x y
+      → BeginsKind T tidy k 1 x y
   number_begins (kind.Basic basic.Int) a n x y p = int_begins n x y p
   number_begins (kind.Basic basic.Uint) a n x y p = uint_begins n x y p
   number_begins (kind.Basic basic.Float) a n x y p = float_begins n x y p
@@ -245,7 +252,8 @@ module _ (T : Table) (tidy : Bool) where
       }
 
   pub element_begins : (e : TypeId) (s : Shape) (limit n m : ℕ) → shape_of T e ≡ Some s → n ≡ m + 1
-      → (x y z : List ℕ) → BeginsKind T tidy s.kind limit x y → BeginsEach T tidy e limit m y z → BeginsEach T tidy e limit n x z
+      → (x y z : List ℕ) → BeginsKind T tidy s.kind limit x y → BeginsEach T tidy e limit m y z
+      → BeginsEach T tidy e limit n x z
   element_begins e s limit n m f more x y z p q =
       let v = p.within in
       let w = q.within in
@@ -260,23 +268,27 @@ module _ (T : Table) (tidy : Bool) where
       }
 
   pub number_element : (e : TypeId) (s : Shape) (number n m : ℕ) → shape_of T e ≡ Some s → HoldsNumbers s.kind
-      → n ≡ m + 1 → (x y z : List ℕ) → BeginsThisNumber number x y → BeginsEach T tidy e 1 m y z → BeginsEach T tidy e 1 n x z
+      → n ≡ m + 1 → (x y z : List ℕ) → BeginsThisNumber number x y → BeginsEach T tidy e 1 m y z
+      → BeginsEach T tidy e 1 n x z
   number_element e s number n m f a more x y z p q =
       element_begins e s 1 n m f more x y z (number_begins s.kind a number x y p) q
 
   -- numbers one behind another
-  pub numbers_stand : (e : TypeId) (s : Shape) → shape_of T e ≡ Some s → HoldsNumbers s.kind → {body : List ℕ} {count at end : ℕ}
+  pub numbers_stand : (e : TypeId) (s : Shape) → shape_of T e ≡ Some s → HoldsNumbers s.kind
+      → {body : List ℕ} {count at end : ℕ}
       → at ≤ length body → AreUnsignedAt body count at end → HoldsBetween (BeginsEach T tidy e 1 count) body at end
   numbers_stand e s f a {body = body} {at = at} l (no_number) = none_stand e 1 0 body at refl l
   numbers_stand e s f a l (one_more {n = n} {count = k} p q) =
       both (number_stands p) (numbers_stand e s f a p.inside q) (number_element e s n (suc k) k f a (omega arith))
 
   pub basic_element : (e : TypeId) (s : Shape) (k : Kind) (n m : ℕ) → shape_of T e ≡ Some s → s.kind ≡ k
-      → n ≡ m + 1 → (x y z : List ℕ) → BeginsKind T tidy k 1 x y → BeginsEach T tidy e 1 m y z → BeginsEach T tidy e 1 n x z
+      → n ≡ m + 1 → (x y z : List ℕ) → BeginsKind T tidy k 1 x y → BeginsEach T tidy e 1 m y z
+      → BeginsEach T tidy e 1 n x z
   basic_element e s k n m f is more x y z p q =
       element_begins e s 1 n m f more x y z (subst (λ k. BeginsKind T tidy k 1 x y) (sym is) p) q
 
-  pub all_deeper : (e : TypeId) (a b n : ℕ) → a ≤ b → (x y : List ℕ) → BeginsEach T tidy e a n x y → BeginsEach T tidy e b n x y
+  pub all_deeper : (e : TypeId) (a b n : ℕ) → a ≤ b → (x y : List ℕ) → BeginsEach T tidy e a n x y
+      → BeginsEach T tidy e b n x y
   all_deeper e a b n l x y p =
       let w = p.within in
       record {
@@ -336,7 +348,8 @@ module _ (T : Table) (tidy : Bool) where
 
   -- the same where its type is basic
   pub basic_part : {e : TypeId} {b : Basic} {limit : ℕ} {body : List ℕ} {x y : ℕ} → 0 < limit → basic_of T e ≡ Some b
-      → HoldsBetween (BeginsKind T tidy (kind.Basic b) 1) body x y → (IsTrue tidy → BeginsKept (kind.Basic b) (drop x body))
+      → HoldsBetween (BeginsKind T tidy (kind.Basic b) 1) body x y
+      → (IsTrue tidy → BeginsKept (kind.Basic b) (drop x body))
       → HoldsBetween (BeginsField T tidy e limit) body x y
   basic_part {e = e} {limit = limit} {body = body} {x = x} {y = y} some is p kept =
       let (s, known, basic) = basic_shape_of T e is in
@@ -374,7 +387,8 @@ module _ (T : Table) (tidy : Bool) where
             next_field (omega arith) here (subst (λ k. IsUnsigned k p.bytes) up p.spelled) (of_type shape q.spelled)
             r.spelled;
         within = omega arith;
-        tidied = λ t. field_tidy here shape (kept.kept t T q.value q.bytes y q.spelled q.whole) (q.tidied t) (r.tidied t);
+        tidied = λ t. field_tidy here shape (kept.kept t T q.value q.bytes y q.spelled q.whole) (q.tidied t)
+            (r.tidied t);
         whole = whole_of_two p.bytes (q.bytes ++ r.bytes) z p.whole (whole_of_two q.bytes r.bytes z q.whole r.whole);
       }
 

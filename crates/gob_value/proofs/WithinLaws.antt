@@ -27,7 +27,8 @@ pub pairs_inside : (limit : ℕ) (v : Tree) (ps : Pairs) → v ≡ Tree.pairs ps
     ↔ (depth v ≤ limit)
 pairs_inside limit v ps e l = rw e (λ h. omega arith, λ h. omega arith)
 
-pub fields_inside : (limit : ℕ) (v : Tree) (fs : Fields) → v ≡ Tree.fields fs → 0 < limit → (fields_depth fs ≤ limit - 1)
+pub fields_inside : (limit : ℕ) (v : Tree) (fs : Fields) → v ≡ Tree.fields fs → 0 < limit
+    → (fields_depth fs ≤ limit - 1)
     ↔ (depth v ≤ limit)
 fields_inside limit v fs e l = rw e (λ h. omega arith, λ h. omega arith)
 

@@ -15,21 +15,24 @@ use Rattle.gob_value.proofs.ViewLaws.{views_item, pair_item, field_item}
 
 -- ---- the parts of a value that can be written can be written
 
-pub many_writable : (vs : Trees) → IsSpelledWithin Written depth 1000 (Tree.many vs) → IsSpelledWithin WrittenEach trees_depth 1000 vs
+pub many_writable : (vs : Trees) → IsSpelledWithin Written depth 1000 (Tree.many vs)
+    → IsSpelledWithin WrittenEach trees_depth 1000 vs
 many_writable vs w = let r = inside w.spelled in let s = w.within in record
     { bytes = r.0; spelled = r.1; within = omega arith }
   where
     inside : {vs : Trees} {b : List ℕ} → Written (Tree.many vs) b → (c : List ℕ) × WrittenEach vs c
     inside (of_many {b = c} p ps) = (c, ps)
 
-pub pairs_writable : (ps : Pairs) → IsSpelledWithin Written depth 1000 (Tree.pairs ps) → IsSpelledWithin WrittenPairs pairs_depth 1000 ps
+pub pairs_writable : (ps : Pairs) → IsSpelledWithin Written depth 1000 (Tree.pairs ps)
+    → IsSpelledWithin WrittenPairs pairs_depth 1000 ps
 pairs_writable ps w = let r = inside w.spelled in let s = w.within in record
     { bytes = r.0; spelled = r.1; within = omega arith }
   where
     inside : {ps : Pairs} {b : List ℕ} → Written (Tree.pairs ps) b → (c : List ℕ) × WrittenPairs ps c
     inside (of_pairs {b = c} p ps) = (c, ps)
 
-pub fields_writable : (fs : Fields) → IsSpelledWithin Written depth 1000 (Tree.fields fs) → IsSpelledWithin (WrittenFields 0) fields_depth 1000 fs
+pub fields_writable : (fs : Fields) → IsSpelledWithin Written depth 1000 (Tree.fields fs)
+    → IsSpelledWithin (WrittenFields 0) fields_depth 1000 fs
 fields_writable fs w = let s = w.within in record
     { bytes = w.bytes; spelled = inside w.spelled; within = omega arith }
   where
@@ -39,8 +42,10 @@ fields_writable fs w = let s = w.within in record
 -- ---- elements
 
 module _ (vs : List Value) (i : ℕ) where
-  pub each_left : (v : Value) → v ≡ get_or vs i v → i < length vs → IsSpelledWithin WrittenEach trees_depth 1000 (views (drop i vs))
-      → IsSpelledWithin Written depth 1000 (view v) × IsSpelledWithin WrittenEach trees_depth 1000 (views (drop (i + 1) vs))
+  pub each_left : (v : Value) → v ≡ get_or vs i v → i < length vs → IsSpelledWithin WrittenEach trees_depth 1000
+      (views (drop i vs))
+      → IsSpelledWithin Written depth 1000 (view v) × IsSpelledWithin WrittenEach trees_depth 1000
+      (views (drop (i + 1) vs))
   each_left v is h = rw (views_item vs i v is h) (λ w. let r = inside w.spelled in let s = w.within in (
     record { bytes = r.0; spelled = r.2; within = omega arith },
     record
@@ -61,8 +66,10 @@ module _ (vs : List Value) (i : ℕ) where
 -- ---- keys and elements
 
 module _ (ps : List (Value × Value)) (i : ℕ) where
-  pub pairs_left : (p : Value × Value) → p ≡ get_or ps i p → i < length ps → IsSpelledWithin WrittenPairs pairs_depth 1000 (pair_views (drop i ps))
-      → IsSpelledWithin Written depth 1000 (view p.0) × IsSpelledWithin Written depth 1000 (view p.1) × IsSpelledWithin WrittenPairs pairs_depth 1000 (pair_views (drop (i + 1) ps))
+  pub pairs_left : (p : Value × Value) → p ≡ get_or ps i p → i < length ps
+      → IsSpelledWithin WrittenPairs pairs_depth 1000 (pair_views (drop i ps))
+      → IsSpelledWithin Written depth 1000 (view p.0) × IsSpelledWithin Written depth 1000 (view p.1)
+      × IsSpelledWithin WrittenPairs pairs_depth 1000 (pair_views (drop (i + 1) ps))
   pairs_left p is h = rw (pair_item ps i p is h) (λ w. let r = inside w.spelled in let s = w.within in (
     record { bytes = r.0; spelled = r.3; within = omega arith },
     record
@@ -94,14 +101,16 @@ pub record FieldLeft (next : ℕ) (f : ℕ × Value) (behind : Fields) : Type 0 
 
 module _ (fs : List (ℕ × Value)) (i : ℕ) where
   pub field_left : (next : ℕ) (f : ℕ × Value) → f ≡ get_or fs i f → i < length fs
-      → IsSpelledWithin (WrittenFields next) fields_depth 1000 (field_views (drop i fs)) → FieldLeft next f (field_views (drop (i + 1) fs))
+      → IsSpelledWithin (WrittenFields next) fields_depth 1000 (field_views (drop i fs))
+      → FieldLeft next f (field_views (drop (i + 1) fs))
   field_left next f is h = rw (field_item fs i f is h)
       (λ w. let r = inside f.0 (view f.1) w.spelled w.within in record
       { rises = r.0; small = r.1; value = r.2; rest = r.3 })
     where
       inside : {next : ℕ} {fs : Fields} {b : List ℕ} (f : ℕ) (v : Tree) → WrittenFields next (field f v fs) b
           → fields_depth (field f v fs) ≤ 1000
-          → (next ≤ f) × (f + 1 - next < 2 ^ 64) × IsSpelledWithin Written depth 1000 v × IsSpelledWithin (WrittenFields (f + 1)) fields_depth 1000 fs
+          → (next ≤ f) × (f + 1 - next < 2 ^ 64) × IsSpelledWithin Written depth 1000 v
+          × IsSpelledWithin (WrittenFields (f + 1)) fields_depth 1000 fs
       inside f v (next_field {b = x} {c = y} l n p ps) s = (
         l,
         unsigned_fits n,

@@ -1,6 +1,5 @@
 -- Byte strings and spellings are lists of naturals in the definitions, where a stream and a vector have bytes, which
--- are
--- numbers below 256. (docs/FORMAT.md, Values.)
+-- are numbers below 256. (docs/FORMAT.md, Values.)
 use Rattle.std.specs.Prelude.{◌↔◌, ℕ, List}
 use Rattle.gob_num.specs.Unsigned.{AreBytes}
 use Rattle.gob_types.specs.declared.id.TypeId.{TypeId}

@@ -62,9 +62,8 @@ pub record IsCountable (s : Shape) : Type 0 where
   pub name : IsCountedName s.name
   pub fields : HasCountedFields s.kind
 
--- the description that is made of such a shape, under an id that a signed number holds, is a value of wireType of depth
--- 5
--- at most
+-- the description that is made of such a shape, under an id that a signed number holds, is a value of wireType of
+-- depth 5 at most
 abbrev pub AreOfWireType : Type 0
 AreOfWireType = (id : TypeId) (s : Shape) → IsDefinable s → IsCountable s → id.0 < 2 ^ 63
     → FitsWithin base_table wire_type 5 (described id s)

@@ -88,7 +88,8 @@ pub record BeginsPairs (T : Table) (tidy : Bool) (k e : TypeId) (limit count : �
   pub whole : piece ≡ bytes ++ rest
 
 -- with the present fields, of which the next has this number or a greater one
-pub record BeginsFields (T : Table) (tidy : Bool) (types : List Field) (next limit : ℕ) (piece rest : List ℕ) : Type 0 where
+pub record BeginsFields (T : Table) (tidy : Bool) (types : List Field) (next limit : ℕ) (piece rest : List ℕ) : Type
+    0 where
   pub fields : Fields
   pub bytes : List ℕ
   pub spelled : SpellsFields T types next fields bytes

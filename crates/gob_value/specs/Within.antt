@@ -10,7 +10,8 @@ abbrev pub IsWithin : ℕ → Tree → Type 0
 IsWithin limit v = depth v ≤ limit
 
 -- some bytes spell the value, or the parts, and none of it is deeper than the limit
-pub record IsSpelledWithin {V : Type 0} (Spells : V → List ℕ → Type 0) (depth : V → ℕ) (limit : ℕ) (v : V) : Type 0 where
+pub record IsSpelledWithin {V : Type 0} (Spells : V → List ℕ → Type 0) (depth : V → ℕ) (limit : ℕ) (v : V) : Type
+    0 where
   pub bytes : List ℕ
   pub spelled : Spells v bytes
   pub within : depth v ≤ limit

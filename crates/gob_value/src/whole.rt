@@ -27,7 +27,9 @@ pub fn is_whole<S: Shapes>(shapes: &S, id: TypeId, body: &[u8], depth: u64) -> b
     is_whole_so::<S, false>(shapes, id, body, depth)
 }
 
-/// The same, and whether the value is its own tidy form: no struct in it has a field that [`tidy`](crate::tidy) drops.
+/// Whether the bytes are a value of the type that is its own tidy form, behind its tag where it isn't a struct, no
+/// deeper than `depth`: no struct in it has a field that [`tidy`](crate::tidy) drops. It takes no memory. A false says
+/// nothing, as that of [`is_whole`] does.
 pub fn is_tidy_whole<S: Shapes>(shapes: &S, id: TypeId, body: &[u8], depth: u64) -> bool
     ensures { IsTrue result → IsTidyWhole (S.table shapes.now) id depth body.now }
 {
@@ -124,7 +126,7 @@ fn value_end<S: Shapes, const TIDY: bool>(
     }
 }
 
-// The same, without a call where the kind is basic.
+// Where the value of the kind ends that begins at the place, without a call where the kind is basic.
 #[cycle(whole)]
 #[inline(always)]
 pub(crate) fn part_end<S: Shapes, const TIDY: bool>(
@@ -285,7 +287,8 @@ fn is_dropped_at(kind: &Kind, body: &[u8], at: usize) -> bool
     }
 }
 
-// The same of a basic type. The spellings of 0, false and nothing begin with a byte 0, and no others do.
+// Whether a tidy struct drops the value of the basic type that stands at the place. The spellings of 0, false and
+// nothing begin with a byte 0, and no others do.
 #[inline(always)]
 fn is_basic_dropped_at(basic: Basic, body: &[u8], at: usize) -> bool
     requires { at ≤ length body.now }

@@ -1,5 +1,8 @@
 -- Words and what they say.
-use Rattle.std.proofs.Common.{rules, ◌≡◌, ◌∙◌, ◌<◌, ◌≤◌, ◌^◌, ap, ap₂, sym, is_some, refl, codes, ℕ, List, [], ◌∷◌, Option, Some, None, Result, Ok, Err, option_map, MatchOption, slice_index, subst, ◌==◌, if◌then◌else◌, ok_or, MatchResult, IfOk, IfSome, IsErrAnd, true, inl, inr, ◌++◌, encode_utf8, length, arith}
+use Rattle.std.proofs.Common.{rules, ◌≡◌, ◌∙◌, ◌<◌, ◌≤◌, ◌^◌, ap, ap₂, sym, is_some, refl, codes, ℕ, List, [], ◌∷◌}
+use Rattle.std.proofs.Common.{Option, Some, None, Result, Ok, Err, option_map, MatchOption, slice_index, subst, ◌==◌}
+use Rattle.std.proofs.Common.{if◌then◌else◌, ok_or, MatchResult, IfOk, IfSome, IsErrAnd, true, inl, inr, ◌++◌}
+use Rattle.std.proofs.Common.{encode_utf8, length, arith}
 use Rattle.std.specs.Result.{result_ok}
 use Rattle.std.specs.List.{All}
 use Rattle.std.specs.Str.Parse.{ParsesUnsigned, digits_value}
@@ -38,7 +41,8 @@ model = numerals_by_value _ tells
 pub parsed_digits : {E : Type 0} (word : Text) (r : Result ℕ E) → ParsesUnsigned 64 10 word r → All IsDigit word
     → MatchOption (result_ok r) ((n : ℕ) → ¬ IsNumber (Some word) 0 n) (IsNumber (Some word) 0)
 parsed_digits {E = E} word (Ok x) parses digits =
-    let gives = parse_digits model {E = E} 64 word (Ok x) parses digits in (gives.0.0, digits, gives.1, subst (λ n. n < 2 ^ 64) (sym gives.1) gives.0.1)
+    let gives = parse_digits model {E = E} 64 word (Ok x) parses digits in
+    (gives.0.0, digits, gives.1, subst (λ n. n < 2 ^ 64) (sym gives.1) gives.0.1)
 parsed_digits {E = E} word (Err e) parses digits =
     let gives = parse_digits model {E = E} 64 word (Err e) parses digits in
     λ n h. gives (h.0, subst (λ x. x < 2 ^ 64) h.2 h.3)
@@ -71,7 +75,7 @@ one_command a b e = sym (begins a) ∙ ap (λ name. beginning (slice_index name 
 
 -- ---- what was met
 
-together : {X : Type 0} (f : X → Text) (g : X → List Row) (met : Option X) (name : Text) (rows : List Row)
+pub together : {X : Type 0} (f : X → Text) (g : X → List Row) (met : Option X) (name : Text) (rows : List Row)
     → Some name ≡ option_map f met
     → Some rows ≡ option_map (λ (p : Text × List Row). p.1) (option_map {U = Text × List Row} (λ b. (f b, g b)) met)
     → option_map {U = Text × List Row} (λ b. (f b, g b)) met ≡ Some (name, rows)
@@ -86,11 +90,11 @@ pub met_together : {X : Type 0} (f : X → Text) (g : X → List Row) (met : Opt
     → option_map {U = Text × List Row} (λ b. (f b, g b)) met ≡ Some (name_of command, rows)
 met_together f g met name rows command p q e = rw e (together f g met name rows p q)
 
-abbrev name_met : Option (Text × List Row) → Text
+abbrev pub name_met : Option (Text × List Row) → Text
 name_met None = []
 name_met (Some met) = met.0
 
-abbrev rows_met : Option (Text × List Row) → List Row
+abbrev pub rows_met : Option (Text × List Row) → List Row
 rows_met None = []
 rows_met (Some met) = met.1
 
@@ -149,8 +153,11 @@ pub asks_what_is_met : (words : List Text) (met : Option (Text × List Row)) (or
     → MatchResult (ok_or order fault.Words) (Asks words) (Refuses words)
 unfolding Asks Refuses
 asks_what_is_met words met (Some order) e none h = subst (λ m. IsOrderOf m order) e h
-asks_what_is_met words met None e none h =
-    (λ taken order asked. h order (subst (λ m. IsOrderOf m order) (sym e) asked), λ asks. some_fault _ _ (sym asks ∙ none))
+asks_what_is_met words met None e none h = (
+  λ taken order asked. h order (subst (λ m. IsOrderOf m order) (sym e) asked),
+  λ asks. some_fault _ _ (sym asks
+      ∙ none),
+)
 
 -- of one kind alone comes that one
 only : (k one : ErrorKind) → IsAmong k (one ∷ []) → k ≡ one

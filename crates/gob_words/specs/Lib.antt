@@ -1,2 +1,4 @@
 pub mod Depths
 pub mod Words
+pub mod Views
+pub mod ViewDepths

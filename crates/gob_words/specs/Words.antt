@@ -38,12 +38,19 @@ abbrev pub two_streams : Text → App
 two_streams name =
     with_input (with_rule (with_options name) (record (new_rule (codes "WANTED")) { required = true }))
 
-abbrev pub program : App
-program =
+-- the commands that write exactly what a stream has
+abbrev pub exact_program : App
+exact_program =
     let top = (new_app (codes "gob")).top in
-    let bare : App = record { top = record top { subcommand_required = true }; subs = [] } in
+    let bare : App = record { top = record top { has_version = true; subcommand_required = true }; subs = [] } in
     with_subcommand (with_subcommand (with_subcommand (with_subcommand bare (one_stream (codes "show")).top)
     (one_stream (codes "check")).top) (one_stream (codes "rewrite")).top) (two_streams (codes "take")).top
+
+-- and those that show it to people and to other programs
+abbrev pub program : App
+program =
+    with_subcommand (with_subcommand (with_subcommand exact_program (one_stream (codes "values")).top)
+    (one_stream (codes "types")).top) (new_app (codes "version")).top
 
 -- ---- what they say
 

@@ -3,7 +3,8 @@
 ghost use Rattle.std.specs.Prelude.{◌≡◌, IfOk, codes, false};
 ghost use Rattle.clap.specs.Words.{app_of, rule_of, with_subcommand};
 ghost use Rattle.clap.specs.declared.builder.Command.TheViews.{out-Command};
-ghost use Rattle.gob_words.specs.Words.{option_rule, with_options, with_input, one_stream, two_streams, program};
+ghost use Rattle.gob_words.specs.Words.{option_rule, with_options, with_input, one_stream, two_streams};
+ghost use Rattle.gob_words.specs.Words.{exact_program, program};
 
 use crate::help;
 use clap::{Arg, Command};
@@ -13,13 +14,59 @@ use std::alloc::{AllocError, Global};
 pub(crate) fn program<'a>(alloc: Global) -> Result<Command<'a>, AllocError>
     ensures { IfOk result (λ command. app_of command ≡ program) }
 {
+    let exact = exact_program(alloc)?;
+    let valuing = with_one_stream(
+        alloc,
+        exact,
+        "values",
+        help::VALUES,
+        help::DEPTH_OF_TREES,
+        help::FILE,
+    )?;
+    let typing = with_one_stream(
+        alloc,
+        valuing,
+        "types",
+        help::TYPES,
+        help::DEPTH,
+        help::FILE,
+    )?;
+    typing.subcommand(Command::new(alloc, "version").about(help::NAME_AND_VERSION))
+}
+
+// The program with the commands that write exactly what a stream has.
+fn exact_program<'a>(alloc: Global) -> Result<Command<'a>, AllocError>
+    ensures { IfOk result (λ command. app_of command ≡ exact_program) }
+{
     let bare = Command::new(alloc, "gob")
         .about(help::PROGRAM)
+        .version(help::VERSION)
         .after_help(help::USE)
         .subcommand_required(true);
-    let showing = with_one_stream(alloc, bare, "show", help::SHOW, help::DEPTH_OF_TREES)?;
-    let checking = with_one_stream(alloc, showing, "check", help::CHECK, help::DEPTH)?;
-    let rewriting = with_one_stream(alloc, checking, "rewrite", help::REWRITE, help::DEPTH)?;
+    let showing = with_one_stream(
+        alloc,
+        bare,
+        "show",
+        help::SHOW,
+        help::DEPTH_OF_TREES,
+        help::INPUT,
+    )?;
+    let checking = with_one_stream(
+        alloc,
+        showing,
+        "check",
+        help::CHECK,
+        help::DEPTH,
+        help::INPUT,
+    )?;
+    let rewriting = with_one_stream(
+        alloc,
+        checking,
+        "rewrite",
+        help::REWRITE,
+        help::DEPTH,
+        help::INPUT,
+    )?;
     rewriting.subcommand(two_streams(alloc, "take", help::TAKE, help::DEPTH_OF_TREES)?)
 }
 
@@ -30,11 +77,12 @@ fn with_one_stream<'a>(
     name: &'a str,
     about: &'a str,
     depth: &'a str,
+    input: &'a str,
 ) -> Result<Command<'a>, AllocError>
     ensures { IfOk result (λ more. app_of more
         ≡ with_subcommand (app_of program.entry) (one_stream name.now).top) }
 {
-    program.subcommand(one_stream(alloc, name, about, depth)?)
+    program.subcommand(one_stream(alloc, name, about, depth, input)?)
 }
 
 // A command that reads one stream.
@@ -43,11 +91,12 @@ fn one_stream<'a>(
     name: &'a str,
     about: &'a str,
     depth: &'a str,
+    input: &'a str,
 ) -> Result<Command<'a>, AllocError>
     ensures app { IfOk result (λ command. app_of command ≡ one_stream name.now) }
     ensures local { IfOk result (λ command. (out-Command command).has_globals ≡ false) }
 {
-    with_input(alloc, with_options(alloc, name, about, depth)?)
+    with_input(alloc, with_options(alloc, name, about, depth)?, input)
 }
 
 // A command that reads the stream that has the wanted type, and then another.
@@ -61,16 +110,24 @@ fn two_streams<'a>(
     ensures local { IfOk result (λ command. (out-Command command).has_globals ≡ false) }
 {
     let wanted = Arg::new(alloc, "WANTED").required(true).help(help::WANTED);
-    with_input(alloc, with_options(alloc, name, about, depth)?.arg(wanted)?)
+    with_input(
+        alloc,
+        with_options(alloc, name, about, depth)?.arg(wanted)?,
+        help::INPUT,
+    )
 }
 
 // The command with the stream that it reads behind what else it takes.
-fn with_input<'a>(alloc: Global, command: Command<'a>) -> Result<Command<'a>, AllocError>
+fn with_input<'a>(
+    alloc: Global,
+    command: Command<'a>,
+    about: &'a str,
+) -> Result<Command<'a>, AllocError>
     requires { (out-Command command).has_globals ≡ false }
     ensures app { IfOk result (λ more. app_of more ≡ with_input (app_of command.entry)) }
     ensures local { IfOk result (λ more. (out-Command more).has_globals ≡ false) }
 {
-    command.arg(Arg::new(alloc, "IN").help(help::INPUT))
+    command.arg(Arg::new(alloc, "IN").help(about))
 }
 
 // A command with the options that each has.

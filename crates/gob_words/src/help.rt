@@ -1,8 +1,10 @@
 //! What help says. The version stands here alone.
 
+/// The program's name and version, which it prints where that is asked for.
+pub const VERSION: &str = "gob 0.1.0";
+
 /// The program.
-pub(crate) const PROGRAM: &str =
-    "gob 0.1.0: shows, checks and rewrites streams of Go's encoding/gob";
+pub(crate) const PROGRAM: &str = "Shows, checks and rewrites streams of Go's encoding/gob";
 
 /// Each command.
 pub(crate) const SHOW: &str = "Print each item of a stream as a line of JSON";
@@ -13,6 +15,12 @@ pub(crate) const CHECK: &str =
 pub(crate) const REWRITE: &str = "Write a stream anew, without the fields that are zero";
 
 pub(crate) const TAKE: &str = "Print each value as one of the type of the first value in WANTED";
+
+pub(crate) const VALUES: &str = "Print each value of a stream as plain JSON, a line each";
+
+pub(crate) const TYPES: &str = "Print the types of a stream as Go source";
+
+pub(crate) const NAME_AND_VERSION: &str = "Print the program's name and version";
 
 /// Their options and files.
 pub(crate) const DEPTH: &str = "Refuse deeper values: 1 to 65536, and 1000 without it";
@@ -25,6 +33,8 @@ pub(crate) const ITEM: &str =
 pub(crate) const WANTED: &str = "The stream that has the wanted type";
 
 pub(crate) const INPUT: &str = "The stream; without it, standard input is read";
+
+pub(crate) const FILE: &str = "The stream; without it, or where it is -, standard input is read";
 
 /// How it is used, how it ends, and what to do about the commonest faults.
 pub(crate) const USE: &str = "\

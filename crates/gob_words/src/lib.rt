@@ -1,11 +1,19 @@
-//! The words of the command line of the program `gob`: which order they make, and what is said of words that make none.
+//! The words of the command line of the program `gob`: which order they make
+//! or what they ask to be shown, and what is said of words that make neither.
 #![tactic(auto)]
 
 mod command_line;
 mod decimal;
 mod help;
+mod message;
 mod orders;
+mod view;
+mod views;
 mod words;
 
+pub use help::VERSION;
+pub use message::escaped;
 pub use orders::order_of;
+pub use view::{View, ViewCommand, ViewFault};
+pub use views::view_of;
 pub use words::{Chosen, Order, OrderFault};

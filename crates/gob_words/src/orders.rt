@@ -15,9 +15,9 @@ use clap::error::ErrorKind;
 use std::alloc::{AllocError, Global};
 use std::fmt::Display;
 
-const USUAL_DEPTH: u64 = 1000;
+pub(crate) const USUAL_DEPTH: u64 = 1000;
 
-const USUAL_ITEM: u64 = 67108864;
+pub(crate) const USUAL_ITEM: u64 = 67108864;
 
 /// What the words ask for, the program's name first: a command, its files and its options. The words `help`, `-h` and
 /// `--help` are answered with [`OrderFault::Help`].
@@ -34,7 +34,7 @@ pub fn order_of<'a>(alloc: Global, words: &'a [&'a str]) -> Result<Order<'a>, Or
 
 // The fault of words that clap answers with an error of this kind, which shows this. It is one function for all that is
 // shown, since clap's contracts don't say what its own error shows.
-fn fault_of<D: Display>(alloc: Global, kind: ErrorKind, shown: &D) -> OrderFault
+pub(crate) fn fault_of<D: Display>(alloc: Global, kind: ErrorKind, shown: &D) -> OrderFault
     ensures { IsFaultOf kind (D.output shown.now) result }
 {
     match kind {

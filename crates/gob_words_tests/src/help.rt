@@ -16,13 +16,17 @@ fn tells(alloc: Global, words: &[&str], texts: &str) -> bool {
 }
 
 const PROGRAM: &str = "\
-gob 0.1.0
+Shows, checks and rewrites streams
 Usage: gob <COMMAND>
   show 
   check 
   rewrite 
   take 
+  values 
+  types 
+  version 
   help 
+  -V, --version
 Example:
 Exit status:
 Ended
@@ -31,6 +35,13 @@ WrongId";
 
 const TAKE: &str = "\
 Usage: gob take [OPTIONS] <WANTED> [IN]
+--depth <N>
+--item <N>
+1 to 1000,";
+
+const VALUES: &str = "\
+Usage: gob values [OPTIONS] [IN]
+where it is -,
 --depth <N>
 --item <N>
 1 to 1000,";
@@ -49,6 +60,14 @@ fn help_has_its_texts(rt: HostRuntime) {
     assert!(rt;
         tells(alloc, &["gob", "check", "--help"], "1 to 65536,"),
         "check --help"
+    );
+    assert!(rt;
+        tells(alloc, &["gob", "help", "values"], VALUES),
+        "help values"
+    );
+    assert!(rt;
+        tells(alloc, &["gob", "types", "--help"], "1 to 65536,"),
+        "types --help"
     );
 }
 

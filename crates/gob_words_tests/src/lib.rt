@@ -4,4 +4,6 @@
 #[cfg(test)]
 mod help;
 #[cfg(test)]
+mod views;
+#[cfg(test)]
 mod words;

@@ -109,7 +109,7 @@ help list
 -V
 check --help=yes";
 
-// The same, with a file's name behind the words.
+// Words that are an order, also with a file's name behind them.
 const ALLOWED: &str = "\
 show
 show --depth 1

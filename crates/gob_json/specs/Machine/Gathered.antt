@@ -10,7 +10,7 @@ pub record PassesOn {O E : Type 0} (puts : O → O → List ℕ → Result (Unit
   pub whole : before ≡ gone ++ after
   pub out : puts old new gone (Ok tt)
 
--- the same, or a front of what was there was put out before an error
+-- the same, or a prefix of what was there was put out before an error
 abbrev pub Gathers : {O E : Type 0} → (O → O → List ℕ → Result (Unit {0}) E → Type 0) → (old new : O)
     → (before after : List ℕ) → Result (Unit {0}) E → Type 0
 Gathers puts old new before after (Ok u) = PassesOn puts old new before after
@@ -38,7 +38,7 @@ module _ {O E : Type 0} (puts : O → O → List ℕ → Result (Unit {0}) E →
       let whole = sym (append_assoc held x y) ∙ ap (λ l. l ++ y) p.whole ∙ append_assoc p.gone waits y in
       rw whole (joined a b c p.gone (waits ++ y) (Err e) p.out q)
 
-  -- a front of a text
+  -- a prefix of a text
   pub gathers_more : ((a b : O) (x y : List ℕ) (e : E) → puts a b x (Err e) → puts a b (x ++ y) (Err e)) → (a b : O)
       → (held left x y : List ℕ) (e : E) → Gathers puts a b (held ++ x) left (Err e)
       → Gathers puts a b (held ++ (x ++ y)) left (Err e)

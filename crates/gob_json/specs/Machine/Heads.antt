@@ -1,10 +1,8 @@
 -- What stands before the values of a struct's first fields. For private clauses.
 use Rattle.std.specs.Prelude.{◌≡◌, ℕ, ◌<◌, List, Some, false, slice_get}
-use Rattle.gob_types.specs.declared.id.TypeId.{TypeId}
 use Rattle.gob_types.specs.declared.kind.Field.{Field}
+use Rattle.gob_types.specs.declared.kind.Kind.{Kind}
 use Rattle.gob_types.specs.declared.kind.Kind.TheVariants as kind
-use Rattle.gob_types.specs.declared.kind.Shape.{Shape}
-use Rattle.gob_types.specs.Table.{Table, shape_of}
 use Rattle.gob_json.specs.declared.text.heads.Heads.{Heads}
 use Rattle.gob_json.specs.declared.text.piece.Piece.{Piece}
 use Rattle.gob_json.specs.Machine.Piece.{piece_text}
@@ -19,7 +17,6 @@ AreHeadsTo types heads count = (number : ℕ) (head : Piece 32) (field : Field) 
 abbrev pub AreHeads : List Field → Heads → Type 0
 AreHeads types h = AreHeadsTo types h.heads h.count
 
--- where the type is a struct, they are those of its fields
-abbrev pub AreHeadsOf : Table → TypeId → Heads → Type 0
-AreHeadsOf T t h = (s : Shape) (types : List Field) → shape_of T t ≡ Some s → s.kind ≡ kind.Struct types
-    → AreHeads types h
+-- where the kind is a struct, they are those of its fields
+abbrev pub AreHeadsOf : Kind → Heads → Type 0
+AreHeadsOf k h = (types : List Field) → k ≡ kind.Struct types → AreHeads types h

@@ -1,15 +1,16 @@
 -- A value that is known to stand at the front of a piece of a stream, what stands behind it, and what is answered where
 -- its text goes out while it is made. (docs/FORMAT.md, Values; Depth; The JSON lines.)
-use Rattle.std.specs.Prelude.{◌≡◌, ℕ, ◌+◌, ◌<◌, ◌≤◌, List, ◌++◌, drop, Some, slice_get, Result, Ok, Err, IfOk}
+use Rattle.std.specs.Prelude.{◌≡◌, ℕ, ◌+◌, ◌<◌, ◌≤◌, Bool, false, List, ◌++◌, drop, length, Some, slice_get, Result, Ok}
+use Rattle.std.specs.Prelude.{Err, IfOk}
 use Rattle.gob_types.specs.declared.id.TypeId.{TypeId}
 use Rattle.gob_types.specs.declared.kind.Field.{Field}
 use Rattle.gob_types.specs.declared.kind.Kind.{Kind}
 use Rattle.gob_types.specs.Table.{Table}
 use Rattle.gob_value.specs.Tree.{Tree, Trees, Pairs, Fields, depth, trees_depth, pairs_depth, fields_depth}
-use Rattle.gob_value.specs.Tree.{tree_count, pair_count}
 use Rattle.gob_value.specs.Spelling.{Spells, SpellsAs, SpellsEach, SpellsPairs, SpellsFields}
-use Rattle.gob_value.specs.Whole.{BeginsThisNumber}
-use Rattle.gob_json.specs.Machine.TextParts.{BeginsThese}
+use Rattle.gob_value.specs.Whole.{BeginsKind, BeginsThisNumber, HoldsBetween}
+use Rattle.gob_json.specs.declared.text.stop.Stop.{Stop}
+use Rattle.gob_json.specs.declared.text.stop.Stop.TheVariants as stops
 
 -- the piece begins with this value of the kind, and this is the rest
 pub record HoldsKind (T : Table) (k : Kind) (v : Tree) (piece rest : List ℕ) : Type 0 where
@@ -31,24 +32,12 @@ pub record BeginsElements (T : Table) (e : TypeId) (limit : ℕ) (vs : Trees) (p
   pub within : trees_depth vs ≤ limit
   pub whole : piece ≡ bytes ++ rest
 
--- with the count of them before
-pub record BeginsList (T : Table) (e : TypeId) (limit : ℕ) (vs : Trees) (piece rest : List ℕ) : Type 0 where
-  pub behind : List ℕ
-  pub counted : BeginsThisNumber (tree_count vs) piece behind
-  pub elements : BeginsElements T e limit vs behind rest
-
 -- with these keys and their elements
 pub record BeginsEntries (T : Table) (k e : TypeId) (limit : ℕ) (ps : Pairs) (piece rest : List ℕ) : Type 0 where
   pub bytes : List ℕ
   pub spelled : SpellsPairs T k e ps bytes
   pub within : pairs_depth ps ≤ limit
   pub whole : piece ≡ bytes ++ rest
-
--- with the count of them before
-pub record BeginsMap (T : Table) (k e : TypeId) (limit : ℕ) (ps : Pairs) (piece rest : List ℕ) : Type 0 where
-  pub behind : List ℕ
-  pub counted : BeginsThisNumber (pair_count ps) piece behind
-  pub entries : BeginsEntries T k e limit ps behind rest
 
 -- with a key, and its element behind it
 pub record BeginsEntry (T : Table) (k e : TypeId) (limit : ℕ) (x v : Tree) (piece rest : List ℕ) : Type 0 where
@@ -68,12 +57,38 @@ pub record BeginsPresent (T : Table) (types : List Field) (next limit : ℕ) (fs
 abbrev pub IsNextField : List Field → (next delta : ℕ) → ℕ → Field → Type 0
 IsNextField types next delta f e = (0 < delta) × (f + 1 ≡ next + delta) × (slice_get types f ≡ Some e)
 
+-- the piece begins with a value of the one kind, and behind it one of the other
+abbrev pub BeginsPair : Table → (j k : Kind) → (limit : ℕ) → (piece rest : List ℕ) → Type 0
+BeginsPair T j k limit piece rest =
+    (behind : List ℕ) × BeginsKind T false j limit piece behind × BeginsKind T false k limit behind rest
+
+-- a place within the body; where it isn't known what stands there, the relation holds of what stands up to it
+pub record EndsAt (known : Bool) (Begins : List ℕ → List ℕ → Type 0) (body : List ℕ) (at end : ℕ) : Type 0 where
+  pub inside : end ≤ length body
+  pub stands : known ≡ false → HoldsBetween Begins body at end
+
+-- an output's answer, as the walk's
+abbrev pub as_stop : {E : Type 0} → Result (Unit {0}) E → Result (Unit {0}) (Stop E)
+as_stop (Ok u) = Ok u
+as_stop (Err e) = Err (stops.Out e)
+
+-- what the output says of a text, where it isn't found that no value stands there
+abbrev pub Answers : {O E : Type 0} → (O → O → List ℕ → Result (Unit {0}) E → Type 0) → O → O → List ℕ
+    → Result (Unit {0}) (Stop E) → Type 0
+Answers puts old new text (Ok u) = puts old new text (Ok u)
+Answers puts old new text (Err (stops.Out e)) = puts old new text (Err e)
+Answers puts old new text (Err stops.NotWhole) = ⊥
+
+pub record Reaches {O E : Type 0} (puts : O → O → List ℕ → Result (Unit {0}) E → Type 0) (old new : O) (text : List ℕ)
+    (result : Result (Unit {0}) (Stop E)) : Type 0 where
+  pub answers : Answers puts old new text result
+
 -- whether the text was put out, without where the value ends
 abbrev pub without_end : {E : Type 0} → Result ℕ E → Result (Unit {0}) E
 without_end (Ok end) = Ok tt
 without_end (Err e) = Err e
 
--- the text was put out, and what stands in the body where it ends is the rest; or a front of it was, before an error
+-- the text was put out, and what stands in the body where it ends is the rest; or a prefix of it was, before an error
 pub record Sends {O E : Type 0} (puts : O → O → List ℕ → Result (Unit {0}) E → Type 0) (old new : O)
     (text body rest : List ℕ) (result : Result ℕ E) : Type 0 where
   pub put : puts old new text (without_end result)
@@ -83,8 +98,3 @@ pub record Sends {O E : Type 0} (puts : O → O → List ℕ → Result (Unit {0
 abbrev pub NumberFrom : (body : List ℕ) → (at number end : ℕ) → Type 0
 NumberFrom body at number end = (n : ℕ) (rest : List ℕ) → BeginsThisNumber n (drop at body) rest
     → (number ≡ n) × (drop end body ≡ rest)
-
--- bytes that stand behind their count are these
-abbrev pub BytesFrom : (body : List ℕ) → (at : ℕ) → (bytes : List ℕ) → (end : ℕ) → Type 0
-BytesFrom body at bytes end = (raw rest : List ℕ) → BeginsThese raw (drop at body) rest
-    → (bytes ≡ raw) × (drop end body ≡ rest)

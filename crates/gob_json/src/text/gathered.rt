@@ -1,16 +1,18 @@
 //! An output before which text is gathered: a short part of it is made in its place, and goes out with others.
 
-ghost use Rattle.std.specs.Prelude.{◌≡◌, ◌+◌, ◌≤◌, ◌++◌, [], OnOk};
+ghost use Rattle.std.specs.Prelude.{◌≡◌, ◌+◌, ◌≤◌, ◌∷◌, ◌++◌, [], OnOk};
 ghost use Rattle.std.specs.Fmt.{decimal};
 ghost use Rattle.serde_json.specs.Written.{comma_if, compact_text};
 ghost use Rattle.gob_json.specs.Json.{integer_json, pattern_json, text_json};
 ghost use Rattle.gob_json.specs.Machine.Piece.{piece_text};
 ghost use Rattle.gob_json.specs.Machine.Gathered.{Gathers};
 
+use super::between::put_comma;
 use super::block::{DIGITS, PATTERN};
-use super::leaf::put_text;
+use super::leaf::{put_integer, put_natural, put_pattern, put_text};
 use super::out::TextOut;
 use super::piece::{HEAD, Piece, WAITING};
+use gob_num::Memory;
 
 // Text of so many bytes is made in its place, if it can be.
 const SHORT: usize = 32;
@@ -18,6 +20,10 @@ const SHORT: usize = 32;
 /// An output that makes short parts of a text in their place. What is put out of a value says of it no more than of any
 /// output that takes text.
 pub(crate) trait PartOut: TextOut {
+    /// Puts out one byte: a bracket or a comma.
+    fn put_mark(&mut self, mark: u8) -> Result<(), Self::Fault>
+        ensures { Self.puts self.old self.new (mark ∷ []) result };
+
     /// Puts out the number in decimal.
     fn put_natural(&mut self, number: u64) -> Result<(), Self::Fault>
         ensures { Self.puts self.old self.new (decimal number) result };
@@ -39,6 +45,39 @@ pub(crate) trait PartOut: TextOut {
         ensures { Self.puts self.old self.new (comma_if later ++ piece_text head.now) result };
 }
 
+impl PartOut for Vec<u8> {
+    #[inline(always)]
+    fn put_mark(&mut self, mark: u8) -> Result<(), Memory> {
+        Ok(self.push(mark)?)
+    }
+
+    #[inline(always)]
+    fn put_natural(&mut self, number: u64) -> Result<(), Memory> {
+        put_natural(number, self)
+    }
+
+    #[inline(always)]
+    fn put_integer(&mut self, number: i64) -> Result<(), Memory> {
+        put_integer(number, self)
+    }
+
+    #[inline(always)]
+    fn put_pattern(&mut self, pattern: u64) -> Result<(), Memory> {
+        put_pattern(pattern, self)
+    }
+
+    #[inline(always)]
+    fn put_text(&mut self, text: &[u8]) -> Result<(), Memory> {
+        put_text(text, self)
+    }
+
+    #[inline(always)]
+    fn put_kept_head(&mut self, later: bool, head: &Piece<HEAD>) -> Result<(), Memory> {
+        put_comma(later, self)?;
+        self.put(head.text())
+    }
+}
+
 /// An output, and what waits to be put out there. It is taken apart in the end, and not dropped: so what it did to the
 /// output is known.
 pub(crate) struct Gathered<'a, O: TextOut> {
@@ -49,7 +88,7 @@ pub(crate) struct Gathered<'a, O: TextOut> {
 }
 
 impl<O: TextOut> Gathered<'_, O> {
-    /// Puts out what waits. After an error a front of it may be put out.
+    /// Puts out what waits. After an error a prefix of it may be put out.
     pub(crate) fn flush(&mut self) -> Result<(), O::Fault>
         ensures same { self.new.out.ghost_name ≡ self.old.out.ghost_name }
         ensures put { O.puts self.old.out.now self.new.out.now (piece_text self.old.waiting) result }
@@ -114,6 +153,11 @@ impl<O: TextOut> TextOut for Gathered<'_, O> {
 }
 
 impl<O: TextOut> PartOut for Gathered<'_, O> {
+    #[inline(always)]
+    fn put_mark(&mut self, mark: u8) -> Result<(), O::Fault> {
+        self.put(&[mark])
+    }
+
     #[inline(always)]
     fn put_natural(&mut self, number: u64) -> Result<(), O::Fault> {
         self.make_room(DIGITS)?;

@@ -7,34 +7,49 @@ ghost use Rattle.gob_json.specs.Machine.TextParts.{field_head};
 
 use super::between::put_field_head;
 use super::piece::{HEAD, Piece};
-use gob_types::Fields;
+use gob_types::{Fields, Kind};
 
 // Of so many fields what stands before them is kept: more are rare, and a field behind them has its own made.
-const MANY: usize = 8;
+const KEPT: usize = 8;
+
+// For so many values it is worth while to make beforehand what stands before their fields.
+const MANY: u64 = 4;
 
 /// What stands before the value of each of a struct's first fields, without the comma.
 #[derive(Drop)]
 pub(crate) struct Heads {
-    heads: [Piece<HEAD>; MANY],
+    heads: [Piece<HEAD>; KEPT],
     count: usize,
     ghost within: { count ≤ 8 },
 }
 
 impl Heads {
-    ghost use Rattle.gob_json.specs.Machine.Heads.{AreHeads};
+    ghost use Rattle.gob_json.specs.Machine.Heads.{AreHeads, AreHeadsOf};
+
+    /// Of the values of this kind, where it is a struct and there are many of them. It is worth while for bytes that
+    /// are known to be whole alone, which are those of large items.
+    #[inline(always)]
+    pub(crate) fn of_many<const KNOWN: bool>(kind: &Kind, count: u64) -> Option<Heads>
+        ensures { IfSome result (λ heads. AreHeadsOf kind.now heads) }
+    {
+        if !KNOWN || count < MANY {
+            return None;
+        }
+        Some(Heads::of(kind.fields()?))
+    }
 
     /// Of these fields, up to one whose name is too long to be kept.
     pub(crate) fn of(fields: &Fields) -> Heads
         ensures { AreHeads fields.now result }
     {
-        let mut heads = [Piece::new(); MANY];
-        'fields: for count in 0..MANY {
+        let mut heads = [Piece::new(); KEPT];
+        'fields: for count in 0..KEPT {
             match head_of(fields, count as u64) {
                 Some(head) => heads[count] = head,
                 None => return Heads { heads, count },
             }
         }
-        Heads { heads, count: MANY }
+        Heads { heads, count: KEPT }
     }
 
     /// Of the field of this number, if it is kept.

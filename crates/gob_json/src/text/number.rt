@@ -1,73 +1,58 @@
 //! Numbers and bytes that stand at a place of a body.
 
-ghost use Rattle.std.specs.Prelude.{◌≡◌, ◌+◌, ◌<◌, ◌≤◌, IfOk, length};
-ghost use Rattle.gob_value.specs.Whole.{HoldsBetween, BeginsThisNumber};
-ghost use Rattle.gob_json.specs.Machine.TextParts.{BeginsThese};
-ghost use Rattle.gob_json.specs.Machine.TextSent.{NumberFrom, BytesFrom};
+ghost use Rattle.std.specs.Prelude.{◌≡◌, ◌+◌, ◌-◌, ◌<◌, ◌≤◌, ◌^◌, ℕ, List, IfSome, None, Some, drop, length, take};
+ghost use Rattle.gob_types.specs.declared.kind.Field.{Field};
+ghost use Rattle.gob_value.specs.Whole.{BeginsThisNumber};
+ghost use Rattle.gob_json.specs.Machine.TextSent.{EndsAt, IsNextField, NumberFrom};
 
-use super::stop::Stop;
 use gob_num::known_uint_at;
+use gob_types::{Field, Fields};
 
-/// The number that stands in the body from the place on, and where it ends.
+/// The number that stands in the body from the place on, and where it ends. None says that none stands there. Where one
+/// is known to stand it isn't looked at whether it does: then some number and a place are answered where none stands.
+// number: a byte below 80, or the negated count of the bytes that follow it, the first of them not 0
 #[inline(always)]
-pub(crate) fn number_at(body: &[u8], at: usize) -> Result<(u64, usize), Stop>
+pub(crate) fn number_at<const KNOWN: bool>(body: &[u8], at: usize) -> Option<(u64, usize)>
     requires { at ≤ length body.now }
-    ensures stands { IfOk result (λ found. HoldsBetween (BeginsThisNumber found.0) body.now at found.1) }
-    ensures onward { IfOk result (λ found. at < found.1) }
+    ensures found { IfSome result (λ found. NumberFrom body.now at found.0 found.1) }
+    ensures stands { IfSome result (λ found. EndsAt KNOWN (BeginsThisNumber found.0) body.now at found.1) }
+    ensures none { result ≡ None → (n : ℕ) (rest : List ℕ) → ¬ BeginsThisNumber n (drop at body.now) rest }
 {
-    match gob_value::number_at(body, at) {
-        Some(found) => Ok(found),
-        None => Err(Stop::NotWhole),
+    if KNOWN {
+        return Some(known_uint_at(body, at));
     }
+    gob_value::number_at(body, at)
 }
 
-/// The bytes that stand in the body from the place on behind their count, and where they end.
+/// So many bytes that stand in the body from the place on, and where they end. None says that there are fewer.
 #[inline(always)]
-pub(crate) fn bytes_at(body: &[u8], at: usize) -> Result<(&[u8], usize), Stop>
-    requires { at ≤ length body.now }
-    ensures { IfOk result (λ found. HoldsBetween (BeginsThese found.0.now) body.now at found.1) }
+pub(crate) fn bytes_at(count: u64, body: &[u8], begin: usize) -> Option<(&[u8], usize)>
+    requires { begin ≤ length body.now }
+    ensures bytes { IfSome result (λ found. found.0.now ≡ take count (drop begin body.now)) }
+    ensures end { IfSome result (λ found. found.1 ≡ begin + count) }
+    ensures enough { IfSome result (λ found. begin + count ≤ length body.now) }
+    ensures none { result ≡ None → length body.now < begin + count }
 {
-    let (count, begin) = number_at(body, at)?;
     if count > (body.len() - begin) as u64 {
-        return Err(Stop::NotWhole);
+        return None;
     }
     let end = begin + count as usize;
-    Ok((&body[begin..end], end))
+    Some((&body[begin..end], end))
 }
 
-/// The number of the field that is so much above the one before the next.
+/// The field that is so much above the one before the next, with its number, if there is one.
 #[inline(always)]
-pub(crate) fn field_number(next: u64, delta: u64) -> Result<u64, Stop>
-    requires { 0 < delta }
-    ensures { IfOk result (λ number. number + 1 ≡ next + delta) }
+pub(crate) fn next_field(types: &Fields, next: u64, delta: u64) -> Option<(u64, &Field)>
+    ensures some { IfSome result (λ found. IsNextField types.now next delta found.0 found.1.now) }
+    ensures none { result ≡ None → (f : ℕ) (e : Field) → ¬ IsNextField types.now next delta f e }
+    ensures small { IfSome result (λ found. found.0 < 2 ^ 64 - 1) }
 {
-    match gob_value::field_number(next, delta) {
-        Some(number) => Ok(number),
-        None => Err(Stop::NotWhole),
+    if delta == 0 || delta > types.count().saturating_sub(next) {
+        return None;
     }
-}
-
-/// The number that is known to stand in the body from the place on, and where it ends. It isn't looked at whether it
-/// does: where none stands, some number and a place are answered.
-#[inline(always)]
-pub(crate) fn number_from(body: &[u8], at: usize) -> (u64, usize)
-    requires { at ≤ length body.now }
-    ensures found { NumberFrom body.now at result.0 result.1 }
-    ensures inside { result.1 ≤ length body.now }
-{
-    known_uint_at(body, at)
-}
-
-/// The bytes that are known to stand in the body from the place on behind their count, and where they end; some other
-/// bytes where none do.
-#[inline(always)]
-pub(crate) fn bytes_from(body: &[u8], at: usize) -> (&[u8], usize)
-    requires { at ≤ length body.now }
-    ensures found { BytesFrom body.now at result.0.now result.1 }
-    ensures inside { result.1 ≤ length body.now }
-{
-    let (count, begin) = number_from(body, at);
-    let len = count.min((body.len() - begin) as u64) as usize;
-    let end = begin + len;
-    (&body[begin..end], end)
+    let number = next + delta - 1;
+    match types.get(number) {
+        Some(field) => Some((number, field)),
+        None => None,
+    }
 }

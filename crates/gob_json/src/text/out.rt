@@ -9,10 +9,10 @@ pub trait TextOut {
     /// Why text was not taken.
     type Fault: Drop;
 
-    /// With this answer the text was taken; after an error no more than a front of it was.
+    /// With this answer the text was taken; after an error no more than a prefix of it was.
     ghost puts: { Self → Self → List ℕ → Result (Unit {0}) Self.Fault → Type 0 };
 
-    /// Takes the text. After an error a front of it may be taken.
+    /// Takes the text. After an error a prefix of it may be taken.
     fn put(&mut self, text: &[u8]) -> Result<(), Self::Fault>
         ensures { puts self.old self.new text.now result };
 
@@ -23,7 +23,7 @@ pub trait TextOut {
     ghost joined: { (a b c : Self) (x y : List ℕ) (r : Result (Unit {0}) Self.Fault)
         → puts a b x (Ok tt) → puts b c y r → puts a c (x ++ y) r };
 
-    /// A front of a text is one of any text that goes on behind it.
+    /// A prefix of a text is one of any text that goes on behind it.
     ghost cut: { (a b : Self) (x y : List ℕ) (e : Self.Fault) → puts a b x (Err e) → puts a b (x ++ y) (Err e) };
 }
 

@@ -30,7 +30,7 @@ pub(crate) fn is_plain_ascii(bytes: &[u8]) -> bool
     are_all_plain(bytes)
 }
 
-// The same, one byte behind another.
+// Whether each byte is such a character, looked at one behind another.
 #[inline(always)]
 fn are_few_plain(bytes: &[u8]) -> bool
     ensures { IsTrue result → IsPlainAscii bytes.now }
@@ -63,7 +63,7 @@ pub(crate) fn copy_plain(bytes: &[u8], block: &mut [u8], at: usize) -> bool
     true
 }
 
-// The same. It looks at all of them: a loop that doesn't end early takes many bytes at once.
+// Whether each byte is such a character. It looks at all: a loop that doesn't end early takes many bytes at once.
 fn are_all_plain(bytes: &[u8]) -> bool
     ensures { IsTrue result → IsPlainAscii bytes.now }
 {

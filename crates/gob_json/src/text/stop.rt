@@ -1,46 +1,36 @@
 //! Why the text of a value was not written whole.
 
-use gob_num::Memory;
-use std::alloc::{AllocError, AllocFailed};
+ghost use Rattle.std.specs.Prelude.{◌≡◌, Ok};
+ghost use Rattle.std.specs.Result.{result_and};
+ghost use Rattle.gob_json.specs.Machine.TextSent.{as_stop};
 
-/// What ends the writing of a text before its end. A front of the text stands then.
-#[derive(Clone, Copy)]
-pub(crate) enum Stop {
-    /// The bytes spell no value of the type that is shallow enough.
+/// What ends the writing of a text before its end.
+#[derive(Drop)]
+pub(crate) enum Stop<E: Drop> {
+    /// The bytes spell no value of the type that is shallow enough. A prefix of some text was put out.
     NotWhole,
-    /// There was no memory for the text.
-    Memory,
+    /// The output took no more: a prefix of the text was put out.
+    Out(E),
 }
 
-impl From<Memory> for Stop {
+impl<E: Drop> From<E> for Stop<E> {
     ghost use Rattle.std.specs.Prelude.{◌≡◌};
-    ghost use Rattle.gob_json.specs.declared.text.stop.Stop.TheVariants.{Memory as no_memory};
+    ghost use Rattle.gob_json.specs.declared.text.stop.Stop.TheVariants as stops;
 
-    ghost from_gives = { λ _ stop. stop ≡ no_memory };
+    ghost from_gives = { λ fault stop. stop ≡ stops.Out fault };
 
-    fn from(_: Memory) -> Stop {
-        Stop::Memory
+    fn from(fault: E) -> Stop<E> {
+        Stop::Out(fault)
     }
 }
 
-impl From<AllocError> for Stop {
-    ghost use Rattle.std.specs.Prelude.{◌≡◌};
-    ghost use Rattle.gob_json.specs.declared.text.stop.Stop.TheVariants.{Memory as no_memory};
-
-    ghost from_gives = { λ _ stop. stop ≡ no_memory };
-
-    fn from(_: AllocError) -> Stop {
-        Stop::Memory
-    }
-}
-
-impl<T: Drop> From<AllocFailed<T>> for Stop {
-    ghost use Rattle.std.specs.Prelude.{◌≡◌};
-    ghost use Rattle.gob_json.specs.declared.text.stop.Stop.TheVariants.{Memory as no_memory};
-
-    ghost from_gives = { λ _ stop. stop ≡ no_memory };
-
-    fn from(_: AllocFailed<T>) -> Stop {
-        Stop::Memory
+/// Where a text ends whose last part was put out so.
+#[inline(always)]
+pub(crate) fn closed<E: Drop>(put: Result<(), E>, end: usize) -> Result<usize, Stop<E>>
+    ensures { result ≡ result_and (as_stop put) (Ok end) }
+{
+    match put {
+        Ok(()) => Ok(end),
+        Err(fault) => Err(Stop::Out(fault)),
     }
 }

@@ -1,20 +1,21 @@
 //! The text of a whole item's value, and its line.
 
-ghost use Rattle.std.specs.Prelude.{◌≡◌, ◌≤◌, ◌++◌, ◌∷◌, [], IsTrue, IfOk, IfSome, OnErr, OnOk, false, drop, length};
+ghost use Rattle.std.specs.Prelude.{◌≡◌, ◌≢◌, ◌≤◌, ◌++◌, ◌∷◌, [], None, Some, IsTrue, IfOk, IfSome, OnErr, OnOk};
+ghost use Rattle.std.specs.Prelude.{false, length, slice_get};
 ghost use Rattle.serde_json.specs.Written.{compact_text};
-ghost use Rattle.gob_value.specs.Spelling.{Spells};
-ghost use Rattle.gob_value.specs.Top.{SpellsTop};
+ghost use Rattle.gob_value.specs.Top.{IsStruct, SpellsTop};
 ghost use Rattle.gob_value.specs.Tree.{Tree, depth as DepthOf};
+ghost use Rattle.gob_value.specs.Whole.{IsWhole};
 ghost use Rattle.gob_json.specs.Json.{put_json};
-ghost use Rattle.gob_json.specs.TextWhole.{TextOfWhole, LineOfWhole, head_text};
+ghost use Rattle.gob_json.specs.TextWhole.{LineOfWhole, head_text};
 ghost use Rattle.gob_json.specs.Machine.Piece.{piece_text};
 ghost use Rattle.gob_json.specs.Machine.TextParts.{IsBehindTag};
+ghost use Rattle.gob_json.specs.Machine.TextSent.{Reaches};
 
 use super::gathered::{Gathered, PartOut};
 use super::leaf::put_natural;
 use super::out::TextOut;
 use super::piece::Piece;
-use super::send::send_value;
 use super::stop::Stop;
 use super::value::put_value;
 use gob_num::Memory;
@@ -23,46 +24,6 @@ use std::mem;
 
 // How deep a value may be whose text is written: each level is a call within a call.
 const MOST_DEPTH: u64 = 1000;
-
-// Appends the text of the JSON of the value of the type that the body spells behind its tag. Ok says that the body is
-// such a value, no deeper than `depth`, and that its text stands. `NotWhole` says nothing: the body may be a value all
-// the same, of a depth above 1000. After an error a front of some text is appended.
-fn text_of_whole<S: Shapes>(
-    shapes: &S,
-    id: TypeId,
-    body: &[u8],
-    depth: u64,
-    out: &mut Vec<u8>,
-) -> Result<(), Stop>
-    ensures { OnOk result (TextOfWhole (S.table shapes.now) id depth body.now out.old.items out.new.items) }
-{
-    let Some(shape) = shapes.shape_of(id) else {
-        return Err(Stop::NotWhole);
-    };
-    let Some(begin) = behind_tag(&shape.kind, body) else {
-        return Err(Stop::NotWhole);
-    };
-    let most = depth.min(MOST_DEPTH);
-    let end = put_value(shapes, &shape.kind, body, begin, most, out)?;
-    if end != body.len() {
-        return Err(Stop::NotWhole);
-    }
-    Ok(())
-}
-
-// Where the value begins: behind the tag, which a struct doesn't have.
-fn behind_tag(kind: &Kind, body: &[u8]) -> Option<usize>
-    ensures begins { IfSome result (λ begin. IsBehindTag kind.now body.now begin) }
-    ensures inside { IfSome result (λ begin. begin ≤ length body.now) }
-{
-    match kind {
-        Kind::Struct { .. } => Some(0),
-        _ => match body.first() {
-            Some(0) => Some(1),
-            _ => None,
-        },
-    }
-}
 
 /// Appends the line of the item that puts the value of the type that the body spells. True says that the body is such
 /// a value, no deeper than `depth`, and that its line stands. False says nothing, and the lines are as before; so they
@@ -83,7 +44,7 @@ pub fn line_of_whole<S: Shapes>(
     match append_line(shapes, id, body, depth, room, out) {
         Ok(()) => Ok(true),
         Err(Stop::NotWhole) => Ok(false),
-        Err(Stop::Memory) => Err(Memory),
+        Err(Stop::Out(memory)) => Err(memory),
     }
 }
 
@@ -95,49 +56,35 @@ fn append_line<S: Shapes>(
     depth: u64,
     room: &mut Vec<u8>,
     out: &mut Vec<u8>,
-) -> Result<(), Stop>
+) -> Result<(), Stop<Memory>>
     ensures ok { OnOk result (LineOfWhole (S.table shapes.now) id depth body.now out.old.items out.new.items) }
     ensures err { OnErr result (out.new.items ≡ out.old.items) }
 {
+    let most = depth.min(MOST_DEPTH);
     room.clear();
     if body.len() > out.len() {
-        room.extend_from_slice(out)?;
-        let made = put_line(shapes, id, body, depth, out);
+        copy(out, room)?;
+        let made = put_line::<S, Vec<u8>, false>(shapes, id, body, most, out);
         if made.is_err() {
             mem::swap(room, out);
         }
         return made;
     }
-    put_line(shapes, id, body, depth, room)?;
-    Ok(out.extend_from_slice(room)?)
+    put_line::<S, Vec<u8>, false>(shapes, id, body, most, room)?;
+    Ok(copy(room, out)?)
 }
 
-// Appends the line. After an error a front of some text is appended.
-fn put_line<S: Shapes>(
-    shapes: &S,
-    id: TypeId,
-    body: &[u8],
-    depth: u64,
-    out: &mut Vec<u8>,
-) -> Result<(), Stop>
-    ensures { OnOk result (LineOfWhole (S.table shapes.now) id depth body.now out.old.items out.new.items) }
+// Appends the bytes. After an error the others are as before.
+#[inline(always)]
+fn copy(bytes: &[u8], to: &mut Vec<u8>) -> Result<(), Memory>
+    ensures ok { OnOk result (to.new.items ≡ to.old.items ++ bytes.now) }
+    ensures err { OnErr result (to.new.items ≡ to.old.items) }
 {
-    put_head(id, out)?;
-    text_of_whole(shapes, id, body, depth, out)?;
-    Ok(out.extend_from_slice(b"}\n")?)
-}
-
-// Puts out what stands before the value.
-fn put_head<O: TextOut>(id: TypeId, out: &mut O) -> Result<(), O::Fault>
-    ensures { O.puts out.old out.new (head_text id) result }
-{
-    out.put(b"{\"type\":")?;
-    put_natural(id.0, out)?;
-    out.put(b",\"value\":")
+    Ok(to.extend_from_slice(bytes)?)
 }
 
 /// Puts out the line of the item that puts the value of the type that the body spells, as is known of it. It takes no
-/// memory, and nothing but the output can fail; then a front of the line is put out.
+/// memory, and nothing but the output can fail; then a prefix of the line is put out.
 pub fn send_line<S: Shapes, O: TextOut>(
     shapes: &S,
     id: TypeId,
@@ -161,7 +108,7 @@ pub fn send_line<S: Shapes, O: TextOut>(
     sent
 }
 
-// The same, where nothing waits before it, and nothing behind it.
+// Puts out the line where nothing waits before it, and nothing behind it.
 fn send_gathered<S: Shapes, O: TextOut>(
     shapes: &S,
     id: TypeId,
@@ -175,39 +122,72 @@ fn send_gathered<S: Shapes, O: TextOut>(
         → (out.new.out.ghost_name ≡ out.old.out.ghost_name) × O.puts out.old.out.now out.new.out.now
         (compact_text (put_json (S.table shapes.now) id v) ++ 10 ∷ []) result }
 {
-    send_parts(shapes, id, body, depth, out)?;
-    out.flush()
+    match put_line::<S, Gathered<'_, O>, true>(shapes, id, body, depth, out) {
+        Ok(()) => out.flush(),
+        Err(Stop::Out(fault)) => Err(fault),
+        Err(Stop::NotWhole) => Ok(()),
+    }
 }
 
-// The same, part by part.
-fn send_parts<S: Shapes, O: PartOut>(
+// Puts out the line of the item that puts the value of the type that the body spells. It may be known that it spells
+// one; else it is looked at whether it does.
+// line: {"type":ID,"value":TEXT}
+fn put_line<S: Shapes, O: PartOut, const KNOWN: bool>(
     shapes: &S,
     id: TypeId,
     body: &[u8],
     depth: u64,
     out: &mut O,
-) -> Result<(), O::Fault>
+) -> Result<(), Stop<O::Fault>>
     requires { depth ≤ 1000 }
-    ensures { (v : Tree) → SpellsTop (S.table shapes.now) id v body.now → DepthOf v ≤ depth
-        → O.puts out.old out.new (compact_text (put_json (S.table shapes.now) id v) ++ 10 ∷ []) result }
-{
-    put_head(id, out)?;
-    let begin = value_begin(shapes, id, body);
-    send_value(shapes, id, None, body, begin, depth, out)?;
-    out.put(b"}\n")
-}
-
-// Where the value of the type begins that the body is known to spell.
-fn value_begin<S: Shapes>(shapes: &S, id: TypeId, body: &[u8]) -> usize
-    ensures known { (v : Tree) → SpellsTop (S.table shapes.now) id v body.now
-        → Spells (S.table shapes.now) id v (drop result body.now) }
-    ensures inside { result ≤ length body.now }
+    ensures sent { (v : Tree) → SpellsTop (S.table shapes.now) id v body.now → DepthOf v ≤ depth
+        → Reaches O.puts out.old out.new (compact_text (put_json (S.table shapes.now) id v) ++ 10 ∷ []) result }
+    ensures whole { KNOWN ≡ false → OnOk result (IsWhole (S.table shapes.now) id depth body.now) }
 {
     let Some(shape) = shapes.shape_of(id) else {
-        return 0;
+        return Err(Stop::NotWhole);
     };
-    match &shape.kind {
-        Kind::Struct { .. } => 0,
-        _ => body.len().min(1),
+    let Some(begin) = behind_tag(&shape.kind, body) else {
+        return Err(Stop::NotWhole);
+    };
+    put_head(id, out)?;
+    let end = put_value::<S, O, KNOWN>(shapes, &shape.kind, None, body, begin, depth, out)?;
+    if end != body.len() {
+        return Err(Stop::NotWhole);
     }
+    Ok(put_end(out)?)
+}
+
+// Puts out what stands behind the value.
+#[inline(always)]
+fn put_end<O: PartOut>(out: &mut O) -> Result<(), O::Fault>
+    ensures { O.puts out.old out.new (125 ∷ 10 ∷ []) result }
+{
+    out.put_mark(b'}')?;
+    out.put_mark(b'\n')
+}
+
+// Where the value begins: behind the tag, which a struct doesn't have. None says that the tag isn't there.
+// item: struct | 0 value
+fn behind_tag(kind: &Kind, body: &[u8]) -> Option<usize>
+    ensures begins { IfSome result (λ begin. IsBehindTag kind.now body.now begin) }
+    ensures inside { IfSome result (λ begin. begin ≤ length body.now) }
+    ensures none { result ≡ None → (¬ IsStruct kind.now) × (slice_get body.now 0 ≢ Some 0) }
+{
+    match kind {
+        Kind::Struct { .. } => Some(0),
+        _ => match body.first() {
+            Some(0) => Some(1),
+            _ => None,
+        },
+    }
+}
+
+// Puts out what stands before the value.
+fn put_head<O: TextOut>(id: TypeId, out: &mut O) -> Result<(), O::Fault>
+    ensures { O.puts out.old out.new (head_text id) result }
+{
+    out.put(b"{\"type\":")?;
+    put_natural(id.0, out)?;
+    out.put(b",\"value\":")
 }

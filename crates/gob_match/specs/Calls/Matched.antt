@@ -1,4 +1,4 @@
--- What contracts see of a match: the two types that it is of, and that what is kept of it is right. (docs/FORMAT.md,
+-- What contracts see of a match: the two types that it is of, and that what is kept of it is right. (docs/LIBRARY.md,
 -- Matching and receiving.)
 use Rattle.std.specs.Prelude.{◌≡◌}
 use Rattle.gob_types.specs.declared.id.TypeId.{TypeId}

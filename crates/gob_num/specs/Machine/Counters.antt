@@ -18,4 +18,4 @@ pub record AreCounters (count left value : ℕ) : Type 0 where
   pub left_le : left ≤ count
   pub some_left : 0 < count → 0 < left
   pub fits : value < 256 ^ (count - left)
-  pub front : BeginsNumber (pushed count left value)
+  pub prefix : BeginsNumber (pushed count left value)

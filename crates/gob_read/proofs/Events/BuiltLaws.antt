@@ -1,5 +1,6 @@
 -- What lists of events build.
-use Rattle.std.proofs.Common.{◌≡◌, ℕ, ℤ, pos, negsuc, ◌+◌, ◌*◌, ◌/◌, ◌%◌, ◌<◌, ◌^◌, List, [], ◌∷◌, ◌++◌, Option, Some, None, Bool, true, false, arith, refl, sym, ap, ◌∙◌, append_assoc}
+use Rattle.std.proofs.Common.{◌≡◌, ℕ, ℤ, pos, negsuc, ◌+◌, ◌*◌, ◌/◌, ◌%◌, ◌<◌, ◌^◌, List, [], ◌∷◌, ◌++◌, Option, Some}
+use Rattle.std.proofs.Common.{None, Bool, true, false, arith, refl, sym, ap, ◌∙◌, append_assoc}
 use Rattle.std.specs.Prelude.{◌==◌, if◌then◌else◌}
 use Rattle.std.proofs.lemmas.List.{append-nil}
 use Rattle.gob_num.specs.Unsigned.{IsUnsigned}
@@ -11,7 +12,11 @@ use Rattle.gob_value.specs.Tree as Value
 use Rattle.gob_value.specs.View.{trees_of, pairs_of, fields_of}
 use Rattle.gob_value.specs.Spelling.{truth}
 use Rattle.gob_read.specs.declared.event.RawKind.{RawKind}
-use Rattle.gob_read.specs.Event.{Event, number, raw_start, raw_more, leave, HasRawEvents, no_bytes, more_bytes, HasEvents, tell_bool, tell_not_negative, tell_negative, tell_uint, tell_float, tell_complex, tell_nil, tell_bytes, tell_text, tell_opaque, tell_many, tell_pairs, tell_fields, HaveEvents, tell_none, tell_each, PairsHaveEvents, tell_no_pair, tell_pair, FieldsHaveEvents, tell_no_field, tell_field}
+use Rattle.gob_read.specs.Event.{Event, number, raw_start, raw_more, leave, HasRawEvents, no_bytes, more_bytes}
+use Rattle.gob_read.specs.Event.{HasEvents, tell_bool, tell_not_negative, tell_negative, tell_uint, tell_float}
+use Rattle.gob_read.specs.Event.{tell_complex, tell_nil, tell_bytes, tell_text, tell_opaque, tell_many, tell_pairs}
+use Rattle.gob_read.specs.Event.{tell_fields, HaveEvents, tell_none, tell_each, PairsHaveEvents, tell_no_pair}
+use Rattle.gob_read.specs.Event.{tell_pair, FieldsHaveEvents, tell_no_field, tell_field}
 use Rattle.gob_read.specs.Building.{HasRoomFor}
 use Rattle.gob_read.specs.Weight.{parts_told, raw_told}
 use Rattle.gob_read.specs.Machine.Built.{Part, raw, many, pairs, fields, Work, no_work, put, told, all_told}
@@ -24,7 +29,9 @@ all_told-append w [] ws = refl
 all_told-append w (t ∷ us) ws = all_told-append (told w t) us ws
 
 -- one more event
-pub told_more : (old new : Work) (before after : ℕ) (us : List Event) (t : Event) → new ≡ told old t → after ≡ before + (parts_told (t ∷ []) + raw_told (t ∷ [])) → AreBuilt old before us → AreBuilt new after (us ++ t ∷ [])
+pub told_more : (old new : Work) (before after : ℕ) (us : List Event) (t : Event) → new ≡ told old t
+    → after ≡ before + (parts_told (t ∷ []) + raw_told (t ∷ [])) → AreBuilt old before us
+    → AreBuilt new after (us ++ t ∷ [])
 told_more old new before after us t e n a = record {
   built = e ∙ ap (λ w. told w t) a.built ∙ sym (all_told-append no_work us (t ∷ []));
   count = omega (arith, n, a.count, parts_told-append us (t ∷ []), raw_told-append us (t ∷ []));
@@ -48,7 +55,8 @@ signed_odd n =
     ap (λ r. if r == 0 then pos ((2 * n + 1) / 2) else negsuc ((2 * n + 1) / 2)) odd ∙ ap negsuc half
 
 -- the one signed number that is spelled as this unsigned one
-pub signed_is : (u : ℕ) (i : ℤ) → u < 2 ^ 64 → ((bytes : List ℕ) → IsUnsigned u bytes → IsSigned i bytes) → i ≡ signed_of u
+pub signed_is : (u : ℕ) (i : ℤ) → u < 2 ^ 64 → ((bytes : List ℕ) → IsUnsigned u bytes → IsSigned i bytes)
+    → i ≡ signed_of u
 signed_is u i h s = let b = unsigned_spelled u h in from b.spelled (s b.bytes b.spelled)
   where
     from : {u : ℕ} {i : ℤ} {bytes : List ℕ} → IsUnsigned u bytes → IsSigned i bytes → i ≡ signed_of u
@@ -58,7 +66,8 @@ signed_is u i h s = let b = unsigned_spelled u h in from b.spelled (s b.bytes b.
 abbrev work : List Part → Option Tree → Work
 work parts whole = record { parts = parts; whole = whole }
 
-raw_built : {s : List ℕ} {us : List Event} → HasRawEvents s us → (k : RawKind) (r : List ℕ) (ps : List Part) (whole : Option Tree) → all_told (work (raw k r ∷ ps) whole) us ≡ work (raw k (r ++ s) ∷ ps) whole
+raw_built : {s : List ℕ} {us : List Event} → HasRawEvents s us → (k : RawKind) (r : List ℕ) (ps : List Part)
+    (whole : Option Tree) → all_told (work (raw k r ∷ ps) whole) us ≡ work (raw k (r ++ s) ∷ ps) whole
 raw_built no_bytes k r ps whole = ap (λ l. work (raw k l ∷ ps) whole) (sym (append-nil r))
 raw_built (more_bytes {s = s} {us = us} c t) k r ps whole =
     all_told-append (work (raw k r ∷ ps) whole) us (raw_more c ∷ [])
@@ -66,9 +75,11 @@ raw_built (more_bytes {s = s} {us = us} c t) k r ps whole =
     ∙ ap (λ l. work (raw k l ∷ ps) whole) (append_assoc r s c)
 
 -- a raw part from its start to its end
-raw_whole : {s : List ℕ} {us : List Event} → HasRawEvents s us → (k : RawKind) (w : Work) → all_told w ((raw_start k ∷ us) ++ leave ∷ []) ≡ put w (raw_tree k s)
+raw_whole : {s : List ℕ} {us : List Event} → HasRawEvents s us → (k : RawKind) (w : Work)
+    → all_told w ((raw_start k ∷ us) ++ leave ∷ []) ≡ put w (raw_tree k s)
 raw_whole {us = us} t k w =
-    all_told-append (work (raw k [] ∷ w.parts) w.whole) us (leave ∷ []) ∙ ap (λ x. told x leave) (raw_built t k [] w.parts w.whole)
+    all_told-append (work (raw k [] ∷ w.parts) w.whole) us (leave ∷ [])
+    ∙ ap (λ x. told x leave) (raw_built t k [] w.parts w.whole)
 
 abbrev list_of : Trees → List Tree
 list_of no_tree = []
@@ -112,33 +123,52 @@ mutual
   tells_built (tell_text t) w = raw_whole t _ w
   tells_built (tell_opaque t) w = raw_whole t _ w
   tells_built (tell_many {vs = vs} {us = us} t) w =
-      all_told-append (work (many [] ∷ w.parts) w.whole) us (leave ∷ []) ∙ ap (λ x. told x leave) (each_built t [] w.parts w.whole) ∙ ap (λ l. put w (Tree.many l)) (trees_of-list_of vs)
+      all_told-append (work (many [] ∷ w.parts) w.whole) us (leave ∷ [])
+      ∙ ap (λ x. told x leave) (each_built t [] w.parts w.whole) ∙ ap (λ l. put w (Tree.many l)) (trees_of-list_of vs)
   tells_built (tell_pairs {ps = ps} {us = us} t) w =
-      all_told-append (work (pairs [] None ∷ w.parts) w.whole) us (leave ∷ []) ∙ ap (λ x. told x leave) (pairs_built t [] w.parts w.whole) ∙ ap (λ l. put w (Tree.pairs l)) (pairs_of-pair_list ps)
+      all_told-append (work (pairs [] None ∷ w.parts) w.whole) us (leave ∷ [])
+      ∙ ap (λ x. told x leave) (pairs_built t [] w.parts w.whole)
+      ∙ ap (λ l. put w (Tree.pairs l)) (pairs_of-pair_list ps)
   tells_built (tell_fields {fs = fs} {us = us} t) w =
-      all_told-append (work (fields [] None ∷ w.parts) w.whole) us (leave ∷ []) ∙ ap (λ x. told x leave) (fields_built t [] w.parts w.whole) ∙ ap (λ l. put w (Tree.fields l)) (fields_of-field_list fs)
+      all_told-append (work (fields [] None ∷ w.parts) w.whole) us (leave ∷ [])
+      ∙ ap (λ x. told x leave) (fields_built t [] w.parts w.whole)
+      ∙ ap (λ l. put w (Tree.fields l)) (fields_of-field_list fs)
 
-  each_built : {vs : Trees} {us : List Event} → HaveEvents vs us → (xs : List Tree) (ps : List Part) (whole : Option Tree) → all_told (work (many xs ∷ ps) whole) us ≡ work (many (xs ++ list_of vs) ∷ ps) whole
+  each_built : {vs : Trees} {us : List Event} → HaveEvents vs us
+      → (xs : List Tree) (ps : List Part) (whole : Option Tree) → all_told (work (many xs ∷ ps) whole) us ≡ work
+      (many (xs ++ list_of vs) ∷ ps) whole
   each_built tell_none xs ps whole = ap (λ l. work (many l ∷ ps) whole) (sym (append-nil xs))
   each_built (tell_each {v = v} {vs = vs} {us = us} {ws = ws} t ts) xs ps whole =
-      all_told-append (work (many xs ∷ ps) whole) us ws ∙ ap (λ w. all_told w ws) (tells_built t (work (many xs ∷ ps) whole))
-      ∙ each_built ts (xs ++ v ∷ []) ps whole ∙ ap (λ l. work (many l ∷ ps) whole) (append_assoc xs (v ∷ []) (list_of vs))
+      all_told-append (work (many xs ∷ ps) whole) us ws
+      ∙ ap (λ w. all_told w ws) (tells_built t (work (many xs ∷ ps) whole))
+      ∙ each_built ts (xs ++ v ∷ []) ps whole
+      ∙ ap (λ l. work (many l ∷ ps) whole) (append_assoc xs (v ∷ []) (list_of vs))
 
-  pairs_built : {es : Pairs} {us : List Event} → PairsHaveEvents es us → (xs : List (Tree × Tree)) (ps : List Part) (whole : Option Tree) → all_told (work (pairs xs None ∷ ps) whole) us ≡ work (pairs (xs ++ pair_list es) None ∷ ps) whole
+  pairs_built : {es : Pairs} {us : List Event} → PairsHaveEvents es us
+      → (xs : List (Tree × Tree)) (ps : List Part) (whole : Option Tree) → all_told (work (pairs xs None ∷ ps) whole)
+      us ≡ work (pairs (xs ++ pair_list es) None ∷ ps) whole
   pairs_built tell_no_pair xs ps whole = ap (λ l. work (pairs l None ∷ ps) whole) (sym (append-nil xs))
   pairs_built (tell_pair {k = k} {e = e} {ps = es} {us = us} {ws = ws} {xs = ys} t u ts) xs ps whole =
-      all_told-append (work (pairs xs None ∷ ps) whole) us (ws ++ ys) ∙ ap (λ w. all_told w (ws ++ ys)) (tells_built t (work (pairs xs None ∷ ps) whole))
-      ∙ all_told-append (work (pairs xs (Some k) ∷ ps) whole) ws ys ∙ ap (λ w. all_told w ys) (tells_built u (work (pairs xs (Some k) ∷ ps) whole))
-      ∙ pairs_built ts (xs ++ (k, e) ∷ []) ps whole ∙ ap (λ l. work (pairs l None ∷ ps) whole) (append_assoc xs ((k, e) ∷ []) (pair_list es))
+      all_told-append (work (pairs xs None ∷ ps) whole) us (ws ++ ys)
+      ∙ ap (λ w. all_told w (ws ++ ys)) (tells_built t (work (pairs xs None ∷ ps) whole))
+      ∙ all_told-append (work (pairs xs (Some k) ∷ ps) whole) ws ys
+      ∙ ap (λ w. all_told w ys) (tells_built u (work (pairs xs (Some k) ∷ ps) whole))
+      ∙ pairs_built ts (xs ++ (k, e) ∷ []) ps whole
+      ∙ ap (λ l. work (pairs l None ∷ ps) whole) (append_assoc xs ((k, e) ∷ []) (pair_list es))
 
-  fields_built : {fs : Fields} {us : List Event} → FieldsHaveEvents fs us → (xs : List (ℕ × Tree)) (ps : List Part) (whole : Option Tree) → all_told (work (fields xs None ∷ ps) whole) us ≡ work (fields (xs ++ field_list fs) None ∷ ps) whole
+  fields_built : {fs : Fields} {us : List Event} → FieldsHaveEvents fs us
+      → (xs : List (ℕ × Tree)) (ps : List Part) (whole : Option Tree) → all_told (work (fields xs None ∷ ps) whole) us ≡
+      work (fields (xs ++ field_list fs) None ∷ ps) whole
   fields_built tell_no_field xs ps whole = ap (λ l. work (fields l None ∷ ps) whole) (sym (append-nil xs))
   fields_built (tell_field {f = f} {v = v} {fs = fs} {us = us} {ws = ws} t ts) xs ps whole =
-      all_told-append (work (fields xs (Some f) ∷ ps) whole) us ws ∙ ap (λ w. all_told w ws) (tells_built t (work (fields xs (Some f) ∷ ps) whole))
-      ∙ fields_built ts (xs ++ (f, v) ∷ []) ps whole ∙ ap (λ l. work (fields l None ∷ ps) whole) (append_assoc xs ((f, v) ∷ []) (field_list fs))
+      all_told-append (work (fields xs (Some f) ∷ ps) whole) us ws
+      ∙ ap (λ w. all_told w ws) (tells_built t (work (fields xs (Some f) ∷ ps) whole))
+      ∙ fields_built ts (xs ++ (f, v) ∷ []) ps whole
+      ∙ ap (λ l. work (fields l None ∷ ps) whole) (append_assoc xs ((f, v) ∷ []) (field_list fs))
 
 -- what is built is the value that is told
-pub built_value : {w : Work} {held : ℕ} {us : List Event} {v : Tree} → AreBuilt w held us → HasEvents v us → w.whole ≡ Some v
+pub built_value : {w : Work} {held : ℕ} {us : List Event} {v : Tree} → AreBuilt w held us → HasEvents v us
+    → w.whole ≡ Some v
 built_value a t = ap (λ x. x.whole) (a.built ∙ tells_built t no_work)
 
 -- events are those of one value

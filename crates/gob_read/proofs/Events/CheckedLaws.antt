@@ -7,7 +7,8 @@ use Rattle.gob_read.specs.Weight.{weight}
 use Rattle.gob_read.specs.Counts.{AreCountsOfEvents, AreCountsOf}
 use Rattle.gob_read.proofs.Events.CountLaws.{tells_counts}
 
-pub told_counts : (counts : Counts) (us : List Event) (v : Tree) → AreCountsOfEvents counts us → HasEvents v us → AreCountsOf counts v
+pub told_counts : (counts : Counts) (us : List Event) (v : Tree) → AreCountsOfEvents counts us → HasEvents v us
+    → AreCountsOf counts v
 told_counts counts us v c t = let d = tells_counts t in record { nodes = c.nodes ∙ d.parts; raw = c.raw ∙ d.raw }
 
 -- both counts together

@@ -9,9 +9,13 @@ use Rattle.gob_types.specs.declared.kind.Field.{Field}
 use Rattle.gob_types.specs.declared.kind.Kind.{Kind}
 use Rattle.gob_types.specs.Table.{Table}
 use Rattle.gob_value.specs.Tree.{Tree, Trees, Pairs, Fields}
-use Rattle.gob_value.specs.Spelling.{Spells, of_type, SpellsAs, of_bool, of_int, of_uint, of_float, of_complex, of_nil, of_bytes, of_text, of_opaque, of_slice, of_array, of_map, of_struct, SpellsEach, no_element, element, SpellsPairs, no_entry, entry, SpellsFields, end_of_fields, next_field}
+use Rattle.gob_value.specs.Spelling.{Spells, of_type, SpellsAs, of_bool, of_int, of_uint, of_float, of_complex, of_nil}
+use Rattle.gob_value.specs.Spelling.{of_bytes, of_text, of_opaque, of_slice, of_array, of_map, of_struct, SpellsEach}
+use Rattle.gob_value.specs.Spelling.{no_element, element, SpellsPairs, no_entry, entry, SpellsFields, end_of_fields}
+use Rattle.gob_value.specs.Spelling.{next_field}
 use Rattle.gob_value.specs.Top.{SpellsTop, at_once, tagged}
-use Rattle.gob_read.specs.Weight.{parts_of_all, parts_of_pairs, parts_of_fields, raw_of_all, raw_of_pairs, raw_of_fields, weight}
+use Rattle.gob_read.specs.Weight.{parts_of_all, parts_of_pairs, parts_of_fields, raw_of_all, raw_of_pairs}
+use Rattle.gob_read.specs.Weight.{raw_of_fields, weight}
 
 some : {n : ℕ} {b : List ℕ} → IsUnsigned n b → 0 < length b
 some u = (unsigned_length u).0
@@ -42,18 +46,34 @@ mutual
   weight_as (of_map {c = c} {b = b} u s) = omega (arith, some u, pairs_within s, length-append c b)
   weight_as (of_struct s) = omega (arith, fields_within s)
 
-  pub each_within : {T : Table} {e : TypeId} {vs : Trees} {b : List ℕ} → SpellsEach T e vs b → parts_of_all vs + raw_of_all vs ≤ length b
+  pub each_within : {T : Table} {e : TypeId} {vs : Trees} {b : List ℕ} → SpellsEach T e vs b
+      → parts_of_all vs + raw_of_all vs ≤ length b
   each_within no_element = omega arith
   each_within (element {b = b} {c = c} s r) = omega (arith, weight_within s, each_within r, length-append b c)
 
-  pub pairs_within : {T : Table} {k e : TypeId} {ps : Pairs} {b : List ℕ} → SpellsPairs T k e ps b → parts_of_pairs ps + raw_of_pairs ps ≤ length b
+  pub pairs_within : {T : Table} {k e : TypeId} {ps : Pairs} {b : List ℕ} → SpellsPairs T k e ps b
+      → parts_of_pairs ps + raw_of_pairs ps ≤ length b
   pairs_within no_entry = omega arith
-  pairs_within (entry {a = a} {b = b} {c = c} s r p) = omega (arith, weight_within s, weight_within r, pairs_within p, length-append a (b ++ c), length-append b c)
+  pairs_within (entry {a = a} {b = b} {c = c} s r p) = omega (
+    arith,
+    weight_within s,
+    weight_within r,
+    pairs_within p,
+    length-append a (b ++ c),
+    length-append b c,
+  )
 
   -- and the 0 at the end
-  fields_within : {T : Table} {types : List Field} {next : ℕ} {fs : Fields} {b : List ℕ} → SpellsFields T types next fs b → parts_of_fields fs + raw_of_fields fs + 1 ≤ length b
+  fields_within : {T : Table} {types : List Field} {next : ℕ} {fs : Fields} {b : List ℕ}
+      → SpellsFields T types next fs b → parts_of_fields fs + raw_of_fields fs + 1 ≤ length b
   fields_within (end_of_fields u) = omega (arith, some u)
-  fields_within (next_field {a = a} {b = b} {c = c} l g u s r) = omega (arith, weight_within s, fields_within r, length-append a (b ++ c), length-append b c)
+  fields_within (next_field {a = a} {b = b} {c = c} l g u s r) = omega (
+    arith,
+    weight_within s,
+    fields_within r,
+    length-append a (b ++ c),
+    length-append b c,
+  )
 
 -- with the tag of a value that is no struct
 pub weight_within_top : {T : Table} {t : TypeId} {v : Tree} {b : List ℕ} → SpellsTop T t v b → weight v ≤ length b

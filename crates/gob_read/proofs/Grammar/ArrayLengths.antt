@@ -58,13 +58,15 @@ none_counted [] d = tt
 none_counted (entry ∷ T) d = (no_array entry.1.kind d.0, none_counted T d.1)
 
 base_counted : AreCounted base_table
-base_counted = none_counted base_table (tt, (tt, (tt, (tt, (tt, (tt, (tt, (tt, (tt, (tt, (tt, (tt, (tt, (tt, (tt, (tt, (tt, tt)))))))))))))))))
+base_counted = none_counted base_table
+    (tt, (tt, (tt, (tt, (tt, (tt, (tt, (tt, (tt, (tt, (tt, (tt, (tt, (tt, (tt, (tt, (tt, tt)))))))))))))))))
 
 looked_up : (T : Table) (t : TypeId) (s : Shape) → AreCounted T → shape_of T t ≡ Some s → IsCounted s.kind
 looked_up [] t s c e = cc
 looked_up (entry ∷ T) t s c e = found (entry.0.0 == t.0) c.0 (λ f. looked_up T t s c.1 f) e
   where
-    found : (b : Bool) → IsCounted entry.1.kind → (shape_of T t ≡ Some s → IsCounted s.kind) → cond b (Some entry.1) (shape_of T t) ≡ Some s → IsCounted s.kind
+    found : (b : Bool) → IsCounted entry.1.kind → (shape_of T t ≡ Some s → IsCounted s.kind)
+        → cond b (Some entry.1) (shape_of T t) ≡ Some s → IsCounted s.kind
     found true h f e = subst (λ (s : Shape). IsCounted s.kind) (some_injective e) h
     found false h f e = f e
 
@@ -72,7 +74,9 @@ pub table_counted : {T : Table} → IsTable T → HasCountedArrays T
 table_counted {T = T} h = record { counted = counted }
   where
     all : AreCounted T
-    all = subst AreCounted (sym h.behind_base) (both base_table h.definitions base_counted (definitions_counted h.definitions h.definable))
+    all = subst AreCounted (sym h.behind_base) (both base_table h.definitions base_counted
+        (definitions_counted h.definitions h.definable))
 
-    counted : (t : TypeId) (s : Shape) (e : TypeId) (n : ℕ) → shape_of T t ≡ Some s → s.kind ≡ kind.Array e n → n < 2 ^ 64
+    counted : (t : TypeId) (s : Shape) (e : TypeId) (n : ℕ) → shape_of T t ≡ Some s → s.kind ≡ kind.Array e n
+        → n < 2 ^ 64
     counted t s e n f i = (looked_up T t s all f).each e n i

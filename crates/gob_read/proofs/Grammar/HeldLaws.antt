@@ -1,9 +1,10 @@
 -- How much is held of some bytes of a body: there is one answer, and it is at most as many as the bytes.
-use Rattle.std.proofs.Common.{◌≡◌, ℕ, ◌+◌, ◌-◌, ◌<◌, ◌≤◌, inl, inr, List, [], ◌∷◌, ◌++◌, length, arith, refl, sym, ap, ◌∙◌, subst, append_assoc, length-append}
+use Rattle.std.proofs.Common.{◌≡◌, ℕ, ◌+◌, ◌-◌, ◌<◌, ◌≤◌, inl, inr, List, [], ◌∷◌, ◌++◌, length, arith, refl, sym, ap}
+use Rattle.std.proofs.Common.{◌∙◌, subst, append_assoc, length-append}
 use Rattle.std.specs.Prelude.{slice_get}
-use Rattle.gob_num.specs.Unsigned.{IsUnsigned, short, IsUnsignedFront}
+use Rattle.gob_num.specs.Unsigned.{IsUnsigned, short, IsUnsignedPrefix}
 use Rattle.gob_num.specs.Spelled.{Same}
-use Rattle.gob_num.proofs.PublicLaws.{begins_front, unsigned_prefix, unsigned_length, pattern_unsigned, regroup}
+use Rattle.gob_num.proofs.PublicLaws.{begins_prefix, unsigned_prefix, unsigned_length, pattern_unsigned, regroup}
 use Rattle.gob_types.specs.declared.id.TypeId.{TypeId}
 use Rattle.gob_types.specs.declared.kind.Field.{Field}
 use Rattle.gob_types.specs.declared.kind.Kind.{Kind}
@@ -17,19 +18,27 @@ use Rattle.gob_value.specs.Spelling.{Spells}
 use Rattle.gob_value.proofs.PublicLaws.{same_spelling}
 use Rattle.gob_read.specs.declared.builder.Stores.{Stores}
 use Rattle.gob_read.specs.declared.builder.Stores.TheVariants.{PartsAndRaw, Parts, Nothing}
-use Rattle.gob_read.specs.Expected.{Expected, a_number, raw, any, delta, EndsWithin, within_number, within_raw, first_allowed}
-use Rattle.gob_read.specs.Expects.{FieldsRun, no_fields, field_then, Enters, slice_element, array_element, next_key, next_value, next_field, ExpectsAt, first, second, byte_content, text_content, opaque_content, next_delta, Expects, ExpectsTop}
+use Rattle.gob_read.specs.Expected.{Expected, a_number, raw, any, delta, EndsWithin, within_number, within_raw}
+use Rattle.gob_read.specs.Expected.{first_allowed}
+use Rattle.gob_read.specs.Expects.{FieldsRun, no_fields, field_then, Enters, slice_element, array_element, next_key}
+use Rattle.gob_read.specs.Expects.{next_value, next_field, ExpectsAt, first, second, byte_content, text_content}
+use Rattle.gob_read.specs.Expects.{opaque_content, next_delta, Expects, ExpectsTop}
 use Rattle.gob_read.specs.Expects as expects
-use Rattle.gob_read.specs.Weight.{part_count, raw_count, parts_of_all, raw_of_all, parts_of_pairs, raw_of_pairs, parts_of_fields, raw_of_fields}
-use Rattle.gob_read.specs.Held.{WholeFields, no_whole_field, whole_field, PartsBefore, before_element, before_array_element, before_key, before_value, before_field, EndsInItself, not_begun, in_first_number, in_imaginary_part, in_bytes, in_text, in_opaque, in_delta, PartialPart, in_itself, in_part, PartialBody, in_struct, in_tag, behind_tag, held_of, IsHeld}
+use Rattle.gob_read.specs.Weight.{part_count, raw_count, parts_of_all, raw_of_all, parts_of_pairs, raw_of_pairs}
+use Rattle.gob_read.specs.Weight.{parts_of_fields, raw_of_fields}
+use Rattle.gob_read.specs.Held.{WholeFields, no_whole_field, whole_field, PartsBefore, before_element}
+use Rattle.gob_read.specs.Held.{before_array_element, before_key, before_value, before_field, EndsInItself, not_begun}
+use Rattle.gob_read.specs.Held.{in_first_number, in_imaginary_part, in_bytes, in_text, in_opaque, in_delta, PartialPart}
+use Rattle.gob_read.specs.Held.{in_itself, in_part, PartialBody, in_struct, in_tag, behind_tag, held_of, IsHeld}
 use Rattle.gob_read.proofs.Grammar.Compare.{one_way, tail_same}
-use Rattle.gob_read.proofs.Grammar.Firsts.{ends_not_met, front_not_number}
-use Rattle.gob_read.proofs.Grammar.Once.{each_compared, runs_compared, pairs_compared, at_once, enters_at, key_here, number_then}
+use Rattle.gob_read.proofs.Grammar.Firsts.{ends_not_met, prefix_not_number}
+use Rattle.gob_read.proofs.Grammar.Once.{each_compared, runs_compared, pairs_compared, at_once, enters_at, key_here}
+use Rattle.gob_read.proofs.Grammar.Once.{number_then}
 use Rattle.gob_read.proofs.Events.WeightLaws.{weight_within, each_within, pairs_within}
 use Rattle.gob_read.proofs.Grammar.Whole.{StandsFirst, key_then, whole_meets}
 
-pub nothing_yet : IsUnsignedFront []
-nothing_yet = begins_front {bytes = []} tt
+pub nothing_yet : IsUnsignedPrefix []
+nothing_yet = begins_prefix {bytes = []} tt
 
 zero_spelled : IsUnsigned 0 (0 ∷ [])
 zero_spelled = short (omega arith)
@@ -39,7 +48,8 @@ some u = (unsigned_length u).0
 
 -- without the values and the counts
 
-pub fields_run : {T : Table} {types : List Field} {start next : ℕ} {fs : Fields} {b : List ℕ} → WholeFields T types start next fs b → FieldsRun T types start next b
+pub fields_run : {T : Table} {types : List Field} {start next : ℕ} {fs : Fields} {b : List ℕ}
+    → WholeFields T types start next fs b → FieldsRun T types start next b
 fields_run no_whole_field = no_fields
 fields_run (whole_field l g n s q) = field_then l g n s (fields_run q)
 
@@ -51,11 +61,15 @@ before_enters (before_value n s l v) = next_value n s l v
 before_enters (before_field q l g n) = next_field (fields_run q) l g n
 
 -- of the same bytes there is one list of whole fields
-fields_once : {T : Table} {types : List Field} {start n m : ℕ} {fs gs : Fields} {a b : List ℕ} → WholeFields T types start n fs a → WholeFields T types start m gs b → a ≡ b → fs ≡ gs
+fields_once : {T : Table} {types : List Field} {start n m : ℕ} {fs gs : Fields} {a b : List ℕ}
+    → WholeFields T types start n fs a → WholeFields T types start m gs b → a ≡ b → fs ≡ gs
 fields_once no_whole_field no_whole_field h = refl
-fields_once no_whole_field (whole_field {a = a} {b = b} {c = c} l g n s q) h = absurd (let z = ap length h in let k = some n in omega (arith, length-append a (b ++ c)))
-fields_once (whole_field {a = a} {b = b} {c = c} l g n s q) no_whole_field h = absurd (let z = ap length h in let k = some n in omega (arith, length-append a (b ++ c)))
-fields_once {T = T} {types = types} {m = m} (whole_field {f = f} {e = e} {v = v} {fs = fs} {a = a} {b = b} {c = c} l g n s q) (whole_field {f = f'} {e = e'} {v = w} {fs = gs} {a = a'} {b = b'} {c = c'} l' g' n' s' q') h =
+fields_once no_whole_field (whole_field {a = a} {b = b} {c = c} l g n s q) h = absurd (let z = ap length h in let k =
+    some n in omega (arith, length-append a (b ++ c)))
+fields_once (whole_field {a = a} {b = b} {c = c} l g n s q) no_whole_field h = absurd (let z = ap length h in let k =
+    some n in omega (arith, length-append a (b ++ c)))
+fields_once {T = T} {types = types} {m = m} (whole_field {f = f} {e = e} {v = v} {fs = fs} {a = a} {b = b} {c = c} l g n
+    s q) (whole_field {f = f'} {e = e'} {v = w} {fs = gs} {a = a'} {b = b'} {c = c'} l' g' n' s' q') h =
     let r = unsigned_prefix (b ++ c) (b' ++ c') n n' h in
     let one : f' ≡ f = let v = r.value in omega arith in
     let type : e' ≡ e = some_injective (sym g' ∙ ap (λ n. slice_get types n) one ∙ g) in
@@ -78,14 +92,22 @@ BeforeWeighs T (kind.Struct types) p m w = FieldsWeigh T types p m w
 BeforeWeighs T _ p m w = (m ≡ 0) × (w ≡ 0)
 
 none_before : (T : Table) (k : Kind) → BeforeWeighs T k [] 0 0
-none_before T (kind.Struct types) = record { next = 0; fields = no_field; whole = no_whole_field; parts = refl; raws = refl }
+none_before T (kind.Struct types) = record {
+  next = 0;
+  fields = no_field;
+  whole = no_whole_field;
+  parts = refl;
+  raws =
+      refl;
+}
 none_before T (kind.Basic b) = (refl, refl)
 none_before T (kind.Array e n) = (refl, refl)
 none_before T (kind.Slice e) = (refl, refl)
 none_before T (kind.Map k e) = (refl, refl)
 none_before T (kind.Opaque m) = (refl, refl)
 
-weighs_once : (T : Table) (p : List ℕ) {m n w v : ℕ} (k : Kind) → BeforeWeighs T k p m w → BeforeWeighs T k p n v → (m ≡ n) × (w ≡ v)
+weighs_once : (T : Table) (p : List ℕ) {m n w v : ℕ} (k : Kind) → BeforeWeighs T k p m w → BeforeWeighs T k p n v
+    → (m ≡ n) × (w ≡ v)
 weighs_once T p (kind.Struct types) a b =
     let one = fields_once a.whole b.whole refl in
     (a.parts ∙ ap parts_of_fields one ∙ sym b.parts, a.raws ∙ ap raw_of_fields one ∙ sym b.raws)
@@ -107,15 +129,15 @@ raws_in (raw n) r = length r
 
 -- the place in the part itself
 record Place (T : Table) (k : Kind) (z : List ℕ) (m w : ℕ) : Type 0 where
-  pub front : List ℕ
+  pub prefix : List ℕ
   pub rest : List ℕ
   pub expected : Expected
-  pub at : ExpectsAt T k front expected
+  pub at : ExpectsAt T k prefix expected
   pub ends : EndsWithin expected rest
-  pub whole : z ≡ front ++ rest
+  pub whole : z ≡ prefix ++ rest
   pub parts_before : ℕ
   pub raws_before : ℕ
-  pub before : BeforeWeighs T k front parts_before raws_before
+  pub before : BeforeWeighs T k prefix parts_before raws_before
   pub parts : m ≡ parts_before + begun z
   pub raws : w ≡ raws_before + raws_in expected rest
 
@@ -123,14 +145,15 @@ begun_behind : {n : ℕ} {c : List ℕ} (r : List ℕ) → IsUnsigned n c → 1 
 begun_behind {c = []} r u = absurd (let k = some u in omega arith)
 begun_behind {c = b ∷ c} r u = refl
 
-begun_fields : {T : Table} {types : List Field} {next : ℕ} {fs : Fields} {b : List ℕ} (r : List ℕ) → 0 < next → WholeFields T types 0 next fs b → 1 ≡ begun (b ++ r)
+begun_fields : {T : Table} {types : List Field} {next : ℕ} {fs : Fields} {b : List ℕ} (r : List ℕ) → 0 < next
+    → WholeFields T types 0 next fs b → 1 ≡ begun (b ++ r)
 begun_fields r l no_whole_field = absurd (omega arith)
 begun_fields r l (whole_field {a = []} k g n s q) = absurd (let k = some n in omega arith)
 begun_fields r l (whole_field {a = b ∷ a} k g n s q) = refl
 
 place_of : {T : Table} {k : Kind} {z : List ℕ} {m w : ℕ} → EndsInItself T k z m w → Place T k z m w
 place_of {T = T} (not_begun {k = k}) = record {
-  front = [];
+  prefix = [];
   rest = [];
   expected = a_number (first_allowed k);
   at = first;
@@ -143,7 +166,7 @@ place_of {T = T} (not_begun {k = k}) = record {
   raws = refl;
 }
 place_of {T = T} (in_first_number {k = k} {b = b} {r = r} f) = record {
-  front = [];
+  prefix = [];
   rest = b ∷ r;
   expected = a_number (first_allowed k);
   at = first;
@@ -156,7 +179,7 @@ place_of {T = T} (in_first_number {k = k} {b = b} {r = r} f) = record {
   raws = refl;
 }
 place_of (in_imaginary_part {c = c} {r = r} p f) = record {
-  front = c;
+  prefix = c;
   rest = r;
   expected = a_number any;
   at = second p;
@@ -169,7 +192,7 @@ place_of (in_imaginary_part {c = c} {r = r} p f) = record {
   raws = refl;
 }
 place_of (in_bytes {n = n} {c = c} r u l) = record {
-  front = c;
+  prefix = c;
   rest = r;
   expected = raw n;
   at = byte_content (omega arith) u;
@@ -182,7 +205,7 @@ place_of (in_bytes {n = n} {c = c} r u l) = record {
   raws = omega arith;
 }
 place_of (in_text {n = n} {c = c} r u l) = record {
-  front = c;
+  prefix = c;
   rest = r;
   expected = raw n;
   at = text_content (omega arith) u;
@@ -195,7 +218,7 @@ place_of (in_text {n = n} {c = c} r u l) = record {
   raws = omega arith;
 }
 place_of (in_opaque {n = n} {c = c} r u l) = record {
-  front = c;
+  prefix = c;
   rest = r;
   expected = raw n;
   at = opaque_content (omega arith) u;
@@ -208,7 +231,7 @@ place_of (in_opaque {n = n} {c = c} r u l) = record {
   raws = omega arith;
 }
 place_of (in_delta {types = types} {next = next} {fs = fs} {b = b} {r = r} l q f) = record {
-  front = b;
+  prefix = b;
   rest = r;
   expected = a_number (delta (length types - next));
   at = next_delta l (fields_run q);
@@ -221,14 +244,19 @@ place_of (in_delta {types = types} {next = next} {fs = fs} {b = b} {r = r} l q f
   raws = omega arith;
 }
 
-same_place : {T : Table} {k : Kind} {z y : List ℕ} {m n w v : ℕ} (p : Place T k z m w) (q : Place T k y n v) → z ≡ y → Same p.expected q.expected p.front q.front p.rest q.rest → (m ≡ n) × (w ≡ v)
+same_place : {T : Table} {k : Kind} {z y : List ℕ} {m n w v : ℕ} (p : Place T k z m w) (q : Place T k y n v) → z ≡ y
+    → Same p.expected q.expected p.prefix q.prefix p.rest q.rest → (m ≡ n) × (w ≡ v)
 same_place {T = T} {k = k} {z = z} {y = y} p q h s =
-    let before = weighs_once T q.front k (subst (λ f. BeforeWeighs T k f p.parts_before p.raws_before) s.bytes p.before) q.before in
+    let before = weighs_once T q.prefix k (subst (λ f. BeforeWeighs T k f p.parts_before p.raws_before) s.bytes
+    p.before)
+    q.before in
     let begun_is : begun z ≡ begun y = ap begun h in
-    let raws_is : raws_in p.expected p.rest ≡ raws_in q.expected q.rest = ap (λ a. raws_in a p.rest) s.value ∙ ap (raws_in q.expected) s.rest in
+    let raws_is : raws_in p.expected p.rest ≡ raws_in q.expected q.rest = ap (λ a. raws_in a p.rest) s.value
+    ∙ ap (raws_in q.expected) s.rest in
     (omega (arith, p.parts, q.parts, before.0), omega (arith, p.raws, q.raws, before.1))
 
-itself_once : {T : Table} {k : Kind} {z y : List ℕ} {m n w v : ℕ} → EndsInItself T k z m w → EndsInItself T k y n v → z ≡ y → (m ≡ n) × (w ≡ v)
+itself_once : {T : Table} {k : Kind} {z y : List ℕ} {m n w v : ℕ} → EndsInItself T k z m w → EndsInItself T k y n v
+    → z ≡ y → (m ≡ n) × (w ≡ v)
 itself_once d e h =
     let p = place_of d in let q = place_of e in
     elim (at_once p.rest q.rest p.at q.at (sym p.whole ∙ h ∙ q.whole)) [
@@ -236,27 +264,46 @@ itself_once d e h =
       | inr z ↦ absurd (elim z [ inl a ↦ ends_not_met p.ends a | inr a ↦ ends_not_met q.ends a ])
     ]
 
--- where the bytes of a partial part end, something is expected of which they have a front
+-- where the bytes of a partial part end, something is expected of which they have a prefix
 record IsWithin (T : Table) (t : TypeId) (z : List ℕ) : Type 0 where
-  pub front : List ℕ
+  pub prefix : List ℕ
   pub rest : List ℕ
   pub expected : Expected
   pub depth : ℕ
-  pub expects : Expects T t front expected depth
+  pub expects : Expects T t prefix expected depth
   pub ends : EndsWithin expected rest
-  pub whole : z ≡ front ++ rest
+  pub whole : z ≡ prefix ++ rest
 
 within_of : {T : Table} {t : TypeId} {z : List ℕ} {m w : ℕ} → PartialPart T t z m w → IsWithin T t z
 within_of (in_itself e d) =
     let p = place_of d in
-    record { front = p.front; rest = p.rest; expected = p.expected; depth = 1; expects = expects.in_itself e p.at; ends = p.ends; whole = p.whole }
+    record {
+      prefix = p.prefix;
+      rest = p.rest;
+      expected = p.expected;
+      depth = 1;
+      expects = expects.in_itself e p.at;
+      ends = p.ends;
+      whole = p.whole;
+    }
 within_of (in_part {q = q} e b d) =
     let p = within_of d in
-    record { front = q ++ p.front; rest = p.rest; expected = p.expected; depth = _; expects = expects.in_part e (before_enters b) p.expects; ends = p.ends; whole = ap (λ z. q ++ z) p.whole ∙ sym (append_assoc q p.front p.rest) }
+    record {
+      prefix = q ++ p.prefix;
+      rest = p.rest;
+      expected = p.expected;
+      depth = _;
+      expects =
+          expects.in_part e (before_enters b) p.expects;
+      ends = p.ends;
+      whole = ap (λ z. q ++ z) p.whole
+          ∙ sym (append_assoc q p.prefix p.rest);
+    }
 
 -- so no whole value stands first in them
 not_first : {T : Table} {t : TypeId} {z : List ℕ} {m w : ℕ} → PartialPart T t z m w → StandsFirst T t z → ⊥
-not_first d s = let p = within_of d in ends_not_met p.ends (whole_meets p.rest s.rest s.spelled p.expects (sym p.whole ∙ s.whole))
+not_first d s = let p = within_of d in ends_not_met p.ends (whole_meets p.rest s.rest s.spelled p.expects (sym p.whole
+    ∙ s.whole))
 
 -- two partial parts in one part
 record SamePart (u s : TypeId) (x y : List ℕ) (m n w v : ℕ) : Type 0 where
@@ -265,23 +312,44 @@ record SamePart (u s : TypeId) (x y : List ℕ) (m n w v : ℕ) : Type 0 where
   pub parts : m ≡ n
   pub raws : w ≡ v
 
-same_part : {T : Table} {k : Kind} {p q : List ℕ} {u s : TypeId} {m n w v : ℕ} (x y : List ℕ) → PartsBefore T k p u m w → PartsBefore T k q s n v → p ++ x ≡ q ++ y → (StandsFirst T u x → ⊥) → (StandsFirst T s y → ⊥) → SamePart u s x y m n w v
+same_part : {T : Table} {k : Kind} {p q : List ℕ} {u s : TypeId} {m n w v : ℕ} (x y : List ℕ) → PartsBefore T k p u m w
+    → PartsBefore T k q s n v → p ++ x ≡ q ++ y → (StandsFirst T u x → ⊥) → (StandsFirst T s y → ⊥)
+    → SamePart u s x y m n w v
 same_part x y (before_element {c = c} {b = b} n ps l) (before_element {c = c'} {b = b'} m qs k) h not_x not_y =
     let r = unsigned_prefix (b ++ x) (b' ++ y) n m (regroup c b x c' b' y h) in
     elim (each_compared x y ps qs r.rest) [
-      | inl z ↦ record { type = refl; rest = z.rest; parts = ap (λ vs. parts_of_all vs + 1) z.value; raws = ap raw_of_all z.value }
+      | inl z ↦ record {
+        type = refl;
+        rest = z.rest;
+        parts = ap (λ vs. parts_of_all vs + 1) z.value;
+        raws =
+            ap raw_of_all z.value;
+      }
       | inr z ↦ absurd (elim z [ inl a ↦ not_x a | inr a ↦ not_y a ])
     ]
-same_part x y (before_array_element {c = c} {b = b} n ps l) (before_array_element {c = c'} {b = b'} m qs k) h not_x not_y =
+same_part x y (before_array_element {c = c} {b = b} n ps l) (before_array_element {c = c'} {b = b'} m qs k) h not_x
+    not_y =
     let r = unsigned_prefix (b ++ x) (b' ++ y) n m (regroup c b x c' b' y h) in
     elim (each_compared x y ps qs r.rest) [
-      | inl z ↦ record { type = refl; rest = z.rest; parts = ap (λ vs. parts_of_all vs + 1) z.value; raws = ap raw_of_all z.value }
+      | inl z ↦ record {
+        type = refl;
+        rest = z.rest;
+        parts = ap (λ vs. parts_of_all vs + 1) z.value;
+        raws =
+            ap raw_of_all z.value;
+      }
       | inr z ↦ absurd (elim z [ inl a ↦ not_x a | inr a ↦ not_y a ])
     ]
 same_part x y (before_key {c = c} {b = b} n ps l) (before_key {c = c'} {b = b'} m qs k) h not_x not_y =
     let r = unsigned_prefix (b ++ x) (b' ++ y) n m (regroup c b x c' b' y h) in
     elim (pairs_compared x y ps qs r.rest) [
-      | inl z ↦ record { type = refl; rest = z.rest; parts = ap (λ ps. parts_of_pairs ps + 1) z.value; raws = ap raw_of_pairs z.value }
+      | inl z ↦ record {
+        type = refl;
+        rest = z.rest;
+        parts = ap (λ ps. parts_of_pairs ps + 1) z.value;
+        raws =
+            ap raw_of_pairs z.value;
+      }
       | inr z ↦ absurd (elim z [ inl a ↦ not_x a.key | inr a ↦ not_y a.key ])
     ]
 same_part x y (before_key {c = c} {b = b} n ps l) (before_value {c = c'} {b = b'} {a = a} m qs k s) h not_x not_y =
@@ -296,7 +364,8 @@ same_part x y (before_value {c = c} {b = b} {a = a} n ps l s) (before_key {c = c
       | inl z ↦ not_y (key_here y x s (sym z.rest))
       | inr z ↦ elim z [ inl p ↦ not_x (key_then x p s) | inr p ↦ not_y p.key ]
     ])
-same_part x y (before_value {x = g} {c = c} {b = b} {a = a} n ps l s) (before_value {x = j} {c = c'} {b = b'} {a = a'} m qs k u) h not_x not_y =
+same_part x y (before_value {x = g} {c = c} {b = b} {a = a} n ps l s) (before_value {x = j} {c = c'} {b = b'} {a = a'} m
+    qs k u) h not_x not_y =
     let r = unsigned_prefix ((b ++ a) ++ x) ((b' ++ a') ++ y) n m (regroup c (b ++ a) x c' (b' ++ a') y h) in
     elim (pairs_compared (a ++ x) (a' ++ y) ps qs (regroup b a x b' a' y r.rest)) [
       | inl z ↦
@@ -305,76 +374,118 @@ same_part x y (before_value {x = g} {c = c} {b = b} {a = a} n ps l s) (before_va
           let key_raws : raw_count g ≡ raw_count j = ap raw_count v.value in
           let pair_parts = ap parts_of_pairs z.value in
           let pair_raws = ap raw_of_pairs z.value in
-          record { type = refl; rest = v.rest; parts = omega (arith, key_parts, pair_parts); raws = omega (arith, key_raws, pair_raws) }
+          record {
+            type = refl;
+            rest = v.rest;
+            parts = omega (arith, key_parts, pair_parts);
+            raws =
+                omega (arith, key_raws, pair_raws);
+          }
       | inr z ↦ absurd (elim z [ inl p ↦ not_x (key_then x p s) | inr p ↦ not_y (key_then y p u) ])
     ]
-same_part x y (before_field {types = types} {next = n1} {f = f} {e = e} {a = a} {b = b} q l g n) (before_field {next = n2} {f = f'} {e = e'} {a = a'} {b = b'} r k i m) h not_x not_y =
+same_part x y (before_field {types = types} {next = n1} {f = f} {e = e} {a = a} {b = b} q l g n)
+    (before_field {next = n2} {f = f'} {e = e'} {a = a'} {b = b'} r k i m) h not_x not_y =
     elim (runs_compared (b ++ x) (b' ++ y) (fields_run q) (fields_run r) (regroup a b x a' b' y h)) [
       | inl z ↦
           let v = unsigned_prefix x y n m z.rest in
           let one : f ≡ f' = let t = v.value in let w = z.value in omega arith in
           let type : e ≡ e' = some_injective (sym g ∙ ap (λ n. slice_get types n) one ∙ i) in
           let fields = fields_once q r z.bytes in
-          record { type = ap (λ (e : Field). e.id) type; rest = v.rest; parts = ap (λ fs. parts_of_fields fs + 1) fields; raws = ap raw_of_fields fields }
+          record {
+            type = ap (λ (e : Field). e.id) type;
+            rest = v.rest;
+            parts = ap (λ fs. parts_of_fields fs + 1)
+                fields;
+            raws = ap raw_of_fields fields;
+          }
       | inr z ↦ absurd (elim z [ inl c ↦ not_x (number_then x f c l g n) | inr c ↦ not_y (number_then y f' c k i m) ])
     ]
 
-pub part_once : {T : Table} {t : TypeId} {z y : List ℕ} {m n w v : ℕ} → PartialPart T t z m w → PartialPart T t y n v → z ≡ y → (m ≡ n) × (w ≡ v)
+pub part_once : {T : Table} {t : TypeId} {z y : List ℕ} {m n w v : ℕ} → PartialPart T t z m w → PartialPart T t y n v
+    → z ≡ y → (m ≡ n) × (w ≡ v)
 part_once {T = T} {y = y} {n = n} {v = v} (in_itself {s = k} e d) (in_itself {s = l} f g) h =
     let one : l ≡ k = some_injective (sym f ∙ e) in
     itself_once d (subst (λ (k : Shape). EndsInItself T k.kind y n v) one g) h
 part_once {T = T} (in_itself {s = k} e d) (in_part {u = u} {s = l} {q = q} {z = y} f b r) h =
     let one : l ≡ k = some_injective (sym f ∙ e) in
     let p = place_of d in
-    absurd (elim (enters_at p.rest y (subst (λ (k : Shape). Enters T k.kind q u) one (before_enters b)) p.at (sym p.whole ∙ h)) [
+    absurd (elim (enters_at p.rest y (subst (λ (k : Shape). Enters T k.kind q u) one (before_enters b)) p.at
+    (sym p.whole ∙ h)) [
       | inl a ↦ ends_not_met p.ends a
       | inr a ↦ not_first r a
     ])
 part_once {T = T} (in_part {u = u} {s = l} {q = q} {z = z} f b r) (in_itself {s = k} e d) h =
     let one : l ≡ k = some_injective (sym f ∙ e) in
     let p = place_of d in
-    absurd (elim (enters_at p.rest z (subst (λ (k : Shape). Enters T k.kind q u) one (before_enters b)) p.at (sym p.whole ∙ sym h)) [
+    absurd (elim (enters_at p.rest z (subst (λ (k : Shape). Enters T k.kind q u) one (before_enters b)) p.at
+    (sym p.whole ∙ sym h)) [
       | inl a ↦ ends_not_met p.ends a
       | inr a ↦ not_first r a
     ])
-part_once {T = T} (in_part {s = k} {q = q} {z = z} {m = m} {n = m'} {w = w} {v = w'} e b d) (in_part {u = s} {s = l} {q = q'} {z = y} {m = n} {n = n'} {w = v} {v = v'} f c g) h =
+part_once {T = T} (in_part {s = k} {q = q} {z = z} {m = m} {n = m'} {w = w} {v = w'} e b d)
+    (in_part {u = s} {s = l} {q = q'} {z = y} {m = n} {n = n'} {w = v} {v = v'} f c g) h =
     let one : l ≡ k = some_injective (sym f ∙ e) in
-    let p = same_part z y b (subst (λ (k : Shape). PartsBefore T k.kind q' s n v) one c) h (not_first d) (not_first g) in
+    let p = same_part z y b (subst (λ (k : Shape). PartsBefore T k.kind q' s n v) one c) h (not_first d) (not_first g)
+    in
     let r = part_once d (subst (λ s. PartialPart T s y n' v') (sym p.type) g) p.rest in
     (omega (arith, p.parts, r.0), omega (arith, p.raws, r.1))
 
-pub body_once : {T : Table} {t : TypeId} {z y : List ℕ} {m n w v : ℕ} → PartialBody T t z m w → PartialBody T t y n v → z ≡ y → (m ≡ n) × (w ≡ v)
+pub body_once : {T : Table} {t : TypeId} {z y : List ℕ} {m n w v : ℕ} → PartialBody T t z m w → PartialBody T t y n v
+    → z ≡ y → (m ≡ n) × (w ≡ v)
 body_once (in_struct e i d) (in_struct f j g) h = part_once d g h
 body_once (in_struct e i d) (in_tag f n r) h = one_way e i f n
 body_once (in_struct e i d) (behind_tag f n g) h = one_way e i f n
 body_once (in_tag e n r) (in_struct f j g) h = one_way f j e n
 body_once (in_tag e n r) (in_tag f m s) h = (refl, refl)
-body_once (in_tag e n r) (behind_tag {z = y} f m g) h = absurd (front_not_number y r zero_spelled h)
+body_once (in_tag e n r) (behind_tag {z = y} f m g) h = absurd (prefix_not_number y r zero_spelled h)
 body_once (behind_tag e n d) (in_struct f j g) h = one_way f j e n
-body_once (behind_tag {z = z} e n d) (in_tag f m s) h = absurd (front_not_number z s zero_spelled (sym h))
+body_once (behind_tag {z = z} e n d) (in_tag f m s) h = absurd (prefix_not_number z s zero_spelled (sym h))
 body_once (behind_tag e n d) (behind_tag f m g) h = part_once d g (tail_same h)
 
-pub held_once : {T : Table} {t : TypeId} (stores : Stores) {z : List ℕ} {held other : ℕ} → IsHeld T t stores z held → IsHeld T t stores z other → held ≡ other
+pub held_once : {T : Table} {t : TypeId} (stores : Stores) {z : List ℕ} {held other : ℕ} → IsHeld T t stores z held
+    → IsHeld T t stores z other → held ≡ other
 held_once stores h o =
     let same = body_once h.partial o.partial refl in
     h.held_is ∙ ap (λ m. held_of stores m h.raws) same.0 ∙ ap (held_of stores o.parts) same.1 ∙ sym o.held_is
 
 -- at most as many parts and raw bytes came as bytes
 
-whole_fields_few : {T : Table} {types : List Field} {start next : ℕ} {fs : Fields} {b : List ℕ} → WholeFields T types start next fs b → parts_of_fields fs + raw_of_fields fs ≤ length b
+whole_fields_few : {T : Table} {types : List Field} {start next : ℕ} {fs : Fields} {b : List ℕ}
+    → WholeFields T types start next fs b → parts_of_fields fs + raw_of_fields fs ≤ length b
 whole_fields_few no_whole_field = omega arith
-whole_fields_few (whole_field {a = a} {b = b} {c = c} l g n s q) = omega (arith, length-append a (b ++ c), length-append b c, weight_within s, whole_fields_few q)
+whole_fields_few (whole_field {a = a} {b = b} {c = c} l g n s q) = omega (
+  arith,
+  length-append a (b ++ c),
+  length-append b c,
+  weight_within s,
+  whole_fields_few q,
+)
 
 -- a field's delta weighs nothing
-some_fields_few : {T : Table} {types : List Field} {start next : ℕ} {fs : Fields} {b : List ℕ} → WholeFields T types start next fs b → start < next → parts_of_fields fs + raw_of_fields fs + 1 ≤ length b
+some_fields_few : {T : Table} {types : List Field} {start next : ℕ} {fs : Fields} {b : List ℕ}
+    → WholeFields T types start next fs b → start < next → parts_of_fields fs + raw_of_fields fs + 1 ≤ length b
 some_fields_few no_whole_field m = absurd (omega arith)
-some_fields_few (whole_field {a = a} {b = b} {c = c} l g n s q) m = omega (arith, length-append a (b ++ c), length-append b c, weight_within s, whole_fields_few q, some n)
+some_fields_few (whole_field {a = a} {b = b} {c = c} l g n s q) m = omega (
+  arith,
+  length-append a (b ++ c),
+  length-append b c,
+  weight_within s,
+  whole_fields_few q,
+  some n,
+)
 
 before_few : {T : Table} {k : Kind} {q : List ℕ} {u : TypeId} {m w : ℕ} → PartsBefore T k q u m w → m + w ≤ length q
 before_few (before_element {c = c} {b = b} n s l) = omega (arith, some n, each_within s, length-append c b)
 before_few (before_array_element {c = c} {b = b} n s l) = omega (arith, some n, each_within s, length-append c b)
 before_few (before_key {c = c} {b = b} n s l) = omega (arith, some n, pairs_within s, length-append c b)
-before_few (before_value {c = c} {b = b} {a = a} n s l v) = omega (arith, some n, pairs_within s, weight_within v, length-append c (b ++ a), length-append b a)
+before_few (before_value {c = c} {b = b} {a = a} n s l v) = omega (
+  arith,
+  some n,
+  pairs_within s,
+  weight_within v,
+  length-append c (b ++ a),
+  length-append b a,
+)
 before_few (before_field {a = a} {b = b} q l g n) = omega (arith, some n, whole_fields_few q, length-append a b)
 
 itself_few : {T : Table} {k : Kind} {z : List ℕ} {m w : ℕ} → EndsInItself T k z m w → m + w ≤ length z
@@ -400,47 +511,84 @@ held_most PartsAndRaw m w = omega arith
 held_most Parts m w = omega arith
 held_most Nothing m w = omega arith
 
-pub held_few : {T : Table} {t : TypeId} (stores : Stores) {z : List ℕ} {held : ℕ} → IsHeld T t stores z held → held ≤ length z
+pub held_few : {T : Table} {t : TypeId} (stores : Stores) {z : List ℕ} {held : ℕ} → IsHeld T t stores z held
+    → held ≤ length z
 held_few stores h = omega (arith, h.held_is, held_most stores h.parts h.raws, body_few h.partial)
 
 -- where something is expected, so many came
 
-run_fields : {T : Table} {types : List Field} {start next : ℕ} {b : List ℕ} → FieldsRun T types start next b → (fs : Fields) × WholeFields T types start next fs b
+run_fields : {T : Table} {types : List Field} {start next : ℕ} {b : List ℕ} → FieldsRun T types start next b
+    → (fs : Fields) × WholeFields T types start next fs b
 run_fields no_fields = (no_field, no_whole_field)
-run_fields (field_then {f = f} {v = v} l g n s q) = let r = run_fields q in (Value.field f v r.0, whole_field l g n s r.1)
+run_fields (field_then {f = f} {v = v} l g n s q) = let r = run_fields q in
+    (Value.field f v r.0, whole_field l g n s r.1)
 
 pub record Came (Holds : ℕ → ℕ → Type 0) : Type 0 where
   pub parts : ℕ
   pub raws : ℕ
   pub holds : Holds parts raws
 
-number_came : {T : Table} (k : Kind) (r : List ℕ) → IsUnsignedFront r → Came (EndsInItself T k r)
+number_came : {T : Table} (k : Kind) (r : List ℕ) → IsUnsignedPrefix r → Came (EndsInItself T k r)
 number_came k [] f = record { parts = 0; raws = 0; holds = not_begun }
 number_came k (b ∷ r) f = record { parts = 1; raws = 0; holds = in_first_number f }
 
-itself_came : {T : Table} {k : Kind} {p r : List ℕ} {a : Expected} → ExpectsAt T k p a → EndsWithin a r → Came (EndsInItself T k (p ++ r))
+itself_came : {T : Table} {k : Kind} {p r : List ℕ} {a : Expected} → ExpectsAt T k p a → EndsWithin a r
+    → Came (EndsInItself T k (p ++ r))
 itself_came {k = k} {r = r} first (within_number f) = number_came k r f
 itself_came (second p) (within_number f) = record { parts = 1; raws = 0; holds = in_imaginary_part p f }
 itself_came {r = r} (byte_content l n) (within_raw m) = record { parts = 1; raws = length r; holds = in_bytes r n m }
 itself_came {r = r} (text_content l n) (within_raw m) = record { parts = 1; raws = length r; holds = in_text r n m }
 itself_came {r = r} (opaque_content l n) (within_raw m) = record { parts = 1; raws = length r; holds = in_opaque r n m }
-itself_came (next_delta l q) (within_number f) = let w = run_fields q in record { parts = _; raws = _; holds = in_delta l w.1 f }
+itself_came (next_delta l q) (within_number f) = let w = run_fields q in record {
+  parts = _;
+  raws = _;
+  holds =
+      in_delta l w.1 f;
+}
 
 before_came : {T : Table} {k : Kind} {q : List ℕ} {u : TypeId} → Enters T k q u → Came (PartsBefore T k q u)
 before_came (slice_element n s l) = record { parts = _; raws = _; holds = before_element n s l }
 before_came (array_element n s l) = record { parts = _; raws = _; holds = before_array_element n s l }
 before_came (next_key n s l) = record { parts = _; raws = _; holds = before_key n s l }
 before_came (next_value n s l v) = record { parts = _; raws = _; holds = before_value n s l v }
-before_came (next_field q l g n) = let w = run_fields q in record { parts = _; raws = _; holds = before_field w.1 l g n }
+before_came (next_field q l g n) = let w = run_fields q in record {
+  parts = _;
+  raws = _;
+  holds =
+      before_field w.1 l g n;
+}
 
-part_came : {T : Table} {t : TypeId} {p r : List ℕ} {a : Expected} {d : ℕ} → Expects T t p a d → EndsWithin a r → Came (PartialPart T t (p ++ r))
-part_came (expects.in_itself e a) w = let c = itself_came a w in record { parts = c.parts; raws = c.raws; holds = in_itself e c.holds }
+part_came : {T : Table} {t : TypeId} {p r : List ℕ} {a : Expected} {d : ℕ} → Expects T t p a d → EndsWithin a r
+    → Came (PartialPart T t (p ++ r))
+part_came (expects.in_itself e a) w = let c = itself_came a w in record {
+  parts = c.parts;
+  raws = c.raws;
+  holds =
+      in_itself e c.holds;
+}
 part_came {T = T} {t = t} {r = r} (expects.in_part {p = p} {q = q} e n a) w =
     let b = before_came n in
     let c = part_came a w in
-    record { parts = b.parts + c.parts; raws = b.raws + c.raws; holds = subst (λ z. PartialPart T t z (b.parts + c.parts) (b.raws + c.raws)) (sym (append_assoc q p r)) (in_part e b.holds c.holds) }
+    record {
+      parts = b.parts + c.parts;
+      raws = b.raws + c.raws;
+      holds =
+          subst (λ z. PartialPart T t z (b.parts + c.parts) (b.raws + c.raws)) (sym (append_assoc q p r))
+          (in_part e b.holds c.holds);
+    }
 
-pub body_came : {T : Table} {t : TypeId} {p r : List ℕ} {a : Expected} {d : ℕ} → ExpectsTop T t p a d → EndsWithin a r → Came (PartialBody T t (p ++ r))
-body_came (expects.in_struct e i a) w = let c = part_came a w in record { parts = c.parts; raws = c.raws; holds = in_struct e i c.holds }
+pub body_came : {T : Table} {t : TypeId} {p r : List ℕ} {a : Expected} {d : ℕ} → ExpectsTop T t p a d → EndsWithin a r
+    → Came (PartialBody T t (p ++ r))
+body_came (expects.in_struct e i a) w = let c = part_came a w in record {
+  parts = c.parts;
+  raws = c.raws;
+  holds =
+      in_struct e i c.holds;
+}
 body_came (expects.at_tag e n) (within_number f) = record { parts = 0; raws = 0; holds = in_tag e n f }
-body_came (expects.behind_tag e n a) w = let c = part_came a w in record { parts = c.parts; raws = c.raws; holds = behind_tag e n c.holds }
+body_came (expects.behind_tag e n a) w = let c = part_came a w in record {
+  parts = c.parts;
+  raws = c.raws;
+  holds =
+      behind_tag e n c.holds;
+}

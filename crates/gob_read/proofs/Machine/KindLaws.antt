@@ -13,7 +13,8 @@ use Rattle.gob_value.specs.Spelling.{Spells, of_type, SpellsAs}
 use Rattle.gob_value.specs.Top.{HasStructs, IsStruct}
 use Rattle.gob_read.specs.Machine.Kinds.{HasKind}
 
-pub spelled_as : {T : Table} {u : TypeId} {k : Kind} {v : Tree} {b : List ℕ} → HasKind T u k → SpellsAs T k v b → Spells T u v b
+pub spelled_as : {T : Table} {u : TypeId} {k : Kind} {v : Tree} {b : List ℕ} → HasKind T u k → SpellsAs T k v b
+    → Spells T u v b
 spelled_as {T = T} {v = v} {b = b} h s = of_type h.there (subst (λ k. SpellsAs T k v b) (sym h.kind) s)
 
 -- a type has one kind
@@ -23,7 +24,8 @@ one_kind h i = sym h.kind ∙ ap (λ (s : Shape). s.kind) (some_injective (sym h
 struct_injective : {a b : List Field} → kind.Struct a ≡ kind.Struct b → a ≡ b
 struct_injective e = cc
 
-pub same_fields : {T : Table} {u : TypeId} {a b : List Field} → HasKind T u (kind.Struct a) → HasKind T u (kind.Struct b) → a ≡ b
+pub same_fields : {T : Table} {u : TypeId} {a b : List Field} → HasKind T u (kind.Struct a)
+    → HasKind T u (kind.Struct b) → a ≡ b
 same_fields h i = struct_injective (one_kind h i)
 
 -- the shape in the table says whether the type's values are structs
@@ -34,7 +36,8 @@ pub struct_type : {T : Table} {u : TypeId} {s : Shape} → shape_of T u ≡ Some
 struct_type {s = s} e i = record { shape = s; found = e; struct = i }
 
 -- what a look-up tells of it
-pub named_basic : (T : Table) (u : TypeId) (r : Option Basic) → r ≡ basic_of T u → IfSome r (λ b. HasKind T u (kind.Basic b))
+pub named_basic : (T : Table) (u : TypeId) (r : Option Basic) → r ≡ basic_of T u
+    → IfSome r (λ b. HasKind T u (kind.Basic b))
 named_basic T u None e = tt
 named_basic T u (Some b) e =
     let (s, known, is) = basic_shape_of T u (sym e) in

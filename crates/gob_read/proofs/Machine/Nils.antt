@@ -37,7 +37,7 @@ use Rattle.gob_read.specs.declared.state.State.{State}
 use Rattle.gob_read.specs.declared.stop.Stop.{Stop}
 use Rattle.gob_read.specs.declared.stop.Stop.TheVariants as stops
 use Rattle.gob_read.proofs.Grammar.Compare.{expects_once}
-use Rattle.gob_read.proofs.Grammar.Fronts.{append_nil}
+use Rattle.gob_read.proofs.Grammar.Prefixes.{append_nil}
 use Rattle.gob_read.proofs.Machine.Places.{raw_expects, no_top, part_expects, part_defined, expected_in, within_inside}
 use Rattle.gob_read.proofs.Machine.Places.{delta_expects}
 use Rattle.gob_read.proofs.Machine.Runs.{reached_stood}

@@ -1,5 +1,5 @@
 -- The builders of this crate: which events each has received, and what it makes of them.
--- (docs/FORMAT.md, Events.)
+-- (docs/LIBRARY.md, Events.)
 use Rattle.std.specs.Prelude.{◌≡◌}
 use Rattle.gob_value.specs.View.{view}
 use Rattle.gob_value.specs.declared.value.Value.{Value}
@@ -19,7 +19,11 @@ tree_building = record {
 }
 
 abbrev pub check_building : Building CheckBuilder Counts 65536
-check_building = record { received = λ builder us. AreCountsOfEvents builder.counts us; means = λ counts v. AreCountsOf counts v }
+check_building = record {
+  received = λ builder us. AreCountsOfEvents builder.counts us;
+  means =
+      λ counts v. AreCountsOf counts v;
+}
 
 -- any list of events leaves it as it is
 abbrev pub skip_building : Building SkipBuilder (Unit {0}) 65536

@@ -10,8 +10,8 @@ use Rattle.gob_read.specs.Calls.Reader.{ReaderTakesPiece, EndsBody}
 use Rattle.gob_read.specs.Calls.UnderWay.{under_way, HasReadBody, FitsTable}
 use Rattle.gob_read.specs.Machine.Nil.{IsClear, IsAtNil, ExpectsNil}
 use Rattle.gob_read.specs.declared.reader.BodyReader.{BodyReader}
-use Rattle.gob_read.specs.declared.front.Front.{Front}
-use Rattle.gob_read.specs.declared.front.Front.TheVariants as front
+use Rattle.gob_read.specs.declared.reached.Reached.{Reached}
+use Rattle.gob_read.specs.declared.reached.Reached.TheVariants as reached
 use Rattle.gob_read.specs.declared.run.Run.{Run}
 
 abbrev pub IsClearRun : Table → {X O : Type 0} → Option (Run X O) → Type 0
@@ -42,24 +42,25 @@ pub record StopsAtNil (T : Table) (t : TypeId) (limit announced : ℕ) {X O : Ty
   pub takes : ReaderTakesPiece T t limit announced received run z (take used piece)
   pub nil : ExpectsNil T t (z ++ take used piece)
 
-abbrev pub FrontIs : (T : Table) (t : TypeId) (limit announced : ℕ) {X O : Type 0} (received : X → List Event → Type 0)
-    (means : O → Tree → Type 0) (run : Option (Run X O)) (z piece : List ℕ) → Front O → Type 0
-FrontIs T t limit announced received means run z piece front.More =
+abbrev pub ReachedIs : (T : Table) (t : TypeId) (limit announced : ℕ) {X O : Type 0} (received : X → List Event
+    → Type 0)
+    (means : O → Tree → Type 0) (run : Option (Run X O)) (z piece : List ℕ) → Reached O → Type 0
+ReachedIs T t limit announced received means run z piece reached.More =
     ReaderTakesPiece T t limit announced received run z piece
-FrontIs T t limit announced received means run z piece (front.Nil used) =
+ReachedIs T t limit announced received means run z piece (reached.Nil used) =
     StopsAtNil T t limit announced received run z piece used
-FrontIs T t limit announced received means run z piece (front.Done out used) =
+ReachedIs T t limit announced received means run z piece (reached.Done out used) =
     EndsBody T t limit announced means run z piece out used
 
 -- how far a push of the piece comes, behind any bytes read so far
-abbrev pub FrontGives : {X O : Type 0} {most : ℕ} → Building X O most → Table → (old new : BodyReader X O)
-    → (piece : List ℕ) → Front O → Type 0
-FrontGives building T old new piece given = (t : TypeId) (limit announced : ℕ) (z : List ℕ)
+abbrev pub ReachedGives : {X O : Type 0} {most : ℕ} → Building X O most → Table → (old new : BodyReader X O)
+    → (piece : List ℕ) → Reached O → Type 0
+ReachedGives building T old new piece given = (t : TypeId) (limit announced : ℕ) (z : List ℕ)
     → HasReadBody building T t limit announced old z
-    → FrontIs T t limit announced building.received building.means (under_way new) z piece given
+    → ReachedIs T t limit announced building.received building.means (under_way new) z piece given
 
-abbrev pub IsBeforeNilIn : {O : Type 0} (T : Table) {X O' : Type 0} → BodyReader X O' → Front O → Type 0
-IsBeforeNilIn T reader (front.Nil used) = IsBeforeNil T reader
+abbrev pub IsBeforeNilIn : {O : Type 0} (T : Table) {X O' : Type 0} → BodyReader X O' → Reached O → Type 0
+IsBeforeNilIn T reader (reached.Nil used) = IsBeforeNil T reader
 IsBeforeNilIn T reader _ = Unit {0}
 
 -- a reader that has taken nothing has begun no number of an interface

@@ -1,5 +1,5 @@
 -- What a list of events makes: the open parts with what is in them so far, and the whole value once it is there.
--- (docs/FORMAT.md, Events.)
+-- (docs/LIBRARY.md, Events.)
 use Rattle.std.specs.Prelude.{ℕ, List, [], ◌∷◌, ◌++◌, Option, Some, None}
 use Rattle.gob_value.specs.Tree.{Tree}
 use Rattle.gob_value.specs.View.{trees_of, pairs_of, fields_of}

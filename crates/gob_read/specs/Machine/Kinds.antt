@@ -41,7 +41,8 @@ pub data IsList : Kind → ℕ → TypeId → Type 0 where
 
 -- a part of the kind that has this number is such a group, and this frame is open while its first part is read
 pub data IsGroup : Kind → ℕ → GroupKind → Frame → Type 0 where
-  of_list : {k : Kind} {e : TypeId} {n left : ℕ} → IsList k n e → left ≡ n - 1 → IsGroup k n group.Many (frame.Many e left)
+  of_list : {k : Kind} {e : TypeId} {n left : ℕ} → IsList k n e → left ≡ n - 1
+      → IsGroup k n group.Many (frame.Many e left)
   of_map : {k e : TypeId} {n left : ℕ} → left ≡ n - 1 → IsGroup (kind.Map k e) n group.Pairs (frame.Key k e left)
 
 -- a part of the kind that has this number alone is told by these two
@@ -49,7 +50,8 @@ pub data IsScalar : Kind → ℕ → Basic → ℕ → Type 0 where
   of_bool : {n : ℕ} → n ≤ 1 → IsScalar (kind.Basic basic.Bool) n basic.Bool n
   of_int : {n : ℕ} → IsScalar (kind.Basic basic.Int) n basic.Int n
   of_uint : {n : ℕ} → IsScalar (kind.Basic basic.Uint) n basic.Uint n
-  of_float : {n p : ℕ} → ((b : List ℕ) → IsUnsigned n b → IsPattern p b) → IsScalar (kind.Basic basic.Float) n basic.Float p
+  of_float : {n p : ℕ} → ((b : List ℕ) → IsUnsigned n b → IsPattern p b)
+      → IsScalar (kind.Basic basic.Float) n basic.Float p
   of_nil : {n : ℕ} → n ≡ 0 → IsScalar (kind.Basic basic.Interface) n basic.Interface n
 
 -- what a body begins with, once its type is looked up: the first delta of a struct, or else the tag

@@ -1,5 +1,5 @@
 -- Which lists of events a builder of trees has received.
--- (docs/FORMAT.md, Events.)
+-- (docs/LIBRARY.md, Events.)
 use Rattle.std.specs.Prelude.{◌≡◌, ℕ, ◌+◌, List}
 use Rattle.gob_read.specs.Event.{Event}
 use Rattle.gob_read.specs.Weight.{parts_told, raw_told}

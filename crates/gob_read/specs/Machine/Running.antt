@@ -47,7 +47,8 @@ begun_parts (Number (Second q)) r = 1
 begun_parts _ r = 0
 
 -- the reader has come so far
-pub record IsReached (T : Table) (t : TypeId) {X O : Type 0} (received : X → List Event → Type 0) (run : Run X O) (z : List ℕ) : Type 0 where
+pub record IsReached (T : Table) (t : TypeId) {X O : Type 0} (received : X → List Event → Type 0) (run : Run X O)
+    (z : List ℕ) : Type 0 where
   pub ready : IsReady T t
   pub before : List ℕ
   pub under_way : List ℕ
@@ -60,18 +61,21 @@ pub record IsReached (T : Table) (t : TypeId) {X O : Type 0} (received : X → L
   pub judged : 0 < length under_way → depth_of run.state.expected run.state.stack ≤ run.depth
 
 -- and may take more
-pub record IsOpenRun (T : Table) (t : TypeId) {X O : Type 0} (received : X → List Event → Type 0) (run : Run X O) (z : List ℕ) : Type 0 where
+pub record IsOpenRun (T : Table) (t : TypeId) {X O : Type 0} (received : X → List Event → Type 0) (run : Run X O)
+    (z : List ℕ) : Type 0 where
   pub reached : IsReached T t received run z
   pub not_deep : depth_of run.state.expected run.state.stack ≤ run.depth
   pub room : run.taken < run.length
 
 -- it stands so after some bytes
-pub record IsReachedSomewhere (T : Table) {X O : Type 0} (received : X → List Event → Type 0) (run : Run X O) : Type 0 where
+pub record IsReachedSomewhere (T : Table) {X O : Type 0} (received : X → List Event → Type 0) (run : Run X O) : Type
+    0 where
   pub type : TypeId
   pub bytes : List ℕ
   pub reached : IsReached T type received run bytes
 
-pub record IsOpenSomewhere (T : Table) {X O : Type 0} (received : X → List Event → Type 0) (run : Run X O) : Type 0 where
+pub record IsOpenSomewhere (T : Table) {X O : Type 0} (received : X → List Event → Type 0) (run : Run X O) : Type
+    0 where
   pub type : TypeId
   pub bytes : List ℕ
   pub open_ : IsOpenRun T type received run bytes
@@ -82,19 +86,22 @@ pub record IsOpenIn {X O : Type 0} (received : X → List Event → Type 0) (run
   pub open_ : IsOpenSomewhere table received run
 
 -- the reader may take more, this is expected, and some of a piece is left, which lies within the body
-pub record IsBefore (T : Table) {X O : Type 0} (received : X → List Event → Type 0) (run : Run X O) (next : Next) (rest : List ℕ) : Type 0 where
+pub record IsBefore (T : Table) {X O : Type 0} (received : X → List Event → Type 0) (run : Run X O) (next : Next)
+    (rest : List ℕ) : Type 0 where
   pub expected : run.state.expected ≡ next
   pub has_read : IsOpenSomewhere T received run
   pub some : 0 < length rest
   pub room : run.taken + length rest ≤ run.length
 
 -- the same under some table
-pub record IsBeforeIn {X O : Type 0} (received : X → List Event → Type 0) (run : Run X O) (next : Next) (rest : List ℕ) : Type 0 where
+pub record IsBeforeIn {X O : Type 0} (received : X → List Event → Type 0) (run : Run X O) (next : Next) (rest : List ℕ)
+    : Type 0 where
   pub table : Table
   pub before : IsBefore table received run next rest
 
 -- the reader has taken nothing, and looked nothing up
-pub record IsNewRun (T : Table) (t : TypeId) {X O : Type 0} (received : X → List Event → Type 0) (run : Run X O) : Type 0 where
+pub record IsNewRun (T : Table) (t : TypeId) {X O : Type 0} (received : X → List Event → Type 0) (run : Run X O) : Type
+    0 where
   pub ready : IsReady T t
   pub expected : run.state.expected ≡ Top t
   pub stack : run.state.stack ≡ []
@@ -104,12 +111,14 @@ pub record IsNewRun (T : Table) (t : TypeId) {X O : Type 0} (received : X → Li
   pub taken_is : run.taken ≡ 0
 
 -- the value is whole
-pub record IsFinished (T : Table) (t : TypeId) {X O : Type 0} (received : X → List Event → Type 0) (run : Run X O) (z : List ℕ) : Type 0 where
+pub record IsFinished (T : Table) (t : TypeId) {X O : Type 0} (received : X → List Event → Type 0) (run : Run X O)
+    (z : List ℕ) : Type 0 where
   pub read : IsRead T t received run.state z
   pub taken_is : run.taken ≡ length z
   pub shallow : IsShallow T t run.depth z
 
-abbrev pub IsStepped : (T : Table) (t : TypeId) {X O : Type 0} (received : X → List Event → Type 0) (run : Run X O) (z : List ℕ) → Moved → Type 0
+abbrev pub IsStepped : (T : Table) (t : TypeId) {X O : Type 0} (received : X → List Event → Type 0) (run : Run X O)
+    (z : List ℕ) → Moved → Type 0
 IsStepped T t received run z PastValue = IsFinished T t received run z
 IsStepped T t received run z ToNext = IsReached T t received run z
 
@@ -126,54 +135,65 @@ pub record TakesMore {X O : Type 0} (old new : Run X O) (count : ℕ) : Type 0 w
   pub depth_is : new.depth ≡ old.depth
 
 -- wherever the reader may take more, it has stepped over these bytes
-pub record Steps (T : Table) {X O : Type 0} (received : X → List Event → Type 0) (old new : Run X O) (bytes : List ℕ) (moved : Moved) : Type 0 where
+pub record Steps (T : Table) {X O : Type 0} (received : X → List Event → Type 0) (old new : Run X O) (bytes : List ℕ)
+    (moved : Moved) : Type 0 where
   pub each : (t : TypeId) (z : List ℕ) → IsOpenRun T t received old z → IsStepped T t received new (z ++ bytes) moved
 
 -- wherever the reader may take more, this is the refusal that is given, whatever follows the bytes
-pub record RefusesAt (T : Table) {X O : Type 0} (received : X → List Event → Type 0) (run : Run X O) (bytes : List ℕ) (refusal : Refusal) : Type 0 where
-  pub each : (t : TypeId) (z x : List ℕ) → IsOpenRun T t received run z → IsFirst T t run.depth run.length (z ++ (bytes ++ x)) refusal
+pub record RefusesAt (T : Table) {X O : Type 0} (received : X → List Event → Type 0) (run : Run X O) (bytes : List ℕ)
+    (refusal : Refusal) : Type 0 where
+  pub each : (t : TypeId) (z x : List ℕ) → IsOpenRun T t received run z → IsFirst T t run.depth run.length (z
+      ++ (bytes ++ x)) refusal
 
 -- these bytes are taken
-pub record TakesBytes (T : Table) {X O : Type 0} (received : X → List Event → Type 0) (old new : Run X O) (bytes : List ℕ) (moved : Moved) : Type 0 where
+pub record TakesBytes (T : Table) {X O : Type 0} (received : X → List Event → Type 0) (old new : Run X O)
+    (bytes : List ℕ) (moved : Moved) : Type 0 where
   pub more : TakesMore old new (length bytes)
   pub steps : Steps T received old new bytes moved
 
 -- what a step over bytes answers: they are taken, or they show a refusal
-abbrev pub BytesAnswers : (T : Table) {X O : Type 0} (received : X → List Event → Type 0) (old new : Run X O) (bytes : List ℕ) → Result Moved Stop → Type 0
+abbrev pub BytesAnswers : (T : Table) {X O : Type 0} (received : X → List Event → Type 0) (old new : Run X O)
+    (bytes : List ℕ) → Result Moved Stop → Type 0
 BytesAnswers T received old new bytes (Ok moved) = TakesBytes T received old new bytes moved
 BytesAnswers T received old new bytes (Err stop) = StopsFor (RefusesAt T received old bytes) stop
 
 -- so many bytes from the front of the rest of a piece are taken
-pub record TakesOfRest (T : Table) {X O : Type 0} (received : X → List Event → Type 0) (old new : Run X O) (rest : List ℕ) (advance : Advance) : Type 0 where
+pub record TakesOfRest (T : Table) {X O : Type 0} (received : X → List Event → Type 0) (old new : Run X O)
+    (rest : List ℕ) (advance : Advance) : Type 0 where
   pub few : advance.used ≤ length rest
   pub more : TakesMore old new advance.used
   pub steps : Steps T received old new (take advance.used rest) advance.moved
 
 -- and they are some
-pub record TakesSome (T : Table) {X O : Type 0} (received : X → List Event → Type 0) (old new : Run X O) (rest : List ℕ) (advance : Advance) : Type 0 where
+pub record TakesSome (T : Table) {X O : Type 0} (received : X → List Event → Type 0) (old new : Run X O) (rest : List ℕ)
+    (advance : Advance) : Type 0 where
   pub some : 0 < advance.used
   pub takes : TakesOfRest T received old new rest advance
 
 -- what a step into the rest of a piece answers: some of it is taken, or it shows a refusal
-abbrev pub RestAnswers : (T : Table) {X O : Type 0} (received : X → List Event → Type 0) (old new : Run X O) (rest : List ℕ) → Result Advance Stop → Type 0
+abbrev pub RestAnswers : (T : Table) {X O : Type 0} (received : X → List Event → Type 0) (old new : Run X O)
+    (rest : List ℕ) → Result Advance Stop → Type 0
 RestAnswers T received old new rest (Ok advance) = TakesSome T received old new rest advance
 RestAnswers T received old new rest (Err stop) = StopsFor (RefusesAt T received old rest) stop
 
 -- a number is taken, and the next item begins behind it
-pub record TakesNumber (T : Table) {X O : Type 0} (received : X → List Event → Type 0) (old new : Run X O) (n : ℕ) (moved : Moved) : Type 0 where
+pub record TakesNumber (T : Table) {X O : Type 0} (received : X → List Event → Type 0) (old new : Run X O) (n : ℕ)
+    (moved : Moved) : Type 0 where
   pub takes : StepTakes T received old.state new.state n moved
   pub start_is : new.start ≡ old.taken
   pub number_is : new.number ≡ old.number
   pub more : TakesMore old new 0
 
 -- the number isn't allowed where it stands
-pub record RefusesNumber (T : Table) {X O : Type 0} (received : X → List Event → Type 0) (run : Run X O) (n : ℕ) (refusal : Refusal) : Type 0 where
+pub record RefusesNumber (T : Table) {X O : Type 0} (received : X → List Event → Type 0) (run : Run X O) (n : ℕ)
+    (refusal : Refusal) : Type 0 where
   pub refuses : StepRefuses T received run.state n refusal.reason
   pub place_is : refusal.place ≡ run.start
   pub seen_is : refusal.seen ≡ run.taken
 
 -- what an expected number gives: it is taken, or it isn't allowed
-abbrev pub NumberAnswers : (T : Table) {X O : Type 0} (received : X → List Event → Type 0) (old new : Run X O) (n : ℕ) → Result Moved Stop → Type 0
+abbrev pub NumberAnswers : (T : Table) {X O : Type 0} (received : X → List Event → Type 0) (old new : Run X O) (n : ℕ)
+    → Result Moved Stop → Type 0
 NumberAnswers T received old new n (Ok moved) = TakesNumber T received old new n moved
 NumberAnswers T received old new n (Err stop) = StopsFor (RefusesNumber T received old n) stop
 
@@ -182,20 +202,26 @@ pub record MayGoOn (T : Table) {X O : Type 0} (received : X → List Event → T
   pub each : (t : TypeId) (z : List ℕ) → IsReached T t received run z → IsOpenRun T t received run z
 
 -- where it stands, this is the refusal that is given, whatever follows within the body
-pub record JudgesFor (T : Table) {X O : Type 0} (received : X → List Event → Type 0) (run : Run X O) (refusal : Refusal) : Type 0 where
-  pub each : (t : TypeId) (z x : List ℕ) → IsReached T t received run z → length (z ++ x) ≤ run.length → IsFirst T t run.depth run.length (z ++ x) refusal
+pub record JudgesFor (T : Table) {X O : Type 0} (received : X → List Event → Type 0) (run : Run X O) (refusal : Refusal)
+    : Type 0 where
+  pub each : (t : TypeId) (z x : List ℕ) → IsReached T t received run z → length (z ++ x) ≤ run.length
+      → IsFirst T t run.depth run.length (z ++ x) refusal
 
 -- what is judged between two items, under any table
-abbrev pub JudgeAnswers : {X O : Type 0} (received : X → List Event → Type 0) (run : Run X O) → Result (Unit {0}) Stop → Type 0
+abbrev pub JudgeAnswers : {X O : Type 0} (received : X → List Event → Type 0) (run : Run X O) → Result (Unit {0}) Stop
+    → Type 0
 JudgeAnswers received run (Ok _) = (T : Table) → MayGoOn T received run
 JudgeAnswers received run (Err stop) = StopsFor (λ refusal. (T : Table) → JudgesFor T received run refusal) stop
 
 -- where the value is whole, this is the refusal that is given, whatever follows
-pub record EndsFor {X O : Type 0} (received : X → List Event → Type 0) (run : Run X O) (refusal : Refusal) : Type 0 where
-  pub each : (T : Table) (t : TypeId) (z x : List ℕ) → IsFinished T t received run z → IsFirst T t run.depth run.length (z ++ x) refusal
+pub record EndsFor {X O : Type 0} (received : X → List Event → Type 0) (run : Run X O) (refusal : Refusal) : Type
+    0 where
+  pub each : (T : Table) (t : TypeId) (z x : List ℕ) → IsFinished T t received run z
+      → IsFirst T t run.depth run.length (z ++ x) refusal
 
 -- what is judged behind a whole value
-abbrev pub EndAnswers : {X O : Type 0} (received : X → List Event → Type 0) (run : Run X O) → Result (Unit {0}) Stop → Type 0
+abbrev pub EndAnswers : {X O : Type 0} (received : X → List Event → Type 0) (run : Run X O) → Result (Unit {0}) Stop
+    → Type 0
 EndAnswers received run (Ok _) = run.taken ≡ run.length
 EndAnswers received run (Err stop) = StopsFor (EndsFor received run) stop
 
@@ -205,28 +231,36 @@ pub record IsSameBody {X O : Type 0} (old new : Run X O) : Type 0 where
   pub depth_is : new.depth ≡ old.depth
 
 -- wherever the reader stood, the piece is taken and nothing is refused
-pub record RunGoesOn (T : Table) {X O : Type 0} (received : X → List Event → Type 0) (old new : Run X O) (piece : List ℕ) : Type 0 where
+pub record RunGoesOn (T : Table) {X O : Type 0} (received : X → List Event → Type 0) (old new : Run X O)
+    (piece : List ℕ) : Type 0 where
   pub same : IsSameBody old new
   pub reached : (t : TypeId) (z : List ℕ) → IsReached T t received old z → IsReached T t received new (z ++ piece)
   pub viable : (t : TypeId) (z : List ℕ) → IsReached T t received old z → IsViable T t old.depth old.length (z ++ piece)
 
 -- wherever the reader stood, the value and the body end behind so many bytes of the piece
-pub record RunFinishes (T : Table) {X O : Type 0} (received : X → List Event → Type 0) (old new : Run X O) (piece : List ℕ) (used : ℕ) : Type 0 where
+pub record RunFinishes (T : Table) {X O : Type 0} (received : X → List Event → Type 0) (old new : Run X O)
+    (piece : List ℕ) (used : ℕ) : Type 0 where
   pub same : IsSameBody old new
   pub within : used ≤ length piece
-  pub finished : (t : TypeId) (z : List ℕ) → IsReached T t received old z → IsFinished T t received new (z ++ take used piece)
+  pub finished : (t : TypeId) (z : List ℕ) → IsReached T t received old z
+      → IsFinished T t received new (z ++ take used piece)
   pub all : (t : TypeId) (z : List ℕ) → IsReached T t received old z → length (z ++ take used piece) ≡ old.length
 
 -- wherever the reader stood, this is the refusal that is given of the piece
-pub record RefusesPiece (T : Table) {X O : Type 0} (received : X → List Event → Type 0) (run : Run X O) (piece : List ℕ) (refusal : Refusal) : Type 0 where
-  pub each : (t : TypeId) (z : List ℕ) → IsReached T t received run z → IsFirst T t run.depth run.length (z ++ piece) refusal
+pub record RefusesPiece (T : Table) {X O : Type 0} (received : X → List Event → Type 0) (run : Run X O) (piece : List ℕ)
+    (refusal : Refusal) : Type 0 where
+  pub each : (t : TypeId) (z : List ℕ) → IsReached T t received run z → IsFirst T t run.depth run.length (z ++ piece)
+      refusal
 
 -- how far the reader comes in a piece
-abbrev pub RunAdvances : (T : Table) {X O : Type 0} (received : X → List Event → Type 0) (old new : Run X O) (piece : List ℕ) → Moved → ℕ → Type 0
+abbrev pub RunAdvances : (T : Table) {X O : Type 0} (received : X → List Event → Type 0) (old new : Run X O)
+    (piece : List ℕ) → Moved → ℕ → Type 0
 RunAdvances T received old new piece ToNext used = (used ≡ length piece) × RunGoesOn T received old new piece
 RunAdvances T received old new piece PastValue used = RunFinishes T received old new piece used
 
--- what reading on over a piece answers: it goes on behind the piece, the value and the body end in it, or it shows a refusal
-abbrev pub PieceAnswers : (T : Table) {X O : Type 0} (received : X → List Event → Type 0) (old new : Run X O) (piece : List ℕ) → Result Advance Stop → Type 0
+-- what reading on over a piece answers: it goes on behind the piece, the value and the body end in it, or it shows a
+-- refusal
+abbrev pub PieceAnswers : (T : Table) {X O : Type 0} (received : X → List Event → Type 0) (old new : Run X O)
+    (piece : List ℕ) → Result Advance Stop → Type 0
 PieceAnswers T received old new piece (Ok advance) = RunAdvances T received old new piece advance.moved advance.used
 PieceAnswers T received old new piece (Err stop) = StopsFor (RefusesPiece T received old piece) stop

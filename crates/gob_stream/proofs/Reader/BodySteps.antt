@@ -1,5 +1,6 @@
 -- Taking the bytes of a value or a description.
-use Rattle.std.proofs.Common.{◌≡◌, ℕ, ◌-◌, ◌^◌, ◌<◌, ◌≤◌, List, [], ◌++◌, length, take, Some, None, Ok, Err, arith, sym, subst, length-append}
+use Rattle.std.proofs.Common.{◌≡◌, ℕ, ◌-◌, ◌^◌, ◌<◌, ◌≤◌, List, [], ◌++◌, length, take, Some, None, Ok, Err, arith, sym}
+use Rattle.std.proofs.Common.{subst, length-append}
 use Rattle.std.proofs.lemmas.List.{length-take}
 use Rattle.gob_types.specs.declared.id.TypeId.{TypeId}
 use Rattle.gob_types.specs.Table.{Table}
@@ -21,15 +22,23 @@ use Rattle.gob_stream.specs.declared.fault.Fault.{Fault}
 use Rattle.gob_stream.specs.declared.stage.Extent.{Extent}
 use Rattle.gob_stream.specs.Machine.Stages.{count_at, value_in}
 use Rattle.gob_stream.specs.Machine.HasRead.{Received, size}
-use Rattle.gob_stream.specs.Machine.ReadParts.{IsBodyUnderWay, StopsWithin, fault_behind, ReadsValueIn, value_goes_on, value_ends, value_refused, no_memory_for_value}
+use Rattle.gob_stream.specs.Machine.ReadParts.{IsBodyUnderWay, StopsWithin, fault_behind, ReadsValueIn, value_goes_on}
+use Rattle.gob_stream.specs.Machine.ReadParts.{value_ends, value_refused, no_memory_for_value}
 
 -- ---- what stands has taken no more than was announced
-stood_within : (T : Table) (t : TypeId) (limit announced : ℕ) {X O : Type 0} (received : Received X) (reader : BodyReader X O) (z : List ℕ) → ReaderHasRead T t limit announced received (under_way reader) z → length z ≤ announced
+stood_within : (T : Table) (t : TypeId) (limit announced : ℕ) {X O : Type 0} (received : Received X)
+    (reader : BodyReader X O) (z : List ℕ) → ReaderHasRead T t limit announced received (under_way reader) z
+    → length z ≤ announced
 stood_within T t limit announced received reader z =
-    elim (under_way reader) as (λ run. ReaderHasRead T t limit announced received run z → length z ≤ announced) [ None ↦ λ s. absurd s | Some run ↦ λ s. s.within ]
+    elim (under_way reader) as (λ run. ReaderHasRead T t limit announced received run z → length z ≤ announced) [
+      | None ↦
+          λ s. absurd s
+      | Some run ↦ λ s. s.within
+    ]
 
 -- ---- a refusal is seen behind its place, and within the body
-place_before : {T : Table} {t : TypeId} {limit announced : ℕ} {z : List ℕ} {R : body.Refusal} → Refused T t limit announced z R → R.place ≤ R.seen
+place_before : {T : Table} {t : TypeId} {limit announced : ℕ} {z : List ℕ} {R : body.Refusal}
+    → Refused T t limit announced z R → R.place ≤ R.seen
 place_before (extra r s e l) = omega arith
 place_before (too_deep r a e l) = omega arith
 place_before (short_of r a e n h) = omega arith
@@ -37,11 +46,19 @@ place_before (bad_head_at r a e h) = omega arith
 place_before (not_minimal_at r a e h) = omega arith
 place_before (not_allowed r a e u h) = omega arith
 
-pub within_body : (z piece : List ℕ) (announced : ℕ) → length z ≤ announced → length (z ++ take (announced - length z) piece) ≤ announced
-within_body z piece announced l = omega (arith, length-append z (take (announced - length z) piece), length-take (announced - length z) piece)
+pub within_body : (z piece : List ℕ) (announced : ℕ) → length z ≤ announced
+    → length (z ++ take (announced - length z) piece) ≤ announced
+within_body z piece announced l = omega (
+  arith,
+  length-append z (take (announced - length z) piece),
+  length-take (announced - length z) piece,
+)
 
-pub stops_within : {T : Table} {t : TypeId} {rest : Extent} {X O : Type 0} {received : Received X} (reader : BodyReader X O) (piece : List ℕ) (s : Stop) → IsBodyUnderWay T t rest received reader → rest.begin ≤ rest.end → rest.end < 2 ^ 64
-    → Stops (under_way reader) (λ refusal. ReaderRefusesBody T received (under_way reader) piece refusal) s → StopsWithin rest.begin s
+pub stops_within : {T : Table} {t : TypeId} {rest : Extent} {X O : Type 0} {received : Received X}
+    (reader : BodyReader X O) (piece : List ℕ) (s : Stop) → IsBodyUnderWay T t rest received reader
+    → rest.begin ≤ rest.end → rest.end < 2 ^ 64
+    → Stops (under_way reader) (λ refusal. ReaderRefusesBody T received (under_way reader) piece refusal) s
+    → StopsWithin rest.begin s
 stops_within {T = T} {t = t} {rest = rest} {received = received} reader piece (stop.Refused place seen reason) u l n r =
     let first = r.each t u.limit (size rest) u.bytes u.after in
     let w = stood_within T t u.limit (size rest) received reader u.bytes u.after in
@@ -53,25 +70,45 @@ stops_within reader piece stop.Memory u l n r = tt
 stops_within reader piece stop.Failed u l n r = tt
 
 -- ---- why a value is stopped
-pub not_ended : (T : Table) (t : TypeId) (limit announced : ℕ) {X O : Type 0} (received : Received X) (reader : BodyReader X O) (z : List ℕ) → ReaderHasRead T t limit announced received (under_way reader) z → HasEnded reader → ⊥
-not_ended T t limit announced received reader z s e = subst (λ run. ReaderHasRead T t limit announced received run z) e s
+pub not_ended : (T : Table) (t : TypeId) (limit announced : ℕ) {X O : Type 0} (received : Received X)
+    (reader : BodyReader X O) (z : List ℕ) → ReaderHasRead T t limit announced received (under_way reader) z
+    → HasEnded reader → ⊥
+not_ended T t limit announced received reader z s e = subst (λ run. ReaderHasRead T t limit announced received run z) e
+    s
 
-pub value_stopped : {T : Table} {t : TypeId} {limit : ℕ} {rest : Extent} {X O : Type 0} {received : Received X} {means : O → Tree → Type 0} (reader : BodyReader X O) (z piece : List ℕ) (s : Stop) {f : Fault} → f ≡ fault_behind rest.begin s
-    → Stops (under_way reader) (λ refusal. ReaderRefusesBody T received (under_way reader) piece refusal) s → ReaderHasRead T t limit (size rest) received (under_way reader) z → ReadsValueIn {X = X} {O = O} received means T t limit rest z piece (Err f)
-value_stopped {T = T} {t = t} {limit = limit} {rest = rest} {X = X} {O = O} {received = received} {means = means} reader z piece (stop.Refused place seen reason) e r s =
-    subst (λ f. ReadsValueIn {X = X} {O = O} received means T t limit rest z piece (Err f)) (sym e) (value_refused (r.each t limit (size rest) z s))
-value_stopped {T = T} {t = t} {limit = limit} {rest = rest} {X = X} {O = O} {received = received} {means = means} reader z piece stop.Memory e r s =
+pub value_stopped : {T : Table} {t : TypeId} {limit : ℕ} {rest : Extent} {X O : Type 0} {received : Received X}
+    {means : O → Tree → Type 0} (reader : BodyReader X O) (z piece : List ℕ) (s : Stop) {f : Fault}
+    → f ≡ fault_behind rest.begin s
+    → Stops (under_way reader) (λ refusal. ReaderRefusesBody T received (under_way reader) piece refusal) s
+    → ReaderHasRead T t limit (size rest) received (under_way reader) z → ReadsValueIn {X = X} {O = O} received means
+    T t limit rest z piece (Err f)
+value_stopped {T = T} {t = t} {limit = limit} {rest = rest} {X = X} {O = O} {received = received} {means = means} reader
+    z piece (stop.Refused place seen reason) e r s =
+    subst (λ f. ReadsValueIn {X = X} {O = O} received means T t limit rest z piece (Err f)) (sym e)
+    (value_refused (r.each t limit (size rest) z s))
+value_stopped {T = T} {t = t} {limit = limit} {rest = rest} {X = X} {O = O} {received = received} {means = means} reader
+    z piece stop.Memory e r s =
     subst (λ f. ReadsValueIn {X = X} {O = O} received means T t limit rest z piece (Err f)) (sym e) no_memory_for_value
-value_stopped {T = T} {t = t} {limit = limit} {rest = rest} {received = received} reader z piece stop.Failed e r s = absurd (not_ended T t limit (size rest) received reader z s r)
+value_stopped {T = T} {t = t} {limit = limit} {rest = rest} {received = received} reader z piece stop.Failed e r s =
+    absurd (not_ended T t limit (size rest) received reader z s r)
 
-pub value_more : {T : Table} {t : TypeId} {limit : ℕ} {rest : Extent} {X O : Type 0} {received : Received X} {means : O → Tree → Type 0} {p : Progress O} (reader : BodyReader X O) (z piece : List ℕ) → p ≡ progress.More
-    → ReaderGives T t limit (size rest) received means (under_way reader) z piece p → ReadsValueIn received means T t limit rest z piece (Ok (record { used = length piece; stage = value_in t rest reader; item = None }))
+pub value_more : {T : Table} {t : TypeId} {limit : ℕ} {rest : Extent} {X O : Type 0} {received : Received X} {means : O
+    → Tree → Type 0} {p : Progress O} (reader : BodyReader X O) (z piece : List ℕ) → p ≡ progress.More
+    → ReaderGives T t limit (size rest) received means (under_way reader) z piece p
+    → ReadsValueIn received means T t limit rest z piece
+    (Ok (record { used = length piece; stage = value_in t rest reader; item = None }))
 value_more {T = T} {t = t} {limit = limit} {rest = rest} {received = received} {means = means} reader z piece e h =
     let g = subst (λ p. ReaderGives T t limit (size rest) received means (under_way reader) z piece p) e h in
     value_goes_on (record { after = g.after; viable = g.viable })
 
-pub value_done : {T : Table} {t : TypeId} {limit : ℕ} {rest : Extent} {X O : Type 0} {received : Received X} {means : O → Tree → Type 0} {p : Progress O} {out : O} {used : ℕ} {st : Stage X O} (reader : BodyReader X O) (z piece : List ℕ) → p ≡ progress.Done out used
-    → ReaderGives T t limit (size rest) received means (under_way reader) z piece p → st ≡ count_at rest.end [] → ReadsValueIn received means T t limit rest z piece (Ok (record { used = used; stage = st; item = Some (item.Put t out) }))
-value_done {T = T} {t = t} {limit = limit} {rest = rest} {received = received} {means = means} {out = out} {used = used} reader z piece e h f =
+pub value_done : {T : Table} {t : TypeId} {limit : ℕ} {rest : Extent} {X O : Type 0} {received : Received X} {means : O
+    → Tree → Type 0} {p : Progress O} {out : O} {used : ℕ} {st : Stage X O} (reader : BodyReader X O) (z piece : List ℕ)
+    → p ≡ progress.Done out used
+    → ReaderGives T t limit (size rest) received means (under_way reader) z piece p → st ≡ count_at rest.end []
+    → ReadsValueIn received means T t limit rest z piece
+    (Ok (record { used = used; stage = st; item = Some (item.Put t out) }))
+value_done {T = T} {t = t} {limit = limit} {rest = rest} {received = received} {means = means} {out = out} {used = used}
+    reader z piece e h f =
     let g = subst (λ p. ReaderGives T t limit (size rest) received means (under_way reader) z piece p) e h in
-    subst (λ st. ReadsValueIn received means T t limit rest z piece (Ok (record { used = used; stage = st; item = Some (item.Put t out) }))) (sym f) (value_ends g.within g.made)
+    subst (λ st. ReadsValueIn received means T t limit rest z piece
+    (Ok (record { used = used; stage = st; item = Some (item.Put t out) }))) (sym f) (value_ends g.within g.made)

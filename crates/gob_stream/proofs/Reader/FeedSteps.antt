@@ -1,5 +1,6 @@
 -- What a reader has come to within a piece, step by step.
-use Rattle.std.proofs.Common.{◌≡◌, ℕ, ◌+◌, ◌-◌, ◌<◌, ◌≤◌, List, [], ◌∷◌, ◌++◌, length, take, drop, Option, Some, None, Err, arith, refl, sym, ap, ◌∙◌, subst, append_assoc, length-append, length-drop}
+use Rattle.std.proofs.Common.{◌≡◌, ℕ, ◌+◌, ◌-◌, ◌<◌, ◌≤◌, List, [], ◌∷◌, ◌++◌, length, take, drop, Option, Some, None}
+use Rattle.std.proofs.Common.{Err, arith, refl, sym, ap, ◌∙◌, subst, append_assoc, length-append, length-drop}
 use Rattle.std.proofs.Math.Seq.{take-add}
 use Rattle.std.proofs.lemmas.List.{append-nil, take-append-drop, take_all, take_rest}
 use Rattle.gob_types.specs.Table.{Table}
@@ -28,35 +29,44 @@ use Rattle.gob_stream.proofs.Reader.UnderWayLaws.{after_gives}
 abbrev pub rest_of : List ℕ → ℕ → List ℕ
 rest_of piece used = take (length piece - used) (drop used piece)
 
-further : (bytes piece : List ℕ) (used step : ℕ) → (bytes ++ take used piece) ++ take step (rest_of piece used) ≡ bytes ++ take (used + step) piece
+further : (bytes piece : List ℕ) (used step : ℕ) → (bytes ++ take used piece) ++ take step (rest_of piece used) ≡ bytes
+    ++ take (used + step) piece
 further bytes piece used step =
-    ap (λ l. (bytes ++ take used piece) ++ take step l) (take_rest piece used) ∙ append_assoc bytes (take used piece) (take step (drop used piece))
+    ap (λ l. (bytes ++ take used piece) ++ take step l) (take_rest piece used)
+    ∙ append_assoc bytes (take used piece) (take step (drop used piece))
     ∙ ap (λ l. bytes ++ l) (sym (take-add used step piece))
 
 all_bytes : (bytes piece : List ℕ) (used : ℕ) → (bytes ++ take used piece) ++ rest_of piece used ≡ bytes ++ piece
 all_bytes bytes piece used =
-    ap (λ l. (bytes ++ take used piece) ++ l) (take_rest piece used) ∙ append_assoc bytes (take used piece) (drop used piece) ∙ ap (λ l. bytes ++ l) (take-append-drop used piece)
+    ap (λ l. (bytes ++ take used piece) ++ l) (take_rest piece used)
+    ∙ append_assoc bytes (take used piece) (drop used piece) ∙ ap (λ l. bytes ++ l) (take-append-drop used piece)
 
 -- ---- the items
-one_item_more : {O : Type 0} {means : O → Tree → Type 0} {given : List (declared.Item O)} {items : List StreamItem} {one : declared.Item O} {i : StreamItem}
+one_item_more : {O : Type 0} {means : O → Tree → Type 0} {given : List (declared.Item O)} {items : List StreamItem}
+    {one : declared.Item O} {i : StreamItem}
     → ItemsMean means given items → ItemMeans means one i → ItemsMean means (given ++ one ∷ []) (items ++ i ∷ [])
 one_item_more mean_none m = mean_more m mean_none
 one_item_more (mean_more n ms) m = mean_more n (one_item_more ms m)
 
 -- ---- what was read of the piece
 -- wherever the reader stood, it stands behind so many bytes of the piece now, and the items were given
-abbrev pub ReadsOn : {X O : Type 0} → (received : Received X) (trees : Received TreeBuilder) (means : O → Tree → Type 0) (most : ℕ) (s s' : SessionState X O) → (piece : List ℕ) → ℕ → List (declared.Item O) → Type 0
+abbrev pub ReadsOn : {X O : Type 0} → (received : Received X) (trees : Received TreeBuilder) (means : O → Tree → Type 0)
+    (most : ℕ) (s s' : SessionState X O) → (piece : List ℕ) → ℕ → List (declared.Item O) → Type 0
 ReadsOn received trees means most s s' piece used given =
-    (items : List StreamItem) (bytes : List ℕ) → SessionHasRead received trees most s items bytes → GivesOn means given items (λ all. SessionHasRead received trees most s' all (bytes ++ take used piece))
+    (items : List StreamItem) (bytes : List ℕ) → SessionHasRead received trees most s items bytes
+    → GivesOn means given items (λ all. SessionHasRead received trees most s' all (bytes ++ take used piece))
 
 -- so many bytes of the piece were taken, in so many steps
-pub record HasFed {X O : Type 0} (received : Received X) (trees : Received TreeBuilder) (means : O → Tree → Type 0) (most : ℕ) (s s' : SessionState X O) (out out' : List (declared.Item O)) (piece : List ℕ) (used steps : ℕ) : Type 0 where
+pub record HasFed {X O : Type 0} (received : Received X) (trees : Received TreeBuilder) (means : O → Tree → Type 0)
+    (most : ℕ) (s s' : SessionState X O) (out out' : List (declared.Item O)) (piece : List ℕ) (used steps : ℕ) : Type
+    0 where
   pub within : used ≤ length piece
   pub onward : steps ≤ used
   pub limits : s'.limits ≡ s.limits
   pub fed : Given out out' (ReadsOn received trees means most s s' piece used)
 
-pub feed_start : {X O : Type 0} {received : Received X} {trees : Received TreeBuilder} {means : O → Tree → Type 0} {most : ℕ} {s : SessionState X O} (out : List (declared.Item O)) (piece : List ℕ)
+pub feed_start : {X O : Type 0} {received : Received X} {trees : Received TreeBuilder} {means : O → Tree → Type 0}
+    {most : ℕ} {s : SessionState X O} (out : List (declared.Item O)) (piece : List ℕ)
     → HasFed received trees means most s s out out piece 0 0
 feed_start {received = received} {trees = trees} {most = most} {s = s} out piece = record {
   within = omega arith;
@@ -68,39 +78,54 @@ feed_start {received = received} {trees = trees} {most = most} {s = s} out piece
     holds = λ items bytes a. record {
       more = [];
       mean = mean_none;
-      holds = subst (λ b. SessionHasRead received trees most s (items ++ []) b) (sym (append-nil bytes)) (subst (λ i. SessionHasRead received trees most s i bytes) (sym (append-nil items)) a);
+      holds = subst (λ b. SessionHasRead received trees most s (items ++ []) b) (sym (append-nil bytes))
+          (subst (λ i. SessionHasRead received trees most s i bytes) (sym (append-nil items)) a);
     };
   };
 }
 
 -- a step over the front of a piece
-pub record StepsOver {X O : Type 0} (received : Received X) (trees : Received TreeBuilder) (means : O → Tree → Type 0) (most : ℕ) (s s' : SessionState X O) (piece : List ℕ) (used : ℕ) (item : Option (declared.Item O)) : Type 0 where
+pub record StepsOver {X O : Type 0} (received : Received X) (trees : Received TreeBuilder) (means : O → Tree → Type 0)
+    (most : ℕ) (s s' : SessionState X O) (piece : List ℕ) (used : ℕ) (item : Option (declared.Item O)) : Type 0 where
   pub some : (0 < used) × (used ≤ length piece)
   pub limits : s'.limits ≡ s.limits
-  pub advances : (items : List StreamItem) (bytes : List ℕ) → SessionHasRead received trees most s items bytes → AdvancesOver received trees means most s' items bytes piece used item
+  pub advances : (items : List StreamItem) (bytes : List ℕ) → SessionHasRead received trees most s items bytes
+      → AdvancesOver received trees means most s' items bytes piece used item
 
-stands_over : {X O : Type 0} {received : Received X} {trees : Received TreeBuilder} {means : O → Tree → Type 0} {most : ℕ} {s' : SessionState X O} {items : List StreamItem} {bytes piece : List ℕ} {used : ℕ} {item : Option (declared.Item O)}
-    → AdvancesOver received trees means most s' items bytes piece used item → item ≡ None → SessionHasRead received trees most s' items (bytes ++ take used piece)
+stands_over : {X O : Type 0} {received : Received X} {trees : Received TreeBuilder} {means : O → Tree → Type 0}
+    {most : ℕ} {s' : SessionState X O} {items : List StreamItem} {bytes piece : List ℕ} {used : ℕ}
+    {item : Option (declared.Item O)}
+    → AdvancesOver received trees means most s' items bytes piece used item → item ≡ None
+    → SessionHasRead received trees most s' items (bytes ++ take used piece)
 stands_over (over_some p l a) e = a
 stands_over (over_item p l m a) e = absurd (cc)
 
 -- an item is whole with it
-record GivesOne {X O : Type 0} (received : Received X) (trees : Received TreeBuilder) (means : O → Tree → Type 0) (most : ℕ) (s' : SessionState X O) (items : List StreamItem) (bytes : List ℕ) (given : declared.Item O) : Type 0 where
+record GivesOne {X O : Type 0} (received : Received X) (trees : Received TreeBuilder) (means : O → Tree → Type 0)
+    (most : ℕ) (s' : SessionState X O) (items : List StreamItem) (bytes : List ℕ) (given : declared.Item O) : Type
+    0 where
   item : StreamItem
   mean : ItemMeans means given item
   after : SessionHasRead received trees most s' (items ++ item ∷ []) bytes
 
-gives_over : {X O : Type 0} {received : Received X} {trees : Received TreeBuilder} {means : O → Tree → Type 0} {most : ℕ} {s' : SessionState X O} {items : List StreamItem} {bytes piece : List ℕ} {used : ℕ} {item : Option (declared.Item O)} {given : declared.Item O}
-    → AdvancesOver received trees means most s' items bytes piece used item → item ≡ Some given → GivesOne received trees means most s' items (bytes ++ take used piece) given
+gives_over : {X O : Type 0} {received : Received X} {trees : Received TreeBuilder} {means : O → Tree → Type 0}
+    {most : ℕ} {s' : SessionState X O} {items : List StreamItem} {bytes piece : List ℕ} {used : ℕ}
+    {item : Option (declared.Item O)} {given : declared.Item O}
+    → AdvancesOver received trees means most s' items bytes piece used item → item ≡ Some given
+    → GivesOne received trees means most s' items (bytes ++ take used piece) given
 gives_over (over_some p l a) e = absurd (cc)
 gives_over {means = means} {given = given} (over_item {given = one} {i = i} p l m a) e =
     let same : one ≡ given = cc in record { item = i; mean = subst (λ x. ItemMeans means x i) same m; after = a }
 
 -- with a step the reader has come further, by no item
-pub feed_on : {X O : Type 0} {received : Received X} {trees : Received TreeBuilder} {means : O → Tree → Type 0} {most : ℕ} {s t t' : SessionState X O} {out out' out'' : List (declared.Item O)} {piece : List ℕ} {used steps step : ℕ} {item : Option (declared.Item O)}
-    → HasFed received trees means most s t out out' piece used steps → StepsOver received trees means most t t' (rest_of piece used) step item → item ≡ None → out'' ≡ out'
+pub feed_on : {X O : Type 0} {received : Received X} {trees : Received TreeBuilder} {means : O → Tree → Type 0}
+    {most : ℕ} {s t t' : SessionState X O} {out out' out'' : List (declared.Item O)} {piece : List ℕ}
+    {used steps step : ℕ} {item : Option (declared.Item O)}
+    → HasFed received trees means most s t out out' piece used steps
+    → StepsOver received trees means most t t' (rest_of piece used) step item → item ≡ None → out'' ≡ out'
     → HasFed received trees means most s t' out out'' piece (used + step) (steps + 1)
-feed_on {received = received} {trees = trees} {most = most} {t' = t'} {piece = piece} {used = used} {step = step} h o e f =
+feed_on {received = received} {trees = trees} {most = most} {t' = t'} {piece = piece} {used = used} {step = step} h o e
+    f =
     let w = h.within in let n = h.onward in let p = o.some.0 in let q = o.some.1 in
     record {
       within = omega (arith, ap length (take_rest piece used), length-drop used piece);
@@ -114,17 +139,23 @@ feed_on {received = received} {trees = trees} {most = most} {t' = t'} {piece = p
             record {
               more = before.more;
               mean = before.mean;
-              holds = subst (λ b. SessionHasRead received trees most t' (items ++ before.more) b) (further bytes piece used step)
+              holds = subst (λ b. SessionHasRead received trees most t' (items ++ before.more) b)
+                  (further bytes piece used step)
                   (stands_over (o.advances (items ++ before.more) (bytes ++ take used piece) before.holds) e);
             };
       };
     }
 
 -- or by one
-pub feed_item : {X O : Type 0} {received : Received X} {trees : Received TreeBuilder} {means : O → Tree → Type 0} {most : ℕ} {s t t' : SessionState X O} {out out' out'' : List (declared.Item O)} {piece : List ℕ} {used steps step : ℕ} {item : Option (declared.Item O)} {given : declared.Item O}
-    → HasFed received trees means most s t out out' piece used steps → StepsOver received trees means most t t' (rest_of piece used) step item → item ≡ Some given → out'' ≡ out' ++ given ∷ []
+pub feed_item : {X O : Type 0} {received : Received X} {trees : Received TreeBuilder} {means : O → Tree → Type 0}
+    {most : ℕ} {s t t' : SessionState X O} {out out' out'' : List (declared.Item O)} {piece : List ℕ}
+    {used steps step : ℕ} {item : Option (declared.Item O)} {given : declared.Item O}
+    → HasFed received trees means most s t out out' piece used steps
+    → StepsOver received trees means most t t' (rest_of piece used) step item → item ≡ Some given → out'' ≡ out'
+    ++ given ∷ []
     → HasFed received trees means most s t' out out'' piece (used + step) (steps + 1)
-feed_item {received = received} {trees = trees} {most = most} {t' = t'} {out = out} {piece = piece} {used = used} {step = step} {given = given} h o e f =
+feed_item {received = received} {trees = trees} {most = most} {t' = t'} {out = out} {piece = piece} {used = used}
+    {step = step} {given = given} h o e f =
     let w = h.within in let n = h.onward in let p = o.some.0 in let q = o.some.1 in
     record {
       within = omega (arith, ap length (take_rest piece used), length-drop used piece);
@@ -139,23 +170,31 @@ feed_item {received = received} {trees = trees} {most = most} {t' = t'} {out = o
             record {
               more = before.more ++ one.item ∷ [];
               mean = one_item_more before.mean one.mean;
-              holds = subst (λ i. SessionHasRead received trees most t' i (bytes ++ take (used + step) piece)) (append_assoc items before.more (one.item ∷ []))
-                  (subst (λ b. SessionHasRead received trees most t' ((items ++ before.more) ++ one.item ∷ []) b) (further bytes piece used step) one.after);
+              holds = subst (λ i. SessionHasRead received trees most t' i (bytes ++ take (used + step) piece))
+                  (append_assoc items before.more (one.item ∷ []))
+                  (subst (λ b. SessionHasRead received trees most t' ((items ++ before.more) ++ one.item ∷ []) b)
+                  (further bytes piece used step) one.after);
             };
       };
     }
 
 -- it stands there by whichever name it goes
-pub feed_there : {X O : Type 0} {received : Received X} {trees : Received TreeBuilder} {means : O → Tree → Type 0} {most : ℕ} {s t t' : SessionState X O} {out out' : List (declared.Item O)} {piece : List ℕ} {used steps : ℕ}
-    → t' ≡ t → HasFed received trees means most s t out out' piece used steps → HasFed received trees means most s t' out out' piece used steps
-feed_there {received = received} {trees = trees} {means = means} {most = most} {s = s} {out = out} {out' = out'} {piece = piece} {used = used} {steps = steps} e h =
+pub feed_there : {X O : Type 0} {received : Received X} {trees : Received TreeBuilder} {means : O → Tree → Type 0}
+    {most : ℕ} {s t t' : SessionState X O} {out out' : List (declared.Item O)} {piece : List ℕ} {used steps : ℕ}
+    → t' ≡ t → HasFed received trees means most s t out out' piece used steps
+    → HasFed received trees means most s t' out out' piece used steps
+feed_there {received = received} {trees = trees} {means = means} {most = most} {s = s} {out = out} {out' = out'}
+    {piece = piece} {used = used} {steps = steps} e h =
     subst (λ t. HasFed received trees means most s t out out' piece used steps) (sym e) h
 
 -- ---- how feeding ends
 -- the whole piece was taken
-pub fed_all : {X O : Type 0} {received : Received X} {trees : Received TreeBuilder} {means : O → Tree → Type 0} {most : ℕ} {s s' : SessionState X O} {out out' : List (declared.Item O)} {piece : List ℕ} {used steps : ℕ}
+pub fed_all : {X O : Type 0} {received : Received X} {trees : Received TreeBuilder} {means : O → Tree → Type 0}
+    {most : ℕ} {s s' : SessionState X O} {out out' : List (declared.Item O)} {piece : List ℕ} {used steps : ℕ}
     → HasFed received trees means most s s' out out' piece used steps → length piece ≤ used
-    → Given out out' (λ given. (items : List StreamItem) (bytes : List ℕ) → SessionHasRead received trees most s items bytes → GivesOn means given items (λ all. SessionHasRead received trees most s' all (bytes ++ piece)))
+    → Given out out' (λ given. (items : List StreamItem) (bytes : List ℕ)
+    → SessionHasRead received trees most s items bytes
+    → GivesOn means given items (λ all. SessionHasRead received trees most s' all (bytes ++ piece)))
 fed_all {received = received} {trees = trees} {most = most} {s' = s'} {piece = piece} {used = used} h l = record {
   given = h.fed.given;
   appended = h.fed.appended;
@@ -164,75 +203,122 @@ fed_all {received = received} {trees = trees} {most = most} {s' = s'} {piece = p
       record {
         more = before.more;
         mean = before.mean;
-        holds = subst (λ p. SessionHasRead received trees most s' (items ++ before.more) (bytes ++ p)) (take_all used piece l) before.holds;
+        holds = subst (λ p. SessionHasRead received trees most s' (items ++ before.more) (bytes ++ p))
+            (take_all used piece l) before.holds;
       };
 }
 
 -- the bytes begin with the stream of the items that were given, behind which these are the types
-types_behind : {X O : Type 0} {received : Received X} {trees : Received TreeBuilder} {most : ℕ} {s : SessionState X O} {L : Bounds} {items : List StreamItem} {bytes all : List ℕ} {T : Table} (rest : List ℕ)
-    → SessionHasRead received trees most s items bytes → s.limits ≡ L → T ≡ types s.types → bytes ++ rest ≡ all → HasTypesBehind (no_deeper most L) all items T
+types_behind : {X O : Type 0} {received : Received X} {trees : Received TreeBuilder} {most : ℕ} {s : SessionState X O}
+    {L : Bounds} {items : List StreamItem} {bytes all : List ℕ} {T : Table} (rest : List ℕ)
+    → SessionHasRead received trees most s items bytes → s.limits ≡ L → T ≡ types s.types → bytes ++ rest ≡ all
+    → HasTypesBehind (no_deeper most L) all items T
 types_behind {most = most} {s = s} {L = L} {items = items} rest a e t f = record {
-  front = a.front;
+  prefix = a.prefix;
   rest = a.under_way ++ rest;
   stream =
-      subst (λ (T : Table). Stream base_table (no_deeper most L) items a.front T) (sym t)
-      (subst (λ L. Stream base_table (no_deeper most L) items a.front (types s.types)) e a.stream);
-  whole = sym f ∙ ap (λ l. l ++ rest) a.whole ∙ append_assoc a.front a.under_way rest;
+      subst (λ (T : Table). Stream base_table (no_deeper most L) items a.prefix T) (sym t)
+      (subst (λ L. Stream base_table (no_deeper most L) items a.prefix (types s.types)) e a.stream);
+  whole = sym f ∙ ap (λ l. l ++ rest) a.whole ∙ append_assoc a.prefix a.under_way rest;
 }
 
 -- nor behind any further item
-types_at : {L : Bounds} {bytes : List ℕ} {items : List StreamItem} {T : Table} → HasTypesBehind L bytes items T → HasTypesBeyond L bytes items T
+types_at : {L : Bounds} {bytes : List ℕ} {items : List StreamItem} {T : Table} → HasTypesBehind L bytes items T
+    → HasTypesBeyond L bytes items T
 types_at {L = L} {bytes = bytes} {items = items} {T = T} b =
-    record { more = []; at_most_one = omega arith; behind = subst (λ i. HasTypesBehind L bytes i T) (sym (append-nil items)) b }
+    record {
+      more = [];
+      at_most_one = omega arith;
+      behind = subst (λ i. HasTypesBehind L bytes i T)
+          (sym (append-nil items)) b;
+    }
 
-types_one_on : {L : Bounds} {bytes : List ℕ} {items : List StreamItem} {T : Table} (i : StreamItem) → HasTypesBehind L bytes (items ++ i ∷ []) T → HasTypesBeyond L bytes items T
+types_one_on : {L : Bounds} {bytes : List ℕ} {items : List StreamItem} {T : Table} (i : StreamItem)
+    → HasTypesBehind L bytes (items ++ i ∷ []) T → HasTypesBeyond L bytes items T
 types_one_on i b = record { more = i ∷ []; at_most_one = omega arith; behind = b }
 
 -- and what they give
-given_by : {X O : Type 0} {received : Received X} {trees : Received TreeBuilder} {most : ℕ} {s : SessionState X O} {L : Bounds} {items : List StreamItem} {bytes : List ℕ}
-    → SessionHasRead received trees most s items bytes → s.limits ≡ L → LongestStream base_table (no_deeper most L) bytes items
-given_by {most = most} {items = items} {bytes = bytes} a e = subst (λ L. LongestStream base_table (no_deeper most L) bytes items) e (after_gives a)
+given_by : {X O : Type 0} {received : Received X} {trees : Received TreeBuilder} {most : ℕ} {s : SessionState X O}
+    {L : Bounds} {items : List StreamItem} {bytes : List ℕ}
+    → SessionHasRead received trees most s items bytes → s.limits ≡ L → LongestStream base_table (no_deeper most L)
+    bytes items
+given_by {most = most} {items = items} {bytes = bytes} a e =
+    subst (λ L. LongestStream base_table (no_deeper most L) bytes items) e (after_gives a)
 
-behind_stream : {X O : Type 0} {received : Received X} {trees : Received TreeBuilder} {most : ℕ} {s : SessionState X O} {L : Bounds} {items : List StreamItem} {bytes : List ℕ} (more : List ℕ)
-    → SessionHasRead received trees most s items bytes → s.limits ≡ L → BeginsWithStream base_table (no_deeper most L) (bytes ++ more) items
-behind_stream more a e = let b = types_behind more a e refl refl in record { front = b.front; rest = b.rest; table = _; stream = b.stream; whole = b.whole }
+behind_stream : {X O : Type 0} {received : Received X} {trees : Received TreeBuilder} {most : ℕ} {s : SessionState X O}
+    {L : Bounds} {items : List StreamItem} {bytes : List ℕ} (more : List ℕ)
+    → SessionHasRead received trees most s items bytes → s.limits ≡ L → BeginsWithStream base_table (no_deeper most L)
+    (bytes ++ more) items
+behind_stream more a e = let b = types_behind more a e refl refl in record {
+  prefix = b.prefix;
+  rest = b.rest;
+  table = _;
+  stream = b.stream;
+  whole = b.whole;
+}
 
-taken_so : {L : Bounds} {taken : ℕ} {front bytes : List ℕ} {items : List StreamItem} (rest : List ℕ) → taken ≡ length front → front ++ rest ≡ bytes → LongestButLast base_table L front items → GivesOfTaken L taken bytes items
-taken_so {front = front} rest t e g = record { front = front; rest = rest; whole = sym e; taken_is = t; given = g }
+taken_so : {L : Bounds} {taken : ℕ} {prefix bytes : List ℕ} {items : List StreamItem} (rest : List ℕ)
+    → taken ≡ length prefix → prefix ++ rest ≡ bytes → LongestButLast base_table L prefix items
+    → GivesOfTaken L taken bytes items
+taken_so {prefix = prefix} rest t e g = record { prefix = prefix; rest = rest; whole = sym e; taken_is = t; given = g }
 
 -- without memory for the item that is whole with a step
-pub feed_no_memory : {X O : Type 0} {received : Received X} {trees : Received TreeBuilder} {means : O → Tree → Type 0} {most : ℕ} {s t t' : SessionState X O} {out out' out'' : List (declared.Item O)} {piece : List ℕ} {used steps step : ℕ} {item : Option (declared.Item O)} {one : declared.Item O} {f : Fault} (s' : SessionState X O)
-    → HasFed received trees means most s t out out' piece used steps → StepsOver received trees means most t t' (rest_of piece used) step item → item ≡ Some one → s'.types ≡ t'.types → s'.taken ≡ t'.taken → f ≡ fault.Memory → out'' ≡ out'
-    → Given out out'' (λ given. (items : List StreamItem) (bytes : List ℕ) → SessionHasRead received trees most s items bytes → Feeds received trees means most s s' items bytes piece given (Err f))
-feed_no_memory {received = received} {trees = trees} {means = means} {most = most} {s = s} {piece = piece} {used = used} {step = step} s' h o n k v e f = record {
-  given = h.fed.given;
-  appended = f ∙ h.fed.appended;
-  holds = λ items bytes a.
-      let before = h.fed.holds items bytes a in
-      let one = gives_over (o.advances (items ++ before.more) (bytes ++ take used piece) before.holds) n in
-      let there = ap (λ b. b ++ rest_of piece (used + step)) (further bytes piece used step) ∙ all_bytes bytes piece (used + step) in
-      let behind = types_one_on one.item (types_behind (rest_of piece (used + step)) one.after (o.limits ∙ h.limits) (ap types k) there) in
-      let lost = before_last one.item (behind_stream (take step (rest_of piece used)) before.holds h.limits) (given_by one.after (o.limits ∙ h.limits)) in
-      subst (λ f. Feeds received trees means most s s' items bytes piece h.fed.given (Err f)) (sym e)
-      (record { more = before.more; mean = before.mean; holds = (taken_so (rest_of piece (used + step)) (v ∙ one.after.taken) there lost, behind) });
-}
+pub feed_no_memory : {X O : Type 0} {received : Received X} {trees : Received TreeBuilder} {means : O → Tree → Type 0}
+    {most : ℕ} {s t t' : SessionState X O} {out out' out'' : List (declared.Item O)} {piece : List ℕ}
+    {used steps step : ℕ} {item : Option (declared.Item O)} {one : declared.Item O} {f : Fault} (s' : SessionState X O)
+    → HasFed received trees means most s t out out' piece used steps
+    → StepsOver received trees means most t t' (rest_of piece used) step item → item ≡ Some one → s'.types ≡ t'.types
+    → s'.taken ≡ t'.taken → f ≡ fault.Memory → out'' ≡ out'
+    → Given out out'' (λ given. (items : List StreamItem) (bytes : List ℕ) → SessionHasRead received trees most s items
+    bytes → Feeds received trees means most s s' items bytes piece given (Err f))
+feed_no_memory {received = received} {trees = trees} {means = means} {most = most} {s = s} {piece = piece} {used = used}
+    {step = step} s' h o n k v e f = record {
+      given = h.fed.given;
+      appended = f ∙ h.fed.appended;
+      holds = λ items bytes a.
+          let before = h.fed.holds items bytes a in
+          let one = gives_over (o.advances (items ++ before.more) (bytes ++ take used piece) before.holds) n in
+          let there = ap (λ b. b ++ rest_of piece (used + step)) (further bytes piece used step)
+          ∙ all_bytes bytes piece (used + step) in
+          let behind = types_one_on one.item (types_behind (rest_of piece (used + step)) one.after (o.limits ∙ h.limits)
+          (ap types k) there) in
+          let lost = before_last one.item (behind_stream (take step (rest_of piece used)) before.holds h.limits)
+          (given_by one.after (o.limits ∙ h.limits)) in
+          subst (λ f. Feeds received trees means most s s' items bytes piece h.fed.given (Err f)) (sym e)
+          (record {
+            more = before.more;
+            mean = before.mean;
+            holds =
+                (taken_so (rest_of piece (used + step)) (v ∙ one.after.taken) there lost, behind);
+          });
+    }
 
 -- at a fault of a step
 shown_all : (most : ℕ) {K L : Bounds} {items : List StreamItem} {R : Refusal} (bytes piece : List ℕ) (used : ℕ) → K ≡ L
-    → ShowsRefusal (no_deeper most K) ((bytes ++ take used piece) ++ rest_of piece used) items R → ShowsRefusal (no_deeper most L) (bytes ++ piece) items R
+    → ShowsRefusal (no_deeper most K) ((bytes ++ take used piece) ++ rest_of piece used) items R
+    → ShowsRefusal (no_deeper most L) (bytes ++ piece) items R
 shown_all most {K = K} {L = L} {items = items} {R = R} bytes piece used e i =
-    subst (λ b. ShowsRefusal (no_deeper most L) b items R) (all_bytes bytes piece used) (subst (λ K. ShowsRefusal (no_deeper most K) ((bytes ++ take used piece) ++ rest_of piece used) items R) e i)
+    subst (λ b. ShowsRefusal (no_deeper most L) b items R) (all_bytes bytes piece used)
+    (subst (λ K. ShowsRefusal (no_deeper most K) ((bytes ++ take used piece) ++ rest_of piece used) items R) e i)
 
-stops_so : {X O : Type 0} {received : Received X} {trees : Received TreeBuilder} {means : O → Tree → Type 0} {most : ℕ} {t : SessionState X O} {items : List StreamItem} {given : List (declared.Item O)} (s s' : SessionState X O) (bytes piece : List ℕ) (used : ℕ) (f : Fault)
-    → GivesOn means given items (λ all. SessionHasRead received trees most t all (bytes ++ take used piece)) → t.limits ≡ s.limits → s'.types ≡ t.types → s'.taken ≡ t.taken
-    → ((all : List StreamItem) → SessionHasRead received trees most t all (bytes ++ take used piece) → Advances received trees means most t s' all (bytes ++ take used piece) (rest_of piece used) (Err f))
+stops_so : {X O : Type 0} {received : Received X} {trees : Received TreeBuilder} {means : O → Tree → Type 0} {most : ℕ}
+    {t : SessionState X O} {items : List StreamItem} {given : List (declared.Item O)} (s s' : SessionState X O)
+    (bytes piece : List ℕ) (used : ℕ) (f : Fault)
+    → GivesOn means given items (λ all. SessionHasRead received trees most t all (bytes ++ take used piece))
+    → t.limits ≡ s.limits → s'.types ≡ t.types → s'.taken ≡ t.taken
+    → ((all : List StreamItem) → SessionHasRead received trees most t all (bytes ++ take used piece)
+    → Advances received trees means most t s' all (bytes ++ take used piece) (rest_of piece used) (Err f))
     → Feeds received trees means most s s' items bytes piece given (Err f)
 stops_so {most = most} {items = items} s s' bytes piece used (fault.Refused R) before e k v stops =
     let r = stops (items ++ before.more) before.holds in (
       record {
         more = before.more;
         mean = before.mean;
-        holds = (shown_all most bytes piece used e r.0, types_behind (rest_of piece used) before.holds e (ap types k) (all_bytes bytes piece used));
+        holds = (
+          shown_all most bytes piece used e r.0,
+          types_behind (rest_of piece used) before.holds e (ap types k)
+              (all_bytes bytes piece used),
+        );
       },
       let n = r.1 in omega (arith, length-append bytes (take used piece)),
     )
@@ -242,17 +328,27 @@ stops_so s s' bytes piece used fault.Memory before e k v stops =
     record {
       more = before.more;
       mean = before.mean;
-      holds = (taken_so (rest_of piece used) (v ∙ before.holds.taken) all (but_none (given_by before.holds e)), types_at (types_behind (rest_of piece used) before.holds e (ap types k) all));
+      holds = (
+        taken_so (rest_of piece used) (v ∙ before.holds.taken) all (but_none (given_by before.holds e)),
+        types_at (types_behind (rest_of piece used) before.holds e (ap types k) all),
+      );
     }
-stops_so {items = items} s s' bytes piece used fault.Failed before e k v stops = stops (items ++ before.more) before.holds
+stops_so {items = items} s s' bytes piece used fault.Failed before e k v stops =
+    stops (items ++ before.more) before.holds
 
-pub feed_stops : {X O : Type 0} {received : Received X} {trees : Received TreeBuilder} {means : O → Tree → Type 0} {most : ℕ} {s t : SessionState X O} {out out' : List (declared.Item O)} {piece : List ℕ} {used steps : ℕ} (f : Fault) (s' : SessionState X O)
+pub feed_stops : {X O : Type 0} {received : Received X} {trees : Received TreeBuilder} {means : O → Tree → Type 0}
+    {most : ℕ} {s t : SessionState X O} {out out' : List (declared.Item O)} {piece : List ℕ} {used steps : ℕ}
+    (f : Fault) (s' : SessionState X O)
     → HasFed received trees means most s t out out' piece used steps → s'.types ≡ t.types → s'.taken ≡ t.taken
-    → ((items : List StreamItem) (bytes : List ℕ) → SessionHasRead received trees most t items bytes → Advances received trees means most t s' items bytes (rest_of piece used) (Err f))
-    → Given out out' (λ given. (items : List StreamItem) (bytes : List ℕ) → SessionHasRead received trees most s items bytes → Feeds received trees means most s s' items bytes piece given (Err f))
+    → ((items : List StreamItem) (bytes : List ℕ) → SessionHasRead received trees most t items bytes
+    → Advances received trees means most t s' items bytes (rest_of piece used) (Err f))
+    → Given out out' (λ given. (items : List StreamItem) (bytes : List ℕ)
+    → SessionHasRead received trees most s items bytes → Feeds received trees means most s s' items bytes piece given
+    (Err f))
 feed_stops {s = s} {piece = piece} {used = used} f s' h k v stops = record {
   given = h.fed.given;
   appended = h.fed.appended;
   holds = λ items bytes a.
-      stops_so s s' bytes piece used f (h.fed.holds items bytes a) h.limits k v (λ all b. stops all (bytes ++ take used piece) b);
+      stops_so s s' bytes piece used f (h.fed.holds items bytes a) h.limits k v
+      (λ all b. stops all (bytes ++ take used piece) b);
 }

@@ -1,7 +1,8 @@
 -- What a reader has read goes on from call to call, and how it ends.
 use Rattle.std.proofs.Common.{◌≡◌, ℕ, ◌+◌, ◌<◌, ◌≤◌, arith, List, [], ◌∷◌, ◌++◌, length, take, drop, Option, Some, None}
 use Rattle.std.proofs.Common.{Result, Ok, Err, Bool, true, false, ◌∙◌, ap, sym, subst, refl, append_assoc, append-nil}
-use Rattle.std.proofs.Common.{◌-◌, inl, inr, length-append, length-take, take-append-drop, is_some, not, IfErr, IfSome, ◌≢◌}
+use Rattle.std.proofs.Common.{◌-◌, inl, inr, length-append, length-take, take-append-drop, is_some, not, IfErr, IfSome}
+use Rattle.std.proofs.Common.{◌≢◌}
 use Rattle.std.proofs.lemmas.List.{take-append-le, length-take-le}
 use Rattle.std.specs.Result.{IsErrAnd}
 use Rattle.std.specs.Io.KnownBytes.{Consumes, Keeps, IsAtEnd}
@@ -12,7 +13,8 @@ use Rattle.gob_read.specs.Building.{Building}
 use Rattle.gob_read.specs.Calls.Builders.{tree_building}
 use Rattle.gob_stream.specs.Bounds.{Bounds, no_deeper}
 use Rattle.gob_stream.specs.Calls.Reads.{ReadingFinishes}
-use Rattle.gob_stream.specs.Calls.Session.{HasBegunNext, HasRead, IsBetweenItems, StepAnswers, ReadsItems, ReadsOn, limits_of, taken_of, types_of}
+use Rattle.gob_stream.specs.Calls.Session.{HasBegunNext, HasRead, IsBetweenItems, StepAnswers, ReadsItems, ReadsOn}
+use Rattle.gob_stream.specs.Calls.Session.{limits_of, taken_of, types_of}
 use Rattle.gob_stream.specs.Item.{StreamItem}
 use Rattle.gob_stream.specs.Machine.ReadParts.{AdvancesOver, over_some, over_item}
 use Rattle.gob_stream.specs.Machine.SessionState.{SessionState}
@@ -30,7 +32,8 @@ use Rattle.gob_stream.proofs.Reader.HasReadLaws.{one_table}
 use Rattle.gob_stream.proofs.Reader.UnderWayLaws.{after_gives}
 use Rattle.gob_stream.proofs.Reader.WholeSteps.{begun_gives}
 use Rattle.gob_stream.proofs.Stream.StayLaws.{shown_refusal_stays, shown_there}
-use Rattle.gob_stream.specs.Calls.Reader.{BringsOnce, EndsWith, left_to_read, ReadsOnce, Fills, HasReadFrom, Lacks, Begins, PassesFrom, PassesOne}
+use Rattle.gob_stream.specs.Calls.Reader.{BringsOnce, EndsWith, left_to_read, ReadsOnce, Fills, HasReadFrom, Lacks}
+use Rattle.gob_stream.specs.Calls.Reader.{Begins, PassesFrom, PassesOne}
 use Rattle.gob_stream.specs.Calls.Reader.{StepsFrom, StepsOnFrom, StopsFrom, GivesItems, gives_none, gives_one}
 use Rattle.gob_stream.specs.Calls.Reader.{GivesAllBut, none_wait, some_wait, most_ahead, room_in, session_of, waits_in}
 use Rattle.gob_stream.specs.Machine.Waiting.{Grows}
@@ -38,7 +41,8 @@ use Rattle.gob_num.proofs.PublicLaws.{unsigned_length}
 use Rattle.gob_stream.specs.declared.stream_reader.StreamReader.{StreamReader}
 
 -- ---- known bytes
-taken_so : (bytes : List ℕ) (now : Option (List ℕ)) (taken : List ℕ) → Consumes (Some bytes) now taken → Taken bytes now taken
+taken_so : (bytes : List ℕ) (now : Option (List ℕ)) (taken : List ℕ) → Consumes (Some bytes) now taken
+    → Taken bytes now taken
 taken_so bytes None taken c = absurd c
 taken_so bytes (Some left) taken c = record { left = left; known = refl; whole = c }
 
@@ -64,7 +68,8 @@ no_bytes [] l = refl
 no_bytes (x ∷ z) l = absurd (omega arith)
 
 -- each read brings it nearer to where it stops reading
-falls : (ended : Bool) (waits more after : List ℕ) (taken most : ℕ) → after ≡ waits ++ more → (ended ≡ false → 0 < length more)
+falls : (ended : Bool) (waits more after : List ℕ) (taken most : ℕ) → after ≡ waits ++ more
+    → (ended ≡ false → 0 < length more)
     → (0 < length waits → taken + length waits < most)
     → left_to_read ended after taken most < left_to_read false waits taken most
 falls true [] more [] taken most e some h = omega arith
@@ -73,7 +78,8 @@ falls true (b ∷ waits) more [] taken most e some h = absurd (omega (arith, ap 
 falls true (b ∷ waits) more (c ∷ after) taken most e some h = omega (arith, ap length e, length-append (b ∷ waits) more)
 falls false [] more [] taken most e some h = let some = some refl in absurd (omega (arith, ap length e))
 falls false [] more (c ∷ after) taken most e some h = omega arith
-falls false (b ∷ waits) more [] taken most e some h = absurd (omega (arith, ap length e, length-append (b ∷ waits) more))
+falls false (b ∷ waits) more [] taken most e some h =
+    absurd (omega (arith, ap length e, length-append (b ∷ waits) more))
 falls false (b ∷ waits) more (c ∷ after) taken most e some h =
     let some = some refl in
     let few : 0 < length (b ∷ waits) = omega arith in
@@ -120,7 +126,8 @@ pub record IsAsWide {X O : Type 0} (r r' : StreamReader X O) : Type 0 where
 -- what the item that is awaited says of what waits
 pub lacks_some : {X O : Type 0} (r : StreamReader X O) (piece : List ℕ) (o : Option Awaited) (none : Bool)
     → is_some o ≡ not none → none ≡ false → IfSome o (λ a. IsBetweenItems (session_of r))
-    → IfSome o (λ a. HasBegunNext (session_of r) a.id a.head a.size piece) → piece ≡ waits_in r → r.ended ≡ false → Lacks r
+    → IfSome o (λ a. HasBegunNext (session_of r) a.id a.head a.size piece) → piece ≡ waits_in r → r.ended ≡ false
+    → Lacks r
 lacks_some r piece None none e f p q same open_ = cc
 lacks_some r piece (Some a) none e f p q same open_ =
     some_wait p (subst (λ (l : List ℕ). HasBegunNext (session_of r) a.id a.head a.size l) same q) open_
@@ -134,7 +141,8 @@ counts_as A old new fault.Memory h = h
 counts_as A old new fault.Failed h = h
 
 -- at the error that a `?` returns
-pub counts_at : (A : Type 0) (old mid new : ℕ) (res : Result A Fault) (e : Fault) → IsErrAnd res (λ x. x ≡ e) → mid ≡ old
+pub counts_at : (A : Type 0) (old mid new : ℕ) (res : Result A Fault) (e : Fault) → IsErrAnd res (λ x. x ≡ e)
+    → mid ≡ old
     → CountsReads {A = Unit {0}} mid new (Err e) → CountsReads {A = A} old new res
 counts_at A old mid new (Ok a) e is same h = absurd is
 counts_at A old mid new (Err f) e is same h =
@@ -157,13 +165,13 @@ ahead_begins s =
     let b = s.holds.gives.begins in
     record {
       begins = record {
-        front = b.front;
+        prefix = b.prefix;
         rest = (b.rest ++ s.holds.rest) ++ s.taken.left;
         table = b.table;
         stream = b.stream;
         whole = s.taken.whole ∙ ap (λ (l : List ℕ). l ++ s.taken.left) (s.holds.whole
-            ∙ ap (λ (l : List ℕ). l ++ s.holds.rest) b.whole ∙ append_assoc b.front b.rest s.holds.rest)
-            ∙ append_assoc b.front (b.rest ++ s.holds.rest) s.taken.left;
+            ∙ ap (λ (l : List ℕ). l ++ s.holds.rest) b.whole ∙ append_assoc b.prefix b.rest s.holds.rest)
+            ∙ append_assoc b.prefix (b.rest ++ s.holds.rest) s.taken.left;
       };
       table = s.holds.table;
     }
@@ -175,17 +183,17 @@ module _ {X O : Type 0} {most : ℕ} (building : Building X O most) where
       → (b : BeginsWithStream base_table (no_deeper most (limits_of s)) bytes items) → b.table ≡ types_of s
   table_is {s = s} {items = items} {bytes = bytes} more e a b =
       one_table (no_deeper most (limits_of s)) bytes items b.table (types_of s)
-      (record { front = b.front; rest = b.rest; stream = b.stream; whole = b.whole })
+      (record { prefix = b.prefix; rest = b.rest; stream = b.stream; whole = b.whole })
       (record {
-        front = a.front;
+        prefix = a.prefix;
         rest = a.under_way ++ more;
         stream = a.stream;
-        whole = e ∙ ap (λ (l : List ℕ). l ++ more) a.whole ∙ append_assoc a.front a.under_way more;
+        whole = e ∙ ap (λ (l : List ℕ). l ++ more) a.whole ∙ append_assoc a.prefix a.under_way more;
       })
 
   -- a reader that has read nothing
   pub first_read : (r : StreamReader X O) (read : Option (List ℕ)) → HasRead building (session_of r) [] []
-      → waits_in r ≡ [] → r.ended ≡ false → room_in r ≡ 65536 → HasReadFrom building r read read []
+      → waits_in r ≡ [] → r.ended ≡ false → room_in r ≡ 262144 → HasReadFrom building r read read []
   first_read r read gave none open_ room = record {
     taken = [];
     input = subst (λ (l : List ℕ). Consumes read read l) (sym none) (Consumes-nil read);
@@ -197,7 +205,8 @@ module _ {X O : Type 0} {most : ℕ} (building : Building X O most) where
   -- the begin of what was read, of known bytes
   read_so : {r : StreamReader X O} {read now : Option (List ℕ)} {items : List StreamItem} (bytes : List ℕ)
       → (h : HasReadFrom building r read now items) → read ≡ Some bytes → Taken bytes now (h.taken ++ waits_in r)
-  read_so {r = r} {read = read} {now = now} bytes h known = taken_known read now bytes (h.taken ++ waits_in r) known h.input
+  read_so {r = r} {read = read} {now = now} bytes h known = taken_known read now bytes (h.taken ++ waits_in r) known
+      h.input
 
   -- the items begin known bytes
   pub begins_so : {r : StreamReader X O} {read now : Option (List ℕ)} {items : List StreamItem} (bytes : List ℕ)
@@ -208,13 +217,13 @@ module _ {X O : Type 0} {most : ℕ} (building : Building X O most) where
       let a = h.gave in
       record {
         begins = record {
-          front = a.front;
+          prefix = a.prefix;
           rest = (a.under_way ++ waits_in r) ++ t.left;
           table = types_of (session_of r);
           stream = a.stream;
           whole = t.whole ∙ ap (λ (l : List ℕ). (l ++ waits_in r) ++ t.left) a.whole
-              ∙ ap (λ (l : List ℕ). l ++ t.left) (append_assoc a.front a.under_way (waits_in r))
-              ∙ append_assoc a.front (a.under_way ++ waits_in r) t.left;
+              ∙ ap (λ (l : List ℕ). l ++ t.left) (append_assoc a.prefix a.under_way (waits_in r))
+              ∙ append_assoc a.prefix (a.under_way ++ waits_in r) t.left;
         };
         table = refl;
       }
@@ -231,7 +240,7 @@ module _ {X O : Type 0} {most : ℕ} (building : Building X O most) where
         bytes = taken ++ waits_in r;
         taken = taken_known read now bytes (taken ++ waits_in r) known input;
         holds = record {
-          front = taken;
+          prefix = taken;
           rest = waits_in r;
           whole = refl;
           few = omega (arith, few, room);
@@ -243,7 +252,8 @@ module _ {X O : Type 0} {most : ℕ} (building : Building X O most) where
   pub ahead_so : {r : StreamReader X O} {read now : Option (List ℕ)} {items : List StreamItem} (bytes : List ℕ)
       → HasReadFrom building r read now items → read ≡ Some bytes
       → SomeTaken bytes now (GivesAllBut (no_deeper most (limits_of (session_of r))) (types_of (session_of r)) items)
-  ahead_so {r = r} {read = read} {now = now} bytes h known = ahead_in r read now bytes h.taken h.input h.gave h.room known
+  ahead_so {r = r} {read = read} {now = now} bytes h known = ahead_in r read now bytes h.taken h.input h.gave h.room
+      known
 
   -- ---- reading on
   pub read_on : {r r' : StreamReader X O} {read old new : Option (List ℕ)} {items : List StreamItem}
@@ -256,7 +266,8 @@ module _ {X O : Type 0} {most : ℕ} (building : Building X O most) where
         (Consumes-trans read old new (h.taken ++ waits_in r) b.more h.input b.read);
     gave = subst (λ (s : SessionState X O). HasRead building s items h.taken) (sym same) h.gave;
     end = b.end;
-    room = subst (λ (s : SessionState X O). room_in r' ≤ most_ahead (limits_of s)) (sym same) (grows_few l b.room h.room);
+    room = subst (λ (s : SessionState X O). room_in r' ≤ most_ahead (limits_of s)) (sym same)
+        (grows_few l b.room h.room);
   }
 
   -- what waits and isn't whole gives no item
@@ -270,7 +281,8 @@ module _ {X O : Type 0} {most : ℕ} (building : Building X O most) where
 
   -- a read failed
   pub read_failed : {r : StreamReader X O} {read old new : Option (List ℕ)} {items : List StreamItem} → Lacks r
-      → Keeps old new → HasReadFrom building r read old items → StopsFrom building (session_of r) read new items fault.Read
+      → Keeps old new → HasReadFrom building r read old items → StopsFrom building (session_of r) read new items
+      fault.Read
   read_failed {r = r} {read = read} {old = old} {new = new} {items = items} l k h = λ bytes known.
       let g = lacks_gives l h.gave in
       record {
@@ -282,12 +294,14 @@ module _ {X O : Type 0} {most : ℕ} (building : Building X O most) where
 
   -- a read failed, or no memory was had for it
   pub read_stops : {r : StreamReader X O} {read old : Option (List ℕ)} {items : List StreamItem} (r' : StreamReader X O)
-      (new : Option (List ℕ)) (e : Fault) → Lacks r → ReadsOnce r r' old new (Err e) → HasReadFrom building r read old items
+      (new : Option (List ℕ)) (e : Fault) → Lacks r → ReadsOnce r r' old new (Err e)
+      → HasReadFrom building r read old items
       → StopsFrom building (session_of r) read new items e
   read_stops r' new (fault.Refused R) l o h = absurd o
   read_stops r' new fault.Read l o h = read_failed l o.1 h
   read_stops {r = r} {read = read} {old = old} r' new fault.Memory l o h = λ bytes known.
-      ahead_in r read new bytes h.taken (Consumes-kept read old new (h.taken ++ waits_in r) h.input o.1) h.gave h.room known
+      ahead_in r read new bytes h.taken (Consumes-kept read old new (h.taken ++ waits_in r) h.input o.1) h.gave h.room
+      known
   read_stops r' new fault.Failed l o h = absurd o
 
   -- ---- the ends
@@ -306,7 +320,8 @@ module _ {X O : Type 0} {most : ℕ} (building : Building X O most) where
   pub ends_whole : {r : StreamReader X O} {read now : Option (List ℕ)} {items : List StreamItem} (s' : SessionState X O)
       (u : Unit {0}) → (h : HasReadFrom building r read now items) → waits_in r ≡ [] → r.ended ≡ true
       → ReadingFinishes most (session_of r) s' items h.taken (Ok u) → (bytes : List ℕ) → read ≡ Some bytes
-      → EndsWith (no_deeper most (limits_of (session_of r))) (types_of (session_of r)) (taken_of (session_of r)) items bytes now
+      → EndsWith (no_deeper most (limits_of (session_of r))) (types_of (session_of r)) (taken_of (session_of r)) items
+      bytes now
   ends_whole {r = r} {items = items} s' u h none end finish bytes known =
       let all = all_taken bytes h known none end in
       let L = no_deeper most (limits_of (session_of r)) in
@@ -321,18 +336,21 @@ module _ {X O : Type 0} {most : ℕ} (building : Building X O most) where
           → Stream base_table (no_deeper most (limits_of (session_of r))) items h.taken (types_of (session_of r))
       whole (at_the_end {T = T} p) =
           let b : BeginsWithStream base_table (no_deeper most (limits_of (session_of r))) h.taken items = record
-          { front = h.taken; rest = []; table = T; stream = p; whole = sym (append-nil h.taken) } in
+          { prefix = h.taken; rest = []; table = T; stream = p; whole = sym (append-nil h.taken) } in
           subst (λ (U : Table). Stream base_table (no_deeper most (limits_of (session_of r))) items h.taken U)
           (table_is [] (sym (append-nil h.taken)) h.gave b) p
 
   -- or within one
-  pub ends_within : {r : StreamReader X O} {read now : Option (List ℕ)} {items : List StreamItem} (s' : SessionState X O)
+  pub ends_within : {r : StreamReader X O} {read now : Option (List ℕ)} {items : List StreamItem}
+      (s' : SessionState X O)
       (e : Fault) → (h : HasReadFrom building r read now items) → waits_in r ≡ [] → r.ended ≡ true
-      → ReadingFinishes most (session_of r) s' items h.taken (Err e) → StopsFrom building (session_of r) read now items e
+      → ReadingFinishes most (session_of r) s' items h.taken (Err e) → StopsFrom building (session_of r) read now items
+      e
   ends_within {r = r} {items = items} s' (fault.Refused R) h none end finish = λ bytes known.
       let all = all_taken bytes h known none end in
       let L = no_deeper most (limits_of (session_of r)) in
-      let o : Outcome base_table L bytes items (refused R) = subst (λ (l : List ℕ). Outcome base_table L l items (refused R)) all.0 finish.0 in
+      let o : Outcome base_table L bytes items (refused R) =
+      subst (λ (l : List ℕ). Outcome base_table L l items (refused R)) all.0 finish.0 in
       record { outcome = o; table = table_is [] (sym all.0 ∙ sym (append-nil h.taken)) h.gave o.gives.begins }
   ends_within s' fault.Read h none end finish = absurd finish
   ends_within s' fault.Memory h none end finish = absurd finish
@@ -355,7 +373,8 @@ module _ {X O : Type 0} {most : ℕ} (building : Building X O most) where
     room = omega (arith, h.room, same.room, ap (λ (L : Bounds). L.item) same.limits);
   }
 
-  onward_so : {s s' : SessionState X O} {items all : List StreamItem} {taken : List ℕ} (waits : List ℕ) (used : ℕ) → used ≤ length waits
+  onward_so : {s s' : SessionState X O} {items all : List StreamItem} {taken : List ℕ} (waits : List ℕ) (used : ℕ)
+      → used ≤ length waits
       → HasRead building s items taken → HasRead building s' all (taken ++ take used waits)
       → taken_of s' ≡ taken_of s + used
   onward_so {taken = taken} waits used l a b =
@@ -369,20 +388,30 @@ module _ {X O : Type 0} {most : ℕ} (building : Building X O most) where
   steps_on {r = r} {r' = r'} {read = read} {now = now} {items = items} step h left same answers = on refl answers
     where
       on : {item : Option (declared.Item O)} → step.item ≡ item
-          → AdvancesOver building.received tree_building.received building.means most (session_of r') items h.taken (waits_in r) step.used item
+          → AdvancesOver building.received tree_building.received building.means most (session_of r') items h.taken
+          (waits_in r) step.used item
           → StepsOnFrom building r r' read now items step
       on e (over_some some within a) =
-          let a' = subst (λ (l : List StreamItem). HasRead building (session_of r') l (h.taken ++ take step.used (waits_in r)))
+          let a' = subst (λ (l : List StreamItem). HasRead building (session_of r') l (h.taken
+          ++ take step.used (waits_in r)))
           (sym (append-nil items)) a in
           record {
             more = [];
             gives = subst (λ o. GivesItems building.means o []) (sym e) gives_none;
-            takes = record { after = takes_on step.used h left same a'; onward = onward_so (waits_in r) step.used within h.gave a };
+            takes = record {
+              after = takes_on step.used h left same a';
+              onward = onward_so (waits_in r) step.used within
+                  h.gave a;
+            };
           }
       on e (over_item {i = i} some within means a) = record {
         more = i ∷ [];
         gives = subst (λ o. GivesItems building.means o (i ∷ [])) (sym e) (gives_one means);
-        takes = record { after = takes_on step.used h left same a; onward = onward_so (waits_in r) step.used within h.gave a };
+        takes = record {
+          after = takes_on step.used h left same a;
+          onward = onward_so (waits_in r) step.used within
+              h.gave a;
+        };
       }
 
   pub step_stops : {r : StreamReader X O} {read now : Option (List ℕ)} {items : List StreamItem} (s' : SessionState X O)
@@ -394,14 +423,16 @@ module _ {X O : Type 0} {most : ℕ} (building : Building X O most) where
       let o = (shown_more t.left t.whole f.0).outcome in
       record {
         outcome = o;
-        table = table_is (waits_in r ++ t.left) (t.whole ∙ append_assoc h.taken (waits_in r) t.left) h.gave o.gives.begins;
+        table = table_is (waits_in r ++ t.left) (t.whole ∙ append_assoc h.taken (waits_in r) t.left) h.gave
+            o.gives.begins;
       }
   step_stops s' fault.Read h f = absurd f
   step_stops s' fault.Memory h f = λ bytes known. ahead_so bytes h known
   step_stops s' fault.Failed h f = absurd f
 
   -- past one item
-  pub passes_one : {r r' : StreamReader X O} (used : ℕ) → used ≤ length (waits_in r) → waits_in r' ≡ drop used (waits_in r)
+  pub passes_one : {r r' : StreamReader X O} (used : ℕ) → used ≤ length (waits_in r)
+      → waits_in r' ≡ drop used (waits_in r)
       → IsAsWide r r' → ReadsOn building (session_of r) (session_of r') used → PassesOne building r r' used
   passes_one {r = r} used within left same on = λ read now items item h there.
       let a = on items h.taken item (take used (waits_in r)) h.gave there (length-take-le used (waits_in r) within) in
@@ -417,15 +448,21 @@ module _ {X O : Type 0} {most : ℕ} (building : Building X O most) where
     none = p.none;
     each = λ read now items h.
         let a = p.passed items h.taken h.gave in
-        record { after = takes_on passed.used h left same a; onward = onward_so (waits_in r) passed.used p.within h.gave a };
+        record {
+          after = takes_on passed.used h left same a;
+          onward = onward_so (waits_in r) passed.used p.within h.gave
+              a;
+        };
   }
 
   -- ---- at the error that a `?` returns
-  pub steps_at : (r r' : StreamReader X O) (read now : Option (List ℕ)) (items : List StreamItem) (res : Result (Step O) Fault)
+  pub steps_at : (r r' : StreamReader X O) (read now : Option (List ℕ)) (items : List StreamItem)
+      (res : Result (Step O) Fault)
       (e : Fault) → IsErrAnd res (λ x. x ≡ e) → StopsFrom building (session_of r) read now items e
       → StepsFrom building r r' read now items res
   steps_at r r' read now items (Ok step) e is h = absurd is
-  steps_at r r' read now items (Err f) e is h = subst (λ e. StopsFrom building (session_of r) read now items e) (sym is) h
+  steps_at r r' read now items (Err f) e is h = subst (λ e. StopsFrom building (session_of r) read now items e) (sym is)
+      h
 
   pub fills_at : (s : SessionState X O) (r' : StreamReader X O) (read now : Option (List ℕ)) (items : List StreamItem)
       (res : Result Bool Fault) (e : Fault) → IsErrAnd res (λ x. x ≡ e) → StopsFrom building s read now items e
@@ -434,19 +471,23 @@ module _ {X O : Type 0} {most : ℕ} (building : Building X O most) where
   fills_at s r' read now items (Err f) e is h = subst (λ e. StopsFrom building s read now items e) (sym is) h
 
   -- the session is as it was before the reads
-  pub fills_from : (s : SessionState X O) (q r' : StreamReader X O) (read now : Option (List ℕ)) (items : List StreamItem)
+  pub fills_from : (s : SessionState X O) (q r' : StreamReader X O) (read now : Option (List ℕ))
+      (items : List StreamItem)
       (res : Result Bool Fault) → session_of q ≡ s → Fills building (session_of q) r' read now items res
       → Fills building s r' read now items res
   fills_from s q r' read now items res same f = subst (λ s. Fills building s r' read now items res) same f
 
   -- ---- what a read that answers so has done
-  pub goes_on : (s : SessionState X O) (r' : StreamReader X O) (read now : Option (List ℕ)) (items : List StreamItem) (more : Bool)
+  pub goes_on : (s : SessionState X O) (r' : StreamReader X O) (read now : Option (List ℕ)) (items : List StreamItem)
+      (more : Bool)
       → more ≡ true → Fills building s r' read now items (Ok more)
-      → HasReadFrom building r' read now items × (taken_of (session_of r') ≡ taken_of s) × (types_of (session_of r') ≡ types_of s)
+      → HasReadFrom building r' read now items × (taken_of (session_of r') ≡ taken_of s)
+      × (types_of (session_of r') ≡ types_of s)
   goes_on s r' read now items true e f = f
   goes_on s r' read now items false e f = cc
 
-  pub has_ended : (s : SessionState X O) (r' : StreamReader X O) (read now : Option (List ℕ)) (items : List StreamItem) (more : Bool)
+  pub has_ended : (s : SessionState X O) (r' : StreamReader X O) (read now : Option (List ℕ)) (items : List StreamItem)
+      (more : Bool)
       → more ≡ false → Fills building s r' read now items (Ok more)
       → ((bytes : List ℕ) → read ≡ Some bytes
       → EndsWith (no_deeper most (limits_of s)) (types_of s) (taken_of s) items bytes now)

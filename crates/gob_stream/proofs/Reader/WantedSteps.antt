@@ -11,19 +11,30 @@ use Rattle.gob_stream.specs.Machine.HasRead.{Received, IsCount, IsRest, size, Is
 use Rattle.gob_stream.proofs.Reader.StageSteps.{parts}
 
 -- bytes that are fewer than what is left of the body end before the item does
-rest_some : {L : Bounds} {offset m taken n : ℕ} {c a : List ℕ} {body rest : Extent} (y : List ℕ) → IsCount L offset m c body → IsRest body a rest → n ≡ length (c ++ (a ++ y)) → taken ≡ offset + n → length y < size rest → taken < rest.end
-rest_some {c = c} {a = a} y k r e t l = let b = k.begin in let s = r.begin in omega (arith, length-append c (a ++ y), length-append a y)
+rest_some : {L : Bounds} {offset m taken n : ℕ} {c a : List ℕ} {body rest : Extent} (y : List ℕ)
+    → IsCount L offset m c body → IsRest body a rest → n ≡ length (c ++ (a ++ y)) → taken ≡ offset + n
+    → length y < size rest → taken < rest.end
+rest_some {c = c} {a = a} y k r e t l = let b = k.begin in let s = r.begin in omega (
+  arith,
+  length-append c (a ++ y),
+  length-append a y,
+)
 
 -- a reader expects some bytes of a value
-pub value_left : {X O : Type 0} {received : Received X} {trees : Received TreeBuilder} {most : ℕ} {s : SessionState X O} {at : ValueStage X O} → IsUsable received trees most s → s.stage ≡ stage.Value at → s.taken < at.rest.end
+pub value_left : {X O : Type 0} {received : Received X} {trees : Received TreeBuilder} {most : ℕ} {s : SessionState X O}
+    {at : ValueStage X O} → IsUsable received trees most s → s.stage ≡ stage.Value at → s.taken < at.rest.end
 value_left (has_failed f) e = absurd (cc)
 value_left (stands_after a) e =
     let p = parts e a.stage in
-    rest_some p.y p.count p.rest_is (ap length p.whole) (omega (arith, a.taken, ap length a.whole, length-append a.front a.under_way)) p.behind.viable.room
+    rest_some p.y p.count p.rest_is (ap length p.whole)
+    (omega (arith, a.taken, ap length a.whole, length-append a.prefix a.under_way)) p.behind.viable.room
 
 -- and of a description
-pub description_left : {X O : Type 0} {received : Received X} {trees : Received TreeBuilder} {most : ℕ} {s : SessionState X O} {at : DescriptionStage} → IsUsable received trees most s → s.stage ≡ stage.Description at → s.taken < at.rest.end
+pub description_left : {X O : Type 0} {received : Received X} {trees : Received TreeBuilder} {most : ℕ}
+    {s : SessionState X O} {at : DescriptionStage} → IsUsable received trees most s → s.stage ≡ stage.Description at
+    → s.taken < at.rest.end
 description_left (has_failed f) e = absurd (cc)
 description_left (stands_after a) e =
     let p = parts e a.stage in
-    rest_some p.y p.count p.rest_is (ap length p.whole) (omega (arith, a.taken, ap length a.whole, length-append a.front a.under_way)) p.behind.viable.room
+    rest_some p.y p.count p.rest_is (ap length p.whole)
+    (omega (arith, a.taken, ap length a.whole, length-append a.prefix a.under_way)) p.behind.viable.room

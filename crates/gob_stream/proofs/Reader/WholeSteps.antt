@@ -1,12 +1,13 @@
 -- Items of values that stand whole at the front of a piece.
-use Rattle.std.proofs.Common.{◌≡◌, ℕ, pos, ◌+◌, ◌-◌, ◌<◌, ◌≤◌, List, [], ◌∷◌, ◌++◌, length, take, drop, min, arith, refl, Option, Some, IfSome}
+use Rattle.std.proofs.Common.{◌≡◌, ℕ, pos, ◌+◌, ◌-◌, ◌<◌, ◌≤◌, List, [], ◌∷◌, ◌++◌, length, take, drop, min, arith}
+use Rattle.std.proofs.Common.{refl, Option, Some, IfSome}
 use Rattle.std.proofs.Common.{sym, ap, ◌∙◌, subst, append_assoc, length-append, length-drop}
 use Rattle.std.proofs.Math.Seq.{take-add, take-take}
 use Rattle.std.proofs.lemmas.List.{length-take, length-take-le, take-append-drop, append-nil, drop-drop}
 use Rattle.gob_num.specs.Unsigned.{IsUnsigned}
 use Rattle.gob_num.specs.Place.{IsUnsignedAt}
 use Rattle.gob_num.specs.Signed.{IsSigned}
-use Rattle.gob_num.proofs.PublicLaws.{begins_front}
+use Rattle.gob_num.proofs.PublicLaws.{begins_prefix}
 use Rattle.gob_num.proofs.PublicLaws.{unsigned_prefix}
 use Rattle.gob_types.specs.declared.id.TypeId.{TypeId}
 use Rattle.gob_types.specs.declared.kind.Kind.{Kind}
@@ -22,7 +23,8 @@ use Rattle.gob_stream.specs.Bounds.{Bounds, no_deeper}
 use Rattle.gob_stream.specs.Item.{StreamItem, puts}
 use Rattle.gob_stream.specs.Body.{MayPut, value}
 use Rattle.gob_stream.specs.Stream.{IsItem, AreItems, no_more, counted}
-use Rattle.gob_stream.specs.Machine.HasRead.{Received, StageHasRead, in_count, SessionHasRead, IsUsable, has_failed, stands_after}
+use Rattle.gob_stream.specs.Machine.HasRead.{Received, StageHasRead, in_count, SessionHasRead, IsUsable, has_failed}
+use Rattle.gob_stream.specs.Machine.HasRead.{stands_after}
 use Rattle.gob_value.specs.Whole.{IsWhole, IsWholeBetween}
 use Rattle.gob_stream.specs.Whole.{HasBody, HasBegun, HasCount, HasItem, HasItems, NamesTypeAt}
 use Rattle.gob_stream.specs.Whole.{IsOpenKind, AllowsIn, IsValueBetween, AreItemsBetween}
@@ -135,7 +137,8 @@ has_item {id = id} {used = used} {piece = piece} most e b w =
     }
 
 -- ---- between two items
-pub between_at : {X O : Type 0} {s : SessionState X O} {at : CountStage} → s.stage ≡ stage.Count at → at.begin ≡ s.taken → IsBetween s
+pub between_at : {X O : Type 0} {s : SessionState X O} {at : CountStage} → s.stage ≡ stage.Count at → at.begin ≡ s.taken
+    → IsBetween s
 between_at {at = at} e b = record { number = at.number; stage = e ∙ ap (λ n. count_at n at.number) b }
 
 -- ---- items that stand whole one behind another
@@ -152,12 +155,14 @@ between_length : (piece : List ℕ) (a b : ℕ) → a ≤ b → b ≤ length pie
 between_length piece a b l m = length-take-le (b - a) (drop a piece) (omega (arith, length-drop a piece))
 
 -- a count, the number of a type and a value of it are an item
-pub value_between : {L : Bounds} {T : Table} {offset item count number limit : ℕ} {id : TypeId} {k : Kind} {piece : List ℕ}
+pub value_between : {L : Bounds} {T : Table} {offset item count number limit : ℕ} {id : TypeId} {k : Kind}
+    {piece : List ℕ}
     {at head begin end : ℕ} → IsUnsignedAt count piece at head → count ≤ item → end ≡ head + count
     → IsUnsignedAt number piece head begin → ((bytes : List ℕ) → IsUnsigned number bytes → IsSigned (pos id.0) bytes)
     → IsOpenKind T id k → IsWholeBetween T k limit piece begin end → AllowsIn L item limit offset piece
     → IsValueBetween L T offset id piece at end
-value_between {L = L} {T = T} {offset = offset} {count = count} {id = id} {piece = piece} {at = at} {head = head} {begin = begin} {end = end} p few last q named o w a =
+value_between {L = L} {T = T} {offset = offset} {count = count} {id = id} {piece = piece} {at = at} {head = head}
+    {begin = begin} {end = end} p few last q named o w a =
     let whole = w.whole id o.shape o.known o.is in
     let number = take (begin - head) (drop head piece) in
     let body = take (end - begin) (drop begin piece) in
@@ -168,7 +173,8 @@ value_between {L = L} {T = T} {offset = offset} {count = count} {id = id} {piece
     let order = w.order in
     let inside = w.inside in
     let long : length (number ++ body) ≡ count =
-    ap length (sym (between_add piece head begin end (omega arith) order)) ∙ between_length piece head end (omega arith) inside ∙ omega arith in
+    ap length (sym (between_add piece head begin end (omega arith) order)) ∙ between_length piece head end (omega arith)
+    inside ∙ omega arith in
     let all : take (end - at) (drop at piece) ≡ first ++ (number ++ body) =
     between_add piece at head end (omega arith) (omega arith)
     ∙ ap (λ r. first ++ r) (between_add piece head begin end (omega arith) order) in
@@ -236,7 +242,8 @@ items_at_0 {L = L} {T = T} {offset = offset} {used = used} {piece = piece} b =
     (subst (λ n. AreItems base_table L T (offset + 0) b.items (take n piece) T) all b.are)
 
 -- what a look at the front of a piece finds under the limits that are left
-pub found_items : {X O : Type 0} (most : ℕ) (s : SessionState X O) (piece : List ℕ) (near : ℕ) {count used limit item : ℕ}
+pub found_items : {X O : Type 0} (most : ℕ) (s : SessionState X O) (piece : List ℕ) (near : ℕ)
+    {count used limit item : ℕ}
     → ((L : Bounds) (offset : ℕ) → AllowsIn L item limit offset (take near piece)
     → AreItemsBetween L (types s.types) offset count (take near piece) 0 used)
     → item ≡ s.limits.item → limit ≡ min s.limits.depth most → near ≤ s.limits.stream - s.taken
@@ -250,7 +257,8 @@ found_items most s piece near are items depths room = are (no_deeper most s.limi
 -- ---- going past items
 abbrev pub GoesPast : {X O : Type 0} (received : Received X) (trees : Received TreeBuilder) (most : ℕ)
     → (s s' : SessionState X O) → (used : ℕ) → Type 0
-GoesPast received trees most s s' used = (items : List StreamItem) (bytes : List ℕ) (given : List StreamItem) (z : List ℕ)
+GoesPast received trees most s s' used = (items : List StreamItem) (bytes : List ℕ) (given : List StreamItem)
+    (z : List ℕ)
     → SessionHasRead received trees most s items bytes
     → AreItems base_table (no_deeper most s.limits) (types s.types) s.taken given z (types s.types)
     → length z ≡ used → SessionHasRead received trees most s' (items ++ given) (bytes ++ z)
@@ -266,20 +274,20 @@ module _ {X O : Type 0} {received : Received X} {trees : Received TreeBuilder} {
       let same : stage.Count at ≡ count_at s.taken [] = sym is ∙ none_expects_count a none in
       let first : at ≡ record { begin = s.taken; number = [] } = cc in
       let empty : at.number ≡ [] = ap (λ (at : CountStage). at.number) first in
-      let front : bytes ≡ a.front = a.whole ∙ ap (λ y. a.front ++ y) none ∙ append-nil a.front in
-      let here : s.taken ≡ length a.front = a.taken ∙ ap length front in
-      let long : length (a.front ++ z) ≡ s.taken + used = omega (arith, length-append a.front z) in
+      let prefix : bytes ≡ a.prefix = a.whole ∙ ap (λ y. a.prefix ++ y) none ∙ append-nil a.prefix in
+      let here : s.taken ≡ length a.prefix = a.taken ∙ ap length prefix in
+      let long : length (a.prefix ++ z) ≡ s.taken + used = omega (arith, length-append a.prefix z) in
       rw e (record {
-        front = a.front ++ z;
+        prefix = a.prefix ++ z;
         under_way = [];
-        whole = ap (λ y. y ++ z) front ∙ sym (append-nil (a.front ++ z));
+        whole = ap (λ y. y ++ z) prefix ∙ sym (append-nil (a.prefix ++ z));
         stream = items_behind a.stream (omega arith) there;
         stage =
             subst (λ n. StageHasRead {X = X} {O = O} received trees (no_deeper most s.limits) (types s.types)
-            (length (a.front ++ z)) (count_at (s.taken + used) n) []) (sym empty)
+            (length (a.prefix ++ z)) (count_at (s.taken + used) n) []) (sym empty)
             (subst (λ n. StageHasRead {X = X} {O = O} received trees (no_deeper most s.limits) (types s.types)
-            (length (a.front ++ z)) (count_at n []) []) long (in_count (begins_front {bytes = []} tt)));
-        taken = sym (ap (λ y. length (y ++ z)) front ∙ long);
+            (length (a.prefix ++ z)) (count_at n []) []) long (in_count (begins_prefix {bytes = []} tt)));
+        taken = sym (ap (λ y. length (y ++ z)) prefix ∙ long);
         room = a.room;
       })
 
@@ -295,9 +303,15 @@ module _ {X O : Type 0} {received : Received X} {trees : Received TreeBuilder} {
         given = b.items;
         counted = b.counted;
         within = omega (arith, short);
-        none = λ e. omega (arith, no_items_empty (items_at_0 b) (sym b.counted ∙ e), length-take-le used (take room piece) near);
-        passed = λ items bytes a. subst (λ z. SessionHasRead {X = X} {O = O} received trees most s' (items ++ b.items) (bytes ++ z)) same
-            (f items bytes b.items (take used (take room piece)) a (items_at_0 b) (length-take-le used (take room piece) near));
+        none = λ e. omega (
+          arith,
+          no_items_empty (items_at_0 b) (sym b.counted ∙ e),
+          length-take-le used (take room piece) near,
+        );
+        passed = λ items bytes a. subst (λ z. SessionHasRead {X = X} {O = O} received trees most s' (items ++ b.items)
+            (bytes ++ z)) same
+            (f items bytes b.items (take used (take room piece)) a (items_at_0 b) (length-take-le used (take room piece)
+            near));
       }
 
   -- and nothing is passed where nothing is found
@@ -308,7 +322,8 @@ module _ {X O : Type 0} {received : Received X} {trees : Received TreeBuilder} {
     within = omega arith;
     none = λ e. refl;
     passed =
-        λ items bytes a. subst (λ z. SessionHasRead {X = X} {O = O} received trees most s z (bytes ++ [])) (sym (append-nil items))
+        λ items bytes a. subst (λ z. SessionHasRead {X = X} {O = O} received trees most s z (bytes ++ []))
+        (sym (append-nil items))
         (subst (λ z. SessionHasRead {X = X} {O = O} received trees most s items z) (sym (append-nil bytes)) a);
   }
 
@@ -326,9 +341,9 @@ pub only_item : {L : Bounds} {T : Table} {offset used : ℕ} → HasItem L T off
 only_item h = record { items = h.item ∷ []; bytes = h.bytes; are = one_item h.counted; size = h.size }
 
 -- those at the front of a piece
-pub front_items : {L : Bounds} {T : Table} {offset count used : ℕ} {piece : List ℕ}
+pub prefix_items : {L : Bounds} {T : Table} {offset count used : ℕ} {piece : List ℕ}
     → AreItemsBetween L T offset count piece 0 used → HasItems L T offset used
-front_items {used = used} {piece = piece} b =
+prefix_items {used = used} {piece = piece} b =
     record { items = b.items; bytes = take used piece; are = items_at_0 b; size = length-take-le used piece b.inside }
 
 -- ---- an item that has begun
@@ -350,6 +365,6 @@ pub begun_gives : {X O : Type 0} {received : Received X} {trees : Received TreeB
     → LongestStream base_table (no_deeper most s.limits) (bytes ++ piece) items
 begun_gives {most = most} {s = s} {items = items} {piece = piece} a between h =
     let none : a.under_way ≡ [] = count_begins_here a between.stage refl in
-    let front = a.whole ∙ ap (λ y. a.front ++ y) none ∙ append-nil a.front in
-    subst (λ b. LongestStream base_table (no_deeper most s.limits) (b ++ piece) items) (sym front)
+    let prefix = a.whole ∙ ap (λ y. a.prefix ++ y) none ∙ append-nil a.prefix in
+    subst (λ b. LongestStream base_table (no_deeper most s.limits) (b ++ piece) items) (sym prefix)
     (gives_items piece a.stream (begun_no_next h))

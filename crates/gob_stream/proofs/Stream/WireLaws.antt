@@ -33,7 +33,8 @@ abbrev AllIn : Table → Table → Type 0
 AllIn T [] = Unit {0}
 AllIn T (entry ∷ U) = NamesIn T entry.1.kind × AllIn T U
 
-field_in : (T : Table) (fs : List Field) (n : ℕ) (f : Field) → FieldsIn T fs → slice_get fs n ≡ Some f → IsDefined T f.id
+field_in : (T : Table) (fs : List Field) (n : ℕ) (f : Field) → FieldsIn T fs → slice_get fs n ≡ Some f
+    → IsDefined T f.id
 field_in T [] n f all at = absurd (cc at)
 field_in T (g ∷ fs) zero f all at = subst (λ h. IsDefined T h.id) (some_injective at) all.0
 field_in T (g ∷ fs) (suc n) f all at = field_in T fs n f all.1 at
@@ -42,7 +43,8 @@ named_in : (T : Table) (k : Kind) (w : TypeId) → NamesIn T k → Names k w →
 named_in T (kind.Basic b) w all names = absurd names
 named_in T (kind.Array e n) w all names = absurd all
 named_in T (kind.Slice e) w all names = subst (IsDefined T) names all
-named_in T (kind.Struct fs) w all names = subst (IsDefined T) names.type (field_in T fs names.number names.field all names.there)
+named_in T (kind.Struct fs) w all names = subst (IsDefined T) names.type (field_in T fs names.number names.field all
+    names.there)
 named_in T (kind.Map k e) w all names = absurd all
 named_in T (kind.Opaque m) w all names = absurd names
 
@@ -58,18 +60,26 @@ entry_in : (T U : Table) (t : TypeId) (s : Shape) → AllIn T U → shape_of U t
 entry_in T [] t s all found = absurd (cc found)
 entry_in T (entry ∷ U) t s all found = by (entry.0.0 == t.0) found (entry_in T U t s all.1)
   where
-    by : (b : Bool) → cond b (Some entry.1) (shape_of U t) ≡ Some s → (shape_of U t ≡ Some s → NamesIn T s.kind) → NamesIn T s.kind
+    by : (b : Bool) → cond b (Some entry.1) (shape_of U t) ≡ Some s → (shape_of U t ≡ Some s → NamesIn T s.kind)
+        → NamesIn T s.kind
     by true found rest = subst (λ x. NamesIn T x.kind) (some_injective found) all.0
     by false found rest = rest found
 
 leads_in : {T : Table} {n : ℕ} {t u : TypeId} → AllIn T T → IsDefined T t → Leads T n t u → IsDefined T u
 leads_in all there here = there
-leads_in {T = T} {t = t} all there (onward {w = w} {s = s} found names rest) = leads_in all (named_in T s.kind w (entry_in T T t s all found) names) rest
+leads_in {T = T} {t = t} all there (onward {w = w} {s = s} found names rest) =
+    leads_in all (named_in T s.kind w (entry_in T T t s all found) names) rest
 
 all_ready : {T : Table} {t : TypeId} → AllIn T T → IsDefined T t → IsReady T t
 all_ready {T = T} all there u reached =
-    let defined = leads_in all there reached.leads in
-    (defined, record { rank = 0; has = plain defined.1 (no_array T defined.0.kind (entry_in T T u defined.0 all defined.1)) })
+    let defined = leads_in all there reached.leads in (
+      defined,
+      record {
+        rank = 0;
+        has =
+            plain defined.1 (no_array T defined.0.kind (entry_in T T u defined.0 all defined.1));
+      },
+    )
 
 -- ---- the base table is one
 
@@ -145,4 +155,8 @@ pub table_extends : {T : Table} → IsTable T → Extends base_table T
 table_extends table = record { more = table.definitions; grown = table.behind_base; distinct = table.distinct }
 
 pub fits_base : {T : Table} {v : Tree} → IsTable T → Fits T wire_type v → Fits base_table wire_type v
-fits_base table fits = record { bytes = fits.bytes; spelled = spells_back (extends_keeps (table_extends table)) wire_ready fits.spelled }
+fits_base table fits = record {
+  bytes = fits.bytes;
+  spelled = spells_back (extends_keeps (table_extends table))
+      wire_ready fits.spelled;
+}

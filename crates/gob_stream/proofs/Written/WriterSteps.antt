@@ -21,23 +21,29 @@ use Rattle.gob_stream.specs.Laws.{AtLeast}
 use Rattle.gob_stream.specs.Item.{StreamItem}
 use Rattle.gob_stream.specs.Stream.{Stream, IsItem}
 use Rattle.gob_stream.specs.WriterRefusal.{RefusesItem}
-use Rattle.gob_stream.specs.Writing.{HasWritten, HasWrittenSome, HasWriterFailed, IsUsableWriter, has_failed, has_written}
-use Rattle.gob_stream.specs.Writing.{WritesItem, Leaves, CountsWriterFaults, WriteEffects, SentFront, SendAnswers}
+use Rattle.gob_stream.specs.Writing.{HasWritten, HasWrittenSome, HasWriterFailed, IsUsableWriter, has_failed}
+use Rattle.gob_stream.specs.Writing.{has_written}
+use Rattle.gob_stream.specs.Writing.{WritesItem, Leaves, CountsWriterFaults, WriteEffects, SentPrefix, SendAnswers}
 use Rattle.gob_stream.proofs.Stream.StreamLaws.{one_more, wider_counted}
 
 -- what is denied before any byte went out is a fault of the item
-pub denied_writes : (L : Bounds) (w w' : WriterState) (items : List StreamItem) (bytes : List ℕ) (T : Table) (i : StreamItem) (out : Option (List ℕ)) (d : Denial)
-    → HasWritten w items bytes T → IsDenial (RefusesItem base_table L (types w.types) w.place.offset i) d → WritesItem L w w' items bytes T i out out (Err (write_fault d))
-denied_writes L w w' items bytes T i out (denial.Refused r) written refused = rw (← written.table, ← written.offset) refused
+pub denied_writes : (L : Bounds) (w w' : WriterState) (items : List StreamItem) (bytes : List ℕ) (T : Table)
+    (i : StreamItem) (out : Option (List ℕ)) (d : Denial)
+    → HasWritten w items bytes T → IsDenial (RefusesItem base_table L (types w.types) w.place.offset i) d
+    → WritesItem L w w' items bytes T i out out (Err (write_fault d))
+denied_writes L w w' items bytes T i out (denial.Refused r) written refused = rw (← written.table, ← written.offset)
+    refused
 denied_writes L w w' items bytes T i out denial.Memory written refused = tt
 
 -- and leaves all as it was
-denied_leaves : (w w' : WriterState) (out : Option (List ℕ)) (d : Denial) → w' ≡ w → Leaves w w' out out (Err (write_fault d))
+denied_leaves : (w w' : WriterState) (out : Option (List ℕ)) (d : Denial) → w' ≡ w
+    → Leaves w w' out out (Err (write_fault d))
 denied_leaves w w' out (denial.Refused r) same = (same, Keeps-refl out)
 denied_leaves w w' out denial.Memory same = (same, Keeps-refl out)
 
 -- a writer whose send failed writes no more
-sent_leaves : (w ready : WriterState) (place : Place) (bytes : List ℕ) (old new : Option (List ℕ)) (r : Result (Unit {0}) WriteFault) → SendAnswers ready.place place bytes old new r
+sent_leaves : (w ready : WriterState) (place : Place) (bytes : List ℕ) (old new : Option (List ℕ))
+    (r : Result (Unit {0}) WriteFault) → SendAnswers ready.place place bytes old new r
     → Leaves w (record ready { place = place }) old new r
 sent_leaves w ready place bytes old new (Ok u) sent = ap (λ p. p.failed) sent.1
 sent_leaves w ready place bytes old new (Err f) sent =
@@ -50,7 +56,8 @@ denied_counts failures denial.Memory = refl
 
 module _ {W : Type 0} (contents : W → Option (List ℕ)) where
   -- the item was denied before any byte went out
-  pub denied_effects : (w w' : WriterState) (output : Output W) (d : Denial) → IsUsableWriter w → w.place.failed ≡ false → w' ≡ w
+  pub denied_effects : (w w' : WriterState) (output : Output W) (d : Denial) → IsUsableWriter w → w.place.failed ≡ false
+      → w' ≡ w
       → WriteEffects w w' contents output output (Err (write_fault d))
   denied_effects w w' output d usable sound same = record {
     usable = usable;
@@ -60,8 +67,10 @@ module _ {W : Type 0} (contents : W → Option (List ℕ)) where
   }
 
   -- its bytes were sent
-  pub sent_effects : (w ready : WriterState) (place : Place) (bytes : List ℕ) (output output' : Output W) (r : Result (Unit {0}) WriteFault) → IsUsableWriter w → w.place.failed ≡ false
-      → SendAnswers ready.place place bytes (contents (writer_of output)) (contents (writer_of output')) r → CountsWriterFaults (failed_writes output) (failed_writes output') r
+  pub sent_effects : (w ready : WriterState) (place : Place) (bytes : List ℕ) (output output' : Output W)
+      (r : Result (Unit {0}) WriteFault) → IsUsableWriter w → w.place.failed ≡ false
+      → SendAnswers ready.place place bytes (contents (writer_of output)) (contents (writer_of output')) r
+      → CountsWriterFaults (failed_writes output) (failed_writes output') r
       → WriteEffects w (record ready { place = place }) contents output output' r
   sent_effects w ready place bytes output output' r usable sound sent counted = record {
     usable = usable;
@@ -102,8 +111,9 @@ pub record HasItem (L : Bounds) (w ready : WriterState) (all : List ℕ) (i : St
   pub within : AtLeast L w.limits
   pub item : IsItem base_table L (types w.types) w.place.offset i all U
 
--- the item's bytes went out, or a front of them
-pub sent_writes : (L : Bounds) (w ready : WriterState) (place : Place) (all : List ℕ) (items : List StreamItem) (bytes : List ℕ) (T U : Table) (i : StreamItem) (old new : Option (List ℕ))
+-- the item's bytes went out, or a prefix of them
+pub sent_writes : (L : Bounds) (w ready : WriterState) (place : Place) (all : List ℕ) (items : List StreamItem)
+    (bytes : List ℕ) (T U : Table) (i : StreamItem) (old new : Option (List ℕ))
     (r : Result (Unit {0}) WriteFault) → HasWritten w items bytes T → HasItem L w ready all i U
     → SendAnswers ready.place place all old new r
     → WritesItem L w (record ready { place = place }) items bytes T i old new r
@@ -117,38 +127,65 @@ sent_writes L w ready place all items bytes T U i old new (Ok u) written has sen
       out = sent.0;
       limits = has.limits;
       written = record {
-        stream = subst (λ M. Stream base_table M (items ++ i ∷ []) (bytes ++ all) U) (sym has.limits) (one_more written.stream (omega arith) (wider_counted has.within here));
+        stream = subst (λ M. Stream base_table M (items ++ i ∷ []) (bytes ++ all) U) (sym has.limits)
+            (one_more written.stream (omega arith) (wider_counted has.within here));
         table = has.table;
         room = has.most ∙ written.room ∙ ap (λ L. L.types) (sym has.limits);
-        offset = ap (λ p. p.offset) behind ∙ ap (λ o. o + length all) (ap (λ p. p.offset) has.place ∙ written.offset) ∙ sym (length-append bytes all);
+        offset = ap (λ p. p.offset) behind ∙ ap (λ o. o + length all) (ap (λ p. p.offset) has.place ∙ written.offset)
+            ∙ sym (length-append bytes all);
         sound = ap (λ p. p.failed) behind;
       };
     }
 sent_writes L w ready place all items bytes T U i old new (Err f) written has sent =
     let here : IsItem base_table L T (length bytes) i all U = rw (← written.table, ← written.offset) has.item in
-    let front = sent.0 in
+    let prefix = sent.0 in
     subst (λ g. WritesItem L w (record ready { place = place }) items bytes T i old new (Err g)) (sym sent.2)
-    (record { front = front.front; rest = front.rest; table = U; item = subst (λ b. IsItem base_table L T (length bytes) i b U) front.whole here; out = front.out })
+    (record {
+      prefix = prefix.prefix;
+      rest = prefix.rest;
+      table = U;
+      item =
+          subst (λ b. IsItem base_table L T (length bytes) i b U) prefix.whole here;
+      out = prefix.out;
+    })
 
 -- behind it the writer has written some items again, or a write failed
-pub usable_behind : (L : Bounds) (w ready : WriterState) (place : Place) (all : List ℕ) (U : Table) (i : StreamItem) (old new : Option (List ℕ)) (r : Result (Unit {0}) WriteFault)
-    → IsUsableWriter w → w.place.failed ≡ false → (HasWrittenSome w → HasItem L w ready all i U) → SendAnswers ready.place place all old new r
+pub usable_behind : (L : Bounds) (w ready : WriterState) (place : Place) (all : List ℕ) (U : Table) (i : StreamItem)
+    (old new : Option (List ℕ)) (r : Result (Unit {0}) WriteFault)
+    → IsUsableWriter w → w.place.failed ≡ false → (HasWrittenSome w → HasItem L w ready all i U)
+    → SendAnswers ready.place place all old new r
     → IsUsableWriter (record ready { place = place })
 usable_behind L w ready place all U i old new r (has_failed failed) sound has sent = absurd (cc)
 usable_behind L w ready place all U i old new (Ok u) (has_written some) sound has sent =
-    let wrote = sent_writes L w ready place all some.items some.bytes some.table U i old new (Ok u) some.written (has some) sent in
-    has_written (record { items = some.items ++ i ∷ []; bytes = some.bytes ++ wrote.more; table = wrote.table; written = wrote.written })
-usable_behind L w ready place all U i old new (Err f) (has_written some) sound has sent = has_failed (ap (λ p. p.failed) sent.1)
+    let wrote = sent_writes L w ready place all some.items some.bytes some.table U i old new (Ok u) some.written
+    (has some) sent in
+    has_written (record {
+      items = some.items ++ i ∷ [];
+      bytes = some.bytes ++ wrote.more;
+      table = wrote.table;
+      written =
+          wrote.written;
+    })
+usable_behind L w ready place all U i old new (Err f) (has_written some) sound has sent =
+    has_failed (ap (λ p. p.failed) sent.1)
 
--- a front of these bytes is one of more
-pub front_of_more : {a : List ℕ} (b : List ℕ) {old new : Option (List ℕ)} → SentFront a old new → SentFront (a ++ b) old new
-front_of_more b sent = record { front = sent.front; rest = sent.rest ++ b; whole = ap (λ l. l ++ b) sent.whole ∙ append_assoc sent.front sent.rest b; out = sent.out }
+-- a prefix of these bytes is one of more
+pub prefix_of_more : {a : List ℕ} (b : List ℕ) {old new : Option (List ℕ)} → SentPrefix a old new
+    → SentPrefix (a ++ b) old new
+prefix_of_more b sent = record {
+  prefix = sent.prefix;
+  rest = sent.rest ++ b;
+  whole = ap (λ l. l ++ b) sent.whole
+      ∙ append_assoc sent.prefix sent.rest b;
+  out = sent.out;
+}
 
--- and a front of what follows them, where they are out
-pub front_behind : (a : List ℕ) {b : List ℕ} {old between new : Option (List ℕ)} → Appends old between a → SentFront b between new → SentFront (a ++ b) old new
-front_behind a out sent = record {
-  front = a ++ sent.front;
+-- and a prefix of what follows them, where they are out
+pub prefix_behind : (a : List ℕ) {b : List ℕ} {old between new : Option (List ℕ)} → Appends old between a
+    → SentPrefix b between new → SentPrefix (a ++ b) old new
+prefix_behind a out sent = record {
+  prefix = a ++ sent.prefix;
   rest = sent.rest;
-  whole = ap (λ l. a ++ l) sent.whole ∙ sym (append_assoc a sent.front sent.rest);
+  whole = ap (λ l. a ++ l) sent.whole ∙ sym (append_assoc a sent.prefix sent.rest);
   out = Appends-trans _ _ _ _ _ out sent.out;
 }

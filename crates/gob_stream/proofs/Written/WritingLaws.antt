@@ -1,5 +1,6 @@
 -- What the writing calls rest on.
-use Rattle.std.proofs.Common.{◌≡◌, ◌≢◌, ℕ, ℤ, negsuc, ◌+◌, ◌^◌, ◌<◌, ◌≤◌, ◌⊎◌, inl, inr, true, false, cond, List, [], ◌∷◌, ◌++◌, Some, refl, sym, ap, subst, ◌∙◌, arith, append_assoc, append-nil}
+use Rattle.std.proofs.Common.{◌≡◌, ◌≢◌, ℕ, ℤ, negsuc, ◌+◌, ◌^◌, ◌<◌, ◌≤◌, ◌⊎◌, inl, inr, true, false, cond, List, []}
+use Rattle.std.proofs.Common.{◌∷◌, ◌++◌, Some, refl, sym, ap, subst, ◌∙◌, arith, append_assoc, append-nil}
 use Rattle.std.specs.Prelude.{◌==◌}
 use Rattle.std.proofs.lemmas.Bool.Decides.{eqb_tells}
 use Rattle.gob_num.specs.Unsigned.{IsUnsigned, short, long}
@@ -31,12 +32,46 @@ id_below : (n : ℕ) (T : Table) (t : TypeId) (s : Shape) → AllBelow n T → s
 id_below n [] t s all found = absurd (cc found)
 id_below n (entry ∷ T) t s all found = by (eqb_tells entry.0.0 t.0) (id_below n T t s all.1)
   where
-    by : ((entry.0.0 == t.0) ≡ true) × (entry.0.0 ≡ t.0) ⊎ ((entry.0.0 == t.0) ≡ false) × (entry.0.0 ≢ t.0) → (shape_of T t ≡ Some s → t.0 < n) → t.0 < n
+    by : ((entry.0.0 == t.0) ≡ true) × (entry.0.0 ≡ t.0) ⊎ ((entry.0.0 == t.0) ≡ false) × (entry.0.0 ≢ t.0)
+        → (shape_of T t ≡ Some s → t.0 < n) → t.0 < n
     by (inl h) rest = let below = all.0 in let same = h.1 in omega arith
     by (inr h) rest = rest (sym (ap (λ b. cond b (Some entry.1) (shape_of T t)) h.0) ∙ found)
 
 base_below : AllBelow 25 base_table
-base_below = (omega arith, (omega arith, (omega arith, (omega arith, (omega arith, (omega arith, (omega arith, (omega arith, (omega arith, (omega arith, (omega arith, (omega arith, (omega arith, (omega arith, (omega arith, (omega arith, (omega arith, tt)))))))))))))))))
+base_below = (
+  omega arith,
+  (
+    omega arith,
+    (
+      omega arith,
+      (
+        omega arith,
+        (
+          omega arith,
+          (
+            omega arith,
+            (
+              omega arith,
+              (
+                omega arith,
+                (
+                  omega arith,
+                  (
+                    omega arith,
+                    (
+                      omega arith,
+                      (omega arith, (omega arith, (omega arith, (omega arith, (omega arith, (omega arith, tt)))))),
+                    ),
+                  ),
+                ),
+              ),
+            ),
+          ),
+        ),
+      ),
+    ),
+  ),
+)
 
 pub ready_small : {T : Table} {t : TypeId} → IsTable T → IsReady T t → t.0 < 2 ^ 63
 ready_small {T = T} {t = t} table ready =
@@ -60,28 +95,40 @@ pub signed_as : {i : ℤ} {b : List ℕ} (j : ℤ) → IsSigned i b → i ≡ j 
 signed_as {b = b} j spelled same = subst (λ k. IsSigned k b) same spelled
 
 -- the number of a definition and its description's spelling
-pub definition_body : (L : Bounds) {T : Table} {t : TypeId} {v : Tree} {s : Shape} {n : ℕ} {a b w : List ℕ} → MayDefine base_table L T t → depth v ≤ L.depth → Describes t v s
-    → t.0 ≡ n + 1 → IsSigned (negsuc n) a → Spells T wire_type v b → w ≡ a ++ b → Body base_table L T (defines t v) w (T ++ (t, s) ∷ [])
+pub definition_body : (L : Bounds) {T : Table} {t : TypeId} {v : Tree} {s : Shape} {n : ℕ} {a b w : List ℕ}
+    → MayDefine base_table L T t → depth v ≤ L.depth → Describes t v s
+    → t.0 ≡ n + 1 → IsSigned (negsuc n) a → Spells T wire_type v b → w ≡ a ++ b → Body base_table L T (defines t v) w (T
+    ++ (t, s) ∷ [])
 definition_body L {T = T} {t = t} {v = v} {s = s} may within describes is number spelled whole =
-    subst (λ w. Body base_table L T (defines t v) w (T ++ (t, s) ∷ [])) (sym whole) (definition may within describes is number spelled)
+    subst (λ w. Body base_table L T (defines t v) w (T ++ (t, s) ∷ [])) (sym whole)
+    (definition may within describes is number spelled)
 
 -- the number of the type, the tag, and the value's spelling
-pub value_body : (L : Bounds) {T : Table} {t : TypeId} {v : Tree} {h s w : List ℕ} → MayPut T t → depth v ≤ L.depth → IsHead T t h → Spells T t v s → w ≡ h ++ s
+pub value_body : (L : Bounds) {T : Table} {t : TypeId} {v : Tree} {h s w : List ℕ} → MayPut T t → depth v ≤ L.depth
+    → IsHead T t h → Spells T t v s → w ≡ h ++ s
     → Body base_table L T (puts t v) w T
 value_body L {T = T} {t = t} {v = v} may within (head_of_struct has number) spelled whole =
-    subst (λ w. Body base_table L T (puts t v) w T) (sym whole) (value may within number (at_once has.found has.struct spelled))
-value_body L {T = T} {t = t} {v = v} {s = s} may within (head_with_tag {a = a} {z = z} no_struct number tag) spelled whole =
+    subst (λ w. Body base_table L T (puts t v) w T) (sym whole)
+    (value may within number (at_once has.found has.struct spelled))
+value_body L {T = T} {t = t} {v = v} {s = s} may within (head_with_tag {a = a} {z = z} no_struct number tag) spelled
+    whole =
     let defined = ready_defined may.ready in
-    let top : SpellsTop T t v (0 ∷ s) = tagged defined.1 (λ struct. no_struct (record { shape = defined.0; found = defined.1; struct = struct })) spelled in
+    let top : SpellsTop T t v (0 ∷ s) =
+    tagged defined.1 (λ struct. no_struct (record { shape = defined.0; found = defined.1; struct = struct }))
+    spelled in
     subst (λ w. Body base_table L T (puts t v) w T) (sym (whole ∙ append_assoc a z s))
     (value may within number (subst (λ y. SpellsTop T t v (y ++ s)) (sym (zero_byte tag)) top))
 
 -- ---- the item of a body
 
 -- a body that is all in its first part
-pub body_alone : {L : Bounds} {T U : Table} {i : StreamItem} {d : List ℕ} → Body base_table L T i d U → Body base_table L T i (d ++ []) U
-body_alone {L = L} {T = T} {U = U} {i = i} {d = d} body = subst (λ b. Body base_table L T i b U) (sym (append-nil d)) body
+pub body_alone : {L : Bounds} {T U : Table} {i : StreamItem} {d : List ℕ} → Body base_table L T i d U
+    → Body base_table L T i (d ++ []) U
+body_alone {L = L} {T = T} {U = U} {i = i} {d = d} body = subst (λ b. Body base_table L T i b U) (sym (append-nil d))
+    body
 
-pub whole_item : {base : Table} {L : Bounds} {T U : Table} {o : ℕ} {i : StreamItem} {d w : List ℕ} → Body base L T i d U → IsWholeItem L o d w → IsItem base L T o i w U
+pub whole_item : {base : Table} {L : Bounds} {T U : Table} {o : ℕ} {i : StreamItem} {d w : List ℕ} → Body base L T i d U
+    → IsWholeItem L o d w → IsItem base L T o i w U
 whole_item {base = base} {L = L} {T = T} {U = U} {o = o} {i = i} body whole =
-    subst (λ b. IsItem base L T o i b U) (sym whole.whole) (counted whole.spelled whole.fits.item whole.fits.stream body)
+    subst (λ b. IsItem base L T o i b U) (sym whole.whole) (counted whole.spelled whole.fits.item whole.fits.stream
+    body)

@@ -1,5 +1,6 @@
 -- What a reader has read of its input, and what its calls answer.
-use Rattle.std.specs.Prelude.{◌≡◌, ℕ, ◌+◌, ◌-◌, ◌*◌, ◌<◌, ◌≤◌, vec_len, List, [], ◌∷◌, ◌++◌, length, take, Option, Some, None, Result, Ok, Err}
+use Rattle.std.specs.Prelude.{◌≡◌, ℕ, ◌+◌, ◌-◌, ◌*◌, ◌<◌, ◌≤◌, vec_len, List, [], ◌∷◌, ◌++◌, length, take, Option, Some}
+use Rattle.std.specs.Prelude.{None, Result, Ok, Err}
 use Rattle.std.specs.Prelude.{Bool, true, false}
 use Rattle.std.specs.Io.KnownBytes.{Consumes, Keeps, IsAtEnd}
 use Rattle.gob_types.specs.Base.{base_table}
@@ -37,14 +38,14 @@ room_in r = vec_len r.waiting.room
 
 -- how many bytes wait at most: as many as are read behind the first bytes of an item, which are no more than the item's
 abbrev pub most_ahead : Bounds → ℕ
-most_ahead L = 2 * L.item + 65554
+most_ahead L = 2 * L.item + 262162
 
 -- the last read gave less than was asked for, or there was none
 abbrev pub IsShort : {X O : Type 0} → StreamReader X O → Type 0
 IsShort r = HasRoom r.waiting
 
--- of an input that had the first bytes and has the second ones left it has read what was between, and of what it has taken
--- of that it gave the items
+-- of an input that had the first bytes and has the second ones left it has read what was between, and of what it has
+-- taken of that it gave the items
 pub record HasReadFrom {X O : Type 0} {most : ℕ} (building : Building X O most) (r : StreamReader X O)
     (read now : Option (List ℕ)) (items : List StreamItem) : Type 0 where
   pub taken : List ℕ
@@ -55,16 +56,17 @@ pub record HasReadFrom {X O : Type 0} {most : ℕ} (building : Building X O most
 
 -- all of the bytes but the last ones, of which no more waited, give the items, with this table behind them
 pub record GivesAllBut (L : Bounds) (T : Table) (items : List StreamItem) (bytes : List ℕ) : Type 0 where
-  pub front : List ℕ
+  pub prefix : List ℕ
   pub rest : List ℕ
-  pub whole : bytes ≡ front ++ rest
+  pub whole : bytes ≡ prefix ++ rest
   pub few : length rest ≤ most_ahead L
-  pub gives : LongestStream base_table L front items
+  pub gives : LongestStream base_table L prefix items
   pub table : gives.begins.table ≡ T
 
 -- ---- what its calls answer
 -- bytes are the stream of the items with this table behind it, and all of them, so many, were read
-pub record EndsWith (L : Bounds) (T : Table) (taken : ℕ) (items : List StreamItem) (bytes : List ℕ) (now : Option (List ℕ))
+pub record EndsWith (L : Bounds) (T : Table) (taken : ℕ) (items : List StreamItem) (bytes : List ℕ)
+    (now : Option (List ℕ))
     : Type 0 where
   pub stream : Stream base_table L items bytes T
   pub count : taken ≡ length bytes
@@ -107,7 +109,8 @@ Fills building s r' read now items (Err e) = StopsFrom building s read now items
 -- the items of what a step gave
 pub data GivesItems {O : Type 0} (means : O → Tree → Type 0) : Option (declared.Item O) → List StreamItem → Type 0 where
   gives_none : GivesItems means None []
-  gives_one : {given : declared.Item O} {i : StreamItem} → ItemMeans means given i → GivesItems means (Some given) (i ∷ [])
+  gives_one : {given : declared.Item O} {i : StreamItem} → ItemMeans means given i
+      → GivesItems means (Some given) (i ∷ [])
 
 -- so many bytes were taken, with which the items are whole
 pub record TakesItems {X O : Type 0} {most : ℕ} (building : Building X O most) (r r' : StreamReader X O)
@@ -139,7 +142,8 @@ pub record PassesFrom {X O : Type 0} {most : ℕ} (building : Building X O most)
 abbrev pub PassesOne : {X O : Type 0} {most : ℕ} → Building X O most → (r r' : StreamReader X O) → (used : ℕ) → Type 0
 PassesOne {most = most} building r r' used = (read now : Option (List ℕ)) (items : List StreamItem) (item : StreamItem)
     → HasReadFrom building r read now items
-    → IsItem base_table (no_deeper most (limits_of (session_of r))) (types_of (session_of r)) (taken_of (session_of r)) item
+    → IsItem base_table (no_deeper most (limits_of (session_of r))) (types_of (session_of r)) (taken_of (session_of r))
+    item
     (take used (waits_in r)) (types_of (session_of r))
     → TakesItems building r r' read now items (item ∷ []) used
 
@@ -158,7 +162,8 @@ pub record BringsOnce {X O : Type 0} (r r' : StreamReader X O) (old new : Option
   pub some : r'.ended ≡ false → 0 < length more
   pub end : r'.ended ≡ true → IsAtEnd new
 
-abbrev pub ReadsOnce : {X O : Type 0} → (r r' : StreamReader X O) → (old new : Option (List ℕ)) → Result (Unit {0}) Fault
+abbrev pub ReadsOnce : {X O : Type 0} → (r r' : StreamReader X O) → (old new : Option (List ℕ))
+    → Result (Unit {0}) Fault
     → Type 0
 ReadsOnce r r' old new (Ok _) = BringsOnce r r' old new
 ReadsOnce r r' old new (Err (fault.Refused R)) = ⊥

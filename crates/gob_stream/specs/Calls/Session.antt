@@ -1,5 +1,5 @@
--- What contracts see of a session: the items that it has read of the bytes so far, its types and its limits. Each word takes
--- what its builder is, where it speaks of items.
+-- What contracts see of a session: the items that it has read of the bytes so far, its types and its limits. Each
+-- word takes what its builder is, where it speaks of items.
 use Rattle.std.specs.Prelude.{◌≡◌, ℕ, ◌++◌, ◌∷◌, [], List, Option, Result, length}
 use Rattle.gob_types.specs.Base.{base_table}
 use Rattle.gob_types.specs.Defined.{Defined, types}
@@ -23,8 +23,10 @@ use Rattle.gob_stream.specs.Whole.{HasBody, HasBegun, HasItem, HasItems}
 use Rattle.gob_stream.specs.Machine.Between.{IsBetween, PassesItems}
 
 -- the session has given these items, and taken these bytes
-abbrev pub HasRead : {X O : Type 0} {most : ℕ} → Building X O most → SessionState X O → List StreamItem → List ℕ → Type 0
-HasRead {most = most} building s items bytes = SessionHasRead building.received tree_building.received most s items bytes
+abbrev pub HasRead : {X O : Type 0} {most : ℕ} → Building X O most → SessionState X O → List StreamItem → List ℕ
+    → Type 0
+HasRead {most = most} building s items bytes = SessionHasRead building.received tree_building.received most s items
+    bytes
 
 -- it has given some items and taken some bytes, and reads on
 abbrev pub HasReadOn : {X O : Type 0} {most : ℕ} → Building X O most → SessionState X O → Type 0
@@ -96,7 +98,8 @@ ReadsHonestlyFrom {most = most} building s items bytes rest now result =
     ReadsHonestly (no_deeper most (limits_of s)) items bytes rest now result
 
 -- the first bytes of the piece are the next item, of a value of the type with this body
-abbrev pub HasBodyNext : {X O : Type 0} → SessionState X O → TypeId → (body : List ℕ) → (used : ℕ) → (piece : List ℕ) → Type 0
+abbrev pub HasBodyNext : {X O : Type 0} → SessionState X O → TypeId → (body : List ℕ) → (used : ℕ) → (piece : List ℕ)
+    → Type 0
 HasBodyNext s id body used piece = HasBody (limits_of s) (types_of s) (taken_of s) id body used piece
 
 -- the piece is the first bytes of the next item, which has so many, of a value of the type
@@ -121,7 +124,8 @@ HasItemsNext {most = most} building s used = HasItems (no_deeper most (limits_of
 
 -- it has read such items
 abbrev pub ReadsAll : {X O : Type 0} {most : ℕ} → Building X O most → (s s' : SessionState X O) → (used : ℕ) → Type 0
-ReadsAll {most = most} building s s' used = (items : List StreamItem) (bytes : List ℕ) (given : List StreamItem) (z : List ℕ)
+ReadsAll {most = most} building s s' used = (items : List StreamItem) (bytes : List ℕ) (given : List StreamItem)
+    (z : List ℕ)
     → HasRead building s items bytes
     → AreItems base_table (no_deeper most (limits_of s)) (types_of s) (taken_of s) given z (types_of s)
     → length z ≡ used

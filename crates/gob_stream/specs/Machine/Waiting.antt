@@ -1,5 +1,6 @@
 -- Bytes of a stream that were read and not yet taken.
-use Rattle.std.specs.Prelude.{◌≡◌, ℕ, ◌+◌, ◌*◌, ◌<◌, ◌≤◌, ◌⊎◌, List, ◌++◌, length, slice_range, vec_len, Option, Result, Ok, Err}
+use Rattle.std.specs.Prelude.{◌≡◌, ℕ, ◌+◌, ◌*◌, ◌<◌, ◌≤◌, ◌⊎◌, List, ◌++◌, length, slice_range, vec_len, Option, Result}
+use Rattle.std.specs.Prelude.{Ok, Err}
 use Rattle.std.specs.Io.KnownBytes.{Consumes, Keeps, IsAtEnd}
 use Rattle.gob_stream.specs.declared.fault.Fault.{Fault}
 use Rattle.gob_stream.specs.declared.fault.Fault.TheVariants as fault
@@ -10,7 +11,7 @@ waiting w = slice_range w.room.items w.start w.end
 
 -- room that is made where so many bytes wait
 abbrev pub Grows : (old new waits : ℕ) → Type 0
-Grows old new waits = (new ≤ old) ⊎ (new ≤ 2 * waits + 65536)
+Grows old new waits = (new ≤ old) ⊎ (new ≤ 2 * waits + 262144)
 
 -- the last read gave less than there was room for, or there was none
 abbrev pub HasRoom : Waiting → Type 0

@@ -1,5 +1,5 @@
 -- The builder of tapes: which events it stands for, and what it makes of them.
--- (docs/FORMAT.md, Tapes.)
+-- (docs/LIBRARY.md, Tapes.)
 use Rattle.gob_read.specs.Building.{Building}
 use Rattle.gob_tape.specs.Meaning.{Means}
 use Rattle.gob_tape.specs.Machine.Received.{AreTaped}

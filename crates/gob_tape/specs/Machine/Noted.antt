@@ -1,4 +1,4 @@
--- What a node says of its part. (docs/FORMAT.md, Tapes.)
+-- What a node says of its part. (docs/LIBRARY.md, Tapes.)
 use Rattle.std.specs.Prelude.{ℕ, Option}
 use Rattle.gob_tape.specs.declared.node.Content.{Content}
 

@@ -1,5 +1,5 @@
 -- What nodes stand for while a value is told: the open parts, with what is in them so far.
--- (docs/FORMAT.md, Tapes.)
+-- (docs/LIBRARY.md, Tapes.)
 use Rattle.std.specs.Prelude.{◌≡◌, ℕ, ◌+◌, ◌*◌, ◌≤◌, List, [], ◌∷◌, Option, Some, None, length, drop, slice_get}
 use Rattle.gob_value.specs.Tree.{Tree}
 use Rattle.gob_value.specs.View.{trees_of, pairs_of, fields_of}
@@ -24,17 +24,24 @@ key_count (Some x) = 1
 
 -- the node and those behind it, up to this place, are an open part in which so many parts have ended
 pub data IsOpenPart (nodes : List Node) (pool : List ℕ) : ℕ → ℕ → ℕ → Option ℕ → Part → Type 0 where
-  open_raw : {i j count start length_so_far : ℕ} {f : Option ℕ} {k : RawKind} {s : List ℕ} → slice_get nodes i ≡ Some (node f (content.Raw k start length_so_far))
+  open_raw : {i j count start length_so_far : ℕ} {f : Option ℕ} {k : RawKind} {s : List ℕ}
+      → slice_get nodes i ≡ Some (node f (content.Raw k start length_so_far))
       → j ≡ i + 1 → start ≤ length pool → s ≡ drop start pool → IsOpenPart nodes pool i j count f (raw k s)
-  open_list : {i j count a b : ℕ} {f : Option ℕ} {vs : List Tree} → slice_get nodes i ≡ Some (node f (content.Group group.Many a b))
+  open_list : {i j count a b : ℕ} {f : Option ℕ} {vs : List Tree}
+      → slice_get nodes i ≡ Some (node f (content.Group group.Many a b))
       → count ≡ length vs → MeansEach nodes pool (i + 1) j (trees_of vs) → IsOpenPart nodes pool i j count f (many vs)
-  open_map : {i j k count a b : ℕ} {f : Option ℕ} {ps : List (Tree × Tree)} {key : Option Tree} → slice_get nodes i ≡ Some (node f (content.Group group.Pairs a b))
-      → count ≡ 2 * length ps + key_count key → MeansPairs nodes pool (i + 1) j (pairs_of ps) → MeansKey nodes pool j k key → IsOpenPart nodes pool i k count f (pairs ps key)
-  open_struct : {i j count a b : ℕ} {f next : Option ℕ} {fs : List (ℕ × Tree)} → slice_get nodes i ≡ Some (node f (content.Group group.Fields a b))
-      → count ≡ length fs → MeansFields nodes pool (i + 1) j (fields_of fs) → IsOpenPart nodes pool i j count f (fields fs next)
+  open_map : {i j k count a b : ℕ} {f : Option ℕ} {ps : List (Tree × Tree)} {key : Option Tree}
+      → slice_get nodes i ≡ Some (node f (content.Group group.Pairs a b))
+      → count ≡ 2 * length ps + key_count key → MeansPairs nodes pool (i + 1) j (pairs_of ps)
+      → MeansKey nodes pool j k key → IsOpenPart nodes pool i k count f (pairs ps key)
+  open_struct : {i j count a b : ℕ} {f next : Option ℕ} {fs : List (ℕ × Tree)}
+      → slice_get nodes i ≡ Some (node f (content.Group group.Fields a b))
+      → count ≡ length fs → MeansFields nodes pool (i + 1) j (fields_of fs)
+      → IsOpenPart nodes pool i j count f (fields fs next)
 
 -- the nodes up to this place are the open parts, innermost first
 pub data AreOpen (nodes : List Node) (pool : List ℕ) : ℕ → List Begun → List Part → Type 0 where
   no_open : AreOpen nodes pool 0 [] []
-  in_part : {j : ℕ} {o : Begun} {os : List Begun} {p : Part} {ps : List Part} {f : Option ℕ} → AreOpen nodes pool o.node os ps → IsFree ps None f
+  in_part : {j : ℕ} {o : Begun} {os : List Begun} {p : Part} {ps : List Part} {f : Option ℕ}
+      → AreOpen nodes pool o.node os ps → IsFree ps None f
       → IsOpenPart nodes pool o.node j o.parts f p → AreOpen nodes pool j (o ∷ os) (p ∷ ps)

@@ -79,4 +79,10 @@ second_back (kind.Raw k) a b = refl
 second_back (kind.Group k) a b = refl
 
 pub packed_back : (n : Inside) → IsPacked n → packed (noted n) ≡ n
-packed_back n h = rw (named_back n.named n.number, kind_back n.kind n.first n.second, first_back n.kind n.first n.second, second_back n.kind n.first n.second, h) refl
+packed_back n h = rw (
+  named_back n.named n.number,
+  kind_back n.kind n.first n.second,
+  first_back n.kind n.first n.second,
+  second_back n.kind n.first n.second,
+  h,
+) refl

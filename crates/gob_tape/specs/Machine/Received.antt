@@ -1,5 +1,5 @@
 -- Which lists of events a builder of tapes has received.
--- (docs/FORMAT.md, Tapes.)
+-- (docs/LIBRARY.md, Tapes.)
 use Rattle.std.specs.Prelude.{◌≡◌, ℕ, ◌+◌, max, List, [], ◌∷◌, ◌++◌, Option, Some, None, length}
 use Rattle.gob_value.specs.Tree.{Tree, depth, trees_depth, pairs_depth, fields_depth}
 use Rattle.gob_value.specs.View.{trees_of, pairs_of, fields_of}
@@ -34,8 +34,10 @@ parts_depth (p ∷ ps) = max (parts_depth ps) (length ps + part_depth p)
 
 -- the state is that of these open parts, or of the whole value
 pub data ShowsTree (s : State) : List Part → Option Tree → Type 0 where
-  under_way : {ps : List Part} → AreOpen s.nodes s.pool (length s.nodes) s.begun ps → s.field ≡ next_field ps → s.deepest ≡ parts_depth ps → ShowsTree s ps None
-  whole : {v : Tree} → MeansAt s.nodes s.pool 0 (length s.nodes) None v → s.begun ≡ [] → s.deepest ≡ depth v → ShowsTree s [] (Some v)
+  under_way : {ps : List Part} → AreOpen s.nodes s.pool (length s.nodes) s.begun ps → s.field ≡ next_field ps
+      → s.deepest ≡ parts_depth ps → ShowsTree s ps None
+  whole : {v : Tree} → MeansAt s.nodes s.pool 0 (length s.nodes) None v → s.begun ≡ [] → s.deepest ≡ depth v
+      → ShowsTree s [] (Some v)
 
 -- the state is what the events make, where they may come one after another; and so much of them is held
 pub record AreTaped (s : State) (held : ℕ) (us : List Event) : Type 0 where

@@ -1,5 +1,5 @@
 -- A tape that is tidied: what a builder is told of the tidy form, as the nodes are gone over one after another.
--- (docs/FORMAT.md, Tapes; Tidy form.)
+-- (docs/LIBRARY.md, Tapes; docs/FORMAT.md, Tidy form.)
 use Rattle.std.specs.Prelude.{◌≡◌, ◌≢◌, ℕ, ◌+◌, ◌<◌, ◌≤◌, ◌^◌, List, [], ◌∷◌, ◌++◌, Option, Some, None, length, take}
 use Rattle.std.specs.Prelude.{drop, slice_get}
 use Rattle.gob_types.specs.declared.basic.Basic.TheVariants as basic
@@ -113,7 +113,8 @@ pub data IsNextType (T : Table) (t : TypeId) : Option Open → Option ℕ → Ty
   the_whole : IsNextType T t None None t
   an_element : {end : ℕ} {e : TypeId} → IsNextType T t (Some (open_to end (types.Elements e))) None e
   a_key_or_element : {end : ℕ} {a b : TypeId} → IsNextType T t (Some (open_to end (types.Alternating a b))) None a
-  a_field : {end f : ℕ} {r e : TypeId} → HasFieldType T r f e → IsNextType T t (Some (open_to end (types.Fields r))) (Some f) e
+  a_field : {end f : ℕ} {r e : TypeId} → HasFieldType T r f e → IsNextType T t (Some (open_to end (types.Fields r)))
+      (Some f) e
 
 -- one more than the number of the part, where it is a field, has 64 bits
 abbrev pub HasSmallNumber : Node → Type 0

@@ -1,5 +1,5 @@
 -- What is made of a tape from its last node to its first: the values of parts that are in no part yet.
--- (docs/FORMAT.md, Tapes.)
+-- (docs/LIBRARY.md, Tapes.)
 use Rattle.std.specs.Prelude.{◌≡◌, ℕ, ◌+◌, ◌≤◌, List, ◌++◌, Option, length, take, drop, map, reverse}
 use Rattle.gob_value.specs.declared.value.Value.{Value}
 use Rattle.gob_value.specs.Tree.{Tree, Trees, Pairs, Fields, tree_count, pair_count}
@@ -17,7 +17,8 @@ abbrev pub parts_on : List (Option ℕ × Value) → List (Option ℕ × Tree)
 parts_on ps = map (λ p. (p.0, view p.1)) (reverse ps)
 
 -- the first part was taken, and these are left
-pub record TakesPart (f : Option ℕ) (v : Tree) (rest : List (Option ℕ × Tree)) (part : Option ℕ × Value) (left : List (Option ℕ × Tree)) : Type 0 where
+pub record TakesPart (f : Option ℕ) (v : Tree) (rest : List (Option ℕ × Tree)) (part : Option ℕ × Value)
+    (left : List (Option ℕ × Tree)) : Type 0 where
   pub number : part.0 ≡ f
   pub value : view part.1 ≡ v
   pub others : left ≡ rest
@@ -25,26 +26,34 @@ pub record TakesPart (f : Option ℕ) (v : Tree) (rest : List (Option ℕ × Tre
 -- where so many elements come first, these values are they, and the parts behind them are left
 abbrev pub TakesElements : ℕ → List Value → List (Option ℕ × Tree) → List (Option ℕ × Tree) → Type 0
 TakesElements count values old new =
-    (vs : Trees) (rest : List (Option ℕ × Tree)) → count ≡ tree_count vs → old ≡ elements vs ++ rest → (views values ≡ vs) × (new ≡ rest)
+    (vs : Trees) (rest : List (Option ℕ × Tree)) → count ≡ tree_count vs → old ≡ elements vs ++ rest
+    → (views values ≡ vs) × (new ≡ rest)
 
 -- so for keys, each with its element
 abbrev pub TakesPairs : ℕ → List (Value × Value) → List (Option ℕ × Tree) → List (Option ℕ × Tree) → Type 0
 TakesPairs count values old new =
-    (ps : Pairs) (rest : List (Option ℕ × Tree)) → count ≡ pair_count ps → old ≡ alternating ps ++ rest → (pair_views values ≡ ps) × (new ≡ rest)
+    (ps : Pairs) (rest : List (Option ℕ × Tree)) → count ≡ pair_count ps → old ≡ alternating ps ++ rest
+    → (pair_views values ≡ ps) × (new ≡ rest)
 
 -- and for fields
 abbrev pub TakesFields : ℕ → List (ℕ × Value) → List (Option ℕ × Tree) → List (Option ℕ × Tree) → Type 0
 TakesFields count values old new =
-    (fs : Fields) (rest : List (Option ℕ × Tree)) → count ≡ field_count fs → old ≡ present fs ++ rest → (field_views values ≡ fs) × (new ≡ rest)
+    (fs : Fields) (rest : List (Option ℕ × Tree)) → count ≡ field_count fs → old ≡ present fs ++ rest
+    → (field_views values ≡ fs) × (new ≡ rest)
 
 -- the content of the node of a part with this value
 abbrev pub IsContentOf : List ℕ → Content → Tree → Type 0
 IsContentOf pool (content.Number k a b) v = v ≡ number_tree k a b
-IsContentOf pool (content.Raw k start count) v = (start + count ≤ length pool) × (v ≡ raw_tree k (take count (drop start pool)))
-IsContentOf pool (content.Group group.Many count extent) v = (vs : Trees) × ((count ≡ tree_count vs) × (v ≡ tree.many vs))
-IsContentOf pool (content.Group group.Pairs count extent) v = (ps : Pairs) × ((count ≡ pair_count ps) × (v ≡ tree.pairs ps))
-IsContentOf pool (content.Group group.Fields count extent) v = (fs : Fields) × ((count ≡ field_count fs) × (v ≡ tree.fields fs))
+IsContentOf pool (content.Raw k start count) v = (start + count ≤ length pool)
+    × (v ≡ raw_tree k (take count (drop start pool)))
+IsContentOf pool (content.Group group.Many count extent) v = (vs : Trees)
+    × ((count ≡ tree_count vs) × (v ≡ tree.many vs))
+IsContentOf pool (content.Group group.Pairs count extent) v = (ps : Pairs)
+    × ((count ≡ pair_count ps) × (v ≡ tree.pairs ps))
+IsContentOf pool (content.Group group.Fields count extent) v = (fs : Fields)
+    × ((count ≡ field_count fs) × (v ≡ tree.fields fs))
 
 -- where the parts of a part with this content come first, they are taken, and this is its value
 abbrev pub TakesValue : List ℕ → Content → Tree → List (Option ℕ × Tree) → List (Option ℕ × Tree) → Type 0
-TakesValue pool c made old new = (v : Tree) (rest : List (Option ℕ × Tree)) → IsContentOf pool c v → old ≡ parts_of v ++ rest → (made ≡ v) × (new ≡ rest)
+TakesValue pool c made old new = (v : Tree) (rest : List (Option ℕ × Tree)) → IsContentOf pool c v → old ≡ parts_of v
+    ++ rest → (made ≡ v) × (new ≡ rest)

@@ -5,7 +5,13 @@ use Rattle.gob_tape.specs.Flat.{Flat}
 use Rattle.gob_tape.specs.Machine.State.{State}
 
 abbrev pub state_of : TapeBuilder → State
-state_of b = record { nodes = b.nodes.items; pool = b.pool.items; begun = reverse b.begun.items; field = b.field; deepest = b.deepest }
+state_of b = record {
+  nodes = b.nodes.items;
+  pool = b.pool.items;
+  begun = reverse b.begun.items;
+  field = b.field;
+  deepest = b.deepest;
+}
 
 -- the tape of it
 abbrev pub flat_of : TapeBuilder → Flat

@@ -20,7 +20,8 @@ abbrev pub tally_line : Tally → List ℕ
 tally_line tally = counts_line tally.items tally.types tally.bytes
 
 -- what was taken was counted
-pub record CountsSo (r : StreamReader SkipBuilder (Unit {0})) (read now : Option (List ℕ)) (items bytes : ℕ) : Type 0 where
+pub record CountsSo (r : StreamReader SkipBuilder (Unit {0})) (read now : Option (List ℕ)) (items bytes : ℕ) : Type
+    0 where
   pub given : List StreamItem
   pub has : HasReadFrom skip_building r read now given
   pub items_are : items ≡ length given

@@ -17,7 +17,7 @@ use Rattle.gob_stream.specs.Calls.Reader.{HasReadFrom, StopsFrom, session_of, wa
 use Rattle.gob_stream.specs.declared.stream_reader.StreamReader.{StreamReader}
 use Rattle.gob_tool.specs.declared.fault.ToolFault.{ToolFault}
 use Rattle.gob_tool.specs.Line.{line, lines}
-use Rattle.gob_tool.specs.Showing.{AppendsFront, RunAnswers}
+use Rattle.gob_tool.specs.Showing.{AppendsPrefix, OfLines, RunAnswers}
 
 -- the reader of trees
 abbrev pub Trees : Type 0
@@ -30,7 +30,8 @@ pub record ShowsSo (r : Trees) (read now old new : Option (List ℕ)) : Type 0 w
   pub out : (bytes : List ℕ) → read ≡ Some bytes → Appends old new (lines (types_of (session_of r)) given)
 
 -- the lines of the items that are whole with what was taken
-pub record MakesLines (r r' : Trees) (read now : Option (List ℕ)) (given : List StreamItem) (made : List ℕ) : Type 0 where
+pub record MakesLines (r r' : Trees) (read now : Option (List ℕ)) (given : List StreamItem) (made : List ℕ) : Type
+    0 where
   pub more : List StreamItem
   pub after : HasReadFrom tree_building r' read now (given ++ more)
   pub onward : taken_of (session_of r) < taken_of (session_of r')
@@ -62,10 +63,12 @@ abbrev pub line_given : Table → Option (declared.Item Value) → List ℕ
 line_given T None = []
 line_given T (Some given) = line T (item_view given)
 
--- the line went out, or a front of it
+-- the line went out, or a prefix of it
 abbrev pub ShowsNext : (r r' : Trees) → (read now : Option (List ℕ)) → List StreamItem → (old new : Option (List ℕ))
     → Result (Unit {0}) ToolFault → Type 0
-ShowsNext r r' read now given old new (Ok _) = (made : List ℕ) × MakesLines r r' read now given made × Appends old new made
+ShowsNext r r' read now given old new (Ok _) = (made : List ℕ) × MakesLines r r' read now given made
+    × Appends old new made
 ShowsNext r r' read now given old new (Err f) = (bytes : List ℕ) → read ≡ Some bytes → (start : Option (List ℕ))
     → Appends start old (lines (types_of (session_of r)) given)
-    → RunAnswers (within_trees (limits_of (session_of r))) bytes now (Appends start new) (AppendsFront start new) (Err f)
+    → RunAnswers (within_trees (limits_of (session_of r))) bytes now (OfLines (Appends start new))
+    (OfLines (AppendsPrefix start new)) (Err f)

@@ -48,11 +48,11 @@ bounds_for L (puts id value) = L
 -- the item stands behind those bytes of a stream, whose types are T there and U at the end
 pub record StandsThere (L : Bounds) (T U : Table) (i : StreamItem) : Type 0 where
   pub items : List StreamItem
-  pub front : List ℕ
-  pub earlier : Stream base_table L items front T
+  pub prefix : List ℕ
+  pub earlier : Stream base_table L items prefix T
   pub bytes : List ℕ
   pub next : Table
-  pub counted : IsItem base_table L T (length front) i bytes next
+  pub counted : IsItem base_table L T (length prefix) i bytes next
   pub others : List StreamItem
   pub offset : ℕ
   pub rest : List ℕ
@@ -77,7 +77,8 @@ pub record WritesForm (L : Bounds) (T : Table) (w w' : StreamWriter) (i : Stream
   pub writes : WritesNext (bounds_for L i) w w' (with_content i form) old new result
 
 -- by what the writer keeps to, and the types of its stream so far
-abbrev pub WritesTidy : (w w' : StreamWriter) → StreamItem → (old new : Option (List ℕ)) → Result (Unit {0}) WriteFault → Type 0
+abbrev pub WritesTidy : (w w' : StreamWriter) → StreamItem → (old new : Option (List ℕ)) → Result (Unit {0}) WriteFault
+    → Type 0
 WritesTidy w w' i old new result = WritesForm (writer_limits w) (writer_types w) w w' i old new result
 
 -- the body is the value, its own tidy form
@@ -96,7 +97,7 @@ pub record HasRewritten (s : SessionState TapeBuilder Tape) (w : StreamWriter) :
   pub has : HasWritten w tidy written (types_of s)
   pub limits : writer_limits w ≡ limits_of s
   pub allowed : AreLimits deepest (limits_of s)
-  pub no_longer : length written ≤ length gave.front
+  pub no_longer : length written ≤ length gave.prefix
 
 -- and what waits has no more room than a reader takes
 pub record RewritesSome (r : Tapes) (w : StreamWriter) : Type 0 where
@@ -104,23 +105,26 @@ pub record RewritesSome (r : Tapes) (w : StreamWriter) : Type 0 where
   pub room : room_in r ≤ most_ahead (limits_of (session_of r))
 
 -- this item comes next in its stream, and the types behind it are U
-pub record ComesNext {s : SessionState TapeBuilder Tape} {w : StreamWriter} (h : HasRewritten s w) (i : StreamItem) (U : Table)
+pub record ComesNext {s : SessionState TapeBuilder Tape} {w : StreamWriter} (h : HasRewritten s w) (i : StreamItem)
+    (U : Table)
     : Type 0 where
   pub bytes : List ℕ
-  pub counted : IsItem base_table (no_deeper deepest (limits_of s)) (types_of s) (length h.gave.front) i bytes U
+  pub counted : IsItem base_table (no_deeper deepest (limits_of s)) (types_of s) (length h.gave.prefix) i bytes U
 
 -- its tidy form is written too
-pub record GoesOnRewriting {s : SessionState TapeBuilder Tape} {w : StreamWriter} {h : HasRewritten s w} {i : StreamItem} {U : Table}
+pub record GoesOnRewriting {s : SessionState TapeBuilder Tape} {w : StreamWriter} {h : HasRewritten s w}
+    {i : StreamItem} {U : Table}
     (n : ComesNext h i U) (w' : StreamWriter) : Type 0 where
   pub limits : writer_limits w' ≡ limits_of s
   pub tidy : List StreamItem
   pub tidied : AreItemsTidied U (h.items ++ i ∷ []) tidy
   pub more : List ℕ
   pub has : HasWritten w' tidy (h.written ++ more) U
-  pub no_longer : length (h.written ++ more) ≤ length (h.gave.front ++ n.bytes)
+  pub no_longer : length (h.written ++ more) ≤ length (h.gave.prefix ++ n.bytes)
 
 -- its tidy form follows what was written, as these bytes
-pub record IsTidiedItem {s : SessionState TapeBuilder Tape} {w : StreamWriter} {h : HasRewritten s w} {i : StreamItem} {U : Table}
+pub record IsTidiedItem {s : SessionState TapeBuilder Tape} {w : StreamWriter} {h : HasRewritten s w} {i : StreamItem}
+    {U : Table}
     (n : ComesNext h i U) (more : List ℕ) : Type 0 where
   pub tidy : List StreamItem
   pub tidied : AreItemsTidied U (h.items ++ i ∷ []) tidy

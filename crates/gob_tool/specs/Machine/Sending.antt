@@ -8,17 +8,17 @@ use Rattle.gob_value.specs.Whole.{IsWhole}
 use Rattle.gob_stream.specs.Calls.Session.{HasBodyNext, IsBetweenItems, types_of}
 use Rattle.gob_stream.specs.Devices.{counts_up}
 use Rattle.gob_stream.specs.Item.{StreamItem}
-use Rattle.gob_stream.specs.Writing.{CountsWriterFaults, SentFront}
+use Rattle.gob_stream.specs.Writing.{CountsWriterFaults, SentPrefix}
 use Rattle.gob_stream.specs.declared.fault.WriteFault.{WriteFault}
 use Rattle.gob_stream.specs.declared.fault.WriteFault.TheVariants as fault
 use Rattle.gob_stream.specs.declared.output.Output.{Output}
 use Rattle.gob_stream.specs.Calls.Reader.{session_of, waits_in}
 use Rattle.gob_tool.specs.Machine.Lines.{MakesLines, Trees}
 
--- the text went out, or a front of it
+-- the text went out, or a prefix of it
 abbrev pub Sends : (old new : Option (List ℕ)) → List ℕ → Result (Unit {0}) WriteFault → Type 0
 Sends old new text (Ok _) = Appends old new text
-Sends old new text (Err e) = (e ≡ fault.Write) × SentFront text old new
+Sends old new text (Err e) = (e ≡ fault.Write) × SentPrefix text old new
 
 pub sends_both : (old mid new : Option (List ℕ)) (x y : List ℕ) (r : Result (Unit {0}) WriteFault) → Appends old mid x
     → Sends mid new y r → Sends old new (x ++ y) r
@@ -26,10 +26,10 @@ sends_both old mid new x y (Ok u) a b = Appends-trans old mid new x y a b
 sends_both old mid new x y (Err e) a b = (
   b.0,
   record {
-    front = x ++ b.1.front;
+    prefix = x ++ b.1.prefix;
     rest = b.1.rest;
-    whole = ap (λ l. x ++ l) b.1.whole ∙ sym (append_assoc x b.1.front b.1.rest);
-    out = Appends-trans old mid new x b.1.front a b.1.out;
+    whole = ap (λ l. x ++ l) b.1.whole ∙ sym (append_assoc x b.1.prefix b.1.rest);
+    out = Appends-trans old mid new x b.1.prefix a b.1.out;
   },
 )
 
@@ -38,9 +38,9 @@ pub sends_more : (old new : Option (List ℕ)) (x y : List ℕ) (e : WriteFault)
 sends_more old new x y e s = (
   s.0,
   record {
-    front = s.1.front;
+    prefix = s.1.prefix;
     rest = s.1.rest ++ y;
-    whole = ap (λ l. l ++ y) s.1.whole ∙ append_assoc s.1.front s.1.rest y;
+    whole = ap (λ l. l ++ y) s.1.whole ∙ append_assoc s.1.prefix s.1.rest y;
     out = s.1.out;
   },
 )
@@ -55,12 +55,14 @@ pub record IsLargeItem (r : Trees) (depth : ℕ) (id : TypeId) (body : List ℕ)
   pub next : HasBodyNext (session_of r) id body used (waits_in r)
   pub whole : IsWhole (types_of (session_of r)) id depth body
 
--- the line went out, or a front of it; or nothing has changed
+-- the line went out, or a prefix of it; or nothing has changed
 abbrev pub ShowsLarge : (r r' : Trees) → (read now : Option (List ℕ)) → List StreamItem → (old new : Option (List ℕ))
     → Result Bool WriteFault → Type 0
-ShowsLarge r r' read now given old new (Ok true) = (made : List ℕ) × MakesLines r r' read now given made × Appends old new made
+ShowsLarge r r' read now given old new (Ok true) = (made : List ℕ) × MakesLines r r' read now given made
+    × Appends old new made
 ShowsLarge r r' read now given old new (Ok false) = Unit {0}
-ShowsLarge r r' read now given old new (Err e) = (made : List ℕ) × MakesLines r r' read now given made × SentFront made old new
+ShowsLarge r r' read now given old new (Err e) = (made : List ℕ) × MakesLines r r' read now given made
+    × SentPrefix made old new
     × (e ≡ fault.Write)
 
 abbrev pub ShowsNone : {W : Type 0} → (r r' : Trees) → (output output' : Output W) → Result Bool WriteFault → Type 0

@@ -24,7 +24,7 @@ use Rattle.gob_tool.specs.Fault.{wanted_fault}
 use Rattle.gob_tool.specs.Machine.Lines.{Trees}
 use Rattle.gob_tool.specs.Machine.Receiver.{IsReceiver}
 use Rattle.gob_tool.specs.declared.receiver.Receiver.{Receiver}
-use Rattle.gob_tool.specs.Showing.{AppendsFront, CountsReadFaults}
+use Rattle.gob_tool.specs.Showing.{AppendsPrefix, CountsReadFaults}
 use Rattle.gob_tool.specs.Taking.{HasTakenItems, HasWanted, LacksWanted, Receiving, first_type}
 
 -- a reader of trees has read some bytes
@@ -53,10 +53,10 @@ StaysReceiver T r None = IsReceiver T r
 StaysReceiver T r (Some (variant.Define id described)) = Unit {0}
 StaysReceiver T r (Some (variant.Put id value)) = IsReceiver T r
 
--- the text went out, or a front of it where a write failed, or nothing
+-- the text went out, or a prefix of it where a write failed, or nothing
 abbrev pub WritesText : (old new : Option (List ℕ)) → List ℕ → Result (Unit {0}) ToolFault → Type 0
 WritesText old new text (Ok _) = Appends old new text
-WritesText old new text (Err fault.Write) = AppendsFront old new text
+WritesText old new text (Err fault.Write) = AppendsPrefix old new text
 WritesText old new text (Err fault.Memory) = Keeps old new
 WritesText old new text (Err _) = ⊥
 
@@ -73,7 +73,7 @@ abbrev pub TakesGiven : (T U : Table) → TypeId → (given : Option (declared.I
 TakesGiven T U u given old new (Ok _) = HasTakenItems T U u (views_given given) (Appends old new)
 TakesGiven T U u given old new (Err (fault.Clash path reason)) = Keeps old new
     × Clashes given (λ t. IsLeastClash T U t u path.items reason)
-TakesGiven T U u given old new (Err fault.Write) = HasTakenItems T U u (views_given given) (AppendsFront old new)
+TakesGiven T U u given old new (Err fault.Write) = HasTakenItems T U u (views_given given) (AppendsPrefix old new)
 TakesGiven T U u given old new (Err fault.Memory) = Keeps old new
 TakesGiven T U u given old new (Err (fault.Refused R)) = ⊥
 TakesGiven T U u given old new (Err (fault.Wanted R)) = ⊥
@@ -88,12 +88,14 @@ pub record Takes (r : Trees) (U : Table) (u : TypeId) (read now old new : Option
   pub taken : HasTakenItems (types_of (session_of r)) U u given (Appends old new)
 
 -- some of what waited was too; or this stopped it
-abbrev pub TakesNext : (r r' : Trees) → Table → TypeId → (read now old new : Option (List ℕ)) → Result (Unit {0}) ToolFault
+abbrev pub TakesNext : (r r' : Trees) → Table → TypeId → (read now old new : Option (List ℕ))
+    → Result (Unit {0}) ToolFault
     → Type 0
 TakesNext r r' U u read now old new (Ok _) = Takes r' U u read now old new
     × (taken_of (session_of r) < taken_of (session_of r'))
 TakesNext r r' U u read now old new (Err f) = ((bytes : List ℕ) → read ≡ Some bytes
-    → Receiving (within_trees (limits_of (session_of r))) bytes now U u (Appends old new) (AppendsFront old new) (Err f))
+    → Receiving (within_trees (limits_of (session_of r))) bytes now U u (Appends old new) (AppendsPrefix old new)
+    (Err f))
     × ((failures : ℕ) → CountsReadFaults failures failures (Err f))
 
 -- ---- the wanted stream
@@ -113,7 +115,8 @@ FindsWanted L bytes now T (Ok id) = HasWanted L bytes now (λ U u. (U ≡ T) × 
 FindsWanted L bytes now T (Err f) = LacksWanted L bytes now f
 
 -- what reading the wanted stream gives: the type of its first value
-abbrev pub ReadsWanted : Bounds → (bytes : List ℕ) → (now : Option (List ℕ)) → Table → Result (Option TypeId) Fault → Type 0
+abbrev pub ReadsWanted : Bounds → (bytes : List ℕ) → (now : Option (List ℕ)) → Table → Result (Option TypeId) Fault
+    → Type 0
 ReadsWanted L bytes now T (Ok (Some id)) = HasWanted L bytes now (λ U u. (U ≡ T) × (u ≡ id))
 ReadsWanted L bytes now T (Ok None) = LacksWanted L bytes now fault.NoWantedType
 ReadsWanted L bytes now T (Err e) = LacksWanted L bytes now (wanted_fault e)

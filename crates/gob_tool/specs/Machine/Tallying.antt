@@ -21,7 +21,8 @@ pub record HasTallied (s : SessionState SkipBuilder (Unit {0})) (items : ℕ) (b
   pub items_are : items ≡ length given
 
 -- so many bytes of the piece were taken, and the items that are whole with them were counted: at least one of either
-pub record TalliesOn (s : SessionState SkipBuilder (Unit {0})) (items items' : ℕ) (bytes piece : List ℕ) (used : ℕ) : Type 0
+pub record TalliesOn (s : SessionState SkipBuilder (Unit {0})) (items items' : ℕ) (bytes piece : List ℕ) (used : ℕ) :
+    Type 0
   where
     pub within : used ≤ length piece
     pub nearer : items < items' + used
@@ -29,9 +30,9 @@ pub record TalliesOn (s : SessionState SkipBuilder (Unit {0})) (items items' : �
 
 -- the front of the piece was taken, up to the rest, and its items were counted
 pub record TalliesUpTo (s : SessionState SkipBuilder (Unit {0})) (items : ℕ) (bytes piece rest : List ℕ) : Type 0 where
-  pub front : List ℕ
-  pub whole : piece ≡ front ++ rest
-  pub counted : HasTallied s items (bytes ++ front)
+  pub prefix : List ℕ
+  pub whole : piece ≡ prefix ++ rest
+  pub counted : HasTallied s items (bytes ++ prefix)
 
 -- why the bytes that were given couldn't all be taken
 abbrev pub StopsTallying : Bounds → List ℕ → Fault → Type 0
@@ -41,10 +42,10 @@ StopsTallying L bytes reading.Memory = Unit {0}
 StopsTallying L bytes reading.Failed = ⊥
 
 -- what counting the items of the front of a piece answers, behind these bytes
-abbrev pub TalliesFront : Bounds → SessionState SkipBuilder (Unit {0}) → (items items' : ℕ) → (bytes piece : List ℕ)
+abbrev pub TalliesPrefix : Bounds → SessionState SkipBuilder (Unit {0}) → (items items' : ℕ) → (bytes piece : List ℕ)
     → Result ℕ Fault → Type 0
-TalliesFront L s items items' bytes piece (Ok used) = TalliesOn s items items' bytes piece used
-TalliesFront L s items items' bytes piece (Err e) = StopsTallying L (bytes ++ piece) e
+TalliesPrefix L s items items' bytes piece (Ok used) = TalliesOn s items items' bytes piece used
+TalliesPrefix L s items items' bytes piece (Err e) = StopsTallying L (bytes ++ piece) e
 
 -- what counting the items of a whole piece answers, with which these are the bytes
 abbrev pub TalliesAll : Bounds → SessionState SkipBuilder (Unit {0}) → (items : ℕ) → (bytes : List ℕ)

@@ -11,16 +11,20 @@ without-none : (t u : TypeId) (T : Table) → shape_of T u ≡ None → shape_of
 without-none t u [] e = e
 without-none t u (entry ∷ T) e = by (entry.0.0 == t.0) (entry.0.0 == u.0) refl e (without-none t u T)
   where
-    by : (b d : Bool) → (entry.0.0 == u.0) ≡ d → (if d then Some entry.1 else shape_of T u) ≡ None → (shape_of T u ≡ None → shape_of (without t T) u ≡ None) → shape_of (if b then without t T else entry ∷ without t T) u ≡ None
+    by : (b d : Bool) → (entry.0.0 == u.0) ≡ d → (if d then Some entry.1 else shape_of T u) ≡ None
+        → (shape_of T u ≡ None → shape_of (without t T) u ≡ None)
+        → shape_of (if b then without t T else entry ∷ without t T) u ≡ None
     by b true f e rest = absurd (none-some _ (sym e))
     by true false f e rest = rest e
-    by false false f e rest = subst (λ c. (if c then Some entry.1 else shape_of (without t T) u) ≡ None) (sym f) (rest e)
+    by false false f e rest = subst (λ c. (if c then Some entry.1 else shape_of (without t T) u) ≡ None) (sym f)
+        (rest e)
 
 without-gone : (t : TypeId) (T : Table) → shape_of (without t T) t ≡ None
 without-gone t [] = refl
 without-gone t (entry ∷ T) = by (entry.0.0 == t.0) refl (without-gone t T)
   where
-    by : (b : Bool) → (entry.0.0 == t.0) ≡ b → shape_of (without t T) t ≡ None → shape_of (if b then without t T else entry ∷ without t T) t ≡ None
+    by : (b : Bool) → (entry.0.0 == t.0) ≡ b → shape_of (without t T) t ≡ None
+        → shape_of (if b then without t T else entry ∷ without t T) t ≡ None
     by true f rest = rest
     by false f rest = subst (λ c. (if c then Some entry.1 else shape_of (without t T) t) ≡ None) (sym f) rest
 
@@ -34,7 +38,11 @@ without-distinct t (entry ∷ T) d = by (entry.0.0 == t.0) (without-distinct t T
 
 pub first_entries-distinct : (T : Table) → HasDistinctIds (first_entries T)
 first_entries-distinct [] = tt
-first_entries-distinct (entry ∷ T) = (without-gone entry.0 (first_entries T), without-distinct entry.0 (first_entries T) (first_entries-distinct T))
+first_entries-distinct (entry ∷ T) = (
+  without-gone entry.0 (first_entries T),
+  without-distinct entry.0 (first_entries T)
+      (first_entries-distinct T),
+)
 
 -- each id of the table has one shape
 pub distinct-types : (d : Defined) → HasDistinctIds (types d)

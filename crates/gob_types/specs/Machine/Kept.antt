@@ -1,6 +1,7 @@
 -- What is known of the types of a table without a walk: which of them are ready, and what the others wait for.
 -- (docs/FORMAT.md, Readiness.)
-use Rattle.std.specs.Prelude.{◌≡◌, ◌⊎◌, ◌-◌, List, [], ◌∷◌, ◌++◌, length, take, Option, Some, None, Contains, MatchOption, if◌then◌else◌}
+use Rattle.std.specs.Prelude.{◌≡◌, ◌⊎◌, ◌-◌, List, [], ◌∷◌, ◌++◌, length, take, Option, Some, None, Contains}
+use Rattle.std.specs.Prelude.{MatchOption, if◌then◌else◌}
 use Rattle.std.specs.Map.{lookup}
 use Rattle.gob_types.specs.declared.id.TypeId.{TypeId}
 use Rattle.gob_types.specs.declared.kind.Shape.{Shape}
@@ -77,7 +78,8 @@ IsLost T u = (shape_of T u ≡ None) ⊎ IsHopeless T u
 -- the way of waiting goes on from the type, past those that are ready, to one with the property
 pub data LeadsAway (A : AwaitedTypes) (ready : List TypeId) (P : TypeId → Type 0) : TypeId → Type 0 where
   ends : {u : TypeId} → P u → LeadsAway A ready P u
-  further : {u w : TypeId} → lookup (same_id u) A ≡ Some w → ¬ Contains ready w → LeadsAway A ready P w → LeadsAway A ready P u
+  further : {u w : TypeId} → lookup (same_id u) A ≡ Some w → ¬ Contains ready w → LeadsAway A ready P w
+      → LeadsAway A ready P u
 
 -- these are ready, and each other type waits for one with the property
 pub record AreSorted (T : Table) (ready : List TypeId) (W : Waiting) (P : TypeId → Type 0) : Type 0 where
@@ -120,8 +122,8 @@ pub record WasKept (U : Table) (t : TypeId) (ready : List TypeId) (waits : Optio
   pub kept : IsKeptReadiness before ready waits
 
 -- all entries but the last
-abbrev pub front : Table → Table
-front T = take (length T - 1) T
+abbrev pub prefix : Table → Table
+prefix T = take (length T - 1) T
 
 -- ---- looks
 

@@ -1,5 +1,6 @@
 -- What the walk through the reached types has found so far.
-use Rattle.std.specs.Prelude.{◌≡◌, ℕ, ◌<◌, ◌⊎◌, Bool, true, false, List, [], ◌∷◌, ◌++◌, Contains, Option, Some, MatchOption}
+use Rattle.std.specs.Prelude.{◌≡◌, ℕ, ◌<◌, ◌⊎◌, Bool, true, false, List, [], ◌∷◌, ◌++◌, Contains, Option, Some}
+use Rattle.std.specs.Prelude.{MatchOption}
 use Rattle.gob_types.specs.declared.id.TypeId.{TypeId}
 use Rattle.gob_types.specs.declared.kind.Kind.TheVariants as kind
 use Rattle.gob_types.specs.declared.kind.Shape.{Shape}
@@ -49,7 +50,8 @@ pub record IsFilledIn (T : Table) (P : TypeId → Type 0) (t : TypeId) : Type 0 
 
 -- all of these are good, or this is the least of those that are bad
 abbrev pub IsLeastBad : (Good Bad : TypeId → Type 0) → List TypeId → Option TypeId → Type 0
-IsLeastBad Good Bad ids least = MatchOption least ((u : TypeId) → Contains ids u → Good u) (λ l. IsLeast (λ u. Contains ids u × Bad u) l)
+IsLeastBad Good Bad ids least = MatchOption least ((u : TypeId) → Contains ids u → Good u)
+    (λ l. IsLeast (λ u. Contains ids u × Bad u) l)
 
 -- the first ids have finite values, and the second are arrays of one another
 pub record KnowsGrounds (T : Table) (grounded bottomless : List TypeId) : Type 0 where

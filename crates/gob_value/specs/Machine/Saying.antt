@@ -4,7 +4,8 @@ use Rattle.gob_types.specs.declared.id.TypeId.{TypeId}
 use Rattle.gob_types.specs.declared.kind.Marshal.TheVariants as marshal
 use Rattle.gob_value.specs.Tree.{Fields}
 use Rattle.gob_value.specs.Description.{Said, SaidKind, said_array, said_slice, said_struct, said_map, said_opaque}
-use Rattle.gob_value.specs.Description.{SaidField, said_fields, present_field, number_in, name_in, fields_in, elements_in}
+use Rattle.gob_value.specs.Description.{SaidField, said_fields, present_field, number_in, name_in, fields_in}
+use Rattle.gob_value.specs.Description.{elements_in}
 use Rattle.gob_value.specs.Description.{RefersTo}
 use Rattle.gob_value.specs.declared.described_shape.WireField.{WireField}
 use Rattle.gob_value.specs.declared.described_shape.WireField.TheVariants as wire

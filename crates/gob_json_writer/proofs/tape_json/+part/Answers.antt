@@ -11,7 +11,8 @@ use Rattle.gob_json_writer.proofs.TapeLaws.{fields_begun, fields_on, fields_end,
 use Rattle.gob_json_writer.proofs.TapeLaws.{entries_end, leaf_seen, as_many, as_pairs, as_fields, field_json}
 use Rattle.gob_json_writer.proofs.WrittenLaws.{one_written, both_written, same_written, none_written_of}
 use Rattle.gob_json_writer.proofs.tape_json.+part.Goals as goal
-use Rattle.gob_json_writer.proofs.tape_json.+part.Goals.{write_entries-then-is_key+in_ok-begin_array-2+in_ok-write_part, write_entries-else-is_key+in_ok-write_part-2+in_ok-end_array}
+use Rattle.gob_json_writer.proofs.tape_json.+part.Goals.{write_entries-then-is_key+in_ok-begin_array-2+in_ok-write_part}
+use Rattle.gob_json_writer.proofs.tape_json.+part.Goals.{write_entries-else-is_key+in_ok-write_part-2+in_ok-end_array}
 
 pub write_elements-loop-part-preserved : goal.write_elements-loop-part-preserved
 write_elements-loop-part-preserved g t c = record {
@@ -19,13 +20,15 @@ write_elements-loop-part-preserved g t c = record {
   finite = tt;
   before = c.in_ok-write_part.ensures.before ∙ c.loop-part.invariant.before;
   fewer = still_fewer c.next.ensures.steps c.in-Some.is c.loop-part.invariant.fewer;
-  written = λ vs h. elements_on (c.loop-part.invariant.written vs h) (next_is c.next.ensures.steps c.in-Some.is) c.in_ok-write_part.ensures;
+  written = λ vs h. elements_on (c.loop-part.invariant.written vs h) (next_is c.next.ensures.steps c.in-Some.is)
+      c.in_ok-write_part.ensures;
 }
 
 pub write_elements-returns : goal.write_elements-returns
 write_elements-returns g t c = record {
   before = c.end_array.ensures.room.0 ∙ c.loop-part.invariant.before;
-  each = λ vs h. elements_end (c.loop-part.invariant.written vs h) (next_is c.next.ensures.steps c.in-None.is) (one_written c.end_array.ensures);
+  each = λ vs h. elements_end (c.loop-part.invariant.written vs h) (next_is c.next.ensures.steps c.in-None.is)
+      (one_written c.end_array.ensures);
 }
 
 pub write_entries-loop-part-init : goal.write_entries-loop-part-init
@@ -35,7 +38,8 @@ write_entries-loop-part-init g t c =
       finite = tt;
       before = c.in_ok-begin_array.ensures.room.0;
       fewer = none_fewer same;
-      written = λ ps h. entries_begun ps (one_written c.in_ok-begin_array.ensures) (subst (λ p. Gives p (alternating ps)) (sym same) h);
+      written = λ ps h. entries_begun ps (one_written c.in_ok-begin_array.ensures)
+          (subst (λ p. Gives p (alternating ps)) (sym same) h);
     }
 
 pub write_entries-loop-part-preserved : goal.write_entries-loop-part-preserved
@@ -43,16 +47,20 @@ write_entries-loop-part-preserved g t c = record {
   next = tt;
   finite = tt;
   before = elim c.if-is_key.branch [
-    | write_entries-then-is_key+in_ok-begin_array-2+in_ok-write_part w ↦ ap (λ (o : Written). o.before) w.out-is ∙ w.in_ok-write_part.ensures.before ∙ w.in_ok-begin_array-2.ensures.room.0 ∙ c.loop-part.invariant.before
-    | write_entries-else-is_key+in_ok-write_part-2+in_ok-end_array w ↦ ap (λ (o : Written). o.before) w.out-is ∙ w.in_ok-end_array.ensures.room.0 ∙ w.in_ok-write_part-2.ensures.before ∙ c.loop-part.invariant.before
+    | write_entries-then-is_key+in_ok-begin_array-2+in_ok-write_part w ↦ ap (λ (o : Written). o.before) w.out-is
+        ∙ w.in_ok-write_part.ensures.before ∙ w.in_ok-begin_array-2.ensures.room.0 ∙ c.loop-part.invariant.before
+    | write_entries-else-is_key+in_ok-write_part-2+in_ok-end_array w ↦ ap (λ (o : Written). o.before) w.out-is
+        ∙ w.in_ok-end_array.ensures.room.0 ∙ w.in_ok-write_part-2.ensures.before ∙ c.loop-part.invariant.before
   ];
   fewer = still_fewer c.next.ensures.steps c.in-Some.is c.loop-part.invariant.fewer;
   written = λ ps h. elim c.if-is_key.branch [
     | write_entries-then-is_key+in_ok-begin_array-2+in_ok-write_part w ↦
-        key_turn w.out-is w.if-is_key.true (c.loop-part.invariant.written ps h) (next_is c.next.ensures.steps c.in-Some.is)
+        key_turn w.out-is w.if-is_key.true (c.loop-part.invariant.written ps h)
+        (next_is c.next.ensures.steps c.in-Some.is)
         (one_written w.in_ok-begin_array-2.ensures) w.in_ok-write_part.ensures
     | write_entries-else-is_key+in_ok-write_part-2+in_ok-end_array w ↦
-        element_turn w.out-is w.if-is_key.false (c.loop-part.invariant.written ps h) (next_is c.next.ensures.steps c.in-Some.is)
+        element_turn w.out-is w.if-is_key.false (c.loop-part.invariant.written ps h)
+        (next_is c.next.ensures.steps c.in-Some.is)
         w.in_ok-write_part-2.ensures (one_written w.in_ok-end_array.ensures)
   ];
 }
@@ -60,7 +68,8 @@ write_entries-loop-part-preserved g t c = record {
 pub write_entries-returns : goal.write_entries-returns
 write_entries-returns g t c = record {
   before = c.end_array-2.ensures.room.0 ∙ c.loop-part.invariant.before;
-  each = λ ps h. entries_end (c.loop-part.invariant.written ps h) (next_is c.next.ensures.steps c.in-None.is) (one_written c.end_array-2.ensures);
+  each = λ ps h. entries_end (c.loop-part.invariant.written ps h) (next_is c.next.ensures.steps c.in-None.is)
+      (one_written c.end_array-2.ensures);
 }
 
 pub write_fields-loop-part-preserved : goal.write_fields-loop-part-preserved
@@ -91,7 +100,8 @@ write_fields-loop-part-preserved g t c =
 pub write_fields-returns : goal.write_fields-returns
 write_fields-returns g t c = record {
   before = c.end_array-2.ensures.room.0 ∙ c.loop-part.invariant.before;
-  each = λ fs h. fields_end (c.loop-part.invariant.written fs h) (next_is c.next.ensures.steps c.in-None.is) (one_written c.end_array-2.ensures);
+  each = λ fs h. fields_end (c.loop-part.invariant.written fs h) (next_is c.next.ensures.steps c.in-None.is)
+      (one_written c.end_array-2.ensures);
 }
 
 pub write_part-returns-in-Many : goal.write_part-returns-in-Many

@@ -15,7 +15,8 @@ use Rattle.gob_json_writer.proofs.tape_json.write_leaf.Goals as goal
 
 pub returns-in-Int : goal.returns-in-Int
 returns-in-Int c =
-    let is : c.to_signed.result ≡ signed_of c.args.first = signed_is c.args.first c.to_signed.result c.ranges.first.fits c.to_signed.ensures in
+    let is : c.to_signed.result ≡ signed_of c.args.first = signed_is c.args.first c.to_signed.result c.ranges.first.fits
+    c.to_signed.ensures in
     subst (WritesTokens c.i64.result c.args.out.now c.i64.new.self)
     (ap (λ i. Token.number (signed_decimal i) ∷ []) (to_z-of_z w64 c.to_signed.result (search rules))
     ∙ integer_token c.to_signed.result ∙ ap (λ i. json_tokens (outline (integer_json i))) is

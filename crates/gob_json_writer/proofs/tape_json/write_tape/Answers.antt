@@ -9,5 +9,6 @@ returns c = record {
   each = λ v m.
       both_written (one_written c.in_ok-begin_object.ensures) (both_written (one_written c.in_ok-key.ensures)
       (both_written (one_written c.in_ok-u64.ensures) (both_written (one_written c.in_ok-key-2.ensures)
-      (both_written (c.in_ok-write_part.ensures.each v (None, c.root.ensures v m)) (one_written c.end_object.ensures)))));
+      (both_written (c.in_ok-write_part.ensures.each v (None, c.root.ensures v m))
+      (one_written c.end_object.ensures)))));
 }

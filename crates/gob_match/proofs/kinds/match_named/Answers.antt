@@ -20,4 +20,5 @@ pub returns-in_err-repeats_name-clause-converts : goal.returns-in_err-repeats_na
 returns-in_err-repeats_name-clause-converts c = IfOk-from_err c.from_residual.result _ c.from_residual.ensures.0
 
 pub returns-in_err-match_common-clause-converts : goal.returns-in_err-match_common-clause-converts
-returns-in_err-match_common-clause-converts c = IfOk-from_err c.from_residual-in_err-match_common.result _ c.from_residual-in_err-match_common.ensures.0
+returns-in_err-match_common-clause-converts c = IfOk-from_err c.from_residual-in_err-match_common.result _
+    c.from_residual-in_err-match_common.ensures.0

@@ -20,4 +20,5 @@ pub returns-in_err-conversion-clause-explored : goal.returns-in_err-conversion-c
 returns-in_err-conversion-clause-explored g c = IfOk-from_err c.from_residual.result _ c.from_residual.ensures.0
 
 pub returns-in_err-add_named-clause-explored : goal.returns-in_err-add_named-clause-explored
-returns-in_err-add_named-clause-explored g c = IfOk-from_err c.from_residual-in_err-add_named.result _ c.from_residual-in_err-add_named.ensures.0
+returns-in_err-add_named-clause-explored g c = IfOk-from_err c.from_residual-in_err-add_named.result _
+    c.from_residual-in_err-add_named.ensures.0

@@ -67,10 +67,13 @@ pub returns-in_err-found-clause-sound : goal.returns-in_err-found-clause-sound
 returns-in_err-found-clause-sound g c = IfOk-from_err c.from_residual.result _ c.from_residual.ensures.0
 
 pub returns-in_err-keep_explored-clause-matched : goal.returns-in_err-keep_explored-clause-matched
-returns-in_err-keep_explored-clause-matched g c = IfOk-from_err c.from_residual-in_err-keep_explored.result _ c.from_residual-in_err-keep_explored.ensures.0
+returns-in_err-keep_explored-clause-matched g c = IfOk-from_err c.from_residual-in_err-keep_explored.result _
+    c.from_residual-in_err-keep_explored.ensures.0
 
 pub returns-in_err-keep_explored-clause-of : goal.returns-in_err-keep_explored-clause-of
-returns-in_err-keep_explored-clause-of g c = IfOk-from_err c.from_residual-in_err-keep_explored.result _ c.from_residual-in_err-keep_explored.ensures.0
+returns-in_err-keep_explored-clause-of g c = IfOk-from_err c.from_residual-in_err-keep_explored.result _
+    c.from_residual-in_err-keep_explored.ensures.0
 
 pub returns-in_err-keep_explored-clause-sound : goal.returns-in_err-keep_explored-clause-sound
-returns-in_err-keep_explored-clause-sound g c = IfOk-from_err c.from_residual-in_err-keep_explored.result _ c.from_residual-in_err-keep_explored.ensures.0
+returns-in_err-keep_explored-clause-sound g c = IfOk-from_err c.from_residual-in_err-keep_explored.result _
+    c.from_residual-in_err-keep_explored.ensures.0

@@ -1,4 +1,4 @@
-use Rattle.gob_num.proofs.FrontLaws.{begin_somehow, begin_one_way}
+use Rattle.gob_num.proofs.PrefixLaws.{begin_somehow, begin_one_way}
 use Rattle.gob_num.proofs.laws.bytes_begin_in_one_way.Goals as goal
 
 pub returns-clause-somehow : goal.returns-clause-somehow

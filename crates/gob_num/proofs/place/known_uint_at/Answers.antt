@@ -2,7 +2,8 @@ use Rattle.std.proofs.Common.{◌≡◌, ℕ, ◌<◌, List, length, get_or}
 use Rattle.gob_num.proofs.PlaceLaws.{StandsAt, short_at, bad_head_at, only_number, known_digits_at}
 use Rattle.gob_num.proofs.place.known_uint_at.Goals as goal
 
-here : {bytes : List ℕ} {at head : ℕ} → (at < length bytes) × ((d : ℕ) → head ≡ get_or bytes at d) → StandsAt head bytes at
+here : {bytes : List ℕ} {at head : ℕ} → (at < length bytes) × ((d : ℕ) → head ≡ get_or bytes at d)
+    → StandsAt head bytes at
 here p = record { inside = p.0; is = p.1 0 }
 
 pub returns-then-head-lt128-clause-known : goal.returns-then-head-lt128-clause-known

@@ -24,10 +24,13 @@ returns-then-head-lt128-clause-found c =
 
 pub returns-in-Whole-clause-found : goal.returns-in-Whole-clause-found
 returns-in-Whole-clause-found c =
-    taken_at c.args.bytes.now c.args.at _ _ (omega (arith, c.in_ok-head.ensures.lookup.3.0)) (subst (λ t. TakesUnsigned (drop c.args.at c.args.bytes.now) t) c.in-Whole.is (taken (goal.at.returns-in-Whole-clause-found c).Joined-first_chunk))
+    taken_at c.args.bytes.now c.args.at _ _ (omega (arith, c.in_ok-head.ensures.lookup.3.0))
+    (subst (λ t. TakesUnsigned (drop c.args.at c.args.bytes.now) t) c.in-Whole.is
+    (taken (goal.at.returns-in-Whole-clause-found c).Joined-first_chunk))
 
 pub returns-in_default : goal.returns-in_default
 returns-in_default c = record {
   found = tt;
-  none = λ e. none_at c.args.bytes.now c.args.at c.match-first_chunk.taken (taken (goal.at.returns-in_default c).Joined-first_chunk) c.in_default.not-Whole;
+  none = λ e. none_at c.args.bytes.now c.args.at c.match-first_chunk.taken
+      (taken (goal.at.returns-in_default c).Joined-first_chunk) c.in_default.not-Whole;
 }

@@ -8,7 +8,8 @@ numbers-init c = record { counts = λ l. omega arith; passed = passes_none }
 pub numbers-preserved : goal.numbers-preserved
 numbers-preserved c = record {
   counts = c.in_ok-end.ensures.counts;
-  passed = passes_both (passes_one_more (omega (arith, c.numbers-test.true)) c.in_ok-end.ensures.found c.numbers.invariant.passed)
+  passed = passes_both (passes_one_more (omega (arith, c.numbers-test.true)) c.in_ok-end.ensures.found
+      c.numbers.invariant.passed)
       c.pass_next-place.ensures;
 }
 

@@ -17,13 +17,26 @@ float-requires c = finite_is c.args.pattern (omega arith)
 pub returns-then-size-lt-INFINITY : goal.returns-then-size-lt-INFINITY
 returns-then-size-lt-INFINITY c = record {
   tokens = on_ok_weaker c.float.result
-      (λ w. (Token.number w.0 ∷ [], (json.number w.0, finite_says _ w.0 (finite_is c.args.pattern (omega arith)) w.2 w.3, refl), w.1))
+      (λ w. (
+        Token.number w.0 ∷ [],
+        (
+          json.number w.0,
+          finite_says _ w.0 (finite_is c.args.pattern (omega arith)) w.2
+              w.3,
+          refl,
+        ),
+        w.1,
+      ))
       c.float.ensures.plain;
   before = c.float.ensures.room.1.0;
 }
 
 pub returns-then-size-gt-INFINITY : goal.returns-then-size-gt-INFINITY
-returns-then-size-gt-INFINITY c = some_of (one_written c.string.ensures) (json.string (codes "NaN"), nan_says c.args.pattern (omega arith), refl)
+returns-then-size-gt-INFINITY c = some_of (one_written c.string.ensures) (
+  json.string (codes "NaN"),
+  nan_says c.args.pattern (omega arith),
+  refl,
+)
 
 pub returns-then-pattern-lt-SIGN : goal.returns-then-pattern-lt-SIGN
 returns-then-pattern-lt-SIGN c =

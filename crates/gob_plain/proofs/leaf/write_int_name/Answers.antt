@@ -11,7 +11,9 @@ use Rattle.gob_plain.proofs.leaf.write_int_name.Goals as goal
 
 pub returns : goal.returns
 returns c =
-    let is : c.to_signed.result ≡ signed_of c.args.number = signed_is c.args.number c.to_signed.result c.ranges.number.fits c.to_signed.ensures in
+    let is : c.to_signed.result ≡ signed_of c.args.number = signed_is c.args.number c.to_signed.result
+    c.ranges.number.fits c.to_signed.ensures in
     subst (WritesTokens c.key.result c.args.out.now c.key.new.self)
-    (ap (λ t. Token.key t ∷ []) (c.format.ensures.text ∙ ap signed_decimal (to_z-of_z w64 c.to_signed.result (search rules) ∙ is)))
+    (ap (λ t. Token.key t ∷ []) (c.format.ensures.text
+    ∙ ap signed_decimal (to_z-of_z w64 c.to_signed.result (search rules) ∙ is)))
     (one_written c.key.ensures)

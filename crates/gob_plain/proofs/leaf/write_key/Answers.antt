@@ -37,6 +37,7 @@ returns-in_default c = record {
   name = λ v s.
       subst (λ t. WritesTokens c.key.result c.args.out.now c.key.new.self (Token.key t ∷ []))
       (sym (other_key v (λ e. c.in_default.not-Str (c.kind.ensures s.0 v s.1 ∙ e))
-      (λ e. c.in_default.not-Int (c.kind.ensures s.0 v s.1 ∙ e)) (λ e. c.in_default.not-Uint (c.kind.ensures s.0 v s.1 ∙ e))))
+      (λ e. c.in_default.not-Int (c.kind.ensures s.0 v s.1 ∙ e)) (λ e. c.in_default.not-Uint (c.kind.ensures s.0 v s.1
+      ∙ e))))
       (one_written c.key.ensures);
 }

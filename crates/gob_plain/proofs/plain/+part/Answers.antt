@@ -10,11 +10,14 @@ use Rattle.gob_json_writer.proofs.WrittenLaws.{one_written}
 use Rattle.gob_plain.specs.Plain.{Says, SaysElements, SaysMap, SaysStruct, gives_names}
 use Rattle.gob_plain.proofs.SomeLaws.{some_weaker}
 use Rattle.gob_plain.proofs.PartLaws.{elements_begun, elements_on, elements_end, fields_begun, fields_on, fields_end}
-use Rattle.gob_plain.proofs.PartLaws.{members_begun, name_turn, value_turn, members_end, pairs_begun, key_turn, element_turn}
+use Rattle.gob_plain.proofs.PartLaws.{members_begun, name_turn, value_turn, members_end, pairs_begun, key_turn}
+use Rattle.gob_plain.proofs.PartLaws.{element_turn}
 use Rattle.gob_plain.proofs.PartLaws.{pairs_end, field_some, leaf_says}
 use Rattle.gob_plain.proofs.plain.+part.Goals as goal
-use Rattle.gob_plain.proofs.plain.+part.Goals.{write_members-then-is_key+in_ok-write_key, write_members-else-is_key+in_ok-write_part}
-use Rattle.gob_plain.proofs.plain.+part.Goals.{write_pairs-then-is_key+in_ok-begin_array-2+in_ok-write_part, write_pairs-else-is_key+in_ok-write_part-2+in_ok-end_array}
+use Rattle.gob_plain.proofs.plain.+part.Goals.{write_members-then-is_key+in_ok-write_key}
+use Rattle.gob_plain.proofs.plain.+part.Goals.{write_members-else-is_key+in_ok-write_part}
+use Rattle.gob_plain.proofs.plain.+part.Goals.{write_pairs-then-is_key+in_ok-begin_array-2+in_ok-write_part}
+use Rattle.gob_plain.proofs.plain.+part.Goals.{write_pairs-else-is_key+in_ok-write_part-2+in_ok-end_array}
 
 pub write_elements-loop-part-init : goal.write_elements-loop-part-init
 write_elements-loop-part-init g t c =
@@ -33,13 +36,15 @@ write_elements-loop-part-preserved g t c = record {
   finite = tt;
   before = c.in_ok-write_part.ensures.before ∙ c.loop-part.invariant.before;
   fewer = still_fewer c.next.ensures.steps c.in-Some.is c.loop-part.invariant.fewer;
-  written = λ vs h. elements_on (c.loop-part.invariant.written vs h) (next_is c.next.ensures.steps c.in-Some.is) c.in_ok-write_part.ensures;
+  written = λ vs h. elements_on (c.loop-part.invariant.written vs h) (next_is c.next.ensures.steps c.in-Some.is)
+      c.in_ok-write_part.ensures;
 }
 
 pub write_elements-returns : goal.write_elements-returns
 write_elements-returns g t c = record {
   before = c.end_array.ensures.room.0 ∙ c.loop-part.invariant.before;
-  each = λ vs h. elements_end (c.loop-part.invariant.written vs h) (next_is c.next.ensures.steps c.in-None.is) (one_written c.end_array.ensures);
+  each = λ vs h. elements_end (c.loop-part.invariant.written vs h) (next_is c.next.ensures.steps c.in-None.is)
+      (one_written c.end_array.ensures);
 }
 
 pub write_pairs-loop-part-init : goal.write_pairs-loop-part-init
@@ -49,7 +54,8 @@ write_pairs-loop-part-init g t c =
       finite = tt;
       before = c.in_ok-begin_array.ensures.room.0;
       fewer = none_fewer same;
-      written = λ ps h. pairs_begun ps (one_written c.in_ok-begin_array.ensures) (subst (λ p. Gives p (alternating ps)) (sym same) h);
+      written = λ ps h. pairs_begun ps (one_written c.in_ok-begin_array.ensures) (subst (λ p. Gives p (alternating ps))
+          (sym same) h);
     }
 
 pub write_pairs-loop-part-preserved : goal.write_pairs-loop-part-preserved
@@ -57,16 +63,20 @@ write_pairs-loop-part-preserved g t c = record {
   next = tt;
   finite = tt;
   before = elim c.if-is_key.branch [
-    | write_pairs-then-is_key+in_ok-begin_array-2+in_ok-write_part w ↦ ap (λ (o : Written). o.before) w.out-is ∙ w.in_ok-write_part.ensures.before ∙ w.in_ok-begin_array-2.ensures.room.0 ∙ c.loop-part.invariant.before
-    | write_pairs-else-is_key+in_ok-write_part-2+in_ok-end_array w ↦ ap (λ (o : Written). o.before) w.out-is ∙ w.in_ok-end_array.ensures.room.0 ∙ w.in_ok-write_part-2.ensures.before ∙ c.loop-part.invariant.before
+    | write_pairs-then-is_key+in_ok-begin_array-2+in_ok-write_part w ↦ ap (λ (o : Written). o.before) w.out-is
+        ∙ w.in_ok-write_part.ensures.before ∙ w.in_ok-begin_array-2.ensures.room.0 ∙ c.loop-part.invariant.before
+    | write_pairs-else-is_key+in_ok-write_part-2+in_ok-end_array w ↦ ap (λ (o : Written). o.before) w.out-is
+        ∙ w.in_ok-end_array.ensures.room.0 ∙ w.in_ok-write_part-2.ensures.before ∙ c.loop-part.invariant.before
   ];
   fewer = still_fewer c.next.ensures.steps c.in-Some.is c.loop-part.invariant.fewer;
   written = λ ps h. elim c.if-is_key.branch [
     | write_pairs-then-is_key+in_ok-begin_array-2+in_ok-write_part w ↦
-        key_turn w.out-is w.if-is_key.true (c.loop-part.invariant.written ps h) (next_is c.next.ensures.steps c.in-Some.is)
+        key_turn w.out-is w.if-is_key.true (c.loop-part.invariant.written ps h)
+        (next_is c.next.ensures.steps c.in-Some.is)
         (one_written w.in_ok-begin_array-2.ensures) w.in_ok-write_part.ensures
     | write_pairs-else-is_key+in_ok-write_part-2+in_ok-end_array w ↦
-        element_turn w.out-is w.if-is_key.false (c.loop-part.invariant.written ps h) (next_is c.next.ensures.steps c.in-Some.is)
+        element_turn w.out-is w.if-is_key.false (c.loop-part.invariant.written ps h)
+        (next_is c.next.ensures.steps c.in-Some.is)
         w.in_ok-write_part-2.ensures (one_written w.in_ok-end_array.ensures)
   ];
 }
@@ -74,7 +84,8 @@ write_pairs-loop-part-preserved g t c = record {
 pub write_pairs-returns : goal.write_pairs-returns
 write_pairs-returns g t c = record {
   before = c.end_array-2.ensures.room.0 ∙ c.loop-part.invariant.before;
-  each = λ ps h. pairs_end (c.loop-part.invariant.written ps h) (next_is c.next.ensures.steps c.in-None.is) (one_written c.end_array-2.ensures);
+  each = λ ps h. pairs_end (c.loop-part.invariant.written ps h) (next_is c.next.ensures.steps c.in-None.is)
+      (one_written c.end_array-2.ensures);
 }
 
 pub write_members-loop-part-init : goal.write_members-loop-part-init
@@ -84,7 +95,8 @@ write_members-loop-part-init g t c =
       finite = tt;
       before = c.in_ok-begin_object.ensures.room.0;
       fewer = none_fewer same;
-      written = λ ps h. members_begun ps (one_written c.in_ok-begin_object.ensures) (subst (λ p. Gives p (alternating ps)) (sym same) h);
+      written = λ ps h. members_begun ps (one_written c.in_ok-begin_object.ensures)
+          (subst (λ p. Gives p (alternating ps)) (sym same) h);
     }
 
 pub write_members-loop-part-preserved : goal.write_members-loop-part-preserved
@@ -92,16 +104,20 @@ write_members-loop-part-preserved g t c = record {
   next = tt;
   finite = tt;
   before = elim c.if-is_key.branch [
-    | write_members-then-is_key+in_ok-write_key w ↦ ap (λ (o : Written). o.before) w.out-is ∙ w.in_ok-write_key.ensures.before ∙ c.loop-part.invariant.before
-    | write_members-else-is_key+in_ok-write_part w ↦ ap (λ (o : Written). o.before) w.out-is ∙ w.in_ok-write_part.ensures.before ∙ c.loop-part.invariant.before
+    | write_members-then-is_key+in_ok-write_key w ↦ ap (λ (o : Written). o.before) w.out-is
+        ∙ w.in_ok-write_key.ensures.before ∙ c.loop-part.invariant.before
+    | write_members-else-is_key+in_ok-write_part w ↦ ap (λ (o : Written). o.before) w.out-is
+        ∙ w.in_ok-write_part.ensures.before ∙ c.loop-part.invariant.before
   ];
   fewer = still_fewer c.next.ensures.steps c.in-Some.is c.loop-part.invariant.fewer;
   written = λ ps h. elim c.if-is_key.branch [
     | write_members-then-is_key+in_ok-write_key w ↦
-        name_turn w.out-is w.if-is_key.true (c.loop-part.invariant.written ps h) (next_is c.next.ensures.steps c.in-Some.is)
+        name_turn w.out-is w.if-is_key.true (c.loop-part.invariant.written ps h)
+        (next_is c.next.ensures.steps c.in-Some.is)
         w.in_ok-write_key.ensures.name
     | write_members-else-is_key+in_ok-write_part w ↦
-        value_turn w.out-is w.if-is_key.false (c.loop-part.invariant.written ps h) (next_is c.next.ensures.steps c.in-Some.is)
+        value_turn w.out-is w.if-is_key.false (c.loop-part.invariant.written ps h)
+        (next_is c.next.ensures.steps c.in-Some.is)
         w.in_ok-write_part.ensures
   ];
 }
@@ -109,7 +125,8 @@ write_members-loop-part-preserved g t c = record {
 pub write_members-returns : goal.write_members-returns
 write_members-returns g t c = record {
   before = c.end_object.ensures.room.0 ∙ c.loop-part.invariant.before;
-  each = λ ps h. members_end (c.loop-part.invariant.written ps h) (next_is c.next.ensures.steps c.in-None.is) (one_written c.end_object.ensures);
+  each = λ ps h. members_end (c.loop-part.invariant.written ps h) (next_is c.next.ensures.steps c.in-None.is)
+      (one_written c.end_object.ensures);
 }
 
 pub write_fields-loop-part-init : goal.write_fields-loop-part-init
@@ -144,7 +161,8 @@ write_fields-loop-part-preserved g t c =
 pub write_fields-returns : goal.write_fields-returns
 write_fields-returns g t c = record {
   before = c.end_object.ensures.room.0 ∙ c.loop-part.invariant.before;
-  each = λ fs h. fields_end (c.loop-part.invariant.written fs h) (next_is c.next.ensures.steps c.in-None.is) (one_written c.end_object.ensures);
+  each = λ fs h. fields_end (c.loop-part.invariant.written fs h) (next_is c.next.ensures.steps c.in-None.is)
+      (one_written c.end_object.ensures);
 }
 
 pub write_part-returns-in-Many : goal.write_part-returns-in-Many
@@ -174,8 +192,10 @@ write_part-returns-in-Pairs g t c =
           (λ ts p. (
             p.0,
             subst (λ v. Says T c.args.id v p.0) (sym a.is)
-                (subst (λ k. SaysMap (gives_names k) T k (element_type (shape_of T c.args.id)) a.parts p.0) c.key_of.ensures
-                (subst (λ e. SaysMap (gives_names c.key_of.result) T c.key_of.result e a.parts p.0) c.element_of-in-Pairs.ensures p.1)),
+                (subst (λ k. SaysMap (gives_names k) T k (element_type (shape_of T c.args.id)) a.parts p.0)
+                c.key_of.ensures
+                (subst (λ e. SaysMap (gives_names c.key_of.result) T c.key_of.result e a.parts p.0)
+                c.element_of-in-Pairs.ensures p.1)),
             p.2,
           ))
           (c.write_map.ensures.each a.parts
@@ -208,7 +228,8 @@ write_part-returns-in_default g t c =
           (λ ts p. (
             p.0,
             leaf_says T c.args.id v c.kind.result c.numbers-first.result c.bytes.result.now (c.kind.ensures s.0 v s.1)
-                (c.numbers-first.ensures s.0 v s.1) (c.bytes.ensures s.0 v s.1) c.in_default.not-Many c.in_default.not-Pairs
+                (c.numbers-first.ensures s.0 v s.1) (c.bytes.ensures s.0 v s.1) c.in_default.not-Many
+                c.in_default.not-Pairs
                 c.in_default.not-Fields p.0 p.1,
             p.2,
           ))

@@ -16,11 +16,13 @@ use Rattle.gob_plain.proofs.plain.write_leaf.Goals as goal
 
 pub returns-in-Bool : goal.returns-in-Bool
 returns-in-Bool c =
-    leaf_plain c.args.first c.args.second c.args.bytes.now c.in-Bool.is (some_of (one_written c.boolean.ensures) (json.boolean (c.args.first == 1), refl, refl))
+    leaf_plain c.args.first c.args.second c.args.bytes.now c.in-Bool.is (some_of (one_written c.boolean.ensures)
+    (json.boolean (c.args.first == 1), refl, refl))
 
 pub returns-in-Int : goal.returns-in-Int
 returns-in-Int c =
-    let is : c.to_signed.result ≡ signed_of c.args.first = signed_is c.args.first c.to_signed.result c.ranges.first.fits c.to_signed.ensures in
+    let is : c.to_signed.result ≡ signed_of c.args.first = signed_is c.args.first c.to_signed.result c.ranges.first.fits
+    c.to_signed.ensures in
     leaf_plain c.args.first c.args.second c.args.bytes.now c.in-Int.is
     (some_of (one_written c.i64.ensures) (
       outline (integer_json (signed_of c.args.first)),
@@ -31,13 +33,15 @@ returns-in-Int c =
 
 pub returns-in-Uint : goal.returns-in-Uint
 returns-in-Uint c =
-    leaf_plain c.args.first c.args.second c.args.bytes.now c.in-Uint.is (some_of (one_written c.u64.ensures) (outline (natural_json c.args.first), refl, refl))
+    leaf_plain c.args.first c.args.second c.args.bytes.now c.in-Uint.is
+    (some_of (one_written c.u64.ensures) (outline (natural_json c.args.first), refl, refl))
 
 pub returns-in-Bytes : goal.returns-in-Bytes
 returns-in-Bytes c = leaf_plain c.args.first c.args.second c.args.bytes.now c.in-Bytes.is c.write_bytes.ensures
 
 pub returns-in-Opaque : goal.returns-in-Opaque
-returns-in-Opaque c = leaf_plain c.args.first c.args.second c.args.bytes.now c.in-Opaque.is c.write_bytes-in-Opaque.ensures
+returns-in-Opaque c = leaf_plain c.args.first c.args.second c.args.bytes.now c.in-Opaque.is
+    c.write_bytes-in-Opaque.ensures
 
 pub returns-in_default : goal.returns-in_default
 returns-in_default c = some_of (one_written c.null.ensures) (

@@ -11,5 +11,6 @@ use Rattle.gob_read.proofs.tree_builder.basic_value.Goals as goal
 pub returns-in-Int : goal.returns-in-Int
 returns-in-Int c =
     let i = c.to_signed.result in
-    ap (λ j. view (Int j)) (to_z-of_z w64 i (search rules)) ∙ view-Int i ∙ ap Tree.int (signed_is c.args.first i c.ranges.first.fits c.to_signed.ensures)
+    ap (λ j. view (Int j)) (to_z-of_z w64 i (search rules)) ∙ view-Int i
+    ∙ ap Tree.int (signed_is c.args.first i c.ranges.first.fits c.to_signed.ensures)
     ∙ sym (ap (λ k. number_tree k c.args.first c.args.second) c.in-Int.is)

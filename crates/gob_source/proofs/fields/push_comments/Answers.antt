@@ -10,5 +10,6 @@ loop-index-preserved g c =
     let ts = c.args.place.ids.now in
     let of = c.args.place.of in
     appended_more (λ seen f. comment_text T ts of seen f) (λ seen fs. comments_text T ts of seen fs) (λ seen f fs. refl)
-    c.args.fields.now c.loop-index.index c.index-fields-index.result c.loop-index.out.items c.push_comment.new.out.items _ c.index-fields-index.is
+    c.args.fields.now c.loop-index.index c.index-fields-index.result c.loop-index.out.items c.push_comment.new.out.items
+    _ c.index-fields-index.is
     c.loop-index-test.true c.loop-index.invariant c.in_ok-push_comment.ensures

@@ -7,7 +7,12 @@ use Rattle.gob_stream.proofs.body.define.Goals as goal
 pub returns-in_err-shape : goal.returns-in_err-shape
 returns-in_err-shape c =
     let p = err_from_is_err_and c.from_residual.result c.from_residual.ensures.1 in
-    rw (p.1, p.2) (description_denied c.args.id (view c.args.described.now) c.in_err-shape.field-0.0 c.in_err-shape.ensures.fault, refl)
+    rw (p.1, p.2) (
+      description_denied c.args.id (view c.args.described.now) c.in_err-shape.field-0.0
+          c.in_err-shape.ensures.fault,
+      refl,
+    )
 
 pub returns : goal.returns
-returns c = defines_as c.args.id (view c.args.described.now) c.in_ok-shape.shape c.args.table.now c.define_admitted.new.table c.define_admitted.result c.in_ok-shape.ensures.shape c.define_admitted.ensures
+returns c = defines_as c.args.id (view c.args.described.now) c.in_ok-shape.shape c.args.table.now
+    c.define_admitted.new.table c.define_admitted.result c.in_ok-shape.ensures.shape c.define_admitted.ensures

@@ -12,7 +12,8 @@ returns-then-count-room-clause-err c =
     let body = c.args.first.now ++ c.args.rest.now in
     let size = length-append c.args.first.now c.args.rest.now in
     let within : length body ≤ c.args.limits.now.item = omega (arith, size) in
-    let past : c.args.limits.now.stream < c.args.offset + length (count ++ body) = omega (arith, size, length-append count body) in
+    let past : c.args.limits.now.stream < c.args.offset + length (count ++ body) =
+    omega (arith, size, length-append count body) in
     stream_too_long {c = count} within c.requires past
 
 pub returns-clause-end : goal.returns-clause-end

@@ -8,7 +8,11 @@ pub returns-then-has_structs : goal.returns-then-has_structs
 returns-then-has_structs c =
     let number = c.in_ok-write_int.ensures.ok in
     let signed = rw (to_z_pos w64 c.args.id.0 c.requires) at number.spelled in
-    record { bytes = number.bytes; spelled = head_of_struct (c.if-has_structs.ensures.0 (search rules)) signed; appended = number.appended }
+    record {
+      bytes = number.bytes;
+      spelled = head_of_struct (c.if-has_structs.ensures.0 (search rules)) signed;
+      appended = number.appended;
+    }
 
 pub returns : goal.returns
 returns c =

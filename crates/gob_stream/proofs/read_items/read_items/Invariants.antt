@@ -9,7 +9,9 @@ use Rattle.gob_stream.proofs.read_items.read_items.Given as goal
 abbrev pub invariant-loop-item : goal.invariant-loop-item
 invariant-loop-item g l = record {
   given : Given l.initial.out.items l.out.items
-      (λ given. (bytes : List ℕ) → g.R.Read.remaining l.initial.input.reader ≡ Some bytes → SomeTaken bytes (g.R.Read.remaining l.input.reader) (λ taken. SessionHasRead told_trees told_trees 1000 l.session (item_views given) taken));
+      (λ given. (bytes : List ℕ) → g.R.Read.remaining l.initial.input.reader ≡ Some bytes
+      → SomeTaken bytes (g.R.Read.remaining l.input.reader) (λ taken. SessionHasRead told_trees told_trees 1000
+      l.session (item_views given) taken));
   limits : l.session.limits ≡ l.initial.session.limits;
   failures : l.input.failures ≡ l.initial.input.failures;
   taken : l.input.taken ≡ counts_up l.initial.input.taken l.session.taken;

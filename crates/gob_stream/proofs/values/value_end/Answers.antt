@@ -11,7 +11,8 @@ returns-in-Some-clause-value c = λ L offset a.
     value_between c.in_ok-count.ensures.found (omega arith) refl c.in_ok-number.ensures.found
     (λ bytes u. subst (λ n. IsSigned (pos n) bytes) (omega arith) (c.in_ok-value_type.ensures bytes u))
     c.requires
-    (subst (λ n. IsWholeBetween (types c.args.table.now) c.args.kind.now c.args.depth c.args.piece.now c.in_ok-number.begin n)
+    (subst (λ n. IsWholeBetween (types c.args.table.now) c.args.kind.now c.args.depth c.args.piece.now
+    c.in_ok-number.begin n)
     c.if-place-end.true (given _ c.in-Some.is c.whole_end.ensures)) a
 
 pub returns-in_err-value_type-clause-value : goal.returns-in_err-value_type-clause-value

@@ -7,6 +7,7 @@ use Rattle.gob_stream.proofs.write_items.write_stream.Given as goal
 
 abbrev pub invariant-loop-i : goal.invariant-loop-i
 invariant-loop-i g l = record {
-  wrote : WroteSome (within_trees l.fn.limits) (item_views l.items) l.i l.writer (g.W.Write.contents l.fn.output.writer) (g.W.Write.contents l.output.writer);
+  wrote : WroteSome (within_trees l.fn.limits) (item_views l.items) l.i l.writer (g.W.Write.contents l.fn.output.writer)
+      (g.W.Write.contents l.output.writer);
   sound : l.output.failures ≡ l.fn.output.failures;
 }

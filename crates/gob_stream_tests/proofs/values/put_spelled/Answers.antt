@@ -14,11 +14,16 @@ put_spelled-requires g c =
     let v = view c.args.value.now in
     let spelled = c.in_ok-spell.ensures.ok in
     let new = c.in_ok-writer.ensures in
-    let bytes : spelled.bytes ≡ c.deref.result.now = sym (c.deref.ensures.value ∙ spelled.appended ∙ ap (λ l. l ++ spelled.bytes) c.new-spelling.ensures.items) in
-    let base : types c.in_ok-table.table ≡ writer_types c.in_ok-writer.writer = c.in_ok-table.ensures.base ∙ sym new.nothing.table in
+    let bytes : spelled.bytes ≡ c.deref.result.now = sym (c.deref.ensures.value ∙ spelled.appended
+    ∙ ap (λ l. l ++ spelled.bytes) c.new-spelling.ensures.items) in
+    let base : types c.in_ok-table.table ≡ writer_types c.in_ok-writer.writer = c.in_ok-table.ensures.base
+    ∙ sym new.nothing.table in
     let limit = ap (λ L. L.depth) (new.limits ∙ c.standard.ensures) in
     record {
       value = v;
-      spelled = λ ready.
-          (subst (λ T. Spells T t v c.deref.result.now) base (subst (λ b. Spells (types c.in_ok-table.table) t v b) bytes spelled.spelled), omega (arith, limit, c.in_ok-spell.ensures.within));
+      spelled = λ ready. (
+        subst (λ T. Spells T t v c.deref.result.now) base (subst (λ b. Spells (types c.in_ok-table.table) t v b)
+            bytes spelled.spelled),
+        omega (arith, limit, c.in_ok-spell.ensures.within),
+      );
     }

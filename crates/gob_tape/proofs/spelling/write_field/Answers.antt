@@ -15,9 +15,11 @@ returns-in_ok-write_uint-clause-some c = λ n s ss f e l m.
     let same : k ≡ n = same_Some k n (sym c.in-Some.is ∙ f) in
     subst
     (λ n. next_number s.last ≤ n → n + 1 - next_number s.last < 2 ^ 64
-    → Named n s ss (reverse (set xs.items (vec_len xs - 1) (record { end = o.end; last = Some k }))) c.args.out.now.items c.write_uint.new.out.items)
+    → Named n s ss (reverse (set xs.items (vec_len xs - 1) (record { end = o.end; last = Some k })))
+    c.args.out.now.items c.write_uint.new.out.items)
     same
-    (λ l m. named xs.items (vec_len xs - 1) k o s ss (omega (arith, xs.ok.0)) c.in-Some-last_mut.ensures.value e c.delta.ensures l m c.in_ok-write_uint.ensures.ok) l m
+    (λ l m. named xs.items (vec_len xs - 1) k o s ss (omega (arith, xs.ok.0)) c.in-Some-last_mut.ensures.value e
+    c.delta.ensures l m c.in_ok-write_uint.ensures.ok) l m
 
 pub returns-in_err-write_uint-clause-some : goal.returns-in_err-write_uint-clause-some
 returns-in_err-write_uint-clause-some c = IfOk-from_err c.from_residual.result _ c.from_residual.ensures.0

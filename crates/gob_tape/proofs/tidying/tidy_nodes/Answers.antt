@@ -24,4 +24,5 @@ pub returns-in_err-builder : goal.returns-in_err-builder
 returns-in_err-builder g c = IfOk-from_err c.from_residual.result _ c.from_residual.ensures.0
 
 pub returns-in_err-tidy_node : goal.returns-in_err-tidy_node
-returns-in_err-tidy_node g c = IfOk-from_err c.from_residual-in_err-tidy_node.result _ c.from_residual-in_err-tidy_node.ensures.0
+returns-in_err-tidy_node g c = IfOk-from_err c.from_residual-in_err-tidy_node.result _
+    c.from_residual-in_err-tidy_node.ensures.0

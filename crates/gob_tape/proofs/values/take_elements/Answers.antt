@@ -7,7 +7,8 @@ pub elements-init : goal.elements-init
 elements-init c = elements_start c.new-values.ensures.items
 
 pub elements-preserved : goal.elements-preserved
-elements-preserved c = elements_on c.take_part-value.result c.elements.invariant (omega arith) c.take_part-value.ensures c.in_ok-push.ensures.items
+elements-preserved c = elements_on c.take_part-value.result c.elements.invariant (omega arith) c.take_part-value.ensures
+    c.in_ok-push.ensures.items
 
 pub returns : goal.returns
 returns c = elements_end (omega arith) c.elements.invariant

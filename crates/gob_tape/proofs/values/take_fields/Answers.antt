@@ -8,7 +8,8 @@ pub fields-init : goal.fields-init
 fields-init c = fields_start c.new-values.ensures.items
 
 pub fields-preserved : goal.fields-preserved
-fields-preserved c = fields_on c.take_part-number.result c.fields.invariant (omega arith) c.take_part-number.ensures (λ f e. c.unwrap_or.ensures ∙ ap (λ n. unwrap_or n 0) e) c.in_ok-push.ensures.items
+fields-preserved c = fields_on c.take_part-number.result c.fields.invariant (omega arith) c.take_part-number.ensures
+    (λ f e. c.unwrap_or.ensures ∙ ap (λ n. unwrap_or n 0) e) c.in_ok-push.ensures.items
 
 pub returns : goal.returns
 returns c = fields_end (omega arith) c.fields.invariant

@@ -7,7 +7,8 @@ pub pairs-init : goal.pairs-init
 pairs-init c = pairs_start c.new-values.ensures.items
 
 pub pairs-preserved : goal.pairs-preserved
-pairs-preserved c = pairs_on c.take_part-key.result c.take_part-value.result c.pairs.invariant (omega arith) c.take_part-key.ensures c.take_part-value.ensures c.in_ok-push.ensures.items
+pairs-preserved c = pairs_on c.take_part-key.result c.take_part-value.result c.pairs.invariant (omega arith)
+    c.take_part-key.ensures c.take_part-value.ensures c.in_ok-push.ensures.items
 
 pub returns : goal.returns
 returns c = pairs_end (omega arith) c.pairs.invariant

@@ -17,10 +17,13 @@ nodes-preserved c =
     let behind : length nodes - c.nodes.done ≡ place + 1 = omega arith in
     let here : place ≡ length nodes - (c.nodes.done + 1) = omega arith in
     subst (λ i. Stacked nodes pool i c.push.new.self.items) here
-    (stacked_on place c.nodes.parts.items c.take_value.new.parts.items c.in_ok-value.value _ (slice_get_read nodes _ place _ refl (omega arith) c.index-nodes-nodes.is) (omega arith)
+    (stacked_on place c.nodes.parts.items c.take_value.new.parts.items c.in_ok-value.value _
+    (slice_get_read nodes _ place _ refl (omega arith) c.index-nodes-nodes.is) (omega arith)
     (subst (λ i. Stacked nodes pool i c.nodes.parts.items) behind c.nodes.invariant)
-    (subst (λ x. TakesValue pool x (view c.in_ok-value.value) (parts_on c.nodes.parts.items) (parts_on c.take_value.new.parts.items)) c.content.ensures c.in_ok-value.ensures)
-    (c.in_ok-push.ensures.items ∙ ap (λ f. c.take_value.new.parts.items ++ (f, c.in_ok-value.value) ∷ []) c.field.ensures))
+    (subst (λ x. TakesValue pool x (view c.in_ok-value.value) (parts_on c.nodes.parts.items)
+    (parts_on c.take_value.new.parts.items)) c.content.ensures c.in_ok-value.ensures)
+    (c.in_ok-push.ensures.items ∙ ap (λ f. c.take_value.new.parts.items ++ (f, c.in_ok-value.value) ∷ [])
+    c.field.ensures))
 
 pub returns-in_err-value : goal.returns-in_err-value
 returns-in_err-value c = IfOk-from_err c.from_residual.result _ c.from_residual.ensures.0

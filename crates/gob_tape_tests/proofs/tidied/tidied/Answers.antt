@@ -15,7 +15,8 @@ top_fits (at_once {b = b} h s p) = record { bytes = b; spelled = p }
 top_fits (tagged {b = b} h s p) = record { bytes = b; spelled = p }
 
 -- a tape that is made of a whole body means a value of its type
-made_fitting : {T : Table} {t : TypeId} {limit announced : ℕ} {z : List ℕ} {out : Tape} → IsMade T t limit announced Means out z
+made_fitting : {T : Table} {t : TypeId} {limit announced : ℕ} {z : List ℕ} {out : Tape}
+    → IsMade T t limit announced Means out z
     → MeansFitting T t out
 made_fitting m = record { value = m.value; means = m.meant; fits = top_fits m.spelled }
 

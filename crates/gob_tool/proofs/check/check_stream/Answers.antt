@@ -1,4 +1,4 @@
--- The line goes out whole, or a front of it; without one nothing does.
+-- The line goes out whole, or a prefix of it; without one nothing does.
 use Rattle.std.proofs.Common.{◌∙◌}
 use Rattle.std.specs.Io.KnownBytes.{Appends}
 use Rattle.std.proofs.KnownBytes.{Appends-nil}
@@ -7,10 +7,10 @@ use Rattle.gob_stream.specs.Ends.{reader_of, writer_of}
 use Rattle.gob_tool.specs.Checking.{CheckAnswers, is_accepted, is_cut, is_stopped}
 use Rattle.gob_tool.specs.Machine.Counting.{tally_line}
 use Rattle.gob_tool.specs.Fault.{writing_fault}
-use Rattle.gob_tool.specs.Showing.{AppendsFront}
+use Rattle.gob_tool.specs.Showing.{AppendsPrefix}
 use Rattle.gob_tool.specs.declared.fault.ToolFault.TheVariants as fault
 use Rattle.gob_tool.proofs.CheckLaws.{written_as}
-use Rattle.gob_tool.proofs.EndLaws.{at_error, sent_front}
+use Rattle.gob_tool.proofs.EndLaws.{at_error, sent_prefix}
 use Rattle.gob_tool.proofs.check.check_stream.Goals as goal
 
 pub returns-in_err-tally-clause-checked : goal.returns-in_err-tally-clause-checked
@@ -18,13 +18,15 @@ returns-in_err-tally-clause-checked g c = λ bytes known.
     let out = g.W.Write.contents (writer_of c.args.output.now) in
     let next = g.R.Read.remaining (reader_of c.count_stream.new.input) in
     at_error (λ r. CheckAnswers (no_deeper deepest c.args.limits) bytes next out out r) c.from_residual.result
-    c.in_err-tally.field-0.0 c.from_residual.ensures.1 (is_stopped (c.in_err-tally.ensures.counted bytes known) (Appends-nil out))
+    c.in_err-tally.field-0.0 c.from_residual.ensures.1 (is_stopped (c.in_err-tally.ensures.counted bytes known)
+    (Appends-nil out))
 
 pub returns-in_err-line-clause-checked : goal.returns-in_err-line-clause-checked
 returns-in_err-line-clause-checked g c = λ bytes known.
     let out = g.W.Write.contents (writer_of c.args.output.now) in
     let next = g.R.Read.remaining (reader_of c.count_stream.new.input) in
-    at_error (λ r. CheckAnswers (no_deeper deepest c.args.limits) bytes next out out r) c.from_residual-in_err-line.result
+    at_error (λ r. CheckAnswers (no_deeper deepest c.args.limits) bytes next out out r)
+    c.from_residual-in_err-line.result
     fault.Memory c.from_residual-in_err-line.ensures.1 (is_stopped tt (Appends-nil out))
 
 pub returns-in_err-send_all-clause-checked : goal.returns-in_err-send_all-clause-checked
@@ -32,15 +34,18 @@ returns-in_err-send_all-clause-checked g c = λ bytes known.
     let old = g.W.Write.contents (writer_of c.args.output.now) in
     let new = g.W.Write.contents (writer_of c.send_all.new.self) in
     let next = g.R.Read.remaining (reader_of c.count_stream.new.input) in
-    at_error (λ r. CheckAnswers (no_deeper deepest c.args.limits) bytes next old new r) c.from_residual-in_err-send_all.result
+    at_error (λ r. CheckAnswers (no_deeper deepest c.args.limits) bytes next old new r)
+    c.from_residual-in_err-send_all.result
     (writing_fault c.in_err-send_all.field-0.0) c.from_residual-in_err-send_all.ensures.1
-    (rw c.in_err-send_all.ensures.fault (is_cut (written_as (AppendsFront old new) (tally_line c.in_ok-tally.tally) c.as_bytes.result.now
+    (rw c.in_err-send_all.ensures.fault (is_cut (written_as (AppendsPrefix old new) (tally_line c.in_ok-tally.tally)
+    c.as_bytes.result.now
     (c.in_ok-tally.ensures.counted bytes known) (c.as_bytes.ensures.value ∙ c.in_ok-line.ensures)
-    (sent_front old new c.as_bytes.result.now c.in_err-send_all.ensures.front))))
+    (sent_prefix old new c.as_bytes.result.now c.in_err-send_all.ensures.prefix))))
 
 pub returns-clause-checked : goal.returns-clause-checked
 returns-clause-checked g c = λ bytes known.
     let old = g.W.Write.contents (writer_of c.args.output.now) in
     let new = g.W.Write.contents (writer_of c.send_all.new.self) in
     is_accepted (written_as (Appends old new) (tally_line c.in_ok-tally.tally) c.as_bytes.result.now
-    (c.in_ok-tally.ensures.counted bytes known) (c.as_bytes.ensures.value ∙ c.in_ok-line.ensures) c.in_ok-send_all.ensures.ok)
+    (c.in_ok-tally.ensures.counted bytes known) (c.as_bytes.ensures.value ∙ c.in_ok-line.ensures)
+    c.in_ok-send_all.ensures.ok)

@@ -20,7 +20,8 @@ returns-in_err-step-clause-counted c = λ read now given h.
     let none : c.pass_values-passed.result.items ≡ 0 = omega arith in
     let e = c.in_err-step.field-0.0 in
     next_at c.args.reader.now _ read now given c.from_residual.result e c.from_residual.ensures.1
-    (stops_still (session_of c.args.reader.now) (session_of c.pass_values-passed.new.self) read now given e p.limits p.table
+    (stops_still (session_of c.args.reader.now) (session_of c.pass_values-passed.new.self) read now given e p.limits
+    p.table
     (c.in_err-step.ensures.stepped read now given (passes_none p.passed none h).0))
 
 pub returns-clause-counted : goal.returns-clause-counted

@@ -10,7 +10,8 @@ abbrev pub invariant-loop-reader : goal.invariant-loop-reader
 invariant-loop-reader g l =
     (limits_of (session_of l.reader) ≡ l.fn.limits)
     × (failed_reads l.input ≡ failed_reads l.fn.input)
-    × CountsSo l.reader (g.R.Read.remaining (reader_of l.fn.input)) (g.R.Read.remaining (reader_of l.input)) l.items l.bytes
+    × CountsSo l.reader (g.R.Read.remaining (reader_of l.fn.input)) (g.R.Read.remaining (reader_of l.input)) l.items
+    l.bytes
 
 -- each turn takes a byte or counts an item
 abbrev pub decreases-loop-reader : goal.decreases-loop-reader

@@ -2,7 +2,7 @@ use Rattle.std.proofs.Common.{◌≡◌, Err, inr, refl, rules}
 use Rattle.gob_stream.specs.Ends.{failed_writes, is_unflushed}
 use Rattle.gob_tool.specs.declared.fault.ToolFault.TheVariants as fault
 use Rattle.gob_tool.proofs.EndLaws.{flushed_so, write_rose}
-use Rattle.gob_tool.specs.Machine.Ending.{ends_so, flush_fails}
+use Rattle.gob_tool.specs.Ending.{ends_so, flush_fails}
 use Rattle.gob_tool.proofs.end.end_run.Goals as goal
 
 pub returns-then-matches-clause-ends : goal.returns-then-matches-clause-ends

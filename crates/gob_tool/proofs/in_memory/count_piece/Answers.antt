@@ -9,21 +9,21 @@ use Rattle.gob_tool.proofs.in_memory.count_piece.Goals as goal
 pub loop-rest-init : goal.loop-rest-init
 loop-rest-init c = (refl, λ bytes h. counts_none_yet _ bytes h)
 
-pub count_front-requires-clause-counted : goal.count_front-requires-clause-counted
-count_front-requires-clause-counted c =
+pub count_prefix-requires-clause-counted : goal.count_prefix-requires-clause-counted
+count_prefix-requires-clause-counted c =
     let h = c.requires.counted in
     let u = c.loop-rest.invariant.1 h.0 h.1 in
-    (h.0 ++ u.front, u.counted)
+    (h.0 ++ u.prefix, u.counted)
 
-pub count_front-requires-clause-limits : goal.count_front-requires-clause-limits
-count_front-requires-clause-limits c = limits_as c.loop-rest.invariant.0 c.requires.limits
+pub count_prefix-requires-clause-limits : goal.count_prefix-requires-clause-limits
+count_prefix-requires-clause-limits c = limits_as c.loop-rest.invariant.0 c.requires.limits
 
 pub returns-in_err-used-clause-counted : goal.returns-in_err-used-clause-counted
 returns-in_err-used-clause-counted c = λ bytes h.
     let e = c.in_err-used.field-0.0 in
     let u = c.loop-rest.invariant.1 bytes h in
     counts_all_at _ _ _ _ c.from_residual.result e c.from_residual.ensures.1
-    (stops_piece _ _ e c.loop-rest.invariant.0 u (c.in_err-used.ensures.counted (bytes ++ u.front) u.counted))
+    (stops_piece _ _ e c.loop-rest.invariant.0 u (c.in_err-used.ensures.counted (bytes ++ u.prefix) u.counted))
 
 pub loop-rest-preserved : goal.loop-rest-preserved
 loop-rest-preserved c =
@@ -34,7 +34,7 @@ loop-rest-preserved c =
       c.in_ok-used.ensures.limits ∙ c.loop-rest.invariant.0,
       λ bytes h.
           let u = c.loop-rest.invariant.1 bytes h in
-          counts_up_to later u (c.in_ok-used.ensures.counted (bytes ++ u.front) u.counted),
+          counts_up_to later u (c.in_ok-used.ensures.counted (bytes ++ u.prefix) u.counted),
     )
 
 pub loop-rest-smaller : goal.loop-rest-smaller
@@ -43,7 +43,7 @@ loop-rest-smaller c =
     let rest = c.loop-rest.rest.now in
     let h = c.requires.counted in
     let u = c.loop-rest.invariant.1 h.0 h.1 in
-    let on = c.in_ok-used.ensures.counted (h.0 ++ u.front) u.counted in
+    let on = c.in_ok-used.ensures.counted (h.0 ++ u.prefix) u.counted in
     let later : take (length rest - n) (drop n rest)
     ≡ drop n rest = ap (λ (k : ℕ). take k (drop n rest)) (sym (length-drop n rest)) ∙ take-length (drop n rest) in
     omega (arith, ap length later, length-drop n rest, counts_falls c.in_ok-used.ensures.limits u.counted on)

@@ -1,4 +1,4 @@
--- The line of the item, or a front of it, goes out, and the reader is behind the item.
+-- The line of the item, or a prefix of it, goes out, and the reader is behind the item.
 use Rattle.std.proofs.Common.{Err, Ok, refl, subst}
 use Rattle.gob_types.specs.Defined.{types}
 use Rattle.gob_value.specs.Whole.{IsWhole}
@@ -27,7 +27,8 @@ returns-in_err-sent-clause-shown g c = λ read now given h.
     let old = g.W.Write.contents (writer_of c.args.output.now) in
     let new = g.W.Write.contents (writer_of c.send_item-sent.new.output) in
     let T = types_of (session_of c.args.reader.now) in
-    let sent = (subst (λ d. (w : IsWhole (types d) item.id depth item.body.now) → Sends old new (line (types d) (puts item.id w.value)) (Err e))
+    let sent = (subst (λ d. (w : IsWhole (types d) item.id depth item.body.now)
+    → Sends old new (line (types d) (puts item.id w.value)) (Err e))
     c.table.ensures c.in_err-sent.ensures.sent) w.whole in
     large_at c.args.reader.now c.pass.new.self read now old new given c.from_residual.result e c.from_residual.ensures.1 (
       line T (puts item.id w.whole.value),
@@ -53,7 +54,8 @@ returns-in_err-sent-clause-counted g c =
     let e = c.in_err-sent.field-0.0 in
     let old = g.W.Write.contents (writer_of c.args.output.now) in
     let new = g.W.Write.contents (writer_of c.send_item-sent.new.output) in
-    let sent = (subst (λ d. (w : IsWhole (types d) item.id depth item.body.now) → Sends old new (line (types d) (puts item.id w.value)) (Err e))
+    let sent = (subst (λ d. (w : IsWhole (types d) item.id depth item.body.now)
+    → Sends old new (line (types d) (puts item.id w.value)) (Err e))
     c.table.ensures c.in_err-sent.ensures.sent) w.whole in
     large_counts (failed_writes c.args.output.now) (failed_writes c.send_item-sent.new.output) c.from_residual.result e
     c.from_residual.ensures.1 sent.0 c.in_err-sent.ensures.counted
@@ -66,7 +68,8 @@ returns-in_err-sent-clause-fault g c =
     let e = c.in_err-sent.field-0.0 in
     let old = g.W.Write.contents (writer_of c.args.output.now) in
     let new = g.W.Write.contents (writer_of c.send_item-sent.new.output) in
-    let sent = (subst (λ d. (w : IsWhole (types d) item.id depth item.body.now) → Sends old new (line (types d) (puts item.id w.value)) (Err e))
+    let sent = (subst (λ d. (w : IsWhole (types d) item.id depth item.body.now)
+    → Sends old new (line (types d) (puts item.id w.value)) (Err e))
     c.table.ensures c.in_err-sent.ensures.sent) w.whole in
     large_fault c.from_residual.result e c.from_residual.ensures.1 sent.0
 
@@ -78,7 +81,8 @@ returns-clause-shown g c = λ read now given h.
     let old = g.W.Write.contents (writer_of c.args.output.now) in
     let new = g.W.Write.contents (writer_of c.send_item-sent.new.output) in
     let T = types_of (session_of c.args.reader.now) in
-    let sent = (subst (λ d. (w : IsWhole (types d) item.id depth item.body.now) → Sends old new (line (types d) (puts item.id w.value)) (Ok tt))
+    let sent = (subst (λ d. (w : IsWhole (types d) item.id depth item.body.now)
+    → Sends old new (line (types d) (puts item.id w.value)) (Ok tt))
     c.table.ensures c.in_ok-sent.ensures.sent) w.whole in (
       line T (puts item.id w.whole.value),
       whole_line_made (record {

@@ -11,20 +11,23 @@ use Rattle.gob_tool.proofs.received.write_received.Goals as goal
 
 pub receive-requires-clause-ready : goal.receive-requires-clause-ready
 receive-requires-clause-ready g c =
-    sent_ready (subst (λ o. AreSent (types c.args.stream.now) (views_given o)) (c.in-Some.is ∙ ap Some c.in-Put.is) c.requires.sent)
+    sent_ready (subst (λ o. AreSent (types c.args.stream.now) (views_given o)) (c.in-Some.is ∙ ap Some c.in-Put.is)
+    c.requires.sent)
 
 pub returns-in_default-clause-taken : goal.returns-in_default-clause-taken
 returns-in_default-clause-taken g c =
     let out = g.W.Write.contents (writer_of c.args.output.now) in
     let r = c.args.receiver.now in
-    subst (λ o. HasTakenItems (types c.args.stream.now) (types r.wanted.now) r.wanted_id (views_given o) (Appends out out))
+    subst (λ o. HasTakenItems (types c.args.stream.now) (types r.wanted.now) r.wanted_id (views_given o)
+    (Appends out out))
     (sym c.in_default.is) (nothing_taken out)
 
 pub returns-in-Define-clause-taken : goal.returns-in-Define-clause-taken
 returns-in-Define-clause-taken g c =
     let out = g.W.Write.contents (writer_of c.args.output.now) in
     let r = c.args.receiver.now in
-    subst (λ o. HasTakenItems (types c.args.stream.now) (types r.wanted.now) r.wanted_id (views_given o) (Appends out out))
+    subst (λ o. HasTakenItems (types c.args.stream.now) (types r.wanted.now) r.wanted_id (views_given o)
+    (Appends out out))
     (sym (c.in-Some.is ∙ ap Some c.in-Define.is)) (definition_taken _ _ out)
 
 pub returns-in_ok-value-in-Put-clause-taken : goal.returns-in_ok-value-in-Put-clause-taken

@@ -5,11 +5,12 @@ use Rattle.gob_stream.specs.Bounds.{deepest}
 use Rattle.gob_stream.specs.Ends.{failed_writes, writer_of}
 use Rattle.gob_stream.specs.Item.{puts}
 use Rattle.gob_stream.proofs.PublicLaws.{has_item}
-use Rattle.gob_tool.specs.Machine.Ending.{CountsOnlyWrites}
+use Rattle.gob_tool.specs.Ending.{CountsOnlyWrites}
 use Rattle.gob_tool.specs.Fault.{writing_fault}
 use Rattle.gob_tool.specs.Machine.Rewritten.{RewritesNext, SpellsTidy, StandsNext}
 use Rattle.gob_tool.proofs.EndLaws.{at_error}
-use Rattle.gob_tool.proofs.RewriteRuns.{body_some, next_wanting, rewrites_one, rewrites_stopped, tidy_behind, tidy_item, tidy_next}
+use Rattle.gob_tool.proofs.RewriteRuns.{body_some, next_wanting, rewrites_one, rewrites_stopped, tidy_behind, tidy_item}
+use Rattle.gob_tool.proofs.RewriteRuns.{tidy_next}
 use Rattle.gob_tool.proofs.RewriteRuns.{tidy_spelled, wanting_counts, whole_of}
 use Rattle.gob_tool.proofs.rewrite.rewrite_next.Goals as goal
 
@@ -33,12 +34,14 @@ returns-clause-rewritten g c = λ read now start p.
     let x = c.in-Some.ensures in
     let item = c.in-Some.item in
     let v = x.whole.value in
-    let spells = subst (λ (d : Defined). SpellsTidy (types d) item.id v item.body.now) (sym c.table.ensures) (tidy_spelled x) in
+    let spells = subst (λ (d : Defined). SpellsTidy (types d) item.id v item.body.now) (sym c.table.ensures)
+    (tidy_spelled x) in
     let there = subst (λ (d : Defined). StandsNext c.args.writer.now (types d) (puts item.id v)) (sym c.table.ensures)
     (tidy_next p.so_far x) in
     let real = c.pass.ensures.passed read now p.so_far.items (puts item.id v) p.has (tidy_item x) in
     let some = body_some x.next in (
-      rewrites_one p c.pass.ensures.limits real.after (tidy_behind p.so_far p.has.room x c.pass.ensures.passed) c.in_ok-written.field-0
+      rewrites_one p c.pass.ensures.limits real.after (tidy_behind p.so_far p.has.room x c.pass.ensures.passed)
+          c.in_ok-written.field-0
           (λ other. c.in_ok-written.ensures.written v spells there) refl,
       omega (arith, some, real.onward),
     )
@@ -48,7 +51,8 @@ returns-in_err-written-clause-rewritten g c = λ read now start p.
     let x = c.in-Some.ensures in
     let item = c.in-Some.item in
     let v = x.whole.value in
-    let spells = subst (λ (d : Defined). SpellsTidy (types d) item.id v item.body.now) (sym c.table.ensures) (tidy_spelled x) in
+    let spells = subst (λ (d : Defined). SpellsTidy (types d) item.id v item.body.now) (sym c.table.ensures)
+    (tidy_spelled x) in
     let there = subst (λ (d : Defined). StandsNext c.args.writer.now (types d) (puts item.id v)) (sym c.table.ensures)
     (tidy_next p.so_far x) in
     let real = c.pass.ensures.passed read now p.so_far.items (puts item.id v) p.has (tidy_item x) in
@@ -58,7 +62,8 @@ returns-in_err-written-clause-rewritten g c = λ read now start p.
     let new = g.W.Write.contents (writer_of c.write_as_spelled-written.new.output) in
     at_error (λ a. RewritesNext c.args.reader.now r' w' read now start new a) c.from_residual.result (writing_fault e)
     c.from_residual.ensures.1
-    (rewrites_stopped p c.pass.ensures.limits real.after (tidy_behind p.so_far p.has.room x c.pass.ensures.passed) r' w' w' new e
+    (rewrites_stopped p c.pass.ensures.limits real.after (tidy_behind p.so_far p.has.room x c.pass.ensures.passed) r' w'
+    w' new e
     (λ other. c.in_err-written.ensures.written v spells there) c.in_err-written.ensures.leaves refl)
 
 pub returns-in_err-written-clause-writes : goal.returns-in_err-written-clause-writes
@@ -67,11 +72,13 @@ returns-in_err-written-clause-writes g c =
     let x = c.in-Some.ensures in
     let item = c.in-Some.item in
     let v = x.whole.value in
-    let spells = subst (λ (d : Defined). SpellsTidy (types d) item.id v item.body.now) (sym c.table.ensures) (tidy_spelled x) in
+    let spells = subst (λ (d : Defined). SpellsTidy (types d) item.id v item.body.now) (sym c.table.ensures)
+    (tidy_spelled x) in
     let there = subst (λ (d : Defined). StandsNext c.args.writer.now (types d) (puts item.id v)) (sym c.table.ensures)
     (tidy_next h x) in
     let e = c.in_err-written.field-0.0 in
-    at_error (λ a. CountsOnlyWrites (failed_writes c.args.output.now) (failed_writes c.write_as_spelled-written.new.output) a)
+    at_error (λ a. CountsOnlyWrites (failed_writes c.args.output.now)
+    (failed_writes c.write_as_spelled-written.new.output) a)
     c.from_residual.result (writing_fault e) c.from_residual.ensures.1
     (wanting_counts (failed_writes c.args.output.now) (failed_writes c.write_as_spelled-written.new.output) e
     (next_wanting h c.pass.ensures.limits (tidy_behind h c.requires.so_far.room x c.pass.ensures.passed) e

@@ -4,12 +4,13 @@ use Rattle.gob_types.specs.Defined.{Defined, types}
 use Rattle.gob_stream.specs.Ends.{failed_writes, writer_of}
 use Rattle.gob_tape.specs.Calls.Builder.{tape_building}
 use Rattle.gob_stream.specs.Calls.Reader.{waits_in}
-use Rattle.gob_tool.specs.Machine.Ending.{CountsOnlyWrites}
+use Rattle.gob_tool.specs.Ending.{CountsOnlyWrites}
 use Rattle.gob_tool.specs.Fault.{reading_fault, writing_fault}
 use Rattle.gob_tool.specs.Machine.Rewritten.{IsOfStream, RewritesNext, StandsNext}
 use Rattle.gob_tool.proofs.EndLaws.{at_error}
 use Rattle.gob_tool.proofs.ReaderRuns.{read_alone}
-use Rattle.gob_tool.proofs.RewriteRuns.{next_there, next_wanting, none_taken, rewrites_none, rewrites_one, rewrites_stopped}
+use Rattle.gob_tool.proofs.RewriteRuns.{next_there, next_wanting, none_taken, rewrites_none, rewrites_one}
+use Rattle.gob_tool.proofs.RewriteRuns.{rewrites_stopped}
 use Rattle.gob_tool.proofs.RewriteRuns.{step_stopped, tape_given, wanting_counts}
 use Rattle.gob_tool.proofs.rewrite.rewrite_step.Goals as goal
 
@@ -27,15 +28,23 @@ returns-in_default-clause-rewritten g c = λ read now start p.
     let h = p.so_far in
     let r = c.args.reader.now in
     let real = c.in_ok-item.ensures.stepped read now h.items p.has in
-    let b = none_taken h c.in_default.not-Some (c.in_ok-item.ensures.stepped (Some (h.taken ++ waits_in r)) (Some []) h.items
-    (read_alone tape_building h.gave p.has.room)) in
-    (rewrites_none p c.in_ok-item.ensures.limits real.takes.after b, omega (arith, c.in_ok-item.ensures.used, real.takes.onward))
+    let b = none_taken h c.in_default.not-Some (c.in_ok-item.ensures.stepped (Some (h.taken ++ waits_in r)) (Some [])
+    h.items
+    (read_alone tape_building h.gave p.has.room)) in (
+      rewrites_none p c.in_ok-item.ensures.limits real.takes.after b,
+      omega (
+        arith,
+        c.in_ok-item.ensures.used,
+        real.takes.onward,
+      ),
+    )
 
 pub write_tidy-requires : goal.write_tidy-requires
 write_tidy-requires g c =
     let h = c.requires.so_far.so_far in
     let r = c.args.reader.now in
-    let t = tape_given h c.in-Some.item c.in-Some.is (c.in_ok-item.ensures.stepped (Some (h.taken ++ waits_in r)) (Some []) h.items
+    let t = tape_given h c.in-Some.item c.in-Some.is (c.in_ok-item.ensures.stepped (Some (h.taken ++ waits_in r))
+    (Some []) h.items
     (read_alone tape_building h.gave c.requires.so_far.room)) in
     subst (λ (d : Defined). IsOfStream c.args.writer.now (types d) c.in-Some.item) (sym c.table.ensures)
     (record { item = t.item; meant = t.meant; next = next_there h c.in_ok-item.ensures.limits t.behind })
@@ -46,7 +55,8 @@ returns-clause-rewritten g c = λ read now start p.
     let r = c.args.reader.now in
     let real = c.in_ok-item.ensures.stepped read now h.items p.has in
     let same = c.in_ok-item.ensures.limits in
-    let t = tape_given h c.in-Some.item c.in-Some.is (c.in_ok-item.ensures.stepped (Some (h.taken ++ waits_in r)) (Some []) h.items
+    let t = tape_given h c.in-Some.item c.in-Some.is (c.in_ok-item.ensures.stepped (Some (h.taken ++ waits_in r))
+    (Some []) h.items
     (read_alone tape_building h.gave p.has.room)) in
     let there = subst (λ (d : Defined). StandsNext c.args.writer.now (types d) t.item) (sym c.table.ensures)
     (next_there h same t.behind) in (
@@ -65,13 +75,15 @@ returns-in_err-write_tidy-clause-rewritten g c = λ read now start p.
     let new = g.W.Write.contents (writer_of c.write_tidy.new.output) in
     let real = c.in_ok-item.ensures.stepped read now h.items p.has in
     let same = c.in_ok-item.ensures.limits in
-    let t = tape_given h c.in-Some.item c.in-Some.is (c.in_ok-item.ensures.stepped (Some (h.taken ++ waits_in r)) (Some []) h.items
+    let t = tape_given h c.in-Some.item c.in-Some.is (c.in_ok-item.ensures.stepped (Some (h.taken ++ waits_in r))
+    (Some []) h.items
     (read_alone tape_building h.gave p.has.room)) in
     let there = subst (λ (d : Defined). StandsNext c.args.writer.now (types d) t.item) (sym c.table.ensures)
     (next_there h same t.behind) in
     at_error (λ x. RewritesNext r r' w' read now start new x) c.from_residual-in_err-write_tidy.result (writing_fault e)
     c.from_residual-in_err-write_tidy.ensures.1
-    (rewrites_stopped p same real.takes.after t.behind r' w' w' new e (c.in_err-write_tidy.ensures.written t.item t.meant there)
+    (rewrites_stopped p same real.takes.after t.behind r' w' w' new e (c.in_err-write_tidy.ensures.written t.item
+    t.meant there)
     c.in_err-write_tidy.ensures.leaves refl)
 
 pub returns-in_err-write_tidy-clause-writes : goal.returns-in_err-write_tidy-clause-writes
@@ -80,7 +92,8 @@ returns-in_err-write_tidy-clause-writes g c =
     let r = c.args.reader.now in
     let e = c.in_err-write_tidy.field-0.0 in
     let same = c.in_ok-item.ensures.limits in
-    let t = tape_given h c.in-Some.item c.in-Some.is (c.in_ok-item.ensures.stepped (Some (h.taken ++ waits_in r)) (Some []) h.items
+    let t = tape_given h c.in-Some.item c.in-Some.is (c.in_ok-item.ensures.stepped (Some (h.taken ++ waits_in r))
+    (Some []) h.items
     (read_alone tape_building h.gave c.requires.so_far.room)) in
     let there = subst (λ (d : Defined). StandsNext c.args.writer.now (types d) t.item) (sym c.table.ensures)
     (next_there h same t.behind) in

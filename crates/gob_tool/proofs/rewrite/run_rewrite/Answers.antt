@@ -7,7 +7,8 @@ pub returns-clause-rewritten : goal.returns-clause-rewritten
 returns-clause-rewritten g c = λ bytes known.
     rewrites_ended (no_deeper deepest c.args.limits) bytes (g.R.Read.remaining (reader_of c.rewrite_items.new.input))
     (g.W.Write.contents (writer_of c.args.output.now)) (g.W.Write.contents (writer_of c.rewrite_items.new.output))
-    (g.W.Write.contents (writer_of c.end_run.new.output)) c.rewrite_items.result c.end_run.result c.end_run.ensures.bytes
+    (g.W.Write.contents (writer_of c.end_run.new.output)) c.rewrite_items.result c.end_run.result
+    c.end_run.ensures.bytes
     c.end_run.ensures.ends (c.rewrite_items.ensures.rewritten bytes known)
 
 pub returns-clause-writes : goal.returns-clause-writes

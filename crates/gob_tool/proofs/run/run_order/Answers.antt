@@ -24,7 +24,8 @@ returns-in-Show-clause-does g c = λ wanted_bytes bytes known left.
     let kept = g.Q.Read.remaining (reader_of c.args.wanted.now) in
     let order = c.args.order.now in
     let shown = rw (c.limits_of-limits.ensures, within_order order _ c.in-Show.is) at c.run_show.ensures.shown in
-    subst (λ x. OrderAnswers x (order_limits order) wanted_bytes bytes kept next old new c.run_show.result) (sym c.in-Show.is)
+    subst (λ x. OrderAnswers x (order_limits order) wanted_bytes bytes kept next old new c.run_show.result)
+    (sym c.in-Show.is)
     (shown bytes left)
 
 pub returns-in-Check-clause-does : goal.returns-in-Check-clause-does
@@ -35,7 +36,8 @@ returns-in-Check-clause-does g c = λ wanted_bytes bytes known left.
     let kept = g.Q.Read.remaining (reader_of c.args.wanted.now) in
     let order = c.args.order.now in
     let checked = rw (c.limits_of-limits.ensures, within_order order _ c.in-Check.is) at c.run_check.ensures.checked in
-    subst (λ x. OrderAnswers x (order_limits order) wanted_bytes bytes kept next old new c.run_check.result) (sym c.in-Check.is)
+    subst (λ x. OrderAnswers x (order_limits order) wanted_bytes bytes kept next old new c.run_check.result)
+    (sym c.in-Check.is)
     (checked bytes left)
 
 pub returns-in-Rewrite-clause-does : goal.returns-in-Rewrite-clause-does
@@ -45,8 +47,10 @@ returns-in-Rewrite-clause-does g c = λ wanted_bytes bytes known left.
     let next = g.R.Read.remaining (reader_of c.run_rewrite.new.input) in
     let kept = g.Q.Read.remaining (reader_of c.args.wanted.now) in
     let order = c.args.order.now in
-    let rewritten = rw (c.limits_of-limits.ensures, within_order order _ c.in-Rewrite.is) at c.run_rewrite.ensures.rewritten in
-    subst (λ x. OrderAnswers x (order_limits order) wanted_bytes bytes kept next old new c.run_rewrite.result) (sym c.in-Rewrite.is)
+    let rewritten = rw (c.limits_of-limits.ensures, within_order order _ c.in-Rewrite.is) at
+    c.run_rewrite.ensures.rewritten in
+    subst (λ x. OrderAnswers x (order_limits order) wanted_bytes bytes kept next old new c.run_rewrite.result)
+    (sym c.in-Rewrite.is)
     (rewritten bytes left)
 
 pub returns-in-Take-clause-does : goal.returns-in-Take-clause-does
@@ -57,5 +61,6 @@ returns-in-Take-clause-does g c = λ wanted_bytes bytes known left.
     let wanted_next = g.Q.Read.remaining (reader_of c.run_take.new.wanted) in
     let order = c.args.order.now in
     let taken = rw (c.limits_of-limits.ensures, within_order order _ c.in-Take.is) at c.run_take.ensures.taken in
-    subst (λ x. OrderAnswers x (order_limits order) wanted_bytes bytes wanted_next next old new c.run_take.result) (sym c.in-Take.is)
+    subst (λ x. OrderAnswers x (order_limits order) wanted_bytes bytes wanted_next next old new c.run_take.result)
+    (sym c.in-Take.is)
     (taken wanted_bytes bytes known left)

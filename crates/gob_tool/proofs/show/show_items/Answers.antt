@@ -10,8 +10,8 @@ use Rattle.gob_stream.specs.Calls.Reader.{session_of}
 use Rattle.gob_stream.proofs.PublicLaws.{goes_on, has_ended}
 use Rattle.gob_tool.specs.Fault.{reading_fault, writing_fault}
 use Rattle.gob_tool.specs.Line.{lines}
-use Rattle.gob_tool.specs.Machine.Ending.{CountsOnlyWrites}
-use Rattle.gob_tool.specs.Showing.{AppendsFront, CountsReadFaults, ShowAnswers}
+use Rattle.gob_tool.specs.Ending.{CountsOnlyWrites}
+use Rattle.gob_tool.specs.Showing.{AppendsPrefix, CountsReadFaults, OfLines, ShowAnswers}
 use Rattle.gob_tool.specs.declared.fault.ToolFault.TheVariants as fault
 use Rattle.gob_tool.proofs.EndLaws.{at_error, reads_unread, write_counts, writing_unread}
 use Rattle.gob_tool.proofs.ShowRuns.{runs_under, shown_none, shown_stops, shown_whole, shows_fall}
@@ -22,9 +22,12 @@ pub returns-in_err-reader-clause-shown : goal.returns-in_err-reader-clause-shown
 returns-in_err-reader-clause-shown g c = λ bytes known.
     let out = g.W.Write.contents (writer_of c.args.output.now) in
     let L = within_trees c.args.limits in
-    at_error (λ r. ShowAnswers L bytes (g.R.Read.remaining (reader_of c.args.input.now)) out out r) c.from_residual.result
+    at_error (λ r. ShowAnswers L bytes (g.R.Read.remaining (reader_of c.args.input.now)) out out r)
+    c.from_residual.result
     fault.Memory c.from_residual.ensures.1
-    (shown_none L bytes (g.R.Read.remaining (reader_of c.args.input.now)) (Appends out out) (AppendsFront out out) known
+    (shown_none L bytes (g.R.Read.remaining (reader_of c.args.input.now)) (OfLines (Appends out out))
+    (OfLines (AppendsPrefix out out))
+    known
     (Appends-nil out))
 
 pub loop-line-init : goal.loop-line-init
@@ -33,7 +36,8 @@ loop-line-init g c =
       c.in_ok-reader.ensures.limits,
       refl,
       refl,
-      shows_first c.in_ok-reader.reader read (g.W.Write.contents (writer_of c.args.output.now)) (c.in_ok-reader.ensures.new read),
+      shows_first c.in_ok-reader.reader read (g.W.Write.contents (writer_of c.args.output.now))
+          (c.in_ok-reader.ensures.new read),
     )
 
 pub returns-in_err-fill-clause-shown : goal.returns-in_err-fill-clause-shown
@@ -47,8 +51,12 @@ returns-in_err-fill-clause-shown g c = λ bytes known.
     let s = session_of c.loop-line.reader in
     at_error (λ r. ShowAnswers (within_trees c.args.limits) bytes next old out r) c.from_residual-in_err-fill.result
     (reading_fault e) c.from_residual-in_err-fill.ensures.1
-    (runs_under (limits_of s) c.args.limits bytes next (Appends old out) (AppendsFront old out) (Err (reading_fault e)) i.0
-    (shown_stops (within_trees (limits_of s)) (types_of s) i.3.given bytes next (Appends old out) (AppendsFront old out) e
+    (runs_under (limits_of s) c.args.limits bytes next (OfLines (Appends old out)) (OfLines (AppendsPrefix old out))
+    (Err (reading_fault e))
+    i.0
+    (shown_stops (within_trees (limits_of s)) (types_of s) i.3.given bytes next (OfLines (Appends old out))
+    (OfLines (AppendsPrefix old out))
+    e
     (c.in_err-fill.ensures.filled read i.3.given i.3.has bytes known) (i.3.out bytes known)))
 
 pub returns-in_err-fill-clause-reads : goal.returns-in_err-fill-clause-reads
@@ -57,7 +65,8 @@ returns-in_err-fill-clause-reads g c =
     let e = c.in_err-fill.field-0.0 in
     at_error (λ r. CountsReadFaults (failed_reads c.args.input.now) (failed_reads c.fill.new.input) r)
     c.from_residual-in_err-fill.result (reading_fault e) c.from_residual-in_err-fill.ensures.1
-    (stop_faults Bool (failed_reads c.args.input.now) (failed_reads c.loop-line.input) (failed_reads c.fill.new.input) e i.1
+    (stop_faults Bool (failed_reads c.args.input.now) (failed_reads c.loop-line.input) (failed_reads c.fill.new.input) e
+    i.1
     c.in_err-fill.ensures.counted)
 
 pub loop-line-smaller : goal.loop-line-smaller
@@ -65,7 +74,8 @@ loop-line-smaller g c =
     let i = c.loop-line.invariant in
     let read = g.R.Read.remaining (reader_of c.args.input.now) in
     let next = g.R.Read.remaining (reader_of c.fill.new.input) in
-    let on = goes_on tree_building (session_of c.loop-line.reader) c.fill.new.self read next i.3.given c.in_ok-fill.field-0
+    let on = goes_on tree_building (session_of c.loop-line.reader) c.fill.new.self read next i.3.given
+    c.in_ok-fill.field-0
     c.if-branch.true (c.in_ok-fill.ensures.filled read i.3.given i.3.has) in
     let m = (c.in_ok-show_next.ensures.shown read next i.3.given on.0).1 in
     shows_fall c.loop-line.reader (taken_of (session_of c.loop-line.reader))
@@ -76,7 +86,8 @@ loop-line-preserved g c =
     let i = c.loop-line.invariant in
     let read = g.R.Read.remaining (reader_of c.args.input.now) in
     let next = g.R.Read.remaining (reader_of c.fill.new.input) in
-    let on = goes_on tree_building (session_of c.loop-line.reader) c.fill.new.self read next i.3.given c.in_ok-fill.field-0
+    let on = goes_on tree_building (session_of c.loop-line.reader) c.fill.new.self read next i.3.given
+    c.in_ok-fill.field-0
     c.if-branch.true (c.in_ok-fill.ensures.filled read i.3.given i.3.has) in
     let shown = c.in_ok-show_next.ensures.shown read next i.3.given on.0 in (
       c.in_ok-show_next.ensures.limits ∙ c.in_ok-fill.ensures.limits ∙ i.0,
@@ -95,7 +106,8 @@ returns-in_err-flush_before_waiting-clause-shown g c = λ bytes known.
     let old = g.W.Write.contents (writer_of c.args.output.now) in
     let new = g.W.Write.contents (writer_of c.flush_before_waiting.new.output) in
     let s = session_of c.show_next.new.reader in
-    let on = goes_on tree_building (session_of c.loop-line.reader) c.fill.new.self read next i.3.given c.in_ok-fill.field-0
+    let on = goes_on tree_building (session_of c.loop-line.reader) c.fill.new.self read next i.3.given
+    c.in_ok-fill.field-0
     c.if-branch.true (c.in_ok-fill.ensures.filled read i.3.given i.3.has) in
     let shown = c.in_ok-show_next.ensures.shown read next i.3.given on.0 in
     let so = shows_flushed (shows_turn i.3 on.2 on.0 c.in_ok-show_next.ensures.limits shown.1 shown.2)
@@ -103,7 +115,8 @@ returns-in_err-flush_before_waiting-clause-shown g c = λ bytes known.
     at_error (λ r. ShowAnswers (within_trees c.args.limits) bytes next old new r)
     c.from_residual-in_err-flush_before_waiting.result (writing_fault e)
     c.from_residual-in_err-flush_before_waiting.ensures.1
-    (runs_under (limits_of s) c.args.limits bytes next (Appends old new) (AppendsFront old new) (Err (writing_fault e))
+    (runs_under (limits_of s) c.args.limits bytes next (OfLines (Appends old new)) (OfLines (AppendsPrefix old new))
+    (Err (writing_fault e))
     (c.in_ok-show_next.ensures.limits ∙ c.in_ok-fill.ensures.limits ∙ i.0)
     (rw c.in_err-flush_before_waiting.ensures.fault (shows_unflushed so bytes known)))
 
@@ -120,7 +133,8 @@ pub returns-in_err-flush_before_waiting-clause-writes : goal.returns-in_err-flus
 returns-in_err-flush_before_waiting-clause-writes g c =
     let i = c.loop-line.invariant in
     let e = c.in_err-flush_before_waiting.field-0.0 in
-    at_error (λ r. CountsOnlyWrites (failed_writes c.args.output.now) (failed_writes c.flush_before_waiting.new.output) r)
+    at_error (λ r. CountsOnlyWrites (failed_writes c.args.output.now) (failed_writes c.flush_before_waiting.new.output)
+    r)
     c.from_residual-in_err-flush_before_waiting.result (writing_fault e)
     c.from_residual-in_err-flush_before_waiting.ensures.1
     (write_counts (failed_writes c.args.output.now) (failed_writes c.show_next.new.output)
@@ -137,11 +151,14 @@ returns-in_err-show_next-clause-shown g c = λ bytes known.
     let out = g.W.Write.contents (writer_of c.loop-line.output) in
     let new = g.W.Write.contents (writer_of c.show_next.new.output) in
     let s = session_of c.fill.new.self in
-    let on = goes_on tree_building (session_of c.loop-line.reader) c.fill.new.self read next i.3.given c.in_ok-fill.field-0
+    let on = goes_on tree_building (session_of c.loop-line.reader) c.fill.new.self read next i.3.given
+    c.in_ok-fill.field-0
     c.if-branch.true (c.in_ok-fill.ensures.filled read i.3.given i.3.has) in
-    at_error (λ r. ShowAnswers (within_trees c.args.limits) bytes next old new r) c.from_residual-in_err-show_next.result f
+    at_error (λ r. ShowAnswers (within_trees c.args.limits) bytes next old new r)
+    c.from_residual-in_err-show_next.result f
     c.from_residual-in_err-show_next.ensures.1
-    (runs_under (limits_of s) c.args.limits bytes next (Appends old new) (AppendsFront old new) (Err f)
+    (runs_under (limits_of s) c.args.limits bytes next (OfLines (Appends old new)) (OfLines (AppendsPrefix old new))
+    (Err f)
     (c.in_ok-fill.ensures.limits ∙ i.0)
     (c.in_err-show_next.ensures.shown read next i.3.given on.0 bytes known old
     (subst (λ T. Appends old out (lines T i.3.given)) (sym on.2) (i.3.out bytes known))))
@@ -164,8 +181,9 @@ returns-clause-shown g c = λ bytes known.
     let s = session_of c.loop-line.reader in
     let end = has_ended tree_building s c.fill.new.self read next i.3.given c.in_ok-fill.field-0
     c.if-branch.false (c.in_ok-fill.ensures.filled read i.3.given i.3.has) in
-    runs_under (limits_of s) c.args.limits bytes next (Appends old out) (AppendsFront old out) (Ok tt) i.0
-    (shown_whole (Appends old out) (end.0 bytes known) (i.3.out bytes known))
+    runs_under (limits_of s) c.args.limits bytes next (OfLines (Appends old out)) (OfLines (AppendsPrefix old out))
+    (Ok tt) i.0
+    (shown_whole (OfLines (Appends old out)) (end.0 bytes known) (i.3.out bytes known))
 
 pub returns-clause-reads : goal.returns-clause-reads
 returns-clause-reads g c = c.in_ok-fill.ensures.counted ∙ c.loop-line.invariant.1

@@ -2,7 +2,7 @@
 use Rattle.std.proofs.Common.{◌≡◌, IfErr, ap, arith, length}
 use Rattle.gob_stream.specs.Ends.{failed_writes, writer_of}
 use Rattle.gob_stream.specs.Calls.Reader.{waits_in}
-use Rattle.gob_tool.specs.Machine.Ending.{CountsOnlyWrites}
+use Rattle.gob_tool.specs.Ending.{CountsOnlyWrites}
 use Rattle.gob_tool.specs.Fault.{writing_fault}
 use Rattle.gob_tool.specs.declared.fault.ToolFault.TheVariants as fault
 use Rattle.gob_tool.proofs.ShowRuns.{next_at, next_still, none_shown, shows_cut, some_shown}
@@ -27,7 +27,8 @@ returns-in_err-show_large-clause-unread g c =
 pub returns-then-branch-clause-shown : goal.returns-then-branch-clause-shown
 returns-then-branch-clause-shown g c = λ read now given h.
     some_shown c.args.reader.now c.show_large.new.reader read now (g.W.Write.contents (writer_of c.args.output.now))
-    (g.W.Write.contents (writer_of c.show_large.new.output)) given c.in_ok-show_large.field-0 c.if-branch.true (c.in_ok-show_large.ensures.shown read now given h)
+    (g.W.Write.contents (writer_of c.show_large.new.output)) given c.in_ok-show_large.field-0 c.if-branch.true
+    (c.in_ok-show_large.ensures.shown read now given h)
 
 pub show_line-requires : goal.show_line-requires
 show_line-requires g c =

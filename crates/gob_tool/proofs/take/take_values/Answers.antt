@@ -11,14 +11,15 @@ use Rattle.gob_stream.specs.Ends.{failed_reads, failed_writes, reader_of, writer
 use Rattle.gob_stream.specs.Calls.Reader.{session_of}
 use Rattle.gob_stream.proofs.PublicLaws.{goes_on, has_ended}
 use Rattle.gob_tool.specs.Fault.{reading_fault, writing_fault}
-use Rattle.gob_tool.specs.Machine.Ending.{CountsOnlyWrites}
+use Rattle.gob_tool.specs.Ending.{CountsOnlyWrites}
 use Rattle.gob_tool.specs.Machine.Receiver.{IsReceiver}
-use Rattle.gob_tool.specs.Showing.{AppendsFront, CountsReadFaults}
+use Rattle.gob_tool.specs.Showing.{AppendsPrefix, CountsReadFaults}
 use Rattle.gob_tool.specs.Taking.{Receiving}
 use Rattle.gob_tool.specs.declared.fault.ToolFault.TheVariants as fault
 use Rattle.gob_tool.proofs.EndLaws.{at_error, faults_still, reads_unread, write_counts, writing_unread}
 use Rattle.gob_tool.proofs.ShowRuns.{stop_faults}
-use Rattle.gob_tool.proofs.TakeRuns.{received_none, received_stops, received_whole, receiving_under, takes_fall, takes_filled, takes_first}
+use Rattle.gob_tool.proofs.TakeRuns.{received_none, received_stops, received_whole, receiving_under, takes_fall}
+use Rattle.gob_tool.proofs.TakeRuns.{takes_filled, takes_first}
 use Rattle.gob_tool.proofs.TakeRuns.{next_as, ready_as, takes_flushed, takes_unflushed}
 use Rattle.gob_tool.proofs.take.take_values.Goals as goal
 
@@ -27,10 +28,11 @@ returns-in_err-reader-clause-taken g c = λ bytes known.
     let out = g.W.Write.contents (writer_of c.args.output.now) in
     let L = within_trees c.args.limits in
     let U = types c.args.wanted.now in
-    at_error (λ r. Receiving L bytes (g.R.Read.remaining (reader_of c.args.input.now)) U c.args.wanted_id (Appends out out)
-    (AppendsFront out out) r) c.from_residual.result fault.Memory c.from_residual.ensures.1
+    at_error (λ r. Receiving L bytes (g.R.Read.remaining (reader_of c.args.input.now)) U c.args.wanted_id
+    (Appends out out)
+    (AppendsPrefix out out) r) c.from_residual.result fault.Memory c.from_residual.ensures.1
     (received_none L bytes (g.R.Read.remaining (reader_of c.args.input.now)) U c.args.wanted_id (Appends out out)
-    (AppendsFront out out) known (Appends-nil out))
+    (AppendsPrefix out out) known (Appends-nil out))
 
 pub values-init : goal.values-init
 values-init g c =
@@ -56,12 +58,13 @@ returns-in_err-more-clause-taken g c = λ bytes known.
     let out = g.W.Write.contents (writer_of c.values.output) in
     let s = session_of c.values.reader in
     let U = types c.args.wanted.now in
-    at_error (λ r. Receiving (within_trees c.args.limits) bytes next U c.args.wanted_id (Appends old out) (AppendsFront old out) r)
+    at_error (λ r. Receiving (within_trees c.args.limits) bytes next U c.args.wanted_id (Appends old out)
+    (AppendsPrefix old out) r)
     c.from_residual-in_err-more.result (reading_fault e) c.from_residual-in_err-more.ensures.1
-    (receiving_under (limits_of s) c.args.limits bytes next U c.args.wanted_id (Appends old out) (AppendsFront old out)
+    (receiving_under (limits_of s) c.args.limits bytes next U c.args.wanted_id (Appends old out) (AppendsPrefix old out)
     (Err (reading_fault e)) i.0
     (received_stops (within_trees (limits_of s)) (types_of s) U c.args.wanted_id p.given bytes next (Appends old out)
-    (AppendsFront old out) e (c.in_err-more.ensures.filled read p.given p.has bytes known) p.taken))
+    (AppendsPrefix old out) e (c.in_err-more.ensures.filled read p.given p.has bytes known) p.taken))
 
 pub returns-in_err-more-clause-reads : goal.returns-in_err-more-clause-reads
 returns-in_err-more-clause-reads g c =
@@ -69,7 +72,8 @@ returns-in_err-more-clause-reads g c =
     let e = c.in_err-more.field-0.0 in
     at_error (λ r. CountsReadFaults (failed_reads c.args.input.now) (failed_reads c.more.new.input) r)
     c.from_residual-in_err-more.result (reading_fault e) c.from_residual-in_err-more.ensures.1
-    (stop_faults Bool (failed_reads c.args.input.now) (failed_reads c.values.input) (failed_reads c.more.new.input) e i.1
+    (stop_faults Bool (failed_reads c.args.input.now) (failed_reads c.values.input) (failed_reads c.more.new.input) e
+    i.1
     c.in_err-more.ensures.counted)
 
 pub take_next-requires-clause-read : goal.take_next-requires-clause-read
@@ -148,10 +152,12 @@ returns-in_err-take_next-clause-taken g c = λ bytes known.
     c.if-branch.true (c.in_ok-more.ensures.filled read p.given p.has) in
     let n = next_as c.more.new.self c.take_next.new.reader read next old out new (Err f) (ap (λ d. types d) i.4) i.5
     (c.in_err-take_next.ensures.taken read next old) (takes_filled p on.2 on.0) in
-    at_error (λ r. Receiving (within_trees c.args.limits) bytes next U c.args.wanted_id (Appends old new) (AppendsFront old new) r)
+    at_error (λ r. Receiving (within_trees c.args.limits) bytes next U c.args.wanted_id (Appends old new)
+    (AppendsPrefix old new) r)
     c.from_residual-in_err-take_next.result f c.from_residual-in_err-take_next.ensures.1
-    (receiving_under (limits_of (session_of c.more.new.self)) c.args.limits bytes next U c.args.wanted_id (Appends old new)
-    (AppendsFront old new) (Err f) (c.in_ok-more.ensures.limits ∙ i.0) (n.0 bytes known))
+    (receiving_under (limits_of (session_of c.more.new.self)) c.args.limits bytes next U c.args.wanted_id
+    (Appends old new)
+    (AppendsPrefix old new) (Err f) (c.in_ok-more.ensures.limits ∙ i.0) (n.0 bytes known))
 
 pub returns-in_err-take_next-clause-reads : goal.returns-in_err-take_next-clause-reads
 returns-in_err-take_next-clause-reads g c =
@@ -169,7 +175,8 @@ returns-in_err-take_next-clause-reads g c =
     (c.in_err-take_next.ensures.taken read next old) (takes_filled p on.2 on.0) in
     at_error (λ r. CountsReadFaults (failed_reads c.args.input.now) (failed_reads c.more.new.input) r)
     c.from_residual-in_err-take_next.result f c.from_residual-in_err-take_next.ensures.1
-    (faults_still (failed_reads c.args.input.now) (failed_reads c.more.new.input) (Err f) (c.in_ok-more.ensures.counted ∙ i.1) n.1)
+    (faults_still (failed_reads c.args.input.now) (failed_reads c.more.new.input) (Err f) (c.in_ok-more.ensures.counted
+    ∙ i.1) n.1)
 
 pub returns-clause-taken : goal.returns-clause-taken
 returns-clause-taken g c = λ bytes known.
@@ -183,7 +190,7 @@ returns-clause-taken g c = λ bytes known.
     let end = has_ended tree_building s c.more.new.self read next p.given c.in_ok-more.field-0 c.if-branch.false
     (c.in_ok-more.ensures.filled read p.given p.has) in
     receiving_under (limits_of s) c.args.limits bytes next (types c.args.wanted.now) c.args.wanted_id (Appends old out)
-    (AppendsFront old out) (Ok tt) i.0 (received_whole p (end.0 bytes known))
+    (AppendsPrefix old out) (Ok tt) i.0 (received_whole p (end.0 bytes known))
 
 pub returns-clause-reads : goal.returns-clause-reads
 returns-clause-reads g c = c.in_ok-more.ensures.counted ∙ c.values.invariant.1
@@ -205,11 +212,14 @@ returns-in_err-flush_before_waiting-clause-taken g c = λ bytes known.
     let n = next_as c.more.new.self c.take_next.new.reader read next old out mid (Ok c.in_ok-take_next.field-0)
     (ap (λ d. types d) i.4) i.5 (c.in_ok-take_next.ensures.taken read next old) (takes_filled p on.2 on.0) in
     let so = takes_flushed n.0 c.in_err-flush_before_waiting.ensures.bytes in
-    at_error (λ r. Receiving (within_trees c.args.limits) bytes next U c.args.wanted_id (Appends old new) (AppendsFront old new) r)
+    at_error (λ r. Receiving (within_trees c.args.limits) bytes next U c.args.wanted_id (Appends old new)
+    (AppendsPrefix old new) r)
     c.from_residual-in_err-flush_before_waiting.result (writing_fault e)
     c.from_residual-in_err-flush_before_waiting.ensures.1
-    (receiving_under (limits_of (session_of c.take_next.new.reader)) c.args.limits bytes next U c.args.wanted_id (Appends old new)
-    (AppendsFront old new) (Err (writing_fault e)) (c.in_ok-take_next.ensures.limits ∙ c.in_ok-more.ensures.limits ∙ i.0)
+    (receiving_under (limits_of (session_of c.take_next.new.reader)) c.args.limits bytes next U c.args.wanted_id
+    (Appends old new)
+    (AppendsPrefix old new) (Err (writing_fault e)) (c.in_ok-take_next.ensures.limits ∙ c.in_ok-more.ensures.limits
+    ∙ i.0)
     (rw c.in_err-flush_before_waiting.ensures.fault (takes_unflushed so bytes known)))
 
 pub returns-in_err-flush_before_waiting-clause-reads : goal.returns-in_err-flush_before_waiting-clause-reads
@@ -224,7 +234,8 @@ returns-in_err-flush_before_waiting-clause-reads g c =
 pub returns-in_err-flush_before_waiting-clause-writes : goal.returns-in_err-flush_before_waiting-clause-writes
 returns-in_err-flush_before_waiting-clause-writes g c =
     let e = c.in_err-flush_before_waiting.field-0.0 in
-    at_error (λ r. CountsOnlyWrites (failed_writes c.args.output.now) (failed_writes c.flush_before_waiting.new.output) r)
+    at_error (λ r. CountsOnlyWrites (failed_writes c.args.output.now) (failed_writes c.flush_before_waiting.new.output)
+    r)
     c.from_residual-in_err-flush_before_waiting.result (writing_fault e)
     c.from_residual-in_err-flush_before_waiting.ensures.1
     (write_counts (failed_writes c.args.output.now) (failed_writes c.take_next.new.output)

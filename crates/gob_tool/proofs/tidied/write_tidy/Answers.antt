@@ -10,7 +10,8 @@ pub returns-in-Define-clause-written : goal.returns-in-Define-clause-written
 returns-in-Define-clause-written g c = λ i m there other.
     let w = c.args.writer.now in
     subst (λ (j : StreamItem). WritesTidy w c.write_tidy_definition.new.writer j
-    (g.W.Write.contents (writer_of c.args.output.now)) (g.W.Write.contents (writer_of c.write_tidy_definition.new.output))
+    (g.W.Write.contents (writer_of c.args.output.now))
+    (g.W.Write.contents (writer_of c.write_tidy_definition.new.output))
     c.write_tidy_definition.result) (definition_meant m c.in-Define.is) (c.write_tidy_definition.ensures.written other)
 
 pub returns-in-Put-clause-written : goal.returns-in-Put-clause-written
@@ -19,7 +20,8 @@ returns-in-Put-clause-written g c = λ i m there other.
     let o = value_meant m c.in-Put.is in
     let stands = subst (λ (j : StreamItem). StandsNext w (types c.args.table.now) j) (sym o.same) there in
     subst (λ (j : StreamItem). WritesTidy w c.write_tidy_value-put.new.writer j
-    (g.W.Write.contents (writer_of c.args.output.now)) (g.W.Write.contents (writer_of c.write_tidy_value-put.new.output))
+    (g.W.Write.contents (writer_of c.args.output.now))
+    (g.W.Write.contents (writer_of c.write_tidy_value-put.new.output))
     c.write_tidy_value-put.result) o.same
     (c.write_tidy_value-put.ensures.written o.value o.means stands other)
 

@@ -8,7 +8,8 @@ pub tidy-requires : goal.tidy-requires
 tidy-requires g c = described_later c.requires
 
 pub returns-in_err-tidied-clause-written : goal.returns-in_err-tidied-clause-written
-returns-in_err-tidied-clause-written g c = λ other. not_memory c.from_residual.result c.from_residual.ensures.1 refl other
+returns-in_err-tidied-clause-written g c = λ other. not_memory c.from_residual.result c.from_residual.ensures.1 refl
+    other
 
 pub returns-clause-written : goal.returns-clause-written
 returns-clause-written g c = λ other.

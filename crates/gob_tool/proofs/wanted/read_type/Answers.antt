@@ -7,7 +7,8 @@ use Rattle.gob_stream.specs.Calls.Session.{limits_of, taken_of, types_of}
 use Rattle.gob_stream.specs.Ends.{failed_reads, reader_of}
 use Rattle.gob_stream.specs.Calls.Reader.{session_of}
 use Rattle.gob_stream.proofs.PublicLaws.{goes_on, has_ended}
-use Rattle.gob_tool.proofs.WantedLaws.{finds_fall, finds_first, finds_step, first_at, first_ready, piece_at, step_counts, wanted_at}
+use Rattle.gob_tool.proofs.WantedLaws.{finds_fall, finds_first, finds_step, first_at, first_ready, piece_at}
+use Rattle.gob_tool.proofs.WantedLaws.{step_counts, wanted_at}
 use Rattle.gob_tool.proofs.WantedLaws.{wanted_ends, wanted_stops}
 use Rattle.gob_tool.proofs.wanted.read_type.Goals as goal
 
@@ -25,7 +26,8 @@ steps-smaller g c =
     let on = goes_on tree_building (session_of c.steps.reader) c.more.new.self read next p.given c.in_ok-more.field-0
     c.if-branch.true (c.in_ok-more.ensures.filled read p.given p.has) in
     let t = c.in_ok-step.ensures.stepped read next p.given on.0 in
-    finds_fall c.steps.reader (taken_of (session_of c.steps.reader)) (c.in_ok-step.ensures.limits ∙ c.in_ok-more.ensures.limits)
+    finds_fall c.steps.reader (taken_of (session_of c.steps.reader)) (c.in_ok-step.ensures.limits
+    ∙ c.in_ok-more.ensures.limits)
     t.takes.after (omega (arith, on.1, t.takes.onward, c.in_ok-step.ensures.used))
 
 pub steps-preserved : goal.steps-preserved
@@ -57,12 +59,15 @@ returns-in_err-more-clause-read g c = λ bytes known.
 
 pub returns-in_err-more-clause-ready : goal.returns-in_err-more-clause-ready
 returns-in_err-more-clause-ready g c =
-    first_at (types_of (session_of c.more.new.self)) c.from_residual.result c.in_err-more.field-0.0 c.from_residual.ensures.1
+    first_at (types_of (session_of c.more.new.self)) c.from_residual.result c.in_err-more.field-0.0
+    c.from_residual.ensures.1
 
 pub returns-in_err-more-clause-reads : goal.returns-in_err-more-clause-reads
 returns-in_err-more-clause-reads g c =
-    piece_at (Option TypeId) Bool (failed_reads c.args.input.now) (failed_reads c.steps.input) (failed_reads c.more.new.input)
-    c.from_residual.result c.in_err-more.field-0.0 c.from_residual.ensures.1 c.steps.invariant.1 c.in_err-more.ensures.counted
+    piece_at (Option TypeId) Bool (failed_reads c.args.input.now) (failed_reads c.steps.input)
+    (failed_reads c.more.new.input)
+    c.from_residual.result c.in_err-more.field-0.0 c.from_residual.ensures.1 c.steps.invariant.1
+    c.in_err-more.ensures.counted
 
 pub returns-in_err-step-clause-read : goal.returns-in_err-step-clause-read
 returns-in_err-step-clause-read g c = λ bytes known.
@@ -101,7 +106,8 @@ returns-clause-read g c = λ bytes known.
     let next = g.Q.Read.remaining (reader_of c.more.new.input) in
     let end = has_ended tree_building s c.more.new.self read next p.given c.in_ok-more.field-0 c.if-branch.false
     (c.in_ok-more.ensures.filled read p.given p.has) in
-    wanted_ends (limits_of s) M (types_of s) (types_of (session_of c.more.new.self)) (taken_of s) p.given bytes next c.steps.first
+    wanted_ends (limits_of s) M (types_of s) (types_of (session_of c.more.new.self)) (taken_of s) p.given bytes next
+    c.steps.first
     i.0 end.1 (end.0 bytes known) p.is
 
 pub returns-clause-ready : goal.returns-clause-ready

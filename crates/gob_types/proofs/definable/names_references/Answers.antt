@@ -23,13 +23,15 @@ pub returns-in-Array : goal.returns-in-Array
 returns-in-Array c = subst (λ k. Judges k c.is_reference.result) (sym c.in-Array.is) (one _ _ c.is_reference.ensures)
 
 pub returns-in-Slice : goal.returns-in-Slice
-returns-in-Slice c = subst (λ k. Judges k c.is_reference-in-Slice.result) (sym c.in-Slice.is) (one _ _ c.is_reference-in-Slice.ensures)
+returns-in-Slice c = subst (λ k. Judges k c.is_reference-in-Slice.result) (sym c.in-Slice.is)
+    (one _ _ c.is_reference-in-Slice.ensures)
 
 pub returns-then-is_reference : goal.returns-then-is_reference
 returns-then-is_reference c =
     let key = c.if-is_reference.ensures.0 refl in
     let elem = c.is_reference-then-is_reference.ensures in
-    let either : IsTrue c.is_reference-then-is_reference.result → (u : TypeId) → (c.in-Map.key ≡ u) ⊎ (c.in-Map.elem ≡ u) → IsReference u =
+    let either : IsTrue c.is_reference-then-is_reference.result → (u : TypeId) → (c.in-Map.key ≡ u)
+    ⊎ (c.in-Map.elem ≡ u) → IsReference u =
     λ yes u. elim [ inl same ↦ subst IsReference same key | inr same ↦ subst IsReference same (elem.0 yes) ] in
     subst (λ k. Judges k c.is_reference-then-is_reference.result) (sym c.in-Map.is)
     (either, λ each. elem.1 (each c.in-Map.elem (inr refl)))
@@ -37,5 +39,8 @@ returns-then-is_reference c =
 pub returns-else-is_reference : goal.returns-else-is_reference
 returns-else-is_reference c =
     let r = c.is_reference-in-Map.result in
-    subst (λ k. Judges k r) (sym c.in-Map.is)
-    (λ yes. absurd (true≢false (sym yes ∙ c.if-is_reference.false)), λ each. c.is_reference-in-Map.ensures.1 (each c.in-Map.key (inl refl)))
+    subst (λ k. Judges k r) (sym c.in-Map.is) (
+      λ yes. absurd (true≢false (sym yes ∙ c.if-is_reference.false)),
+      λ each. c.is_reference-in-Map.ensures.1
+          (each c.in-Map.key (inl refl)),
+    )

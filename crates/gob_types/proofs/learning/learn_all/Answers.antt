@@ -5,7 +5,11 @@ use Rattle.gob_types.proofs.WaitLaws.{queue_looks, queue_drops, queue_ends}
 use Rattle.gob_types.proofs.learning.learn_all.Goals as goal
 
 pub loop-preserved-then-is_judged : goal.loop-preserved-then-is_judged
-loop-preserved-then-is_judged c = record { learning = queue_drops _ c.loop.invariant.learning c.in-Some.ensures (when_true _ _ c.if-is_judged.true c.is_judged.ensures); grown = c.loop.invariant.grown }
+loop-preserved-then-is_judged c = record {
+  learning = queue_drops _ c.loop.invariant.learning c.in-Some.ensures
+      (when_true _ _ c.if-is_judged.true c.is_judged.ensures);
+  grown = c.loop.invariant.grown;
+}
 
 pub look-requires-clause-looking : goal.look-requires-clause-looking
 look-requires-clause-looking c = queue_looks _ c.loop.invariant.learning c.in-Some.ensures
@@ -26,7 +30,11 @@ pub returns-in_err-look-clause-grown : goal.returns-in_err-look-clause-grown
 returns-in_err-look-clause-grown c = grows_then c.loop.invariant.grown c.look.ensures.grown
 
 pub loop-preserved : goal.loop-preserved
-loop-preserved c = record { learning = c.in_ok-look.ensures.learning; grown = grows_then c.loop.invariant.grown c.look.ensures.grown }
+loop-preserved c = record {
+  learning = c.in_ok-look.ensures.learning;
+  grown = grows_then c.loop.invariant.grown
+      c.look.ensures.grown;
+}
 
 pub returns-clause-grown : goal.returns-clause-grown
 returns-clause-grown c = c.loop.invariant.grown

@@ -9,4 +9,5 @@ pub returns-in_err-ids-clause-settled : goal.returns-in_err-ids-clause-settled
 returns-in_err-ids-clause-settled c = IfOk-from_err c.from_residual.result _ c.from_residual.ensures.0
 
 pub returns-in_err-learn_all-clause-settled : goal.returns-in_err-learn_all-clause-settled
-returns-in_err-learn_all-clause-settled c = IfOk-from_err c.from_residual-in_err-learn_all.result _ c.from_residual-in_err-learn_all.ensures.0
+returns-in_err-learn_all-clause-settled c = IfOk-from_err c.from_residual-in_err-learn_all.result _
+    c.from_residual-in_err-learn_all.ensures.0

@@ -10,7 +10,9 @@ pub learn_anew-requires : goal.learn_anew-requires
 learn_anew-requires c = was_ready c.requires
 
 pub look-requires-clause-looking : goal.look-requires-clause-looking
-look-requires-clause-looking c = was_looking _ (subst (λ (w : Option Waiting). WasKept (types c.args.table.now) c.args.id c.args.ready.now w) c.in-Some.is c.requires)
+look-requires-clause-looking c =
+    was_looking _ (subst (λ (w : Option Waiting). WasKept (types c.args.table.now) c.args.id c.args.ready.now w)
+    c.in-Some.is c.requires)
 
 pub look-requires-clause-apart : goal.look-requires-clause-apart
 look-requires-clause-apart c = was_apart c.requires
@@ -25,7 +27,8 @@ pub learn_all-requires : goal.learn_all-requires
 learn_all-requires c = c.in_ok-look.ensures.learning
 
 pub returns-in_err-learn_all-clause-settled : goal.returns-in_err-learn_all-clause-settled
-returns-in_err-learn_all-clause-settled c = IfOk-from_err c.from_residual-in_err-learn_all.result _ c.from_residual-in_err-learn_all.ensures.0
+returns-in_err-learn_all-clause-settled c = IfOk-from_err c.from_residual-in_err-learn_all.result _
+    c.from_residual-in_err-learn_all.ensures.0
 
 pub returns-in_err-learn_all-clause-grown : goal.returns-in_err-learn_all-clause-grown
 returns-in_err-learn_all-clause-grown c = grows_then c.look.ensures.grown c.learn_all.ensures.grown

@@ -14,17 +14,20 @@ loop-next-init c =
 
 pub loop-next-preserved-then-contains : goal.loop-next-preserved-then-contains
 loop-next-preserved-then-contains c =
-    let at = read_at c.loop-next.next _ c.as_slice.ensures (omega (arith, c.loop-next-test.true, c.count.ensures.count)) in
+    let at = read_at c.loop-next.next _ c.as_slice.ensures (omega (arith, c.loop-next-test.true, c.count.ensures.count))
+    in
     past_known c.loop-next.invariant at (c.contains.ensures.0 c.if-contains.true)
 
 pub returns-in_default : goal.returns-in_default
 returns-in_default c =
-    let at = read_at c.loop-next.next _ c.as_slice.ensures (omega (arith, c.loop-next-test.true, c.count.ensures.count)) in
+    let at = read_at c.loop-next.next _ c.as_slice.ensures (omega (arith, c.loop-next-test.true, c.count.ensures.count))
+    in
     (c.loop-next.invariant.sound _ (contains_read c.loop-next.met c.loop-next.next _ at), sym c.in_default.ensures)
 
 pub loop-next-preserved : goal.loop-next-preserved
 loop-next-preserved c =
-    let at = read_at c.loop-next.next _ c.as_slice.ensures (omega (arith, c.loop-next-test.true, c.count.ensures.count)) in
+    let at = read_at c.loop-next.next _ c.as_slice.ensures (omega (arith, c.loop-next-test.true, c.count.ensures.count))
+    in
     past_names c.loop-next.invariant at (sym c.in-Some.ensures) c.in_ok-add_names.ensures
 
 pub returns : goal.returns
@@ -43,4 +46,5 @@ pub returns-in_err-add : goal.returns-in_err-add
 returns-in_err-add c = IfOk-from_err c.from_residual.result _ c.from_residual.ensures.0
 
 pub returns-in_err-add_names : goal.returns-in_err-add_names
-returns-in_err-add_names c = IfOk-from_err c.from_residual-in_err-add_names.result _ c.from_residual-in_err-add_names.ensures.0
+returns-in_err-add_names c = IfOk-from_err c.from_residual-in_err-add_names.result _
+    c.from_residual-in_err-add_names.ensures.0

@@ -14,8 +14,10 @@ pub judge-requires-clause-complete : goal.judge-requires-clause-complete
 judge-requires-clause-complete c =
     let zero_id : TypeId = record { 0 = 0 } in
     let met = c.args.met.now in
-    let here : c.loop-id.id-index < length met = omega (arith, c.loop-id-test.true, ap length c.as_slice-id-items.ensures) in
-    c.requires _ (contains_read met c.loop-id.id-index _ (read_at c.loop-id.id-index zero_id c.as_slice-id-items.ensures here))
+    let here : c.loop-id.id-index < length met =
+    omega (arith, c.loop-id-test.true, ap length c.as_slice-id-items.ensures) in
+    c.requires _ (contains_read met c.loop-id.id-index _ (read_at c.loop-id.id-index zero_id c.as_slice-id-items.ensures
+    here))
 
 pub loop-id-preserved-then-branch : goal.loop-id-preserved-then-branch
 loop-id-preserved-then-branch c =
@@ -25,7 +27,8 @@ loop-id-preserved-then-branch c =
     let grounded = when_true _ _ c.if-branch.true c.in_ok-judge.ensures.judged in
     record {
       known = c.in_ok-judge.ensures.known;
-      least = least_pass (IsGrounded T) (λ u. ¬ IsGrounded T u) ids c.loop-id.id-index _ c.loop-id.least c.loop-id.invariant.least at grounded (λ bad. bad grounded);
+      least = least_pass (IsGrounded T) (λ u. ¬ IsGrounded T u) ids c.loop-id.id-index _ c.loop-id.least
+          c.loop-id.invariant.least at grounded (λ bad. bad grounded);
     }
 
 pub loop-id-preserved : goal.loop-id-preserved
@@ -37,14 +40,16 @@ loop-id-preserved c =
     let e = c.lesser.ensures in
     record {
       known = c.in_ok-judge.ensures.known;
-      least = least_take (IsGrounded T) (λ u. ¬ IsGrounded T u) ids c.loop-id.id-index _ c.loop-id.least c.lesser.result (λ u good is_bad. is_bad good) c.loop-id.invariant.least at bad e.either e.below e.below_least;
+      least = least_take (IsGrounded T) (λ u. ¬ IsGrounded T u) ids c.loop-id.id-index _ c.loop-id.least c.lesser.result
+          (λ u good is_bad. is_bad good) c.loop-id.invariant.least at bad e.either e.below e.below_least;
     }
 
 pub returns : goal.returns
 returns c =
     let T = types c.args.table.now in
     subst (λ ids. IsLeastBad (IsGrounded T) (λ u. ¬ IsGrounded T u) ids c.loop-id.least) c.as_slice-id-items.ensures
-    (least_end (IsGrounded T) (λ u. ¬ IsGrounded T u) c.as_slice-id-items.result.now c.loop-id.id-index c.loop-id.least c.loop-id.invariant.least c.loop-id-test.false)
+    (least_end (IsGrounded T) (λ u. ¬ IsGrounded T u) c.as_slice-id-items.result.now c.loop-id.id-index c.loop-id.least
+    c.loop-id.invariant.least c.loop-id-test.false)
 
 pub returns-in_err-judge : goal.returns-in_err-judge
 returns-in_err-judge c = IfOk-from_err c.from_residual.result _ c.from_residual.ensures.0

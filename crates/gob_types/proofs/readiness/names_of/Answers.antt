@@ -9,7 +9,9 @@ pub returns-in_default : goal.returns-in_default
 returns-in_default c = names_none (sym c.in_default.ensures) c.new-names.ensures
 
 pub returns : goal.returns
-returns c = names_all (sym c.in-Some.ensures) (subst (λ ids. AddsAll ids c.add_names.new.met (Names c.in-Some.shape.now.kind)) c.new-names.ensures c.in_ok-add_names.ensures)
+returns c = names_all (sym c.in-Some.ensures)
+    (subst (λ ids. AddsAll ids c.add_names.new.met (Names c.in-Some.shape.now.kind)) c.new-names.ensures
+    c.in_ok-add_names.ensures)
 
 pub returns-in_err-add_names : goal.returns-in_err-add_names
 returns-in_err-add_names c = IfOk-from_err c.from_residual.result _ c.from_residual.ensures.0

@@ -52,7 +52,8 @@ returns-clause-shape c =
       what = what_said c.in-Some.wire (field_views c.in-Some.fields.now);
       says = c.in-Some.ensures;
       same_id = sym said_id ∙ c.if-not-is_id.ensures.0 refl;
-      name = c.in_ok-name.ensures ∙ c.text_of.ensures ∙ ap (λ fs. name_in (present_field 0 fs)) c.struct_of-common.ensures;
+      name = c.in_ok-name.ensures ∙ c.text_of.ensures
+          ∙ ap (λ fs. name_in (present_field 0 fs)) c.struct_of-common.ensures;
       kind = c.in_ok-kind.ensures.kind;
     }
 

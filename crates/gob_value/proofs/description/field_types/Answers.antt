@@ -34,7 +34,9 @@ pub returns-in_err-name_and_id-clause-counted : goal.returns-in_err-name_and_id-
 returns-in_err-name_and_id-clause-counted c = IfOk-from_err c.from_residual.result _ c.from_residual.ensures.0
 
 pub returns-in_err-push-clause-described : goal.returns-in_err-push-clause-described
-returns-in_err-push-clause-described c = IfOk-from_err c.from_residual-in_err-push.result _ c.from_residual-in_err-push.ensures.0
+returns-in_err-push-clause-described c = IfOk-from_err c.from_residual-in_err-push.result _
+    c.from_residual-in_err-push.ensures.0
 
 pub returns-in_err-push-clause-counted : goal.returns-in_err-push-clause-counted
-returns-in_err-push-clause-counted c = IfOk-from_err c.from_residual-in_err-push.result _ c.from_residual-in_err-push.ensures.0
+returns-in_err-push-clause-counted c = IfOk-from_err c.from_residual-in_err-push.result _
+    c.from_residual-in_err-push.ensures.0

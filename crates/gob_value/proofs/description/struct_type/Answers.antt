@@ -13,13 +13,17 @@ pub returns-in_err-given-clause-counted : goal.returns-in_err-given-clause-count
 returns-in_err-given-clause-counted c = IfOk-from_err c.from_residual.result _ c.from_residual.ensures.0
 
 pub returns-in_err-field_types-clause-described : goal.returns-in_err-field_types-clause-described
-returns-in_err-field_types-clause-described c = IfOk-from_err c.from_residual-in_err-field_types.result _ c.from_residual-in_err-field_types.ensures.0
+returns-in_err-field_types-clause-described c = IfOk-from_err c.from_residual-in_err-field_types.result _
+    c.from_residual-in_err-field_types.ensures.0
 
 pub returns-in_err-field_types-clause-counted : goal.returns-in_err-field_types-clause-counted
-returns-in_err-field_types-clause-counted c = IfOk-from_err c.from_residual-in_err-field_types.result _ c.from_residual-in_err-field_types.ensures.0
+returns-in_err-field_types-clause-counted c = IfOk-from_err c.from_residual-in_err-field_types.result _
+    c.from_residual-in_err-field_types.ensures.0
 
 pub returns-in_err-push-clause-described : goal.returns-in_err-push-clause-described
-returns-in_err-push-clause-described c = IfOk-from_err c.from_residual-in_err-push.result _ c.from_residual-in_err-push.ensures.0
+returns-in_err-push-clause-described c = IfOk-from_err c.from_residual-in_err-push.result _
+    c.from_residual-in_err-push.ensures.0
 
 pub returns-in_err-push-clause-counted : goal.returns-in_err-push-clause-counted
-returns-in_err-push-clause-counted c = IfOk-from_err c.from_residual-in_err-push.result _ c.from_residual-in_err-push.ensures.0
+returns-in_err-push-clause-counted c = IfOk-from_err c.from_residual-in_err-push.result _
+    c.from_residual-in_err-push.ensures.0

@@ -8,7 +8,8 @@ use Rattle.gob_value.proofs.fitting.+fits.Given as goal
 abbrev pub invariant-all_fit-loop-part : goal.invariant-all_fit-loop-part
 invariant-all_fit-loop-part g l =
     let T = g.S.Shapes.table l.shapes in
-    IsSpelledWithin (SpellsEach T l.elem) trees_depth l.limit (views (drop l.part-index l.parts)) ↔ IsSpelledWithin (SpellsEach T l.elem) trees_depth l.limit (views l.parts)
+    IsSpelledWithin (SpellsEach T l.elem) trees_depth l.limit (views (drop l.part-index l.parts))
+    ↔ IsSpelledWithin (SpellsEach T l.elem) trees_depth l.limit (views l.parts)
 
 abbrev pub invariant-pairs_fit-loop-k : goal.invariant-pairs_fit-loop-k
 invariant-pairs_fit-loop-k g l =

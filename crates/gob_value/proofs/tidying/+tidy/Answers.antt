@@ -87,7 +87,8 @@ tidy_each-loop-part-preserved g t c =
 pub tidy_each-returns : goal.tidy_each-returns
 tidy_each-returns g t c =
     let none = c.in-None.ensures.steps in
-    subst (λ (l : List Value). IsTidied (TidiesEach (g.S.Shapes.table c.args.shapes.now) c.args.elem) AllHaveSmallNumbers (views l)
+    subst (λ (l : List Value). IsTidied (TidiesEach (g.S.Shapes.table c.args.shapes.now) c.args.elem)
+    AllHaveSmallNumbers (views l)
     (views c.loop-part.tidied.items)) c.into_iter-part-iterator.ensures.into_iter_gives.0
     (goes_end c.loop-part.invariant.0 (sym c.loop-part.invariant.1 ∙ none.0)
     (record { tidies = no_element; small = tt }))
@@ -97,7 +98,8 @@ tidy_each-returns g t c =
 pub tidy_pairs-loop-k-init : goal.tidy_pairs-loop-k-init
 tidy_pairs-loop-k-init g t c = (
   goes_starts c.new-tidied.ensures.items (subst
-      (λ (l : List (Value × Value)). HasTidyForm (TidiesPairs (g.S.Shapes.table c.args.shapes.now) c.args.key c.args.elem (pair_views l))) (sym c.into_iter-k-iterator.ensures.into_iter_gives.0) c.requires),
+      (λ (l : List (Value × Value)). HasTidyForm (TidiesPairs (g.S.Shapes.table c.args.shapes.now) c.args.key
+      c.args.elem (pair_views l))) (sym c.into_iter-k-iterator.ensures.into_iter_gives.0) c.requires),
   omega arith,
 )
 
@@ -136,7 +138,8 @@ tidy_pairs-loop-k-preserved g t c =
 pub tidy_pairs-returns : goal.tidy_pairs-returns
 tidy_pairs-returns g t c =
     let none = c.in-None.ensures.steps in
-    subst (λ (l : List (Value × Value)). IsTidied (TidiesPairs (g.S.Shapes.table c.args.shapes.now) c.args.key c.args.elem) PairsHaveSmallNumbers
+    subst (λ (l : List (Value × Value)). IsTidied (TidiesPairs (g.S.Shapes.table c.args.shapes.now) c.args.key
+    c.args.elem) PairsHaveSmallNumbers
     (pair_views l) (pair_views c.loop-k.tidied.items)) c.into_iter-k-iterator.ensures.into_iter_gives.0
     (goes_end c.loop-k.invariant.0 (sym c.loop-k.invariant.1 ∙ none.0) (record { tidies = no_entry; small = tt }))
 
@@ -145,7 +148,8 @@ tidy_pairs-returns g t c =
 pub tidy_fields-loop-number-init : goal.tidy_fields-loop-number-init
 tidy_fields-loop-number-init g t c = (
   goes_starts c.new-tidied.ensures.items (subst
-      (λ (l : List (ℕ × Value)). HasTidyForm (TidiesFields (g.S.Shapes.table c.args.shapes.now) c.args.types.now (field_views l)))
+      (λ (l : List (ℕ × Value)). HasTidyForm (TidiesFields (g.S.Shapes.table c.args.shapes.now) c.args.types.now
+      (field_views l)))
       (sym c.into_iter-number-iterator.ensures.into_iter_gives.0) c.requires),
   omega arith,
 )
@@ -203,7 +207,8 @@ tidy_fields-loop-number-preserved g t c =
 pub tidy_fields-returns : goal.tidy_fields-returns
 tidy_fields-returns g t c =
     let none = c.in-None.ensures.steps in
-    subst (λ (l : List (ℕ × Value)). IsTidied (TidiesFields (g.S.Shapes.table c.args.shapes.now) c.args.types.now) FieldsHaveSmallNumbers (field_views l)
+    subst (λ (l : List (ℕ × Value)). IsTidied (TidiesFields (g.S.Shapes.table c.args.shapes.now) c.args.types.now)
+    FieldsHaveSmallNumbers (field_views l)
     (field_views c.loop-number.tidied.items)) c.into_iter-number-iterator.ensures.into_iter_gives.0
     (goes_end c.loop-number.invariant.0 (sym c.loop-number.invariant.1 ∙ none.0)
     (record { tidies = no_more; small = tt }))
@@ -219,7 +224,8 @@ tidy_kind-tidy_each-requires g t c κs within =
       (
         within,
         parts_of_many c.in-Slice.is
-            (subst (λ (v : Tree). HasTidyForm (TidiesAs (g.S.Shapes.table c.args.shapes.now) c.args.kind.now v)) is c.requires),
+            (subst (λ (v : Tree). HasTidyForm (TidiesAs (g.S.Shapes.table c.args.shapes.now) c.args.kind.now v)) is
+            c.requires),
       ),
     )
 
@@ -228,12 +234,15 @@ tidy_kind-tidy_pairs-requires g t c κs within =
     let is : view c.args.value ≡ Tree.pairs (pair_views c.in-Pairs.parts.items) = ap view c.in-Pairs.is
     ∙ view-Pairs c.in-Pairs.parts in
     let deep = ap depth is in
-    let form = subst (λ k. HasTidyForm (TidiesAs (g.S.Shapes.table c.args.shapes.now) k (view c.args.value))) c.in-Map.is
+    let form = subst (λ k. HasTidyForm (TidiesAs (g.S.Shapes.table c.args.shapes.now) k (view c.args.value)))
+    c.in-Map.is
     c.requires in (
       parts_next _ deep c.decreases,
       (
         within,
-        parts_of_pairs (subst (λ (v : Tree). HasTidyForm (TidiesAs (g.S.Shapes.table c.args.shapes.now) (kind.Map c.in-Map.key c.in-Map.elem) v)) is form),
+        parts_of_pairs (subst
+            (λ (v : Tree). HasTidyForm (TidiesAs (g.S.Shapes.table c.args.shapes.now)
+            (kind.Map c.in-Map.key c.in-Map.elem) v)) is form),
       ),
     )
 
@@ -242,13 +251,15 @@ tidy_kind-tidy_fields-requires g t c κs within =
     let is : view c.args.value ≡ Tree.fields (field_views c.in-Fields.parts.items) = ap view c.in-Fields.is
     ∙ view-Fields c.in-Fields.parts in
     let deep = ap depth is in
-    let form = subst (λ k. HasTidyForm (TidiesAs (g.S.Shapes.table c.args.shapes.now) k (view c.args.value))) c.in-Struct.is
+    let form = subst (λ k. HasTidyForm (TidiesAs (g.S.Shapes.table c.args.shapes.now) k (view c.args.value)))
+    c.in-Struct.is
     c.requires in (
       parts_next _ deep c.decreases,
       (
         within,
         parts_of_fields (subst
-            (λ (v : Tree). HasTidyForm (TidiesAs (g.S.Shapes.table c.args.shapes.now) (kind.Struct c.in-Struct.fields) v)) is
+            (λ (v : Tree). HasTidyForm (TidiesAs (g.S.Shapes.table c.args.shapes.now) (kind.Struct c.in-Struct.fields)
+            v)) is
             form),
       ),
     )
@@ -278,7 +289,8 @@ tidy_kind-unreachable-requires g t c =
 
 pub tidy_kind-unreachable-requires-in_default-value : goal.tidy_kind-unreachable-requires-in_default-value
 tidy_kind-unreachable-requires-in_default-value g t c =
-    has_struct (subst (λ k. HasTidyForm (TidiesAs (g.S.Shapes.table c.args.shapes.now) k (view c.args.value))) c.in-Struct.is
+    has_struct (subst (λ k. HasTidyForm (TidiesAs (g.S.Shapes.table c.args.shapes.now) k (view c.args.value)))
+    c.in-Struct.is
     c.requires) (no_struct _ c.in_default-value.not-Fields)
 
 pub tidy_kind-unreachable-requires-in_default-value-2 : goal.tidy_kind-unreachable-requires-in_default-value-2

@@ -92,7 +92,8 @@ write_pairs-loop-key-preserved t c =
     let rest = (pairs_left ps i p c.loop-key-item.is c.loop-key-test.true c.loop-key.invariant.left).2 in
     let first : Goes (WrittenPairs (pair_views ps))
     (Behind (Written (view p.1)) (WrittenPairs (pair_views (drop (i + 1) ps))))
-    (IsSpelledWithin WrittenPairs pairs_depth 1000 (pair_views (drop (i + 1) ps))) c.args.out.now.items c.write_value.new.out.items =
+    (IsSpelledWithin WrittenPairs pairs_depth 1000 (pair_views (drop (i + 1) ps))) c.args.out.now.items
+    c.write_value.new.out.items =
     goes_more c.loop-key.invariant c.in_ok-write_value.ensures.ok
     (pairs_from ps i p c.loop-key-item.is c.loop-key-test.true)
     rest in
@@ -178,7 +179,8 @@ write_value-write_fields-requires t c =
     let fs = c.in-Fields.parts in (
       search (rules, the_lemmas),
       rw c.deref-in-Fields.ensures.value
-          (fields_writable (field_views fs.items) (subst (IsSpelledWithin Written depth 1000) (ap view c.in-Fields.is ∙ view-Fields fs)
+          (fields_writable (field_views fs.items) (subst (IsSpelledWithin Written depth 1000) (ap view c.in-Fields.is
+          ∙ view-Fields fs)
           c.requires)),
     )
 
@@ -227,7 +229,8 @@ write_value-write_each-requires t c =
     let vs = c.in-Many.parts in (
       search (rules, the_lemmas),
       rw c.deref.ensures.value
-          (many_writable (views vs.items) (subst (IsSpelledWithin Written depth 1000) (ap view c.in-Many.is ∙ view-Many vs) c.requires)),
+          (many_writable (views vs.items) (subst (IsSpelledWithin Written depth 1000) (ap view c.in-Many.is
+          ∙ view-Many vs) c.requires)),
     )
 
 pub write_value-write_pairs-requires : goal.write_value-write_pairs-requires
@@ -235,7 +238,8 @@ write_value-write_pairs-requires t c =
     let ps = c.in-Pairs.parts in (
       search (rules, the_lemmas),
       rw c.deref-in-Pairs.ensures.value
-          (pairs_writable (pair_views ps.items) (subst (IsSpelledWithin Written depth 1000) (ap view c.in-Pairs.is ∙ view-Pairs ps)
+          (pairs_writable (pair_views ps.items) (subst (IsSpelledWithin Written depth 1000) (ap view c.in-Pairs.is
+          ∙ view-Pairs ps)
           c.requires)),
     )
 

@@ -20,5 +20,6 @@ abbrev pub invariant-write_fields-loop-number : goal.invariant-write_fields-loop
 invariant-write_fields-loop-number l =
     let next = next_number l.last in
     let rest = field_views (drop l.number-index l.parts) in
-    Goes (WrittenFields 0 (field_views l.parts)) (WrittenFields next rest) (IsSpelledWithin (WrittenFields next) fields_depth 1000 rest) l.fn.out.items
+    Goes (WrittenFields 0 (field_views l.parts)) (WrittenFields next rest) (IsSpelledWithin (WrittenFields next)
+    fields_depth 1000 rest) l.fn.out.items
     l.out.items

@@ -12,7 +12,8 @@ use Rattle.gob_value.proofs.whole.+whole.Invariants.{is_tidy}
 use Rattle.gob_value.proofs.whole.+whole.Goals as goal
 use Rattle.gob_value.proofs.whole.+whole.Goals.{field_end-else-this-ne0-2-via-then-this-ne0-2+else-is_dropped_at}
 use Rattle.gob_value.proofs.whole.+whole.Goals.{field_end-else-this-ne0-2-via-else-this-ne0-2}
-use Rattle.gob_value.proofs.whole.+whole.Goals.{field_end-else-this-ne0-via-then-this-ne0+else-is_basic_dropped_at, field_end-else-this-ne0-via-else-this-ne0}
+use Rattle.gob_value.proofs.whole.+whole.Goals.{field_end-else-this-ne0-via-then-this-ne0+else-is_basic_dropped_at}
+use Rattle.gob_value.proofs.whole.+whole.Goals.{field_end-else-this-ne0-via-else-this-ne0}
 
 -- what is left behind a later place is less
 further : {n a b c : ℕ} → a < b → b ≤ c → c ≤ n → n - c < n - a
@@ -89,9 +90,11 @@ fields_end-fields-preserved g t c = record {
 
 pub field_end-returns-else-this-ne0 : goal.field_end-returns-else-this-ne0
 field_end-returns-else-this-ne0 g t c =
-    if_some c.basic_end.result (λ end s. basic_part _ _ c.if-depth-gt0.true (sym c.basic_of.ensures ∙ c.in-Some.is) (s _ _)
+    if_some c.basic_end.result (λ end s. basic_part _ _ c.if-depth-gt0.true (sym c.basic_of.ensures ∙ c.in-Some.is)
+    (s _ _)
     (elim c.else-this-ne0.branch [
-      | field_end-else-this-ne0-via-then-this-ne0+else-is_basic_dropped_at w ↦ λ tidy. w.is_basic_dropped_at.ensures w.if-is_basic_dropped_at.false
+      | field_end-else-this-ne0-via-then-this-ne0+else-is_basic_dropped_at w ↦ λ tidy. w.is_basic_dropped_at.ensures
+          w.if-is_basic_dropped_at.false
       | field_end-else-this-ne0-via-else-this-ne0 w ↦ λ tidy. absurd (not_asked w.if-this-ne0.false tidy)
     ])) c.basic_end.ensures
 

@@ -29,24 +29,30 @@ abbrev pub invariant-elements_end-elements : goal.invariant-elements_end-element
 invariant-elements_end-elements g l = record {
   inside : l.at ≤ length l.body;
   parts : (end : ℕ)
-      → HoldsBetween (BeginsEach (g.S.Shapes.table l.shapes) (is_tidy g.row.TIDY) l.fn.elem l.depth (l.count - l.counter)) l.body l.at end
-      → HoldsBetween (BeginsEach (g.S.Shapes.table l.shapes) (is_tidy g.row.TIDY) l.fn.elem l.depth l.count) l.body l.begin end;
+      → HoldsBetween (BeginsEach (g.S.Shapes.table l.shapes) (is_tidy g.row.TIDY) l.fn.elem l.depth
+      (l.count - l.counter)) l.body l.at end
+      → HoldsBetween (BeginsEach (g.S.Shapes.table l.shapes) (is_tidy g.row.TIDY) l.fn.elem l.depth l.count) l.body
+      l.begin end;
 }
 
 abbrev pub invariant-pairs_end-pairs : goal.invariant-pairs_end-pairs
 invariant-pairs_end-pairs g l = record {
   inside : l.at ≤ length l.body;
   parts : (end : ℕ)
-      → HoldsBetween (BeginsPairs (g.S.Shapes.table l.shapes) (is_tidy g.row.TIDY) l.fn.key l.fn.elem l.depth (l.count - l.counter)) l.body l.at
+      → HoldsBetween (BeginsPairs (g.S.Shapes.table l.shapes) (is_tidy g.row.TIDY) l.fn.key l.fn.elem l.depth
+      (l.count - l.counter)) l.body l.at
       end
-      → HoldsBetween (BeginsPairs (g.S.Shapes.table l.shapes) (is_tidy g.row.TIDY) l.fn.key l.fn.elem l.depth l.count) l.body l.begin end;
+      → HoldsBetween (BeginsPairs (g.S.Shapes.table l.shapes) (is_tidy g.row.TIDY) l.fn.key l.fn.elem l.depth l.count)
+      l.body l.begin end;
 }
 
 abbrev pub invariant-fields_end-fields : goal.invariant-fields_end-fields
 invariant-fields_end-fields g l = record {
   inside : l.at ≤ length l.body;
-  parts : (end : ℕ) → HoldsBetween (BeginsFields (g.S.Shapes.table l.shapes) (is_tidy g.row.TIDY) l.types l.next l.depth) l.body l.at end
-      → HoldsBetween (BeginsFields (g.S.Shapes.table l.shapes) (is_tidy g.row.TIDY) l.types 0 l.depth) l.body l.begin end;
+  parts : (end : ℕ) → HoldsBetween (BeginsFields (g.S.Shapes.table l.shapes) (is_tidy g.row.TIDY) l.types l.next
+      l.depth) l.body l.at end
+      → HoldsBetween (BeginsFields (g.S.Shapes.table l.shapes) (is_tidy g.row.TIDY) l.types 0 l.depth) l.body l.begin
+      end;
 }
 
 abbrev pub decreases-fields_end-fields : goal.decreases-fields_end-fields

@@ -5,10 +5,13 @@ use Rattle.gob_value.proofs.whole.basic_end.Goals as goal
 
 pub returns-in-Int : goal.returns-in-Int
 returns-in-Int c = elim c.in-Int.is [
-  | inl e ↦ rw e (if_some c.number_end.result (λ end s T tidy. seen s.1 (int_begins T tidy s.0)) c.number_end.ensures.stands)
+  | inl e ↦ rw e (if_some c.number_end.result (λ end s T tidy. seen s.1 (int_begins T tidy s.0))
+      c.number_end.ensures.stands)
   | inr f ↦ elim f [
-    | inl e ↦ rw e (if_some c.number_end.result (λ end s T tidy. seen s.1 (uint_begins T tidy s.0)) c.number_end.ensures.stands)
-    | inr e ↦ rw e (if_some c.number_end.result (λ end s T tidy. seen s.1 (float_begins T tidy s.0)) c.number_end.ensures.stands)
+    | inl e ↦ rw e (if_some c.number_end.result (λ end s T tidy. seen s.1 (uint_begins T tidy s.0))
+        c.number_end.ensures.stands)
+    | inr e ↦ rw e (if_some c.number_end.result (λ end s T tidy. seen s.1 (float_begins T tidy s.0))
+        c.number_end.ensures.stands)
   ]
 ]
 
@@ -19,7 +22,8 @@ returns-in-Bytes c = elim c.in-Bytes.is [
 ]
 
 pub returns-else-n-gt1 : goal.returns-else-n-gt1
-returns-else-n-gt1 c = λ T tidy. rw c.in-Bool.is (seen c.in_ok-n-in-Bool.ensures.stands (bool_begins T tidy _ (omega arith)))
+returns-else-n-gt1 c =
+    λ T tidy. rw c.in-Bool.is (seen c.in_ok-n-in-Bool.ensures.stands (bool_begins T tidy _ (omega arith)))
 
 pub returns-else-n-gt0 : goal.returns-else-n-gt0
 returns-else-n-gt0 c =

@@ -6,6 +6,7 @@ abbrev pub invariant-elements : goal.invariant-elements
 invariant-elements g l = record {
   inside : l.found.end ≤ length l.bytes;
   count : l.found.count ≡ l.counter;
-  parts : (n m end : ℕ) → m ≡ l.found.count + n → HoldsBetween (BeginsEach (g.S.Shapes.table l.shapes) false l.fn.elem l.depth n) l.bytes l.found.end end
+  parts : (n m end : ℕ) → m ≡ l.found.count + n
+      → HoldsBetween (BeginsEach (g.S.Shapes.table l.shapes) false l.fn.elem l.depth n) l.bytes l.found.end end
       → HoldsBetween (BeginsEach (g.S.Shapes.table l.shapes) false l.fn.elem l.depth m) l.bytes 0 end;
 }

@@ -6,7 +6,8 @@ use Rattle.gob_value.proofs.whole_parts.whole_numbers.Goals as goal
 pub returns-in_default-clause-whole : goal.returns-in_default-clause-whole
 returns-in_default-clause-whole c =
     λ T e s f a. has_elements {a = 1} (omega arith)
-    (c.numbers.invariant.parts T e s f a 0 c.numbers.found.count c.numbers.found.end (omega arith) (none_stand T false e 1 0 _ _ refl c.numbers.invariant.inside))
+    (c.numbers.invariant.parts T e s f a 0 c.numbers.found.count c.numbers.found.end (omega arith)
+    (none_stand T false e 1 0 _ _ refl c.numbers.invariant.inside))
 
 pub numbers-preserved : goal.numbers-preserved
 numbers-preserved c = record {
@@ -20,4 +21,5 @@ numbers-preserved c = record {
 pub returns-clause-whole : goal.returns-clause-whole
 returns-clause-whole c =
     λ T e s f a. has_elements {a = 1} (omega arith)
-    (c.numbers.invariant.parts T e s f a 0 c.numbers.found.count c.numbers.found.end (omega arith) (none_stand T false e 1 0 _ _ refl c.numbers.invariant.inside))
+    (c.numbers.invariant.parts T e s f a 0 c.numbers.found.count c.numbers.found.end (omega arith)
+    (none_stand T false e 1 0 _ _ refl c.numbers.invariant.inside))

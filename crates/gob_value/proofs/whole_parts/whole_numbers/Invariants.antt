@@ -9,6 +9,8 @@ abbrev pub invariant-numbers : goal.invariant-numbers
 invariant-numbers l = record {
   inside : l.found.end ≤ length l.bytes;
   count : l.found.count ≡ l.counter;
-  parts : (T : Table) (e : TypeId) (s : Shape) → shape_of T e ≡ Some s → HoldsNumbers s.kind → (n m end : ℕ) → m ≡ l.found.count + n
-      → HoldsBetween (BeginsEach T false e 1 n) l.bytes l.found.end end → HoldsBetween (BeginsEach T false e 1 m) l.bytes 0 end;
+  parts : (T : Table) (e : TypeId) (s : Shape) → shape_of T e ≡ Some s → HoldsNumbers s.kind → (n m end : ℕ)
+      → m ≡ l.found.count + n
+      → HoldsBetween (BeginsEach T false e 1 n) l.bytes l.found.end end
+      → HoldsBetween (BeginsEach T false e 1 m) l.bytes 0 end;
 }

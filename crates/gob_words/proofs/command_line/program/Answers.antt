@@ -1,5 +1,5 @@
--- The program with its commands, one after another.
-use Rattle.std.proofs.Common.{◌∙◌, ap, ap₂, refl, true}
+-- The commands that show a stream stand behind the exact ones.
+use Rattle.std.proofs.Common.{◌∙◌, ap, ap₂, refl}
 use Rattle.std.proofs.lemmas.Result.{IfOk-weaker}
 use Rattle.clap.specs.Words.{App, with_subcommand}
 use Rattle.clap.specs.Simple.{app_of_fields}
@@ -7,12 +7,9 @@ use Rattle.gob_words.proofs.command_line.program.Goals as goal
 
 pub returns : goal.returns
 returns c =
-    let about = ap app_of_fields c.about.ensures ∙ c.new.ensures.app in
-    let used = ap app_of_fields c.after_help.ensures ∙ about in
-    let bare = ap app_of_fields c.subcommand_required-bare.ensures
-    ∙ ap (λ (x : App). record { top = record x.top { subcommand_required = true }; subs = x.subs }) used in
-    let show = c.in_ok-showing.ensures ∙ ap₂ with_subcommand bare refl in
-    let check = c.in_ok-checking.ensures ∙ ap₂ with_subcommand show refl in
-    let rewrite = c.in_ok-rewriting.ensures ∙ ap₂ with_subcommand check refl in
-    IfOk-weaker c.subcommand.result _ _ (λ r added. added.shape c.in_ok-two_streams.ensures.local
-    ∙ ap₂ with_subcommand rewrite (ap (λ (x : App). x.top) c.in_ok-two_streams.ensures.app)) c.subcommand.ensures
+    let values = c.in_ok-valuing.ensures ∙ ap₂ with_subcommand c.in_ok-exact.ensures refl in
+    let types = c.in_ok-typing.ensures ∙ ap₂ with_subcommand values refl in
+    let version = ap app_of_fields c.about.ensures ∙ c.new.ensures.app in
+    IfOk-weaker c.subcommand.result _ _ (λ r added. added.shape (ap (λ f. f.has_globals) c.about.ensures
+    ∙ c.new.ensures.local)
+    ∙ ap₂ with_subcommand types (ap (λ (x : App). x.top) version)) c.subcommand.ensures

@@ -10,7 +10,8 @@ pub returns-in_err-put_digit_head : goal.returns-in_err-put_digit_head
 returns-in_err-put_digit_head g c =
     let r = c.from_residual.result in
     subst (λ (t : List ℕ). g.O.TextOut.puts c.args.out.now c.put_digit_head.new.out t r)
-    (plain_head c.args.later c.args.number c.args.name.now c.if-number-lt10.true (c.is_plain_ascii.ensures c.if-is_plain_ascii.true))
+    (plain_head c.args.later c.args.number c.args.name.now c.if-number-lt10.true
+    (c.is_plain_ascii.ensures c.if-is_plain_ascii.true))
     (piece_failed g.O.TextOut.puts g.met.O.TextOut.cut (c.args.name.now ++ 34 ∷ 44 ∷ []) r c.from_residual.ensures.1
     c.in_err-put_digit_head.ensures)
 
@@ -18,7 +19,8 @@ pub returns-in_err-put : goal.returns-in_err-put
 returns-in_err-put g c =
     let r = c.from_residual-in_err-put.result in
     subst (λ (t : List ℕ). g.O.TextOut.puts c.args.out.now c.put.new.self t r)
-    (plain_head c.args.later c.args.number c.args.name.now c.if-number-lt10.true (c.is_plain_ascii.ensures c.if-is_plain_ascii.true))
+    (plain_head c.args.later c.args.number c.args.name.now c.if-number-lt10.true
+    (c.is_plain_ascii.ensures c.if-is_plain_ascii.true))
     (g.met.O.TextOut.joined _ _ _ _ _ r c.in_ok-put_digit_head.ensures
     (piece_failed g.O.TextOut.puts g.met.O.TextOut.cut (34 ∷ 44 ∷ []) r c.from_residual-in_err-put.ensures.1
     c.in_err-put.ensures))
@@ -26,8 +28,10 @@ returns-in_err-put g c =
 pub returns-then-is_plain_ascii : goal.returns-then-is_plain_ascii
 returns-then-is_plain_ascii g c =
     let joined = g.met.O.TextOut.joined in
-    subst (λ (t : List ℕ). g.O.TextOut.puts c.args.out.now c.put-then-is_plain_ascii.new.self t c.put-then-is_plain_ascii.result)
-    (plain_head c.args.later c.args.number c.args.name.now c.if-number-lt10.true (c.is_plain_ascii.ensures c.if-is_plain_ascii.true))
+    subst (λ (t : List ℕ). g.O.TextOut.puts c.args.out.now c.put-then-is_plain_ascii.new.self t
+    c.put-then-is_plain_ascii.result)
+    (plain_head c.args.later c.args.number c.args.name.now c.if-number-lt10.true
+    (c.is_plain_ascii.ensures c.if-is_plain_ascii.true))
     (joined _ _ _ _ _ _ c.in_ok-put_digit_head.ensures
     (joined _ _ _ _ _ _ c.in_ok-put.ensures c.put-then-is_plain_ascii.ensures))
 

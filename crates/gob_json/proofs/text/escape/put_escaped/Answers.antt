@@ -8,7 +8,8 @@ use Rattle.gob_json.proofs.text.escape.put_escaped.Goals as goal
 pub returns-then-stop-bytes : goal.returns-then-stop-bytes
 returns-then-stop-bytes g c =
     c.runs.invariant.left _ _
-    (subst (λ (t : List ℕ). g.O.TextOut.puts c.runs.out c.put.new.self t c.put.result) (all_plain c.args.bytes.now c.runs.at c.plain_end-stop.result c.plain_end-stop.ensures.value (omega arith))
+    (subst (λ (t : List ℕ). g.O.TextOut.puts c.runs.out c.put.new.self t c.put.result)
+    (all_plain c.args.bytes.now c.runs.at c.plain_end-stop.result c.plain_end-stop.ensures.value (omega arith))
     c.put.ensures)
 
 pub returns-in_err-put : goal.returns-in_err-put
@@ -19,7 +20,8 @@ returns-in_err-put g c =
     c.runs.invariant.left c.put-in-runs.new.self r
     (subst (λ (t : List ℕ). g.O.TextOut.puts c.runs.out c.put-in-runs.new.self t r)
     (sym (escape_run bytes c.runs.at stop c.plain_end-stop.ensures.value))
-    (piece_failed g.O.TextOut.puts g.met.O.TextOut.cut (escape (drop stop bytes)) r c.from_residual.ensures.1 c.in_err-put.ensures))
+    (piece_failed g.O.TextOut.puts g.met.O.TextOut.cut (escape (drop stop bytes)) r c.from_residual.ensures.1
+    c.in_err-put.ensures))
 
 pub returns-in_err-put_escape : goal.returns-in_err-put_escape
 returns-in_err-put_escape g c =

@@ -1,5 +1,6 @@
 -- Byte by byte two digits more.
-use Rattle.std.proofs.Common.{List, ℕ, ◌-◌, ◌≡◌, ◌∷◌, [], ◌*◌, ◌+◌, ◌/◌, ◌%◌, ◌++◌, ◌∙◌, ap, get_or, sym, arith, append-nil, take}
+use Rattle.std.proofs.Common.{List, ℕ, ◌-◌, ◌≡◌, ◌∷◌, [], ◌*◌, ◌+◌, ◌/◌, ◌%◌, ◌++◌, ◌∙◌, ap, get_or, sym, arith}
+use Rattle.std.proofs.Common.{append-nil, take}
 use Rattle.std.proofs.lemmas.List.{drop_more, drop_all, take_all}
 use Rattle.std.specs.Prelude.{slice_index}
 use Rattle.hex.specs.Hex.{encode_with, encode_lower, lower_digits}
@@ -22,10 +23,12 @@ bytes-preserved c =
     let row = c.from-row.result * 2 in
     let new = put_mid (2 * i) k d c.copy_from_slice.new.self in
     let stored : take (2 * (i + 1)) new ≡ take (2 * i) d ++ high ∷ low ∷ [] =
-    ap (λ n. take n new) two ∙ ap (λ (l : List ℕ). take (2 * i + 2) (put_mid (2 * i) k d l)) c.copy_from_slice.ensures.after
+    ap (λ n. take n new) two ∙ ap (λ (l : List ℕ). take (2 * i + 2) (put_mid (2 * i) k d l))
+    c.copy_from_slice.ensures.after
     ∙ two_hex_stored d (2 * i) byte k row (row + 2 - row) (omega (arith, size)) c.bytes-test.element_fits.fits
     (omega (arith, c.from-row.ensures)) (omega arith) in (
-      length_stored d c.copy_from_slice.new.self (2 * i) k (omega (arith, size)) (omega (arith, c.copy_from_slice.ensures.len)) ∙ size,
+      length_stored d c.copy_from_slice.new.self (2 * i) k (omega (arith, size))
+          (omega (arith, c.copy_from_slice.ensures.len)) ∙ size,
       moved _ _ _ _ _ _ stored (ap encode_lower (drop_more c.args.bytes i 0 (omega arith))) c.bytes.invariant.1,
     )
 

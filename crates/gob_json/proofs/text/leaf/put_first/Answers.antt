@@ -13,7 +13,8 @@ returns-then-number-ge100 g c =
 pub returns-then-number-ge10 : goal.returns-then-number-ge10
 returns-then-number-ge10 g c =
     let n = c.args.number in
-    subst (λ (t : List ℕ). g.O.TextOut.puts c.args.out.now c.put-then-number-ge10.new.self t c.put-then-number-ge10.result)
+    subst (λ (t : List ℕ). g.O.TextOut.puts c.args.out.now c.put-then-number-ge10.new.self t
+    c.put-then-number-ge10.result)
     (last_digits n (n * 4 + 1) (n * 4 + 3 - (n * 4 + 1)) 1 c.requires (omega arith) (omega arith)
     ∙ two_of_three n (omega arith) (omega arith)) c.put-then-number-ge10.ensures
 

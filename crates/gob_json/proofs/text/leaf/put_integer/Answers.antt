@@ -8,7 +8,8 @@ use Rattle.gob_json.proofs.text.leaf.put_integer.Goals as goal
 pub returns-in_err-put : goal.returns-in_err-put
 returns-in_err-put g c =
     let put = g.O.TextOut.puts c.args.out.now c.put.new.self in
-    let text : (45 ∷ []) ++ compact_text (natural_json c.unsigned_abs-size.result) ≡ compact_text (integer_json c.args.number) =
+    let text : (45 ∷ []) ++ compact_text (natural_json c.unsigned_abs-size.result) ≡ compact_text
+    (integer_json c.args.number) =
     search rules in
     subst (λ (t : List ℕ). put t c.from_residual.result) text
     (piece_failed g.O.TextOut.puts g.met.O.TextOut.cut (compact_text (natural_json c.unsigned_abs-size.result))
@@ -17,7 +18,9 @@ returns-in_err-put g c =
 pub returns : goal.returns
 returns g c =
     let put = g.O.TextOut.puts c.args.out.now c.put_natural-2.new.out in
-    let text : (45 ∷ []) ++ compact_text (natural_json c.unsigned_abs-size.result) ≡ compact_text (integer_json c.args.number) =
+    let text : (45 ∷ []) ++ compact_text (natural_json c.unsigned_abs-size.result) ≡ compact_text
+    (integer_json c.args.number) =
     search rules in
     subst (λ (t : List ℕ). put t c.put_natural-2.result) text
-    (g.met.O.TextOut.joined _ _ _ (45 ∷ []) (compact_text (natural_json c.unsigned_abs-size.result)) _ c.in_ok-put.ensures c.put_natural-2.ensures)
+    (g.met.O.TextOut.joined _ _ _ (45 ∷ []) (compact_text (natural_json c.unsigned_abs-size.result)) _
+    c.in_ok-put.ensures c.put_natural-2.ensures)

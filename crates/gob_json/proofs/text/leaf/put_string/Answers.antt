@@ -6,14 +6,16 @@ use Rattle.gob_json.proofs.text.leaf.put_string.Goals as goal
 
 pub returns-in_err-put : goal.returns-in_err-put
 returns-in_err-put g c =
-    piece_failed g.O.TextOut.puts g.met.O.TextOut.cut (escape c.args.bytes.now ++ 34 ∷ []) c.from_residual.result c.from_residual.ensures.1
+    piece_failed g.O.TextOut.puts g.met.O.TextOut.cut (escape c.args.bytes.now ++ 34 ∷ []) c.from_residual.result
+    c.from_residual.ensures.1
     c.in_err-put.ensures
 
 pub returns-in_err-put_escaped : goal.returns-in_err-put_escaped
 returns-in_err-put_escaped g c =
     let r = c.from_residual-in_err-put_escaped.result in
     g.met.O.TextOut.joined _ _ _ _ _ r c.in_ok-put.ensures
-    (piece_failed g.O.TextOut.puts g.met.O.TextOut.cut (34 ∷ []) r c.from_residual-in_err-put_escaped.ensures.1 c.in_err-put_escaped.ensures)
+    (piece_failed g.O.TextOut.puts g.met.O.TextOut.cut (34 ∷ []) r c.from_residual-in_err-put_escaped.ensures.1
+    c.in_err-put_escaped.ensures)
 
 pub returns : goal.returns
 returns g c =

@@ -1,5 +1,6 @@
 -- One byte more is copied.
-use Rattle.std.proofs.Common.{ℕ, List, ◌≡◌, ◌∷◌, [], ◌++◌, ◌+◌, ◌-◌, ◌<◌, ap, arith, append_assoc, eq-zero-or-pos, inl, inr, get_or, length-set, set, subst}
+use Rattle.std.proofs.Common.{ℕ, List, ◌≡◌, ◌∷◌, [], ◌++◌, ◌+◌, ◌-◌, ◌<◌, ap, arith, append_assoc, eq-zero-or-pos, inl}
+use Rattle.std.proofs.Common.{inr, get_or, length-set, set, subst}
 use Rattle.std.proofs.Common.{sym, take, true, ◌∙◌}
 use Rattle.std.proofs.lemmas.List.{take-set-le, take_more, take_more_set}
 use Rattle.json.specs.Run.{is_plain}
@@ -26,7 +27,8 @@ bytes-preserved c =
       ];
       copied =
           let next : at + (i + 1) ≡ at + i + 1 = omega arith in
-          ap (λ (n : ℕ). take n (set block (at + i) byte)) next ∙ take_more_set block (at + i) byte (omega (arith, now.size, c.requires))
+          ap (λ (n : ℕ). take n (set block (at + i) byte)) next
+          ∙ take_more_set block (at + i) byte (omega (arith, now.size, c.requires))
           ∙ ap (λ (l : List ℕ). l ++ byte ∷ []) now.copied ∙ append_assoc old (take i bytes) (byte ∷ [])
           ∙ ap (λ (l : List ℕ). old ++ l) (sym (take_more bytes i 0 c.bytes-test.true));
       before = take-set-le at block (at + i) byte (omega arith) ∙ now.before;

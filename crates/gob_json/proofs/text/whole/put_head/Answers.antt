@@ -6,14 +6,16 @@ use Rattle.gob_json.proofs.text.whole.put_head.Goals as goal
 
 pub returns-in_err-put : goal.returns-in_err-put
 returns-in_err-put g c =
-    piece_failed g.O.TextOut.puts g.met.O.TextOut.cut (decimal c.args.id.0 ++ codes ",\"value\":") c.from_residual.result
+    piece_failed g.O.TextOut.puts g.met.O.TextOut.cut (decimal c.args.id.0 ++ codes ",\"value\":")
+    c.from_residual.result
     c.from_residual.ensures.1 c.in_err-put.ensures
 
 pub returns-in_err-put_natural : goal.returns-in_err-put_natural
 returns-in_err-put_natural g c =
     let r = c.from_residual-in_err-put_natural.result in
     g.met.O.TextOut.joined _ _ _ _ _ r c.in_ok-put.ensures
-    (piece_failed g.O.TextOut.puts g.met.O.TextOut.cut (codes ",\"value\":") r c.from_residual-in_err-put_natural.ensures.1
+    (piece_failed g.O.TextOut.puts g.met.O.TextOut.cut (codes ",\"value\":") r
+    c.from_residual-in_err-put_natural.ensures.1
     c.in_err-put_natural.ensures)
 
 pub returns : goal.returns

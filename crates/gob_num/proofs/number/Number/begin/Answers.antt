@@ -1,6 +1,6 @@
 use Rattle.std.proofs.Common.{arith, ◌∷◌, [], sym, subst}
 use Rattle.gob_num.specs.Unsigned.{IsUnsigned, short}
-use Rattle.gob_num.proofs.FrontLaws.{begins_front}
+use Rattle.gob_num.proofs.PrefixLaws.{begins_prefix}
 use Rattle.gob_num.proofs.PushedLaws.{begun}
 use Rattle.gob_num.proofs.number.Number.begin.Goals as goal
 
@@ -13,7 +13,7 @@ invariant_of-self c = (begun c.args.b c.digits_after-count.result c.if-b-lt-LEAS
     c.digits_after-count.ensures).0
 
 pub returns-clause-judged : goal.returns-clause-judged
-returns-clause-judged c = begins_front (c.if-b-lt-LEAST_HEAD.false, omega arith)
+returns-clause-judged c = begins_prefix (c.if-b-lt-LEAST_HEAD.false, omega arith)
 
 pub returns-clause-next : goal.returns-clause-next
 returns-clause-next c = (begun c.args.b c.digits_after-count.result c.if-b-lt-LEAST_HEAD.false (omega arith)

@@ -39,7 +39,7 @@ pub invariant_of-self-2 : goal.invariant_of-self-2
 invariant_of-self-2 c = (facts (goal.at.invariant_of-self-2 c).After-from).counters c.if-self-eq1.false
 
 pub returns-clause-judged : goal.returns-clause-judged
-returns-clause-judged c = (facts (goal.at.returns-clause-judged c).After-from).front c.if-self-eq1.false
+returns-clause-judged c = (facts (goal.at.returns-clause-judged c).After-from).prefix c.if-self-eq1.false
 
 pub returns-clause-next : goal.returns-clause-next
 returns-clause-next c = (facts (goal.at.returns-clause-next c).After-from).next c.if-self-eq1.false

@@ -1,8 +1,8 @@
 use Rattle.std.proofs.Common.{◌≡◌, ℕ, ◌+◌, ◌<◌, List, [], ◌∷◌, ◌++◌, length, take, get_or, arith, ◌∙◌, sym, subst}
 use Rattle.std.proofs.Common.{append-nil, append_assoc}
 use Rattle.std.proofs.lemmas.List.{take_more}
-use Rattle.gob_num.specs.Unsigned.{IsUnsigned, IsUnsignedFront}
-use Rattle.gob_num.proofs.FrontLaws.{begins_front}
+use Rattle.gob_num.specs.Unsigned.{IsUnsigned, IsUnsignedPrefix}
+use Rattle.gob_num.proofs.PrefixLaws.{begins_prefix}
 use Rattle.gob_num.proofs.number.Number.take_by_bytes.Goals as goal
 
 -- the bytes so far and the next
@@ -14,12 +14,16 @@ with_next old piece i e l =
 pub loop-i-init : goal.loop-i-init
 loop-i-init c =
     let here = sym (append-nil c.args.self.now) in
-    record { taken = here; front = subst IsUnsignedFront (c.self.view_is ∙ here) (begins_front c.self.invariant.front) }
+    record {
+      taken = here;
+      prefix = subst IsUnsignedPrefix (c.self.view_is ∙ here)
+          (begins_prefix c.self.invariant.prefix);
+    }
 
 pub loop-i-preserved : goal.loop-i-preserved
 loop-i-preserved c =
     let here = with_next c.args.self.now c.args.piece.now c.loop-i.i c.loop-i.invariant.taken c.loop-i-test.true in
-    record { taken = c.in-More.ensures.next ∙ here; front = subst IsUnsignedFront here c.in-More.ensures.judged }
+    record { taken = c.in-More.ensures.next ∙ here; prefix = subst IsUnsignedPrefix here c.in-More.ensures.judged }
 
 pub returns-in-Done-clause-taken : goal.returns-in-Done-clause-taken
 returns-in-Done-clause-taken c =

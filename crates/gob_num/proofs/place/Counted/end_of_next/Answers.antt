@@ -1,13 +1,16 @@
 use Rattle.std.proofs.Common.{◌≡◌, ℕ, ◌+◌, ◌<◌, ◌≤◌, List, length, get_or, arith, rules, refl}
 use Rattle.gob_num.proofs.PlaceLaws.{StandsAt, short_at, bad_head_at, padded_at, too_few_at, counted_at}
 use Rattle.gob_num.proofs.place.Counted.end_of_next.Goals as goal
-use Rattle.gob_num.proofs.place.Counted.end_of_next.Goals.{then-head-self+else-head-lt-LEAST_HEAD, else-head-self, Joined-head-self}
+use Rattle.gob_num.proofs.place.Counted.end_of_next.Goals.{then-head-self+else-head-lt-LEAST_HEAD, else-head-self}
+use Rattle.gob_num.proofs.place.Counted.end_of_next.Goals.{Joined-head-self}
 
-here : {bytes : List ℕ} {at head : ℕ} → (at < length bytes) × ((d : ℕ) → head ≡ get_or bytes at d) → StandsAt head bytes at
+here : {bytes : List ℕ} {at head : ℕ} → (at < length bytes) × ((d : ℕ) → head ≡ get_or bytes at d)
+    → StandsAt head bytes at
 here p = record { inside = p.0; is = p.1 0 }
 
 -- the head that is read counts its digits
-counts : (c : Joined-head-self) → (248 ≤ c.in_ok-head.field-0.now) × (c.in_ok-head.field-0.now + c.if-head-self.self.count ≡ 256)
+counts : (c : Joined-head-self) → (248 ≤ c.in_ok-head.field-0.now)
+    × (c.in_ok-head.field-0.now + c.if-head-self.self.count ≡ 256)
 counts c = elim c.if-head-self.branch [
   | then-head-self+else-head-lt-LEAST_HEAD w ↦ (w.if-head-lt-LEAST_HEAD.false, rw w.self-is w.digits_after.ensures)
   | else-head-self w ↦
@@ -31,7 +34,8 @@ returns-then-is_padded-clause-none c =
 pub returns-then-bytes-at-clause-none : goal.returns-then-bytes-at-clause-none
 returns-then-bytes-at-clause-none c =
     let joined = (goal.at.returns-then-bytes-at-clause-none c).Joined-head-self in
-    λ e. too_few_at c.if-head-self.self.count (here c.in_ok-head.ensures.lookup.3) c.if-head-lt128.false (counts joined).1
+    λ e. too_few_at c.if-head-self.self.count (here c.in_ok-head.ensures.lookup.3) c.if-head-lt128.false
+    (counts joined).1
     (omega (arith, c.if-bytes-at.true, c.from-count.ensures, c.in_ok-head.ensures.lookup.3.0))
 
 pub returns-clause-found : goal.returns-clause-found

@@ -1,7 +1,8 @@
 use Rattle.std.proofs.Common.{◌-◌, arith, refl}
 use Rattle.gob_read.specs.declared.frame.Frame.TheVariants as frame
 use Rattle.gob_read.specs.Machine.BasicParts.{no_part_taken}
-use Rattle.gob_read.proofs.Machine.BasicPartSteps.{item_start, item_before, item_or_not, taken_or_not, taken_some, basic_on, goes_to_element, part_deep, rest_some}
+use Rattle.gob_read.proofs.Machine.BasicPartSteps.{item_start, item_before, item_or_not, taken_or_not, taken_some}
+use Rattle.gob_read.proofs.Machine.BasicPartSteps.{basic_on, goes_to_element, part_deep, rest_some}
 use Rattle.gob_read.proofs.run.Run.take_basic_elements.Goals as goal
 
 pub returns-in_default : goal.returns-in_default
@@ -21,13 +22,20 @@ elements-init g c =
 pub take_basic_part-requires-clause-inside : goal.take_basic_part-requires-clause-inside
 take_basic_part-requires-clause-inside g c =
     let i = c.elements.invariant in let n = i.count in let l = c.elements-test.true in
-    record { frame = frame.Many c.args.elem i.left; innermost = i.at.inside; goes_on = goes_to_element i.left (c.args.left - 1 - c.elements.index) (omega arith) }
+    record {
+      frame = frame.Many c.args.elem i.left;
+      innermost = i.at.inside;
+      goes_on =
+          goes_to_element i.left (c.args.left - 1 - c.elements.index) (omega arith);
+    }
 
 pub take_basic_part-requires-clause-before : goal.take_basic_part-requires-clause-before
-take_basic_part-requires-clause-before g c = item_before c.elements.invariant.at c.requires.before (omega arith) c.elements.invariant.some
+take_basic_part-requires-clause-before g c = item_before c.elements.invariant.at c.requires.before (omega arith)
+    c.elements.invariant.some
 
 pub returns-then-taken-eq0 : goal.returns-then-taken-eq0
-returns-then-taken-eq0 g c = taken_or_not c.elements.invariant.at c.elements.invariant.same c.requires.before.room c.elements.invariant.some c.in_ok-taken.ensures
+returns-then-taken-eq0 g c = taken_or_not c.elements.invariant.at c.elements.invariant.same c.requires.before.room
+    c.elements.invariant.some c.in_ok-taken.ensures
 
 pub elements-preserved : goal.elements-preserved
 elements-preserved g c =

@@ -8,7 +8,8 @@ abbrev pub invariant-elements : goal.invariant-elements
 invariant-elements g l = record {
   left : ℕ;
   count : left + l.index ≡ l.left;
-  at : AtItem (g.S.Shapes.table l.shapes) g.B.Builder.building.received l.fn.self l.self l.rest l.used l.index (Part l.elem) (frame.Many l.elem left);
+  at : AtItem (g.S.Shapes.table l.shapes) g.B.Builder.building.received l.fn.self l.self l.rest l.used l.index
+      (Part l.elem) (frame.Many l.elem left);
   some : l.used < length l.rest;
   same : l.used ≡ 0 → l.self ≡ l.fn.self;
 }

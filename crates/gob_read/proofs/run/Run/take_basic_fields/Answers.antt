@@ -3,7 +3,9 @@ use Rattle.gob_read.specs.declared.next.NextNumber.TheVariants.{Delta}
 use Rattle.gob_read.specs.Machine.Running.{item_depth}
 use Rattle.gob_read.specs.Machine.BasicParts.{no_part_taken, some_parts_taken}
 use Rattle.gob_read.specs.Machine.Frames.{to_delta}
-use Rattle.gob_read.proofs.Machine.BasicPartSteps.{item_start, item_before, byte_before, item_passed, item_or_not, taken_or_not, same_passed, same_fresh, part_deep, unnamed, named_as, named_on, field_on, taken_within, fewer, end_on, rest_some}
+use Rattle.gob_read.proofs.Machine.BasicPartSteps.{item_start, item_before, byte_before, item_passed, item_or_not}
+use Rattle.gob_read.proofs.Machine.BasicPartSteps.{taken_or_not, same_passed, same_fresh, part_deep, unnamed, named_as}
+use Rattle.gob_read.proofs.Machine.BasicPartSteps.{named_on, field_on, taken_within, fewer, end_on, rest_some}
 use Rattle.gob_read.proofs.run.Run.take_basic_fields.Goals as goal
 
 -- numbers that the answers below compare
@@ -49,13 +51,20 @@ pub returns-in_default-basic_of : goal.returns-in_default-basic_of
 returns-in_default-basic_of g c = item_or_not c.fields.invariant.at c.fields.invariant.same
 
 pub take_basic_part-requires-clause-before : goal.take_basic_part-requires-clause-before
-take_basic_part-requires-clause-before g c = item_before c.fields.invariant.at c.requires.before (omega arith) c.fields.invariant.some
+take_basic_part-requires-clause-before g c = item_before c.fields.invariant.at c.requires.before (omega arith)
+    c.fields.invariant.some
 
 pub take_basic_part-requires-clause-inside : goal.take_basic_part-requires-clause-inside
-take_basic_part-requires-clause-inside g c = record { frame = _; innermost = c.fields.invariant.at.inside; goes_on = to_delta }
+take_basic_part-requires-clause-inside g c = record {
+  frame = _;
+  innermost = c.fields.invariant.at.inside;
+  goes_on =
+      to_delta;
+}
 
 pub returns-then-taken-eq0 : goal.returns-then-taken-eq0
-returns-then-taken-eq0 g c = taken_or_not c.fields.invariant.at c.fields.invariant.same c.requires.before.room c.fields.invariant.some c.in_ok-taken.ensures
+returns-then-taken-eq0 g c = taken_or_not c.fields.invariant.at c.fields.invariant.same c.requires.before.room
+    c.fields.invariant.some c.in_ok-taken.ensures
 
 pub take_end-requires-clause-before : goal.take_end-requires-clause-before
 take_end-requires-clause-before g c = record {

@@ -10,4 +10,5 @@ pub returns-in_default : goal.returns-in_default
 returns-in_default g c = no_part_taken refl refl
 
 pub take_basic_elements-requires-clause-before : goal.take_basic_elements-requires-clause-before
-take_basic_elements-requires-clause-before g c = before_element c.requires (sym c.innermost.ensures ∙ (c.in-Some-Many.is ∙ ap Some c.in-Some-Many.field-0-is))
+take_basic_elements-requires-clause-before g c = before_element c.requires (sym c.innermost.ensures
+    ∙ (c.in-Some-Many.is ∙ ap Some c.in-Some-Many.field-0-is))

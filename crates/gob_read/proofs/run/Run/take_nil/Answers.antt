@@ -1,7 +1,7 @@
 use Rattle.std.proofs.Common.{◌∷◌, [], arith, refl}
 use Rattle.gob_read.proofs.Machine.Pieces.{come_start, come_on, come_end, come_open, come_all, ended_all, judge_stops}
 use Rattle.gob_read.proofs.Machine.Pieces.{step_stops, end_stops, stop_passed}
-use Rattle.gob_read.proofs.Machine.Runs.{front_taken}
+use Rattle.gob_read.proofs.Machine.Runs.{prefix_taken}
 use Rattle.gob_read.proofs.run.Run.take_nil.Goals as goal
 
 pub returns-in_err-judge-clause-came : goal.returns-in_err-judge-clause-came
@@ -29,14 +29,14 @@ returns-in_err-judge-in-ToNext-clause-came g c =
     c.from_residual-in_err-judge-in-ToNext.ensures.1
     (judge_stops _ _ _ _ c.in_err-judge-in-ToNext.field-0.0
     (come_on (come_start (0 ∷ [])) (c.in_ok-judge.ensures.judged (g.S.Shapes.table c.args.shapes.now))
-    (front_taken (0 ∷ []) [] refl refl (omega arith) c.in_ok-moved.ensures.taken) c.in-ToNext.is)
+    (prefix_taken (0 ∷ []) [] refl refl (omega arith) c.in_ok-moved.ensures.taken) c.in-ToNext.is)
     c.requires.room c.in_err-judge-in-ToNext.ensures.judged)
 
 pub returns-in_ok-judge-in-ToNext-clause-came : goal.returns-in_ok-judge-in-ToNext-clause-came
 returns-in_ok-judge-in-ToNext-clause-came g c =
     rw c.in-ToNext.is
     (come_all (come_on (come_start (0 ∷ [])) (c.in_ok-judge.ensures.judged (g.S.Shapes.table c.args.shapes.now))
-    (front_taken (0 ∷ []) [] refl refl (omega arith) c.in_ok-moved.ensures.taken) c.in-ToNext.is)
+    (prefix_taken (0 ∷ []) [] refl refl (omega arith) c.in_ok-moved.ensures.taken) c.in-ToNext.is)
     (c.in_ok-judge-in-ToNext.ensures.judged (g.S.Shapes.table c.args.shapes.now)) (omega arith))
 
 pub returns-in_err-finish-in-PastValue-clause-came : goal.returns-in_err-finish-in-PastValue-clause-came
@@ -45,12 +45,12 @@ returns-in_err-finish-in-PastValue-clause-came g c =
     c.from_residual-in_err-finish-in-PastValue.ensures.1
     (end_stops _ _ _ _ c.in_err-finish-in-PastValue.field-0.0
     (come_end (come_start (0 ∷ [])) (c.in_ok-judge.ensures.judged (g.S.Shapes.table c.args.shapes.now))
-    (front_taken (0 ∷ []) [] refl refl (omega arith) c.in_ok-moved.ensures.taken) c.in-PastValue.is)
+    (prefix_taken (0 ∷ []) [] refl refl (omega arith) c.in_ok-moved.ensures.taken) c.in-PastValue.is)
     c.in_err-finish-in-PastValue.ensures.ended)
 
 pub returns-in_ok-finish-in-PastValue-clause-came : goal.returns-in_ok-finish-in-PastValue-clause-came
 returns-in_ok-finish-in-PastValue-clause-came g c =
     rw c.in-PastValue.is
     (ended_all (come_end (come_start (0 ∷ [])) (c.in_ok-judge.ensures.judged (g.S.Shapes.table c.args.shapes.now))
-    (front_taken (0 ∷ []) [] refl refl (omega arith) c.in_ok-moved.ensures.taken) c.in-PastValue.is)
+    (prefix_taken (0 ∷ []) [] refl refl (omega arith) c.in_ok-moved.ensures.taken) c.in-PastValue.is)
     c.in_ok-finish-in-PastValue.ensures.ended)

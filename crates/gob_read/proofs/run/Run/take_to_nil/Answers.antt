@@ -48,7 +48,8 @@ returns-in_err-taken-clause-no_interface g c =
     let i = c.items.invariant in
     let open_ = come_open c.requires.has_read i.come i.opens in
     never_passed _ c.from_residual-in_err-taken.result c.from_residual-in_err-taken.ensures.1
-    (none_refused c.args.self.now _ (Err c.in_err-taken.field-0.0) open_ c.if-is_at_nil.ensures c.in_err-taken.ensures.taken
+    (none_refused c.args.self.now _ (Err c.in_err-taken.field-0.0) open_ c.if-is_at_nil.ensures
+    c.in_err-taken.ensures.taken
     c.in_err-taken.ensures.here)
 
 pub returns-in_err-judge-in-ToNext-clause-came : goal.returns-in_err-judge-in-ToNext-clause-came

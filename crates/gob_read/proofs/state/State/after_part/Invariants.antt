@@ -7,7 +7,8 @@ use Rattle.gob_read.proofs.state.State.after_part.Given as goal
 abbrev pub invariant-opens : goal.invariant-opens
 invariant-opens g l = record {
   can : CanEnd g.B.Builder.building.received l.self;
-  each : (T : Table) (t : TypeId) (z : List ℕ) → IsEnded T t g.B.Builder.building.received l.fn.self z → IsEnded T t g.B.Builder.building.received l.self z;
+  each : (T : Table) (t : TypeId) (z : List ℕ) → IsEnded T t g.B.Builder.building.received l.fn.self z
+      → IsEnded T t g.B.Builder.building.received l.self z;
 }
 
 abbrev pub decreases-opens : goal.decreases-opens

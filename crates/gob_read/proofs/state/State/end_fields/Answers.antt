@@ -10,4 +10,7 @@ pub after_part-requires : goal.after_part-requires
 after_part-requires g c = struct_can_end c.close.ensures c.in_ok-leave.ensures refl c.requires.goes_on
 
 pub returns : goal.returns
-returns g c = if_ok c.after_part.result (λ moved e. record { each = λ id types next. struct_goes_on c.close.ensures c.in_ok-leave.ensures refl e }) c.after_part.ensures
+returns g c = if_ok c.after_part.result (λ moved e. record {
+  each = λ id types next. struct_goes_on c.close.ensures
+      c.in_ok-leave.ensures refl e;
+}) c.after_part.ensures

@@ -11,10 +11,16 @@ pub leave-requires : goal.leave-requires
 leave-requires g c = can_end_group c.requires c.in_ok-enter.ensures
 
 pub after_part-requires : goal.after_part-requires
-after_part-requires g c = begins_can_end (count_ended refl c.in_ok-enter.ensures c.in_ok-leave.ensures c.if-n-eq0.true) c.requires
+after_part-requires g c = begins_can_end (count_ended refl c.in_ok-enter.ensures c.in_ok-leave.ensures c.if-n-eq0.true)
+    c.requires
 
 pub returns-then-n-eq0 : goal.returns-then-n-eq0
-returns-then-n-eq0 g c = if_ok c.after_part.result (λ moved e. begins_ended (count_ended refl c.in_ok-enter.ensures c.in_ok-leave.ensures c.if-n-eq0.true) e) c.after_part.ensures
+returns-then-n-eq0 g c =
+    if_ok c.after_part.result (λ moved e. begins_ended (count_ended refl c.in_ok-enter.ensures c.in_ok-leave.ensures
+    c.if-n-eq0.true) e) c.after_part.ensures
 
 pub returns : goal.returns
-returns g c = record { each = count_placed c.in_ok-open.ensures (ap Number c.item.ensures) c.in_ok-enter.ensures c.if-n-eq0.false }
+returns g c = record {
+  each = count_placed c.in_ok-open.ensures (ap Number c.item.ensures) c.in_ok-enter.ensures
+      c.if-n-eq0.false;
+}

@@ -17,10 +17,14 @@ returns-in_default g c =
     record { reason_is = refl; some = omega arith; past = omega arith }
 
 pub name_field-requires-clause-named : goal.name_field-requires-clause-named
-name_field-requires-clause-named g c = can_name c.saturating_add-number.result c.requires (let h = c.saturating_add-number.ensures in let s = c.in-Some.ensures.small in let z = c.if-n-eq0.false in omega arith)
+name_field-requires-clause-named g c = can_name c.saturating_add-number.result c.requires (let h =
+    c.saturating_add-number.ensures in let s = c.in-Some.ensures.small in let z = c.if-n-eq0.false in omega arith)
 
 pub returns : goal.returns
 returns g c =
     let h = c.saturating_add-number.ensures in let s = c.in-Some.ensures.small in let z = c.if-n-eq0.false in
     let n = c.in_ok-name_field.ensures in
-    record { each = field_placed c.saturating_add-number.result n.stack n.expected n.told (omega arith) (omega arith) (sym c.in-Some.ensures.found) }
+    record {
+      each = field_placed c.saturating_add-number.result n.stack n.expected n.told (omega arith) (omega arith)
+          (sym c.in-Some.ensures.found);
+    }

@@ -1,4 +1,5 @@
-use Rattle.gob_read.proofs.Machine.ItemSteps.{takes_or_blames, take_at, tag_can, second_can, here_takes, wrong_tag_refuses, part_can, part_takes, part_refuses}
+use Rattle.gob_read.proofs.Machine.ItemSteps.{takes_or_blames, take_at, tag_can, second_can, here_takes}
+use Rattle.gob_read.proofs.Machine.ItemSteps.{wrong_tag_refuses, part_can, part_takes, part_refuses}
 use Rattle.gob_read.proofs.state.State.take_number.Goals as goal
 
 pub take_tag-requires : goal.take_tag-requires

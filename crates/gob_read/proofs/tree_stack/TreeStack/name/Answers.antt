@@ -10,7 +10,8 @@ returns-in-Some c =
     let s = c.args.self.now in
     let some : 0 < vec_len s.parts = search rules in
     ap (λ ps. work ps (option_map view s.whole))
-    (stack_changed (λ p. with_number p c.args.number) s.parts.items (vec_len s.parts - 1) c.in-Some.part.now c.name.new.self (omega (arith, s.parts.ok.0)) c.in-Some.ensures.value c.name.ensures)
+    (stack_changed (λ p. with_number p c.args.number) s.parts.items (vec_len s.parts - 1) c.in-Some.part.now
+    c.name.new.self (omega (arith, s.parts.ok.0)) c.in-Some.ensures.value c.name.ensures)
 
 pub returns-in_default : goal.returns-in_default
 returns-in_default c =

@@ -8,7 +8,8 @@ pub returns-in_ok-add-in-Some : goal.returns-in_ok-add-in-Some
 returns-in_ok-add-in-Some c =
     let s = c.args.self.now in
     let some : 0 < vec_len s.parts = search rules in
-    put_last s.parts.items (option_map view s.whole) (view c.args.value) (vec_len s.parts - 1) c.in-Some.part.now c.add.new.self (omega (arith, s.parts.ok.0)) c.in-Some.ensures.value c.in_ok-add-in-Some.ensures
+    put_last s.parts.items (option_map view s.whole) (view c.args.value) (vec_len s.parts - 1) c.in-Some.part.now
+    c.add.new.self (omega (arith, s.parts.ok.0)) c.in-Some.ensures.value c.in_ok-add-in-Some.ensures
 
 pub returns-in-None : goal.returns-in-None
 returns-in-None c =

@@ -8,10 +8,12 @@ pub returns-in-More : goal.returns-in-More
 returns-in-More g c = count_more c.args.self.number c.args.piece.now c.in-More.ensures.taken c.in-More.ensures.left
 
 pub returns-in-Ok : goal.returns-in-Ok
-returns-in-Ok g c = count_whole c.args.self.number c.args.piece.now c.in-Whole.ensures.taken.0 c.requires.taken c.in-Whole.ensures.taken.1 c.in-Whole.ensures.left c.in-Ok.ensures
+returns-in-Ok g c = count_whole c.args.self.number c.args.piece.now c.in-Whole.ensures.taken.0 c.requires.taken
+    c.in-Whole.ensures.taken.1 c.in-Whole.ensures.left c.in-Ok.ensures
 
 pub returns-in-Err : goal.returns-in-Err
-returns-in-Err g c = count_at_end c.args.self.number c.args.piece.now c.in-Whole.ensures.taken.0 c.requires.taken c.in-Whole.ensures.taken.1 c.in-Err.ensures
+returns-in-Err g c = count_at_end c.args.self.number c.args.piece.now c.in-Whole.ensures.taken.0 c.requires.taken
+    c.in-Whole.ensures.taken.1 c.in-Err.ensures
 
 pub returns-in-BadHead : goal.returns-in-BadHead
 returns-in-BadHead g c = count_bad c.in-BadHead.ensures.taken c.refusal.ensures

@@ -9,5 +9,6 @@ pub returns-clause-count : goal.returns-clause-count
 returns-clause-count g c =
     let room = c.saturating_sub-room.ensures in
     let most = c.stream.ensures.stream in
-    rw (← c.self.view_is) (has_count _ _ _ _ c.saturating_sub-room.result _ c.in_ok-count.ensures.found (omega arith) (omega arith)
+    rw (← c.self.view_is) (has_count _ _ _ _ c.saturating_sub-room.result _ c.in_ok-count.ensures.found (omega arith)
+    (omega arith)
     (omega arith))

@@ -2,25 +2,42 @@ use Rattle.std.proofs.Common.{◌<◌, ◌≤◌, Ok, Err, ◌++◌, ◌∷◌, 
 use Rattle.std.proofs.lemmas.List.{append-nil, take_rest}
 use Rattle.gob_stream.proofs.Reader.HonestLaws.{always_feeds_honestly}
 use Rattle.gob_stream.proofs.Reader.StageSteps.{parts}
-use Rattle.gob_stream.proofs.Reader.FeedSteps.{rest_of, feed_start, feed_on, feed_item, feed_there, fed_all, feed_no_memory, feed_stops}
+use Rattle.gob_stream.proofs.Reader.FeedSteps.{rest_of, feed_start, feed_on, feed_item, feed_there, fed_all}
+use Rattle.gob_stream.proofs.Reader.FeedSteps.{feed_no_memory, feed_stops}
 use Rattle.gob_stream.proofs.session.Session.feed.Goals.{In-Ok, in-Some+in_default-push_item, in_default}
 use Rattle.gob_stream.proofs.session.Session.feed.Given as given
 use Rattle.gob_stream.proofs.session.Session.feed.Goals as goal
 
 -- of what is left of the piece a step takes some
-takes_some : (g : given.Over) (c : In-Ok g) → (0 < c.in-Ok.step.used) × (c.in-Ok.step.used ≤ length (rest_of c.args.piece.now c.steps.used))
+takes_some : (g : given.Over) (c : In-Ok g) → (0 < c.in-Ok.step.used)
+    × (c.in-Ok.step.used ≤ length (rest_of c.args.piece.now c.steps.used))
 takes_some g c =
-    let w = c.steps.invariant.within in let n = c.if-used-piece.false in
-    (c.in-Ok.ensures.used.0 (omega (arith, ap length (take_rest c.args.piece.now c.steps.used), length-drop c.steps.used c.args.piece.now)), c.in-Ok.ensures.used.1)
+    let w = c.steps.invariant.within in let n = c.if-used-piece.false in (
+      c.in-Ok.ensures.used.0 (omega (
+        arith,
+        ap length (take_rest c.args.piece.now c.steps.used),
+        length-drop c.steps.used c.args.piece.now,
+      )),
+      c.in-Ok.ensures.used.1,
+    )
 
 -- a session that has failed stands after nothing
 pub returns-then-has_failed-clause-fed : goal.returns-then-has_failed-clause-fed
 returns-then-has_failed-clause-fed g c =
     let failed = c.if-has_failed.ensures.failed in
-    record { given = []; appended = sym (append-nil c.args.out.now.items); holds = λ items bytes a. absurd (parts failed a.stage) }
+    record {
+      given = [];
+      appended = sym (append-nil c.args.out.now.items);
+      holds =
+          λ items bytes a. absurd (parts failed a.stage);
+    }
 
 pub returns-then-has_failed-clause-honest : goal.returns-then-has_failed-clause-honest
-returns-then-has_failed-clause-honest g c = record { given = []; appended = sym (append-nil c.args.out.now.items); holds = λ items bytes a. tt }
+returns-then-has_failed-clause-honest g c = record {
+  given = [];
+  appended = sym (append-nil c.args.out.now.items);
+  holds = λ items bytes a. tt;
+}
 
 pub steps-init : goal.steps-init
 steps-init g c = feed_start c.args.out.now.items c.args.piece.now
@@ -29,7 +46,8 @@ pub returns-then-used-piece-clause-fed : goal.returns-then-used-piece-clause-fed
 returns-then-used-piece-clause-fed g c = fed_all c.steps.invariant (omega arith)
 
 pub returns-then-used-piece-clause-honest : goal.returns-then-used-piece-clause-honest
-returns-then-used-piece-clause-honest g c = always_feeds_honestly _ _ g.B.Builder.building.means _ _ c.steps.self c.args.piece.now (Ok tt) (returns-then-used-piece-clause-fed g c)
+returns-then-used-piece-clause-honest g c = always_feeds_honestly _ _ g.B.Builder.building.means _ _ c.steps.self
+    c.args.piece.now (Ok tt) (returns-then-used-piece-clause-fed g c)
 
 pub overflow_add-used : goal.overflow_add-used
 overflow_add-used g c =
@@ -39,20 +57,30 @@ overflow_add-used g c =
 pub returns-in-Err-push_item-clause-fed : goal.returns-in-Err-push_item-clause-fed
 returns-in-Err-push_item-clause-fed g c =
     feed_no_memory c.push_item.new.self c.steps.invariant
-    (record { some = takes_some g (goal.at.returns-in-Err-push_item-clause-fed g c).In-Ok; limits = c.in-Ok.ensures.limits; advances = c.in-Ok.ensures.advances })
-    c.in-Some.is c.push_item.ensures.types c.push_item.ensures.taken c.in-Err-push_item.ensures.memory c.in-Err-push_item.ensures.as_before
+    (record {
+      some = takes_some g (goal.at.returns-in-Err-push_item-clause-fed g c).In-Ok;
+      limits =
+          c.in-Ok.ensures.limits;
+      advances = c.in-Ok.ensures.advances;
+    })
+    c.in-Some.is c.push_item.ensures.types c.push_item.ensures.taken c.in-Err-push_item.ensures.memory
+    c.in-Err-push_item.ensures.as_before
 
 pub returns-in-Err-push_item-clause-honest : goal.returns-in-Err-push_item-clause-honest
-returns-in-Err-push_item-clause-honest g c = always_feeds_honestly _ _ g.B.Builder.building.means _ _ c.push_item.new.self c.args.piece.now (Err c.in-Err-push_item.fault) (returns-in-Err-push_item-clause-fed g c)
+returns-in-Err-push_item-clause-honest g c = always_feeds_honestly _ _ g.B.Builder.building.means _ _
+    c.push_item.new.self c.args.piece.now (Err c.in-Err-push_item.fault) (returns-in-Err-push_item-clause-fed g c)
 
 pub returns-in-Err-push_item-clause-limits : goal.returns-in-Err-push_item-clause-limits
-returns-in-Err-push_item-clause-limits g c = c.push_item.ensures.limits ∙ c.step.ensures.limits ∙ c.steps.invariant.limits
+returns-in-Err-push_item-clause-limits g c = c.push_item.ensures.limits ∙ c.step.ensures.limits
+    ∙ c.steps.invariant.limits
 
 pub returns-in-Err-clause-fed : goal.returns-in-Err-clause-fed
-returns-in-Err-clause-fed g c = feed_stops c.in-Err.fault c.step.new.self c.steps.invariant c.in-Err.ensures.types c.in-Err.ensures.taken c.in-Err.ensures.advances
+returns-in-Err-clause-fed g c = feed_stops c.in-Err.fault c.step.new.self c.steps.invariant c.in-Err.ensures.types
+    c.in-Err.ensures.taken c.in-Err.ensures.advances
 
 pub returns-in-Err-clause-honest : goal.returns-in-Err-clause-honest
-returns-in-Err-clause-honest g c = always_feeds_honestly _ _ g.B.Builder.building.means _ _ c.step.new.self c.args.piece.now (Err c.in-Err.fault) (returns-in-Err-clause-fed g c)
+returns-in-Err-clause-honest g c = always_feeds_honestly _ _ g.B.Builder.building.means _ _ c.step.new.self
+    c.args.piece.now (Err c.in-Err.fault) (returns-in-Err-clause-fed g c)
 
 pub returns-in-Err-clause-limits : goal.returns-in-Err-clause-limits
 returns-in-Err-clause-limits g c = c.step.ensures.limits ∙ c.steps.invariant.limits
@@ -62,11 +90,22 @@ steps-preserved g c =
     elim c.match-step-2.branch [
       | in-Some+in_default-push_item w ↦
           feed_there (w.self-is ∙ w.in_default-push_item.ensures.kept)
-          (feed_item c.steps.invariant (record { some = takes_some g (goal.at.steps-preserved g c).In-Ok; limits = c.in-Ok.ensures.limits; advances = c.in-Ok.ensures.advances })
-          w.in-Some.is (ap (λ v. v.items) w.out-is ∙ w.in_default-push_item.ensures.given ∙ ap (λ x. c.steps.out.items ++ x ∷ []) w.in-Some.item-is))
+          (feed_item c.steps.invariant (record {
+            some = takes_some g (goal.at.steps-preserved g c).In-Ok;
+            limits =
+                c.in-Ok.ensures.limits;
+            advances = c.in-Ok.ensures.advances;
+          })
+          w.in-Some.is (ap (λ v. v.items) w.out-is ∙ w.in_default-push_item.ensures.given
+          ∙ ap (λ x. c.steps.out.items ++ x ∷ []) w.in-Some.item-is))
       | in_default w ↦
           feed_there w.self-is
-          (feed_on c.steps.invariant (record { some = takes_some g (goal.at.steps-preserved g c).In-Ok; limits = c.in-Ok.ensures.limits; advances = c.in-Ok.ensures.advances })
+          (feed_on c.steps.invariant (record {
+            some = takes_some g (goal.at.steps-preserved g c).In-Ok;
+            limits =
+                c.in-Ok.ensures.limits;
+            advances = c.in-Ok.ensures.advances;
+          })
           w.in_default.is (ap (λ v. v.items) w.out-is))
     ]
 
@@ -74,7 +113,8 @@ pub returns-clause-fed : goal.returns-clause-fed
 returns-clause-fed g c = fed_all c.steps.invariant (let n = c.steps.invariant.onward in omega arith)
 
 pub returns-clause-honest : goal.returns-clause-honest
-returns-clause-honest g c = always_feeds_honestly _ _ g.B.Builder.building.means _ _ c.steps.self c.args.piece.now (Ok tt) (returns-clause-fed g c)
+returns-clause-honest g c = always_feeds_honestly _ _ g.B.Builder.building.means _ _ c.steps.self c.args.piece.now
+    (Ok tt) (returns-clause-fed g c)
 
 pub returns-in-Err-push_item-clause-stays : goal.returns-in-Err-push_item-clause-stays
 returns-in-Err-push_item-clause-stays g c = λ f. absurd (c.if-has_failed.ensures.failed f)

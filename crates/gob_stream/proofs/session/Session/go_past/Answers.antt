@@ -17,7 +17,8 @@ invariant_of-self g c =
     let between = rw (← c.self.view_is) at c.requires.between in
     let items = rw (← c.self.view_is) at c.requires.items in
     elim c.match-self.branch [
-      | in-Count w ↦ rw w.self-inside-is (usable_behind between items (passed between w.in-Count.is refl) c.self.invariant)
+      | in-Count w ↦ rw w.self-inside-is (usable_behind between items (passed between w.in-Count.is refl)
+          c.self.invariant)
       | in_default w ↦ absurd (w.in_default.not-Count _ between.stage)
     ]
 

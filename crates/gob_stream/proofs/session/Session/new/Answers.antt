@@ -4,7 +4,9 @@ use Rattle.gob_stream.proofs.Reader.HasReadLaws.{new_stands}
 use Rattle.gob_stream.proofs.session.Session.new.Goals as goal
 
 pub invariant_of-result : goal.invariant_of-result
-invariant_of-result g c = stands_after (new_stands c.in_ok-types.ensures.base (c.in_ok-types.ensures.most ∙ c.types.ensures.types) c.new-2.ensures)
+invariant_of-result g c = stands_after (new_stands c.in_ok-types.ensures.base (c.in_ok-types.ensures.most
+    ∙ c.types.ensures.types) c.new-2.ensures)
 
 pub returns-clause-has_read : goal.returns-clause-has_read
-returns-clause-has_read g c = new_stands c.in_ok-types.ensures.base (c.in_ok-types.ensures.most ∙ c.types.ensures.types) c.new-2.ensures
+returns-clause-has_read g c = new_stands c.in_ok-types.ensures.base (c.in_ok-types.ensures.most ∙ c.types.ensures.types)
+    c.new-2.ensures

@@ -1,36 +1,60 @@
-use Rattle.std.proofs.Common.{ℕ, List, ◌<◌, ◌++◌, length, take, drop, Some, Ok, Err, inl, inr, arith, refl, sym, ap, ◌∙◌}
+use Rattle.std.proofs.Common.{ℕ, List, ◌<◌, ◌++◌, length, take, drop, Some, Ok, Err, inl, inr, arith, refl, sym, ap}
+use Rattle.std.proofs.Common.{◌∙◌}
 use Rattle.std.proofs.lemmas.Grind.{common_steps}
 use Rattle.std.specs.Io.KnownBytes.{Consumes}
 use Rattle.gob_types.specs.Defined.{types}
 use Rattle.gob_stream.specs.Calls.Reads.{ReadsNext, TakesNext}
 use Rattle.gob_stream.specs.Machine.ReadParts.{bytes_wanted}
 use Rattle.gob_stream.proofs.Reader.HonestLaws.{reads_honestly}
-use Rattle.gob_stream.proofs.Reader.SessionSteps.{told_trees, types_stay, on_err, consumed_nothing, all_taken, stood_first, after_room, stood_on, passed_on, IsRead, piece_length, piece_consumed, Stepped, stepped, stood_before, step_stops, read_stops, end_stops, counts_none, step_unread, end_unread, nothing_more, step_gives, gives_taken, step_taken, item_within, no_less, stood_further, sound_after}
+use Rattle.gob_stream.proofs.Reader.SessionSteps.{told_trees, types_stay, on_err, consumed_nothing, all_taken}
+use Rattle.gob_stream.proofs.Reader.SessionSteps.{stood_first, after_room, stood_on, passed_on, IsRead, piece_length}
+use Rattle.gob_stream.proofs.Reader.SessionSteps.{piece_consumed, Stepped, stepped, stood_before, step_stops}
+use Rattle.gob_stream.proofs.Reader.SessionSteps.{read_stops, end_stops, counts_none, step_unread, end_unread}
+use Rattle.gob_stream.proofs.Reader.SessionSteps.{nothing_more, step_gives, gives_taken, step_taken, item_within}
+use Rattle.gob_stream.proofs.Reader.SessionSteps.{no_less, stood_further, sound_after}
 use Rattle.gob_stream.proofs.session.Session.read_item.Given as given
 use Rattle.gob_stream.proofs.Reader.FailedSteps.{not_read, rises, piece_within, chunk_taken}
 use Rattle.gob_stream.proofs.session.Session.read_item.Goals as goal
 use Rattle.gob_stream.proofs.session.Session.read_item.Goals.{In-Ok, In_err-step-in-Ok, In_ok-step-in-Ok}
 
 -- so many bytes were read, and no more than are wanted
-read_some : (g : given.Over) (c : goal.In-Ok g) → IsRead c.in-Ok.n (bytes_wanted c.pieces.self.stage c.pieces.self.taken) c.read.new.buf
+read_some : (g : given.Over) (c : goal.In-Ok g)
+    → IsRead c.in-Ok.n (bytes_wanted c.pieces.self.stage c.pieces.self.taken) c.read.new.buf
 read_some g c =
     let room = after_room (stood_on c.pieces.invariant.began c.pieces.invariant.stood).after in
-    record { some = grind (arith, common_steps); within = grind (arith, common_steps); few = grind (arith, common_steps) }
+    record {
+      some = grind (arith, common_steps);
+      within = grind (arith, common_steps);
+      few =
+          grind (arith, common_steps);
+    }
 
 -- what was read, and what the step over it answered
 abbrev piece_of : (g : given.Over) (c : goal.In-Ok g) → List ℕ
 piece_of g c = take c.in-Ok.n (c.read.new.buf ++ drop c.min-wanted.result c.pieces.chunk)
 
-consumed : (g : given.Over) (c : goal.In-Ok g) → Consumes (g.R.Read.remaining c.pieces.input.reader) (g.R.Read.remaining c.read.new.self.reader) (piece_of g c)
-consumed g c = piece_consumed (g.R.Read.remaining c.pieces.input.reader) (g.R.Read.remaining c.read.new.self.reader) (drop c.min-wanted.result c.pieces.chunk) (read_some g c) c.in-Ok.ensures.bytes.0
+consumed : (g : given.Over) (c : goal.In-Ok g) → Consumes (g.R.Read.remaining c.pieces.input.reader)
+    (g.R.Read.remaining c.read.new.self.reader) (piece_of g c)
+consumed g c = piece_consumed (g.R.Read.remaining c.pieces.input.reader) (g.R.Read.remaining c.read.new.self.reader)
+    (drop c.min-wanted.result c.pieces.chunk) (read_some g c) c.in-Ok.ensures.bytes.0
 
-refused_step : (g : given.Over) (c : goal.In_err-step-in-Ok g) → IsRead c.in-Ok.n (bytes_wanted c.pieces.self.stage c.pieces.self.taken) c.read.new.buf
-    → Stepped g.B.Builder.building.received told_trees g.B.Builder.building.means g.B.Builder.DEPTH c.pieces.self c.step.new.self (take c.in-Ok.n (c.read.new.buf ++ drop c.min-wanted.result c.pieces.chunk)) (Err c.in_err-step-in-Ok.field-0.0)
-refused_step g c read = stepped g.B.Builder.building.received told_trees g.B.Builder.building.means g.B.Builder.DEPTH c.pieces.self c.step.new.self (drop c.min-wanted.result c.pieces.chunk) (Err c.in_err-step-in-Ok.field-0.0) read c.in_err-step-in-Ok.ensures.advances
+refused_step : (g : given.Over) (c : goal.In_err-step-in-Ok g)
+    → IsRead c.in-Ok.n (bytes_wanted c.pieces.self.stage c.pieces.self.taken) c.read.new.buf
+    → Stepped g.B.Builder.building.received told_trees g.B.Builder.building.means g.B.Builder.DEPTH c.pieces.self
+    c.step.new.self (take c.in-Ok.n (c.read.new.buf ++ drop c.min-wanted.result c.pieces.chunk))
+    (Err c.in_err-step-in-Ok.field-0.0)
+refused_step g c read = stepped g.B.Builder.building.received told_trees g.B.Builder.building.means g.B.Builder.DEPTH
+    c.pieces.self c.step.new.self (drop c.min-wanted.result c.pieces.chunk) (Err c.in_err-step-in-Ok.field-0.0) read
+    c.in_err-step-in-Ok.ensures.advances
 
-taken_step : (g : given.Over) (c : goal.In_ok-step-in-Ok g) → IsRead c.in-Ok.n (bytes_wanted c.pieces.self.stage c.pieces.self.taken) c.read.new.buf
-    → Stepped g.B.Builder.building.received told_trees g.B.Builder.building.means g.B.Builder.DEPTH c.pieces.self c.step.new.self (take c.in-Ok.n (c.read.new.buf ++ drop c.min-wanted.result c.pieces.chunk)) (Ok c.in_ok-step-in-Ok.step)
-taken_step g c read = stepped g.B.Builder.building.received told_trees g.B.Builder.building.means g.B.Builder.DEPTH c.pieces.self c.step.new.self (drop c.min-wanted.result c.pieces.chunk) (Ok c.in_ok-step-in-Ok.step) read c.in_ok-step-in-Ok.ensures.advances
+taken_step : (g : given.Over) (c : goal.In_ok-step-in-Ok g)
+    → IsRead c.in-Ok.n (bytes_wanted c.pieces.self.stage c.pieces.self.taken) c.read.new.buf
+    → Stepped g.B.Builder.building.received told_trees g.B.Builder.building.means g.B.Builder.DEPTH c.pieces.self
+    c.step.new.self (take c.in-Ok.n (c.read.new.buf ++ drop c.min-wanted.result c.pieces.chunk))
+    (Ok c.in_ok-step-in-Ok.step)
+taken_step g c read = stepped g.B.Builder.building.received told_trees g.B.Builder.building.means g.B.Builder.DEPTH
+    c.pieces.self c.step.new.self (drop c.min-wanted.result c.pieces.chunk) (Ok c.in_ok-step-in-Ok.step) read
+    c.in_ok-step-in-Ok.ensures.advances
 
 pub pieces-init : goal.pieces-init
 pieces-init g c =
@@ -47,22 +71,27 @@ pieces-init g c =
 pub returns-in_err-finish-in-Ok-eq0-clause-read : goal.returns-in_err-finish-in-Ok-eq0-clause-read
 returns-in_err-finish-in-Ok-eq0-clause-read g c = λ items bytes rest a e.
     let some : 0 < length c.read.new.buf = grind (arith, common_steps) in
-    let p = consumed_nothing c.read.new.buf c.in-Ok-eq0.field-0-test c.in-Ok-eq0.ensures.bytes.0 (c.pieces.invariant.stood.each items bytes a) in
+    let p = consumed_nothing c.read.new.buf c.in-Ok-eq0.field-0-test c.in-Ok-eq0.ensures.bytes.0
+    (c.pieces.invariant.stood.each items bytes a) in
     let all = all_taken e (c.in-Ok-eq0.ensures.bytes.1 c.in-Ok-eq0.field-0-test some) p in
-    passed_on (λ r. ReadsNext g.B.Builder.building.received told_trees g.B.Builder.building.means g.B.Builder.DEPTH c.args.self.now c.finish.new.self items bytes rest (g.R.Read.remaining c.read.new.self.reader) r)
+    passed_on (λ r. ReadsNext g.B.Builder.building.received told_trees g.B.Builder.building.means g.B.Builder.DEPTH
+    c.args.self.now c.finish.new.self items bytes rest (g.R.Read.remaining c.read.new.self.reader) r)
     c.from_residual.result _ c.from_residual.ensures.1
-    (end_stops g.B.Builder.DEPTH c.pieces.self c.finish.new.self items bytes rest _ c.pieces.invariant.limits all.ended (c.in_err-finish-in-Ok-eq0.ensures.finishes items (bytes ++ rest) all.holds))
+    (end_stops g.B.Builder.DEPTH c.pieces.self c.finish.new.self items bytes rest _ c.pieces.invariant.limits all.ended
+    (c.in_err-finish-in-Ok-eq0.ensures.finishes items (bytes ++ rest) all.holds))
 
 pub returns-in_err-finish-in-Ok-eq0-clause-honest : goal.returns-in_err-finish-in-Ok-eq0-clause-honest
 returns-in_err-finish-in-Ok-eq0-clause-honest g c = λ items bytes rest a e.
-    reads_honestly _ _ _ _ _ _ items bytes rest _ _ (returns-in_err-finish-in-Ok-eq0-clause-read g c items bytes rest a e)
+    reads_honestly _ _ _ _ _ _ items bytes rest _ _ (returns-in_err-finish-in-Ok-eq0-clause-read g c items bytes rest a
+    e)
 
 pub returns-in_err-finish-in-Ok-eq0-clause-counted : goal.returns-in_err-finish-in-Ok-eq0-clause-counted
 returns-in_err-finish-in-Ok-eq0-clause-counted g c =
     let w = c.pieces.invariant.began in
     let p = c.pieces.invariant.stood.each w.items w.bytes w.after in
     counts_none c.args.input.now.failures c.read.new.self.failures c.from_residual.result _ c.from_residual.ensures.1
-    (end_unread g.B.Builder.DEPTH c.pieces.self c.finish.new.self w.items (w.bytes ++ p.bytes) _ (c.in_err-finish-in-Ok-eq0.ensures.finishes w.items (w.bytes ++ p.bytes) p.holds))
+    (end_unread g.B.Builder.DEPTH c.pieces.self c.finish.new.self w.items (w.bytes ++ p.bytes) _
+    (c.in_err-finish-in-Ok-eq0.ensures.finishes w.items (w.bytes ++ p.bytes) p.holds))
     (c.in-Ok-eq0.ensures.counted.1 ∙ c.pieces.invariant.failures)
 
 pub returns-in_err-finish-in-Ok-eq0-clause-taken : goal.returns-in_err-finish-in-Ok-eq0-clause-taken
@@ -70,13 +99,15 @@ returns-in_err-finish-in-Ok-eq0-clause-taken g c =
     let room = after_room (stood_on c.pieces.invariant.began c.pieces.invariant.stood).after in
     let limit = ap (λ L. L.stream) c.pieces.invariant.limits in
     let less = no_less c.pieces.invariant.grown in
-    passed_on (λ r. TakesNext c.args.self.now c.finish.new.self c.args.input.now.taken c.read.new.self.taken r) c.from_residual.result _ c.from_residual.ensures.1
+    passed_on (λ r. TakesNext c.args.self.now c.finish.new.self c.args.input.now.taken c.read.new.self.taken r)
+    c.from_residual.result _ c.from_residual.ensures.1
     (omega (arith, room.some, room.within, c.in-Ok-eq0.ensures.counted.0))
 
 pub returns-in-Ok-eq0-clause-read : goal.returns-in-Ok-eq0-clause-read
 returns-in-Ok-eq0-clause-read g c = λ items bytes rest a e.
     let some : 0 < length c.read.new.buf = grind (arith, common_steps) in
-    let p = consumed_nothing c.read.new.buf c.in-Ok-eq0.field-0-test c.in-Ok-eq0.ensures.bytes.0 (c.pieces.invariant.stood.each items bytes a) in
+    let p = consumed_nothing c.read.new.buf c.in-Ok-eq0.field-0-test c.in-Ok-eq0.ensures.bytes.0
+    (c.pieces.invariant.stood.each items bytes a) in
     let all = all_taken e (c.in-Ok-eq0.ensures.bytes.1 c.in-Ok-eq0.field-0-test some) p in
     let f = c.in_ok-finish-in-Ok-eq0.ensures.finishes items (bytes ++ rest) all.holds in
     let none = nothing_more rest c.pieces.invariant.limits a all.holds f.0 c.pieces.invariant.grown in
@@ -95,9 +126,12 @@ pub returns-in_err-step-in-Ok-clause-read : goal.returns-in_err-step-in-Ok-claus
 returns-in_err-step-in-Ok-clause-read g c = λ items bytes rest a e.
     let read = read_some g (goal.at.returns-in_err-step-in-Ok-clause-read g c).In-Ok in
     let step = refused_step g (goal.at.returns-in_err-step-in-Ok-clause-read g c).In_err-step-in-Ok read in
-    passed_on (λ r. ReadsNext g.B.Builder.building.received told_trees g.B.Builder.building.means g.B.Builder.DEPTH c.args.self.now c.step.new.self items bytes rest (g.R.Read.remaining c.read.new.self.reader) r)
+    passed_on (λ r. ReadsNext g.B.Builder.building.received told_trees g.B.Builder.building.means g.B.Builder.DEPTH
+    c.args.self.now c.step.new.self items bytes rest (g.R.Read.remaining c.read.new.self.reader) r)
     c.from_residual-in_err-step-in-Ok.result _ c.from_residual-in_err-step-in-Ok.ensures.1
-    (step_stops _ _ c.pieces.invariant.limits step (stood_before _ e (consumed g (goal.at.returns-in_err-step-in-Ok-clause-read g c).In-Ok) (c.pieces.invariant.stood.each items bytes a)))
+    (step_stops _ _ c.pieces.invariant.limits step
+    (stood_before _ e (consumed g (goal.at.returns-in_err-step-in-Ok-clause-read g c).In-Ok)
+    (c.pieces.invariant.stood.each items bytes a)))
 
 pub returns-in_err-step-in-Ok-clause-honest : goal.returns-in_err-step-in-Ok-clause-honest
 returns-in_err-step-in-Ok-clause-honest g c = λ items bytes rest a e.
@@ -107,8 +141,10 @@ pub returns-in_err-step-in-Ok-clause-counted : goal.returns-in_err-step-in-Ok-cl
 returns-in_err-step-in-Ok-clause-counted g c =
     let read = read_some g (goal.at.returns-in_err-step-in-Ok-clause-counted g c).In-Ok in
     let step = refused_step g (goal.at.returns-in_err-step-in-Ok-clause-counted g c).In_err-step-in-Ok read in
-    counts_none c.args.input.now.failures c.read.new.self.failures c.from_residual-in_err-step-in-Ok.result _ c.from_residual-in_err-step-in-Ok.ensures.1
-    (step_unread _ _ (stood_on c.pieces.invariant.began c.pieces.invariant.stood) step) (c.in-Ok.ensures.counted.1 ∙ c.pieces.invariant.failures)
+    counts_none c.args.input.now.failures c.read.new.self.failures c.from_residual-in_err-step-in-Ok.result _
+    c.from_residual-in_err-step-in-Ok.ensures.1
+    (step_unread _ _ (stood_on c.pieces.invariant.began c.pieces.invariant.stood) step) (c.in-Ok.ensures.counted.1
+    ∙ c.pieces.invariant.failures)
 
 pub returns-in_err-step-in-Ok-clause-taken : goal.returns-in_err-step-in-Ok-clause-taken
 returns-in_err-step-in-Ok-clause-taken g c =
@@ -116,7 +152,8 @@ returns-in_err-step-in-Ok-clause-taken g c =
     let read = read_some g (goal.at.returns-in_err-step-in-Ok-clause-taken g c).In-Ok in
     let limit = ap (λ L. L.stream) c.pieces.invariant.limits in
     let less = no_less c.pieces.invariant.grown in
-    passed_on (λ r. TakesNext c.args.self.now c.step.new.self c.args.input.now.taken c.read.new.self.taken r) c.from_residual-in_err-step-in-Ok.result _ c.from_residual-in_err-step-in-Ok.ensures.1
+    passed_on (λ r. TakesNext c.args.self.now c.step.new.self c.args.input.now.taken c.read.new.self.taken r)
+    c.from_residual-in_err-step-in-Ok.result _ c.from_residual-in_err-step-in-Ok.ensures.1
     (omega (arith, room.some, room.within, read.within, read.few, c.in-Ok.ensures.counted.0))
 
 pub returns-in-Some-clause-read : goal.returns-in-Some-clause-read
@@ -124,7 +161,10 @@ returns-in-Some-clause-read g c = λ items bytes rest a e.
     let read = read_some g (goal.at.returns-in-Some-clause-read g c).In-Ok in
     let step = taken_step g (goal.at.returns-in-Some-clause-read g c).In_ok-step-in-Ok read in
     let used = c.in_ok-step-in-Ok.ensures.whole step.few in
-    gives_taken _ c.in_ok-step-in-Ok.step step used c.in_ok-step-in-Ok.ensures.between (c.in-Some.is ∙ ap Some (sym c.in-Some.item-is)) (stood_before _ e (consumed g (goal.at.returns-in-Some-clause-read g c).In-Ok) (c.pieces.invariant.stood.each items bytes a))
+    gives_taken _ c.in_ok-step-in-Ok.step step used c.in_ok-step-in-Ok.ensures.between (c.in-Some.is
+    ∙ ap Some (sym c.in-Some.item-is))
+    (stood_before _ e (consumed g (goal.at.returns-in-Some-clause-read g c).In-Ok)
+    (c.pieces.invariant.stood.each items bytes a))
 
 pub returns-in-Some-clause-taken : goal.returns-in-Some-clause-taken
 returns-in-Some-clause-taken g c =
@@ -136,7 +176,8 @@ returns-in-Some-clause-taken g c =
     let limit = ap (λ L. L.stream) (c.in_ok-step-in-Ok.ensures.limits ∙ c.pieces.invariant.limits) in
     let size = piece_length (drop c.min-wanted.result c.pieces.chunk) read in
     let grown = step_taken _ c.in_ok-step-in-Ok.step used w step in
-    let within = item_within (step_gives _ c.in_ok-step-in-Ok.step step used c.in_ok-step-in-Ok.ensures.between c.in-Some.is w.after) in
+    let within = item_within (step_gives _ c.in_ok-step-in-Ok.step step used c.in_ok-step-in-Ok.ensures.between
+    c.in-Some.is w.after) in
     (omega (arith, c.in-Ok.ensures.counted.0, c.args.input.now.taken_fits), omega (arith, read.some), omega arith)
 
 pub pieces-smaller : goal.pieces-smaller
@@ -188,18 +229,22 @@ returns-in-Err-clause-taken g c =
 pub returns-in_err-finish-in-Ok-eq0-clause-types : goal.returns-in_err-finish-in-Ok-eq0-clause-types
 returns-in_err-finish-in-Ok-eq0-clause-types g c =
     on_err c.from_residual.result
-    (ap types c.finish.ensures.types ∙ types_stay c.pieces.invariant.limits c.pieces.invariant.began c.pieces.invariant.stood)
+    (ap types c.finish.ensures.types ∙ types_stay c.pieces.invariant.limits c.pieces.invariant.began
+    c.pieces.invariant.stood)
 
 pub returns-in_err-step-in-Ok-clause-types : goal.returns-in_err-step-in-Ok-clause-types
 returns-in_err-step-in-Ok-clause-types g c =
     on_err c.from_residual-in_err-step-in-Ok.result
-    (ap types c.in_err-step-in-Ok.ensures.types ∙ types_stay c.pieces.invariant.limits c.pieces.invariant.began c.pieces.invariant.stood)
+    (ap types c.in_err-step-in-Ok.ensures.types ∙ types_stay c.pieces.invariant.limits c.pieces.invariant.began
+    c.pieces.invariant.stood)
 
 pub returns-in-Err-clause-types : goal.returns-in-Err-clause-types
-returns-in-Err-clause-types g c = ap types c.fail.ensures.types ∙ types_stay c.pieces.invariant.limits c.pieces.invariant.began c.pieces.invariant.stood
+returns-in-Err-clause-types g c = ap types c.fail.ensures.types
+    ∙ types_stay c.pieces.invariant.limits c.pieces.invariant.began c.pieces.invariant.stood
 
 pub returns-in_err-finish-in-Ok-eq0-clause-failed : goal.returns-in_err-finish-in-Ok-eq0-clause-failed
-returns-in_err-finish-in-Ok-eq0-clause-failed g c = on_err c.from_residual.result c.in_err-finish-in-Ok-eq0.ensures.failed
+returns-in_err-finish-in-Ok-eq0-clause-failed g c =
+    on_err c.from_residual.result c.in_err-finish-in-Ok-eq0.ensures.failed
 
 pub returns-in_err-finish-in-Ok-eq0-clause-stays : goal.returns-in_err-finish-in-Ok-eq0-clause-stays
 returns-in_err-finish-in-Ok-eq0-clause-stays g c = λ f. absurd (sound_after c.pieces.invariant.began.after f)
@@ -217,7 +262,8 @@ pub returns-in-Ok-eq0-clause-counted : goal.returns-in-Ok-eq0-clause-counted
 returns-in-Ok-eq0-clause-counted g c = c.in-Ok-eq0.ensures.counted.1 ∙ c.pieces.invariant.failures
 
 pub returns-in_err-step-in-Ok-clause-failed : goal.returns-in_err-step-in-Ok-clause-failed
-returns-in_err-step-in-Ok-clause-failed g c = on_err c.from_residual-in_err-step-in-Ok.result c.in_err-step-in-Ok.ensures.failed
+returns-in_err-step-in-Ok-clause-failed g c = on_err c.from_residual-in_err-step-in-Ok.result
+    c.in_err-step-in-Ok.ensures.failed
 
 pub returns-in_err-step-in-Ok-clause-stays : goal.returns-in_err-step-in-Ok-clause-stays
 returns-in_err-step-in-Ok-clause-stays g c = λ f. absurd (sound_after c.pieces.invariant.began.after f)

@@ -8,7 +8,8 @@ abbrev pub invariant-pieces : goal.invariant-pieces
 invariant-pieces g l = record {
   chunk : length l.chunk ≡ 1024;
   began : SessionHasReadSome g.B.Builder.building.received told_trees g.B.Builder.DEPTH l.initial.self;
-  stood : StoodOn g.B.Builder.building.received told_trees g.B.Builder.DEPTH l.initial.self l.self (g.R.Read.remaining l.initial.input.reader) (g.R.Read.remaining l.input.reader);
+  stood : StoodOn g.B.Builder.building.received told_trees g.B.Builder.DEPTH l.initial.self l.self
+      (g.R.Read.remaining l.initial.input.reader) (g.R.Read.remaining l.input.reader);
   limits : l.self.limits ≡ l.initial.self.limits;
   failures : l.input.failures ≡ l.initial.input.failures;
   taken : l.input.taken ≡ counts_up l.initial.input.taken (l.self.taken - l.initial.self.taken);

@@ -1,7 +1,8 @@
 use Rattle.std.proofs.Common.{◌∙◌, Bool, subst}
 use Rattle.gob_stream.specs.Ends.{failed_reads, reader_of}
 use Rattle.gob_stream.specs.Calls.Reader.{session_of, StopsFrom}
-use Rattle.gob_stream.proofs.Reader.StreamReaderLaws.{counts_at, counts_nothing, fills_at, fills_from, read_on, read_stops, reads_fall}
+use Rattle.gob_stream.proofs.Reader.StreamReaderLaws.{counts_at, counts_nothing, fills_at, fills_from, read_on}
+use Rattle.gob_stream.proofs.Reader.StreamReaderLaws.{read_stops, reads_fall}
 use Rattle.gob_stream.proofs.stream_reader.StreamReader.fill.Goals as goal
 
 pub reads-preserved : goal.reads-preserved
@@ -9,13 +10,15 @@ reads-preserved g c =
     let i = c.reads.invariant in (
       c.in_ok-read_once.ensures.same ∙ i.0,
       c.in_ok-read_once.ensures.reads ∙ i.1,
-      λ read items h. read_on g.B.Builder.building c.in_ok-read_once.ensures.same (c.has_next.ensures.lacks c.if-has_next.false)
+      λ read items h. read_on g.B.Builder.building c.in_ok-read_once.ensures.same
+          (c.has_next.ensures.lacks c.if-has_next.false)
           c.in_ok-read_once.ensures.read (i.2 read items h),
     )
 
 pub reads-smaller : goal.reads-smaller
 reads-smaller g c =
-    reads_fall c.in_ok-read_once.ensures.same c.in_ok-read_once.ensures.read (c.has_next.ensures.lacks c.if-has_next.false)
+    reads_fall c.in_ok-read_once.ensures.same c.in_ok-read_once.ensures.read
+    (c.has_next.ensures.lacks c.if-has_next.false)
     c.if-self.false
 
 pub returns-then-self-clause-filled : goal.returns-then-self-clause-filled
@@ -35,7 +38,8 @@ returns-in_err-read_once-clause-filled g c = λ read items h.
     let i = c.reads.invariant in
     let e = c.in_err-read_once.field-0.0 in
     let now = g.R.Read.remaining (reader_of c.read_once.new.input) in
-    fills_at g.B.Builder.building (session_of c.args.self.now) c.read_once.new.self read now items c.from_residual.result e
+    fills_at g.B.Builder.building (session_of c.args.self.now) c.read_once.new.self read now items
+    c.from_residual.result e
     c.from_residual.ensures.1
     (subst (λ s. StopsFrom g.B.Builder.building s read now items e) i.0
     (read_stops g.B.Builder.building c.read_once.new.self now e (c.has_next.ensures.lacks c.if-has_next.false)

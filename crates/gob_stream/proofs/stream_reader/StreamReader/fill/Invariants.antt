@@ -14,4 +14,5 @@ invariant-reads g l =
     → HasReadFrom g.B.Builder.building l.self read (g.R.Read.remaining (reader_of l.input)) items)
 
 abbrev pub decreases-reads : goal.decreases-reads
-decreases-reads g l = left_to_read l.self.ended (waits_in l.self) (session_of l.self).taken (session_of l.self).limits.stream
+decreases-reads g l = left_to_read l.self.ended (waits_in l.self) (session_of l.self).taken
+    (session_of l.self).limits.stream

@@ -2,7 +2,8 @@ use Rattle.std.proofs.Common.{rules, ◌≡◌, ◌∙◌, Bool, ap, length, ref
 use Rattle.gob_stream.specs.Calls.Session.{taken_of, types_of}
 use Rattle.gob_stream.specs.Ends.{failed_reads, reader_of}
 use Rattle.gob_stream.specs.Calls.Reader.{none_wait, session_of}
-use Rattle.gob_stream.proofs.Reader.StreamReaderLaws.{counts_at, counts_nothing, fills_at, fills_from, no_bytes, read_on, read_stops}
+use Rattle.gob_stream.proofs.Reader.StreamReaderLaws.{counts_at, counts_nothing, fills_at, fills_from, no_bytes}
+use Rattle.gob_stream.proofs.Reader.StreamReaderLaws.{read_on, read_stops}
 use Rattle.gob_stream.proofs.stream_reader.StreamReader.more.Goals as goal
 
 pub returns-in_err-read_once-clause-filled : goal.returns-in_err-read_once-clause-filled
@@ -10,7 +11,8 @@ returns-in_err-read_once-clause-filled g c = λ read items h.
     let e = c.in_err-read_once.field-0.0 in
     let now = g.R.Read.remaining (reader_of c.read_once.new.input) in
     let none : length c.bytes.result.now ≡ 0 = search rules in
-    fills_at g.B.Builder.building (session_of c.args.self.now) c.read_once.new.self read now items c.from_residual.result e
+    fills_at g.B.Builder.building (session_of c.args.self.now) c.read_once.new.self read now items
+    c.from_residual.result e
     c.from_residual.ensures.1
     (read_stops g.B.Builder.building c.read_once.new.self now e
     (none_wait (sym c.bytes.ensures ∙ no_bytes c.bytes.result.now none)) c.in_err-read_once.ensures.read h)

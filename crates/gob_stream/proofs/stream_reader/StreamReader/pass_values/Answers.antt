@@ -8,6 +8,7 @@ pub returns-clause-passed : goal.returns-clause-passed
 returns-clause-passed g c =
     let p = c.pass_values-passed.result in
     passes_from g.B.Builder.building p
-    (subst (λ l. ReadsItems g.B.Builder.building (session_of c.args.self.now) c.pass_values-passed.new.self p.items p.used l)
+    (subst (λ l. ReadsItems g.B.Builder.building (session_of c.args.self.now) c.pass_values-passed.new.self p.items
+    p.used l)
     c.bytes.ensures c.pass_values-passed.ensures.passed) c.pass.ensures.bytes
     (record { ended = refl; room = c.pass.ensures.room; limits = c.pass_values-passed.ensures.limits })

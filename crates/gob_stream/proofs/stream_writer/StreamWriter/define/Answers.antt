@@ -9,17 +9,24 @@ use Rattle.gob_stream.specs.Writing.{HasWrittenSome}
 use Rattle.gob_stream.specs.WriterRefusal.{refused_body}
 use Rattle.gob_stream.proofs.DenialLaws.{denial_weaker}
 use Rattle.gob_stream.proofs.Written.WritingLaws.{body_alone, whole_item}
-use Rattle.gob_stream.proofs.Written.WriterSteps.{denied_writes, trees_within, sent_writes, denied_effects, sent_effects}
+use Rattle.gob_stream.proofs.Written.WriterSteps.{denied_writes, trees_within, sent_writes, denied_effects}
+use Rattle.gob_stream.proofs.Written.WriterSteps.{sent_effects}
 use Rattle.gob_stream.proofs.Written.WriterSteps.{HasItem, usable_behind, failed_wrote, failed_effects}
 use Rattle.gob_stream.proofs.stream_writer.StreamWriter.define.Goals as goal
 
 pub returns-in_err-shape : goal.returns-in_err-shape
 returns-in_err-shape g c =
     let p = err_from_is_err_and c.from_residual.result c.from_residual.ensures.1 in
-    let w : WriterState = record { limits = c.self.inside.limits; types = c.self.inside.types; place = c.self.inside.place } in
+    let w : WriterState = record {
+      limits = c.self.inside.limits;
+      types = c.self.inside.types;
+      place =
+          c.self.inside.place;
+    } in
     let why = c.in_err-shape.field-0.0 in
     rw (p.1, p.2, ← c.self.view_is) (record {
-      writes = λ items bytes T written. denied_writes (within_trees w.limits) w w items bytes T (defines c.args.id (view c.args.described.now)) _ why written
+      writes = λ items bytes T written. denied_writes (within_trees w.limits) w w items bytes T
+          (defines c.args.id (view c.args.described.now)) _ why written
           ((rw c.up_to-limits.ensures at c.in_err-shape.ensures.err) written.room w.place.offset);
       effects = denied_effects g.W.Write.contents w w c.args.output.now why c.self.invariant c.if-self.false refl;
     })
@@ -27,49 +34,98 @@ returns-in_err-shape g c =
 pub returns-in_err-begin_item : goal.returns-in_err-begin_item
 returns-in_err-begin_item g c =
     let p = err_from_is_err_and c.from_residual-in_err-begin_item.result c.from_residual-in_err-begin_item.ensures.1 in
-    let w : WriterState = record { limits = c.self.inside.limits; types = c.self.inside.types; place = c.self.inside.place } in
+    let w : WriterState = record {
+      limits = c.self.inside.limits;
+      types = c.self.inside.types;
+      place =
+          c.self.inside.place;
+    } in
     let why = c.in_err-begin_item.field-0.0 in
     let refused = rw (c.deref.ensures.value, c.up_to-limits.ensures) at c.in_err-begin_item.ensures.err in
     rw (p.1, p.2, ← c.self.view_is) (record {
-      writes = λ items bytes T written. denied_writes (within_trees w.limits) w w items bytes T (defines c.args.id (view c.args.described.now)) _ why written
-          (denial_weaker _ (λ r. refused_body (body_alone ((rw c.up_to-limits.ensures at c.in_ok-shape.ensures.ok) written.room))) refused);
+      writes = λ items bytes T written. denied_writes (within_trees w.limits) w w items bytes T
+          (defines c.args.id (view c.args.described.now)) _ why written
+          (denial_weaker _ (λ r. refused_body
+          (body_alone ((rw c.up_to-limits.ensures at c.in_ok-shape.ensures.ok) written.room))) refused);
       effects = denied_effects g.W.Write.contents w w c.args.output.now why c.self.invariant c.if-self.false refl;
     })
 
 pub returns-in_err-define_admitted : goal.returns-in_err-define_admitted
 returns-in_err-define_admitted g c =
-    let p = err_from_is_err_and c.from_residual-in_err-define_admitted.result c.from_residual-in_err-define_admitted.ensures.1 in
-    let w : WriterState = record { limits = c.self.inside.limits; types = c.self.inside.types; place = c.self.inside.place } in
+    let p = err_from_is_err_and c.from_residual-in_err-define_admitted.result
+    c.from_residual-in_err-define_admitted.ensures.1 in
+    let w : WriterState = record {
+      limits = c.self.inside.limits;
+      types = c.self.inside.types;
+      place =
+          c.self.inside.place;
+    } in
     let kept = ap (λ t. record w { types = t }) c.in_err-define_admitted.ensures.1 in
     rw (p.1, p.2, c.in_err-define_admitted.ensures.0, ← c.self.view_is) (record {
       writes = λ items bytes T written. tt;
-      effects = denied_effects g.W.Write.contents w _ c.args.output.now denial.Memory c.self.invariant c.if-self.false kept;
+      effects = denied_effects g.W.Write.contents w _ c.args.output.now denial.Memory c.self.invariant c.if-self.false
+          kept;
     })
 
 pub invariant_of-self-2 : goal.invariant_of-self-2
 invariant_of-self-2 g c =
-    let w : WriterState = record { limits = c.self.inside.limits; types = c.self.inside.types; place = c.self.inside.place } in
+    let w : WriterState = record {
+      limits = c.self.inside.limits;
+      types = c.self.inside.types;
+      place =
+          c.self.inside.place;
+    } in
     let whole = rw (c.deref.ensures.value, c.up_to-limits.ensures) at c.in_ok-begin_item.ensures.ok in
     let added = c.in_ok-define_admitted.ensures in
-    usable_behind (within_trees w.limits) w (record w { types = c.define_admitted.new.table }) c.send.new.self _ _ (defines c.args.id (view c.args.described.now)) _ _ c.send.result c.self.invariant c.if-self.false
-    (λ some. (record { limits = refl; place = refl; within = trees_within w.limits; most = added.1; table = added.0; item = whole_item (body_alone ((rw c.up_to-limits.ensures at c.in_ok-shape.ensures.ok) some.written.room)) whole }))
+    usable_behind (within_trees w.limits) w (record w { types = c.define_admitted.new.table }) c.send.new.self _ _
+    (defines c.args.id (view c.args.described.now)) _ _ c.send.result c.self.invariant c.if-self.false
+    (λ some. (record {
+      limits = refl;
+      place = refl;
+      within = trees_within w.limits;
+      most = added.1;
+      table = added.0;
+      item = whole_item (body_alone ((rw c.up_to-limits.ensures at c.in_ok-shape.ensures.ok) some.written.room)) whole;
+    }))
     (rw c.deref-2.ensures.value at c.send.ensures.sends)
 
 pub returns : goal.returns
 returns g c =
-    let w : WriterState = record { limits = c.self.inside.limits; types = c.self.inside.types; place = c.self.inside.place } in
+    let w : WriterState = record {
+      limits = c.self.inside.limits;
+      types = c.self.inside.types;
+      place =
+          c.self.inside.place;
+    } in
     let whole = rw (c.deref.ensures.value, c.up_to-limits.ensures) at c.in_ok-begin_item.ensures.ok in
     let added = c.in_ok-define_admitted.ensures in
     rw (← c.self.view_is) (record {
-      writes = λ items bytes T written. sent_writes (within_trees w.limits) w (record w { types = c.define_admitted.new.table }) c.send.new.self _ items bytes T _ (defines c.args.id (view c.args.described.now)) _ _ c.send.result written
-          (record { limits = refl; place = refl; within = trees_within w.limits; most = added.1; table = added.0; item = whole_item (body_alone ((rw c.up_to-limits.ensures at c.in_ok-shape.ensures.ok) written.room)) whole })
+      writes = λ items bytes T written. sent_writes (within_trees w.limits) w
+          (record w { types = c.define_admitted.new.table }) c.send.new.self _ items bytes T _
+          (defines c.args.id (view c.args.described.now)) _ _ c.send.result written
+          (record {
+            limits = refl;
+            place = refl;
+            within = trees_within w.limits;
+            most = added.1;
+            table = added.0;
+            item =
+                whole_item (body_alone ((rw c.up_to-limits.ensures at c.in_ok-shape.ensures.ok) written.room)) whole;
+          })
           (rw c.deref-2.ensures.value at c.send.ensures.sends);
-      effects = sent_effects g.W.Write.contents w (record w { types = c.define_admitted.new.table }) c.send.new.self _ c.args.output.now c.send.new.output c.send.result c.self.invariant c.if-self.false c.send.ensures.sends c.send.ensures.counted;
+      effects = sent_effects g.W.Write.contents w (record w { types = c.define_admitted.new.table }) c.send.new.self _
+          c.args.output.now c.send.new.output c.send.result c.self.invariant c.if-self.false c.send.ensures.sends
+          c.send.ensures.counted;
     })
 
 pub returns-then-self : goal.returns-then-self
 returns-then-self g c =
-    let w : WriterState = record { limits = c.self.inside.limits; types = c.self.inside.types; place = c.self.inside.place } in
+    let w : WriterState = record {
+      limits = c.self.inside.limits;
+      types = c.self.inside.types;
+      place =
+          c.self.inside.place;
+    } in
     rw (← c.self.view_is) (record {
       writes = λ items bytes T written. failed_wrote c.if-self.true written;
       effects = failed_effects g.W.Write.contents w c.args.output.now c.if-self.true;

@@ -9,8 +9,25 @@ invariant_of-result c = has_written (record {
   items = [];
   bytes = [];
   table = base_table;
-  written = record { stream = no_more; table = c.in_ok-types.ensures.base; room = c.in_ok-types.ensures.most ∙ c.types.ensures.types; offset = refl; sound = refl };
+  written = record {
+    stream = no_more;
+    table = c.in_ok-types.ensures.base;
+    room = c.in_ok-types.ensures.most
+        ∙ c.types.ensures.types;
+    offset = refl;
+    sound = refl;
+  };
 })
 
 pub returns : goal.returns
-returns c = record { limits = refl; nothing = record { stream = no_more; table = c.in_ok-types.ensures.base; room = c.in_ok-types.ensures.most ∙ c.types.ensures.types; offset = refl; sound = refl } }
+returns c = record {
+  limits = refl;
+  nothing = record {
+    stream = no_more;
+    table = c.in_ok-types.ensures.base;
+    room =
+        c.in_ok-types.ensures.most ∙ c.types.ensures.types;
+    offset = refl;
+    sound = refl;
+  };
+}

@@ -34,18 +34,33 @@ returns-in_err-begin_item-clause-writes g c = λ v spelled items bytes T written
     let refused = rw c.deref.ensures.value at c.in_err-begin_item.ensures.err in
     let is = rw (← c.self.view_is) at spelled in
     let denied = subst (λ (w : WriterState). Denies w (puts c.args.id v) why) c.self.view_is
-    (denial_weaker _ (λ r. refused_body (c.in_ok-spell_head.ensures.ok c.self.inside.limits v c.args.spelling.now is)) refused) in
+    (denial_weaker _ (λ r. refused_body (c.in_ok-spell_head.ensures.ok c.self.inside.limits v c.args.spelling.now is))
+    refused) in
     rw (p.1, p.2) (denied_writes w.limits w w items bytes T (puts c.args.id v) _ why written denied)
 
 pub returns-clause-writes : goal.returns-clause-writes
 returns-clause-writes g c =
-    let w : WriterState = record { limits = c.self.inside.limits; types = c.self.inside.types; place = c.self.inside.place } in
+    let w : WriterState = record {
+      limits = c.self.inside.limits;
+      types = c.self.inside.types;
+      place =
+          c.self.inside.place;
+    } in
     let whole = rw c.deref.ensures.value at c.in_ok-begin_item.ensures.ok in
     λ v spelled items bytes T written.
     let before = rw (← c.self.view_is) at written in
     let is = rw (← c.self.view_is) at spelled in
-    rw (← c.self.view_is) (sent_writes w.limits w w c.send.new.self _ items bytes T _ (puts c.args.id v) _ _ c.send.result before
-    (record { limits = refl; place = refl; within = all_within w.limits; most = refl; table = refl; item = whole_item (c.in_ok-spell_head.ensures.ok w.limits v c.args.spelling.now is) whole })
+    rw (← c.self.view_is) (sent_writes w.limits w w c.send.new.self _ items bytes T _ (puts c.args.id v) _ _
+    c.send.result before
+    (record {
+      limits = refl;
+      place = refl;
+      within = all_within w.limits;
+      most = refl;
+      table = refl;
+      item =
+          whole_item (c.in_ok-spell_head.ensures.ok w.limits v c.args.spelling.now is) whole;
+    })
     (rw c.deref-2.ensures.value at c.send.ensures.sends))
 
 pub returns-then-self-clause-writes : goal.returns-then-self-clause-writes
@@ -55,10 +70,16 @@ returns-then-self-clause-writes g c = λ v spelled items bytes T written.
 
 pub invariant_of-self-2 : goal.invariant_of-self-2
 invariant_of-self-2 g c =
-    let w : WriterState = record { limits = c.self.inside.limits; types = c.self.inside.types; place = c.self.inside.place } in
+    let w : WriterState = record {
+      limits = c.self.inside.limits;
+      types = c.self.inside.types;
+      place =
+          c.self.inside.place;
+    } in
     let whole = rw c.deref.ensures.value at c.in_ok-begin_item.ensures.ok in
     let given = rw (← c.self.view_is) at c.requires in
-    usable_behind w.limits w w c.send.new.self _ _ (puts c.args.id given.value) _ _ c.send.result c.self.invariant c.if-self.false
+    usable_behind w.limits w w c.send.new.self _ _ (puts c.args.id given.value) _ _ c.send.result c.self.invariant
+    c.if-self.false
     (λ some. record {
       limits = refl;
       place = refl;
@@ -72,21 +93,44 @@ invariant_of-self-2 g c =
 pub returns-in_err-spell_head-clause-effects : goal.returns-in_err-spell_head-clause-effects
 returns-in_err-spell_head-clause-effects g c =
     let p = err_from_is_err_and c.from_residual.result c.from_residual.ensures.1 in
-    let w : WriterState = record { limits = c.self.inside.limits; types = c.self.inside.types; place = c.self.inside.place } in
-    rw (p.1, p.2, ← c.self.view_is) (denied_effects g.W.Write.contents w w c.args.output.now c.in_err-spell_head.field-0.0 c.self.invariant c.if-self.false refl)
+    let w : WriterState = record {
+      limits = c.self.inside.limits;
+      types = c.self.inside.types;
+      place =
+          c.self.inside.place;
+    } in
+    rw (p.1, p.2, ← c.self.view_is) (denied_effects g.W.Write.contents w w c.args.output.now
+    c.in_err-spell_head.field-0.0 c.self.invariant c.if-self.false refl)
 
 pub returns-in_err-begin_item-clause-effects : goal.returns-in_err-begin_item-clause-effects
 returns-in_err-begin_item-clause-effects g c =
     let p = err_from_is_err_and c.from_residual-in_err-begin_item.result c.from_residual-in_err-begin_item.ensures.1 in
-    let w : WriterState = record { limits = c.self.inside.limits; types = c.self.inside.types; place = c.self.inside.place } in
-    rw (p.1, p.2, ← c.self.view_is) (denied_effects g.W.Write.contents w w c.args.output.now c.in_err-begin_item.field-0.0 c.self.invariant c.if-self.false refl)
+    let w : WriterState = record {
+      limits = c.self.inside.limits;
+      types = c.self.inside.types;
+      place =
+          c.self.inside.place;
+    } in
+    rw (p.1, p.2, ← c.self.view_is) (denied_effects g.W.Write.contents w w c.args.output.now
+    c.in_err-begin_item.field-0.0 c.self.invariant c.if-self.false refl)
 
 pub returns-clause-effects : goal.returns-clause-effects
 returns-clause-effects g c =
-    let w : WriterState = record { limits = c.self.inside.limits; types = c.self.inside.types; place = c.self.inside.place } in
-    rw (← c.self.view_is) (sent_effects g.W.Write.contents w w c.send.new.self _ c.args.output.now c.send.new.output c.send.result c.self.invariant c.if-self.false c.send.ensures.sends c.send.ensures.counted)
+    let w : WriterState = record {
+      limits = c.self.inside.limits;
+      types = c.self.inside.types;
+      place =
+          c.self.inside.place;
+    } in
+    rw (← c.self.view_is) (sent_effects g.W.Write.contents w w c.send.new.self _ c.args.output.now c.send.new.output
+    c.send.result c.self.invariant c.if-self.false c.send.ensures.sends c.send.ensures.counted)
 
 pub returns-then-self-clause-effects : goal.returns-then-self-clause-effects
 returns-then-self-clause-effects g c =
-    let w : WriterState = record { limits = c.self.inside.limits; types = c.self.inside.types; place = c.self.inside.place } in
+    let w : WriterState = record {
+      limits = c.self.inside.limits;
+      types = c.self.inside.types;
+      place =
+          c.self.inside.place;
+    } in
     rw (← c.self.view_is) (failed_effects g.W.Write.contents w c.args.output.now c.if-self.true)

@@ -26,4 +26,5 @@ pub returns-in_err-open : goal.returns-in_err-open
 returns-in_err-open c = IfOk-from_err c.from_residual.result _ c.from_residual.ensures.0
 
 pub returns-in_err-extend_from_slice : goal.returns-in_err-extend_from_slice
-returns-in_err-extend_from_slice c = IfOk-from_err c.from_residual-in_err-extend_from_slice.result _ c.from_residual-in_err-extend_from_slice.ensures.0
+returns-in_err-extend_from_slice c = IfOk-from_err c.from_residual-in_err-extend_from_slice.result _
+    c.from_residual-in_err-extend_from_slice.ensures.0

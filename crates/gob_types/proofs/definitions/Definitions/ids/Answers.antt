@@ -6,4 +6,5 @@ use Rattle.gob_types.proofs.TableLaws.{types_are}
 use Rattle.gob_types.proofs.definitions.Definitions.ids.Goals as goal
 
 pub returns : goal.returns
-returns c = subst (λ (T : Table). IfOk c.ids.result (λ ids. (u : TypeId) → IsDefined T u → Contains ids u)) (sym (types_are c.self.view_is c.self.invariant)) c.ids.ensures
+returns c = subst (λ (T : Table). IfOk c.ids.result (λ ids. (u : TypeId) → IsDefined T u → Contains ids u))
+    (sym (types_are c.self.view_is c.self.invariant)) c.ids.ensures

@@ -14,7 +14,8 @@ least_bottomless-requires c = complete_within c.in_ok-met.ensures c.in_default.e
 pub returns-in-Some-clause-judged : goal.returns-in-Some-clause-judged
 returns-in-Some-clause-judged c =
     let T = types c.args.self.now in
-    let least : IsLeast (λ u. Contains c.in_ok-met.met u × (shape_of T u ≡ None)) c.in-Some.undefined = c.in-Some.ensures in
+    let least : IsLeast (λ u. Contains c.in_ok-met.met u × (shape_of T u ≡ None)) c.in-Some.undefined =
+    c.in-Some.ensures in
     least_reached c.in_ok-met.ensures least
 
 pub returns-in-Some-2-clause-judged : goal.returns-in-Some-2-clause-judged
@@ -22,8 +23,10 @@ returns-in-Some-2-clause-judged c =
     let T = types c.args.self.now in
     let reach = c.in_ok-met.ensures in
     let least : IsLeast (λ u. Contains c.in_ok-met.met u × ¬ IsGrounded T u) c.in-Some-2.bottomless =
-    subst (IsLeastBad (IsGrounded T) (λ u. ¬ IsGrounded T u) c.in_ok-met.met) c.in-Some-2.is c.in_ok-bottomless.ensures in
+    subst (IsLeastBad (IsGrounded T) (λ u. ¬ IsGrounded T u) c.in_ok-met.met) c.in-Some-2.is c.in_ok-bottomless.ensures
+    in
     (λ u h. c.in_default.ensures u (reach.whole u h), least_reached reach least)
 
 pub returns-clause-judged : goal.returns-clause-judged
-returns-clause-judged c = ready_within c.in_ok-met.ensures c.in_default.ensures (MatchOption-at_none _ _ c.in_default-2.is c.in_ok-bottomless.ensures)
+returns-clause-judged c = ready_within c.in_ok-met.ensures c.in_default.ensures
+    (MatchOption-at_none _ _ c.in_default-2.is c.in_ok-bottomless.ensures)

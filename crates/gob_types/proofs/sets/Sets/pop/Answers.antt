@@ -7,6 +7,8 @@ pub returns-clause-kept : goal.returns-clause-kept
 returns-clause-kept c =
     let E = c.self.inside.sets.entries in
     let new = (c.get_mut.follows.lender c.pop.new.self).entries in
-    let n : IsSet E new c.args.id c.pop.new.self = record { each = ((c.get_mut.follows.holds c.pop.new.self).3 (search rules)).0 } in
-    let less : KeepsSets new E = keeps_less n (λ u h. found_in c.in_ok-set.ensures.value u (popped_less _ _ c.pop.result c.pop.ensures u h)) in
+    let n : IsSet E new c.args.id c.pop.new.self =
+    record { each = ((c.get_mut.follows.holds c.pop.new.self).3 (search rules)).0 } in
+    let less : KeepsSets new E =
+    keeps_less n (λ u h. found_in c.in_ok-set.ensures.value u (popped_less _ _ c.pop.result c.pop.ensures u h)) in
     subst (λ (m : Sets). KeepsSets new m) c.self.view_is less

@@ -8,5 +8,6 @@ returns-in_err-insert c = IfOk-from_err c.from_residual.result _ c.from_residual
 
 pub returns : goal.returns
 returns c =
-    let n : IsSet c.self.inside.sets.entries c.insert.new.self.entries c.args.id c.args.set = record { each = c.in_ok-insert.ensures.updates.0 } in
+    let n : IsSet c.self.inside.sets.entries c.insert.new.self.entries c.args.id c.args.set =
+    record { each = c.in_ok-insert.ensures.updates.0 } in
     subst (λ (m : Sets). IsSet m c.insert.new.self.entries c.args.id c.args.set) c.self.view_is n

@@ -12,7 +12,9 @@ pub returns-in_err-definitions-clause-most : goal.returns-in_err-definitions-cla
 returns-in_err-definitions-clause-most c = IfOk-from_err c.from_residual.result _ c.from_residual.ensures.0
 
 pub returns-in_err-waits-clause-base : goal.returns-in_err-waits-clause-base
-returns-in_err-waits-clause-base c = IfOk-from_err c.from_residual-in_err-waits.result _ c.from_residual-in_err-waits.ensures.0
+returns-in_err-waits-clause-base c = IfOk-from_err c.from_residual-in_err-waits.result _
+    c.from_residual-in_err-waits.ensures.0
 
 pub returns-in_err-waits-clause-most : goal.returns-in_err-waits-clause-most
-returns-in_err-waits-clause-most c = IfOk-from_err c.from_residual-in_err-waits.result _ c.from_residual-in_err-waits.ensures.0
+returns-in_err-waits-clause-most c = IfOk-from_err c.from_residual-in_err-waits.result _
+    c.from_residual-in_err-waits.ensures.0

@@ -10,4 +10,5 @@ returns-then-kept-clause-judged c = c.kept.ensures.0 c.if-kept.true
 
 pub returns-clause-judged : goal.returns-clause-judged
 returns-clause-judged c =
-    subst (λ (d : Defined). MatchResult c.ready.result (λ _. IsReady (types d) c.args.id) (λ fault. IsNotReady (types d) c.args.id fault)) c.self.view_is c.ready.ensures.judged
+    subst (λ (d : Defined). MatchResult c.ready.result (λ _. IsReady (types d) c.args.id)
+    (λ fault. IsNotReady (types d) c.args.id fault)) c.self.view_is c.ready.ensures.judged

@@ -15,7 +15,8 @@ pub loop-id-init : goal.loop-id-init
 loop-id-init c = adds_none_yet
 
 pub loop-id-preserved : goal.loop-id-preserved
-loop-id-preserved c = adds_next c.loop-id.invariant (slice_get-get_or c.args.ids.now c.loop-id.id-index _ c.loop-id-test.true) (adds_one _ c.in_ok-add.ensures.added)
+loop-id-preserved c = adds_next c.loop-id.invariant (slice_get-get_or c.args.ids.now c.loop-id.id-index _
+    c.loop-id-test.true) (adds_one _ c.in_ok-add.ensures.added)
 
 pub returns-clause-grown : goal.returns-clause-grown
 returns-clause-grown c = grows_by c.loop-id.invariant

@@ -16,7 +16,8 @@ loop-user-preserved-then-not-is_waiting c =
     let i = c.loop-user.invariant in
     record {
       grown = i.grown;
-      has = more_first i.has (slice_get-get_or c.args.users.now c.loop-user.user-index _ c.loop-user-test.true) (λ e. absurd (true≢false (sym (c.is_waiting.ensures.1 e) ∙ c.if-not-is_waiting.true)));
+      has = more_first i.has (slice_get-get_or c.args.users.now c.loop-user.user-index _ c.loop-user-test.true)
+          (λ e. absurd (true≢false (sym (c.is_waiting.ensures.1 e) ∙ c.if-not-is_waiting.true)));
       only = i.only;
     }
 
@@ -26,12 +27,18 @@ loop-user-preserved c =
     let a = adds_one _ c.in_ok-add.ensures.added in
     record {
       grown = grows_then i.grown (grows_by a);
-      has = more_first (first_as i.has (λ u h e. adds_keeps a u (h e))) (slice_get-get_or c.args.users.now c.loop-user.user-index _ c.loop-user-test.true) (λ e. a.has _ refl);
+      has = more_first (first_as i.has (λ u h e. adds_keeps a u (h e)))
+          (slice_get-get_or c.args.users.now c.loop-user.user-index _ c.loop-user-test.true) (λ e. a.has _ refl);
       only = only_waiting _ _ a i.only (c.is_waiting.ensures.0 c.if-not-is_waiting.false);
     }
 
 pub returns : goal.returns
-returns c = record { grown = c.loop-user.invariant.grown; has = λ u there. all_first c.loop-user.invariant.has c.loop-user-test.false there; only = c.loop-user.invariant.only }
+returns c = record {
+  grown = c.loop-user.invariant.grown;
+  has = λ u there. all_first c.loop-user.invariant.has
+      c.loop-user-test.false there;
+  only = c.loop-user.invariant.only;
+}
 
 pub returns-in_err-add : goal.returns-in_err-add
 returns-in_err-add c = IfOk-from_err c.from_residual.result _ c.from_residual.ensures.0

@@ -11,5 +11,6 @@ abbrev pub invariant-loop-user : goal.invariant-loop-user
 invariant-loop-user l = record {
   grown : Grows l.initial.back l.back;
   has : FirstAre (λ u. lookup (same_id u) l.self.awaited ≡ Some l.fn.id → Contains l.back u) l.users l.user-index;
-  only : (u : TypeId) → Contains l.back u → Contains l.initial.back u ⊎ (lookup (same_id u) l.self.awaited ≡ Some l.fn.id);
+  only : (u : TypeId) → Contains l.back u → Contains l.initial.back u
+      ⊎ (lookup (same_id u) l.self.awaited ≡ Some l.fn.id);
 }

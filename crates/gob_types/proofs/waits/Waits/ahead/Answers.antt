@@ -9,7 +9,8 @@ pub returns-then-eq : goal.returns-then-eq
 returns-then-eq c = c.loop.invariant.on (waits_itself (sym c.eq.ensures ∙ c.if-eq.true))
 
 pub returns-in_default : goal.returns-in_default
-returns-in_default c = λ h. waits_not (sym c.eq.ensures ∙ c.if-eq.false) (sym c.awaited.ensures ∙ c.in_default.is) (c.loop.invariant.back h)
+returns-in_default c = λ h. waits_not (sym c.eq.ensures ∙ c.if-eq.false) (sym c.awaited.ensures ∙ c.in_default.is)
+    (c.loop.invariant.back h)
 
 pub loop-preserved : goal.loop-preserved
 loop-preserved c = ahead_next c.loop.invariant (sym c.eq.ensures ∙ c.if-eq.false) (sym c.awaited.ensures ∙ c.in-Some.is)

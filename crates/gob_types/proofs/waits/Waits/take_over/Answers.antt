@@ -1,6 +1,7 @@
 use Rattle.std.proofs.Common.{sym, ◌∙◌}
 use Rattle.std.proofs.lemmas.Result.{IfOk-from_err}
-use Rattle.gob_types.proofs.WaitLaws.{redirects_same, redirects_then, redirects_set, waits_next, waits_reach, waits_redirected, led_merged, led_set}
+use Rattle.gob_types.proofs.WaitLaws.{redirects_same, redirects_then, redirects_set, waits_next, waits_reach}
+use Rattle.gob_types.proofs.WaitLaws.{waits_redirected, led_merged, led_set}
 use Rattle.gob_types.proofs.WalkLaws.{reaches_joined}
 use Rattle.gob_types.proofs.waits.Waits.take_over.Goals as goal
 use Rattle.std.proofs.Common.{refl}
@@ -21,7 +22,8 @@ loop-preserved c =
           let k = i.led T led reach waits in
           let onto = waits_next apart e k.2 in
           let back = reaches_joined (k.0.awaited _ _ e) (waits_reach k.0 onto) in (
-            led_set (led_merged k.0 k.1 c.in_ok-merge.ensures.left c.merge.ensures.awaited) c.in_ok-wait.ensures.awaited back c.wait.ensures.left,
+            led_set (led_merged k.0 k.1 c.in_ok-merge.ensures.left c.merge.ensures.awaited) c.in_ok-wait.ensures.awaited
+                back c.wait.ensures.left,
             reaches_joined k.1 (k.0.awaited _ _ e),
             waits_redirected (redirects_then merges sets) onto,
           );
@@ -31,4 +33,5 @@ pub returns-in_err-merge-clause-redirected : goal.returns-in_err-merge-clause-re
 returns-in_err-merge-clause-redirected c = IfOk-from_err c.from_residual.result _ c.from_residual.ensures.0
 
 pub returns-in_err-wait-clause-redirected : goal.returns-in_err-wait-clause-redirected
-returns-in_err-wait-clause-redirected c = IfOk-from_err c.from_residual-in_err-wait.result _ c.from_residual-in_err-wait.ensures.0
+returns-in_err-wait-clause-redirected c = IfOk-from_err c.from_residual-in_err-wait.result _
+    c.from_residual-in_err-wait.ensures.0

@@ -7,6 +7,7 @@ use Rattle.gob_types.proofs.waits.Waits.take_over.Given as goal
 abbrev pub invariant-loop : goal.invariant-loop
 invariant-loop l = record {
   redirected : Redirects l.initial.self.awaited l.self.awaited l.fn.id;
-  led : (T : Table) → AreLed T l.initial.self → Reaches T l.fn.id l.fn.from → WaitsFor l.initial.self.awaited l.fn.from l.fn.id
+  led : (T : Table) → AreLed T l.initial.self → Reaches T l.fn.id l.fn.from
+      → WaitsFor l.initial.self.awaited l.fn.from l.fn.id
       → AreLed T l.self × Reaches T l.fn.id l.at × WaitsFor l.self.awaited l.at l.fn.id;
 }

@@ -12,10 +12,12 @@ returns g c =
     let text = compact_text (text_json c.args.text.now) in
     let new = c.put_text-2.new.out in (
       c.put_text-2.ensures.0 ∙ c.in_ok-make_room.ensures.same,
-      gathered_behind g.O.TextOut.puts g.met.O.TextOut.joined c.args.self.now.out.now c.make_room.new.self.out.now new.out.now
+      gathered_behind g.O.TextOut.puts g.met.O.TextOut.joined c.args.self.now.out.now c.make_room.new.self.out.now
+          new.out.now
           (piece_text c.args.self.now.waiting) (piece_text c.make_room.new.self.waiting)
           (piece_text new.waiting) text c.put_text-2.result c.in_ok-make_room.ensures.put
-          (subst (λ (l : List ℕ). Gathers g.O.TextOut.puts c.make_room.new.self.out.now new.out.now (l ++ text) (piece_text new.waiting) c.put_text-2.result)
+          (subst (λ (l : List ℕ). Gathers g.O.TextOut.puts c.make_room.new.self.out.now new.out.now (l ++ text)
+          (piece_text new.waiting) c.put_text-2.result)
           (c.add_text.ensures.same c.if-add_text.false) c.put_text-2.ensures.1),
     )
 

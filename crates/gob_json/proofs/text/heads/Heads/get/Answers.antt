@@ -9,4 +9,5 @@ returns c = λ types field are there.
     let heads = c.args.self.now.heads in
     let head = c.index-self-number.result in
     let read = slice_get_read heads (length heads) c.args.number head refl (omega arith) c.index-self-number.is in
-    ap piece_text (sym c.index-self-number.is) ∙ are c.args.number head field (omega (arith, c.if-number-self.false)) read there
+    ap piece_text (sym c.index-self-number.is) ∙ are c.args.number head field (omega (arith, c.if-number-self.false))
+    read there

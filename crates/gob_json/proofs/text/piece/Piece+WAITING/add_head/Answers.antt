@@ -12,6 +12,7 @@ returns c =
     let b = c.comma_at-at.new.block in
     let head = c.args.head.now in
     ap (λ (l : List ℕ). take (at + head.len) (put_mid at (at + 32 - at) b l)) c.copy_from_slice.ensures.after
-    ∙ kept_stored b head.bytes at (at + 32 - at) head.len (omega (arith, c.comma_at-at.ensures.end, c.requires)) (omega arith)
+    ∙ kept_stored b head.bytes at (at + 32 - at) head.len (omega (arith, c.comma_at-at.ensures.end, c.requires))
+    (omega arith)
     ∙ ap (λ (l : List ℕ). l ++ piece_text head) c.comma_at-at.ensures.text
     ∙ append_assoc (piece_text c.args.self.now) (comma_if c.args.later) (piece_text head)

@@ -1,6 +1,0 @@
-use Rattle.gob_value.proofs.PublicLaws.{seen}
-use Rattle.gob_json.proofs.TextSteps.{bytes_text}
-use Rattle.gob_json.proofs.text.basic.put_bytes_at.Goals as goal
-
-pub returns : goal.returns
-returns c = λ T. seen c.in_ok-bytes.ensures (bytes_text T _ _ _ c.in_ok-put_hex.ensures)

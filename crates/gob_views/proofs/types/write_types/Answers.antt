@@ -1,0 +1,61 @@
+-- The source of the types that were read goes out, of a whole stream and of one that is refused.
+use Rattle.std.proofs.Common.{◌∙◌, ap₂}
+use Rattle.std.proofs.KnownBytes.{Appends-nil}
+use Rattle.gob_types.specs.Defined.{types}
+use Rattle.gob_source.specs.Source.{go_source}
+use Rattle.gob_stream.specs.Bounds.{deepest, no_deeper}
+use Rattle.gob_stream.specs.Ends.{reader_of, writer_of}
+use Rattle.gob_tool.specs.declared.fault.ToolFault.TheVariants as fault
+use Rattle.gob_tool.proofs.EndLaws.{at_error}
+use Rattle.gob_views.specs.Types.{TypesAnswers}
+use Rattle.gob_views.proofs.TypeRuns.{refused_sent, refused_unsent, up_to_refusal, whole_sent}
+use Rattle.gob_views.proofs.types.write_types.Goals as goal
+
+pub returns-in_err-reader-clause-written : goal.returns-in_err-reader-clause-written
+returns-in_err-reader-clause-written g c = λ bytes known.
+    let out = g.W.Write.contents (writer_of c.args.output.now) in
+    let now = g.R.Read.remaining (reader_of c.args.input.now) in
+    at_error (λ r. TypesAnswers (no_deeper deepest c.args.limits) bytes now out out r) c.from_residual.result
+    fault.Memory c.from_residual.ensures.1 (Appends-nil out)
+
+pub returns-in-Ok-clause-written : goal.returns-in-Ok-clause-written
+returns-in-Ok-clause-written g c = λ bytes known.
+    let old = g.W.Write.contents (writer_of c.args.output.now) in
+    let new = g.W.Write.contents (writer_of c.send_source.new.output) in
+    let now = g.R.Read.remaining (reader_of c.gather_types.new.input) in
+    let r = c.gather_types.new.reader in
+    whole_sent c.args.limits r bytes now old new c.gather_types.new.ids.items
+    (go_source (types c.table.result.now) c.deref.result.now) c.send_source.result
+    (c.in-Ok.ensures.limits ∙ c.in_ok-reader.ensures.limits) (c.in-Ok.ensures.gathered bytes known)
+    (ap₂ (λ d ids. go_source (types d) ids) c.table.ensures c.deref.ensures.value) c.send_source.ensures.sent
+
+pub returns-in_err-send_source-in-Err-Refused-clause-written :
+    goal.returns-in_err-send_source-in-Err-Refused-clause-written
+returns-in_err-send_source-in-Err-Refused-clause-written g c = λ bytes known.
+    let old = g.W.Write.contents (writer_of c.args.output.now) in
+    let new = g.W.Write.contents (writer_of c.send_source-in-Err-Refused.new.output) in
+    let now = g.R.Read.remaining (reader_of c.gather_types.new.input) in
+    let r = c.gather_types.new.reader in
+    let f = c.in_err-send_source-in-Err-Refused.field-0.0 in
+    at_error (λ res. TypesAnswers (no_deeper deepest c.args.limits) bytes now old new res)
+    c.from_residual-in_err-send_source-in-Err-Refused.result f
+    c.from_residual-in_err-send_source-in-Err-Refused.ensures.1
+    (refused_unsent c.args.limits r bytes now old new c.gather_types.new.ids.items
+    (go_source (types c.table-in-Err-Refused.result.now) c.deref-in-Err-Refused.result.now) c.in-Err-Refused.refusal f
+    (c.in-Err-Refused.ensures.limits ∙ c.in_ok-reader.ensures.limits) (up_to_refusal r _ now _ c.in-Err-Refused.field-0
+    c.in-Err-Refused.refusal c.in-Err-Refused.field-0-is c.in-Err-Refused.ensures.gathered bytes known)
+    (ap₂ (λ d ids. go_source (types d) ids) c.table-in-Err-Refused.ensures c.deref-in-Err-Refused.ensures.value)
+    c.in_err-send_source-in-Err-Refused.ensures.sent)
+
+pub returns-in-Err-Refused-clause-written : goal.returns-in-Err-Refused-clause-written
+returns-in-Err-Refused-clause-written g c = λ bytes known.
+    let old = g.W.Write.contents (writer_of c.args.output.now) in
+    let new = g.W.Write.contents (writer_of c.send_source-in-Err-Refused.new.output) in
+    let now = g.R.Read.remaining (reader_of c.gather_types.new.input) in
+    let r = c.gather_types.new.reader in
+    refused_sent c.args.limits r bytes now old new c.gather_types.new.ids.items
+    (go_source (types c.table-in-Err-Refused.result.now) c.deref-in-Err-Refused.result.now) c.in-Err-Refused.refusal
+    (c.in-Err-Refused.ensures.limits ∙ c.in_ok-reader.ensures.limits) (up_to_refusal r _ now _ c.in-Err-Refused.field-0
+    c.in-Err-Refused.refusal c.in-Err-Refused.field-0-is c.in-Err-Refused.ensures.gathered bytes known)
+    (ap₂ (λ d ids. go_source (types d) ids) c.table-in-Err-Refused.ensures c.deref-in-Err-Refused.ensures.value)
+    c.in_ok-send_source-in-Err-Refused.ensures.sent

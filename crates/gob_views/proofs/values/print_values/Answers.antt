@@ -1,0 +1,190 @@
+-- From turn to turn the lines of the values that were read go out, and each end is that of the stream.
+use Rattle.std.proofs.Common.{Bool, Err, Ok, ◌∙◌, arith, refl, subst, sym}
+use Rattle.std.specs.Io.KnownBytes.{Appends}
+use Rattle.gob_tape.specs.Calls.Builder.{tape_building}
+use Rattle.gob_stream.specs.Bounds.{deepest, no_deeper, within_trees}
+use Rattle.gob_stream.specs.Calls.Session.{limits_of, taken_of, types_of}
+use Rattle.gob_stream.specs.Ends.{failed_reads, failed_writes, reader_of, writer_of}
+use Rattle.gob_stream.specs.Calls.Reader.{session_of}
+use Rattle.gob_stream.proofs.PublicLaws.{goes_on, has_ended}
+use Rattle.gob_types.specs.Base.{base_table}
+use Rattle.gob_tool.specs.Fault.{reading_fault, writing_fault}
+use Rattle.gob_tool.specs.Ending.{CountsOnlyWrites}
+use Rattle.gob_tool.specs.Showing.{AppendsPrefix, CountsReadFaults}
+use Rattle.gob_tool.specs.declared.fault.ToolFault.TheVariants as fault
+use Rattle.gob_tool.proofs.EndLaws.{at_error, reads_unread, write_counts, writing_unread}
+use Rattle.gob_tool.proofs.ShowRuns.{shown_none, shown_stops, shown_whole, stop_faults}
+use Rattle.gob_views.specs.Values.{HasPlain, ValuesAnswers}
+use Rattle.gob_views.proofs.KeepLaws.{reads_fall}
+use Rattle.gob_views.proofs.ValueRuns.{plain_none, prints_first, prints_flushed, prints_turn, prints_unflushed}
+use Rattle.gob_views.proofs.ValueRuns.{values_under}
+use Rattle.gob_views.proofs.values.print_values.Goals as goal
+
+pub returns-in_err-reader-clause-printed : goal.returns-in_err-reader-clause-printed
+returns-in_err-reader-clause-printed g c = λ bytes known.
+    let out = g.W.Write.contents (writer_of c.args.output.now) in
+    let L = within_trees c.args.limits in
+    at_error (λ r. ValuesAnswers L bytes (g.R.Read.remaining (reader_of c.args.input.now)) out out r)
+    c.from_residual.result
+    fault.Memory c.from_residual.ensures.1
+    (shown_none L bytes (g.R.Read.remaining (reader_of c.args.input.now)) (HasPlain (Appends out out))
+    (HasPlain (AppendsPrefix out out))
+    known (plain_none base_table out))
+
+pub values-init : goal.values-init
+values-init g c =
+    let read = g.R.Read.remaining (reader_of c.args.input.now) in (
+      c.in_ok-reader.ensures.limits ∙ c.up_to-limits.ensures,
+      refl,
+      refl,
+      prints_first c.in_ok-reader.reader read (g.W.Write.contents (writer_of c.args.output.now))
+          (c.in_ok-reader.ensures.new read),
+    )
+
+pub returns-in_err-fill-clause-printed : goal.returns-in_err-fill-clause-printed
+returns-in_err-fill-clause-printed g c = λ bytes known.
+    let i = c.values.invariant in
+    let e = c.in_err-fill.field-0.0 in
+    let read = g.R.Read.remaining (reader_of c.args.input.now) in
+    let next = g.R.Read.remaining (reader_of c.fill.new.input) in
+    let old = g.W.Write.contents (writer_of c.args.output.now) in
+    let out = g.W.Write.contents (writer_of c.values.output) in
+    let s = session_of c.values.reader in
+    at_error (λ r. ValuesAnswers (within_trees c.args.limits) bytes next old out r) c.from_residual-in_err-fill.result
+    (reading_fault e) c.from_residual-in_err-fill.ensures.1
+    (values_under (limits_of s) c.args.limits bytes next (HasPlain (Appends old out))
+    (HasPlain (AppendsPrefix old out)) (Err (reading_fault e))
+    i.0
+    (shown_stops (no_deeper deepest (limits_of s)) (types_of s) i.3.given bytes next (HasPlain (Appends old out))
+    (HasPlain (AppendsPrefix old out))
+    e
+    (c.in_err-fill.ensures.filled read i.3.given i.3.has bytes known) (i.3.out bytes known)))
+
+pub returns-in_err-fill-clause-reads : goal.returns-in_err-fill-clause-reads
+returns-in_err-fill-clause-reads g c =
+    let i = c.values.invariant in
+    let e = c.in_err-fill.field-0.0 in
+    at_error (λ r. CountsReadFaults (failed_reads c.args.input.now) (failed_reads c.fill.new.input) r)
+    c.from_residual-in_err-fill.result (reading_fault e) c.from_residual-in_err-fill.ensures.1
+    (stop_faults Bool (failed_reads c.args.input.now) (failed_reads c.values.input) (failed_reads c.fill.new.input) e
+    i.1
+    c.in_err-fill.ensures.counted)
+
+pub values-smaller : goal.values-smaller
+values-smaller g c =
+    let i = c.values.invariant in
+    let read = g.R.Read.remaining (reader_of c.args.input.now) in
+    let next = g.R.Read.remaining (reader_of c.fill.new.input) in
+    let on = goes_on tape_building (session_of c.values.reader) c.fill.new.self read next i.3.given
+    c.in_ok-fill.field-0
+    c.if-branch.true (c.in_ok-fill.ensures.filled read i.3.given i.3.has) in
+    let m = (c.in_ok-print_next.ensures.printed read next i.3.given on.0).1 in
+    reads_fall tape_building c.values.reader (taken_of (session_of c.values.reader))
+    (c.in_ok-print_next.ensures.limits ∙ c.in_ok-fill.ensures.limits) m.after (omega (arith, on.1, m.onward))
+
+pub values-preserved : goal.values-preserved
+values-preserved g c =
+    let i = c.values.invariant in
+    let read = g.R.Read.remaining (reader_of c.args.input.now) in
+    let next = g.R.Read.remaining (reader_of c.fill.new.input) in
+    let on = goes_on tape_building (session_of c.values.reader) c.fill.new.self read next i.3.given
+    c.in_ok-fill.field-0
+    c.if-branch.true (c.in_ok-fill.ensures.filled read i.3.given i.3.has) in
+    let shown = c.in_ok-print_next.ensures.printed read next i.3.given on.0 in (
+      c.in_ok-print_next.ensures.limits ∙ c.in_ok-fill.ensures.limits ∙ i.0,
+      c.in_ok-fill.ensures.counted ∙ i.1,
+      c.in_ok-flush_before_waiting.ensures.counted ∙ c.in_ok-print_next.ensures.writes ∙ i.2,
+      prints_flushed (prints_turn i.3 on.2 on.0 c.in_ok-print_next.ensures.limits shown.1 shown.2)
+          c.in_ok-flush_before_waiting.ensures.bytes,
+    )
+
+pub returns-in_err-flush_before_waiting-clause-printed : goal.returns-in_err-flush_before_waiting-clause-printed
+returns-in_err-flush_before_waiting-clause-printed g c = λ bytes known.
+    let i = c.values.invariant in
+    let e = c.in_err-flush_before_waiting.field-0.0 in
+    let read = g.R.Read.remaining (reader_of c.args.input.now) in
+    let next = g.R.Read.remaining (reader_of c.fill.new.input) in
+    let old = g.W.Write.contents (writer_of c.args.output.now) in
+    let new = g.W.Write.contents (writer_of c.flush_before_waiting.new.output) in
+    let s = session_of c.print_next.new.reader in
+    let on = goes_on tape_building (session_of c.values.reader) c.fill.new.self read next i.3.given
+    c.in_ok-fill.field-0
+    c.if-branch.true (c.in_ok-fill.ensures.filled read i.3.given i.3.has) in
+    let shown = c.in_ok-print_next.ensures.printed read next i.3.given on.0 in
+    let so = prints_flushed (prints_turn i.3 on.2 on.0 c.in_ok-print_next.ensures.limits shown.1 shown.2)
+    c.in_err-flush_before_waiting.ensures.bytes in
+    at_error (λ r. ValuesAnswers (within_trees c.args.limits) bytes next old new r)
+    c.from_residual-in_err-flush_before_waiting.result (writing_fault e)
+    c.from_residual-in_err-flush_before_waiting.ensures.1
+    (values_under (limits_of s) c.args.limits bytes next (HasPlain (Appends old new))
+    (HasPlain (AppendsPrefix old new)) (Err (writing_fault e))
+    (c.in_ok-print_next.ensures.limits ∙ c.in_ok-fill.ensures.limits ∙ i.0)
+    (rw c.in_err-flush_before_waiting.ensures.fault (prints_unflushed so bytes known)))
+
+pub returns-in_err-flush_before_waiting-clause-reads : goal.returns-in_err-flush_before_waiting-clause-reads
+returns-in_err-flush_before_waiting-clause-reads g c =
+    let e = c.in_err-flush_before_waiting.field-0.0 in
+    at_error (λ r. CountsReadFaults (failed_reads c.args.input.now) (failed_reads c.fill.new.input) r)
+    c.from_residual-in_err-flush_before_waiting.result (writing_fault e)
+    c.from_residual-in_err-flush_before_waiting.ensures.1
+    (reads_unread (failed_reads c.args.input.now) (failed_reads c.fill.new.input) (Err (writing_fault e))
+    (c.in_ok-fill.ensures.counted ∙ c.values.invariant.1) (writing_unread e))
+
+pub returns-in_err-flush_before_waiting-clause-writes : goal.returns-in_err-flush_before_waiting-clause-writes
+returns-in_err-flush_before_waiting-clause-writes g c =
+    let i = c.values.invariant in
+    let e = c.in_err-flush_before_waiting.field-0.0 in
+    at_error (λ r. CountsOnlyWrites (failed_writes c.args.output.now) (failed_writes c.flush_before_waiting.new.output)
+    r)
+    c.from_residual-in_err-flush_before_waiting.result (writing_fault e)
+    c.from_residual-in_err-flush_before_waiting.ensures.1
+    (write_counts (failed_writes c.args.output.now) (failed_writes c.print_next.new.output)
+    (failed_writes c.flush_before_waiting.new.output) e c.in_err-flush_before_waiting.ensures.fault
+    (c.in_ok-print_next.ensures.writes ∙ i.2) c.in_err-flush_before_waiting.ensures.counted)
+
+pub returns-in_err-print_next-clause-printed : goal.returns-in_err-print_next-clause-printed
+returns-in_err-print_next-clause-printed g c = λ bytes known.
+    let i = c.values.invariant in
+    let f = c.in_err-print_next.field-0.0 in
+    let read = g.R.Read.remaining (reader_of c.args.input.now) in
+    let next = g.R.Read.remaining (reader_of c.fill.new.input) in
+    let old = g.W.Write.contents (writer_of c.args.output.now) in
+    let out = g.W.Write.contents (writer_of c.values.output) in
+    let new = g.W.Write.contents (writer_of c.print_next.new.output) in
+    let s = session_of c.fill.new.self in
+    let on = goes_on tape_building (session_of c.values.reader) c.fill.new.self read next i.3.given
+    c.in_ok-fill.field-0
+    c.if-branch.true (c.in_ok-fill.ensures.filled read i.3.given i.3.has) in
+    at_error (λ r. ValuesAnswers (within_trees c.args.limits) bytes next old new r)
+    c.from_residual-in_err-print_next.result f
+    c.from_residual-in_err-print_next.ensures.1
+    (values_under (limits_of s) c.args.limits bytes next (HasPlain (Appends old new))
+    (HasPlain (AppendsPrefix old new)) (Err f)
+    (c.in_ok-fill.ensures.limits ∙ i.0)
+    (c.in_err-print_next.ensures.printed read next i.3.given on.0 bytes known old
+    (subst (λ T. HasPlain (Appends old out) T i.3.given) (sym on.2) (i.3.out bytes known))))
+
+pub returns-in_err-print_next-clause-reads : goal.returns-in_err-print_next-clause-reads
+returns-in_err-print_next-clause-reads g c =
+    let f = c.in_err-print_next.field-0.0 in
+    at_error (λ r. CountsReadFaults (failed_reads c.args.input.now) (failed_reads c.fill.new.input) r)
+    c.from_residual-in_err-print_next.result f c.from_residual-in_err-print_next.ensures.1
+    (reads_unread (failed_reads c.args.input.now) (failed_reads c.fill.new.input) (Err f)
+    (c.in_ok-fill.ensures.counted ∙ c.values.invariant.1) c.in_err-print_next.ensures.unread)
+
+pub returns-clause-printed : goal.returns-clause-printed
+returns-clause-printed g c = λ bytes known.
+    let i = c.values.invariant in
+    let read = g.R.Read.remaining (reader_of c.args.input.now) in
+    let next = g.R.Read.remaining (reader_of c.fill.new.input) in
+    let old = g.W.Write.contents (writer_of c.args.output.now) in
+    let out = g.W.Write.contents (writer_of c.values.output) in
+    let s = session_of c.values.reader in
+    let end = has_ended tape_building s c.fill.new.self read next i.3.given c.in_ok-fill.field-0
+    c.if-branch.false (c.in_ok-fill.ensures.filled read i.3.given i.3.has) in
+    values_under (limits_of s) c.args.limits bytes next (HasPlain (Appends old out))
+    (HasPlain (AppendsPrefix old out)) (Ok tt) i.0
+    (shown_whole (HasPlain (Appends old out)) (end.0 bytes known) (i.3.out bytes known))
+
+pub returns-clause-reads : goal.returns-clause-reads
+returns-clause-reads g c = c.in_ok-fill.ensures.counted ∙ c.values.invariant.1

@@ -1,0 +1,20 @@
+//! What is in a stream, for people and for programs that know nothing of gob.
+//!
+//! ```text
+//! {"X":22,"Y":33}                         run_values: a line of plain JSON for each value
+//!
+//! // type 65                              run_types: the types, as Go source
+//! type Point struct {
+//!     X int
+//!     Y int
+//! }
+//! ```
+#![tactic(auto)]
+
+mod run;
+mod types;
+mod values;
+
+pub use run::run_view;
+pub use types::run_types;
+pub use values::run_values;

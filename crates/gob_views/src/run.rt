@@ -1,0 +1,56 @@
+//! The run that the words ask for.
+
+ghost use Rattle.std.specs.Prelude.{◌≡◌, ℕ, List, Some};
+ghost use Rattle.gob_stream.specs.Ends.{failed_reads, failed_writes, reader_of, writer_of};
+ghost use Rattle.gob_tool.specs.Ending.{CountsOnlyWrites};
+ghost use Rattle.gob_tool.specs.Showing.{CountsReadFaults, CountsWriteFaults};
+ghost use Rattle.gob_views.specs.Running.{ViewAnswers, version_line, view_limits};
+ghost use Rattle.gob_views.specs.Sending.{SendsText};
+
+use crate::types::run_types;
+use crate::values::run_values;
+use gob_stream::{Input, Limits, Output};
+use gob_tool::{ToolFault, end_run};
+use gob_words::{VERSION, View, ViewCommand};
+use std::alloc::Global;
+use std::io::{Read, Write};
+
+/// Shows of the input what the view asks for, under its limits; the run of each command says what that is, and what
+/// each fault means. For [`ViewCommand::Version`] nothing is read.
+pub fn run_view<R: Read, W: Write>(
+    alloc: Global,
+    view: &View<'_>,
+    input: &mut Input<R>,
+    output: &mut Output<W>,
+) -> Result<(), ToolFault>
+    ensures shows { (bytes : List ℕ) → R.remaining (reader_of input.old) ≡ Some bytes
+        → ViewAnswers view.now.command (view_limits view.now) bytes (R.remaining (reader_of input.new))
+        (W.contents (writer_of output.old)) (W.contents (writer_of output.new)) result }
+    ensures reads { CountsReadFaults (failed_reads input.old) (failed_reads input.new) result }
+    ensures writes { CountsWriteFaults (failed_writes output.old) (failed_writes output.new) result }
+{
+    match view.command {
+        ViewCommand::Values => run_values(alloc, input, output, limits_of(view)),
+        ViewCommand::Types => run_types(alloc, input, output, limits_of(view)),
+        ViewCommand::Version => end_run(write_version(output), output),
+    }
+}
+
+// The limits under which the stream is read: the view's depth and item, and else the standard ones.
+fn limits_of(view: &View<'_>) -> Limits
+    ensures { result ≡ view_limits view.now }
+{
+    let standard = Limits::standard();
+    // The depth is within what each command allows, so these are limits.
+    Limits::deep(view.item, view.depth, standard.types(), standard.stream()).unwrap()
+}
+
+// Writes the line of the version.
+fn write_version<W: Write>(output: &mut Output<W>) -> Result<(), ToolFault>
+    ensures sent { SendsText (W.contents (writer_of output.old)) (W.contents (writer_of output.new)) version_line
+        result }
+    ensures writes { CountsOnlyWrites (failed_writes output.old) (failed_writes output.new) result }
+{
+    output.send_all(VERSION.as_bytes())?;
+    Ok(output.send_all(b"\n")?)
+}

@@ -1,0 +1,115 @@
+//! The run that prints the values of a stream as plain JSON.
+
+ghost use Rattle.std.specs.Prelude.{◌≡◌, ◌≢◌, ◌<◌, ℕ, List, length, Option, Some, IfErr, IfOk, OnOk};
+ghost use Rattle.gob_types.specs.Defined.{types};
+ghost use Rattle.gob_stream.specs.Bounds.{within_trees};
+ghost use Rattle.gob_stream.specs.Calls.Reader.{HasReadFrom, session_of, waits_in};
+ghost use Rattle.gob_stream.specs.Calls.Session.{limits_of};
+ghost use Rattle.gob_stream.specs.Ends.{failed_reads, failed_writes, reader_of, writer_of};
+ghost use Rattle.gob_stream.specs.Item.{StreamItem};
+ghost use Rattle.gob_tape.specs.Calls.Builder.{tape_building};
+ghost use Rattle.gob_tool.specs.Ending.{CountsOnlyWrites};
+ghost use Rattle.gob_tool.specs.Showing.{CountsReadFaults, CountsWriteFaults, IsFlushedSince};
+ghost use Rattle.gob_views.specs.Machine.Lines.{GivesLine, MakesPlain, PrintsNext};
+ghost use Rattle.gob_views.specs.Values.{ValuesAnswers};
+
+use gob_num::Memory;
+use gob_plain::plain_text;
+use gob_stream::{Fault, Input, Item, Limits, Output, StreamReader};
+use gob_tape::{Tape, TapeBuilder};
+use gob_tool::{ToolFault, end_run, flush_before_waiting};
+use gob_types::Table;
+use json_controls::push_shown;
+use std::alloc::Global;
+use std::io::{Read, Write};
+
+/// Writes a line of plain JSON for each value of a stream, and nothing for definitions, and ends with a flush. Ok
+/// exactly at the end of a whole stream. Before a fault is answered the lines of the values before it are written; at
+/// `ToolFault::Write` a prefix of them may be. A flush that fails is that fault where no other came before it. What it
+/// takes in memory grows with the types and the largest item alone. No value may be deeper than the lesser of
+/// `limits.depth()` and 1000.
+pub fn run_values<R: Read, W: Write>(
+    alloc: Global,
+    input: &mut Input<R>,
+    output: &mut Output<W>,
+    limits: Limits,
+) -> Result<(), ToolFault>
+    ensures printed { (bytes : List ℕ) → R.remaining (reader_of input.old) ≡ Some bytes
+        → ValuesAnswers (within_trees limits) bytes (R.remaining (reader_of input.new))
+        (W.contents (writer_of output.old)) (W.contents (writer_of output.new)) result }
+    ensures reads { CountsReadFaults (failed_reads input.old) (failed_reads input.new) result }
+    ensures writes { CountsWriteFaults (failed_writes output.old) (failed_writes output.new) result }
+    ensures flushed { IsFlushedSince (failed_writes output.old) output.new }
+{
+    end_run(print_values(alloc, input, output, limits), output)
+}
+
+/// Writes the lines.
+fn print_values<R: Read, W: Write>(
+    alloc: Global,
+    input: &mut Input<R>,
+    output: &mut Output<W>,
+    limits: Limits,
+) -> Result<(), ToolFault>
+    ensures printed { (bytes : List ℕ) → R.remaining (reader_of input.old) ≡ Some bytes
+        → ValuesAnswers (within_trees limits) bytes (R.remaining (reader_of input.new))
+        (W.contents (writer_of output.old)) (W.contents (writer_of output.new)) result }
+    ensures reads { CountsReadFaults (failed_reads input.old) (failed_reads input.new) result }
+    ensures writes { CountsOnlyWrites (failed_writes output.old) (failed_writes output.new) result }
+{
+    let limits = limits.up_to(Limits::GREATEST_DEPTH);
+    let mut reader = StreamReader::<TapeBuilder>::new(alloc, limits)?;
+    'values: while reader.fill(input)? {
+        print_next(alloc, &mut reader, output)?;
+        flush_before_waiting(&reader, output)?;
+    }
+    Ok(())
+}
+
+/// Takes some of the bytes that wait, and writes the line of the value that is whole with them.
+fn print_next<W: Write>(
+    alloc: Global,
+    reader: &mut StreamReader<TapeBuilder>,
+    output: &mut Output<W>,
+) -> Result<(), ToolFault>
+    requires { 0 < length (waits_in reader.old) }
+    ensures printed { (read now : Option (List ℕ)) (given : List StreamItem)
+        → HasReadFrom tape_building reader.old read now given
+        → PrintsNext reader.old reader.new read now given (W.contents (writer_of output.old))
+        (W.contents (writer_of output.new)) result }
+    ensures unread { IfErr result (λ fault. fault ≢ ToolFault.Read) }
+    ensures limits { limits_of (session_of reader.new) ≡ limits_of (session_of reader.old) }
+    ensures writes { CountsOnlyWrites (failed_writes output.old) (failed_writes output.new) result }
+{
+    let line = next_line(alloc, reader)?;
+    Ok(output.send_all(&line)?)
+}
+
+/// Takes some of the bytes that wait, and makes the line of the value that is whole with them: nothing where none is.
+fn next_line(alloc: Global, reader: &mut StreamReader<TapeBuilder>) -> Result<Vec<u8>, Fault>
+    requires { 0 < length (waits_in reader.old) }
+    ensures made { (read now : Option (List ℕ)) (given : List StreamItem)
+        → HasReadFrom tape_building reader.old read now given
+        → MakesPlain reader.old reader.new read now given result }
+    ensures unread { IfErr result (λ fault. fault ≢ Fault.Read) }
+    ensures limits { limits_of (session_of reader.new) ≡ limits_of (session_of reader.old) }
+{
+    let step = reader.step(alloc)?;
+    let line = line_of(alloc, &step.item, reader.table());
+    drop(step);
+    Ok(line?)
+}
+
+/// Makes the line of an item, if it is a value. No character of it controls how a terminal shows it.
+fn line_of(alloc: Global, item: &Option<Item<Tape>>, table: &Table) -> Result<Vec<u8>, Memory>
+    ensures { IfOk result (λ line. GivesLine (types table.now) item.now line.items) }
+{
+    let Some(Item::Put { id, value }) = item else {
+        return Ok(Vec::new(alloc));
+    };
+    let text = plain_text(alloc, *id, value, table)?;
+    let mut line = Vec::new(alloc);
+    push_shown(text.as_bytes(), &mut line)?;
+    line.push(b'\n')?;
+    Ok(line)
+}

@@ -1,0 +1,117 @@
+-- What is read of clap's matches where something is to be shown.
+use Rattle.std.proofs.Common.{rules, ◌≡◌, ◌∙◌, ◌<◌, ◌≤◌, ap, sym, refl, codes, ℕ, List, [], Option, Some, None}
+use Rattle.std.proofs.Common.{Result, Ok, Err, option_map, slice_index, subst, ◌==◌, if◌then◌else◌, MatchResult}
+use Rattle.std.proofs.Common.{IsErrAnd, true, inl, inr}
+use Rattle.clap.specs.Words.{Row, Text, first_of, subcommand_of, takes, fault_of, kind_of, HasKind, IsAmong}
+use Rattle.clap.specs.declared.error.Error.{Error}
+use Rattle.clap.specs.declared.error.kind.ErrorKind.{ErrorKind}
+use Rattle.clap.specs.declared.error.kind.ErrorKind.TheVariants.{DisplayVersion, OutOfMemory}
+use Rattle.gob_words.specs.declared.words.OrderFault.{OrderFault}
+use Rattle.gob_words.specs.declared.words.OrderFault.TheVariants as fault
+use Rattle.gob_words.specs.declared.view.View.{View}
+use Rattle.gob_words.specs.declared.view.ViewCommand.{ViewCommand}
+use Rattle.gob_words.specs.declared.view.ViewCommand.TheVariants.{Values, Types, Version}
+use Rattle.gob_words.specs.declared.view.ViewFault.{ViewFault}
+use Rattle.gob_words.specs.declared.view.ViewFault.TheVariants as view_fault
+use Rattle.gob_words.specs.Words.{IsNumber, IsFaultOf, program}
+use Rattle.gob_words.specs.Views.{AsksToView, HasNoView, IsViewFaultOf, IsViewOf, IsWordAtFault, RefusesToView}
+use Rattle.gob_words.specs.Views.{IsVersionView, view_name}
+use Rattle.gob_words.specs.ViewDepths.{most_view_depth}
+use Rattle.gob_words.proofs.WordLaws.{together, name_met, rows_met}
+
+-- ---- names
+
+-- the command whose name has this as its second letter
+abbrev having : ℕ → ViewCommand
+having c = if c == 97 then Values else (if c == 121 then Types else Version)
+
+has : (a : ViewCommand) → having (slice_index (view_name a) 1) ≡ a
+has Values = refl
+has Types = refl
+has Version = refl
+
+one_view : (a b : ViewCommand) → view_name a ≡ view_name b → a ≡ b
+one_view a b e = sym (has a) ∙ ap (λ name. having (slice_index name 1)) e ∙ has b
+
+-- ---- what was met
+
+-- a command's name and rows that were met apart were met together
+pub views_together : {X : Type 0} (f : X → Text) (g : X → List Row) (met : Option X) (name : Text) (rows : List Row)
+    (command : ViewCommand) → Some name ≡ option_map f met
+    → Some rows ≡ option_map (λ (p : Text × List Row). p.1) (option_map {U = Text × List Row} (λ b. (f b, g b)) met)
+    → view_name command ≡ name
+    → option_map {U = Text × List Row} (λ b. (f b, g b)) met ≡ Some (view_name command, rows)
+views_together f g met name rows command p q e = rw e (together f g met name rows p q)
+
+-- what a view that was met has
+pub record ViewMeets (command : ViewCommand) (rows : List Row) (view : View) : Type 0 where
+  pub depth : IsNumber (first_of (codes "depth") rows) 1000 view.depth
+  pub item : IsNumber (first_of (codes "item") rows) 67108864 view.item
+  pub least : 1 ≤ view.depth
+  pub most : view.depth ≤ most_view_depth command
+
+pub view_meets : (met : Option (Text × List Row)) (command : ViewCommand) (rows : List Row) (view : View)
+    → met ≡ Some (view_name command, rows) → IsViewOf met view → ViewMeets command rows view
+view_meets met command rows view e h =
+    let same : h.rows ≡ rows = ap rows_met (sym h.command ∙ e) in
+    let one = one_view view.command command (ap name_met (sym h.command ∙ e)) in
+    record {
+      depth = subst (λ r. IsNumber (first_of (codes "depth") r) 1000 view.depth) same h.depth;
+      item = subst (λ r. IsNumber (first_of (codes "item") r) 67108864 view.item) same h.item;
+      least = h.least;
+      most = subst (λ c. view.depth ≤ most_view_depth c) one h.most;
+    }
+
+-- ---- the ends
+
+pub asks_as_met : (words : List Text) (met : Option (Text × List Row)) (view : View)
+    → met ≡ subcommand_of program words → IsViewOf met view → AsksToView words view
+unfolding AsksToView
+asks_as_met words met view e h = inl (subst (λ m. IsViewOf m view) e h)
+
+-- nothing is asked for, so a word is wrong
+pub refuses_as_met : (words : List Text) (met : Option (Text × List Row)) (fault : ViewFault)
+    → met ≡ subcommand_of program words → ((view : View) → ¬ IsViewOf met view) → IsWordAtFault fault
+    → RefusesToView words fault
+unfolding RefusesToView
+refuses_as_met words met (view_fault.Word line) e h is = λ taken view asked. h view
+    (subst (λ m. IsViewOf m view) (sym e) asked)
+refuses_as_met words met (view_fault.Order (fault.Help text)) e h is = absurd is
+refuses_as_met words met (view_fault.Order fault.Words) e h is = λ taken view asked. h view
+    (subst (λ m. IsViewOf m view) (sym e) asked)
+refuses_as_met words met (view_fault.Order fault.Memory) e h is = tt
+
+-- the fault of words that clap refuses
+pub refuses_as_shown : (words : List Text) (error : Error) (fault : ViewFault) → IsViewFaultOf (kind_of error) fault
+    → (takes program words ≡ true → kind_of error ≡ OutOfMemory) → HasKind (fault_of program words) error
+    → RefusesToView words fault
+unfolding RefusesToView
+refuses_as_shown words error (view_fault.Word line) is passes kinds = λ taken view asked. is (passes taken)
+refuses_as_shown words error (view_fault.Order (fault.Help text)) is passes (inl lost) = absurd (search rules)
+refuses_as_shown words error (view_fault.Order (fault.Help text)) is passes (inr among) =
+    subst (λ kind. IsAmong kind (fault_of program words)) is among
+refuses_as_shown words error (view_fault.Order fault.Words) is passes kinds = λ taken view asked. is (passes taken)
+refuses_as_shown words error (view_fault.Order fault.Memory) is passes kinds = tt
+
+-- want of memory says nothing of the words
+pub no_view_without_memory : (words : List Text) (r : Result View ViewFault)
+    → IsErrAnd r (λ given. given ≡ view_fault.Order fault.Memory)
+    → MatchResult r (AsksToView words) (RefusesToView words)
+unfolding RefusesToView
+no_view_without_memory words (Ok view) e = elim e [ ]
+no_view_without_memory words (Err given) e = subst (RefusesToView words) (sym e) tt
+
+-- what clap's answer gives, where no line is made of it
+pub shown_as_order : (shown : Option Text) (kind : ErrorKind) (given : OrderFault) → IsFaultOf kind shown given
+    → IsViewFaultOf kind (view_fault.Order given)
+shown_as_order shown kind (fault.Help text) is = is.0
+shown_as_order shown kind fault.Words is = is.0
+shown_as_order shown kind fault.Memory is = tt
+
+-- the version is asked for by its option
+pub asks_for_version : (words : List Text) (error : Error) (view : View) → IsVersionView view
+    → kind_of error ≡ DisplayVersion → HasKind (fault_of program words) error → AsksToView words view
+unfolding AsksToView
+asks_for_version words error view is e (inl lost) = absurd (search rules)
+asks_for_version words error view is e (inr among) =
+    inr (is, subst (λ kind. IsAmong kind (fault_of program words)) e among)

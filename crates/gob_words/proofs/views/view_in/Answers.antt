@@ -1,0 +1,57 @@
+-- What is asked for is read off the rows of the one subcommand that was met.
+use Rattle.std.proofs.Common.{rules, ◌∙◌, ap, sym, codes, arith}
+use Rattle.clap.specs.Words.{found_of, rows_of, subcommand_rows_of}
+use Rattle.clap.proofs.WalkLemmas.{first_value-rows}
+use Rattle.gob_words.proofs.WordLaws.{one_number, writes_alike}
+use Rattle.gob_words.proofs.ViewLaws.{view_meets, views_together}
+use Rattle.gob_words.proofs.views.view_in.Goals.{then-depth-lt1-via-then-depth-lt1}
+use Rattle.gob_words.proofs.views.view_in.Goals.{then-depth-lt1-via-else-depth-lt1+then-depth-most_depth}
+use Rattle.gob_words.proofs.views.view_in.Goals as goal
+
+pub returns-in_err-depth : goal.returns-in_err-depth
+returns-in_err-depth c =
+    let f = found_of c.in_ok-name.matches.now in
+    let met = views_together _ _ _ _ _ _ c.in_ok-name.ensures.name c.in_ok-name.ensures.rows
+    c.in_ok-command.ensures in
+    let word = c.get_str.ensures ∙ first_value-rows f (codes "depth") in
+    rw c.from_residual-in_err-depth.ensures (λ view h.
+    let given = view_meets (subcommand_rows_of c.args.matches.now) c.in_ok-command.command (rows_of f) view met h in
+    c.in_err-depth.ensures view.depth (writes_alike _ _ _ _ (sym word) given.depth))
+
+pub returns-in_err-item : goal.returns-in_err-item
+returns-in_err-item c =
+    let f = found_of c.in_ok-name.matches.now in
+    let met = views_together _ _ _ _ _ _ c.in_ok-name.ensures.name c.in_ok-name.ensures.rows
+    c.in_ok-command.ensures in
+    let word = c.get_str-2.ensures ∙ first_value-rows f (codes "item") in
+    rw c.from_residual-in_err-item.ensures (λ view h.
+    let given = view_meets (subcommand_rows_of c.args.matches.now) c.in_ok-command.command (rows_of f) view met h in
+    c.in_err-item.ensures view.item (writes_alike _ _ _ _ (sym word) given.item))
+
+pub returns-then-depth-lt1 : goal.returns-then-depth-lt1
+returns-then-depth-lt1 c = λ view h.
+    let f = found_of c.in_ok-name.matches.now in
+    let met = views_together _ _ _ _ _ _ c.in_ok-name.ensures.name c.in_ok-name.ensures.rows
+    c.in_ok-command.ensures in
+    let word = c.get_str.ensures ∙ first_value-rows f (codes "depth") in
+    let given = view_meets (subcommand_rows_of c.args.matches.now) c.in_ok-command.command (rows_of f) view met h in
+    let depth = one_number _ _ _ _ given.depth (writes_alike _ _ _ _ word c.in_ok-depth.ensures) in
+    elim c.then-depth-lt1.branch [
+      | then-depth-lt1-via-then-depth-lt1 w ↦ absurd (omega (arith, depth, given.least, w.if-depth-lt1.true))
+      | then-depth-lt1-via-else-depth-lt1+then-depth-most_depth w ↦
+          absurd (omega (arith, depth, given.most, w.most_depth.ensures, w.if-depth-most_depth.true))
+    ]
+
+pub returns : goal.returns
+returns c =
+    let f = found_of c.in_ok-name.matches.now in
+    record {
+      rows = rows_of f;
+      command = views_together _ _ _ _ _ _ c.in_ok-name.ensures.name c.in_ok-name.ensures.rows
+          c.in_ok-command.ensures;
+      input = rw (← c.get_str-3.ensures ∙ first_value-rows f (codes "IN")) c.file_of.ensures;
+      depth = writes_alike _ _ _ _ (c.get_str.ensures ∙ first_value-rows f (codes "depth")) c.in_ok-depth.ensures;
+      item = writes_alike _ _ _ _ (c.get_str-2.ensures ∙ first_value-rows f (codes "item")) c.in_ok-item.ensures;
+      least = omega (arith, c.if-depth-lt1.false);
+      most = omega (arith, c.if-depth-most_depth.false, c.most_depth.ensures);
+    }

@@ -1,0 +1,47 @@
+-- What clap says of the words, and what is read of its matches.
+use Rattle.std.proofs.Common.{rules, ◌≡◌, ◌∙◌, ap, true, subst, map}
+use Rattle.clap.specs.declared.error.kind.ErrorKind.TheVariants.{OutOfMemory}
+use Rattle.clap.specs.Words.{subcommand_of, takes, fault_of, kind_of, HasKind}
+use Rattle.gob_words.specs.Views.{IsViewFaultOf}
+use Rattle.gob_words.specs.Words.{program}
+use Rattle.gob_words.proofs.WordLaws.{simple, simple_and_free}
+use Rattle.gob_words.proofs.ViewLaws.{asks_as_met, asks_for_version, no_view_without_memory, refuses_as_met}
+use Rattle.gob_words.proofs.ViewLaws.{refuses_as_shown}
+use Rattle.gob_words.proofs.views.view_of.Goals as goal
+
+pub returns-in_err-program : goal.returns-in_err-program
+returns-in_err-program c =
+    no_view_without_memory (map (λ word. word.now) c.args.words.now) c.from_residual.result c.from_residual.ensures.1
+
+pub returns-in-Some : goal.returns-in-Some
+returns-in-Some c =
+    let words = map (λ word. word.now) c.args.words.now in
+    let same = c.in_ok-program.ensures in
+    let met = (c.in-Ok.ensures.matches (simple _ same)).1 ∙ ap (λ app. subcommand_of app words) same in
+    asks_as_met words _ _ met (search rules)
+
+pub returns-in-Ok : goal.returns-in-Ok
+returns-in-Ok c =
+    let words = map (λ word. word.now) c.args.words.now in
+    let same = c.in_ok-program.ensures in
+    let met = (c.in-Ok.ensures.matches (simple _ same)).1 ∙ ap (λ app. subcommand_of app words) same in
+    refuses_as_met words _ _ met (search rules) c.number_fault.ensures
+
+pub returns-in-DisplayVersion : goal.returns-in-DisplayVersion
+returns-in-DisplayVersion c =
+    let words = map (λ word. word.now) c.args.words.now in
+    let same = c.in_ok-program.ensures in
+    let kinds = subst (λ app. HasKind (fault_of app words) c.in-Err.error) same
+    (c.in-Err.ensures.kinds (simple_and_free _ same)) in
+    asks_for_version words c.in-Err.error _ c.version_view.ensures (search rules) kinds
+
+pub returns : goal.returns
+returns c =
+    let words = map (λ word. word.now) c.args.words.now in
+    let same = c.in_ok-program.ensures in
+    let passes : takes program words ≡ true → kind_of c.in-Err.error ≡ OutOfMemory = λ taken. c.in-Err.ensures.passes
+    (ap (λ app. takes app words) same ∙ taken) in
+    let kinds = subst (λ app. HasKind (fault_of app words) c.in-Err.error) same
+    (c.in-Err.ensures.kinds (simple_and_free _ same)) in
+    let answered = subst (λ kind. IsViewFaultOf kind c.word_fault.result) c.kind.ensures c.word_fault.ensures in
+    refuses_as_shown words c.in-Err.error c.word_fault.result answered passes kinds

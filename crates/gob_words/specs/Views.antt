@@ -1,0 +1,79 @@
+-- What the words ask to be shown, to people and to other programs. (docs/FORMAT.md, The program: this project's own.)
+use Rattle.std.specs.Prelude.{◌≡◌, ◌≢◌, ◌⊎◌, ◌≤◌, ◌++◌, ⊤, ℕ, List, codes, Option, Some, None, true}
+use Rattle.clap.specs.Words.{Row, Text, first_of, subcommand_of, takes, fault_of, IsAmong}
+use Rattle.clap.specs.declared.error.kind.ErrorKind.{ErrorKind}
+use Rattle.clap.specs.declared.error.kind.ErrorKind.TheVariants.{DisplayHelp, DisplayVersion, OutOfMemory}
+use Rattle.gob_words.specs.declared.view.View.{View}
+use Rattle.gob_words.specs.declared.view.ViewCommand.{ViewCommand}
+use Rattle.gob_words.specs.declared.view.ViewCommand.TheVariants as view
+use Rattle.gob_words.specs.declared.view.ViewFault.{ViewFault}
+use Rattle.gob_words.specs.declared.view.ViewFault.TheVariants as view_fault
+use Rattle.gob_words.specs.declared.words.OrderFault.{OrderFault}
+use Rattle.gob_words.specs.declared.words.OrderFault.TheVariants as fault
+use Rattle.gob_words.specs.ViewDepths.{most_view_depth}
+use Rattle.gob_words.specs.Words.{IsNumber, order_line, order_status, program, text_of}
+
+abbrev pub view_name : ViewCommand → Text
+view_name view.Values = codes "values"
+view_name view.Types = codes "types"
+view_name view.Version = codes "version"
+
+-- the file that a word names: a minus sign is standard input
+pub record IsFileOf (word file : Option Text) : Type 0 where
+  pub input : word ≡ Some (codes "-") → file ≡ None
+  pub named : word ≢ Some (codes "-") → file ≡ word
+
+-- clap met a subcommand with these rows, and this is what they ask for
+pub record IsViewOf (met : Option (Text × List Row)) (view : View) : Type 0 where
+  pub rows : List Row
+  pub command : met ≡ Some (view_name view.command, rows)
+  pub input : IsFileOf (first_of (codes "IN") rows) (text_of view.input)
+  pub depth : IsNumber (first_of (codes "depth") rows) 1000 view.depth
+  pub item : IsNumber (first_of (codes "item") rows) 67108864 view.item
+  pub least : 1 ≤ view.depth
+  pub most : view.depth ≤ most_view_depth view.command
+
+-- what the option that asks for the version stands for
+abbrev pub IsVersionView : View → Type 0
+IsVersionView given = (given.command ≡ view.Version) × (given.input ≡ None) × (given.depth ≡ 1000)
+    × (given.item ≡ 67108864)
+
+-- the words, the program's name first, ask for this: by its name, or for the version by an option
+unfoldable pub AsksToView : List Text → View → Type 0
+AsksToView words view = IsViewOf (subcommand_of program words) view
+    ⊎ (IsVersionView view × IsAmong DisplayVersion (fault_of program words))
+
+-- clap takes the words, and they name nothing that is shown
+abbrev pub HasNoView : List Text → Type 0
+HasNoView words = takes program words ≡ true → (view : View) → ¬ IsViewOf (subcommand_of program words) view
+
+-- what the words do where they don't: they ask for help, or clap refuses them or nothing is what they ask for
+unfoldable pub RefusesToView : List Text → ViewFault → Type 0
+RefusesToView words (view_fault.Word line) = HasNoView words
+RefusesToView words (view_fault.Order (fault.Help text)) = IsAmong DisplayHelp (fault_of program words)
+RefusesToView words (view_fault.Order fault.Words) = HasNoView words
+RefusesToView words (view_fault.Order fault.Memory) = ⊤
+
+-- the fault of words that clap answers with an error of this kind
+abbrev pub IsViewFaultOf : ErrorKind → ViewFault → Type 0
+IsViewFaultOf kind (view_fault.Word line) = kind ≢ OutOfMemory
+IsViewFaultOf kind (view_fault.Order (fault.Help text)) = kind ≡ DisplayHelp
+IsViewFaultOf kind (view_fault.Order fault.Words) = kind ≢ OutOfMemory
+IsViewFaultOf kind (view_fault.Order fault.Memory) = ⊤
+
+-- a word is wrong, or no memory was had to say so: help isn't asked for
+abbrev pub IsWordAtFault : ViewFault → Type 0
+IsWordAtFault (view_fault.Order (fault.Help text)) = ⊥
+IsWordAtFault _ = ⊤
+
+-- ---- what comes of them
+
+-- the exit status of the program behind a fault of its words
+abbrev pub view_status : ViewFault → ℕ
+view_status (view_fault.Word line) = 2
+view_status (view_fault.Order fault) = order_status fault
+
+-- what is printed then
+abbrev pub view_line : ViewFault → List ℕ
+view_line (view_fault.Word line) = codes "gob: " ++ line.bytes.items
+view_line (view_fault.Order fault) = order_line fault

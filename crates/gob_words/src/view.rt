@@ -1,0 +1,102 @@
+//! What the words of the command line can ask to be shown.
+
+ghost use Rattle.std.specs.Prelude.{◌≡◌, ◌≤◌};
+ghost use Rattle.gob_words.specs.ViewDepths.{most_view_depth};
+
+use crate::words::OrderFault;
+use std::alloc::AllocError;
+use std::fmt;
+use thiserror::Error;
+
+// The greatest depth of a value that is written as plain JSON, and of one that is only read.
+const DEEPEST_PLAIN: u64 = 1000;
+
+const DEEPEST: u64 = 65536;
+
+/// What the program is to show.
+#[derive(Clone, Copy, Debug, PartialEq, Eq)]
+pub enum ViewCommand {
+    /// Each value as a line of plain JSON.
+    Values,
+    /// The types as Go source.
+    Types,
+    /// The program's name and version.
+    Version,
+}
+
+impl ViewCommand {
+    // The greatest depth that it can be asked for.
+    pub(crate) fn most_depth(self) -> u64
+        ensures { result ≡ most_view_depth self }
+    {
+        match self {
+            ViewCommand::Values | ViewCommand::Version => DEEPEST_PLAIN,
+            ViewCommand::Types => DEEPEST,
+        }
+    }
+}
+
+/// What the words ask to be shown. [`ViewCommand::Version`] reads no file, and its other fields are the usual ones.
+#[derive(Clone, Copy, Debug, PartialEq, Eq)]
+pub struct View<'a> {
+    /// What to show.
+    pub command: ViewCommand,
+    /// The name of the file that is read. None: standard input, which the word `-` stands for too.
+    pub input: Option<&'a str>,
+    /// The greatest depth of a value: 1 to 65536 for [`ViewCommand::Types`], to 1000 for [`ViewCommand::Values`].
+    pub depth: u64,
+    /// The most bytes of an item's body.
+    pub item: u64,
+    pub ghost least: { 1 ≤ depth },
+    pub ghost most: { depth ≤ most_view_depth command },
+}
+
+/// Why the words ask for nothing to be shown. Display writes what the program prints then, without the last line feed.
+#[derive(Debug, Drop, Error)]
+pub enum ViewFault {
+    /// They name one of the commands, and this line says which word of its is wrong, and why. It has no character that
+    /// a terminal would obey.
+    Word(String),
+    /// They ask for help or name none of the commands, or no memory was had.
+    Order(OrderFault),
+}
+
+impl fmt::Display for ViewFault {
+    ghost use Rattle.std.specs.Prelude.{Some};
+    ghost use Rattle.gob_words.specs.Views.{view_line};
+
+    ghost output = { λ fault. Some (view_line fault) };
+
+    fn fmt<W: fmt::Write>(&self, f: &mut fmt::Formatter<W>) -> fmt::Result {
+        match self {
+            ViewFault::Word(line) => write!(f, "gob: {line}"),
+            ViewFault::Order(fault) => write!(f, "{fault}"),
+        }
+    }
+}
+
+impl From<AllocError> for ViewFault {
+    ghost use Rattle.std.specs.Prelude.{◌≡◌};
+    ghost use Rattle.gob_words.specs.declared.view.ViewFault.TheVariants.{Order};
+    ghost use Rattle.gob_words.specs.declared.words.OrderFault.TheVariants.{Memory};
+
+    ghost from_gives = { λ _ fault. fault ≡ Order Memory };
+
+    fn from(_: AllocError) -> ViewFault {
+        ViewFault::Order(OrderFault::Memory)
+    }
+}
+
+impl ViewFault {
+    ghost use Rattle.gob_words.specs.Views.{view_status};
+
+    /// The exit status of the program after it: 0 where help was asked for, else 2.
+    pub fn status(&self) -> u8
+        ensures { result ≡ view_status self.now }
+    {
+        match self {
+            ViewFault::Word(_) => 2,
+            ViewFault::Order(fault) => fault.status(),
+        }
+    }
+}

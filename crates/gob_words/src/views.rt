@@ -1,0 +1,150 @@
+//! What the words of the command line ask to be shown to people and to other programs, beside the orders.
+
+ghost use Rattle.std.specs.Prelude.{◌≡◌, ◌≢◌, MatchOption, MatchResult, map};
+ghost use Rattle.clap.specs.Words.{subcommand_rows_of};
+ghost use Rattle.gob_words.specs.declared.view.View.{View};
+ghost use Rattle.gob_words.specs.declared.view.ViewCommand.{ViewCommand};
+ghost use Rattle.gob_words.specs.Views.{AsksToView, IsFileOf, IsViewFaultOf, IsViewOf, RefusesToView, view_name};
+ghost use Rattle.gob_words.specs.Views.{IsVersionView, IsWordAtFault};
+ghost use Rattle.gob_words.specs.Words.{text_of};
+
+use crate::command_line::program;
+use crate::decimal::number_of;
+use crate::message::{number_line, shown_line};
+use crate::orders::{USUAL_DEPTH, USUAL_ITEM, fault_of};
+use crate::view::{View, ViewCommand, ViewFault};
+use crate::words::OrderFault;
+use clap::ArgMatches;
+use clap::error::ErrorKind;
+use std::alloc::{AllocError, Global};
+use std::fmt::Display;
+
+/// What the words ask to be shown, the program's name first. Words that [`crate::order_of`] takes ask for none of it.
+/// The words `help`, `-h` and `--help` are answered with [`OrderFault::Help`], as they are there.
+pub fn view_of<'a>(alloc: Global, words: &'a [&'a str]) -> Result<View<'a>, ViewFault>
+    ensures { MatchResult result (AsksToView (map (λ word. word.now) words.entry.now))
+        (RefusesToView (map (λ word. word.now) words.entry.now)) }
+{
+    match program(alloc)?.try_get_matches_from(words) {
+        Ok(matches) => match view_in(&matches) {
+            Some(view) => Ok(view),
+            None => Err(number_fault(alloc, &matches)),
+        },
+        Err(error) => match error.kind() {
+            ErrorKind::DisplayVersion => Ok(version_view()),
+            kind => Err(word_fault(alloc, words, kind, &error)),
+        },
+    }
+}
+
+// What the option that asks for the version stands for.
+fn version_view<'a>() -> View<'a>
+    ensures { IsVersionView result }
+{
+    View {
+        command: ViewCommand::Version,
+        input: None,
+        depth: USUAL_DEPTH,
+        item: USUAL_ITEM,
+    }
+}
+
+// What clap's matches ask for. None: no such command is named, or a number is none or out of its range.
+fn view_in<'a>(matches: &ArgMatches<'a>) -> Option<View<'a>>
+    ensures { MatchOption result
+        ((view : View) → ¬ IsViewOf (subcommand_rows_of matches.now) view)
+        (IsViewOf (subcommand_rows_of matches.now)) }
+{
+    let (name, matches) = matches.subcommand()?;
+    let command = command_of(name)?;
+    let depth = number_of(matches.get_str("depth"), USUAL_DEPTH)?;
+    let item = number_of(matches.get_str("item"), USUAL_ITEM)?;
+    if depth < 1 || depth > command.most_depth() {
+        return None;
+    }
+    Some(View {
+        command,
+        input: file_of(matches.get_str("IN")),
+        depth,
+        item,
+    })
+}
+
+// The command of this name.
+fn command_of(name: &str) -> Option<ViewCommand>
+    ensures { MatchOption result ((command : ViewCommand) → view_name command ≢ name.now)
+        (λ command. view_name command ≡ name.now) }
+{
+    match name {
+        "values" => Some(ViewCommand::Values),
+        "types" => Some(ViewCommand::Types),
+        "version" => Some(ViewCommand::Version),
+        _ => None,
+    }
+}
+
+// The name of the file that is read: none where a minus sign stands for standard input.
+fn file_of<'a>(word: Option<&'a str>) -> Option<&'a str>
+    ensures { IsFileOf (text_of word.entry) (text_of result) }
+{
+    match word {
+        Some("-") => None,
+        _ => word,
+    }
+}
+
+// The fault of words that clap takes and that are no view: of the numbers, where they name a command of these.
+fn number_fault(alloc: Global, matches: &ArgMatches<'_>) -> ViewFault
+    ensures { IsWordAtFault result }
+{
+    let Some((name, matches)) = matches.subcommand() else {
+        return ViewFault::Order(OrderFault::Words);
+    };
+    let Some(command) = command_of(name) else {
+        return ViewFault::Order(OrderFault::Words);
+    };
+    let most = command.most_depth();
+    let line = match matches.get_str("depth") {
+        Some(word) if !is_number(word, 1, most) => number_line(alloc, "depth", word, 1, most),
+        _ => match matches.get_str("item") {
+            Some(word) => number_line(alloc, "item", word, 0, u64::MAX),
+            None => return ViewFault::Order(OrderFault::Words),
+        },
+    };
+    said(line)
+}
+
+fn is_number(word: &str, least: u64, most: u64) -> bool {
+    match number_of(Some(word), 0) {
+        Some(number) => least <= number && number <= most,
+        None => false,
+    }
+}
+
+// The fault of words that clap answers with an error of this kind, which shows this.
+fn word_fault<D: Display>(alloc: Global, words: &[&str], kind: ErrorKind, shown: &D) -> ViewFault
+    ensures { IsViewFaultOf kind result }
+{
+    match fault_of(alloc, kind, shown) {
+        OrderFault::Words if names_view(words) => said(shown_line(alloc, shown)),
+        fault => ViewFault::Order(fault),
+    }
+}
+
+// Whether the word behind the program's name is one of these commands.
+fn names_view(words: &[&str]) -> bool {
+    match words.get(1) {
+        Some(name) => command_of(name).is_some(),
+        None => false,
+    }
+}
+
+// A fault that is told by this line.
+fn said(line: Result<String, AllocError>) -> ViewFault
+    ensures { IsWordAtFault result }
+{
+    match line {
+        Ok(line) => ViewFault::Word(line),
+        Err(_) => ViewFault::Order(OrderFault::Memory),
+    }
+}

@@ -1,0 +1,163 @@
+//! The words that ask for a stream to be shown.
+
+use gob_words::{OrderFault, VERSION, View, ViewCommand, ViewFault, escaped, view_of};
+use std::alloc::{AllocError, Global};
+use std::test::*;
+
+// Whether the words ask for this view.
+fn gives(alloc: Global, words: &[&str], view: View) -> bool {
+    match view_of(alloc, words) {
+        Ok(given) => given == view,
+        Err(_) => false,
+    }
+}
+
+#[test]
+fn words_give_views(rt: HostRuntime) {
+    let alloc = rt.alloc();
+    let valued = View {
+        command: ViewCommand::Values,
+        input: None,
+        depth: 1000,
+        item: 67108864,
+    };
+    assert!(rt; gives(alloc, &["gob", "values"], valued), "values");
+    assert!(rt;
+        gives(alloc, &["gob", "values", "-"], valued),
+        "standard input by a minus sign"
+    );
+    let valued_file = View {
+        command: ViewCommand::Values,
+        input: Some("f"),
+        depth: 5,
+        item: 0,
+    };
+    let words = ["gob", "values", "--depth", "5", "f", "--item=0"];
+    assert!(rt; gives(alloc, &words, valued_file), "values of a file");
+    let typed_deep = View {
+        command: ViewCommand::Types,
+        input: Some("f"),
+        depth: 65536,
+        item: 67108864,
+    };
+    let words = ["gob", "types", "f", "--depth=65536"];
+    assert!(rt; gives(alloc, &words, typed_deep), "types");
+    let version = View {
+        command: ViewCommand::Version,
+        input: None,
+        depth: 1000,
+        item: 67108864,
+    };
+    assert!(rt; gives(alloc, &["gob", "version"], version), "version");
+    assert!(rt; gives(alloc, &["gob", "--version"], version), "--version");
+    assert!(rt; gives(alloc, &["gob", "-V"], version), "-V");
+    assert!(rt; VERSION == "gob 0.1.0", "the version");
+}
+
+// Words behind the program's name, and what is said of them, in lines one after the other.
+const SAID: &str = "\
+values a b
+gob: unexpected argument 'b' found
+values --deep 5
+gob: unexpected argument '--deep' found
+values --depth
+gob: a value is required for '--depth <N>' but none was supplied
+values --depth 0
+gob: invalid value '0' for '--depth <N>': no number from 1 to 1000
+values --depth 1001
+gob: invalid value '1001' for '--depth <N>': no number from 1 to 1000
+values --depth +5
+gob: invalid value '+5' for '--depth <N>': no number from 1 to 1000
+values --depth 5 --depth 6
+gob: the argument '--depth <N>' cannot be used multiple times
+types --depth 65537 f
+gob: invalid value '65537' for '--depth <N>': no number from 1 to 65536
+types --item x
+gob: invalid value 'x' for '--item <N>': no number from 0 to 18446744073709551615
+version now
+gob: unexpected argument 'now' found
+
+gob: bad arguments
+list
+gob: bad arguments
+show f
+gob: bad arguments
+show a b
+gob: bad arguments
+--depth 5 values
+gob: bad arguments";
+
+// Whether this is said of the words, with status 2.
+fn is_said(alloc: Global, line: &str, said: &str) -> Result<bool, AllocError> {
+    let mut words = Vec::new(alloc);
+    words.push("gob")?;
+    for word in line.split_whitespace() {
+        words.push(word)?;
+    }
+    match view_of(alloc, &words) {
+        Ok(_) => Ok(false),
+        Err(fault) => Ok(fault.to_string(alloc)?.as_str() == said && fault.status() == 2),
+    }
+}
+
+// The words of which something else is said.
+fn otherwise_said(alloc: Global) -> Result<Option<&'static str>, AllocError> {
+    let mut lines = SAID.split('\n');
+    while let Some(line) = lines.next() {
+        if !is_said(alloc, line, lines.next().unwrap_or(""))? {
+            return Ok(Some(line));
+        }
+    }
+    Ok(None)
+}
+
+#[test]
+fn faults_name_the_word(rt: HostRuntime) -> Result<(), Fail> {
+    let otherwise = otherwise_said(rt.alloc())?;
+    assert!(rt; otherwise.is_none(), "{otherwise:?}");
+    Ok(())
+}
+
+fn is_shown(alloc: Global, text: &str, shown: &str) -> bool {
+    match escaped(alloc, text) {
+        Ok(line) => line.as_str() == shown,
+        Err(_) => false,
+    }
+}
+
+// Whether the word that stands behind `values f` is told so.
+fn is_told(alloc: Global, word: &str, told: &str) -> bool {
+    match view_of(alloc, &["gob", "values", "f", word]) {
+        Err(ViewFault::Word(line)) => line.as_str() == told,
+        _ => false,
+    }
+}
+
+#[test]
+fn no_word_reaches_the_terminal_raw(rt: HostRuntime) {
+    let alloc = rt.alloc();
+    assert!(rt; is_shown(alloc, "a'é\"", "a'é\""), "letters");
+    assert!(rt; is_shown(alloc, "\u{1b}[2J", "\\u{1b}[2J"), "escape");
+    assert!(rt;
+        is_shown(alloc, "\u{7f}\u{9b}", "\\u{7f}\\u{9b}"),
+        "DEL, CSI"
+    );
+    assert!(rt;
+        is_shown(alloc, "\u{202e}\u{2066}", "\\u{202e}\\u{2066}"),
+        "bidi"
+    );
+    assert!(rt; is_shown(alloc, "\u{2028}\n", "\\u{2028}\\u{a}"), "lines");
+    let told = "unexpected argument 'a\\u{1b}b' found";
+    assert!(rt; is_told(alloc, "a\u{1b}b", told), "in a word");
+    let told = "unexpected argument 'a\\u{a}b' found";
+    assert!(rt; is_told(alloc, "a\nb", told), "a line feed in a word");
+}
+
+#[test]
+fn help_is_an_orders_fault(rt: HostRuntime) {
+    let is_help = match view_of(rt.alloc(), &["gob", "values", "--help"]) {
+        Err(ViewFault::Order(OrderFault::Help(_))) => true,
+        _ => false,
+    };
+    assert!(rt; is_help, "values --help");
+}

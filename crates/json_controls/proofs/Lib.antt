@@ -1,0 +1,5 @@
+mod StepLaws
+mod ByteLaws
+mod NumberLaws
+mod TokenLaws
+mod ShownLaws

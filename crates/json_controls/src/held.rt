@@ -1,0 +1,109 @@
+//! The bytes of a character that are held back until it is known whether it is escaped.
+
+ghost use Rattle.std.specs.Prelude.{◌≡◌};
+ghost use Rattle.json_controls.specs.Controls.{after, begun, code, held_bytes, is_control, is_nothing, next};
+
+/// The bytes that are held back: the first ones of a character.
+#[derive(Clone, Copy)]
+pub(crate) enum Held {
+    /// None.
+    Nothing,
+    /// c2: U+0080 to U+00BF.
+    Latin,
+    /// d8: U+0600 to U+063F.
+    Arabic,
+    /// e2: U+2000 to U+2FFF.
+    General,
+    /// e2 80: U+2000 to U+203F.
+    Punctuation,
+    /// e2 81: U+2040 to U+207F.
+    Isolates,
+}
+
+impl Held {
+    /// The bytes.
+    pub(crate) fn bytes(self) -> &'static [u8]
+        ensures { result.now ≡ held_bytes self }
+    {
+        match self {
+            Held::Nothing => b"",
+            Held::Latin => &[0xc2],
+            Held::Arabic => &[0xd8],
+            Held::General => &[0xe2],
+            Held::Punctuation => &[0xe2, 0x80],
+            Held::Isolates => &[0xe2, 0x81],
+        }
+    }
+
+    /// Whether the bytes and this one are a character that is escaped.
+    pub(crate) fn is_control(self, byte: u8) -> bool
+        ensures { result ≡ is_control self byte }
+    {
+        match self {
+            Held::Nothing => byte == 0x7f,
+            Held::Latin => 0x80 <= byte && byte <= 0x9f,
+            Held::Arabic => byte == 0x9c,
+            Held::General => false,
+            Held::Punctuation => byte == 0x8e || byte == 0x8f || (0xa8 <= byte && byte <= 0xae),
+            Held::Isolates => 0xa6 <= byte && byte <= 0xa9,
+        }
+    }
+
+    /// The character that the bytes and this one are, where it is one that is escaped.
+    pub(crate) fn code(self, byte: u8) -> u16
+        ensures { result ≡ code self byte }
+    {
+        match self {
+            Held::Nothing => byte as u16,
+            Held::Latin => byte as u16,
+            Held::Arabic => 0x600 + (byte as u16).saturating_sub(0x80),
+            Held::General => 0,
+            Held::Punctuation => 0x2000 + (byte as u16).saturating_sub(0x80),
+            Held::Isolates => 0x2040 + (byte as u16).saturating_sub(0x80),
+        }
+    }
+
+    /// What is held back behind this byte.
+    pub(crate) fn after(self, byte: u8) -> Held
+        ensures { result ≡ after self byte }
+    {
+        if self.is_control(byte) {
+            return Held::Nothing;
+        }
+        self.next(byte)
+    }
+
+    /// What is held back behind this byte where no character ends with it that is escaped.
+    pub(crate) fn next(self, byte: u8) -> Held
+        ensures { result ≡ next self byte }
+    {
+        match self {
+            Held::Nothing => Held::begun(byte),
+            Held::General if byte == 0x80 => Held::Punctuation,
+            Held::General if byte == 0x81 => Held::Isolates,
+            _ => Held::Nothing,
+        }
+    }
+
+    // What is held back of a character that begins with this byte.
+    fn begun(byte: u8) -> Held
+        ensures { result ≡ begun byte }
+    {
+        match byte {
+            0xc2 => Held::Latin,
+            0xd8 => Held::Arabic,
+            0xe2 => Held::General,
+            _ => Held::Nothing,
+        }
+    }
+
+    /// Whether no byte is held back.
+    pub(crate) fn is_nothing(self) -> bool
+        ensures { result ≡ is_nothing self }
+    {
+        match self {
+            Held::Nothing => true,
+            _ => false,
+        }
+    }
+}
