@@ -21,7 +21,7 @@ use Rattle.gob_stream.specs.Reading.{Given, ShowsRefusal}
 use Rattle.gob_stream.specs.Calls.Reads.{ReadingFinishes}
 use Rattle.gob_stream.specs.Calls.Session.{HasRead, FeedAnswers}
 use Rattle.gob_stream.specs.Stream.{no_more}
-use Rattle.gob_stream.specs.Writing.{WritesStream}
+use Rattle.gob_stream.specs.Calls.Writing.{WritesStream}
 use Rattle.gob_stream.proofs.PublicLaws.{views_behind}
 use Rattle.gob_examples.specs.Pieces.{joined, HasOutcome}
 

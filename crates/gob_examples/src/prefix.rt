@@ -2,7 +2,7 @@
 
 ghost use Rattle.std.specs.Prelude.{◌≡◌, ℕ, List, Some, OnOk};
 ghost use Rattle.gob_stream.specs.Bounds.{within_trees};
-ghost use Rattle.gob_stream.specs.Ends.{reader_of};
+ghost use Rattle.gob_stream.specs.Calls.Ends.{reader_of};
 ghost use Rattle.gob_stream.specs.Item.{item_views};
 ghost use Rattle.gob_stream.specs.Reading.{Given};
 ghost use Rattle.gob_examples.specs.Prefix.{TakesPrefix};

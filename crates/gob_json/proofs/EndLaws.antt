@@ -1,7 +1,7 @@
 -- Where parts end that stand in a body, whether it is known that they do or it was looked at.
 use Rattle.std.proofs.Common.{◌≡◌, ℕ, ◌+◌, ◌≤◌, Bool, not, nat_eq, List, length, Result, Ok, Err, IfOk, arith, subst}
 use Rattle.std.proofs.Common.{sym}
-use Rattle.gob_value.specs.Whole.{BeginsRaw, BeginsThisNumber, HoldsBetween}
+use Rattle.gob_value.specs.Machine.Begins.{BeginsRaw, BeginsThisNumber, HoldsBetween}
 use Rattle.gob_value.proofs.PublicLaws.{all_three, both, seen}
 use Rattle.gob_value.proofs.WholeSteps.{raw_stands}
 use Rattle.gob_json.specs.Machine.TextSent.{EndsAt}

@@ -17,7 +17,8 @@ use Rattle.gob_value.specs.Spelling.{Spells, SpellsAs, of_type}
 use Rattle.gob_value.specs.Top.{IsStruct, SpellsTop, at_once, tagged}
 use Rattle.gob_json.specs.Json.{value_json, put_json}
 use Rattle.gob_value.proofs.PublicLaws.{first_of}
-use Rattle.gob_value.specs.Whole.{BeginsKind, HoldsBetween, IsWhole}
+use Rattle.gob_value.specs.Whole.{IsWhole}
+use Rattle.gob_value.specs.Machine.Begins.{BeginsKind, HoldsBetween}
 use Rattle.gob_json.specs.TextWhole.{LineOfWhole, head_text}
 use Rattle.gob_json.specs.Machine.TextParts.{IsBehindTag}
 use Rattle.gob_json.specs.Machine.TextSent.{HoldsValue}

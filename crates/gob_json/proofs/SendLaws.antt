@@ -19,7 +19,7 @@ use Rattle.gob_types.specs.declared.kind.Shape.{Shape}
 use Rattle.gob_types.specs.Table.{Table, shape_of}
 use Rattle.gob_value.specs.Tree.{Tree, Trees, Pairs, Fields, tree_count, pair_count, depth}
 use Rattle.gob_value.specs.Spelling.{truth, SpellsAs, SpellsEach, SpellsPairs, no_element, element, no_entry, entry}
-use Rattle.gob_value.specs.Whole.{BeginsThisNumber}
+use Rattle.gob_value.specs.Machine.Begins.{BeginsThisNumber}
 use Rattle.gob_json.specs.Json.{value_json, elements_json, pairs_json, fields_json, element_type, key_type}
 use Rattle.gob_json.specs.Json.{struct_fields}
 use Rattle.gob_json.specs.Json.{field_name, field_type, hex_json, integer_json, natural_json, opaque_json, pair_json}

@@ -26,7 +26,7 @@ use Rattle.gob_value.specs.Spelling.{of_float, of_complex, of_nil, of_bytes, of_
 use Rattle.gob_value.specs.Spelling.{of_map, of_struct}
 use Rattle.gob_value.specs.Spelling.{no_element, element, no_entry, entry, end_of_fields, next_field}
 use Rattle.gob_value.specs.Top.{SpellsTop, at_once, tagged}
-use Rattle.gob_value.specs.Whole.{BeginsThisNumber, HoldsBetween}
+use Rattle.gob_value.specs.Machine.Begins.{BeginsThisNumber, HoldsBetween}
 use Rattle.gob_json.specs.Machine.TextParts.{BeginsThese}
 use Rattle.gob_json.specs.Machine.TextSent.{HoldsKind, HoldsValue, BeginsElements, BeginsEntries, BeginsEntry}
 use Rattle.gob_json.specs.Machine.TextSent.{BeginsPresent, IsNextField, NumberFrom}

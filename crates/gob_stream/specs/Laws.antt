@@ -12,7 +12,7 @@ use Rattle.gob_stream.specs.Item.{StreamItem}
 use Rattle.gob_stream.specs.Stream.{IsItem, Stream}
 use Rattle.gob_stream.specs.Outcome.{BeginsWithStream, LongestStream, RefusesNext, Ending, Outcome}
 use Rattle.gob_stream.specs.Reading.{ShowsRefusal, HasTypesBehind, ReadsStream}
-use Rattle.gob_stream.specs.Writing.{WritesStream}
+use Rattle.gob_stream.specs.Calls.Writing.{WritesStream}
 
 -- bytes are the stream of one list of items, with one table behind it
 abbrev pub HaveOneReading : Type 0

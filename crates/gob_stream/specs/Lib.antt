@@ -7,11 +7,9 @@ pub mod Outcome
 pub mod RefusalText
 pub mod WriterRefusal
 pub mod Devices
-pub mod Ends
 pub mod Reading
 pub mod Whole
 pub mod Honest
-pub mod Writing
 pub mod Laws
 pub mod Calls
 pub mod Machine

@@ -19,7 +19,7 @@ pub struct Input<R> {
 }
 
 impl<R> Input<R> {
-    ghost use Rattle.gob_stream.specs.Ends.{bytes_read, failed_reads, reader_of};
+    ghost use Rattle.gob_stream.specs.Calls.Ends.{bytes_read, failed_reads, reader_of};
 
     /// Over this reader, of which nothing is taken yet.
     pub fn new(reader: R) -> Input<R>
@@ -57,7 +57,7 @@ impl<R> Input<R> {
 }
 
 impl<R: Read> Read for Input<R> {
-    ghost use Rattle.gob_stream.specs.Ends.{bytes_read, failed_reads, reader_of};
+    ghost use Rattle.gob_stream.specs.Calls.Ends.{bytes_read, failed_reads, reader_of};
 
     ghost remaining = { λ s. R.remaining (reader_of s) };
 

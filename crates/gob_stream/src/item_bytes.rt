@@ -14,7 +14,7 @@ ghost use Rattle.gob_stream.specs.Item.{defines, puts};
 ghost use Rattle.gob_stream.specs.Body.{Body};
 ghost use Rattle.gob_types.specs.Denial.{IsDenial};
 ghost use Rattle.gob_stream.specs.WriterRefusal.{RefusesItem, RefusesType, WriterRefusesBody};
-ghost use Rattle.gob_stream.specs.Writing.{IsWholeItem, FitsLimits, IsHead, IsSpelledAs};
+ghost use Rattle.gob_stream.specs.Calls.Writing.{IsWholeItem, FitsLimits, IsHead, IsSpelledAs};
 
 use crate::denial::{judge_id, judge_type};
 use crate::limits::Limits;

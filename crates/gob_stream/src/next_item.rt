@@ -1,7 +1,7 @@
 //! Reading the next item of a stream.
 
 ghost use Rattle.std.specs.Prelude.{◌≡◌, ℕ, List, Err, Some, OnErr};
-ghost use Rattle.gob_stream.specs.Ends.{bytes_read, failed_reads, reader_of};
+ghost use Rattle.gob_stream.specs.Calls.Ends.{bytes_read, failed_reads, reader_of};
 ghost use Rattle.gob_stream.specs.Item.{StreamItem};
 ghost use Rattle.gob_stream.specs.Reading.{CountsReads};
 ghost use Rattle.gob_stream.specs.Calls.Session.{HasRead, HasFailed, StaysAsItWas, types_of, limits_of};

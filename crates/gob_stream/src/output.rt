@@ -2,8 +2,8 @@
 
 ghost use Rattle.std.specs.Prelude.{◌≡◌, OnOk, OnErr, IfErr, MatchResult, true, false};
 ghost use Rattle.gob_stream.specs.Devices.{WriteCounted, FlushCounted, counts_up};
-ghost use Rattle.gob_stream.specs.Ends.{failed_writes, is_unflushed, writer_of};
-ghost use Rattle.gob_stream.specs.Writing.{SentPrefix, CountsWriterFaults};
+ghost use Rattle.gob_stream.specs.Calls.Ends.{failed_writes, is_unflushed, writer_of};
+ghost use Rattle.gob_stream.specs.Calls.Writing.{SentPrefix, CountsWriterFaults};
 ghost use Rattle.std.specs.Io.KnownBytes.{Appends, WriteAppends, Keeps};
 ghost use Rattle.std.specs.Io.{WritesAtMost};
 

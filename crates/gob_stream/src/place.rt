@@ -1,8 +1,8 @@
 //! How far a stream is written.
 
 ghost use Rattle.std.specs.Prelude.{◌+◌, ◌^◌, ◌<◌, ◌++◌, length};
-ghost use Rattle.gob_stream.specs.Ends.{failed_writes, writer_of};
-ghost use Rattle.gob_stream.specs.Writing.{CountsWriterFaults, SendAnswers};
+ghost use Rattle.gob_stream.specs.Calls.Ends.{failed_writes, writer_of};
+ghost use Rattle.gob_stream.specs.Calls.Writing.{CountsWriterFaults, SendAnswers};
 
 use crate::fault::WriteFault;
 use crate::output::Output;

@@ -3,7 +3,7 @@
 ghost use Rattle.std.specs.Prelude.{◌≡◌, ℕ, ◌+◌, ◌≤◌, List, [], Some};
 ghost use Rattle.gob_read.specs.Calls.Builders.{tree_building};
 ghost use Rattle.gob_stream.specs.Bounds.{within_trees};
-ghost use Rattle.gob_stream.specs.Ends.{bytes_read, failed_reads, reader_of};
+ghost use Rattle.gob_stream.specs.Calls.Ends.{bytes_read, failed_reads, reader_of};
 ghost use Rattle.gob_stream.specs.Item.{item_views};
 ghost use Rattle.gob_stream.specs.Honest.{IsHonest, OfRefusal};
 ghost use Rattle.gob_stream.specs.Reading.{ReadsStream, Given, CountsReads};

@@ -5,7 +5,7 @@ ghost use Rattle.std.specs.Prelude.{◌≢◌, length, take, drop, IsTrue, IfErr
 ghost use Rattle.gob_stream.specs.Bounds.{AreLimits, deepest};
 ghost use Rattle.gob_stream.specs.Calls.Session.{HasBodyNext, HasItemNext, IsBetweenItems, ReadsOn, limits_of};
 ghost use Rattle.gob_stream.specs.Calls.Session.{table_of, taken_of};
-ghost use Rattle.gob_stream.specs.Ends.{failed_reads, reader_of};
+ghost use Rattle.gob_stream.specs.Calls.Ends.{failed_reads, reader_of};
 ghost use Rattle.gob_stream.specs.Item.{StreamItem};
 ghost use Rattle.gob_stream.specs.Reading.{CountsReads};
 ghost use Rattle.gob_stream.specs.Calls.Reader.{HasReadFrom, Fills, IsShort, Lacks, ReadsOnce, StepsFrom, PassesFrom};

@@ -4,10 +4,10 @@ ghost use Rattle.std.specs.Prelude.{IfOk};
 ghost use Rattle.gob_value.specs.Tree.{Tree};
 ghost use Rattle.gob_value.specs.View.{view};
 ghost use Rattle.gob_stream.specs.Bounds.{within_trees};
-ghost use Rattle.gob_stream.specs.Ends.{writer_of};
+ghost use Rattle.gob_stream.specs.Calls.Ends.{writer_of};
 ghost use Rattle.gob_stream.specs.Item.{defines, puts, item_view};
-ghost use Rattle.gob_stream.specs.Writing.{IsNew, WritesNext, WriteAnswers, WriteEffects};
-ghost use Rattle.gob_stream.specs.Writing.{IsSpelling, IsSpelledAs, writer_limits, writer_types};
+ghost use Rattle.gob_stream.specs.Calls.Writing.{IsNew, WritesNext, WriteAnswers, WriteEffects};
+ghost use Rattle.gob_stream.specs.Calls.Writing.{IsSpelling, IsSpelledAs, writer_limits, writer_types};
 
 use crate::denial::define_admitted;
 use crate::fault::WriteFault;
@@ -52,7 +52,7 @@ impl Drop for StreamWriter {
 impl Model for StreamWriter {
     ghost use Rattle.std.specs.Coded.{codes};
     ghost use Rattle.gob_stream.specs.Machine.WriterState.{WriterState};
-    ghost use Rattle.gob_stream.specs.Writing.{IsUsableWriter};
+    ghost use Rattle.gob_stream.specs.Calls.Writing.{IsUsableWriter};
 
     ghost Value = { WriterState };
 

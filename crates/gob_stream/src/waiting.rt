@@ -3,7 +3,7 @@
 ghost use Rattle.std.specs.Prelude.{◌≡◌, ◌+◌, ◌<◌, ◌≤◌, [], length, take, drop, vec_len, IfOk, OnErr, OnOk};
 ghost use Rattle.std.specs.Prelude.{MatchBool, MatchResult};
 ghost use Rattle.gob_stream.specs.Devices.{counts_up};
-ghost use Rattle.gob_stream.specs.Ends.{failed_reads, reader_of};
+ghost use Rattle.gob_stream.specs.Calls.Ends.{failed_reads, reader_of};
 ghost use Rattle.gob_stream.specs.Reading.{CountsReads};
 ghost use Rattle.std.specs.Io.KnownBytes.{Consumes, IsAtEnd, Keeps};
 

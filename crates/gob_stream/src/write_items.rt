@@ -1,9 +1,9 @@
 //! Writing a whole stream.
 
 ghost use Rattle.gob_stream.specs.Bounds.{within_trees};
-ghost use Rattle.gob_stream.specs.Ends.{failed_writes, writer_of};
+ghost use Rattle.gob_stream.specs.Calls.Ends.{failed_writes, writer_of};
 ghost use Rattle.gob_stream.specs.Item.{item_views};
-ghost use Rattle.gob_stream.specs.Writing.{WritesStream, CountsStop};
+ghost use Rattle.gob_stream.specs.Calls.Writing.{WritesStream, CountsStop};
 
 use crate::fault::{WriteFault, WriteStop};
 use crate::item::Item;

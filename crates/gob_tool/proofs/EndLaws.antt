@@ -6,7 +6,7 @@ use Rattle.std.proofs.Math.Nat.{eq-or-lt_of_le}
 use Rattle.std.specs.Result.{IsErrAnd}
 use Rattle.std.specs.Io.KnownBytes.{Appends, Keeps}
 use Rattle.std.proofs.KnownBytes.{Appends-kept}
-use Rattle.gob_stream.specs.Writing.{CountsWriterFaults, SentPrefix}
+use Rattle.gob_stream.specs.Calls.Writing.{CountsWriterFaults, SentPrefix}
 use Rattle.gob_stream.specs.Devices.{counts_up, FlushCounted, Rose}
 use Rattle.gob_stream.specs.declared.fault.Fault.{Fault}
 use Rattle.gob_stream.specs.declared.fault.Fault.TheVariants as reading

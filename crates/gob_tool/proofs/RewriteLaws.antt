@@ -30,8 +30,8 @@ use Rattle.gob_stream.specs.Body.{Body, definition, value}
 use Rattle.gob_stream.specs.Bounds.{Bounds, deepest, no_deeper, within_trees}
 use Rattle.gob_stream.specs.Item.{StreamItem, defines, puts, ItemMeans, means_definition, means_value}
 use Rattle.gob_stream.specs.Stream.{no_more, and_then, IsItem, counted, Stream}
-use Rattle.gob_stream.specs.Writing.{HasWritten, WritesNext, IsSpelledAs, IsSpelling}
-use Rattle.gob_stream.specs.Writing.{writer_limits, writer_types}
+use Rattle.gob_stream.specs.Calls.Writing.{HasWritten, WritesNext, IsSpelledAs, IsSpelling}
+use Rattle.gob_stream.specs.Calls.Writing.{writer_limits, writer_types}
 use Rattle.gob_stream.proofs.PublicLaws.{not_counted, one_counted}
 use Rattle.gob_stream.proofs.PublicLaws.{counted_prefix, one_more}
 use Rattle.gob_stream.proofs.PublicLaws.{wire_ready}

@@ -17,7 +17,7 @@ use Rattle.gob_stream.specs.Machine.SessionState.{SessionState}
 use Rattle.gob_stream.specs.Reading.{SomeTaken}
 use Rattle.gob_stream.specs.Stream.{IsItem, Stream, counted, no_more}
 use Rattle.gob_stream.specs.Whole.{HasBody}
-use Rattle.gob_stream.specs.Writing.{CountsWriterFaults, HasWritten, IsNew, Leaves}
+use Rattle.gob_stream.specs.Calls.Writing.{CountsWriterFaults, HasWritten, IsNew, Leaves}
 use Rattle.gob_stream.specs.declared.fault.Fault.{Fault}
 use Rattle.gob_stream.specs.declared.fault.Fault.TheVariants as reading
 use Rattle.gob_stream.specs.declared.fault.WriteFault.{WriteFault}

@@ -22,8 +22,8 @@ use Rattle.gob_stream.specs.Calls.Session.{limits_of, table_of, taken_of, types_
 use Rattle.gob_stream.specs.Item.{StreamItem, item_view, mean_none, mean_more, puts}
 use Rattle.gob_stream.specs.Outcome.{BeginsWithStream, LongestStream}
 use Rattle.gob_stream.specs.Stream.{no_more}
-use Rattle.gob_stream.specs.Ends.{writer_of}
-use Rattle.gob_stream.specs.Writing.{CountsWriterFaults, SentPrefix}
+use Rattle.gob_stream.specs.Calls.Ends.{writer_of}
+use Rattle.gob_stream.specs.Calls.Writing.{CountsWriterFaults, SentPrefix}
 use Rattle.gob_stream.specs.declared.fault.WriteFault.{WriteFault}
 use Rattle.gob_stream.specs.declared.fault.WriteFault.TheVariants as writing
 use Rattle.gob_stream.specs.declared.output.Output.{Output}

@@ -13,7 +13,7 @@ use Rattle.gob_stream.specs.Devices.{counts_up}
 use Rattle.gob_stream.specs.Reading.{SomeTaken}
 use Rattle.gob_stream.specs.Calls.Reader.{GivesAllBut}
 use Rattle.gob_stream.specs.Devices.{Rose}
-use Rattle.gob_stream.specs.Ends.{failed_writes, is_unflushed}
+use Rattle.gob_stream.specs.Calls.Ends.{failed_writes, is_unflushed}
 use Rattle.gob_stream.specs.declared.output.Output.{Output}
 use Rattle.gob_tool.specs.declared.fault.ToolFault.{ToolFault}
 use Rattle.gob_tool.specs.declared.fault.ToolFault.TheVariants as fault

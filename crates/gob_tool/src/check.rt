@@ -4,7 +4,7 @@ ghost use Rattle.std.specs.Prelude.{◌≡◌, ◌≢◌, ◌+◌, ◌<◌, ℕ,
 ghost use Rattle.gob_read.specs.Calls.Builders.{skip_building};
 ghost use Rattle.gob_stream.specs.Bounds.{deepest, no_deeper};
 ghost use Rattle.gob_stream.specs.Calls.Session.{limits_of};
-ghost use Rattle.gob_stream.specs.Ends.{failed_reads, failed_writes, reader_of, writer_of};
+ghost use Rattle.gob_stream.specs.Calls.Ends.{failed_reads, failed_writes, reader_of, writer_of};
 ghost use Rattle.gob_stream.specs.Item.{StreamItem};
 ghost use Rattle.gob_stream.specs.Calls.Reader.{HasReadFrom, session_of, waits_in};
 ghost use Rattle.gob_tool.specs.Checking.{CheckAnswers};

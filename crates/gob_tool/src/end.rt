@@ -2,10 +2,10 @@
 
 ghost use Rattle.std.specs.Prelude.{◌≡◌, ℕ, IfErr};
 ghost use Rattle.std.specs.Io.KnownBytes.{Keeps};
-ghost use Rattle.gob_stream.specs.Ends.{failed_writes, writer_of};
+ghost use Rattle.gob_stream.specs.Calls.Ends.{failed_writes, writer_of};
 ghost use Rattle.gob_tool.specs.Ending.{CountsOnlyWrites, EndsRun};
 ghost use Rattle.gob_tool.specs.Showing.{CountsWriteFaults, IsFlushedSince};
-ghost use Rattle.gob_stream.specs.Writing.{CountsWriterFaults};
+ghost use Rattle.gob_stream.specs.Calls.Writing.{CountsWriterFaults};
 
 use crate::fault::ToolFault;
 use gob_read::Builder;

@@ -2,7 +2,7 @@
 
 ghost use Rattle.gob_types.specs.Defined.{types};
 ghost use Rattle.gob_types.specs.Ready.{IsReady};
-ghost use Rattle.gob_stream.specs.Ends.{failed_writes, writer_of};
+ghost use Rattle.gob_stream.specs.Calls.Ends.{failed_writes, writer_of};
 ghost use Rattle.gob_stream.specs.Item.{item_view};
 ghost use Rattle.gob_tool.specs.Fault.{IsOfWanted};
 ghost use Rattle.gob_tool.specs.Ending.{CountsOnlyWrites};

@@ -6,7 +6,7 @@ ghost use Rattle.gob_tool.specs.Fault.{IsOfWanted};
 ghost use Rattle.gob_tool.specs.Running.{OrderAnswers, order_limits};
 ghost use Rattle.gob_tool.specs.Showing.{CountsWriteFaults, IsFlushedSince};
 ghost use Rattle.gob_tool.specs.Taking.{CountsTakeReads};
-ghost use Rattle.gob_stream.specs.Ends.{failed_reads, failed_writes, reader_of, writer_of};
+ghost use Rattle.gob_stream.specs.Calls.Ends.{failed_reads, failed_writes, reader_of, writer_of};
 
 use crate::check::run_check;
 use crate::fault::ToolFault;

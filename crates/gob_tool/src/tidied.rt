@@ -6,9 +6,9 @@ ghost use Rattle.gob_value.specs.Spelling.{Spells};
 ghost use Rattle.gob_value.specs.Top.{SpellsTop};
 ghost use Rattle.gob_value.specs.Tree.{Tree};
 ghost use Rattle.gob_value.specs.View.{view};
-ghost use Rattle.gob_stream.specs.Ends.{failed_writes, writer_of};
+ghost use Rattle.gob_stream.specs.Calls.Ends.{failed_writes, writer_of};
 ghost use Rattle.gob_stream.specs.Item.{StreamItem, ItemMeans, defines, puts};
-ghost use Rattle.gob_stream.specs.Writing.{CountsWriterFaults, Leaves};
+ghost use Rattle.gob_stream.specs.Calls.Writing.{CountsWriterFaults, Leaves};
 ghost use Rattle.gob_tool.specs.Machine.Rewritten.{IsTape, StandsNext, IsOfStream, SpellsTidy, WritesTidy};
 
 use gob_stream::{Item, Output, StreamWriter, WriteFault};

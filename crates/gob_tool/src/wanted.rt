@@ -3,7 +3,7 @@
 ghost use Rattle.std.specs.Prelude.{◌≡◌, ℕ, List, Option, Some, [], IfOk};
 ghost use Rattle.gob_read.specs.Calls.Builders.{tree_building};
 ghost use Rattle.gob_types.specs.Ready.{IsReady};
-ghost use Rattle.gob_stream.specs.Ends.{failed_reads, reader_of};
+ghost use Rattle.gob_stream.specs.Calls.Ends.{failed_reads, reader_of};
 ghost use Rattle.gob_stream.specs.Bounds.{within_trees};
 ghost use Rattle.gob_stream.specs.Calls.Session.{limits_of, types_of};
 ghost use Rattle.gob_stream.specs.Calls.Reader.{HasReadFrom, session_of};

@@ -170,9 +170,8 @@ fn an_item_is_cut_off_in_its_middle(rt: HostRuntime) -> Result<(), Fail> {
 #[test]
 fn a_read_fails_in_its_middle(rt: HostRuntime) -> Result<(), Fail> {
     let alloc = rt.alloc();
-    // There is room for 65536 bytes at first: the 13 of the definition are passed, and so many are read behind the
-    // others.
-    for (most, read) in [(7usize, 14u64), (100, 200), (65536, 65549)] {
+    // Two reads are whole, each of as many bytes as the reader gives at once.
+    for (most, read) in [(7usize, 14u64), (100, 200), (65536, 131072)] {
         let reader = PieceReader::new(large(alloc)?, most, 2);
         assert!(rt;
             is_shown(

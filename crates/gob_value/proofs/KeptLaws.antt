@@ -19,7 +19,7 @@ use Rattle.gob_value.specs.Spelling.{of_text, of_slice}
 use Rattle.gob_value.specs.Tidy.{IsZero, of_bool as zero_bool, of_int as zero_int, of_uint as zero_uint}
 use Rattle.gob_value.specs.Tidy.{of_float as zero_float, of_complex as zero_complex, of_bytes as zero_bytes}
 use Rattle.gob_value.specs.Tidy.{of_text as zero_text, IsDropped, zero_basic, empty_slice}
-use Rattle.gob_value.specs.Whole.{BeginsKept}
+use Rattle.gob_value.specs.Machine.Begins.{BeginsKept}
 
 -- the one spelling of the number 0, and of the pattern 0
 none_spelled : {bytes : List ℕ} → IsUnsigned 0 bytes → bytes ≡ 0 ∷ []

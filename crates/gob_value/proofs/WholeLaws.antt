@@ -14,7 +14,8 @@ use Rattle.gob_types.specs.Table.{Table, shape_of}
 use Rattle.gob_value.specs.Spelling.{SpellsAs, of_type}
 use Rattle.gob_value.specs.Top.{IsStruct, SpellsTop, at_once, tagged}
 use Rattle.gob_value.specs.Tidy.{of_type as type_tidy}
-use Rattle.gob_value.specs.Whole.{IsWhole, IsTidyWhole, IsWholeSo, IsWholeBetween, HoldsBetween, BeginsKind, BeginsTop}
+use Rattle.gob_value.specs.Whole.{IsWhole, IsTidyWhole, IsWholeBetween}
+use Rattle.gob_value.specs.Machine.Begins.{IsWholeSo, HoldsBetween, BeginsKind, BeginsTop}
 
 a_struct : (k : Kind) (fields : declared.Fields) → k ≡ kind.Struct fields → IsStruct k
 a_struct k fields e = rw e tt

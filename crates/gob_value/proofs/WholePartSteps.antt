@@ -6,7 +6,7 @@ use Rattle.std.proofs.Math.Seq.{take-append_seam}
 use Rattle.gob_types.specs.declared.id.TypeId.{TypeId}
 use Rattle.gob_types.specs.Table.{Table}
 use Rattle.gob_value.specs.Spelling.{SpellsEach, SpellsPairs}
-use Rattle.gob_value.specs.Whole.{HoldsBetween, BeginsEach, BeginsPairs}
+use Rattle.gob_value.specs.Machine.Begins.{HoldsBetween, BeginsEach, BeginsPairs}
 use Rattle.gob_value.proofs.WholeSteps.{none_stand, no_pairs_stand}
 use Rattle.gob_value.specs.WholeParts.{HasElements, HasEntries}
 

@@ -27,9 +27,9 @@ use Rattle.gob_value.specs.Tidy.{of_basic, of_opaque, of_slice as slice_tidy, of
 use Rattle.gob_value.specs.Tidy.{of_map as map_tidy, of_struct as struct_tidy, of_type as type_tidy}
 use Rattle.gob_value.specs.Tidy.{no_element as no_element_tidy, element as element_tidy, no_entry as no_entry_tidy}
 use Rattle.gob_value.specs.Tidy.{entry as entry_tidy, no_more as no_field_tidy, kept as field_tidy}
-use Rattle.gob_value.specs.Whole.{HoldsNumbers, HoldsBetween, BeginsKind, BeginsEach, BeginsPairs, BeginsFields}
-use Rattle.gob_value.specs.Whole.{BeginsThisNumber}
-use Rattle.gob_value.specs.Whole.{BeginsField, BeginsRaw, BeginsKept}
+use Rattle.gob_value.specs.Machine.Begins.{HoldsNumbers, HoldsBetween, BeginsKind, BeginsEach, BeginsPairs, BeginsFields}
+use Rattle.gob_value.specs.Machine.Begins.{BeginsThisNumber}
+use Rattle.gob_value.specs.Machine.Begins.{BeginsField, BeginsRaw, BeginsKept}
 use Rattle.gob_value.specs.Written.{HasParts}
 use Rattle.gob_value.proofs.WithinLaws.{leaf_within}
 

@@ -3,3 +3,4 @@ pub mod Elements
 pub mod Saying
 pub mod SaidId
 pub mod Tidied
+pub mod Begins

@@ -2,7 +2,7 @@
 
 ghost use Rattle.std.specs.Prelude.{◌≡◌, ◌+◌, ◌^◌, ◌<◌, ℕ, IfSome};
 ghost use Rattle.gob_num.specs.Place.{NoNumberStandsAt};
-ghost use Rattle.gob_value.specs.Whole.{HoldsBetween, BeginsThisNumber};
+ghost use Rattle.gob_value.specs.Machine.Begins.{HoldsBetween, BeginsThisNumber};
 
 use gob_num::{uint_at, uint_end};
 

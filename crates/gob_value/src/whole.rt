@@ -7,10 +7,12 @@ ghost use Rattle.gob_types.specs.Table.{Table, shape_of};
 ghost use Rattle.gob_types.specs.declared.kind.Kind.TheVariants as kind;
 ghost use Rattle.gob_types.specs.declared.id.TypeId.{TypeId};
 ghost use Rattle.gob_types.specs.declared.kind.Shape.{Shape};
-ghost use Rattle.gob_value.specs.Whole.{IsWhole, IsTidyWhole, IsWholeSo, HoldsNumbers, HoldsBetween};
-ghost use Rattle.gob_value.specs.Whole.{BeginsKind, BeginsEach};
-ghost use Rattle.gob_value.specs.Whole.{BeginsPairs, BeginsFields, BeginsField, BeginsRaw, BeginsKept};
-ghost use Rattle.gob_value.specs.Whole.{BeginsTop, IsWholeBetween};
+ghost use Rattle.gob_value.specs.Whole.{IsWhole, IsTidyWhole};
+ghost use Rattle.gob_value.specs.Machine.Begins.{IsWholeSo, HoldsNumbers, HoldsBetween};
+ghost use Rattle.gob_value.specs.Machine.Begins.{BeginsKind, BeginsEach};
+ghost use Rattle.gob_value.specs.Machine.Begins.{BeginsPairs, BeginsFields, BeginsField, BeginsRaw, BeginsKept};
+ghost use Rattle.gob_value.specs.Whole.{IsWholeBetween};
+ghost use Rattle.gob_value.specs.Machine.Begins.{BeginsTop};
 
 use crate::number::{field_number, number_at, number_end};
 use gob_num::uints_end;

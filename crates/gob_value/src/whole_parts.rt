@@ -5,7 +5,7 @@ ghost use Rattle.std.specs.Prelude.{◌≡◌, ◌≤◌, length};
 ghost use Rattle.gob_types.specs.Table.{Table, shape_of};
 ghost use Rattle.gob_types.specs.declared.id.TypeId.{TypeId};
 ghost use Rattle.gob_types.specs.declared.kind.Shape.{Shape};
-ghost use Rattle.gob_value.specs.Whole.{HoldsNumbers};
+ghost use Rattle.gob_value.specs.Machine.Begins.{HoldsNumbers};
 ghost use Rattle.gob_value.specs.WholeParts.{HasElements, HasEntries};
 
 use crate::number::number_end;

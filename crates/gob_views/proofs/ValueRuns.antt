@@ -12,7 +12,7 @@ use Rattle.gob_stream.specs.Bounds.{Bounds, deepest, no_deeper, within_trees}
 use Rattle.gob_stream.specs.Calls.Reader.{Begins, HasReadFrom, StepsOnFrom, StopsFrom, session_of}
 use Rattle.gob_stream.specs.Calls.Session.{limits_of, types_of}
 use Rattle.gob_stream.specs.Item.{StreamItem}
-use Rattle.gob_stream.specs.Writing.{SentPrefix}
+use Rattle.gob_stream.specs.Calls.Writing.{SentPrefix}
 use Rattle.gob_stream.specs.declared.fault.Fault.{Fault}
 use Rattle.gob_stream.specs.declared.fault.Fault.TheVariants as reading
 use Rattle.gob_stream.specs.declared.session.Step.{Step}

@@ -7,7 +7,7 @@ ghost use Rattle.gob_source.specs.Source.{go_source};
 ghost use Rattle.gob_stream.specs.Bounds.{deepest, no_deeper};
 ghost use Rattle.gob_stream.specs.Calls.Reader.{HasReadFrom, session_of, waits_in};
 ghost use Rattle.gob_stream.specs.Calls.Session.{limits_of};
-ghost use Rattle.gob_stream.specs.Ends.{failed_reads, failed_writes, reader_of, writer_of};
+ghost use Rattle.gob_stream.specs.Calls.Ends.{failed_reads, failed_writes, reader_of, writer_of};
 ghost use Rattle.gob_stream.specs.Reading.{CountsReads};
 ghost use Rattle.gob_tool.specs.Ending.{CountsOnlyWrites};
 ghost use Rattle.gob_tool.specs.Showing.{CountsReadFaults, CountsWriteFaults, IsFlushedSince};

@@ -5,7 +5,7 @@ ghost use Rattle.gob_types.specs.Defined.{types};
 ghost use Rattle.gob_stream.specs.Bounds.{within_trees};
 ghost use Rattle.gob_stream.specs.Calls.Reader.{HasReadFrom, session_of, waits_in};
 ghost use Rattle.gob_stream.specs.Calls.Session.{limits_of};
-ghost use Rattle.gob_stream.specs.Ends.{failed_reads, failed_writes, reader_of, writer_of};
+ghost use Rattle.gob_stream.specs.Calls.Ends.{failed_reads, failed_writes, reader_of, writer_of};
 ghost use Rattle.gob_stream.specs.Item.{StreamItem};
 ghost use Rattle.gob_tape.specs.Calls.Builder.{tape_building};
 ghost use Rattle.gob_tool.specs.Ending.{CountsOnlyWrites};

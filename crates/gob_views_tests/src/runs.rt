@@ -10,7 +10,8 @@ use gob_words::{View, ViewCommand};
 use std::alloc::{AllocError, Global};
 use std::test::*;
 
-// Whether this was written, and the run ended by a fault with this line, or without one where the line is empty.
+// Whether this was written, and the run ended by a fault with this line, or without one where the line is empty. A
+// vector that has no memory for what it is given is a writer that fails.
 fn is_so(
     alloc: Global,
     ended: Result<(), ToolFault>,
@@ -20,7 +21,7 @@ fn is_so(
 ) -> Result<bool, Memory> {
     match ended {
         Ok(()) => Ok(written == due && fault.is_empty()),
-        Err(ToolFault::Memory) => Err(Memory),
+        Err(ToolFault::Memory | ToolFault::Write) => Err(Memory),
         Err(other) => Ok(written == due && other.to_string(alloc)?.as_str() == fault),
     }
 }
@@ -71,7 +72,7 @@ fn types_are_written(rt: HostRuntime) -> Result<(), Fail> {
 
 // What is due is written where there is room, by both views of each row.
 #[test]
-fn both_views_are_right(rt: HostRuntime) {
+fn both_views_want_memory(rt: HostRuntime) {
     for row in &ROWS {
         let is_right = prints_values(rt.alloc(), row) != Ok(false);
         assert!(rt; is_right, "values: {}", row.what);

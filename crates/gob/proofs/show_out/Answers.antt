@@ -1,7 +1,7 @@
 -- What is left of the input is what the run left; what the writer has and what was lost are what the run wrote.
 use Rattle.std.proofs.Common.{◌∙◌, ap, subst}
 use Rattle.std.specs.Io.Buffered.{writer_contents}
-use Rattle.gob_stream.specs.Ends.{reader_of, writer_of}
+use Rattle.gob_stream.specs.Calls.Ends.{reader_of, writer_of}
 use Rattle.gob_views.specs.Running.{ViewAnswers, view_limits}
 use Rattle.gob.proofs.show_out.Goals as goal
 

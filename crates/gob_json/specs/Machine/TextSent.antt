@@ -8,7 +8,7 @@ use Rattle.gob_types.specs.declared.kind.Kind.{Kind}
 use Rattle.gob_types.specs.Table.{Table}
 use Rattle.gob_value.specs.Tree.{Tree, Trees, Pairs, Fields, depth, trees_depth, pairs_depth, fields_depth}
 use Rattle.gob_value.specs.Spelling.{Spells, SpellsAs, SpellsEach, SpellsPairs, SpellsFields}
-use Rattle.gob_value.specs.Whole.{BeginsKind, BeginsThisNumber, HoldsBetween}
+use Rattle.gob_value.specs.Machine.Begins.{BeginsKind, BeginsThisNumber, HoldsBetween}
 use Rattle.gob_json.specs.declared.text.stop.Stop.{Stop}
 use Rattle.gob_json.specs.declared.text.stop.Stop.TheVariants as stops
 

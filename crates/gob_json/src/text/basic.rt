@@ -7,7 +7,7 @@ ghost use Rattle.gob_types.specs.declared.kind.Kind.TheVariants as kind;
 ghost use Rattle.gob_types.specs.declared.kind.Marshal.{Marshal};
 ghost use Rattle.gob_types.specs.Table.{Table};
 ghost use Rattle.gob_value.specs.Tree.{Tree};
-ghost use Rattle.gob_value.specs.Whole.{BeginsKind};
+ghost use Rattle.gob_value.specs.Machine.Begins.{BeginsKind};
 ghost use Rattle.gob_json.specs.Json.{value_json};
 ghost use Rattle.gob_json.specs.Machine.TextSent.{EndsAt, HoldsKind, Reaches, Sends};
 

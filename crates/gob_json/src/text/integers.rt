@@ -7,7 +7,7 @@ ghost use Rattle.gob_types.specs.declared.basic.Basic.TheVariants as basic;
 ghost use Rattle.gob_types.specs.declared.kind.Kind.TheVariants as kind;
 ghost use Rattle.gob_types.specs.Table.{Table};
 ghost use Rattle.gob_value.specs.Tree.{Trees, tree_count};
-ghost use Rattle.gob_value.specs.Whole.{BeginsEach};
+ghost use Rattle.gob_value.specs.Machine.Begins.{BeginsEach};
 ghost use Rattle.gob_json.specs.Json.{elements_json};
 ghost use Rattle.gob_json.specs.TextWhole.{IsOfKind};
 ghost use Rattle.gob_json.specs.Machine.TextSent.{BeginsElements, EndsAt, Reaches, Sends};

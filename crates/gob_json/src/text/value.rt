@@ -7,7 +7,7 @@ ghost use Rattle.serde_json.specs.Written.{comma_if, compact_text, items_text};
 ghost use Rattle.gob_types.specs.declared.id.TypeId.{TypeId};
 ghost use Rattle.gob_types.specs.declared.kind.Field.{Field};
 ghost use Rattle.gob_value.specs.Tree.{Tree, Trees, Pairs, Fields, pair_count, tree_count};
-ghost use Rattle.gob_value.specs.Whole.{BeginsEach, BeginsField, BeginsFields, BeginsKind, BeginsPairs};
+ghost use Rattle.gob_value.specs.Machine.Begins.{BeginsEach, BeginsField, BeginsFields, BeginsKind, BeginsPairs};
 ghost use Rattle.gob_json.specs.Json.{elements_json, fields_json, pair_json, pairs_json, value_json};
 ghost use Rattle.gob_json.specs.Machine.Heads.{AreHeads, AreHeadsOf};
 ghost use Rattle.gob_json.specs.Machine.TextParts.{field_head};

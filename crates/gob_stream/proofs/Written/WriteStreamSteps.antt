@@ -19,7 +19,7 @@ use Rattle.gob_stream.specs.Item.{StreamItem, item_view, item_views}
 use Rattle.gob_stream.specs.Stream.{Stream, HasStream, AreItems, no_more, and_then}
 use Rattle.gob_stream.specs.WriterRefusal.{RefusesItem}
 use Rattle.gob_types.specs.declared.reason.Reason.{Reason}
-use Rattle.gob_stream.specs.Writing.{HasWritten, IsNew, WritesNext, Leaves, StoppedAt, WritesStream}
+use Rattle.gob_stream.specs.Calls.Writing.{HasWritten, IsNew, WritesNext, Leaves, StoppedAt, WritesStream}
 use Rattle.gob_stream.proofs.Stream.StreamLaws.{counted_prefix}
 use Rattle.gob_stream.proofs.Stream.RefusalLaws.{one_counted, not_counted}
 

@@ -16,14 +16,14 @@ use Rattle.gob_types.specs.declared.denial.Denial.TheVariants as denial
 use Rattle.gob_stream.specs.Bounds.{Bounds, within_trees}
 use Rattle.gob_types.specs.Denial.{IsDenial}
 use Rattle.gob_stream.specs.Machine.Denial.{write_fault}
-use Rattle.gob_stream.specs.Ends.{failed_writes, writer_of}
+use Rattle.gob_stream.specs.Calls.Ends.{failed_writes, writer_of}
 use Rattle.gob_stream.specs.Laws.{AtLeast}
 use Rattle.gob_stream.specs.Item.{StreamItem}
 use Rattle.gob_stream.specs.Stream.{Stream, IsItem}
 use Rattle.gob_stream.specs.WriterRefusal.{RefusesItem}
-use Rattle.gob_stream.specs.Writing.{HasWritten, HasWrittenSome, HasWriterFailed, IsUsableWriter, has_failed}
-use Rattle.gob_stream.specs.Writing.{has_written}
-use Rattle.gob_stream.specs.Writing.{WritesItem, Leaves, CountsWriterFaults, WriteEffects, SentPrefix, SendAnswers}
+use Rattle.gob_stream.specs.Calls.Writing.{HasWritten, HasWrittenSome, HasWriterFailed, IsUsableWriter, has_failed}
+use Rattle.gob_stream.specs.Calls.Writing.{has_written}
+use Rattle.gob_stream.specs.Calls.Writing.{WritesItem, Leaves, CountsWriterFaults, WriteEffects, SentPrefix, SendAnswers}
 use Rattle.gob_stream.proofs.Stream.StreamLaws.{one_more, wider_counted}
 
 -- what is denied before any byte went out is a fault of the item

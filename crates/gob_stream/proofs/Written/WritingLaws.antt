@@ -20,7 +20,7 @@ use Rattle.gob_stream.specs.Bounds.{Bounds}
 use Rattle.gob_stream.specs.Item.{StreamItem, defines, puts}
 use Rattle.gob_stream.specs.Body.{Body, definition, value, MayDefine, MayPut}
 use Rattle.gob_stream.specs.Stream.{IsItem, counted}
-use Rattle.gob_stream.specs.Writing.{IsWholeItem, IsHead, head_of_struct, head_with_tag}
+use Rattle.gob_stream.specs.Calls.Writing.{IsWholeItem, IsHead, head_of_struct, head_with_tag}
 
 -- ---- the ids of defined types are small
 

@@ -17,7 +17,7 @@ use Rattle.gob_stream.specs.Bounds.{Bounds, AreLimits, deepest, no_deeper, withi
 use Rattle.gob_stream.specs.Item.{StreamItem, defines, puts, ItemMeans}
 use Rattle.gob_stream.specs.Calls.Session.{HasBodyNext, HasRead, IsBetweenItems, limits_of, taken_of, types_of}
 use Rattle.gob_stream.specs.Stream.{IsItem, AreItems, Stream}
-use Rattle.gob_stream.specs.Writing.{HasWritten, WritesNext, writer_limits, writer_types}
+use Rattle.gob_stream.specs.Calls.Writing.{HasWritten, WritesNext, writer_limits, writer_types}
 use Rattle.gob_tape.specs.Calls.Builder.{tape_building}
 use Rattle.gob_tape.specs.declared.tape.Tape.{Tape}
 use Rattle.gob_tape.specs.declared.tape_builder.TapeBuilder.{TapeBuilder}

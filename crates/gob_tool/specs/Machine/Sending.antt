@@ -8,7 +8,7 @@ use Rattle.gob_value.specs.Whole.{IsWhole}
 use Rattle.gob_stream.specs.Calls.Session.{HasBodyNext, IsBetweenItems, types_of}
 use Rattle.gob_stream.specs.Devices.{counts_up}
 use Rattle.gob_stream.specs.Item.{StreamItem}
-use Rattle.gob_stream.specs.Writing.{CountsWriterFaults, SentPrefix}
+use Rattle.gob_stream.specs.Calls.Writing.{CountsWriterFaults, SentPrefix}
 use Rattle.gob_stream.specs.declared.fault.WriteFault.{WriteFault}
 use Rattle.gob_stream.specs.declared.fault.WriteFault.TheVariants as fault
 use Rattle.gob_stream.specs.declared.output.Output.{Output}

@@ -1,6 +1,6 @@
 -- So many of the items are read as aren't left, and their bytes alone are taken.
 use Rattle.std.proofs.Common.{◌≡◌, ℕ, ◌+◌, List, Some, length}
-use Rattle.gob_stream.specs.Ends.{reader_of}
+use Rattle.gob_stream.specs.Calls.Ends.{reader_of}
 use Rattle.gob_stream.specs.Item.{item_views}
 use Rattle.gob_stream.specs.Reading.{Given, SomeTaken}
 use Rattle.gob_examples.proofs.Prefixes.{StandsBehind}

@@ -1,6 +1,6 @@
 use Rattle.std.proofs.Common.{rules, w64}
 use Rattle.std.proofs.lemmas.Int.{to_z_pos}
-use Rattle.gob_stream.specs.Writing.{head_of_struct, head_with_tag}
+use Rattle.gob_stream.specs.Calls.Writing.{head_of_struct, head_with_tag}
 use Rattle.gob_stream.proofs.FaultSteps.{appends_more}
 use Rattle.gob_stream.proofs.item_bytes.write_head.Goals as goal
 

@@ -5,7 +5,7 @@ use Rattle.gob_types.specs.Defined.{types}
 use Rattle.gob_value.specs.Spelling.{Spells}
 use Rattle.gob_value.specs.Tree.{depth}
 use Rattle.gob_value.specs.View.{view}
-use Rattle.gob_stream.specs.Writing.{writer_types}
+use Rattle.gob_stream.specs.Calls.Writing.{writer_types}
 use Rattle.gob_stream_tests.proofs.values.put_spelled.Goals as goal
 
 pub put_spelled-requires : goal.put_spelled-requires

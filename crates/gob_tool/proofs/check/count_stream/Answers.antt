@@ -4,7 +4,7 @@ use Rattle.gob_types.specs.Defined.{types, definition_count}
 use Rattle.gob_read.specs.Calls.Builders.{skip_building}
 use Rattle.gob_stream.specs.Bounds.{deepest, no_deeper}
 use Rattle.gob_stream.specs.Calls.Session.{limits_of, types_of}
-use Rattle.gob_stream.specs.Ends.{failed_reads, reader_of}
+use Rattle.gob_stream.specs.Calls.Ends.{failed_reads, reader_of}
 use Rattle.gob_stream.specs.Calls.Reader.{session_of}
 use Rattle.gob_stream.proofs.PublicLaws.{goes_on, has_ended}
 use Rattle.gob_tool.specs.Machine.Counting.{CountsCounting, EndsCounting, tally_line}

@@ -1,7 +1,7 @@
 -- All that was taken was counted.
 use Rattle.std.proofs.Common.{◌≡◌, ◌+◌, ◌-◌}
 use Rattle.gob_stream.specs.Calls.Session.{limits_of}
-use Rattle.gob_stream.specs.Ends.{failed_reads, reader_of}
+use Rattle.gob_stream.specs.Calls.Ends.{failed_reads, reader_of}
 use Rattle.gob_stream.specs.Calls.Reader.{session_of}
 use Rattle.gob_tool.specs.Machine.Counting.{CountsSo}
 use Rattle.gob_tool.proofs.check.count_stream.Given as goal

@@ -1,5 +1,5 @@
 use Rattle.std.proofs.Common.{◌≡◌, Err, inr, refl, rules}
-use Rattle.gob_stream.specs.Ends.{failed_writes, is_unflushed}
+use Rattle.gob_stream.specs.Calls.Ends.{failed_writes, is_unflushed}
 use Rattle.gob_tool.specs.declared.fault.ToolFault.TheVariants as fault
 use Rattle.gob_tool.proofs.EndLaws.{flushed_so, write_rose}
 use Rattle.gob_tool.specs.Ending.{ends_so, flush_fails}

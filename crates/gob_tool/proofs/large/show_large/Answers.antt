@@ -4,7 +4,7 @@ use Rattle.gob_types.specs.Defined.{types}
 use Rattle.gob_value.specs.Whole.{IsWhole}
 use Rattle.gob_stream.specs.Bounds.{greatest_depth}
 use Rattle.gob_stream.specs.Calls.Session.{types_of}
-use Rattle.gob_stream.specs.Ends.{failed_writes, writer_of}
+use Rattle.gob_stream.specs.Calls.Ends.{failed_writes, writer_of}
 use Rattle.gob_stream.specs.Item.{puts}
 use Rattle.gob_stream.proofs.PublicLaws.{has_item}
 use Rattle.gob_stream.specs.Calls.Reader.{session_of}

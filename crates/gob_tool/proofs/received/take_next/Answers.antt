@@ -2,7 +2,7 @@
 use Rattle.std.proofs.Common.{◌++◌, [], Some, arith, subst, sym}
 use Rattle.gob_types.specs.Defined.{Defined, types}
 use Rattle.gob_read.specs.Calls.Builders.{tree_building}
-use Rattle.gob_stream.specs.Ends.{writer_of}
+use Rattle.gob_stream.specs.Calls.Ends.{writer_of}
 use Rattle.gob_stream.specs.Calls.Reader.{waits_in}
 use Rattle.gob_tool.specs.Fault.{reading_fault}
 use Rattle.gob_tool.specs.Machine.Taken.{AreSent, StaysReceiver, TakesGiven, TakesNext, views_given}

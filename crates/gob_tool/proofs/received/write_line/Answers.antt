@@ -1,9 +1,9 @@
 -- The line is out, or a prefix of it.
 use Rattle.std.proofs.Common.{◌∙◌, subst}
 use Rattle.gob_types.specs.Defined.{types}
-use Rattle.gob_stream.specs.Ends.{writer_of}
+use Rattle.gob_stream.specs.Calls.Ends.{writer_of}
 use Rattle.gob_stream.specs.Item.{item_view}
-use Rattle.gob_stream.specs.Writing.{SentPrefix}
+use Rattle.gob_stream.specs.Calls.Writing.{SentPrefix}
 use Rattle.gob_tool.specs.Fault.{writing_fault}
 use Rattle.gob_tool.specs.Line.{line}
 use Rattle.gob_tool.specs.Machine.Taken.{WritesText}

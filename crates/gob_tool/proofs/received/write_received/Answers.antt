@@ -3,7 +3,7 @@ use Rattle.std.proofs.Common.{◌∙◌, Some, ap, subst, sym}
 use Rattle.std.specs.Io.KnownBytes.{Appends}
 use Rattle.gob_types.specs.Defined.{types}
 use Rattle.gob_value.specs.View.{view}
-use Rattle.gob_stream.specs.Ends.{writer_of}
+use Rattle.gob_stream.specs.Calls.Ends.{writer_of}
 use Rattle.gob_tool.specs.Machine.Taken.{AreSent, TakesGiven, WritesText, views_given}
 use Rattle.gob_tool.specs.Taking.{HasTakenItems}
 use Rattle.gob_tool.proofs.TakeRuns.{definition_taken, line_as, nothing_taken, sent_ready, value_taken}

@@ -4,9 +4,9 @@ use Rattle.std.specs.Io.KnownBytes.{Appends}
 use Rattle.std.proofs.KnownBytes.{Appends-nil}
 use Rattle.gob_stream.specs.Bounds.{AreLimits, Bounds, deepest, no_deeper}
 use Rattle.gob_stream.specs.Calls.Session.{limits_of, taken_of, types_of}
-use Rattle.gob_stream.specs.Ends.{failed_reads, failed_writes, reader_of, writer_of}
+use Rattle.gob_stream.specs.Calls.Ends.{failed_reads, failed_writes, reader_of, writer_of}
 use Rattle.gob_stream.specs.Machine.SessionState.{SessionState}
-use Rattle.gob_stream.specs.Writing.{IsNew}
+use Rattle.gob_stream.specs.Calls.Writing.{IsNew}
 use Rattle.gob_tape.specs.Calls.Builder.{tape_building}
 use Rattle.gob_tape.specs.declared.tape.Tape.{Tape}
 use Rattle.gob_tape.specs.declared.tape_builder.TapeBuilder.{TapeBuilder}

@@ -1,7 +1,7 @@
 -- What was read was written in its tidy form.
 use Rattle.std.proofs.Common.{◌≡◌, ◌+◌, ◌-◌}
 use Rattle.gob_stream.specs.Calls.Session.{limits_of, taken_of}
-use Rattle.gob_stream.specs.Ends.{failed_reads, failed_writes, reader_of, writer_of}
+use Rattle.gob_stream.specs.Calls.Ends.{failed_reads, failed_writes, reader_of, writer_of}
 use Rattle.gob_stream.specs.Calls.Reader.{session_of}
 use Rattle.gob_tool.specs.Machine.Rewritten.{Rewrites}
 use Rattle.gob_tool.proofs.rewrite.rewrite_items.Given as goal

@@ -2,7 +2,7 @@
 use Rattle.std.proofs.Common.{arith, refl, subst, sym}
 use Rattle.gob_types.specs.Defined.{Defined, types}
 use Rattle.gob_stream.specs.Bounds.{deepest}
-use Rattle.gob_stream.specs.Ends.{failed_writes, writer_of}
+use Rattle.gob_stream.specs.Calls.Ends.{failed_writes, writer_of}
 use Rattle.gob_stream.specs.Item.{puts}
 use Rattle.gob_stream.proofs.PublicLaws.{has_item}
 use Rattle.gob_tool.specs.Ending.{CountsOnlyWrites}

@@ -1,7 +1,7 @@
 -- What a step gave is written in its tidy form, and a refusal leaves what was.
 use Rattle.std.proofs.Common.{◌++◌, [], Some, arith, refl, subst, sym}
 use Rattle.gob_types.specs.Defined.{Defined, types}
-use Rattle.gob_stream.specs.Ends.{failed_writes, writer_of}
+use Rattle.gob_stream.specs.Calls.Ends.{failed_writes, writer_of}
 use Rattle.gob_tape.specs.Calls.Builder.{tape_building}
 use Rattle.gob_stream.specs.Calls.Reader.{waits_in}
 use Rattle.gob_tool.specs.Ending.{CountsOnlyWrites}

@@ -1,5 +1,5 @@
 use Rattle.gob_stream.specs.Bounds.{deepest, no_deeper}
-use Rattle.gob_stream.specs.Ends.{failed_writes, reader_of, writer_of}
+use Rattle.gob_stream.specs.Calls.Ends.{failed_writes, reader_of, writer_of}
 use Rattle.gob_tool.proofs.RewriteRuns.{rewrites_ended}
 use Rattle.gob_tool.proofs.rewrite.run_rewrite.Goals as goal
 

@@ -1,6 +1,6 @@
 -- An order allows no deeper values than the run of its command takes.
 use Rattle.std.proofs.Common.{◌≡◌, ◌≤◌, ap, sym, subst, min, arith}
-use Rattle.gob_stream.specs.Ends.{reader_of, writer_of}
+use Rattle.gob_stream.specs.Calls.Ends.{reader_of, writer_of}
 use Rattle.gob_stream.specs.Bounds.{no_deeper}
 use Rattle.gob_words.specs.Depths.{most_depth}
 use Rattle.gob_tool.specs.Running.{OrderAnswers, order_limits}

@@ -1,5 +1,5 @@
 use Rattle.gob_stream.specs.Bounds.{within_trees}
-use Rattle.gob_stream.specs.Ends.{failed_writes, reader_of, writer_of}
+use Rattle.gob_stream.specs.Calls.Ends.{failed_writes, reader_of, writer_of}
 use Rattle.gob_tool.proofs.ShowRuns.{shows_ended}
 use Rattle.gob_tool.proofs.show.run_show.Goals as goal
 

@@ -5,7 +5,7 @@ use Rattle.std.proofs.KnownBytes.{Appends-nil}
 use Rattle.gob_read.specs.Calls.Builders.{tree_building}
 use Rattle.gob_stream.specs.Bounds.{within_trees}
 use Rattle.gob_stream.specs.Calls.Session.{limits_of, taken_of, types_of}
-use Rattle.gob_stream.specs.Ends.{failed_reads, failed_writes, reader_of, writer_of}
+use Rattle.gob_stream.specs.Calls.Ends.{failed_reads, failed_writes, reader_of, writer_of}
 use Rattle.gob_stream.specs.Calls.Reader.{session_of}
 use Rattle.gob_stream.proofs.PublicLaws.{goes_on, has_ended}
 use Rattle.gob_tool.specs.Fault.{reading_fault, writing_fault}

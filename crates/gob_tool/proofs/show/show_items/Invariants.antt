@@ -1,7 +1,7 @@
 -- The lines of what was read went out.
 use Rattle.std.proofs.Common.{◌≡◌, ◌+◌, ◌-◌}
 use Rattle.gob_stream.specs.Calls.Session.{limits_of, taken_of}
-use Rattle.gob_stream.specs.Ends.{failed_reads, failed_writes, reader_of, writer_of}
+use Rattle.gob_stream.specs.Calls.Ends.{failed_reads, failed_writes, reader_of, writer_of}
 use Rattle.gob_stream.specs.Calls.Reader.{session_of}
 use Rattle.gob_tool.specs.Machine.Lines.{ShowsSo}
 use Rattle.gob_tool.proofs.show.show_items.Given as goal

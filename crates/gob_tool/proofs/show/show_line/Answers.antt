@@ -1,8 +1,8 @@
 use Rattle.std.proofs.Common.{◌≡◌, IfErr, subst}
 use Rattle.gob_stream.specs.Bounds.{within_trees}
 use Rattle.gob_stream.specs.Calls.Session.{limits_of, types_of}
-use Rattle.gob_stream.specs.Ends.{writer_of}
-use Rattle.gob_stream.specs.Writing.{SentPrefix}
+use Rattle.gob_stream.specs.Calls.Ends.{writer_of}
+use Rattle.gob_stream.specs.Calls.Writing.{SentPrefix}
 use Rattle.std.specs.Io.KnownBytes.{Appends}
 use Rattle.gob_stream.specs.Calls.Reader.{session_of}
 use Rattle.gob_tool.specs.Fault.{reading_fault, writing_fault}

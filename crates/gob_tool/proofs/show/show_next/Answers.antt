@@ -1,6 +1,6 @@
 -- A large item's line goes out while it is made; where none waits nothing has changed.
 use Rattle.std.proofs.Common.{◌≡◌, IfErr, ap, arith, length}
-use Rattle.gob_stream.specs.Ends.{failed_writes, writer_of}
+use Rattle.gob_stream.specs.Calls.Ends.{failed_writes, writer_of}
 use Rattle.gob_stream.specs.Calls.Reader.{waits_in}
 use Rattle.gob_tool.specs.Ending.{CountsOnlyWrites}
 use Rattle.gob_tool.specs.Fault.{writing_fault}

@@ -1,5 +1,5 @@
 use Rattle.gob_stream.specs.Bounds.{within_trees}
-use Rattle.gob_stream.specs.Ends.{failed_reads, failed_writes, reader_of, writer_of}
+use Rattle.gob_stream.specs.Calls.Ends.{failed_reads, failed_writes, reader_of, writer_of}
 use Rattle.gob_tool.proofs.EndLaws.{ended_wanted}
 use Rattle.gob_tool.proofs.TakeRuns.{take_counts, takes_ended}
 use Rattle.gob_tool.proofs.take.run_take.Goals as goal

@@ -2,7 +2,7 @@
 use Rattle.std.proofs.Common.{◌≡◌, ◌+◌, ◌-◌}
 use Rattle.gob_types.specs.Defined.{types}
 use Rattle.gob_stream.specs.Calls.Session.{limits_of, taken_of, types_of}
-use Rattle.gob_stream.specs.Ends.{failed_reads, failed_writes, reader_of, writer_of}
+use Rattle.gob_stream.specs.Calls.Ends.{failed_reads, failed_writes, reader_of, writer_of}
 use Rattle.gob_stream.specs.Calls.Reader.{session_of}
 use Rattle.gob_tool.specs.Machine.Receiver.{IsReceiver}
 use Rattle.gob_tool.specs.Machine.Taken.{Takes}

@@ -1,6 +1,6 @@
 use Rattle.std.proofs.Common.{sym, subst}
 use Rattle.gob_types.specs.Defined.{types}
-use Rattle.gob_stream.specs.Ends.{writer_of}
+use Rattle.gob_stream.specs.Calls.Ends.{writer_of}
 use Rattle.gob_stream.specs.Item.{StreamItem}
 use Rattle.gob_tool.specs.Machine.Rewritten.{StandsNext, WritesTidy}
 use Rattle.gob_tool.proofs.RewriteLaws.{definition_meant, value_meant}

@@ -1,7 +1,7 @@
 -- The type of the first value that was read is known.
 use Rattle.std.proofs.Common.{◌≡◌, ◌+◌, ◌-◌}
 use Rattle.gob_stream.specs.Calls.Session.{limits_of, taken_of}
-use Rattle.gob_stream.specs.Ends.{failed_reads, reader_of}
+use Rattle.gob_stream.specs.Calls.Ends.{failed_reads, reader_of}
 use Rattle.gob_stream.specs.Calls.Reader.{session_of}
 use Rattle.gob_tool.specs.Machine.Taken.{FindsSo}
 use Rattle.gob_tool.proofs.wanted.read_type.Given as goal

@@ -3,7 +3,7 @@ use Rattle.std.proofs.Common.{false, IsTrue}
 use mathlib.Core.List.{not-mem-nil}
 use native.Mathlib.Nat.{sub-zero}
 use borrow.Author.Count.{falls}
-use Rattle.gob_value.specs.Whole.{HoldsNumbers}
+use Rattle.gob_value.specs.Machine.Begins.{HoldsNumbers}
 use Rattle.gob_value.proofs.WholeSteps.{if_some, seen, all_deeper, kept_part, both, all_three, deeper, opaque_begins}
 use Rattle.gob_value.proofs.WholeSteps.{slice_begins}
 use Rattle.gob_value.proofs.WholeSteps.{array_begins, map_begins, struct_begins, none_stand, element_begins}

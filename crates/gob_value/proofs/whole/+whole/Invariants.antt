@@ -1,5 +1,5 @@
 use Rattle.std.proofs.Common.{ℕ, nat_eq, Bool, not, ◌+◌, ◌-◌, ◌*◌, ◌≤◌, length}
-use Rattle.gob_value.specs.Whole.{HoldsBetween, BeginsEach, BeginsPairs, BeginsFields}
+use Rattle.gob_value.specs.Machine.Begins.{HoldsBetween, BeginsEach, BeginsPairs, BeginsFields}
 use Rattle.gob_value.proofs.whole.+whole.Given as goal
 
 -- whether tidy values alone are asked for

@@ -3,7 +3,7 @@ use Rattle.gob_types.specs.declared.id.TypeId.{TypeId}
 use Rattle.gob_types.specs.declared.kind.Kind.TheVariants as kind
 use Rattle.gob_types.specs.declared.kind.Shape.{Shape}
 use Rattle.gob_types.specs.Table.{Table, shape_of}
-use Rattle.gob_value.specs.Whole.{HoldsBetween, BeginsEach}
+use Rattle.gob_value.specs.Machine.Begins.{HoldsBetween, BeginsEach}
 use Rattle.gob_value.proofs.whole.basics_end.Given as goal
 
 abbrev pub invariant-basics : goal.invariant-basics

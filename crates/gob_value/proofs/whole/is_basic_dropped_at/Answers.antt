@@ -1,7 +1,7 @@
 -- A zero begins with a byte 0, and one of a complex number has two.
 use Rattle.std.proofs.Common.{sym, subst, drop}
 use Rattle.gob_types.specs.declared.kind.Kind.TheVariants as kind
-use Rattle.gob_value.specs.Whole.{BeginsKept}
+use Rattle.gob_value.specs.Machine.Begins.{BeginsKept}
 use Rattle.gob_value.proofs.KeptLaws.{kept_at, complex_kept_at, nil_kept}
 use Rattle.gob_value.proofs.whole.is_basic_dropped_at.Goals as goal
 

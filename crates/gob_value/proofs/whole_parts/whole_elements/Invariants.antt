@@ -1,5 +1,5 @@
 use Rattle.std.proofs.Common.{◌≡◌, ℕ, ◌+◌, ◌≤◌, length, false}
-use Rattle.gob_value.specs.Whole.{HoldsBetween, BeginsEach}
+use Rattle.gob_value.specs.Machine.Begins.{HoldsBetween, BeginsEach}
 use Rattle.gob_value.proofs.whole_parts.whole_elements.Given as goal
 
 abbrev pub invariant-elements : goal.invariant-elements

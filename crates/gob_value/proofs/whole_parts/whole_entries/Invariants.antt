@@ -1,5 +1,5 @@
 use Rattle.std.proofs.Common.{◌≡◌, ℕ, ◌+◌, ◌≤◌, length, false}
-use Rattle.gob_value.specs.Whole.{HoldsBetween, BeginsPairs}
+use Rattle.gob_value.specs.Machine.Begins.{HoldsBetween, BeginsPairs}
 use Rattle.gob_value.proofs.whole_parts.whole_entries.Given as goal
 
 abbrev pub invariant-entries : goal.invariant-entries

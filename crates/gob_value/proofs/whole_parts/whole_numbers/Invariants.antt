@@ -2,7 +2,7 @@ use Rattle.std.proofs.Common.{◌≡◌, ℕ, ◌+◌, ◌≤◌, length, Some, 
 use Rattle.gob_types.specs.declared.id.TypeId.{TypeId}
 use Rattle.gob_types.specs.declared.kind.Shape.{Shape}
 use Rattle.gob_types.specs.Table.{Table, shape_of}
-use Rattle.gob_value.specs.Whole.{HoldsNumbers, HoldsBetween, BeginsEach}
+use Rattle.gob_value.specs.Machine.Begins.{HoldsNumbers, HoldsBetween, BeginsEach}
 use Rattle.gob_value.proofs.whole_parts.whole_numbers.Given as goal
 
 abbrev pub invariant-numbers : goal.invariant-numbers

@@ -1,6 +1,6 @@
 -- A view allows no deeper values than the run of its command takes.
 use Rattle.std.proofs.Common.{◌≡◌, ◌≤◌, ap, sym, subst, min, arith}
-use Rattle.gob_stream.specs.Ends.{failed_writes, reader_of, writer_of}
+use Rattle.gob_stream.specs.Calls.Ends.{failed_writes, reader_of, writer_of}
 use Rattle.gob_stream.specs.Bounds.{no_deeper}
 use Rattle.gob_words.specs.ViewDepths.{most_view_depth}
 use Rattle.gob_words.specs.declared.view.View.{View}

@@ -1,7 +1,7 @@
 -- A write that fails leaves a prefix of the line.
 use Rattle.std.proofs.Common.{ℕ, List, [], ◌∷◌, codes, subst}
-use Rattle.gob_stream.specs.Ends.{writer_of}
-use Rattle.gob_stream.specs.Writing.{SentPrefix}
+use Rattle.gob_stream.specs.Calls.Ends.{writer_of}
+use Rattle.gob_stream.specs.Calls.Writing.{SentPrefix}
 use Rattle.std.specs.Io.KnownBytes.{Appends}
 use Rattle.gob_tool.specs.Fault.{writing_fault}
 use Rattle.gob_tool.proofs.EndLaws.{at_error}

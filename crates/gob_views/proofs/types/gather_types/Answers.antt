@@ -2,7 +2,7 @@
 use Rattle.std.proofs.Common.{Bool, ◌∙◌, arith, refl}
 use Rattle.gob_read.specs.Calls.Builders.{skip_building}
 use Rattle.gob_stream.specs.Calls.Session.{taken_of}
-use Rattle.gob_stream.specs.Ends.{reader_of}
+use Rattle.gob_stream.specs.Calls.Ends.{reader_of}
 use Rattle.gob_stream.specs.Calls.Reader.{session_of}
 use Rattle.gob_stream.proofs.PublicLaws.{goes_on, has_ended}
 use Rattle.gob_views.proofs.KeepLaws.{reads_fall}

@@ -3,8 +3,8 @@ use Rattle.std.proofs.Common.{◌∙◌, subst}
 use Rattle.std.specs.Io.KnownBytes.{Appends}
 use Rattle.gob_types.specs.Defined.{types}
 use Rattle.gob_source.specs.Source.{go_source}
-use Rattle.gob_stream.specs.Ends.{writer_of}
-use Rattle.gob_stream.specs.Writing.{SentPrefix}
+use Rattle.gob_stream.specs.Calls.Ends.{writer_of}
+use Rattle.gob_stream.specs.Calls.Writing.{SentPrefix}
 use Rattle.gob_tool.specs.Fault.{writing_fault}
 use Rattle.gob_tool.proofs.EndLaws.{at_error, sent_prefix}
 use Rattle.gob_views.specs.Sending.{SendsText}

@@ -4,7 +4,7 @@ use Rattle.std.proofs.KnownBytes.{Appends-nil}
 use Rattle.gob_types.specs.Defined.{types}
 use Rattle.gob_source.specs.Source.{go_source}
 use Rattle.gob_stream.specs.Bounds.{deepest, no_deeper}
-use Rattle.gob_stream.specs.Ends.{reader_of, writer_of}
+use Rattle.gob_stream.specs.Calls.Ends.{reader_of, writer_of}
 use Rattle.gob_tool.specs.declared.fault.ToolFault.TheVariants as fault
 use Rattle.gob_tool.proofs.EndLaws.{at_error}
 use Rattle.gob_views.specs.Types.{TypesAnswers}

@@ -4,7 +4,7 @@ use Rattle.std.specs.Io.KnownBytes.{Appends}
 use Rattle.gob_tape.specs.Calls.Builder.{tape_building}
 use Rattle.gob_stream.specs.Bounds.{deepest, no_deeper, within_trees}
 use Rattle.gob_stream.specs.Calls.Session.{limits_of, taken_of, types_of}
-use Rattle.gob_stream.specs.Ends.{failed_reads, failed_writes, reader_of, writer_of}
+use Rattle.gob_stream.specs.Calls.Ends.{failed_reads, failed_writes, reader_of, writer_of}
 use Rattle.gob_stream.specs.Calls.Reader.{session_of}
 use Rattle.gob_stream.proofs.PublicLaws.{goes_on, has_ended}
 use Rattle.gob_types.specs.Base.{base_table}

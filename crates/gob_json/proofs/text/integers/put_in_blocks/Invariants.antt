@@ -6,7 +6,7 @@ use Rattle.gob_types.specs.declared.basic.Basic.TheVariants as basic
 use Rattle.gob_types.specs.declared.kind.Kind.TheVariants as kind
 use Rattle.gob_types.specs.Table.{Table}
 use Rattle.gob_value.specs.Tree.{Trees, tree_count}
-use Rattle.gob_value.specs.Whole.{BeginsEach}
+use Rattle.gob_value.specs.Machine.Begins.{BeginsEach}
 use Rattle.gob_json.specs.Json.{elements_json}
 use Rattle.gob_json.specs.Machine.TextSent.{BeginsElements, EndsAt, Reaches}
 use Rattle.gob_json.specs.TextWhole.{IsOfKind}

@@ -2,7 +2,7 @@
 use Rattle.std.proofs.Common.{◌≡◌, ℕ, List, ◌∷◌, ◌+◌, ◌-◌, ◌*◌, ◌^◌, ◌≤◌, false, drop, length, nat_lt}
 use Rattle.serde_json.specs.Written.{items_text}
 use Rattle.gob_value.specs.Tree.{Trees, Pairs, Fields, pair_count, tree_count}
-use Rattle.gob_value.specs.Whole.{BeginsEach, BeginsFields, BeginsPairs}
+use Rattle.gob_value.specs.Machine.Begins.{BeginsEach, BeginsFields, BeginsPairs}
 use Rattle.gob_json.specs.Json.{elements_json, fields_json, pairs_json}
 use Rattle.gob_json.specs.Machine.TextSent.{BeginsElements, BeginsEntries, BeginsPresent, EndsAt, Reaches}
 use Rattle.gob_json.proofs.EndLaws.{is_known}

@@ -1,5 +1,5 @@
 use Rattle.std.proofs.Common.{◌∙◌, Bool, subst}
-use Rattle.gob_stream.specs.Ends.{failed_reads, reader_of}
+use Rattle.gob_stream.specs.Calls.Ends.{failed_reads, reader_of}
 use Rattle.gob_stream.specs.Calls.Reader.{session_of, StopsFrom}
 use Rattle.gob_stream.proofs.Reader.StreamReaderLaws.{counts_at, counts_nothing, fills_at, fills_from, read_on}
 use Rattle.gob_stream.proofs.Reader.StreamReaderLaws.{read_stops, reads_fall}

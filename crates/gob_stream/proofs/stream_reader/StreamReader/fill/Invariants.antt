@@ -1,6 +1,6 @@
 -- What was read waits behind what waited, and the session is as it was.
 use Rattle.std.proofs.Common.{◌≡◌, ℕ, List, Option}
-use Rattle.gob_stream.specs.Ends.{failed_reads, reader_of}
+use Rattle.gob_stream.specs.Calls.Ends.{failed_reads, reader_of}
 use Rattle.gob_stream.specs.Item.{StreamItem}
 use Rattle.gob_stream.specs.Calls.Reader.{HasReadFrom, left_to_read, session_of, waits_in}
 use Rattle.gob_stream.proofs.stream_reader.StreamReader.fill.Given as goal

@@ -1,6 +1,6 @@
 use Rattle.std.proofs.Common.{rules, ◌≡◌, ◌∙◌, Bool, ap, length, refl, sym}
 use Rattle.gob_stream.specs.Calls.Session.{taken_of, types_of}
-use Rattle.gob_stream.specs.Ends.{failed_reads, reader_of}
+use Rattle.gob_stream.specs.Calls.Ends.{failed_reads, reader_of}
 use Rattle.gob_stream.specs.Calls.Reader.{none_wait, session_of}
 use Rattle.gob_stream.proofs.Reader.StreamReaderLaws.{counts_at, counts_nothing, fills_at, fills_from, no_bytes}
 use Rattle.gob_stream.proofs.Reader.StreamReaderLaws.{read_on, read_stops}

@@ -5,7 +5,7 @@ use Rattle.gob_types.specs.declared.denial.Denial.TheVariants as denial
 use Rattle.gob_stream.specs.Bounds.{within_trees}
 use Rattle.gob_stream.specs.Item.{defines}
 use Rattle.gob_stream.specs.Machine.WriterState.{WriterState}
-use Rattle.gob_stream.specs.Writing.{HasWrittenSome}
+use Rattle.gob_stream.specs.Calls.Writing.{HasWrittenSome}
 use Rattle.gob_stream.specs.WriterRefusal.{refused_body}
 use Rattle.gob_stream.proofs.DenialLaws.{denial_weaker}
 use Rattle.gob_stream.proofs.Written.WritingLaws.{body_alone, whole_item}

@@ -1,7 +1,7 @@
 use Rattle.std.proofs.Common.{[], refl, ◌∙◌}
 use Rattle.gob_types.specs.Base.{base_table}
 use Rattle.gob_stream.specs.Stream.{no_more}
-use Rattle.gob_stream.specs.Writing.{has_written}
+use Rattle.gob_stream.specs.Calls.Writing.{has_written}
 use Rattle.gob_stream.proofs.stream_writer.StreamWriter.new.Goals as goal
 
 pub invariant_of-result : goal.invariant_of-result

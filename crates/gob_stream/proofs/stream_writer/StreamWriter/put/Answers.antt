@@ -4,7 +4,7 @@ use Rattle.gob_value.specs.View.{view}
 use Rattle.gob_stream.specs.Bounds.{within_trees}
 use Rattle.gob_stream.specs.Item.{puts}
 use Rattle.gob_stream.specs.Machine.WriterState.{WriterState}
-use Rattle.gob_stream.specs.Writing.{HasWrittenSome}
+use Rattle.gob_stream.specs.Calls.Writing.{HasWrittenSome}
 use Rattle.gob_stream.specs.WriterRefusal.{refused_body}
 use Rattle.gob_stream.proofs.DenialLaws.{denial_weaker}
 use Rattle.gob_stream.proofs.Written.WritingLaws.{body_alone, whole_item}

@@ -21,7 +21,7 @@ use Rattle.gob_stream.specs.declared.place.Place.{Place}
 use Rattle.gob_stream.specs.Machine.WriterState.{WriterState}
 use Rattle.gob_stream.specs.Bounds.{Bounds}
 use Rattle.gob_stream.specs.Devices.{counts_up}
-use Rattle.gob_stream.specs.Ends.{failed_writes, writer_of}
+use Rattle.gob_stream.specs.Calls.Ends.{failed_writes, writer_of}
 use Rattle.gob_stream.specs.Item.{StreamItem}
 use Rattle.gob_stream.specs.Stream.{Stream, HasStream, IsItem}
 use Rattle.gob_stream.specs.WriterRefusal.{RefusesItem}
