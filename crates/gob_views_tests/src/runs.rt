@@ -88,6 +88,8 @@ fn shown(alloc: Global, command: ViewCommand) -> Result<Vec<u8>, AllocError> {
         input: None,
         depth: 1000,
         item: 100,
+        zeros: false,
+        raw: false,
     };
     let bytes = bytes_of(alloc, "POINT 07 ff 82 01 2c 01 42 00")?;
     let mut written = Vec::new(alloc);
