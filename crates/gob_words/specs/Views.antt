@@ -22,12 +22,12 @@ pub record IsFileOf (word file : Option Text) : Type 0 where
   pub input : word ≡ Some (codes "-") → file ≡ None
   pub named : word ≢ Some (codes "-") → file ≡ word
 
--- the flag is given: clap's value of it is the word true then, and else false
+-- whether a flag is given, by clap's value of it: the word true where it is, and else false or none
 pub record IsGiven (value : Option Text) (flag : Bool) : Type 0 where
   pub given : value ≡ Some (codes "true") → flag ≡ true
   pub absent : value ≢ Some (codes "true") → flag ≡ false
 
--- and the command has flags
+-- whether a command's flag is given, by clap's value of it: values alone has flags
 abbrev pub IsFlagOf : ViewCommand → Option Text → Bool → Type 0
 IsFlagOf view.Values value flag = IsGiven value flag
 IsFlagOf _ value flag = flag ≡ false
