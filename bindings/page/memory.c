@@ -79,17 +79,24 @@ void *memcpy(void *to, const void *from, size_t count) { return __builtin_memcpy
 void *memmove(void *to, const void *from, size_t count) { return __builtin_memmove(to, from, count); }
 void *memset(void *to, int byte, size_t count) { return __builtin_memset(to, byte, count); }
 
-/* 128 bits times 128 bits, which LLVM calls. */
+/* 128 bits times 128 bits, which LLVM calls where it multiplies. It knows such code as a product of 128 bits, for which it
+ * would call this again: so it must not look. */
 typedef unsigned __int128 uint128_t;
 
-static uint64_t high_of(uint64_t a, uint64_t b) {
+union halves {
+    uint128_t whole;
+    uint64_t half[2];
+};
+
+__attribute__((optnone)) static uint64_t high_of(uint64_t a, uint64_t b) {
     uint64_t a0 = (uint32_t)a, a1 = a >> 32, b0 = (uint32_t)b, b1 = b >> 32;
     uint64_t middle = (a0 * b0 >> 32) + (uint32_t)(a1 * b0) + (uint32_t)(a0 * b1);
     return a1 * b1 + (a1 * b0 >> 32) + (a0 * b1 >> 32) + (middle >> 32);
 }
 
-uint128_t __multi3(uint128_t a, uint128_t b) {
-    uint64_t a0 = a, b0 = b, a1 = a >> 64, b1 = b >> 64;
-    uint64_t high = high_of(a0, b0) + a0 * b1 + a1 * b0;
-    return (uint128_t)high << 64 | a0 * b0;
+__attribute__((optnone)) uint128_t __multi3(uint128_t a, uint128_t b) {
+    union halves one = {a}, other = {b}, product;
+    product.half[0] = one.half[0] * other.half[0];
+    product.half[1] = high_of(one.half[0], other.half[0]) + one.half[0] * other.half[1] + one.half[1] * other.half[0];
+    return product.whole;
 }

@@ -9,6 +9,8 @@ typedef __UINT64_TYPE__ uint64_t;
 #define NULL ((void *)0)
 #define SIZE_MAX __SIZE_MAX__
 #define bool _Bool
+#define false 0
+#define true 1
 
 void *malloc(size_t size);
 void *calloc(size_t count, size_t size);

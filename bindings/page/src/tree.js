@@ -136,9 +136,9 @@ const STYLES = ["", "number", "number", "number", "number", "raw", "text", "numb
 function partLine(label, part, room) {
     const type = part.hasParts ? `${goName(part.id, part.types)}, ${countOf(part)}` : goName(part.id, part.types);
     return [
-        make("span", "label", label), " ",
+        make("span", "label", cut(label, SOME)), " ",
         make("span", STYLES[part.kind] ?? (part.kind === OPAQUE ? "raw" : "brief"), part.brief(room)), " ",
-        make("span", "type", type),
+        make("span", "type", cut(type, SOME)),
     ];
 }
 

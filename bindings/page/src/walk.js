@@ -4,6 +4,8 @@
 /** Ends a walk: the refused place is reached. */
 class Reached extends Error {}
 
+const LOST = "the page lost its way";
+
 class Walk {
     /** Goes over an item from its count on, up to the place, which is counted from there. */
     constructor(bytes, place, types) {
@@ -22,7 +24,8 @@ class Walk {
         try {
             this.go();
         } catch (error) {
-            if (!(error instanceof Reached)) throw error;
+            // what is told of the place is a help: without it the refusal stands all the same
+            if (!(error instanceof Reached)) this.due = LOST;
         }
         return { item: this.item, path: this.path.join(""), behind: this.behind, due: this.due };
     }

@@ -11,9 +11,9 @@ import time
 
 
 class Page:
-    """A page in a Chromium of its own. `scheme` is "light" or "dark"."""
+    """A page in a Chromium of its own. `scheme` is "light" or "dark", and `before` is run before the page's scripts."""
 
-    def __init__(self, address, size=(1000, 900), scheme="light", is_phone=False):
+    def __init__(self, address, size=(1000, 900), scheme="light", is_phone=False, before=""):
         self.folder = tempfile.TemporaryDirectory()
         ours, theirs = os.pipe(), os.pipe()  # what it reads, what it writes
         words = ["chromium", "--headless", "--no-sandbox", "--disable-gpu", "--hide-scrollbars", "--disable-dev-shm-usage",
@@ -34,6 +34,7 @@ class Page:
         self.call("Emulation.setEmulatedMedia", features=[{"name": "prefers-color-scheme", "value": scheme}])
         for domain in ("Page", "Runtime", "Log", "Accessibility"):
             self.call(f"{domain}.enable")
+        self.call("Page.addScriptToEvaluateOnNewDocument", source=before)
         self.call("Page.navigate", url=address)
         self.wait("document.body?.dataset.state === 'ready'")
 
