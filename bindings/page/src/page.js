@@ -145,7 +145,7 @@ function showRefusal(refusal) {
     const rows = [
         ["Where", `byte ${place}${placeText(refusal)}`],
         ["In", `${refusal.item || "an item"}, which begins at byte ${start}`],
-        ["Due there", due],
+        ["Expected", due],
         ["What to do", todo],
         ["The program says", make("code", "", line)],
     ];
@@ -157,8 +157,8 @@ function showRefusal(refusal) {
 }
 
 /** Where in an item a refused byte stands. */
-function placeText({ path, behind, item }) {
-    if (item === "") return ", at the start of an item";
+function placeText({ path, behind, item, place, start }) {
+    if (item === "") return place === start ? ", at the start of an item" : ", before the value of an item";
     return (path && `, at ${path}`) + (behind && `, behind field ${behind}`);
 }
 

@@ -48,11 +48,12 @@ class Stream {
         this.marks = [];
         this.definitions = [];
         this.end = file.size;
-        this.isWanted = true;
+        this.stops = 0;
     }
 
+    /** Stops what is being read. */
     stop() {
-        this.isWanted = false;
+        this.stops++;
     }
 
     async bytes(from, to) {
@@ -61,9 +62,10 @@ class Stream {
 
     /** Feeds the file from an offset on, and gives each batch of items; `step` is called with each piece. */
     async *batches(reader, from, step) {
+        const { stops } = this;
         for (let at = from; at < this.end && reader.fault.status === OK; at += PIECE) {
             const piece = await this.bytes(at, Math.min(at + PIECE, this.end));
-            if (!this.isWanted) throw new Stopped(at);
+            if (this.stops !== stops) throw new Stopped(at);
             step(piece, at);
             reader.feed(piece);
             yield* reader.batches();
@@ -94,7 +96,6 @@ class Stream {
         if (!(error instanceof Stopped)) throw error;
         this.fault = { status: STOPPED };
         this.end = error.at;
-        this.isWanted = true;
     }
 
     knowBase(reader) {
@@ -178,7 +179,6 @@ class Stream {
 
     /** The lines of `gob show` or of `gob values`, as a file. */
     async lines(kind, progress) {
-        this.isWanted = true;
         const lines = kind === "show" ? new ShowLines(this.all()) : new PlainLines(this.all());
         const reader = await Reader.open(this.module);
         const parts = [], encoder = new TextEncoder();

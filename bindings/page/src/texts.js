@@ -88,7 +88,7 @@ const grouped = new Intl.NumberFormat("en-US");
 
 /** A count with its noun: 1,234 bytes. */
 function counted(count, noun) {
-    return `${grouped.format(count)} ${noun}${count === 1 ? "" : "s"}`;
+    return `${grouped.format(count)} ${noun}${Number(count) === 1 ? "" : "s"}`;
 }
 
 function sized(bytes) {

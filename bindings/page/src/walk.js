@@ -15,7 +15,7 @@ class Walk {
         this.at = 0;
         this.path = [];
         this.behind = "";
-        this.due = "the end of the item";
+        this.due = "the end of the item, since what it holds is complete";
         this.item = "";
     }
 
@@ -47,7 +47,7 @@ class Walk {
     }
 
     go() {
-        this.number("how many bytes the next item has, at most 64 MiB");
+        this.number("how many bytes the next item has: at most 64 MiB");
         const number = signedOf(this.number("a type: the id of a defined one, or below 0 the id that is defined here"));
         if (number < 0n) {
             this.item = `the definition of type ${-number}`;
@@ -58,7 +58,6 @@ class Walk {
         this.item = `a value of type ${goName(id, this.types)}`;
         if (this.types.get(id)?.kind !== "struct") this.number("the byte 0, which stands before a value that is no struct");
         this.part(id, 1);
-        this.item += ", which is whole";
     }
 
     part(id, depth) {
@@ -91,7 +90,7 @@ class Walk {
     raw(what) {
         const count = this.number(`how many bytes follow: ${what}`);
         if (BigInt(this.at) + count > BigInt(this.place)) {
-            this.reach(`${counted(Number(count), "byte")} in all: ${what}. ${this.place - this.at} are there`);
+            this.reach(`${counted(count, "byte")} in all: ${what}. ${counted(this.place - this.at, "byte")} came`);
         }
         this.at += Number(count);
     }
