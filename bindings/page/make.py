@@ -59,7 +59,8 @@ def page(module):
     style = (HERE / "src/page.css").read_text(encoding="utf-8")
     rules = f"default-src 'none'; script-src {sum_of(shared)} {sum_of(own)} 'wasm-unsafe-eval'; worker-src blob:; " \
         f"style-src {sum_of(style)}; base-uri 'none'; form-action 'none'"
-    parts = {"RULES": rules, "STYLE": style, "SHARED": shared, "OWN": own, "MODULE": encoded(module), "VERSION": version()}
+    parts = {"RULES": rules, "STYLE": style, "SHARED": shared, "OWN": own}
+    parts |= {"MODULE": encoded(module), "VERSION": version()}
     return re.sub("@([A-Z]+)@", lambda found: parts[found[1]], (HERE / "src/page.html").read_text(encoding="utf-8"))
 
 

@@ -79,8 +79,8 @@ void *memcpy(void *to, const void *from, size_t count) { return __builtin_memcpy
 void *memmove(void *to, const void *from, size_t count) { return __builtin_memmove(to, from, count); }
 void *memset(void *to, int byte, size_t count) { return __builtin_memset(to, byte, count); }
 
-/* 128 bits times 128 bits, which LLVM calls where it multiplies. It knows such code as a product of 128 bits, for which it
- * would call this again: so it must not look. */
+/* 128 bits times 128 bits, which LLVM calls where it multiplies. It knows such code as a product of 128 bits, for which
+ * it would call this again: so it must not look. */
 typedef unsigned __int128 uint128_t;
 
 union halves {

@@ -1,4 +1,4 @@
-/* What gob.h, raw.h and gob.c ask of the headers of a C library, for WebAssembly. `build` gives it the names of these. */
+/* What gob.h, raw.h and gob.c ask of the headers of a C library, for WebAssembly. `build` gives it their names. */
 #ifndef GOB_PAGE_MEMORY_H
 #define GOB_PAGE_MEMORY_H
 

@@ -150,7 +150,9 @@ function showRefusal(refusal) {
         ["The program says", make("code", "", line)],
     ];
     const list = make("dl");
-    for (const [term, text] of rows.filter(([term]) => term !== "In" || place > start)) list.append(make("dt", "", term), make("dd", "", text));
+    for (const [term, text] of rows) {
+        if (term !== "In" || place > start) list.append(make("dt", "", term), make("dd", "", text));
+    }
     const width = matchMedia("(max-width: 44rem)").matches ? 8 : 16;
     $("why").append(list, byteRows(refusal, width), make("p", "note", marksText(refusal)));
     $("refusal").hidden = false;
@@ -181,7 +183,8 @@ function showValues(told) {
         const found = await readings.call("some", first, Math.min(SOME, told.values - first));
         if (mine !== turn) return list;
         for (const { value, id, heads, nodes, pool } of found) {
-            list.append(partEntry(`#${grouped.format(value)}`, new Part(new Batch(heads, nodes, pool), 0, id, told.all)));
+            const part = new Part(new Batch(heads, nodes, pool), 0, id, told.all);
+            list.append(partEntry(`#${grouped.format(value)}`, part));
         }
         return list;
     };

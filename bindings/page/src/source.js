@@ -67,7 +67,7 @@ class Source {
     // a type that may hold itself stands behind a pointer, where it doesn't come later
     pointer(id, of) {
         const type = this.types.get(id);
-        const holds = type !== undefined && (type.kind === "struct" || type.kind === "array" && isIdentifier(type.name));
+        const holds = type?.kind === "struct" || type?.kind === "array" && isIdentifier(type.name);
         return holds && this.order.get(id) <= this.order.get(of) ? "*" : "";
     }
 
@@ -88,7 +88,9 @@ function isIdentifier(name) {
 
 // a name as a comment may hold it
 function printed(name) {
-    const pairs = name.hex.match(/../g) ?? [];
-    const asItIs = (byte) => byte >= 32 && byte <= 126 && byte !== 92;
-    return pairs.map((pair) => asItIs(parseInt(pair, 16)) ? String.fromCharCode(parseInt(pair, 16)) : "\\x" + pair).join("");
+    const shown = (pair) => {
+        const byte = parseInt(pair, 16);
+        return byte >= 32 && byte <= 126 && byte !== 92 ? String.fromCharCode(byte) : "\\x" + pair;
+    };
+    return (name.hex.match(/../g) ?? []).map(shown).join("");
 }

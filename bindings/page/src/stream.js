@@ -1,5 +1,5 @@
-// A file that is read: what is in it, any of its values, and its lines. Little is kept besides the types: a file is read
-// in pieces, and each value that is asked for is read again from the last mark before it.
+// A file that is read: what is in it, any of its values, and its lines. Little is kept besides the types: a file is
+// read in pieces, and each value that is asked for is read again from the last mark before it.
 
 /** Where items begin: their counts are passed over, piece by piece, while the reader reads the same bytes. */
 class Starts {
@@ -146,7 +146,7 @@ class Stream {
     walked(fault, item, place, all) {
         const walk = new Walk(item, place, all).found();
         // these are judged of a whole description, at its start
-        if (fault.reason >= 18 && fault.reason <= 21) walk.due = "the description of one type: its kind, its own number";
+        if (fault.reason >= 18 && fault.reason <= 21) walk.due = "the description of one type, with its own number";
         return walk;
     }
 

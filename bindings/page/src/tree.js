@@ -1,7 +1,7 @@
 // The values as a tree that opens part by part: what isn't open has no elements.
 
 const SOME = 100; // so many parts are shown at once
-const DEEP_ROOM = 90; // so many characters of a part are shown beside it
+const ROOM = 100; // so many characters of a part are shown beside it
 
 function make(tag, name, ...parts) {
     const element = document.createElement(tag);
@@ -83,7 +83,8 @@ class Part {
 
     briefText(room) {
         const bytes = this.batch.bytesAt(this.node, 0), text = textOf(bytes);
-        return text === null ? "no UTF-8: " + cut(spaced(bytes, room), room) : cut(quoted(text.slice(0, 4 * room)), room);
+        if (text === null) return "no UTF-8: " + cut(spaced(bytes, room), room);
+        return cut(quoted(text.slice(0, 4 * room)), room);
     }
 
     briefParts(room) {
@@ -109,7 +110,7 @@ function spaced(bytes, room) {
     return hexOf(some).match(/../g).join(" ") + (some.length < bytes.length ? " .." : "");
 }
 
-/** What a type wrote of itself: as a text where it is one, a time where Go's time.Time may have written it, else bytes. */
+/** What a type wrote of itself: a text where it is one, a time where Go's time.Time may have written it, else bytes. */
 function opaqueText(type, bytes) {
     const text = bytes.length === 0 ? null : textOf(bytes);
     if (text !== null && !/[\u0000-\u001f]/.test(text)) return quoted(text);
@@ -132,14 +133,14 @@ function timeOf(bytes) {
 const pad = (number) => String(Math.floor(number)).padStart(2, "0");
 const STYLES = ["", "number", "number", "number", "number", "raw", "text", "number", "nil"];
 
-/** The line of a part: its label, what it is in one line, and its type. */
-function partLine(label, part, room) {
-    const type = part.hasParts ? `${goName(part.id, part.types)}, ${countOf(part)}` : goName(part.id, part.types);
-    return [
-        make("span", "label", cut(label, SOME)), " ",
-        make("span", STYLES[part.kind] ?? (part.kind === OPAQUE ? "raw" : "brief"), part.brief(room)), " ",
-        make("span", "type", cut(type, SOME)),
-    ];
+/** The line of a part: its label, its type, and what it is in one line; a leaf's type stands last. */
+function partLine(label, part) {
+    const named = make("span", "label", cut(label, SOME));
+    const own = cut(goName(part.id, part.types), SOME);
+    const type = make("span", "type", part.hasParts ? `${own}, ${countOf(part)}` : own);
+    const style = STYLES[part.kind] ?? (part.kind === OPAQUE ? "raw" : "brief");
+    const brief = make("span", style, part.brief(ROOM));
+    return part.hasParts ? [named, " ", type, " ", brief] : [named, " ", brief, " ", type];
 }
 
 function countOf(part) {
@@ -153,18 +154,18 @@ function countOf(part) {
 function partEntry(label, part, key) {
     const entry = make("li");
     if (part.hasParts && part.count + (key === undefined ? 0 : 1) > 0) {
-        entry.append(opening(partLine(label, part, DEEP_ROOM), () => partList(part, key)));
+        entry.append(opening(partLine(label, part), () => partList(part, key)));
     } else if (isLong(part)) {
-        entry.append(opening(partLine(label, part, DEEP_ROOM), () => make("pre", "whole-text", wholeText(part))));
+        entry.append(opening(partLine(label, part), () => make("pre", "whole-text", wholeText(part))));
     } else {
-        entry.append(make("div", "leaf", ...partLine(label, part, DEEP_ROOM)));
+        entry.append(make("div", "leaf", ...partLine(label, part)));
     }
     return entry;
 }
 
 function isLong(part) {
     const isBytes = part.kind === 5 || part.kind === 6 || part.kind === OPAQUE;
-    return isBytes && part.batch.length(part.node) > (part.kind === 6 ? DEEP_ROOM : DEEP_ROOM / 3);
+    return isBytes && part.batch.length(part.node) > (part.kind === 6 ? ROOM : ROOM / 3);
 }
 
 /** All of a long text, or the bytes of a part; of very long ones the beginning. */

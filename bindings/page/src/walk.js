@@ -1,5 +1,5 @@
-// Where in an item a refused byte stands, and what is due there. The reader says why it refuses, and at which byte; this
-// goes over the item's bytes once more, by its type, as docs/FORMAT.md says.
+// Where in an item a refused byte stands, and what is due there. The reader says why it refuses, and at which byte;
+// this goes over the item's bytes once more, by its type, as docs/FORMAT.md says.
 
 /** Ends a walk: the refused place is reached. */
 class Reached extends Error {}
@@ -56,7 +56,7 @@ class Walk {
         }
         const id = Number(number);
         this.item = `a value of type ${goName(id, this.types)}`;
-        if (this.types.get(id)?.kind !== "struct") this.number("the byte 0, which stands before a value that is no struct");
+        if (this.types.get(id)?.kind !== "struct") this.number("the byte 0, as before each value that is no struct");
         this.part(id, 1);
     }
 
@@ -103,7 +103,7 @@ class Walk {
     }
 
     list(type, depth) {
-        const due = type.kind === "array" ? `the length of the array, which is ${type.len}` : "how many elements follow";
+        const due = type.kind === "array" ? `the array's length, which is ${type.len}` : "how many elements follow";
         const count = this.number(due);
         for (let index = 0n; index < count; index++) this.within(`[${index}]`, type.elem, depth);
     }

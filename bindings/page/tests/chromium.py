@@ -16,9 +16,9 @@ class Page:
     def __init__(self, address, size=(1000, 900), scheme="light", is_phone=False, before=""):
         self.folder = tempfile.TemporaryDirectory()
         ours, theirs = os.pipe(), os.pipe()  # what it reads, what it writes
-        words = ["chromium", "--headless", "--no-sandbox", "--disable-gpu", "--hide-scrollbars", "--disable-dev-shm-usage",
-                 "--disable-background-networking", "--no-first-run", f"--user-data-dir={self.folder.name}/profile",
-                 "--remote-debugging-pipe", "about:blank"]
+        words = ["chromium", "--headless", "--no-sandbox", "--disable-gpu", "--hide-scrollbars", "--no-first-run",
+                 "--disable-dev-shm-usage", "--disable-background-networking",
+                 f"--user-data-dir={self.folder.name}/profile", "--remote-debugging-pipe", "about:blank"]
         # the pipe's ends are 3 and 4 there
         shell = ["bash", "-c", f'exec 3<&{ours[0]} 4>&{theirs[1]}; exec "$@"', "chromium", *words]
         self.process = subprocess.Popen(shell, pass_fds=(ours[0], theirs[1]), stdin=subprocess.DEVNULL,
@@ -30,7 +30,8 @@ class Page:
         self.events = []
         target = next(it for it in self.call("Target.getTargets")["targetInfos"] if it["type"] == "page")
         self.session = self.call("Target.attachToTarget", targetId=target["targetId"], flatten=True)["sessionId"]
-        self.call("Emulation.setDeviceMetricsOverride", width=size[0], height=size[1], deviceScaleFactor=1, mobile=is_phone)
+        screen = {"width": size[0], "height": size[1], "deviceScaleFactor": 1, "mobile": is_phone}
+        self.call("Emulation.setDeviceMetricsOverride", **screen)
         self.call("Emulation.setEmulatedMedia", features=[{"name": "prefers-color-scheme", "value": scheme}])
         for domain in ("Page", "Runtime", "Log", "Accessibility"):
             self.call(f"{domain}.enable")

@@ -48,20 +48,25 @@ def value(id, spelling, is_struct=False):
     return item(sint(id) + (b"" if is_struct else b"\0") + spelling)
 
 
+def pattern(number):
+    return struct.unpack(">Q", struct.pack(">d", number))[0]
+
+
 def floats(dice, count):
     """Floats by chance, and some at the ends of their range."""
     some = [0, 1, 2, 0x000FFFFFFFFFFFFF, 0x0010000000000000, 0x7FEFFFFFFFFFFFFF, 0x7FF0000000000000, 0x7FF8000000000001]
-    some += [struct.unpack(">Q", struct.pack(">d", it))[0] for it in (1e15, 1e16, 1e17, 123456789012345680.0, 1e-4, 1e-5, 1e-7)]
+    some += map(pattern, (1e15, 1e16, 1e17, 123456789012345680.0, 1e-4, 1e-5, 1e-7))
     some += [it | 1 << 63 for it in some] + [dice.getrandbits(64) for _ in range(count)]
-    some += [struct.unpack(">Q", struct.pack(">d", dice.randrange(10**6) / 10**dice.randrange(1, 9)))[0] for _ in range(count)]
+    some += [pattern(dice.randrange(10**6) / 10**dice.randrange(1, 9)) for _ in range(count)]
     flipped = [int.from_bytes(it.to_bytes(8, "little"), "big") for it in some]
     return slice_type(65, b"", 4) + value(65, uint(len(some)) + b"".join(map(uint, flipped)))
 
 
 MARKUP = b"</script></pre><img src=x onerror=\"window.hit=1\"><svg onload=window.hit=1><b>'`${window.hit=1}"
 TURNS = "‮gnp.exe‏⁦x⁩\u0085\x1b[31m\x00\r\n".encode()
-TEXTS = [MARKUP, TURNS, b"__proto__", b"constructor", b"toString", b"hasOwnProperty", b"", b"\xff\xfe<b>", b"javascript:alert(1)",
-         "é 漢字 \U0001f600 a\u0301".encode(), b"\\u003cb\\u003e", b"&lt;b&gt;&amp;", b"a" * 5000 + MARKUP]
+TEXTS = [MARKUP, TURNS, b"__proto__", b"constructor", b"toString", b"hasOwnProperty", b"", b"\xff\xfe<b>",
+         b"javascript:alert(1)", "é 漢字 \U0001f600 a\u0301".encode(), b"\\u003cb\\u003e", b"&lt;b&gt;&amp;",
+         b"a" * 5000 + MARKUP]
 
 
 def hostile():
@@ -71,8 +76,9 @@ def hostile():
     yield "fields", struct_type(65, MARKUP, fields) + value(65, strings, True)
     keys = uint(len(TEXTS)) + b"".join(raw(text) + raw(text) for text in TEXTS)
     yield "keys", map_type(65, TURNS, 6, 6) + value(65, keys)
-    nested = struct_type(66, b"__proto__", [(b"__proto__", 66), (b"constructor", 67)]) + map_type(67, b"constructor", 66, 6)
-    yield "types", nested + value(66, b"\1\1\1\0\0\0", True) + value(67, b"\1\0" + raw(MARKUP))
+    own = struct_type(66, b"__proto__", [(b"__proto__", 66), (b"constructor", 67)])
+    own += map_type(67, b"constructor", 66, 6)
+    yield "types", own + value(66, b"\1\1\1\0\0\0", True) + value(67, b"\1\0" + raw(MARKUP))
     yield "opaque", opaque_type(65, MARKUP) + b"".join(value(65, raw(text)) for text in TEXTS)
     refused = map_type(65, MARKUP, 6, 66) + struct_type(66, TURNS, [(MARKUP, 1), (TURNS, 1)])
     yield "a refused key", refused + value(65, b"\1" + raw(MARKUP) + b"\1\2\0")
@@ -87,7 +93,8 @@ def numbers(count):
 
 def write_large(path, size):
     """Writes a stream of so many bytes or more, of values of some 100 bytes. Says how many values it has."""
-    head = struct_type(65, b"Visit", [(b"Number", 2), (b"Who", 6), (b"Seconds", 4), (b"Tags", 66)]) + slice_type(66, b"[]string", 6)
+    head = struct_type(65, b"Visit", [(b"Number", 2), (b"Who", 6), (b"Seconds", 4), (b"Tags", 66)])
+    head += slice_type(66, b"[]string", 6)
     count = 0
     with open(path, "wb") as file:
         size -= file.write(head)
@@ -101,4 +108,4 @@ def write_large(path, size):
 def visit(number):
     who = f"somebody number {number}, who came by and stayed for a while".encode()
     tags = uint(2) + raw(b"a tag") + raw(b"another tag %d" % (number % 7))
-    return value(65, b"\1" + sint(number) + b"\1" + raw(who) + b"\1" + uint(0x4000) + b"\1" + tags + b"\0", True)
+    return value(65, b"\1" + sint(number) + b"\1" + raw(who) + b"\1" + uint(0x3140) + b"\1" + tags + b"\0", True)

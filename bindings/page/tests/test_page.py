@@ -1,5 +1,6 @@
 #!/usr/bin/env python3
-"""Tests the page in headless Chromium: files are dropped on it, and what it shows is compared with what the program prints.
+"""Tests the page in headless Chromium: files are dropped on it, and what it shows is compared with what the program
+prints.
 
     test_page.py PAGE GOB [--pictures FOLDER]
 
@@ -117,12 +118,14 @@ class Tests:
             page.call("Network.enable")
             self.due("a stream is read from a server", page.drop(ROOT / "examples/logins.gob") == "whole")
             page.evaluate(ANSWERS)
-            asked = [it["params"]["request"]["url"] for it in page.events if it["method"] == "Network.requestWillBeSent"]
+            sent = [it["params"] for it in page.events if it["method"] == "Network.requestWillBeSent"]
+            asked = [it["request"]["url"] for it in sent]
             self.due("nothing is fetched", all(url.startswith(("blob:", "data:")) for url in asked), asked)
         server.shutdown()
         with Page(self.address, before="delete window.Worker") as page:
-            self.due("without workers too", page.drop(ROOT / "examples/logins.gob") == "whole")
-            self.due("the same lines", page.evaluate(ANSWERS)["show"] == self.printed("show", ROOT / "examples/logins.gob")[0])
+            path = ROOT / "examples/logins.gob"
+            self.due("without workers too", page.drop(path) == "whole")
+            self.due("the same lines", page.evaluate(ANSWERS)["show"] == self.printed("show", path)[0])
 
     def has_examples(self):
         with Page(self.address) as page:
@@ -176,18 +179,20 @@ class Tests:
             reached = []
             for _ in range(30):
                 page.press("Tab", 9)
-                reached.append(page.evaluate("(document.activeElement.id || document.activeElement.textContent.slice(0, 30))"))
+                reached.append(page.evaluate(f"{ACTIVE}.id || {ACTIVE}.textContent.slice(0, 30)"))
                 if reached[-1].startswith("#1"):
                     break
-            self.due("the tab key reaches all", reached[:4] == ["pick", "two logins", "lists of points and texts", "a damaged file"]
-                     and {"save-values", "save-show"} <= set(reached) and reached[-1].startswith("#1"), reached)
+            first = ["pick", "two logins", "lists of points and texts", "a damaged file"]
+            self.due("the tab key reaches all", reached[:4] == first and {"save-values", "save-show"} <= set(reached)
+                     and reached[-1].startswith("#1"), reached)
             page.press("Enter", 13, "\r")
-            opened = "document.activeElement.parentElement.open && document.activeElement.parentElement.querySelectorAll('li').length"
+            opened = f"{ACTIVE}.parentElement.open && {ACTIVE}.parentElement.querySelectorAll('li').length"
             page.wait(opened)
             self.due("the enter key opens a value", page.evaluate(opened) == 2)
             nodes = page.call("Accessibility.getFullAXTree")["nodes"]
             roles = [(it["role"]["value"], it.get("name", {}).get("value", "")) for it in nodes if not it["ignored"]]
-            nameless = [role for role, name in roles if role in ("button", "DisclosureTriangle", "textbox", "progressbar") and not name]
+            pressed = ("button", "DisclosureTriangle", "textbox", "progressbar")
+            nameless = [role for role, name in roles if role in pressed and not name]
             self.due("all that can be pressed has a name", not nameless, nameless)
             status = [it for it in roles if it[0] == "status"]
             self.due("the outcome is a status", bool(status), roles[:40])
@@ -217,11 +222,11 @@ class Tests:
             self.due("100 MB are read", state == "whole" and page.evaluate("shown.told.values") == count, state)
             self.due("the page stays alive", watched["longest"] < 1000, watched)
             self.due("progress is shown", watched["bars"] >= 3, watched)
-            print(f"test-page: {count} values of 100 MB in {seconds:.1f} s; the page's longest pause was {watched['longest']:.0f} ms")
+            print(f"test-page: {count} values of 100 MB in {seconds:.1f} s, and a pause of {watched['longest']:.0f} ms")
             page.wait("document.querySelectorAll('#tree li details li').length > 0")
             began = time.monotonic()
-            page.evaluate("[...document.querySelectorAll('#tree > ul > li > details')].at(-1).setAttribute('open', '')")
             last = "[...document.querySelectorAll('#tree > ul > li > details')].at(-1)"
+            page.evaluate(f"{last}.setAttribute('open', '')")
             page.wait(f"{last}.querySelectorAll('details').length > 0")
             page.evaluate(f"[...{last}.querySelectorAll('details')].at(-1).setAttribute('open', '')")
             page.wait(f"{last}.textContent.includes('#{count - 1:,}')")
@@ -235,8 +240,7 @@ class Tests:
         path.unlink()
 
     def stops(self, page, path):
-        page.evaluate("setTimeout(() => { const go = setInterval(() => { if (!document.getElementById('progress').hidden) "
-                      "{ document.getElementById('stop').click(); clearInterval(go); } }, 20); }, 0)")
+        page.evaluate(STOP)
         state = page.drop(path)
         self.due("a reading can be stopped", state == "stopped", state)
         self.due("what was read is shown", page.evaluate("shown.told.values") > 0)
@@ -248,9 +252,11 @@ class Tests:
             page.drop(path)
             began = time.monotonic()
             page.wait("document.querySelectorAll('#tree li').length > 200")
-            self.due("a list of a million numbers opens at once", time.monotonic() - began < 5, time.monotonic() - began)
-            page.evaluate("[...document.querySelectorAll('#tree > ul > li > details > ul > li > details')].at(-1).setAttribute('open', '')")
-            page.wait("[...document.querySelectorAll('#tree .range')].some((it) => it.textContent === '999,900 to 999,999')")
+            seconds = time.monotonic() - began
+            self.due("a list of a million numbers opens at once", seconds < 5, seconds)
+            page.evaluate("document.querySelector('#tree > ul > li > details > ul > li:last-child > details').open = true")
+            ranges = "[...document.querySelectorAll('#tree .range')]"
+            page.wait(f"{ranges}.some((it) => it.textContent === '999,900 to 999,999')")
             self.picture(page, "numbers", False)
             self.due("and its lines are the program's", page.evaluate("linesOf('show').then((it) => it.text())")
                      == self.printed("show", path)[0])
@@ -267,8 +273,17 @@ class Tests:
 
 
 # what the page makes its own elements of
-TAGS = set("A BUTTON CODE DD DETAILS DIV DL DT H2 INPUT LABEL LI MARK NOSCRIPT OUTPUT P PRE PROGRESS SECTION SPAN STRONG "
-           "SUMMARY UL".split())
+TAGS = set("A BUTTON CODE DD DETAILS DIV DL DT H2 INPUT LABEL LI MARK NOSCRIPT OUTPUT P PRE PROGRESS SECTION SPAN "
+           "STRONG SUMMARY UL".split())
+ACTIVE = "document.activeElement"
+# presses the button as soon as it is seen
+STOP = """{
+    const go = setInterval(() => {
+        if (document.getElementById("progress").hidden) return;
+        document.getElementById("stop").click();
+        clearInterval(go);
+    }, 20);
+}"""
 CONTROLS = re.compile("[\u0000-\u0008\u000b-\u001f\u007f-\u009f\u061c\u200e\u200f\u2028-\u202e\u2066-\u2069]")
 WATCH = """
     var watched = { longest: 0, bars: 0 };
