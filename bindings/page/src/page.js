@@ -120,7 +120,7 @@ function showOutcome(name, told) {
     const held = `${counted(told.values, "value")}, ${counted(told.types.size, "type")}`;
     const before = told.items === 0 ? "Nothing stands before that." : `${held} before that.`;
     const [kind, head, text] = {
-        [OK]: ["whole", "A whole gob stream", `${held}, ${sized(told.size)}.`],
+        [OK]: ["whole", "A whole gob stream", told.size > 0 ? `${held}, ${sized(told.size)}.` : "The file is empty."],
         [REFUSED]: ["refused", `No gob stream from byte ${grouped.format(told.refusal?.place)} on`,
             `${told.refusal?.what} ${before}`],
         [NO_MEMORY]: ["refused", "An item is too large for a page",

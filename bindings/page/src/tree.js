@@ -181,9 +181,13 @@ function opening(line, fill, isOpen = false) {
     const element = make("details", "", make("summary", "", ...line));
     const open = async () => {
         element.removeEventListener("toggle", open);
-        element.append(make("p", "waiting", "reading .."));
-        const filled = await fill();
-        element.lastChild.replaceWith(filled);
+        const waiting = make("p", "waiting", "reading ..");
+        element.append(waiting);
+        try {
+            waiting.replaceWith(await fill());
+        } catch (error) {
+            waiting.textContent = `This can't be read any more: ${error.message}`;
+        }
     };
     element.addEventListener("toggle", open);
     element.open = isOpen;
