@@ -2,6 +2,7 @@
 
 const SOME = 100; // so many parts are shown at once
 const ROOM = 100; // so many characters of a part are shown beside it
+const LEAST_ROOM = 12; // and of a leaf that is shown at all
 
 function make(tag, name, ...parts) {
     const element = document.createElement(tag);
@@ -66,6 +67,10 @@ class Part {
 
     /** The part in one line of so many characters or so. */
     brief(room) {
+        return this.hasParts ? this.briefParts(room) : this.briefLeaf(Math.max(LEAST_ROOM, room));
+    }
+
+    briefLeaf(room) {
         const { batch, node } = this;
         switch (this.kind) {
         case 1: return batch.low(node) === 1 ? "true" : "false";
@@ -76,8 +81,7 @@ class Part {
         case 6: return this.briefText(room);
         case 7: return `${shownFloat(batch.real(node, 0))} and ${shownFloat(batch.real(node, 1))}i`;
         case 8: return "nil";
-        case OPAQUE: return cut(opaqueText(this.type, batch.bytesAt(node, 0)), room);
-        default: return this.briefParts(room);
+        default: return cut(opaqueText(this.type, batch.bytesAt(node, 0)), room);
         }
     }
 
@@ -91,9 +95,9 @@ class Part {
         const [open, close] = this.kind === LIST ? "[]" : "{}";
         let out = open, comma = "";
         for (const [label, part] of this.parts(this.node + 1, 0, SOME)) {
-            if (out.length > room) return `${out}${comma}..${close}`;
-            const named = this.kind === LIST ? "" : `${label}: `;
-            out += comma + named + part.brief(Math.max(12, room - out.length));
+            if (out.length >= room) return `${out}${comma}..${close}`;
+            out += comma + (this.kind === LIST ? "" : `${label}: `);
+            out += part.brief(room - out.length);
             comma = ", ";
         }
         return out + (this.count > SOME ? `${comma}..` : "") + close;

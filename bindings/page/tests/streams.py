@@ -86,6 +86,11 @@ def hostile():
     yield "all of it", b"".join([struct_type(65, MARKUP, fields), value(65, strings, True), b"\xf7"])
 
 
+def deep(count):
+    """So many lists, one in the other."""
+    return slice_type(65, b"", 65) + value(65, b"\1" * (count - 1) + b"\0")
+
+
 def numbers(count):
     """A list of so many numbers, in one item."""
     return slice_type(65, b"[]int", 2) + value(65, uint(count) + b"".join(sint(it % 1000 - 500) for it in range(count)))

@@ -82,6 +82,8 @@ class Tests:
         for number in range(MUTANTS):
             yield f"mutant {number}", damage.damaged(dice, dice.choice(whole))
         yield "floats", streams.floats(dice, 2000)
+        yield "1000 lists in one another", streams.deep(1000)
+        yield "1001 lists in one another", streams.deep(1001)
 
     def reads_streams(self):
         with Page(self.address) as page:
