@@ -86,6 +86,22 @@ def hostile():
     yield "all of it", b"".join([struct_type(65, MARKUP, fields), value(65, strings, True), b"\xf7"])
 
 
+def explained():
+    """Streams that are refused, each with what is told of that."""
+    inner = struct_type(66, b"S", [(b"Ok", 1), (b"List", 67)]) + slice_type(67, b"", 1)
+    outer = map_type(65, b"Named", 6, 66) + inner
+    bad = outer + value(65, b"\1" + raw(b"k") + b"\2\2\1\2\0")
+    yield bad, ['at ["k"].List[1]', "a value of type map[string]S", "0 or 1"]
+    yield outer + value(65, b"\1" + raw(b"k") + b"\1\1\2\0"), ['at ["k"], behind field Ok', "0 for none, 1 for List"]
+    yield outer + value(65, b"\1\5ab"), ["at {key 0}", "5 bytes in all: a text. 2 bytes came"]
+    yield outer + b"\x7f\xff\x82", ["the byte 0, as before each value", "cut off", "the file ends here"]
+    yield outer + value(65, b"\0\0"), ["the end of the item, since what it holds is complete"]
+    yield value(66, b"\0"), ["the id of a defined one", "The beginning of the stream may be missing"]
+    yield inner + inner, ["Two streams may stand one behind the other"]
+    yield named(2, 65, b"", b""), ["the definition of type 65", "the description of one type"]
+    yield b"\x1f\x8b\x08\0", ["gzip", "gunzip"]
+
+
 def deep(count):
     """So many lists, one in the other."""
     return slice_type(65, b"", 65) + value(65, b"\1" * (count - 1) + b"\0")

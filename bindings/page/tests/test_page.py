@@ -109,6 +109,17 @@ class Tests:
                      and "lost its way" not in answer["why"],
                      answer["said"], data.hex())
 
+    def explains(self):
+        with Page(self.address) as page:
+            for data, told in streams.explained():
+                page.drop(self.path("refused.gob", data))
+                why = page.evaluate("document.getElementById('why').textContent")
+                self.due(f"{data.hex()} is explained", all(some in why for some in told), told, why)
+            cut = (ROOT / "examples/logins.gob").read_bytes()[:150]
+            page.drop(self.path("cut-off.gob", cut))
+            page.wait("document.querySelectorAll('#tree li li').length > 0")
+            self.picture(page, "cut-off")
+
     # ---- how it opens, and what it sends
 
     def opens_anywhere(self):
@@ -256,7 +267,8 @@ class Tests:
             page.wait("document.querySelectorAll('#tree li').length > 200")
             seconds = time.monotonic() - began
             self.due("a list of a million numbers opens at once", seconds < 5, seconds)
-            page.evaluate("document.querySelector('#tree > ul > li > details > ul > li:last-child details').open = true")
+            last = "#tree > ul > li > details > ul > li:last-child details"
+            page.evaluate(f"document.querySelector('{last}').open = true")
             ranges = "[...document.querySelectorAll('#tree .range')]"
             page.wait(f"{ranges}.some((it) => it.textContent === '999,900 to 999,999')")
             self.picture(page, "numbers", False)
@@ -264,8 +276,9 @@ class Tests:
                      == self.printed("show", path)[0])
 
     def run(self):
-        for part in (self.reads_streams, self.opens_anywhere, self.has_examples, self.saves, self.shows_text_as_text,
-                     self.serves_keyboards, self.fits_phones, self.opens_large_values, self.stays_alive):
+        for part in (self.reads_streams, self.explains, self.opens_anywhere, self.has_examples, self.saves,
+                     self.shows_text_as_text, self.serves_keyboards, self.fits_phones, self.opens_large_values,
+                     self.stays_alive):
             try:
                 part()
             except (TimeoutError, RuntimeError, OSError) as error:
