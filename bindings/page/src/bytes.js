@@ -3,6 +3,9 @@
 /** Rows of bytes, of which those from `place` up to `seen` show why, and the first of them is refused. */
 function byteRows({ bytes, from, place, seen }, width) {
     const rows = make("pre", "bytes");
+    rows.tabIndex = 0; // it may have to be scrolled
+    rows.setAttribute("role", "region");
+    rows.setAttribute("aria-label", "The bytes around it");
     for (let at = 0; at < bytes.length; at += width) {
         const row = bytes.subarray(at, at + width);
         rows.append(make("span", "offset", String(from + at).padStart(8)), "  ");

@@ -102,7 +102,8 @@ function showProgress(what, size, at, values) {
 }
 
 function clear() {
-    for (const id of ["progress", "outcome", "refusal", "types", "values"]) $(id).hidden = true;
+    for (const id of ["progress", "refusal", "types", "values"]) $(id).hidden = true;
+    $("outcome").removeAttribute("class"); // it is never hidden, so that what it says is read out
     for (const id of ["said", "why", "source", "tree"]) $(id).replaceChildren();
 }
 
@@ -128,13 +129,11 @@ function showOutcome(name, told) {
         [STOPPED]: ["stopped", `Stopped at ${sized(told.end)} of ${sized(told.size)}`, `${held} so far.`],
     }[told.status];
     $("outcome").className = kind;
-    $("outcome").hidden = false;
     $("said").append(make("strong", "", head), make("span", "file", unquoted(name)), make("span", "", text));
 }
 
 function showFailure(error) {
     $("outcome").className = "refused";
-    $("outcome").hidden = false;
     $("said").append(make("strong", "", "This can't be read"), make("span", "", error.message));
     setState("failed");
 }
