@@ -1,0 +1,151 @@
+// The C library, translated for browsers: the calls of gob.h, over a memory of their own. Pointers are numbers of 64
+// bits in its calls, and never above 2^32.
+
+const OK = 0, REFUSED = 1, NO_MEMORY = 2;
+const PIECE = 1 << 18;
+
+/** Items that the library handed out: their heads, their nodes and their bytes, as gob.h lays them out. */
+class Batch {
+    constructor(heads, nodes, bytes) {
+        this.heads = new Uint32Array(heads.buffer, heads.byteOffset, heads.length / 4);
+        this.words = new Uint32Array(nodes.buffer, nodes.byteOffset, nodes.length / 4);
+        this.wides = new BigUint64Array(nodes.buffer, nodes.byteOffset, nodes.length / 8);
+        this.reals = new Float64Array(nodes.buffer, nodes.byteOffset, nodes.length / 8);
+        this.pool = bytes;
+        this.items = heads.length / 48;
+        this.ascii = undefined;
+    }
+
+    // of an item
+    id(item) { return this.heads[12 * item]; }
+    node(item) { return this.heads[12 * item + 2]; }
+    nodes(item) { return this.heads[12 * item + 4]; }
+    base(item) { return this.heads[12 * item + 6]; }
+    size(item) { return this.heads[12 * item + 8]; }
+    isDefinition(item) { return this.heads[12 * item + 10] === 1; }
+
+    // of a node
+    kind(node) { return this.words[8 * node + 6]; }
+    number(node) { return this.words[8 * node]; }
+    wide(node) { return this.wides[4 * node]; }
+    low(node) { return this.words[8 * node + 2]; }
+    bits(node, which) { return this.wides[4 * node + 1 + which]; }
+    real(node, which) { return this.reals[4 * node + 1 + which]; }
+    length(node) { return this.words[8 * node + 4]; }
+
+    /** The node behind this part and all that is in it. */
+    after(node) {
+        const kind = this.words[8 * node + 6];
+        return node + (kind >= LIST && kind <= STRUCT ? this.words[8 * node + 4] : 1);
+    }
+
+    /** The number of an int in decimal; small ones are told without numbers of 64 bits, which are slow. */
+    integer(node) {
+        const low = this.words[8 * node + 2];
+        if (this.words[8 * node + 3] !== 0) return signedOf(this.bits(node, 0)).toString();
+        return String(low & 1 ? -(low >>> 1) - 1 : low >>> 1);
+    }
+
+    unsigned(node) {
+        return this.words[8 * node + 3] === 0 ? String(this.low(node)) : this.bits(node, 0).toString();
+    }
+
+    bytesAt(node, base) {
+        const at = base + this.low(node);
+        return this.pool.subarray(at, at + this.length(node));
+    }
+
+    /** The text of a part; null where its bytes are no UTF-8. Most pools are ASCII, and are made a text once. */
+    textAt(node, base) {
+        if (this.ascii === undefined) this.ascii = asciiOf(this.pool);
+        if (this.ascii === null) return textOf(this.bytesAt(node, base));
+        const at = base + this.low(node);
+        return this.ascii.slice(at, at + this.length(node));
+    }
+
+    /** These items alone, in memory of their own. */
+    copy(from, to) {
+        const node = this.node(from), base = this.base(from), last = to - 1;
+        const heads = this.heads.slice(12 * from, 12 * to);
+        const words = this.words.slice(8 * node, 8 * (this.node(last) + this.nodes(last)));
+        const pool = this.pool.slice(base, this.base(last) + this.size(last));
+        for (let item = 0; item < to - from; item++) {
+            heads[12 * item + 2] -= node;
+            heads[12 * item + 6] -= base;
+        }
+        return { heads: new Uint8Array(heads.buffer), nodes: new Uint8Array(words.buffer), pool };
+    }
+}
+
+function asciiOf(pool) {
+    for (const byte of pool) if (byte > 127) return null;
+    return utf8.decode(pool);
+}
+
+/** A reader of one stream. */
+class Reader {
+    /** A new reader. `module` is the compiled library. */
+    static async open(module) {
+        const { exports } = await WebAssembly.instantiate(module, {});
+        return new Reader(exports);
+    }
+
+    constructor(calls) {
+        this.calls = calls;
+        this.told = calls.malloc(48n);
+        this.piece = calls.malloc(BigInt(PIECE));
+        this.fault = { status: NO_MEMORY };
+        if (this.told === 0n || this.piece === 0n) return;
+        this.handle = calls.gob_open(0n, this.told);
+        this.hear();
+    }
+
+    at(pointer, size) {
+        return new Uint8Array(this.calls.memory.buffer, Number(pointer), size);
+    }
+
+    // what the last call told of how it ended
+    hear() {
+        const told = new DataView(this.calls.memory.buffer, Number(this.told), 32);
+        const wide = (at) => Number(told.getBigUint64(at, true));
+        const [status, reason] = [told.getUint32(0, true), told.getUint32(4, true)];
+        this.fault = { status, reason, id: wide(8), place: wide(16), seen: wide(24) };
+        return status === OK;
+    }
+
+    /** Takes the next bytes, of which there are no more than a piece has. */
+    feed(bytes) {
+        this.at(this.piece, bytes.length).set(bytes);
+        this.calls.gob_feed(this.handle, this.piece, BigInt(bytes.length), this.told);
+        return this.hear();
+    }
+
+    /** Says that no byte follows. */
+    finish() {
+        this.calls.gob_finish(this.handle, this.told);
+        return this.hear();
+    }
+
+    /** The next items that are whole; null where there is none. A batch stands until the next call. */
+    take() {
+        const took = this.calls.gob_take(this.handle, this.told);
+        if (took < 0) this.fault = { status: NO_MEMORY };
+        if (took !== 1) return null;
+        const told = new Uint32Array(this.calls.memory.buffer, Number(this.told), 12);
+        const [heads, , nodes, , bytes, , items, , count, , size] = told;
+        return new Batch(this.at(heads, 48 * items), this.at(nodes, 32 * count), this.at(bytes, size));
+    }
+
+    /** Each batch that waits. */
+    *batches() {
+        for (let batch = this.take(); batch !== null; batch = this.take()) yield batch;
+    }
+
+    /** A type that is known from the start: 16 to 23. */
+    type(id) {
+        const item = Number(this.calls.gob_type(this.handle, id));
+        const [, , nodes, , count, , bytes, , size] = new Uint32Array(this.calls.memory.buffer, item, 10);
+        const batch = new Batch(new Uint8Array(0), this.at(nodes, 32 * count), this.at(bytes, size));
+        return typeOf(id, batch, 0, count, 0);
+    }
+}

@@ -1,0 +1,253 @@
+// The page: a file is dropped or chosen, and what is in it is shown.
+
+const EXAMPLES = [];
+
+const $ = (id) => document.getElementById(id);
+const bytesOf = (base64) => Uint8Array.from(atob(base64), (character) => character.charCodeAt(0));
+const scriptOf = (id) => $(id).textContent;
+
+/** The reading of streams: in a worker, so that the page stays alive, or where there can be none in the page itself. */
+class Readings {
+    constructor() {
+        this.calls = new Map();
+        this.number = 0;
+    }
+
+    async start() {
+        try {
+            await this.startWorker();
+        } catch {
+            const server = new Server((message) => this.hear(message));
+            this.post = (message) => server.answer(message);
+            await this.call("load", bytesOf(scriptOf("module")));
+        }
+    }
+
+    async startWorker() {
+        const script = new Blob([scriptOf("shared"), "\nserve();\n"], { type: "text/javascript" });
+        const worker = new Worker(URL.createObjectURL(script));
+        worker.onmessage = ({ data }) => this.hear(data);
+        worker.onerror = () => this.fail("the worker ended");
+        this.post = (message) => worker.postMessage(message);
+        await this.call("load", bytesOf(scriptOf("module")));
+    }
+
+    fail(error) {
+        for (const call of this.calls.values()) call.reject(new Error(error));
+        this.calls.clear();
+    }
+
+    hear({ number, progress, result, error }) {
+        const call = this.calls.get(number);
+        if (call === undefined) return;
+        if (progress !== undefined) return void call.progress(progress);
+        this.calls.delete(number);
+        if (error === undefined) call.resolve(result);
+        else call.reject(new Error(error));
+    }
+
+    call(call, ...words) {
+        return this.follow(() => {}, call, ...words);
+    }
+
+    /** Calls, and hears how far it is. */
+    follow(progress, call, ...words) {
+        const number = ++this.number;
+        return new Promise((resolve, reject) => {
+            this.calls.set(number, { progress, resolve, reject });
+            this.post({ number, call, words });
+        });
+    }
+}
+
+const readings = new Readings();
+const ready = readings.start();
+let shown = { name: "", told: null };
+let turn = 0;
+
+const setState = (state) => void (document.body.dataset.state = state);
+
+/** Shows what is in a file. */
+async function show(file) {
+    const mine = ++turn;
+    setState("reading");
+    clear();
+    try {
+        await ready;
+        const told = await working(`Reading ${file.name}`, file.size, "read", file);
+        if (mine === turn) showTold(file.name, told);
+    } catch (error) {
+        if (mine === turn) showFailure(error);
+    }
+}
+
+/** Calls while the progress is shown. */
+async function working(what, size, call, ...words) {
+    const mine = turn;
+    const progress = ({ at, values }) => mine === turn && showProgress(what, size, at, values);
+    const wait = setTimeout(() => progress({ at: 0, values: 0 }), 200);
+    try {
+        return await readings.follow(progress, call, ...words);
+    } finally {
+        clearTimeout(wait);
+        if (mine === turn) $("progress").hidden = true;
+    }
+}
+
+function showProgress(what, size, at, values) {
+    $("progress").hidden = false;
+    $("bar").max = size;
+    $("bar").value = at;
+    $("far").textContent = `${what}: ${sized(at)} of ${sized(size)}`;
+}
+
+function clear() {
+    for (const id of ["progress", "refusal", "types", "values"]) $(id).hidden = true;
+    $("outcome").removeAttribute("class"); // it is never hidden, so that what it says is read out
+    for (const id of ["said", "why", "source", "tree"]) $(id).replaceChildren();
+}
+
+function showTold(name, told) {
+    shown = { name, told };
+    document.title = `${name} - what is in it`;
+    showOutcome(name, told);
+    if (told.status === REFUSED) showRefusal(told.refusal);
+    if (told.types.size > 0) showTypes(told);
+    if (told.items > 0) showValues(told);
+    setState(["whole", "refused", "failed"][told.status] ?? told.status);
+}
+
+function showOutcome(name, told) {
+    const held = `${counted(told.values, "value")}, ${counted(told.types.size, "type")}`;
+    const before = told.items === 0 ? "Nothing stands before that." : `${held} before that.`;
+    const [kind, head, text] = {
+        [OK]: ["whole", "A whole gob stream", told.size > 0 ? `${held}, ${sized(told.size)}.` : "The file is empty."],
+        [REFUSED]: ["refused", `No gob stream from byte ${grouped.format(told.refusal?.place)} on`,
+            `${told.refusal?.what} ${before}`],
+        [NO_MEMORY]: ["refused", "An item is too large for a page",
+            `The browser has no memory for it. The program gob reads it. ${before}`],
+        [STOPPED]: ["stopped", `Stopped at ${sized(told.end)} of ${sized(told.size)}`, `${held} so far.`],
+    }[told.status];
+    $("outcome").className = kind;
+    $("said").append(make("strong", "", head), make("span", "file", unquoted(name)), make("span", "", text));
+}
+
+function showFailure(error) {
+    $("outcome").className = "refused";
+    $("said").append(make("strong", "", "This can't be read"), make("span", "", error.message));
+    setState("failed");
+}
+
+/** Why the bytes are refused: where, what is due there, and what to do. */
+function showRefusal(refusal) {
+    const { start, place, due, todo, line } = refusal;
+    const rows = [
+        ["Where", `byte ${place}${placeText(refusal)}`],
+        ["In", `${refusal.item || "an item"}, which begins at byte ${start}`],
+        ["Expected", due],
+        ["What to do", todo],
+        ["The program says", make("code", "", line)],
+    ];
+    const list = make("dl");
+    for (const [term, text] of rows) {
+        if (term !== "In" || place > start) list.append(make("dt", "", term), make("dd", "", text));
+    }
+    const width = matchMedia("(max-width: 44rem)").matches ? 8 : 16;
+    $("why").append(list, byteRows(refusal, width), make("p", "note", marksText(refusal)));
+    $("refusal").hidden = false;
+}
+
+/** Where in an item a refused byte stands. */
+function placeText({ path, behind, item, place, start }) {
+    if (item === "") return place === start ? ", at the start of an item" : ", before the value of an item";
+    return (path && `, at ${path}`) + (behind && `, behind field ${behind}`);
+}
+
+function marksText({ bytes, from, place, seen }) {
+    if (place >= from + bytes.length) return "What is refused is that nothing follows.";
+    const first = `The refused byte is ${HEX[bytes[place - from]]}, at ${place}.`;
+    return seen > place + 1 ? `${first} It takes the marked bytes up to ${seen - 1} to show it.` : first;
+}
+
+function showTypes(told) {
+    $("source").textContent = told.source;
+    $("types").hidden = false;
+}
+
+function showValues(told) {
+    $("values-head").textContent = counted(told.values, "value");
+    const mine = turn;
+    const some = async (first) => {
+        const list = make("ul");
+        const found = await readings.call("some", first, Math.min(SOME, told.values - first));
+        if (mine !== turn) return list;
+        for (const { value, id, heads, nodes, pool } of found) {
+            const part = new Part(new Batch(heads, nodes, pool), 0, id, told.all);
+            list.append(partEntry(`#${grouped.format(value)}`, part));
+        }
+        return list;
+    };
+    $("values").hidden = false;
+    Promise.resolve(told.values === 0 ? make("p", "note", "Only types are defined.") : ranges(told.values, some))
+        .then((list) => mine === turn && showTree(list));
+}
+
+/** Shows the tree; the first of a few values is open at once. */
+function showTree(list) {
+    $("tree").append(list);
+    if (list.children.length <= 5) list.querySelector("details")?.setAttribute("open", "");
+}
+
+/** The lines of all items, as `gob show` or `gob values` prints them. */
+async function linesOf(kind) {
+    return working("Writing lines", shown.told.end, "lines", kind);
+}
+
+async function save(kind, ending) {
+    $("saved").textContent = "";
+    try {
+        download(kind === "types" ? new Blob([shown.told.source]) : await linesOf(kind), shown.name + ending);
+    } catch (error) {
+        $("saved").textContent = `Not saved: ${error.message}`;
+    }
+}
+
+function download(blob, name) {
+    const link = make("a");
+    link.href = URL.createObjectURL(blob);
+    link.download = name;
+    link.click();
+    setTimeout(() => URL.revokeObjectURL(link.href), 60000);
+    $("saved").textContent = `${sized(blob.size)} saved as ${unquoted(name)}`;
+}
+
+function listen() {
+    const drop = $("drop");
+    const isOver = (is) => drop.classList.toggle("over", is);
+    document.addEventListener("dragover", (event) => (event.preventDefault(), isOver(true)));
+    document.addEventListener("dragleave", (event) => event.relatedTarget === null && isOver(false));
+    document.addEventListener("drop", (event) => {
+        event.preventDefault();
+        isOver(false);
+        const [file] = event.dataTransfer.files;
+        if (file !== undefined) show(file);
+    });
+    $("pick").addEventListener("change", ({ target }) => {
+        const [file] = target.files;
+        if (file !== undefined) show(file);
+        target.value = "";
+    });
+    $("stop").addEventListener("click", () => readings.call("stop"));
+    $("save-show").addEventListener("click", () => save("show", ".jsonl"));
+    $("save-values").addEventListener("click", () => save("values", ".values.jsonl"));
+    $("save-types").addEventListener("click", () => save("types", ".go"));
+    for (const [title, name, data] of EXAMPLES) {
+        const button = make("button", "", title);
+        button.type = "button";
+        button.addEventListener("click", () => show(new File([bytesOf(data)], name)));
+        $("examples").append(button);
+    }
+}
+
+listen();
+ready.then(() => setState("ready"), showFailure);

@@ -1,0 +1,256 @@
+// A file that is read: what is in it, any of its values, and its lines. Little is kept besides the types: a file is
+// read in pieces, and each value that is asked for is read again from the last mark before it.
+
+/** Where items begin: their counts are passed over, piece by piece, while the reader reads the same bytes. */
+class Starts {
+    constructor() {
+        this.waiting = [];
+        this.next = 0;
+        this.offset = 0;
+        this.count = [];
+    }
+
+    pass(piece) {
+        const end = this.offset + piece.length;
+        while (this.next < end) {
+            const byte = piece[this.next - this.offset];
+            if (this.count.length === 0) this.waiting.push(this.next);
+            this.count.push(byte);
+            const size = this.count[0] < 128 ? 1 : 257 - this.count[0];
+            this.next++;
+            if (size > 9) this.next = Infinity; // no count: the reader refuses it
+            if (this.count.length < size) continue;
+            this.next += size === 1 ? this.count[0] : this.count.slice(1).reduce((sum, digit) => 256 * sum + digit, 0);
+            this.count = [];
+        }
+        this.offset = end;
+    }
+}
+
+const STOPPED = "stopped";
+
+/** Ends a reading that isn't wanted any more, at an offset. */
+class Stopped extends Error {
+    constructor(at) {
+        super(STOPPED);
+        this.at = at;
+    }
+}
+
+class Stream {
+    constructor(module, file) {
+        this.module = module;
+        this.file = file;
+        this.types = new Map();
+        this.base = new Map();
+        this.items = 0;
+        this.values = 0;
+        this.marks = [];
+        this.definitions = [];
+        this.end = file.size;
+        this.stops = 0;
+    }
+
+    /** Stops what is being read. */
+    stop() {
+        this.stops++;
+    }
+
+    async bytes(from, to) {
+        return new Uint8Array(await this.file.slice(from, to).arrayBuffer());
+    }
+
+    /** Feeds the file from an offset on, and gives each batch of items; `step` is called with each piece. */
+    async *batches(reader, from, step) {
+        const { stops } = this;
+        for (let at = from; at < this.end && reader.fault.status === OK; at += PIECE) {
+            const piece = await this.bytes(at, Math.min(at + PIECE, this.end));
+            if (this.stops !== stops) throw new Stopped(at);
+            step(piece, at);
+            reader.feed(piece);
+            yield* reader.batches();
+        }
+        if (reader.fault.status === OK && this.end === this.file.size) reader.finish();
+    }
+
+    /** Reads all of the file, and tells what is in it. */
+    async read(progress) {
+        const reader = await Reader.open(this.module);
+        const starts = new Starts();
+        if (reader.fault.status === OK) this.knowBase(reader);
+        const step = (piece, at) => {
+            starts.pass(piece);
+            progress(at, this.values);
+        };
+        try {
+            for await (const batch of this.batches(reader, 0, step)) this.keep(batch, starts);
+            this.fault = reader.fault;
+        } catch (error) {
+            this.stopAt(error);
+        }
+        return this.told(starts);
+    }
+
+    // what was read up to here stands
+    stopAt(error) {
+        if (!(error instanceof Stopped)) throw error;
+        this.fault = { status: STOPPED };
+        this.end = error.at;
+    }
+
+    knowBase(reader) {
+        for (const id of [16, 17, 18, 19, 20, 21, 22, 23, 24]) this.base.set(id, reader.type(id));
+    }
+
+    // what of these items is kept: types, how many values there are, and now and then where one begins
+    keep(batch, starts) {
+        const [start] = starts.waiting;
+        const isMark = this.marks.length === 0 || start >= this.marks.at(-1).start + PIECE;
+        if (isMark) this.marks.push({ start, values: this.values, definitions: this.definitions.length });
+        for (let item = 0; item < batch.items; item++) {
+            if (!batch.isDefinition(item)) {
+                this.values++;
+                continue;
+            }
+            const id = batch.id(item);
+            this.types.set(id, typeOf(id, batch, batch.node(item), batch.nodes(item), batch.base(item)));
+            const end = starts.waiting[item + 1] ?? starts.next;
+            this.definitions.push(this.file.slice(starts.waiting[item], end));
+        }
+        this.items += batch.items;
+        starts.waiting.splice(0, batch.items);
+    }
+
+    async told(starts) {
+        const { fault, file, items, values, types, base } = this;
+        const all = new Map([...base, ...types]);
+        const told = { status: fault.status, size: file.size, end: this.end, items, values, types, all };
+        told.source = new Source(types, base).text();
+        if (fault.status === REFUSED) told.refusal = await this.refusal(fault, starts.waiting[0] ?? fault.place, all);
+        return told;
+    }
+
+    /** A refusal for people: its line, its reason, where in the item it stands, and the bytes around it. */
+    async refusal(fault, start, all) {
+        const from = Math.max(0, fault.place - (fault.place & 15) - 32);
+        const [, what, todo] = REASONS[fault.reason];
+        const item = await this.bytes(start, fault.seen);
+        const other = this.items === 0 ? otherFile(await this.bytes(0, 8)) : "";
+        return {
+            ...fault, line: lineOfFault(fault), what, todo: other || todo, start,
+            from, bytes: await this.bytes(from, Math.max(fault.place, fault.seen) + 40),
+            ...this.walked(fault, item, fault.place - start, all),
+        };
+    }
+
+    walked(fault, item, place, all) {
+        const walk = new Walk(item, place, all).found();
+        // these are judged of a whole description, at its start
+        if (fault.reason >= 18 && fault.reason <= 21) walk.due = "the description of one type, with its own number";
+        return walk;
+    }
+
+    /** So many values from one on, as batches with the place of each value. */
+    async some(first, count) {
+        const mark = this.marks.findLast((some) => some.values <= first);
+        const reader = await Reader.open(this.module);
+        await this.define(reader, mark.definitions);
+        const found = [];
+        let value = mark.values;
+        for await (const batch of this.batches(reader, mark.start, () => {})) {
+            for (let item = 0; item < batch.items && found.length < count; item++) {
+                if (batch.isDefinition(item)) continue;
+                if (value >= first) found.push({ value, id: batch.id(item), ...batch.copy(item, item + 1) });
+                value++;
+            }
+            if (found.length === count) break;
+        }
+        return found;
+    }
+
+    /** Gives a reader the first definitions of the file. */
+    async define(reader, count) {
+        const bytes = new Uint8Array(await new Blob(this.definitions.slice(0, count)).arrayBuffer());
+        for (let at = 0; at < bytes.length; at += PIECE) {
+            reader.feed(bytes.subarray(at, at + PIECE));
+            for (const batch of reader.batches()) void batch;
+        }
+    }
+
+    /** The lines of `gob show` or of `gob values`, as a file. */
+    async lines(kind, progress) {
+        const lines = kind === "show" ? new ShowLines(this.all()) : new PlainLines(this.all());
+        const reader = await Reader.open(this.module);
+        const parts = [], encoder = new TextEncoder();
+        for await (const batch of this.batches(reader, 0, (piece, at) => progress(at, parts.length))) {
+            let text = "";
+            for (let item = 0; item < batch.items; item++) {
+                text += lines.line(batch, item);
+                if (text.length < 1 << 20) continue;
+                parts.push(encoder.encode(text));
+                text = "";
+            }
+            parts.push(encoder.encode(text));
+        }
+        if (reader.fault.status === NO_MEMORY) throw new Error("the page has no memory for these items");
+        return new Blob(parts, { type: "application/jsonl" });
+    }
+
+    all() {
+        return new Map([...this.base, ...this.types]);
+    }
+}
+
+/** Serves the calls of a page about one stream at a time; `send` gives it answers. Both a worker and a page can. */
+class Server {
+    constructor(send) {
+        this.send = send;
+        this.stream = null;
+        this.module = null;
+    }
+
+    async answer({ number, call, words }) {
+        const progress = (at, values) => this.tell({ number, progress: { at, values } });
+        try {
+            this.send({ number, result: await this[call](progress, ...words) });
+        } catch (error) {
+            this.send({ number, error: error instanceof Stopped ? STOPPED : String(error) });
+        }
+    }
+
+    // not more often than the page can show it
+    tell(message) {
+        const now = performance.now();
+        if (now - (this.last ?? 0) < 100) return;
+        this.last = now;
+        this.send(message);
+    }
+
+    async load(progress, bytes) {
+        this.module = await WebAssembly.compile(bytes);
+    }
+
+    read(progress, file) {
+        this.stream?.stop();
+        this.stream = new Stream(this.module, file);
+        return this.stream.read(progress);
+    }
+
+    stop() {
+        this.stream?.stop();
+    }
+
+    some(progress, first, count) {
+        return this.stream.some(first, count);
+    }
+
+    lines(progress, kind) {
+        return this.stream.lines(kind, progress);
+    }
+}
+
+/** Makes a worker of this script answer a page. */
+function serve() {
+    const server = new Server((message) => self.postMessage(message));
+    self.onmessage = ({ data }) => server.answer(data);
+}

@@ -1,0 +1,332 @@
+#!/usr/bin/env python3
+"""Tests the page in headless Chromium: files are dropped on it, and what it shows is compared with what the program
+prints.
+
+    test_page.py PAGE GOB [--pictures FOLDER]
+
+PAGE is gob.html, and GOB the program. With --pictures what is seen is kept as pictures, to be looked at.
+"""
+import functools
+import http.server
+import os
+import pathlib
+import random
+import re
+import subprocess
+import sys
+import tempfile
+import threading
+import time
+
+HERE = pathlib.Path(__file__).resolve().parent
+ROOT = HERE.parents[2]
+sys.path[:0] = [str(ROOT / "tools"), str(HERE)]
+import damage  # noqa: E402
+import rows  # noqa: E402
+import streams  # noqa: E402
+from chromium import Page  # noqa: E402
+
+SEED, MUTANTS = 52, 300
+ANSWERS = """(async () => {
+    const text = async (kind) => (await linesOf(kind)).text();
+    const { told } = shown, { refusal } = told;
+    return {
+        state: document.body.dataset.state, line: refusal?.line ?? "",
+        fault: refusal ? [told.status, refusal.reason, refusal.place, refusal.seen] : [told.status],
+        said: [refusal?.due, refusal?.todo, refusal?.item],
+        show: await text("show"), values: await text("values"), types: told.source,
+        source: document.getElementById("source").textContent,
+        why: document.getElementById("why").textContent,
+    };
+})()"""
+
+
+class Tests:
+    def __init__(self, page, gob, pictures):
+        self.address, self.gob, self.pictures = pathlib.Path(page).resolve().as_uri(), gob, pictures
+        self.file = pathlib.Path(page).resolve()
+        self.passed = self.failed = 0
+        self.folder = tempfile.TemporaryDirectory()
+
+    def due(self, name, is_so, *told):
+        if is_so:
+            self.passed += 1
+        else:
+            self.failed += 1
+            print(f"test-page: not so: {name}", *(str(it)[:1500] for it in told), sep="\n    ")
+
+    def path(self, name, data):
+        path = pathlib.Path(self.folder.name) / name
+        path.write_bytes(data)
+        return path
+
+    def picture(self, page, name, whole=True):
+        if self.pictures:
+            page.picture(f"{self.pictures}/{name}.png", whole)
+
+    def printed(self, command, path):
+        """What a command of the program prints of a file, and its line of a fault."""
+        ran = subprocess.run([self.gob, command, path], capture_output=True)
+        return ran.stdout.decode(), ran.stderr.decode().rstrip("\n")
+
+    # ---- what is read
+
+    def all_streams(self):
+        for path in sorted([*ROOT.glob("interop/streams/*.gob"), *ROOT.glob("interop/plain/*.gob"),
+                            *ROOT.glob("examples/*.gob")]):
+            yield path.name, path.read_bytes()
+        for number, row in enumerate(rows.rows()):
+            if row.limits is None:
+                yield f"row {number}: {row.name}", row.stream
+        dice, whole = random.Random(SEED), damage.streams(ROOT / "interop/streams")
+        for number in range(MUTANTS):
+            yield f"mutant {number}", damage.damaged(dice, dice.choice(whole))
+        yield "floats", streams.floats(dice, 2000)
+        yield "1000 lists in one another", streams.deep(1000)
+        yield "1001 lists in one another", streams.deep(1001)
+
+    def reads_streams(self):
+        with Page(self.address) as page:
+            for name, data in self.all_streams():
+                path = self.path("dropped.gob", data)
+                page.drop(path)
+                self.compare(name, page.evaluate(ANSWERS), path, data)
+            self.due("no complaint of the page", not page.complaints(), page.complaints())
+
+    def compare(self, name, answer, path, data):
+        lines, line = self.printed("show", path)
+        found = re.match(r"gob: refused (\d+) \w+(?:\(\d+\))? at (\d+) seen (\d+)$", line)
+        fault = [1, *map(int, found.groups())] if found else [0]
+        due = {
+            "state": "refused" if found else "whole", "line": line, "fault": fault, "show": lines,
+            "values": self.printed("values", path)[0], "types": self.printed("types", path)[0],
+        }
+        differing = [part for part in due if answer[part] != due[part]]
+        self.due(f"{name} is read as by the program", not differing, data.hex(), differing,
+                 [(answer[part], due[part]) for part in differing])
+        if found:
+            self.due(f"{name}: what is due and what to do are told", all(answer["said"][:2]) and line in answer["why"]
+                     and "lost its way" not in answer["why"],
+                     answer["said"], data.hex())
+
+    def explains(self):
+        with Page(self.address) as page:
+            for data, told in streams.explained():
+                page.drop(self.path("refused.gob", data))
+                why = page.evaluate("document.getElementById('why').textContent")
+                self.due(f"{data.hex()} is explained", all(some in why for some in told), told, why)
+            cut = (ROOT / "examples/logins.gob").read_bytes()[:150]
+            page.drop(self.path("cut-off.gob", cut))
+            page.wait("document.querySelectorAll('#tree li li').length > 0")
+            self.picture(page, "cut-off")
+
+    # ---- how it opens, and what it sends
+
+    def opens_anywhere(self):
+        handler = functools.partial(Quiet, directory=self.file.parent)
+        server = http.server.ThreadingHTTPServer(("127.0.0.1", 0), handler)
+        threading.Thread(target=server.serve_forever, daemon=True).start()
+        address = f"http://127.0.0.1:{server.server_port}/{self.file.name}"
+        with Page(address) as page:
+            page.call("Network.enable")
+            self.due("a stream is read from a server", page.drop(ROOT / "examples/logins.gob") == "whole")
+            page.evaluate(ANSWERS)
+            sent = [it["params"] for it in page.events if it["method"] == "Network.requestWillBeSent"]
+            asked = [it["request"]["url"] for it in sent]
+            self.due("nothing is fetched", all(url.startswith(("blob:", "data:")) for url in asked), asked)
+        server.shutdown()
+        with Page(self.address, before="delete window.Worker") as page:
+            path = ROOT / "examples/logins.gob"
+            self.due("without workers too", page.drop(path) == "whole")
+            self.due("the same lines", page.evaluate(ANSWERS)["show"] == self.printed("show", path)[0])
+
+    def has_examples(self):
+        with Page(self.address) as page:
+            for number, due in enumerate(["whole", "whole", "refused"]):
+                page.evaluate("setState('dropped')")
+                page.evaluate(f"document.querySelectorAll('#examples button')[{number}].click()")
+                self.due(f"example {number} is {due}", page.settled() == due)
+                page.wait("document.querySelector('#tree').children.length === 1")
+                self.picture(page, ["whole", "lists", "damaged"][number])
+
+    def saves(self):
+        with Page(self.address) as page, tempfile.TemporaryDirectory() as to:
+            page.call("Browser.setDownloadBehavior", behavior="allow", downloadPath=to)
+            path = ROOT / "examples/logins.gob"
+            page.drop(path)
+            for button, ending, command in (("show", ".jsonl", "show"), ("values", ".values.jsonl", "values"),
+                                            ("types", ".go", "types")):
+                page.evaluate(f"document.getElementById('save-{button}').click()")
+                saved = pathlib.Path(to) / f"logins.gob{ending}"
+                for _ in range(200):
+                    if saved.exists():
+                        break
+                    time.sleep(0.05)
+                self.due(f"what is saved as {ending} is what gob {command} prints",
+                         saved.exists() and saved.read_text(encoding="utf-8") == self.printed(command, path)[0])
+
+    # ---- hostile files
+
+    def shows_text_as_text(self):
+        with Page(self.address) as page:
+            for name, data in streams.hostile():
+                path = self.path("<img src=x onerror=window.hit=1>.gob", data)
+                state = page.drop(path)
+                page.evaluate("document.querySelectorAll('details').forEach((it) => it.setAttribute('open', ''))")
+                time.sleep(0.2)
+                tags = page.evaluate("[...new Set([...document.querySelectorAll('main *')].map((it) => it.tagName))]")
+                self.due(f"{name}: no markup comes of it", set(tags) <= TAGS, state, tags)
+                text = page.evaluate("document.body.textContent.replace(/\\n/g, '')")
+                self.due(f"{name}: no character turns the text", not CONTROLS.search(text), CONTROLS.findall(text))
+                self.due(f"{name}: nothing of it is run", page.evaluate("window.hit") is None)
+                self.compare(name, page.evaluate(ANSWERS), path, data)
+            self.picture(page, "hostile")
+            self.due("hostile files: no complaint", not page.complaints(), page.complaints())
+
+    # ---- people
+
+    def serves_keyboards(self):
+        with Page(self.address) as page:
+            page.drop(ROOT / "examples/logins.gob")
+            page.wait("document.querySelectorAll('#tree summary').length >= 2")
+            reached = []
+            for _ in range(30):
+                page.press("Tab", 9)
+                reached.append(page.evaluate(f"{ACTIVE}.id || {ACTIVE}.textContent.slice(0, 30)"))
+                if reached[-1].startswith("#1"):
+                    break
+            first = ["pick", "two logins", "lists of points and texts", "a damaged file"]
+            self.due("the tab key reaches all", reached[:4] == first and {"save-values", "save-show"} <= set(reached)
+                     and reached[-1].startswith("#1"), reached)
+            page.press("Enter", 13, "\r")
+            opened = f"{ACTIVE}.parentElement.open && {ACTIVE}.parentElement.querySelectorAll('li').length"
+            page.wait(opened)
+            self.due("the enter key opens a value", page.evaluate(opened) == 2)
+            nodes = page.call("Accessibility.getFullAXTree")["nodes"]
+            roles = [(it["role"]["value"], it.get("name", {}).get("value", "")) for it in nodes if not it["ignored"]]
+            pressed = ("button", "DisclosureTriangle", "textbox", "progressbar")
+            nameless = [role for role, name in roles if role in pressed and not name]
+            self.due("all that can be pressed has a name", not nameless, nameless)
+            status = [it for it in roles if it[0] == "status"]
+            self.due("the outcome is a status", bool(status), roles[:40])
+
+    def fits_phones(self):
+        for scheme in ("light", "dark"):
+            with Page(self.address, (390, 780), scheme, is_phone=True) as page:
+                for name in ("logins", "damaged"):
+                    page.drop(ROOT / f"examples/{name}.gob")
+                    page.wait("document.querySelector('#tree').children.length === 1")
+                    time.sleep(0.2)
+                    width = page.evaluate("document.documentElement.scrollWidth")
+                    self.due(f"{name} is no wider than a phone", width <= 390, width)
+                    self.picture(page, f"phone-{name}-{scheme}")
+
+    # ---- large files
+
+    def stays_alive(self):
+        path = pathlib.Path(self.folder.name) / "large.gob"
+        count = streams.write_large(path, 100_000_000)
+        with Page(self.address) as page:
+            page.evaluate(WATCH)
+            began = time.monotonic()
+            state = page.drop(path)
+            seconds = time.monotonic() - began
+            watched = page.evaluate("watched")
+            self.due("100 MB are read", state == "whole" and page.evaluate("shown.told.values") == count, state)
+            self.due("the page stays alive", watched["longest"] < 1000, watched)
+            self.due("progress is shown", watched["bars"] >= 3, watched)
+            print(f"test-page: {count} values of 100 MB in {seconds:.1f} s, and a pause of {watched['longest']:.0f} ms")
+            page.wait("document.querySelectorAll('#tree li details li').length > 0")
+            began = time.monotonic()
+            last = "[...document.querySelectorAll('#tree > ul > li > details')].at(-1)"
+            page.evaluate(f"{last}.setAttribute('open', '')")
+            page.wait(f"{last}.querySelectorAll('details').length > 0")
+            page.evaluate(f"[...{last}.querySelectorAll('details')].at(-1).setAttribute('open', '')")
+            page.wait(f"{last}.textContent.includes('#{count - 1:,}')")
+            seconds = time.monotonic() - began
+            self.due("the last of a million values is shown at once", seconds < 5, seconds)
+            page.evaluate("[...document.querySelectorAll('#tree details')].at(-1)?.scrollIntoView()")
+            self.picture(page, "large-last", False)
+            page.evaluate("scrollTo(0, 0)")
+            self.picture(page, "large", False)
+            self.stops(page, path)
+        path.unlink()
+
+    def stops(self, page, path):
+        page.evaluate(STOP)
+        state = page.drop(path)
+        self.due("a reading can be stopped", state == "stopped", state)
+        self.due("what was read is shown", page.evaluate("shown.told.values") > 0)
+        self.picture(page, "stopped", False)
+
+    def opens_large_values(self):
+        path = self.path("one.gob", streams.numbers(1_000_000))
+        with Page(self.address) as page:
+            page.drop(path)
+            began = time.monotonic()
+            page.wait("document.querySelectorAll('#tree li').length > 200")
+            seconds = time.monotonic() - began
+            self.due("a list of a million numbers opens at once", seconds < 5, seconds)
+            last = "#tree > ul > li > details > ul > li:last-child details"
+            page.evaluate(f"document.querySelector('{last}').open = true")
+            ranges = "[...document.querySelectorAll('#tree .range')]"
+            page.wait(f"{ranges}.some((it) => it.textContent === '999,900 to 999,999')")
+            self.picture(page, "numbers", False)
+            self.due("and its lines are the program's", page.evaluate("linesOf('show').then((it) => it.text())")
+                     == self.printed("show", path)[0])
+
+    def run(self):
+        for part in (self.reads_streams, self.explains, self.opens_anywhere, self.has_examples, self.saves,
+                     self.shows_text_as_text, self.serves_keyboards, self.fits_phones, self.opens_large_values,
+                     self.stays_alive):
+            try:
+                part()
+            except (TimeoutError, RuntimeError, OSError) as error:
+                self.due(part.__name__, False, repr(error))
+        print(f"{self.passed} passed, {self.failed} failed")
+        return self.failed == 0
+
+
+# what the page makes its own elements of
+TAGS = set("A BUTTON CODE DD DETAILS DIV DL DT H2 INPUT LABEL LI MARK NOSCRIPT OUTPUT P PRE PROGRESS SECTION SPAN "
+           "STRONG SUMMARY UL".split())
+ACTIVE = "document.activeElement"
+# presses the button as soon as it is seen
+STOP = """{
+    const go = setInterval(() => {
+        if (document.getElementById("progress").hidden) return;
+        document.getElementById("stop").click();
+        clearInterval(go);
+    }, 20);
+}"""
+CONTROLS = re.compile("[\u0000-\u0008\u000b-\u001f\u007f-\u009f\u061c\u200e\u200f\u2028-\u202e\u2066-\u2069]")
+WATCH = """
+    var watched = { longest: 0, bars: 0 };
+    {
+        let last = performance.now(), far = -1;
+        setInterval(() => {
+            const now = performance.now(), bar = document.getElementById("bar");
+            watched.longest = Math.max(watched.longest, now - last);
+            last = now;
+            if (!document.getElementById("progress").hidden && bar.value > far) watched.bars += 1;
+            far = bar.value;
+        }, 10);
+    }
+    watched"""
+
+
+class Quiet(http.server.SimpleHTTPRequestHandler):
+    def log_message(self, *_):
+        pass
+
+
+def main(words):
+    pictures = None
+    if "--pictures" in words:
+        pictures = words[words.index("--pictures") + 1]
+        os.makedirs(pictures, exist_ok=True)
+    sys.exit(not Tests(words[0], os.path.abspath(words[1]), pictures).run())
+
+
+if __name__ == "__main__":
+    main(sys.argv[1:])
