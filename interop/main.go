@@ -4,6 +4,7 @@ package main
 
 import (
 	"encoding/gob"
+	"errors"
 	"io"
 	"log"
 	"math"
@@ -91,6 +92,14 @@ type Color struct {
 
 func (c Color) MarshalBinary() ([]byte, error) {
 	return []byte{c.red, c.green, c.blue}, nil
+}
+
+func (c *Color) UnmarshalBinary(b []byte) error {
+	if len(b) != 3 {
+		return errors.New("a color has three bytes")
+	}
+	*c = Color{b[0], b[1], b[2]}
+	return nil
 }
 
 // Page holds a type whose MarshalBinary has a pointer receiver: Go encodes it only where it has an address.
@@ -196,8 +205,12 @@ var streams = map[string]func(){
 }
 
 func main() {
-	if len(os.Args) != 2 || streams[os.Args[1]] == nil {
-		log.Fatal("usage: interop NAME, of a stream in main.go")
+	switch {
+	case len(os.Args) == 2 && streams[os.Args[1]] != nil:
+		streams[os.Args[1]]()
+	case len(os.Args) == 3 && os.Args[1] == "json" && decoded[os.Args[2]] != nil:
+		printJSON(os.Stdin, decoded[os.Args[2]])
+	default:
+		log.Fatal("usage: interop [json] NAME, of a stream in main.go or plain.go")
 	}
-	streams[os.Args[1]]()
 }

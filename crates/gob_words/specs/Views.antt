@@ -8,7 +8,6 @@ use Rattle.gob_words.specs.declared.view.ViewCommand.{ViewCommand}
 use Rattle.gob_words.specs.declared.view.ViewCommand.TheVariants as view
 use Rattle.gob_words.specs.declared.view.ViewFault.{ViewFault}
 use Rattle.gob_words.specs.declared.view.ViewFault.TheVariants as view_fault
-use Rattle.gob_words.specs.declared.words.OrderFault.{OrderFault}
 use Rattle.gob_words.specs.declared.words.OrderFault.TheVariants as fault
 use Rattle.gob_words.specs.ViewDepths.{most_view_depth}
 use Rattle.gob_words.specs.Words.{IsNumber, order_line, order_status, program, text_of}
@@ -23,12 +22,12 @@ pub record IsFileOf (word file : Option Text) : Type 0 where
   pub input : word ≡ Some (codes "-") → file ≡ None
   pub named : word ≢ Some (codes "-") → file ≡ word
 
--- the flag is given: clap's value of it is the word true then, and else false
+-- whether a flag is given, by clap's value of it: the word true where it is, and else false or none
 pub record IsGiven (value : Option Text) (flag : Bool) : Type 0 where
   pub given : value ≡ Some (codes "true") → flag ≡ true
   pub absent : value ≢ Some (codes "true") → flag ≡ false
 
--- and the command has flags
+-- whether a command's flag is given, by clap's value of it: values alone has flags
 abbrev pub IsFlagOf : ViewCommand → Option Text → Bool → Type 0
 IsFlagOf view.Values value flag = IsGiven value flag
 IsFlagOf _ value flag = flag ≡ false

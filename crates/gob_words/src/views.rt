@@ -87,7 +87,7 @@ fn command_of(name: &str) -> Option<ViewCommand>
     }
 }
 
-// Whether the command has the flag of this value, and it is given: clap's value is the word true then, and else false.
+// Whether a flag of the command is given, by clap's value of it: the word true where it is. Values alone has flags.
 fn is_given(command: ViewCommand, value: Option<&str>) -> bool
     ensures { IsFlagOf command (text_of value.entry) result }
 {

@@ -1,5 +1,5 @@
 -- What is asked for is read off the rows of the one subcommand that was met.
-use Rattle.std.proofs.Common.{rules, ◌∙◌, ap, sym, codes, arith}
+use Rattle.std.proofs.Common.{◌∙◌, sym, codes, arith}
 use Rattle.clap.specs.Words.{found_of, rows_of, subcommand_rows_of}
 use Rattle.clap.proofs.WalkLemmas.{first_value-rows}
 use Rattle.gob_words.proofs.WordLaws.{one_number, writes_alike}
