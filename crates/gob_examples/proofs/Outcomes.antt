@@ -18,8 +18,7 @@ use Rattle.gob_stream.specs.Item.{StreamItem, item_views}
 use Rattle.gob_stream.specs.Laws.{WrittenWithin, ReadsThese, StreamsStayShown}
 use Rattle.gob_stream.specs.Outcome.{BeginsWithStream, Outcome, refused}
 use Rattle.gob_stream.specs.Reading.{Given, ShowsRefusal}
-use Rattle.gob_stream.specs.Calls.Reads.{ReadingFinishes}
-use Rattle.gob_stream.specs.Calls.Session.{HasRead, FeedAnswers}
+use Rattle.gob_stream.specs.Calls.Session.{HasRead, FeedAnswers, FinishAnswers}
 use Rattle.gob_stream.specs.Stream.{no_more}
 use Rattle.gob_stream.specs.Calls.Writing.{WritesStream}
 use Rattle.gob_stream.proofs.PublicLaws.{views_behind}
@@ -150,7 +149,7 @@ piece_taken s s' {out = out} pieces n piece u is within h k =
 
 -- the end of the last piece
 finishes_so : (L : Bounds) (s s' : SessionState TreeBuilder Value) (items : List StreamItem) (bytes : List ℕ)
-    (r : Result (Unit {0}) Fault) → no_deeper 1000 s.limits ≡ L → ReadingFinishes 1000 s s' items bytes r
+    (r : Result (Unit {0}) Fault) → no_deeper 1000 s.limits ≡ L → FinishAnswers tree_building s s' items bytes r
     → HasOutcome L bytes items r
 finishes_so L s s' items bytes (Ok u) l h = subst (λ L. HasOutcome L bytes items (Ok u)) l h.0
 finishes_so L s s' items bytes (Err (fault.Refused R)) l h =
@@ -163,7 +162,7 @@ pub pieces_end : (L : Bounds) (s s' : SessionState TreeBuilder Value) {out out' 
     (pieces : List (Vec ℕ)) (n : ℕ) (r : Result (Unit {0}) Fault) → no_deeper 1000 s.limits ≡ L → length pieces ≤ n
     → Given out out' (λ given. HasGiven s given (joined (take n pieces)))
     → ((items : List StreamItem) (bytes : List ℕ) → HasRead tree_building s items bytes
-    → ReadingFinishes 1000 s s' items bytes r)
+    → FinishAnswers tree_building s s' items bytes r)
     → Given out out' (λ given. HasOutcome L (joined pieces) (item_views given) r)
 pieces_end L s s' pieces n r l past h k = record {
   given = h.given;

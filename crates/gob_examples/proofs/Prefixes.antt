@@ -41,8 +41,8 @@ pub taken_more : (s s' : SessionState TreeBuilder Value) (given : List (declared
     → ReadItemAnswers tree_building s s' (item_views given) p.bytes p.taken.left now (Ok o)
     → SomeTaken before now (λ bytes. StandsBehind s' (item_views (given ++ item ∷ [])) bytes)
 taken_more s s' given now item e p h =
-    let q : SomeTaken p.taken.left now (λ taken. ReadingGivesNext tree_building.received tree_building.received
-    tree_building.means 1000 s' item (item_views given) (p.bytes ++ taken)) =
+    let q : SomeTaken p.taken.left now (λ taken. ReadingGivesNext tree_building s' item (item_views given)
+    (p.bytes ++ taken)) =
     subst (λ (o : Option (declared.Item Value)). ReadItemAnswers tree_building s s' (item_views given) p.bytes
     p.taken.left now (Ok o)) e h in
     let g = q.holds in

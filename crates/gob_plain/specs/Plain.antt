@@ -10,8 +10,6 @@ use Rattle.std.specs.Str.{is_utf8}
 use Rattle.ryu.specs.Parse.{parse_float}
 use Rattle.ryu.specs.Plain.{IsPlainNumber}
 use Rattle.hex.specs.Hex.{encode_lower}
-use Rattle.base64.specs.Engines.{standard}
-use Rattle.base64.specs.GeneralPurpose.{encode_of}
 use Rattle.json.specs.Json.{Json, Items, Members}
 use Rattle.json.specs.Json as json
 use Rattle.serde_json.specs.Written.{outline}
@@ -20,6 +18,7 @@ use Rattle.gob_types.specs.declared.kind.Field.{Field}
 use Rattle.gob_types.specs.Table.{Table, shape_of}
 use Rattle.gob_value.specs.Tree.{Tree, Trees, no_tree, tree, Pairs, no_pair, pair, Fields, no_field, field}
 use Rattle.gob_value.specs.Tree as Value
+use Rattle.gob_plain.specs.OpaqueText.{SaysBytes, SaysOpaque}
 use Rattle.gob_json.specs.Json.{value_json, element_type, key_type, struct_fields, field_name, field_type}
 
 -- ---- floats
@@ -39,12 +38,6 @@ SaysPattern p j = SaysFloat (from_bits binary64 p) j
 -- [a,b]
 abbrev pub SaysBoth : (Json → Type 0) → (Json → Type 0) → Json → Type 0
 SaysBoth P Q j = (a : Json) × (b : Json) × (j ≡ json.array (json.item a (json.item b json.no_items))) × P a × Q b
-
--- ---- bytes
-
--- base64 with padding, as Go's encoding/json has it (RFC 4648, section 4)
-abbrev pub SaysBytes : List ℕ → Json → Type 0
-SaysBytes b j = j ≡ json.string (encode_of standard b)
 
 -- ---- names
 
@@ -78,60 +71,61 @@ IsMapOf true P Q j = IsObjectOf P j
 IsMapOf false P Q j = IsArrayOf Q j
 
 abbrev mutual
-  -- the JSON says the value as one of this type
-  pub Says : Table → TypeId → Tree → Json → Type 0
-  Says T t (Value.float p) j = SaysPattern p j
-  Says T t (Value.complex p q) j = SaysBoth (SaysPattern p) (SaysPattern q) j
-  Says T t (Value.bytes b) j = SaysBytes b j
-  Says T t (Value.opaque b) j = SaysBytes b j
-  Says T t (Value.many vs) j = IsArrayOf (λ js. SayEach T (element_type (shape_of T t)) vs js) j
-  Says T t (Value.pairs ps) j =
-      IsMapOf (gives_names (key_type (shape_of T t))) (λ ms. SayMembers T (element_type (shape_of T t)) ps ms)
-      (λ js. SayPairs T (key_type (shape_of T t)) (element_type (shape_of T t)) ps js) j
-  Says T t (Value.fields fs) j = IsObjectOf (λ ms. SayFields T (struct_fields (shape_of T t)) fs ms) j
+  -- the JSON says the value as one of this type; raw, with each opaque value as bytes
+  pub Says : Bool → Table → TypeId → Tree → Json → Type 0
+  Says raw T t (Value.float p) j = SaysPattern p j
+  Says raw T t (Value.complex p q) j = SaysBoth (SaysPattern p) (SaysPattern q) j
+  Says raw T t (Value.bytes b) j = SaysBytes b j
+  Says raw T t (Value.opaque b) j = SaysOpaque raw (shape_of T t) b j
+  Says raw T t (Value.many vs) j = IsArrayOf (λ js. SayEach raw T (element_type (shape_of T t)) vs js) j
+  Says raw T t (Value.pairs ps) j =
+      IsMapOf (gives_names (key_type (shape_of T t))) (λ ms. SayMembers raw T (element_type (shape_of T t)) ps ms)
+      (λ js. SayPairs raw T (key_type (shape_of T t)) (element_type (shape_of T t)) ps js) j
+  Says raw T t (Value.fields fs) j = IsObjectOf (λ ms. SayFields raw T (struct_fields (shape_of T t)) fs ms) j
   -- all other values stand as they do in the lines of a stream
-  Says T t v j = j ≡ outline (value_json T t v)
+  Says raw T t v j = j ≡ outline (value_json T t v)
 
   -- each element, in order
-  pub SayEach : Table → TypeId → Trees → Items → Type 0
-  SayEach T e no_tree json.no_items = ⊤
-  SayEach T e (tree v vs) (json.item j js) = Says T e v j × SayEach T e vs js
-  SayEach T e _ _ = ⊥
+  pub SayEach : Bool → Table → TypeId → Trees → Items → Type 0
+  SayEach raw T e no_tree json.no_items = ⊤
+  SayEach raw T e (tree v vs) (json.item j js) = Says raw T e v j × SayEach raw T e vs js
+  SayEach raw T e _ _ = ⊥
 
   -- a member for each entry, named by its key, in order; a repeated key is kept
-  pub SayMembers : Table → TypeId → Pairs → Members → Type 0
-  SayMembers T e no_pair json.no_members = ⊤
-  SayMembers T e (pair x v ps) (json.member name j ms) = (name ≡ key_text x) × Says T e v j × SayMembers T e ps ms
-  SayMembers T e _ _ = ⊥
+  pub SayMembers : Bool → Table → TypeId → Pairs → Members → Type 0
+  SayMembers raw T e no_pair json.no_members = ⊤
+  SayMembers raw T e (pair x v ps) (json.member name j ms) = (name ≡ key_text x) × Says raw T e v j
+      × SayMembers raw T e ps ms
+  SayMembers raw T e _ _ = ⊥
 
   -- [key,element] for each entry, in order
-  pub SayPairs : Table → TypeId → TypeId → Pairs → Items → Type 0
-  SayPairs T k e no_pair json.no_items = ⊤
-  SayPairs T k e (pair x v ps) (json.item j js) =
-      SaysBoth (λ a. Says T k x a) (λ b. Says T e v b) j × SayPairs T k e ps js
-  SayPairs T k e _ _ = ⊥
+  pub SayPairs : Bool → Table → TypeId → TypeId → Pairs → Items → Type 0
+  SayPairs raw T k e no_pair json.no_items = ⊤
+  SayPairs raw T k e (pair x v ps) (json.item j js) =
+      SaysBoth (λ a. Says raw T k x a) (λ b. Says raw T e v b) j × SayPairs raw T k e ps js
+  SayPairs raw T k e _ _ = ⊥
 
   -- a member for each field that is present, in order
-  pub SayFields : Table → List Field → Fields → Members → Type 0
-  SayFields T types no_field json.no_members = ⊤
-  SayFields T types (field f v fs) (json.member name j ms) =
-      (name ≡ name_text (field_name (slice_get types f))) × Says T (field_type (slice_get types f)) v j
-      × SayFields T types fs ms
-  SayFields T types _ _ = ⊥
+  pub SayFields : Bool → Table → List Field → Fields → Members → Type 0
+  SayFields raw T types no_field json.no_members = ⊤
+  SayFields raw T types (field f v fs) (json.member name j ms) =
+      (name ≡ name_text (field_name (slice_get types f))) × Says raw T (field_type (slice_get types f)) v j
+      × SayFields raw T types fs ms
+  SayFields raw T types _ _ = ⊥
 
 -- ---- the same by the parts of a value
 
-abbrev pub SaysElements : Table → TypeId → Trees → Json → Type 0
-SaysElements T e vs j = IsArrayOf (λ js. SayEach T e vs js) j
+abbrev pub SaysElements : Bool → Table → TypeId → Trees → Json → Type 0
+SaysElements raw T e vs j = IsArrayOf (λ js. SayEach raw T e vs js) j
 
-abbrev pub SaysMembers : Table → TypeId → Pairs → Json → Type 0
-SaysMembers T e ps j = IsObjectOf (λ ms. SayMembers T e ps ms) j
+abbrev pub SaysMembers : Bool → Table → TypeId → Pairs → Json → Type 0
+SaysMembers raw T e ps j = IsObjectOf (λ ms. SayMembers raw T e ps ms) j
 
-abbrev pub SaysPairs : Table → TypeId → TypeId → Pairs → Json → Type 0
-SaysPairs T k e ps j = IsArrayOf (λ js. SayPairs T k e ps js) j
+abbrev pub SaysPairs : Bool → Table → TypeId → TypeId → Pairs → Json → Type 0
+SaysPairs raw T k e ps j = IsArrayOf (λ js. SayPairs raw T k e ps js) j
 
-abbrev pub SaysMap : Bool → Table → TypeId → TypeId → Pairs → Json → Type 0
-SaysMap named T k e ps j = IsMapOf named (λ ms. SayMembers T e ps ms) (λ js. SayPairs T k e ps js) j
+abbrev pub SaysMap : Bool → Bool → Table → TypeId → TypeId → Pairs → Json → Type 0
+SaysMap named raw T k e ps j = IsMapOf named (λ ms. SayMembers raw T e ps ms) (λ js. SayPairs raw T k e ps js) j
 
-abbrev pub SaysStruct : Table → List Field → Fields → Json → Type 0
-SaysStruct T types fs j = IsObjectOf (λ ms. SayFields T types fs ms) j
+abbrev pub SaysStruct : Bool → Table → List Field → Fields → Json → Type 0
+SaysStruct raw T types fs j = IsObjectOf (λ ms. SayFields raw T types fs ms) j

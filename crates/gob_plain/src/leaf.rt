@@ -6,10 +6,13 @@ ghost use Rattle.json.specs.Token.{key};
 ghost use Rattle.gob_read.specs.Leaf.{signed_of};
 ghost use Rattle.gob_value.specs.Tree.{Tree};
 ghost use Rattle.gob_json_writer.specs.WritesJson.{WritesTokens};
-ghost use Rattle.gob_plain.specs.Plain.{SaysPattern, SaysBoth, SaysBytes, name_text, key_text};
+ghost use Rattle.gob_plain.specs.Leaf.{SaysLeaf};
+ghost use Rattle.gob_plain.specs.OpaqueText.{SaysBytes};
+ghost use Rattle.gob_plain.specs.Plain.{SaysPattern, SaysBoth, name_text, key_text};
 ghost use Rattle.gob_plain.specs.WritesPlain.{WritesPlain, Shows};
 
 use base64::engine::general_purpose::STANDARD;
+use gob_json_writer::write_text;
 use gob_num::to_signed;
 use gob_tape::{ValueKind, View};
 use json::Writer;
@@ -20,6 +23,29 @@ use std::str;
 const SIGN: u64 = 0x8000_0000_0000_0000;
 
 const INFINITY: u64 = 0x7ff0_0000_0000_0000;
+
+/// Writes a part without parts that isn't opaque, which is of this kind and has these numbers and bytes.
+pub(crate) fn write_leaf(
+    alloc: Global,
+    kind: ValueKind,
+    first: u64,
+    second: u64,
+    bytes: &[u8],
+    out: &mut Writer,
+) -> Result<(), AllocError>
+    ensures { WritesPlain result out.old out.new (SaysLeaf kind first second bytes.now) }
+{
+    match kind {
+        ValueKind::Bool => out.boolean(first == 1),
+        ValueKind::Int => out.i64(to_signed(first)),
+        ValueKind::Uint => out.u64(first),
+        ValueKind::Float => write_float(first, out),
+        ValueKind::Complex => write_complex(first, second, out),
+        ValueKind::Bytes => write_bytes(alloc, bytes, out),
+        ValueKind::Str => write_text(alloc, bytes, out),
+        _ => out.null(),
+    }
+}
 
 /// Writes the float of these 64 bits as a number, or its name where it isn't finite.
 pub(crate) fn write_float(pattern: u64, out: &mut Writer) -> Result<(), AllocError>

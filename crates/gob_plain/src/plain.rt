@@ -2,16 +2,19 @@
 
 ghost use Rattle.std.specs.Prelude.{◌≡◌};
 ghost use Rattle.gob_types.specs.Defined.{types};
+ghost use Rattle.gob_types.specs.Table.{shape_of};
+ghost use Rattle.gob_json.specs.Json.{element_type, key_type};
 ghost use Rattle.gob_tape.specs.Meaning.{Means};
 ghost use Rattle.gob_tape.specs.Seeing.{Gives, elements, alternating, present};
-ghost use Rattle.gob_plain.specs.Plain.{Says, SaysElements, SaysMap, SaysMembers, SaysPairs, SaysStruct};
 ghost use Rattle.gob_plain.specs.Plain.{gives_names};
-ghost use Rattle.gob_plain.specs.Leaf.{SaysLeaf};
-ghost use Rattle.gob_plain.specs.WritesPlain.{WritesPlain, WritesPlainOf, Shows};
+ghost use Rattle.gob_plain.specs.Filled.{SaysIn, SaysElementsIn, SaysMapIn, SaysMembersIn, SaysPairsIn, SaysStructIn};
+ghost use Rattle.gob_plain.specs.WritesPlain.{WritesPlainOf, Shows};
 
-use crate::leaf::{write_bytes, write_complex, write_float, write_key, write_name};
-use gob_json_writer::{element_of, fields_of, key_of, name_at, type_at, write_text};
-use gob_num::to_signed;
+use crate::leaf::{write_key, write_leaf, write_name};
+use crate::opaque::write_opaque;
+use crate::style::Style;
+use crate::zeros::write_absent;
+use gob_json_writer::{element_of, fields_of, key_of, name_at, type_at};
 use gob_tape::{Children, Tape, ValueKind, View};
 use gob_types::{Field, Shapes, Table, TypeId};
 use json::Writer;
@@ -23,11 +26,30 @@ pub fn write_plain(
     id: TypeId,
     tape: &Tape,
     table: &Table,
+    style: Style,
     out: &mut Writer,
 ) -> Result<(), AllocError>
-    ensures { WritesPlainOf result out.old out.new (Means tape.now) (Says (types table.now) id) }
+    ensures { WritesPlainOf result out.old out.new (Means tape.now) (SaysIn style (types table.now) id) }
 {
-    write_part(alloc, tape.root(), id, table, out)
+    write_part(alloc, tape.root(), id, table, style, out)
+}
+
+// The types of a map's entries.
+#[derive(Clone, Copy)]
+struct EntryTypes {
+    key: TypeId,
+    element: TypeId,
+}
+
+// The types of the entries of a map of this type.
+fn entry_types<S: Shapes>(table: &S, id: TypeId) -> EntryTypes
+    ensures key { result.key ≡ key_type (shape_of (S.table table.now) id) }
+    ensures element { result.element ≡ element_type (shape_of (S.table table.now) id) }
+{
+    EntryTypes {
+        key: key_of(table, id),
+        element: element_of(table, id),
+    }
 }
 
 // Whether the keys of a map give names to members: texts and whole numbers do.
@@ -37,30 +59,6 @@ fn gives_names(key: TypeId) -> bool
     key.0 == 6 || key.0 == 2 || key.0 == 3
 }
 
-// Writes a part without parts, which is of this kind and has these numbers and bytes.
-fn write_leaf(
-    alloc: Global,
-    kind: ValueKind,
-    first: u64,
-    second: u64,
-    bytes: &[u8],
-    out: &mut Writer,
-) -> Result<(), AllocError>
-    ensures { WritesPlain result out.old out.new (SaysLeaf kind first second bytes.now) }
-{
-    match kind {
-        ValueKind::Bool => out.boolean(first == 1),
-        ValueKind::Int => out.i64(to_signed(first)),
-        ValueKind::Uint => out.u64(first),
-        ValueKind::Float => write_float(first, out),
-        ValueKind::Complex => write_complex(first, second, out),
-        ValueKind::Bytes => write_bytes(alloc, bytes, out),
-        ValueKind::Opaque => write_bytes(alloc, bytes, out),
-        ValueKind::Str => write_text(alloc, bytes, out),
-        _ => out.null(),
-    }
-}
-
 // Writes the part as one of this type.
 #[cycle(part)]
 fn write_part<S: Shapes>(
@@ -68,24 +66,17 @@ fn write_part<S: Shapes>(
     part: View<'_>,
     id: TypeId,
     table: &S,
+    style: Style,
     out: &mut Writer,
 ) -> Result<(), AllocError>
-    ensures { WritesPlainOf result out.old out.new (Shows part.entry) (Says (S.table table.now) id) }
+    ensures { WritesPlainOf result out.old out.new (Shows part.entry) (SaysIn style (S.table table.now) id) }
 {
     let parts = part.children();
     match part.kind() {
-        ValueKind::Many => write_elements(alloc, parts, element_of(table, id), table, out),
-        ValueKind::Pairs => {
-            write_map(
-                alloc,
-                parts,
-                key_of(table, id),
-                element_of(table, id),
-                table,
-                out,
-            )
-        }
-        ValueKind::Fields => write_fields(alloc, parts, fields_of(table, id), table, out),
+        ValueKind::Many => write_elements(alloc, parts, element_of(table, id), table, style, out),
+        ValueKind::Pairs => write_map(alloc, parts, entry_types(table, id), table, style, out),
+        ValueKind::Fields => write_fields(alloc, parts, fields_of(table, id), table, style, out),
+        ValueKind::Opaque => write_opaque(alloc, table.shape_of(id), part.bytes(), style.raw, out),
         kind => {
             let (first, second) = part.numbers();
             write_leaf(alloc, kind, first, second, part.bytes(), out)
@@ -100,14 +91,15 @@ fn write_elements<S: Shapes>(
     parts: Children<'_>,
     id: TypeId,
     table: &S,
+    style: Style,
     out: &mut Writer,
 ) -> Result<(), AllocError>
     ensures { WritesPlainOf result out.old out.new (λ vs. Gives parts.entry (elements vs))
-        (SaysElements (S.table table.now) id) }
+        (SaysElementsIn style (S.table table.now) id) }
 {
     out.begin_array()?;
     for part in parts {
-        write_part(alloc, part, id, table, out)?;
+        write_part(alloc, part, id, table, style, out)?;
     }
     out.end_array()
 }
@@ -117,18 +109,18 @@ fn write_elements<S: Shapes>(
 fn write_map<S: Shapes>(
     alloc: Global,
     parts: Children<'_>,
-    key_id: TypeId,
-    id: TypeId,
+    types: EntryTypes,
     table: &S,
+    style: Style,
     out: &mut Writer,
 ) -> Result<(), AllocError>
     ensures { WritesPlainOf result out.old out.new (λ ps. Gives parts.entry (alternating ps))
-        (SaysMap (gives_names key_id) (S.table table.now) key_id id) }
+        (SaysMapIn (gives_names types.key) style (S.table table.now) types.key types.element) }
 {
-    if gives_names(key_id) {
-        write_members(alloc, parts, id, table, out)
+    if gives_names(types.key) {
+        write_members(alloc, parts, types, table, style, out)
     } else {
-        write_pairs(alloc, parts, key_id, id, table, out)
+        write_pairs(alloc, parts, types, table, style, out)
     }
 }
 
@@ -137,12 +129,13 @@ fn write_map<S: Shapes>(
 fn write_members<S: Shapes>(
     alloc: Global,
     parts: Children<'_>,
-    id: TypeId,
+    types: EntryTypes,
     table: &S,
+    style: Style,
     out: &mut Writer,
 ) -> Result<(), AllocError>
     ensures { WritesPlainOf result out.old out.new (λ ps. Gives parts.entry (alternating ps))
-        (SaysMembers (S.table table.now) id) }
+        (SaysMembersIn style (S.table table.now) types.key types.element) }
 {
     out.begin_object()?;
     let mut is_key = true;
@@ -150,7 +143,7 @@ fn write_members<S: Shapes>(
         if is_key {
             write_key(alloc, part, out)?;
         } else {
-            write_part(alloc, part, id, table, out)?;
+            write_part(alloc, part, types.element, table, style, out)?;
         }
         is_key = !is_key;
     }
@@ -162,22 +155,22 @@ fn write_members<S: Shapes>(
 fn write_pairs<S: Shapes>(
     alloc: Global,
     parts: Children<'_>,
-    key_id: TypeId,
-    id: TypeId,
+    types: EntryTypes,
     table: &S,
+    style: Style,
     out: &mut Writer,
 ) -> Result<(), AllocError>
     ensures { WritesPlainOf result out.old out.new (λ ps. Gives parts.entry (alternating ps))
-        (SaysPairs (S.table table.now) key_id id) }
+        (SaysPairsIn style (S.table table.now) types.key types.element) }
 {
     out.begin_array()?;
     let mut is_key = true;
     for part in parts {
         if is_key {
             out.begin_array()?;
-            write_part(alloc, part, key_id, table, out)?;
+            write_part(alloc, part, types.key, table, style, out)?;
         } else {
-            write_part(alloc, part, id, table, out)?;
+            write_part(alloc, part, types.element, table, style, out)?;
             out.end_array()?;
         }
         is_key = !is_key;
@@ -185,23 +178,30 @@ fn write_pairs<S: Shapes>(
     out.end_array()
 }
 
-// Writes an object with a member for each field that is present. The struct's fields tell the names and the types.
+// Writes an object with a member for each field that is present, and for the absent ones that the style shows. The
+// struct's fields tell the names and the types.
 #[cycle(part)]
 fn write_fields<S: Shapes>(
     alloc: Global,
     parts: Children<'_>,
     types: &[Field],
     table: &S,
+    style: Style,
     out: &mut Writer,
 ) -> Result<(), AllocError>
     ensures { WritesPlainOf result out.old out.new (λ fs. Gives parts.entry (present fs))
-        (SaysStruct (S.table table.now) types.now) }
+        (SaysStructIn style (S.table table.now) types.now) }
 {
     out.begin_object()?;
+    let count = types.len() as u64;
+    let mut next = 0;
     for part in parts {
         let number = part.field().unwrap_or(0);
+        write_absent(alloc, types, next..number, table, style, out)?;
         write_name(alloc, name_at(types, number), out)?;
-        write_part(alloc, part, type_at(types, number), table, out)?;
+        write_part(alloc, part, type_at(types, number), table, style, out)?;
+        next = number.saturating_add(1);
     }
+    write_absent(alloc, types, next..count, table, style, out)?;
     out.end_object()
 }

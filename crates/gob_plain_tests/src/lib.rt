@@ -4,6 +4,10 @@
 #![tactic(auto)]
 
 #[cfg(test)]
+mod opaque_rows;
+#[cfg(test)]
 mod rows;
 #[cfg(test)]
 mod values;
+#[cfg(test)]
+mod zero_rows;

@@ -4,10 +4,7 @@ use Rattle.std.proofs.Common.{refl, sym, ap, ◌∙◌, subst, append_assoc, len
 use Rattle.std.proofs.lemmas.List.{append-nil, take-append-le}
 use Rattle.gob_types.specs.Table.{Table}
 use Rattle.gob_types.specs.Base.{base_table}
-use Rattle.gob_value.specs.Tree.{Tree}
-use Rattle.gob_read.specs.Calls.Builders.{tree_building}
 use Rattle.gob_read.specs.Building.{Building}
-use Rattle.gob_read.specs.declared.tree_builder.TreeBuilder.{TreeBuilder}
 use Rattle.gob_stream.specs.declared.fault.Refusal.{Refusal}
 use Rattle.gob_stream.specs.declared.fault.Fault.{Fault}
 use Rattle.gob_stream.specs.declared.fault.Fault.TheVariants as fault
@@ -17,9 +14,8 @@ use Rattle.gob_stream.specs.Bounds.{Bounds, no_deeper}
 use Rattle.gob_stream.specs.Item.{StreamItem}
 use Rattle.gob_stream.specs.Stream.{Stream}
 use Rattle.gob_stream.specs.Outcome.{BeginsWithStream, LongestStream, the_end, refused, at_the_end, Outcome}
-use Rattle.gob_stream.specs.Machine.HasRead.{Received}
 use Rattle.gob_stream.specs.Reading.{ShowsRefusal, ReadsStream}
-use Rattle.gob_stream.specs.Calls.Reads.{Feeds, ReadingFinishes}
+use Rattle.gob_stream.specs.Calls.Reads.{FeedAnswers, FinishAnswers}
 use Rattle.gob_stream.specs.Laws.{ItemsGoOn, WrittenWithin, ReadsThese}
 use Rattle.gob_stream.specs.Calls.SessionLaws.{AreReadBackInPieces}
 use Rattle.gob_stream.proofs.Stream.StreamLaws.{counted_some, more_items, NoNext, gives_items, one_reading}
@@ -112,33 +108,33 @@ shows_no_refusal M items given prefix rest R w h =
     (take-append-le R.seen prefix rest (shown_there h))).1.outcome
 
 -- ---- by a session, in any pieces
-fed_back : {X O : Type 0} (received : Received X) (trees : Received TreeBuilder) (means : O → Tree → Type 0) (most : ℕ)
-    (s s' : SessionState X O) (items before : List StreamItem) (bytes piece rest : List ℕ)
-    (given : List (declared.Item O)) (result : Result (Unit {0}) Fault)
-    → WrittenWithin (no_deeper most s.limits) items ((bytes ++ piece) ++ rest)
-    → Feeds received trees means most s s' before bytes piece given result → (result ≡ Ok tt)
-    ⊎ (result ≡ Err fault.Memory)
-fed_back received trees means most s s' items before bytes piece rest given (Ok u) w f = inl refl
-fed_back received trees means most s s' items before bytes piece rest given (Err (fault.Refused R)) w f =
-    absurd (shows_no_refusal (no_deeper most s.limits) items (before ++ f.0.more) (bytes ++ piece) rest R w f.0.holds.0)
-fed_back received trees means most s s' items before bytes piece rest given (Err fault.Read) w f = absurd f
-fed_back received trees means most s s' items before bytes piece rest given (Err fault.Memory) w f = inr refl
-fed_back received trees means most s s' items before bytes piece rest given (Err fault.Failed) w f = absurd f
-
-finished_back : {X O : Type 0} (most : ℕ) (s s' : SessionState X O) (items before : List StreamItem) (bytes : List ℕ)
+fed_back : {X O : Type 0} {most : ℕ} (building : Building X O most) (s s' : SessionState X O)
+    (items before : List StreamItem) (bytes piece rest : List ℕ) (given : List (declared.Item O))
     (result : Result (Unit {0}) Fault)
-    → WrittenWithin (no_deeper most s.limits) items bytes → ReadingFinishes most s s' before bytes result
+    → WrittenWithin (no_deeper most s.limits) items ((bytes ++ piece) ++ rest)
+    → FeedAnswers building s s' before bytes piece given result → (result ≡ Ok tt)
+    ⊎ (result ≡ Err fault.Memory)
+fed_back building s s' items before bytes piece rest given (Ok u) w f = inl refl
+fed_back {most = most} building s s' items before bytes piece rest given (Err (fault.Refused R)) w f =
+    absurd (shows_no_refusal (no_deeper most s.limits) items (before ++ f.0.more) (bytes ++ piece) rest R w f.0.holds.0)
+fed_back building s s' items before bytes piece rest given (Err fault.Read) w f = absurd f
+fed_back building s s' items before bytes piece rest given (Err fault.Memory) w f = inr refl
+fed_back building s s' items before bytes piece rest given (Err fault.Failed) w f = absurd f
+
+finished_back : {X O : Type 0} {most : ℕ} (building : Building X O most) (s s' : SessionState X O)
+    (items before : List StreamItem) (bytes : List ℕ) (result : Result (Unit {0}) Fault)
+    → WrittenWithin (no_deeper most s.limits) items bytes → FinishAnswers building s s' before bytes result
     → result ≡ Ok tt
-finished_back most s s' items before bytes (Ok u) w f = refl
-finished_back most s s' items before bytes (Err (fault.Refused R)) w f = absurd (not_refused w f.0)
-finished_back most s s' items before bytes (Err fault.Read) w f = absurd f
-finished_back most s s' items before bytes (Err fault.Memory) w f = absurd f
-finished_back most s s' items before bytes (Err fault.Failed) w f = absurd f
+finished_back building s s' items before bytes (Ok u) w f = refl
+finished_back building s s' items before bytes (Err (fault.Refused R)) w f = absurd (not_refused w f.0)
+finished_back building s s' items before bytes (Err fault.Read) w f = absurd f
+finished_back building s s' items before bytes (Err fault.Memory) w f = absurd f
+finished_back building s s' items before bytes (Err fault.Failed) w f = absurd f
 
 pub read_back_in_pieces : {X O : Type 0} {most : ℕ} (building : Building X O most) → AreReadBackInPieces building
 read_back_in_pieces {most = most} building = record {
-  fed = fed_back building.received tree_building.received building.means most;
+  fed = fed_back building;
   given = λ s items before bytes w a. give_one_list base_table (no_deeper most s.limits) bytes before items
       (after_gives a) (written_ends w).gives;
-  finished = finished_back most;
+  finished = finished_back building;
 }

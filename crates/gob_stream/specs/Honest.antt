@@ -1,24 +1,21 @@
 -- The place of a refusal is honest in a stream: where what stands behind a type number is refused, what the bytes
 -- behind it begin, those before the place and those that show the refusal. (docs/FORMAT.md, Refusals: the place of a
 -- refusal is honest.)
-use Rattle.std.specs.Prelude.{◌≡◌, ℕ, pos, negsuc, ◌+◌, ◌-◌, ◌≤◌, List, ◌++◌, length, Option, Result, Ok, Err}
+use Rattle.std.specs.Prelude.{◌≡◌, ℕ, pos, negsuc, ◌+◌, ◌-◌, ◌≤◌, List, ◌++◌, length, Result, Ok, Err}
 use Rattle.gob_num.specs.Unsigned.{IsUnsigned}
 use Rattle.gob_num.specs.Signed.{IsSigned}
 use Rattle.gob_types.specs.declared.id.TypeId.{TypeId}
 use Rattle.gob_types.specs.Table.{Table}
 use Rattle.gob_types.specs.Base.{base_table, wire_type}
-use Rattle.gob_value.specs.Tree.{Tree}
 use Rattle.gob_read.specs.Refusal as body
 use Rattle.gob_read.specs.Honest as body_honest
 use Rattle.gob_stream.specs.declared.fault.Refusal.{Refusal}
 use Rattle.gob_stream.specs.declared.fault.Fault.{Fault}
 use Rattle.gob_stream.specs.declared.fault.Fault.TheVariants as fault
-use Rattle.gob_stream.specs.declared.item.Item as declared
 use Rattle.gob_stream.specs.Bounds.{Bounds}
 use Rattle.gob_stream.specs.Item.{StreamItem}
 use Rattle.gob_stream.specs.Stream.{Stream}
 use Rattle.gob_stream.specs.Outcome.{Outcome, refused}
-use Rattle.gob_stream.specs.Reading.{GivesOn, SomeTaken}
 
 -- the bytes are the number behind which a value of the type stands: that of the type itself, or of a definition
 pub data SpellsTypeNumber : TypeId → List ℕ → Type 0 where
@@ -64,15 +61,3 @@ OfRefusal why (Err (fault.Refused R)) = why R
 OfRefusal why (Err fault.Read) = Unit {0}
 OfRefusal why (Err fault.Memory) = Unit {0}
 OfRefusal why (Err fault.Failed) = Unit {0}
-
--- what a piece is refused for, with which these items were given behind the others
-abbrev pub FeedsHonestly : {O : Type 0} → (means : O → Tree → Type 0) → Bounds → List StreamItem → (bytes : List ℕ)
-    → List (declared.Item O) → Result (Unit {0}) Fault → Type 0
-FeedsHonestly means L items bytes given result =
-    OfRefusal (λ R. GivesOn means given items (λ all. IsHonest L bytes all R)) result
-
--- what the next item is refused for, some of the rest being taken
-abbrev pub ReadsHonestly : {A : Type 0} → Bounds → List StreamItem → (bytes rest : List ℕ) → Option (List ℕ)
-    → Result A Fault → Type 0
-ReadsHonestly L items bytes rest now result =
-    OfRefusal (λ R. SomeTaken rest now (λ taken. IsHonest L (bytes ++ taken) items R)) result

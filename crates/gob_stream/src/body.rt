@@ -52,12 +52,11 @@ impl<B: Builder> ValueStage<B> {
         table: &Table,
         piece: &[u8],
     ) -> Result<Stepped<B>, Fault>
-        requires { IsBodyUnderWay (types table.now) self.id self.rest B.building.received self.reader }
+        requires { IsBodyUnderWay (types table.now) self.id self.rest B.building self.reader }
         ensures { (limit : ℕ) (z : List ℕ)
             → ReaderHasRead (types table.now) self.id limit (size self.rest) B.building.received
             (under_way self.reader) z
-            → ReadsValueIn B.building.received B.building.means (types table.now) self.id limit
-            self.rest z piece.now result }
+            → ReadsValueIn B.building (types table.now) self.id limit self.rest z piece.now result }
     {
         let ValueStage {
             id,
@@ -88,13 +87,12 @@ impl DescriptionStage {
         table: &mut Table,
         piece: &[u8],
     ) -> Result<Stepped<B>, Fault>
-        requires has_read { IsBodyUnderWay (types table.old) wire_type self.rest tree_building.received self.reader }
+        requires has_read { IsBodyUnderWay (types table.old) wire_type self.rest tree_building self.reader }
         requires admitted { Admits table.old self.id }
         requires keeps { HasWireType (types table.old) }
         ensures { (limit : ℕ) (z : List ℕ) → ReaderHasRead (types table.old) wire_type limit (size self.rest)
             tree_building.received (under_way self.reader) z
-            → ReadsDescription tree_building.received table.old self.id limit self.rest z piece.now
-            table.new result }
+            → ReadsDescription table.old self.id limit self.rest z piece.now table.new result }
     {
         let DescriptionStage {
             id,

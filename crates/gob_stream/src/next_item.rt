@@ -5,7 +5,7 @@ ghost use Rattle.gob_stream.specs.Calls.Ends.{bytes_read, failed_reads, reader_o
 ghost use Rattle.gob_stream.specs.Item.{StreamItem};
 ghost use Rattle.gob_stream.specs.Reading.{CountsReads};
 ghost use Rattle.gob_stream.specs.Calls.Session.{HasRead, HasFailed, StaysAsItWas, types_of, limits_of};
-ghost use Rattle.gob_stream.specs.Calls.Session.{ReadItemAnswers, ReadsHonestlyFrom, ReadItemTakes};
+ghost use Rattle.gob_stream.specs.Calls.Session.{ReadItemAnswers, ReadsHonestly, ReadItemTakes};
 
 use crate::fault::Fault;
 use crate::input::Input;
@@ -34,7 +34,7 @@ impl<B: Builder> Session<B> {
         ensures honest { (items : List StreamItem) (bytes rest : List ℕ)
             → HasRead B.building self.old items bytes
             → R.remaining (reader_of input.old) ≡ Some rest
-            → ReadsHonestlyFrom B.building self.old items bytes rest (R.remaining (reader_of input.new)) result }
+            → ReadsHonestly B.building self.old items bytes rest (R.remaining (reader_of input.new)) result }
         ensures failed { OnErr result (HasFailed self.new) }
         ensures stays { HasFailed self.old
             → (result ≡ Err Fault.Failed) × StaysAsItWas self.old self.new × (input.new ≡ input.old) }

@@ -48,7 +48,6 @@ impl<B: Builder> Drop for Session<B> {
 impl<B: Builder> Model for Session<B> {
     ghost use Rattle.std.specs.Coded.{codes};
     ghost use Rattle.gob_value.specs.contracts.value.Value as value;
-    ghost use Rattle.gob_read.specs.Calls.Builders.{tree_building};
     ghost use Rattle.gob_stream.specs.Machine.SessionState.{SessionState};
     ghost use Rattle.gob_stream.specs.Machine.HasRead.{IsUsable};
 
@@ -64,7 +63,7 @@ impl<B: Builder> Model for Session<B> {
     } };
 
     // It has read some bytes, or has failed.
-    ghost invariant = { λ session. IsUsable B.building.received tree_building.received B.DEPTH (record {
+    ghost invariant = { λ session. IsUsable B.building (record {
       limits = session.limits;
       types = session.types;
       taken = session.taken;
@@ -80,7 +79,7 @@ impl<B: Builder> Session<B> {
     ghost use Rattle.gob_stream.specs.Reading.{Given};
     ghost use Rattle.gob_stream.specs.Calls.Session.{HasRead, HasReadOn, HasFailed, IsBetweenItems, StaysAsItWas};
     ghost use Rattle.gob_stream.specs.Calls.Session.{table_of, taken_of, limits_of, wanted_of};
-    ghost use Rattle.gob_stream.specs.Calls.Session.{FeedAnswers, FeedsHonestlyFrom, FinishAnswers, StepAnswers};
+    ghost use Rattle.gob_stream.specs.Calls.Session.{FeedAnswers, FeedsHonestly, FinishAnswers, StepAnswers};
 
     /// A reader that has taken no byte. No value may be deeper than these limits allow, or than the builder takes.
     pub fn new(alloc: Global, limits: Limits) -> Result<Session<B>, Memory>
@@ -114,7 +113,7 @@ impl<B: Builder> Session<B> {
             → FeedAnswers B.building self.old self.new items bytes piece.now given result) }
         ensures honest { Given out.old.items out.new.items (λ given. (items : List StreamItem) (bytes : List ℕ)
             → HasRead B.building self.old items bytes
-            → FeedsHonestlyFrom B.building self.old items (bytes ++ piece.now) given result) }
+            → FeedsHonestly B.building self.old items (bytes ++ piece.now) given result) }
         ensures failed { OnErr result (HasFailed self.new) }
         ensures stays { HasFailed self.old
             → (result ≡ Err Fault.Failed) × StaysAsItWas self.old self.new × (out.new ≡ out.old) }

@@ -1,7 +1,6 @@
 //! How far into an item a reader is.
 
 ghost use Rattle.std.specs.Prelude.{◌≡◌, ◌<◌, length};
-ghost use Rattle.gob_read.specs.Calls.Builders.{tree_building};
 ghost use Rattle.gob_stream.specs.Bounds.{no_deeper};
 ghost use Rattle.gob_stream.specs.Machine.ReadParts.{IsWithinItem, StageAnswers};
 
@@ -69,11 +68,11 @@ impl<B: Builder> Stage<B> {
         table: &mut Table,
         piece: &[u8],
     ) -> Result<Stepped<B>, Fault>
-        requires has_read { IsWithinItem B.building.received tree_building.received
-            (no_deeper B.DEPTH around.now.limits) table.old around.now.taken self }
+        requires has_read { IsWithinItem B.building (no_deeper B.DEPTH around.now.limits)
+            table.old around.now.taken self }
         requires some { 0 < length piece.now }
-        ensures { StageAnswers B.building.received tree_building.received B.building.means
-            (no_deeper B.DEPTH around.now.limits) table.old around.now.taken self piece.now table.new result }
+        ensures { StageAnswers B.building (no_deeper B.DEPTH around.now.limits) table.old around.now.taken self
+            piece.now table.new result }
     {
         // its contract says that an offset up to the limit, and a count behind it, don't wrap
         let _most = around.limits.stream();

@@ -4,7 +4,6 @@ ghost use Rattle.std.specs.Prelude.{◌≡◌, ℕ, ◌+◌, ◌<◌, ◌≤◌,
 ghost use Rattle.gob_num.specs.Signed.{IsSigned};
 ghost use Rattle.gob_num.specs.Unsigned.{IsUnsigned, IsUnsignedPrefix};
 ghost use Rattle.gob_types.specs.Defined.{types};
-ghost use Rattle.gob_read.specs.Calls.Builders.{tree_building};
 ghost use Rattle.gob_stream.specs.Bounds.{greatest_stream, no_deeper};
 ghost use Rattle.gob_stream.specs.Machine.HasRead.{IsCount, IsRest};
 ghost use Rattle.gob_stream.specs.declared.stage.Extent.{Extent};
@@ -45,8 +44,7 @@ impl TypeNumberStage {
         requires some { 0 < length piece.now }
         ensures { let L = no_deeper B.DEPTH around.now.limits in (offset m : ℕ) (c : List ℕ)
             → IsCount L offset m c self.body
-            → StageTakesOn B.building.received tree_building.received B.building.means L table.old offset
-            (c ++ self.number) piece.now 1 table.new result }
+            → StageTakesOn B.building L table.old offset (c ++ self.number) piece.now 1 table.new result }
     {
         let TypeNumberStage { body, mut number } = self;
         let room = (body.end - around.taken).min(piece.len() as u64) as usize;
@@ -117,8 +115,7 @@ fn prefix_of_body<B: Builder>(
     requires end { rest.end ≤ greatest_stream }
     ensures { let L = no_deeper B.DEPTH around.now.limits in (offset m : ℕ) (c a : List ℕ) (body : Extent)
         → IsCount L offset m c body → body.begin ≡ place → IsUnsigned number a → IsRest body a rest
-        → StepsOn B.building.received tree_building.received B.building.means L table.old offset
-        (c ++ a) piece.now table.new result }
+        → StepsOn B.building L table.old offset (c ++ a) piece.now table.new result }
 {
     let number = to_signed(number);
     let id = TypeId(number.unsigned_abs());
@@ -142,8 +139,7 @@ fn prefix_of_description<B: Builder>(
     ensures { let L = no_deeper B.DEPTH around.now.limits in (offset m n : ℕ) (c a : List ℕ) (body : Extent)
         → IsCount L offset m c body → body.begin ≡ place
         → id.0 ≡ n + 1 → IsSigned (negsuc n) a → IsRest body a rest
-        → StepsOn B.building.received tree_building.received B.building.means L table.old offset
-        (c ++ a) piece.now table.new result }
+        → StepsOn B.building L table.old offset (c ++ a) piece.now table.new result }
 {
     if let Err(reason) = judge_id(table, id) {
         return Err(Fault::Refused(refusal(place, rest.begin, reason)));
@@ -174,8 +170,7 @@ fn prefix_of_value<B: Builder>(
     ensures { let L = no_deeper B.DEPTH around.now.limits in (offset m : ℕ) (c a : List ℕ) (body : Extent)
         → IsCount L offset m c body → body.begin ≡ place
         → IsSigned (pos id.0) a → IsRest body a rest
-        → StepsOn B.building.received tree_building.received B.building.means L table.now offset
-        (c ++ a) piece.now table.now result }
+        → StepsOn B.building L table.now offset (c ++ a) piece.now table.now result }
 {
     if let Err(denial) = judge_type(around.alloc, table, id) {
         return Err(Fault::of(denial, place, rest.begin));

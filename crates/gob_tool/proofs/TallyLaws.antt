@@ -5,7 +5,7 @@ use Rattle.std.proofs.Common.{append_assoc, append-nil, take-append-drop}
 use Rattle.std.specs.Result.{IsErrAnd}
 use Rattle.gob_types.specs.Base.{base_table}
 use Rattle.gob_types.specs.Defined.{types, definition_count}
-use Rattle.gob_read.specs.Calls.Builders.{skip_building, tree_building}
+use Rattle.gob_read.specs.Calls.Builders.{skip_building}
 use Rattle.gob_read.specs.declared.skip_builder.SkipBuilder.{SkipBuilder}
 use Rattle.gob_stream.specs.declared.fault.Fault.{Fault}
 use Rattle.gob_stream.specs.declared.fault.Fault.TheVariants as reading
@@ -14,8 +14,7 @@ use Rattle.gob_stream.specs.Machine.SessionState.{SessionState}
 use Rattle.gob_stream.specs.Bounds.{Bounds, AreLimits, deepest, no_deeper}
 use Rattle.gob_stream.specs.Item.{StreamItem}
 use Rattle.gob_stream.specs.Machine.ReadParts.{AdvancesOver, over_some, over_item}
-use Rattle.gob_stream.specs.Calls.Reads.{ReadingFinishes}
-use Rattle.gob_stream.specs.Calls.Session.{ReadsItems, StepAnswers}
+use Rattle.gob_stream.specs.Calls.Session.{FinishAnswers, ReadsItems, StepAnswers}
 use Rattle.gob_stream.specs.Outcome.{EndsSo, at_the_end, the_end, refused}
 use Rattle.gob_stream.specs.Stream.{Stream}
 use Rattle.gob_types.specs.Table.{Table}
@@ -68,8 +67,7 @@ counted_still {s' = s'} {piece = piece} {bytes = bytes} p none h =
 pub counts_item : {s s' : SessionState SkipBuilder (Unit {0})} {used n n' : ℕ} {bytes piece : List ℕ}
     {o : Option (declared.Item (Unit {0}))} {given : declared.Item (Unit {0})} → o ≡ Some given → n' ≡ n + 1
     → (h : HasTallied s n bytes)
-    → AdvancesOver skip_building.received tree_building.received skip_building.means deepest s'
-    h.given bytes piece used o → TalliesOn s' n n' bytes piece used
+    → AdvancesOver skip_building s' h.given bytes piece used o → TalliesOn s' n n' bytes piece used
 counts_item f e h (over_some l w a) = cc
 counts_item f e h (over_item {i = i} l w m a) = record {
   within = w;
@@ -84,8 +82,7 @@ counts_item f e h (over_item {i = i} l w m a) = record {
 -- or none is
 pub counts_none : {s s' : SessionState SkipBuilder (Unit {0})} {used n : ℕ} {bytes piece : List ℕ}
     {o : Option (declared.Item (Unit {0}))} → 0 < length piece → o ≡ None → (h : HasTallied s n bytes)
-    → AdvancesOver skip_building.received tree_building.received skip_building.means deepest s'
-    h.given bytes piece used o → TalliesOn s' n n bytes piece used
+    → AdvancesOver skip_building s' h.given bytes piece used o → TalliesOn s' n n bytes piece used
 counts_none some f h (over_some l w a) = record {
   within = w;
   nearer = omega arith;
@@ -186,7 +183,7 @@ counted_none s gave = record { given = []; gave = gave; items_are = refl }
 module _ {s : SessionState SkipBuilder (Unit {0})} {n : ℕ} {bytes : List ℕ} (h : HasTallied s n bytes) where
   -- all bytes are items
   pub tallied_whole : (M : Bounds) (s' : SessionState SkipBuilder (Unit {0})) (u : Unit {0}) (tally : Tally)
-      → s.limits ≡ M → ReadingFinishes deepest s s' h.given bytes (Ok u)
+      → s.limits ≡ M → FinishAnswers skip_building s s' h.given bytes (Ok u)
       → tally.items ≡ n → tally.types ≡ definition_count (types s.types)
       → tally.bytes ≡ length bytes → IsTallied (no_deeper deepest M) bytes tally
   tallied_whole M s' u tally same finish items_are types_are bytes_are =
@@ -203,7 +200,7 @@ module _ {s : SessionState SkipBuilder (Unit {0})} {n : ℕ} {bytes : List ℕ} 
 
   -- or they end within one
   pub tallied_within : (M : Bounds) (s' : SessionState SkipBuilder (Unit {0})) (e : Fault) → s.limits ≡ M
-      → ReadingFinishes deepest s s' h.given bytes (Err e) → TalliesStream (no_deeper deepest M) bytes (Err e)
+      → FinishAnswers skip_building s s' h.given bytes (Err e) → TalliesStream (no_deeper deepest M) bytes (Err e)
   tallied_within M s' (reading.Refused R) same finish =
       subst (λ (L : Bounds). TalliesStream (no_deeper deepest L) bytes (Err (reading.Refused R))) same
       (h.given, finish.0)

@@ -8,6 +8,7 @@ use Rattle.std.proofs.KnownBytes.{Appends-kept, Appends-nil, Appends-trans}
 use Rattle.gob_types.specs.Table.{Table}
 use Rattle.gob_tape.specs.Calls.Builder.{tape_building}
 use Rattle.gob_tape.specs.Flat.{Flat}
+use Rattle.gob_plain.specs.declared.style.Style.{Style}
 use Rattle.gob_stream.specs.Bounds.{Bounds, deepest, no_deeper, within_trees}
 use Rattle.gob_stream.specs.Calls.Reader.{Begins, HasReadFrom, StepsOnFrom, StopsFrom, session_of}
 use Rattle.gob_stream.specs.Calls.Session.{limits_of, types_of}
@@ -28,31 +29,31 @@ use Rattle.gob_views.proofs.KeepLaws.{table_keeps}
 use Rattle.gob_views.proofs.PlainLaws.{plain_append, plain_given, plain_stay}
 
 -- ---- from item to item
-pub plain_none : (T : Table) (out : Option (List ℕ)) → HasPlain (Appends out out) T []
+pub plain_none : {style : Style} (T : Table) (out : Option (List ℕ)) → HasPlain style (Appends out out) T []
 plain_none T out = record { lines = []; plain = no_item; holds = Appends-nil out }
 
-pub prints_first : (r : Tapes) (read out : Option (List ℕ)) → HasReadFrom tape_building r read read []
-    → PrintsSo r read read out out
+pub prints_first : {style : Style} (r : Tapes) (read out : Option (List ℕ)) → HasReadFrom tape_building r read read []
+    → PrintsSo style r read read out out
 prints_first r read out has =
     record { given = []; has = has; out = λ bytes known. plain_none (types_of (session_of r)) out }
 
 -- the lines of what was read before and of what is whole since
-more_plain : {r r' : Tapes} {read now : Option (List ℕ)} {given : List StreamItem} {made lines : List ℕ}
+more_plain : {style : Style} {r r' : Tapes} {read now : Option (List ℕ)} {given : List StreamItem} {made lines : List ℕ}
     → limits_of (session_of r') ≡ limits_of (session_of r) → HasReadFrom tape_building r read now given
-    → (m : MakesLines r r' read now given made) → (bytes : List ℕ) → read ≡ Some bytes
-    → ArePlain (types_of (session_of r)) given lines
-    → ArePlain (types_of (session_of r')) (given ++ m.more) (lines ++ made)
+    → (m : MakesLines style r r' read now given made) → (bytes : List ℕ) → read ≡ Some bytes
+    → ArePlain style (types_of (session_of r)) given lines
+    → ArePlain style (types_of (session_of r')) (given ++ m.more) (lines ++ made)
 more_plain {given = given} same h m bytes known p =
     plain_append (plain_stay h.gave.stream (table_keeps tape_building given m.more same h m.after bytes known) p)
     m.plain
 
-pub prints_turn : {r q r' : Tapes} {read now next old mid new : Option (List ℕ)} {made : List ℕ}
-    (s : PrintsSo r read now old mid)
+pub prints_turn : {style : Style} {r q r' : Tapes} {read now next old mid new : Option (List ℕ)} {made : List ℕ}
+    (s : PrintsSo style r read now old mid)
     → types_of (session_of q) ≡ types_of (session_of r) → HasReadFrom tape_building q read next s.given
-    → limits_of (session_of r') ≡ limits_of (session_of q) → MakesLines q r' read next s.given made
+    → limits_of (session_of r') ≡ limits_of (session_of q) → MakesLines style q r' read next s.given made
     → Appends mid new made
-    → PrintsSo r' read next old new
-prints_turn {old = old} {mid = mid} {new = new} {made = made} s same_types h same m b = record {
+    → PrintsSo style r' read next old new
+prints_turn {style = style} {old = old} {mid = mid} {new = new} {made = made} s same_types h same m b = record {
   given = s.given ++ m.more;
   has = m.after;
   out = λ bytes known.
@@ -60,14 +61,15 @@ prints_turn {old = old} {mid = mid} {new = new} {made = made} s same_types h sam
       record {
         lines = p.lines ++ made;
         plain = more_plain same h m bytes known
-            (subst (λ (T : Table). ArePlain T s.given p.lines) (sym same_types) p.plain);
+            (subst (λ (T : Table). ArePlain style T s.given p.lines) (sym same_types) p.plain);
         holds = Appends-trans old mid new p.lines made p.holds b;
       };
 }
 
 -- behind a flush
-pub prints_flushed : {r : Tapes} {read now old mid new : Option (List ℕ)} → PrintsSo r read now old mid → Keeps mid new
-    → PrintsSo r read now old new
+pub prints_flushed : {style : Style} {r : Tapes} {read now old mid new : Option (List ℕ)}
+    → PrintsSo style r read now old mid → Keeps mid new
+    → PrintsSo style r read now old new
 prints_flushed {old = old} {mid = mid} {new = new} s k = record {
   given = s.given;
   has = s.has;
@@ -77,13 +79,14 @@ prints_flushed {old = old} {mid = mid} {new = new} s k = record {
 }
 
 -- where it failed
-pub prints_unflushed : {r : Tapes} {read now old new : Option (List ℕ)} → PrintsSo r read now old new
+pub prints_unflushed : {style : Style} {r : Tapes} {read now old new : Option (List ℕ)}
+    → PrintsSo style r read now old new
     → (bytes : List ℕ) → read ≡ Some bytes
-    → BeginsOutcome (no_deeper deepest (limits_of (session_of r))) bytes (HasPlain (AppendsPrefix old new))
-prints_unflushed {r = r} {old = old} {new = new} s bytes known =
+    → BeginsOutcome (no_deeper deepest (limits_of (session_of r))) bytes (HasPlain style (AppendsPrefix old new))
+prints_unflushed {style = style} {r = r} {old = old} {new = new} s bytes known =
     let b = begins_so tape_building bytes s.has known in
     let p = s.out bytes known in
-    let all : HasPlain (AppendsPrefix old new) (types_of (session_of r)) s.given = record {
+    let all : HasPlain style (AppendsPrefix old new) (types_of (session_of r)) s.given = record {
       lines = p.lines;
       plain = p.plain;
       holds = record { prefix = p.lines; rest = []; whole = sym (append-nil p.lines); out = p.holds };
@@ -91,21 +94,21 @@ prints_unflushed {r = r} {old = old} {new = new} s bytes known =
     record {
       items = s.given;
       begins = b.begins;
-      holds = subst (λ (U : Table). HasPlain (AppendsPrefix old new) U s.given) (sym b.table) all;
+      holds = subst (λ (U : Table). HasPlain style (AppendsPrefix old new) U s.given) (sym b.table) all;
     }
 
 -- a write failed
-pub prints_cut : {r r' : Tapes} {read now : Option (List ℕ)} {given : List StreamItem} {made : List ℕ}
+pub prints_cut : {style : Style} {r r' : Tapes} {read now : Option (List ℕ)} {given : List StreamItem} {made : List ℕ}
     (old mid new : Option (List ℕ))
     → limits_of (session_of r') ≡ limits_of (session_of r) → HasReadFrom tape_building r read now given
-    → MakesLines r r' read now given made → SentPrefix made mid new → (bytes : List ℕ) → read ≡ Some bytes
-    → HasPlain (Appends old mid) (types_of (session_of r)) given
-    → BeginsOutcome (no_deeper deepest (limits_of (session_of r))) bytes (HasPlain (AppendsPrefix old new))
-prints_cut {r = r} {r' = r'} {given = given} {made = made} old mid new same h m cut bytes known p =
+    → MakesLines style r r' read now given made → SentPrefix made mid new → (bytes : List ℕ) → read ≡ Some bytes
+    → HasPlain style (Appends old mid) (types_of (session_of r)) given
+    → BeginsOutcome (no_deeper deepest (limits_of (session_of r))) bytes (HasPlain style (AppendsPrefix old new))
+prints_cut {style = style} {r = r} {r' = r'} {given = given} {made = made} old mid new same h m cut bytes known p =
     let T' = types_of (session_of r') in
     let q = subst (λ (L : Bounds). Begins (no_deeper deepest L) T' (given ++ m.more) bytes) same
     (begins_so tape_building bytes m.after known) in
-    let all : HasPlain (AppendsPrefix old new) T' (given ++ m.more) = record {
+    let all : HasPlain style (AppendsPrefix old new) T' (given ++ m.more) = record {
       lines = p.lines ++ made;
       plain = more_plain same h m bytes known p.plain;
       holds = record {
@@ -118,13 +121,13 @@ prints_cut {r = r} {r' = r'} {given = given} {made = made} old mid new same h m 
     record {
       items = given ++ m.more;
       begins = q.begins;
-      holds = subst (λ (U : Table). HasPlain (AppendsPrefix old new) U (given ++ m.more)) (sym q.table) all;
+      holds = subst (λ (U : Table). HasPlain style (AppendsPrefix old new) U (given ++ m.more)) (sym q.table) all;
     }
 
 -- ---- a line
-pub step_made : {r r' : Tapes} {read now : Option (List ℕ)} {given : List StreamItem} {step : Step Flat}
+pub step_made : {style : Style} {r r' : Tapes} {read now : Option (List ℕ)} {given : List StreamItem} {step : Step Flat}
     {line : List ℕ} → 0 < step.used → StepsOnFrom tape_building r r' read now given step
-    → GivesLine (types_of (session_of r')) step.item line → MakesLines r r' read now given line
+    → GivesLine style (types_of (session_of r')) step.item line → MakesLines style r r' read now given line
 step_made some st h = record {
   more = st.more;
   after = st.takes.after;
@@ -133,11 +136,12 @@ step_made some st h = record {
 }
 
 -- at the error that a `?` returns
-pub plain_at : (r r' : Tapes) (read now : Option (List ℕ)) (given : List StreamItem) (res : Result (Vec ℕ) Fault)
+pub plain_at : (style : Style) (r r' : Tapes) (read now : Option (List ℕ)) (given : List StreamItem) (res : Result
+    (Vec ℕ) Fault)
     (e : Fault) → IsErrAnd res (λ x. x ≡ e) → StopsFrom tape_building (session_of r) read now given e
-    → MakesPlain r r' read now given res
-plain_at r r' read now given (Ok line) e is h = absurd is
-plain_at r r' read now given (Err f) e is h =
+    → MakesPlain style r r' read now given res
+plain_at style r r' read now given (Ok line) e is h = absurd is
+plain_at style r r' read now given (Err f) e is h =
     subst (λ e. StopsFrom tape_building (session_of r) read now given e) (sym is) h
 
 pub no_memory : {r : Tapes} {read now : Option (List ℕ)} {given : List StreamItem}
@@ -156,12 +160,13 @@ pub values_under : (L M : Bounds) (bytes : List ℕ) (now : Option (List ℕ)) (
 values_under L M bytes now P C res e h = subst (λ (L : Bounds). RunAnswers L bytes now P C res) (same_depth L M e) h
 
 -- ---- behind the flush
-pub values_ended : (L : Bounds) (bytes : List ℕ) (now old mid new : Option (List ℕ))
+pub values_ended : (style : Style) (L : Bounds) (bytes : List ℕ) (now old mid new : Option (List ℕ))
     (answer result : Result (Unit {0}) ToolFault) → Keeps mid new → EndsRun answer result
-    → ValuesAnswers L bytes now old mid answer → ValuesAnswers L bytes now old new result
-values_ended L bytes now old mid new answer result k ends h =
-    runs_ended L bytes now (HasPlain (Appends old mid)) (HasPlain (Appends old new)) (HasPlain (AppendsPrefix old mid))
-    (HasPlain (AppendsPrefix old new)) answer result ends
+    → ValuesAnswers style L bytes now old mid answer → ValuesAnswers style L bytes now old new result
+values_ended style L bytes now old mid new answer result k ends h =
+    runs_ended L bytes now (HasPlain style (Appends old mid)) (HasPlain style (Appends old new)) (HasPlain style
+    (AppendsPrefix old mid))
+    (HasPlain style (AppendsPrefix old new)) answer result ends
     (λ T items p. record {
       lines = p.lines;
       plain = p.plain;

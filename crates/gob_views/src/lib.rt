@@ -15,6 +15,7 @@ mod run;
 mod types;
 mod values;
 
+pub use gob_plain::Style;
 pub use run::run_view;
 pub use types::run_types;
 pub use values::run_values;

@@ -14,7 +14,7 @@ ghost use Rattle.gob_views.specs.Machine.Lines.{GivesLine, MakesPlain, PrintsNex
 ghost use Rattle.gob_views.specs.Values.{ValuesAnswers};
 
 use gob_num::Memory;
-use gob_plain::plain_text;
+use gob_plain::{Style, plain_text};
 use gob_stream::{Fault, Input, Item, Limits, Output, StreamReader};
 use gob_tape::{Tape, TapeBuilder};
 use gob_tool::{ToolFault, end_run, flush_before_waiting};
@@ -23,25 +23,26 @@ use json_controls::push_shown;
 use std::alloc::Global;
 use std::io::{Read, Write};
 
-/// Writes a line of plain JSON for each value of a stream, and nothing for definitions, and ends with a flush. Ok
-/// exactly at the end of a whole stream. Before a fault is answered the lines of the values before it are written; at
-/// `ToolFault::Write` a prefix of them may be. A flush that fails is that fault where no other came before it. What it
-/// takes in memory grows with the types and the largest item alone. No value may be deeper than the lesser of
-/// `limits.depth()` and 1000.
+/// Writes a line of plain JSON in this style for each value of a stream, and nothing for definitions, and ends with a
+/// flush. Ok exactly at the end of a whole stream. Before a fault is answered the lines of the values before it are
+/// written; at `ToolFault::Write` a prefix of them may be. A flush that fails is that fault where no other came before
+/// it. What it takes in memory grows with the types and the largest item alone. No value may be deeper than the lesser
+/// of `limits.depth()` and 1000.
 pub fn run_values<R: Read, W: Write>(
     alloc: Global,
     input: &mut Input<R>,
     output: &mut Output<W>,
     limits: Limits,
+    style: Style,
 ) -> Result<(), ToolFault>
     ensures printed { (bytes : List ℕ) → R.remaining (reader_of input.old) ≡ Some bytes
-        → ValuesAnswers (within_trees limits) bytes (R.remaining (reader_of input.new))
+        → ValuesAnswers style (within_trees limits) bytes (R.remaining (reader_of input.new))
         (W.contents (writer_of output.old)) (W.contents (writer_of output.new)) result }
     ensures reads { CountsReadFaults (failed_reads input.old) (failed_reads input.new) result }
     ensures writes { CountsWriteFaults (failed_writes output.old) (failed_writes output.new) result }
     ensures flushed { IsFlushedSince (failed_writes output.old) output.new }
 {
-    end_run(print_values(alloc, input, output, limits), output)
+    end_run(print_values(alloc, input, output, limits, style), output)
 }
 
 /// Writes the lines.
@@ -50,9 +51,10 @@ fn print_values<R: Read, W: Write>(
     input: &mut Input<R>,
     output: &mut Output<W>,
     limits: Limits,
+    style: Style,
 ) -> Result<(), ToolFault>
     ensures printed { (bytes : List ℕ) → R.remaining (reader_of input.old) ≡ Some bytes
-        → ValuesAnswers (within_trees limits) bytes (R.remaining (reader_of input.new))
+        → ValuesAnswers style (within_trees limits) bytes (R.remaining (reader_of input.new))
         (W.contents (writer_of output.old)) (W.contents (writer_of output.new)) result }
     ensures reads { CountsReadFaults (failed_reads input.old) (failed_reads input.new) result }
     ensures writes { CountsOnlyWrites (failed_writes output.old) (failed_writes output.new) result }
@@ -60,7 +62,7 @@ fn print_values<R: Read, W: Write>(
     let limits = limits.up_to(Limits::GREATEST_DEPTH);
     let mut reader = StreamReader::<TapeBuilder>::new(alloc, limits)?;
     'values: while reader.fill(input)? {
-        print_next(alloc, &mut reader, output)?;
+        print_next(alloc, &mut reader, style, output)?;
         flush_before_waiting(&reader, output)?;
     }
     Ok(())
@@ -70,44 +72,54 @@ fn print_values<R: Read, W: Write>(
 fn print_next<W: Write>(
     alloc: Global,
     reader: &mut StreamReader<TapeBuilder>,
+    style: Style,
     output: &mut Output<W>,
 ) -> Result<(), ToolFault>
     requires { 0 < length (waits_in reader.old) }
     ensures printed { (read now : Option (List ℕ)) (given : List StreamItem)
         → HasReadFrom tape_building reader.old read now given
-        → PrintsNext reader.old reader.new read now given (W.contents (writer_of output.old))
+        → PrintsNext style reader.old reader.new read now given (W.contents (writer_of output.old))
         (W.contents (writer_of output.new)) result }
     ensures unread { IfErr result (λ fault. fault ≢ ToolFault.Read) }
     ensures limits { limits_of (session_of reader.new) ≡ limits_of (session_of reader.old) }
     ensures writes { CountsOnlyWrites (failed_writes output.old) (failed_writes output.new) result }
 {
-    let line = next_line(alloc, reader)?;
+    let line = next_line(alloc, reader, style)?;
     Ok(output.send_all(&line)?)
 }
 
 /// Takes some of the bytes that wait, and makes the line of the value that is whole with them: nothing where none is.
-fn next_line(alloc: Global, reader: &mut StreamReader<TapeBuilder>) -> Result<Vec<u8>, Fault>
+fn next_line(
+    alloc: Global,
+    reader: &mut StreamReader<TapeBuilder>,
+    style: Style,
+) -> Result<Vec<u8>, Fault>
     requires { 0 < length (waits_in reader.old) }
     ensures made { (read now : Option (List ℕ)) (given : List StreamItem)
         → HasReadFrom tape_building reader.old read now given
-        → MakesPlain reader.old reader.new read now given result }
+        → MakesPlain style reader.old reader.new read now given result }
     ensures unread { IfErr result (λ fault. fault ≢ Fault.Read) }
     ensures limits { limits_of (session_of reader.new) ≡ limits_of (session_of reader.old) }
 {
     let step = reader.step(alloc)?;
-    let line = line_of(alloc, &step.item, reader.table());
+    let line = line_of(alloc, &step.item, reader.table(), style);
     drop(step);
     Ok(line?)
 }
 
 /// Makes the line of an item, if it is a value. No character of it controls how a terminal shows it.
-fn line_of(alloc: Global, item: &Option<Item<Tape>>, table: &Table) -> Result<Vec<u8>, Memory>
-    ensures { IfOk result (λ line. GivesLine (types table.now) item.now line.items) }
+fn line_of(
+    alloc: Global,
+    item: &Option<Item<Tape>>,
+    table: &Table,
+    style: Style,
+) -> Result<Vec<u8>, Memory>
+    ensures { IfOk result (λ line. GivesLine style (types table.now) item.now line.items) }
 {
     let Some(Item::Put { id, value }) = item else {
         return Ok(Vec::new(alloc));
     };
-    let text = plain_text(alloc, *id, value, table)?;
+    let text = plain_text(alloc, *id, value, table, style)?;
     let mut line = Vec::new(alloc);
     push_shown(text.as_bytes(), &mut line)?;
     line.push(b'\n')?;

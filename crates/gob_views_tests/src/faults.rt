@@ -4,7 +4,7 @@ use crate::devices::{SlowReader, SlowWriter};
 use gob_stream::{Input, Limits, Output};
 use gob_test_rows::bytes_of;
 use gob_tool::ToolFault;
-use gob_views::{run_types, run_values};
+use gob_views::{Style, run_types, run_values};
 use std::alloc::{AllocError, Global};
 use std::test::*;
 
@@ -44,7 +44,7 @@ fn ends(
     let mut output = Output::new(&mut writer);
     let limits = Limits::standard();
     let ended = if of_values {
-        run_values(alloc, &mut input, &mut output, limits)
+        run_values(alloc, &mut input, &mut output, limits, Style::default())
     } else {
         run_types(alloc, &mut input, &mut output, limits)
     };

@@ -5,7 +5,7 @@ use gob_num::Memory;
 use gob_stream::{Input, Limits, Output};
 use gob_test_rows::bytes_of;
 use gob_tool::ToolFault;
-use gob_views::{run_types, run_values, run_view};
+use gob_views::{Style, run_types, run_values, run_view};
 use gob_words::{View, ViewCommand};
 use std::alloc::{AllocError, Global};
 use std::test::*;
@@ -32,7 +32,8 @@ fn prints_values(alloc: Global, row: &Row) -> Result<bool, Memory> {
     let mut written = Vec::new(alloc);
     let mut input = Input::new(bytes.as_slice());
     let mut output = Output::new(&mut written);
-    let ended = run_values(alloc, &mut input, &mut output, Limits::standard());
+    let style = Style::default();
+    let ended = run_values(alloc, &mut input, &mut output, Limits::standard(), style);
     is_so(alloc, ended, &written, row.values.as_bytes(), row.fault)
 }
 
@@ -81,40 +82,77 @@ fn both_views_want_memory(rt: HostRuntime) {
     }
 }
 
-// What this view writes of a struct.
-fn shown(alloc: Global, command: ViewCommand) -> Result<Vec<u8>, AllocError> {
-    let view = View {
-        command,
-        input: None,
-        depth: 1000,
-        item: 100,
-    };
-    let bytes = bytes_of(alloc, "POINT 07 ff 82 01 2c 01 42 00")?;
+// What the view writes of this stream.
+fn shown(alloc: Global, view: &View<'_>, stream: &str) -> Result<Vec<u8>, AllocError> {
+    let bytes = bytes_of(alloc, stream)?;
     let mut written = Vec::new(alloc);
     let mut input = Input::new(bytes.as_slice());
     let mut output = Output::new(&mut written);
-    match run_view(alloc, &view, &mut input, &mut output) {
+    match run_view(alloc, view, &mut input, &mut output) {
         Ok(()) => Ok(written),
         Err(_) => Ok(Vec::new(alloc)),
     }
 }
 
+// A view without options.
+fn usual(command: ViewCommand) -> View<'static> {
+    View {
+        command,
+        input: None,
+        depth: 1000,
+        item: 100,
+        zeros: false,
+        raw: false,
+    }
+}
+
+// A struct of which each field is there.
+const POINT: &str = "POINT 07 ff 82 01 2c 01 42 00";
+
+// A time in UTC.
+const TIME: &str = "TIME 13 ff 82 00 0f 01 00 00 00 0e c2 8b e7 70 00 00 00 00 ff ff";
+
 #[test]
 fn views_are_run(rt: HostRuntime) -> Result<(), Fail> {
     let alloc = rt.alloc();
-    let values = shown(alloc, ViewCommand::Values)?;
+    let values = shown(alloc, &usual(ViewCommand::Values), POINT)?;
     assert!(rt;
         values.as_slice() == b"{\"X\":22,\"Y\":33}\n".as_slice(),
         "values"
     );
-    let types = shown(alloc, ViewCommand::Types)?;
+    let types = shown(alloc, &usual(ViewCommand::Types), POINT)?;
     assert!(rt;
         types
             .as_slice()
             .starts_with(b"package types\n\n// type 65\n"),
         "types"
     );
-    let version = shown(alloc, ViewCommand::Version)?;
+    let version = shown(alloc, &usual(ViewCommand::Version), POINT)?;
     assert!(rt; version.as_slice() == b"gob 0.1.0\n".as_slice(), "version");
+    Ok(())
+}
+
+#[test]
+fn values_are_shown_in_a_style(rt: HostRuntime) -> Result<(), Fail> {
+    let alloc = rt.alloc();
+    let mut zeros = usual(ViewCommand::Values);
+    zeros.zeros = true;
+    let second = shown(alloc, &zeros, "POINT 05 ff 82 02 42 00")?;
+    assert!(rt;
+        second.as_slice() == b"{\"X\":0,\"Y\":33}\n".as_slice(),
+        "zeros"
+    );
+    let mut raw = usual(ViewCommand::Values);
+    raw.raw = true;
+    let bytes = shown(alloc, &raw, TIME)?;
+    assert!(rt;
+        bytes.as_slice() == b"\"AQAAAA7Ci+dwAAAAAP//\"\n".as_slice(),
+        "raw"
+    );
+    let time = shown(alloc, &usual(ViewCommand::Values), TIME)?;
+    assert!(rt;
+        time.as_slice() == b"\"2009-11-10T23:00:00Z\"\n".as_slice(),
+        "a time"
+    );
     Ok(())
 }

@@ -1,5 +1,5 @@
 -- What is read of clap's matches where something is to be shown.
-use Rattle.std.proofs.Common.{rules, ◌≡◌, ◌∙◌, ◌<◌, ◌≤◌, ap, sym, refl, codes, ℕ, List, [], Option, Some, None}
+use Rattle.std.proofs.Common.{rules, ◌≡◌, ◌∙◌, ◌≤◌, ap, sym, refl, codes, ℕ, List, Option, Some}
 use Rattle.std.proofs.Common.{Result, Ok, Err, option_map, slice_index, subst, ◌==◌, if◌then◌else◌, MatchResult}
 use Rattle.std.proofs.Common.{IsErrAnd, true, inl, inr}
 use Rattle.clap.specs.Words.{Row, Text, first_of, subcommand_of, takes, fault_of, kind_of, HasKind, IsAmong}
@@ -14,7 +14,7 @@ use Rattle.gob_words.specs.declared.view.ViewCommand.TheVariants.{Values, Types,
 use Rattle.gob_words.specs.declared.view.ViewFault.{ViewFault}
 use Rattle.gob_words.specs.declared.view.ViewFault.TheVariants as view_fault
 use Rattle.gob_words.specs.Words.{IsNumber, IsFaultOf, program}
-use Rattle.gob_words.specs.Views.{AsksToView, HasNoView, IsViewFaultOf, IsViewOf, IsWordAtFault, RefusesToView}
+use Rattle.gob_words.specs.Views.{AsksToView, IsViewFaultOf, IsViewOf, IsWordAtFault, RefusesToView}
 use Rattle.gob_words.specs.Views.{IsVersionView, view_name}
 use Rattle.gob_words.specs.ViewDepths.{most_view_depth}
 use Rattle.gob_words.proofs.WordLaws.{together, name_met, rows_met}

@@ -1,5 +1,5 @@
 -- What the words ask to be shown, to people and to other programs. (docs/FORMAT.md, The program: this project's own.)
-use Rattle.std.specs.Prelude.{◌≡◌, ◌≢◌, ◌⊎◌, ◌≤◌, ◌++◌, ⊤, ℕ, List, codes, Option, Some, None, true}
+use Rattle.std.specs.Prelude.{◌≡◌, ◌≢◌, ◌⊎◌, ◌≤◌, ◌++◌, ⊤, ℕ, List, codes, Option, Some, None, Bool, true, false}
 use Rattle.clap.specs.Words.{Row, Text, first_of, subcommand_of, takes, fault_of, IsAmong}
 use Rattle.clap.specs.declared.error.kind.ErrorKind.{ErrorKind}
 use Rattle.clap.specs.declared.error.kind.ErrorKind.TheVariants.{DisplayHelp, DisplayVersion, OutOfMemory}
@@ -8,7 +8,6 @@ use Rattle.gob_words.specs.declared.view.ViewCommand.{ViewCommand}
 use Rattle.gob_words.specs.declared.view.ViewCommand.TheVariants as view
 use Rattle.gob_words.specs.declared.view.ViewFault.{ViewFault}
 use Rattle.gob_words.specs.declared.view.ViewFault.TheVariants as view_fault
-use Rattle.gob_words.specs.declared.words.OrderFault.{OrderFault}
 use Rattle.gob_words.specs.declared.words.OrderFault.TheVariants as fault
 use Rattle.gob_words.specs.ViewDepths.{most_view_depth}
 use Rattle.gob_words.specs.Words.{IsNumber, order_line, order_status, program, text_of}
@@ -23,6 +22,16 @@ pub record IsFileOf (word file : Option Text) : Type 0 where
   pub input : word ≡ Some (codes "-") → file ≡ None
   pub named : word ≢ Some (codes "-") → file ≡ word
 
+-- whether a flag is given, by clap's value of it: the word true where it is, and else false or none
+pub record IsGiven (value : Option Text) (flag : Bool) : Type 0 where
+  pub given : value ≡ Some (codes "true") → flag ≡ true
+  pub absent : value ≢ Some (codes "true") → flag ≡ false
+
+-- whether a command's flag is given, by clap's value of it: values alone has flags
+abbrev pub IsFlagOf : ViewCommand → Option Text → Bool → Type 0
+IsFlagOf view.Values value flag = IsGiven value flag
+IsFlagOf _ value flag = flag ≡ false
+
 -- clap met a subcommand with these rows, and this is what they ask for
 pub record IsViewOf (met : Option (Text × List Row)) (view : View) : Type 0 where
   pub rows : List Row
@@ -30,13 +39,15 @@ pub record IsViewOf (met : Option (Text × List Row)) (view : View) : Type 0 whe
   pub input : IsFileOf (first_of (codes "IN") rows) (text_of view.input)
   pub depth : IsNumber (first_of (codes "depth") rows) 1000 view.depth
   pub item : IsNumber (first_of (codes "item") rows) 67108864 view.item
+  pub zeros : IsFlagOf view.command (first_of (codes "zeros") rows) view.zeros
+  pub raw : IsFlagOf view.command (first_of (codes "raw") rows) view.raw
   pub least : 1 ≤ view.depth
   pub most : view.depth ≤ most_view_depth view.command
 
 -- what the option that asks for the version stands for
 abbrev pub IsVersionView : View → Type 0
 IsVersionView given = (given.command ≡ view.Version) × (given.input ≡ None) × (given.depth ≡ 1000)
-    × (given.item ≡ 67108864)
+    × (given.item ≡ 67108864) × (given.zeros ≡ false) × (given.raw ≡ false)
 
 -- the words, the program's name first, ask for this: by its name, or for the version by an option
 unfoldable pub AsksToView : List Text → View → Type 0

@@ -7,6 +7,7 @@ use Rattle.std.specs.List.{All}
 use Rattle.std.specs.Str.Parse.{digits_value}
 use Rattle.clap.specs.Words.{App, Row, Rule, Text, first_of, new_app, new_rule, subcommand_of, with_rule}
 use Rattle.clap.specs.Words.{with_subcommand, takes, fault_of, IsAmong}
+use Rattle.clap.specs.declared.builder.action.ArgAction.TheVariants.{SetTrue}
 use Rattle.clap.specs.declared.error.kind.ErrorKind.{ErrorKind}
 use Rattle.clap.specs.declared.error.kind.ErrorKind.TheVariants.{DisplayHelp, OutOfMemory}
 use Rattle.gob_words.specs.Depths.{most_depth}
@@ -21,6 +22,10 @@ use Rattle.gob_words.specs.declared.words.OrderFault.TheVariants as fault
 -- an option of one word
 abbrev pub option_rule : Text → Rule
 option_rule name = record (new_rule name) { long = Some name; value_names = 1 }
+
+-- an option of no word
+abbrev pub flag_rule : Text → Rule
+flag_rule name = record (new_rule name) { long = Some name; action = Some SetTrue }
 
 abbrev pub with_options : Text → App
 with_options name =
@@ -46,10 +51,18 @@ exact_program =
     with_subcommand (with_subcommand (with_subcommand (with_subcommand bare (one_stream (codes "show")).top)
     (one_stream (codes "check")).top) (one_stream (codes "rewrite")).top) (two_streams (codes "take")).top
 
+-- the flags that say how values are shown
+abbrev pub with_flags : App → App
+with_flags app = with_rule (with_rule app (flag_rule (codes "zeros"))) (flag_rule (codes "raw"))
+
+-- the command that shows values
+abbrev pub values : App
+values = with_input (with_flags (with_options (codes "values")))
+
 -- and those that show it to people and to other programs
 abbrev pub program : App
 program =
-    with_subcommand (with_subcommand (with_subcommand exact_program (one_stream (codes "values")).top)
+    with_subcommand (with_subcommand (with_subcommand exact_program values.top)
     (one_stream (codes "types")).top) (new_app (codes "version")).top
 
 -- ---- what they say

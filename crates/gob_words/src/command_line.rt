@@ -3,11 +3,11 @@
 ghost use Rattle.std.specs.Prelude.{◌≡◌, IfOk, codes, false};
 ghost use Rattle.clap.specs.Words.{app_of, rule_of, with_subcommand};
 ghost use Rattle.clap.specs.declared.builder.Command.TheViews.{out-Command};
-ghost use Rattle.gob_words.specs.Words.{option_rule, with_options, with_input, one_stream, two_streams};
-ghost use Rattle.gob_words.specs.Words.{exact_program, program};
+ghost use Rattle.gob_words.specs.Words.{flag_rule, option_rule, with_flags, with_options, with_input, one_stream};
+ghost use Rattle.gob_words.specs.Words.{two_streams, exact_program, program, values};
 
 use crate::help;
-use clap::{Arg, Command};
+use clap::{Arg, ArgAction, Command};
 use std::alloc::{AllocError, Global};
 
 /// The program, with its commands.
@@ -15,14 +15,7 @@ pub(crate) fn program<'a>(alloc: Global) -> Result<Command<'a>, AllocError>
     ensures { IfOk result (λ command. app_of command ≡ program) }
 {
     let exact = exact_program(alloc)?;
-    let valuing = with_one_stream(
-        alloc,
-        exact,
-        "values",
-        help::VALUES,
-        help::DEPTH_OF_TREES,
-        help::FILE,
-    )?;
+    let valuing = exact.subcommand(values(alloc)?)?;
     let typing = with_one_stream(
         alloc,
         valuing,
@@ -32,6 +25,15 @@ pub(crate) fn program<'a>(alloc: Global) -> Result<Command<'a>, AllocError>
         help::FILE,
     )?;
     typing.subcommand(Command::new(alloc, "version").about(help::NAME_AND_VERSION))
+}
+
+// The command that shows values, with its flags behind the options that other commands have too.
+fn values<'a>(alloc: Global) -> Result<Command<'a>, AllocError>
+    ensures app { IfOk result (λ command. app_of command ≡ values) }
+    ensures local { IfOk result (λ command. (out-Command command).has_globals ≡ false) }
+{
+    let options = with_options(alloc, "values", help::VALUES, help::DEPTH_OF_TREES)?;
+    with_input(alloc, with_flags(alloc, options)?, help::FILE)
 }
 
 // The program with the commands that write exactly what a stream has.
@@ -144,6 +146,28 @@ fn with_options<'a>(
         .about(about)
         .arg(option(alloc, "depth", depth))?
         .arg(option(alloc, "item", help::ITEM))
+}
+
+// The command with the flags that say how values are shown.
+fn with_flags<'a>(alloc: Global, command: Command<'a>) -> Result<Command<'a>, AllocError>
+    requires { (out-Command command).has_globals ≡ false }
+    ensures app { IfOk result (λ more. app_of more ≡ with_flags (app_of command.entry)) }
+    ensures local { IfOk result (λ more. (out-Command more).has_globals ≡ false) }
+{
+    command
+        .arg(flag(alloc, "zeros", help::ZEROS))?
+        .arg(flag(alloc, "raw", help::RAW))
+}
+
+// A flag, which takes no value.
+fn flag<'a>(alloc: Global, name: &'a str, about: &'a str) -> Arg<'a>
+    ensures rule { rule_of result ≡ flag_rule name.now }
+    ensures local { result.global ≡ false }
+{
+    Arg::new(alloc, name)
+        .long(name)
+        .action(ArgAction::SetTrue)
+        .help(about)
 }
 
 // An option of one number.

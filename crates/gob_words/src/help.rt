@@ -30,6 +30,10 @@ pub(crate) const DEPTH_OF_TREES: &str = "Refuse deeper values: 1 to 1000, and 10
 pub(crate) const ITEM: &str =
     "Refuse items of more bytes: 0 to 18446744073709551615, and 67108864 without it";
 
+pub(crate) const ZEROS: &str = "Show absent fields too, as zeros";
+
+pub(crate) const RAW: &str = "Show values of types that encode themselves, as time.Time, in base64";
+
 pub(crate) const WANTED: &str = "The stream that has the wanted type";
 
 pub(crate) const INPUT: &str = "The stream; without it, standard input is read";

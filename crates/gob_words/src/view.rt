@@ -47,6 +47,10 @@ pub struct View<'a> {
     pub depth: u64,
     /// The most bytes of an item's body.
     pub item: u64,
+    /// Whether absent fields are shown too, as zeros: for [`ViewCommand::Values`] alone.
+    pub zeros: bool,
+    /// Whether values of types that encode themselves are shown in base64: for [`ViewCommand::Values`] alone.
+    pub raw: bool,
     pub ghost least: { 1 ≤ depth },
     pub ghost most: { depth ≤ most_view_depth command },
 }

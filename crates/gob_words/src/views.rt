@@ -5,7 +5,7 @@ ghost use Rattle.clap.specs.Words.{subcommand_rows_of};
 ghost use Rattle.gob_words.specs.declared.view.View.{View};
 ghost use Rattle.gob_words.specs.declared.view.ViewCommand.{ViewCommand};
 ghost use Rattle.gob_words.specs.Views.{AsksToView, IsFileOf, IsViewFaultOf, IsViewOf, RefusesToView, view_name};
-ghost use Rattle.gob_words.specs.Views.{IsVersionView, IsWordAtFault};
+ghost use Rattle.gob_words.specs.Views.{IsFlagOf, IsVersionView, IsWordAtFault};
 ghost use Rattle.gob_words.specs.Words.{text_of};
 
 use crate::command_line::program;
@@ -46,6 +46,8 @@ fn version_view<'a>() -> View<'a>
         input: None,
         depth: USUAL_DEPTH,
         item: USUAL_ITEM,
+        zeros: false,
+        raw: false,
     }
 }
 
@@ -67,6 +69,8 @@ fn view_in<'a>(matches: &ArgMatches<'a>) -> Option<View<'a>>
         input: file_of(matches.get_str("IN")),
         depth,
         item,
+        zeros: is_given(command, matches.get_str("zeros")),
+        raw: is_given(command, matches.get_str("raw")),
     })
 }
 
@@ -80,6 +84,16 @@ fn command_of(name: &str) -> Option<ViewCommand>
         "types" => Some(ViewCommand::Types),
         "version" => Some(ViewCommand::Version),
         _ => None,
+    }
+}
+
+// Whether a flag of the command is given, by clap's value of it: the word true where it is. Values alone has flags.
+fn is_given(command: ViewCommand, value: Option<&str>) -> bool
+    ensures { IsFlagOf command (text_of value.entry) result }
+{
+    match command {
+        ViewCommand::Values => matches!(value, Some("true")),
+        ViewCommand::Types | ViewCommand::Version => false,
     }
 }
 

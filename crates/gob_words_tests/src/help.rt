@@ -44,6 +44,8 @@ Usage: gob values [OPTIONS] [IN]
 where it is -,
 --depth <N>
 --item <N>
+--zeros 
+--raw 
 1 to 1000,";
 
 #[test]

@@ -20,6 +20,8 @@ fn words_give_views(rt: HostRuntime) {
         input: None,
         depth: 1000,
         item: 67108864,
+        zeros: false,
+        raw: false,
     };
     assert!(rt; gives(alloc, &["gob", "values"], valued), "values");
     assert!(rt;
@@ -31,6 +33,8 @@ fn words_give_views(rt: HostRuntime) {
         input: Some("f"),
         depth: 5,
         item: 0,
+        zeros: false,
+        raw: false,
     };
     let words = ["gob", "values", "--depth", "5", "f", "--item=0"];
     assert!(rt; gives(alloc, &words, valued_file), "values of a file");
@@ -39,6 +43,8 @@ fn words_give_views(rt: HostRuntime) {
         input: Some("f"),
         depth: 65536,
         item: 67108864,
+        zeros: false,
+        raw: false,
     };
     let words = ["gob", "types", "f", "--depth=65536"];
     assert!(rt; gives(alloc, &words, typed_deep), "types");
@@ -47,11 +53,54 @@ fn words_give_views(rt: HostRuntime) {
         input: None,
         depth: 1000,
         item: 67108864,
+        zeros: false,
+        raw: false,
     };
     assert!(rt; gives(alloc, &["gob", "version"], version), "version");
     assert!(rt; gives(alloc, &["gob", "--version"], version), "--version");
     assert!(rt; gives(alloc, &["gob", "-V"], version), "-V");
     assert!(rt; VERSION == "gob 0.1.0", "the version");
+}
+
+// The view of the values with these flags.
+fn flagged(zeros: bool, raw: bool) -> View<'static> {
+    View {
+        command: ViewCommand::Values,
+        input: None,
+        depth: 1000,
+        item: 67108864,
+        zeros,
+        raw,
+    }
+}
+
+#[test]
+fn flags_are_set_by_their_words(rt: HostRuntime) {
+    let alloc = rt.alloc();
+    let words = ["gob", "values", "--zeros"];
+    assert!(rt; gives(alloc, &words, flagged(true, false)), "--zeros");
+    let words = ["gob", "values", "--raw"];
+    assert!(rt; gives(alloc, &words, flagged(false, true)), "--raw");
+    let words = ["gob", "values", "--raw", "--zeros"];
+    assert!(rt; gives(alloc, &words, flagged(true, true)), "both");
+    let words = ["gob", "values", "--zeros", "-", "--raw"];
+    assert!(rt;
+        gives(alloc, &words, flagged(true, true)),
+        "on both sides of the file"
+    );
+    let file_named_as_a_flag = View {
+        command: ViewCommand::Values,
+        input: Some("--raw"),
+        depth: 1000,
+        item: 67108864,
+        zeros: true,
+        raw: false,
+    };
+    let words = ["gob", "values", "--zeros", "--", "--raw"];
+    assert!(rt;
+        gives(alloc, &words, file_named_as_a_flag),
+        "a file named as a flag"
+    );
 }
 
 // Words behind the program's name, and what is said of them, in lines one after the other.
@@ -70,10 +119,20 @@ values --depth +5
 gob: invalid value '+5' for '--depth <N>': no number from 1 to 1000
 values --depth 5 --depth 6
 gob: the argument '--depth <N>' cannot be used multiple times
+values --zeros --zeros
+gob: the argument '--zeros' cannot be used multiple times
+values --raw=yes
+gob: unexpected value 'yes' for '--raw' found; no more were expected
+values --zero
+gob: unexpected argument '--zero' found
 types --depth 65537 f
 gob: invalid value '65537' for '--depth <N>': no number from 1 to 65536
 types --item x
 gob: invalid value 'x' for '--item <N>': no number from 0 to 18446744073709551615
+types --raw
+gob: unexpected argument '--raw' found
+version --zeros
+gob: unexpected argument '--zeros' found
 version now
 gob: unexpected argument 'now' found
 
@@ -83,6 +142,8 @@ gob: bad arguments
 show f
 gob: bad arguments
 show a b
+gob: bad arguments
+show --zeros
 gob: bad arguments
 --depth 5 values
 gob: bad arguments";

@@ -101,6 +101,8 @@ show --depth 5 --depth 5
 show --item 5 --item 6
 show --deep 5
 show -d 5
+show --zeros
+take --raw w
 take
 take w a b
 --depth 5 show

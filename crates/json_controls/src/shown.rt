@@ -25,8 +25,8 @@ pub fn push_shown(text: &[u8], out: &mut Vec<u8>) -> Result<(), AllocError>
     push_held(held, out)
 }
 
-// Whether no byte is one of a character that is escaped. It looks at all: a loop that doesn't end early takes many bytes
-// at once.
+// Whether no byte is one of a character that is escaped. It looks at all: a loop that doesn't end early takes many
+// bytes at once.
 fn are_below_controls(bytes: &[u8]) -> bool
     ensures { IsTrue result → AreBelowControls bytes.now }
 {

@@ -15,9 +15,9 @@ use Rattle.gob_value.specs.View.{view}
 use Rattle.gob_value.specs.Spelling.{Spells}
 use Rattle.gob_value.specs.Description.{Misdescribes, kind_count, wrong_id, bad_reference, bad_length}
 use Rattle.gob_value.specs.declared.value.Value.{Value}
+use Rattle.gob_read.specs.Building.{Building}
 use Rattle.gob_read.specs.First.{IsFirst}
 use Rattle.gob_read.specs.Calls.Reader.{IsMade}
-use Rattle.gob_read.specs.declared.tree_builder.TreeBuilder.{TreeBuilder}
 use Rattle.gob_read.proofs.PublicLaws.{take_whole}
 use Rattle.gob_stream.specs.declared.fault.Fault.{Fault}
 use Rattle.gob_stream.specs.declared.stage.Extent.{Extent}
@@ -29,7 +29,7 @@ use Rattle.gob_stream.specs.Stream.{IsItem, counted}
 use Rattle.gob_stream.specs.WriterRefusal.{RefusesId, reserved, defined_twice, too_many}
 use Rattle.gob_stream.specs.Refusing.{behind, refuses, RefusesBody, refused_description, described_wrongly}
 use Rattle.gob_stream.specs.Outcome.{RefusesNext, refused_body}
-use Rattle.gob_stream.specs.Machine.HasRead.{Received, in_description, IsCount, IsRest, size}
+use Rattle.gob_stream.specs.Machine.HasRead.{in_description, IsCount, IsRest, size}
 use Rattle.gob_stream.specs.Machine.ReadParts.{HasWireType, IsView, ReadsDescription, description_goes_on}
 use Rattle.gob_stream.specs.Machine.ReadParts.{description_ends, description_refused, describes_nothing}
 use Rattle.gob_stream.specs.Machine.ReadParts.{no_memory_for_description, StepsOn, goes_on, gives, refuses_it}
@@ -55,13 +55,12 @@ made_depth {limit = limit} {d = d} made =
     let deep : depth (view d) ≤ min limit greatest_depth = subst (λ v. depth v ≤ min limit greatest_depth)
     (sym made.meant) made.not_deep in omega (arith, deep)
 
-pub description_steps : {X O : Type 0} {received : Received X} {trees : Received TreeBuilder} {means : O → Tree
-    → Type 0} {L : Bounds} {d d' : Defined} {offset m n : ℕ} {id : TypeId} {body rest : Extent}
-    {result : Result (Stepped X O) Fault} (c a y piece : List ℕ)
+pub description_steps : {X O : Type 0} {most : ℕ} {building : Building X O most} {L : Bounds} {d d' : Defined}
+    {offset m n : ℕ} {id : TypeId} {body rest : Extent} {result : Result (Stepped X O) Fault} (c a y piece : List ℕ)
     → IsCount L offset m c body → id.0 ≡ n + 1 → IsSigned (negsuc n) a → IsRest body a rest
     → MayDefine base_table L (types d) id → HasWireType (types d) → length y ≤ size rest
-    → ReadsDescription trees d id (min L.depth greatest_depth) rest y piece d' result
-    → StepsOn received trees means L d offset (c ++ (a ++ y)) piece d' result
+    → ReadsDescription d id (min L.depth greatest_depth) rest y piece d' result
+    → StepsOn building L d offset (c ++ (a ++ y)) piece d' result
 description_steps c a y piece k n s r p h w (description_goes_on e b) =
     let there : (c ++ (a ++ y)) ++ take (length piece) piece ≡ c ++ (a ++ (y ++ piece)) = ap (λ l. (c ++ (a ++ y))
     ++ l) (take_whole piece (length piece) (omega arith)) ∙ three c a y piece in
@@ -128,15 +127,14 @@ id_shown (reserved n) e = cc
 id_shown (defined_twice o n) e = cc
 id_shown (too_many o n r) e = cc
 
-pub description_begins : {X O : Type 0} {received : Received X} {trees : Received TreeBuilder} {means : O → Tree
-    → Type 0} {L : Bounds} {d d' : Defined} {offset m n limit : ℕ} {id : TypeId} {body rest : Extent}
-    {result : Result (Stepped X O) Fault} (c a piece : List ℕ)
+pub description_begins : {X O : Type 0} {most : ℕ} {building : Building X O most} {L : Bounds} {d d' : Defined}
+    {offset m n limit : ℕ} {id : TypeId} {body rest : Extent} {result : Result (Stepped X O) Fault} (c a piece : List ℕ)
     → IsCount L offset m c body → id.0 ≡ n + 1 → IsSigned (negsuc n) a → IsRest body a rest
     → MayDefine base_table L (types d) id → HasWireType (types d) → limit ≡ min L.depth greatest_depth
-    → ReadsDescription trees d id limit rest [] piece d' result
-    → StepsOn received trees means L d offset (c ++ a) piece d' result
-description_begins {received = received} {trees = trees} {means = means} {L = L} {d = d} {d' = d'} {offset = offset}
-    {id = id} {rest = rest} {result = result} c a piece k n s r p h e q =
-    let q' = subst (λ limit. ReadsDescription trees d id limit rest [] piece d' result) e q in
-    subst (λ l. StepsOn received trees means L d offset (c ++ l) piece d' result) (append-nil a)
+    → ReadsDescription d id limit rest [] piece d' result
+    → StepsOn building L d offset (c ++ a) piece d' result
+description_begins {building = building} {L = L} {d = d} {d' = d'} {offset = offset} {id = id} {rest = rest}
+    {result = result} c a piece k n s r p h e q =
+    let q' = subst (λ limit. ReadsDescription d id limit rest [] piece d' result) e q in
+    subst (λ l. StepsOn building L d offset (c ++ l) piece d' result) (append-nil a)
     (description_steps c a [] piece k n s r p h (omega arith) q')

@@ -11,6 +11,7 @@ use Rattle.gob_value.specs.Fits.{Fits}
 use Rattle.gob_value.specs.View.{view}
 use Rattle.gob_value.specs.declared.value.Value.{Value}
 use Rattle.gob_value.proofs.PublicLaws.{spells_back}
+use Rattle.gob_read.specs.Calls.Builders.{tree_building}
 use Rattle.gob_read.specs.Calls.Reader.{ReaderHasRead, ReaderRefusesBody, Stops, IsMade, ReaderGives}
 use Rattle.gob_read.specs.Calls.UnderWay.{under_way}
 use Rattle.gob_read.specs.declared.stop.Stop.{Stop}
@@ -22,7 +23,7 @@ use Rattle.gob_read.specs.declared.tree_builder.TreeBuilder.{TreeBuilder}
 use Rattle.gob_stream.specs.declared.item.Item.TheVariants as item
 use Rattle.gob_stream.specs.declared.stage.Stage.{Stage}
 use Rattle.gob_stream.specs.Machine.Stages.{count_at, description_in}
-use Rattle.gob_stream.specs.Machine.HasRead.{Received, size}
+use Rattle.gob_stream.specs.Machine.HasRead.{size}
 use Rattle.gob_stream.specs.Machine.ReadParts.{HasWireType, IsView, IsDescribed, fault_behind, ReadsDescription}
 use Rattle.gob_stream.specs.Machine.ReadParts.{description_goes_on, description_ends, description_refused}
 use Rattle.gob_stream.specs.Machine.ReadParts.{describes_nothing, no_memory_for_description}
@@ -67,49 +68,51 @@ wire_fits w made = record {
 
 -- ---- what became of a piece of a description
 pub made_of : {T : Table} {limit : ℕ} {rest : Extent} {p : Progress Value} {described : Value} {used : ℕ}
-    (trees : Received TreeBuilder) (reader : BodyReader TreeBuilder Value) (z piece : List ℕ)
+    (reader : BodyReader TreeBuilder Value) (z piece : List ℕ)
     → p ≡ progress.Done described used
-    → ReaderGives T wire_type limit (size rest) trees IsView (under_way reader) z piece p
+    → ReaderGives T wire_type limit (size rest) tree_building.received IsView (under_way reader) z piece p
     → IsDescribed T limit rest z piece described used
-made_of {T = T} {limit = limit} {rest = rest} trees reader z piece e h =
-    let g = subst (λ p. ReaderGives T wire_type limit (size rest) trees IsView (under_way reader) z piece p) e h in
+made_of {T = T} {limit = limit} {rest = rest} reader z piece e h =
+    let g = subst (λ p. ReaderGives T wire_type limit (size rest) tree_building.received IsView (under_way reader) z
+    piece p) e h in
     record { within = g.within; made = g.made }
 
-pub description_more : {d : Defined} {id : TypeId} {limit : ℕ} {rest : Extent} {X O : Type 0}
-    {trees : Received TreeBuilder} {p : Progress Value} (reader : BodyReader TreeBuilder Value) (z piece : List ℕ)
+pub description_more : {d : Defined} {id : TypeId} {limit : ℕ} {rest : Extent} {X O : Type 0} {p : Progress Value}
+    (reader : BodyReader TreeBuilder Value) (z piece : List ℕ)
     → p ≡ progress.More
-    → ReaderGives (types d) wire_type limit (size rest) trees IsView (under_way reader) z piece p
-    → ReadsDescription {X = X} {O = O} trees d id limit rest z piece d
+    → ReaderGives (types d) wire_type limit (size rest) tree_building.received IsView (under_way reader) z piece p
+    → ReadsDescription {X = X} {O = O} d id limit rest z piece d
     (Ok (record { used = length piece; stage = description_in id rest reader; item = None }))
-description_more {d = d} {limit = limit} {rest = rest} {trees = trees} reader z piece e h =
-    let g = subst (λ p. ReaderGives (types d) wire_type limit (size rest) trees IsView (under_way reader) z piece p) e h
-    in
+description_more {d = d} {limit = limit} {rest = rest} reader z piece e h =
+    let g = subst (λ p. ReaderGives (types d) wire_type limit (size rest) tree_building.received IsView
+    (under_way reader) z piece p) e h in
     description_goes_on refl (record { after = g.after; viable = g.viable })
 
-pub description_done : {d d' : Defined} {id : TypeId} {limit : ℕ} {rest : Extent} {X O : Type 0}
-    {trees : Received TreeBuilder} {described : Value} {used : ℕ} {st : Stage X O} {z piece : List ℕ}
+pub description_done : {d d' : Defined} {id : TypeId} {limit : ℕ} {rest : Extent} {X O : Type 0} {described : Value}
+    {used : ℕ} {st : Stage X O} {z piece : List ℕ}
     → IsDescribed (types d) limit rest z piece described used
     → Defines id (view described) d d' → st ≡ count_at rest.end []
-    → ReadsDescription {X = X} {O = O} trees d id limit rest z piece d'
+    → ReadsDescription {X = X} {O = O} d id limit rest z piece d'
     (Ok (record { used = used; stage = st; item = Some (item.Define id described) }))
 description_done there given e = rw e (description_ends there given)
 
-pub description_wrong : {d d' : Defined} {id : TypeId} {limit : ℕ} {rest : Extent} {X O : Type 0}
-    {trees : Received TreeBuilder} {described : Value} {used : ℕ} {z piece : List ℕ} (why : Denial)
+pub description_wrong : {d d' : Defined} {id : TypeId} {limit : ℕ} {rest : Extent} {X O : Type 0} {described : Value}
+    {used : ℕ} {z piece : List ℕ} (why : Denial)
     → IsDescribed (types d) limit rest z piece described used
-    → IsDenial (Misdescribes id (view described)) why × (d' ≡ d) → ReadsDescription {X = X} {O = O} trees d id limit
+    → IsDenial (Misdescribes id (view described)) why × (d' ≡ d) → ReadsDescription {X = X} {O = O} d id limit
     rest z piece d' (Err (fault_at rest.begin rest.end why))
 description_wrong (denial.Refused r) there wrong = describes_nothing wrong.1 there wrong.0
 description_wrong denial.Memory there wrong = no_memory_for_description wrong.1
 
 pub description_stopped : {d : Defined} {id : TypeId} {limit : ℕ} {rest : Extent} {X O : Type 0}
-    {trees : Received TreeBuilder} (reader : BodyReader TreeBuilder Value) (z piece : List ℕ) (s : Stop) {f : Fault}
+    (reader : BodyReader TreeBuilder Value) (z piece : List ℕ) (s : Stop) {f : Fault}
     → f ≡ fault_behind rest.begin s
-    → Stops (under_way reader) (λ refusal. ReaderRefusesBody (types d) trees (under_way reader) piece refusal) s
-    → ReaderHasRead (types d) wire_type limit (size rest) trees (under_way reader) z
-    → ReadsDescription {X = X} {O = O} trees d id limit rest z piece d (Err f)
+    → Stops (under_way reader) (λ refusal. ReaderRefusesBody (types d) tree_building.received (under_way reader) piece
+    refusal) s
+    → ReaderHasRead (types d) wire_type limit (size rest) tree_building.received (under_way reader) z
+    → ReadsDescription {X = X} {O = O} d id limit rest z piece d (Err f)
 description_stopped {limit = limit} {rest = rest} reader z piece (stop.Refused place seen reason) e r s =
     rw e (description_refused refl (r.each wire_type limit (size rest) z s))
 description_stopped reader z piece stop.Memory e r s = rw e (no_memory_for_description refl)
-description_stopped {d = d} {limit = limit} {rest = rest} {trees = trees} reader z piece stop.Failed e r s =
-    absurd (not_ended (types d) wire_type limit (size rest) trees reader z s r)
+description_stopped {d = d} {limit = limit} {rest = rest} reader z piece stop.Failed e r s =
+    absurd (not_ended (types d) wire_type limit (size rest) tree_building reader z s r)

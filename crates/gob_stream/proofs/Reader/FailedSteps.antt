@@ -3,16 +3,16 @@ use Rattle.std.proofs.Common.{◌≡◌, ◌≢◌, ◌∙◌, ℕ, ◌+◌, ◌
 use Rattle.std.proofs.Common.{subst, rules, length-append, length-take, Option, None, IfSome}
 use Rattle.std.proofs.lemmas.Grind.{common_steps}
 use Rattle.gob_types.specs.declared.reason.Reason.TheVariants as reason
-use Rattle.gob_read.specs.declared.tree_builder.TreeBuilder.{TreeBuilder}
+use Rattle.gob_read.specs.Building.{Building}
 use Rattle.gob_stream.specs.declared.stage.Stage.TheVariants as stage
 use Rattle.gob_stream.specs.Devices.{counts_up, Rose}
 use Rattle.gob_stream.specs.Item.{StreamItem}
-use Rattle.gob_stream.specs.Machine.HasRead.{Received, SessionHasRead}
+use Rattle.gob_stream.specs.Machine.HasRead.{HasRead}
 use Rattle.gob_stream.specs.Machine.SessionState.{SessionState}
 use Rattle.gob_stream.proofs.Reader.SessionSteps.{IsRead}
 
-pub not_read : {X O : Type 0} {received : Received X} {trees : Received TreeBuilder} {most : ℕ} {s : SessionState X O}
-    {items : List StreamItem} {bytes : List ℕ} → SessionHasRead received trees most s items bytes
+pub not_read : {X O : Type 0} {most : ℕ} {building : Building X O most} {s : SessionState X O} {items : List StreamItem}
+    {bytes : List ℕ} → HasRead building s items bytes
     → s.stage ≡ stage.Failed → ⊥
 not_read h e = search rules
 

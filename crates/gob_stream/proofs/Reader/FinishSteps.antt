@@ -2,7 +2,7 @@
 use Rattle.std.proofs.Common.{◌≡◌, ◌≢◌, ℕ, List, [], sym, ap, ◌∙◌, subst}
 use Rattle.gob_types.specs.declared.reason.Reason.TheVariants as reason
 use Rattle.gob_types.specs.Base.{base_table}
-use Rattle.gob_read.specs.declared.tree_builder.TreeBuilder.{TreeBuilder}
+use Rattle.gob_read.specs.Building.{Building}
 use Rattle.gob_stream.specs.declared.fault.Refusal.{Refusal}
 use Rattle.gob_stream.specs.Machine.SessionState.{SessionState}
 use Rattle.gob_stream.specs.declared.count.CountStage.{CountStage}
@@ -12,7 +12,7 @@ use Rattle.gob_stream.specs.Machine.Stages.{count_at}
 use Rattle.gob_stream.specs.Item.{StreamItem}
 use Rattle.gob_stream.specs.Refusing.{refuses}
 use Rattle.gob_stream.specs.Outcome.{Outcome, refused}
-use Rattle.gob_stream.specs.Machine.HasRead.{Received, SessionHasRead}
+use Rattle.gob_stream.specs.Machine.HasRead.{HasRead}
 use Rattle.gob_stream.specs.Bounds.{no_deeper}
 use Rattle.gob_stream.proofs.Reader.UnderWayLaws.{after_some, none_expects_count}
 
@@ -25,9 +25,9 @@ begins_at {at = at} {n = n} i e =
     ap (λ (at : CountStage). at.begin) one
 
 -- where the count of the next item is not expected from there on, the bytes end within an item
-pub ended_within : {X O : Type 0} {received : Received X} {trees : Received TreeBuilder} {most : ℕ}
-    {s : SessionState X O} {items : List StreamItem} {bytes : List ℕ} {R : Refusal}
-    → SessionHasRead received trees most s items bytes → s.stage ≢ count_at s.taken []
+pub ended_within : {X O : Type 0} {most : ℕ} {building : Building X O most} {s : SessionState X O}
+    {items : List StreamItem} {bytes : List ℕ} {R : Refusal}
+    → HasRead building s items bytes → s.stage ≢ count_at s.taken []
     → R ≡ refuses s.taken s.taken reason.Ended
     → Outcome base_table (no_deeper most s.limits) bytes items (refused R) × (R.reason ≡ reason.Ended)
 ended_within {most = most} {s = s} {items = items} {bytes = bytes} a n e =

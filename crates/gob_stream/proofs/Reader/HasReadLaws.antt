@@ -5,7 +5,6 @@ use Rattle.gob_types.specs.Base.{base_table}
 use Rattle.gob_types.specs.Defined.{types, Defined}
 use Rattle.gob_types.specs.Table.{Table}
 use Rattle.gob_read.specs.Building.{Building}
-use Rattle.gob_read.specs.declared.tree_builder.TreeBuilder.{TreeBuilder}
 use Rattle.gob_stream.specs.declared.fault.Refusal.{Refusal}
 use Rattle.gob_stream.specs.Machine.SessionState.{SessionState}
 use Rattle.gob_stream.specs.Bounds.{Bounds, no_deeper}
@@ -13,7 +12,7 @@ use Rattle.gob_stream.specs.Item.{StreamItem}
 use Rattle.gob_stream.specs.Calls.SessionLaws.{GivesWhatItRead}
 use Rattle.gob_stream.specs.Outcome.{RefusesNext}
 use Rattle.gob_stream.specs.Reading.{ShowsRefusal, HasTypesBehind}
-use Rattle.gob_stream.specs.Machine.HasRead.{Received, SessionHasRead, StageHasRead, in_count}
+use Rattle.gob_stream.specs.Machine.HasRead.{HasRead, StageHasRead, in_count}
 use Rattle.gob_stream.proofs.Reader.AdvanceSteps.{in_bound, ends_within}
 use Rattle.gob_stream.proofs.Stream.StreamLaws.{give_one_list}
 use Rattle.gob_stream.proofs.Stream.OutcomeLaws.{one_prefix}
@@ -28,22 +27,22 @@ use Rattle.gob_stream.specs.Stream.{Stream, no_more}
 no_bytes : IsUnsignedPrefix []
 no_bytes = begins_prefix {bytes = []} tt
 
-pub new_stands : {X O : Type 0} {received : Received X} {trees : Received TreeBuilder} {most : ℕ} {L : Bounds}
-    {d : Defined} {first : CountStage} → types d ≡ base_table → d.most ≡ L.types
+pub new_stands : {X O : Type 0} {most : ℕ} {building : Building X O most} {L : Bounds} {d : Defined}
+    {first : CountStage} → types d ≡ base_table → d.most ≡ L.types
     → first ≡ record { begin = 0; number = [] }
-    → SessionHasRead {X = X} {O = O} received trees most (record {
+    → HasRead building (record {
       limits = L;
       types = d;
       taken = 0;
       stage =
           stage.Count first;
     }) [] []
-new_stands {X = X} {O = O} {received = received} {trees = trees} {most = most} {L = L} {d = d} e m f = record {
+new_stands {most = most} {building = building} {L = L} {d = d} e m f = record {
   prefix = [];
   under_way = [];
   whole = refl;
   stream = subst (λ (T : Table). Stream base_table (no_deeper most L) [] [] T) (sym e) no_more;
-  stage = subst (λ n. StageHasRead {X = X} {O = O} received trees (no_deeper most L) (types d) 0 (stage.Count n) [])
+  stage = subst (λ n. StageHasRead building (no_deeper most L) (types d) 0 (stage.Count n) [])
       (sym f) (in_count no_bytes);
   taken = refl;
   room = m;
@@ -59,21 +58,21 @@ pub one_table : (L : Bounds) (bytes : List ℕ) (items : List StreamItem) (T U :
     → HasTypesBehind L bytes items U → T ≡ U
 one_table L bytes items T U p q = (one_prefix p.rest q.rest p.stream q.stream (sym p.whole ∙ q.whole)).table
 
-pub stands_within : {X O : Type 0} {received : Received X} {trees : Received TreeBuilder} {most : ℕ}
-    {s : SessionState X O} {items : List StreamItem} {bytes : List ℕ}
-    → SessionHasRead received trees most s items bytes → length bytes ≤ s.limits.stream + 9
+pub stands_within : {X O : Type 0} {most : ℕ} {building : Building X O most} {s : SessionState X O}
+    {items : List StreamItem} {bytes : List ℕ}
+    → HasRead building s items bytes → length bytes ≤ s.limits.stream + 9
 stands_within a = let prefix = ends_within a.stream (omega arith) in let n = in_bound a.stage (omega arith) in
     omega (arith, ap length a.whole, length-append a.prefix a.under_way)
 
-pub stands_types : {X O : Type 0} {received : Received X} {trees : Received TreeBuilder} {most : ℕ}
-    {s : SessionState X O} {items : List StreamItem} {bytes : List ℕ}
-    → SessionHasRead received trees most s items bytes → HasTypesBehind (no_deeper most s.limits) bytes items
+pub stands_types : {X O : Type 0} {most : ℕ} {building : Building X O most} {s : SessionState X O}
+    {items : List StreamItem} {bytes : List ℕ}
+    → HasRead building s items bytes → HasTypesBehind (no_deeper most s.limits) bytes items
     (types s.types)
 stands_types a = record { prefix = a.prefix; rest = a.under_way; stream = a.stream; whole = a.whole }
 
-unrefused : {X O : Type 0} {received : Received X} {trees : Received TreeBuilder} {most : ℕ} {s : SessionState X O}
+unrefused : {X O : Type 0} {most : ℕ} {building : Building X O most} {s : SessionState X O}
     {items others : List StreamItem} {bytes : List ℕ} {R : Refusal}
-    → SessionHasRead received trees most s items bytes → ¬ ShowsRefusal (no_deeper most s.limits) bytes others R
+    → HasRead building s items bytes → ¬ ShowsRefusal (no_deeper most s.limits) bytes others R
 unrefused {most = most} {s = s} {items = items} {others = others} {bytes = bytes} {R = R} a h =
     let L = no_deeper most s.limits in
     let same : others ≡ items = give_one_list base_table L bytes others items h.outcome.gives (after_gives a) in

@@ -14,31 +14,30 @@ use Rattle.gob_types.specs.Table.{Table}
 use Rattle.gob_types.proofs.PublicLaws.{extends_keeps, ready_on, base_is_table, table-push}
 use Rattle.gob_value.specs.Description.{Misdescribes, kind_count, wrong_id, bad_reference, bad_length}
 use Rattle.gob_value.specs.Tree.{Tree}
+use Rattle.gob_read.specs.Building.{Building}
 use Rattle.gob_read.specs.Begins.{BeginsValue, BeginsNone, BeginsOnlyDeep}
 use Rattle.gob_read.specs.First.{IsFirst}
 use Rattle.gob_read.specs.Honest as body_honest
 use Rattle.gob_read.specs.Laws.{IsOfNumber}
 use Rattle.gob_read.specs.Refusal as body
 use Rattle.gob_read.proofs.PublicLaws.{table_counted, first_honest, place_within, seen_within, take_and_drop}
-use Rattle.gob_read.specs.declared.tree_builder.TreeBuilder.{TreeBuilder}
 use Rattle.gob_stream.specs.declared.fault.Refusal.{Refusal}
 use Rattle.gob_stream.specs.declared.fault.Fault.{Fault}
 use Rattle.gob_stream.specs.declared.fault.Fault.TheVariants as fault
 use Rattle.gob_stream.specs.declared.item.Item as declared
 use Rattle.gob_stream.specs.Machine.SessionState.{SessionState}
 use Rattle.gob_stream.specs.Body.{Body, definition, value}
-use Rattle.gob_stream.specs.Bounds.{Bounds, no_deeper}
-use Rattle.gob_stream.specs.Honest.{SpellsTypeNumber, of_value, of_definition, from, IsHonest, OfRefusal, FeedsHonestly}
-use Rattle.gob_stream.specs.Honest.{ReadsHonestly}
+use Rattle.gob_stream.specs.Bounds.{Bounds}
+use Rattle.gob_stream.specs.Honest.{SpellsTypeNumber, of_value, of_definition, from, IsHonest, OfRefusal}
 use Rattle.gob_stream.specs.Item.{StreamItem}
 use Rattle.gob_stream.specs.Outcome.{RefusesNext, refused_count, refused_body, refused, EndsSo, next_refused}
 use Rattle.gob_stream.specs.Outcome.{within_an_item, Outcome}
 use Rattle.gob_stream.specs.Reading.{Given, ReadsStream, shown, ended}
-use Rattle.gob_stream.specs.Calls.Reads.{Feeds, ReadsNext}
+use Rattle.gob_stream.specs.Calls.Reads.{FeedAnswers, ReadItemAnswers, FeedsHonestly, ReadsHonestly}
 use Rattle.gob_stream.specs.Refusing.{behind, RefusesCount, item_too_long, stream_too_long, RefusesBody, short}
 use Rattle.gob_stream.specs.Refusing.{refused_id, refused_type, refused_value, refused_description, described_wrongly}
 use Rattle.gob_stream.specs.Refusing as refusing
-use Rattle.gob_stream.specs.Machine.HasRead.{Received, SessionHasRead}
+use Rattle.gob_stream.specs.Machine.HasRead.{HasRead}
 use Rattle.gob_stream.specs.Stream.{AreItems, no_more, and_then, counted}
 use Rattle.gob_stream.proofs.Stream.DefinableLaws.{definable}
 use Rattle.gob_stream.proofs.Stream.OutcomeLaws.{moved, one_prefix}
@@ -178,48 +177,46 @@ pub outcome_honest : (L : Bounds) (bytes : List ℕ) (items : List StreamItem) (
 outcome_honest L bytes items R o = ending_honest o.ends
 
 -- ---- what the calls answer
-pub feeds_honestly : {X O : Type 0} (received : Received X) (trees : Received TreeBuilder) (means : O → Tree → Type 0)
-    (most : ℕ) (s s' : SessionState X O) (items : List StreamItem) (bytes piece : List ℕ)
-    (given : List (declared.Item O)) (result : Result (Unit {0}) Fault)
-    → Feeds received trees means most s s' items bytes piece given result
-    → FeedsHonestly means (no_deeper most s.limits) items (bytes ++ piece) given result
-feeds_honestly received trees means most s s' items bytes piece given (Ok u) f = tt
-feeds_honestly received trees means most s s' items bytes piece given (Err (fault.Refused R)) f =
+pub feeds_honestly : {X O : Type 0} {most : ℕ} (building : Building X O most) (s s' : SessionState X O)
+    (items : List StreamItem) (bytes piece : List ℕ) (given : List (declared.Item O)) (result : Result (Unit {0}) Fault)
+    → FeedAnswers building s s' items bytes piece given result
+    → FeedsHonestly building s items (bytes ++ piece) given result
+feeds_honestly building s s' items bytes piece given (Ok u) f = tt
+feeds_honestly building s s' items bytes piece given (Err (fault.Refused R)) f =
     record { more = f.0.more; mean = f.0.mean; holds = outcome_honest _ _ _ R f.0.holds.0.outcome }
-feeds_honestly received trees means most s s' items bytes piece given (Err fault.Read) f = tt
-feeds_honestly received trees means most s s' items bytes piece given (Err fault.Memory) f = tt
-feeds_honestly received trees means most s s' items bytes piece given (Err fault.Failed) f = tt
+feeds_honestly building s s' items bytes piece given (Err fault.Read) f = tt
+feeds_honestly building s s' items bytes piece given (Err fault.Memory) f = tt
+feeds_honestly building s s' items bytes piece given (Err fault.Failed) f = tt
 
 -- of whatever was given and taken before
-pub always_feeds_honestly : {X O : Type 0} (received : Received X) (trees : Received TreeBuilder) (means : O → Tree
-    → Type 0) (most : ℕ) (s s' : SessionState X O) (piece : List ℕ) {old new : List (declared.Item O)}
-    (result : Result (Unit {0}) Fault)
-    → Given old new (λ given. (items : List StreamItem) (bytes : List ℕ) → SessionHasRead received trees most s items
-    bytes → Feeds received trees means most s s' items bytes piece given result)
-    → Given old new (λ given. (items : List StreamItem) (bytes : List ℕ) → SessionHasRead received trees most s items
-    bytes → FeedsHonestly means (no_deeper most s.limits) items (bytes ++ piece) given result)
-always_feeds_honestly received trees means most s s' piece result fed =
-    given_as (λ given fed items bytes a. feeds_honestly received trees means most s s' items bytes piece given result
+pub always_feeds_honestly : {X O : Type 0} {most : ℕ} (building : Building X O most) (s s' : SessionState X O)
+    (piece : List ℕ) {old new : List (declared.Item O)} (result : Result (Unit {0}) Fault)
+    → Given old new (λ given. (items : List StreamItem) (bytes : List ℕ) → HasRead building s items bytes
+    → FeedAnswers building s s' items bytes piece given result)
+    → Given old new (λ given. (items : List StreamItem) (bytes : List ℕ) → HasRead building s items bytes
+    → FeedsHonestly building s items (bytes ++ piece) given result)
+always_feeds_honestly building s s' piece result fed =
+    given_as (λ given fed items bytes a. feeds_honestly building s s' items bytes piece given result
     (fed items bytes a)) fed
 
-pub reads_honestly : {X O : Type 0} (received : Received X) (trees : Received TreeBuilder) (means : O → Tree → Type 0)
-    (most : ℕ) (s s' : SessionState X O) (items : List StreamItem) (bytes rest : List ℕ) (now : Option (List ℕ))
+pub reads_honestly : {X O : Type 0} {most : ℕ} (building : Building X O most) (s s' : SessionState X O)
+    (items : List StreamItem) (bytes rest : List ℕ) (now : Option (List ℕ))
     (result : Result (Option (declared.Item O)) Fault)
-    → ReadsNext received trees means most s s' items bytes rest now result
-    → ReadsHonestly (no_deeper most s.limits) items bytes rest now result
-reads_honestly received trees means most s s' items bytes rest now (Ok u) f = tt
-reads_honestly received trees means most s s' items bytes rest now (Err (fault.Refused R)) (shown p) =
+    → ReadItemAnswers building s s' items bytes rest now result
+    → ReadsHonestly building s items bytes rest now result
+reads_honestly building s s' items bytes rest now (Ok u) f = tt
+reads_honestly building s s' items bytes rest now (Err (fault.Refused R)) (shown p) =
     record { bytes = p.bytes; taken = p.taken; holds = outcome_honest _ _ _ R p.holds.0.outcome }
-reads_honestly received trees means most s s' items bytes rest now (Err (fault.Refused R)) (ended e o n) =
+reads_honestly building s s' items bytes rest now (Err (fault.Refused R)) (ended e o n) =
     record {
       bytes = rest;
       taken = record { left = []; known = e; whole = sym (append-nil rest) };
       holds =
           outcome_honest _ _ _ R o;
     }
-reads_honestly received trees means most s s' items bytes rest now (Err fault.Read) f = tt
-reads_honestly received trees means most s s' items bytes rest now (Err fault.Memory) f = tt
-reads_honestly received trees means most s s' items bytes rest now (Err fault.Failed) f = tt
+reads_honestly building s s' items bytes rest now (Err fault.Read) f = tt
+reads_honestly building s s' items bytes rest now (Err fault.Memory) f = tt
+reads_honestly building s s' items bytes rest now (Err fault.Failed) f = tt
 
 pub stream_honestly : (L : Bounds) (bytes : List ℕ) (now : Option (List ℕ)) (items : List StreamItem)
     (result : Result (Unit {0}) Fault) → ReadsStream L bytes now items result

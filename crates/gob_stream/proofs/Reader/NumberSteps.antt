@@ -8,8 +8,7 @@ use Rattle.gob_num.proofs.PublicLaws.{prefix_not_whole}
 use Rattle.gob_types.specs.declared.reason.Reason.TheVariants as reason
 use Rattle.gob_types.specs.Base.{base_table}
 use Rattle.gob_types.specs.Defined.{Defined, types}
-use Rattle.gob_value.specs.Tree.{Tree}
-use Rattle.gob_read.specs.declared.tree_builder.TreeBuilder.{TreeBuilder}
+use Rattle.gob_read.specs.Building.{Building}
 use Rattle.gob_read.proofs.PublicLaws.{take_and_drop, take_fewer, take_whole}
 use Rattle.gob_stream.specs.declared.fault.Refusal.{Refusal}
 use Rattle.gob_stream.specs.declared.fault.Fault.{Fault}
@@ -20,7 +19,7 @@ use Rattle.gob_stream.specs.Machine.Stages.{type_number_in}
 use Rattle.gob_stream.specs.Bounds.{Bounds}
 use Rattle.gob_stream.specs.Refusing.{refuses, RefusesBody, short}
 use Rattle.gob_stream.specs.Outcome.{RefusesNext, refused_body}
-use Rattle.gob_stream.specs.Machine.HasRead.{Received, StageHasRead, in_type_number, IsCount, IsRest}
+use Rattle.gob_stream.specs.Machine.HasRead.{StageHasRead, in_type_number, IsCount, IsRest}
 use Rattle.gob_stream.specs.Machine.ReadParts.{GoesOnIn, more_of_it, ends_there, StepsOn, goes_on, gives, refuses_it}
 use Rattle.gob_stream.specs.Machine.ReadParts.{no_memory, StageTakesOn}
 use Rattle.gob_stream.proofs.Reader.ValueSteps.{take_over, stands_as, counted_as}
@@ -80,11 +79,11 @@ room_there number piece m room l e =
     ∙ ap (λ n. take n piece) (sym e))
 
 -- ---- the type number is refused, or goes on
-pub number_refused : {X O : Type 0} {received : Received X} {trees : Received TreeBuilder} {means : O → Tree → Type 0}
-    {L : Bounds} {d : Defined} {offset m room : ℕ} {body : Extent} {R S : Refusal} (c number piece : List ℕ)
+pub number_refused : {X O : Type 0} {most : ℕ} {building : Building X O most} {L : Bounds} {d : Defined}
+    {offset m room : ℕ} {body : Extent} {R S : Refusal} (c number piece : List ℕ)
     → IsCount L offset m c body → length number ≤ m → room ≡ min (m - length number) (length piece)
     → RefusesBody base_table L (types d) body.begin m (number ++ take room piece) S → S.reason ≢ reason.Ended → R ≡ S
-    → StepsOn {X = X} {O = O} received trees means L d offset (c ++ number) piece d (Err (fault.Refused R))
+    → StepsOn building L d offset (c ++ number) piece d (Err (fault.Refused R))
 number_refused {L = L} {d = d} {offset = offset} {m = m} {body = body} {S = S} c number piece k l e q n same =
     let there = subst (λ y. RefusesBody base_table L (types d) body.begin m y S) (sym (room_there number piece m _ l e))
     q in
@@ -93,14 +92,14 @@ number_refused {L = L} {d = d} {offset = offset} {m = m} {body = body} {S = S} c
     (append_assoc c number piece) k.count k.item k.stream here in
     rw same (refuses_it refl next n)
 
-pub number_goes_on : {X O : Type 0} {received : Received X} {trees : Received TreeBuilder} {means : O → Tree → Type 0}
-    {L : Bounds} {d : Defined} {offset m taken room : ℕ} {body : Extent} {now : List ℕ}
-    {result : Result (Stepped X O) Fault} (c number piece : List ℕ)
+pub number_goes_on : {X O : Type 0} {most : ℕ} {building : Building X O most} {L : Bounds} {d : Defined}
+    {offset m taken room : ℕ} {body : Extent} {now : List ℕ} {result : Result (Stepped X O) Fault}
+    (c number piece : List ℕ)
     → IsCount L offset m c body → length number < m → room ≡ min (m - length number) (length piece)
     → taken ≡ body.begin + length number + room → IsUnsignedPrefix (number ++ take room piece) → now ≡ number
     ++ take room piece
-    → GoesOnIn body taken now room result → StepsOn received trees means L d offset (c ++ number) piece d result
-number_goes_on {X = X} {O = O} {received = received} {trees = trees} {L = L} {d = d} {offset = offset} {m = m} {room =
+    → GoesOnIn body taken now room result → StepsOn building L d offset (c ++ number) piece d result
+number_goes_on {building = building} {L = L} {d = d} {offset = offset} {m = m} {room =
     room} {body = body} c number piece k l e t f same (more_of_it w) =
     let z1 = k.end in
     let few : length (number ++ take room piece) < m = omega (
@@ -109,7 +108,7 @@ number_goes_on {X = X} {O = O} {received = received} {trees = trees} {L = L} {d 
       length-take room piece,
     ) in
     goes_on refl (omega arith)
-    (subst (λ n. StageHasRead {X = X} {O = O} received trees L (types d) offset (type_number_in body n) ((c ++ number)
+    (subst (λ n. StageHasRead building L (types d) offset (type_number_in body n) ((c ++ number)
     ++ take room piece)) (sym same) (stands_as (append_assoc c number (take room piece)) (in_type_number k f few)))
 number_goes_on {m = m} {room = room} {body = body} c number piece k l e t f same (ends_there w) =
     let z1 = k.end in
@@ -134,11 +133,11 @@ number_taken {number = number} {n = n} piece zero f u =
 number_taken piece (suc used) f u = omega arith
 
 -- ---- a step further behind the first bytes of a piece
-pub steps_further : {X O : Type 0} {received : Received X} {trees : Received TreeBuilder} {means : O → Tree → Type 0}
-    {L : Bounds} {d d' : Defined} {offset : ℕ} {stepped : Stepped X O} (z piece : List ℕ) (used : ℕ)
+pub steps_further : {X O : Type 0} {most : ℕ} {building : Building X O most} {L : Bounds} {d d' : Defined} {offset : ℕ}
+    {stepped : Stepped X O} (z piece : List ℕ) (used : ℕ)
     → used ≤ length piece
-    → StepsOn received trees means L d offset (z ++ take used piece) (drop used piece) d' (Ok stepped)
-    → StepsOn received trees means L d offset z piece d'
+    → StepsOn building L d offset (z ++ take used piece) (drop used piece) d' (Ok stepped)
+    → StepsOn building L d offset z piece d'
     (Ok (record { used = used + stepped.used; stage = stepped.stage; item = stepped.item }))
 steps_further z piece used l (goes_on {used = more} e k s) = goes_on e (omega (arith, length-drop used piece))
     (stands_as (further_on z piece used more) s)
@@ -146,17 +145,17 @@ steps_further z piece used l (gives {used = more} e k q w n) =
     let same = ap length (further_on z piece used more) in
     gives e (omega (arith, length-drop used piece)) (counted_as (further_on z piece used more) q) w (omega arith)
 
-pub steps_stop : {X O : Type 0} {received : Received X} {trees : Received TreeBuilder} {means : O → Tree → Type 0}
-    {L : Bounds} {d d' : Defined} {offset : ℕ} {f : Fault} (z piece : List ℕ) (used : ℕ)
-    → StepsOn {X = X} {O = O} received trees means L d offset (z ++ take used piece) (drop used piece) d' (Err f)
-    → StepsOn {X = X} {O = O} received trees means L d offset z piece d' (Err f)
+pub steps_stop : {X O : Type 0} {most : ℕ} {building : Building X O most} {L : Bounds} {d d' : Defined} {offset : ℕ}
+    {f : Fault} (z piece : List ℕ) (used : ℕ)
+    → StepsOn building L d offset (z ++ take used piece) (drop used piece) d' (Err f)
+    → StepsOn building L d offset z piece d' (Err f)
 steps_stop {L = L} {d = d} {offset = offset} z piece used (refuses_it {R = R} e q n) =
     refuses_it e (subst (λ l. RefusesNext base_table L (types d) offset l R) (sym (all_there z piece used)) q) n
 steps_stop z piece used (no_memory e) = no_memory e
 
-pub steps_few : {X O : Type 0} {received : Received X} {trees : Received TreeBuilder} {means : O → Tree → Type 0}
-    {L : Bounds} {d d' : Defined} {offset : ℕ} {z piece : List ℕ} {stepped : Stepped X O}
-    → StepsOn received trees means L d offset z piece d' (Ok stepped) → stepped.used ≤ length piece
+pub steps_few : {X O : Type 0} {most : ℕ} {building : Building X O most} {L : Bounds} {d d' : Defined} {offset : ℕ}
+    {z piece : List ℕ} {stepped : Stepped X O}
+    → StepsOn building L d offset z piece d' (Ok stepped) → stepped.used ≤ length piece
 steps_few (goes_on e k s) = k
 steps_few (gives e k q w n) = k
 
@@ -185,15 +184,15 @@ number_there c number piece used room l =
     ∙ sym (append_assoc c number (take used piece))
 
 -- a number wants one byte at a time
-pub one_used : {X O : Type 0} {received : Received X} {trees : Received TreeBuilder} {means : O → Tree → Type 0}
-    {L : Bounds} {d d' : Defined} {offset : ℕ} {z piece : List ℕ} {result : Result (Stepped X O) Fault}
-    → StepsOn received trees means L d offset z piece d' result → IfOk result (λ stepped. 0 < stepped.used)
-    → StageTakesOn received trees means L d offset z piece 1 d' result
+pub one_used : {X O : Type 0} {most : ℕ} {building : Building X O most} {L : Bounds} {d d' : Defined} {offset : ℕ}
+    {z piece : List ℕ} {result : Result (Stepped X O) Fault}
+    → StepsOn building L d offset z piece d' result → IfOk result (λ stepped. 0 < stepped.used)
+    → StageTakesOn building L d offset z piece 1 d' result
 one_used s n = record { steps = s; some = n; whole = λ l. all l n s }
   where
-    all : {X O : Type 0} {received : Received X} {trees : Received TreeBuilder} {means : O → Tree → Type 0} {L : Bounds}
-        {d d' : Defined} {offset : ℕ} {z piece : List ℕ} {result : Result (Stepped X O) Fault} → length piece ≤ 1
-        → IfOk result (λ stepped. 0 < stepped.used) → StepsOn received trees means L d offset z piece d' result
+    all : {X O : Type 0} {most : ℕ} {building : Building X O most} {L : Bounds} {d d' : Defined} {offset : ℕ}
+        {z piece : List ℕ} {result : Result (Stepped X O) Fault} → length piece ≤ 1
+        → IfOk result (λ stepped. 0 < stepped.used) → StepsOn building L d offset z piece d' result
         → IfOk result (λ stepped. stepped.used ≡ length piece)
     all l n (goes_on e k s) = omega arith
     all l n (gives e k q w m) = omega arith

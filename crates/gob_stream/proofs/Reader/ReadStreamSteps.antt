@@ -8,6 +8,7 @@ use Rattle.gob_types.specs.Defined.{types}
 use Rattle.gob_value.specs.Tree.{Tree}
 use Rattle.gob_value.specs.View.{view}
 use Rattle.gob_value.specs.declared.value.Value.{Value}
+use Rattle.gob_read.specs.Calls.Builders.{tree_building}
 use Rattle.gob_read.specs.declared.tree_builder.TreeBuilder.{TreeBuilder}
 use Rattle.gob_stream.specs.declared.fault.Refusal.{Refusal}
 use Rattle.gob_stream.specs.declared.fault.Fault.{Fault}
@@ -20,10 +21,10 @@ use Rattle.gob_stream.specs.Item.{StreamItem, ItemMeans, means_definition, means
 use Rattle.gob_stream.specs.Item.{item_view, item_views}
 use Rattle.gob_stream.specs.Outcome.{LongestStream, LongestButLast, Outcome, EndsSo, at_the_end, the_end, refused}
 use Rattle.gob_stream.specs.Stream.{Stream, no_more}
-use Rattle.gob_stream.specs.Machine.HasRead.{Received, SessionHasRead}
+use Rattle.gob_stream.specs.Machine.HasRead.{HasRead}
 use Rattle.gob_stream.specs.Reading.{SomeTaken, Given, ShowsRefusal, RefusesNextItem, shown, ended, StopsNext}
 use Rattle.gob_stream.specs.Reading.{ReadsStream}
-use Rattle.gob_stream.specs.Calls.Reads.{ReadingGivesNext, ReadsNext, TakesNext}
+use Rattle.gob_stream.specs.Calls.Reads.{ReadingGivesNext, ReadItemAnswers, ReadItemTakes}
 use Rattle.gob_stream.proofs.Stream.StayLaws.{shown_there, shown_refusal_stays}
 use Rattle.gob_stream.proofs.Stream.StreamLaws.{NoNext, counted_some, gives_items, but_none, before_last}
 use Rattle.gob_stream.proofs.Reader.UnderWayLaws.{after_gives}
@@ -139,35 +140,35 @@ stream_stops M {bytes = bytes} items now fault.Memory l p h =
 stream_stops M items now fault.Failed l p h = absurd h
 
 -- ---- one more item, or none
-pub stands_next : {received : Received TreeBuilder} {most : ℕ} (s s' : SessionState TreeBuilder Value)
-    (given : List (declared.Item Value)) {bytes : List ℕ} {mid : Option (List ℕ)} (now : Option (List ℕ))
-    {o : Option (declared.Item Value)} (item : declared.Item Value) → o ≡ Some item
-    → (p : SomeTaken bytes mid (λ taken. SessionHasRead received received most s (item_views given) taken))
-    → ReadsNext received received IsSeen most s s' (item_views given) p.bytes p.taken.left now (Ok o)
-    → SomeTaken bytes now (λ taken. SessionHasRead received received most s' (item_views (given ++ item ∷ [])) taken)
-stands_next {received = received} {most = most} s s' given now item e p h =
-    let h' : SomeTaken p.taken.left now (λ taken. ReadingGivesNext received received IsSeen most s' item
+pub stands_next : (s s' : SessionState TreeBuilder Value) (given : List (declared.Item Value)) {bytes : List ℕ}
+    {mid : Option (List ℕ)} (now : Option (List ℕ)) {o : Option (declared.Item Value)} (item : declared.Item Value)
+    → o ≡ Some item
+    → (p : SomeTaken bytes mid (λ taken. HasRead tree_building s (item_views given) taken))
+    → ReadItemAnswers tree_building s s' (item_views given) p.bytes p.taken.left now (Ok o)
+    → SomeTaken bytes now (λ taken. HasRead tree_building s' (item_views (given ++ item ∷ [])) taken)
+stands_next s s' given now item e p h =
+    let h' : SomeTaken p.taken.left now (λ taken. ReadingGivesNext tree_building s' item
     (item_views given) (p.bytes ++ taken)) =
-    subst (λ (o : Option (declared.Item Value)). ReadsNext received received IsSeen most s s' (item_views given) p.bytes
+    subst (λ (o : Option (declared.Item Value)). ReadItemAnswers tree_building s s' (item_views given) p.bytes
     p.taken.left now (Ok o)) e h in
     taken_again p
-    (λ more g. subst (λ items. SessionHasRead received received most s' items (p.bytes ++ more))
+    (λ more g. subst (λ items. HasRead tree_building s' items (p.bytes ++ more))
     (ap (λ i. item_views given ++ i ∷ []) (sym (view_meant g.meant)) ∙ sym (views_more given item)) g.after) h'
 
 -- an item for which no memory was had
-pub item_lost : {received : Received TreeBuilder} {most : ℕ} {L : Bounds} (s s' : SessionState TreeBuilder Value)
-    (given : List (declared.Item Value)) {bytes : List ℕ} {mid : Option (List ℕ)} (now : Option (List ℕ))
-    {o : Option (declared.Item Value)} (item : declared.Item Value) → o ≡ Some item
-    → no_deeper most s.limits ≡ L → s'.limits ≡ s.limits
-    → (p : SomeTaken bytes mid (λ taken. SessionHasRead received received most s (item_views given) taken))
-    → ReadsNext received received IsSeen most s s' (item_views given) p.bytes p.taken.left now (Ok o)
+pub item_lost : {L : Bounds} (s s' : SessionState TreeBuilder Value) (given : List (declared.Item Value))
+    {bytes : List ℕ} {mid : Option (List ℕ)} (now : Option (List ℕ)) {o : Option (declared.Item Value)}
+    (item : declared.Item Value) → o ≡ Some item
+    → no_deeper 1000 s.limits ≡ L → s'.limits ≡ s.limits
+    → (p : SomeTaken bytes mid (λ taken. HasRead tree_building s (item_views given) taken))
+    → ReadItemAnswers tree_building s s' (item_views given) p.bytes p.taken.left now (Ok o)
     → SomeTaken bytes now (λ taken. LongestButLast base_table L taken (item_views given))
-item_lost {received = received} {most = most} {L = L} s s' given {bytes = bytes} now item e l same p h =
-    let M = no_deeper most s.limits in
+item_lost {L = L} s s' given {bytes = bytes} now item e l same p h =
+    let M = no_deeper 1000 s.limits in
     let items = item_views given in
-    let h' : SomeTaken p.taken.left now (λ taken. ReadingGivesNext received received IsSeen most s' item items (p.bytes
+    let h' : SomeTaken p.taken.left now (λ taken. ReadingGivesNext tree_building s' item items (p.bytes
     ++ taken)) =
-    subst (λ (o : Option (declared.Item Value)). ReadsNext received received IsSeen most s s' items p.bytes p.taken.left
+    subst (λ (o : Option (declared.Item Value)). ReadItemAnswers tree_building s s' items p.bytes p.taken.left
     now (Ok o)) e h in
     let a = p.holds in
     subst (λ L. SomeTaken bytes now (λ taken. LongestButLast base_table L taken items)) l
@@ -181,7 +182,7 @@ item_lost {received = received} {most = most} {L = L} s s' given {bytes = bytes}
       whole =
           ap (λ b. b ++ more) a.whole ∙ append_assoc a.prefix a.under_way more;
     })
-    (subst (λ L. LongestStream base_table (no_deeper most L) (p.bytes ++ more) (items ++ g.item ∷ [])) same
+    (subst (λ L. LongestStream base_table (no_deeper 1000 L) (p.bytes ++ more) (items ++ g.item ∷ [])) same
     (after_gives g.after))) h')
 
 pub record IsWhole (L : Bounds) (bytes : List ℕ) (items : List StreamItem) : Type 0 where
@@ -192,21 +193,21 @@ whole_of : {L : Bounds} {bytes : List ℕ} {items : List StreamItem} → EndsSo 
     → IsWhole L bytes items
 whole_of (at_the_end {T = T} p) = record { table = T; stream = p }
 
-pub stream_ends : {received : Received TreeBuilder} {most : ℕ} {L : Bounds} (s s' : SessionState TreeBuilder Value)
-    {items : List StreamItem} {bytes : List ℕ} {mid : Option (List ℕ)} (now : Option (List ℕ))
-    {o : Option (declared.Item Value)} (u : Unit {0}) → o ≡ None → no_deeper most s.limits ≡ L
-    → (p : SomeTaken bytes mid (λ taken. SessionHasRead received received most s items taken))
-    → ReadsNext received received IsSeen most s s' items p.bytes p.taken.left now (Ok o)
+pub stream_ends : {L : Bounds} (s s' : SessionState TreeBuilder Value) {items : List StreamItem} {bytes : List ℕ}
+    {mid : Option (List ℕ)} (now : Option (List ℕ)) {o : Option (declared.Item Value)} (u : Unit {0})
+    → o ≡ None → no_deeper 1000 s.limits ≡ L
+    → (p : SomeTaken bytes mid (λ taken. HasRead tree_building s items taken))
+    → ReadItemAnswers tree_building s s' items p.bytes p.taken.left now (Ok o)
     → ReadsStream L bytes now items (Ok u)
-stream_ends {received = received} {most = most} {L = L} s s' {items = items} {bytes = bytes} now u e l p h =
-    let h' = subst (λ (o : Option (declared.Item Value)). ReadsNext received received IsSeen most s s' items p.bytes
+stream_ends {L = L} s s' {items = items} {bytes = bytes} now u e l p h =
+    let h' = subst (λ (o : Option (declared.Item Value)). ReadItemAnswers tree_building s s' items p.bytes
     p.taken.left now (Ok o)) e h in
     let all : p.bytes ≡ bytes = sym (p.taken.whole ∙ ap (λ x. p.bytes ++ x) h'.0 ∙ append-nil p.bytes) in
     let t = whole_of (subst (λ L. Outcome base_table L bytes items the_end) l
-    (subst (λ b. Outcome base_table (no_deeper most s.limits) b items the_end) all h'.2)).ends in
+    (subst (λ b. Outcome base_table (no_deeper 1000 s.limits) b items the_end) all h'.2)).ends in
     (t.table, t.stream, h'.1)
 
 pub item_taken : (s s' : SessionState TreeBuilder Value) (t t' : ℕ) {o : Option (declared.Item Value)}
-    {item : declared.Item Value} → o ≡ Some item → TakesNext s s' t t' (Ok o) → (t' ≡ counts_up t (s'.taken - s.taken))
-    × (s.taken < s'.taken) × (s'.taken ≤ s.limits.stream)
-item_taken s s' t t' e h = subst (λ (o : Option (declared.Item Value)). TakesNext s s' t t' (Ok o)) e h
+    {item : declared.Item Value} → o ≡ Some item → ReadItemTakes s s' t t' (Ok o)
+    → (t' ≡ counts_up t (s'.taken - s.taken)) × (s.taken < s'.taken) × (s'.taken ≤ s.limits.stream)
+item_taken s s' t t' e h = subst (λ (o : Option (declared.Item Value)). ReadItemTakes s s' t t' (Ok o)) e h

@@ -11,9 +11,10 @@ use Rattle.gob_types.specs.Base.{base_table, wire_type}
 use Rattle.gob_types.specs.Defined.{Defined, types}
 use Rattle.gob_types.specs.Table.{Table}
 use Rattle.gob_value.specs.Tree.{Tree}
+use Rattle.gob_read.specs.Building.{Building}
+use Rattle.gob_read.specs.Calls.Builders.{tree_building}
 use Rattle.gob_read.specs.Viable.{IsViable}
 use Rattle.gob_read.specs.Calls.Reader.{ReaderHasRead, IsMade}
-use Rattle.gob_read.specs.declared.tree_builder.TreeBuilder.{TreeBuilder}
 use Rattle.gob_read.proofs.PublicLaws.{take_whole}
 use Rattle.gob_stream.specs.declared.fault.Refusal.{Refusal}
 use Rattle.gob_stream.specs.declared.fault.Fault.{Fault}
@@ -31,7 +32,7 @@ use Rattle.gob_stream.specs.Body.{MayDefine, MayPut}
 use Rattle.gob_stream.specs.Refusing.{refuses, RefusesCount, item_too_long, stream_too_long, short}
 use Rattle.gob_stream.specs.Refusing as refusing
 use Rattle.gob_stream.specs.Outcome.{RefusesNext, refused_count, refused_body}
-use Rattle.gob_stream.specs.Machine.HasRead.{Received, StageHasRead, in_count, in_type_number, in_value, in_description}
+use Rattle.gob_stream.specs.Machine.HasRead.{StageHasRead, in_count, in_type_number, in_value, in_description}
 use Rattle.gob_stream.specs.Machine.HasRead.{IsCount, IsRest, BodyHasRead, size}
 use Rattle.gob_stream.specs.Machine.ReadParts.{CountGoesOn, more_of_count, whole_count, IsCountRefused, count_refused}
 use Rattle.gob_stream.specs.Machine.ReadParts.{empty_body, CountAnswers, AreTypes, IsWithinItem, HasWireType}
@@ -58,8 +59,8 @@ pub record NumberParts (L : Bounds) (offset : ℕ) (at : TypeNumberStage) (z : L
   pub room : length at.number < m
   pub whole : z ≡ c ++ at.number
 
-pub record ValueParts {X O : Type 0} (received : Received X) (L : Bounds) (T : Table) (offset : ℕ) (at : ValueStage X O)
-    (z : List ℕ) : Type 0 where
+pub record ValueParts {X O : Type 0} {most : ℕ} (building : Building X O most) (L : Bounds) (T : Table) (offset : ℕ)
+    (at : ValueStage X O) (z : List ℕ) : Type 0 where
   pub m : ℕ
   pub c : List ℕ
   pub a : List ℕ
@@ -69,11 +70,10 @@ pub record ValueParts {X O : Type 0} (received : Received X) (L : Bounds) (T : T
   pub number : IsSigned (pos at.id.0) a
   pub rest_is : IsRest body a at.rest
   pub may : MayPut T at.id
-  pub behind : BodyHasRead T at.id L.depth at.rest received at.reader y
+  pub behind : BodyHasRead T at.id L.depth at.rest building at.reader y
   pub whole : z ≡ c ++ (a ++ y)
 
-pub record DescriptionParts (trees : Received TreeBuilder) (L : Bounds) (T : Table) (offset : ℕ) (at : DescriptionStage)
-    (z : List ℕ) : Type 0 where
+pub record DescriptionParts (L : Bounds) (T : Table) (offset : ℕ) (at : DescriptionStage) (z : List ℕ) : Type 0 where
   pub m : ℕ
   pub n : ℕ
   pub c : List ℕ
@@ -85,20 +85,20 @@ pub record DescriptionParts (trees : Received TreeBuilder) (L : Bounds) (T : Tab
   pub number : IsSigned (negsuc n) a
   pub rest_is : IsRest body a at.rest
   pub may : MayDefine base_table L T at.id
-  pub behind : BodyHasRead T wire_type (min L.depth greatest_depth) at.rest trees at.reader y
+  pub behind : BodyHasRead T wire_type (min L.depth greatest_depth) at.rest tree_building at.reader y
   pub whole : z ≡ c ++ (a ++ y)
 
-abbrev pub PartsOf : {X O : Type 0} → (received : Received X) (trees : Received TreeBuilder) (L : Bounds) (T : Table)
-    (offset : ℕ) → Stage X O → List ℕ → Type 0
-PartsOf received trees L T offset (stage.Count at) z = CountParts offset at z
-PartsOf received trees L T offset (stage.TypeNumber at) z = NumberParts L offset at z
-PartsOf received trees L T offset (stage.Value at) z = ValueParts received L T offset at z
-PartsOf received trees L T offset (stage.Description at) z = DescriptionParts trees L T offset at z
-PartsOf received trees L T offset stage.Failed z = ⊥
+abbrev pub PartsOf : {X O : Type 0} {most : ℕ} (building : Building X O most) (L : Bounds) (T : Table) (offset : ℕ)
+    → Stage X O → List ℕ → Type 0
+PartsOf building L T offset (stage.Count at) z = CountParts offset at z
+PartsOf building L T offset (stage.TypeNumber at) z = NumberParts L offset at z
+PartsOf building L T offset (stage.Value at) z = ValueParts building L T offset at z
+PartsOf building L T offset (stage.Description at) z = DescriptionParts L T offset at z
+PartsOf building L T offset stage.Failed z = ⊥
 
-parts_of : {X O : Type 0} {received : Received X} {trees : Received TreeBuilder} {L : Bounds} {T : Table} {offset : ℕ}
-    {expects : Stage X O} {z : List ℕ} → StageHasRead received trees L T offset expects z
-    → PartsOf received trees L T offset expects z
+parts_of : {X O : Type 0} {most : ℕ} {building : Building X O most} {L : Bounds} {T : Table} {offset : ℕ}
+    {expects : Stage X O} {z : List ℕ} → StageHasRead building L T offset expects z
+    → PartsOf building L T offset expects z
 parts_of (in_count f) = record { begins = refl; bytes = refl; prefix = f }
 parts_of (in_type_number k f l) = record { m = _; c = _; count = k; prefix = f; room = l; whole = refl }
 parts_of (in_value k s r p b) = record {
@@ -131,26 +131,26 @@ parts_of (in_description k n s r p b) = record {
   whole = refl;
 }
 
-pub parts : {X O : Type 0} {received : Received X} {trees : Received TreeBuilder} {L : Bounds} {T : Table} {offset : ℕ}
-    {expects now : Stage X O} {z : List ℕ} → expects ≡ now → StageHasRead received trees L T offset expects z
-    → PartsOf received trees L T offset now z
-parts {received = received} {trees = trees} {L = L} {T = T} {offset = offset} {z = z} e s =
-    subst (λ expects. PartsOf received trees L T offset expects z) e (parts_of s)
+pub parts : {X O : Type 0} {most : ℕ} {building : Building X O most} {L : Bounds} {T : Table} {offset : ℕ}
+    {expects now : Stage X O} {z : List ℕ} → expects ≡ now → StageHasRead building L T offset expects z
+    → PartsOf building L T offset now z
+parts {building = building} {L = L} {T = T} {offset = offset} {z = z} e s =
+    subst (λ expects. PartsOf building L T offset expects z) e (parts_of s)
 
 -- ---- what is known of a reader within an item
 -- some bytes of an item were taken, with which it expects this, and so many bytes of the stream
-pub record UnderWay {X O : Type 0} (received : Received X) (trees : Received TreeBuilder) (L : Bounds) (d : Defined)
-    (taken : ℕ) (expects : Stage X O) : Type 0 where
+pub record UnderWay {X O : Type 0} {most : ℕ} (building : Building X O most) (L : Bounds) (d : Defined) (taken : ℕ)
+    (expects : Stage X O) : Type 0 where
   pub offset : ℕ
   pub bytes : List ℕ
-  pub parts : PartsOf received trees L (types d) offset expects bytes
+  pub parts : PartsOf building L (types d) offset expects bytes
   pub taken_is : taken ≡ offset + length bytes
   pub within : offset ≤ L.stream
   pub known : AreTypes L d
 
-pub under_way : {X O : Type 0} {received : Received X} {trees : Received TreeBuilder} {L : Bounds} {d : Defined}
-    {taken : ℕ} {expects now : Stage X O} → expects ≡ now → IsWithinItem received trees L d taken expects
-    → UnderWay received trees L d taken now
+pub under_way : {X O : Type 0} {most : ℕ} {building : Building X O most} {L : Bounds} {d : Defined} {taken : ℕ}
+    {expects now : Stage X O} → expects ≡ now → IsWithinItem building L d taken expects
+    → UnderWay building L d taken now
 under_way e w = record {
   offset = w.offset;
   bytes = w.bytes;
@@ -212,29 +212,29 @@ count_some : {X O : Type 0} {L : Bounds} {begin : ℕ} {number piece : List ℕ}
 count_some f l (more_of_count g) = (l, omega arith)
 count_some {piece = piece} f l (whole_count {used = used} w k p) = (number_taken piece used f k.count, w)
 
-value_some : {X O : Type 0} {received : Received X} {means : O → Tree → Type 0} {T : Table} {t : TypeId} {limit : ℕ}
+value_some : {X O : Type 0} {most : ℕ} {building : Building X O most} {T : Table} {t : TypeId} {limit : ℕ}
     {rest : Extent} {y piece : List ℕ} {result : Result (Stepped X O) Fault} → IsViable T t limit (size rest) y
     → 0 < length piece
-    → ReadsValueIn received means T t limit rest y piece result → IfOk result (λ stepped. 0 < stepped.used)
+    → ReadsValueIn building T t limit rest y piece result → IfOk result (λ stepped. 0 < stepped.used)
 value_some i l (value_goes_on b) = l
 value_some {piece = piece} i l (value_ends k made) = let n = ended_some piece i k made in let room = i.room in
     omega arith
 value_some i l (value_refused f) = tt
 value_some i l no_memory_for_value = tt
 
-value_all : {X O : Type 0} {received : Received X} {means : O → Tree → Type 0} {T : Table} {t : TypeId} {limit : ℕ}
+value_all : {X O : Type 0} {most : ℕ} {building : Building X O most} {T : Table} {t : TypeId} {limit : ℕ}
     {rest : Extent} {y piece : List ℕ} {result : Result (Stepped X O) Fault} → IsViable T t limit (size rest) y
-    → length piece ≤ size rest - length y → ReadsValueIn received means T t limit rest y piece result
+    → length piece ≤ size rest - length y → ReadsValueIn building T t limit rest y piece result
     → IfOk result (λ stepped. stepped.used ≡ length piece)
 value_all i l (value_goes_on b) = refl
 value_all {piece = piece} i l (value_ends k made) = let n = ended_some piece i k made in omega arith
 value_all i l (value_refused f) = tt
 value_all i l no_memory_for_value = tt
 
-description_some : {X O : Type 0} {trees : Received TreeBuilder} {d d' : Defined} {id : TypeId} {limit : ℕ}
-    {rest : Extent} {y piece : List ℕ} {result : Result (Stepped X O) Fault}
+description_some : {X O : Type 0} {d d' : Defined} {id : TypeId} {limit : ℕ} {rest : Extent} {y piece : List ℕ}
+    {result : Result (Stepped X O) Fault}
     → IsViable (types d) wire_type limit (size rest) y → 0 < length piece
-    → ReadsDescription {X = X} {O = O} trees d id limit rest y piece d' result
+    → ReadsDescription {X = X} {O = O} d id limit rest y piece d' result
     → IfOk result (λ stepped. 0 < stepped.used)
 description_some i l (description_goes_on e b) = l
 description_some {piece = piece} i l (description_ends there given) = let n = ended_some piece i there.within there.made
@@ -243,10 +243,10 @@ description_some i l (description_refused e f) = tt
 description_some i l (describes_nothing e there x) = tt
 description_some i l (no_memory_for_description e) = tt
 
-description_all : {X O : Type 0} {trees : Received TreeBuilder} {d d' : Defined} {id : TypeId} {limit : ℕ}
-    {rest : Extent} {y piece : List ℕ} {result : Result (Stepped X O) Fault}
+description_all : {X O : Type 0} {d d' : Defined} {id : TypeId} {limit : ℕ} {rest : Extent} {y piece : List ℕ}
+    {result : Result (Stepped X O) Fault}
     → IsViable (types d) wire_type limit (size rest) y
-    → length piece ≤ size rest - length y → ReadsDescription {X = X} {O = O} trees d id limit rest y piece d' result
+    → length piece ≤ size rest - length y → ReadsDescription {X = X} {O = O} d id limit rest y piece d' result
     → IfOk result (λ stepped. stepped.used ≡ length piece)
 description_all i l (description_goes_on e b) = refl
 description_all {piece = piece} i l (description_ends there given) = let n = ended_some piece i there.within there.made
@@ -256,19 +256,19 @@ description_all i l (describes_nothing e there x) = tt
 description_all i l (no_memory_for_description e) = tt
 
 -- ---- what a step answers
-module _ {X O : Type 0} {received : Received X} {trees : Received TreeBuilder} {means : O → Tree → Type 0} where
+module _ {X O : Type 0} {most : ℕ} {building : Building X O most} where
   -- told by what was expected
   answers_by : {L : Bounds} {d d' : Defined} {taken : ℕ} {expects now : Stage X O} {piece : List ℕ}
       {result : Result (Stepped X O) Fault} → expects ≡ now
-      → StageAnswers received trees means L d taken now piece d' result → StageAnswers received trees means L d taken
+      → StageAnswers building L d taken now piece d' result → StageAnswers building L d taken
       expects piece d' result
   answers_by {L = L} {d = d} {d' = d'} {taken = taken} {piece = piece} {result = result} e s =
-      subst (λ expects. StageAnswers received trees means L d taken expects piece d' result) (sym e) s
+      subst (λ expects. StageAnswers building L d taken expects piece d' result) (sym e) s
 
   -- a count
   count_here : {L M : Bounds} {begin : ℕ} {d : Defined} {number piece : List ℕ} {stepped : Stepped X O} → SameRoom L M
       → CountGoesOn L begin number piece stepped
-      → StepsOn received trees means M d begin number piece d (Ok stepped)
+      → StepsOn building M d begin number piece d (Ok stepped)
   count_here {number = number} {piece = piece} w (more_of_count f) =
       goes_on refl (omega arith) (stands_as (ap (λ l. number ++ l) (take_whole piece (length piece) (omega arith)))
       (in_count f))
@@ -278,7 +278,7 @@ module _ {X O : Type 0} {received : Received X} {trees : Received TreeBuilder} {
 
   count_stops : {L M : Bounds} {begin : ℕ} {d : Defined} {number piece : List ℕ} {R : Refusal} → SameRoom L M
       → IsCountRefused L begin (number ++ piece) R
-      → StepsOn {X = X} {O = O} received trees means M d begin number piece d (Err (fault.Refused R))
+      → StepsOn building M d begin number piece d (Err (fault.Refused R))
   count_stops w (count_refused q) = refuses_it refl (refused_count (same_refusal w q)) (count_shown q)
   count_stops {M = M} {begin = begin} {d = d} {number = number} {piece = piece} w (empty_body {c = c} r e u l) =
       let s = w.stream in
@@ -291,14 +291,14 @@ module _ {X O : Type 0} {received : Received X} {trees : Received TreeBuilder} {
 
   there : {L : Bounds} {d : Defined} {offset : ℕ} {at : CountStage} {z piece : List ℕ}
       {result : Result (Stepped X O) Fault} → CountParts offset at z
-      → StepsOn received trees means L d at.begin at.number piece d result
-      → StepsOn received trees means L d offset z piece d result
+      → StepsOn building L d at.begin at.number piece d result
+      → StepsOn building L d offset z piece d result
   there p s = rw (p.begins, p.bytes) s
 
   count_takes : {L M : Bounds} {offset : ℕ} {d : Defined} {at : CountStage} {z piece : List ℕ}
       {result : Result (Stepped X O) Fault} → SameRoom L M → 0 < length piece
       → CountAnswers L at.begin at.number piece result → CountParts offset at z
-      → StageTakesOn received trees means M d offset z piece 1 d result
+      → StageTakesOn building M d offset z piece 1 d result
   count_takes {result = Ok stepped} w l s p = let n = count_some p.prefix l s in
       record { steps = there p (count_here w s); some = n.0; whole = λ few. omega arith }
   count_takes {result = Err (fault.Refused R)} w l s p = record {
@@ -314,30 +314,30 @@ module _ {X O : Type 0} {received : Received X} {trees : Received TreeBuilder} {
   pub count_answers : {L M : Bounds} {d : Defined} {taken : ℕ} {expects : Stage X O} {at : CountStage} {piece : List ℕ}
       {result : Result (Stepped X O) Fault} → expects ≡ stage.Count at
       → SameRoom L M → 0 < length piece → CountAnswers L at.begin at.number piece result
-      → StageAnswers received trees means M d taken expects piece d result
+      → StageAnswers building M d taken expects piece d result
   count_answers e w l s = answers_by e (record { each = λ offset z t. count_takes w l s (parts refl t) })
 
   -- a type number
   number_takes : {L : Bounds} {d d' : Defined} {offset : ℕ} {at : TypeNumberStage} {z piece : List ℕ}
       {result : Result (Stepped X O) Fault}
-      → ((offset m : ℕ) (c : List ℕ) → IsCount L offset m c at.body → StageTakesOn received trees means L d offset (c
-      ++ at.number) piece 1 d' result) → NumberParts L offset at z → StageTakesOn received trees means L d offset z
+      → ((offset m : ℕ) (c : List ℕ) → IsCount L offset m c at.body → StageTakesOn building L d offset (c
+      ++ at.number) piece 1 d' result) → NumberParts L offset at z → StageTakesOn building L d offset z
       piece 1 d' result
   number_takes {offset = offset} r p = rw p.whole (r offset p.m p.c p.count)
 
   pub number_answers : {L : Bounds} {d d' : Defined} {taken : ℕ} {expects : Stage X O} {at : TypeNumberStage}
       {piece : List ℕ} {result : Result (Stepped X O) Fault} → expects ≡ stage.TypeNumber at
-      → ((offset m : ℕ) (c : List ℕ) → IsCount L offset m c at.body → StageTakesOn received trees means L d offset (c
-      ++ at.number) piece 1 d' result) → StageAnswers received trees means L d taken expects piece d' result
+      → ((offset m : ℕ) (c : List ℕ) → IsCount L offset m c at.body → StageTakesOn building L d offset (c
+      ++ at.number) piece 1 d' result) → StageAnswers building L d taken expects piece d' result
   number_answers e r = answers_by e (record { each = λ offset z t. number_takes r (parts refl t) })
 
   -- a value
   value_taken : {L : Bounds} {d : Defined} {offset : ℕ} {at : ValueStage X O} {z piece : List ℕ}
       {result : Result (Stepped X O) Fault}
-      → ((limit : ℕ) (y : List ℕ) → ReaderHasRead (types d) at.id limit (size at.rest) received at.reader.run y
-      → ReadsValueIn received means (types d) at.id limit at.rest y piece result)
-      → ValueParts received L (types d) offset at z
-      → StepsOn received trees means L d offset z piece d result
+      → ((limit : ℕ) (y : List ℕ) → ReaderHasRead (types d) at.id limit (size at.rest) building.received at.reader.run y
+      → ReadsValueIn building (types d) at.id limit at.rest y piece result)
+      → ValueParts building L (types d) offset at z
+      → StepsOn building L d offset z piece d result
   value_taken {L = L} {piece = piece} r p =
       rw p.whole (value_steps p.c p.a p.y piece p.count p.number p.rest_is p.may (let room = p.behind.viable.room in
       omega arith) (r L.depth p.y p.behind.after))
@@ -345,10 +345,10 @@ module _ {X O : Type 0} {received : Received X} {trees : Received TreeBuilder} {
   -- a description
   description_taken : {L : Bounds} {d d' : Defined} {offset : ℕ} {at : DescriptionStage} {z piece : List ℕ}
       {result : Result (Stepped X O) Fault}
-      → HasWireType (types d) → ((limit : ℕ) (y : List ℕ) → ReaderHasRead (types d) wire_type limit (size at.rest) trees
-      at.reader.run y → ReadsDescription trees d at.id limit at.rest y piece d' result)
-      → DescriptionParts trees L (types d) offset at z
-      → StepsOn received trees means L d offset z piece d' result
+      → HasWireType (types d) → ((limit : ℕ) (y : List ℕ) → ReaderHasRead (types d) wire_type limit
+      (size at.rest) tree_building.received at.reader.run y → ReadsDescription d at.id limit at.rest y piece d' result)
+      → DescriptionParts L (types d) offset at z
+      → StepsOn building L d offset z piece d' result
   description_taken {L = L} {piece = piece} h r p =
       rw p.whole (description_steps p.c p.a p.y piece p.count p.below p.number p.rest_is p.may h (let room =
       p.behind.viable.room in omega arith) (r (min L.depth greatest_depth) p.y p.behind.after))
@@ -356,10 +356,10 @@ module _ {X O : Type 0} {received : Received X} {trees : Received TreeBuilder} {
   -- all of what is left, where the piece isn't longer
   value_takes : {L : Bounds} {d : Defined} {offset taken : ℕ} {at : ValueStage X O} {z piece : List ℕ}
       {result : Result (Stepped X O) Fault}
-      → UnderWay received trees L d taken (stage.Value at) → 0 < length piece
-      → ((limit : ℕ) (y : List ℕ) → ReaderHasRead (types d) at.id limit (size at.rest) received at.reader.run y
-      → ReadsValueIn received means (types d) at.id limit at.rest y piece result)
-      → ValueParts received L (types d) offset at z → StageTakesOn received trees means L d offset z piece
+      → UnderWay building L d taken (stage.Value at) → 0 < length piece
+      → ((limit : ℕ) (y : List ℕ) → ReaderHasRead (types d) at.id limit (size at.rest) building.received at.reader.run y
+      → ReadsValueIn building (types d) at.id limit at.rest y piece result)
+      → ValueParts building L (types d) offset at z → StageTakesOn building L d offset z piece
       (at.rest.end - taken) d result
   value_takes {L = L} {taken = taken} {at = at} w l r p =
       let q = w.parts in
@@ -373,10 +373,11 @@ module _ {X O : Type 0} {received : Received X} {trees : Received TreeBuilder} {
 
   description_takes : {L : Bounds} {d d' : Defined} {offset taken : ℕ} {at : DescriptionStage} {z piece : List ℕ}
       {result : Result (Stepped X O) Fault}
-      → UnderWay {X = X} {O = O} received trees L d taken (stage.Description at) → 0 < length piece
-      → ((limit : ℕ) (y : List ℕ) → ReaderHasRead (types d) wire_type limit (size at.rest) trees at.reader.run y
-      → ReadsDescription trees d at.id limit at.rest y piece d' result)
-      → DescriptionParts trees L (types d) offset at z → StageTakesOn received trees means L d offset z piece
+      → UnderWay building L d taken (stage.Description at) → 0 < length piece
+      → ((limit : ℕ) (y : List ℕ) → ReaderHasRead (types d) wire_type limit (size at.rest) tree_building.received
+      at.reader.run y
+      → ReadsDescription d at.id limit at.rest y piece d' result)
+      → DescriptionParts L (types d) offset at z → StageTakesOn building L d offset z piece
       (at.rest.end - taken) d' result
   description_takes {L = L} {taken = taken} {at = at} w l r p =
       let q = w.parts in
@@ -390,16 +391,17 @@ module _ {X O : Type 0} {received : Received X} {trees : Received TreeBuilder} {
 
   pub value_answers : {L : Bounds} {d : Defined} {taken : ℕ} {expects : Stage X O} {at : ValueStage X O}
       {piece : List ℕ} {result : Result (Stepped X O) Fault} → expects ≡ stage.Value at
-      → UnderWay received trees L d taken (stage.Value at) → 0 < length piece
-      → ((limit : ℕ) (y : List ℕ) → ReaderHasRead (types d) at.id limit (size at.rest) received at.reader.run y
-      → ReadsValueIn received means (types d) at.id limit at.rest y piece result)
-      → StageAnswers received trees means L d taken expects piece d result
+      → UnderWay building L d taken (stage.Value at) → 0 < length piece
+      → ((limit : ℕ) (y : List ℕ) → ReaderHasRead (types d) at.id limit (size at.rest) building.received at.reader.run y
+      → ReadsValueIn building (types d) at.id limit at.rest y piece result)
+      → StageAnswers building L d taken expects piece d result
   value_answers e w l r = answers_by e (record { each = λ offset z t. value_takes w l r (parts refl t) })
 
   pub description_answers : {L : Bounds} {d d' : Defined} {taken : ℕ} {expects : Stage X O} {at : DescriptionStage}
       {piece : List ℕ} {result : Result (Stepped X O) Fault} → expects ≡ stage.Description at
-      → UnderWay {X = X} {O = O} received trees L d taken (stage.Description at) → 0 < length piece
-      → ((limit : ℕ) (y : List ℕ) → ReaderHasRead (types d) wire_type limit (size at.rest) trees at.reader.run y
-      → ReadsDescription trees d at.id limit at.rest y piece d' result) → StageAnswers received trees means L d taken
+      → UnderWay building L d taken (stage.Description at) → 0 < length piece
+      → ((limit : ℕ) (y : List ℕ) → ReaderHasRead (types d) wire_type limit (size at.rest) tree_building.received
+      at.reader.run y
+      → ReadsDescription d at.id limit at.rest y piece d' result) → StageAnswers building L d taken
       expects piece d' result
   description_answers e w l r = answers_by e (record { each = λ offset z t. description_takes w l r (parts refl t) })

@@ -10,9 +10,8 @@ use Rattle.std.proofs.KnownBytes.{Consumes-nil, Consumes-trans, Consumes-kept}
 use Rattle.gob_types.specs.Base.{base_table}
 use Rattle.gob_types.specs.Table.{Table}
 use Rattle.gob_read.specs.Building.{Building}
-use Rattle.gob_read.specs.Calls.Builders.{tree_building}
 use Rattle.gob_stream.specs.Bounds.{Bounds, no_deeper}
-use Rattle.gob_stream.specs.Calls.Reads.{ReadingFinishes}
+use Rattle.gob_stream.specs.Calls.Reads.{FinishAnswers}
 use Rattle.gob_stream.specs.Calls.Session.{HasBegunNext, HasRead, IsBetweenItems, StepAnswers, ReadsItems, ReadsOn}
 use Rattle.gob_stream.specs.Calls.Session.{limits_of, taken_of, types_of}
 use Rattle.gob_stream.specs.Item.{StreamItem}
@@ -319,7 +318,7 @@ module _ {X O : Type 0} {most : ℕ} (building : Building X O most) where
   -- between two items
   pub ends_whole : {r : StreamReader X O} {read now : Option (List ℕ)} {items : List StreamItem} (s' : SessionState X O)
       (u : Unit {0}) → (h : HasReadFrom building r read now items) → waits_in r ≡ [] → r.ended ≡ true
-      → ReadingFinishes most (session_of r) s' items h.taken (Ok u) → (bytes : List ℕ) → read ≡ Some bytes
+      → FinishAnswers building (session_of r) s' items h.taken (Ok u) → (bytes : List ℕ) → read ≡ Some bytes
       → EndsWith (no_deeper most (limits_of (session_of r))) (types_of (session_of r)) (taken_of (session_of r)) items
       bytes now
   ends_whole {r = r} {items = items} s' u h none end finish bytes known =
@@ -342,10 +341,10 @@ module _ {X O : Type 0} {most : ℕ} (building : Building X O most) where
 
   -- or within one
   pub ends_within : {r : StreamReader X O} {read now : Option (List ℕ)} {items : List StreamItem}
-      (s' : SessionState X O)
-      (e : Fault) → (h : HasReadFrom building r read now items) → waits_in r ≡ [] → r.ended ≡ true
-      → ReadingFinishes most (session_of r) s' items h.taken (Err e) → StopsFrom building (session_of r) read now items
-      e
+      (s' : SessionState X O) (e : Fault)
+      → (h : HasReadFrom building r read now items) → waits_in r ≡ [] → r.ended ≡ true
+      → FinishAnswers building (session_of r) s' items h.taken (Err e) → StopsFrom building (session_of r) read now
+      items e
   ends_within {r = r} {items = items} s' (fault.Refused R) h none end finish = λ bytes known.
       let all = all_taken bytes h known none end in
       let L = no_deeper most (limits_of (session_of r)) in
@@ -388,8 +387,7 @@ module _ {X O : Type 0} {most : ℕ} (building : Building X O most) where
   steps_on {r = r} {r' = r'} {read = read} {now = now} {items = items} step h left same answers = on refl answers
     where
       on : {item : Option (declared.Item O)} → step.item ≡ item
-          → AdvancesOver building.received tree_building.received building.means most (session_of r') items h.taken
-          (waits_in r) step.used item
+          → AdvancesOver building (session_of r') items h.taken (waits_in r) step.used item
           → StepsOnFrom building r r' read now items step
       on e (over_some some within a) =
           let a' = subst (λ (l : List StreamItem). HasRead building (session_of r') l (h.taken

@@ -12,8 +12,8 @@ use Rattle.gob_types.specs.declared.reason.Reason.TheVariants as reason
 use Rattle.gob_types.specs.Table.{Table}
 use Rattle.gob_types.specs.Base.{base_table, wire_type}
 use Rattle.gob_types.specs.Defined.{types}
+use Rattle.gob_read.specs.Building.{Building}
 use Rattle.gob_read.specs.Viable.{IsViable}
-use Rattle.gob_read.specs.declared.tree_builder.TreeBuilder.{TreeBuilder}
 use Rattle.gob_read.proofs.PublicLaws.{prefix_not_number, nothing_yet}
 use Rattle.gob_stream.specs.declared.fault.Refusal.{Refusal}
 use Rattle.gob_stream.specs.declared.stage.Stage.{Stage}
@@ -31,8 +31,8 @@ use Rattle.gob_stream.specs.Refusing.{refused_id, refused_type, refused_value, r
 use Rattle.gob_stream.specs.Refusing as refusing
 use Rattle.gob_stream.specs.Outcome.{RefusesNext, refused_count, refused_body, LongestStream, the_end, refused}
 use Rattle.gob_stream.specs.Outcome.{at_the_end, Outcome}
-use Rattle.gob_stream.specs.Machine.HasRead.{Received, IsCount, IsRest, size, StageHasRead, in_count, in_type_number}
-use Rattle.gob_stream.specs.Machine.HasRead.{in_value, in_description, SessionHasRead}
+use Rattle.gob_stream.specs.Machine.HasRead.{IsCount, IsRest, size, StageHasRead, in_count, in_type_number}
+use Rattle.gob_stream.specs.Machine.HasRead.{in_value, in_description, HasRead}
 use Rattle.gob_stream.proofs.Stream.DescriptionDepth.{description_stood}
 use Rattle.gob_stream.proofs.Stream.StreamLaws.{NoNext, gives_items, same_id}
 use Rattle.gob_stream.proofs.Stream.RefusalLaws.{id_met, type_met}
@@ -53,9 +53,9 @@ rest_size {body = body} {rest = rest} {a = a} m r e =
     omega arith
 
 -- ---- no item is whole
-pub stands_before_the_end : {base : Table} {X O : Type 0} {received : Received X} {trees : Received TreeBuilder}
-    {L : Bounds} {T U : Table} {offset : ℕ} {expects : Stage X O} {z b : List ℕ} {i : StreamItem} (y : List ℕ)
-    → StageHasRead received trees L T offset expects z → IsItem base L T offset i b U → z ≡ b ++ y → ⊥
+pub stands_before_the_end : {base : Table} {X O : Type 0} {most : ℕ} {building : Building X O most} {L : Bounds}
+    {T U : Table} {offset : ℕ} {expects : Stage X O} {z b : List ℕ} {i : StreamItem} (y : List ℕ)
+    → StageHasRead building L T offset expects z → IsItem base L T offset i b U → z ≡ b ++ y → ⊥
 stands_before_the_end y (in_count f) (counted {c = c} {d = d} u l s p) e = prefix_not_number (d ++ y) f u (e
     ∙ append_assoc c d y)
 stands_before_the_end y (in_type_number {number = number} k f w) (counted {c = c} {d = d} u l s p) e =
@@ -70,9 +70,9 @@ stands_before_the_end y (in_description {m = m} {a = a} {z = z} k t i r q w) (co
     let v = same.value in let n = ap length same.rest in let left = rest_size m r k.end in let room = w.viable.room in
     omega (arith, length-append a z, length-append d y)
 
-pub stands_no_next : {X O : Type 0} {received : Received X} {trees : Received TreeBuilder} {L : Bounds} {T : Table}
-    {offset : ℕ} {expects : Stage X O} {z : List ℕ}
-    → StageHasRead received trees L T offset expects z → NoNext base_table L T offset z
+pub stands_no_next : {X O : Type 0} {most : ℕ} {building : Building X O most} {L : Bounds} {T : Table} {offset : ℕ}
+    {expects : Stage X O} {z : List ℕ}
+    → StageHasRead building L T offset expects z → NoNext base_table L T offset z
 stands_no_next s = λ i U b y p e. stands_before_the_end y s p e
 
 -- ---- what is refused later is shown by more bytes
@@ -190,9 +190,9 @@ grouped {base = base} {L = L} {T = T} {offset = offset} {m = m} {R = R} a z x q 
     subst (λ y. RefusesBody base L T offset m y R) (append_assoc a z x) q
 
 -- each refusal of what stands there, whatever follows, is shown by more bytes than have come
-pub refused_later : {X O : Type 0} {received : Received X} {trees : Received TreeBuilder} {L : Bounds} {T : Table}
-    {offset : ℕ} {expects : Stage X O} {y : List ℕ} {R : Refusal} (x : List ℕ)
-    → StageHasRead received trees L T offset expects y → RefusesNext base_table L T offset (y ++ x) R
+pub refused_later : {X O : Type 0} {most : ℕ} {building : Building X O most} {L : Bounds} {T : Table} {offset : ℕ}
+    {expects : Stage X O} {y : List ℕ} {R : Refusal} (x : List ℕ)
+    → StageHasRead building L T offset expects y → RefusesNext base_table L T offset (y ++ x) R
     → offset + length y < R.seen
 refused_later x (in_count f) (refused_count q) = count_later x f q
 refused_later x (in_count f) (refused_body r e u l s q) = let n = prefix_shorter x r f u e in let b =
@@ -212,32 +212,32 @@ refused_later {L = L} x (in_description {m = m} {c = c} {a = a} {z = z} k e s r 
     omega (arith, length-append c (a ++ z))
 
 -- so nothing is refused there yet
-pub stands_unrefused : {X O : Type 0} {received : Received X} {trees : Received TreeBuilder} {L : Bounds} {T : Table}
-    {offset : ℕ} {expects : Stage X O} {z : List ℕ} {R : Refusal}
-    → StageHasRead received trees L T offset expects z → RefusesNext base_table L T offset z R → ⊥
+pub stands_unrefused : {X O : Type 0} {most : ℕ} {building : Building X O most} {L : Bounds} {T : Table} {offset : ℕ}
+    {expects : Stage X O} {z : List ℕ} {R : Refusal}
+    → StageHasRead building L T offset expects z → RefusesNext base_table L T offset z R → ⊥
 stands_unrefused {L = L} {T = T} {offset = offset} {z = z} {R = R} s q =
     let l = refused_later [] s (subst (λ z. RefusesNext base_table L T offset z R) (sym (append-nil z)) q) in
     let n = next_seen q in omega arith
 
 -- ---- what bytes give after which a reader stands
-pub after_gives : {X O : Type 0} {received : Received X} {trees : Received TreeBuilder} {most : ℕ}
-    {s : SessionState X O} {items : List StreamItem} {bytes : List ℕ}
-    → SessionHasRead received trees most s items bytes → LongestStream base_table (no_deeper most s.limits) bytes items
+pub after_gives : {X O : Type 0} {most : ℕ} {building : Building X O most} {s : SessionState X O}
+    {items : List StreamItem} {bytes : List ℕ}
+    → HasRead building s items bytes → LongestStream base_table (no_deeper most s.limits) bytes items
 after_gives {most = most} {s = s} {items = items} a =
     subst (λ b. LongestStream base_table (no_deeper most s.limits) b items) (sym a.whole)
     (gives_items a.under_way a.stream (stands_no_next a.stage))
 
 -- within an item they end too early
-pub after_some : {X O : Type 0} {received : Received X} {trees : Received TreeBuilder} {most : ℕ} {s : SessionState X O}
-    {items : List StreamItem} {bytes : List ℕ} (a : SessionHasRead received trees most s items bytes)
+pub after_some : {X O : Type 0} {most : ℕ} {building : Building X O most} {s : SessionState X O}
+    {items : List StreamItem} {bytes : List ℕ} (a : HasRead building s items bytes)
     → a.under_way ≢ [] → Outcome base_table (no_deeper most s.limits) bytes items
     (refused (refuses (length bytes) (length bytes) reason.Ended))
 after_some a n = outcome_within a.under_way a.whole a.stream n (stands_no_next a.stage)
     (λ R q. stands_unrefused a.stage q)
 
 -- between two items they are the end of a stream
-pub after_none : {X O : Type 0} {received : Received X} {trees : Received TreeBuilder} {most : ℕ} {s : SessionState X O}
-    {items : List StreamItem} {bytes : List ℕ} (a : SessionHasRead received trees most s items bytes)
+pub after_none : {X O : Type 0} {most : ℕ} {building : Building X O most} {s : SessionState X O}
+    {items : List StreamItem} {bytes : List ℕ} (a : HasRead building s items bytes)
     → a.under_way ≡ [] → Outcome base_table (no_deeper most s.limits) bytes items the_end
 after_none {most = most} {s = s} {items = items} a e =
     let all = a.whole ∙ ap (λ l. a.prefix ++ l) e ∙ append-nil a.prefix in
@@ -249,9 +249,8 @@ after_none {most = most} {s = s} {items = items} a e =
     }
 
 -- what follows is refused, by more bytes than have come
-pub after_refused : {X O : Type 0} {received : Received X} {trees : Received TreeBuilder} {most : ℕ}
-    {s : SessionState X O} {items : List StreamItem} {bytes : List ℕ} {R : Refusal} (piece : List ℕ)
-    (a : SessionHasRead received trees most s items bytes)
+pub after_refused : {X O : Type 0} {most : ℕ} {building : Building X O most} {s : SessionState X O}
+    {items : List StreamItem} {bytes : List ℕ} {R : Refusal} (piece : List ℕ) (a : HasRead building s items bytes)
     → RefusesNext base_table (no_deeper most s.limits) (types s.types) (length a.prefix) (a.under_way ++ piece) R
     → Outcome base_table (no_deeper most s.limits) (bytes ++ piece) items (refused R) × (length bytes < R.seen)
 after_refused piece a q =
@@ -265,18 +264,17 @@ after_refused piece a q =
 no_number : {n : ℕ} {c : List ℕ} (w : List ℕ) → IsUnsigned n c → c ++ w ≡ [] → ⊥
 no_number {c = c} w u e = let some = (unsigned_length u).0 in omega (arith, ap length e, length-append c w)
 
-expects_count : {X O : Type 0} {received : Received X} {trees : Received TreeBuilder} {L : Bounds} {T : Table}
-    {offset : ℕ} {expects : Stage X O} {z : List ℕ}
-    → StageHasRead received trees L T offset expects z → z ≡ [] → expects ≡ count_at offset []
+expects_count : {X O : Type 0} {most : ℕ} {building : Building X O most} {L : Bounds} {T : Table} {offset : ℕ}
+    {expects : Stage X O} {z : List ℕ}
+    → StageHasRead building L T offset expects z → z ≡ [] → expects ≡ count_at offset []
 expects_count {offset = offset} (in_count f) e = ap (λ n. count_at offset n) e
 expects_count (in_type_number {number = number} k f l) e = absurd (no_number number k.count e)
 expects_count (in_value {a = a} {z = z} k s r p w) e = absurd (no_number (a ++ z) k.count e)
 expects_count (in_description {a = a} {z = z} k n s r p w) e = absurd (no_number (a ++ z) k.count e)
 
 -- between two items the count of the next one is expected
-pub none_expects_count : {X O : Type 0} {received : Received X} {trees : Received TreeBuilder} {most : ℕ}
-    {s : SessionState X O} {items : List StreamItem} {bytes : List ℕ} (a : SessionHasRead received trees most s items
-    bytes)
+pub none_expects_count : {X O : Type 0} {most : ℕ} {building : Building X O most}
+    {s : SessionState X O} {items : List StreamItem} {bytes : List ℕ} (a : HasRead building s items bytes)
     → a.under_way ≡ [] → s.stage ≡ count_at s.taken []
 none_expects_count {s = s} a e =
     let t : s.taken ≡ length a.prefix = a.taken ∙ ap length (a.whole ∙ ap (λ l. a.prefix ++ l) e ∙ append-nil a.prefix)
@@ -284,9 +282,8 @@ none_expects_count {s = s} a e =
     expects_count a.stage e ∙ ap (λ n. count_at n []) (sym t)
 
 -- and where that begins behind all bytes that were taken, no item is under way
-pub count_begins_here : {X O : Type 0} {received : Received X} {trees : Received TreeBuilder} {most : ℕ}
-    {s : SessionState X O} {items : List StreamItem} {bytes : List ℕ} {at : CountStage}
-    (a : SessionHasRead received trees most s items bytes)
+pub count_begins_here : {X O : Type 0} {most : ℕ} {building : Building X O most} {s : SessionState X O}
+    {items : List StreamItem} {bytes : List ℕ} {at : CountStage} (a : HasRead building s items bytes)
     → s.stage ≡ stage.Count at → at.begin ≡ s.taken → a.under_way ≡ []
 count_begins_here {s = s} {at = at} a e f =
     let b = (parts e a.stage).begins in

@@ -11,12 +11,11 @@ use Rattle.gob_types.specs.declared.reason.Reason.TheVariants as reason
 use Rattle.gob_types.specs.Base.{base_table}
 use Rattle.gob_types.specs.Table.{Table}
 use Rattle.gob_types.specs.Defined.{Defined, types}
-use Rattle.gob_value.specs.Tree.{Tree}
+use Rattle.gob_read.specs.Building.{Building}
 use Rattle.gob_read.specs.Refusal as body
 use Rattle.gob_read.specs.Refusal.{Refused, extra, too_deep, short_of, bad_head_at, not_minimal_at, not_allowed}
 use Rattle.gob_read.specs.Expected.{Allowed, any, tag, truth_value, array_count, delta, nil, reason_of}
 use Rattle.gob_read.specs.First.{IsFirst}
-use Rattle.gob_read.specs.declared.tree_builder.TreeBuilder.{TreeBuilder}
 use Rattle.gob_read.proofs.PublicLaws.{take_whole}
 use Rattle.gob_stream.specs.declared.fault.Fault.{Fault}
 use Rattle.gob_stream.specs.declared.stage.Extent.{Extent}
@@ -32,7 +31,7 @@ use Rattle.gob_stream.specs.Body.{value, MayPut}
 use Rattle.gob_stream.specs.Stream.{IsItem, counted}
 use Rattle.gob_stream.specs.Refusing.{behind, refuses, RefusesBody, refused_value}
 use Rattle.gob_stream.specs.Outcome.{RefusesNext, refused_body}
-use Rattle.gob_stream.specs.Machine.HasRead.{Received, StageHasRead, in_value, IsCount, IsRest, size}
+use Rattle.gob_stream.specs.Machine.HasRead.{StageHasRead, in_value, IsCount, IsRest, size}
 use Rattle.gob_stream.specs.Machine.ReadParts.{ReadsValueIn, value_goes_on, value_ends, value_refused}
 use Rattle.gob_stream.specs.Machine.ReadParts.{no_memory_for_value, StepsOn, goes_on, gives, refuses_it, no_memory}
 
@@ -84,11 +83,11 @@ lies k r =
     let b = k.begin in let e = k.end in let rb = r.begin in let re = r.end in let w = r.within in
     record { within = omega arith; size_is = omega arith; begins = omega arith; ends = omega arith }
 
-pub stands_as : {X O : Type 0} {received : Received X} {trees : Received TreeBuilder} {L : Bounds} {T : Table}
-    {offset : ℕ} {st : Stage X O} {z w : List ℕ} → w ≡ z → StageHasRead received trees L T offset st z
-    → StageHasRead received trees L T offset st w
-stands_as {received = received} {trees = trees} {L = L} {T = T} {offset = offset} {st = st} e h =
-    subst (λ z. StageHasRead received trees L T offset st z) (sym e) h
+pub stands_as : {X O : Type 0} {most : ℕ} {building : Building X O most} {L : Bounds} {T : Table} {offset : ℕ}
+    {st : Stage X O} {z w : List ℕ} → w ≡ z → StageHasRead building L T offset st z
+    → StageHasRead building L T offset st w
+stands_as {building = building} {L = L} {T = T} {offset = offset} {st = st} e h =
+    subst (λ z. StageHasRead building L T offset st z) (sym e) h
 
 pub counted_as : {L : Bounds} {T U : Table} {offset : ℕ} {i : StreamItem} {z w : List ℕ} → w ≡ z
     → IsItem base_table L T offset i z U → IsItem base_table L T offset i w U
@@ -96,14 +95,12 @@ counted_as {L = L} {T = T} {U = U} {offset = offset} {i = i} e h = subst (λ z. 
     (sym e) h
 
 -- ---- values
-pub value_steps : {X O : Type 0} {received : Received X} {trees : Received TreeBuilder} {means : O → Tree → Type 0}
-    {L : Bounds} {d : Defined} {offset m : ℕ} {t : TypeId} {body rest : Extent} {result : Result (Stepped X O) Fault}
-    (c a y piece : List ℕ)
+pub value_steps : {X O : Type 0} {most : ℕ} {building : Building X O most} {L : Bounds} {d : Defined} {offset m : ℕ}
+    {t : TypeId} {body rest : Extent} {result : Result (Stepped X O) Fault} (c a y piece : List ℕ)
     → IsCount L offset m c body → IsSigned (pos t.0) a → IsRest body a rest → MayPut (types d) t → length y ≤ size rest
-    → ReadsValueIn received means (types d) t L.depth rest y piece result
-    → StepsOn received trees means L d offset (c ++ (a ++ y)) piece d result
-value_steps {received = received} {trees = trees} {L = L} {d = d} {offset = offset} c a y piece k s r p w
-    (value_goes_on b) =
+    → ReadsValueIn building (types d) t L.depth rest y piece result
+    → StepsOn building L d offset (c ++ (a ++ y)) piece d result
+value_steps {L = L} {d = d} {offset = offset} c a y piece k s r p w (value_goes_on b) =
     let there : (c ++ (a ++ y)) ++ take (length piece) piece ≡ c ++ (a ++ (y ++ piece)) = ap (λ l. (c ++ (a ++ y))
     ++ l) (take_whole piece (length piece) (omega arith)) ∙ three c a y piece in
     goes_on refl (omega arith) (stands_as there (in_value k s r p b))
@@ -135,14 +132,13 @@ value_steps {L = L} {d = d} {offset = offset} {m = m} {t = t} {rest = rest} c a 
 value_steps c a y piece k s r p w no_memory_for_value = no_memory refl
 
 -- ---- what is denied at the type number
-pub denied_steps : {X O : Type 0} {received : Received X} {trees : Received TreeBuilder} {means : O → Tree → Type 0}
-    {L : Bounds} {d : Defined} {offset m : ℕ} {body rest : Extent} (Refuses : Reason → Type 0) (why : Denial)
-    (c a piece : List ℕ)
+pub denied_steps : {X O : Type 0} {most : ℕ} {building : Building X O most} {L : Bounds} {d : Defined} {offset m : ℕ}
+    {body rest : Extent} (Refuses : Reason → Type 0) (why : Denial) (c a piece : List ℕ)
     → IsCount L offset m c body → IsRest body a rest → IsDenial Refuses why
     → ((r : Reason) → Refuses r → r ≢ reason.Ended)
     → ((r : Reason) (y z : List ℕ) → Refuses r → y ≡ a ++ z → RefusesBody base_table L (types d) (offset + length c) m y
     (refuses (offset + length c) (offset + length c + length a) r))
-    → StepsOn {X = X} {O = O} received trees means L d offset (c ++ a) piece d
+    → StepsOn building L d offset (c ++ a) piece d
     (Err (fault_at body.begin rest.begin why))
 denied_steps {L = L} {d = d} {offset = offset} {m = m} Refuses (denial.Refused w) c a piece k r q shown refused =
     let lie = lies k r in
@@ -159,13 +155,11 @@ type_shown (private_type p) e = cc
 type_shown (undefined p q n l) e = cc
 type_shown (bottomless p q r n l) e = cc
 
-pub value_begins : {X O : Type 0} {received : Received X} {trees : Received TreeBuilder} {means : O → Tree → Type 0}
-    {L : Bounds} {d : Defined} {offset m : ℕ} {t : TypeId} {body rest : Extent} {result : Result (Stepped X O) Fault}
-    (c a piece : List ℕ)
+pub value_begins : {X O : Type 0} {most : ℕ} {building : Building X O most} {L : Bounds} {d : Defined} {offset m : ℕ}
+    {t : TypeId} {body rest : Extent} {result : Result (Stepped X O) Fault} (c a piece : List ℕ)
     → IsCount L offset m c body → IsSigned (pos t.0) a → IsRest body a rest → MayPut (types d) t
-    → ReadsValueIn received means (types d) t L.depth rest [] piece result
-    → StepsOn received trees means L d offset (c ++ a) piece d result
-value_begins {received = received} {trees = trees} {means = means} {L = L} {d = d} {offset = offset} {result = result} c
-    a piece k s r p q =
-    subst (λ l. StepsOn received trees means L d offset (c ++ l) piece d result) (append-nil a)
+    → ReadsValueIn building (types d) t L.depth rest [] piece result
+    → StepsOn building L d offset (c ++ a) piece d result
+value_begins {building = building} {L = L} {d = d} {offset = offset} {result = result} c a piece k s r p q =
+    subst (λ l. StepsOn building L d offset (c ++ l) piece d result) (append-nil a)
     (value_steps c a [] piece k s r p (omega arith) q)

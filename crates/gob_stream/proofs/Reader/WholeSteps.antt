@@ -14,7 +14,7 @@ use Rattle.gob_types.specs.declared.kind.Kind.{Kind}
 use Rattle.gob_types.specs.Table.{Table}
 use Rattle.gob_types.specs.Base.{base_table}
 use Rattle.gob_types.specs.Defined.{types}
-use Rattle.gob_read.specs.declared.tree_builder.TreeBuilder.{TreeBuilder}
+use Rattle.gob_read.specs.Building.{Building}
 use Rattle.gob_stream.specs.declared.count.CountStage.{CountStage}
 use Rattle.gob_stream.specs.declared.stage.Stage.TheVariants as stage
 use Rattle.gob_stream.specs.Machine.Stages.{count_at}
@@ -23,15 +23,16 @@ use Rattle.gob_stream.specs.Bounds.{Bounds, no_deeper}
 use Rattle.gob_stream.specs.Item.{StreamItem, puts}
 use Rattle.gob_stream.specs.Body.{MayPut, value}
 use Rattle.gob_stream.specs.Stream.{IsItem, AreItems, no_more, counted}
-use Rattle.gob_stream.specs.Machine.HasRead.{Received, StageHasRead, in_count, SessionHasRead, IsUsable, has_failed}
+use Rattle.gob_stream.specs.Machine.HasRead.{StageHasRead, in_count, HasRead, IsUsable, has_failed}
 use Rattle.gob_stream.specs.Machine.HasRead.{stands_after}
 use Rattle.gob_value.specs.Whole.{IsWhole, IsWholeBetween}
 use Rattle.gob_stream.specs.Whole.{HasBody, HasBegun, HasCount, HasItem, HasItems, NamesTypeAt}
 use Rattle.gob_stream.specs.Whole.{IsOpenKind, AllowsIn, IsValueBetween, AreItemsBetween}
-use Rattle.gob_stream.specs.Machine.Between.{IsBetween, PassesItems}
+use Rattle.gob_stream.specs.Machine.Between.{IsBetween, ReadsItems}
 use Rattle.gob_stream.specs.Outcome.{LongestStream}
 use Rattle.gob_stream.proofs.Stream.StreamLaws.{NoNext, gives_items, items_behind, no_items_empty, one_item}
 use Rattle.gob_stream.proofs.Reader.UnderWayLaws.{count_begins_here, none_expects_count}
+use Rattle.gob_stream.specs.Calls.Session.{ReadsAll}
 
 -- what is said of an answer that is there
 pub given : {A : Type 0} (P : A → Type 0) {r : Option A} {x : A} → r ≡ Some x → IfSome r P → P x
@@ -255,19 +256,11 @@ found_items most s piece near are items depths room = are (no_deeper most s.limi
 })
 
 -- ---- going past items
-abbrev pub GoesPast : {X O : Type 0} (received : Received X) (trees : Received TreeBuilder) (most : ℕ)
-    → (s s' : SessionState X O) → (used : ℕ) → Type 0
-GoesPast received trees most s s' used = (items : List StreamItem) (bytes : List ℕ) (given : List StreamItem)
-    (z : List ℕ)
-    → SessionHasRead received trees most s items bytes
-    → AreItems base_table (no_deeper most s.limits) (types s.types) s.taken given z (types s.types)
-    → length z ≡ used → SessionHasRead received trees most s' (items ++ given) (bytes ++ z)
-
-module _ {X O : Type 0} {received : Received X} {trees : Received TreeBuilder} {most : ℕ} where
+module _ {X O : Type 0} {most : ℕ} {building : Building X O most} where
   pub passed : {s s' : SessionState X O} {at : CountStage} {used : ℕ} → IsBetween s
       → s.stage ≡ stage.Count at
       → s' ≡ record s { taken = s.taken + used; stage = stage.Count (record at { begin = s.taken + used }) }
-      → GoesPast received trees most s s' used
+      → ReadsAll building s s' used
   passed {s =
       s} {s' = s'} {at = at} {used = used} between is e items bytes given z a there size =
       let none : a.under_way ≡ [] = count_begins_here a between.stage refl in
@@ -283,10 +276,10 @@ module _ {X O : Type 0} {received : Received X} {trees : Received TreeBuilder} {
         whole = ap (λ y. y ++ z) prefix ∙ sym (append-nil (a.prefix ++ z));
         stream = items_behind a.stream (omega arith) there;
         stage =
-            subst (λ n. StageHasRead {X = X} {O = O} received trees (no_deeper most s.limits) (types s.types)
-            (length (a.prefix ++ z)) (count_at (s.taken + used) n) []) (sym empty)
-            (subst (λ n. StageHasRead {X = X} {O = O} received trees (no_deeper most s.limits) (types s.types)
-            (length (a.prefix ++ z)) (count_at n []) []) long (in_count (begins_prefix {bytes = []} tt)));
+            subst (λ n. StageHasRead building (no_deeper most s.limits) (types s.types) (length (a.prefix ++ z))
+            (count_at (s.taken + used) n) []) (sym empty)
+            (subst (λ n. StageHasRead building (no_deeper most s.limits) (types s.types) (length (a.prefix ++ z))
+            (count_at n []) []) long (in_count (begins_prefix {bytes = []} tt)));
         taken = sym (ap (λ y. length (y ++ z)) prefix ∙ long);
         room = a.room;
       })
@@ -294,7 +287,7 @@ module _ {X O : Type 0} {received : Received X} {trees : Received TreeBuilder} {
   -- past items that were found to stand at the front of a piece
   pub passes_items : {s s' : SessionState X O} {count used : ℕ} (room : ℕ) (piece : List ℕ)
       → AreItemsBetween (no_deeper most s.limits) (types s.types) s.taken count (take room piece) 0 used
-      → GoesPast received trees most s s' used → PassesItems received trees most s s' count used piece
+      → ReadsAll building s s' used → ReadsItems building s s' count used piece
   passes_items {s' = s'} {used = used} room piece b f =
       let near = b.inside in
       let short = length-take room piece in
@@ -308,29 +301,28 @@ module _ {X O : Type 0} {received : Received X} {trees : Received TreeBuilder} {
           no_items_empty (items_at_0 b) (sym b.counted ∙ e),
           length-take-le used (take room piece) near,
         );
-        passed = λ items bytes a. subst (λ z. SessionHasRead {X = X} {O = O} received trees most s' (items ++ b.items)
-            (bytes ++ z)) same
+        passed = λ items bytes a. subst (λ z. HasRead building s' (items ++ b.items) (bytes ++ z)) same
             (f items bytes b.items (take used (take room piece)) a (items_at_0 b) (length-take-le used (take room piece)
             near));
       }
 
   -- and nothing is passed where nothing is found
-  pub passes_none : {s : SessionState X O} {piece : List ℕ} → PassesItems received trees most s s 0 0 piece
+  pub passes_none : {s : SessionState X O} {piece : List ℕ} → ReadsItems building s s 0 0 piece
   passes_none {s = s} = record {
     given = [];
     counted = refl;
     within = omega arith;
     none = λ e. refl;
     passed =
-        λ items bytes a. subst (λ z. SessionHasRead {X = X} {O = O} received trees most s z (bytes ++ []))
+        λ items bytes a. subst (λ z. HasRead building s z (bytes ++ []))
         (sym (append-nil items))
-        (subst (λ z. SessionHasRead {X = X} {O = O} received trees most s items z) (sym (append-nil bytes)) a);
+        (subst (λ z. HasRead building s items z) (sym (append-nil bytes)) a);
   }
 
   -- what stood after some bytes is behind items, so it stands after some
   pub usable_behind : {s s' : SessionState X O} {used : ℕ} → IsBetween s
-      → HasItems (no_deeper most s.limits) (types s.types) s.taken used → GoesPast received trees most s s' used
-      → IsUsable received trees most s → IsUsable received trees most s'
+      → HasItems (no_deeper most s.limits) (types s.types) s.taken used → ReadsAll building s s' used
+      → IsUsable building s → IsUsable building s'
   usable_behind {s =
       s} b h f (has_failed e) = let n : stage.Failed ≡ count_at s.taken b.number = sym e ∙ b.stage in cc
   usable_behind b h f (stands_after {items =
@@ -358,9 +350,9 @@ begun_no_next h i V b y (counted {c = c} {d = d} counts item stream body) e =
     omega (arith, ap length h.whole, length-append h.count (h.number ++ h.rest), ap length same.rest, length-append d y)
 
 -- so bytes that end with it give the items before it
-pub begun_gives : {X O : Type 0} {received : Received X} {trees : Received TreeBuilder} {most head size : ℕ}
-    {s : SessionState X O} {id : TypeId} {items : List StreamItem} {bytes piece : List ℕ}
-    → SessionHasRead received trees most s items bytes → IsBetween s
+pub begun_gives : {X O : Type 0} {most head size : ℕ} {building : Building X O most} {s : SessionState X O}
+    {id : TypeId} {items : List StreamItem} {bytes piece : List ℕ}
+    → HasRead building s items bytes → IsBetween s
     → HasBegun s.limits (types s.types) s.taken id head size piece
     → LongestStream base_table (no_deeper most s.limits) (bytes ++ piece) items
 begun_gives {most = most} {s = s} {items = items} {piece = piece} a between h =

@@ -7,7 +7,8 @@ use Rattle.gob_types.specs.declared.id.TypeId.{TypeId}
 use Rattle.gob_types.specs.Table.{Table}
 use Rattle.gob_types.specs.Base.{base_table, wire_type}
 use Rattle.gob_types.specs.Defined.{types}
-use Rattle.gob_read.specs.Event.{Event}
+use Rattle.gob_read.specs.Building.{Building}
+use Rattle.gob_read.specs.Calls.Builders.{tree_building}
 use Rattle.gob_read.specs.Viable.{IsViable}
 use Rattle.gob_read.specs.Calls.UnderWay.{under_way}
 use Rattle.gob_read.specs.Calls.Reader.{ReaderHasRead}
@@ -23,10 +24,6 @@ use Rattle.gob_stream.specs.Bounds.{Bounds, greatest_depth, no_deeper}
 use Rattle.gob_stream.specs.Item.{StreamItem}
 use Rattle.gob_stream.specs.Body.{MayDefine, MayPut}
 use Rattle.gob_stream.specs.Stream.{Stream}
-
--- which events a builder has received
-abbrev pub Received : Type 0 → Type 1
-Received X = X → List Event → Type 0
 
 -- these bytes are the count of an item that begins at the offset, and this is its body, which has so many bytes
 pub record IsCount (L : Bounds) (offset m : ℕ) (c : List ℕ) (body : Extent) : Type 0 where
@@ -47,51 +44,49 @@ abbrev pub size : Extent → ℕ
 size rest = rest.end - rest.begin
 
 -- what reads it stands behind these bytes of it
-pub record BodyHasRead (T : Table) (t : TypeId) (limit : ℕ) (rest : Extent) {X O : Type 0} (received : Received X)
-    (reader : BodyReader X O) (z : List ℕ) : Type 0 where
-  pub after : ReaderHasRead T t limit (size rest) received (under_way reader) z
+pub record BodyHasRead (T : Table) (t : TypeId) (limit : ℕ) (rest : Extent) {X O : Type 0} {most : ℕ}
+    (building : Building X O most) (reader : BodyReader X O) (z : List ℕ) : Type 0 where
+  pub after : ReaderHasRead T t limit (size rest) building.received (under_way reader) z
   pub viable : IsViable T t limit (size rest) z
 
 -- the reader stands behind these bytes of an item that begins at the offset, where the types are those of T
-pub data StageHasRead {X O : Type 0} (received : Received X) (trees : Received TreeBuilder) (L : Bounds) (T : Table)
-    (offset : ℕ) : Stage X O → List ℕ → Type 0 where
+pub data StageHasRead {X O : Type 0} {most : ℕ} (building : Building X O most) (L : Bounds) (T : Table) (offset : ℕ)
+    : Stage X O → List ℕ → Type 0 where
   in_count : {number : List ℕ} → IsUnsignedPrefix number
-      → StageHasRead received trees L T offset (count_at offset number) number
+      → StageHasRead building L T offset (count_at offset number) number
   in_type_number : {m : ℕ} {c number : List ℕ} {body : Extent} → IsCount L offset m c body → IsUnsignedPrefix number
       → length number < m
-      → StageHasRead received trees L T offset (type_number_in body number) (c ++ number)
+      → StageHasRead building L T offset (type_number_in body number) (c ++ number)
   in_value : {m : ℕ} {c a z : List ℕ} {body rest : Extent} {t : TypeId} {reader : BodyReader X O}
       → IsCount L offset m c body → IsSigned (pos t.0) a → IsRest body a rest
-      → MayPut T t → BodyHasRead T t L.depth rest received reader z
-      → StageHasRead received trees L T offset (value_in t rest reader) (c ++ (a ++ z))
+      → MayPut T t → BodyHasRead T t L.depth rest building reader z
+      → StageHasRead building L T offset (value_in t rest reader) (c ++ (a ++ z))
   -- a description is read as a tree
   in_description : {m n : ℕ} {c a z : List ℕ} {body rest : Extent} {id : TypeId} {reader : BodyReader TreeBuilder Value}
       → IsCount L offset m c body
       → id.0 ≡ n + 1 → IsSigned (negsuc n) a → IsRest body a rest → MayDefine base_table L T id
-      → BodyHasRead T wire_type (min L.depth greatest_depth) rest trees reader z
-      → StageHasRead received trees L T offset (description_in id rest reader) (c ++ (a ++ z))
+      → BodyHasRead T wire_type (min L.depth greatest_depth) rest tree_building reader z
+      → StageHasRead building L T offset (description_in id rest reader) (c ++ (a ++ z))
 
 -- the reader has given the items, and taken these bytes
-pub record SessionHasRead {X O : Type 0} (received : Received X) (trees : Received TreeBuilder) (most : ℕ)
-    (s : SessionState X O) (items : List StreamItem) (bytes : List ℕ) : Type 0 where
+pub record HasRead {X O : Type 0} {most : ℕ} (building : Building X O most) (s : SessionState X O)
+    (items : List StreamItem) (bytes : List ℕ) : Type 0 where
   pub prefix : List ℕ
   pub under_way : List ℕ
   pub whole : bytes ≡ prefix ++ under_way
   pub stream : Stream base_table (no_deeper most s.limits) items prefix (types s.types)
-  pub stage : StageHasRead received trees (no_deeper most s.limits) (types s.types) (length prefix) s.stage under_way
+  pub stage : StageHasRead building (no_deeper most s.limits) (types s.types) (length prefix) s.stage under_way
   pub taken : s.taken ≡ length bytes
   pub room : s.types.most ≡ s.limits.types
 
 -- it has given some items, and taken some bytes
-pub record SessionHasReadSome {X O : Type 0} (received : Received X) (trees : Received TreeBuilder) (most : ℕ)
-    (s : SessionState X O) : Type 0 where
+pub record HasReadOn {X O : Type 0} {most : ℕ} (building : Building X O most) (s : SessionState X O) : Type 0 where
   pub items : List StreamItem
   pub bytes : List ℕ
-  pub after : SessionHasRead received trees most s items bytes
+  pub after : HasRead building s items bytes
 
 -- the reader stands after some bytes, or has met a fault
-pub data IsUsable {X O : Type 0} (received : Received X) (trees : Received TreeBuilder) (most : ℕ)
-    (s : SessionState X O) : Type 0 where
-  has_failed : s.stage ≡ stage.Failed → IsUsable received trees most s
-  stands_after : {items : List StreamItem} {bytes : List ℕ} → SessionHasRead received trees most s items bytes
-      → IsUsable received trees most s
+pub data IsUsable {X O : Type 0} {most : ℕ} (building : Building X O most) (s : SessionState X O) : Type 0 where
+  has_failed : s.stage ≡ stage.Failed → IsUsable building s
+  stands_after : {items : List StreamItem} {bytes : List ℕ} → HasRead building s items bytes
+      → IsUsable building s

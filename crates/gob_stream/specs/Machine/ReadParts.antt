@@ -13,6 +13,8 @@ use Rattle.gob_value.specs.Tree.{Tree}
 use Rattle.gob_value.specs.View.{view}
 use Rattle.gob_value.specs.Description.{Describes, Misdescribes}
 use Rattle.gob_value.specs.declared.value.Value.{Value}
+use Rattle.gob_read.specs.Building.{Building}
+use Rattle.gob_read.specs.Calls.Builders.{tree_building}
 use Rattle.gob_read.specs.Refusal as body
 use Rattle.gob_read.specs.First.{IsFirst}
 use Rattle.gob_read.specs.Calls.Reader.{ReaderHasRead, IsMade}
@@ -40,7 +42,7 @@ use Rattle.gob_stream.specs.Item.{StreamItem, ItemMeans}
 use Rattle.gob_stream.specs.Stream.{IsItem}
 use Rattle.gob_stream.specs.Refusing.{RefusesCount, behind, refuses}
 use Rattle.gob_stream.specs.Outcome.{RefusesNext}
-use Rattle.gob_stream.specs.Machine.HasRead.{Received, StageHasRead, SessionHasRead, IsCount, BodyHasRead, size}
+use Rattle.gob_stream.specs.Machine.HasRead.{StageHasRead, HasRead, IsCount, BodyHasRead, size}
 use Rattle.gob_stream.specs.Reading.{ShowsRefusal}
 
 -- more of the count was taken, or all of it
@@ -83,11 +85,11 @@ JudgesCount L begin end count (Ok body) = (0 < count) × (count ≤ L.item) × (
 JudgesCount L begin end count (Err R) = CountJudged L begin end count R
 
 -- what reads this part of the stream stands after some bytes of it
-pub record IsBodyUnderWay (T : Table) (t : TypeId) (rest : Extent) {X O : Type 0} (received : Received X)
-    (reader : BodyReader X O) : Type 0 where
+pub record IsBodyUnderWay (T : Table) (t : TypeId) (rest : Extent) {X O : Type 0} {most : ℕ}
+    (building : Building X O most) (reader : BodyReader X O) : Type 0 where
   pub limit : ℕ
   pub bytes : List ℕ
-  pub after : ReaderHasRead T t limit (size rest) received (under_way reader) bytes
+  pub after : ReaderHasRead T t limit (size rest) building.received (under_way reader) bytes
   pub order : rest.begin ≤ rest.end
 
 -- places and counts behind this offset are numbers of 64 bits
@@ -102,18 +104,18 @@ fault_behind begin stop.Memory = fault.Memory
 fault_behind begin stop.Failed = fault.Failed
 
 -- what became of a piece, where z was read of a value of the type
-pub data ReadsValueIn {X O : Type 0} (received : Received X) (means : O → Tree → Type 0) (T : Table) (t : TypeId)
-    (limit : ℕ) (rest : Extent) (z piece : List ℕ) : Result (Stepped X O) Fault → Type 0 where
-  value_goes_on : {reader : BodyReader X O} → BodyHasRead T t limit rest received reader (z ++ piece)
-      → ReadsValueIn received means T t limit rest z piece
+pub data ReadsValueIn {X O : Type 0} {most : ℕ} (building : Building X O most) (T : Table) (t : TypeId) (limit : ℕ)
+    (rest : Extent) (z piece : List ℕ) : Result (Stepped X O) Fault → Type 0 where
+  value_goes_on : {reader : BodyReader X O} → BodyHasRead T t limit rest building reader (z ++ piece)
+      → ReadsValueIn building T t limit rest z piece
       (Ok (record { used = length piece; stage = value_in t rest reader; item = None }))
-  value_ends : {out : O} {used : ℕ} → used ≤ length piece → IsMade T t limit (size rest) means out (z
+  value_ends : {out : O} {used : ℕ} → used ≤ length piece → IsMade T t limit (size rest) building.means out (z
       ++ take used piece)
-      → ReadsValueIn received means T t limit rest z piece
+      → ReadsValueIn building T t limit rest z piece
       (Ok (record { used = used; stage = count_at rest.end []; item = Some (item.Put t out) }))
   value_refused : {R : body.Refusal} → IsFirst T t limit (size rest) (z ++ take (size rest - length z) piece) R
-      → ReadsValueIn received means T t limit rest z piece (Err (fault.Refused (behind rest.begin R)))
-  no_memory_for_value : ReadsValueIn received means T t limit rest z piece (Err fault.Memory)
+      → ReadsValueIn building T t limit rest z piece (Err (fault.Refused (behind rest.begin R)))
+  no_memory_for_value : ReadsValueIn building T t limit rest z piece (Err fault.Memory)
 
 -- what is made of a description
 abbrev pub IsView : Value → Tree → Type 0
@@ -139,23 +141,23 @@ DefineAnswers id v d d' (Err denial) = IsDenial (Misdescribes id v) denial × (d
 
 -- what became of a piece, where z was read of the description of the type and the table was d; the second table is the
 -- one behind it
-pub data ReadsDescription {X O : Type 0} (trees : Received TreeBuilder) (d : Defined) (id : TypeId) (limit : ℕ)
-    (rest : Extent) (z piece : List ℕ) : Defined → Result (Stepped X O) Fault → Type 0 where
+pub data ReadsDescription {X O : Type 0} (d : Defined) (id : TypeId) (limit : ℕ) (rest : Extent) (z piece : List ℕ)
+    : Defined → Result (Stepped X O) Fault → Type 0 where
   description_goes_on : {reader : BodyReader TreeBuilder Value} {d' : Defined} → d' ≡ d
-      → BodyHasRead (types d) wire_type limit rest trees reader (z ++ piece)
-      → ReadsDescription trees d id limit rest z piece d'
+      → BodyHasRead (types d) wire_type limit rest tree_building reader (z ++ piece)
+      → ReadsDescription d id limit rest z piece d'
       (Ok (record { used = length piece; stage = description_in id rest reader; item = None }))
   description_ends : {described : Value} {d' : Defined} {used : ℕ} → IsDescribed (types d) limit rest z piece described
       used → Defines id (view described) d d'
-      → ReadsDescription trees d id limit rest z piece d'
+      → ReadsDescription d id limit rest z piece d'
       (Ok (record { used = used; stage = count_at rest.end []; item = Some (item.Define id described) }))
   description_refused : {R : body.Refusal} {d' : Defined} → d' ≡ d → IsFirst (types d) wire_type limit (size rest) (z
       ++ take (size rest - length z) piece) R
-      → ReadsDescription trees d id limit rest z piece d' (Err (fault.Refused (behind rest.begin R)))
+      → ReadsDescription d id limit rest z piece d' (Err (fault.Refused (behind rest.begin R)))
   describes_nothing : {described : Value} {used : ℕ} {r : Reason} {d' : Defined} → d' ≡ d
       → IsDescribed (types d) limit rest z piece described used → Misdescribes id (view described) r
-      → ReadsDescription trees d id limit rest z piece d' (Err (fault.Refused (refuses rest.begin rest.end r)))
-  no_memory_for_description : {d' : Defined} → d' ≡ d → ReadsDescription trees d id limit rest z piece d'
+      → ReadsDescription d id limit rest z piece d' (Err (fault.Refused (refuses rest.begin rest.end r)))
+  no_memory_for_description : {d' : Defined} → d' ≡ d → ReadsDescription d id limit rest z piece d'
       (Err fault.Memory)
 
 -- descriptions are spelled as in the base table
@@ -165,26 +167,25 @@ pub record HasWireType (T : Table) : Type 0 where
 
 -- what became of a piece behind the bytes z of an item that begins at the offset, where the table was d; the second
 -- table is the one behind it
-pub data StepsOn {X O : Type 0} (received : Received X) (trees : Received TreeBuilder) (means : O → Tree → Type 0)
-    (L : Bounds) (d : Defined) (offset : ℕ) (z piece : List ℕ) : Defined → Result (Stepped X O) Fault → Type 0 where
+pub data StepsOn {X O : Type 0} {most : ℕ} (building : Building X O most) (L : Bounds) (d : Defined) (offset : ℕ)
+    (z piece : List ℕ) : Defined → Result (Stepped X O) Fault → Type 0 where
   goes_on : {expects : Stage X O} {d' : Defined} {used : ℕ} → d' ≡ d → used ≤ length piece
-      → StageHasRead received trees L (types d) offset expects (z ++ take used piece)
-      → StepsOn received trees means L d offset z piece d' (Ok (record { used = used; stage = expects; item = None }))
+      → StageHasRead building L (types d) offset expects (z ++ take used piece)
+      → StepsOn building L d offset z piece d' (Ok (record { used = used; stage = expects; item = None }))
   gives : {given : declared.Item O} {i : StreamItem} {d' : Defined} {used next : ℕ} → d'.most ≡ d.most
       → used ≤ length piece → IsItem base_table L (types d) offset i (z ++ take used piece) (types d')
-      → ItemMeans means given i → next ≡ offset + length (z ++ take used piece)
-      → StepsOn received trees means L d offset z piece d'
+      → ItemMeans building.means given i → next ≡ offset + length (z ++ take used piece)
+      → StepsOn building L d offset z piece d'
       (Ok (record { used = used; stage = count_at next []; item = Some given }))
   refuses_it : {R : Refusal} {d' : Defined} → d' ≡ d → RefusesNext base_table L (types d) offset (z ++ piece) R
       → R.reason ≢ reason.Ended
-      → StepsOn received trees means L d offset z piece d' (Err (fault.Refused R))
-  no_memory : {d' : Defined} → d' ≡ d → StepsOn received trees means L d offset z piece d' (Err fault.Memory)
+      → StepsOn building L d offset z piece d' (Err (fault.Refused R))
+  no_memory : {d' : Defined} → d' ≡ d → StepsOn building L d offset z piece d' (Err fault.Memory)
 
 -- and some of the piece was taken, all of it where so many bytes are sure to be of the item
-pub record StageTakesOn {X O : Type 0} (received : Received X) (trees : Received TreeBuilder) (means : O → Tree
-    → Type 0) (L : Bounds) (d : Defined) (offset : ℕ) (z piece : List ℕ) (wanted : ℕ) (d' : Defined)
-    (result : Result (Stepped X O) Fault) : Type 0 where
-  pub steps : StepsOn received trees means L d offset z piece d' result
+pub record StageTakesOn {X O : Type 0} {most : ℕ} (building : Building X O most) (L : Bounds) (d : Defined) (offset : ℕ)
+    (z piece : List ℕ) (wanted : ℕ) (d' : Defined) (result : Result (Stepped X O) Fault) : Type 0 where
+  pub steps : StepsOn building L d offset z piece d' result
   pub some : IfOk result (λ stepped. 0 < stepped.used)
   pub whole : length piece ≤ wanted → IfOk result (λ stepped. stepped.used ≡ length piece)
 
@@ -201,11 +202,11 @@ pub record AreTypes (L : Bounds) (d : Defined) : Type 0 where
   pub most : d.most ≡ L.types
 
 -- the reader expects this behind some bytes of an item, with which so many bytes of the stream were taken
-pub record IsWithinItem {X O : Type 0} (received : Received X) (trees : Received TreeBuilder) (L : Bounds) (d : Defined)
-    (taken : ℕ) (expects : Stage X O) : Type 0 where
+pub record IsWithinItem {X O : Type 0} {most : ℕ} (building : Building X O most) (L : Bounds) (d : Defined) (taken : ℕ)
+    (expects : Stage X O) : Type 0 where
   pub offset : ℕ
   pub bytes : List ℕ
-  pub in_item : StageHasRead received trees L (types d) offset expects bytes
+  pub in_item : StageHasRead building L (types d) offset expects bytes
   pub taken_is : taken ≡ offset + length bytes
   pub within : offset ≤ L.stream
   pub known : AreTypes L d
@@ -217,34 +218,32 @@ bytes_wanted (stage.Description description) taken = description.rest.end - take
 bytes_wanted _ taken = 1
 
 -- what a step over a piece answers, where this was expected behind so many bytes of the stream
-pub record StageAnswers {X O : Type 0} (received : Received X) (trees : Received TreeBuilder) (means : O → Tree
-    → Type 0) (L : Bounds) (d : Defined) (taken : ℕ) (expects : Stage X O) (piece : List ℕ) (d' : Defined)
-    (result : Result (Stepped X O) Fault) : Type 0 where
-  pub each : (offset : ℕ) (z : List ℕ) → StageHasRead received trees L (types d) offset expects z
-      → StageTakesOn received trees means L d offset z piece (bytes_wanted expects taken) d' result
+pub record StageAnswers {X O : Type 0} {most : ℕ} (building : Building X O most) (L : Bounds) (d : Defined) (taken : ℕ)
+    (expects : Stage X O) (piece : List ℕ) (d' : Defined) (result : Result (Stepped X O) Fault) : Type 0 where
+  pub each : (offset : ℕ) (z : List ℕ) → StageHasRead building L (types d) offset expects z
+      → StageTakesOn building L d offset z piece (bytes_wanted expects taken) d' result
 
 -- the front of the piece was taken, one byte at least of a piece that has any, and an item is whole with it or not
-pub data AdvancesOver {X O : Type 0} (received : Received X) (trees : Received TreeBuilder) (means : O → Tree → Type 0)
-    (most : ℕ) (s' : SessionState X O) (items : List StreamItem) (bytes piece : List ℕ) : ℕ → Option (declared.Item O)
+pub data AdvancesOver {X O : Type 0} {most : ℕ} (building : Building X O most) (s' : SessionState X O)
+    (items : List StreamItem) (bytes piece : List ℕ) : ℕ → Option (declared.Item O)
     → Type 0 where
   over_some : {used : ℕ} → (0 < length piece → 0 < used) → used ≤ length piece
-      → SessionHasRead received trees most s' items (bytes ++ take used piece)
-      → AdvancesOver received trees means most s' items bytes piece used None
+      → HasRead building s' items (bytes ++ take used piece)
+      → AdvancesOver building s' items bytes piece used None
   over_item : {used : ℕ} {given : declared.Item O} {i : StreamItem} → 0 < used → used ≤ length piece
-      → ItemMeans means given i
-      → SessionHasRead received trees most s' (items ++ i ∷ []) (bytes ++ take used piece)
-      → AdvancesOver received trees means most s' items bytes piece used (Some given)
+      → ItemMeans building.means given i
+      → HasRead building s' (items ++ i ∷ []) (bytes ++ take used piece)
+      → AdvancesOver building s' items bytes piece used (Some given)
 
 -- what a step over the front of a piece answers, behind these bytes, of which the items were given
-abbrev pub Advances : {X O : Type 0} → (received : Received X) (trees : Received TreeBuilder) (means : O → Tree
-    → Type 0) (most : ℕ) (s s' : SessionState X O) → List StreamItem → (bytes piece : List ℕ) → Result (Step O) Fault
-    → Type 0
-Advances received trees means most s s' items bytes piece (Ok step) = AdvancesOver received trees means most s' items
-    bytes piece step.used step.item
-Advances received trees means most s s' items bytes piece (Err (fault.Refused R)) =
+abbrev pub StepAnswers : {X O : Type 0} {most : ℕ} → Building X O most → (s s' : SessionState X O) → List StreamItem
+    → (bytes piece : List ℕ) → Result (Step O) Fault → Type 0
+StepAnswers building s s' items bytes piece (Ok step) =
+    AdvancesOver building s' items bytes piece step.used step.item
+StepAnswers {most = most} building s s' items bytes piece (Err (fault.Refused R)) =
     ShowsRefusal (no_deeper most s.limits) (bytes ++ piece) items R × (length bytes < R.seen)
-Advances received trees means most s s' items bytes piece (Err fault.Memory) = Unit {0}
-Advances received trees means most s s' items bytes piece (Err _) = ⊥
+StepAnswers building s s' items bytes piece (Err fault.Memory) = Unit {0}
+StepAnswers building s s' items bytes piece (Err _) = ⊥
 
 -- the type number goes on where the body does
 pub data GoesOnIn {X O : Type 0} (body : Extent) (taken : ℕ) (number : List ℕ) (used : ℕ) : Result (Stepped X O) Fault

@@ -8,6 +8,7 @@ use Rattle.gob_tape.specs.Calls.Builder.{tape_building}
 use Rattle.gob_tape.specs.Flat.{Flat}
 use Rattle.gob_tape.specs.Meaning.{Means}
 use Rattle.gob_tape.specs.declared.tape_builder.TapeBuilder.{TapeBuilder}
+use Rattle.gob_plain.specs.declared.style.Style.{Style}
 use Rattle.gob_stream.specs.Bounds.{deepest, no_deeper}
 use Rattle.gob_stream.specs.Calls.Reader.{HasReadFrom, StopsFrom, session_of}
 use Rattle.gob_stream.specs.Calls.Session.{limits_of, taken_of, types_of}
@@ -25,37 +26,39 @@ abbrev pub Tapes : Type 0
 Tapes = StreamReader TapeBuilder Flat
 
 -- the values that were read have these lines in what went out
-pub record PrintsSo (r : Tapes) (read now old new : Option (List ℕ)) : Type 0 where
+pub record PrintsSo (style : Style) (r : Tapes) (read now old new : Option (List ℕ)) : Type 0 where
   pub given : List StreamItem
   pub has : HasReadFrom tape_building r read now given
-  pub out : (bytes : List ℕ) → read ≡ Some bytes → HasPlain (Appends old new) (types_of (session_of r)) given
+  pub out : (bytes : List ℕ) → read ≡ Some bytes → HasPlain style (Appends old new) (types_of (session_of r)) given
 
 -- the line of what a step gave: nothing but of a value
-abbrev pub GivesLine : Table → Option (declared.Item Flat) → List ℕ → Type 0
-GivesLine T None line = line ≡ []
-GivesLine T (Some (variant.Define id described)) line = line ≡ []
-GivesLine T (Some (variant.Put id tape)) line =
-    (v : Tree) → Means tape v → (text : List ℕ) × IsPlain T id v text × (line ≡ text ++ 10 ∷ [])
+abbrev pub GivesLine : Style → Table → Option (declared.Item Flat) → List ℕ → Type 0
+GivesLine style T None line = line ≡ []
+GivesLine style T (Some (variant.Define id described)) line = line ≡ []
+GivesLine style T (Some (variant.Put id tape)) line =
+    (v : Tree) → Means tape v → (text : List ℕ) × IsPlain style T id v text × (line ≡ text ++ 10 ∷ [])
 
 -- the lines of the items that are whole with what was taken
-pub record MakesLines (r r' : Tapes) (read now : Option (List ℕ)) (given : List StreamItem) (made : List ℕ) : Type
+pub record MakesLines (style : Style) (r r' : Tapes) (read now : Option (List ℕ)) (given : List StreamItem)
+    (made : List ℕ) : Type
     0 where
   pub more : List StreamItem
   pub after : HasReadFrom tape_building r' read now (given ++ more)
   pub onward : taken_of (session_of r) < taken_of (session_of r')
-  pub plain : ArePlain (types_of (session_of r')) more made
+  pub plain : ArePlain style (types_of (session_of r')) more made
 
-abbrev pub MakesPlain : (r r' : Tapes) → (read now : Option (List ℕ)) → List StreamItem → Result (Vec ℕ) Fault
+abbrev pub MakesPlain : Style → (r r' : Tapes) → (read now : Option (List ℕ)) → List StreamItem → Result (Vec ℕ) Fault
     → Type 0
-MakesPlain r r' read now given (Ok line) = MakesLines r r' read now given line.items
-MakesPlain r r' read now given (Err e) = StopsFrom tape_building (session_of r) read now given e
+MakesPlain style r r' read now given (Ok line) = MakesLines style r r' read now given line.items
+MakesPlain style r r' read now given (Err e) = StopsFrom tape_building (session_of r) read now given e
 
 -- they went out, or a prefix of them
-abbrev pub PrintsNext : (r r' : Tapes) → (read now : Option (List ℕ)) → List StreamItem → (old new : Option (List ℕ))
+abbrev pub PrintsNext : Style → (r r' : Tapes) → (read now : Option (List ℕ)) → List StreamItem → (old new : Option
+    (List ℕ))
     → Result (Unit {0}) ToolFault → Type 0
-PrintsNext r r' read now given old new (Ok _) =
-    (made : List ℕ) × MakesLines r r' read now given made × Appends old new made
-PrintsNext r r' read now given old new (Err f) = (bytes : List ℕ) → read ≡ Some bytes → (start : Option (List ℕ))
-    → HasPlain (Appends start old) (types_of (session_of r)) given
-    → RunAnswers (no_deeper deepest (limits_of (session_of r))) bytes now (HasPlain (Appends start new))
-    (HasPlain (AppendsPrefix start new)) (Err f)
+PrintsNext style r r' read now given old new (Ok _) =
+    (made : List ℕ) × MakesLines style r r' read now given made × Appends old new made
+PrintsNext style r r' read now given old new (Err f) = (bytes : List ℕ) → read ≡ Some bytes → (start : Option (List ℕ))
+    → HasPlain style (Appends start old) (types_of (session_of r)) given
+    → RunAnswers (no_deeper deepest (limits_of (session_of r))) bytes now (HasPlain style (Appends start new))
+    (HasPlain style (AppendsPrefix start new)) (Err f)

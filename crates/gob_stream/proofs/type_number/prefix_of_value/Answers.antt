@@ -24,7 +24,7 @@ pub returns-in-Ok : goal.returns-in-Ok
 returns-in-Ok g c = λ offset m d a body k b s r.
     let p = c.in_default.ensures.judged in
     value_begins d a c.args.piece.now k s r p
-    (subst (λ n. ReadsValueIn g.B.Builder.building.received g.B.Builder.building.means (types c.args.table.now)
+    (subst (λ n. ReadsValueIn g.B.Builder.building (types c.args.table.now)
     c.args.id (min n g.B.Builder.DEPTH) c.args.rest [] c.args.piece.now c.take.result) c.depth.ensures.depth
     (c.take.ensures (min c.depth.result g.B.Builder.DEPTH) [] (c.in-Ok.ensures (types c.args.table.now) p.ready)))
 

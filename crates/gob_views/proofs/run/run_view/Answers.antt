@@ -5,7 +5,7 @@ use Rattle.gob_stream.specs.Bounds.{no_deeper}
 use Rattle.gob_words.specs.ViewDepths.{most_view_depth}
 use Rattle.gob_words.specs.declared.view.View.{View}
 use Rattle.gob_words.specs.declared.view.ViewCommand.{ViewCommand}
-use Rattle.gob_views.specs.Running.{ViewAnswers, version_line, view_limits}
+use Rattle.gob_views.specs.Running.{ViewAnswers, version_line, view_limits, view_style}
 use Rattle.gob_views.proofs.SendLaws.{sends_ended}
 use Rattle.gob_views.proofs.run.run_view.Goals as goal
 
@@ -23,8 +23,10 @@ returns-in-Values-clause-shows g c = λ bytes known.
     let new = g.W.Write.contents (writer_of c.run_values.new.output) in
     let next = g.R.Read.remaining (reader_of c.run_values.new.input) in
     let view = c.args.view.now in
-    let printed = rw (c.limits_of.ensures, within_view view _ c.in-Values.is) at c.run_values.ensures.printed in
-    subst (λ x. ViewAnswers x (view_limits view) bytes next old new c.run_values.result) (sym c.in-Values.is)
+    let printed = rw (c.limits_of.ensures, within_view view _ c.in-Values.is, c.style_of.ensures) at
+    c.run_values.ensures.printed in
+    subst (λ x. ViewAnswers x (view_limits view) (view_style view) bytes next old new c.run_values.result)
+    (sym c.in-Values.is)
     (printed bytes known)
 
 pub returns-in-Types-clause-shows : goal.returns-in-Types-clause-shows
@@ -34,7 +36,8 @@ returns-in-Types-clause-shows g c = λ bytes known.
     let next = g.R.Read.remaining (reader_of c.run_types.new.input) in
     let view = c.args.view.now in
     let written = rw (c.limits_of-in-Types.ensures, within_view view _ c.in-Types.is) at c.run_types.ensures.written in
-    subst (λ x. ViewAnswers x (view_limits view) bytes next old new c.run_types.result) (sym c.in-Types.is)
+    subst (λ x. ViewAnswers x (view_limits view) (view_style view) bytes next old new c.run_types.result)
+    (sym c.in-Types.is)
     (written bytes known)
 
 pub returns-in-Version-clause-shows : goal.returns-in-Version-clause-shows
@@ -43,7 +46,8 @@ returns-in-Version-clause-shows g c = λ bytes known.
     let mid = g.W.Write.contents (writer_of c.write_version.new.output) in
     let new = g.W.Write.contents (writer_of c.end_run.new.output) in
     let view = c.args.view.now in
-    subst (λ x. ViewAnswers x (view_limits view) bytes (g.R.Read.remaining (reader_of c.args.input.now)) old new
+    subst (λ x. ViewAnswers x (view_limits view) (view_style view) bytes (g.R.Read.remaining
+    (reader_of c.args.input.now)) old new
     c.end_run.result) (sym c.in-Version.is)
     (sends_ended old mid new version_line c.write_version.result c.end_run.result c.end_run.ensures.bytes
     c.end_run.ensures.ends c.write_version.ensures.sent)

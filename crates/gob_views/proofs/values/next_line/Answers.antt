@@ -7,16 +7,16 @@ use Rattle.gob_views.proofs.values.next_line.Goals as goal
 
 pub returns-in_err-step-clause-made : goal.returns-in_err-step-clause-made
 returns-in_err-step-clause-made c = λ read now given h.
-    plain_at c.args.reader.now _ read now given c.from_residual.result c.in_err-step.field-0.0
+    plain_at c.args.style c.args.reader.now _ read now given c.from_residual.result c.in_err-step.field-0.0
     c.from_residual.ensures.1 (c.in_err-step.ensures.stepped read now given h)
 
 pub returns-in_err-line-clause-made : goal.returns-in_err-line-clause-made
 returns-in_err-line-clause-made c = λ read now given h.
-    plain_at c.args.reader.now _ read now given c.from_residual-in_err-line.result reading.Memory
+    plain_at c.args.style c.args.reader.now _ read now given c.from_residual-in_err-line.result reading.Memory
     c.from_residual-in_err-line.ensures.1 (no_memory h)
 
 pub returns-clause-made : goal.returns-clause-made
 returns-clause-made c = λ read now given h.
     step_made c.in_ok-step.ensures.used (c.in_ok-step.ensures.stepped read now given h)
-    (subst (λ d. GivesLine (types d) c.in_ok-step.step.item c.in_ok-line.field-0.items) c.table.ensures
+    (subst (λ d. GivesLine c.args.style (types d) c.in_ok-step.step.item c.in_ok-line.field-0.items) c.table.ensures
     c.in_ok-line.ensures)

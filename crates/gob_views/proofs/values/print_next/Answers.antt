@@ -21,11 +21,12 @@ returns-in_err-line-clause-printed g c = λ read now given h.
     let s = session_of c.args.reader.now in
     let e = c.in_err-line.field-0.0 in
     let stops = c.in_err-line.ensures.made read now given h in
-    at_error (λ r. PrintsNext c.args.reader.now c.next_line.new.reader read now given out out r)
+    at_error (λ r. PrintsNext c.args.style c.args.reader.now c.next_line.new.reader read now given out out r)
     c.from_residual.result (reading_fault e)
     c.from_residual.ensures.1
     (λ bytes known start a. shown_stops (no_deeper deepest (limits_of s)) (types_of s) given bytes now
-    (HasPlain (Appends start out)) (HasPlain (AppendsPrefix start out)) e (stops bytes known) a)
+    (HasPlain c.args.style (Appends start out)) (HasPlain c.args.style (AppendsPrefix start out)) e
+    (stops bytes known) a)
 
 pub returns-in_err-line-clause-unread : goal.returns-in_err-line-clause-unread
 returns-in_err-line-clause-unread g c =
@@ -38,7 +39,7 @@ returns-in_err-send_all-clause-printed g c = λ read now given h.
     let old = g.W.Write.contents (writer_of c.args.output.now) in
     let new = g.W.Write.contents (writer_of c.send_all.new.self) in
     let m = c.in_ok-line.ensures.made read now given h in
-    at_error (λ r. PrintsNext c.args.reader.now c.next_line.new.reader read now given old new r)
+    at_error (λ r. PrintsNext c.args.style c.args.reader.now c.next_line.new.reader read now given old new r)
     c.from_residual-in_err-send_all.result
     (writing_fault c.in_err-send_all.field-0.0) c.from_residual-in_err-send_all.ensures.1
     (rw c.in_err-send_all.ensures.fault

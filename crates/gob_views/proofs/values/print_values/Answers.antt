@@ -24,11 +24,11 @@ pub returns-in_err-reader-clause-printed : goal.returns-in_err-reader-clause-pri
 returns-in_err-reader-clause-printed g c = λ bytes known.
     let out = g.W.Write.contents (writer_of c.args.output.now) in
     let L = within_trees c.args.limits in
-    at_error (λ r. ValuesAnswers L bytes (g.R.Read.remaining (reader_of c.args.input.now)) out out r)
+    at_error (λ r. ValuesAnswers c.args.style L bytes (g.R.Read.remaining (reader_of c.args.input.now)) out out r)
     c.from_residual.result
     fault.Memory c.from_residual.ensures.1
-    (shown_none L bytes (g.R.Read.remaining (reader_of c.args.input.now)) (HasPlain (Appends out out))
-    (HasPlain (AppendsPrefix out out))
+    (shown_none L bytes (g.R.Read.remaining (reader_of c.args.input.now)) (HasPlain c.args.style (Appends out out))
+    (HasPlain c.args.style (AppendsPrefix out out))
     known (plain_none base_table out))
 
 pub values-init : goal.values-init
@@ -50,13 +50,15 @@ returns-in_err-fill-clause-printed g c = λ bytes known.
     let old = g.W.Write.contents (writer_of c.args.output.now) in
     let out = g.W.Write.contents (writer_of c.values.output) in
     let s = session_of c.values.reader in
-    at_error (λ r. ValuesAnswers (within_trees c.args.limits) bytes next old out r) c.from_residual-in_err-fill.result
+    at_error (λ r. ValuesAnswers c.args.style
+    (within_trees c.args.limits) bytes next old out r) c.from_residual-in_err-fill.result
     (reading_fault e) c.from_residual-in_err-fill.ensures.1
-    (values_under (limits_of s) c.args.limits bytes next (HasPlain (Appends old out))
-    (HasPlain (AppendsPrefix old out)) (Err (reading_fault e))
+    (values_under (limits_of s) c.args.limits bytes next (HasPlain c.args.style (Appends old out))
+    (HasPlain c.args.style (AppendsPrefix old out)) (Err (reading_fault e))
     i.0
-    (shown_stops (no_deeper deepest (limits_of s)) (types_of s) i.3.given bytes next (HasPlain (Appends old out))
-    (HasPlain (AppendsPrefix old out))
+    (shown_stops (no_deeper deepest (limits_of s)) (types_of s) i.3.given bytes next (HasPlain c.args.style
+    (Appends old out))
+    (HasPlain c.args.style (AppendsPrefix old out))
     e
     (c.in_err-fill.ensures.filled read i.3.given i.3.has bytes known) (i.3.out bytes known)))
 
@@ -113,11 +115,11 @@ returns-in_err-flush_before_waiting-clause-printed g c = λ bytes known.
     let shown = c.in_ok-print_next.ensures.printed read next i.3.given on.0 in
     let so = prints_flushed (prints_turn i.3 on.2 on.0 c.in_ok-print_next.ensures.limits shown.1 shown.2)
     c.in_err-flush_before_waiting.ensures.bytes in
-    at_error (λ r. ValuesAnswers (within_trees c.args.limits) bytes next old new r)
+    at_error (λ r. ValuesAnswers c.args.style (within_trees c.args.limits) bytes next old new r)
     c.from_residual-in_err-flush_before_waiting.result (writing_fault e)
     c.from_residual-in_err-flush_before_waiting.ensures.1
-    (values_under (limits_of s) c.args.limits bytes next (HasPlain (Appends old new))
-    (HasPlain (AppendsPrefix old new)) (Err (writing_fault e))
+    (values_under (limits_of s) c.args.limits bytes next (HasPlain c.args.style (Appends old new))
+    (HasPlain c.args.style (AppendsPrefix old new)) (Err (writing_fault e))
     (c.in_ok-print_next.ensures.limits ∙ c.in_ok-fill.ensures.limits ∙ i.0)
     (rw c.in_err-flush_before_waiting.ensures.fault (prints_unflushed so bytes known)))
 
@@ -155,14 +157,14 @@ returns-in_err-print_next-clause-printed g c = λ bytes known.
     let on = goes_on tape_building (session_of c.values.reader) c.fill.new.self read next i.3.given
     c.in_ok-fill.field-0
     c.if-branch.true (c.in_ok-fill.ensures.filled read i.3.given i.3.has) in
-    at_error (λ r. ValuesAnswers (within_trees c.args.limits) bytes next old new r)
+    at_error (λ r. ValuesAnswers c.args.style (within_trees c.args.limits) bytes next old new r)
     c.from_residual-in_err-print_next.result f
     c.from_residual-in_err-print_next.ensures.1
-    (values_under (limits_of s) c.args.limits bytes next (HasPlain (Appends old new))
-    (HasPlain (AppendsPrefix old new)) (Err f)
+    (values_under (limits_of s) c.args.limits bytes next (HasPlain c.args.style (Appends old new))
+    (HasPlain c.args.style (AppendsPrefix old new)) (Err f)
     (c.in_ok-fill.ensures.limits ∙ i.0)
     (c.in_err-print_next.ensures.printed read next i.3.given on.0 bytes known old
-    (subst (λ T. HasPlain (Appends old out) T i.3.given) (sym on.2) (i.3.out bytes known))))
+    (subst (λ T. HasPlain c.args.style (Appends old out) T i.3.given) (sym on.2) (i.3.out bytes known))))
 
 pub returns-in_err-print_next-clause-reads : goal.returns-in_err-print_next-clause-reads
 returns-in_err-print_next-clause-reads g c =
@@ -182,9 +184,9 @@ returns-clause-printed g c = λ bytes known.
     let s = session_of c.values.reader in
     let end = has_ended tape_building s c.fill.new.self read next i.3.given c.in_ok-fill.field-0
     c.if-branch.false (c.in_ok-fill.ensures.filled read i.3.given i.3.has) in
-    values_under (limits_of s) c.args.limits bytes next (HasPlain (Appends old out))
-    (HasPlain (AppendsPrefix old out)) (Ok tt) i.0
-    (shown_whole (HasPlain (Appends old out)) (end.0 bytes known) (i.3.out bytes known))
+    values_under (limits_of s) c.args.limits bytes next (HasPlain c.args.style (Appends old out))
+    (HasPlain c.args.style (AppendsPrefix old out)) (Ok tt) i.0
+    (shown_whole (HasPlain c.args.style (Appends old out)) (end.0 bytes known) (i.3.out bytes known))
 
 pub returns-clause-reads : goal.returns-clause-reads
 returns-clause-reads g c = c.in_ok-fill.ensures.counted ∙ c.values.invariant.1

@@ -12,7 +12,7 @@ invariant-values g l =
     (limits_of (session_of l.reader) ≡ within_trees l.fn.limits)
     × (failed_reads l.input ≡ failed_reads l.fn.input)
     × (failed_writes l.output ≡ failed_writes l.fn.output)
-    × PrintsSo l.reader (g.R.Read.remaining (reader_of l.fn.input)) (g.R.Read.remaining (reader_of l.input))
+    × PrintsSo l.style l.reader (g.R.Read.remaining (reader_of l.fn.input)) (g.R.Read.remaining (reader_of l.input))
     (g.W.Write.contents (writer_of l.fn.output)) (g.W.Write.contents (writer_of l.output))
 
 abbrev pub decreases-values : goal.decreases-values

@@ -7,9 +7,10 @@ use Rattle.gob_words.proofs.command_line.program.Goals as goal
 
 pub returns : goal.returns
 returns c =
-    let values = c.in_ok-valuing.ensures ∙ ap₂ with_subcommand c.in_ok-exact.ensures refl in
+    let values = c.in_ok-valuing.ensures.shape c.in_ok-values.ensures.local
+    ∙ ap₂ with_subcommand c.in_ok-exact.ensures (ap (λ (x : App). x.top) c.in_ok-values.ensures.app) in
     let types = c.in_ok-typing.ensures ∙ ap₂ with_subcommand values refl in
     let version = ap app_of_fields c.about.ensures ∙ c.new.ensures.app in
-    IfOk-weaker c.subcommand.result _ _ (λ r added. added.shape (ap (λ f. f.has_globals) c.about.ensures
+    IfOk-weaker c.subcommand-2.result _ _ (λ r added. added.shape (ap (λ f. f.has_globals) c.about.ensures
     ∙ c.new.ensures.local)
-    ∙ ap₂ with_subcommand types (ap (λ (x : App). x.top) version)) c.subcommand.ensures
+    ∙ ap₂ with_subcommand types (ap (λ (x : App). x.top) version)) c.subcommand-2.ensures

@@ -1,5 +1,5 @@
 -- What is asked for is read off the rows of the one subcommand that was met.
-use Rattle.std.proofs.Common.{rules, ◌∙◌, ap, sym, codes, arith}
+use Rattle.std.proofs.Common.{◌∙◌, sym, codes, arith}
 use Rattle.clap.specs.Words.{found_of, rows_of, subcommand_rows_of}
 use Rattle.clap.proofs.WalkLemmas.{first_value-rows}
 use Rattle.gob_words.proofs.WordLaws.{one_number, writes_alike}
@@ -52,6 +52,8 @@ returns c =
       input = rw (← c.get_str-3.ensures ∙ first_value-rows f (codes "IN")) c.file_of.ensures;
       depth = writes_alike _ _ _ _ (c.get_str.ensures ∙ first_value-rows f (codes "depth")) c.in_ok-depth.ensures;
       item = writes_alike _ _ _ _ (c.get_str-2.ensures ∙ first_value-rows f (codes "item")) c.in_ok-item.ensures;
+      zeros = rw (← c.get_str-4.ensures ∙ first_value-rows f (codes "zeros")) c.is_given.ensures;
+      raw = rw (← c.get_str-5.ensures ∙ first_value-rows f (codes "raw")) c.is_given-2.ensures;
       least = omega (arith, c.if-depth-lt1.false);
       most = omega (arith, c.if-depth-most_depth.false, c.most_depth.ensures);
     }

@@ -9,7 +9,7 @@ use Rattle.gob_stream.proofs.body.DescriptionStage.take.Goals as goal
 pub define-requires-clause-fits : goal.define-requires-clause-fits
 define-requires-clause-fits g c =
     let u = c.requires.has_read in
-    wire_fits c.requires.keeps (made_of {rest = c.args.self.rest} _ c.push.new.self u.bytes c.args.piece.now
+    wire_fits c.requires.keeps (made_of {rest = c.args.self.rest} c.push.new.self u.bytes c.args.piece.now
     c.in-Ok-Done.field-0-is (c.in-Ok-Done.ensures.given wire_type u.limit (size c.args.self.rest) u.bytes
     u.after)).made
 
@@ -23,13 +23,13 @@ returns-in-Ok-More g c = λ limit z s. description_more c.push.new.self z c.args
 
 pub returns-in-Ok : goal.returns-in-Ok
 returns-in-Ok g c = λ limit z s.
-    description_done (made_of _ c.push.new.self z c.args.piece.now c.in-Ok-Done.field-0-is
+    description_done (made_of c.push.new.self z c.args.piece.now c.in-Ok-Done.field-0-is
     (c.in-Ok-Done.ensures.given wire_type limit (size c.args.self.rest) z s)) c.in-Ok.ensures c.next_count.ensures
 
 pub returns-in-Ok-Done : goal.returns-in-Ok-Done
 returns-in-Ok-Done g c = λ limit z s.
     rw c.of.ensures
-    (description_wrong c.in-Err-define.denial (made_of _ c.push.new.self z c.args.piece.now c.in-Ok-Done.field-0-is
+    (description_wrong c.in-Err-define.denial (made_of c.push.new.self z c.args.piece.now c.in-Ok-Done.field-0-is
     (c.in-Ok-Done.ensures.given wire_type limit (size c.args.self.rest) z s)) c.in-Err-define.ensures)
 
 pub returns : goal.returns

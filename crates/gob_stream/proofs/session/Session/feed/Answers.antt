@@ -46,7 +46,7 @@ pub returns-then-used-piece-clause-fed : goal.returns-then-used-piece-clause-fed
 returns-then-used-piece-clause-fed g c = fed_all c.steps.invariant (omega arith)
 
 pub returns-then-used-piece-clause-honest : goal.returns-then-used-piece-clause-honest
-returns-then-used-piece-clause-honest g c = always_feeds_honestly _ _ g.B.Builder.building.means _ _ c.steps.self
+returns-then-used-piece-clause-honest g c = always_feeds_honestly g.B.Builder.building _ c.steps.self
     c.args.piece.now (Ok tt) (returns-then-used-piece-clause-fed g c)
 
 pub overflow_add-used : goal.overflow_add-used
@@ -67,8 +67,8 @@ returns-in-Err-push_item-clause-fed g c =
     c.in-Err-push_item.ensures.as_before
 
 pub returns-in-Err-push_item-clause-honest : goal.returns-in-Err-push_item-clause-honest
-returns-in-Err-push_item-clause-honest g c = always_feeds_honestly _ _ g.B.Builder.building.means _ _
-    c.push_item.new.self c.args.piece.now (Err c.in-Err-push_item.fault) (returns-in-Err-push_item-clause-fed g c)
+returns-in-Err-push_item-clause-honest g c = always_feeds_honestly g.B.Builder.building _ c.push_item.new.self
+    c.args.piece.now (Err c.in-Err-push_item.fault) (returns-in-Err-push_item-clause-fed g c)
 
 pub returns-in-Err-push_item-clause-limits : goal.returns-in-Err-push_item-clause-limits
 returns-in-Err-push_item-clause-limits g c = c.push_item.ensures.limits ∙ c.step.ensures.limits
@@ -79,7 +79,7 @@ returns-in-Err-clause-fed g c = feed_stops c.in-Err.fault c.step.new.self c.step
     c.in-Err.ensures.taken c.in-Err.ensures.advances
 
 pub returns-in-Err-clause-honest : goal.returns-in-Err-clause-honest
-returns-in-Err-clause-honest g c = always_feeds_honestly _ _ g.B.Builder.building.means _ _ c.step.new.self
+returns-in-Err-clause-honest g c = always_feeds_honestly g.B.Builder.building _ c.step.new.self
     c.args.piece.now (Err c.in-Err.fault) (returns-in-Err-clause-fed g c)
 
 pub returns-in-Err-clause-limits : goal.returns-in-Err-clause-limits
@@ -113,7 +113,7 @@ pub returns-clause-fed : goal.returns-clause-fed
 returns-clause-fed g c = fed_all c.steps.invariant (let n = c.steps.invariant.onward in omega arith)
 
 pub returns-clause-honest : goal.returns-clause-honest
-returns-clause-honest g c = always_feeds_honestly _ _ g.B.Builder.building.means _ _ c.steps.self c.args.piece.now
+returns-clause-honest g c = always_feeds_honestly g.B.Builder.building _ c.steps.self c.args.piece.now
     (Ok tt) (returns-clause-fed g c)
 
 pub returns-in-Err-push_item-clause-stays : goal.returns-in-Err-push_item-clause-stays

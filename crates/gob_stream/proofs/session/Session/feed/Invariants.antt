@@ -1,7 +1,5 @@
 use Rattle.gob_stream.proofs.Reader.FeedSteps.{HasFed}
-use Rattle.gob_read.specs.Calls.Builders.{tree_building}
 use Rattle.gob_stream.proofs.session.Session.feed.Given as goal
 
 abbrev pub invariant-steps : goal.invariant-steps
-invariant-steps g l = HasFed g.B.Builder.building.received tree_building.received g.B.Builder.building.means
-    g.B.Builder.DEPTH l.fn.self l.self l.fn.out.items l.out.items l.piece l.used l.counter
+invariant-steps g l = HasFed g.B.Builder.building l.fn.self l.self l.fn.out.items l.out.items l.piece l.used l.counter

@@ -3,10 +3,10 @@ use Rattle.std.proofs.Common.{◌∙◌}
 use Rattle.std.proofs.lemmas.Grind.{common_steps}
 use Rattle.std.specs.Io.KnownBytes.{Consumes}
 use Rattle.gob_types.specs.Defined.{types}
-use Rattle.gob_stream.specs.Calls.Reads.{ReadsNext, TakesNext}
+use Rattle.gob_stream.specs.Calls.Reads.{ReadItemAnswers, ReadItemTakes}
 use Rattle.gob_stream.specs.Machine.ReadParts.{bytes_wanted}
 use Rattle.gob_stream.proofs.Reader.HonestLaws.{reads_honestly}
-use Rattle.gob_stream.proofs.Reader.SessionSteps.{told_trees, types_stay, on_err, consumed_nothing, all_taken}
+use Rattle.gob_stream.proofs.Reader.SessionSteps.{types_stay, on_err, consumed_nothing, all_taken}
 use Rattle.gob_stream.proofs.Reader.SessionSteps.{stood_first, after_room, stood_on, passed_on, IsRead, piece_length}
 use Rattle.gob_stream.proofs.Reader.SessionSteps.{piece_consumed, Stepped, stepped, stood_before, step_stops}
 use Rattle.gob_stream.proofs.Reader.SessionSteps.{read_stops, end_stops, counts_none, step_unread, end_unread}
@@ -40,20 +40,20 @@ consumed g c = piece_consumed (g.R.Read.remaining c.pieces.input.reader) (g.R.Re
 
 refused_step : (g : given.Over) (c : goal.In_err-step-in-Ok g)
     → IsRead c.in-Ok.n (bytes_wanted c.pieces.self.stage c.pieces.self.taken) c.read.new.buf
-    → Stepped g.B.Builder.building.received told_trees g.B.Builder.building.means g.B.Builder.DEPTH c.pieces.self
-    c.step.new.self (take c.in-Ok.n (c.read.new.buf ++ drop c.min-wanted.result c.pieces.chunk))
+    → Stepped g.B.Builder.building c.pieces.self c.step.new.self
+    (take c.in-Ok.n (c.read.new.buf ++ drop c.min-wanted.result c.pieces.chunk))
     (Err c.in_err-step-in-Ok.field-0.0)
-refused_step g c read = stepped g.B.Builder.building.received told_trees g.B.Builder.building.means g.B.Builder.DEPTH
-    c.pieces.self c.step.new.self (drop c.min-wanted.result c.pieces.chunk) (Err c.in_err-step-in-Ok.field-0.0) read
+refused_step g c read = stepped g.B.Builder.building c.pieces.self c.step.new.self
+    (drop c.min-wanted.result c.pieces.chunk) (Err c.in_err-step-in-Ok.field-0.0) read
     c.in_err-step-in-Ok.ensures.advances
 
 taken_step : (g : given.Over) (c : goal.In_ok-step-in-Ok g)
     → IsRead c.in-Ok.n (bytes_wanted c.pieces.self.stage c.pieces.self.taken) c.read.new.buf
-    → Stepped g.B.Builder.building.received told_trees g.B.Builder.building.means g.B.Builder.DEPTH c.pieces.self
-    c.step.new.self (take c.in-Ok.n (c.read.new.buf ++ drop c.min-wanted.result c.pieces.chunk))
+    → Stepped g.B.Builder.building c.pieces.self c.step.new.self
+    (take c.in-Ok.n (c.read.new.buf ++ drop c.min-wanted.result c.pieces.chunk))
     (Ok c.in_ok-step-in-Ok.step)
-taken_step g c read = stepped g.B.Builder.building.received told_trees g.B.Builder.building.means g.B.Builder.DEPTH
-    c.pieces.self c.step.new.self (drop c.min-wanted.result c.pieces.chunk) (Ok c.in_ok-step-in-Ok.step) read
+taken_step g c read = stepped g.B.Builder.building c.pieces.self c.step.new.self
+    (drop c.min-wanted.result c.pieces.chunk) (Ok c.in_ok-step-in-Ok.step) read
     c.in_ok-step-in-Ok.ensures.advances
 
 pub pieces-init : goal.pieces-init
@@ -74,23 +74,23 @@ returns-in_err-finish-in-Ok-eq0-clause-read g c = λ items bytes rest a e.
     let p = consumed_nothing c.read.new.buf c.in-Ok-eq0.field-0-test c.in-Ok-eq0.ensures.bytes.0
     (c.pieces.invariant.stood.each items bytes a) in
     let all = all_taken e (c.in-Ok-eq0.ensures.bytes.1 c.in-Ok-eq0.field-0-test some) p in
-    passed_on (λ r. ReadsNext g.B.Builder.building.received told_trees g.B.Builder.building.means g.B.Builder.DEPTH
-    c.args.self.now c.finish.new.self items bytes rest (g.R.Read.remaining c.read.new.self.reader) r)
+    passed_on (λ r. ReadItemAnswers g.B.Builder.building c.args.self.now c.finish.new.self items bytes rest
+    (g.R.Read.remaining c.read.new.self.reader) r)
     c.from_residual.result _ c.from_residual.ensures.1
-    (end_stops g.B.Builder.DEPTH c.pieces.self c.finish.new.self items bytes rest _ c.pieces.invariant.limits all.ended
-    (c.in_err-finish-in-Ok-eq0.ensures.finishes items (bytes ++ rest) all.holds))
+    (end_stops g.B.Builder.building c.pieces.self c.finish.new.self items bytes rest _ c.pieces.invariant.limits
+    all.ended (c.in_err-finish-in-Ok-eq0.ensures.finishes items (bytes ++ rest) all.holds))
 
 pub returns-in_err-finish-in-Ok-eq0-clause-honest : goal.returns-in_err-finish-in-Ok-eq0-clause-honest
 returns-in_err-finish-in-Ok-eq0-clause-honest g c = λ items bytes rest a e.
-    reads_honestly _ _ _ _ _ _ items bytes rest _ _ (returns-in_err-finish-in-Ok-eq0-clause-read g c items bytes rest a
-    e)
+    reads_honestly g.B.Builder.building _ _ items bytes rest _ _
+    (returns-in_err-finish-in-Ok-eq0-clause-read g c items bytes rest a e)
 
 pub returns-in_err-finish-in-Ok-eq0-clause-counted : goal.returns-in_err-finish-in-Ok-eq0-clause-counted
 returns-in_err-finish-in-Ok-eq0-clause-counted g c =
     let w = c.pieces.invariant.began in
     let p = c.pieces.invariant.stood.each w.items w.bytes w.after in
     counts_none c.args.input.now.failures c.read.new.self.failures c.from_residual.result _ c.from_residual.ensures.1
-    (end_unread g.B.Builder.DEPTH c.pieces.self c.finish.new.self w.items (w.bytes ++ p.bytes) _
+    (end_unread g.B.Builder.building c.pieces.self c.finish.new.self w.items (w.bytes ++ p.bytes) _
     (c.in_err-finish-in-Ok-eq0.ensures.finishes w.items (w.bytes ++ p.bytes) p.holds))
     (c.in-Ok-eq0.ensures.counted.1 ∙ c.pieces.invariant.failures)
 
@@ -99,7 +99,7 @@ returns-in_err-finish-in-Ok-eq0-clause-taken g c =
     let room = after_room (stood_on c.pieces.invariant.began c.pieces.invariant.stood).after in
     let limit = ap (λ L. L.stream) c.pieces.invariant.limits in
     let less = no_less c.pieces.invariant.grown in
-    passed_on (λ r. TakesNext c.args.self.now c.finish.new.self c.args.input.now.taken c.read.new.self.taken r)
+    passed_on (λ r. ReadItemTakes c.args.self.now c.finish.new.self c.args.input.now.taken c.read.new.self.taken r)
     c.from_residual.result _ c.from_residual.ensures.1
     (omega (arith, room.some, room.within, c.in-Ok-eq0.ensures.counted.0))
 
@@ -126,8 +126,8 @@ pub returns-in_err-step-in-Ok-clause-read : goal.returns-in_err-step-in-Ok-claus
 returns-in_err-step-in-Ok-clause-read g c = λ items bytes rest a e.
     let read = read_some g (goal.at.returns-in_err-step-in-Ok-clause-read g c).In-Ok in
     let step = refused_step g (goal.at.returns-in_err-step-in-Ok-clause-read g c).In_err-step-in-Ok read in
-    passed_on (λ r. ReadsNext g.B.Builder.building.received told_trees g.B.Builder.building.means g.B.Builder.DEPTH
-    c.args.self.now c.step.new.self items bytes rest (g.R.Read.remaining c.read.new.self.reader) r)
+    passed_on (λ r. ReadItemAnswers g.B.Builder.building c.args.self.now c.step.new.self items bytes rest
+    (g.R.Read.remaining c.read.new.self.reader) r)
     c.from_residual-in_err-step-in-Ok.result _ c.from_residual-in_err-step-in-Ok.ensures.1
     (step_stops _ _ c.pieces.invariant.limits step
     (stood_before _ e (consumed g (goal.at.returns-in_err-step-in-Ok-clause-read g c).In-Ok)
@@ -135,7 +135,8 @@ returns-in_err-step-in-Ok-clause-read g c = λ items bytes rest a e.
 
 pub returns-in_err-step-in-Ok-clause-honest : goal.returns-in_err-step-in-Ok-clause-honest
 returns-in_err-step-in-Ok-clause-honest g c = λ items bytes rest a e.
-    reads_honestly _ _ _ _ _ _ items bytes rest _ _ (returns-in_err-step-in-Ok-clause-read g c items bytes rest a e)
+    reads_honestly g.B.Builder.building _ _ items bytes rest _ _
+    (returns-in_err-step-in-Ok-clause-read g c items bytes rest a e)
 
 pub returns-in_err-step-in-Ok-clause-counted : goal.returns-in_err-step-in-Ok-clause-counted
 returns-in_err-step-in-Ok-clause-counted g c =
@@ -152,7 +153,7 @@ returns-in_err-step-in-Ok-clause-taken g c =
     let read = read_some g (goal.at.returns-in_err-step-in-Ok-clause-taken g c).In-Ok in
     let limit = ap (λ L. L.stream) c.pieces.invariant.limits in
     let less = no_less c.pieces.invariant.grown in
-    passed_on (λ r. TakesNext c.args.self.now c.step.new.self c.args.input.now.taken c.read.new.self.taken r)
+    passed_on (λ r. ReadItemTakes c.args.self.now c.step.new.self c.args.input.now.taken c.read.new.self.taken r)
     c.from_residual-in_err-step-in-Ok.result _ c.from_residual-in_err-step-in-Ok.ensures.1
     (omega (arith, room.some, room.within, read.within, read.few, c.in-Ok.ensures.counted.0))
 

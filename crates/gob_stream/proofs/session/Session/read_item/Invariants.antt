@@ -1,14 +1,14 @@
 use Rattle.std.proofs.Common.{◌≡◌, ◌+◌, ◌-◌, ◌<◌, ◌⊎◌, length}
 use Rattle.gob_stream.specs.Devices.{counts_up}
-use Rattle.gob_stream.specs.Machine.HasRead.{SessionHasReadSome}
-use Rattle.gob_stream.proofs.Reader.SessionSteps.{StoodOn, told_trees}
+use Rattle.gob_stream.specs.Machine.HasRead.{HasReadOn}
+use Rattle.gob_stream.proofs.Reader.SessionSteps.{StoodOn}
 use Rattle.gob_stream.proofs.session.Session.read_item.Given as goal
 
 abbrev pub invariant-pieces : goal.invariant-pieces
 invariant-pieces g l = record {
   chunk : length l.chunk ≡ 1024;
-  began : SessionHasReadSome g.B.Builder.building.received told_trees g.B.Builder.DEPTH l.initial.self;
-  stood : StoodOn g.B.Builder.building.received told_trees g.B.Builder.DEPTH l.initial.self l.self
+  began : HasReadOn g.B.Builder.building l.initial.self;
+  stood : StoodOn g.B.Builder.building l.initial.self l.self
       (g.R.Read.remaining l.initial.input.reader) (g.R.Read.remaining l.input.reader);
   limits : l.self.limits ≡ l.initial.self.limits;
   failures : l.input.failures ≡ l.initial.input.failures;

@@ -12,7 +12,7 @@ use Rattle.gob_json.specs.Json.{integer_json, natural_json}
 use Rattle.gob_json_writer.proofs.TapeLaws.{integer_token}
 use Rattle.gob_plain.proofs.SomeLaws.{one_written, some_of}
 use Rattle.gob_plain.proofs.PartLaws.{leaf_plain, null_leaf}
-use Rattle.gob_plain.proofs.plain.write_leaf.Goals as goal
+use Rattle.gob_plain.proofs.leaf.write_leaf.Goals as goal
 
 pub returns-in-Bool : goal.returns-in-Bool
 returns-in-Bool c =
@@ -39,15 +39,10 @@ returns-in-Uint c =
 pub returns-in-Bytes : goal.returns-in-Bytes
 returns-in-Bytes c = leaf_plain c.args.first c.args.second c.args.bytes.now c.in-Bytes.is c.write_bytes.ensures
 
-pub returns-in-Opaque : goal.returns-in-Opaque
-returns-in-Opaque c = leaf_plain c.args.first c.args.second c.args.bytes.now c.in-Opaque.is
-    c.write_bytes-in-Opaque.ensures
-
 pub returns-in_default : goal.returns-in_default
 returns-in_default c = some_of (one_written c.null.ensures) (
   json.null,
   null_leaf c.args.kind c.args.first c.args.second c.args.bytes.now c.in_default.not-Bool c.in_default.not-Int
-      c.in_default.not-Uint c.in_default.not-Float c.in_default.not-Complex c.in_default.not-Bytes c.in_default.not-Str
-      c.in_default.not-Opaque,
+      c.in_default.not-Uint c.in_default.not-Float c.in_default.not-Complex c.in_default.not-Bytes c.in_default.not-Str,
   refl,
 )
