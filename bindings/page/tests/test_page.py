@@ -118,7 +118,7 @@ class Tests:
             cut = (ROOT / "examples/logins.gob").read_bytes()[:175]
             page.drop(self.path("cut-off.gob", cut))
             page.wait("document.querySelectorAll('#tree li li').length > 0")
-            self.picture(page, "cut-off")
+            self.picture(page, "cut-off", False)
 
     # ---- how it opens, and what it sends
 
@@ -139,6 +139,9 @@ class Tests:
             path = ROOT / "examples/logins.gob"
             self.due("without workers too", page.drop(path) == "whole")
             self.due("the same lines", page.evaluate(ANSWERS)["show"] == self.printed("show", path)[0])
+            page.evaluate("Reader.prototype.take = function () { this.fault = { status: NO_MEMORY }; return null; }; 0")
+            self.due("want of memory is told", page.drop(path) == "failed", page.evaluate("$('said').textContent"))
+            self.due("and what to do", "The program gob reads it" in page.evaluate("$('said').textContent"))
 
     def has_examples(self):
         with Page(self.address) as page:
