@@ -4,6 +4,8 @@
 #include "memory.h"
 
 enum { PAGE = 65536, SMALLEST = 4, LISTS = 48, HEAD = 16 };
+/* pointers of a page have 32 bits */
+#define MOST 0xf0000000ul
 
 /* What stands before a block: the number of its list while it is used, the next free one while it isn't. */
 union head {
@@ -38,8 +40,7 @@ static union head *grown(uint64_t size) {
 }
 
 void *malloc(size_t size) {
-    /* pointers of a page have 32 bits */
-    if (size > 0xf0000000) return NULL;
+    if (size > MOST) return NULL;
     uint64_t list = list_of(size + HEAD);
     union head *at = free_blocks[list];
     if (at != NULL) free_blocks[list] = at->next;
@@ -66,8 +67,17 @@ void *calloc(size_t count, size_t size) {
 
 void *realloc(void *block, size_t size) {
     if (block == NULL) return malloc(size);
-    size_t room = (1ul << ((union head *)((char *)block - HEAD))->list) - HEAD;
+    union head *at = (union head *)((char *)block - HEAD);
+    uint64_t all = 1ul << at->list;
+    size_t room = all - HEAD;
     if (size <= room) return block;
+    /* the last block grows where it stands */
+    if ((uint64_t)at + all == top && size <= MOST) {
+        uint64_t list = list_of(size + HEAD);
+        if (grown((1ul << list) - all) == NULL) return NULL;
+        at->list = list;
+        return block;
+    }
     void *moved = malloc(size);
     if (moved == NULL) return NULL;
     memcpy(moved, block, room);

@@ -14,7 +14,7 @@ function byteRows({ bytes, from, place, seen }, width) {
         row.forEach((byte, index) => rows.append(byteMark(from + at + index, place, seen, printedByte(byte))));
         rows.append("\n");
     }
-    if (place >= from + bytes.length) rows.append(make("mark", "refused", "the file ends here"), "\n");
+    if (place >= from + bytes.length) rows.append(" ".repeat(10), make("mark", "refused", "the file ends here"), "\n");
     return rows;
 }
 

@@ -33,7 +33,7 @@ class Lines {
         case LIST: return this.list(node, this.types.get(id).elem);
         case MAP: return this.map(node, this.types.get(id));
         case STRUCT: return this.struct(node, this.types.get(id).fields);
-        default: return this.opaque(batch.bytesAt(node, this.base));
+        default: return this.opaque(batch.bytesAt(node, this.base), this.types.get(id));
         }
     }
 
@@ -126,8 +126,9 @@ class PlainLines extends Lines {
         return `"${base64Of(bytes)}"`;
     }
 
-    opaque(bytes) {
-        return this.bytes(bytes);
+    opaque(bytes, type) {
+        const text = knownText(type, bytes);
+        return text === null ? this.bytes(bytes) : JSON.stringify(text);
     }
 
     // a map whose keys give names to members is an object

@@ -122,7 +122,7 @@ function showOutcome(name, told) {
     const before = told.items === 0 ? "Nothing stands before that." : `${held} before that.`;
     const [kind, head, text] = {
         [OK]: ["whole", "A whole gob stream", told.size > 0 ? `${held}, ${sized(told.size)}.` : "The file is empty."],
-        [REFUSED]: ["refused", `No gob stream from byte ${grouped.format(told.refusal?.place)} on`,
+        [REFUSED]: ["refused", `Refused at byte ${grouped.format(told.refusal?.place ?? 0)}`,
             `${told.refusal?.what} ${before}`],
         [NO_MEMORY]: ["refused", "An item is too large for a page",
             `The browser has no memory for it. The program gob reads it. ${before}`],
@@ -164,7 +164,7 @@ function placeText({ path, behind, item, place, start }) {
 }
 
 function marksText({ bytes, from, place, seen }) {
-    if (place >= from + bytes.length) return "What is refused is that nothing follows.";
+    if (place >= from + bytes.length) return "Nothing follows, and that is refused.";
     const first = `The refused byte is ${HEX[bytes[place - from]]}, at ${place}.`;
     return seen > place + 1 ? `${first} It takes the marked bytes up to ${seen - 1} to show it.` : first;
 }

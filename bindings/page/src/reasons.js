@@ -34,8 +34,8 @@ const REASONS = [
         "pointer."],
     ["BadReference", "A definition leads to a number that no type can have.", WRITER],
     ["BadLength", "A definition gives an array a length below 0.", WRITER],
-    ["Ended", "The file ends within an item.", "It was cut off, or isn't all written yet. Get the whole file. What " +
-        "stands before this item is whole."],
+    ["Ended", "The file ends within an item.", "The file was cut off, or isn't all written yet. Get the whole " +
+        "file. What stands before this item is whole."],
 ];
 
 /** The reasons that speak of a type's number. */

@@ -81,7 +81,7 @@ class Part {
         case 6: return this.briefText(room);
         case 7: return `${shownFloat(batch.real(node, 0))} and ${shownFloat(batch.real(node, 1))}i`;
         case 8: return "nil";
-        default: return cut(opaqueText(this.type, batch.bytesAt(node, 0)), room);
+        default: return cut(opaqueText(this.type, batch.bytesAt(node, 0), room), room);
         }
     }
 
@@ -114,27 +114,12 @@ function spaced(bytes, room) {
     return hexOf(some).match(/../g).join(" ") + (some.length < bytes.length ? " .." : "");
 }
 
-/** What a type wrote of itself: a text where it is one, a time where Go's time.Time may have written it, else bytes. */
-function opaqueText(type, bytes) {
-    const text = bytes.length === 0 ? null : textOf(bytes);
-    if (text !== null && !/[\u0000-\u001f]/.test(text)) return quoted(text);
-    const time = shownName(type.name) === "Time" && type.marshal !== "text" ? timeOf(bytes) : null;
-    return time ?? spaced(bytes, SOME);
+/** What a type wrote of itself: as `gob values` shows it where something is known of it, else the bytes. */
+function opaqueText(type, bytes, room) {
+    const text = knownText(type, bytes);
+    return text === null ? spaced(bytes, room) : quoted(text.slice(0, 4 * room));
 }
 
-/** The time that time.Time writes so, by a guess from the type's name; null where it doesn't write so. */
-function timeOf(bytes) {
-    if (bytes.length < 15 || bytes.length > 16 || bytes[0] !== bytes.length - 14) return null;
-    const view = new DataView(bytes.buffer, bytes.byteOffset, bytes.length);
-    const seconds = Number(view.getBigInt64(1)) - 62135596800, nanos = view.getInt32(9), minutes = view.getInt16(13);
-    const at = new Date(1000 * (seconds + (minutes === -1 ? 0 : 60 * minutes)));
-    if (Number.isNaN(at.getTime()) || nanos < 0 || nanos > 999999999) return null;
-    const offset = `${minutes < 0 ? "-" : "+"}${pad(Math.abs(minutes) / 60)}:${pad(Math.abs(minutes) % 60)}`;
-    const fraction = nanos === 0 ? "" : "." + String(nanos).padStart(9, "0").replace(/0+$/, "");
-    return at.toISOString().slice(0, -5).replace("T", " ") + fraction + (minutes === -1 ? " UTC" : " " + offset);
-}
-
-const pad = (number) => String(Math.floor(number)).padStart(2, "0");
 const STYLES = ["", "number", "number", "number", "number", "raw", "text", "number", "nil"];
 
 /** The line of a part: its label, its type, and what it is in one line; a leaf's type stands last. */
@@ -176,7 +161,7 @@ function isLong(part) {
 function wholeText(part) {
     const all = part.batch.bytesAt(part.node, 0), bytes = all.subarray(0, 100000);
     const rest = all.length > bytes.length ? `\n.. ${counted(all.length - bytes.length, "more byte")}` : "";
-    const text = part.kind === 5 ? null : textOf(bytes);
+    const text = part.kind === 6 ? textOf(bytes) : part.kind === OPAQUE ? knownText(part.type, bytes) : null;
     return (text === null ? spaced(bytes, bytes.length) : withoutControls(text)) + rest;
 }
 

@@ -115,10 +115,10 @@ class Tests:
                 page.drop(self.path("refused.gob", data))
                 why = page.evaluate("document.getElementById('why').textContent")
                 self.due(f"{data.hex()} is explained", all(some in why for some in told), told, why)
-            cut = (ROOT / "examples/logins.gob").read_bytes()[:150]
+            cut = (ROOT / "examples/logins.gob").read_bytes()[:175]
             page.drop(self.path("cut-off.gob", cut))
             page.wait("document.querySelectorAll('#tree li li').length > 0")
-            self.picture(page, "cut-off")
+            self.picture(page, "cut-off", False)
 
     # ---- how it opens, and what it sends
 
@@ -139,6 +139,9 @@ class Tests:
             path = ROOT / "examples/logins.gob"
             self.due("without workers too", page.drop(path) == "whole")
             self.due("the same lines", page.evaluate(ANSWERS)["show"] == self.printed("show", path)[0])
+            page.evaluate("Reader.prototype.take = function () { this.fault = { status: NO_MEMORY }; return null; }; 0")
+            self.due("want of memory is told", page.drop(path) == "failed", page.evaluate("$('said').textContent"))
+            self.due("and what to do", "The program gob reads it" in page.evaluate("$('said').textContent"))
 
     def has_examples(self):
         with Page(self.address) as page:
@@ -238,11 +241,10 @@ class Tests:
             print(f"test-page: {count} values of 100 MB in {seconds:.1f} s, and a pause of {watched['longest']:.0f} ms")
             page.wait("document.querySelectorAll('#tree li details li').length > 0")
             began = time.monotonic()
-            last = "[...document.querySelectorAll('#tree > ul > li > details')].at(-1)"
-            page.evaluate(f"{last}.setAttribute('open', '')")
-            page.wait(f"{last}.querySelectorAll('details').length > 0")
-            page.evaluate(f"[...{last}.querySelectorAll('details')].at(-1).setAttribute('open', '')")
-            page.wait(f"{last}.textContent.includes('#{count - 1:,}')")
+            last = "[...document.querySelectorAll('#tree details')].at(-1)"
+            while f"#{count - 1:,}" not in page.evaluate(f"{last}.textContent"):
+                page.evaluate(f"{last}.open = true")
+                page.wait(f"!{last}.open")
             seconds = time.monotonic() - began
             self.due("the last of a million values is shown at once", seconds < 5, seconds)
             page.evaluate("[...document.querySelectorAll('#tree details')].at(-1)?.scrollIntoView()")
