@@ -184,7 +184,7 @@ pub member_some : {E F : Type 0} {u : Unit {0}} {r : Result (Unit {0}) F} {old m
     → WritesSome r old new (MemberTokens name P)
 member_some {name = name} v w = some_behind v w (λ ys q. (q.0, q.1, ap (λ (l : List Token). Token.key name ∷ l) q.2))
 
--- the same of a field whose name and type were looked up
+-- a field whose name and type were looked up
 pub field_some : {E F : Type 0} {u : Unit {0}} {r : Result (Unit {0}) F} {old mid new : Written} (style : Style)
     (T : Table)
     (types : List Field) (v : Tree)

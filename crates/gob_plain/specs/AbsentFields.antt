@@ -46,7 +46,7 @@ SaysBefore T types more ts = (raw : Bool) (fs : Fields) (ms : Members) → SayFi
 abbrev pub ZeroTokens : Table → List Field → (from n : ℕ) → List Token → Type 0
 ZeroTokens T types from n = SaysBefore T types (λ fs. zeros_before T types from n fs)
 
--- the same where the style has zeros, else nothing
+-- where the style has zeros, those of the fields from one number on and before another; else nothing
 abbrev pub AbsentTokens : Style → Table → List Field → (from to : ℕ) → List Token → Type 0
 AbsentTokens style T types from to = SaysBefore T types
     (λ fs. if style.zeros then zeros_before T types from (between types from to) fs else fs)

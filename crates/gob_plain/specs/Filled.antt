@@ -76,7 +76,7 @@ abbrev mutual
 
 -- ---- in a style
 
--- the value that is written in this style, and the same of its parts
+-- the value that is written in this style, and its parts
 abbrev pub shown : Style → Table → TypeId → Tree → Tree
 shown style T t v = if style.zeros then filled T t v else v
 
@@ -93,7 +93,7 @@ shown_fields style T types from fs = if style.zeros then fields_filled T types f
 abbrev pub SaysIn : Style → Table → TypeId → Tree → Json → Type 0
 SaysIn style T t v j = Says style.raw T t (shown style T t v) j
 
--- the same by the parts of a value
+-- what is said of the parts of a value in this style
 abbrev pub SaysElementsIn : Style → Table → TypeId → Trees → Json → Type 0
 SaysElementsIn style T e vs j = SaysElements style.raw T e (shown_all style T e vs) j
 

@@ -15,8 +15,8 @@ use json::Writer;
 use std::alloc::{AllocError, Global};
 use std::ops::Range;
 
-/// Writes a member for each of these fields, which are absent, whose type has a zero that is left out: where the style
-/// has zeros.
+/// Writes the zeros of these fields, which are absent, where the style has zeros: a member for each field whose type has
+/// one.
 pub(crate) fn write_absent<S: Shapes>(
     alloc: Global,
     types: &[Field],
@@ -35,7 +35,7 @@ pub(crate) fn write_absent<S: Shapes>(
     }
 }
 
-// Writes a member for each of these fields whose type has a zero.
+// Writes a member for each of these fields whose type has a zero. Numbers behind the last field count as none.
 fn write_zeros<S: Shapes>(
     alloc: Global,
     types: &[Field],

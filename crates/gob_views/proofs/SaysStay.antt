@@ -9,7 +9,7 @@ use Rattle.gob_types.specs.declared.basic.Basic.TheVariants as basic
 use Rattle.gob_types.specs.declared.id.TypeId.{TypeId}
 use Rattle.gob_types.specs.declared.kind.Field.{Field}
 use Rattle.gob_types.specs.declared.kind.Kind.{Kind}
-use Rattle.gob_types.specs.declared.kind.Kind.TheVariants as type
+use Rattle.gob_types.specs.declared.kind.Kind.TheVariants as kind
 use Rattle.gob_types.specs.declared.kind.Shape.{Shape}
 use Rattle.gob_types.specs.Ready.{IsReady}
 use Rattle.gob_types.specs.Table.{Table, shape_of}
@@ -44,25 +44,25 @@ ZeroStays raw T U t j z = Says raw T t z j → Says raw U t z j
 zero_by_stays : (raw : Bool) (T U : Table) (t : TypeId) (j : Json) (k : Kind) (z : Tree) → zero_by k ≡ Some z
     → ZeroStays raw T U t j z
 unfolding ZeroStays
-zero_by_stays raw T U t j (type.Basic basic.Bool) z e = subst (ZeroStays raw T U t j) (some_injective e) (λ h. h)
-zero_by_stays raw T U t j (type.Basic basic.Int) z e = subst (ZeroStays raw T U t j) (some_injective e) (λ h. h)
-zero_by_stays raw T U t j (type.Basic basic.Uint) z e = subst (ZeroStays raw T U t j) (some_injective e) (λ h. h)
-zero_by_stays raw T U t j (type.Basic basic.Float) z e = subst (ZeroStays raw T U t j) (some_injective e) (λ h. h)
-zero_by_stays raw T U t j (type.Basic basic.Bytes) z e = subst (ZeroStays raw T U t j) (some_injective e) (λ h. h)
-zero_by_stays raw T U t j (type.Basic basic.Str) z e = subst (ZeroStays raw T U t j) (some_injective e) (λ h. h)
-zero_by_stays raw T U t j (type.Basic basic.Complex) z e = subst (ZeroStays raw T U t j) (some_injective e) (λ h. h)
-zero_by_stays raw T U t j (type.Basic basic.Interface) z e = cc
-zero_by_stays raw T U t j (type.Slice e) z h =
+zero_by_stays raw T U t j (kind.Basic basic.Bool) z e = subst (ZeroStays raw T U t j) (some_injective e) (λ h. h)
+zero_by_stays raw T U t j (kind.Basic basic.Int) z e = subst (ZeroStays raw T U t j) (some_injective e) (λ h. h)
+zero_by_stays raw T U t j (kind.Basic basic.Uint) z e = subst (ZeroStays raw T U t j) (some_injective e) (λ h. h)
+zero_by_stays raw T U t j (kind.Basic basic.Float) z e = subst (ZeroStays raw T U t j) (some_injective e) (λ h. h)
+zero_by_stays raw T U t j (kind.Basic basic.Bytes) z e = subst (ZeroStays raw T U t j) (some_injective e) (λ h. h)
+zero_by_stays raw T U t j (kind.Basic basic.Str) z e = subst (ZeroStays raw T U t j) (some_injective e) (λ h. h)
+zero_by_stays raw T U t j (kind.Basic basic.Complex) z e = subst (ZeroStays raw T U t j) (some_injective e) (λ h. h)
+zero_by_stays raw T U t j (kind.Basic basic.Interface) z e = cc
+zero_by_stays raw T U t j (kind.Slice e) z h =
     subst (ZeroStays raw T U t j) (some_injective h) (λ s. (s.0, s.1, none s.0 s.2))
   where
     none : (js : Items) → SayEach raw T (element_type (shape_of T t)) no_tree js
         → SayEach raw U (element_type (shape_of U t)) no_tree js
     none json.no_items s = tt
     none (json.item j js) s = absurd s
-zero_by_stays raw T U t j (type.Array e n) z h = cc
-zero_by_stays raw T U t j (type.Struct types) z h = cc
-zero_by_stays raw T U t j (type.Map k e) z h = cc
-zero_by_stays raw T U t j (type.Opaque m) z h = cc
+zero_by_stays raw T U t j (kind.Array e n) z h = cc
+zero_by_stays raw T U t j (kind.Struct types) z h = cc
+zero_by_stays raw T U t j (kind.Map k e) z h = cc
+zero_by_stays raw T U t j (kind.Opaque m) z h = cc
 
 zero_stays : (raw : Bool) (T U : Table) (o : Option Field) (t : TypeId) (j : Json) (z : Tree) → zero_at T o ≡ Some z
     → Says raw T t z j → Says raw U t z j
@@ -75,38 +75,37 @@ zero_stays raw T U (Some f) t j z e = by (shape_of T f.id) e
     by (Some s) e = zero_by_stays raw T U t j s.kind z e
 
 -- each field has the same zero in both
-same_zero : {T U : Table} {types : List Field} → Keeps T U → AllReady T (type.Struct types) → (f : ℕ) (o : Option Field)
+same_zero : {T U : Table} {types : List Field} → Keeps T U → AllReady T (kind.Struct types) → (f : ℕ) (o : Option Field)
     → slice_get types f ≡ o → zero_at T o ≡ zero_at U o
 same_zero keeps ready f None e = refl
-same_zero keeps ready f (Some field) e =
-    let defined = ready_defined (ready.each field.id (record { number = f; field = field; there = e; type = refl })) in
+same_zero keeps ready f (Some type) e =
+    let defined = ready_defined (ready.each type.id (record { number = f; field = type; there = e; type = refl })) in
     ap zero_of (defined.1 ∙ sym (keeps.shape _ _ defined.1))
 
-zeros_stay : {T U : Table} {types : List Field} (raw : Bool) → Keeps T U → AllReady T (type.Struct types)
+-- a zero before fields, where there is one
+put_stays : (raw : Bool) (T U : Table) (types : List Field) (f : ℕ) (gs hs : Fields) (o : Option Tree)
+    → zero_at T (slice_get types f) ≡ o
+    → ((ms : Members) → SayFields raw T types gs ms → SayFields raw U types hs ms)
+    → (ms : Members) → SayFields raw T types (put_before f o gs) ms → SayFields raw U types (put_before f o hs) ms
+put_stays raw T U types f gs hs None e rest ms s = rest ms s
+put_stays raw T U types f gs hs (Some z) e rest json.no_members s = absurd s
+put_stays raw T U types f gs hs (Some z) e rest (json.member name j ms) s =
+    (s.0, zero_stays raw T U (slice_get types f) (field_type (slice_get types f)) j z e s.1, rest ms s.2)
+
+zeros_stay : {T U : Table} {types : List Field} (raw : Bool) → Keeps T U → AllReady T (kind.Struct types)
     → (f n : ℕ) (gs hs : Fields) → ((ms : Members) → SayFields raw T types gs ms → SayFields raw U types hs ms)
     → (ms : Members) → SayFields raw T types (zeros_before T types f n gs) ms
     → SayFields raw U types (zeros_before U types f n hs) ms
-zeros_stay raw keeps ready f zero gs hs on = on
-zeros_stay {T = T} {U = U} {types = types} raw keeps ready f (suc n) gs hs on ms s =
+zeros_stay raw keeps ready f zero gs hs rest ms s = rest ms s
+zeros_stay {T = T} {U = U} {types = types} raw keeps ready f (suc n) gs hs rest ms s =
     subst (λ o. SayFields raw U types (put_before f o (zeros_before U types (f + 1) n hs)) ms)
     (same_zero keeps ready f (slice_get types f) refl)
-    (by (zero_at T (slice_get types f)) refl ms s)
-  where
-    rest : (ms : Members) → SayFields raw T types (zeros_before T types (f + 1) n gs) ms
-        → SayFields raw U types (zeros_before U types (f + 1) n hs) ms
-    rest = zeros_stay raw keeps ready (f + 1) n gs hs on
-
-    by : (o : Option Tree) → zero_at T (slice_get types f) ≡ o → (ms : Members)
-        → SayFields raw T types (put_before f o (zeros_before T types (f + 1) n gs)) ms
-        → SayFields raw U types (put_before f o (zeros_before U types (f + 1) n hs)) ms
-    by None e ms s = rest ms s
-    by (Some z) e json.no_members s = absurd s
-    by (Some z) e (json.member name j ms) s =
-        (s.0, zero_stays raw T U (slice_get types f) (field_type (slice_get types f)) j z e s.1, rest ms s.2)
+    (put_stays raw T U types f (zeros_before T types (f + 1) n gs) (zeros_before U types (f + 1) n hs)
+    (zero_at T (slice_get types f)) refl (zeros_stay raw keeps ready (f + 1) n gs hs rest) ms s)
 
 -- ---- the fields in a style
 
-no_field_stays : {T U : Table} {types : List Field} (style : Style) → Keeps T U → AllReady T (type.Struct types)
+no_field_stays : {T U : Table} {types : List Field} (style : Style) → Keeps T U → AllReady T (kind.Struct types)
     → (from : ℕ) (ms : Members) → FieldsIn style T types from no_field ms → FieldsIn style U types from no_field ms
 no_field_stays {T = T} {U = U} {types = types} style keeps ready from = by style.zeros
   where
@@ -120,7 +119,7 @@ no_field_stays {T = T} {U = U} {types = types} style keeps ready from = by style
     by true = zeros_stay style.raw keeps ready from (between types from (length types)) no_field no_field none
     by false = none
 
-field_stays : {T U : Table} {types : List Field} (style : Style) → Keeps T U → AllReady T (type.Struct types)
+field_stays : {T U : Table} {types : List Field} (style : Style) → Keeps T U → AllReady T (kind.Struct types)
     → (from f : ℕ) (v : Tree) (fs : Fields)
     → ((j : Json) → SaysIn style T (field_type (slice_get types f)) v j
     → SaysIn style U (field_type (slice_get types f)) v j)
@@ -128,9 +127,6 @@ field_stays : {T U : Table} {types : List Field} (style : Style) → Keeps T U �
     → (ms : Members) → FieldsIn style T types from (field f v fs) ms → FieldsIn style U types from (field f v fs) ms
 field_stays {T = T} {U = U} {types = types} style keeps ready from f v fs = by style.zeros
   where
-    t : TypeId
-    t = field_type (slice_get types f)
-
     one : (v w : Tree) (gs hs : Fields) → ((j : Json) → Says style.raw T (field_type (slice_get types f)) v j
         → Says style.raw U (field_type (slice_get types f)) w j)
         → ((ms : Members) → SayFields style.raw T types gs ms → SayFields style.raw U types hs ms)
@@ -166,9 +162,9 @@ map_as P P' Q Q' true j f g s = (s.0, s.1, f s.0 s.2)
 map_as P P' Q Q' false j f g s = (s.0, s.1, g s.0 s.2)
 
 -- of a value without parts the same is said with its zeros
-leaf_stays : {T U : Table} {t : TypeId} {v : Tree} (style : Style) → filled T t v ≡ v → filled U t v ≡ v → (j : Json)
+leaf_stays : (style : Style) (T U : Table) (t : TypeId) (v : Tree) → filled T t v ≡ v → filled U t v ≡ v → (j : Json)
     → (Says style.raw T t v j → Says style.raw U t v j) → SaysIn style T t v j → SaysIn style U t v j
-leaf_stays {T = T} {U = U} {t = t} {v = v} style p q j f = by style.zeros
+leaf_stays style T U t v p q j f = by style.zeros
   where
     by : (z : Bool) → Says style.raw T t (if z then filled T t v else v) j
         → Says style.raw U t (if z then filled U t v else v) j
@@ -186,16 +182,24 @@ mutual
 
   said_as : {T U : Table} {t : TypeId} {k : Kind} {v : Tree} {b : List ℕ} (style : Style) → Keeps T U → AllReady T k
       → HasKind T t k → SpellsAs T k v b → (j : Json) → SaysIn style T t v j → SaysIn style U t v j
-  said_as style keeps ready h (of_bool p) j s = leaf_stays style refl refl j (λ s. s) s
-  said_as style keeps ready h (of_int p) j s = leaf_stays style refl refl j (λ s. s) s
-  said_as style keeps ready h (of_uint p) j s = leaf_stays style refl refl j (λ s. s) s
-  said_as style keeps ready h (of_float p) j s = leaf_stays style refl refl j (λ s. s) s
-  said_as style keeps ready h (of_complex p q) j s = leaf_stays style refl refl j (λ s. s) s
-  said_as style keeps ready h (of_nil p) j s = leaf_stays style refl refl j (λ s. s) s
-  said_as style keeps ready h (of_bytes p) j s = leaf_stays style refl refl j (λ s. s) s
-  said_as style keeps ready h (of_text p) j s = leaf_stays style refl refl j (λ s. s) s
-  said_as {t = t} style keeps ready h (of_opaque {s = b} p) j s =
-      leaf_stays style refl refl j
+  said_as {T = T} {U = U} {t = t} {v = v} style keeps ready h (of_bool p) j s =
+      leaf_stays style T U t v refl refl j (λ s. s) s
+  said_as {T = T} {U = U} {t = t} {v = v} style keeps ready h (of_int p) j s =
+      leaf_stays style T U t v refl refl j (λ s. s) s
+  said_as {T = T} {U = U} {t = t} {v = v} style keeps ready h (of_uint p) j s =
+      leaf_stays style T U t v refl refl j (λ s. s) s
+  said_as {T = T} {U = U} {t = t} {v = v} style keeps ready h (of_float p) j s =
+      leaf_stays style T U t v refl refl j (λ s. s) s
+  said_as {T = T} {U = U} {t = t} {v = v} style keeps ready h (of_complex p q) j s =
+      leaf_stays style T U t v refl refl j (λ s. s) s
+  said_as {T = T} {U = U} {t = t} {v = v} style keeps ready h (of_nil p) j s =
+      leaf_stays style T U t v refl refl j (λ s. s) s
+  said_as {T = T} {U = U} {t = t} {v = v} style keeps ready h (of_bytes p) j s =
+      leaf_stays style T U t v refl refl j (λ s. s) s
+  said_as {T = T} {U = U} {t = t} {v = v} style keeps ready h (of_text p) j s =
+      leaf_stays style T U t v refl refl j (λ s. s) s
+  said_as {T = T} {U = U} {t = t} {v = v} style keeps ready h (of_opaque {s = b} p) j s =
+      leaf_stays style T U t v refl refl j
       (subst (λ (o : Option Shape). SaysOpaque style.raw o b j) (h.there ∙ sym (keeps.shape _ _ h.there))) s
   said_as {T = T} {U = U} {t = t} style keeps ready h (of_slice {e = e} {vs = vs} p ps) j s =
       let now : element_type (shape_of U t) ≡ e = elements_of (kept_kind keeps h) refl in
@@ -289,7 +293,7 @@ mutual
       entry_in style U k e x v ps j js stays (pairs_stay style keeps keys ready r js parts.1)
 
   fields_stay : {T U : Table} {types : List Field} {next : ℕ} {fs : Fields} {b : List ℕ} (style : Style) → Keeps T U
-      → AllReady T (type.Struct types) → SpellsFields T types next fs b → (from : ℕ) (ms : Members)
+      → AllReady T (kind.Struct types) → SpellsFields T types next fs b → (from : ℕ) (ms : Members)
       → FieldsIn style T types from fs ms → FieldsIn style U types from fs ms
   fields_stay style keeps ready (end_of_fields p) from = no_field_stays style keeps ready from
   fields_stay {T = T} {U = U} style keeps ready (next_field {f = f} {e = e} {v = v} {fs = fs} l there p q ps) from =
