@@ -41,9 +41,9 @@ type Inner struct {
 }
 
 type Nested struct {
-	Base
-	One Inner
-	Two *Inner
+	Base `json:"Base"`
+	One  Inner
+	Two  *Inner
 }
 
 type Point struct {

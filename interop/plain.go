@@ -67,7 +67,7 @@ func init() {
 			At: at,
 			Before: []time.Time{
 				at.UTC(), at.In(pacific), time.Date(1969, 12, 31, 23, 59, 59, 999999999, time.UTC), {},
-				time.Date(9999, 12, 31, 0, 0, 0, 0, time.UTC),
+				time.Date(9999, 12, 30, 0, 0, 0, 0, time.UTC),
 			},
 			Named: map[string]time.Time{"new year": time.Date(2000, 1, 1, 0, 0, 0, 1, pacific)},
 		}, at, time.Date(1880, 1, 1, 0, 0, 0, 0, seconds))

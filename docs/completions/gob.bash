@@ -11,6 +11,9 @@ _gob() {
         words='show check rewrite take values types version help'
     elif [[ $current == -* ]]; then
         words='--depth --item -h --help'
+        case ${COMP_WORDS[1]} in
+        values) words+=' --zeros --raw' ;;
+        esac
     else
         mapfile -t COMPREPLY < <(compgen -f -- "$current")
         return

@@ -11,6 +11,8 @@ complete -c gob -n __fish_use_subcommand -a help -d 'Print this message or the h
 complete -c gob -n '__fish_seen_subcommand_from help' -a 'show check rewrite take values types version help'
 complete -c gob -n '__fish_seen_subcommand_from show check rewrite take values types' -l depth -x -d 'Refuse deeper values'
 complete -c gob -n '__fish_seen_subcommand_from show check rewrite take values types' -l item -x -d 'Refuse items of more bytes'
+complete -c gob -n '__fish_seen_subcommand_from values' -l zeros -d 'Show absent fields too, as zeros'
+complete -c gob -n '__fish_seen_subcommand_from values' -l raw -d 'Show values of types that encode themselves, as time.Time, in base64'
 complete -c gob -n __fish_use_subcommand -s V -l version -d 'Print version'
 complete -c gob -s h -l help -d 'Print help'
 complete -c gob -n '__fish_seen_subcommand_from show check rewrite take values types' -F

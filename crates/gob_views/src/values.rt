@@ -120,8 +120,9 @@ fn line_of(
         return Ok(Vec::new(alloc));
     };
     let text = plain_text(alloc, *id, value, table, style)?;
-    let mut line = Vec::new(alloc);
-    push_shown(text.as_bytes(), &mut line)?;
+    let bytes = text.as_bytes();
+    let mut line = Vec::with_capacity(alloc, bytes.len().saturating_add(1))?;
+    push_shown(bytes, &mut line)?;
     line.push(b'\n')?;
     Ok(line)
 }
