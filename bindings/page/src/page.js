@@ -74,7 +74,7 @@ async function show(file) {
     clear();
     try {
         await ready;
-        const told = await working(`Reading ${file.name}`, file.size, "read", file);
+        const told = await working(`Reading ${unquoted(file.name)}`, file.size, "read", file);
         if (mine === turn) showTold(file.name, told);
     } catch (error) {
         if (mine === turn) showFailure(error);
@@ -84,8 +84,8 @@ async function show(file) {
 /** Calls while the progress is shown. */
 async function working(what, size, call, ...words) {
     const mine = turn;
-    const progress = ({ at, values }) => mine === turn && showProgress(what, size, at, values);
-    const wait = setTimeout(() => progress({ at: 0, values: 0 }), 200);
+    const progress = (at) => mine === turn && showProgress(what, size, at);
+    const wait = setTimeout(() => progress(0), 200);
     try {
         return await readings.follow(progress, call, ...words);
     } finally {
@@ -94,7 +94,7 @@ async function working(what, size, call, ...words) {
     }
 }
 
-function showProgress(what, size, at, values) {
+function showProgress(what, size, at) {
     $("progress").hidden = false;
     $("bar").max = size;
     $("bar").value = at;
@@ -109,7 +109,7 @@ function clear() {
 
 function showTold(name, told) {
     shown = { name, told };
-    document.title = `${name} - what is in it`;
+    document.title = `${unquoted(name)} - what is in it`;
     showOutcome(name, told);
     if (told.status === REFUSED) showRefusal(told.refusal);
     if (told.types.size > 0) showTypes(told);

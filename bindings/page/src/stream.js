@@ -80,7 +80,7 @@ class Stream {
         if (reader.fault.status === OK) this.knowBase(reader);
         const step = (piece, at) => {
             starts.pass(piece);
-            progress(at, this.values);
+            progress(at);
         };
         try {
             for await (const batch of this.batches(reader, 0, step)) this.keep(batch, starts);
@@ -182,7 +182,7 @@ class Stream {
         const lines = kind === "show" ? new ShowLines(this.all()) : new PlainLines(this.all());
         const reader = await Reader.open(this.module);
         const parts = [], encoder = new TextEncoder();
-        for await (const batch of this.batches(reader, 0, (piece, at) => progress(at, parts.length))) {
+        for await (const batch of this.batches(reader, 0, (piece, at) => progress(at))) {
             let text = "";
             for (let item = 0; item < batch.items; item++) {
                 text += lines.line(batch, item);
@@ -210,7 +210,7 @@ class Server {
     }
 
     async answer({ number, call, words }) {
-        const progress = (at, values) => this.tell({ number, progress: { at, values } });
+        const progress = (at) => this.tell({ number, progress: at });
         try {
             this.send({ number, result: await this[call](progress, ...words) });
         } catch (error) {

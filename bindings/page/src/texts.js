@@ -43,6 +43,7 @@ function nameOf(bytes) {
 }
 
 function shownName(name) {
+    if (name.text === "") return '""'; // so that it is seen
     return name.text === null ? "0x" + name.hex : unquoted(name.text);
 }
 

@@ -159,10 +159,16 @@ function isLong(part) {
 
 /** All of a long text, or the bytes of a part; of very long ones the beginning. */
 function wholeText(part) {
-    const all = part.batch.bytesAt(part.node, 0), bytes = all.subarray(0, 100000);
+    const all = part.batch.bytesAt(part.node, 0), bytes = all.subarray(0, wholeUpTo(all, 100000));
     const rest = all.length > bytes.length ? `\n.. ${counted(all.length - bytes.length, "more byte")}` : "";
     const text = part.kind === 6 ? textOf(bytes) : part.kind === OPAQUE ? knownText(part.type, bytes) : null;
     return (text === null ? spaced(bytes, bytes.length) : withoutControls(text)) + rest;
+}
+
+/** The place, or one before it, where no character of UTF-8 is cut. */
+function wholeUpTo(bytes, place) {
+    while (place > 0 && (bytes[place] & 0xc0) === 0x80) place--;
+    return place;
 }
 
 /** What shows a line, and more when it is opened. `fill` gives that, now or later. */
