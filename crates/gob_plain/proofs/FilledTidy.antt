@@ -267,7 +267,9 @@ mutual
       → TidiesFields T types fs gs → TidiesFields T types (fields_filled T types from fs) gs
   refilled_fields {types = types} from no_field p = zeros_on from (between types from (length types)) p
   refilled_fields {T = T} {types = types} from (field f v fs) (dropped there is d q) =
-      zeros_on from (between types from f) (dropped there is (drops_filled T (field_type (slice_get types f)) v d) (refilled_fields (f + 1) fs q))
+      zeros_on from (between types from f)
+      (dropped there is (drops_filled T (field_type (slice_get types f)) v d) (refilled_fields (f + 1) fs q))
   refilled_fields {T = T} {types = types} from (field f v fs) (kept there is n q r) =
       zeros_on from (between types from f)
-      (kept there is (λ d. n (filled_drops T (field_type (slice_get types f)) v d)) (refilled_as (at_field types f there is) v q) (refilled_fields (f + 1) fs r))
+      (kept there is (λ d. n (filled_drops T (field_type (slice_get types f)) v d))
+      (refilled_as (at_field types f there is) v q) (refilled_fields (f + 1) fs r))

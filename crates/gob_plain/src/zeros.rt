@@ -15,8 +15,8 @@ use json::Writer;
 use std::alloc::{AllocError, Global};
 use std::ops::Range;
 
-/// Writes the zeros of these fields, which are absent, where the style has zeros: a member for each field whose type has
-/// one.
+/// Writes the zeros of these fields, which are absent, where the style has zeros: a member for each field whose type
+/// has one.
 pub(crate) fn write_absent<S: Shapes>(
     alloc: Global,
     types: &[Field],

@@ -1,5 +1,5 @@
-//! Streams of opaque values, and the JSON of their last values, in the usual style and raw. The bytes of times are those
-//! of Go's Time.MarshalBinary, worked out by hand.
+//! Streams of opaque values, and the JSON of their last values, in the usual style and raw. The bytes of times are
+//! those of Go's Time.MarshalBinary, worked out by hand.
 
 use crate::rows::Row;
 

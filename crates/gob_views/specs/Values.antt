@@ -17,8 +17,8 @@ use Rattle.gob_stream.specs.Item.{StreamItem, defines, puts}
 use Rattle.gob_tool.specs.declared.fault.ToolFault.{ToolFault}
 use Rattle.gob_tool.specs.Showing.{AppendsPrefix, RunAnswers}
 
--- the text is the compact text of JSON that says the value in this style, with its control characters escaped, and what a reader of
--- JSON reads there is that JSON
+-- the text is the compact text of JSON that says the value in this style, with its control characters escaped, and what
+-- a reader of JSON reads there is that JSON
 pub record IsPlain (style : Style) (T : Table) (t : TypeId) (v : Tree) (text : List ℕ) : Type 0 where
   pub json : Json
   pub says : SaysIn style T t v json

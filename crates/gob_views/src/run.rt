@@ -26,7 +26,8 @@ pub fn run_view<R: Read, W: Write>(
 ) -> Result<(), ToolFault>
     ensures shows { (bytes : List ℕ) → R.remaining (reader_of input.old) ≡ Some bytes
         → ViewAnswers view.now.command (view_limits view.now) (view_style view.now) bytes
-        (R.remaining (reader_of input.new)) (W.contents (writer_of output.old)) (W.contents (writer_of output.new)) result }
+        (R.remaining (reader_of input.new)) (W.contents (writer_of output.old)) (W.contents (writer_of output.new))
+        result }
     ensures reads { CountsReadFaults (failed_reads input.old) (failed_reads input.new) result }
     ensures writes { CountsWriteFaults (failed_writes output.old) (failed_writes output.new) result }
 {
