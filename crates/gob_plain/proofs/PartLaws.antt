@@ -26,8 +26,8 @@ use Rattle.std.specs.Fmt.{decimal, signed_decimal}
 use Rattle.gob_read.specs.Leaf.{signed_of}
 use Rattle.gob_json_writer.proofs.TapeLaws.{NextIs, leaf_seen, signed_unsigned}
 use Rattle.gob_plain.specs.declared.style.Style.{Style}
-use Rattle.gob_plain.specs.Plain.{Says, SayFields, SaysBoth}
-use Rattle.gob_plain.specs.Filled.{shown_fields, SaysIn, SaysElementsIn, SaysMembersIn, SaysPairsIn, SaysStructIn}
+use Rattle.gob_plain.specs.Plain.{Says, SayFields}
+use Rattle.gob_plain.specs.Filled.{SaysIn, SaysElementsIn, SaysMembersIn, SaysPairsIn, SaysStructIn}
 use Rattle.gob_plain.specs.AbsentFields.{AbsentTokens}
 use Rattle.gob_plain.specs.Plain.{name_text, key_text}
 use Rattle.gob_plain.specs.OpaqueText.{SaysOpaque}

@@ -1,24 +1,5 @@
 -- What is said of a value in a style, by what is said of its parts.
-use Rattle.std.proofs.Common.{
-  ◌≡◌,
-  ◌≢◌,
-  ℕ,
-  ◌+◌,
-  ◌-◌,
-  ◌≤◌,
-  List,
-  [],
-  ◌∷◌,
-  ◌++◌,
-  Bool,
-  true,
-  false,
-  refl,
-  sym,
-  ap,
-  subst,
-  ◌∙◌,
-}
+use Rattle.std.proofs.Common.{◌≡◌, ◌≢◌, ℕ, ◌+◌, ◌-◌, ◌≤◌, List, ◌++◌, Bool, true, false, refl, sym, ap, subst, ◌∙◌}
 use Rattle.std.proofs.Common.{arith, min, length, ◌^◌, inl, inr}
 use Rattle.std.proofs.lemmas.Bool.{cases_lt}
 use Rattle.std.specs.Prelude.{slice_get, if◌then◌else◌}
@@ -37,7 +18,7 @@ use Rattle.gob_json.specs.Json.{element_type, key_type, struct_fields, field_nam
 use Rattle.gob_plain.specs.declared.style.Style.{Style}
 use Rattle.gob_plain.specs.Plain.{Says, SayEach, SayMembers, SayPairs, SayFields, SaysBoth, name_text, key_text}
 use Rattle.gob_plain.specs.Plain.{gives_names, SaysElements, SaysMap, SaysStruct}
-use Rattle.gob_plain.specs.Filled.{filled, all_filled, pairs_filled, fields_filled, between, zeros_before, shown}
+use Rattle.gob_plain.specs.Filled.{filled, all_filled, pairs_filled, fields_filled, between, zeros_before}
 use Rattle.gob_plain.specs.Filled.{shown_all, shown_pairs, shown_fields, SaysIn, SaysElementsIn, SaysMapIn}
 use Rattle.gob_plain.specs.Filled.{SaysStructIn}
 use Rattle.gob_plain.specs.AbsentFields.{AbsentTokens}

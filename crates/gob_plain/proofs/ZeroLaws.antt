@@ -1,23 +1,5 @@
 -- What is written of absent fields says their zeros.
-use Rattle.std.proofs.Common.{
-  ◌≡◌,
-  ◌≢◌,
-  ℕ,
-  zero,
-  suc,
-  ◌+◌,
-  List,
-  [],
-  ◌∷◌,
-  ◌++◌,
-  Bool,
-  true,
-  false,
-  Option,
-  Some,
-  None,
-  Ok,
-}
+use Rattle.std.proofs.Common.{◌≡◌, ◌≢◌, ℕ, zero, suc, ◌+◌, List, [], ◌++◌, Bool, true, false, Option, Some, None, Ok}
 use Rattle.std.proofs.Common.{refl, sym, ap, ◌∙◌, subst, append_assoc, append-nil, arith}
 use Rattle.std.specs.Prelude.{slice_get, if◌then◌else◌}
 use Rattle.json.specs.Json.{Json, Members}
@@ -33,8 +15,7 @@ use Rattle.gob_types.specs.declared.kind.Kind.TheVariants as type
 use Rattle.gob_types.specs.declared.kind.Shape.{Shape}
 use Rattle.gob_types.specs.Table.{Table, shape_of}
 use Rattle.gob_types.proofs.PublicLaws.{some_injective}
-use Rattle.gob_value.specs.Tree.{Tree, no_tree, Fields}
-use Rattle.gob_value.specs.Tree as Value
+use Rattle.gob_value.specs.Tree.{Tree, Fields}
 use Rattle.gob_tape.specs.declared.kind.ValueKind.{ValueKind}
 use Rattle.gob_tape.specs.declared.kind.ValueKind.TheVariants as kind
 use Rattle.gob_tape.specs.Seeing.{kind_of}
@@ -43,9 +24,9 @@ use Rattle.gob_plain.specs.declared.style.Style.{Style}
 use Rattle.gob_plain.specs.Leaf.{SaysLeaf}
 use Rattle.gob_plain.specs.Plain.{Says, SayFields, name_text}
 use Rattle.gob_plain.specs.Filled.{zero_by, zero_of, zero_at, put_before, zeros_before, between}
-use Rattle.gob_plain.specs.AbsentFields.{AbsentTokens, SaysBefore, SaysZero, ZeroTokens, shown_kind, zero_kind_at}
+use Rattle.gob_plain.specs.AbsentFields.{AbsentTokens, SaysZero, ZeroTokens, shown_kind, zero_kind_at}
 use Rattle.gob_plain.specs.WritesPlain.{WritesSome}
-use Rattle.gob_plain.proofs.SomeLaws.{MemberTokens, some_then}
+use Rattle.gob_plain.proofs.SomeLaws.{MemberTokens}
 
 -- ---- the zero of a field
 

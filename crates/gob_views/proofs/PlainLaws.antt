@@ -12,7 +12,7 @@ use Rattle.gob_stream.specs.Body as body
 use Rattle.gob_stream.specs.Bounds.{Bounds}
 use Rattle.gob_stream.specs.Calls.Reader.{GivesItems, gives_none, gives_one}
 use Rattle.gob_value.specs.Spelling.{Spells}
-use Rattle.gob_value.specs.Top.{SpellsTop, at_once, tagged}
+use Rattle.gob_value.specs.Top.{at_once, tagged}
 use Rattle.gob_value.specs.Tree.{Tree}
 use Rattle.gob_value.specs.View.{view}
 use Rattle.gob_stream.specs.Item.{StreamItem, defines, puts, means_definition, means_value}

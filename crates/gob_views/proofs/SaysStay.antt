@@ -14,8 +14,7 @@ use Rattle.gob_types.specs.declared.kind.Shape.{Shape}
 use Rattle.gob_types.specs.Ready.{IsReady}
 use Rattle.gob_types.specs.Table.{Table, shape_of}
 use Rattle.gob_types.proofs.PublicLaws.{Keeps, names_ready, ready_defined, some_injective}
-use Rattle.gob_value.specs.Tree.{Tree, Trees, no_tree, tree, Pairs, no_pair, pair, Fields, no_field, field}
-use Rattle.gob_value.specs.Tree as Value
+use Rattle.gob_value.specs.Tree.{Tree, Trees, no_tree, Pairs, pair, Fields, no_field, field}
 use Rattle.gob_value.specs.Spelling.{Spells, of_type, SpellsAs, of_bool, of_int, of_uint, of_float, of_complex, of_nil}
 use Rattle.gob_value.specs.Spelling.{of_bytes, of_text, of_opaque, of_slice, of_array, of_map, of_struct, SpellsEach}
 use Rattle.gob_value.specs.Spelling.{no_element, element, SpellsPairs, no_entry, entry, SpellsFields, end_of_fields}
@@ -24,9 +23,9 @@ use Rattle.gob_value.proofs.PublicLaws.{AllReady}
 use Rattle.gob_json.specs.Json.{element_type, key_type, struct_fields, field_type}
 use Rattle.gob_plain.specs.declared.style.Style.{Style}
 use Rattle.gob_plain.specs.OpaqueText.{SaysOpaque}
-use Rattle.gob_plain.specs.Plain.{Says, SayEach, SayMembers, SayPairs, SayFields, SaysBoth, SaysElements, SaysMap}
-use Rattle.gob_plain.specs.Plain.{IsMapOf, SaysStruct, gives_names}
-use Rattle.gob_plain.specs.Filled.{filled, all_filled, pairs_filled, fields_filled, zero_by, zero_of, zero_at}
+use Rattle.gob_plain.specs.Plain.{Says, SayEach, SayFields, SaysBoth}
+use Rattle.gob_plain.specs.Plain.{IsMapOf, gives_names}
+use Rattle.gob_plain.specs.Filled.{filled, fields_filled, zero_by, zero_of, zero_at}
 use Rattle.gob_plain.specs.Filled.{zeros_before, put_before, between, SaysIn, SaysElementsIn, SaysMapIn, SaysStructIn}
 use Rattle.gob_plain.proofs.PublicLaws.{EachIn, MembersIn, PairsIn, FieldsIn, no_element_in, element_in, element_out}
 use Rattle.gob_plain.proofs.PublicLaws.{element_missing, item_too_many, no_member_in, member_in, member_out}

@@ -1,30 +1,35 @@
 -- How a run that prints values goes on, and how it ends.
-use Rattle.std.proofs.Common.{◌≡◌, ℕ, ◌<◌, arith, List, [], ◌++◌, min, Option, Some, Result, Ok, Err, ◌∙◌, ap, sym}
-use Rattle.std.proofs.Common.{subst, append_assoc, append-nil}
+use Rattle.std.proofs.Common.{◌≡◌, ℕ, ◌<◌, arith, List, [], ◌∷◌, ◌++◌, min, Option, Some, Result, Ok, Err, ◌∙◌, ap}
+use Rattle.std.proofs.Common.{sym, subst, refl, append_assoc, append-nil, length, length-append}
+use Rattle.std.proofs.lemmas.List.{length-take-le}
 use Rattle.std.specs.Global.{Vec}
 use Rattle.std.specs.Result.{IsErrAnd}
 use Rattle.std.specs.Io.KnownBytes.{Appends, Keeps}
 use Rattle.std.proofs.KnownBytes.{Appends-kept, Appends-nil, Appends-trans}
+use Rattle.gob_num.proofs.PublicLaws.{unsigned_length}
+use Rattle.gob_types.specs.Defined.{types}
+use Rattle.gob_types.specs.declared.id.TypeId.{TypeId}
 use Rattle.gob_types.specs.Table.{Table}
 use Rattle.gob_tape.specs.Calls.Builder.{tape_building}
 use Rattle.gob_tape.specs.Flat.{Flat}
 use Rattle.gob_plain.specs.declared.style.Style.{Style}
 use Rattle.gob_stream.specs.Bounds.{Bounds, deepest, no_deeper, within_trees}
-use Rattle.gob_stream.specs.Calls.Reader.{Begins, HasReadFrom, StepsOnFrom, StopsFrom, session_of}
-use Rattle.gob_stream.specs.Calls.Session.{limits_of, types_of}
-use Rattle.gob_stream.specs.Item.{StreamItem}
+use Rattle.gob_stream.specs.Calls.Reader.{Begins, HasReadFrom, PassesOne, StepsOnFrom, StopsFrom, session_of}
+use Rattle.gob_stream.specs.Calls.Session.{limits_of, table_of, types_of}
+use Rattle.gob_stream.specs.Item.{StreamItem, puts}
+use Rattle.gob_stream.specs.Whole.{HasBody}
 use Rattle.gob_stream.specs.Calls.Writing.{SentPrefix}
 use Rattle.gob_stream.specs.declared.fault.Fault.{Fault}
 use Rattle.gob_stream.specs.declared.fault.Fault.TheVariants as reading
 use Rattle.gob_stream.specs.declared.session.Step.{Step}
-use Rattle.gob_stream.proofs.PublicLaws.{ahead_so, begins_so}
+use Rattle.gob_stream.proofs.PublicLaws.{ahead_so, begins_so, whole_item}
 use Rattle.gob_tool.specs.declared.fault.ToolFault.{ToolFault}
 use Rattle.gob_tool.specs.Ending.{EndsRun}
 use Rattle.gob_tool.specs.Showing.{AppendsPrefix, BeginsOutcome, RunAnswers}
 use Rattle.gob_tool.proofs.EndLaws.{all_kept, prefix_kept}
 use Rattle.gob_tool.proofs.ShowRuns.{runs_ended}
-use Rattle.gob_views.specs.Machine.Lines.{GivesLine, MakesLines, MakesPlain, PrintsSo, Tapes}
-use Rattle.gob_views.specs.Values.{ArePlain, no_item, HasPlain, ValuesAnswers}
+use Rattle.gob_views.specs.Machine.Lines.{GivesLine, IsWholeLine, MakesLines, MakesPlain, PrintsSo, Tapes}
+use Rattle.gob_views.specs.Values.{ArePlain, no_item, value, HasPlain, ValuesAnswers}
 use Rattle.gob_views.proofs.KeepLaws.{table_keeps}
 use Rattle.gob_views.proofs.PlainLaws.{plain_append, plain_given, plain_stay}
 
@@ -134,6 +139,30 @@ step_made some st h = record {
   onward = omega (arith, some, st.takes.onward);
   plain = plain_given st.gives h;
 }
+
+-- a whole item has a byte at least
+body_some : {L : Bounds} {T : Table} {offset : ℕ} {id : TypeId} {body : List ℕ} {used : ℕ} {piece : List ℕ}
+    → HasBody L T offset id body used piece → 0 < used
+body_some {body = body} {used = used} {piece = piece} b =
+    let some = (unsigned_length b.counts).0 in
+    omega (arith, ap length b.whole, length-take-le used piece b.within, length-append b.count (b.number ++ body))
+
+pub whole_made : {style : Style} {r r' : Tapes} {read now : Option (List ℕ)} {given : List StreamItem} {line : List ℕ}
+    {used : ℕ} → IsWholeLine style r used line → table_of (session_of r') ≡ table_of (session_of r)
+    → PassesOne tape_building r r' used → HasReadFrom tape_building r read now given
+    → MakesLines style r r' read now given line
+whole_made {style = style} {r = r} {read = read} {now = now} {given = given} {line = line} w same p h =
+    let i = puts w.id w.whole.value in
+    let t = p read now given i h (whole_item deepest refl w.next w.whole) in
+    let some = body_some w.next in
+    let lines = subst (λ (l : List ℕ). ArePlain style (types_of (session_of r)) (i ∷ []) l) (sym w.made_of)
+    (value w.plain no_item) in
+    record {
+      more = i ∷ [];
+      after = t.after;
+      onward = omega (arith, t.onward, some);
+      plain = subst (λ d. ArePlain style (types d) (i ∷ []) line) (sym same) lines;
+    }
 
 -- at the error that a `?` returns
 pub plain_at : (style : Style) (r r' : Tapes) (read now : Option (List ℕ)) (given : List StreamItem) (res : Result

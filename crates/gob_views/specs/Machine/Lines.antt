@@ -1,17 +1,19 @@
 -- Where a run stands that prints values. For private clauses.
-use Rattle.std.specs.Prelude.{◌≡◌, ℕ, ◌<◌, List, [], ◌∷◌, ◌++◌, Option, Some, None, Result, Ok, Err}
+use Rattle.std.specs.Prelude.{◌≡◌, ℕ, ◌<◌, List, [], ◌∷◌, ◌++◌, min, Option, Some, None, Result, Ok, Err}
 use Rattle.std.specs.Global.{Vec}
 use Rattle.std.specs.Io.KnownBytes.{Appends}
 use Rattle.gob_types.specs.Table.{Table}
+use Rattle.gob_types.specs.declared.id.TypeId.{TypeId}
 use Rattle.gob_value.specs.Tree.{Tree}
+use Rattle.gob_value.specs.Whole.{IsWhole}
 use Rattle.gob_tape.specs.Calls.Builder.{tape_building}
 use Rattle.gob_tape.specs.Flat.{Flat}
 use Rattle.gob_tape.specs.Meaning.{Means}
 use Rattle.gob_tape.specs.declared.tape_builder.TapeBuilder.{TapeBuilder}
 use Rattle.gob_plain.specs.declared.style.Style.{Style}
 use Rattle.gob_stream.specs.Bounds.{deepest, no_deeper}
-use Rattle.gob_stream.specs.Calls.Reader.{HasReadFrom, StopsFrom, session_of}
-use Rattle.gob_stream.specs.Calls.Session.{limits_of, taken_of, types_of}
+use Rattle.gob_stream.specs.Calls.Reader.{HasReadFrom, StopsFrom, session_of, waits_in}
+use Rattle.gob_stream.specs.Calls.Session.{HasBodyNext, IsBetweenItems, limits_of, taken_of, types_of}
 use Rattle.gob_stream.specs.Item.{StreamItem}
 use Rattle.gob_stream.specs.declared.fault.Fault.{Fault}
 use Rattle.gob_stream.specs.declared.item.Item as declared
@@ -31,12 +33,33 @@ pub record PrintsSo (style : Style) (r : Tapes) (read now old new : Option (List
   pub has : HasReadFrom tape_building r read now given
   pub out : (bytes : List ℕ) → read ≡ Some bytes → HasPlain style (Appends old new) (types_of (session_of r)) given
 
+-- the line of the value that the tape means
+abbrev pub IsLineOf : Style → Table → TypeId → Flat → List ℕ → Type 0
+IsLineOf style T id tape line =
+    (v : Tree) → Means tape v → (text : List ℕ) × IsPlain style T id v text × (line ≡ text ++ 10 ∷ [])
+
 -- the line of what a step gave: nothing but of a value
 abbrev pub GivesLine : Style → Table → Option (declared.Item Flat) → List ℕ → Type 0
 GivesLine style T None line = line ≡ []
 GivesLine style T (Some (variant.Define id described)) line = line ≡ []
 GivesLine style T (Some (variant.Put id tape)) line =
-    (v : Tree) → Means tape v → (text : List ℕ) × IsPlain style T id v text × (line ≡ text ++ 10 ∷ [])
+    IsLineOf style T id tape line
+
+-- a tape of the value that the bytes are, which is no deeper than the limit
+pub record IsTapeOf (T : Table) (t : TypeId) (limit : ℕ) (bytes : List ℕ) (tape : Flat) : Type 0 where
+  pub whole : IsWhole T t limit bytes
+  pub means : Means tape whole.value
+
+-- the line of the item of a value that waits as a whole
+pub record IsWholeLine (style : Style) (r : Tapes) (used : ℕ) (line : List ℕ) : Type 0 where
+  pub id : TypeId
+  pub body : List ℕ
+  pub between : IsBetweenItems (session_of r)
+  pub next : HasBodyNext (session_of r) id body used (waits_in r)
+  pub whole : IsWhole (types_of (session_of r)) id (min (limits_of (session_of r)).depth deepest) body
+  pub text : List ℕ
+  pub plain : IsPlain style (types_of (session_of r)) id whole.value text
+  pub made_of : line ≡ text ++ 10 ∷ []
 
 -- the lines of the items that are whole with what was taken
 pub record MakesLines (style : Style) (r r' : Tapes) (read now : Option (List ℕ)) (given : List StreamItem)

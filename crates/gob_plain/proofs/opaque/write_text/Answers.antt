@@ -1,5 +1,5 @@
 -- The bytes are UTF-8 or aren't.
-use Rattle.std.proofs.Common.{◌∙◌, ap, refl, rules, sym, List, ℕ}
+use Rattle.std.proofs.Common.{◌∙◌, ap, refl, sym, List, ℕ}
 use Rattle.json.specs.Json as json
 use Rattle.base64.specs.Engines.{standard}
 use Rattle.base64.specs.GeneralPurpose.{encode_of}
