@@ -27,7 +27,8 @@ class Walk {
             // what is told of the place is a help: without it the refusal stands all the same
             if (!(error instanceof Reached)) this.due = LOST;
         }
-        return { item: this.item, path: this.path.join(""), behind: this.behind, due: this.due };
+        const path = this.path.map((step) => typeof step === "number" ? `[${step}]` : step).join("");
+        return { item: this.item, path, behind: this.behind, due: this.due };
     }
 
     reach(due) {
@@ -95,7 +96,7 @@ class Walk {
         this.at += Number(count);
     }
 
-    /** Goes over a part, which the path names while it lasts. */
+    /** Goes over a part, which the path names while it lasts: an element of a list by its number. */
     within(step, id, depth) {
         this.path.push(step);
         this.part(id, depth + 1);
@@ -104,13 +105,13 @@ class Walk {
 
     list(type, depth) {
         const due = type.kind === "array" ? `the array's length, which is ${type.len}` : "how many elements follow";
-        const count = this.number(due);
-        for (let index = 0n; index < count; index++) this.within(`[${index}]`, type.elem, depth);
+        const count = Number(this.number(due));
+        for (let index = 0; index < count; index++) this.within(index, type.elem, depth);
     }
 
     map(type, depth) {
-        const count = this.number("how many pairs of keys and elements follow");
-        for (let index = 0n; index < count; index++) {
+        const count = Number(this.number("how many pairs of keys and elements follow"));
+        for (let index = 0; index < count; index++) {
             const start = this.at;
             this.within(`{key ${index}}`, type.key, depth);
             this.within(`[${this.keyText(type.key, start)}]`, type.elem, depth);

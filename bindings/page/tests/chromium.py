@@ -28,6 +28,13 @@ class Page:
         self.to, self.back = ours[1], theirs[0]
         self.numbers, self.rest, self.session = itertools.count(1), b"", None
         self.events = []
+        try:
+            self.open(address, size, scheme, is_phone, before)
+        except BaseException:
+            self.close()
+            raise
+
+    def open(self, address, size, scheme, is_phone, before):
         target = next(it for it in self.call("Target.getTargets")["targetInfos"] if it["type"] == "page")
         self.session = self.call("Target.attachToTarget", targetId=target["targetId"], flatten=True)["sessionId"]
         screen = {"width": size[0], "height": size[1], "deviceScaleFactor": 1, "mobile": is_phone}
@@ -43,6 +50,9 @@ class Page:
         return self
 
     def __exit__(self, *_):
+        self.close()
+
+    def close(self):
         self.process.terminate()
         self.process.wait()
         os.close(self.to)

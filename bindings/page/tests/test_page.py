@@ -185,6 +185,12 @@ class Tests:
                 self.compare(name, page.evaluate(ANSWERS), path, data)
             self.picture(page, "hostile")
             self.due("hostile files: no complaint", not page.complaints(), page.complaints())
+            page.evaluate(OTHER_SCRIPT)
+            self.due("no other script is run", page.evaluate("window.hit") is None)
+            fetched = page.evaluate("fetch('http://127.0.0.1:1/').then(() => 'fetched', (error) => String(error))")
+            told = [it["params"]["entry"]["text"] for it in page.events if it.get("method") == "Log.entryAdded"]
+            is_by_policy = sum("Content Security Policy" in text for text in told) >= 2
+            self.due("nothing can be fetched", fetched != "fetched" and is_by_policy, fetched, told)
 
     # ---- people
 
@@ -293,6 +299,11 @@ class Tests:
 TAGS = set("A BUTTON CODE DD DETAILS DIV DL DT H2 INPUT LABEL LI MARK NOSCRIPT OUTPUT P PRE PROGRESS SECTION SPAN "
            "STRONG SUMMARY UL".split())
 ACTIVE = "document.activeElement"
+OTHER_SCRIPT = """{
+    const script = document.createElement("script");
+    script.textContent = "window.hit = 1";
+    document.body.append(script);
+}"""
 # presses the button as soon as it is seen
 STOP = """{
     const go = setInterval(() => {
