@@ -128,7 +128,7 @@ class PlainLines extends Lines {
 
     opaque(bytes, type) {
         const text = knownText(type, bytes);
-        return text === null ? this.bytes(bytes) : JSON.stringify(text);
+        return knownNumber(type, bytes) ?? (text === null ? this.bytes(bytes) : JSON.stringify(text));
     }
 
     // a map whose keys give names to members is an object

@@ -116,7 +116,8 @@ function spaced(bytes, room) {
 
 /** What a type wrote of itself: as `gob values` shows it where something is known of it, else the bytes. */
 function opaqueText(type, bytes, room) {
-    const text = knownText(type, bytes);
+    const number = knownNumber(type, bytes), text = knownText(type, bytes);
+    if (number !== null) return number;
     return text === null ? spaced(bytes, room) : quoted(text.slice(0, 4 * room));
 }
 
