@@ -21,6 +21,7 @@ use Rattle.gob_types.specs.declared.kind.Kind.TheVariants as kind
 use Rattle.gob_types.specs.declared.kind.Marshal.{Marshal}
 use Rattle.gob_types.specs.declared.kind.Marshal.TheVariants as marshal
 use Rattle.gob_types.specs.declared.kind.Shape.{Shape}
+use Rattle.gob_plain.specs.BigInt.{SaysInt}
 use Rattle.gob_plain.specs.declared.opaque.Content.{Content}
 use Rattle.gob_plain.specs.declared.opaque.Content.TheVariants as content
 
@@ -102,11 +103,14 @@ pub record SaysTime (b : List ℕ) (j : Json) : Type 0 where
 
 -- ---- by the type
 
--- an encoding.TextMarshaler's own text; a URL of net/url, whose MarshalBinary gives its text; a Time of time
+-- an encoding.TextMarshaler's own text; a URL of net/url, whose MarshalBinary gives its text; a Time of time; an Int of
+-- math/big
 abbrev pub content_as : Marshal → List ℕ → Content
 content_as marshal.Text name = content.Text
 content_as marshal.Binary name = if bytes_eq name (codes "URL") then content.Text else content.Bytes
-content_as marshal.Gob name = if bytes_eq name (codes "Time") then content.Time else content.Bytes
+content_as marshal.Gob name =
+    if bytes_eq name (codes "Int") then content.Int
+    else (if bytes_eq name (codes "Time") then content.Time else content.Bytes)
 
 abbrev pub content_by : Kind → List ℕ → Content
 content_by (kind.Opaque m) name = content_as m name
@@ -122,6 +126,7 @@ abbrev pub SaysContent : Content → List ℕ → Json → Type 0
 SaysContent content.Bytes b j = SaysBytes b j
 SaysContent content.Text b j = SaysText b j
 SaysContent content.Time b j = SaysTime b j
+SaysContent content.Int b j = SaysInt b j
 
 -- an opaque value, whose type has this shape
 abbrev pub SaysOpaque : Bool → Option Shape → List ℕ → Json → Type 0

@@ -8,6 +8,7 @@ ghost use Rattle.gob_plain.specs.OpaqueText.{time_nanos, time_offset, time_insta
 ghost use Rattle.gob_plain.specs.OpaqueText.{offset_seconds};
 ghost use Rattle.gob_plain.specs.WritesPlain.{WritesPlain};
 
+use crate::big::write_int;
 use crate::leaf::write_bytes;
 use gob_types::{Kind, Marshal, Shape};
 use jiff::Timestamp;
@@ -32,6 +33,8 @@ pub(crate) enum Content {
     Text,
     /// A time, where the bytes have the layout of Go's.
     Time,
+    /// A whole number of any size, where the bytes have the layout of Go's.
+    Int,
 }
 
 /// Writes an opaque value, whose type has this shape, as what its bytes are taken for.
@@ -48,6 +51,7 @@ pub(crate) fn write_opaque(
         Content::Bytes => write_bytes(alloc, bytes, out),
         Content::Text => write_text(alloc, bytes, out),
         Content::Time => write_time(alloc, bytes, out),
+        Content::Int => write_int(alloc, bytes, out),
     }
 }
 
@@ -78,6 +82,7 @@ fn content_as(marshal: Marshal, name: &[u8]) -> Content
     match marshal {
         Marshal::Text => Content::Text,
         Marshal::Binary => content_if(name == b"URL".as_slice(), Content::Text),
+        Marshal::Gob if name == b"Int".as_slice() => Content::Int,
         Marshal::Gob => content_if(name == b"Time".as_slice(), Content::Time),
     }
 }
