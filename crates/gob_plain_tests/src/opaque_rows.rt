@@ -1,10 +1,10 @@
 //! Streams of opaque values, and the JSON of their last values, in the usual style and raw. The bytes of times are
-//! those of Go's Time.MarshalBinary, worked out by hand.
+//! those of Go's Time.MarshalBinary, and those of whole numbers of Go's big.Int.GobEncode, worked out by hand.
 
 use crate::rows::Row;
 
 /// The rows of the usual style.
-pub(crate) const OPAQUE: [Row; 22] = [
+pub(crate) const OPAQUE: [Row; 34] = [
     Row {
         what: "a time in UTC",
         stream: "TIME 13 ff 82 00 0f 01 00 00 00 0e c2 8b e7 70 00 00 00 00 ff ff",
@@ -118,10 +118,71 @@ pub(crate) const OPAQUE: [Row; 22] = [
         stream: "0f ff 81 06 01 01 03 55 72 6c 01 ff 82 00 00 00 06 ff 82 00 02 61 62",
         json: r#""YWI=""#,
     },
+    Row {
+        what: "a whole number that is 0",
+        stream: "0f ff 81 05 01 01 03 49 6e 74 01 ff 82 00 00 00 05 ff 82 00 01 02",
+        json: "0",
+    },
+    Row {
+        what: "a whole number of one digit",
+        stream: "0f ff 81 05 01 01 03 49 6e 74 01 ff 82 00 00 00 06 ff 82 00 02 02 07",
+        json: "7",
+    },
+    Row {
+        what: "a negative whole number",
+        stream: "0f ff 81 05 01 01 03 49 6e 74 01 ff 82 00 00 00 06 ff 82 00 02 03 ff",
+        json: "-255",
+    },
+    Row {
+        what: "10 to the 40 as a whole number",
+        stream: "0f ff 81 05 01 01 03 49 6e 74 01 ff 82 00 00 00 16 ff 82 00 12 02 1d 63 29 f1 c3 5c a4 bf ab b9 f5 \
+            61 00 00 00 00 00",
+        json: "10000000000000000000000000000000000000000",
+    },
+    Row {
+        what: "2 to the 64 as a whole number",
+        stream: "0f ff 81 05 01 01 03 49 6e 74 01 ff 82 00 00 00 0e ff 82 00 0a 02 01 00 00 00 00 00 00 00 00",
+        json: "18446744073709551616",
+    },
+    Row {
+        what: "a whole number whose digits end in zeros",
+        stream: "0f ff 81 05 01 01 03 49 6e 74 01 ff 82 00 00 00 06 ff 82 00 02 02 64",
+        json: "100",
+    },
+    Row {
+        what: "a negative zero",
+        stream: "0f ff 81 05 01 01 03 49 6e 74 01 ff 82 00 00 00 05 ff 82 00 01 03",
+        json: r#""Aw==""#,
+    },
+    Row {
+        what: "a whole number with a zero in front",
+        stream: "0f ff 81 05 01 01 03 49 6e 74 01 ff 82 00 00 00 07 ff 82 00 03 02 00 07",
+        json: r#""AgAH""#,
+    },
+    Row {
+        what: "a whole number of version 2",
+        stream: "0f ff 81 05 01 01 03 49 6e 74 01 ff 82 00 00 00 06 ff 82 00 02 04 07",
+        json: r#""BAc=""#,
+    },
+    Row {
+        what: "a whole number without bytes",
+        stream: "0f ff 81 05 01 01 03 49 6e 74 01 ff 82 00 00 00 04 ff 82 00 00",
+        json: r#""""#,
+    },
+    Row {
+        what: "the bytes of a whole number in a type of another name",
+        stream: "0f ff 81 05 01 01 03 52 61 74 01 ff 82 00 00 00 06 ff 82 00 02 02 07",
+        json: r#""Agc=""#,
+    },
+    Row {
+        what: "the bytes of a whole number in a binary type",
+        stream: "0f ff 81 06 01 01 03 49 6e 74 01 ff 82 00 00 00 06 ff 82 00 02 02 07",
+        json: r#""Agc=""#,
+    },
 ];
 
 /// The rows of the raw style.
-pub(crate) const RAW: [Row; 3] = [
+pub(crate) const RAW: [Row; 4] = [
     Row {
         what: "a time, raw",
         stream: "TIME 13 ff 82 00 0f 01 00 00 00 0e c2 8b e7 70 00 00 00 00 ff ff",
@@ -137,5 +198,10 @@ pub(crate) const RAW: [Row; 3] = [
         stream: "0f ff 81 06 01 01 03 55 52 4c 01 ff 82 00 00 00 17 ff 82 00 13 68 74 74 70 73 3a 2f 2f 67 6f 2e 64 \
             65 76 2f 64 6f 63 2f",
         json: r#""aHR0cHM6Ly9nby5kZXYvZG9jLw==""#,
+    },
+    Row {
+        what: "a whole number, raw",
+        stream: "0f ff 81 05 01 01 03 49 6e 74 01 ff 82 00 00 00 06 ff 82 00 02 03 ff",
+        json: r#""A/8=""#,
     },
 ];
