@@ -137,5 +137,9 @@ fn values_want_memory(rt: HostRuntime) {
         is_due(rt.alloc(), &OPAQUE[0], zeros) != Ok(false),
         "a time"
     );
+    assert!(rt;
+        is_due(rt.alloc(), &OPAQUE[25], zeros) != Ok(false),
+        "a whole number"
+    );
     assert!(rt; is_due(rt.alloc(), &ZEROS[0], zeros) != Ok(false), "zeros");
 }
