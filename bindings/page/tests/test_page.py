@@ -72,8 +72,7 @@ class Tests:
     # ---- what is read
 
     def all_streams(self):
-        for path in sorted([*ROOT.glob("interop/streams/*.gob"), *ROOT.glob("interop/plain/*.gob"),
-                            *ROOT.glob("examples/*.gob")]):
+        for path in sorted([*ROOT.glob("interop/**/*.gob"), *ROOT.glob("examples/*.gob")]):
             yield path.name, path.read_bytes()
         for number, row in enumerate(rows.rows()):
             if row.limits is None:
