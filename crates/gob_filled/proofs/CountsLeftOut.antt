@@ -57,8 +57,8 @@ mutual
     fills = as_it_stands;
   }
   filled_so {T = T} {t = t} {v = v}
-      (counted.next_filled {d = d} {done = done} {left = left} {s = s} {a = a} {n = n} c oc ex some os u defs may sg vs g
-      fl) sp de =
+      (counted.next_filled {d = d} {done = done} {left = left} {s = s} {a = a} {n = n} c oc ex some os u defs may sg vs
+      g fl) sp de =
       let ds = defined_so defs in
       let inner = spelled_so vs in
       let rest = filled_so fl (subst (SpellsTop T t v) (behind_nil done c left) sp) de in

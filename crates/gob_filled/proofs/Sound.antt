@@ -42,7 +42,7 @@ record LevelEnds (base : Table) (L : Bounds) (More : List ℕ → List ℕ → T
   pub fills : Fills base L lv.table lv.type lv.limit U lv.done rest fillings letters X
   pub continues : Continues More at lv.end letters g
 
--- the same from behind the name of what fills a nil of this depth
+-- from behind the name of what fills a nil of this depth: definitions, a type, its value, and what goes on behind it
 record FillingEnds (base : Table) (L : Bounds) (More : List ℕ → List ℕ → Type 0) (U : Table) (lv : Level) (d at : ℕ)
     (g : List ℕ) (X : Table) : Type 0 where
   pub defs : Definitions

@@ -51,7 +51,7 @@ abbrev pub Ends : Table → Bounds → Type 0 → List Level → Table → List 
 Ends base L A [] X g = g ≡ []
 Ends base L A (around ∷ levels) X g = Goes base L A X (filled_nil around) (Ends base L A levels) g
 
--- the same from behind the name of what fills a nil of this depth
+-- from behind the name of what fills a nil of this depth the levels go on
 pub record GoesFilling (base : Table) (L : Bounds) (A : Type 0) (U : Table) (lv : Level)
     (Around : Table → List ℕ → Type 0) (d : ℕ) (x : List ℕ) : Type 0 where
   pub defs : Definitions

@@ -351,7 +351,7 @@ number_shown come (not_allowed {c = c} r {a = a} ex e u h) n i =
       none = λ z n' c' y k u'. n (ap reason_of z);
     })
 
--- the same of a part that is too deep
+-- a part that is too deep is refused whatever follows
 record IsShownDeep (lv : Level) (w : List ℕ) (place : ℕ) : Type 1 where
   pub behind : length lv.done ≤ place
   pub none : {base : Table} {M : Bounds} {U : Table} {Around : Table → List ℕ → Type 0} (x : List ℕ)

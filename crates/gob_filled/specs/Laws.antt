@@ -29,7 +29,7 @@ EndByThemselves = (base : Table) (L : Bounds) (T U V : Table) (t : TypeId) (limi
     → SpellsFilled base L T t limit v b U → SpellsFilled base L T t most w c V → b ++ x ≡ c ++ y
     → SameEnd v w b c x y U V
 
--- the same of their segments
+-- no segments of a value's spelling begin those of another of its type from the same table
 abbrev pub SegmentsEndByThemselves : Type 0
 SegmentsEndByThemselves = (base : Table) (L : Bounds) (T U V : Table) (t : TypeId) (limit most : ℕ) (v w : Filled)
     (ls ms f g x y : List ℕ)

@@ -106,7 +106,7 @@ end_as P end r q e p = subst (λ q. IfOk q P) (sym e) (end_so P end r p)
 
 module _ {O E : Type 0} (puts : O → O → List ℕ → Result (Unit {0}) E → Type 0) where
   -- ---- what is answered
-  -- the same text in other words
+  -- what sends a text sends any that equals it
   pub sends_as : {old new : O} {text shown body rest : List ℕ} {q : Result ℕ E} → text ≡ shown
       → Sends puts old new text body rest q → Sends puts old new shown body rest q
   sends_as {old = old} {new = new} {q = q} e p =
@@ -309,7 +309,7 @@ pub record ElementsLeft {O E : Type 0} (puts : O → O → List ℕ → Result (
   pub counted : tree_count values ≡ count
   pub text : GoesOn puts old now (items_text later (elements_json T e values)) all
 
--- the same behind text that was made and isn't put out
+-- so many elements are left, behind text that was made and isn't put out
 pub record ElementsWait {O E : Type 0} (puts : O → O → List ℕ → Result (Unit {0}) E → Type 0) (T : Table) (e : TypeId)
     (limit count : ℕ) (later : Bool) (old now : O) (waits piece rest all : List ℕ) : Type 0 where
   pub values : Trees

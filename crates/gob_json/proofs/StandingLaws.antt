@@ -311,7 +311,7 @@ map_parts (of_map {ps = ps} {c = c} {b = b} p q) = record {
   whole = refl;
 }
 
--- the same of pairs
+-- a map begins here: its count, and the entries behind it
 pub record BeginsMap (T : Table) (k e : TypeId) (limit : ℕ) (ps : Pairs) (piece rest : List ℕ) : Type 0 where
   pub behind : List ℕ
   pub counted : BeginsThisNumber (pair_count ps) piece behind

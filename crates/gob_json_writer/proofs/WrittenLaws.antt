@@ -34,7 +34,7 @@ pub none_written_of : {E V : Type 0} {r : Result (Unit {0}) E} {old new : Writte
     → IsErr r → new.before ≡ old.before → WritesJsonOf r old new Is json
 none_written_of e b = record { before = b; each = λ v h. none_written e b }
 
--- the same of JSON that is alike
+-- what writes some JSON writes any that equals it
 pub same_written : {E : Type 0} {r : Result (Unit {0}) E} {old new : Written} {d e : Data} → d ≡ e
     → WritesJson r old new d → WritesJson r old new e
 same_written {r = r} {old = old} {new = new} e w = subst (WritesJson r old new) e w

@@ -53,7 +53,7 @@ below_or_past (suc k) (suc n) = by (below_or_past k n)
 length-push : (path : List Step) (s : Step) → length (path ++ s ∷ []) ≡ length path + 1
 length-push path s = length-append path (s ∷ [])
 
--- the same entry on the left
+-- an entry stays where it is when more are appended
 pub kept_at : {es : List Entry} (more : List Entry) {k : ℕ} {p : TypePair} → IsAt es k p → IsAt (es ++ more) k p
 kept_at {es = es} more {k = k} {p = p} at =
     record {

@@ -35,7 +35,7 @@ mutual
     of_types : {t u : TypeId} {s r : Shape} {v w : Tree} → shape_of T t ≡ Some s → shape_of U u ≡ Some r
         → ReceivesAs T U s.kind r.kind v w → Receives T U t u v w
 
-  -- the same at two kinds
+  -- the second value is what a kind of the wanted table receives of the first, a value of a kind of the stream's table
   pub data ReceivesAs (T U : Table) : Kind → Kind → Tree → Tree → Type 0 where
     of_basics : {b : Basic} {v : Tree} → ReceivesAs T U (kind.Basic b) (kind.Basic b) v v
     of_opaques : {m : Marshal} {v : Tree} → ReceivesAs T U (kind.Opaque m) (kind.Opaque m) v v

@@ -108,7 +108,7 @@ big_endian-take k ds b =
     ∙ div-mul-add (big_endian (take k ds)) (256 ^ (length ds - k)) (big_endian (drop k ds))
     (subst (λ n. big_endian (drop k ds) < 256 ^ n) size low)
 
--- the same number as std's word for it
+-- eight digits are the number that std's `from_be_bytes` reads from them
 pub from_be_bytes-big_endian : (ds : List ℕ) → length ds ≡ 8 → from_be_bytes w64 ds ≡ big_endian ds
 from_be_bytes-big_endian (a ∷ b ∷ c ∷ d ∷ e ∷ f ∷ g ∷ h ∷ []) l = omega arith
 from_be_bytes-big_endian ds l = absurd (omega arith)

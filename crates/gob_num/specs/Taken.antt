@@ -11,7 +11,7 @@ TakesOn old piece More = IsUnsignedPrefix (old ++ piece)
 TakesOn old piece BadHead = IsBadHead (old ++ piece)
 TakesOn old piece NotMinimal = IsNotMinimal (old ++ piece)
 
--- the same where none came before
+-- what each answer says of the piece, where no byte of the number came before
 abbrev pub TakesUnsigned : List ℕ → Taken → Type 0
 TakesUnsigned piece taken = TakesOn [] piece taken
 

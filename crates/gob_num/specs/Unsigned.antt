@@ -33,7 +33,7 @@ pub record IsUnsignedPrefix (bytes : List ℕ) : Type 0 where
   pub more : rest ≢ []
   pub spelled : IsUnsigned number (bytes ++ rest)
 
--- the same said of the bytes themselves: a head, and fewer digits than it counts, the first of them not 0
+-- the bytes begin a number: a head, and fewer digits than it counts, the first of them not 0
 abbrev pub BeginsNumber : List ℕ → Type 0
 BeginsNumber [] = Unit {0}
 BeginsNumber (head ∷ []) = (248 ≤ head) × (head < 256)

@@ -38,7 +38,8 @@ fn is_due(alloc: Global, row: &Row, style: Style) -> Result<bool, Memory> {
     }
 }
 
-// Whether a whole number's JSON has so many bytes and these ends: the magnitude is so many bytes of 255 behind the head.
+// Whether a whole number's JSON has so many bytes and these ends: its magnitude is so many bytes of 255, behind the
+// head.
 fn has_ends(
     alloc: Global,
     head: &str,

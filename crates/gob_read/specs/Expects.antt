@@ -56,7 +56,8 @@ pub data Expects (T : Table) : TypeId → List ℕ → Expected → ℕ → Type
   in_part : {t u : TypeId} {d : ℕ} {s : Shape} {p q : List ℕ} {w : Expected} → shape_of T t ≡ Some s
       → Enters T s.kind q u → Expects T u p w d → Expects T t (q ++ p) w (suc d)
 
--- the same of a body behind its type number: a value that is no struct stands behind the tag, which is in no part
+-- after these bytes of a body behind its type number, this comes next: a value that is no struct stands behind the
+-- tag, which is in no part
 pub data ExpectsTop (T : Table) : TypeId → List ℕ → Expected → ℕ → Type 0 where
   in_struct : {t : TypeId} {s : Shape} {p : List ℕ} {w : Expected} {d : ℕ} → shape_of T t ≡ Some s → IsStruct s.kind
       → Expects T t p w d → ExpectsTop T t p w d

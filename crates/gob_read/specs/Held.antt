@@ -75,7 +75,8 @@ pub data PartialPart (T : Table) : TypeId → List ℕ → ℕ → ℕ → Type 
   in_part : {t u : TypeId} {s : Shape} {q z : List ℕ} {m n w v : ℕ} → shape_of T t ≡ Some s
       → PartsBefore T s.kind q u m w → PartialPart T u z n v → PartialPart T t (q ++ z) (m + n) (w + v)
 
--- the same of a body behind its type number; the tag before a value that is no struct is in no part
+-- Of a body behind its type number only these bytes came, with the first bytes of so many parts, and so many raw
+-- bytes; the tag before a value that is no struct is in no part.
 pub data PartialBody (T : Table) : TypeId → List ℕ → ℕ → ℕ → Type 0 where
   in_struct : {t : TypeId} {s : Shape} {z : List ℕ} {m w : ℕ} → shape_of T t ≡ Some s → IsStruct s.kind
       → PartialPart T t z m w → PartialBody T t z m w

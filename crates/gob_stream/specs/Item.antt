@@ -27,7 +27,7 @@ pub data ItemMeans {O : Type 0} (means : O → Tree → Type 0) : declared.Item 
       (defines id (view described))
   means_value : {id : TypeId} {out : O} {v : Tree} → means out v → ItemMeans means (variant.Put id out) (puts id v)
 
--- the same of each item of a list
+-- what was made of the items of a list stands for them, one by one
 pub data ItemsMean {O : Type 0} (means : O → Tree → Type 0) : List (declared.Item O) → List StreamItem → Type 0 where
   mean_none : ItemsMean means [] []
   mean_more : {given : declared.Item O} {i : StreamItem} {all : List (declared.Item O)} {items : List StreamItem}

@@ -66,7 +66,7 @@ impl CountStage {
 }
 
 /// The body of so many bytes behind the count from `begin` to `end`, where the limits allow the item.
-pub(crate) fn body_of(limits: &Limits, begin: u64, end: u64, count: u64) -> Result<Extent, Refusal>
+pub fn body_of(limits: &Limits, begin: u64, end: u64, count: u64) -> Result<Extent, Refusal>
     ensures { JudgesCount limits.now begin end count result }
 {
     let stream = limits.stream();
@@ -86,7 +86,7 @@ pub(crate) fn body_of(limits: &Limits, begin: u64, end: u64, count: u64) -> Resu
 }
 
 /// A refusal of what stands at the place, shown by so many bytes of the stream.
-pub(crate) fn refusal(place: u64, seen: u64, reason: Reason) -> Refusal
+pub fn refusal(place: u64, seen: u64, reason: Reason) -> Refusal
     ensures { result ≡ refuses place seen reason }
 {
     Refusal {

@@ -20,7 +20,7 @@ use std::alloc::Global;
 
 impl Fault {
     /// The fault of a reader that meets the denial at the place, shown by so many bytes of the stream.
-    pub(crate) fn of(denial: Denial, place: u64, seen: u64) -> Fault
+    pub fn of(denial: Denial, place: u64, seen: u64) -> Fault
         ensures { result ≡ fault_at place seen denial }
     {
         match denial {
@@ -51,7 +51,7 @@ impl From<SpellFault> for WriteFault {
 }
 
 /// Whether the id may be defined now.
-pub(crate) fn judge_id(table: &Table, id: TypeId) -> Result<(), Reason>
+pub fn judge_id(table: &Table, id: TypeId) -> Result<(), Reason>
     ensures judged { (L : Bounds) → table.now.most ≡ L.types → let T = types table.now in
         MatchResult result (λ _. MayDefine base_table L T id) (RefusesId base_table L T id) }
     ensures admitted { OnOk result (Admits table.now id) }
@@ -68,7 +68,7 @@ pub(crate) fn judge_id(table: &Table, id: TypeId) -> Result<(), Reason>
 }
 
 /// Defines a type that the table admits, so that nothing but memory can be wanting.
-pub(crate) fn define_admitted(
+pub fn define_admitted(
     alloc: Global,
     table: &mut Table,
     id: TypeId,
@@ -87,7 +87,7 @@ pub(crate) fn define_admitted(
 }
 
 /// Whether values of the type may come now.
-pub(crate) fn judge_type(alloc: Global, table: &Table, id: TypeId) -> Result<(), Denial>
+pub fn judge_type(alloc: Global, table: &Table, id: TypeId) -> Result<(), Denial>
     ensures judged { let T = types table.now in
         MatchResult result (λ _. MayPut T id) (IsDenial (RefusesType T id)) }
     ensures small { OnOk result (id.0 < 2 ^ 63) }

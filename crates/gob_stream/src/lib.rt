@@ -47,6 +47,8 @@ mod waiting;
 mod whole;
 mod write_items;
 
+pub use count::{body_of, refusal};
+pub use denial::{define_admitted, judge_id, judge_type};
 pub use fault::{Fault, Refusal, WriteFault, WriteStop};
 pub use input::Input;
 pub use item::Item;
@@ -54,6 +56,7 @@ pub use limits::Limits;
 pub use output::Output;
 pub use read_items::read_stream;
 pub use session::{Session, Step};
+pub use stage::Extent;
 pub use stream_reader::StreamReader;
 pub use stream_writer::StreamWriter;
 pub use values::Passed;

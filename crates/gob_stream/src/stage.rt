@@ -16,11 +16,11 @@ use std::alloc::Global;
 
 /// A part of the stream, by the offsets of its first byte and of what follows it.
 #[derive(Clone, Copy)]
-pub(crate) struct Extent {
+pub struct Extent {
     /// Where it begins.
-    pub(crate) begin: u64,
+    pub begin: u64,
     /// Where it ends.
-    pub(crate) end: u64,
+    pub end: u64,
 }
 
 /// What a step is taken in. The types of the stream aren't part of it, since a step adds to them.

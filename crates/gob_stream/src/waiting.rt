@@ -15,7 +15,7 @@ use std::io;
 use std::io::Read;
 
 // How many bytes there is room for at first, and by how many it grows at least.
-const PIECE: usize = 262144;
+const PIECE: usize = 65536;
 
 /// Bytes that were read and not yet taken: those of the room from the start to the end.
 #[derive(Drop)]
@@ -33,7 +33,7 @@ impl Waiting {
     /// No bytes.
     pub(crate) fn new(alloc: Global) -> Result<Waiting, Memory>
         ensures none { IfOk result (λ new. waiting new ≡ []) }
-        ensures room { IfOk result (λ new. vec_len new.room ≡ 262144) }
+        ensures room { IfOk result (λ new. vec_len new.room ≡ 65536) }
     {
         let room = vec![in alloc; 0; PIECE].map_err(Memory::from)?;
         Ok(Waiting {

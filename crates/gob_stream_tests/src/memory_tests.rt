@@ -22,7 +22,7 @@ a struct of two ints | POINT 07 ff 82 01 2c 01 42 00 | 32 40
 two of them and an int | POINT 07 ff 82 01 2c 01 42 00 07 ff 82 01 2c 01 42 00 03 04 00 06 | 32 40 48 52
 a struct that names itself | NODE 09 ff 82 01 02 01 01 04 00 00 | 35 45
 a map from string to int | MAP 0a ff 82 00 02 01 61 02 01 61 04 | 15 26
-a slice that is defined behind its struct | OUTER 0c ff 83 02 01 02 ff 84 00 01 04 00 00 07 ff 82 01 02 02 04 00 | 23 36 44
+a slice defined behind its struct | OUTER 0c ff 83 02 01 02 ff 84 00 01 04 00 00 07 ff 82 01 02 02 04 00 | 23 36 44
 an opaque value | TIME 06 ff 82 00 02 0a 0b | 17 24
 ";
 

@@ -31,7 +31,7 @@ an array of itself | LOOP 05 ff 82 00 01 01 | 1 items, refused 11 Bottomless(65)
 an opaque type | TIME 06 ff 82 00 02 0a 0b | 2 items
 a type marshalled as binary | 10 ff 81 06 01 01 04 54 69 6d 65 01 ff 82 00 00 00 06 ff 82 00 02 0a 0b | 2 items
 one marshalled as text | 10 ff 81 07 01 01 04 54 69 6d 65 01 ff 82 00 00 00 06 ff 82 00 02 0a 0b | 2 items
-a kind that isn't there | 10 ff 81 08 01 01 04 54 69 6d 65 01 ff 82 00 00 00 | 0 items, refused 15 FieldNumber at 3 seen 4
+a kind not there | 10 ff 81 08 01 01 04 54 69 6d 65 01 ff 82 00 00 00 | 0 items, refused 15 FieldNumber at 3 seen 4
 two kinds | 11 ff 81 05 01 02 ff 82 00 00 01 01 02 ff 82 00 00 00 | 0 items, refused 18 KindCount at 3 seen 18
 the least own id | 0b 7f 02 01 02 ff 80 00 01 04 00 00 | 1 items
 a reserved id | 02 7d 00 | 0 items, refused 7 ReservedType(63) at 1 seen 2
@@ -63,10 +63,10 @@ a long list announced | LIST 0c ff 82 00 f8 ff ff ff ff ff ff ff ff | 1 items, r
 a type number cut off | 01 ff | 0 items, refused 5 Short at 2 seen 2
 depth 5 | LIST 08 ff 82 00 01 01 01 01 00 | 2 items | 100 5 10 100
 depth 6 | LIST 09 ff 82 00 01 01 01 01 01 00 | 1 items, refused 17 TooDeep at 23 seen 23 | 100 5 10 100
-depth 6, shown before the end | LIST 08 ff 82 00 01 01 01 01 01 | 1 items, refused 17 TooDeep at 23 seen 23 | 100 5 10 100
+depth 6, shown early | LIST 08 ff 82 00 01 01 01 01 01 | 1 items, refused 17 TooDeep at 23 seen 23 | 100 5 10 100
 an int of 4 bytes in 3 | 03 04 00 06 | 0 items, refused 4 StreamTooLong at 0 seen 1 | 18446744073709551615 1000 0 3
-the second of two items | 03 04 00 06 03 02 00 01 | 1 items, refused 4 StreamTooLong at 4 seen 5 | 18446744073709551615 1000 0 7
-the greatest count | f8 ff ff ff ff ff ff ff ff | 0 items, refused 4 StreamTooLong at 0 seen 9 | 18446744073709551615 1000 0 7
+second of two | 03 04 00 06 03 02 00 01 | 1 items, refused 4 StreamTooLong at 4 seen 5 | 18446744073709551615 1000 0 7
+huge count | f8 ff ff ff ff ff ff ff ff | 0 items, refused 4 StreamTooLong at 0 seen 9 | 18446744073709551615 1000 0 7
 two items as long as the limit | 03 04 00 06 03 02 00 01 | 2 items | 18446744073709551615 1000 0 8
 a definition too many | 04 ff 81 00 00 | 0 items, refused 9 TooManyTypes at 1 seen 3 | 18446744073709551615 1000 0 9
 ";

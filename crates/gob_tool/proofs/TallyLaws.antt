@@ -138,7 +138,7 @@ counts_piece {s = s} {n = n} {bytes = bytes} {rest = []} none u =
     subst (λ (l : List ℕ). HasTallied s n (bytes ++ l)) (sym (u.whole ∙ append-nil u.prefix)) u.counted
 counts_piece {rest = b ∷ rest} none u = absurd (omega (arith, none))
 
--- the same under limits that are these
+-- what stops a tally under limits stops it under equal ones
 pub stops_under : (L M : Bounds) (bytes : List ℕ) (e : Fault) → L ≡ M → StopsTallying (no_deeper deepest L) bytes e
     → StopsTallying (no_deeper deepest M) bytes e
 stops_under L M bytes e same f = subst (λ (L : Bounds). StopsTallying (no_deeper deepest L) bytes e) same f

@@ -27,7 +27,7 @@ abbrev pub content_type : StreamItem → TypeId
 content_type (defines id described) = wire_type
 content_type (puts id value) = id
 
--- the same item with another content
+-- an item whose content is another, with its id kept
 abbrev pub with_content : StreamItem → Tree → StreamItem
 with_content (defines id described) v = defines id v
 with_content (puts id value) v = puts id v

@@ -171,7 +171,7 @@ fn an_item_is_cut_off_in_its_middle(rt: HostRuntime) -> Result<(), Fail> {
 fn a_read_fails_in_its_middle(rt: HostRuntime) -> Result<(), Fail> {
     let alloc = rt.alloc();
     // Two reads are whole, each of as many bytes as the reader gives at once.
-    for (most, read) in [(7usize, 14u64), (100, 200), (65536, 131072)] {
+    for (most, read) in [(7usize, 14u64), (100, 200), (32768, 65536)] {
         let reader = PieceReader::new(large(alloc)?, most, 2);
         assert!(rt;
             is_shown(

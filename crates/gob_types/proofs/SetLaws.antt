@@ -44,7 +44,7 @@ adds_nothing {xs = xs} none = record {
       λ u there. inl there;
 }
 
--- the same ids, said in another way
+-- what adds all ids of which one property holds adds all of which an equivalent one holds
 pub adds_as : {xs ys : List TypeId} {P Q : TypeId → Type 0} → AddsAll xs ys P → ((u : TypeId) → P u → Q u)
     → ((u : TypeId) → Q u → P u) → AddsAll xs ys Q
 adds_as {xs = xs} {ys = ys} {P = P} {Q = Q} a on back = record {

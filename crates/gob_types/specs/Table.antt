@@ -23,7 +23,7 @@ abbrev pub basic_kind : Kind → Option Basic
 basic_kind (kind.Basic b) = Some b
 basic_kind _ = None
 
--- the same of a shape, if there is one
+-- the basic type that a shape is, if there is a shape and it is one
 abbrev pub basic_shape : Option Shape → Option Basic
 basic_shape None = None
 basic_shape (Some s) = basic_kind s.kind

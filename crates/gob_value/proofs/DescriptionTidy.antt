@@ -90,7 +90,7 @@ struct_left absent = (0 ∷ [], end_of_fields (short (omega arith)), no_more)
 struct_left (gone d) = elim d [ ]
 struct_left (there (of_struct ps) (of_fields {b = b} qs)) = (b, qs, ps)
 
--- the same of a list
+-- a list, or no element where it is absent
 list_left : {T : Table} {e : TypeId} {x y : Option Tree} → Left T (kind.Slice e) x y → (b : List ℕ)
     × WrittenEach (elements_in x) b × TidiesEach T e (elements_in x) (elements_in y)
 list_left absent = ([], written.no_element, no_element)

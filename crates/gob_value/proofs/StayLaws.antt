@@ -94,7 +94,7 @@ mutual
       next_field l m p (spells_back s (r.each e.id (record { number = f; field = e; there = m; type = refl })) q)
       (fields_back s r ps)
 
--- the same of top-level spellings
+-- top-level spellings stay in a table that keeps the types
 pub top_on : {T U : Table} {t : TypeId} {v : Tree} {b : List ℕ} → Keeps T U → SpellsTop T t v b → SpellsTop U t v b
 top_on s (at_once e i p) = at_once (s.shape _ _ e) i (spells_on s p)
 top_on s (tagged e n p) = tagged (s.shape _ _ e) n (spells_on s p)

@@ -23,7 +23,7 @@ keep f s i = (λ b. i.0 (s.0 (f, b)), λ c. (s.1 (i.1 c)).1)
 pub stop : {F B A C : Type 0} → ¬ F → (F × B) ↔ A → A ↔ C → IsTrue false ↔ C
 stop f s i = never (λ c. f (s.1 (i.1 c)).0)
 
--- the same with two parts before the rest
+-- two first parts of which the test holds, and the rest
 pub keep_both : {F G B A C : Type 0} → F → G → (F × G × B) ↔ A → A ↔ C → B ↔ C
 keep_both f g s i = (λ b. i.0 (s.0 (f, g, b)), λ c. (s.1 (i.1 c)).2)
 

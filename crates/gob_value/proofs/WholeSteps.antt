@@ -27,8 +27,8 @@ use Rattle.gob_value.specs.Tidy.{of_basic, of_opaque, of_slice as slice_tidy, of
 use Rattle.gob_value.specs.Tidy.{of_map as map_tidy, of_struct as struct_tidy, of_type as type_tidy}
 use Rattle.gob_value.specs.Tidy.{no_element as no_element_tidy, element as element_tidy, no_entry as no_entry_tidy}
 use Rattle.gob_value.specs.Tidy.{entry as entry_tidy, no_more as no_field_tidy, kept as field_tidy}
-use Rattle.gob_value.specs.Machine.Begins.{HoldsNumbers, HoldsBetween, BeginsKind, BeginsEach, BeginsPairs, BeginsFields}
-use Rattle.gob_value.specs.Machine.Begins.{BeginsThisNumber}
+use Rattle.gob_value.specs.Machine.Begins.{HoldsNumbers, HoldsBetween, BeginsKind, BeginsEach, BeginsPairs}
+use Rattle.gob_value.specs.Machine.Begins.{BeginsFields, BeginsThisNumber}
 use Rattle.gob_value.specs.Machine.Begins.{BeginsField, BeginsRaw, BeginsKept}
 use Rattle.gob_value.specs.Written.{HasParts}
 use Rattle.gob_value.proofs.WithinLaws.{leaf_within}
@@ -51,7 +51,7 @@ seen {body = body} {a = a} {b = b} p f = record {
   begins = f (drop a body) (drop b body) p.begins;
 }
 
--- the same of three
+-- what follows from three properties, of the bytes between four offsets in order
 pub all_three : {P Q R S : List ℕ → List ℕ → Type 0} {body : List ℕ} {a b c d : ℕ} → HoldsBetween P body a b
     → HoldsBetween Q body b c → HoldsBetween R body c d
     → ((x y z w : List ℕ) → P x y → Q y z → R z w → S x w) → HoldsBetween S body a d
@@ -346,7 +346,7 @@ module _ (T : Table) (tidy : Bool) where
     begins = record { shape = s; known = known; part = p.begins; kept = kept };
   }
 
-  -- the same where its type is basic
+  -- the value, of a basic type, of a field that a tidy struct keeps
   pub basic_part : {e : TypeId} {b : Basic} {limit : ℕ} {body : List ℕ} {x y : ℕ} → 0 < limit → basic_of T e ≡ Some b
       → HoldsBetween (BeginsKind T tidy (kind.Basic b) 1) body x y
       → (IsTrue tidy → BeginsKept (kind.Basic b) (drop x body))

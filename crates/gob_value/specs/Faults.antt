@@ -18,7 +18,7 @@ abbrev pub IsMisfit : Table → TypeId → ℕ → Tree → Misfit → Type 0
 IsMisfit T t limit v misfit.TooDeep = limit < depth v
 IsMisfit T t limit v misfit.DoesNotFit = IsWithin limit v × ¬ Fits T t v
 
--- the same of spelling it, which may find no memory where it fits
+-- the fault is that of spelling the value at this type and limit, which may find no memory where it fits
 abbrev pub IsSpellFault : Table → TypeId → ℕ → Tree → SpellFault → Type 0
 IsSpellFault T t limit v fault.TooDeep = limit < depth v
 IsSpellFault T t limit v fault.DoesNotFit = IsWithin limit v × ¬ Fits T t v

@@ -10,7 +10,7 @@ pub record Fits (T : Table) (t : TypeId) (v : Tree) : Type 0 where
   pub bytes : List ℕ
   pub spelled : Spells T t v bytes
 
--- the same at a kind
+-- some bytes spell the value at the kind
 pub record FitsKind (T : Table) (k : Kind) (v : Tree) : Type 0 where
   pub bytes : List ℕ
   pub spelled : SpellsAs T k v bytes

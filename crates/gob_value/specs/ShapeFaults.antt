@@ -37,7 +37,7 @@ pub record IsKind (k : SaidKind) : Type 0 where
   pub kind : Kind
   pub gives : GivesKind k kind
 
--- the same of what is said of the kind alone
+-- the fault is that of what is said of the kind alone
 abbrev pub IsKindFault : SaidKind → ShapeFault → Type 0
 IsKindFault k fault.BadReference = HasBadReference k
 IsKindFault k fault.BadLength = ¬ HasBadReference k × HasBadLength k

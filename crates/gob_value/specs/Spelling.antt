@@ -27,7 +27,7 @@ mutual
     of_type : {t : TypeId} {s : Shape} {v : Tree} {b : List ℕ} → shape_of T t ≡ Some s → SpellsAs T s.kind v b
         → Spells T t v b
 
-  -- the same at a kind
+  -- the bytes spell the value at a kind
   pub data SpellsAs (T : Table) : Kind → Tree → List ℕ → Type 0 where
     of_bool : {x : Bool} {b : List ℕ} → IsUnsigned (truth x) b → SpellsAs T (kind.Basic basic.Bool) (Value.bool x) b
     of_int : {i : ℤ} {b : List ℕ} → IsSigned i b → SpellsAs T (kind.Basic basic.Int) (Value.int i) b

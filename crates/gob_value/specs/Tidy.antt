@@ -33,7 +33,8 @@ mutual
   pub data Tidies (T : Table) : TypeId → Tree → Tree → Type 0 where
     of_type : {t : TypeId} {s : Shape} {v w : Tree} → shape_of T t ≡ Some s → TidiesAs T s.kind v w → Tidies T t v w
 
-  -- the same at a kind: a value without parts stays as it is, any other has its parts tidied
+  -- the second value is the tidy form of the first at a kind: a value without parts stays as it is, any other has its
+  -- parts tidied
   pub data TidiesAs (T : Table) : Kind → Tree → Tree → Type 0 where
     of_basic : {b : Basic} {v : Tree} → ¬ HasParts v → TidiesAs T (kind.Basic b) v v
     of_opaque : {m : Marshal} {v : Tree} → ¬ HasParts v → TidiesAs T (kind.Opaque m) v v

@@ -369,7 +369,7 @@ enters_earlier {T = T} w (next_field {types = types} {next = next} {f = f} {e = 
     by (inl s) = inl (next_field s l g n)
     by (inr x) = inr (part_longer b (field_part x))
 
--- the same of what comes next in the part itself
+-- what comes next in a part itself under the wider table comes next under the earlier one, or the part leads on
 at_earlier : {T U : Table} {k : Kind} {p : List ℕ} {v : Expected} → IsWider T U → ExpectsAt U k p v → ExpectsAt T k p v
     ⊎ PartLeads T k p
 at_earlier w first = inl first

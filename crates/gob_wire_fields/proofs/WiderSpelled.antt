@@ -136,7 +136,7 @@ pub part_leads : {T : Table} {t : TypeId} {s : Shape} {b : List ℕ} → shape_o
 part_leads {T = T} {t = t} e l = subst (LeadsIn T t) (sym l.whole)
     (leads_around e l.enters (leads_longer l.rest l.leads))
 
--- the same of elements, of pairs and of fields
+-- elements lead into a later field: some, and behind them the front of one that leads there
 pub record EachLeads (T : Table) (e : TypeId) (vs : Trees) (b : List ℕ) : Type 0 where
   pub trees : Trees
   pub before : List ℕ
@@ -477,7 +477,7 @@ struct_fewer {T = T} {b = b} (of_struct {fs = fs} ps) = by (fields_fewer ps)
     by (inl q) = inl (of_struct q)
     by (inr x) = inr x
 
--- the same at a type
+-- a value at a type of the wider table is one at the type of the earlier table, or leads into a later field
 type_earlier : {T : Table} {t : TypeId} {s : Shape} {v : Tree} {b : List ℕ} → Earlier T t s → SpellsAs T s.kind v b
     ⊎ PartLeads T s.kind b → Spells T t v b ⊎ LeadsIn T t b
 type_earlier (same_before f) (inl p) = inl (of_type f p)

@@ -27,7 +27,8 @@ pub data BeginsPart (T : Table) : TypeId → List ℕ → TypeId → Type 0 wher
       → BeginsPart T u p w
       → BeginsPart T t (q ++ p) w
 
--- the same of a body behind its type number: a value that is no struct stands behind the tag
+-- behind these bytes of a body behind its type number a part begins, which is of the other type: a value that is no
+-- struct stands behind the tag
 pub data BeginsPartTop (T : Table) : TypeId → List ℕ → TypeId → Type 0 where
   in_struct : {t u : TypeId} {s : Shape} {p : List ℕ} → shape_of T t ≡ Some s → IsStruct s.kind → BeginsPart T t p u
       → BeginsPartTop T t p u

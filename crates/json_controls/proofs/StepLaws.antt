@@ -2,7 +2,8 @@
 use Rattle.std.proofs.Common.{◌≡◌, ℕ, zero, suc, ◌+◌, ◌<◌, ◌≤◌, Bool, true, false, cond, ◌&&◌, List, [], ◌∷◌, ◌++◌}
 use Rattle.std.proofs.Common.{inl, inr, ◌⊎◌, refl, sym, ap, ◌∙◌, subst, arith, append_assoc, nat_lt}
 use Rattle.std.proofs.Common.{◌==◌, nat_le, length, get_or, drop}
-use Rattle.std.proofs.lemmas.Bool.{ne_eqb, eqb-true, lt-leb, lt-ltb, ltb-true, and_parts, and_from, cases_Bool, true≢false}
+use Rattle.std.proofs.lemmas.Bool.{ne_eqb, eqb-true, lt-leb, lt-ltb, ltb-true, and_parts, and_from}
+use Rattle.std.proofs.lemmas.Bool.{cases_Bool, true≢false}
 use Rattle.std.proofs.lemmas.List.{append-nil, at_drop_more}
 use Rattle.json_controls.specs.declared.held.Held.{Held}
 use Rattle.json_controls.specs.declared.held.Held.TheVariants as held
@@ -100,7 +101,8 @@ smalls_shown (x ∷ e) r h =
 
 pub below_small : (bytes : List ℕ) → AreBelowControls bytes → are_small bytes ≡ true
 below_small [] h = refl
-below_small (x ∷ xs) h = and_from _ _ (lt-ltb x 127 (h 0 (omega arith))) (below_small xs (λ k l. h (suc k) (omega (arith, l))))
+below_small (x ∷ xs) h =
+    and_from _ _ (lt-ltb x 127 (h 0 (omega arith))) (below_small xs (λ k l. h (suc k) (omega (arith, l))))
 
 -- bytes of which no character is escaped are shown as they are
 pub below_shown : (bytes : List ℕ) → AreBelowControls bytes → shown_text bytes ≡ bytes

@@ -10,7 +10,7 @@ pub record PassesOn {O E : Type 0} (puts : O → O → List ℕ → Result (Unit
   pub whole : before ≡ gone ++ after
   pub out : puts old new gone (Ok tt)
 
--- the same, or a prefix of what was there was put out before an error
+-- What was put out, and what waits then, are what was there before; or a prefix of that was put out before an error.
 abbrev pub Gathers : {O E : Type 0} → (O → O → List ℕ → Result (Unit {0}) E → Type 0) → (old new : O)
     → (before after : List ℕ) → Result (Unit {0}) E → Type 0
 Gathers puts old new before after (Ok u) = PassesOn puts old new before after

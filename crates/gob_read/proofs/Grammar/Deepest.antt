@@ -35,7 +35,7 @@ pub record DeepPlace (T : Table) (t : TypeId) (n : ℕ) (b : List ℕ) : Type 0 
   pub whole : b ≡ before ++ rest
   pub some : 0 < length rest
 
--- the same one level down: in the part itself, or in a part that is entered
+-- in bytes of a part something is expected so deep: in the part itself, or in a part that is entered
 data DeepIn (T : Table) (k : Kind) (n : ℕ) (b : List ℕ) : Type 0 where
   at_start : n ≡ 0 → DeepIn T k n b
   entered : {u : TypeId} {q p : List ℕ} {w : Expected} (rest : List ℕ) → Enters T k q u → Expects T u p w n → b ≡ q

@@ -38,7 +38,7 @@ inside_expects outermost e a = in_itself e a
 inside_expects {T = T} {t = t} {q = r} {w = w} (one_in {d = c} {p = p} {q = q} e n i) f a =
     subst (λ l. Expects T t l w (suc (suc c))) (sym (append_assoc q p r)) (in_part e n (inside_expects i f a))
 
--- the same of a body behind its type number
+-- in a body behind its type number, behind these bytes a part of the other type is under way, so deep
 pub data InsideTop (T : Table) : TypeId → List ℕ → TypeId → ℕ → Type 0 where
   inside_struct : {t u : TypeId} {d : ℕ} {s : Shape} {p : List ℕ} → shape_of T t ≡ Some s → IsStruct s.kind
       → Inside T t p u d → InsideTop T t p u d

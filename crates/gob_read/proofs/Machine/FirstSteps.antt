@@ -280,7 +280,7 @@ can_end_group {received = received} {state = state} {g = g} {f = f} {n = n} {bui
     from (of_list l e) h = can_stop (enter group.Many) refl r (a_list (begins_in state.stack)) end_of_list h
     from (map_group e) h = can_stop (enter group.Pairs) refl r (a_map (begins_in state.stack)) end_of_map h
 
--- the same said of another property of the kind
+-- a part that can begin with one property of its kind can begin with each that follows from it
 pub can_begin_as : {X O : Type 0} {received : X → List Event → Type 0} {state : State X O} {P Q : Kind → Type 0} {n : ℕ}
     → ((k : Kind) → P k → Q k) → CanBegin received state P n → CanBegin received state Q n
 can_begin_as f r = record {

@@ -80,7 +80,7 @@ pub record IsOpenSomewhere (T : Table) {X O : Type 0} (received : X → List Eve
   pub bytes : List ℕ
   pub open_ : IsOpenRun T type received run bytes
 
--- the same under some table
+-- under some table the run is open, having read some bytes of a body of some type
 pub record IsOpenIn {X O : Type 0} (received : X → List Event → Type 0) (run : Run X O) : Type 0 where
   pub table : Table
   pub open_ : IsOpenSomewhere table received run
@@ -93,7 +93,7 @@ pub record IsBefore (T : Table) {X O : Type 0} (received : X → List Event → 
   pub some : 0 < length rest
   pub room : run.taken + length rest ≤ run.length
 
--- the same under some table
+-- under some table the reader may take more, this is expected, and some of a piece is left, which lies in the body
 pub record IsBeforeIn {X O : Type 0} (received : X → List Event → Type 0) (run : Run X O) (next : Next) (rest : List ℕ)
     : Type 0 where
   pub table : Table

@@ -246,7 +246,7 @@ pub record CanTakeRaw {X O : Type 0} (received : X → List Event → Type 0) (s
   pub placed : IsPlaced table type received state before so_far
   pub small : length (before ++ (so_far ++ bytes)) < 2 ^ 64
 
--- the same item goes on behind the bytes
+-- raw bytes that are under way go on behind these bytes
 pub record StaysRaw (T : Table) (t : TypeId) {X O : Type 0} (received : X → List Event → Type 0) (old new : State X O)
     (left : ℕ) (p r : List ℕ) (moved : Moved) : Type 0 where
   pub more : moved ≡ ToNext

@@ -192,7 +192,7 @@ module _ {X O : Type 0} {most : ℕ} (building : Building X O most) where
 
   -- a reader that has read nothing
   pub first_read : (r : StreamReader X O) (read : Option (List ℕ)) → HasRead building (session_of r) [] []
-      → waits_in r ≡ [] → r.ended ≡ false → room_in r ≡ 262144 → HasReadFrom building r read read []
+      → waits_in r ≡ [] → r.ended ≡ false → room_in r ≡ 65536 → HasReadFrom building r read read []
   first_read r read gave none open_ room = record {
     taken = [];
     input = subst (λ (l : List ℕ). Consumes read read l) (sym none) (Consumes-nil read);

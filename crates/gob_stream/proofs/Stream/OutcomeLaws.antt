@@ -39,7 +39,7 @@ pub stream_wire : {L : Bounds} {U : Table} {items : List StreamItem} {b : List �
     → HasWireStruct U
 stream_wire p = continues_wire p base_wire
 
--- the same bytes by another name
+-- bytes that equal a stream's are that stream
 pub stream_at : {L : Bounds} {U : Table} {items : List StreamItem} {b c : List ℕ} → b ≡ c
     → Stream base_table L items b U → Stream base_table L items c U
 stream_at {L = L} {U = U} {items = items} e p = subst (λ b. Stream base_table L items b U) e p

@@ -206,7 +206,7 @@ definition_met (definition may within says is number spelled) bad (described_wro
     absurd (description_met bad' says)
 definition_met body bad (refused_body body' bad') = let same = one_body body' body in one_length bad (rw same at bad')
 
--- the same of a value
+-- where the body of a value is whole, writer and item are refused for one reason
 value_body_met : {base : Table} {L : Bounds} {T U : Table} {o : ℕ} {t : TypeId} {v : Tree} {d : List ℕ} {r s : Reason}
     → Body base L T (puts t v) d U
     → WriterRefusesBody L o d r → RefusesItem base L T o (puts t v) s → r ≡ s

@@ -145,7 +145,7 @@ within_shown {m = m} w p x (refused_description {a = a} {R = R} z e k s q f) l b
     (rest_within w g.more x a m size t))
 within_shown w p x (described_wrongly e k i s q r d v) l b t n = absurd (omega arith)
 
--- the same where more bytes are there than the body has
+-- a refusal within a body is shown also where more bytes are there than the body has
 pub body_shown : {base : Table} {L : Bounds} {T : Table} {offset m : ℕ} {R : Refusal} (w p x : List ℕ)
     → RefusesBody base L T offset m (take m (w ++ p)) R → R.seen ≤ offset + length w
     → RefusesBody base L T offset m (take m (w ++ x)) R

@@ -38,7 +38,7 @@ room_in r = vec_len r.waiting.room
 
 -- how many bytes wait at most: as many as are read behind the first bytes of an item, which are no more than the item's
 abbrev pub most_ahead : Bounds → ℕ
-most_ahead L = 2 * L.item + 262162
+most_ahead L = 2 * L.item + 65554
 
 -- the last read gave less than was asked for, or there was none
 abbrev pub IsShort : {X O : Type 0} → StreamReader X O → Type 0

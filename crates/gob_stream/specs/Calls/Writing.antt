@@ -90,7 +90,7 @@ WritesItem L w w' items bytes T i old new (Err fault.Write) = WrotePrefix L T (l
 WritesItem L w w' items bytes T i old new (Err fault.Memory) = Unit {0}
 WritesItem L w w' items bytes T i old new (Err fault.Failed) = ⊥
 
--- the same, whatever it has written
+-- what a call that writes the item answers and does, whatever the writer has written before
 abbrev pub WritesNext : Bounds → (w w' : WriterState) → StreamItem → (old new : Option (List ℕ))
     → Result (Unit {0}) WriteFault → Type 0
 WritesNext L w w' i old new result = (items : List StreamItem) (bytes : List ℕ) (T : Table) → HasWritten w items bytes T
@@ -115,7 +115,7 @@ abbrev pub CountsFault : (failures failures' : ℕ) → WriteFault → Type 0
 CountsFault failures failures' fault.Write = failures' ≡ counts_up failures 1
 CountsFault failures failures' _ = failures' ≡ failures
 
--- the same of an answer: no write failed in a call that answers Ok
+-- the fault of an answer is `Write` exactly where a write failed: none did in a call that answers Ok
 abbrev pub CountsWriterFaults : (failures failures' : ℕ) → Result (Unit {0}) WriteFault → Type 0
 CountsWriterFaults failures failures' (Ok _) = failures' ≡ failures
 CountsWriterFaults failures failures' (Err f) = CountsFault failures failures' f

@@ -11,7 +11,7 @@ waiting w = slice_range w.room.items w.start w.end
 
 -- room that is made where so many bytes wait
 abbrev pub Grows : (old new waits : ℕ) → Type 0
-Grows old new waits = (new ≤ old) ⊎ (new ≤ 2 * waits + 262144)
+Grows old new waits = (new ≤ old) ⊎ (new ≤ 2 * waits + 65536)
 
 -- the last read gave less than there was room for, or there was none
 abbrev pub HasRoom : Waiting → Type 0

@@ -10,10 +10,18 @@ use Rattle.gob_json.specs.DefinitionJson.{field_types_json, shape_members}
 use Rattle.gob_json_writer.specs.WritesJson.{WritesTokens}
 use Rattle.gob_json_writer.proofs.WrittenLaws.{one_written, both_written, same_written}
 use Rattle.gob_json_writer.proofs.definition_json.write_shape.Goals as goal
-use Rattle.gob_json_writer.proofs.definition_json.write_shape.Goals.{in-Array+in_ok-write_id-in-Array+in_ok-write_kind-in-Array+in_ok-key-in-Array+in_ok-u64-in-Array}
-use Rattle.gob_json_writer.proofs.definition_json.write_shape.Goals.{in-Slice+in_ok-write_id-in-Slice+in_ok-write_kind-in-Slice}
-use Rattle.gob_json_writer.proofs.definition_json.write_shape.Goals.{in-Struct+in_ok-key-in-Struct+in_ok-write_field_types-in-Struct+in_ok-write_kind-in-Struct}
-use Rattle.gob_json_writer.proofs.definition_json.write_shape.Goals.{in-Map+in_ok-write_id-in-Map+in_ok-write_id-in-Map-2+in_ok-write_kind-in-Map}
+use Rattle.gob_json_writer.proofs.definition_json.write_shape.Goals.{
+  in-Array+in_ok-write_id-in-Array+in_ok-write_kind-in-Array+in_ok-key-in-Array+in_ok-u64-in-Array,
+}
+use Rattle.gob_json_writer.proofs.definition_json.write_shape.Goals.{
+  in-Slice+in_ok-write_id-in-Slice+in_ok-write_kind-in-Slice,
+}
+use Rattle.gob_json_writer.proofs.definition_json.write_shape.Goals.{
+  in-Struct+in_ok-key-in-Struct+in_ok-write_field_types-in-Struct+in_ok-write_kind-in-Struct,
+}
+use Rattle.gob_json_writer.proofs.definition_json.write_shape.Goals.{
+  in-Map+in_ok-write_id-in-Map+in_ok-write_id-in-Map-2+in_ok-write_kind-in-Map,
+}
 use Rattle.gob_json_writer.proofs.definition_json.write_shape.Goals.{in-Opaque+in_ok-write_kind-in-Opaque}
 
 -- the members are those of the kind that this one is

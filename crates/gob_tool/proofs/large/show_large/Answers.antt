@@ -30,7 +30,8 @@ returns-in_err-sent-clause-shown g c = λ read now given h.
     let sent = (subst (λ d. (w : IsWhole (types d) item.id depth item.body.now)
     → Sends old new (line (types d) (puts item.id w.value)) (Err e))
     c.table.ensures c.in_err-sent.ensures.sent) w.whole in
-    large_at c.args.reader.now c.pass.new.self read now old new given c.from_residual.result e c.from_residual.ensures.1 (
+    large_at c.args.reader.now c.pass.new.self read now old new given c.from_residual.result e
+    c.from_residual.ensures.1 (
       line T (puts item.id w.whole.value),
       whole_line_made (record {
         id = item.id;
