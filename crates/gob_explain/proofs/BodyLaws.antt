@@ -17,7 +17,8 @@ use Rattle.gob_explain.specs.Walk.{BeginsPart, between}
 use Rattle.gob_explain.specs.Machine.Walking.{AllowsRange, EndsWhole, SpellsOne}
 use Rattle.gob_explain.proofs.WalkLaws.{take_between}
 
-pub struct_begins : {T : Table} {t : TypeId} {s : Shape} → shape_of T t ≡ Some s → IsStruct s.kind → BeginsPart T t [] t 0
+pub struct_begins : {T : Table} {t : TypeId} {s : Shape} → shape_of T t ≡ Some s → IsStruct s.kind
+    → BeginsPart T t [] t 0
 struct_begins {T = T} {t = t} f i = record {
   expects = λ q w d x. subst (λ e. ExpectsTop T t q w e) (sym (zero-add d)) (in_struct f i x);
 }

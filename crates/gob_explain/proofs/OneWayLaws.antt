@@ -25,7 +25,8 @@ part_some : {T : Table} {t : TypeId} {p : List ℕ} {w : Expected} {d : ℕ} (n 
 part_some n (expects.in_itself f a) e = at_some n a e
 part_some n (expects.in_part f m a) e = part_some n a e
 
-top_some : {T : Table} {t : TypeId} {p : List ℕ} {w : Expected} {d : ℕ} (n : ℕ) → ExpectsTop T t p w d → w ≡ raw n → 0 < n
+top_some : {T : Table} {t : TypeId} {p : List ℕ} {w : Expected} {d : ℕ} (n : ℕ) → ExpectsTop T t p w d → w ≡ raw n
+    → 0 < n
 top_some n (expects.in_struct f i a) e = part_some n a e
 top_some n (expects.at_tag f i) e = cc
 top_some n (expects.behind_tag f i a) e = part_some n a e
@@ -35,7 +36,8 @@ no_number (short l) e = cc
 no_number (long l) e = cc
 
 -- a row has bytes
-pub row_some : {T : Table} {t : TypeId} {p b : List ℕ} {d : ℕ} (w : Expected) → ExpectsTop T t p w d → Answers w b → b ≢ []
+pub row_some : {T : Table} {t : TypeId} {p b : List ℕ} {d : ℕ} (w : Expected) → ExpectsTop T t p w d → Answers w b
+    → b ≢ []
 row_some (a_number a) x y e = no_number y.1 e
 row_some {b = b} (raw n) x y e =
     let some = top_some n x refl in
@@ -51,14 +53,16 @@ front_none : (b c : List ℕ) → [] ≡ b ++ c → b ≡ []
 front_none [] c e = refl
 front_none (x ∷ b) c e = cc
 
-pub cut_alike : (T : Table) (t : TypeId) (p : List ℕ) (rs : List Row) (ss : List Row) → EachStands T t p rs → EachStands T t p ss
+pub cut_alike : (T : Table) (t : TypeId) (p : List ℕ) (rs : List Row) (ss : List Row) → EachStands T t p rs
+    → EachStands T t p ss
     → joined rs ≡ joined ss → cuts rs ≡ cuts ss
 cut_alike T t p [] [] g h e = refl
 cut_alike T t p [] (s ∷ ss) g h e = absurd (row_some h.0.0 h.0.1 h.0.2 (front_none s.bytes (joined ss) e))
 cut_alike T t p (r ∷ rs) [] g h e = absurd (row_some g.0.0 g.0.1 g.0.2 (front_none r.bytes (joined rs) (sym e)))
 cut_alike T t p (r ∷ rs) (s ∷ ss) g h e =
     let same = expects_once g.0.1 h.0.1 in
-    let ends = answers_once h.0.0 r.bytes s.bytes (joined rs) (joined ss) (subst (λ w. Answers w r.bytes) same.0 g.0.2) h.0.2 e in
+    let ends = answers_once h.0.0 r.bytes s.bytes (joined rs) (joined ss) (subst (λ w. Answers w r.bytes) same.0
+    g.0.2) h.0.2 e in
     let rest = cut_alike T t (p ++ s.bytes) rs ss (subst (λ b. EachStands T t (p ++ b) rs) ends.0 g.1) h.1 ends.1 in
     ap (λ d. (d, r.bytes) ∷ cuts rs) same.1 ∙ ap (λ b. (s.depth, b) ∷ cuts rs) ends.0
     ∙ ap (λ (l : List (ℕ × List ℕ)). (s.depth, s.bytes) ∷ l) rest

@@ -1,5 +1,6 @@
 -- Each row of a value is what comes next behind the rows before it.
-use Rattle.std.proofs.Common.{◌≡◌, ℕ, suc, ◌+◌, ◌-◌, ◌<◌, ◌≤◌, List, [], ◌∷◌, ◌++◌, length, Bool, true, false, refl, sym, ap, ◌∙◌, subst, append_assoc, arith, ℤ}
+use Rattle.std.proofs.Common.{◌≡◌, ℕ, suc, ◌+◌, ◌-◌, ◌<◌, ◌≤◌, List, [], ◌∷◌, ◌++◌, length, Bool, true, false, refl}
+use Rattle.std.proofs.Common.{sym, ap, ◌∙◌, subst, append_assoc, arith, ℤ}
 use Rattle.std.proofs.lemmas.Option.{slice_get_within}
 use Rattle.gob_num.specs.Unsigned.{short}
 use Rattle.gob_num.specs.Signed.{IsSigned, not_negative, negative}
@@ -12,13 +13,16 @@ use Rattle.gob_types.specs.Table.{Table}
 use Rattle.gob_value.specs.Tree.{Tree, Trees, tree_count, Pairs, pair_count, Fields}
 use Rattle.gob_value.specs.Spelling.{Spells, SpellsEach, SpellsPairs, truth}
 use Rattle.gob_value.specs.Spelling as spelling
-use Rattle.gob_read.specs.Expected.{Expected, Allowed, a_number, any, truth_value, array_count, delta, first_allowed, Allows}
+use Rattle.gob_read.specs.Expected.{Expected, Allowed, a_number, any, truth_value, array_count, delta, first_allowed}
+use Rattle.gob_read.specs.Expected.{Allows}
 use Rattle.gob_read.specs.Expected as expected
 use Rattle.gob_read.specs.Expects.{FieldsRun, no_fields, field_then, Enters, ExpectsAt, ExpectsTop, first, second}
 use Rattle.gob_read.specs.Expects as expects
-use Rattle.gob_read.proofs.Grammar.Inside.{InsideTop, inside_struct, inside_behind_tag, outermost, inside_more_top, inside_expects_top}
+use Rattle.gob_read.proofs.Grammar.Inside.{InsideTop, inside_struct, inside_behind_tag, outermost, inside_more_top}
+use Rattle.gob_read.proofs.Grammar.Inside.{inside_expects_top}
 use Rattle.gob_read.proofs.Grammar.Inside.{each_more, pairs_more, run_more}
-use Rattle.gob_explain.specs.Rows.{Row, row, What, joined, raw, raw_rows, Explains, ExplainsAs, ExplainsEach, ExplainsPairs, ExplainsFields, ExplainsTop}
+use Rattle.gob_explain.specs.Rows.{Row, row, What, joined, raw, raw_rows, Explains, ExplainsAs, ExplainsEach}
+use Rattle.gob_explain.specs.Rows.{ExplainsPairs, ExplainsFields, ExplainsTop}
 use Rattle.gob_explain.specs.Rows as rows
 use Rattle.gob_explain.specs.Laws.{Answers, EachStands}
 use Rattle.gob_explain.proofs.RowLaws.{joins, append_nil}
@@ -61,11 +65,13 @@ truth_allowed true = omega arith
 truth_allowed false = omega arith
 
 -- a run of fields doesn't go back
-pub run_rises : {T : Table} {types : List Field} {start next : ℕ} {b : List ℕ} → FieldsRun T types start next b → start ≤ next
+pub run_rises : {T : Table} {types : List Field} {start next : ℕ} {b : List ℕ} → FieldsRun T types start next b
+    → start ≤ next
 run_rises no_fields = omega arith
 run_rises (field_then l g n s r) = let m = run_rises r in omega arith
 
-pub delta_at : {T : Table} {t : TypeId} {types : List Field} {p : List ℕ} {d start next : ℕ} {b : List ℕ} → At T t (kind.Struct types) p d
+pub delta_at : {T : Table} {t : TypeId} {types : List Field} {p : List ℕ} {d start next : ℕ} {b : List ℕ}
+    → At T t (kind.Struct types) p d
     → start ≡ 0 → FieldsRun T types start next b → ExpectsTop T t (p ++ b) (a_number (delta (length types - next))) d
 delta_at {T = T} {t = t} {types = types} {p = p} {d = d} {start = start} a e no_fields =
     let same : length types ≡ length types - start = omega arith in
@@ -81,7 +87,8 @@ further p c b j =
     ap (λ l. p ++ l) (sym (append_assoc c b j)) ∙ sym (append_assoc p (c ++ b) j)
 
 mutual
-  pub stand : {T : Table} {t u : TypeId} {v : Tree} {rs : List Row} {p : List ℕ} {c d : ℕ} → InsideTop T t p u c → suc c ≡ d
+  pub stand : {T : Table} {t u : TypeId} {v : Tree} {rs : List Row} {p : List ℕ} {c d : ℕ} → InsideTop T t p u c
+      → suc c ≡ d
       → Explains T d u v rs → EachStands T t p rs
   stand {T = T} {t = t} {v = v} {rs = rs} {p = p} i e (rows.of_type {s = s} f q) =
       stand_as (subst (At T t s.kind p) e (record {
@@ -107,24 +114,28 @@ mutual
   stand_as {T = T} {t = t} {p = p} a (rows.of_slice {vs = vs} {c = c} {rs = rs} q ps) = (
     (_, first_at a, (_, q, tt)),
     subst (λ l. EachStands T t (p ++ l) rs) (append_nil c)
-        (each_stand p c (tree_count vs) (λ vs b qs l. a.enters (c ++ b) _ (expects.slice_element q qs l)) spelling.no_element (omega arith) (omega arith) ps),
+        (each_stand p c (tree_count vs) (λ vs b qs l. a.enters (c ++ b) _ (expects.slice_element q qs l))
+        spelling.no_element (omega arith) (omega arith) ps),
   )
   stand_as {T = T} {t = t} {p = p} a (rows.of_array {n = n} {vs = vs} {c = c} {rs = rs} m q ps) = (
     (_, first_at a, (_, q, refl)),
     subst (λ l. EachStands T t (p ++ l) rs) (append_nil c)
-        (each_stand p c n (λ vs b qs l. a.enters (c ++ b) _ (expects.array_element q qs l)) spelling.no_element (omega arith) (omega arith) ps),
+        (each_stand p c n (λ vs b qs l. a.enters (c ++ b) _ (expects.array_element q qs l)) spelling.no_element (omega
+        arith) (omega arith) ps),
   )
   stand_as {T = T} {t = t} {p = p} a (rows.of_map {ps = es} {c = c} {rs = rs} q ps) = (
     (_, first_at a, (_, q, tt)),
     subst (λ l. EachStands T t (p ++ l) rs) (append_nil c)
         (pairs_stand p c (pair_count es) (λ es b qs l. a.enters (c ++ b) _ (expects.next_key q qs l))
-        (λ es x b k qs r l. a.enters (c ++ (b ++ k)) _ (expects.next_value q qs l r)) spelling.no_entry (omega arith) (omega arith) ps),
+        (λ es x b k qs r l. a.enters (c ++ (b ++ k)) _ (expects.next_value q qs l r)) spelling.no_entry (omega arith)
+        (omega arith) ps),
   )
   stand_as {T = T} {t = t} {p = p} a (rows.of_struct {rs = rs} ps) =
       subst (λ l. EachStands T t l rs) (append_nil p) (fields_stand a refl no_fields ps)
 
   -- elements behind those that came before them
-  pub each_stand : {T : Table} {t e : TypeId} {done vs : Trees} {rs : List Row} {b : List ℕ} {d m : ℕ} (p c : List ℕ) (n : ℕ)
+  pub each_stand : {T : Table} {t e : TypeId} {done vs : Trees} {rs : List Row} {b : List ℕ} {d m : ℕ} (p c : List ℕ)
+      (n : ℕ)
       → ((ds : Trees) (q : List ℕ) → SpellsEach T e ds q → tree_count ds < n → InsideTop T t (p ++ (c ++ q)) e d)
       → SpellsEach T e done b → tree_count done + tree_count vs ≤ n → suc d ≡ m → ExplainsEach T m e vs rs
       → EachStands T t (p ++ (c ++ b)) rs
@@ -136,7 +147,8 @@ mutual
       (subst (λ l. EachStands T t l ss) (further p c b (joined rs))
       (each_stand p c n enter more.spelled (let m = more.count in omega arith) deep ps))
 
-  pub pairs_stand : {T : Table} {t k e : TypeId} {done es : Pairs} {rs : List Row} {b : List ℕ} {d m : ℕ} (p c : List ℕ) (n : ℕ)
+  pub pairs_stand : {T : Table} {t k e : TypeId} {done es : Pairs} {rs : List Row} {b : List ℕ} {d m : ℕ} (p c : List
+      ℕ) (n : ℕ)
       → ((ds : Pairs) (q : List ℕ) → SpellsPairs T k e ds q → pair_count ds < n → InsideTop T t (p ++ (c ++ q)) k d)
       → ((ds : Pairs) (x : Tree) (q a : List ℕ) → SpellsPairs T k e ds q → Spells T k x a → pair_count ds < n
       → InsideTop T t (p ++ (c ++ (q ++ a))) e d)
@@ -149,13 +161,17 @@ mutual
       let more = pairs_more qs a (joins T _ e _ rs s) in
       stand_append T t (p ++ (c ++ b)) ks (rs ++ ss) (stand (key done b qs (omega arith)) deep r)
       (subst (λ l. EachStands T t l (rs ++ ss)) (further p c b (joined ks))
-      (stand_append T t (p ++ (c ++ (b ++ joined ks))) rs ss (stand (value done x b (joined ks) qs a (omega arith)) deep s)
+      (stand_append T t (p ++ (c ++ (b ++ joined ks))) rs ss (stand (value done x b (joined ks) qs a (omega arith))
+      deep s)
       (subst (λ l. EachStands T t l ss)
-      (ap (λ l. p ++ (c ++ l)) (sym (append_assoc b (joined ks) (joined rs))) ∙ further p c (b ++ joined ks) (joined rs))
+      (ap (λ l. p ++ (c ++ l)) (sym (append_assoc b (joined ks) (joined rs))) ∙ further p c (b ++ joined ks) (joined
+      rs))
       (pairs_stand p c n key value more.spelled (let m = more.count in omega arith) deep ps))))
 
-  fields_stand : {T : Table} {t : TypeId} {types : List Field} {start next : ℕ} {fs : Fields} {rs : List Row} {p b : List ℕ} {d : ℕ}
-      → At T t (kind.Struct types) p d → start ≡ 0 → FieldsRun T types start next b → ExplainsFields T d types next fs rs
+  fields_stand : {T : Table} {t : TypeId} {types : List Field} {start next : ℕ} {fs : Fields} {rs : List Row} {p b :
+      List ℕ} {d : ℕ}
+      → At T t (kind.Struct types) p d → start ≡ 0 → FieldsRun T types start next b
+      → ExplainsFields T d types next fs rs
       → EachStands T t (p ++ b) rs
   fields_stand a e run (rows.end_of_fields q) = ((_, delta_at a e run, (_, q, omega arith)), tt)
   fields_stand {T = T} {t = t} {types = types} {start = start} {next = next} {p = p} {b = b} {d = d} a e run

@@ -12,7 +12,8 @@ use Rattle.gob_value.specs.Spelling.{Spells, SpellsAs, SpellsEach, SpellsPairs, 
 use Rattle.gob_value.specs.Spelling as spelling
 use Rattle.gob_value.specs.Top.{SpellsTop}
 use Rattle.gob_value.specs.Top as top
-use Rattle.gob_explain.specs.Rows.{Row, row, What, tag, names, joined, ExplainsTop, raw_rows, Explains, ExplainsAs, ExplainsEach, ExplainsPairs, ExplainsFields}
+use Rattle.gob_explain.specs.Rows.{Row, row, What, tag, names, joined, ExplainsTop, raw_rows, Explains, ExplainsAs}
+use Rattle.gob_explain.specs.Rows.{ExplainsEach, ExplainsPairs, ExplainsFields}
 use Rattle.gob_explain.specs.Rows as rows
 
 pub append_nil : (xs : List ℕ) → xs ++ [] ≡ xs
@@ -35,10 +36,12 @@ joined_raw d (x ∷ s) = append_nil (x ∷ s)
 -- ---- the rows join to the spelling
 
 mutual
-  pub joins : (T : Table) (d : ℕ) (t : TypeId) (v : Tree) (rs : List Row) → Explains T d t v rs → Spells T t v (joined rs)
+  pub joins : (T : Table) (d : ℕ) (t : TypeId) (v : Tree) (rs : List Row) → Explains T d t v rs
+      → Spells T t v (joined rs)
   joins T d t v rs (rows.of_type e p) = spelling.of_type e (joins_as p)
 
-  joins_as : {T : Table} {d : ℕ} {k : Kind} {v : Tree} {rs : List Row} → ExplainsAs T d k v rs → SpellsAs T k v (joined rs)
+  joins_as : {T : Table} {d : ℕ} {k : Kind} {v : Tree} {rs : List Row} → ExplainsAs T d k v rs
+      → SpellsAs T k v (joined rs)
   joins_as (rows.of_bool {b = b} p) = subst (SpellsAs _ _ _) (sym (append_nil b)) (spelling.of_bool p)
   joins_as (rows.of_int {b = b} p) = subst (SpellsAs _ _ _) (sym (append_nil b)) (spelling.of_int p)
   joins_as (rows.of_uint {b = b} p) = subst (SpellsAs _ _ _) (sym (append_nil b)) (spelling.of_uint p)
@@ -73,7 +76,8 @@ mutual
 
   joins_fields : {T : Table} {d : ℕ} {types : List Field} {next : ℕ} {fs : Fields} {rs : List Row}
       → ExplainsFields T d types next fs rs → SpellsFields T types next fs (joined rs)
-  joins_fields (rows.end_of_fields {b = b} p) = subst (SpellsFields _ _ _ _) (sym (append_nil b)) (spelling.end_of_fields p)
+  joins_fields (rows.end_of_fields {b = b} p) = subst (SpellsFields _ _ _ _) (sym (append_nil b))
+      (spelling.end_of_fields p)
   joins_fields (rows.next_field {a = a} {rs = rs} {ss = ss} l at p q ps) =
       subst (SpellsFields _ _ _ _) (ap (λ (l : List ℕ). a ++ l) (sym (joined_append rs ss)))
       (spelling.next_field l at p (joins _ _ _ _ rs q) (joins_fields ps))
@@ -94,8 +98,18 @@ mutual
   explained_as d (spelling.of_complex {b = b} {c = c} p q) =
       (_, rows.of_complex p q, ap (λ (l : List ℕ). b ++ l) (append_nil c))
   explained_as d (spelling.of_nil {b = b} p) = (_, rows.of_nil p, append_nil b)
-  explained_as d (spelling.of_bytes {s = s} {c = c} p) = (_, rows.of_bytes p, ap (λ (l : List ℕ). c ++ l) (joined_raw d s))
-  explained_as d (spelling.of_text {s = s} {c = c} p) = (_, rows.of_text p, ap (λ (l : List ℕ). c ++ l) (joined_raw d s))
+  explained_as d (spelling.of_bytes {s = s} {c = c} p) = (
+    _,
+    rows.of_bytes p,
+    ap (λ (l : List ℕ). c ++ l) (joined_raw
+        d s),
+  )
+  explained_as d (spelling.of_text {s = s} {c = c} p) = (
+    _,
+    rows.of_text p,
+    ap (λ (l : List ℕ). c ++ l) (joined_raw d
+        s),
+  )
   explained_as d (spelling.of_opaque {s = s} {c = c} p) =
       (_, rows.of_opaque p, ap (λ (l : List ℕ). c ++ l) (joined_raw d s))
   explained_as d (spelling.of_slice {c = c} p ps) =
@@ -158,7 +172,8 @@ row_same : {d : ℕ} {w : What} {a b : List ℕ} → a ≡ b → row d w a ≡ r
 row_same {d = d} {w = w} e = ap (row d w) e
 
 mutual
-  pub one_explanation : (T : Table) (d : ℕ) (t : TypeId) (v : Tree) (rs : List Row) (ss : List Row) → Explains T d t v rs
+  pub one_explanation : (T : Table) (d : ℕ) (t : TypeId) (v : Tree) (rs : List Row) (ss : List Row)
+      → Explains T d t v rs
       → Explains T d t v ss → rs ≡ ss
   one_explanation T d t v rs ss (rows.of_type e p) (rows.of_type f q) =
       one_as (subst (λ (s : Shape). ExplainsAs T d s.kind v rs) (some_injective (sym e ∙ f)) p) q
@@ -194,7 +209,9 @@ mutual
   one_fields : {T : Table} {d : ℕ} {types : List Field} {next : ℕ} {fs : Fields} {rs ss : List Row}
       → ExplainsFields T d types next fs rs → ExplainsFields T d types next fs ss → rs ≡ ss
   one_fields (rows.end_of_fields p) (rows.end_of_fields q) = cons_same (row_same (unsigned_unique p q)) refl
-  one_fields {T = T} {d = d} (rows.next_field {f = f} {v = v} {a = a} {rs = rs} l at p r ps) (rows.next_field m bt q s qs) =
+  one_fields {T = T} {d = d} (rows.next_field {f = f} {v = v} {a = a} {rs = rs} l at p r ps) (rows.next_field m bt q s
+      qs) =
       let same = some_injective (sym at ∙ bt) in
       cons_same (ap (λ (x : Field). row d (names f x.name) a) same ∙ row_same (unsigned_unique p q))
-      (rows_same (one_explanation _ _ _ _ _ _ (subst (λ (x : Field). Explains T (d + 1) x.id v rs) same r) s) (one_fields ps qs))
+      (rows_same (one_explanation _ _ _ _ _ _ (subst (λ (x : Field). Explains T (d + 1) x.id v rs) same r) s)
+      (one_fields ps qs))

@@ -87,7 +87,8 @@ itself {T = T} {t = t} {p = p} {q = q} {w = w} {around = around} b f a =
     let deep : around + 1 ≡ suc around = omega arith in
     subst (λ d. ExpectsTop T t (p ++ q) w d) deep (b.expects q w 1 (expects.in_itself f a))
 
-first_delta : {T : Table} {types : List Field} {start next : ℕ} {b : List ℕ} → start ≡ 0 → FieldsRun T types start next b
+first_delta : {T : Table} {types : List Field} {start next : ℕ} {b : List ℕ} → start ≡ 0
+    → FieldsRun T types start next b
     → ExpectsAt T (kind.Struct types) b (a_number (delta (length types - next)))
 first_delta {T = T} {types = types} {start = start} e no_fields =
     let same : length types ≡ length types - start = omega arith in

@@ -43,9 +43,11 @@ pub data Comes (T : Table) (t : TypeId) : List ℕ → Expected → What → Typ
   of_imaginary : {u : TypeId} {s : Shape} {b : List ℕ} {n around : ℕ} (p : List ℕ) → BeginsPart T t p u around
       → shape_of T u ≡ Some s → s.kind ≡ kind.Basic basic.Complex → IsPattern n b
       → Comes T t (p ++ b) (a_number any) what.Imaginary u (suc around)
-  of_raw : {u : TypeId} {s : Shape} {b : List ℕ} {n around : ℕ} (p : List ℕ) → BeginsPart T t p u around → shape_of T u ≡ Some s
+  of_raw : {u : TypeId} {s : Shape} {b : List ℕ} {n around : ℕ} (p : List ℕ) → BeginsPart T t p u around
+      → shape_of T u ≡ Some s
       → HasRawBytes s.kind → 0 < n → IsUnsigned n b → Comes T t (p ++ b) (raw n) what.Raw u (suc around)
-  of_delta : {u : TypeId} {s : Shape} {types : List Field} {b : List ℕ} {next around : ℕ} (p : List ℕ) → BeginsPart T t p u around
+  of_delta : {u : TypeId} {s : Shape} {types : List Field} {b : List ℕ} {next around : ℕ} (p : List ℕ)
+      → BeginsPart T t p u around
       → shape_of T u ≡ Some s → s.kind ≡ kind.Struct types → FieldsRun T types 0 next b
       → Comes T t (p ++ b) (a_number (delta (length types - next))) what.Delta u (suc around)
 

@@ -29,7 +29,8 @@ pub(crate) fn walk_part<S: Shapes, O: RowSink>(
 ) -> Result<usize, Stop<O::Fault>>
     requires most { most ≤ 1000 }
     requires depth { part.depth ≤ most + 1 }
-    ensures { (t : TypeId) (around : ℕ) → around + 1 ≡ part.depth → at ≤ length body.now → IsReady (S.table shapes.now) part.id
+    ensures { (t : TypeId) (around : ℕ) → around + 1 ≡ part.depth → at ≤ length body.now
+        → IsReady (S.table shapes.now) part.id
         → BeginsPart (S.table shapes.now) t (take at body.now) part.id around
         → Walks O.tells (S.table shapes.now) t body.now most at out.old out.new ends_at
         (λ end. SpellsOne (S.table shapes.now) part.id (between at end body.now)) result }
@@ -89,7 +90,8 @@ fn walk_step<S: Shapes, O: RowSink>(
 ) -> Result<usize, Stop<O::Fault>>
     requires most { most ≤ 1000 }
     requires depth { part.depth ≤ most + 1 }
-    ensures { (t : TypeId) (around : ℕ) → around + 1 ≡ part.depth → at ≤ length body.now → IsReady (S.table shapes.now) part.id
+    ensures { (t : TypeId) (around : ℕ) → around + 1 ≡ part.depth → at ≤ length body.now
+        → IsReady (S.table shapes.now) part.id
         → BeginsPart (S.table shapes.now) t (take at body.now) part.id around
         → Walks O.tells (S.table shapes.now) t body.now most at out.old out.new ends_at
         (λ end. SpellsOne (S.table shapes.now) part.id (between at end body.now)) result }
@@ -113,7 +115,8 @@ fn walk_elements<S: Shapes, O: RowSink>(
 ) -> Result<usize, Stop<O::Fault>>
     requires most { most ≤ 1000 }
     requires depth { each.depth ≤ most + 1 }
-    ensures { (t : TypeId) (around : ℕ) → around + 1 ≡ each.depth → begin ≤ length body.now → IsReady (S.table shapes.now) each.id
+    ensures { (t : TypeId) (around : ℕ) → around + 1 ≡ each.depth → begin ≤ length body.now
+        → IsReady (S.table shapes.now) each.id
         → BeginsEachPart (S.table shapes.now) t (take begin body.now) each.id count around
         → Walks O.tells (S.table shapes.now) t body.now most begin out.old out.new ends_at
         (λ end. SpellsMany (S.table shapes.now) each.id count (between begin end body.now)) result }
@@ -146,7 +149,8 @@ fn walk_pairs<S: Shapes, O: RowSink>(
 ) -> Result<usize, Stop<O::Fault>>
     requires most { most ≤ 1000 }
     requires depth { each.depth ≤ most + 1 }
-    ensures { (t : TypeId) (around : ℕ) → around + 1 ≡ each.depth → begin ≤ length body.now → IsReady (S.table shapes.now) each.key
+    ensures { (t : TypeId) (around : ℕ) → around + 1 ≡ each.depth → begin ≤ length body.now
+        → IsReady (S.table shapes.now) each.key
         → IsReady (S.table shapes.now) each.elem
         → BeginsEachKey (S.table shapes.now) t (take begin body.now) each.key each.elem count around
         → BeginsEachValue (S.table shapes.now) t (take begin body.now) each.key each.elem count around
@@ -182,7 +186,8 @@ fn walk_fields<S: Shapes, O: RowSink>(
 ) -> Result<usize, Stop<O::Fault>>
     requires most { most ≤ 1000 }
     requires depth { part.depth ≤ most }
-    ensures { (t : TypeId) (around : ℕ) (s : Shape) → around + 1 ≡ part.depth → begin ≤ length body.now → IsReady (S.table shapes.now) part.id
+    ensures { (t : TypeId) (around : ℕ) (s : Shape) → around + 1 ≡ part.depth → begin ≤ length body.now
+        → IsReady (S.table shapes.now) part.id
         → shape_of (S.table shapes.now) part.id ≡ Some s → s.kind ≡ kind.Struct types.now
         → BeginsPart (S.table shapes.now) t (take begin body.now) part.id around
         → Walks O.tells (S.table shapes.now) t body.now most begin out.old out.new ends_at

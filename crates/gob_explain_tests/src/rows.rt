@@ -73,7 +73,8 @@ pub(crate) const ROWS: [Row; 6] = [
     Row {
         what: "bytes in several lines",
         id: 5,
-        bytes: "00 22 00 01 02 03 04 05 06 07 08 09 0a 0b 0c 0d 0e 0f 10 11 12 13 14 15 16 17 18 19 1a 1b 1c 1d 1e 1f 20 21",
+        bytes: "00 22 00 01 02 03 04 05 06 07 08 09 0a 0b 0c 0d 0e 0f 10 11 12 13 14 15 16 17 18 19 1a 1b 1c 1d 1e 1f
+20 21",
         lines: "
      0  00                       >the tag of a value that is no struct
      1  22 00 01 02 03 04 05 06  >>34 bytes

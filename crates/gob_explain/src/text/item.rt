@@ -36,8 +36,9 @@ impl Reached {
     }
 }
 
-/// Puts the lines of an item behind the text, as far as they stand in these bytes, and tells how far they lead. The item
-/// begins with the first of the bytes, which stands at this offset of the stream. No value may be deeper than 1000.
+/// Puts the lines of an item behind the text, as far as they stand in these bytes, and tells how far they lead. The
+/// item begins with the first of the bytes, which stands at this offset of the stream. No value may be deeper than
+/// 1000.
 pub fn push_item<S: Shapes>(
     alloc: Global,
     shapes: &S,

@@ -5,7 +5,8 @@ use Rattle.gob_value.specs.Top.{IsStruct}
 use Rattle.gob_read.specs.Expected.{tag}
 use Rattle.gob_explain.specs.Walk as walk
 use Rattle.gob_explain.specs.Machine.Walking.{ends_at}
-use Rattle.gob_explain.proofs.BodyLaws.{no_struct, struct_begins, struct_whole_top, tag_is, tag_range, tagged_whole_top, value_begins}
+use Rattle.gob_explain.proofs.BodyLaws.{no_struct, struct_begins, struct_whole_top, tag_is, tag_range, tagged_whole_top}
+use Rattle.gob_explain.proofs.BodyLaws.{value_begins}
 use Rattle.gob_explain.proofs.BodyLaws.{value_begins_at}
 use Rattle.gob_explain.proofs.WalkLaws.{told_nothing, walk_failed, walks_on}
 use Rattle.gob_explain.proofs.body.walk_top.Goals as goal

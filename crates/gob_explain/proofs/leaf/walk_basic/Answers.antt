@@ -40,5 +40,6 @@ returns-in_ok-end-in_default g c = λ T t s around most d l b f e.
     (comes_first d b f (no_struct c.args.basic e) (ap first_allowed e)) c.allowed_of.ensures in (
       first.0,
       number_whole c.args.basic f e c.in_default.not-Bytes c.in_default.not-Str c.in_default.not-Complex
-          (in_range (first_allowed (kind.Basic c.args.basic)) c.allowed_of.ensures first.1.3 first.1.1 first.1.2) first.1.3,
+          (in_range (first_allowed (kind.Basic c.args.basic)) c.allowed_of.ensures first.1.3 first.1.1 first.1.2)
+          first.1.3,
     )

@@ -15,7 +15,8 @@ use Rattle.gob_read.specs.Expected.{any, array_count, delta, first_allowed}
 use Rattle.gob_read.proofs.Machine.FieldSteps.{past_end}
 use Rattle.gob_explain.specs.Walk.{HasRawBytes, between}
 use Rattle.gob_explain.specs.Machine.Walking.{ends_at}
-use Rattle.gob_explain.proofs.PartLaws.{array_parts, array_whole, entries_more, many_more, map_keys, map_values, map_whole}
+use Rattle.gob_explain.proofs.PartLaws.{array_parts, array_whole, entries_more, many_more, map_keys, map_values}
+use Rattle.gob_explain.proofs.PartLaws.{map_whole}
 use Rattle.gob_explain.proofs.PartLaws.{next_field, next_key, next_part, next_value, none_entries, none_many, none_run}
 use Rattle.gob_explain.proofs.PartLaws.{run_more_at, slice_parts, slice_whole, struct_whole}
 use Rattle.gob_explain.proofs.WalkLaws.{any_range, array_range, comes_delta, comes_first, delta_range, fails_then}
@@ -61,7 +62,8 @@ pub walk_step-returns : goal.walk_step-returns
 walk_step-returns g t c = λ u around d l r b.
     let one = c.in_ok-end.ensures u around d l r b in (
       told_then g.O.RowSink.tells g.met.O.RowSink.joined
-          (told_then g.O.RowSink.tells g.met.O.RowSink.joined (told_nothing g.O.RowSink.tells c.in_ok-enter.ensures l) one.0)
+          (told_then g.O.RowSink.tells g.met.O.RowSink.joined (told_nothing g.O.RowSink.tells c.in_ok-enter.ensures l)
+          one.0)
           (told_nothing g.O.RowSink.tells c.leave.ensures one.0.inside),
       one.1,
     )
@@ -132,7 +134,8 @@ walk_pairs-pairs-preserved g t c = λ u around d l rk re bk be.
     key.0.order be so.1 (omega arith) key.1) in (
       told_then g.O.RowSink.tells g.met.O.RowSink.joined
           (told_then g.O.RowSink.tells g.met.O.RowSink.joined so.0 key.0) one.0,
-      entries_more c.args.body.now c.args.begin c.pairs.at c.in_ok-behind.behind _ so.0.order key.0.order one.0.order so.1
+      entries_more c.args.body.now c.args.begin c.pairs.at c.in_ok-behind.behind _ so.0.order key.0.order one.0.order
+          so.1
           key.1 one.1,
     )
 
@@ -161,7 +164,8 @@ walk_fields-returns-in_err-delta g t c = λ u around s d l r f k b.
 pub walk_fields-returns-then-delta-eq0 : goal.walk_fields-returns-then-delta-eq0
 walk_fields-returns-then-delta-eq0 g t c = λ u around s d l r f k b.
     let so = c.fields.invariant.walked u around s d l r f k b in
-    let first = c.in_ok-delta.ensures.walks _ u (delta (length c.args.types.now - c.fields.next)) c.args.most so.0.inside
+    let first = c.in_ok-delta.ensures.walks _ u (delta (length c.args.types.now - c.fields.next)) c.args.most
+    so.0.inside
     (comes_delta c.args.body.now c.args.begin c.fields.at d so.0.order b f k so.1) (delta_range (omega arith)) in
     let none : c.in_ok-delta.delta ≡ 0 = omega arith in (
       told_then g.O.RowSink.tells g.met.O.RowSink.joined so.0 first.0,
@@ -176,7 +180,8 @@ walk_fields-returns-in_default g t c = λ u around s d l r f k b.
 pub walk_fields-returns-in_err-at : goal.walk_fields-returns-in_err-at
 walk_fields-returns-in_err-at g t c = λ u around s d l r f k b.
     let so = c.fields.invariant.walked u around s d l r f k b in
-    let first = c.in_ok-delta.ensures.walks _ u (delta (length c.args.types.now - c.fields.next)) c.args.most so.0.inside
+    let first = c.in_ok-delta.ensures.walks _ u (delta (length c.args.types.now - c.fields.next)) c.args.most
+    so.0.inside
     (comes_delta c.args.body.now c.args.begin c.fields.at d so.0.order b f k so.1) (delta_range (omega arith)) in
     let at = sym c.in-Some.ensures.found in
     walk_failed g.O.RowSink.tells ends_at _ _ u c.args.body.now c.args.most c.args.begin _ _ _
