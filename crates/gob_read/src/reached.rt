@@ -16,6 +16,7 @@ ghost use Rattle.gob_types.specs.Table.{Table};
 ghost use Rattle.gob_read.specs.Calls.UnderWay.{HasReadBody, HasEnded, FitsTable, PushGives, PushStops};
 ghost use Rattle.gob_read.specs.Calls.UnderWay.{PushStopsHonestly};
 ghost use Rattle.gob_read.specs.Calls.UpToNil.{NoNilBegun, ReachedGives, IsBeforeNil, IsBeforeNilIn, HasRoom};
+ghost use Rattle.gob_read.specs.Calls.UpToNil.{IsNilDepth};
 ghost use Rattle.gob_read.specs.Machine.Nil.{IsNoInterface};
 
 use crate::builder::Builder;
@@ -105,6 +106,16 @@ impl<B: Builder> BodyReader<B> {
                 })
             }
             Err(stop) => Err(stop),
+        }
+    }
+
+    /// The depth of the interface whose number comes next. A value in it is one deeper.
+    pub fn depth_of_nil(&self) -> u64
+        ensures { (T : Table) → IsBeforeNil T self.now → IsNilDepth B.building T self.now result }
+    {
+        match &self.run {
+            Some(run) => run.depth_now(),
+            None => 0,
         }
     }
 

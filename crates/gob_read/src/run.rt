@@ -213,7 +213,7 @@ impl<B: Builder> Run<B> {
 
     /// The depth of the part that the expected item is in.
     #[inline(always)]
-    fn depth_now(&self) -> u64
+    pub(crate) fn depth_now(&self) -> u64
         ensures { result ≡ depth_of self.now.state.expected self.now.state.stack }
     {
         let opens = self.state.stack.depth();

@@ -2,3 +2,4 @@ pub mod Depths
 pub mod Words
 pub mod Views
 pub mod ViewDepths
+pub mod Escaped

@@ -1,5 +1,9 @@
 //! Lines that say what is wrong with a word. No word puts a character into them that a terminal obeys.
 
+ghost use Rattle.std.specs.Prelude.{◌≡◌, ◌++◌, IfOk, OnOk, encode_utf8_all, string_bytes};
+ghost use Rattle.std.specs.Str.{chars};
+ghost use Rattle.gob_words.specs.Escaped.{IsUnobeyed, escaped_character, escaped_text, is_obeyed};
+
 use std::alloc::{AllocError, Global};
 use std::fmt::Display;
 
@@ -9,7 +13,9 @@ const ERROR: &str = "error: ";
 const BLANK: &str = "\n\n";
 
 /// The first paragraph of what clap shows of a fault, which names the word and says what is wrong with it.
-pub(crate) fn shown_line<D: Display>(alloc: Global, shown: &D) -> Result<String, AllocError> {
+pub(crate) fn shown_line<D: Display>(alloc: Global, shown: &D) -> Result<String, AllocError>
+    ensures { IfOk result (λ line. IsUnobeyed (string_bytes line)) }
+{
     let text = shown.to_string(alloc)?;
     let text = text.as_str();
     let text = text.strip_prefix(ERROR).unwrap_or(text);
@@ -27,7 +33,9 @@ pub(crate) fn number_line(
     word: &str,
     least: u64,
     most: u64,
-) -> Result<String, AllocError> {
+) -> Result<String, AllocError>
+    ensures { IfOk result (λ line. IsUnobeyed (string_bytes line)) }
+{
     let line = format!(in alloc;
         "invalid value '{word}' for '--{option} <N>': no number from {least} to {most}"
     )?;
@@ -35,21 +43,34 @@ pub(crate) fn number_line(
 }
 
 /// The text, in which each character that a terminal obeys stands as `\u{..}`.
-pub fn escaped(alloc: Global, text: &str) -> Result<String, AllocError> {
+pub fn escaped(alloc: Global, text: &str) -> Result<String, AllocError>
+    ensures characters { IfOk result (λ line. chars (string_bytes line) ≡ escaped_text (chars text.now)) }
+    ensures unobeyed { IfOk result (λ line. IsUnobeyed (string_bytes line)) }
+    ensures unchanged { IsUnobeyed text.now → IfOk result (λ line. string_bytes line ≡ text.now) }
+{
     let mut line = String::new(alloc);
     for character in text.chars() {
-        if is_obeyed(character) {
-            let number = u32::from(character);
-            write!(line, "\\u{{{number:x}}}")?;
-        } else {
-            line.push(character)?;
-        }
+        push_escaped(character, &mut line)?;
     }
     Ok(line)
 }
 
+// Appends a character: as it is, or where a terminal obeys it by its number.
+fn push_escaped(character: char, line: &mut String) -> Result<(), AllocError>
+    ensures { OnOk result (string_bytes line.new ≡ string_bytes line.old ++ encode_utf8_all (escaped_character character)) }
+{
+    if is_obeyed(character) {
+        let number = u32::from(character);
+        write!(line, "\\u{{{number:x}}}")
+    } else {
+        line.push(character)
+    }
+}
+
 // Controls, separators of lines, and what turns the direction of the text.
-fn is_obeyed(character: char) -> bool {
+fn is_obeyed(character: char) -> bool
+    ensures { result ≡ is_obeyed character }
+{
     matches!(
         character,
         '\0'..='\u{1f}'

@@ -2,7 +2,7 @@
 use Rattle.std.proofs.Common.{◌≡◌, ◌≢◌, ℕ, ◌+◌, ◌<◌, inl, inr, List, [], ◌∷◌, ◌++◌, length, take, Result, Ok, Err}
 use Rattle.std.proofs.Common.{arith, refl, sym, ap, ◌∙◌, subst, append_assoc, length-append}
 use Rattle.std.specs.Prelude.{IfOk, IfErr, IsErrAnd}
-use Rattle.gob_num.proofs.PublicLaws.{append_split}
+use Rattle.gob_num.proofs.PublicLaws.{append_split, begins_prefix}
 use Rattle.gob_types.specs.declared.id.TypeId.{TypeId}
 use Rattle.gob_types.specs.declared.basic.Basic.TheVariants as basic
 use Rattle.gob_types.specs.declared.kind.Kind.{Kind}
@@ -11,7 +11,7 @@ use Rattle.gob_types.specs.declared.reason.Reason.TheVariants as reason
 use Rattle.gob_types.specs.Table.{Table}
 use Rattle.gob_types.specs.Ready.{IsReady}
 use Rattle.gob_read.specs.Expected.{Allowed, any, tag, truth_value, array_count, delta, nil, a_number, raw, reason_of}
-use Rattle.gob_read.specs.Expected.{first_allowed}
+use Rattle.gob_read.specs.Expected.{Expected, first_allowed, within_number}
 use Rattle.gob_read.specs.Expects.{ExpectsTop, second}
 use Rattle.gob_read.specs.Expects as expects
 use Rattle.gob_read.specs.Viable.{IsViable}
@@ -23,6 +23,8 @@ use Rattle.gob_read.specs.Machine.OpenPath.{OpenPath, AtNext, at_tag, at_part, a
 use Rattle.gob_read.specs.Machine.Steps.{TakesRaw}
 use Rattle.gob_read.specs.Machine.Running.{IsReached, IsOpenSomewhere, IsBeforeIn, StopsFor, RefusesAt, RefusesPiece}
 use Rattle.gob_read.specs.Machine.Running.{RestAnswers, MayGoOn}
+use Rattle.gob_read.specs.Machine.Running.{IsUnderWayAt, depth_of}
+use Rattle.gob_read.specs.Calls.Reader.{HasReadSoFar, nothing_taken, taken_so_far}
 use Rattle.gob_read.specs.Machine.Nil.{IsAtNil, IsNotAtNil, IsClear, StepsClear, StopsHere, IsNoInterface, ExpectsNil}
 use Rattle.gob_read.specs.Machine.Nil.{ComesToNil, NilAnswers}
 use Rattle.gob_read.specs.declared.to_nil.Came.{Came}
@@ -36,7 +38,8 @@ use Rattle.gob_read.specs.declared.run.Advance.{Advance}
 use Rattle.gob_read.specs.declared.state.State.{State}
 use Rattle.gob_read.specs.declared.stop.Stop.{Stop}
 use Rattle.gob_read.specs.declared.stop.Stop.TheVariants as stops
-use Rattle.gob_read.proofs.Grammar.Compare.{expects_once}
+use Rattle.gob_read.proofs.Grammar.Compare.{expects_once, unmet_once, met_some}
+use Rattle.gob_read.proofs.Grammar.Firsts.{ends_not_met}
 use Rattle.gob_read.proofs.Grammar.Prefixes.{append_nil}
 use Rattle.gob_read.proofs.Machine.Places.{raw_expects, no_top, part_expects, part_defined, expected_in, within_inside}
 use Rattle.gob_read.proofs.Machine.Places.{delta_expects}
@@ -214,6 +217,20 @@ expects_nil {T = T} {t = t} {run = run} {z = z} r n c =
       expects = subst
           (λ z. ExpectsTop T t z (a_number nil) (length run.state.stack + 1)) (sym z_is) (part_expects w n.kind);
     }
+
+-- an interface whose number comes next lies as deep as the part that is begun
+pub nil_depth : {T : Table} {t : TypeId} {X O : Type 0} {received : X → List Event → Type 0} {run : Run X O} {e : ℕ}
+    {z : List ℕ} → IsAtNil T run → HasReadSoFar T t received run z → ExpectsTop T t z (a_number nil) e
+    → depth_of run.state.expected run.state.stack ≡ e
+nil_depth n (nothing_taken f) x = absurd (let z = sym f.expected ∙ n.expected in cc)
+nil_depth {T = T} {t = t} {run = run} {z = z} n (taken_so_far r) x =
+    let w =
+    open_at n.id (subst (λ a. AtNext T t run.state.stack a r.before r.under_way r.placed.us) n.expected r.placed.at)
+    in
+    let begun = subst (λ a. IsUnderWayAt a run.number r.under_way) n.expected r.number_is in
+    let same = unmet_once r.under_way [] (part_expects w n.kind) x (sym r.whole ∙ sym (append_nil z))
+    (ends_not_met (within_number (begins_prefix {bytes = r.under_way} begun.1))) (met_some x) in
+    ap (λ a. depth_of a run.state.stack) n.expected ∙ ap (λ (v : Expected × ℕ). v.1) same.value
 
 -- so far in a piece, before such a number
 pub comes_to_nil : {T : Table} {X O : Type 0} {received : X → List Event → Type 0} {old new : Run X O} {piece : List ℕ}

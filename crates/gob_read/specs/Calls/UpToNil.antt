@@ -1,10 +1,12 @@
 -- What contracts see of a reader that stops before the numbers of interfaces: whether it stands before one, and what a
 -- push up to one gives.
-use Rattle.std.specs.Prelude.{ℕ, ◌≤◌, ◌<◌, List, [], ◌++◌, length, take, Option, Some, None}
+use Rattle.std.specs.Prelude.{◌≡◌, ℕ, ◌≤◌, ◌<◌, List, [], ◌++◌, length, take, Option, Some, None}
 use Rattle.gob_types.specs.declared.id.TypeId.{TypeId}
 use Rattle.gob_types.specs.Table.{Table, Extends}
 use Rattle.gob_value.specs.Tree.{Tree}
 use Rattle.gob_read.specs.Event.{Event}
+use Rattle.gob_read.specs.Expected.{a_number, nil}
+use Rattle.gob_read.specs.Expects.{ExpectsTop}
 use Rattle.gob_read.specs.Building.{Building}
 use Rattle.gob_read.specs.Calls.Reader.{ReaderTakesPiece, EndsBody}
 use Rattle.gob_read.specs.Calls.UnderWay.{under_way, HasReadBody, FitsTable}
@@ -29,6 +31,11 @@ IsRunAtNil T (Some run) = IsAtNil T run
 -- the number of an interface comes next
 abbrev pub IsBeforeNil : Table → {X O : Type 0} → BodyReader X O → Type 0
 IsBeforeNil T reader = IsRunAtNil T (under_way reader)
+
+-- the interface that comes next has this depth
+abbrev pub IsNilDepth : {X O : Type 0} {most : ℕ} → Building X O most → Table → BodyReader X O → ℕ → Type 0
+IsNilDepth building T reader d = (t : TypeId) (limit announced e : ℕ) (z : List ℕ)
+    → HasReadBody building T t limit announced reader z → ExpectsTop T t z (a_number nil) e → d ≡ e
 
 -- more bytes are announced than were taken
 abbrev pub HasRoom : {X O : Type 0} {most : ℕ} → Building X O most → Table → BodyReader X O → Type 0
