@@ -1,0 +1,8 @@
+mod RowLaws
+mod PlaceLaws
+mod FrontLaws
+mod OneWayLaws
+mod WalkLaws
+mod PartLaws
+mod BodyLaws
+mod ReachLaws

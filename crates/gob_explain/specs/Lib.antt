@@ -1,0 +1,6 @@
+pub mod Rows
+pub mod Laws
+pub mod Walk
+pub mod Machine
+pub mod Body
+pub mod Reach

@@ -1,0 +1,180 @@
+//! The rows of one number, and of raw bytes.
+
+ghost use Rattle.std.specs.Prelude.{◌≡◌, ◌+◌, ◌<◌, ◌≤◌, ℕ, Some, IfOk, length, take};
+ghost use Rattle.gob_types.specs.declared.id.TypeId.{TypeId};
+ghost use Rattle.gob_types.specs.declared.basic.Basic.TheVariants as basic;
+ghost use Rattle.gob_types.specs.declared.kind.Kind.TheVariants as kind;
+ghost use Rattle.gob_types.specs.declared.kind.Shape.{Shape};
+ghost use Rattle.gob_types.specs.Table.{Table, shape_of};
+ghost use Rattle.gob_read.specs.Expected.{Allowed, a_number, first_allowed, raw};
+ghost use Rattle.gob_explain.specs.Walk.{BeginsPart, Comes, HasRawBytes, between};
+ghost use Rattle.gob_explain.specs.Machine.Walking.{AllowsRange, IsInRange, SpellsOne, Walks, ends_at, number_ends};
+
+use crate::row::{Awaited, Part, Row, What};
+use crate::sink::RowSink;
+use crate::stop::Stop;
+use gob_num::uint_at;
+use gob_types::Basic;
+
+// Which numbers are allowed.
+#[derive(Clone, Copy)]
+pub(crate) struct Numbers {
+    pub(crate) least: u64,
+    pub(crate) most: u64,
+}
+
+impl Numbers {
+    // All of 64 bits.
+    pub(crate) const ANY: Numbers = Numbers {
+        least: 0,
+        most: u64::MAX,
+    };
+
+    // 0 alone.
+    pub(crate) const NONE: Numbers = Numbers { least: 0, most: 0 };
+}
+
+// Tells of the number that comes next in the part, and where it ends.
+pub(crate) fn walk_number<O: RowSink>(
+    what: What,
+    part: Part,
+    allowed: Numbers,
+    body: &[u8],
+    at: usize,
+    out: &mut O,
+) -> Result<(u64, usize), Stop<O::Fault>>
+    ensures most { IfOk result (λ found. found.0 ≤ allowed.most) }
+    ensures walks { (T : Table) (t : TypeId) (a : Allowed) (most : ℕ) → at ≤ length body.now
+        → Comes T t (take at body.now) (a_number a) what part.id part.depth
+        → AllowsRange a allowed.least allowed.most
+        → Walks O.tells T t body.now most at out.old out.new number_ends
+        (λ found. IsInRange allowed.least allowed.most body.now at found.0 found.1) result }
+{
+    let awaited = Awaited {
+        what,
+        id: part.id,
+        most: allowed.most,
+    };
+    let Some((number, end)) = uint_at(body, at) else {
+        return Err(Stop::Here(at, awaited));
+    };
+    if number < allowed.least || number > allowed.most {
+        return Err(Stop::Here(at, awaited));
+    }
+    out.put(Row {
+        what,
+        id: part.id,
+        depth: part.depth,
+        number,
+        begin: at,
+        end,
+    })?;
+    Ok((number, end))
+}
+
+// Tells of so many raw bytes, if there are any, and where they end.
+pub(crate) fn walk_raw<O: RowSink>(
+    part: Part,
+    count: u64,
+    body: &[u8],
+    at: usize,
+    out: &mut O,
+) -> Result<usize, Stop<O::Fault>>
+    ensures { (T : Table) (t : TypeId) (most : ℕ) → at ≤ length body.now
+        → (0 < count → Comes T t (take at body.now) (raw count) What.Raw part.id part.depth)
+        → Walks O.tells T t body.now most at out.old out.new ends_at
+        (λ end. end ≡ at + count) result }
+{
+    if count == 0 {
+        return Ok(at);
+    }
+    if count > body.len().saturating_sub(at) as u64 {
+        return Err(Stop::Here(
+            at,
+            Awaited {
+                what: What::Raw,
+                id: part.id,
+                most: count,
+            },
+        ));
+    }
+    let end = at + count as usize;
+    out.put(Row {
+        what: What::Raw,
+        id: part.id,
+        depth: part.depth,
+        number: count,
+        begin: at,
+        end,
+    })?;
+    Ok(end)
+}
+
+// Tells of a count of raw bytes and of those, and where they end.
+pub(crate) fn walk_counted<O: RowSink>(
+    part: Part,
+    body: &[u8],
+    at: usize,
+    out: &mut O,
+) -> Result<usize, Stop<O::Fault>>
+    ensures { (T : Table) (t : TypeId) (s : Shape) (around most : ℕ) → around + 1 ≡ part.depth → at ≤ length body.now
+        → BeginsPart T t (take at body.now) part.id around → shape_of T part.id ≡ Some s → HasRawBytes s.kind
+        → Walks O.tells T t body.now most at out.old out.new ends_at
+        (λ end. SpellsOne T part.id (between at end body.now)) result }
+{
+    let (count, behind) = walk_number(What::First, part, Numbers::ANY, body, at, out)?;
+    walk_raw(part, count, body, behind, out)
+}
+
+// Tells of a basic value, and where it ends.
+pub(crate) fn walk_basic<O: RowSink>(
+    part: Part,
+    basic: Basic,
+    body: &[u8],
+    at: usize,
+    out: &mut O,
+) -> Result<usize, Stop<O::Fault>>
+    ensures { (T : Table) (t : TypeId) (s : Shape) (around most : ℕ) → around + 1 ≡ part.depth → at ≤ length body.now
+        → BeginsPart T t (take at body.now) part.id around → shape_of T part.id ≡ Some s → s.kind ≡ kind.Basic basic
+        → Walks O.tells T t body.now most at out.old out.new ends_at
+        (λ end. SpellsOne T part.id (between at end body.now)) result }
+{
+    match basic {
+        Basic::Bytes => walk_counted(part, body, at, out),
+        Basic::Str => walk_counted(part, body, at, out),
+        Basic::Complex => walk_complex(part, body, at, out),
+        _ => {
+            let (_, end) = walk_number(What::First, part, allowed_of(basic), body, at, out)?;
+            Ok(end)
+        }
+    }
+}
+
+// Tells of a complex number, and where it ends.
+fn walk_complex<O: RowSink>(
+    part: Part,
+    body: &[u8],
+    at: usize,
+    out: &mut O,
+) -> Result<usize, Stop<O::Fault>>
+    ensures { (T : Table) (t : TypeId) (s : Shape) (around most : ℕ) → around + 1 ≡ part.depth → at ≤ length body.now
+        → BeginsPart T t (take at body.now) part.id around → shape_of T part.id ≡ Some s
+        → s.kind ≡ kind.Basic basic.Complex
+        → Walks O.tells T t body.now most at out.old out.new ends_at
+        (λ end. SpellsOne T part.id (between at end body.now)) result }
+{
+    let (_, behind) = walk_number(What::First, part, Numbers::ANY, body, at, out)?;
+    let (_, end) = walk_number(What::Imaginary, part, Numbers::ANY, body, behind, out)?;
+    Ok(end)
+}
+
+// Which numbers a value of the basic type begins with.
+fn allowed_of(basic: Basic) -> Numbers
+    ensures { AllowsRange (first_allowed (kind.Basic basic)) result.least result.most }
+{
+    match basic {
+        Basic::Bool => Numbers { least: 0, most: 1 },
+        Basic::Interface => Numbers::NONE,
+        _ => Numbers::ANY,
+    }
+}

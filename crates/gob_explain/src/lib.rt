@@ -1,0 +1,35 @@
+//! What the bytes of a gob stream are, row by row.
+//!
+//! ```text
+//! 01        Delta    field 0 of a Point comes next
+//! 2c        First    an int: signed 22
+//! 01        Delta    field 1
+//! 42        First    signed 33
+//! 00        Delta    the struct ends
+//! ```
+#![tactic(auto)]
+
+mod body;
+mod laws;
+mod leaf;
+mod path;
+mod row;
+mod sink;
+mod stop;
+mod text;
+mod walk;
+
+pub use body::{Walked, walk_body};
+pub use laws::{
+    rows_are_cut_alike, rows_join_to_the_spelling, rows_lead_everywhere, rows_lead_to_the_place,
+    rows_stand_where_expected, spellings_have_rows, values_have_one_list_of_rows,
+};
+pub use path::path_to;
+pub use row::{Awaited, Part, Row, Step, What};
+pub use sink::RowSink;
+pub use text::expected::push_expected;
+pub use text::item::{Reached, push_item};
+pub use text::labels::path_text;
+pub use text::lines::push_line;
+pub use text::names::{push_name, push_type_name};
+pub use text::printer::Printer;

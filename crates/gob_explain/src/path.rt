@@ -1,0 +1,58 @@
+//! The path of a place in a value.
+
+ghost use Rattle.std.specs.Prelude.{◌≤◌};
+
+use crate::body::walk_body;
+use crate::row::{Row, Step};
+use crate::sink::RowSink;
+use gob_num::Memory;
+use gob_types::{Shapes, TypeId};
+use std::alloc::Global;
+
+// No value is deeper that is gone over.
+const MOST_DEPTH: u64 = 1000;
+
+// The steps to the part at hand.
+#[derive(Drop)]
+struct Path {
+    steps: Vec<Step>,
+}
+
+impl RowSink for Path {
+    type Fault = Memory;
+
+    ghost tells = { λ old new rows result. Unit {0} };
+
+    fn put(&mut self, _: Row) -> Result<(), Memory> {
+        Ok(())
+    }
+
+    fn enter(&mut self, step: Step) -> Result<(), Memory> {
+        Ok(self.steps.push(step)?)
+    }
+
+    fn leave(&mut self) {
+        self.steps.pop();
+    }
+
+    ghost nothing = { λ a. tt };
+
+    ghost joined = { λ a b c x y r p q. tt };
+}
+
+/// The steps from a value to the part that is under way where these bytes end, or to the one that is too deep there.
+/// `id` is the value's type, and `front` the bytes of its body behind the type number, up to the place that is asked
+/// for. Parts deeper than 1000 aren't looked at.
+pub fn path_to<S: Shapes>(
+    alloc: Global,
+    shapes: &S,
+    id: TypeId,
+    front: &[u8],
+) -> Result<Vec<Step>, Memory> {
+    let mut path = Path {
+        steps: Vec::new(alloc),
+    };
+    walk_body(shapes, id, front, MOST_DEPTH, &mut path)?;
+    let Path { steps } = path;
+    Ok(steps)
+}

@@ -1,0 +1,86 @@
+//! Paths of parts, and what the part of a row is called.
+
+use crate::row::Step;
+use crate::text::names::push_name;
+use gob_num::Memory;
+use gob_types::{Kind, Shapes, TypeId};
+use std::alloc::{AllocError, Global};
+
+/// The path as text: `[2].Lines[0].Count`, with ` key` behind the index of a pair whose key it leads to. Names of
+/// fields are those of the table, with no character that a terminal obeys. Empty where there is no step.
+pub fn path_text<S: Shapes>(alloc: Global, shapes: &S, path: &[Step]) -> Result<String, Memory> {
+    let mut text = String::new(alloc);
+    for step in path {
+        push_path_step(alloc, shapes, *step, &mut text)?;
+    }
+    Ok(text)
+}
+
+fn push_path_step<S: Shapes>(
+    alloc: Global,
+    shapes: &S,
+    step: Step,
+    out: &mut String,
+) -> Result<(), AllocError> {
+    match step {
+        Step::Element(index) => write!(out, "[{index}]"),
+        Step::Key(index) => write!(out, "[{index}] key"),
+        Step::Value(index) => write!(out, "[{index}]"),
+        Step::Field { of, number } => {
+            out.push('.')?;
+            push_field(alloc, shapes, of, number, out)
+        }
+    }
+}
+
+/// Puts behind the text what the part is called to which the path leads: its field, or its place in a list or map. A
+/// field of a struct in a list or map has that place before it.
+pub(crate) fn push_label<S: Shapes>(
+    alloc: Global,
+    shapes: &S,
+    path: &[Step],
+    out: &mut String,
+) -> Result<(), AllocError> {
+    let Some((last, around)) = path.split_last() else {
+        return Ok(());
+    };
+    if let Step::Field { of, number } = *last {
+        if push_place(around.last(), out)? {
+            out.push('.')?;
+        }
+        return push_field(alloc, shapes, of, number, out);
+    }
+    push_place(Some(last), out)?;
+    Ok(())
+}
+
+// Puts behind the text the place in a list or map to which the step leads, if it leads to one.
+fn push_place(step: Option<&Step>, out: &mut String) -> Result<bool, AllocError> {
+    match step {
+        Some(Step::Element(index)) => write!(out, "[{}]", *index)?,
+        Some(Step::Key(_)) => out.push_str("key")?,
+        Some(Step::Value(_)) => out.push_str("value")?,
+        _ => return Ok(false),
+    }
+    Ok(true)
+}
+
+// Puts the name of a field behind the text.
+fn push_field<S: Shapes>(
+    alloc: Global,
+    shapes: &S,
+    of: TypeId,
+    number: u64,
+    out: &mut String,
+) -> Result<(), AllocError> {
+    let Some(shape) = shapes.shape_of(of) else {
+        return Ok(());
+    };
+    let Kind::Struct { fields } = &shape.kind else {
+        return Ok(());
+    };
+    match fields.get(number) {
+        Some(field) => push_name(alloc, field.name.as_bytes(), out),
+        None => Ok(()),
+    }
+}
