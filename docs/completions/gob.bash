@@ -6,9 +6,9 @@ _gob() {
     --depth | --item) return ;;
     esac
     if [ "$COMP_CWORD" -eq 1 ]; then
-        words='show check rewrite take values types version help --help -h --version -V'
+        words='show check rewrite take values types why version help --help -h --version -V'
     elif [ "${COMP_WORDS[1]}" = help ]; then
-        words='show check rewrite take values types version help'
+        words='show check rewrite take values types why version help'
     elif [[ $current == -* ]]; then
         words='--depth --item -h --help'
         case ${COMP_WORDS[1]} in

@@ -3,6 +3,7 @@ use Rattle.std.specs.Prelude.{ℕ, List, [], ◌∷◌, ◌++◌, Option, Result
 use Rattle.gob_plain.specs.declared.style.Style.{Style}
 use Rattle.gob_stream.specs.Bounds.{Bounds}
 use Rattle.gob_tool.specs.declared.fault.ToolFault.{ToolFault}
+use Rattle.gob_why.specs.Why.{WhyAnswers}
 use Rattle.gob_words.specs.declared.view.View.{View}
 use Rattle.gob_words.specs.declared.view.ViewCommand.{ViewCommand}
 use Rattle.gob_words.specs.declared.view.ViewCommand.TheVariants as command
@@ -27,4 +28,5 @@ abbrev pub ViewAnswers : ViewCommand → Bounds → Style → (bytes : List ℕ)
     → Result (Unit {0}) ToolFault → Type 0
 ViewAnswers command.Values L style bytes now old new result = ValuesAnswers style L bytes now old new result
 ViewAnswers command.Types L style bytes now old new result = TypesAnswers L bytes now old new result
+ViewAnswers command.Why L style bytes now old new result = WhyAnswers L bytes now old new result
 ViewAnswers command.Version L style bytes now old new result = SendsText old new version_line result

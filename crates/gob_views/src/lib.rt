@@ -9,6 +9,8 @@
 //!     Y int
 //! }
 //! ```
+//!
+//! [`run_view`] is the run of any of these, and of `gob why`, whose words are those of `gob_why`.
 #![tactic(auto)]
 
 mod run;

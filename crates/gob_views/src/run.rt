@@ -12,6 +12,7 @@ use crate::values::run_values;
 use gob_plain::Style;
 use gob_stream::{Input, Limits, Output};
 use gob_tool::{ToolFault, end_run};
+use gob_why::run_why;
 use gob_words::{VERSION, View, ViewCommand};
 use std::alloc::Global;
 use std::io::{Read, Write};
@@ -34,6 +35,7 @@ pub fn run_view<R: Read, W: Write>(
     match view.command {
         ViewCommand::Values => run_values(alloc, input, output, limits_of(view), style_of(view)),
         ViewCommand::Types => run_types(alloc, input, output, limits_of(view)),
+        ViewCommand::Why => run_why(alloc, input, output, limits_of(view)),
         ViewCommand::Version => end_run(write_version(output), output),
     }
 }

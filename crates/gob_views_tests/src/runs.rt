@@ -127,6 +127,11 @@ fn views_are_run(rt: HostRuntime) -> Result<(), Fail> {
             .starts_with(b"package types\n\n// type 65\n"),
         "types"
     );
+    let why = shown(alloc, &usual(ViewCommand::Why), POINT)?;
+    assert!(rt;
+        why.as_slice() == b"ok: 2 items, 1 types, 40 bytes\n1 value of type 65, Point\n".as_slice(),
+        "why"
+    );
     let version = shown(alloc, &usual(ViewCommand::Version), POINT)?;
     assert!(rt; version.as_slice() == b"gob 0.1.0\n".as_slice(), "version");
     Ok(())

@@ -10,7 +10,7 @@ use Rattle.gob_words.specs.declared.words.OrderFault.{OrderFault}
 use Rattle.gob_words.specs.declared.words.OrderFault.TheVariants as fault
 use Rattle.gob_words.specs.declared.view.View.{View}
 use Rattle.gob_words.specs.declared.view.ViewCommand.{ViewCommand}
-use Rattle.gob_words.specs.declared.view.ViewCommand.TheVariants.{Values, Types, Version}
+use Rattle.gob_words.specs.declared.view.ViewCommand.TheVariants.{Values, Types, Why, Version}
 use Rattle.gob_words.specs.declared.view.ViewFault.{ViewFault}
 use Rattle.gob_words.specs.declared.view.ViewFault.TheVariants as view_fault
 use Rattle.gob_words.specs.Words.{IsNumber, IsFaultOf, program}
@@ -23,11 +23,12 @@ use Rattle.gob_words.proofs.WordLaws.{together, name_met, rows_met}
 
 -- the command whose name has this as its second letter
 abbrev having : ℕ → ViewCommand
-having c = if c == 97 then Values else (if c == 121 then Types else Version)
+having c = if c == 97 then Values else (if c == 121 then Types else (if c == 104 then Why else Version))
 
 has : (a : ViewCommand) → having (slice_index (view_name a) 1) ≡ a
 has Values = refl
 has Types = refl
+has Why = refl
 has Version = refl
 
 one_view : (a b : ViewCommand) → view_name a ≡ view_name b → a ≡ b

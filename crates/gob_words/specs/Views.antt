@@ -15,6 +15,7 @@ use Rattle.gob_words.specs.Words.{IsNumber, order_line, order_status, program, t
 abbrev pub view_name : ViewCommand → Text
 view_name view.Values = codes "values"
 view_name view.Types = codes "types"
+view_name view.Why = codes "why"
 view_name view.Version = codes "version"
 
 -- the file that a word names: a minus sign is standard input

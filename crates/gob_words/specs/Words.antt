@@ -62,8 +62,8 @@ values = with_input (with_flags (with_options (codes "values")))
 -- and those that show it to people and to other programs
 abbrev pub program : App
 program =
-    with_subcommand (with_subcommand (with_subcommand exact_program values.top)
-    (one_stream (codes "types")).top) (new_app (codes "version")).top
+    with_subcommand (with_subcommand (with_subcommand (with_subcommand exact_program values.top)
+    (one_stream (codes "types")).top) (one_stream (codes "why")).top) (new_app (codes "version")).top
 
 -- ---- what they say
 

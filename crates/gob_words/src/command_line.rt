@@ -24,7 +24,8 @@ pub(crate) fn program<'a>(alloc: Global) -> Result<Command<'a>, AllocError>
         help::DEPTH,
         help::FILE,
     )?;
-    typing.subcommand(Command::new(alloc, "version").about(help::NAME_AND_VERSION))
+    let telling = with_one_stream(alloc, typing, "why", help::WHY, help::DEPTH, help::FILE)?;
+    telling.subcommand(Command::new(alloc, "version").about(help::NAME_AND_VERSION))
 }
 
 // The command that shows values, with its flags behind the options that other commands have too.

@@ -20,6 +20,8 @@ pub(crate) const VALUES: &str = "Print each value of a stream as plain JSON, a l
 
 pub(crate) const TYPES: &str = "Print the types of a stream as Go source";
 
+pub(crate) const WHY: &str = "Say why a stream is refused, and what to do, or how much is in it";
+
 pub(crate) const NAME_AND_VERSION: &str = "Print the program's name and version";
 
 /// Their options and files.

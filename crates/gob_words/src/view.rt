@@ -20,6 +20,8 @@ pub enum ViewCommand {
     Values,
     /// The types as Go source.
     Types,
+    /// Why the stream is refused, in words, or how much is in a whole one.
+    Why,
     /// The program's name and version.
     Version,
 }
@@ -31,7 +33,7 @@ impl ViewCommand {
     {
         match self {
             ViewCommand::Values | ViewCommand::Version => DEEPEST_PLAIN,
-            ViewCommand::Types => DEEPEST,
+            ViewCommand::Types | ViewCommand::Why => DEEPEST,
         }
     }
 }
@@ -43,7 +45,8 @@ pub struct View<'a> {
     pub command: ViewCommand,
     /// The name of the file that is read. None: standard input, which the word `-` stands for too.
     pub input: Option<&'a str>,
-    /// The greatest depth of a value: 1 to 65536 for [`ViewCommand::Types`], to 1000 for [`ViewCommand::Values`].
+    /// The greatest depth of a value: 1 to 65536 for [`ViewCommand::Types`] and [`ViewCommand::Why`], to 1000 for
+    /// [`ViewCommand::Values`].
     pub depth: u64,
     /// The most bytes of an item's body.
     pub item: u64,

@@ -82,6 +82,7 @@ fn command_of(name: &str) -> Option<ViewCommand>
     match name {
         "values" => Some(ViewCommand::Values),
         "types" => Some(ViewCommand::Types),
+        "why" => Some(ViewCommand::Why),
         "version" => Some(ViewCommand::Version),
         _ => None,
     }
@@ -93,7 +94,7 @@ fn is_given(command: ViewCommand, value: Option<&str>) -> bool
 {
     match command {
         ViewCommand::Values => matches!(value, Some("true")),
-        ViewCommand::Types | ViewCommand::Version => false,
+        ViewCommand::Types | ViewCommand::Why | ViewCommand::Version => false,
     }
 }
 

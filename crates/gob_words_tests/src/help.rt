@@ -24,6 +24,7 @@ Usage: gob <COMMAND>
   take 
   values 
   types 
+  why 
   version 
   help 
   -V, --version
@@ -70,6 +71,10 @@ fn help_has_its_texts(rt: HostRuntime) {
     assert!(rt;
         tells(alloc, &["gob", "types", "--help"], "1 to 65536,"),
         "types --help"
+    );
+    assert!(rt;
+        tells(alloc, &["gob", "why", "--help"], "1 to 65536,"),
+        "why --help"
     );
 }
 

@@ -48,6 +48,16 @@ fn words_give_views(rt: HostRuntime) {
     };
     let words = ["gob", "types", "f", "--depth=65536"];
     assert!(rt; gives(alloc, &words, typed_deep), "types");
+    let told = View {
+        command: ViewCommand::Why,
+        input: Some("f"),
+        depth: 65536,
+        item: 7,
+        zeros: false,
+        raw: false,
+    };
+    let words = ["gob", "why", "f", "--depth=65536", "--item", "7"];
+    assert!(rt; gives(alloc, &words, told), "why");
     let version = View {
         command: ViewCommand::Version,
         input: None,
@@ -131,6 +141,10 @@ types --item x
 gob: invalid value 'x' for '--item <N>': no number from 0 to 18446744073709551615
 types --raw
 gob: unexpected argument '--raw' found
+why --raw
+gob: unexpected argument '--raw' found
+why --depth 65537 f
+gob: invalid value '65537' for '--depth <N>': no number from 1 to 65536
 version --zeros
 gob: unexpected argument '--zeros' found
 version now

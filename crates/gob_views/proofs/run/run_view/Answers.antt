@@ -40,6 +40,17 @@ returns-in-Types-clause-shows g c = λ bytes known.
     (sym c.in-Types.is)
     (written bytes known)
 
+pub returns-in-Why-clause-shows : goal.returns-in-Why-clause-shows
+returns-in-Why-clause-shows g c = λ bytes known.
+    let old = g.W.Write.contents (writer_of c.args.output.now) in
+    let new = g.W.Write.contents (writer_of c.run_why.new.output) in
+    let next = g.R.Read.remaining (reader_of c.run_why.new.input) in
+    let view = c.args.view.now in
+    let told = rw (c.limits_of-in-Why.ensures, within_view view _ c.in-Why.is) at c.run_why.ensures.told in
+    subst (λ x. ViewAnswers x (view_limits view) (view_style view) bytes next old new c.run_why.result)
+    (sym c.in-Why.is)
+    (told bytes known)
+
 pub returns-in-Version-clause-shows : goal.returns-in-Version-clause-shows
 returns-in-Version-clause-shows g c = λ bytes known.
     let old = g.W.Write.contents (writer_of c.args.output.now) in

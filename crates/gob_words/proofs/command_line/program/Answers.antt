@@ -10,7 +10,8 @@ returns c =
     let values = c.in_ok-valuing.ensures.shape c.in_ok-values.ensures.local
     ∙ ap₂ with_subcommand c.in_ok-exact.ensures (ap (λ (x : App). x.top) c.in_ok-values.ensures.app) in
     let types = c.in_ok-typing.ensures ∙ ap₂ with_subcommand values refl in
+    let why = c.in_ok-telling.ensures ∙ ap₂ with_subcommand types refl in
     let version = ap app_of_fields c.about.ensures ∙ c.new.ensures.app in
     IfOk-weaker c.subcommand-2.result _ _ (λ r added. added.shape (ap (λ f. f.has_globals) c.about.ensures
     ∙ c.new.ensures.local)
-    ∙ ap₂ with_subcommand types (ap (λ (x : App). x.top) version)) c.subcommand-2.ensures
+    ∙ ap₂ with_subcommand why (ap (λ (x : App). x.top) version)) c.subcommand-2.ensures

@@ -1,0 +1,125 @@
+-- How a run ends that says why a stream is refused.
+use Rattle.std.proofs.Common.{◌≡◌, ℕ, List, [], ◌++◌, Option, Result, Ok, Err, ◌∙◌, ap, sym, subst, refl}
+use Rattle.std.specs.Io.KnownBytes.{Appends, Keeps}
+use Rattle.std.proofs.KnownBytes.{Appends-kept, Appends-nil}
+use Rattle.gob_stream.specs.Bounds.{Bounds, deepest, no_deeper}
+use Rattle.gob_stream.specs.Calls.Writing.{SentPrefix}
+use Rattle.gob_stream.specs.declared.fault.Refusal.{Refusal}
+use Rattle.gob_tool.specs.declared.fault.ToolFault.{ToolFault}
+use Rattle.gob_tool.specs.declared.fault.ToolFault.TheVariants as fault
+use Rattle.gob_tool.specs.Checking.{IsCountedStream, IsNoStream}
+use Rattle.gob_tool.specs.Ending.{EndsRun, ends_so, flush_fails}
+use Rattle.gob_tool.specs.Showing.{AppendsPrefix}
+use Rattle.gob_tool.proofs.CheckLaws.{counted_as, no_stream_under}
+use Rattle.gob_tool.proofs.EndLaws.{all_kept, prefix_kept, sent_prefix}
+use Rattle.gob_why.specs.Why.{Heads, IsHeaded, IsRefusedSo, Says, Tells, WhyAnswers, of_refused, of_whole}
+use Rattle.gob_why.specs.Why.{refusal_line}
+
+-- ---- a text that begins with a line
+pub heads_as : {P Q : List ℕ → Type 0} {line : List ℕ} → Heads P line → ((text : List ℕ) → P text → Q text)
+    → Heads Q line
+heads_as h f = record { text = h.text; headed = h.headed; holds = f h.text h.holds }
+
+pub heads : {P : List ℕ → Type 0} {line : List ℕ} (text : List ℕ) → IsHeaded line text → P text → Heads P line
+heads text headed holds = record { text = text; headed = headed; holds = holds }
+
+-- ---- what is said, behind the reading
+-- of a whole stream
+pub whole_told : (L M : Bounds) (bytes line : List ℕ) (now old new : Option (List ℕ)) (r : Result (Unit {0}) ToolFault)
+    → L ≡ M → IsCountedStream (no_deeper deepest L) bytes now (λ l. line ≡ l) → Tells line old new r
+    → WhyAnswers (no_deeper deepest M) bytes now old new r
+whole_told L M bytes line now old new (Ok u) same c t =
+    subst (λ (L : Bounds). IsCountedStream (no_deeper deepest L) bytes now (Heads (Appends old new))) same
+    (counted_as c (λ l e. subst (Heads (Appends old new)) e t))
+whole_told L M bytes line now old new (Err fault.Write) same c t =
+    subst (λ (L : Bounds). Says (no_deeper deepest L) bytes now (AppendsPrefix old new)) same
+    (of_whole (counted_as c (λ l e. subst (Heads (AppendsPrefix old new)) e t)))
+whole_told L M bytes line now old new (Err fault.Memory) same c t = t
+whole_told L M bytes line now old new (Err (fault.Refused R)) same c t = absurd t
+whole_told L M bytes line now old new (Err (fault.Wanted R)) same c t = absurd t
+whole_told L M bytes line now old new (Err fault.NoWantedType) same c t = absurd t
+whole_told L M bytes line now old new (Err (fault.Clash path reason)) same c t = absurd t
+whole_told L M bytes line now old new (Err fault.Read) same c t = absurd t
+
+-- of a refused one
+pub refusal_told : (L M : Bounds) (bytes : List ℕ) (now old new : Option (List ℕ)) (R : Refusal) (f : ToolFault)
+    → f ≡ fault.Refused R → L ≡ M → IsNoStream (no_deeper deepest L) bytes now f → Heads (Appends old new)
+    (refusal_line R) → WhyAnswers (no_deeper deepest M) bytes now old new (Err (fault.Refused R))
+refusal_told L M bytes now old new R f is same n t = (
+  subst (λ (L : Bounds). IsRefusedSo (no_deeper deepest L) bytes R) same
+      (subst (λ f. IsNoStream (no_deeper deepest L) bytes now f) is n),
+  t,
+)
+
+-- which a write or want of memory stopped
+pub refusal_untold : (L M : Bounds) (bytes : List ℕ) (now old new : Option (List ℕ)) (R : Refusal) (f e : ToolFault)
+    → f ≡ fault.Refused R → L ≡ M → IsNoStream (no_deeper deepest L) bytes now f
+    → Tells (refusal_line R) old new (Err e) → WhyAnswers (no_deeper deepest M) bytes now old new (Err e)
+refusal_untold L M bytes now old new R f fault.Write is same n t =
+    of_refused (subst (λ (L : Bounds). IsRefusedSo (no_deeper deepest L) bytes R) same
+    (subst (λ f. IsNoStream (no_deeper deepest L) bytes now f) is n)) t
+refusal_untold L M bytes now old new R f fault.Memory is same n t = t
+refusal_untold L M bytes now old new R f (fault.Refused Q) is same n t = absurd t
+refusal_untold L M bytes now old new R f (fault.Wanted Q) is same n t = absurd t
+refusal_untold L M bytes now old new R f fault.NoWantedType is same n t = absurd t
+refusal_untold L M bytes now old new R f (fault.Clash path reason) is same n t = absurd t
+refusal_untold L M bytes now old new R f fault.Read is same n t = absurd t
+
+-- or nothing, where no refusal is known
+pub nothing_told : (L M : Bounds) (bytes : List ℕ) (now out : Option (List ℕ)) (f : ToolFault)
+    → ((R : Refusal) → f ≡ fault.Refused R → ⊥) → L ≡ M → IsNoStream (no_deeper deepest L) bytes now f
+    → WhyAnswers (no_deeper deepest M) bytes now out out (Err f)
+nothing_told L M bytes now out (fault.Refused R) other same n = absurd (other R refl)
+nothing_told L M bytes now out fault.Read other same n =
+    (no_stream_under L M bytes now fault.Read same n, Appends-nil out)
+nothing_told L M bytes now out fault.Memory other same n = Appends-nil out
+nothing_told L M bytes now out fault.Write other same n = absurd n
+nothing_told L M bytes now out (fault.Wanted R) other same n = absurd n
+nothing_told L M bytes now out fault.NoWantedType other same n = absurd n
+nothing_told L M bytes now out (fault.Clash path reason) other same n = absurd n
+
+-- ---- what went out
+pub sent : (line text : List ℕ) (old new : Option (List ℕ)) → IsHeaded line text → Appends old new text
+    → Tells line old new (Ok tt)
+sent line text old new headed a = heads text headed a
+
+pub cut : (line text : List ℕ) (old new : Option (List ℕ)) → IsHeaded line text → SentPrefix text old new
+    → Tells line old new (Err fault.Write)
+cut line text old new headed s = heads text headed (sent_prefix old new text s)
+
+-- the text goes on behind its line
+pub headed_by : (line words : List ℕ) {text : List ℕ} → text ≡ line ++ words → IsHeaded line text
+headed_by line words e = (words, e)
+
+-- ---- behind the flush
+says_kept : (L : Bounds) (bytes : List ℕ) (now old mid new : Option (List ℕ)) → Keeps mid new
+    → Says L bytes now (AppendsPrefix old mid) → Says L bytes now (AppendsPrefix old new)
+says_kept L bytes now old mid new k (of_whole c) =
+    of_whole (counted_as c (λ line h. heads_as h (λ text a. prefix_kept old mid new text a k)))
+says_kept L bytes now old mid new k (of_refused r h) =
+    of_refused r (heads_as h (λ text a. prefix_kept old mid new text a k))
+
+why_kept : (L : Bounds) (bytes : List ℕ) (now old mid new : Option (List ℕ)) (r : Result (Unit {0}) ToolFault)
+    → Keeps mid new → WhyAnswers L bytes now old mid r → WhyAnswers L bytes now old new r
+why_kept L bytes now old mid new (Ok u) k h =
+    counted_as h (λ line h. heads_as h (λ text a. Appends-kept old mid new text a k))
+why_kept L bytes now old mid new (Err (fault.Refused R)) k h =
+    (h.0, heads_as h.1 (λ text a. Appends-kept old mid new text a k))
+why_kept L bytes now old mid new (Err fault.Write) k h = says_kept L bytes now old mid new k h
+why_kept L bytes now old mid new (Err fault.Read) k h = (h.0, Appends-kept old mid new [] h.1 k)
+why_kept L bytes now old mid new (Err fault.Memory) k h = Appends-kept old mid new [] h k
+why_kept L bytes now old mid new (Err (fault.Wanted R)) k h = absurd h
+why_kept L bytes now old mid new (Err fault.NoWantedType) k h = absurd h
+why_kept L bytes now old mid new (Err (fault.Clash path reason)) k h = absurd h
+
+pub why_ended : (L : Bounds) (bytes : List ℕ) (now old mid new : Option (List ℕ))
+    (answer result : Result (Unit {0}) ToolFault) → Keeps mid new → EndsRun answer result
+    → WhyAnswers L bytes now old mid answer → WhyAnswers L bytes now old new result
+why_ended L bytes now old mid new answer result k (ends_so e) h =
+    subst (λ r. WhyAnswers L bytes now old new r) (sym e) (why_kept L bytes now old mid new answer k h)
+why_ended L bytes now old mid new answer result k (flush_fails o e) h =
+    subst (λ r. WhyAnswers L bytes now old new r) (sym e)
+    (cut (subst (λ r. WhyAnswers L bytes now old mid r) o h))
+  where
+    cut : IsCountedStream L bytes now (Heads (Appends old mid)) → Says L bytes now (AppendsPrefix old new)
+    cut c = of_whole (counted_as c (λ line h. heads_as h (λ text a. all_kept old mid new text a k)))

@@ -1,0 +1,2 @@
+-- Where the reading of a stream stands. No clause of a public call names these.
+pub mod Reading

@@ -1,0 +1,84 @@
+//! What bytes show of what was done to them.
+
+use gob_num::Memory;
+use std::alloc::Global;
+
+// U+FFFD in UTF-8, which stands in place of each byte that is no text.
+const REPLACEMENT: [u8; 3] = [0xef, 0xbf, 0xbd];
+
+/// The bytes from the place on: none where they end before it.
+pub(crate) fn rest_from(bytes: &[u8], place: usize) -> &[u8] {
+    if place > bytes.len() {
+        return &[];
+    }
+    &bytes[place..]
+}
+
+/// The bytes before the place, or all where they end before it.
+pub(crate) fn front_to(bytes: &[u8], place: usize) -> &[u8] {
+    if place > bytes.len() {
+        return bytes;
+    }
+    &bytes[..place]
+}
+
+/// How many zeros stand at the front of the bytes.
+pub(crate) fn zeros_at_front(bytes: &[u8]) -> usize {
+    bytes.iter().take_while(|byte| **byte == 0).count()
+}
+
+/// Whether U+FFFD stands at the front of the bytes.
+pub(crate) fn is_replaced(bytes: &[u8]) -> bool {
+    bytes.starts_with(&REPLACEMENT)
+}
+
+/// The bytes without the carriage returns that stand before line feeds.
+pub(crate) fn without_returns(alloc: Global, bytes: &[u8]) -> Result<Vec<u8>, Memory> {
+    let mut kept = Vec::with_capacity(alloc, bytes.len())?;
+    for place in 0..bytes.len() {
+        if !bytes[place..].starts_with(b"\r\n") {
+            kept.push(bytes[place])?;
+        }
+    }
+    Ok(kept)
+}
+
+/// Whether the bytes are text without controls but spaces, in ASCII or above it.
+pub(crate) fn is_text(bytes: &[u8]) -> bool {
+    bytes
+        .iter()
+        .all(|byte| is_space(*byte) || (*byte >= 0x20 && *byte != 0x7f))
+}
+
+/// Whether the bytes begin as JSON does that is an object or an array.
+pub(crate) fn is_json(bytes: &[u8]) -> bool {
+    let Some((first, rest)) = behind_spaces(bytes) else {
+        return false;
+    };
+    let Some((second, _)) = behind_spaces(rest) else {
+        return false;
+    };
+    match first {
+        b'{' => second == b'"' || second == b'}',
+        b'[' => is_json_start(second) || second == b']',
+        _ => false,
+    }
+}
+
+// Whether a value of JSON begins with the byte.
+fn is_json_start(byte: u8) -> bool {
+    matches!(
+        byte,
+        b'{' | b'[' | b'"' | b'-' | b'0'..=b'9' | b't' | b'f' | b'n'
+    )
+}
+
+// The first byte that is no space, and what stands behind it.
+fn behind_spaces(bytes: &[u8]) -> Option<(u8, &[u8])> {
+    let place = bytes.iter().position(|byte| !is_space(*byte))?;
+    Some((bytes[place], &bytes[place + 1..]))
+}
+
+fn is_space(byte: u8) -> bool {
+    matches!(byte, b' ' | b'\t' | b'\n' | b'\r')
+}

@@ -1,0 +1,161 @@
+//! Reading a stream to its end or to its refusal, where the bytes of the item under way are kept.
+
+ghost use Rattle.std.specs.Prelude.{◌≡◌, ◌≢◌, ◌<◌, ◌≤◌, ◌++◌, ℕ, List, [], Some, length, take, vec_len, IfErr, IfOk};
+ghost use Rattle.std.specs.Prelude.{IfSome, OnErr};
+ghost use Rattle.std.specs.Io.KnownBytes.{Consumes, IsAtEnd, Keeps};
+ghost use Rattle.gob_stream.specs.Bounds.{AreLimits, deepest, no_deeper};
+ghost use Rattle.gob_stream.specs.Calls.Session.{limits_of};
+ghost use Rattle.gob_stream.specs.Calls.Ends.{failed_reads, reader_of};
+ghost use Rattle.gob_stream.specs.Reading.{CountsReads};
+ghost use Rattle.gob_tool.specs.Machine.Counting.{CountsCounting, EndsCounting, tally_line};
+ghost use Rattle.gob_tool.specs.Machine.Tallying.{HasTallied, TalliesAll, TalliesPrefix};
+ghost use Rattle.gob_why.specs.Machine.Reading.{HasValueNext};
+
+use crate::kept::Kept;
+use gob_num::Memory;
+use gob_read::SkipBuilder;
+use gob_stream::{Fault, Input, Session, Whole};
+use gob_tool::{Tally, ToolFault};
+use gob_value::is_whole;
+use std::alloc::Global;
+use std::io::Read;
+
+// How many bytes are read at a time, at most.
+const PIECE: usize = 65536;
+
+/// Reads all of the input, and counts what there is in it. Behind a refusal `items` is how many items stand before it,
+/// and `kept` has the bytes from the start of the refused item on that were read.
+pub(crate) fn read_all<R: Read>(
+    alloc: Global,
+    input: &mut Input<R>,
+    session: &mut Session<SkipBuilder>,
+    items: &mut u64,
+    kept: &mut Kept,
+) -> Result<Tally, ToolFault>
+    requires counted { HasTallied session.old items.old [] }
+    requires limits { AreLimits deepest (limits_of session.old) }
+    ensures counted { (bytes : List ℕ) → R.remaining (reader_of input.old) ≡ Some bytes
+        → EndsCounting tally_line (no_deeper deepest (limits_of session.old)) bytes
+        (R.remaining (reader_of input.new)) result }
+    ensures reads { CountsCounting (failed_reads input.old) (failed_reads input.new) result }
+{
+    let mut piece = room_for_piece(alloc)?;
+    let mut bytes = 0u64;
+    'pieces: loop {
+        let count = read_piece(input, &mut piece)?;
+        if count == 0 {
+            session.finish()?;
+            return Ok(Tally {
+                items: *items,
+                types: session.table().count(),
+                bytes,
+            });
+        }
+        take_piece(alloc, session, &piece.as_slice()[..count], items, kept)?;
+        bytes += count as u64;
+    }
+}
+
+/// Room for a piece.
+fn room_for_piece(alloc: Global) -> Result<Vec<u8>, Memory>
+    ensures { IfOk result (λ piece. vec_len piece ≡ 65536) }
+{
+    let piece = vec![in alloc; 0; PIECE].map_err(Memory::from)?;
+    Ok(piece)
+}
+
+/// Reads once. How many bytes came: none only at the end of the input.
+fn read_piece<R: Read>(input: &mut Input<R>, piece: &mut Vec<u8>) -> Result<usize, Fault>
+    requires { 0 < vec_len piece.old }
+    ensures room { vec_len piece.new ≡ vec_len piece.old }
+    ensures within { IfOk result (λ count. count ≤ vec_len piece.new) }
+    ensures read { IfOk result (λ count. Consumes (R.remaining (reader_of input.old))
+        (R.remaining (reader_of input.new)) (take count piece.new.items)) }
+    ensures at_end { IfOk result (λ count. count ≡ 0 → IsAtEnd (R.remaining (reader_of input.new))) }
+    ensures unread { OnErr result (Keeps (R.remaining (reader_of input.old)) (R.remaining (reader_of input.new))) }
+    ensures fault { IfErr result (λ fault. fault ≡ Fault.Read) }
+    ensures counted { CountsReads (failed_reads input.old) (failed_reads input.new) result }
+{
+    match input.read(piece.as_mut_slice()) {
+        Ok(count) => Ok(count),
+        Err(_) => Err(Fault::Read),
+    }
+}
+
+/// Takes a piece of the stream, and counts the items that are whole with it.
+fn take_piece(
+    alloc: Global,
+    session: &mut Session<SkipBuilder>,
+    piece: &[u8],
+    items: &mut u64,
+    kept: &mut Kept,
+) -> Result<(), Fault>
+    requires counted { (bytes : List ℕ) × HasTallied session.old items.old bytes }
+    requires limits { AreLimits deepest (limits_of session.old) }
+    ensures counted { (bytes : List ℕ) → HasTallied session.old items.old bytes
+        → TalliesAll (no_deeper deepest (limits_of session.old)) session.new items.new
+        (bytes ++ piece.now) result }
+    ensures limits { limits_of session.new ≡ limits_of session.old }
+    ensures unread { IfErr result (λ fault. fault ≢ Fault.Read) }
+{
+    let mut rest = piece;
+    while !rest.is_empty() {
+        match take_next(alloc, session, rest, items, kept) {
+            Ok(used) => rest = &rest[used..],
+            Err(fault) => {
+                kept.keep(rest)?;
+                return Err(fault);
+            }
+        }
+    }
+    Ok(())
+}
+
+/// Takes bytes from the front of the piece, and counts the item that is whole with them, if one is. Answers how many
+/// bytes it took.
+fn take_next(
+    alloc: Global,
+    session: &mut Session<SkipBuilder>,
+    piece: &[u8],
+    items: &mut u64,
+    kept: &mut Kept,
+) -> Result<usize, Fault>
+    requires some { 0 < length piece.now }
+    requires counted { (bytes : List ℕ) × HasTallied session.old items.old bytes }
+    requires limits { AreLimits deepest (limits_of session.old) }
+    ensures counted { (bytes : List ℕ) → HasTallied session.old items.old bytes
+        → TalliesPrefix (no_deeper deepest (limits_of session.old)) session.new items.old items.new bytes
+        piece.now result }
+    ensures used { IfOk result (λ used. used ≤ length piece.now) }
+    ensures limits { limits_of session.new ≡ limits_of session.old }
+    ensures unread { IfErr result (λ fault. fault ≢ Fault.Read) }
+{
+    if let Some(value) = value_next(session, piece) {
+        session.pass(value.used);
+        kept.pass_value(value.id, value.used)?;
+        *items += 1;
+        return Ok(value.used);
+    }
+    let step = session.step(alloc, piece)?;
+    let used = step.used;
+    kept.go_on(&step.item, &piece[..used])?;
+    match &step.item {
+        Some(_) => {
+            *items += 1;
+            Ok(used)
+        }
+        None => Ok(used),
+    }
+}
+
+/// The item of a value that stands whole at the front of the piece. It takes no memory. None says nothing of the piece.
+fn value_next<'a>(session: &Session<SkipBuilder>, piece: &'a [u8]) -> Option<Whole<'a>>
+    ensures { IfSome result (λ value. HasValueNext session.now value.used piece.now) }
+{
+    let value = session.whole_value(piece)?;
+    let depth = session.limits().depth();
+    if !is_whole(session.table(), value.id, value.body, depth) {
+        return None;
+    }
+    Some(value)
+}
