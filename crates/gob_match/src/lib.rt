@@ -32,6 +32,7 @@ mod names;
 mod pair;
 mod reason;
 mod receiving;
+mod receiving_whole;
 mod step;
 
 pub use fault::MatchFault;
@@ -41,4 +42,5 @@ pub use matching::match_types;
 pub use pair::TypePair;
 pub use reason::ClashReason;
 pub use receiving::receive;
+pub use receiving_whole::receive_whole;
 pub use step::{PathText, Step};
