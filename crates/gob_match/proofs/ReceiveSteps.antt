@@ -162,8 +162,8 @@ leaf_at : {T U : Table} {p : TypePair} {v : Tree} → ConvertsAt T U p conversio
     → ¬ HasParts v
 leaf_at {T = T} {U = U} c f = (stays {T = T} {U = U} c.converts.match c.converts.conversion (spelled_at c f).spelled).1
 
-pub leaf_received : {T U : Table} {p : TypePair} {v w : Tree} → ConvertsAt T U p conversion.Unchanged → Fits T p.stream v
-    → w ≡ v → IsReceived T U p v w
+pub leaf_received : {T U : Table} {p : TypePair} {v w : Tree} → ConvertsAt T U p conversion.Unchanged
+    → Fits T p.stream v → w ≡ v → IsReceived T U p v w
 leaf_received {T = T} {U = U} {p = p} {v = v} c f same =
     let r = stays {T = T} {U = U} c.converts.match c.converts.conversion (spelled_at c f).spelled in
     subst (IsReceived T U p v) (sym same) (as_received c r.0 (no_numbers v r.1))

@@ -1,6 +1,7 @@
 -- What is received of parts that stand in bytes, and the bytes of it, part after part.
 use Rattle.std.proofs.Common.{◌≡◌, ◌≢◌, ◌⊎◌, inl, inr, ℕ, zero, suc, ◌+◌, ◌-◌, ◌<◌, ◌≤◌, List, [], ◌∷◌, ◌++◌, length}
-use Rattle.std.proofs.Common.{◌^◌, Option, None, IfSome, take, drop, Some, Vec, arith, refl, sym, ap, ◌∙◌, subst, append_assoc, append-nil}
+use Rattle.std.proofs.Common.{◌^◌, Option, None, IfSome, take, drop, Some, Vec, arith, refl, sym, ap, ◌∙◌, subst}
+use Rattle.std.proofs.Common.{append_assoc, append-nil, true≢false, is_some}
 use Rattle.std.specs.Global.{Global}
 use Rattle.std.specs.Prelude.{slice_get}
 use Rattle.std.proofs.lemmas.List.{drop-drop, take-append-drop}
@@ -23,7 +24,7 @@ use Rattle.gob_value.specs.Tree.{tree_count, pair_count, trees_depth}
 use Rattle.gob_value.specs.Tree as Value
 use Rattle.gob_value.specs.Written.{Written, WrittenEach, WrittenFields}
 use Rattle.gob_value.specs.Written as written
-use Rattle.gob_value.proofs.PublicLaws.{spells_written, whole_of_two, written_once}
+use Rattle.gob_value.proofs.PublicLaws.{same_spelling, spells_written, whole_of_two, written_once}
 use Rattle.gob_match.specs.declared.common.CommonField.{CommonField}
 use Rattle.gob_match.specs.declared.conversion.Conversion.{Conversion}
 use Rattle.gob_match.specs.declared.conversion.Conversion.TheVariants as conversion
@@ -34,7 +35,10 @@ use Rattle.gob_match.specs.Machine.Conversions.{IsConversion}
 use Rattle.gob_match.specs.Machine.Conversions as kept
 use Rattle.gob_match.specs.Machine.Exploring.{ConvertsAt}
 use Rattle.gob_match.specs.Machine.Receiving.{AreElementsReceived, FieldsReceived, IsOfMatch, IsReceivableField}
-use Rattle.gob_match.specs.Machine.Receiving.{no_more, absent, present}
+use Rattle.gob_match.specs.Machine.Receiving.{IsReceived, no_more, absent, present}
+use Rattle.gob_match.specs.declared.places.Place.{Place}
+use Rattle.gob_match.specs.Machine.ReceivingWhole.{ArePlaces, BeginsValue, GivesCommon, HasPlace, LacksPlace}
+use Rattle.gob_match.specs.Machine.ReceivingWhole.{PlacesRise, StandPresent, no_place, place}
 use Rattle.gob_match.specs.Machine.ReceivingWhole.{Admits, CopiesEach, GivesEach, GivesEntries, GivesFields, GivesList}
 use Rattle.gob_match.specs.Machine.ReceivingWhole.{GivesMap, GivesTop, GivesTyped, HasLength, KindHasLength, RiseFrom}
 use Rattle.gob_match.specs.Machine.ReceivingWhole.{Skips, here, past, StandsEach}
@@ -406,8 +410,8 @@ pub record StandsTyped (T : Table) (t : TypeId) (limit : ℕ) (piece rest : List
   pub within : depth value ≤ limit
   pub whole : piece ≡ bytes ++ rest
 
-pub stands_typed : {T : Table} {t : TypeId} {limit : ℕ} (body : List ℕ) (at end : ℕ) → StandsEach T t limit 1 body at end
-    → HoldsBetween (StandsTyped T t limit) body at end
+pub stands_typed : {T : Table} {t : TypeId} {limit : ℕ} (body : List ℕ) (at end : ℕ)
+    → StandsEach T t limit 1 body at end → HoldsBetween (StandsTyped T t limit) body at end
 stands_typed {limit = limit} body at end s =
     let v = one_value limit s.spelled s.counted s.within in
     record {
@@ -492,6 +496,212 @@ module _ (T U : Table) (types : List Field) (limit : ℕ) where
 struct_inside : {fs gs : List Field} → kind.Struct fs ≡ kind.Struct gs → fs ≡ gs
 struct_inside e = cc
 
+-- ---- fields by their places
+
+-- each place has at least the number that is next
+place_from : {T : Table} {types : List Field} {body : List ℕ} {fs : Fields} {ps : List Place} {next : ℕ} {b : List ℕ}
+    (j : ℕ) {q : Place} → SpellsFields T types next fs b → ArePlaces T types body fs ps → slice_get ps j ≡ Some q
+    → next ≤ q.number
+place_from j s no_place there = absurd (true≢false (sym (ap is_some there)))
+place_from zero (next_field l t a p ps) (place at is n v r) there =
+    let e = ap (λ (p : Place). p.number) (some_injective there) in omega arith
+place_from (suc j) (next_field l t a p ps) (place at is m v r) there =
+    let n = place_from j ps r there in omega arith
+
+pub places_rise : {T : Table} {types : List Field} {body : List ℕ} {fs : Fields} {ps : List Place} {next : ℕ}
+    {b : List ℕ} → SpellsFields T types next fs b → ArePlaces T types body fs ps → PlacesRise ps
+places_rise s no_place i j p q below one other = absurd (true≢false (sym (ap is_some one)))
+places_rise s (place at is l v r) zero zero p q below one other = absurd (omega arith)
+places_rise s (place at is l v r) (suc i) zero p q below one other = absurd (omega arith)
+places_rise (next_field l t a o ps) (place at is m v r) zero (suc j) p q below one other =
+    let n = place_from j ps r other in
+    let e = ap (λ (p : Place). p.number) (some_injective one) in
+    omega arith
+places_rise (next_field l t a o ps) (place at is m v r) (suc i) (suc j) p q below one other =
+    places_rise ps r i j p q (omega arith) one other
+
+-- the value that stands at a place
+record PresentAt (T : Table) (types : List Field) (body : List ℕ) (fs : Fields) (p : Place) : Type 0 where
+  value : Tree
+  type : Field
+  present : IsPresent p.number value fs
+  there : slice_get types p.number ≡ Some type
+  begins : BeginsValue T type.id value (drop p.at body)
+
+place_present : {T : Table} {types : List Field} {body : List ℕ} {fs : Fields} {ps : List Place} (k : ℕ) {p : Place}
+    → ArePlaces T types body fs ps → slice_get ps k ≡ Some p → PresentAt T types body fs p
+place_present k no_place there = absurd (true≢false (sym (ap is_some there)))
+place_present {T = T} {types = types} {body = body} zero (place {f = f} {v = v} {fs = fs} {e = e} at is l s r) there =
+    subst (PresentAt T types body (field f v fs)) (some_injective there) (record {
+      value = v;
+      type = e;
+      present = subst (λ n. IsPresent n v (field f v fs)) (sym is) first;
+      there = ap (slice_get types) is ∙ at;
+      begins = s;
+    })
+place_present (suc k) (place at is l s r) there =
+    let h = place_present k r there in
+    record { value = h.value; type = h.type; present = later h.present; there = h.there; begins = h.begins }
+
+place_absent : {T : Table} {types : List Field} {body : List ℕ} {fs : Fields} {ps : List Place} {n : ℕ}
+    → ArePlaces T types body fs ps → LacksPlace ps n → IsAbsent n fs
+place_absent no_place lacks v h = elim h [ ]
+place_absent (place {p = p} at is l s r) lacks v h = elim (inside h) [
+  | inl e ↦ lacks 0 p refl (is ∙ e)
+  | inr q ↦ place_absent r (λ k p there. lacks (suc k) p there) v q
+]
+
+module _ (T : Table) (types : List Field) (limit : ℕ) (body : List ℕ) where
+  pub present_end : (next n : ℕ) (places : List Place) → n ≡ 0 → (x y : List ℕ) → BeginsThisNumber n x y
+      → StandPresent T types limit body next places places x y
+  present_end next n places none x y p = record {
+    values = no_field;
+    bytes = p.bytes;
+    places = [];
+    spelled = end_of_fields (subst (λ k. IsUnsigned k p.bytes) none p.spelled);
+    within = omega arith;
+    stand = no_place;
+    whole = p.whole;
+    grown = sym (append-nil places);
+  }
+
+  pub present_more : (next delta number : ℕ) (type : Field) → 0 < delta → number + 1 ≡ next + delta
+      → slice_get types number ≡ Some type → (at : ℕ) (old mid new : List Place) → at ≤ length body
+      → mid ≡ old ++ record { number = number; at = at } ∷ [] → (x a y z : List ℕ) → BeginsThisNumber delta x a
+      → (a ≡ drop at body) × StandsTyped T type.id limit a y
+      → StandPresent T types limit body (number + 1) mid new y z → StandPresent T types limit body next old new x z
+  present_more next delta number type some is there at old mid new inside kept x a y z p at_place r =
+      let q = at_place.1 in
+      let u = q.within in
+      let v = r.within in
+      let up : delta ≡ number + 1 - next = omega arith in
+      let one : Place = record { number = number; at = at } in
+      record {
+        values = field number q.value r.values;
+        bytes = p.bytes ++ (q.bytes ++ r.bytes);
+        places = one ∷ r.places;
+        spelled = next_field (omega arith) there (subst (λ k. IsUnsigned k p.bytes) up p.spelled) q.spelled r.spelled;
+        within = omega arith;
+        stand = place there refl inside (record {
+          bytes = q.bytes;
+          rest = y;
+          spelled = q.spelled;
+          whole = sym at_place.0 ∙ q.whole;
+        }) r.stand;
+        whole = whole_of_two p.bytes (q.bytes ++ r.bytes) z p.whole (whole_of_two q.bytes r.bytes z q.whole r.whole);
+        grown = r.grown ∙ ap (λ l. l ++ r.places) kept ∙ append_assoc old (one ∷ []) r.places;
+      }
+
+pub stands_here : {T : Table} {t : TypeId} {limit : ℕ} (body : List ℕ) (at end : ℕ) → StandsEach T t limit 1 body at end
+    → HoldsBetween (λ x y. (x ≡ drop at body) × StandsTyped T t limit x y) body at end
+stands_here body at end s =
+    let q = stands_typed body at end s in
+    record { order = q.order; inside = q.inside; begins = (refl, q.begins) }
+
+module _ {T U : Table} {types : List Field} {body : List ℕ} (values : Fields) {ps : List Place}
+    (stand : ArePlaces T types body values ps) where
+  pub common_absent : (c : CommonField) {cs : List CommonField} {wanted : ℕ} {old new : List ℕ}
+      → LacksPlace ps c.stream → GivesCommon T U values cs wanted old new
+      → GivesCommon T U values (c ∷ cs) wanted old new
+  common_absent c lacks r = record {
+    made = r.made;
+    added = r.added;
+    received = absent (place_absent stand lacks) r.received;
+    written = r.written;
+    out = r.out;
+  }
+
+  pub common_given : (c : CommonField) {cs : List CommonField} {wanted at end limit : ℕ} {old mid late new : List ℕ}
+      {type : Field} → HasPlace ps c.stream at → slice_get types c.stream ≡ Some type → type.id ≡ c.pair.stream
+      → wanted ≤ c.wanted → c.wanted + 1 < 2 ^ 64 → Appends (IsUnsigned (c.wanted + 1 - wanted)) old mid
+      → HoldsBetween (GivesTyped T U c.pair limit mid late) body at end
+      → GivesCommon T U values cs (c.wanted + 1) late new → GivesCommon T U values (c ∷ cs) wanted old new
+  common_given c {at = at} {old = old} {mid = mid} {type = type} has there typed l small d s r =
+      let h = place_present has.index stand has.there in
+      let q = s.begins in
+      let same_type : h.type ≡ type = some_injective (sym h.there ∙ ap (slice_get types) has.numbered ∙ there) in
+      let begins : BeginsValue T c.pair.stream h.value (drop at body) =
+      subst (λ t. BeginsValue T t h.value (drop at body)) (ap (λ (f : Field). f.id) same_type ∙ typed)
+      (subst (λ at. BeginsValue T h.type.id h.value (drop at body)) has.is h.begins) in
+      let same = same_spelling begins.rest _ begins.spelled q.spelled (sym begins.whole ∙ q.whole) in
+      record {
+        made = field c.wanted q.made r.made;
+        added = d.bytes ++ (q.added ++ r.added);
+        received = present (subst (λ n. IsPresent n h.value values) has.numbered h.present) small
+            (subst (λ v. IsReceived T U c.pair v q.made) (sym same.value) q.received) r.received;
+        written = written.next_field l d.spelled q.written r.written;
+        out = out_of_two old d.bytes (q.added ++ r.added) d.appended (out_of_two mid q.added r.added q.out r.out);
+      }
+
+pub common_end : {T U : Table} (values : Fields) {wanted : ℕ} {old new : List ℕ} → Appends (IsUnsigned 0) old new
+    → GivesCommon T U values [] wanted old new
+common_end values a = record {
+  made = no_field;
+  added = a.bytes;
+  received = no_more;
+  written = written.end_of_fields a.spelled;
+  out = a.appended;
+}
+
+-- what stands at the places that were kept
+pub record Standing (T : Table) (types : List Field) (body : List ℕ) (places : List Place) : Type 0 where
+  pub values : Fields
+  pub bytes : List ℕ
+  pub spelled : SpellsFields T types 0 values bytes
+  pub stand : ArePlaces T types body values places
+
+pub standing : {T : Table} {types : List Field} {limit : ℕ} {body : List ℕ} {at end : ℕ} {none places : List Place}
+    → HoldsBetween (StandPresent T types limit body 0 none places) body at end → none ≡ []
+    → Standing T types body places
+standing {T = T} {types = types} {body = body} s empty =
+    let q = s.begins in
+    let all = q.grown ∙ ap (λ l. l ++ q.places) empty in
+    record {
+      values = q.values;
+      bytes = q.bytes;
+      spelled = q.spelled;
+      stand = subst (ArePlaces T types body q.values) (sym all) q.stand;
+    }
+
+pub has_inside : {T : Table} {types : List Field} {body : List ℕ} {ps : List Place} {n at : ℕ}
+    → Standing T types body ps → HasPlace ps n at → at ≤ length body
+has_inside {T = T} {types = types} {body = body} s h =
+    subst (λ at. at ≤ length body) h.is (by h.index s.stand h.there)
+  where
+    by : {T : Table} {types : List Field} {body : List ℕ} {fs : Fields} {ps : List Place} (k : ℕ) {p : Place}
+        → ArePlaces T types body fs ps → slice_get ps k ≡ Some p → p.at ≤ length body
+    by k no_place there = absurd (true≢false (sym (ap is_some there)))
+    by {body = body} zero (place at is l v r) there =
+        subst (λ (p : Place). p.at ≤ length body) (some_injective there) l
+    by (suc k) (place at is l v r) there = by k r there
+
+-- the places are those of a struct, and of its values so much is received
+pub reordered_given : {T U : Table} {types : List Field} {common : List CommonField} {limit : ℕ} {body : List ℕ}
+    {at end : ℕ} {places : List Place} {none : List Place} {old new : List ℕ}
+    → HoldsBetween (StandPresent T types limit body 0 none places) body at end → none ≡ []
+    → ((values : Fields) → ArePlaces T types body values places → GivesCommon T U values common 0 old new)
+    → HoldsBetween (GivesFields T U types common 0 0 limit old new) body at end
+reordered_given {T = T} {types = types} {body = body} s empty f =
+    let q = s.begins in
+    let all = q.grown ∙ ap (λ l. l ++ q.places) empty in
+    let r = f q.values (subst (ArePlaces T types body q.values) (sym all) q.stand) in
+    record {
+      order = s.order;
+      inside = s.inside;
+      begins = record {
+        values = q.values;
+        made = r.made;
+        bytes = q.bytes;
+        added = r.added;
+        spelled = q.spelled;
+        within = q.within;
+        received = r.received;
+        written = r.written;
+        whole = q.whole;
+        out = r.out;
+      };
+    }
+
 -- each common field is one of the struct's, and leads to a pair of the match
 module _ {T U : Table} {found : List Entry} {conversions : List Conversion} {p : TypePair} {w : Conversion} where
   pub fields_lead : {cs : Vec CommonField Global} {types : List Field} {common : List CommonField} {s : Shape}
@@ -513,10 +723,15 @@ module _ {T U : Table} {found : List Entry} {conversions : List Conversion} {p :
     where
       sound : {k l : Kind} {cs : Vec CommonField Global} {types : List Field} → IsConversion k l (conversion.Fields cs)
           → kind.Struct types ≡ k → (i : ℕ) (f : CommonField) → slice_get cs.items i ≡ Some f
-          → (type : Field) × (slice_get types f.stream ≡ Some type) × (type.id ≡ f.pair.stream) × (f.wanted + 1 < 2 ^ 64)
+          → (type : Field) × (slice_get types f.stream ≡ Some type) × (type.id ≡ f.pair.stream)
+          × (f.wanted + 1 < 2 ^ 64)
       sound (kept.of_structs a) e i f there =
-          let r = common_sound a i f there in
-          (r.in_stream, ap (λ l. slice_get l f.stream) (struct_inside e) ∙ r.there, ap (λ q. q.stream) (sym r.typed), r.small)
+          let r = common_sound a i f there in (
+            r.in_stream,
+            ap (λ l. slice_get l f.stream) (struct_inside e) ∙ r.there,
+            ap (λ q. q.stream) (sym r.typed),
+            r.small,
+          )
 
 -- ---- the value behind its tag
 
@@ -602,7 +817,8 @@ pub whole_received : {T U : Table} {t u : TypeId} {most limit : ℕ} {old new : 
     → ReceivesWhole T U t u limit body new
 whole_received {T = T} {U = U} {t = t} {u = u} body end l ends empty s =
     let q = s.begins in
-    let all : body ≡ q.bytes = q.whole ∙ ap (λ r. q.bytes ++ r) (drop_all end body (omega arith)) ∙ append-nil q.bytes in
+    let none = drop_all end body (omega arith) in
+    let all : body ≡ q.bytes = q.whole ∙ ap (λ r. q.bytes ++ r) none ∙ append-nil q.bytes in
     let made = no_deeper q.receives in
     let v = q.within in
     record {

@@ -1,38 +1,31 @@
-//! What is received of a value under a match, straight from the bytes that spell the value: no tree is made. It recurses
-//! as deep as the value is, at most 1000.
+//! What is received of a value under a match, straight from the bytes that spell the value: no tree is made. It
+//! recurses as deep as the value is, at most 1000.
 
-ghost use Rattle.std.specs.Prelude.{◌≡◌, ◌≢◌, ◌+◌, ◌-◌, ◌≤◌, ◌++◌, ◌∷◌, [], ℕ, IfSome, IsTrue, None, Some, length, drop, slice_get};
-ghost use Rattle.gob_num.specs.Spelled.{Appends};
-ghost use Rattle.gob_num.specs.Unsigned.{IsUnsigned};
+ghost use Rattle.std.specs.Prelude.{◌≡◌, ◌≢◌, ◌≤◌, ℕ, IfSome, IsTrue, None, Some, length, drop, slice_get};
 ghost use Rattle.gob_value.specs.Machine.Begins.{HoldsBetween};
 ghost use Rattle.gob_match.specs.declared.common.CommonField.{CommonField};
 ghost use Rattle.gob_match.specs.Calls.Matched.{IsSound, stream_of, stream_type, wanted_types_of, wanted_type};
 ghost use Rattle.gob_match.specs.ReceivedWhole.{ReceivesWhole};
 ghost use Rattle.gob_match.specs.Machine.Receiving.{IsPairOf};
-ghost use Rattle.gob_match.specs.Machine.ReceivingWhole.{CopiesEach, GivesEach, GivesFields, GivesList, GivesMap};
-ghost use Rattle.gob_match.specs.Machine.ReceivingWhole.{GivesTop, GivesTyped, HasLength, HaveFieldsOf, RiseFrom};
-ghost use Rattle.gob_match.specs.Machine.ReceivingWhole.{Skips, StandsEach};
+ghost use Rattle.gob_match.specs.Machine.ReceivingWhole.{GivesEach, GivesFields, GivesList, GivesMap, GivesTop};
+ghost use Rattle.gob_match.specs.Machine.ReceivingWhole.{GivesTyped, HasLength, HaveFieldsOf, RiseFrom, Skips};
 
+use crate::body_part::{Part, copy_each, each_end, is_tagged, put_delta, put_number, put_tag};
 use crate::common::CommonField;
 use crate::conversion::Conversion;
 use crate::matched::Matched;
 use crate::pair::TypePair;
+use crate::places::{place_of, present_fields};
 use crate::receiving::conversion_of;
-use gob_num::write_uint;
 use gob_types::{Fields, Kind, Shapes, TypeId};
-use gob_value::{field_number, number_at, whole_elements};
+use gob_value::{field_number, number_at};
 use std::alloc::Global;
 
 // How deep a value may be that is looked at: each level is a call within a call.
 const MOST_DEPTH: u64 = 1000;
 
-// Where a part may stand: at a place of the bytes, no deeper than this.
-#[derive(Clone, Copy)]
-struct Part<'a> {
-    body: &'a [u8],
-    at: usize,
-    depth: u64,
-}
+// How many structs whose fields have another order than the wanted ones may stand in one another.
+const MOST_TURNS: u64 = 16;
 
 // How many elements a list may have.
 #[derive(Clone, Copy)]
@@ -55,10 +48,10 @@ impl Length {
     }
 }
 
-/// Makes in `received` the bytes of what is received of the value that `body` spells, each behind its tag where it
-/// isn't a struct. True says that `body` spells a value of the stream's type, no deeper than `depth`, and that these
-/// are its bytes. False says nothing: there may be no such value, or one that is deeper than 1000, or a struct whose
-/// fields have another order than the wanted ones, or too little memory.
+/// Makes in `received` the bytes of what is received of the value that `body` spells; each stands behind its tag where
+/// it isn't a struct. True says that `body` spells a value of the stream's type, no deeper than `depth`, and that these
+/// are the bytes. False says nothing: there may be no such value, or one that is deeper than 1000, or in which more than
+/// 16 structs whose fields have another order than the wanted ones stand in one another, or memory was wanting.
 pub fn receive_whole<S: Shapes, T: Shapes>(
     alloc: Global,
     matched: &Matched<'_, S, T>,
@@ -96,20 +89,35 @@ fn receive_top<S: Shapes, T: Shapes>(
         wanted: matched.wanted_id,
     };
     if let Conversion::Fields(_) = conversion_of(matched, pair) {
-        return receive_typed(alloc, matched, pair, Part { body, at: 0, depth }, out);
+        return receive_typed(
+            alloc,
+            matched,
+            pair,
+            Part {
+                body,
+                at: 0,
+                depth,
+                turns: MOST_TURNS,
+            },
+            out,
+        );
     }
     if !is_tagged(body) {
         return None;
     }
     put_tag(out)?;
-    receive_typed(alloc, matched, pair, Part { body, at: 1, depth }, out)
-}
-
-// Whether the body begins with a tag.
-fn is_tagged(body: &[u8]) -> bool
-    ensures { IsTrue result → slice_get body.now 0 ≡ Some 0 }
-{
-    matches!(body.get(0), Some(0))
+    receive_typed(
+        alloc,
+        matched,
+        pair,
+        Part {
+            body,
+            at: 1,
+            depth,
+            turns: MOST_TURNS,
+        },
+        out,
+    )
 }
 
 // Receives the value of the pair's type of the stream that stands there, and tells where it ends.
@@ -135,6 +143,7 @@ fn receive_typed<S: Shapes, T: Shapes>(
         body: part.body,
         at: part.at,
         depth: part.depth - 1,
+        turns: part.turns,
     };
     match conversion_of(matched, pair) {
         Conversion::Unchanged => copy_each(matched.stream, pair.stream, 1, part, out),
@@ -178,6 +187,7 @@ fn receive_list<S: Shapes, T: Shapes>(
         body: part.body,
         at: begin,
         depth: part.depth,
+        turns: part.turns,
     };
     receive_each(alloc, matched, elem, count, first, out)
 }
@@ -208,6 +218,7 @@ fn receive_each<S: Shapes, T: Shapes>(
             body: part.body,
             at,
             depth: part.depth,
+            turns: part.turns,
         };
         at = receive_typed(alloc, matched, elem, next, out)?;
     }
@@ -240,19 +251,21 @@ fn receive_map<S: Shapes, T: Shapes>(
             body: part.body,
             at,
             depth: part.depth,
+            turns: part.turns,
         };
         let behind = receive_typed(alloc, matched, key, first, out)?;
         let second = Part {
             body: part.body,
             at: behind,
             depth: part.depth,
+            turns: part.turns,
         };
         at = receive_typed(alloc, matched, elem, second, out)?;
     }
     Some(at)
 }
 
-// Receives the fields of a struct of these types, where those of the wanted struct have their order.
+// Receives the fields of a struct of these types.
 #[cycle(receive_whole)]
 fn receive_struct<S: Shapes, T: Shapes>(
     alloc: Global,
@@ -269,9 +282,30 @@ fn receive_struct<S: Shapes, T: Shapes>(
         HoldsBetween (GivesFields (S.table (stream_of m)) (T.table (wanted_types_of m)) types.now common.now 0 0
         part.entry.depth out.old.items out.new.items) part.entry.body.now part.entry.at end) }
 {
-    if !rise(common) {
-        return None;
+    if rise(common) {
+        return receive_in_order(alloc, matched, types, common, part, out);
     }
+    receive_reordered(alloc, matched, types, common, part, out)
+}
+
+// Receives the fields of a struct where those that both structs have stand in one order, as they come.
+#[cycle(receive_whole)]
+fn receive_in_order<S: Shapes, T: Shapes>(
+    alloc: Global,
+    matched: &Matched<'_, S, T>,
+    types: &Fields,
+    common: &[CommonField],
+    part: Part<'_>,
+    out: &mut Vec<u8>,
+) -> Option<usize>
+    requires fields { HaveFieldsOf S.table T.table matched.now types.now common.now }
+    requires rise { RiseFrom 0 common.now }
+    requires depth { part.depth ≤ 1000 }
+    requires place { part.at ≤ length part.body.now }
+    ensures { let m = matched.now in IfSome result (λ end.
+        HoldsBetween (GivesFields (S.table (stream_of m)) (T.table (wanted_types_of m)) types.now common.now 0 0
+        part.entry.depth out.old.items out.new.items) part.entry.body.now part.entry.at end) }
+{
     let mut at = part.at;
     let mut next = 0;
     let mut wanted = 0;
@@ -287,6 +321,7 @@ fn receive_struct<S: Shapes, T: Shapes>(
             body: part.body,
             at: behind,
             depth: part.depth,
+            turns: part.turns,
         };
         let own = types.get(number)?;
         next = number + 1;
@@ -300,6 +335,46 @@ fn receive_struct<S: Shapes, T: Shapes>(
         wanted = field.wanted as u64 + 1;
         index += 1;
     }
+}
+
+// Receives the fields of a struct where the wanted one has them in another order, by the places where they stand. They
+// are gone past first: so a struct in such a struct is gone over twice, and only so many may stand in one another.
+#[cycle(receive_whole)]
+fn receive_reordered<S: Shapes, T: Shapes>(
+    alloc: Global,
+    matched: &Matched<'_, S, T>,
+    types: &Fields,
+    common: &[CommonField],
+    part: Part<'_>,
+    out: &mut Vec<u8>,
+) -> Option<usize>
+    requires fields { HaveFieldsOf S.table T.table matched.now types.now common.now }
+    requires depth { part.depth ≤ 1000 }
+    requires place { part.at ≤ length part.body.now }
+    ensures { let m = matched.now in IfSome result (λ end.
+        HoldsBetween (GivesFields (S.table (stream_of m)) (T.table (wanted_types_of m)) types.now common.now 0 0
+        part.entry.depth out.old.items out.new.items) part.entry.body.now part.entry.at end) }
+{
+    let turns = part.turns.checked_sub(1)?;
+    let mut places = Vec::new(alloc);
+    let end = present_fields(matched.stream, types, part, &mut places)?;
+    let mut wanted = 0;
+    for field in common {
+        let Some(at) = place_of(&places, field.stream as u64) else {
+            continue;
+        };
+        let value = Part {
+            body: part.body,
+            at,
+            depth: part.depth,
+            turns,
+        };
+        put_delta(alloc, wanted, field.wanted, out)?;
+        receive_typed(alloc, matched, field.pair, value, out)?;
+        wanted = field.wanted as u64 + 1;
+    }
+    put_number(alloc, 0, out)?;
+    Some(end)
 }
 
 // Whether the stream's numbers of the fields rise, too.
@@ -331,7 +406,8 @@ fn first_from(common: &[CommonField], from: usize, number: u64) -> usize
 
 // The common field at this place, if it has this number in the stream.
 fn common_at(common: &[CommonField], index: usize, number: u64) -> Option<&CommonField>
-    ensures found { IfSome result (λ field. (slice_get common.now index ≡ Some field.now) × (field.now.stream ≡ number)) }
+    ensures found { IfSome result (λ field.
+        (slice_get common.now index ≡ Some field.now) × (field.now.stream ≡ number)) }
     ensures none { result ≡ None → (c : CommonField) → slice_get common.now index ≡ Some c → c.stream ≢ number }
 {
     let field = common.get(index)?;
@@ -349,58 +425,4 @@ fn length_of<S: Shapes>(stream: &S, id: TypeId) -> Option<Length>
         Kind::Array { len, .. } => Some(Length::Of(len)),
         _ => Some(Length::Any),
     }
-}
-
-// Copies so many values of the type that stand there, and tells where they end.
-fn copy_each<S: Shapes>(
-    stream: &S,
-    id: TypeId,
-    count: u64,
-    part: Part<'_>,
-    out: &mut Vec<u8>,
-) -> Option<usize>
-    requires { part.at ≤ length part.body.now }
-    ensures { IfSome result (λ end.
-        CopiesEach (S.table stream.now) id part.entry.depth count part.entry.body.now part.entry.at end
-        out.old.items out.new.items) }
-{
-    let end = each_end(stream, id, count, part)?;
-    out.extend_from_slice(&part.body[part.at..end]).ok()?;
-    Some(end)
-}
-
-// Where so many values of the type end that stand there.
-fn each_end<S: Shapes>(stream: &S, id: TypeId, count: u64, part: Part<'_>) -> Option<usize>
-    requires { part.at ≤ length part.body.now }
-    ensures { IfSome result (λ end.
-        StandsEach (S.table stream.now) id part.entry.depth count part.entry.body.now part.entry.at end) }
-{
-    let found = whole_elements(stream, id, count, &part.body[part.at..], part.depth);
-    if found.count < count {
-        return None;
-    }
-    Some(part.at + found.end)
-}
-
-// Appends the tag of a value that isn't a struct.
-fn put_tag(out: &mut Vec<u8>) -> Option<()>
-    ensures { IfSome result (λ _. out.new.items ≡ out.old.items ++ 0 ∷ []) }
-{
-    out.push(0).ok()
-}
-
-// Appends by how much a field's number is above that of the field before, which counts as one less than this.
-fn put_delta(alloc: Global, next: u64, number: usize, out: &mut Vec<u8>) -> Option<()>
-    ensures { IfSome result (λ _. (next ≤ number)
-        × Appends (IsUnsigned (number + 1 - next)) out.old.items out.new.items) }
-{
-    let delta = (number as u64).checked_sub(next)?.checked_add(1)?;
-    put_number(alloc, delta, out)
-}
-
-// Appends a number.
-fn put_number(alloc: Global, number: u64, out: &mut Vec<u8>) -> Option<()>
-    ensures { IfSome result (λ _. Appends (IsUnsigned number) out.old.items out.new.items) }
-{
-    write_uint(alloc, number, out).ok()
 }

@@ -1,6 +1,6 @@
 -- What the steps of receiving give over the bytes of a value: the piece begins with a part, the rest is behind it, and
 -- the bytes of what is received of the part were appended.
-use Rattle.std.specs.Prelude.{◌≡◌, ℕ, ◌+◌, ◌-◌, ◌<◌, ◌≤◌, List, [], ◌∷◌, ◌++◌, length, take, drop, Some, slice_get}
+use Rattle.std.specs.Prelude.{◌≡◌, ◌≢◌, ℕ, ◌+◌, ◌-◌, ◌<◌, ◌≤◌, List, [], ◌∷◌, ◌++◌, length, take, drop, Some, slice_get}
 use Rattle.gob_num.specs.Unsigned.{IsUnsigned}
 use Rattle.gob_types.specs.declared.id.TypeId.{TypeId}
 use Rattle.gob_types.specs.declared.kind.Field.{Field}
@@ -11,13 +11,14 @@ use Rattle.gob_types.specs.Table.{Table, shape_of}
 use Rattle.gob_value.specs.Spelling.{Spells, SpellsEach, SpellsPairs, SpellsFields}
 use Rattle.gob_value.specs.Top.{SpellsTop}
 use Rattle.gob_value.specs.Tree.{Tree, Trees, many, Pairs, pairs, Fields, depth, trees_depth, pairs_depth, fields_depth}
-use Rattle.gob_value.specs.Tree.{tree_count, pair_count}
+use Rattle.gob_value.specs.Tree.{tree_count, pair_count, no_field, field}
 use Rattle.gob_value.specs.Written.{Written, WrittenEach, WrittenPairs, WrittenFields}
 use Rattle.gob_match.specs.declared.common.CommonField.{CommonField}
 use Rattle.gob_match.specs.declared.matched.Matched.{Matched}
 use Rattle.gob_match.specs.declared.pair.TypePair.{TypePair}
 use Rattle.gob_match.specs.declared.receiving_whole.Length.{Length}
 use Rattle.gob_match.specs.declared.receiving_whole.Length.TheVariants as length_is
+use Rattle.gob_match.specs.declared.places.Place.{Place}
 use Rattle.gob_match.specs.Machine.Receiving.{AreElementsReceived, FieldsReceived, IsReceivableField, IsReceived}
 use Rattle.gob_match.specs.Machine.Receiving.{PairsReceived}
 use Rattle.gob_match.specs.Received.{Receives}
@@ -154,6 +155,60 @@ pub record CopiesEach (T : Table) (t : TypeId) (limit count : ℕ) (body : List 
     : Type 0 where
   pub each : StandsEach T t limit count body at end
   pub copied : new ≡ old ++ take (end - at) (drop at body)
+
+-- ---- fields that are found by their places
+
+-- the piece begins with the value, of this type
+pub record BeginsValue (T : Table) (t : TypeId) (v : Tree) (piece : List ℕ) : Type 0 where
+  pub bytes : List ℕ
+  pub rest : List ℕ
+  pub spelled : Spells T t v bytes
+  pub whole : piece ≡ bytes ++ rest
+
+-- at these places of the bytes the values of the fields stand
+pub data ArePlaces (T : Table) (types : List Field) (body : List ℕ) : Fields → List Place → Type 0 where
+  no_place : ArePlaces T types body no_field []
+  place : {f : ℕ} {v : Tree} {fs : Fields} {p : Place} {ps : List Place} {e : Field} → slice_get types f ≡ Some e
+      → p.number ≡ f → p.at ≤ length body → BeginsValue T e.id v (drop p.at body) → ArePlaces T types body fs ps
+      → ArePlaces T types body (field f v fs) (p ∷ ps)
+
+-- the fields that are present, of which the next has this number or a greater one, and their places, which were kept
+pub record StandPresent (T : Table) (types : List Field) (limit : ℕ) (body : List ℕ) (next : ℕ) (old new : List Place)
+    (piece rest : List ℕ) : Type 0 where
+  pub values : Fields
+  pub bytes : List ℕ
+  pub places : List Place
+  pub spelled : SpellsFields T types next values bytes
+  pub within : fields_depth values ≤ limit
+  pub stand : ArePlaces T types body values places
+  pub whole : piece ≡ bytes ++ rest
+  pub grown : new ≡ old ++ places
+
+-- their numbers rise
+abbrev pub PlacesRise : List Place → Type 0
+PlacesRise ps = (i j : ℕ) (p q : Place) → i < j → slice_get ps i ≡ Some p → slice_get ps j ≡ Some q
+    → p.number < q.number
+
+-- one of them is of this number
+pub record HasPlace (ps : List Place) (n at : ℕ) : Type 0 where
+  pub index : ℕ
+  pub place : Place
+  pub there : slice_get ps index ≡ Some place
+  pub numbered : place.number ≡ n
+  pub is : place.at ≡ at
+
+-- none is
+abbrev pub LacksPlace : List Place → ℕ → Type 0
+LacksPlace ps n = (k : ℕ) (p : Place) → slice_get ps k ≡ Some p → p.number ≢ n
+
+-- of the common fields of these values the next that is received has this number or a greater one
+pub record GivesCommon (T U : Table) (values : Fields) (common : List CommonField) (wanted : ℕ) (old new : List ℕ)
+    : Type 0 where
+  pub made : Fields
+  pub added : List ℕ
+  pub received : FieldsReceived T U values common made
+  pub written : WrittenFields wanted made added
+  pub out : new ≡ old ++ added
 
 -- ---- the fields of two structs
 

@@ -1,11 +1,14 @@
 -- Each step's answer is a lemma on the bytes that it takes and appends.
-use Rattle.std.proofs.Common.{◌≡◌, ℕ, ◌+◌, ◌*◌, ◌-◌, ◌<◌, ◌≤◌, drop, Some, arith, sym, subst}
+use Rattle.std.proofs.Common.{◌≡◌, ℕ, ◌+◌, ◌*◌, ◌-◌, ◌<◌, ◌≤◌, drop, length, Some, arith, refl, sym, subst}
 use Rattle.std.specs.Prelude.{slice_get}
-use Rattle.std.proofs.lemmas.Option.{slice_get_within}
+use Rattle.std.proofs.lemmas.Option.{slice_get_read, slice_get_within}
 use native.Mathlib.Nat.{sub-zero}
 use Rattle.gob_value.proofs.PublicLaws.{all_three, both, seen}
-use Rattle.gob_match.specs.Machine.ReceivingWhole.{RiseFrom, Skips}
-use Rattle.gob_match.proofs.Loops.{drop_at}
+use Rattle.gob_match.specs.Machine.ReceivingWhole.{GivesCommon, HasPlace, LacksPlace, PlacesRise, RiseFrom, Skips}
+use Rattle.gob_match.proofs.Loops.{drop_all, drop_at}
+use Rattle.gob_match.proofs.WholeReceived.{common_absent, common_end, common_given, has_inside, places_rise}
+use Rattle.gob_match.proofs.WholeReceived.{reordered_given, standing}
+use Rattle.gob_match.specs.Calls.Matched.{stream_of, wanted_types_of}
 use Rattle.gob_match.proofs.WholeReceived.{element_given, elements_lead, entries_lead, entry_given, field_given}
 use Rattle.gob_match.proofs.WholeReceived.{field_skipped, fields_end_given, keys_lead, kind_of_fields}
 use Rattle.gob_match.proofs.WholeReceived.{fields_lead, if_some, leaf_given, leaves_given, list_given, list_typed}
@@ -70,7 +73,8 @@ receive_list-receive_each-requires g t c κs within = (
 pub receive_list-returns : goal.receive_list-returns
 receive_list-returns g t c =
     if_some c.receive_each.result (λ end s. both c.in_ok-count.ensures.stands s
-    (list_given _ _ _ _ _ _ _ _ _ (c.admits.ensures c.if-not-admits.false) c.in_ok-put_number.ensures)) c.receive_each.ensures
+    (list_given _ _ _ _ _ _ _ _ _ (c.admits.ensures c.if-not-admits.false) c.in_ok-put_number.ensures))
+    c.receive_each.ensures
 
 pub receive_map-entries-init : goal.receive_map-entries-init
 receive_map-entries-init g t c = record {
@@ -104,24 +108,24 @@ receive_map-returns g t c =
     c.entries.invariant.inside))
     (map_given _ _ _ _ _ _ _ _ _ c.in_ok-put_number.ensures)
 
-pub receive_struct-fields-init : goal.receive_struct-fields-init
-receive_struct-fields-init g t c = record {
+pub receive_in_order-fields-init : goal.receive_in_order-fields-init
+receive_in_order-fields-init g t c = record {
   inside = c.requires.place;
-  rises = c.rise.ensures c.if-not-rise.false;
+  rises = c.requires.rise;
   parts = λ end new s. s;
 }
 
-pub receive_struct-returns-then-delta-eq0 : goal.receive_struct-returns-then-delta-eq0
-receive_struct-returns-then-delta-eq0 g t c =
+pub receive_in_order-returns-then-delta-eq0 : goal.receive_in_order-returns-then-delta-eq0
+receive_in_order-returns-then-delta-eq0 g t c =
     c.fields.invariant.parts c.in_ok-delta.behind _ (seen c.in_ok-delta.ensures.stands
     (fields_end_given _ _ _ _ _ _ _ _ _ _ (omega arith) c.in_ok-put_number.ensures))
 
-pub receive_struct-fields-smaller-in_default : goal.receive_struct-fields-smaller-in_default
-receive_struct-fields-smaller-in_default g t c = further c.in_ok-delta.ensures.onward c.in_ok-at.ensures.order
+pub receive_in_order-fields-smaller-in_default : goal.receive_in_order-fields-smaller-in_default
+receive_in_order-fields-smaller-in_default g t c = further c.in_ok-delta.ensures.onward c.in_ok-at.ensures.order
     c.in_ok-at.ensures.inside
 
-pub receive_struct-fields-preserved-in_default : goal.receive_struct-fields-preserved-in_default
-receive_struct-fields-preserved-in_default g t c =
+pub receive_in_order-fields-preserved-in_default : goal.receive_in_order-fields-preserved-in_default
+receive_in_order-fields-preserved-in_default g t c =
     let common = c.args.common.now in
     let number = c.in_ok-number.number in
     let index = c.first_from-index.result in
@@ -136,8 +140,8 @@ receive_struct-fields-preserved-in_default g t c =
           (sym c.in_ok-own.ensures.found) _ _ _ _ new c.first_from-index.ensures.skipped rise));
     }
 
-pub receive_struct-receive_typed-requires : goal.receive_struct-receive_typed-requires
-receive_struct-receive_typed-requires g t c κs within = (
+pub receive_in_order-receive_typed-requires : goal.receive_in_order-receive_typed-requires
+receive_in_order-receive_typed-requires g t c κs within = (
   typed_inside _ c.decreases,
   (
     within.0,
@@ -151,20 +155,21 @@ receive_struct-receive_typed-requires g t c κs within = (
   ),
 )
 
-pub receive_struct-overflow_add-wanted : goal.receive_struct-overflow_add-wanted
-receive_struct-overflow_add-wanted g t c = let small = (c.requires.fields c.first_from-index.result c.in-Some.field.now
+pub receive_in_order-overflow_add-wanted : goal.receive_in_order-overflow_add-wanted
+receive_in_order-overflow_add-wanted g t c =
+    let small = (c.requires.fields c.first_from-index.result c.in-Some.field.now
     c.in-Some.ensures.found.0).small in omega arith
 
-pub receive_struct-overflow_add-index : goal.receive_struct-overflow_add-index
-receive_struct-overflow_add-index g t c = let below = slice_get_within c.args.common.now c.first_from-index.result
+pub receive_in_order-overflow_add-index : goal.receive_in_order-overflow_add-index
+receive_in_order-overflow_add-index g t c = let below = slice_get_within c.args.common.now c.first_from-index.result
     c.in-Some.field.now c.in-Some.ensures.found.0 in omega arith
 
-pub receive_struct-fields-smaller : goal.receive_struct-fields-smaller
-receive_struct-fields-smaller g t c = further c.in_ok-delta.ensures.onward c.in_ok-at-2.ensures.order
+pub receive_in_order-fields-smaller : goal.receive_in_order-fields-smaller
+receive_in_order-fields-smaller g t c = further c.in_ok-delta.ensures.onward c.in_ok-at-2.ensures.order
     c.in_ok-at-2.ensures.inside
 
-pub receive_struct-fields-preserved : goal.receive_struct-fields-preserved
-receive_struct-fields-preserved g t c =
+pub receive_in_order-fields-preserved : goal.receive_in_order-fields-preserved
+receive_in_order-fields-preserved g t c =
     let common = c.args.common.now in
     let number = c.in_ok-number.number in
     let index = c.first_from-index.result in
@@ -220,7 +225,7 @@ receive_typed-receive_map-requires g t c κs within = (
 
 pub receive_typed-receive_struct-requires : goal.receive_typed-receive_struct-requires
 receive_typed-receive_struct-requires g t c κs within = (
-  parts_inside _ c.decreases c.if-part-eq0.false,
+  list_inside _ c.decreases c.if-part-eq0.false,
   (
     within.0,
     (
@@ -241,16 +246,113 @@ receive_typed-returns-in-Unchanged g t c =
 
 pub receive_typed-returns-in_ok-size-in-Elements : goal.receive_typed-returns-in_ok-size-in-Elements
 receive_typed-returns-in_ok-size-in-Elements g t c =
-    if_some c.receive_list.result (λ end s. seen s (λ x y q. list_typed _ (some_depth c.if-part-eq0.false) c.conversion_of.ensures _ _ x y
-    c.in-Elements.is c.in_ok-size-in-Elements.ensures q)) c.receive_list.ensures
+    if_some c.receive_list.result (λ end s. seen s (λ x y q. list_typed _ (some_depth c.if-part-eq0.false)
+    c.conversion_of.ensures _ _ x y c.in-Elements.is c.in_ok-size-in-Elements.ensures q)) c.receive_list.ensures
 
 pub receive_typed-returns-in-Entries : goal.receive_typed-returns-in-Entries
 receive_typed-returns-in-Entries g t c =
-    if_some c.receive_map.result (λ end s. seen s (λ x y q. map_typed _ (some_depth c.if-part-eq0.false) c.conversion_of.ensures _ _ x y
-    c.in-Entries.is q)) c.receive_map.ensures
+    if_some c.receive_map.result (λ end s. seen s (λ x y q. map_typed _ (some_depth c.if-part-eq0.false)
+    c.conversion_of.ensures _ _ x y c.in-Entries.is q)) c.receive_map.ensures
 
 pub receive_typed-returns-in_ok-types-in-Fields : goal.receive_typed-returns-in_ok-types-in-Fields
 receive_typed-returns-in_ok-types-in-Fields g t c =
     if_some c.receive_struct.result (λ end s. seen s (λ x y q. struct_typed _ (some_depth c.if-part-eq0.false)
     c.conversion_of.ensures _ _ x y c.in-Fields.is c.deref.ensures.value (sym c.in_ok-shape_of-in-Fields.ensures)
     (kind_of_fields _ _ c.in_ok-types-in-Fields.ensures) q)) c.receive_struct.ensures
+
+pub receive_struct-receive_in_order-requires : goal.receive_struct-receive_in_order-requires
+receive_struct-receive_in_order-requires g t c κs within = (
+  each_inside _ c.decreases,
+  (
+    within.0,
+    (
+      within.1,
+      (
+        c.requires.fields,
+        (
+          c.rise.ensures c.if-rise.true,
+          (c.requires.depth, c.requires.place),
+        ),
+      ),
+    ),
+  ),
+)
+
+pub receive_struct-receive_reordered-requires : goal.receive_struct-receive_reordered-requires
+receive_struct-receive_reordered-requires g t c κs within =
+    (each_inside _ c.decreases, (within.0, (within.1, (c.requires.fields, (c.requires.depth, c.requires.place)))))
+
+pub receive_reordered-place_of-requires : goal.receive_reordered-place_of-requires
+receive_reordered-place_of-requires g t c =
+    let s = standing c.in_ok-end.ensures c.new-places.ensures.items in
+    subst PlacesRise (sym c.deref.ensures.value) (places_rise s.spelled s.stand)
+
+pub receive_reordered-loop-field-preserved-in_default : goal.receive_reordered-loop-field-preserved-in_default
+receive_reordered-loop-field-preserved-in_default g t c = λ values stand new r.
+    let common = c.args.common.now in
+    let index = c.loop-field.field-index in
+    let field = c.field-item.result in
+    let there = slice_get_read common (length common) index field refl c.loop-field-test.true c.field-item.is in
+    let T = g.S.Shapes.table (stream_of c.args.matched.now) in
+    let U = g.T.Shapes.table (wanted_types_of c.args.matched.now) in
+    let lacks = subst (λ l. LacksPlace l field.stream) c.deref.ensures.value
+    (c.place_of.ensures.none c.in_default.is) in
+    c.loop-field.invariant values stand new
+    (subst (λ l. GivesCommon T U values l c.loop-field.wanted c.loop-field.out.items new)
+    (sym (drop_at common index field there)) (common_absent values stand field lacks r))
+
+pub receive_reordered-receive_typed-requires : goal.receive_reordered-receive_typed-requires
+receive_reordered-receive_typed-requires g t c κs within =
+    let common = c.args.common.now in
+    let index = c.loop-field.field-index in
+    let field = c.field-item.result in
+    let there = slice_get_read common (length common) index field refl c.loop-field-test.true c.field-item.is in
+    let s = standing c.in_ok-end.ensures c.new-places.ensures.items in
+    let has = subst (λ l. HasPlace l field.stream c.in-Some.at) c.deref.ensures.value c.in-Some.ensures.found in (
+      typed_inside _ c.decreases,
+      (
+        within.0,
+        (
+          within.1,
+          (
+            (c.requires.fields index field there).pair,
+            (c.requires.depth, has_inside s has),
+          ),
+        ),
+      ),
+    )
+
+pub receive_reordered-loop-field-preserved : goal.receive_reordered-loop-field-preserved
+receive_reordered-loop-field-preserved g t c = λ values stand new r.
+    let common = c.args.common.now in
+    let index = c.loop-field.field-index in
+    let field = c.field-item.result in
+    let there = slice_get_read common (length common) index field refl c.loop-field-test.true c.field-item.is in
+    let T = g.S.Shapes.table (stream_of c.args.matched.now) in
+    let U = g.T.Shapes.table (wanted_types_of c.args.matched.now) in
+    let has = subst (λ l. HasPlace l field.stream c.in-Some.at) c.deref.ensures.value c.in-Some.ensures.found in
+    let of = c.requires.fields index field there in
+    c.loop-field.invariant values stand new
+    (subst (λ l. GivesCommon T U values l c.loop-field.wanted c.loop-field.out.items new)
+    (sym (drop_at common index field there)) (common_given values stand field has of.there of.typed
+    c.in_ok-put_delta.ensures.0 of.small c.in_ok-put_delta.ensures.1 c.in_ok-receive_typed.ensures r))
+
+pub receive_reordered-returns : goal.receive_reordered-returns
+receive_reordered-returns g t c =
+    let common = c.args.common.now in
+    let index = c.loop-field.field-index in
+    let T = g.S.Shapes.table (stream_of c.args.matched.now) in
+    let U = g.T.Shapes.table (wanted_types_of c.args.matched.now) in
+    reordered_given c.in_ok-end.ensures c.new-places.ensures.items (λ values stand.
+    c.loop-field.invariant values stand c.put_number.new.out.items
+    (subst (λ l. GivesCommon T U values l c.loop-field.wanted c.loop-field.out.items c.put_number.new.out.items)
+    (sym (drop_all index common c.loop-field-test.false)) (common_end values c.in_ok-put_number.ensures)))
+
+pub receive_reordered-overflow_add-wanted : goal.receive_reordered-overflow_add-wanted
+receive_reordered-overflow_add-wanted g t c =
+    let common = c.args.common.now in
+    let index = c.loop-field.field-index in
+    let there = slice_get_read common (length common) index c.field-item.result refl c.loop-field-test.true
+    c.field-item.is in
+    let small = (c.requires.fields index c.field-item.result there).small in
+    omega arith
