@@ -25,7 +25,6 @@ use Rattle.gob_read.specs.Calls.Builders.{tree_building}
 use Rattle.gob_types.specs.Defined.{types}
 use Rattle.gob_value.specs.Tree.{Tree}
 use Rattle.gob_value.specs.Whole.{IsWhole}
-use Rattle.gob_value.specs.View.{view}
 use Rattle.gob_value.specs.declared.value.Value.{Value}
 use Rattle.gob_stream.specs.Body.{value as of_value}
 use Rattle.gob_stream.specs.Bounds.{Bounds, greatest_depth, within_trees}
@@ -36,7 +35,6 @@ use Rattle.gob_stream.specs.Stream.{AreItems, and_then, counted, no_more}
 use Rattle.gob_stream.specs.declared.fault.Fault.{Fault}
 use Rattle.gob_stream.specs.declared.fault.Fault.TheVariants as reading
 use Rattle.gob_stream.specs.declared.item.Item as declared
-use Rattle.gob_stream.specs.declared.item.Item.TheVariants as variant
 use Rattle.gob_stream.proofs.PublicLaws.{stands_within, views_meant, whole_item}
 use Rattle.gob_stream.specs.Calls.Reader.{Begins, EndsWith, GivesItems, gives_none, gives_one, HasReadFrom, Stops}
 use Rattle.gob_stream.specs.Calls.Reader.{PassesOne, StopsFrom}

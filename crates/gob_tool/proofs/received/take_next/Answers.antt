@@ -1,10 +1,8 @@
 -- A value that waits as a whole is taken so; where none is, nothing has changed.
-use Rattle.std.proofs.Common.{◌≡◌, ◌∙◌, ap, arith, length, subst, sym}
+use Rattle.std.proofs.Common.{ap, arith, length, subst, sym}
 use Rattle.gob_types.specs.Defined.{types}
-use Rattle.gob_stream.specs.Calls.Ends.{failed_writes, writer_of}
-use Rattle.gob_stream.specs.Calls.Reader.{session_of, waits_in}
-use Rattle.gob_stream.specs.Calls.Session.{limits_of}
-use Rattle.gob_tool.specs.Ending.{CountsOnlyWrites}
+use Rattle.gob_stream.specs.Calls.Ends.{writer_of}
+use Rattle.gob_stream.specs.Calls.Reader.{waits_in}
 use Rattle.gob_tool.specs.Machine.Taken.{HasReadTrees, TakesNext}
 use Rattle.gob_tool.proofs.EndLaws.{at_error}
 use Rattle.gob_tool.proofs.TakeRuns.{next_as, next_still, ready_as, some_taken, untouched}
