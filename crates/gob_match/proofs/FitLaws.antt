@@ -27,11 +27,12 @@ use Rattle.gob_match.specs.Received.{entry, ReceivesFields, no_more, absent, rec
 use Rattle.gob_match.proofs.ReceiveLaws.{no_deeper}
 use Rattle.gob_match.proofs.ReceiveSteps.{present_fits}
 
-count_stays : {T U : Table} {e f : TypeId} {vs ws : Trees} → ReceivesEach T U e f vs ws → tree_count ws ≡ tree_count vs
+pub count_stays : {T U : Table} {e f : TypeId} {vs ws : Trees} → ReceivesEach T U e f vs ws
+    → tree_count ws ≡ tree_count vs
 count_stays no_element = refl
 count_stays (element p ps) = ap (λ n. n + 1) (count_stays ps)
 
-pair_count_stays : {T U : Table} {k l e f : TypeId} {ps qs : Pairs} → ReceivesPairs T U k l e f ps qs
+pub pair_count_stays : {T U : Table} {k l e f : TypeId} {ps qs : Pairs} → ReceivesPairs T U k l e f ps qs
     → pair_count qs ≡ pair_count ps
 pair_count_stays no_entry = refl
 pair_count_stays (entry o p ps) = ap (λ n. n + 1) (pair_count_stays ps)

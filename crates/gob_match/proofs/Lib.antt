@@ -16,3 +16,4 @@ pub mod KindChoice
 pub mod ChoiceLaws
 pub mod StayLaws
 pub mod TextLaws
+pub mod WholeReceived

@@ -162,8 +162,8 @@ leaf_at : {T U : Table} {p : TypePair} {v : Tree} → ConvertsAt T U p conversio
     → ¬ HasParts v
 leaf_at {T = T} {U = U} c f = (stays {T = T} {U = U} c.converts.match c.converts.conversion (spelled_at c f).spelled).1
 
-leaf_received : {T U : Table} {p : TypePair} {v w : Tree} → ConvertsAt T U p conversion.Unchanged → Fits T p.stream v
-    → w ≡ v → IsReceived T U p v w
+pub leaf_received : {T U : Table} {p : TypePair} {v w : Tree} → ConvertsAt T U p conversion.Unchanged
+    → Fits T p.stream v → w ≡ v → IsReceived T U p v w
 leaf_received {T = T} {U = U} {p = p} {v = v} c f same =
     let r = stays {T = T} {U = U} c.converts.match c.converts.conversion (spelled_at c f).spelled in
     subst (IsReceived T U p v) (sym same) (as_received c r.0 (no_numbers v r.1))
@@ -211,7 +211,7 @@ elements_as arrays kept.of_arrays r = relation.of_arrays r
 elements_as slices kept.of_slices r = relation.of_slices r
 elements_as _ w r = elim w [ ]
 
-elements_received : {T U : Table} {p q : TypePair} {vs ws : Trees} → ConvertsAt T U p (conversion.Elements q)
+pub elements_received : {T U : Table} {p q : TypePair} {vs ws : Trees} → ConvertsAt T U p (conversion.Elements q)
     → AreElementsReceived T U q vs ws → IsReceived T U p (Value.many vs) (Value.many ws)
 elements_received c r = as_received c (elements_as c.converts.match c.converts.conversion r.receives) r.small
 
@@ -274,7 +274,7 @@ entries_as : {T U : Table} {k l : Kind} {x e : TypePair} {ps qs : Pairs} → Kin
 entries_as maps kept.of_maps r = relation.of_maps r
 entries_as _ w r = elim w [ ]
 
-entries_received : {T U : Table} {p x e : TypePair} {ps qs : Pairs} → ConvertsAt T U p (conversion.Entries x e)
+pub entries_received : {T U : Table} {p x e : TypePair} {ps qs : Pairs} → ConvertsAt T U p (conversion.Entries x e)
     → PairsReceived T U x e ps qs → IsReceived T U p (Value.pairs ps) (Value.pairs qs)
 entries_received c r = as_received c (entries_as c.converts.match c.converts.conversion r.receives) r.small
 
@@ -377,7 +377,7 @@ fields_as : {T U : Table} {k l : Kind} {cs : Vec CommonField Global} {fs gs : Fi
 fields_as (structs d h) (kept.of_structs a) r = relation.of_structs (by_name d.in_stream a r)
 fields_as _ w r = elim w [ ]
 
-fields_received : {T U : Table} {p : TypePair} {cs : Vec CommonField Global} {fs gs : Fields}
+pub fields_received : {T U : Table} {p : TypePair} {cs : Vec CommonField Global} {fs gs : Fields}
     → ConvertsAt T U p (conversion.Fields cs) → FieldsReceived T U fs cs.items gs
     → IsReceived T U p (Value.fields fs) (Value.fields gs)
 fields_received c r = as_received c (fields_as c.converts.match c.converts.conversion r) (numbers_small r)

@@ -28,7 +28,7 @@ use Rattle.gob_match.proofs.HaveLaws.{AreNamed}
 use Rattle.gob_match.proofs.ReceiveSteps.{present_fits}
 
 -- a field that is present has at least the number that is next
-present_from : {T : Table} {types : List Field} {f : ℕ} {v : Tree} {fs : Fields} {next : ℕ} {b : List ℕ}
+pub present_from : {T : Table} {types : List Field} {f : ℕ} {v : Tree} {fs : Fields} {next : ℕ} {b : List ℕ}
     → SpellsFields T types next fs b → IsPresent f v fs → next ≤ f
 present_from (spelling.next_field l at a p ps) first = l
 present_from (spelling.next_field l at a p ps) (later h) = let n = present_from ps h in omega arith

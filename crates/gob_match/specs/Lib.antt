@@ -2,6 +2,7 @@ pub mod Pairs
 pub mod Matching
 pub mod Clashing
 pub mod Received
+pub mod ReceivedWhole
 pub mod Reasons
 pub mod ClashText
 pub mod Faults

@@ -5,3 +5,4 @@ pub mod Conversions
 pub mod Exploring
 pub mod Kept
 pub mod Receiving
+pub mod ReceivingWhole

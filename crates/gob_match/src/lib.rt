@@ -14,11 +14,13 @@
 //! - [`match_types`] says whether two types match, or gives a clash with the fewest steps: the path to a pair of
 //!   types whose shapes don't match, and why. It is a breadth-first search over pairs of types: each pair is looked
 //!   at once, and what becomes of its values is worked out then and kept, in a [`Matched`].
-//! - [`receive`] makes of a value of the stream's type the value of the wanted type that matches it.
+//! - [`receive`] makes of a value of the stream's type the value of the wanted type that matches it. [`receive_whole`]
+//!   does so of the bytes that spell one, in bytes, and makes no tree.
 //! - [`laws`] has what the definitions in `specs/` entail: two ready types match or clash, and not both.
 #![tactic(auto)]
 
 mod adding;
+mod body_part;
 mod common;
 mod conversion;
 mod fault;
@@ -30,8 +32,10 @@ mod matched;
 mod matching;
 mod names;
 mod pair;
+mod places;
 mod reason;
 mod receiving;
+mod receiving_whole;
 mod step;
 
 pub use fault::MatchFault;
@@ -41,4 +45,5 @@ pub use matching::match_types;
 pub use pair::TypePair;
 pub use reason::ClashReason;
 pub use receiving::receive;
+pub use receiving_whole::receive_whole;
 pub use step::{PathText, Step};

@@ -140,8 +140,8 @@ fn receive_fields<S: Shapes, T: Shapes>(
     Ok(received)
 }
 
-// The conversion of a pair of the match.
-fn conversion_of<'a, S: Shapes, T: Shapes>(
+/// The conversion of a pair of the match.
+pub(crate) fn conversion_of<'a, S: Shapes, T: Shapes>(
     matched: &'a Matched<'_, S, T>,
     pair: TypePair,
 ) -> &'a Conversion

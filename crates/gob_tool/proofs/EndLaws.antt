@@ -1,7 +1,7 @@
 -- How runs end.
-use Rattle.std.proofs.Common.{◌≡◌, ℕ, Bool, false, List, Option, [], IfErr, MatchResult, Result, Ok, Err, ◌∙◌, ◌+◌, ◌-◌}
+use Rattle.std.proofs.Common.{◌≡◌, ℕ, Bool, false, List, Option, [], IfErr, MatchResult, Result, Ok, Err, ◌∙◌, ◌-◌}
 use Rattle.std.proofs.Common.{append-nil}
-use Rattle.std.proofs.Common.{◌^◌, ◌<◌, ◌≤◌, ◌⊎◌, arith, ap, sym, subst, refl, inl, inr}
+use Rattle.std.proofs.Common.{◌^◌, ◌<◌, ◌⊎◌, arith, ap, sym, subst, refl, inl, inr}
 use Rattle.std.proofs.Math.Nat.{eq-or-lt_of_le}
 use Rattle.std.specs.Result.{IsErrAnd}
 use Rattle.std.specs.Io.KnownBytes.{Appends, Keeps}

@@ -50,7 +50,7 @@ use Rattle.gob_tool.proofs.EndLaws.{all_kept, prefix_kept}
 use Rattle.gob_tool.proofs.LinesStay.{first_items, lines_stay}
 
 -- a whole item has a byte at least
-body_some : {L : Bounds} {T : Table} {offset : ℕ} {id : TypeId} {body : List ℕ} {used : ℕ} {piece : List ℕ}
+pub body_some : {L : Bounds} {T : Table} {offset : ℕ} {id : TypeId} {body : List ℕ} {used : ℕ} {piece : List ℕ}
     → HasBody L T offset id body used piece → 0 < used
 body_some {body = body} {used = used} {piece = piece} b =
     let some = (unsigned_length b.counts).0 in

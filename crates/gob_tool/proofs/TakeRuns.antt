@@ -1,45 +1,58 @@
 -- How a run that receives values goes on from item to item, and how it ends.
 use Rattle.std.proofs.Common.{◌≡◌, ℕ, ◌+◌, ◌-◌, ◌<◌, arith, List, [], ◌∷◌, ◌++◌, take, Option, Some}
+use Rattle.std.proofs.Common.{Bool, true, false, min}
 use Rattle.std.proofs.Common.{Result, Ok, Err, ◌∙◌, ap, sym, subst, refl, append_assoc, append-nil, inl, inr}
 use Rattle.std.specs.Io.KnownBytes.{Appends, Keeps}
-use Rattle.std.proofs.KnownBytes.{Appends-nil, Appends-trans, Appends-kept}
+use Rattle.std.proofs.KnownBytes.{Appends-nil, Appends-trans, Appends-kept, Keeps-refl}
 use Rattle.gob_types.specs.Base.{base_table}
 use Rattle.gob_types.specs.Ready.{IsReady}
 use Rattle.gob_types.specs.Table.{Table}
 use Rattle.gob_types.specs.declared.id.TypeId.{TypeId}
 use Rattle.gob_match.specs.Clashing.{IsLeastClash}
+use Rattle.gob_match.specs.Faults.{IsMatchFault}
+use Rattle.gob_match.specs.declared.fault.MatchFault.{MatchFault}
+use Rattle.gob_match.specs.declared.fault.MatchFault.TheVariants as matching
+use Rattle.gob_match.specs.ReceivedWhole.{ReceivesWhole as IsReceivedWhole}
+use Rattle.gob_value.specs.Top.{SpellsTop}
+use Rattle.gob_stream.specs.Calls.Ends.{writer_of}
+use Rattle.gob_stream.specs.declared.output.Output.{Output}
+use Rattle.gob_stream.specs.declared.fault.WriteFault.{WriteFault}
+use Rattle.gob_stream.specs.declared.fault.WriteFault.TheVariants as writing
+use Rattle.gob_stream.specs.Calls.Writing.{CountsWriterFaults}
 use Rattle.gob_match.specs.Matching.{Match}
 use Rattle.gob_match.specs.Received.{Receives}
 use Rattle.gob_read.specs.Calls.Builders.{tree_building}
+use Rattle.gob_types.specs.Defined.{types}
 use Rattle.gob_value.specs.Tree.{Tree}
-use Rattle.gob_value.specs.View.{view}
+use Rattle.gob_value.specs.Whole.{IsWhole}
 use Rattle.gob_value.specs.declared.value.Value.{Value}
 use Rattle.gob_stream.specs.Body.{value as of_value}
-use Rattle.gob_stream.specs.Bounds.{Bounds, within_trees}
-use Rattle.gob_stream.specs.Calls.Session.{HasRead, limits_of, taken_of, types_of}
+use Rattle.gob_stream.specs.Bounds.{Bounds, greatest_depth, within_trees}
+use Rattle.gob_stream.specs.Calls.Session.{HasRead, limits_of, table_of, taken_of, types_of}
 use Rattle.gob_stream.specs.Item.{StreamItem, defines, mean_more, mean_none, means_definition, means_value, puts}
 use Rattle.gob_stream.specs.Reading.{SomeTaken}
 use Rattle.gob_stream.specs.Stream.{AreItems, and_then, counted, no_more}
 use Rattle.gob_stream.specs.declared.fault.Fault.{Fault}
 use Rattle.gob_stream.specs.declared.fault.Fault.TheVariants as reading
 use Rattle.gob_stream.specs.declared.item.Item as declared
-use Rattle.gob_stream.specs.declared.item.Item.TheVariants as variant
-use Rattle.gob_stream.proofs.PublicLaws.{stands_within, views_meant}
+use Rattle.gob_stream.proofs.PublicLaws.{stands_within, views_meant, whole_item}
 use Rattle.gob_stream.specs.Calls.Reader.{Begins, EndsWith, GivesItems, gives_none, gives_one, HasReadFrom, Stops}
-use Rattle.gob_stream.specs.Calls.Reader.{StopsFrom}
+use Rattle.gob_stream.specs.Calls.Reader.{PassesOne, StopsFrom}
 use Rattle.gob_stream.specs.Calls.Reader.{session_of, waits_in}
 use Rattle.gob_stream.proofs.PublicLaws.{ahead_so, begins_so}
 use Rattle.gob_tool.specs.declared.fault.ToolFault.{ToolFault}
 use Rattle.gob_tool.specs.declared.fault.ToolFault.TheVariants as fault
 use Rattle.gob_tool.specs.declared.receiver.Receiver.{Receiver}
 use Rattle.gob_tool.specs.Ending.{CountsOnlyWrites, EndsRun, ends_so, flush_fails}
-use Rattle.gob_tool.specs.Fault.{reading_fault}
+use Rattle.gob_tool.specs.Fault.{matching_fault, reading_fault, writing_fault}
 use Rattle.gob_tool.specs.Line.{line}
 use Rattle.gob_tool.specs.Machine.Lines.{Trees}
 use Rattle.gob_tool.specs.Machine.Receiver.{IsReceiver}
 use Rattle.gob_tool.specs.Showing.{AppendsPrefix, CountsReadFaults}
-use Rattle.gob_tool.specs.Machine.Taken.{AreSent, CountsWanted, StaysReceiver, Takes, TakesGiven, TakesNext, WritesText}
-use Rattle.gob_tool.specs.Machine.Taken.{sent, views_given}
+use Rattle.gob_tool.specs.Machine.Sending.{IsWholeItem}
+use Rattle.gob_tool.specs.Machine.Taken.{AreSent, CountsWanted, IsUntouched, StaysReceiver, Takes, TakesBody}
+use Rattle.gob_tool.specs.Machine.Taken.{TakesItems, TakesNext}
+use Rattle.gob_tool.specs.Machine.Taken.{TakesWhole, WritesText, sent, views_given}
 use Rattle.gob_tool.specs.Taking.{AreReceived, CountsTakeReads, HasTakenItems, ReceivesPrefix, ReceivesTaken}
 use Rattle.gob_tool.specs.Taking.{ReceivesWhole, Receiving}
 use Rattle.gob_tool.specs.Taking.{TakeAnswers}
@@ -47,7 +60,9 @@ use Rattle.gob_tool.specs.Taking.{definition, no_item, stops_at_wanted, takes_be
 use Rattle.gob_tool.specs.Taking.{value as received_value}
 use Rattle.gob_tool.proofs.EndLaws.{prefix_kept, reads_nothing}
 use Rattle.gob_tool.proofs.LinesStay.{keeps_itself, stream_keeps}
-use Rattle.gob_tool.proofs.ReaderRuns.{GoesOn, TakesBehind, goes_by, nothing_given, reads_behind}
+use Rattle.gob_tool.proofs.ReaderRuns.{GoesOn, TakesBehind, goes_by, nothing_given, read_alone, reads_behind}
+use Rattle.gob_tool.proofs.ReaderRuns.{takes_behind}
+use Rattle.gob_tool.proofs.ShowRuns.{body_some}
 use Rattle.gob_tool.proofs.ReceivedLaws.{received_append, received_on, stream_sent}
 
 -- ---- what a step gave
@@ -159,28 +174,20 @@ module _ {r r' : Trees} {U : Table} {u : TypeId} {read now start mid : Option (L
       }
 
   -- what stopped it
-  pub takes_stopped : (r'' : Trees) (new : Option (List ℕ)) (o : Option (declared.Item Value)) (f : ToolFault)
-      → GivesItems tree_building.means o more
-      → TakesGiven (types_of (session_of r')) U u o mid new (Err f)
+  pub takes_stopped : (r'' : Trees) (new : Option (List ℕ)) (f : ToolFault)
+      → TakesItems (types_of (session_of r')) U u more mid new (Err f)
       → TakesNext r r'' U u read now start new (Err f)
-  takes_stopped r'' new o fault.Write gives h = (
-    λ bytes known. takes_cut (subst (λ (l : List StreamItem). HasTakenItems (types_of (session_of r')) U u l
-        (AppendsPrefix mid new))
-        (given_views gives) h) bytes known,
-    λ failures. inl refl,
-  )
-  takes_stopped r'' new o fault.Memory gives h = (λ bytes known. takes_none new h bytes known, λ failures. refl)
-  takes_stopped r'' new o (fault.Clash path reason) gives h = (
+  takes_stopped r'' new fault.Write h = (λ bytes known. takes_cut h bytes known, λ failures. inl refl)
+  takes_stopped r'' new fault.Memory h = (λ bytes known. takes_none new h bytes known, λ failures. refl)
+  takes_stopped r'' new (fault.Clash path reason) h = (
     λ bytes known.
         let c = h.1 in
-        let i = puts c.id (view c.value) in
-        let only : more ≡ i ∷ [] = sym (given_views gives) ∙ ap (λ o. views_given o) c.is in
         let begins = subst (λ (l : List StreamItem). Begins (within_trees (limits_of (session_of r)))
-        (types_of (session_of r')) (p.given ++ l) bytes) only (begins_behind bytes known) in
+        (types_of (session_of r')) (p.given ++ l) bytes) c.is (begins_behind bytes known) in
         record {
           items = p.given;
           id = c.id;
-          value = view c.value;
+          value = c.value;
           begins = begins.begins;
           received = subst (λ (T : Table). HasTakenItems T U u p.given (Appends start new)) (sym begins.table) (record {
             lines = p.taken.lines;
@@ -191,26 +198,46 @@ module _ {r r' : Trees} {U : Table} {u : TypeId} {read now start mid : Option (L
         },
     λ failures. refl,
   )
-  takes_stopped r'' new o (fault.Refused R) gives h = absurd h
-  takes_stopped r'' new o (fault.Wanted R) gives h = absurd h
-  takes_stopped r'' new o fault.NoWantedType gives h = absurd h
-  takes_stopped r'' new o fault.Read gives h = absurd h
+  takes_stopped r'' new (fault.Refused R) h = absurd h
+  takes_stopped r'' new (fault.Wanted R) h = absurd h
+  takes_stopped r'' new fault.NoWantedType h = absurd h
+  takes_stopped r'' new fault.Read h = absurd h
 
 -- one way or the other
 pub next_taken : {r r' : Trees} {U : Table} {u : TypeId} {read now start mid : Option (List ℕ)} (wanted : IsReady U u)
     (p : Takes r U u read now start mid) (same : limits_of (session_of r') ≡ limits_of (session_of r)) {used : ℕ}
     {more others : List StreamItem} (q : HasReadFrom tree_building r' read now others)
     (b : TakesBehind tree_building r r' p.given more p.has.taken used) (new : Option (List ℕ))
-    (o : Option (declared.Item Value)) (res : Result (Unit {0}) ToolFault) → GivesItems tree_building.means o more
-    → taken_of (session_of r) < taken_of (session_of r') → TakesGiven (types_of (session_of r')) U u o mid new res
-    → TakesNext r r' U u read now start new res
-next_taken {r' = r'} {U = U} {u = u} {mid = mid} wanted p same q b new o (Ok x) gives onward h = (
-  takes_more wanted p same q b (subst (λ (l : List StreamItem). HasTakenItems (types_of (session_of r')) U u l
-      (Appends mid new))
-      (given_views gives) h),
-  onward,
-)
-next_taken {r' = r'} wanted p same q b new o (Err f) gives onward h = takes_stopped wanted p same q b r' new o f gives h
+    (res : Result (Unit {0}) ToolFault) → taken_of (session_of r) < taken_of (session_of r')
+    → TakesItems (types_of (session_of r')) U u more mid new res → TakesNext r r' U u read now start new res
+next_taken wanted p same q b new (Ok x) onward h = (takes_more wanted p same q b h, onward)
+next_taken {r' = r'} wanted p same q b new (Err f) onward h = takes_stopped wanted p same q b r' new f h
+
+-- the item of a value that waited as a whole
+module _ {r r' : Trees} {U : Table} {u : TypeId} {read now start mid : Option (List ℕ)} {depth : ℕ} {id : TypeId}
+    {body : List ℕ} {used : ℕ} (wanted : IsReady U u) (p : Takes r U u read now start mid)
+    (w : IsWholeItem r depth id body used) (is : depth ≡ min (limits_of (session_of r)).depth greatest_depth)
+    (table : table_of (session_of r') ≡ table_of (session_of r))
+    (limits : limits_of (session_of r') ≡ limits_of (session_of r)) (pass : PassesOne tree_building r r' used)
+    (new : Option (List ℕ)) where
+  body_taken : (v : IsWhole (types_of (session_of r)) id depth body) (res : Result (Unit {0}) ToolFault)
+      → TakesItems (types_of (session_of r)) U u (puts id v.value ∷ []) mid new res
+      → TakesNext r r' U u read now start new res
+  body_taken v res h =
+      let i = puts id v.value in
+      let item = whole_item greatest_depth is w.next v in
+      let t = pass read now p.given i p.has item in
+      let b = takes_behind tree_building p.has.gave (pass (Some (p.has.taken ++ waits_in r)) (Some []) p.given i
+      (read_alone tree_building p.has.gave p.has.room) item) in
+      let some = body_some w.next in
+      next_taken wanted p limits t.after b new res (omega (arith, t.onward, some))
+      (subst (λ (T : Table). TakesItems T U u (i ∷ []) mid new res) (sym (ap (λ d. types d) table)) h)
+
+  pub whole_taken : (res : Result Bool ToolFault)
+      → TakesBody (types_of (session_of r)) U u id depth body mid new res → TakesWhole r r' U u read now start new res
+  whole_taken (Ok true) h = body_taken h.0 (Ok tt) h.1
+  whole_taken (Ok false) h = tt
+  whole_taken (Err f) h = body_taken h.0 (Err f) h.1
 
 -- what was sent with a step, whatever the input
 module _ {r r' : Trees} {items more : List StreamItem} {bytes : List ℕ} {used : ℕ}
@@ -506,9 +533,9 @@ pub nothing_taken : {T U : Table} {u : TypeId} (out : Option (List ℕ)) → Has
 nothing_taken out = record { lines = []; received = no_item; holds = Appends-nil out }
 
 -- its line was written, or a prefix of it
-pub value_taken : {T U : Table} {u : TypeId} (id : TypeId) (value : Value) (w : Tree) (old new : Option (List ℕ))
-    (res : Result (Unit {0}) ToolFault) → Match T U id u → Receives T U id u (view value) w
-    → WritesText old new (line U (puts u w)) res → TakesGiven T U u (Some (variant.Put id value)) old new res
+pub value_taken : {T U : Table} {u : TypeId} (id : TypeId) (value : Tree) (w : Tree) (old new : Option (List ℕ))
+    (res : Result (Unit {0}) ToolFault) → Match T U id u → Receives T U id u value w
+    → WritesText old new (line U (puts u w)) res → TakesItems T U u (puts id value ∷ []) old new res
 value_taken {U = U} {u = u} id value w old new (Ok x) m r h = record {
   lines = line U (puts u w) ++ [];
   received = received_value m r no_item;
@@ -528,3 +555,87 @@ value_taken id value w old new (Err fault.Read) m r h = absurd h
 
 pub line_as : {T U : Table} {t u : TypeId} (v : Tree) → T ≡ U → t ≡ u → line T (puts t v) ≡ line U (puts u v)
 line_as v e f = cc
+
+-- ---- a value that waited as a whole
+pub some_taken : (r r' : Trees) (U : Table) (u : TypeId) (read now old new : Option (List ℕ)) (done : Bool)
+    → done ≡ true → TakesWhole r r' U u read now old new (Ok done) → TakesNext r r' U u read now old new (Ok tt)
+some_taken r r' U u read now old new true e h = h
+some_taken r r' U u read now old new false e h = cc
+
+pub none_taken : (r r' : Trees) (U : Table) (u : TypeId) (read now old new : Option (List ℕ))
+    (res : Result Bool ToolFault) → res ≡ Ok false → TakesWhole r r' U u read now old new res
+none_taken r r' U u read now old new (Ok true) e = cc
+none_taken r r' U u read now old new (Ok false) e = tt
+none_taken r r' U u read now old new (Err f) e = cc
+
+-- what stayed as it was is untouched, and so is whatever something was done with
+pub is_untouched : {A : Type 0} (x : A) (res : Result Bool ToolFault) → IsUntouched x x res
+is_untouched x (Ok true) = tt
+is_untouched x (Ok false) = refl
+is_untouched x (Err f) = tt
+
+pub is_touched : {A : Type 0} (x y : A) (res : Result Bool ToolFault) → ¬ (res ≡ Ok false) → IsUntouched x y res
+is_touched x y (Ok true) n = tt
+is_touched x y (Ok false) n = absurd (n refl)
+is_touched x y (Err f) n = tt
+
+pub untouched : {A : Type 0} {old new : A} (done : Bool) → done ≡ false → IsUntouched old new (Ok done) → new ≡ old
+untouched true e h = cc
+untouched false e h = h
+
+-- nothing had changed before
+pub next_still : {W : Type 0} (contents : W → Option (List ℕ)) (r q r' : Trees) (o p o' : Output W) (U : Table)
+    (u : TypeId) (read now start : Option (List ℕ)) (res : Result (Unit {0}) ToolFault) → q ≡ r → p ≡ o
+    → (Takes q U u read now start (contents (writer_of p))
+    → TakesNext q r' U u read now start (contents (writer_of o')) res)
+    → Takes r U u read now start (contents (writer_of o))
+    → TakesNext r r' U u read now start (contents (writer_of o')) res
+next_still {W = W} contents r q r' o p o' U u read now start res same still f =
+    subst (λ (p : Output W). Takes r U u read now start (contents (writer_of p))
+    → TakesNext r r' U u read now start (contents (writer_of o')) res) still
+    (subst (λ (q : Trees). Takes q U u read now start (contents (writer_of p))
+    → TakesNext q r' U u read now start (contents (writer_of o')) res) same f)
+
+-- its type clashes, or no memory was had
+pub match_stops : {T : Table} {id : TypeId} {depth : ℕ} {body : List ℕ} (U : Table) (u : TypeId)
+    (w : IsWhole T id depth body) (out : Option (List ℕ)) (e : MatchFault) → IsMatchFault T U id u e
+    → TakesBody T U u id depth body out out (Err (matching_fault e))
+match_stops {id = id} U u w out (matching.Clash path reason) h =
+    (w, (Keeps-refl out, record { id = id; value = w.value; is = refl; clash = h }))
+match_stops U u w out matching.Memory h = (w, Keeps-refl out)
+
+-- what is received of it, by a table and a type that are these
+abbrev pub received_whole_as : {T U V : Table} {t u x : TypeId} {depth : ℕ} {body made : List ℕ} → V ≡ U → x ≡ u
+    → IsReceivedWhole T U t u depth body made → IsWhole V x depth made
+received_whole_as {V = V} {u = u} {x = x} {made = made} e f v = record {
+  value = v.made;
+  spelled = subst (λ (x : TypeId). SpellsTop V x v.made made) (sym f)
+      (subst (λ (V : Table). SpellsTop V u v.made made) (sym e) v.made_spelled);
+  within = v.made_within;
+}
+
+-- its line was sent, or a prefix of it
+pub body_sent : {T U : Table} {u id : TypeId} {depth : ℕ} {body made : List ℕ} (old new : Option (List ℕ))
+    → Match T U id u → (v : IsReceivedWhole T U id u depth body made) → (text : List ℕ)
+    → text ≡ line U (puts u v.made) → Appends old new text → TakesBody T U u id depth body old new (Ok true)
+body_sent old new m v text is h = (
+  record { value = v.value; spelled = v.spelled; within = v.within },
+  value_taken _ v.value v.made old new (Ok tt) m v.receives (subst (Appends old new) is h),
+)
+
+pub body_cut : {T U : Table} {u id : TypeId} {depth : ℕ} {body made : List ℕ} (old new : Option (List ℕ))
+    → Match T U id u → (v : IsReceivedWhole T U id u depth body made) → (text : List ℕ)
+    → text ≡ line U (puts u v.made) → AppendsPrefix old new text
+    → TakesBody T U u id depth body old new (Err fault.Write)
+body_cut old new m v text is h = (
+  record { value = v.value; spelled = v.spelled; within = v.within },
+  value_taken _ v.value v.made old new (Err fault.Write) m v.receives (subst (AppendsPrefix old new) is h),
+)
+
+-- a write that failed is counted
+pub body_counts : (old new : ℕ) (e : WriteFault) → e ≡ writing.Write → CountsWriterFaults old new (Err e)
+    → CountsOnlyWrites {A = Bool} old new (Err (writing_fault e))
+body_counts old new (writing.Refused r) is h = cc
+body_counts old new writing.Write is h = h
+body_counts old new writing.Memory is h = cc
+body_counts old new writing.Failed is h = cc

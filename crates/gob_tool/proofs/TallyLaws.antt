@@ -15,7 +15,7 @@ use Rattle.gob_stream.specs.Bounds.{Bounds, AreLimits, deepest, no_deeper}
 use Rattle.gob_stream.specs.Item.{StreamItem}
 use Rattle.gob_stream.specs.Machine.ReadParts.{AdvancesOver, over_some, over_item}
 use Rattle.gob_stream.specs.Calls.Session.{FinishAnswers, ReadsItems, StepAnswers}
-use Rattle.gob_stream.specs.Outcome.{EndsSo, at_the_end, the_end, refused}
+use Rattle.gob_stream.specs.Outcome.{EndsSo, at_the_end, the_end}
 use Rattle.gob_stream.specs.Stream.{Stream}
 use Rattle.gob_types.specs.Table.{Table}
 use Rattle.gob_stream.proofs.PublicLaws.{stands_within}
@@ -23,7 +23,7 @@ use Rattle.gob_tool.specs.declared.in_memory.Tally.{Tally}
 use Rattle.gob_tool.specs.Checking.{IsTallied, TalliesStream}
 use Rattle.gob_tool.specs.Machine.Tallying.{GaveTallied, HasTallied, TalliesOn, TalliesUpTo, StopsTallying}
 use Rattle.gob_tool.specs.Machine.Tallying.{TalliesPrefix, TalliesAll}
-use Rattle.gob_tool.proofs.CheckLaws.{items_within, limits_as, stream_defines}
+use Rattle.gob_tool.proofs.CheckLaws.{items_within, stream_defines}
 
 -- ---- within the bytes
 pub items_fit : {s : SessionState SkipBuilder (Unit {0})} {n : ℕ} {bytes : List ℕ} → HasTallied s n bytes

@@ -10,7 +10,7 @@ ghost use Rattle.gob_stream.specs.Item.{StreamItem, puts};
 ghost use Rattle.gob_stream.specs.Calls.Writing.{CountsWriterFaults};
 ghost use Rattle.gob_stream.specs.Calls.Reader.{HasReadFrom, session_of};
 ghost use Rattle.gob_tool.specs.Line.{line};
-ghost use Rattle.gob_tool.specs.Machine.Sending.{CountsFaults, IsLargeItem, Sends, ShowsLarge, ShowsNone};
+ghost use Rattle.gob_tool.specs.Machine.Sending.{CountsFaults, IsWholeItem, Sends, ShowsLarge, ShowsNone};
 
 use gob_json::{TextOut, send_line};
 use gob_read::{Builder, TreeBuilder};
@@ -60,9 +60,9 @@ impl<W: Write> TextOut for Sending<'_, W> {
     ) };
 }
 
-// Writes the line of the item that puts the value of the type that the body spells, as is known of it, while it is
-// made.
-fn send_item<S: Shapes, W: Write>(
+/// Writes the line of the item that puts the value of the type that the body spells, as is known of it, while it is
+/// made.
+pub(crate) fn send_item<S: Shapes, W: Write>(
     shapes: &S,
     id: TypeId,
     body: &[u8],
@@ -89,12 +89,16 @@ pub(crate) fn shown_depth(reader: &StreamReader<TreeBuilder>) -> u64
     reader.limits().depth().min(TreeBuilder::DEPTH)
 }
 
-// The large item of a value that waits as a whole. None says nothing of what waits.
-fn large_item(reader: &StreamReader<TreeBuilder>, depth: u64) -> Option<Whole<'_>>
-    ensures { IfSome result (λ item. IsLargeItem reader.now depth item.id item.body.now item.used) }
+/// The item of a value that waits as a whole, if it has more bytes than this. None says nothing of what waits.
+pub(crate) fn whole_item(
+    reader: &StreamReader<TreeBuilder>,
+    depth: u64,
+    more_than: usize,
+) -> Option<Whole<'_>>
+    ensures { IfSome result (λ item. IsWholeItem reader.now depth item.id item.body.now item.used) }
 {
     let item = reader.whole()?;
-    if item.used <= MOST_GATHERED || !is_whole(reader.table(), item.id, item.body, depth) {
+    if item.used <= more_than || !is_whole(reader.table(), item.id, item.body, depth) {
         return None;
     }
     Some(item)
@@ -119,7 +123,7 @@ pub(crate) fn show_large<W: Write>(
         return Ok(false);
     }
     let depth = shown_depth(reader);
-    let Some(item) = large_item(reader, depth) else {
+    let Some(item) = whole_item(reader, depth, MOST_GATHERED) else {
         return Ok(false);
     };
     let used = item.used;

@@ -1,6 +1,6 @@
 //! Values of a stream received as values of a wanted type.
 
-ghost use Rattle.std.specs.Prelude.{◌≡◌, IfErr, IfOk, IfSome, OnOk};
+ghost use Rattle.std.specs.Prelude.{◌≡◌, IfErr, IfOk, IfSome, IsTrue, OnOk};
 ghost use Rattle.gob_types.specs.Defined.{types};
 ghost use Rattle.gob_types.specs.Ready.{IsReady};
 ghost use Rattle.gob_types.specs.Table.{Table as Types};
@@ -9,10 +9,12 @@ ghost use Rattle.gob_value.specs.Within.{FitsWithin};
 ghost use Rattle.gob_match.specs.Calls.Matched.{IsMatchOf, IsSound};
 ghost use Rattle.gob_match.specs.Matching.{Match};
 ghost use Rattle.gob_match.specs.Received.{Receives};
+ghost use Rattle.gob_match.specs.ReceivedWhole.{ReceivesWhole};
 ghost use Rattle.gob_match.specs.Faults.{IsMatchFault};
 ghost use Rattle.gob_tool.specs.Machine.Receiver.{IsKnown, IsReceiver, IsSameReceiver};
 
-use gob_match::{KeptMatch, MatchFault, Matched, match_types, receive};
+use gob_match::{KeptMatch, MatchFault, Matched, match_types, receive, receive_whole};
+use gob_stream::Whole;
 use gob_types::{Table, TypeId};
 use gob_value::Value;
 use std::alloc::Global;
@@ -63,6 +65,35 @@ impl<'a> Receiver<'a> {
         let last = self.last.take();
         let matched = match_again(alloc, last, stream, id, self.wanted, self.wanted_id)?;
         let received = receive(alloc, &matched, value)?;
+        self.last = Some(KeptMatch::of(matched));
+        Ok(received)
+    }
+
+    /// Makes in `room` the bytes of what is received of the value of a whole item of the stream. False says nothing,
+    /// and a tree is needed.
+    pub(crate) fn receive_whole(
+        &mut self,
+        alloc: Global,
+        stream: &Table,
+        item: &Whole<'_>,
+        depth: u64,
+        room: &mut Vec<u8>,
+    ) -> Result<bool, MatchFault>
+        requires receiver { IsReceiver (types stream.now) self.old }
+        requires ready { IsReady (types stream.now) item.now.id }
+        requires wanted_ready { IsReady (types self.old.wanted.now) self.old.wanted_id }
+        ensures receiver { OnOk result (IsReceiver (types stream.now) self.new) }
+        ensures same { IsSameReceiver self.old self.new }
+        ensures matched { OnOk result (Match (types stream.now) (types self.old.wanted.now) item.now.id
+            self.old.wanted_id) }
+        ensures received { IfOk result (λ done. IsTrue done → ReceivesWhole (types stream.now)
+            (types self.old.wanted.now) item.now.id self.old.wanted_id depth item.now.body.now room.new.items) }
+        ensures fault { IfErr result (IsMatchFault (types stream.now) (types self.old.wanted.now) item.now.id
+            self.old.wanted_id) }
+    {
+        let last = self.last.take();
+        let matched = match_again(alloc, last, stream, item.id, self.wanted, self.wanted_id)?;
+        let received = receive_whole(alloc, &matched, item.body, depth, room);
         self.last = Some(KeptMatch::of(matched));
         Ok(received)
     }

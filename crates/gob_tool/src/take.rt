@@ -97,7 +97,7 @@ fn take_values<R: Read, W: Write>(
     let mut reader = StreamReader::<TreeBuilder>::new(alloc, limits)?;
     let mut receiver = Receiver::new(wanted, wanted_id);
     let mut line = Vec::new(alloc);
-    'values: while reader.more(input)? {
+    'values: while reader.fill(input)? {
         take_next(alloc, &mut reader, &mut receiver, &mut line, output)?;
         flush_before_waiting(&reader, output)?;
     }

@@ -61,6 +61,11 @@ fn stream(alloc: Global, row: &Row) -> Result<Vec<u8>, AllocError> {
     repeated(alloc, row.head, row.part, TAIL)
 }
 
+/// The stream of the records.
+pub(crate) fn records(alloc: Global) -> Result<Vec<u8>, AllocError> {
+    stream(alloc, &RECORDS)
+}
+
 fn lines(alloc: Global, row: &Row) -> Result<Vec<u8>, AllocError> {
     repeated(
         alloc,

@@ -21,6 +21,8 @@ mod large_items;
 #[cfg(test)]
 mod large_rewrites;
 #[cfg(test)]
+mod large_takes;
+#[cfg(test)]
 mod lines;
 #[cfg(test)]
 mod nested;

@@ -58,6 +58,13 @@ pub(crate) fn is_taken<Q: Read + Drop, R: Read + Drop>(
 // stream stands as its bytes, or by its name here. Empty parts at the end of a row are left out.
 const ROWS: &str = "
 B of A and B | B_AND_C | A_AND_B | {\"type\":65,\"value\":[[0,\"B\",2]]}
+B and A are wanted, in this order | \
+1b ff 81 03 01 01 01 57 01 ff 82 00 01 02 01 01 42 01 04 00 01 01 41 01 04 00 00 00 \
+03 ff 82 00 | A_AND_B | {\"type\":65,\"value\":[[0,\"B\",2],[1,\"A\",1]]}
+values with one field and with none | B_AND_C | \
+1b ff 81 03 01 01 01 53 01 ff 82 00 01 02 01 01 41 01 04 00 01 01 42 01 04 00 00 00 \
+05 ff 82 01 02 00 03 ff 82 00 05 ff 82 02 04 00 | \
+{\"type\":65,\"value\":[]} / {\"type\":65,\"value\":[]} / {\"type\":65,\"value\":[[0,\"B\",2]]}
 no input | B_AND_C
 two ints | 03 04 00 06 03 02 00 01 | 03 04 00 08 03 04 00 0a | {\"type\":2,\"value\":4} / {\"type\":2,\"value\":5}
 B int, and B uint is wanted | 1b ff 81 03 01 01 01 57 01 ff 82 00 01 02 01 01 41 01 04 00 01 01 42 01 06 00 00 00 \

@@ -50,7 +50,7 @@ pub sent_counts : (old mid new : ℕ) (r : Result (Unit {0}) WriteFault) → mid
 sent_counts old mid new r e p = subst (λ n. CountsWriterFaults n new r) e p
 
 -- an item that waits whole, with a value no deeper than this
-pub record IsLargeItem (r : Trees) (depth : ℕ) (id : TypeId) (body : List ℕ) (used : ℕ) : Type 0 where
+pub record IsWholeItem (r : Trees) (depth : ℕ) (id : TypeId) (body : List ℕ) (used : ℕ) : Type 0 where
   pub between : IsBetweenItems (session_of r)
   pub next : HasBodyNext (session_of r) id body used (waits_in r)
   pub whole : IsWhole (types_of (session_of r)) id depth body

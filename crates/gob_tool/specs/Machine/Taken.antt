@@ -1,5 +1,5 @@
 -- Where a run stands that receives the values of what it reads. For private clauses.
-use Rattle.std.specs.Prelude.{◌≡◌, ℕ, ◌<◌, ◌≤◌, List, [], ◌∷◌, Option, Some, None, Result, Ok, Err}
+use Rattle.std.specs.Prelude.{◌≡◌, ℕ, ◌<◌, ◌≤◌, Bool, true, false, List, [], ◌∷◌, Option, Some, None, Result, Ok, Err}
 use Rattle.std.specs.Io.KnownBytes.{Appends, Keeps}
 use Rattle.gob_types.specs.Ready.{IsReady}
 use Rattle.gob_types.specs.Table.{Table}
@@ -7,6 +7,7 @@ use Rattle.gob_types.specs.declared.id.TypeId.{TypeId}
 use Rattle.gob_match.specs.Clashing.{IsLeastClash}
 use Rattle.gob_read.specs.Calls.Builders.{tree_building}
 use Rattle.gob_value.specs.Tree.{Tree}
+use Rattle.gob_value.specs.Whole.{IsWhole}
 use Rattle.gob_value.specs.Within.{FitsWithin}
 use Rattle.gob_value.specs.declared.value.Value.{Value}
 use Rattle.gob_stream.specs.Bounds.{Bounds, within_trees}
@@ -60,25 +61,39 @@ WritesText old new text (Err fault.Write) = AppendsPrefix old new text
 WritesText old new text (Err fault.Memory) = Keeps old new
 WritesText old new text (Err _) = ⊥
 
--- what was given is a value whose type clashes
-pub record Clashes (given : Option (declared.Item Value)) (Clash : TypeId → Type 0) : Type 0 where
+-- the items are one value whose type clashes
+pub record Clashes (items : List StreamItem) (Clash : TypeId → Type 0) : Type 0 where
   pub id : TypeId
-  pub value : Value
-  pub is : given ≡ Some (variant.Put id value)
+  pub value : Tree
+  pub is : items ≡ puts id value ∷ []
   pub clash : Clash id
 
--- the line of what is received of what was given went out; or this stopped it
-abbrev pub TakesGiven : (T U : Table) → TypeId → (given : Option (declared.Item Value)) → (old new : Option (List ℕ))
+-- the lines of what is received of the items went out; or this stopped it
+abbrev pub TakesItems : (T U : Table) → TypeId → List StreamItem → (old new : Option (List ℕ))
     → Result (Unit {0}) ToolFault → Type 0
-TakesGiven T U u given old new (Ok _) = HasTakenItems T U u (views_given given) (Appends old new)
-TakesGiven T U u given old new (Err (fault.Clash path reason)) = Keeps old new
-    × Clashes given (λ t. IsLeastClash T U t u path.items reason)
-TakesGiven T U u given old new (Err fault.Write) = HasTakenItems T U u (views_given given) (AppendsPrefix old new)
-TakesGiven T U u given old new (Err fault.Memory) = Keeps old new
-TakesGiven T U u given old new (Err (fault.Refused R)) = ⊥
-TakesGiven T U u given old new (Err (fault.Wanted R)) = ⊥
-TakesGiven T U u given old new (Err fault.NoWantedType) = ⊥
-TakesGiven T U u given old new (Err fault.Read) = ⊥
+TakesItems T U u items old new (Ok _) = HasTakenItems T U u items (Appends old new)
+TakesItems T U u items old new (Err (fault.Clash path reason)) = Keeps old new
+    × Clashes items (λ t. IsLeastClash T U t u path.items reason)
+TakesItems T U u items old new (Err fault.Write) = HasTakenItems T U u items (AppendsPrefix old new)
+TakesItems T U u items old new (Err fault.Memory) = Keeps old new
+TakesItems T U u items old new (Err (fault.Refused R)) = ⊥
+TakesItems T U u items old new (Err (fault.Wanted R)) = ⊥
+TakesItems T U u items old new (Err fault.NoWantedType) = ⊥
+TakesItems T U u items old new (Err fault.Read) = ⊥
+
+-- the item that puts a value which the body is was taken so; or nothing was done
+abbrev pub TakesBody : (T U : Table) → TypeId → (id : TypeId) → (depth : ℕ) → (body : List ℕ)
+    → (old new : Option (List ℕ)) → Result Bool ToolFault → Type 0
+TakesBody T U u id depth body old new (Ok true) = (w : IsWhole T id depth body)
+    × TakesItems T U u (puts id w.value ∷ []) old new (Ok tt)
+TakesBody T U u id depth body old new (Ok false) = Unit {0}
+TakesBody T U u id depth body old new (Err f) = (w : IsWhole T id depth body)
+    × TakesItems T U u (puts id w.value ∷ []) old new (Err f)
+
+-- the output is as it was, where nothing was done
+abbrev pub IsUntouched : {A : Type 0} → (old new : A) → Result Bool ToolFault → Type 0
+IsUntouched old new (Ok false) = new ≡ old
+IsUntouched old new _ = Unit {0}
 
 -- of an input that had the first bytes and has the second ones left, the lines of what is received of the values that
 -- were taken went out
@@ -97,6 +112,13 @@ TakesNext r r' U u read now old new (Err f) = ((bytes : List ℕ) → read ≡ S
     → Receiving (within_trees (limits_of (session_of r))) bytes now U u (Appends old new) (AppendsPrefix old new)
     (Err f))
     × ((failures : ℕ) → CountsReadFaults failures failures (Err f))
+
+-- a value that waited as a whole was; or nothing was done
+abbrev pub TakesWhole : (r r' : Trees) → Table → TypeId → (read now old new : Option (List ℕ)) → Result Bool ToolFault
+    → Type 0
+TakesWhole r r' U u read now old new (Ok true) = TakesNext r r' U u read now old new (Ok tt)
+TakesWhole r r' U u read now old new (Ok false) = Unit {0}
+TakesWhole r r' U u read now old new (Err f) = TakesNext r r' U u read now old new (Err f)
 
 -- ---- the wanted stream
 -- what was read of it, and the type of its first value so far

@@ -4,7 +4,7 @@ use Rattle.std.specs.Io.KnownBytes.{Appends}
 use Rattle.gob_types.specs.Defined.{types}
 use Rattle.gob_value.specs.View.{view}
 use Rattle.gob_stream.specs.Calls.Ends.{writer_of}
-use Rattle.gob_tool.specs.Machine.Taken.{AreSent, TakesGiven, WritesText, views_given}
+use Rattle.gob_tool.specs.Machine.Taken.{AreSent, TakesItems, WritesText, views_given}
 use Rattle.gob_tool.specs.Taking.{HasTakenItems}
 use Rattle.gob_tool.proofs.TakeRuns.{definition_taken, line_as, nothing_taken, sent_ready, value_taken}
 use Rattle.gob_tool.proofs.received.write_received.Goals as goal
@@ -37,8 +37,10 @@ returns-in_ok-value-in-Put-clause-taken g c =
     let r = c.args.receiver.now in
     let x = c.in_ok-value-in-Put in
     let same = c.receive.ensures.same in
-    subst (λ o. TakesGiven (types c.args.stream.now) (types r.wanted.now) r.wanted_id o old new c.write_line.result)
+    subst (λ o. TakesItems (types c.args.stream.now) (types r.wanted.now) r.wanted_id (views_given o) old new
+    c.write_line.result)
     (sym (c.in-Some.is ∙ ap Some c.in-Put.is))
-    (value_taken c.in-Put.id _ (view x.value) old new c.write_line.result x.ensures.matched x.ensures.received
+    (value_taken c.in-Put.id (view c.in-Put.value) (view x.value) old new c.write_line.result x.ensures.matched
+    x.ensures.received
     (subst (λ l. WritesText old new l c.write_line.result)
     (line_as (view x.value) (ap (λ d. types d) same.wanted) same.wanted_id) c.write_line.ensures.written))

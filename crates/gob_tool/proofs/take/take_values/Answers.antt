@@ -47,42 +47,42 @@ values-init g c =
       c.new-receiver.ensures.receiver (types_of (session_of c.in_ok-reader.reader)),
     )
 
-pub returns-in_err-more-clause-taken : goal.returns-in_err-more-clause-taken
-returns-in_err-more-clause-taken g c = λ bytes known.
+pub returns-in_err-fill-clause-taken : goal.returns-in_err-fill-clause-taken
+returns-in_err-fill-clause-taken g c = λ bytes known.
     let i = c.values.invariant in
     let p = i.3 in
-    let e = c.in_err-more.field-0.0 in
+    let e = c.in_err-fill.field-0.0 in
     let read = g.R.Read.remaining (reader_of c.args.input.now) in
-    let next = g.R.Read.remaining (reader_of c.more.new.input) in
+    let next = g.R.Read.remaining (reader_of c.fill.new.input) in
     let old = g.W.Write.contents (writer_of c.args.output.now) in
     let out = g.W.Write.contents (writer_of c.values.output) in
     let s = session_of c.values.reader in
     let U = types c.args.wanted.now in
     at_error (λ r. Receiving (within_trees c.args.limits) bytes next U c.args.wanted_id (Appends old out)
     (AppendsPrefix old out) r)
-    c.from_residual-in_err-more.result (reading_fault e) c.from_residual-in_err-more.ensures.1
+    c.from_residual-in_err-fill.result (reading_fault e) c.from_residual-in_err-fill.ensures.1
     (receiving_under (limits_of s) c.args.limits bytes next U c.args.wanted_id (Appends old out) (AppendsPrefix old out)
     (Err (reading_fault e)) i.0
     (received_stops (within_trees (limits_of s)) (types_of s) U c.args.wanted_id p.given bytes next (Appends old out)
-    (AppendsPrefix old out) e (c.in_err-more.ensures.filled read p.given p.has bytes known) p.taken))
+    (AppendsPrefix old out) e (c.in_err-fill.ensures.filled read p.given p.has bytes known) p.taken))
 
-pub returns-in_err-more-clause-reads : goal.returns-in_err-more-clause-reads
-returns-in_err-more-clause-reads g c =
+pub returns-in_err-fill-clause-reads : goal.returns-in_err-fill-clause-reads
+returns-in_err-fill-clause-reads g c =
     let i = c.values.invariant in
-    let e = c.in_err-more.field-0.0 in
-    at_error (λ r. CountsReadFaults (failed_reads c.args.input.now) (failed_reads c.more.new.input) r)
-    c.from_residual-in_err-more.result (reading_fault e) c.from_residual-in_err-more.ensures.1
-    (stop_faults Bool (failed_reads c.args.input.now) (failed_reads c.values.input) (failed_reads c.more.new.input) e
+    let e = c.in_err-fill.field-0.0 in
+    at_error (λ r. CountsReadFaults (failed_reads c.args.input.now) (failed_reads c.fill.new.input) r)
+    c.from_residual-in_err-fill.result (reading_fault e) c.from_residual-in_err-fill.ensures.1
+    (stop_faults Bool (failed_reads c.args.input.now) (failed_reads c.values.input) (failed_reads c.fill.new.input) e
     i.1
-    c.in_err-more.ensures.counted)
+    c.in_err-fill.ensures.counted)
 
 pub take_next-requires-clause-read : goal.take_next-requires-clause-read
 take_next-requires-clause-read g c =
     let p = c.values.invariant.3 in
     let read = g.R.Read.remaining (reader_of c.args.input.now) in
-    let next = g.R.Read.remaining (reader_of c.more.new.input) in
-    let on = goes_on tree_building (session_of c.values.reader) c.more.new.self read next p.given c.in_ok-more.field-0
-    c.if-branch.true (c.in_ok-more.ensures.filled read p.given p.has) in
+    let next = g.R.Read.remaining (reader_of c.fill.new.input) in
+    let on = goes_on tree_building (session_of c.values.reader) c.fill.new.self read next p.given c.in_ok-fill.field-0
+    c.if-branch.true (c.in_ok-fill.ensures.filled read p.given p.has) in
     record { items = p.given; bytes = on.0.taken; gave = on.0.gave; room = on.0.room }
 
 pub take_next-requires-clause-receiver : goal.take_next-requires-clause-receiver
@@ -90,9 +90,9 @@ take_next-requires-clause-receiver g c =
     let i = c.values.invariant in
     let p = i.3 in
     let read = g.R.Read.remaining (reader_of c.args.input.now) in
-    let next = g.R.Read.remaining (reader_of c.more.new.input) in
-    let on = goes_on tree_building (session_of c.values.reader) c.more.new.self read next p.given c.in_ok-more.field-0
-    c.if-branch.true (c.in_ok-more.ensures.filled read p.given p.has) in
+    let next = g.R.Read.remaining (reader_of c.fill.new.input) in
+    let on = goes_on tree_building (session_of c.values.reader) c.fill.new.self read next p.given c.in_ok-fill.field-0
+    c.if-branch.true (c.in_ok-fill.ensures.filled read p.given p.has) in
     subst (λ (T : Table). IsReceiver T c.values.receiver) (sym on.2) i.6
 
 pub take_next-requires-clause-ready : goal.take_next-requires-clause-ready
@@ -104,32 +104,32 @@ values-smaller g c =
     let i = c.values.invariant in
     let p = i.3 in
     let read = g.R.Read.remaining (reader_of c.args.input.now) in
-    let next = g.R.Read.remaining (reader_of c.more.new.input) in
+    let next = g.R.Read.remaining (reader_of c.fill.new.input) in
     let old = g.W.Write.contents (writer_of c.args.output.now) in
     let out = g.W.Write.contents (writer_of c.values.output) in
     let new = g.W.Write.contents (writer_of c.take_next.new.output) in
-    let on = goes_on tree_building (session_of c.values.reader) c.more.new.self read next p.given c.in_ok-more.field-0
-    c.if-branch.true (c.in_ok-more.ensures.filled read p.given p.has) in
-    let n = next_as c.more.new.self c.take_next.new.reader read next old out new (Ok c.in_ok-take_next.field-0)
+    let on = goes_on tree_building (session_of c.values.reader) c.fill.new.self read next p.given c.in_ok-fill.field-0
+    c.if-branch.true (c.in_ok-fill.ensures.filled read p.given p.has) in
+    let n = next_as c.fill.new.self c.take_next.new.reader read next old out new (Ok c.in_ok-take_next.field-0)
     (ap (λ d. types d) i.4) i.5 (c.in_ok-take_next.ensures.taken read next old) (takes_filled p on.2 on.0) in
     takes_fall c.values.reader (taken_of (session_of c.values.reader))
-    (c.in_ok-take_next.ensures.limits ∙ c.in_ok-more.ensures.limits) n.0 (omega (arith, on.1, n.1))
+    (c.in_ok-take_next.ensures.limits ∙ c.in_ok-fill.ensures.limits) n.0 (omega (arith, on.1, n.1))
 
 pub values-preserved : goal.values-preserved
 values-preserved g c =
     let i = c.values.invariant in
     let p = i.3 in
     let read = g.R.Read.remaining (reader_of c.args.input.now) in
-    let next = g.R.Read.remaining (reader_of c.more.new.input) in
+    let next = g.R.Read.remaining (reader_of c.fill.new.input) in
     let old = g.W.Write.contents (writer_of c.args.output.now) in
     let out = g.W.Write.contents (writer_of c.values.output) in
     let new = g.W.Write.contents (writer_of c.take_next.new.output) in
-    let on = goes_on tree_building (session_of c.values.reader) c.more.new.self read next p.given c.in_ok-more.field-0
-    c.if-branch.true (c.in_ok-more.ensures.filled read p.given p.has) in
-    let n = next_as c.more.new.self c.take_next.new.reader read next old out new (Ok c.in_ok-take_next.field-0)
+    let on = goes_on tree_building (session_of c.values.reader) c.fill.new.self read next p.given c.in_ok-fill.field-0
+    c.if-branch.true (c.in_ok-fill.ensures.filled read p.given p.has) in
+    let n = next_as c.fill.new.self c.take_next.new.reader read next old out new (Ok c.in_ok-take_next.field-0)
     (ap (λ d. types d) i.4) i.5 (c.in_ok-take_next.ensures.taken read next old) (takes_filled p on.2 on.0) in (
-      c.in_ok-take_next.ensures.limits ∙ c.in_ok-more.ensures.limits ∙ i.0,
-      c.in_ok-more.ensures.counted ∙ i.1,
+      c.in_ok-take_next.ensures.limits ∙ c.in_ok-fill.ensures.limits ∙ i.0,
+      c.in_ok-fill.ensures.counted ∙ i.1,
       c.in_ok-flush_before_waiting.ensures.counted ∙ c.in_ok-take_next.ensures.writes ∙ i.2,
       takes_flushed n.0 c.in_ok-flush_before_waiting.ensures.bytes,
       c.in_ok-take_next.ensures.same.wanted ∙ i.4,
@@ -143,21 +143,21 @@ returns-in_err-take_next-clause-taken g c = λ bytes known.
     let p = i.3 in
     let f = c.in_err-take_next.field-0.0 in
     let read = g.R.Read.remaining (reader_of c.args.input.now) in
-    let next = g.R.Read.remaining (reader_of c.more.new.input) in
+    let next = g.R.Read.remaining (reader_of c.fill.new.input) in
     let old = g.W.Write.contents (writer_of c.args.output.now) in
     let out = g.W.Write.contents (writer_of c.values.output) in
     let new = g.W.Write.contents (writer_of c.take_next.new.output) in
     let U = types c.args.wanted.now in
-    let on = goes_on tree_building (session_of c.values.reader) c.more.new.self read next p.given c.in_ok-more.field-0
-    c.if-branch.true (c.in_ok-more.ensures.filled read p.given p.has) in
-    let n = next_as c.more.new.self c.take_next.new.reader read next old out new (Err f) (ap (λ d. types d) i.4) i.5
+    let on = goes_on tree_building (session_of c.values.reader) c.fill.new.self read next p.given c.in_ok-fill.field-0
+    c.if-branch.true (c.in_ok-fill.ensures.filled read p.given p.has) in
+    let n = next_as c.fill.new.self c.take_next.new.reader read next old out new (Err f) (ap (λ d. types d) i.4) i.5
     (c.in_err-take_next.ensures.taken read next old) (takes_filled p on.2 on.0) in
     at_error (λ r. Receiving (within_trees c.args.limits) bytes next U c.args.wanted_id (Appends old new)
     (AppendsPrefix old new) r)
     c.from_residual-in_err-take_next.result f c.from_residual-in_err-take_next.ensures.1
-    (receiving_under (limits_of (session_of c.more.new.self)) c.args.limits bytes next U c.args.wanted_id
+    (receiving_under (limits_of (session_of c.fill.new.self)) c.args.limits bytes next U c.args.wanted_id
     (Appends old new)
-    (AppendsPrefix old new) (Err f) (c.in_ok-more.ensures.limits ∙ i.0) (n.0 bytes known))
+    (AppendsPrefix old new) (Err f) (c.in_ok-fill.ensures.limits ∙ i.0) (n.0 bytes known))
 
 pub returns-in_err-take_next-clause-reads : goal.returns-in_err-take_next-clause-reads
 returns-in_err-take_next-clause-reads g c =
@@ -165,17 +165,17 @@ returns-in_err-take_next-clause-reads g c =
     let p = i.3 in
     let f = c.in_err-take_next.field-0.0 in
     let read = g.R.Read.remaining (reader_of c.args.input.now) in
-    let next = g.R.Read.remaining (reader_of c.more.new.input) in
+    let next = g.R.Read.remaining (reader_of c.fill.new.input) in
     let old = g.W.Write.contents (writer_of c.args.output.now) in
     let out = g.W.Write.contents (writer_of c.values.output) in
     let new = g.W.Write.contents (writer_of c.take_next.new.output) in
-    let on = goes_on tree_building (session_of c.values.reader) c.more.new.self read next p.given c.in_ok-more.field-0
-    c.if-branch.true (c.in_ok-more.ensures.filled read p.given p.has) in
-    let n = next_as c.more.new.self c.take_next.new.reader read next old out new (Err f) (ap (λ d. types d) i.4) i.5
+    let on = goes_on tree_building (session_of c.values.reader) c.fill.new.self read next p.given c.in_ok-fill.field-0
+    c.if-branch.true (c.in_ok-fill.ensures.filled read p.given p.has) in
+    let n = next_as c.fill.new.self c.take_next.new.reader read next old out new (Err f) (ap (λ d. types d) i.4) i.5
     (c.in_err-take_next.ensures.taken read next old) (takes_filled p on.2 on.0) in
-    at_error (λ r. CountsReadFaults (failed_reads c.args.input.now) (failed_reads c.more.new.input) r)
+    at_error (λ r. CountsReadFaults (failed_reads c.args.input.now) (failed_reads c.fill.new.input) r)
     c.from_residual-in_err-take_next.result f c.from_residual-in_err-take_next.ensures.1
-    (faults_still (failed_reads c.args.input.now) (failed_reads c.more.new.input) (Err f) (c.in_ok-more.ensures.counted
+    (faults_still (failed_reads c.args.input.now) (failed_reads c.fill.new.input) (Err f) (c.in_ok-fill.ensures.counted
     ∙ i.1) n.1)
 
 pub returns-clause-taken : goal.returns-clause-taken
@@ -183,17 +183,17 @@ returns-clause-taken g c = λ bytes known.
     let i = c.values.invariant in
     let p = i.3 in
     let read = g.R.Read.remaining (reader_of c.args.input.now) in
-    let next = g.R.Read.remaining (reader_of c.more.new.input) in
+    let next = g.R.Read.remaining (reader_of c.fill.new.input) in
     let old = g.W.Write.contents (writer_of c.args.output.now) in
     let out = g.W.Write.contents (writer_of c.values.output) in
     let s = session_of c.values.reader in
-    let end = has_ended tree_building s c.more.new.self read next p.given c.in_ok-more.field-0 c.if-branch.false
-    (c.in_ok-more.ensures.filled read p.given p.has) in
+    let end = has_ended tree_building s c.fill.new.self read next p.given c.in_ok-fill.field-0 c.if-branch.false
+    (c.in_ok-fill.ensures.filled read p.given p.has) in
     receiving_under (limits_of s) c.args.limits bytes next (types c.args.wanted.now) c.args.wanted_id (Appends old out)
     (AppendsPrefix old out) (Ok tt) i.0 (received_whole p (end.0 bytes known))
 
 pub returns-clause-reads : goal.returns-clause-reads
-returns-clause-reads g c = c.in_ok-more.ensures.counted ∙ c.values.invariant.1
+returns-clause-reads g c = c.in_ok-fill.ensures.counted ∙ c.values.invariant.1
 
 pub returns-in_err-flush_before_waiting-clause-taken : goal.returns-in_err-flush_before_waiting-clause-taken
 returns-in_err-flush_before_waiting-clause-taken g c = λ bytes known.
@@ -201,15 +201,15 @@ returns-in_err-flush_before_waiting-clause-taken g c = λ bytes known.
     let p = i.3 in
     let e = c.in_err-flush_before_waiting.field-0.0 in
     let read = g.R.Read.remaining (reader_of c.args.input.now) in
-    let next = g.R.Read.remaining (reader_of c.more.new.input) in
+    let next = g.R.Read.remaining (reader_of c.fill.new.input) in
     let old = g.W.Write.contents (writer_of c.args.output.now) in
     let out = g.W.Write.contents (writer_of c.values.output) in
     let mid = g.W.Write.contents (writer_of c.take_next.new.output) in
     let new = g.W.Write.contents (writer_of c.flush_before_waiting.new.output) in
     let U = types c.args.wanted.now in
-    let on = goes_on tree_building (session_of c.values.reader) c.more.new.self read next p.given c.in_ok-more.field-0
-    c.if-branch.true (c.in_ok-more.ensures.filled read p.given p.has) in
-    let n = next_as c.more.new.self c.take_next.new.reader read next old out mid (Ok c.in_ok-take_next.field-0)
+    let on = goes_on tree_building (session_of c.values.reader) c.fill.new.self read next p.given c.in_ok-fill.field-0
+    c.if-branch.true (c.in_ok-fill.ensures.filled read p.given p.has) in
+    let n = next_as c.fill.new.self c.take_next.new.reader read next old out mid (Ok c.in_ok-take_next.field-0)
     (ap (λ d. types d) i.4) i.5 (c.in_ok-take_next.ensures.taken read next old) (takes_filled p on.2 on.0) in
     let so = takes_flushed n.0 c.in_err-flush_before_waiting.ensures.bytes in
     at_error (λ r. Receiving (within_trees c.args.limits) bytes next U c.args.wanted_id (Appends old new)
@@ -218,18 +218,18 @@ returns-in_err-flush_before_waiting-clause-taken g c = λ bytes known.
     c.from_residual-in_err-flush_before_waiting.ensures.1
     (receiving_under (limits_of (session_of c.take_next.new.reader)) c.args.limits bytes next U c.args.wanted_id
     (Appends old new)
-    (AppendsPrefix old new) (Err (writing_fault e)) (c.in_ok-take_next.ensures.limits ∙ c.in_ok-more.ensures.limits
+    (AppendsPrefix old new) (Err (writing_fault e)) (c.in_ok-take_next.ensures.limits ∙ c.in_ok-fill.ensures.limits
     ∙ i.0)
     (rw c.in_err-flush_before_waiting.ensures.fault (takes_unflushed so bytes known)))
 
 pub returns-in_err-flush_before_waiting-clause-reads : goal.returns-in_err-flush_before_waiting-clause-reads
 returns-in_err-flush_before_waiting-clause-reads g c =
     let e = c.in_err-flush_before_waiting.field-0.0 in
-    at_error (λ r. CountsReadFaults (failed_reads c.args.input.now) (failed_reads c.more.new.input) r)
+    at_error (λ r. CountsReadFaults (failed_reads c.args.input.now) (failed_reads c.fill.new.input) r)
     c.from_residual-in_err-flush_before_waiting.result (writing_fault e)
     c.from_residual-in_err-flush_before_waiting.ensures.1
-    (reads_unread (failed_reads c.args.input.now) (failed_reads c.more.new.input) (Err (writing_fault e))
-    (c.in_ok-more.ensures.counted ∙ c.values.invariant.1) (writing_unread e))
+    (reads_unread (failed_reads c.args.input.now) (failed_reads c.fill.new.input) (Err (writing_fault e))
+    (c.in_ok-fill.ensures.counted ∙ c.values.invariant.1) (writing_unread e))
 
 pub returns-in_err-flush_before_waiting-clause-writes : goal.returns-in_err-flush_before_waiting-clause-writes
 returns-in_err-flush_before_waiting-clause-writes g c =
