@@ -50,8 +50,8 @@ impl Length {
 
 /// Makes in `received` the bytes of what is received of the value that `body` spells; each stands behind its tag where
 /// it isn't a struct. True says that `body` spells a value of the stream's type, no deeper than `depth`, and that these
-/// are the bytes. False says nothing: there may be no such value, or one that is deeper than 1000, or in which more than
-/// 16 structs whose fields have another order than the wanted ones stand in one another, or memory was wanting.
+/// are the bytes. False says nothing: there may be no such value, or one that is deeper than 1000, or in which more
+/// than 16 structs whose fields have another order than the wanted ones stand in one another, or memory was wanting.
 pub fn receive_whole<S: Shapes, T: Shapes>(
     alloc: Global,
     matched: &Matched<'_, S, T>,

@@ -23,12 +23,7 @@ const HEAD_LINE: &[u8] = b"{\"type\":65,\"value\":[[]";
 const DUE: &[u8] = b"gob: clash 33 DifferentKind at top";
 
 // Whether the records are received as values of the wanted type, each with this text, from so many bytes a read.
-fn are_taken(
-    alloc: Global,
-    wanted: &[u8],
-    text: &[u8],
-    most: usize,
-) -> Result<bool, AllocError> {
+fn are_taken(alloc: Global, wanted: &[u8], text: &[u8], most: usize) -> Result<bool, AllocError> {
     let lines = repeated(alloc, HEAD_LINE, text, b"]}\n")?;
     let reader = PieceReader::new(records(alloc)?, most, usize::MAX);
     Ok(is_taken(alloc, wanted, reader, &lines, DUE))
@@ -38,9 +33,15 @@ fn are_taken(
 fn a_large_item_is_taken(rt: HostRuntime) -> Result<(), Fail> {
     let alloc = rt.alloc();
     for most in [7usize, 65536] {
-        assert!(rt; are_taken(alloc, B_ALONE, b",[[0,\"B\",\"x\\\"y\"]]", most)?, "one field, {most} a read");
+        assert!(rt;
+            are_taken(alloc, B_ALONE, b",[[0,\"B\",\"x\\\"y\"]]", most)?,
+            "one field, {most} a read"
+        );
         let text = b",[[0,\"B\",\"x\\\"y\"],[1,\"A\",5]]";
-        assert!(rt; are_taken(alloc, B_AND_A, text, most)?, "another order, {most} a read");
+        assert!(rt;
+            are_taken(alloc, B_AND_A, text, most)?,
+            "another order, {most} a read"
+        );
     }
     Ok(())
 }

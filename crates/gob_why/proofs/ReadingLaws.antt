@@ -134,7 +134,8 @@ piece_stops M next piece reading.Failed same h c f bytes known = absurd f
 
 -- the end of the input within an item
 pub end_stops : {s : Skips} {n m : ℕ} {read now : Option (List ℕ)} (s' : Skips) (M : Bounds)
-    (next : Option (List ℕ)) (e : Fault) → s.limits ≡ M → (h : HasTaken s n m read now) → Consumes now next [] → IsAtEnd next
+    (next : Option (List ℕ)) (e : Fault) → s.limits ≡ M → (h : HasTaken s n m read now)
+    → Consumes now next [] → IsAtEnd next
     → FinishAnswers skip_building s s' h.counted.given h.taken (Err e) → (bytes : List ℕ) → read ≡ Some bytes
     → IsNoStream (no_deeper deepest M) bytes next (reading_fault e)
 end_stops {s = s} {now = now} s' M next (reading.Refused R) same h c end f bytes known =

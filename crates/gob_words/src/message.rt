@@ -57,7 +57,8 @@ pub fn escaped(alloc: Global, text: &str) -> Result<String, AllocError>
 
 // Appends a character: as it is, or where a terminal obeys it by its number.
 fn push_escaped(character: char, line: &mut String) -> Result<(), AllocError>
-    ensures { OnOk result (string_bytes line.new ≡ string_bytes line.old ++ encode_utf8_all (escaped_character character)) }
+    ensures { OnOk result
+        (string_bytes line.new ≡ string_bytes line.old ++ encode_utf8_all (escaped_character character)) }
 {
     if is_obeyed(character) {
         let number = u32::from(character);

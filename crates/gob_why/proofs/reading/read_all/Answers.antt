@@ -43,7 +43,10 @@ returns-in_err-finish-clause-counted g c = λ bytes known.
     let zero = c.if-count-eq0.true in
     at_error (λ r. EndsCounting tally_line (no_deeper deepest M) bytes next r) c.from_residual-in_err-finish.result
     (reading_fault e) c.from_residual-in_err-finish.ensures.1
-    (end_stops c.finish.new.self M next e i.0 i.2 (none_came (g.R.Read.remaining (reader_of c.pieces.input)) (g.R.Read.remaining (reader_of c.read_piece.new.input)) c.read_piece.new.piece.items c.in_ok-count.count zero c.in_ok-count.ensures.read)
+    (end_stops c.finish.new.self M next e i.0 i.2
+    (none_came (g.R.Read.remaining (reader_of c.pieces.input))
+    (g.R.Read.remaining (reader_of c.read_piece.new.input))
+    c.read_piece.new.piece.items c.in_ok-count.count zero c.in_ok-count.ensures.read)
     (c.in_ok-count.ensures.at_end zero)
     (c.in_err-finish.ensures.finishes i.2.counted.given i.2.taken i.2.counted.gave) bytes known)
 
@@ -55,7 +58,10 @@ returns-then-count-eq0-clause-counted g c = λ bytes known.
     let zero = c.if-count-eq0.true in
     let tally : Tally = record { items = c.pieces.items; types = c.count.result; bytes = c.pieces.bytes } in
     end_counts M next c.in_ok-finish.field-0 tally i.0 i.2
-    (none_came (g.R.Read.remaining (reader_of c.pieces.input)) (g.R.Read.remaining (reader_of c.read_piece.new.input)) c.read_piece.new.piece.items c.in_ok-count.count zero c.in_ok-count.ensures.read) (c.in_ok-count.ensures.at_end zero) refl
+    (none_came (g.R.Read.remaining (reader_of c.pieces.input))
+    (g.R.Read.remaining (reader_of c.read_piece.new.input))
+    c.read_piece.new.piece.items c.in_ok-count.count zero c.in_ok-count.ensures.read)
+    (c.in_ok-count.ensures.at_end zero) refl
     (c.count.ensures.count ∙ ap (λ d. definition_count (types d)) (c.table.ensures ∙ c.in_ok-finish.ensures.types)) refl
     (c.in_ok-finish.ensures.finishes i.2.counted.given i.2.taken i.2.counted.gave) bytes known
 
@@ -68,7 +74,9 @@ returns-in_err-take_piece-clause-counted g c = λ bytes known.
     at_error (λ r. EndsCounting tally_line (no_deeper deepest M) bytes next r) c.from_residual-in_err-take_piece.result
     (reading_fault e) c.from_residual-in_err-take_piece.ensures.1
     (piece_stops M next _ e i.0 i.2
-    (piece_came (g.R.Read.remaining (reader_of c.pieces.input)) (g.R.Read.remaining (reader_of c.read_piece.new.input)) c.in_ok-count.count c.as_slice.ensures.value c.in_ok-count.ensures.read)
+    (piece_came (g.R.Read.remaining (reader_of c.pieces.input))
+    (g.R.Read.remaining (reader_of c.read_piece.new.input))
+    c.in_ok-count.count c.as_slice.ensures.value c.in_ok-count.ensures.read)
     (c.in_err-take_piece.ensures.counted i.2.taken i.2.counted) bytes known)
 
 pub overflow_add-bytes : goal.overflow_add-bytes
@@ -76,7 +84,10 @@ overflow_add-bytes g c =
     let i = c.pieces.invariant in
     let size = length-take-le c.in_ok-count.count c.as_slice.result.now
     (omega (arith, c.as_slice.ensures.len, c.in_ok-count.ensures.within)) in
-    let turn = piece_taken _ i.2 (piece_came (g.R.Read.remaining (reader_of c.pieces.input)) (g.R.Read.remaining (reader_of c.read_piece.new.input)) c.in_ok-count.count c.as_slice.ensures.value c.in_ok-count.ensures.read)
+    let turn = piece_taken _ i.2
+    (piece_came (g.R.Read.remaining (reader_of c.pieces.input))
+    (g.R.Read.remaining (reader_of c.read_piece.new.input))
+    c.in_ok-count.count c.as_slice.ensures.value c.in_ok-count.ensures.read)
     size (c.in_ok-take_piece.ensures.counted i.2.taken i.2.counted) in
     let limits = limits_as (c.in_ok-take_piece.ensures.limits ∙ i.0) c.requires.limits in
     omega (arith, bytes_within turn, limits.stream)
@@ -86,7 +97,10 @@ pieces-smaller g c =
     let i = c.pieces.invariant in
     let size = length-take-le c.in_ok-count.count c.as_slice.result.now
     (omega (arith, c.as_slice.ensures.len, c.in_ok-count.ensures.within)) in
-    let turn = piece_taken _ i.2 (piece_came (g.R.Read.remaining (reader_of c.pieces.input)) (g.R.Read.remaining (reader_of c.read_piece.new.input)) c.in_ok-count.count c.as_slice.ensures.value c.in_ok-count.ensures.read)
+    let turn = piece_taken _ i.2
+    (piece_came (g.R.Read.remaining (reader_of c.pieces.input))
+    (g.R.Read.remaining (reader_of c.read_piece.new.input))
+    c.in_ok-count.count c.as_slice.ensures.value c.in_ok-count.ensures.read)
     size (c.in_ok-take_piece.ensures.counted i.2.taken i.2.counted) in
     let stream = ap (λ (L : Bounds). L.stream) c.in_ok-take_piece.ensures.limits in
     omega (arith, bytes_within turn, stream, c.if-count-eq0.false)
@@ -96,7 +110,10 @@ pieces-preserved g c =
     let i = c.pieces.invariant in
     let size = length-take-le c.in_ok-count.count c.as_slice.result.now
     (omega (arith, c.as_slice.ensures.len, c.in_ok-count.ensures.within)) in
-    let turn = piece_taken _ i.2 (piece_came (g.R.Read.remaining (reader_of c.pieces.input)) (g.R.Read.remaining (reader_of c.read_piece.new.input)) c.in_ok-count.count c.as_slice.ensures.value c.in_ok-count.ensures.read)
+    let turn = piece_taken _ i.2
+    (piece_came (g.R.Read.remaining (reader_of c.pieces.input))
+    (g.R.Read.remaining (reader_of c.read_piece.new.input))
+    c.in_ok-count.count c.as_slice.ensures.value c.in_ok-count.ensures.read)
     size (c.in_ok-take_piece.ensures.counted i.2.taken i.2.counted) in (
       c.in_ok-take_piece.ensures.limits ∙ i.0,
       c.in_ok-count.ensures.counted ∙ i.1,
