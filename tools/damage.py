@@ -3,7 +3,8 @@
 
     tools/damage.py SEED COUNT FOLDER
 
-writes so many damaged streams of those in FOLDER, as crates/gob_show_many reads them: each with limits and how it is cut.
+writes to standard output so many damaged streams of those in FOLDER, as crates/gob_show_many reads them: each with
+limits and how it is cut.
 """
 import pathlib
 import random

@@ -1,5 +1,7 @@
 """The values of a stream as columns, by numpy: for many structs of one type. Needs numpy, and pandas for `frames`.
 
+    import gob.columns
+
     columns = gob.columns.load("records.gob")["Record"]       # {'ID': array([..]), 'Name': array([..]), ..}
     frame = gob.columns.frames("records.gob")["Record"]       # these columns as a DataFrame
 
