@@ -308,17 +308,18 @@ cut_out {s = s} {w = w} {h = h} {i = i} n {w' = w'} {old = old} {new = new} writ
       record { prefix = o.prefix; rest = o.rest; whole = refl; out = o.out },
     )
 
--- ---- a value that is its own tidy form
-pub itself_spelled : {L : Bounds} {T U : Table} {t : TypeId} {v : Tree} {body spelling : List ℕ}
-    → StandsThere (no_deeper deepest L) T U (puts t v) → SpellsTidy U t v body → Spells U t v spelling
+-- ---- a value whose tidy form stands in bytes
+pub form_there : {L : Bounds} {T U : Table} {t : TypeId} {v : Tree} {body spelling : List ℕ}
+    → StandsThere (no_deeper deepest L) T U (puts t v) → (tidy : SpellsTidy U t v body) → Spells U t tidy.form spelling
     → IsFormSpelled L T t v spelling
-itself_spelled {v = v} {spelling = spelling} s tidy spells =
+form_there {spelling = spelling} s tidy spells =
     let sent = value_sent s.counted in
     let keeps = there_keeps s in
     let here = spells_back keeps sent.ready spells in
+    let less = tidy_no_deeper tidy.tidies in
     record {
-      form = v;
-      tidies = tidies_back keeps sent.fits.spelled tidy.tidied;
-      fits = sent.fits;
-      spelled = λ ready. (here, omega (arith, sent.deep));
+      form = tidy.form;
+      tidies = tidies_back keeps sent.fits.spelled tidy.tidies;
+      fits = record { bytes = spelling; spelled = here };
+      spelled = λ ready. (here, omega (arith, sent.deep, less));
     }

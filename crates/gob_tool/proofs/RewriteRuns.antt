@@ -1,6 +1,6 @@
 -- How a run that rewrites goes on from item to item, and how it ends.
 use Rattle.std.proofs.Common.{◌≡◌, ◌≢◌, ℕ, ◌+◌, ◌-◌, ◌<◌, ◌≤◌, ◌⊎◌, inl, inr, arith, List, [], ◌∷◌, ◌++◌, length, take}
-use Rattle.std.proofs.Common.{Option}
+use Rattle.std.proofs.Common.{Option, IfSome}
 use Rattle.std.proofs.Common.{Some, Result, Ok, Err, ◌∙◌, ap, sym, subst, refl, append_assoc, append-nil, length-append}
 use Rattle.std.proofs.lemmas.List.{length-take-le}
 use Rattle.std.specs.Io.KnownBytes.{Appends, Consumes, Keeps}
@@ -29,11 +29,13 @@ use Rattle.gob_stream.proofs.PublicLaws.{limits_stay, stands_within, whole_item}
 use Rattle.gob_tape.specs.Calls.Builder.{tape_building}
 use Rattle.gob_tape.specs.declared.tape.Tape.{Tape}
 use Rattle.gob_tape.specs.declared.tape_builder.TapeBuilder.{TapeBuilder}
+use Rattle.gob_tidy.specs.TidiedWhole.{TidiesWhole}
 use Rattle.gob_stream.specs.Calls.Reader.{Begins, EndsWith, HasReadFrom, PassesOne, StepsOnFrom, Stops, StopsFrom}
 use Rattle.gob_stream.specs.Calls.Reader.{session_of}
 use Rattle.gob_stream.specs.Calls.Reader.{most_ahead, room_in, waits_in}
 use Rattle.gob_stream.proofs.PublicLaws.{ahead_so, begins_so}
 use Rattle.gob_tool.specs.declared.fault.ToolFault.{ToolFault}
+use Rattle.gob_tool.specs.declared.rewrite.WaitingItem.{WaitingItem}
 use Rattle.gob_tool.specs.declared.fault.ToolFault.TheVariants as fault
 use Rattle.gob_tool.specs.Ending.{CountsOnlyWrites, EndsRun, ends_so, flush_fails}
 use Rattle.gob_tool.specs.Fault.{reading_fault, writing_fault}
@@ -42,7 +44,7 @@ use Rattle.gob_tool.specs.Rewriting.{RewritesTaken}
 use Rattle.gob_tool.specs.Rewriting.{RewritesWhole}
 use Rattle.gob_tool.specs.Machine.Rewritten.{ComesNext, GaveTapes, HasRewritten, IsTape, Rewrites, RewritesNext}
 use Rattle.gob_tool.specs.Machine.Rewritten.{SpellsTidy}
-use Rattle.gob_tool.specs.Machine.Rewritten.{StandsNext, Tapes, WaitsTidy, WritesTidy}
+use Rattle.gob_tool.specs.Machine.Rewritten.{StandsNext, Tapes, WaitsTidied, WritesTidy}
 use Rattle.gob_tool.specs.Showing.{AppendsPrefix}
 use Rattle.gob_tool.proofs.EndLaws.{prefix_kept, reads_nothing}
 use Rattle.gob_tool.proofs.ReaderRuns.{GoesOn, ReadsTo, TakesBehind, ends_there, follows, goes_by, none_given}
@@ -132,6 +134,29 @@ input_so : {r : Tapes} {w : StreamWriter} {read now old new : Option (List ℕ)}
     → Consumes read now (p.so_far.taken ++ waits_in r)
 input_so {r = r} {read = read} {now = now} p =
     subst (λ (l : List ℕ). Consumes read now (l ++ waits_in r)) p.same p.has.input
+
+-- no memory was had for what comes next
+rewrites_kept : {r : Tapes} {w : StreamWriter} {read now start mid : Option (List ℕ)}
+    (p : Rewrites r w read now start mid) (new : Option (List ℕ)) → Appends start new p.so_far.written
+    → (bytes : List ℕ) → read ≡ Some bytes
+    → SomeTaken bytes now (λ read. RewritesTaken (no_deeper deepest (limits_of (session_of r))) read
+    (Appends start new))
+rewrites_kept {r = r} {start = start} p new out bytes known =
+    let a = ahead_so tape_building bytes p.has known in
+    record {
+      bytes = a.bytes;
+      taken = a.taken;
+      holds = record {
+        items = p.so_far.items;
+        table = types_of (session_of r);
+        given = a.holds;
+        tidy = tidy_there p.so_far (Appends start new) out;
+      };
+    }
+
+pub rewrites_wanting : {r : Tapes} {w : StreamWriter} {read now start out : Option (List ℕ)} (r' : Tapes)
+    (w' : StreamWriter) → Rewrites r w read now start out → RewritesNext r r' w' read now start out (Err fault.Memory)
+rewrites_wanting {out = out} r' w' p = (λ bytes known. rewrites_kept p out p.out bytes known, λ failures. refl)
 
 module _ {r r' : Tapes} {w : StreamWriter} {read now start mid : Option (List ℕ)} (p : Rewrites r w read now start mid)
     (same : limits_of (session_of r') ≡ limits_of (session_of r)) {used : ℕ} {others : List StreamItem}
@@ -242,24 +267,6 @@ module _ {r r' : Tapes} {w : StreamWriter} {read now start mid : Option (List �
           tidy = subst (λ (T : Table). HasTidyStream L T items (AppendsPrefix start new)) (sym begins.table) tidy;
         }
 
-    -- no memory was had for it
-    rewrites_kept : (new : Option (List ℕ)) → Keeps mid new → (bytes : List ℕ) → read ≡ Some bytes
-        → SomeTaken bytes now (λ read. RewritesTaken (no_deeper deepest (limits_of (session_of r))) read
-        (Appends start new))
-    rewrites_kept new kept bytes known =
-        let h = p.so_far in
-        let a = ahead_so tape_building bytes p.has known in
-        record {
-          bytes = a.bytes;
-          taken = a.taken;
-          holds = record {
-            items = h.items;
-            table = types_of (session_of r);
-            given = a.holds;
-            tidy = tidy_there h (Appends start new) (Appends-kept start mid new h.written p.out kept);
-          };
-        }
-
     -- what stopped the writing of it
     pub rewrites_stopped : (r'' : Tapes) (w' w'' : StreamWriter) (new : Option (List ℕ))
         {res : Result (Unit {0}) WriteFault}
@@ -272,8 +279,10 @@ module _ {r r' : Tapes} {w : StreamWriter} {read now start mid : Option (List �
             (λ bytes known. rewrites_cut writes (is ∙ ap (λ e. Err e) same) bytes known, λ failures. inl refl)
         at (inr same) =
             let left = subst (λ x. Leaves w w' mid new x) (is ∙ ap (λ e. Err e) same) leaves in
-            subst (λ e. RewritesNext r r'' w'' read now start new (Err (writing_fault e))) (sym same)
-            (λ bytes known. rewrites_kept new left.1 bytes known, λ failures. refl)
+            subst (λ e. RewritesNext r r'' w'' read now start new (Err (writing_fault e))) (sym same) (
+              λ bytes known. rewrites_kept p new (Appends-kept start mid new p.so_far.written p.out left.1) bytes known,
+              λ failures. refl,
+            )
 
 -- the item that comes next, whatever the input
 module _ {r r' : Tapes} {w : StreamWriter} (h : HasRewritten (session_of r) w)
@@ -300,21 +309,41 @@ wanting_counts old new e (inr same) counts is =
     subst (λ e. CountsOnlyWrites {A = Unit {0}} old new (Err (writing_fault e))) (sym same)
     (subst (λ res. CountsWriterFaults old new res) (is ∙ ap (λ e. Err e) same) counts)
 
--- ---- an item that is tidy already
-pub whole_of : {T : Table} {t : TypeId} {limit : ℕ} {bytes : List ℕ} → IsTidyWhole T t limit bytes
+-- ---- an item that waits as a whole, and the bytes of its tidy form
+pub tidy_itself : {T : Table} {t : TypeId} {limit : ℕ} {bytes : List ℕ} → IsTidyWhole T t limit bytes
+    → TidiesWhole T t limit bytes bytes
+tidy_itself v = record {
+  value = v.value;
+  spelled = v.spelled;
+  within = v.within;
+  form = v.value;
+  tidies = v.tidied;
+  form_spelled = v.spelled;
+}
+
+pub whole_of : {T : Table} {t : TypeId} {limit : ℕ} {bytes tidied : List ℕ} → TidiesWhole T t limit bytes tidied
     → IsWhole T t limit bytes
 whole_of v = record { value = v.value; spelled = v.spelled; within = v.within }
 
-pub tidy_item : {r : Tapes} {id : TypeId} {body : List ℕ} {used : ℕ} (x : WaitsTidy r id body used)
+-- the item that was found, by a slice of the bytes that were made
+pub waits_found : (r : Tapes) (tidied : List ℕ) {found : Option WaitingItem} {bytes : List ℕ} (item : WaitingItem)
+    → found ≡ Some item → bytes ≡ tidied
+    → IfSome found (λ (item : WaitingItem). WaitsTidied r item.id tidied item.used)
+    → WaitsTidied r item.id bytes item.used
+waits_found r tidied item is same h =
+    subst (λ (l : List ℕ). WaitsTidied r item.id l item.used) (sym same)
+    (subst (λ (o : Option WaitingItem). IfSome o (λ (item : WaitingItem). WaitsTidied r item.id tidied item.used)) is h)
+
+pub tidy_item : {r : Tapes} {id : TypeId} {tidied : List ℕ} {used : ℕ} (x : WaitsTidied r id tidied used)
     → IsItem base_table (no_deeper deepest (limits_of (session_of r))) (types_of (session_of r))
     (taken_of (session_of r))
     (puts id x.whole.value) (take used (waits_in r)) (types_of (session_of r))
 unfolding whole_of
 tidy_item x = whole_item deepest x.depth_is x.next (whole_of x.whole)
 
-pub tidy_spelled : {r : Tapes} {id : TypeId} {body : List ℕ} {used : ℕ} (x : WaitsTidy r id body used)
-    → SpellsTidy (types_of (session_of r)) id x.whole.value body
-tidy_spelled x = record { spelled = x.whole.spelled; tidied = x.whole.tidied }
+pub tidy_spelled : {r : Tapes} {id : TypeId} {tidied : List ℕ} {used : ℕ} (x : WaitsTidied r id tidied used)
+    → SpellsTidy (types_of (session_of r)) id x.whole.value tidied
+tidy_spelled x = record { form = x.whole.form; tidies = x.whole.tidies; spelled = x.whole.form_spelled }
 
 -- a whole item has a byte at least
 pub body_some : {L : Bounds} {T : Table} {offset : ℕ} {id : TypeId} {body : List ℕ} {used : ℕ} {piece : List ℕ}
@@ -328,9 +357,9 @@ sooner : {L : Bounds} {T U : Table} {o n : ℕ} {i : StreamItem} {b : List ℕ} 
     → IsItem base_table L T n i b U
 sooner l (counted u k s b) = counted u k (omega arith) b
 
-pub tidy_next : {r : Tapes} {w : StreamWriter} {id : TypeId} {body : List ℕ} {used : ℕ}
+pub tidy_next : {r : Tapes} {w : StreamWriter} {id : TypeId} {tidied : List ℕ} {used : ℕ}
     (h : HasRewritten (session_of r) w)
-    (x : WaitsTidy r id body used) → StandsNext w (types_of (session_of r)) (puts id x.whole.value)
+    (x : WaitsTidied r id tidied used) → StandsNext w (types_of (session_of r)) (puts id x.whole.value)
 tidy_next {r = r} {id = id} {used = used} h x =
     let before : length h.gave.prefix ≤ taken_of (session_of r) =
     omega (arith, h.gave.taken, ap length h.gave.whole, length-append h.gave.prefix h.gave.under_way) in
@@ -338,9 +367,9 @@ tidy_next {r = r} {id = id} {used = used} h x =
     { bytes = take used (waits_in r); counted = sooner before (tidy_item x) } in
     next_stands n
 
-pub tidy_behind : {r r' : Tapes} {w : StreamWriter} {id : TypeId} {body : List ℕ} {used : ℕ}
+pub tidy_behind : {r r' : Tapes} {w : StreamWriter} {id : TypeId} {tidied : List ℕ} {used : ℕ}
     (h : HasRewritten (session_of r) w)
-    → room_in r ≤ most_ahead (limits_of (session_of r)) → (x : WaitsTidy r id body used)
+    → room_in r ≤ most_ahead (limits_of (session_of r)) → (x : WaitsTidied r id tidied used)
     → PassesOne tape_building r r' used
     → TakesBehind tape_building r r' h.items (puts id x.whole.value ∷ []) h.taken used
 tidy_behind {r = r} {id = id} h room x passed =

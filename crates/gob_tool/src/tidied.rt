@@ -18,8 +18,7 @@ use gob_value::{Value, tidy};
 use std::alloc::Global;
 use std::io::Write;
 
-/// Writes the value that the body spells and that is its own tidy form, behind which the types of its stream are those
-/// of the table.
+/// Writes the tidy form of a value, which the body spells, behind which the types of its stream are those of the table.
 pub(crate) fn write_as_spelled<W: Write>(
     alloc: Global,
     table: &Table,

@@ -8,7 +8,6 @@ use Rattle.gob_value.specs.Fits.{Fits}
 use Rattle.gob_value.specs.Tidy.{Tidies}
 use Rattle.gob_value.specs.Top.{SpellsTop}
 use Rattle.gob_value.specs.Tree.{Tree}
-use Rattle.gob_value.specs.Whole.{IsTidyWhole}
 use Rattle.gob_stream.specs.declared.fault.WriteFault.{WriteFault}
 use Rattle.gob_stream.specs.declared.item.Item as declared
 use Rattle.gob_stream.specs.Machine.SessionState.{SessionState}
@@ -22,6 +21,7 @@ use Rattle.gob_tape.specs.Calls.Builder.{tape_building}
 use Rattle.gob_tape.specs.declared.tape.Tape.{Tape}
 use Rattle.gob_tape.specs.declared.tape_builder.TapeBuilder.{TapeBuilder}
 use Rattle.gob_tape.specs.Meaning.{Means}
+use Rattle.gob_tidy.specs.TidiedWhole.{TidiesWhole}
 use Rattle.gob_stream.specs.Calls.Reader.{HasReadFrom, most_ahead, room_in, session_of, waits_in}
 use Rattle.gob_stream.specs.declared.stream_reader.StreamReader.{StreamReader}
 use Rattle.gob_tool.specs.declared.fault.ToolFault.{ToolFault}
@@ -81,10 +81,11 @@ abbrev pub WritesTidy : (w w' : StreamWriter) → StreamItem → (old new : Opti
     → Type 0
 WritesTidy w w' i old new result = WritesForm (writer_limits w) (writer_types w) w w' i old new result
 
--- the body is the value, its own tidy form
+-- the body is the tidy form of the value
 pub record SpellsTidy (T : Table) (t : TypeId) (v : Tree) (body : List ℕ) : Type 0 where
-  pub spelled : SpellsTop T t v body
-  pub tidied : Tidies T t v v
+  pub form : Tree
+  pub tidies : Tidies T t v form
+  pub spelled : SpellsTop T t form body
 
 -- the writer has written the tidy form of what the reader gave
 pub record HasRewritten (s : SessionState TapeBuilder Tape) (w : StreamWriter) : Type 0 where
@@ -130,13 +131,14 @@ pub record IsTidiedItem {s : SessionState TapeBuilder Tape} {w : StreamWriter} {
   pub tidied : AreItemsTidied U (h.items ++ i ∷ []) tidy
   pub stream : Stream base_table (limits_of s) tidy (h.written ++ more) U
 
--- the item of a value that waits as a whole, and is its own tidy form
-pub record WaitsTidy (r : Tapes) (id : TypeId) (body : List ℕ) (used : ℕ) : Type 0 where
+-- the item of a value that waits as a whole, of which these bytes are the tidy form
+pub record WaitsTidied (r : Tapes) (id : TypeId) (tidied : List ℕ) (used : ℕ) : Type 0 where
+  pub body : List ℕ
   pub between : IsBetweenItems (session_of r)
   pub next : HasBodyNext (session_of r) id body used (waits_in r)
   pub depth : ℕ
   pub depth_is : depth ≡ (no_deeper deepest (limits_of (session_of r))).depth
-  pub whole : IsTidyWhole (types_of (session_of r)) id depth body
+  pub whole : TidiesWhole (types_of (session_of r)) id depth body tidied
 
 -- of an input that had the first bytes and has the second ones left, what was taken was written in its tidy form, and
 -- nothing else

@@ -1,0 +1,2 @@
+pub mod DroppedLaws
+pub mod WholeTidied

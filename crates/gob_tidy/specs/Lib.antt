@@ -1,0 +1,2 @@
+pub mod TidiedWhole
+pub mod Machine
