@@ -1,0 +1,2 @@
+-- The words in which contracts speak of a session.
+pub mod Session

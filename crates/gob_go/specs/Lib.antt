@@ -1,0 +1,6 @@
+pub mod Meaning
+pub mod Opens
+pub mod Reading
+pub mod Honest
+pub mod Machine
+pub mod Calls

@@ -1,0 +1,30 @@
+//! Streams of Go's encoder, read one item after another: with what interfaces hold, and with the ids that Go says of
+//! types that encode themselves. Each stream that `gob_stream` reads is one of these, with the same items.
+//!
+//! A [`GoSession`] takes the bytes in pieces of any lengths and gives [`GoItem`]s. A value is kept as its skeleton,
+//! which is the spelling of a value with nil in its interfaces, and as what fills these nils: see [`Filled`].
+#![tactic(auto)]
+
+mod around;
+mod count;
+mod definition;
+mod description;
+mod filled;
+mod held;
+mod inner_count;
+mod item;
+mod level;
+mod levels;
+mod name;
+mod next_count;
+mod number;
+mod part;
+mod put;
+mod session;
+mod stage;
+mod type_number;
+mod value;
+
+pub use filled::{Definition, Filled, Filling};
+pub use item::GoItem;
+pub use session::{GoSession, GoStep};
