@@ -3,16 +3,17 @@ _gob() {
     local current=${COMP_WORDS[COMP_CWORD]} previous=${COMP_WORDS[COMP_CWORD - 1]} words=
     COMPREPLY=()
     case $previous in
-    --depth | --item) return ;;
+    --depth | --item | --at) return ;;
     esac
     if [ "$COMP_CWORD" -eq 1 ]; then
-        words='show check rewrite take values types why version help --help -h --version -V'
+        words='show check rewrite take values types why explain version help --help -h --version -V'
     elif [ "${COMP_WORDS[1]}" = help ]; then
-        words='show check rewrite take values types why version help'
+        words='show check rewrite take values types why explain version help'
     elif [[ $current == -* ]]; then
         words='--depth --item -h --help'
         case ${COMP_WORDS[1]} in
         values) words+=' --zeros --raw' ;;
+        explain) words+=' --fault --at' ;;
         esac
     else
         mapfile -t COMPREPLY < <(compgen -f -- "$current")

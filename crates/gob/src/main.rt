@@ -4,9 +4,10 @@
 //! standard output. `gob check [IN]` prints one line that says how much there is in a whole stream.
 //! `gob take WANTED [IN]` receives each value of IN as one of the type of the first value in the file WANTED, and
 //! prints a line for each. `gob values [IN]` prints each value as plain JSON, `gob types [IN]` the types as Go source,
-//! `gob why [IN]` why IN is refused or how much is in it, and `gob version` the version. `gob help` says the rest.
-//! Where the program stops at a fault, it prints a line on standard error. Its exit status is 0 for a whole stream and
-//! for help, 1 for an input that is no stream or has values that don't match, and 2 for all else.
+//! `gob why [IN]` why IN is refused or how much is in it, `gob explain [IN]` the bytes row by row, and `gob version`
+//! the version. `gob help` says the rest. Where the program stops at a fault, it prints a line on standard error. Its
+//! exit status is 0 for a whole stream and for help, 1 for an input that is no stream or has values that don't match,
+//! and 2 for all else.
 #![tactic(auto)]
 
 ghost use Rattle.std.specs.Prelude.{◌≡◌, ◌≢◌, ℕ, List, [], Some, IfOk, IsErrAnd, IsTrue, MatchResult};

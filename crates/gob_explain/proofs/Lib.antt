@@ -6,3 +6,5 @@ mod WalkLaws
 mod PartLaws
 mod BodyLaws
 mod ReachLaws
+pub mod ColumnLaws
+pub mod ItemLaws

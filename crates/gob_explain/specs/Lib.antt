@@ -4,3 +4,5 @@ pub mod Walk
 pub mod Machine
 pub mod Body
 pub mod Reach
+pub mod Column
+pub mod Items

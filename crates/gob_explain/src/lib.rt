@@ -28,7 +28,7 @@ pub use path::path_to;
 pub use row::{Awaited, Part, Row, Step, What};
 pub use sink::RowSink;
 pub use text::expected::push_expected;
-pub use text::item::{Reached, push_item};
+pub use text::item::{Reached, push_first_bytes, push_item};
 pub use text::labels::path_text;
 pub use text::lines::push_line;
 pub use text::names::{push_name, push_type_name};

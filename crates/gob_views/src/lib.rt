@@ -10,7 +10,7 @@
 //! }
 //! ```
 //!
-//! [`run_view`] is the run of any of these, and of `gob why`, whose words are those of `gob_why`.
+//! [`run_view`] is the run of any of these, and of `gob why` and `gob explain`, which are those of `gob_why`.
 #![tactic(auto)]
 
 mod run;

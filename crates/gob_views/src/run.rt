@@ -4,7 +4,7 @@ ghost use Rattle.std.specs.Prelude.{◌≡◌, ℕ, List, Some};
 ghost use Rattle.gob_stream.specs.Calls.Ends.{failed_reads, failed_writes, reader_of, writer_of};
 ghost use Rattle.gob_tool.specs.Ending.{CountsOnlyWrites};
 ghost use Rattle.gob_tool.specs.Showing.{CountsReadFaults, CountsWriteFaults};
-ghost use Rattle.gob_views.specs.Running.{ViewAnswers, version_line, view_limits, view_style};
+ghost use Rattle.gob_views.specs.Running.{ViewAnswers, version_line, view_explained, view_limits, view_style};
 ghost use Rattle.gob_views.specs.Sending.{SendsText};
 
 use crate::types::run_types;
@@ -12,7 +12,7 @@ use crate::values::run_values;
 use gob_plain::Style;
 use gob_stream::{Input, Limits, Output};
 use gob_tool::{ToolFault, end_run};
-use gob_why::run_why;
+use gob_why::{Explained, run_explain, run_why};
 use gob_words::{VERSION, View, ViewCommand};
 use std::alloc::Global;
 use std::io::{Read, Write};
@@ -26,9 +26,9 @@ pub fn run_view<R: Read, W: Write>(
     output: &mut Output<W>,
 ) -> Result<(), ToolFault>
     ensures shows { (bytes : List ℕ) → R.remaining (reader_of input.old) ≡ Some bytes
-        → ViewAnswers view.now.command (view_limits view.now) (view_style view.now) bytes
-        (R.remaining (reader_of input.new)) (W.contents (writer_of output.old)) (W.contents (writer_of output.new))
-        result }
+        → ViewAnswers view.now.command (view_limits view.now) (view_style view.now)
+        (view_explained view.now) bytes (R.remaining (reader_of input.new)) (W.contents (writer_of output.old))
+        (W.contents (writer_of output.new)) result }
     ensures reads { CountsReadFaults (failed_reads input.old) (failed_reads input.new) result }
     ensures writes { CountsWriteFaults (failed_writes output.old) (failed_writes output.new) result }
 {
@@ -36,6 +36,9 @@ pub fn run_view<R: Read, W: Write>(
         ViewCommand::Values => run_values(alloc, input, output, limits_of(view), style_of(view)),
         ViewCommand::Types => run_types(alloc, input, output, limits_of(view)),
         ViewCommand::Why => run_why(alloc, input, output, limits_of(view)),
+        ViewCommand::Explain => {
+            run_explain(alloc, input, output, limits_of(view), explained_of(view))
+        }
         ViewCommand::Version => end_run(write_version(output), output),
     }
 }
@@ -47,6 +50,19 @@ fn limits_of(view: &View<'_>) -> Limits
     let standard = Limits::standard();
     // The depth is within what each command allows, so these are limits.
     Limits::deep(view.item, view.depth, standard.types(), standard.stream()).unwrap()
+}
+
+// Which items are explained.
+fn explained_of(view: &View<'_>) -> Explained
+    ensures { result ≡ view_explained view.now }
+{
+    if view.fault {
+        return Explained::Fault;
+    }
+    match view.at {
+        Some(offset) => Explained::At(offset),
+        None => Explained::All,
+    }
 }
 
 // The style in which values are written.

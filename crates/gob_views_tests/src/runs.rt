@@ -103,6 +103,8 @@ fn usual(command: ViewCommand) -> View<'static> {
         item: 100,
         zeros: false,
         raw: false,
+        fault: false,
+        at: None,
     }
 }
 
@@ -131,6 +133,13 @@ fn views_are_run(rt: HostRuntime) -> Result<(), Fail> {
     assert!(rt;
         why.as_slice() == b"ok: 2 items, 1 types, 40 bytes\n1 value of type 65, Point\n".as_slice(),
         "why"
+    );
+    let explain = shown(alloc, &usual(ViewCommand::Explain), POINT)?;
+    assert!(rt;
+        explain
+            .as_slice()
+            .starts_with(b"     0  1f                       an item of 31 bytes\n"),
+        "explain"
     );
     let version = shown(alloc, &usual(ViewCommand::Version), POINT)?;
     assert!(rt; version.as_slice() == b"gob 0.1.0\n".as_slice(), "version");

@@ -1,2 +1,4 @@
 pub mod ReadingLaws
 pub mod WhyLaws
+pub mod KeepingLaws
+pub mod ExplainLaws

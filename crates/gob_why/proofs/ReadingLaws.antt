@@ -38,7 +38,7 @@ taken_known : (now : Option (List ℕ)) {bytes taken : List ℕ} → Consumes (S
 taken_known None c = absurd c
 taken_known (Some left) c = record { left = left; known = refl; whole = c }
 
-taken_of : {read : Option (List ℕ)} (now : Option (List ℕ)) (bytes taken : List ℕ) → read ≡ Some bytes
+pub taken_of : {read : Option (List ℕ)} (now : Option (List ℕ)) (bytes taken : List ℕ) → read ≡ Some bytes
     → Consumes read now taken → Taken bytes now taken
 taken_of now bytes taken e c = taken_known now (subst (λ r. Consumes r now taken) e c)
 
@@ -56,7 +56,7 @@ all_known (Some x) (Some y) bytes taken c d e = record {
   end = ap (λ (l : List ℕ). Some l) e;
 }
 
-all_taken : {read : Option (List ℕ)} (now next : Option (List ℕ)) (bytes taken : List ℕ) → read ≡ Some bytes
+pub all_taken : {read : Option (List ℕ)} (now next : Option (List ℕ)) (bytes taken : List ℕ) → read ≡ Some bytes
     → Consumes read now taken → Consumes now next [] → IsAtEnd next → AreAll bytes taken next
 all_taken now next bytes taken known c d e = all_known now next bytes taken (subst (λ r. Consumes r now taken) known c)
     d e

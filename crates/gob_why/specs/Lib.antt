@@ -1,3 +1,4 @@
 pub mod Forms
 pub mod Why
+pub mod Explain
 pub mod Machine

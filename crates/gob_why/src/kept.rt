@@ -1,8 +1,15 @@
 //! What is kept of a stream while it is read.
 
+ghost use Rattle.std.specs.Prelude.{◌≡◌, ◌≢◌, ◌^◌, ◌<◌, ◌++◌, [], None, MatchBool, OnErr, OnOk, length, string_bytes};
+ghost use Rattle.gob_types.specs.Defined.{types};
+ghost use Rattle.gob_why.specs.Explain.{IsChosen};
+ghost use Rattle.gob_why.specs.Machine.Keeping.{EndsItem, ExplainsNext, ShowsNext};
+
+use crate::explained::Explained;
+use gob_explain::push_first_bytes;
 use gob_num::Memory;
 use gob_stream::Item;
-use gob_types::TypeId;
+use gob_types::{Table, TypeId};
 use std::alloc::Global;
 use std::collections::BTreeMap;
 
@@ -14,6 +21,10 @@ pub(crate) struct Kept {
     pub(crate) begin: u64,
     /// How many values of each type there were, by its id.
     pub(crate) values: BTreeMap<u64, u64>,
+    /// Which items are explained. None: none is.
+    pub(crate) explained: Option<Explained>,
+    /// The lines of items that are whole, as far as they wait.
+    pub(crate) lines: String,
 }
 
 // Not derived, so that a drop is one call in the proofs of what owns one.
@@ -23,49 +34,155 @@ impl Drop for Kept {
             item: _,
             begin: _,
             values: _,
+            explained: _,
+            lines: _,
         } = self;
     }
 }
 
 impl Kept {
     /// Nothing.
-    pub(crate) fn new(alloc: Global) -> Kept {
+    pub(crate) fn new(alloc: Global, explained: Option<Explained>) -> Kept
+        ensures item { result.item.items ≡ [] }
+        ensures begin { result.begin ≡ 0 }
+        ensures explained { result.explained ≡ explained }
+        ensures lines { string_bytes result.lines ≡ [] }
+    {
         Kept {
             item: Vec::new(alloc),
             begin: 0,
             values: BTreeMap::new(alloc),
+            explained,
+            lines: String::new(alloc),
         }
     }
 
     /// Keeps bytes of the item under way.
-    pub(crate) fn keep(&mut self, bytes: &[u8]) -> Result<(), Memory> {
+    pub(crate) fn keep(&mut self, bytes: &[u8]) -> Result<(), Memory>
+        ensures item { OnOk result (self.new.item.items ≡ self.old.item.items ++ bytes.now) }
+        ensures begin { self.new.begin ≡ self.old.begin }
+        ensures explained { self.new.explained ≡ self.old.explained }
+        ensures lines { string_bytes self.new.lines ≡ string_bytes self.old.lines }
+    {
         Ok(self.item.extend_from_slice(bytes)?)
     }
 
     /// Keeps bytes of the item under way, or where they end it, goes on to the next.
-    pub(crate) fn go_on(&mut self, item: &Option<Item<()>>, bytes: &[u8]) -> Result<(), Memory> {
+    pub(crate) fn go_on(
+        &mut self,
+        alloc: Global,
+        table: &Table,
+        item: &Option<Item<()>>,
+        bytes: &[u8],
+    ) -> Result<(), Memory>
+        ensures under_way { item.now ≡ None → OnOk result ((self.new.item.items ≡ self.old.item.items ++ bytes.now)
+            × (self.new.begin ≡ self.old.begin) × (string_bytes self.new.lines ≡ string_bytes self.old.lines)) }
+        ensures ended { item.now ≢ None → length (self.old.item.items ++ bytes.now) < 2 ^ 64
+            → OnOk result (EndsItem self.old.explained (types table.now) self.old.item.items self.old.begin
+            (string_bytes self.old.lines) bytes.now
+            self.new.item.items self.new.begin (string_bytes self.new.lines)) }
+        ensures explained { self.new.explained ≡ self.old.explained }
+        ensures lines { OnErr result (string_bytes self.new.lines ≡ string_bytes self.old.lines) }
+    {
         match item {
             None => self.keep(bytes),
-            Some(Item::Define { .. }) => {
-                self.end_item(bytes.len());
-                Ok(())
-            }
-            Some(Item::Put { id, .. }) => self.pass_value(*id, bytes.len()),
+            Some(Item::Define { .. }) => self.end_item(alloc, table, bytes),
+            Some(Item::Put { id, .. }) => self.pass_value(alloc, table, *id, bytes),
         }
     }
 
-    /// Goes past a value of this type, of whose item so many bytes weren't kept.
-    pub(crate) fn pass_value(&mut self, id: TypeId, more: usize) -> Result<(), Memory> {
-        self.end_item(more);
+    /// Goes past a value of this type, whose item ends with these bytes.
+    pub(crate) fn pass_value(
+        &mut self,
+        alloc: Global,
+        table: &Table,
+        id: TypeId,
+        bytes: &[u8],
+    ) -> Result<(), Memory>
+        ensures ended { length (self.old.item.items ++ bytes.now) < 2 ^ 64
+            → OnOk result (EndsItem self.old.explained (types table.now) self.old.item.items self.old.begin
+            (string_bytes self.old.lines) bytes.now
+            self.new.item.items self.new.begin (string_bytes self.new.lines)) }
+        ensures explained { self.new.explained ≡ self.old.explained }
+        ensures lines { OnErr result (string_bytes self.new.lines ≡ string_bytes self.old.lines) }
+    {
+        self.count_value(id)?;
+        self.end_item(alloc, table, bytes)
+    }
+
+    // Counts a value of this type.
+    fn count_value(&mut self, id: TypeId) -> Result<(), Memory>
+        ensures item { self.new.item ≡ self.old.item }
+        ensures begin { self.new.begin ≡ self.old.begin }
+        ensures explained { self.new.explained ≡ self.old.explained }
+        ensures lines { string_bytes self.new.lines ≡ string_bytes self.old.lines }
+    {
         let count = self.values.entry(id.0)?.or_insert(0);
         *count = count.saturating_add(1);
         Ok(())
     }
 
-    // Goes on to the next item, behind so many more bytes of this one.
-    fn end_item(&mut self, more: usize) {
-        let size = (self.item.len() as u64).saturating_add(more as u64);
+    // Goes on to the next item, behind the last bytes of this one, and explains it where that is asked for.
+    fn end_item(&mut self, alloc: Global, table: &Table, bytes: &[u8]) -> Result<(), Memory>
+        ensures ended { length (self.old.item.items ++ bytes.now) < 2 ^ 64
+            → OnOk result (EndsItem self.old.explained (types table.now) self.old.item.items self.old.begin
+            (string_bytes self.old.lines) bytes.now
+            self.new.item.items self.new.begin (string_bytes self.new.lines)) }
+        ensures explained { self.new.explained ≡ self.old.explained }
+        ensures lines { OnErr result (string_bytes self.new.lines ≡ string_bytes self.old.lines) }
+    {
+        let size = (self.item.len() as u64).saturating_add(bytes.len() as u64);
+        self.explain_end(alloc, table, bytes, size)?;
         self.begin = self.begin.saturating_add(size);
         self.item.clear();
+        Ok(())
+    }
+
+    // Explains the item that ends with these bytes and has so many with them, where that is asked for.
+    fn explain_end(
+        &mut self,
+        alloc: Global,
+        table: &Table,
+        bytes: &[u8],
+        size: u64,
+    ) -> Result<(), Memory>
+        ensures explains { size ≡ length (self.old.item.items ++ bytes.now)
+            → OnOk result (ExplainsNext self.old.explained (types table.now) self.old.begin
+            (self.old.item.items ++ bytes.now) (string_bytes self.old.lines) (string_bytes self.new.lines)) }
+        ensures begin { self.new.begin ≡ self.old.begin }
+        ensures explained { self.new.explained ≡ self.old.explained }
+        ensures lines { OnErr result (string_bytes self.new.lines ≡ string_bytes self.old.lines) }
+    {
+        if !self.is_chosen(size) {
+            return Ok(());
+        }
+        self.keep(bytes)?;
+        self.explain_item(alloc, table)
+    }
+
+    // Whether the item is explained that is whole with so many bytes.
+    fn is_chosen(&self, size: u64) -> bool
+        ensures { MatchBool result (IsChosen self.now.explained self.now.begin size)
+            (¬ IsChosen self.now.explained self.now.begin size) }
+    {
+        match self.explained {
+            None | Some(Explained::Fault) => false,
+            Some(Explained::All) => true,
+            Some(Explained::At(offset)) => self.begin <= offset && offset - self.begin < size,
+        }
+    }
+
+    // Puts the lines of the item behind those that wait.
+    fn explain_item(&mut self, alloc: Global, table: &Table) -> Result<(), Memory>
+        ensures shown { OnOk result (ShowsNext (types table.now) self.old.begin self.old.item.items
+            (string_bytes self.old.lines) (string_bytes self.new.lines)) }
+        ensures item { self.new.item ≡ self.old.item }
+        ensures begin { self.new.begin ≡ self.old.begin }
+        ensures explained { self.new.explained ≡ self.old.explained }
+        ensures lines { OnErr result (string_bytes self.new.lines ≡ string_bytes self.old.lines) }
+    {
+        let mut text = String::new(alloc);
+        push_first_bytes(alloc, table, self.item.as_slice(), self.begin, &mut text)?;
+        Ok(self.lines.push_str(text.as_str())?)
     }
 }

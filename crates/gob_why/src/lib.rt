@@ -12,12 +12,16 @@
 //! ```
 //!
 //! A cause is looked for in the bytes, and said where they show it; where they show none, the usual one is said.
+//!
+//! [`run_explain`] prints the bytes themselves, row by row, each with what it is, up to the refused ones.
 #![tactic(auto)]
 
 mod alike;
 mod base64_text;
 mod cause;
 mod due;
+mod explain;
+mod explained;
 mod form;
 mod front_cause;
 mod head;
@@ -26,6 +30,7 @@ mod kept;
 mod marks;
 mod place;
 mod reading;
+mod refused;
 mod report;
 mod run;
 mod scene;
@@ -33,4 +38,6 @@ mod sentence;
 mod trial;
 mod words;
 
+pub use explain::run_explain;
+pub use explained::Explained;
 pub use run::run_why;

@@ -1,5 +1,7 @@
 //! What bytes show of what was done to them.
 
+ghost use Rattle.std.specs.Prelude.{◌≡◌, take};
+
 use gob_num::Memory;
 use std::alloc::Global;
 
@@ -15,7 +17,9 @@ pub(crate) fn rest_from(bytes: &[u8], place: usize) -> &[u8] {
 }
 
 /// The bytes before the place, or all where they end before it.
-pub(crate) fn front_to(bytes: &[u8], place: usize) -> &[u8] {
+pub(crate) fn front_to(bytes: &[u8], place: usize) -> &[u8]
+    ensures { result.now ≡ take place bytes.now }
+{
     if place > bytes.len() {
         return bytes;
     }

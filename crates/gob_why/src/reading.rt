@@ -1,7 +1,7 @@
 //! Reading a stream to its end or to its refusal, where the bytes of the item under way are kept.
 
 ghost use Rattle.std.specs.Prelude.{◌≡◌, ◌≢◌, ◌<◌, ◌≤◌, ◌++◌, ℕ, List, [], Some, length, take, vec_len, IfErr, IfOk};
-ghost use Rattle.std.specs.Prelude.{IfSome, OnErr};
+ghost use Rattle.std.specs.Prelude.{IfSome, OnErr, string_bytes};
 ghost use Rattle.std.specs.Io.KnownBytes.{Consumes, IsAtEnd, Keeps};
 ghost use Rattle.gob_stream.specs.Bounds.{AreLimits, deepest, no_deeper};
 ghost use Rattle.gob_stream.specs.Calls.Session.{limits_of};
@@ -9,6 +9,7 @@ ghost use Rattle.gob_stream.specs.Calls.Ends.{failed_reads, reader_of};
 ghost use Rattle.gob_stream.specs.Reading.{CountsReads};
 ghost use Rattle.gob_tool.specs.Machine.Counting.{CountsCounting, EndsCounting, tally_line};
 ghost use Rattle.gob_tool.specs.Machine.Tallying.{HasTallied, TalliesAll, TalliesPrefix};
+ghost use Rattle.gob_why.specs.Machine.Keeping.{HasReadKept, KeepsAll, KeepsNext};
 ghost use Rattle.gob_why.specs.Machine.Reading.{HasValueNext};
 
 use crate::kept::Kept;
@@ -57,7 +58,7 @@ pub(crate) fn read_all<R: Read>(
 }
 
 /// Room for a piece.
-fn room_for_piece(alloc: Global) -> Result<Vec<u8>, Memory>
+pub(crate) fn room_for_piece(alloc: Global) -> Result<Vec<u8>, Memory>
     ensures { IfOk result (λ piece. vec_len piece ≡ 65536) }
 {
     let piece = vec![in alloc; 0; PIECE].map_err(Memory::from)?;
@@ -65,7 +66,7 @@ fn room_for_piece(alloc: Global) -> Result<Vec<u8>, Memory>
 }
 
 /// Reads once. How many bytes came: none only at the end of the input.
-fn read_piece<R: Read>(input: &mut Input<R>, piece: &mut Vec<u8>) -> Result<usize, Fault>
+pub(crate) fn read_piece<R: Read>(input: &mut Input<R>, piece: &mut Vec<u8>) -> Result<usize, Fault>
     requires { 0 < vec_len piece.old }
     ensures room { vec_len piece.new ≡ vec_len piece.old }
     ensures within { IfOk result (λ count. count ≤ vec_len piece.new) }
@@ -83,7 +84,7 @@ fn read_piece<R: Read>(input: &mut Input<R>, piece: &mut Vec<u8>) -> Result<usiz
 }
 
 /// Takes a piece of the stream, and counts the items that are whole with it.
-fn take_piece(
+pub(crate) fn take_piece(
     alloc: Global,
     session: &mut Session<SkipBuilder>,
     piece: &[u8],
@@ -95,6 +96,11 @@ fn take_piece(
     ensures counted { (bytes : List ℕ) → HasTallied session.old items.old bytes
         → TalliesAll (no_deeper deepest (limits_of session.old)) session.new items.new
         (bytes ++ piece.now) result }
+    ensures kept { (bytes text : List ℕ) → HasReadKept kept.old.explained session.old bytes kept.old.item.items
+        kept.old.begin (text ++ string_bytes kept.old.lines)
+        → KeepsAll kept.old.explained session.new (bytes ++ piece.now) kept.new.item.items kept.new.begin
+        (text ++ string_bytes kept.new.lines) result }
+    ensures explained { kept.new.explained ≡ kept.old.explained }
     ensures limits { limits_of session.new ≡ limits_of session.old }
     ensures unread { IfErr result (λ fault. fault ≢ Fault.Read) }
 {
@@ -126,19 +132,25 @@ fn take_next(
     ensures counted { (bytes : List ℕ) → HasTallied session.old items.old bytes
         → TalliesPrefix (no_deeper deepest (limits_of session.old)) session.new items.old items.new bytes
         piece.now result }
+    ensures kept { (bytes text : List ℕ) → HasReadKept kept.old.explained session.old bytes kept.old.item.items
+        kept.old.begin (text ++ string_bytes kept.old.lines)
+        → KeepsNext kept.old.explained session.new bytes piece.now kept.new.item.items kept.new.begin
+        (text ++ string_bytes kept.new.lines) result }
+    ensures explained { kept.new.explained ≡ kept.old.explained }
     ensures used { IfOk result (λ used. used ≤ length piece.now) }
     ensures limits { limits_of session.new ≡ limits_of session.old }
     ensures unread { IfErr result (λ fault. fault ≢ Fault.Read) }
 {
     if let Some(value) = value_next(session, piece) {
-        session.pass(value.used);
-        kept.pass_value(value.id, value.used)?;
+        let used = value.used;
+        session.pass(used);
+        kept.pass_value(alloc, session.table(), value.id, &piece[..used])?;
         *items += 1;
-        return Ok(value.used);
+        return Ok(used);
     }
     let step = session.step(alloc, piece)?;
     let used = step.used;
-    kept.go_on(&step.item, &piece[..used])?;
+    kept.go_on(alloc, session.table(), &step.item, &piece[..used])?;
     match &step.item {
         Some(_) => {
             *items += 1;

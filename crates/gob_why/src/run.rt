@@ -56,7 +56,7 @@ fn tell_stream<R: Read, W: Write>(
     ensures writes { CountsOnlyWrites (failed_writes output.old) (failed_writes output.new) result }
 {
     let mut session = Session::<SkipBuilder>::new(alloc, limits)?;
-    let mut kept = Kept::new(alloc);
+    let mut kept = Kept::new(alloc, None);
     let mut items = 0;
     match read_all(alloc, input, &mut session, &mut items, &mut kept) {
         Ok(tally) => tell_whole(alloc, tally, session.table(), &kept, output),

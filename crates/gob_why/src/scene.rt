@@ -1,9 +1,12 @@
 //! What is known where a stream is refused.
 
+ghost use Rattle.std.specs.Prelude.{◌≡◌, ◌-◌, take};
+ghost use Rattle.gob_why.specs.Explain.{explained_up_to};
+
 use crate::kept::Kept;
 use crate::marks::front_to;
 use gob_stream::{Limits, Refusal};
-use gob_types::Table;
+use gob_types::{Reason, Table};
 
 /// A refusal, and what is known of the stream up to there.
 #[derive(Drop)]
@@ -28,8 +31,29 @@ impl<'a> Scene<'a> {
         place.min(self.item().len() as u64) as usize
     }
 
+    /// The first bytes of the item, up to the place to which it is explained: that of the refusal, or the end of a
+    /// description whose bytes are well formed.
+    pub(crate) fn explained(&self) -> &'a [u8]
+        ensures { result.now
+            ≡ take (explained_up_to self.now.refusal - self.now.kept.now.begin) self.now.kept.now.item.items }
+    {
+        let most = explained_to(&self.refusal).saturating_sub(self.kept.begin);
+        front_to(self.kept.item.as_slice(), most as usize)
+    }
+
     /// The bytes before that place.
     pub(crate) fn before(&self) -> &'a [u8] {
         front_to(self.item(), self.place())
+    }
+}
+
+// Up to which offset a refused item is explained.
+fn explained_to(refusal: &Refusal) -> u64
+    ensures { result ≡ explained_up_to refusal.now }
+{
+    match refusal.reason {
+        Reason::KindCount | Reason::WrongId | Reason::BadReference | Reason::BadLength =>
+            refusal.seen,
+        _ => refusal.place,
     }
 }

@@ -10,11 +10,11 @@ use Rattle.gob_words.specs.declared.words.OrderFault.{OrderFault}
 use Rattle.gob_words.specs.declared.words.OrderFault.TheVariants as fault
 use Rattle.gob_words.specs.declared.view.View.{View}
 use Rattle.gob_words.specs.declared.view.ViewCommand.{ViewCommand}
-use Rattle.gob_words.specs.declared.view.ViewCommand.TheVariants.{Values, Types, Why, Version}
+use Rattle.gob_words.specs.declared.view.ViewCommand.TheVariants.{Values, Types, Why, Explain, Version}
 use Rattle.gob_words.specs.declared.view.ViewFault.{ViewFault}
 use Rattle.gob_words.specs.declared.view.ViewFault.TheVariants as view_fault
 use Rattle.gob_words.specs.Words.{IsNumber, IsFaultOf, program}
-use Rattle.gob_words.specs.Views.{AsksToView, IsViewFaultOf, IsViewOf, IsWordAtFault, RefusesToView}
+use Rattle.gob_words.specs.Views.{AsksToView, IsPlaceOf, IsViewFaultOf, IsViewOf, IsWordAtFault, RefusesToView}
 use Rattle.gob_words.specs.Views.{IsVersionView, view_name}
 use Rattle.gob_words.specs.ViewDepths.{most_view_depth}
 use Rattle.gob_words.proofs.WordLaws.{together, name_met, rows_met}
@@ -23,12 +23,15 @@ use Rattle.gob_words.proofs.WordLaws.{together, name_met, rows_met}
 
 -- the command whose name has this as its second letter
 abbrev having : ℕ → ViewCommand
-having c = if c == 97 then Values else (if c == 121 then Types else (if c == 104 then Why else Version))
+having c =
+    if c == 97 then Values
+    else (if c == 121 then Types else (if c == 104 then Why else (if c == 120 then Explain else Version)))
 
 has : (a : ViewCommand) → having (slice_index (view_name a) 1) ≡ a
 has Values = refl
 has Types = refl
 has Why = refl
+has Explain = refl
 has Version = refl
 
 one_view : (a b : ViewCommand) → view_name a ≡ view_name b → a ≡ b
@@ -50,6 +53,7 @@ pub record ViewMeets (command : ViewCommand) (rows : List Row) (view : View) : T
   pub item : IsNumber (first_of (codes "item") rows) 67108864 view.item
   pub least : 1 ≤ view.depth
   pub most : view.depth ≤ most_view_depth command
+  pub at : IsPlaceOf command (first_of (codes "at") rows) view.at
 
 pub view_meets : (met : Option (Text × List Row)) (command : ViewCommand) (rows : List Row) (view : View)
     → met ≡ Some (view_name command, rows) → IsViewOf met view → ViewMeets command rows view
@@ -61,6 +65,8 @@ view_meets met command rows view e h =
       item = subst (λ r. IsNumber (first_of (codes "item") r) 67108864 view.item) same h.item;
       least = h.least;
       most = subst (λ c. view.depth ≤ most_view_depth c) one h.most;
+      at = subst (λ c. IsPlaceOf c (first_of (codes "at") rows) view.at) one
+          (subst (λ r. IsPlaceOf view.command (first_of (codes "at") r) view.at) same h.at);
     }
 
 -- ---- the ends

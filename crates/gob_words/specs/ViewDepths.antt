@@ -8,4 +8,5 @@ abbrev pub most_view_depth : ViewCommand → ℕ
 most_view_depth view.Values = 1000
 most_view_depth view.Types = 65536
 most_view_depth view.Why = 65536
+most_view_depth view.Explain = 65536
 most_view_depth view.Version = 1000

@@ -16,6 +16,7 @@ abbrev pub view_name : ViewCommand → Text
 view_name view.Values = codes "values"
 view_name view.Types = codes "types"
 view_name view.Why = codes "why"
+view_name view.Explain = codes "explain"
 view_name view.Version = codes "version"
 
 -- the file that a word names: a minus sign is standard input
@@ -28,10 +29,25 @@ pub record IsGiven (value : Option Text) (flag : Bool) : Type 0 where
   pub given : value ≡ Some (codes "true") → flag ≡ true
   pub absent : value ≢ Some (codes "true") → flag ≡ false
 
--- whether a command's flag is given, by clap's value of it: values alone has flags
+-- whether a flag of values is given, by clap's value of it, which no other command has
 abbrev pub IsFlagOf : ViewCommand → Option Text → Bool → Type 0
 IsFlagOf view.Values value flag = IsGiven value flag
 IsFlagOf _ value flag = flag ≡ false
+
+-- whether the flag of explain is given, by clap's value of it, which no other command has
+abbrev pub IsFaultFlagOf : ViewCommand → Option Text → Bool → Type 0
+IsFaultFlagOf view.Explain value flag = IsGiven value flag
+IsFaultFlagOf _ value flag = flag ≡ false
+
+-- the offset that a word of explain gives, if one is there
+abbrev pub IsPlaceIn : Option Text → Option ℕ → Type 0
+IsPlaceIn None at = at ≡ None
+IsPlaceIn (Some word) at = (n : ℕ) × (at ≡ Some n) × IsNumber (Some word) 0 n
+
+-- and in a command's words: no other command has that option
+abbrev pub IsPlaceOf : ViewCommand → Option Text → Option ℕ → Type 0
+IsPlaceOf view.Explain word at = IsPlaceIn word at
+IsPlaceOf _ word at = at ≡ None
 
 -- clap met a subcommand with these rows, and this is what they ask for
 pub record IsViewOf (met : Option (Text × List Row)) (view : View) : Type 0 where
@@ -42,13 +58,15 @@ pub record IsViewOf (met : Option (Text × List Row)) (view : View) : Type 0 whe
   pub item : IsNumber (first_of (codes "item") rows) 67108864 view.item
   pub zeros : IsFlagOf view.command (first_of (codes "zeros") rows) view.zeros
   pub raw : IsFlagOf view.command (first_of (codes "raw") rows) view.raw
+  pub fault : IsFaultFlagOf view.command (first_of (codes "fault") rows) view.fault
+  pub at : IsPlaceOf view.command (first_of (codes "at") rows) view.at
   pub least : 1 ≤ view.depth
   pub most : view.depth ≤ most_view_depth view.command
 
 -- what the option that asks for the version stands for
 abbrev pub IsVersionView : View → Type 0
 IsVersionView given = (given.command ≡ view.Version) × (given.input ≡ None) × (given.depth ≡ 1000)
-    × (given.item ≡ 67108864) × (given.zeros ≡ false) × (given.raw ≡ false)
+    × (given.item ≡ 67108864) × (given.zeros ≡ false) × (given.raw ≡ false) × (given.fault ≡ false) × (given.at ≡ None)
 
 -- the words, the program's name first, ask for this: by its name, or for the version by an option
 unfoldable pub AsksToView : List Text → View → Type 0

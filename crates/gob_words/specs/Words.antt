@@ -59,11 +59,19 @@ with_flags app = with_rule (with_rule app (flag_rule (codes "zeros"))) (flag_rul
 abbrev pub values : App
 values = with_input (with_flags (with_options (codes "values")))
 
+-- the flag and the option that say which part of a stream is shown
+abbrev pub with_parts : App → App
+with_parts app = with_rule (with_rule app (flag_rule (codes "fault"))) (option_rule (codes "at"))
+
+-- the command that explains bytes
+abbrev pub explain : App
+explain = with_input (with_parts (with_options (codes "explain")))
+
 -- and those that show it to people and to other programs
 abbrev pub program : App
 program =
-    with_subcommand (with_subcommand (with_subcommand (with_subcommand exact_program values.top)
-    (one_stream (codes "types")).top) (one_stream (codes "why")).top) (new_app (codes "version")).top
+    with_subcommand (with_subcommand (with_subcommand (with_subcommand (with_subcommand exact_program values.top)
+    (one_stream (codes "types")).top) (one_stream (codes "why")).top) explain.top) (new_app (codes "version")).top
 
 -- ---- what they say
 

@@ -4,7 +4,7 @@ ghost use Rattle.std.specs.Prelude.{◌≡◌, IfOk, codes, false};
 ghost use Rattle.clap.specs.Words.{app_of, rule_of, with_subcommand};
 ghost use Rattle.clap.specs.declared.builder.Command.TheViews.{out-Command};
 ghost use Rattle.gob_words.specs.Words.{flag_rule, option_rule, with_flags, with_options, with_input, one_stream};
-ghost use Rattle.gob_words.specs.Words.{two_streams, exact_program, program, values};
+ghost use Rattle.gob_words.specs.Words.{two_streams, exact_program, explain, program, values, with_parts};
 
 use crate::help;
 use clap::{Arg, ArgAction, Command};
@@ -25,7 +25,8 @@ pub(crate) fn program<'a>(alloc: Global) -> Result<Command<'a>, AllocError>
         help::FILE,
     )?;
     let telling = with_one_stream(alloc, typing, "why", help::WHY, help::DEPTH, help::FILE)?;
-    telling.subcommand(Command::new(alloc, "version").about(help::NAME_AND_VERSION))
+    let explaining = telling.subcommand(explain(alloc)?)?;
+    explaining.subcommand(Command::new(alloc, "version").about(help::NAME_AND_VERSION))
 }
 
 // The command that shows values, with its flags behind the options that other commands have too.
@@ -35,6 +36,15 @@ fn values<'a>(alloc: Global) -> Result<Command<'a>, AllocError>
 {
     let options = with_options(alloc, "values", help::VALUES, help::DEPTH_OF_TREES)?;
     with_input(alloc, with_flags(alloc, options)?, help::FILE)
+}
+
+// The command that explains bytes, with a flag and an option behind those that other commands have too.
+fn explain<'a>(alloc: Global) -> Result<Command<'a>, AllocError>
+    ensures app { IfOk result (λ command. app_of command ≡ explain) }
+    ensures local { IfOk result (λ command. (out-Command command).has_globals ≡ false) }
+{
+    let options = with_options(alloc, "explain", help::EXPLAIN, help::DEPTH)?;
+    with_input(alloc, with_parts(alloc, options)?, help::FILE)
 }
 
 // The program with the commands that write exactly what a stream has.
@@ -158,6 +168,17 @@ fn with_flags<'a>(alloc: Global, command: Command<'a>) -> Result<Command<'a>, Al
     command
         .arg(flag(alloc, "zeros", help::ZEROS))?
         .arg(flag(alloc, "raw", help::RAW))
+}
+
+// The command with the flag and the option that say which part of a stream is shown.
+fn with_parts<'a>(alloc: Global, command: Command<'a>) -> Result<Command<'a>, AllocError>
+    requires { (out-Command command).has_globals ≡ false }
+    ensures app { IfOk result (λ more. app_of more ≡ with_parts (app_of command.entry)) }
+    ensures local { IfOk result (λ more. (out-Command more).has_globals ≡ false) }
+{
+    command
+        .arg(flag(alloc, "fault", help::FAULT))?
+        .arg(option(alloc, "at", help::AT))
 }
 
 // A flag, which takes no value.

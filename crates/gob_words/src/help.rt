@@ -22,6 +22,8 @@ pub(crate) const TYPES: &str = "Print the types of a stream as Go source";
 
 pub(crate) const WHY: &str = "Say why a stream is refused, and what to do, or how much is in it";
 
+pub(crate) const EXPLAIN: &str = "Print the bytes of a stream row by row, each with what it is";
+
 pub(crate) const NAME_AND_VERSION: &str = "Print the program's name and version";
 
 /// Their options and files.
@@ -35,6 +37,10 @@ pub(crate) const ITEM: &str =
 pub(crate) const ZEROS: &str = "Show absent fields too, as zeros";
 
 pub(crate) const RAW: &str = "Show values of types that encode themselves, as time.Time, in base64";
+
+pub(crate) const FAULT: &str = "Show the item that is refused alone";
+
+pub(crate) const AT: &str = "Show the item around the byte at this offset alone";
 
 pub(crate) const WANTED: &str = "The stream that has the wanted type";
 

@@ -22,6 +22,8 @@ pub enum ViewCommand {
     Types,
     /// Why the stream is refused, in words, or how much is in a whole one.
     Why,
+    /// The bytes, row by row, each with what it is.
+    Explain,
     /// The program's name and version.
     Version,
 }
@@ -33,7 +35,7 @@ impl ViewCommand {
     {
         match self {
             ViewCommand::Values | ViewCommand::Version => DEEPEST_PLAIN,
-            ViewCommand::Types | ViewCommand::Why => DEEPEST,
+            ViewCommand::Types | ViewCommand::Why | ViewCommand::Explain => DEEPEST,
         }
     }
 }
@@ -45,8 +47,8 @@ pub struct View<'a> {
     pub command: ViewCommand,
     /// The name of the file that is read. None: standard input, which the word `-` stands for too.
     pub input: Option<&'a str>,
-    /// The greatest depth of a value: 1 to 65536 for [`ViewCommand::Types`] and [`ViewCommand::Why`], to 1000 for
-    /// [`ViewCommand::Values`].
+    /// The greatest depth of a value: 1 to 65536 for [`ViewCommand::Types`], [`ViewCommand::Why`] and
+    /// [`ViewCommand::Explain`], to 1000 for [`ViewCommand::Values`].
     pub depth: u64,
     /// The most bytes of an item's body.
     pub item: u64,
@@ -54,6 +56,11 @@ pub struct View<'a> {
     pub zeros: bool,
     /// Whether values of types that encode themselves are shown in base64: for [`ViewCommand::Values`] alone.
     pub raw: bool,
+    /// Whether the item that is refused is shown alone: for [`ViewCommand::Explain`] alone.
+    pub fault: bool,
+    /// The offset in the stream of a byte of the item that is shown alone: for [`ViewCommand::Explain`] alone, where
+    /// `fault` isn't asked for.
+    pub at: Option<u64>,
     pub ghost least: { 1 ≤ depth },
     pub ghost most: { depth ≤ most_view_depth command },
 }

@@ -1,11 +1,11 @@
 //! What the words of the command line ask to be shown to people and to other programs, beside the orders.
 
-ghost use Rattle.std.specs.Prelude.{◌≡◌, ◌≢◌, MatchOption, MatchResult, map};
+ghost use Rattle.std.specs.Prelude.{◌≡◌, ◌≢◌, ℕ, Option, MatchOption, MatchResult, map};
 ghost use Rattle.clap.specs.Words.{subcommand_rows_of};
 ghost use Rattle.gob_words.specs.declared.view.View.{View};
 ghost use Rattle.gob_words.specs.declared.view.ViewCommand.{ViewCommand};
 ghost use Rattle.gob_words.specs.Views.{AsksToView, IsFileOf, IsViewFaultOf, IsViewOf, RefusesToView, view_name};
-ghost use Rattle.gob_words.specs.Views.{IsFlagOf, IsVersionView, IsWordAtFault};
+ghost use Rattle.gob_words.specs.Views.{IsFaultFlagOf, IsFlagOf, IsPlaceIn, IsPlaceOf, IsVersionView, IsWordAtFault};
 ghost use Rattle.gob_words.specs.Words.{text_of};
 
 use crate::command_line::program;
@@ -48,6 +48,8 @@ fn version_view<'a>() -> View<'a>
         item: USUAL_ITEM,
         zeros: false,
         raw: false,
+        fault: false,
+        at: None,
     }
 }
 
@@ -61,6 +63,7 @@ fn view_in<'a>(matches: &ArgMatches<'a>) -> Option<View<'a>>
     let command = command_of(name)?;
     let depth = number_of(matches.get_str("depth"), USUAL_DEPTH)?;
     let item = number_of(matches.get_str("item"), USUAL_ITEM)?;
+    let at = place_of(command, matches.get_str("at"))?;
     if depth < 1 || depth > command.most_depth() {
         return None;
     }
@@ -71,6 +74,8 @@ fn view_in<'a>(matches: &ArgMatches<'a>) -> Option<View<'a>>
         item,
         zeros: is_given(command, matches.get_str("zeros")),
         raw: is_given(command, matches.get_str("raw")),
+        fault: is_fault_asked(command, matches.get_str("fault")),
+        at,
     })
 }
 
@@ -83,18 +88,58 @@ fn command_of(name: &str) -> Option<ViewCommand>
         "values" => Some(ViewCommand::Values),
         "types" => Some(ViewCommand::Types),
         "why" => Some(ViewCommand::Why),
+        "explain" => Some(ViewCommand::Explain),
         "version" => Some(ViewCommand::Version),
         _ => None,
     }
 }
 
-// Whether a flag of the command is given, by clap's value of it: the word true where it is. Values alone has flags.
+// Whether the flag of explain is given, by clap's value of it.
+fn is_fault_asked(command: ViewCommand, value: Option<&str>) -> bool
+    ensures { IsFaultFlagOf command (text_of value.entry) result }
+{
+    match command {
+        ViewCommand::Explain => matches!(value, Some("true")),
+        ViewCommand::Values | ViewCommand::Types | ViewCommand::Why | ViewCommand::Version => false,
+    }
+}
+
+// The offset that the word of explain gives, if one is there. None: the word is no number.
+fn place_of(command: ViewCommand, word: Option<&str>) -> Option<Option<u64>>
+    ensures { MatchOption result ((at : Option ℕ) → ¬ IsPlaceOf command (text_of word.entry) at)
+        (IsPlaceOf command (text_of word.entry)) }
+{
+    match command {
+        ViewCommand::Explain => place_in(word),
+        ViewCommand::Values | ViewCommand::Types | ViewCommand::Why | ViewCommand::Version => {
+            Some(None)
+        }
+    }
+}
+
+// The offset that the word gives, if one is there. None: the word is no number.
+fn place_in(word: Option<&str>) -> Option<Option<u64>>
+    ensures { MatchOption result ((at : Option ℕ) → ¬ IsPlaceIn (text_of word.entry) at)
+        (IsPlaceIn (text_of word.entry)) }
+{
+    let Some(digits) = word else {
+        return Some(None);
+    };
+    match number_of(Some(digits), 0) {
+        Some(place) => Some(Some(place)),
+        None => None,
+    }
+}
+
+// Whether a flag of values is given, by clap's value of it: the word true where it is.
 fn is_given(command: ViewCommand, value: Option<&str>) -> bool
     ensures { IsFlagOf command (text_of value.entry) result }
 {
     match command {
         ViewCommand::Values => matches!(value, Some("true")),
-        ViewCommand::Types | ViewCommand::Why | ViewCommand::Version => false,
+        ViewCommand::Types | ViewCommand::Why | ViewCommand::Explain | ViewCommand::Version => {
+            false
+        }
     }
 }
 
@@ -122,8 +167,13 @@ fn number_fault(alloc: Global, matches: &ArgMatches<'_>) -> ViewFault
     let line = match matches.get_str("depth") {
         Some(word) if !is_number(word, 1, most) => number_line(alloc, "depth", word, 1, most),
         _ => match matches.get_str("item") {
-            Some(word) => number_line(alloc, "item", word, 0, u64::MAX),
-            None => return ViewFault::Order(OrderFault::Words),
+            Some(word) if !is_number(word, 0, u64::MAX) => {
+                number_line(alloc, "item", word, 0, u64::MAX)
+            }
+            _ => match matches.get_str("at") {
+                Some(word) => number_line(alloc, "at", word, 0, u64::MAX),
+                None => return ViewFault::Order(OrderFault::Words),
+            },
         },
     };
     said(line)

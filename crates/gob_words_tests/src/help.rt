@@ -25,6 +25,7 @@ Usage: gob <COMMAND>
   values 
   types 
   why 
+  explain 
   version 
   help 
   -V, --version
@@ -48,6 +49,15 @@ where it is -,
 --zeros 
 --raw 
 1 to 1000,";
+
+const EXPLAIN: &str = "\
+Usage: gob explain [OPTIONS] [IN]
+where it is -,
+--depth <N>
+--item <N>
+--fault 
+--at <N>
+1 to 65536,";
 
 #[test]
 fn help_has_its_texts(rt: HostRuntime) {
@@ -75,6 +85,10 @@ fn help_has_its_texts(rt: HostRuntime) {
     assert!(rt;
         tells(alloc, &["gob", "why", "--help"], "1 to 65536,"),
         "why --help"
+    );
+    assert!(rt;
+        tells(alloc, &["gob", "help", "explain"], EXPLAIN),
+        "help explain"
     );
 }
 

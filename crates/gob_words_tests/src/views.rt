@@ -12,6 +12,37 @@ fn gives(alloc: Global, words: &[&str], view: View) -> bool {
     }
 }
 
+// What `explain` gives with these flags.
+fn explained(fault: bool, at: Option<u64>) -> View<'static> {
+    View {
+        command: ViewCommand::Explain,
+        input: None,
+        depth: 1000,
+        item: 67108864,
+        zeros: false,
+        raw: false,
+        fault,
+        at,
+    }
+}
+
+#[test]
+fn words_explain_parts(rt: HostRuntime) {
+    let alloc = rt.alloc();
+    let all = explained(false, None);
+    assert!(rt; gives(alloc, &["gob", "explain"], all), "all");
+    let fault = explained(true, None);
+    assert!(rt;
+        gives(alloc, &["gob", "explain", "--fault"], fault),
+        "the refused item"
+    );
+    let at = explained(false, Some(37));
+    assert!(rt;
+        gives(alloc, &["gob", "explain", "--at", "37", "-"], at),
+        "an item"
+    );
+}
+
 #[test]
 fn words_give_views(rt: HostRuntime) {
     let alloc = rt.alloc();
@@ -22,6 +53,8 @@ fn words_give_views(rt: HostRuntime) {
         item: 67108864,
         zeros: false,
         raw: false,
+        fault: false,
+        at: None,
     };
     assert!(rt; gives(alloc, &["gob", "values"], valued), "values");
     assert!(rt;
@@ -35,6 +68,8 @@ fn words_give_views(rt: HostRuntime) {
         item: 0,
         zeros: false,
         raw: false,
+        fault: false,
+        at: None,
     };
     let words = ["gob", "values", "--depth", "5", "f", "--item=0"];
     assert!(rt; gives(alloc, &words, valued_file), "values of a file");
@@ -45,6 +80,8 @@ fn words_give_views(rt: HostRuntime) {
         item: 67108864,
         zeros: false,
         raw: false,
+        fault: false,
+        at: None,
     };
     let words = ["gob", "types", "f", "--depth=65536"];
     assert!(rt; gives(alloc, &words, typed_deep), "types");
@@ -55,6 +92,8 @@ fn words_give_views(rt: HostRuntime) {
         item: 7,
         zeros: false,
         raw: false,
+        fault: false,
+        at: None,
     };
     let words = ["gob", "why", "f", "--depth=65536", "--item", "7"];
     assert!(rt; gives(alloc, &words, told), "why");
@@ -65,6 +104,8 @@ fn words_give_views(rt: HostRuntime) {
         item: 67108864,
         zeros: false,
         raw: false,
+        fault: false,
+        at: None,
     };
     assert!(rt; gives(alloc, &["gob", "version"], version), "version");
     assert!(rt; gives(alloc, &["gob", "--version"], version), "--version");
@@ -81,6 +122,8 @@ fn flagged(zeros: bool, raw: bool) -> View<'static> {
         item: 67108864,
         zeros,
         raw,
+        fault: false,
+        at: None,
     }
 }
 
@@ -105,6 +148,8 @@ fn flags_are_set_by_their_words(rt: HostRuntime) {
         item: 67108864,
         zeros: true,
         raw: false,
+        fault: false,
+        at: None,
     };
     let words = ["gob", "values", "--zeros", "--", "--raw"];
     assert!(rt;
@@ -145,6 +190,16 @@ why --raw
 gob: unexpected argument '--raw' found
 why --depth 65537 f
 gob: invalid value '65537' for '--depth <N>': no number from 1 to 65536
+why --fault
+gob: unexpected argument '--fault' found
+types --at 1
+gob: unexpected argument '--at' found
+explain --at x
+gob: invalid value 'x' for '--at <N>': no number from 0 to 18446744073709551615
+explain --depth 65537
+gob: invalid value '65537' for '--depth <N>': no number from 1 to 65536
+explain --raw
+gob: unexpected argument '--raw' found
 version --zeros
 gob: unexpected argument '--zeros' found
 version now

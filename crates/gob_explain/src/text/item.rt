@@ -1,12 +1,18 @@
 //! The lines of an item: of its count, its type number and its body.
 
-use crate::body::walk_body;
+ghost use Rattle.std.specs.Prelude.{◌≡◌, ◌≤◌, ℕ, List, length, IfOk, OnOk, string_bytes};
+ghost use Rattle.gob_num.specs.Unsigned.{IsUnsigned};
+ghost use Rattle.gob_types.specs.Defined.{types};
+ghost use Rattle.gob_explain.specs.Items.{HasBodyLines, HasItemLines, HasItemShown, HasSomeLine, NamesBody};
+ghost use Rattle.gob_explain.specs.Walk.{between};
+
+use crate::body::{Walked, walk_body};
 use crate::row::Awaited;
 use crate::text::lines::push_line;
 use crate::text::names::push_type_name;
 use crate::text::printer::Printer;
 use gob_num::{Memory, to_signed, uint_at};
-use gob_types::{Shapes, TypeId};
+use gob_types::{Table, TypeId};
 use std::alloc::{AllocError, Global};
 
 // No value is deeper that is gone over.
@@ -26,7 +32,9 @@ pub struct Reached {
 }
 
 impl Reached {
-    fn at(place: usize) -> Reached {
+    fn at(place: usize) -> Reached
+        ensures { result.place ≡ place }
+    {
         Reached {
             place,
             id: None,
@@ -37,15 +45,18 @@ impl Reached {
 }
 
 /// Puts the lines of an item behind the text, as far as they stand in these bytes, and tells how far they lead. The
-/// item begins with the first of the bytes, which stands at this offset of the stream. No value may be deeper than
-/// 1000.
-pub fn push_item<S: Shapes>(
+/// item begins with the first of the bytes, which stands at this offset of the stream. A value of a type that isn't
+/// ready has no lines, and none may be deeper than 1000. After an error the text has some of the lines.
+pub fn push_item(
     alloc: Global,
-    shapes: &S,
+    table: &Table,
     bytes: &[u8],
     offset: u64,
     out: &mut String,
-) -> Result<Reached, Memory> {
+) -> Result<Reached, Memory>
+    ensures { IfOk result (λ reached. HasItemLines (types table.now) offset bytes.now (string_bytes out.old)
+        (string_bytes out.new) reached.place) }
+{
     let Some((count, begin)) = uint_at(bytes, 0) else {
         return Ok(Reached::at(0));
     };
@@ -53,23 +64,58 @@ pub fn push_item<S: Shapes>(
     let Some((number, body)) = uint_at(bytes, begin) else {
         return Ok(Reached::at(begin));
     };
-    let place = offset.saturating_add(begin as u64);
-    let id = push_type(alloc, shapes, part(bytes, begin, body), number, place, out)?;
-    let rest = bytes.get(body..).unwrap_or(&[]);
-    let begins = offset.saturating_add(body as u64);
-    let mut printer = Printer::new(alloc, shapes, rest, begins);
-    let walked = walk_body(shapes, id, rest, MOST_DEPTH, &mut printer)?;
-    out.push_str(printer.finish()?.as_str())?;
+    let named = part(bytes, begin, body);
+    push_type(
+        alloc,
+        table,
+        named,
+        number,
+        offset.saturating_add(begin as u64),
+        out,
+    )?;
+    let id = body_type(number);
+    let rest = part(bytes, body, bytes.len());
+    let walked = push_body(
+        alloc,
+        table,
+        id,
+        rest,
+        offset.saturating_add(body as u64),
+        out,
+    )?;
     Ok(Reached {
-        place: body.saturating_add(walked.place),
+        place: body + walked.place,
         id: Some(id),
         body,
         awaited: walked.awaited,
     })
 }
 
+/// Puts the lines of the first bytes of an item behind the text, up to their end: those of [`push_item`], and a line of
+/// what is left where these don't lead to the end. After an error the text has some of the lines.
+pub fn push_first_bytes(
+    alloc: Global,
+    table: &Table,
+    bytes: &[u8],
+    offset: u64,
+    out: &mut String,
+) -> Result<Reached, Memory>
+    ensures { IfOk result (λ reached. HasItemShown (types table.now) offset bytes.now (string_bytes out.old)
+        (string_bytes out.new)) }
+{
+    let reached = push_item(alloc, table, bytes, offset, out)?;
+    if reached.place < bytes.len() {
+        let rest = part(bytes, reached.place, bytes.len());
+        let place = offset.saturating_add(reached.place as u64);
+        push_line(place, rest, 0, "what comes next begins here", out)?;
+    }
+    Ok(reached)
+}
+
 // The bytes from one place up to the other.
-fn part(bytes: &[u8], begin: usize, end: usize) -> &[u8] {
+fn part(bytes: &[u8], begin: usize, end: usize) -> &[u8]
+    ensures { begin ≤ end → end ≤ length bytes.now → result.now ≡ between begin end bytes.now }
+{
     bytes.get(begin..end).unwrap_or(&[])
 }
 
@@ -79,35 +125,78 @@ fn push_count(
     count: u64,
     offset: u64,
     out: &mut String,
-) -> Result<(), AllocError> {
+) -> Result<(), AllocError>
+    ensures { OnOk result (HasSomeLine offset bytes.now (string_bytes out.old) (string_bytes out.new)) }
+{
     let noun = if count == 1 { "byte" } else { "bytes" };
     let meaning = format!(in alloc; "an item of {count} {noun}")?;
     push_line(offset, bytes, 0, meaning.as_str(), out)
 }
 
-// Puts the line of a type number behind the text, and tells the type of the body.
-fn push_type<S: Shapes>(
+// The type of the body behind this type number: that of descriptions for a definition.
+fn body_type(number: u64) -> TypeId
+    ensures { (bytes : List ℕ) → IsUnsigned number bytes → NamesBody bytes result }
+{
+    let sign = number % 2;
+    if sign == 0 {
+        return TypeId(number / 2);
+    }
+    TypeId::WIRE_TYPE
+}
+
+// Puts the line of a type number behind the text.
+fn push_type(
     alloc: Global,
-    shapes: &S,
+    table: &Table,
     bytes: &[u8],
     number: u64,
     offset: u64,
     out: &mut String,
-) -> Result<TypeId, AllocError> {
+) -> Result<(), AllocError>
+    ensures { OnOk result (HasSomeLine offset bytes.now (string_bytes out.old) (string_bytes out.new)) }
+{
+    let meaning = type_meaning(alloc, table, number)?;
+    push_line(offset, bytes, 1, meaning.as_str(), out)
+}
+
+// What a type number says.
+fn type_meaning(alloc: Global, table: &Table, number: u64) -> Result<String, AllocError> {
     let signed = to_signed(number);
     let id = signed.unsigned_abs();
     if signed < 0 {
-        let meaning = format!(in alloc; "defines type {id}")?;
-        push_line(offset, bytes, 1, meaning.as_str(), out)?;
-        return Ok(TypeId::WIRE_TYPE);
+        return format!(in alloc; "defines type {id}");
     }
     let mut name = String::new(alloc);
-    push_type_name(alloc, shapes, TypeId(id), &mut name)?;
+    push_type_name(alloc, table, TypeId(id), &mut name)?;
     let mut meaning = format!(in alloc; "a value of type {id}")?;
     if !name.is_empty() {
         meaning.push_str(", ")?;
         meaning.push_str(name.as_str())?;
     }
-    push_line(offset, bytes, 1, meaning.as_str(), out)?;
-    Ok(TypeId(id))
+    Ok(meaning)
+}
+
+// Puts the lines of a body behind the text.
+fn push_body(
+    alloc: Global,
+    table: &Table,
+    id: TypeId,
+    body: &[u8],
+    offset: u64,
+    out: &mut String,
+) -> Result<Walked, Memory>
+    ensures { IfOk result (λ walked. HasBodyLines (types table.now) id offset body.now (string_bytes out.old)
+        (string_bytes out.new) walked.place) }
+{
+    if !table.kept(id) {
+        return Ok(Walked {
+            place: 0,
+            whole: false,
+            awaited: None,
+        });
+    }
+    let mut printer = Printer::new(alloc, table, body, offset);
+    let walked = walk_body(table, id, body, MOST_DEPTH, &mut printer)?;
+    out.push_str(printer.finish()?.as_str())?;
+    Ok(walked)
 }

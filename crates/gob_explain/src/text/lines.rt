@@ -1,5 +1,8 @@
 //! Lines: bytes of a stream with their offset, and beside them what they are.
 
+ghost use Rattle.std.specs.Prelude.{◌≡◌, ◌-◌, ◌++◌, ◌≤◌, length, take, drop, min, OnOk, string_bytes};
+ghost use Rattle.gob_explain.specs.Column.{AddsSpaces, HasLineAdded, HasMoreAdded, hex_column, offset_text};
+
 use std::alloc::AllocError;
 
 // So many bytes stand in a line.
@@ -16,46 +19,76 @@ pub fn push_line(
     levels: u64,
     meaning: &str,
     out: &mut String,
-) -> Result<(), AllocError> {
+) -> Result<(), AllocError>
+    ensures { OnOk result (HasLineAdded offset bytes.now meaning.now (string_bytes out.old) (string_bytes out.new)) }
+{
     let (shown, more) = split(bytes, WIDTH);
     push_bytes(offset, shown, out)?;
-    for _ in shown.len()..WIDTH {
-        out.push_str("   ")?;
-    }
-    out.push_str("  ")?;
-    for _ in 0..levels {
-        out.push_str("  ")?;
-    }
+    push_gap(WIDTH.saturating_sub(shown.len()), levels, out)?;
     out.push_str(meaning)?;
-    out.push('\n')?;
+    out.push_str("\n")?;
     push_more(offset.saturating_add(shown.len() as u64), more, out)
 }
 
-// The lines of the bytes behind the first ones.
-fn push_more(begin: u64, bytes: &[u8], out: &mut String) -> Result<(), AllocError> {
-    let (shown, more) = split(bytes, MOST - WIDTH);
-    let mut offset = begin;
-    for piece in shown.chunks(WIDTH) {
-        push_bytes(offset, piece, out)?;
-        out.push('\n')?;
-        offset = offset.saturating_add(piece.len() as u64);
+// What stands between the bytes and what they are: room for so many bytes more, and two spaces for each level.
+fn push_gap(missing: usize, levels: u64, out: &mut String) -> Result<(), AllocError>
+    ensures { OnOk result (AddsSpaces (string_bytes out.old) (string_bytes out.new)) }
+{
+    'bytes: for _ in 0..missing {
+        out.push_str("   ")?;
     }
+    out.push_str("  ")?;
+    'levels: for _ in 0..levels {
+        out.push_str("  ")?;
+    }
+    Ok(())
+}
+
+// The lines of the bytes behind the first ones.
+fn push_more(begin: u64, bytes: &[u8], out: &mut String) -> Result<(), AllocError>
+    ensures { OnOk result (HasMoreAdded bytes.now (string_bytes out.old) (string_bytes out.new)) }
+{
+    let (shown, more) = split(bytes, MOST - WIDTH);
+    push_shown(begin, shown, out)?;
     if more.is_empty() {
         return Ok(());
     }
     write!(out, "        .. {} bytes more\n", more.len())
 }
 
+// A line for each 8 bytes.
+fn push_shown(begin: u64, bytes: &[u8], out: &mut String) -> Result<(), AllocError>
+    ensures { OnOk result (HasMoreAdded bytes.now (string_bytes out.old) (string_bytes out.new)) }
+{
+    let mut offset = begin;
+    let mut rest = bytes;
+    while !rest.is_empty() {
+        let (piece, later) = split(rest, WIDTH);
+        push_bytes(offset, piece, out)?;
+        out.push_str("\n")?;
+        offset = offset.saturating_add(piece.len() as u64);
+        rest = later;
+    }
+    Ok(())
+}
+
 // The first bytes, as many as these or all, and the others.
-fn split(bytes: &[u8], most: usize) -> (&[u8], &[u8]) {
+fn split(bytes: &[u8], most: usize) -> (&[u8], &[u8])
+    ensures first { result.0.now ≡ take most bytes.now }
+    ensures others { result.1.now ≡ drop most bytes.now }
+    ensures size { length result.0.now ≡ min most (length bytes.now) }
+{
     let end = most.min(bytes.len());
     (&bytes[..end], &bytes[end..])
 }
 
 // An offset, and behind it each byte in hexadecimal behind a space.
-fn push_bytes(offset: u64, bytes: &[u8], out: &mut String) -> Result<(), AllocError> {
+fn push_bytes(offset: u64, bytes: &[u8], out: &mut String) -> Result<(), AllocError>
+    ensures { OnOk result (string_bytes out.new ≡ string_bytes out.old ++ (offset_text offset ++ hex_column
+        bytes.now)) }
+{
     write!(out, "{offset:>6} ")?;
-    for byte in bytes {
+    'bytes: for byte in bytes {
         write!(out, " {:02x}", *byte)?;
     }
     Ok(())

@@ -1,6 +1,10 @@
 //! A sink that makes lines of the rows of a body.
 
+ghost use Rattle.std.specs.Prelude.{◌≡◌, ◌+◌, ◌<◌, ◌≤◌, ℕ, List, None, length, take, IfOk, OnOk, string_bytes};
 ghost use Rattle.gob_explain.specs.declared.row.Row.{Row};
+ghost use Rattle.gob_explain.specs.Column.{ColumnIs, HasLineAdded, saturated};
+ghost use Rattle.gob_explain.specs.Machine.Printing.{HasPrinted, PrintsRows};
+ghost use Rattle.gob_explain.specs.Walk.{between};
 
 use crate::row::{Row, Step, What};
 use crate::sink::RowSink;
@@ -40,7 +44,10 @@ struct Line {
 }
 
 impl Line {
-    fn of(row: &Row) -> Line {
+    fn of(row: &Row) -> Line
+        ensures begin { result.begin ≡ row.now.begin }
+        ensures end { result.end ≡ row.now.end }
+    {
         Line {
             begin: row.begin,
             end: row.end,
@@ -53,7 +60,11 @@ impl Line {
 impl<'a, S: Shapes> Printer<'a, S> {
     /// A printer of the rows of these bytes, which stand behind a type number. `offset` is where they begin in the
     /// stream.
-    pub fn new(alloc: Global, shapes: &'a S, body: &'a [u8], offset: u64) -> Printer<'a, S> {
+    pub fn new(alloc: Global, shapes: &'a S, body: &'a [u8], offset: u64) -> Printer<'a, S>
+        ensures offset { result.offset ≡ offset }
+        ensures body { result.body.now ≡ body.now }
+        ensures printed { HasPrinted offset body.now result.line (string_bytes result.text) 0 }
+    {
         Printer {
             alloc,
             shapes,
@@ -66,7 +77,11 @@ impl<'a, S: Shapes> Printer<'a, S> {
     }
 
     /// The lines, with one for what was told of a part that isn't whole.
-    pub fn finish(mut self) -> Result<String, Memory> {
+    pub fn finish(mut self) -> Result<String, Memory>
+        ensures { (at : ℕ)
+            → HasPrinted self.entry.offset self.entry.body.now self.entry.line (string_bytes self.entry.text) at
+            → IfOk result (λ text. ColumnIs self.entry.offset (take at self.entry.body.now) (string_bytes text)) }
+    {
         self.end_line(Behind::Missing)?;
         let Printer {
             alloc: _,
@@ -81,7 +96,15 @@ impl<'a, S: Shapes> Printer<'a, S> {
     }
 
     // Ends the line under way, if there is one.
-    fn end_line(&mut self, behind: Behind<'_>) -> Result<(), AllocError> {
+    fn end_line(&mut self, behind: Behind<'_>) -> Result<(), AllocError>
+        ensures offset { self.new.offset ≡ self.old.offset }
+        ensures body { self.new.body ≡ self.old.body }
+        ensures none { OnOk result (self.new.line ≡ None) }
+        ensures printed { (at : ℕ)
+            → HasPrinted self.old.offset self.old.body.now self.old.line (string_bytes self.old.text) at
+            → OnOk result
+            (HasPrinted self.new.offset self.new.body.now self.new.line (string_bytes self.new.text) at) }
+    {
         let Some(line) = self.line.take() else {
             return Ok(());
         };
@@ -97,7 +120,15 @@ impl<'a, S: Shapes> Printer<'a, S> {
     }
 
     // Puts a line behind the text.
-    fn push(&mut self, line: &Line, meaning: &str) -> Result<(), AllocError> {
+    fn push(&mut self, line: &Line, meaning: &str) -> Result<(), AllocError>
+        ensures offset { self.new.offset ≡ self.old.offset }
+        ensures body { self.new.body ≡ self.old.body }
+        ensures under_way { self.new.line ≡ self.old.line }
+        ensures added { line.now.begin ≤ line.now.end → line.now.end ≤ length self.old.body.now
+            → OnOk result (HasLineAdded (saturated (self.old.offset + line.now.begin))
+            (between line.now.begin line.now.end self.old.body.now) meaning.now (string_bytes self.old.text)
+            (string_bytes self.new.text)) }
+    {
         let bytes = self.bytes(line.begin, line.end);
         let offset = self.offset.saturating_add(line.begin as u64);
         let levels = line.depth.saturating_add(OUTER);
@@ -105,18 +136,38 @@ impl<'a, S: Shapes> Printer<'a, S> {
     }
 
     // The bytes from one place up to the other.
-    fn bytes(&self, begin: usize, end: usize) -> &'a [u8] {
+    fn bytes(&self, begin: usize, end: usize) -> &'a [u8]
+        ensures { begin ≤ end → end ≤ length self.now.body.now → result.now ≡ between begin end self.now.body.now }
+    {
         self.body.get(begin..end).unwrap_or(&[])
     }
 
     // Begins a line with the row, or goes on in the one under way.
-    fn go_on(&mut self, row: &Row) {
+    fn go_on(&mut self, row: &Row)
+        ensures offset { self.new.offset ≡ self.old.offset }
+        ensures body { self.new.body ≡ self.old.body }
+        ensures printed { row.now.begin < row.now.end → row.now.end ≤ length self.old.body.now
+            → HasPrinted self.old.offset self.old.body.now self.old.line (string_bytes self.old.text) row.now.begin
+            → HasPrinted self.new.offset self.new.body.now self.new.line (string_bytes self.new.text) row.now.end }
+    {
         let mut line = self.line.unwrap_or(Line::of(row));
         line.end = row.end;
         if row.what == What::First {
             line.first = Some(*row);
         }
         self.line = Some(line);
+    }
+
+    // Puts a row behind the text, on a line of its own.
+    fn push_row(&mut self, row: &Row, meaning: &str) -> Result<(), AllocError>
+        ensures offset { self.new.offset ≡ self.old.offset }
+        ensures body { self.new.body ≡ self.old.body }
+        ensures printed { self.old.line ≡ None → row.now.begin < row.now.end → row.now.end ≤ length self.old.body.now
+            → HasPrinted self.old.offset self.old.body.now self.old.line (string_bytes self.old.text) row.now.begin
+            → OnOk result
+            (HasPrinted self.new.offset self.new.body.now self.new.line (string_bytes self.new.text) row.now.end) }
+    {
+        self.push(&Line::of(row), meaning)
     }
 
     // What the end of a struct is called: its place in a list or map, or its type.
@@ -136,18 +187,20 @@ impl<'a, S: Shapes> Printer<'a, S> {
         Ok(text)
     }
 
-    fn put_row(&mut self, row: &Row) -> Result<(), AllocError> {
+    fn put_row(&mut self, row: &Row) -> Result<(), AllocError>
+        ensures offset { self.new.offset ≡ self.old.offset }
+        ensures body { self.new.body ≡ self.old.body }
+        ensures printed { row.now.begin < row.now.end → row.now.end ≤ length self.old.body.now
+            → HasPrinted self.old.offset self.old.body.now self.old.line (string_bytes self.old.text) row.now.begin
+            → OnOk result
+            (HasPrinted self.new.offset self.new.body.now self.new.line (string_bytes self.new.text) row.now.end) }
+    {
         match row.what {
-            What::Tag => self.push(&Line::of(row), "the tag of a value that is no struct"),
-            What::Delta => {
+            What::Tag => {
                 self.end_line(Behind::Missing)?;
-                if row.number > 0 {
-                    self.go_on(row);
-                    return Ok(());
-                }
-                let text = self.end_of_struct(row.id)?;
-                self.push(&Line::of(row), text.as_str())
+                self.push_row(row, "the tag of a value that is no struct")
             }
+            What::Delta => self.put_delta(row),
             What::First => {
                 self.go_on(row);
                 if goes_on(self.shapes, row) {
@@ -166,12 +219,33 @@ impl<'a, S: Shapes> Printer<'a, S> {
             }
         }
     }
+
+    // A delta begins the line of its field, and a 0 ends the struct.
+    fn put_delta(&mut self, row: &Row) -> Result<(), AllocError>
+        ensures offset { self.new.offset ≡ self.old.offset }
+        ensures body { self.new.body ≡ self.old.body }
+        ensures printed { row.now.begin < row.now.end → row.now.end ≤ length self.old.body.now
+            → HasPrinted self.old.offset self.old.body.now self.old.line (string_bytes self.old.text) row.now.begin
+            → OnOk result
+            (HasPrinted self.new.offset self.new.body.now self.new.line (string_bytes self.new.text) row.now.end) }
+    {
+        self.end_line(Behind::Missing)?;
+        if row.number > 0 {
+            self.go_on(row);
+            return Ok(());
+        }
+        let text = self.end_of_struct(row.id)?;
+        self.push_row(row, text.as_str())
+    }
 }
 
 impl<S: Shapes> RowSink for Printer<'_, S> {
     type Fault = Memory;
 
-    ghost tells = { λ old new rows result. Unit {0} };
+    ghost use Rattle.gob_explain.specs.Machine.Printing.{prints_both, prints_nothing};
+
+    ghost tells = { λ old new rows result. PrintsRows old.offset old.body.now old.line (string_bytes old.text)
+        new.offset new.body.now new.line (string_bytes new.text) rows result };
 
     fn put(&mut self, row: Row) -> Result<(), Memory> {
         Ok(self.put_row(&row)?)
@@ -185,9 +259,11 @@ impl<S: Shapes> RowSink for Printer<'_, S> {
         self.path.pop();
     }
 
-    ghost nothing = { λ a. tt };
+    ghost nothing = { λ a. prints_nothing a.offset a.body.now a.line (string_bytes a.text) };
 
-    ghost joined = { λ a b c x y r p q. tt };
+    ghost joined = { λ a b c x y r p q. prints_both a.offset a.body.now a.line (string_bytes a.text)
+        b.offset b.body.now b.line (string_bytes b.text)
+        c.offset c.body.now c.line (string_bytes c.text) x y r p q };
 }
 
 // Whether the first number of a part is followed by more in the same line.

@@ -5,7 +5,7 @@ use Rattle.gob_stream.specs.Bounds.{no_deeper}
 use Rattle.gob_words.specs.ViewDepths.{most_view_depth}
 use Rattle.gob_words.specs.declared.view.View.{View}
 use Rattle.gob_words.specs.declared.view.ViewCommand.{ViewCommand}
-use Rattle.gob_views.specs.Running.{ViewAnswers, version_line, view_limits, view_style}
+use Rattle.gob_views.specs.Running.{ViewAnswers, version_line, view_explained, view_limits, view_style}
 use Rattle.gob_views.proofs.SendLaws.{sends_ended}
 use Rattle.gob_views.proofs.run.run_view.Goals as goal
 
@@ -25,7 +25,8 @@ returns-in-Values-clause-shows g c = λ bytes known.
     let view = c.args.view.now in
     let printed = rw (c.limits_of.ensures, within_view view _ c.in-Values.is, c.style_of.ensures) at
     c.run_values.ensures.printed in
-    subst (λ x. ViewAnswers x (view_limits view) (view_style view) bytes next old new c.run_values.result)
+    subst (λ x. ViewAnswers x (view_limits view) (view_style view) (view_explained view) bytes next old new
+    c.run_values.result)
     (sym c.in-Values.is)
     (printed bytes known)
 
@@ -36,7 +37,8 @@ returns-in-Types-clause-shows g c = λ bytes known.
     let next = g.R.Read.remaining (reader_of c.run_types.new.input) in
     let view = c.args.view.now in
     let written = rw (c.limits_of-in-Types.ensures, within_view view _ c.in-Types.is) at c.run_types.ensures.written in
-    subst (λ x. ViewAnswers x (view_limits view) (view_style view) bytes next old new c.run_types.result)
+    subst (λ x. ViewAnswers x (view_limits view) (view_style view) (view_explained view) bytes next old new
+    c.run_types.result)
     (sym c.in-Types.is)
     (written bytes known)
 
@@ -47,7 +49,8 @@ returns-in-Why-clause-shows g c = λ bytes known.
     let next = g.R.Read.remaining (reader_of c.run_why.new.input) in
     let view = c.args.view.now in
     let told = rw (c.limits_of-in-Why.ensures, within_view view _ c.in-Why.is) at c.run_why.ensures.told in
-    subst (λ x. ViewAnswers x (view_limits view) (view_style view) bytes next old new c.run_why.result)
+    subst (λ x. ViewAnswers x (view_limits view) (view_style view) (view_explained view) bytes next old new
+    c.run_why.result)
     (sym c.in-Why.is)
     (told bytes known)
 
@@ -57,7 +60,7 @@ returns-in-Version-clause-shows g c = λ bytes known.
     let mid = g.W.Write.contents (writer_of c.write_version.new.output) in
     let new = g.W.Write.contents (writer_of c.end_run.new.output) in
     let view = c.args.view.now in
-    subst (λ x. ViewAnswers x (view_limits view) (view_style view) bytes (g.R.Read.remaining
+    subst (λ x. ViewAnswers x (view_limits view) (view_style view) (view_explained view) bytes (g.R.Read.remaining
     (reader_of c.args.input.now)) old new
     c.end_run.result) (sym c.in-Version.is)
     (sends_ended old mid new version_line c.write_version.result c.end_run.result c.end_run.ensures.bytes
@@ -66,3 +69,16 @@ returns-in-Version-clause-shows g c = λ bytes known.
 pub returns-in-Version-clause-writes : goal.returns-in-Version-clause-writes
 returns-in-Version-clause-writes g c =
     c.end_run.ensures.writes (failed_writes c.args.output.now) c.write_version.ensures.writes
+
+pub returns-in-Explain-clause-shows : goal.returns-in-Explain-clause-shows
+returns-in-Explain-clause-shows g c = λ bytes known.
+    let old = g.W.Write.contents (writer_of c.args.output.now) in
+    let new = g.W.Write.contents (writer_of c.run_explain.new.output) in
+    let next = g.R.Read.remaining (reader_of c.run_explain.new.input) in
+    let view = c.args.view.now in
+    let explained = rw (c.limits_of-in-Explain.ensures, within_view view _ c.in-Explain.is, c.explained_of.ensures) at
+    c.run_explain.ensures.explained in
+    subst (λ x. ViewAnswers x (view_limits view) (view_style view) (view_explained view) bytes next old new
+    c.run_explain.result)
+    (sym c.in-Explain.is)
+    (explained bytes known)

@@ -1,7 +1,8 @@
 -- What is asked for is read off the rows of the one subcommand that was met.
-use Rattle.std.proofs.Common.{◌∙◌, sym, codes, arith}
+use Rattle.std.proofs.Common.{◌∙◌, sym, subst, codes, arith}
 use Rattle.clap.specs.Words.{found_of, rows_of, subcommand_rows_of}
 use Rattle.clap.proofs.WalkLemmas.{first_value-rows}
+use Rattle.gob_words.specs.Views.{IsPlaceOf}
 use Rattle.gob_words.proofs.WordLaws.{one_number, writes_alike}
 use Rattle.gob_words.proofs.ViewLaws.{view_meets, views_together}
 use Rattle.gob_words.proofs.views.view_in.Goals.{then-depth-lt1-via-then-depth-lt1}
@@ -28,6 +29,16 @@ returns-in_err-item c =
     let given = view_meets (subcommand_rows_of c.args.matches.now) c.in_ok-command.command (rows_of f) view met h in
     c.in_err-item.ensures view.item (writes_alike _ _ _ _ (sym word) given.item))
 
+pub returns-in_err-at : goal.returns-in_err-at
+returns-in_err-at c =
+    let f = found_of c.in_ok-name.matches.now in
+    let met = views_together _ _ _ _ _ _ c.in_ok-name.ensures.name c.in_ok-name.ensures.rows
+    c.in_ok-command.ensures in
+    let word = c.get_str-3.ensures ∙ first_value-rows f (codes "at") in
+    rw c.from_residual-in_err-at.ensures (λ view h.
+    let given = view_meets (subcommand_rows_of c.args.matches.now) c.in_ok-command.command (rows_of f) view met h in
+    c.in_err-at.ensures view.at (subst (λ w. IsPlaceOf c.in_ok-command.command w view.at) (sym word) given.at))
+
 pub returns-then-depth-lt1 : goal.returns-then-depth-lt1
 returns-then-depth-lt1 c = λ view h.
     let f = found_of c.in_ok-name.matches.now in
@@ -49,11 +60,13 @@ returns c =
       rows = rows_of f;
       command = views_together _ _ _ _ _ _ c.in_ok-name.ensures.name c.in_ok-name.ensures.rows
           c.in_ok-command.ensures;
-      input = rw (← c.get_str-3.ensures ∙ first_value-rows f (codes "IN")) c.file_of.ensures;
+      input = rw (← c.get_str-4.ensures ∙ first_value-rows f (codes "IN")) c.file_of.ensures;
       depth = writes_alike _ _ _ _ (c.get_str.ensures ∙ first_value-rows f (codes "depth")) c.in_ok-depth.ensures;
       item = writes_alike _ _ _ _ (c.get_str-2.ensures ∙ first_value-rows f (codes "item")) c.in_ok-item.ensures;
-      zeros = rw (← c.get_str-4.ensures ∙ first_value-rows f (codes "zeros")) c.is_given.ensures;
-      raw = rw (← c.get_str-5.ensures ∙ first_value-rows f (codes "raw")) c.is_given-2.ensures;
+      zeros = rw (← c.get_str-5.ensures ∙ first_value-rows f (codes "zeros")) c.is_given.ensures;
+      raw = rw (← c.get_str-6.ensures ∙ first_value-rows f (codes "raw")) c.is_given-2.ensures;
+      fault = rw (← c.get_str-7.ensures ∙ first_value-rows f (codes "fault")) c.is_fault_asked.ensures;
+      at = rw (← c.get_str-3.ensures ∙ first_value-rows f (codes "at")) c.in_ok-at.ensures;
       least = omega (arith, c.if-depth-lt1.false);
       most = omega (arith, c.if-depth-most_depth.false, c.most_depth.ensures);
     }

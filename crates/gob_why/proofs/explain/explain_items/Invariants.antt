@@ -1,0 +1,23 @@
+-- All that was taken is explained, and the text went out.
+use Rattle.std.proofs.Common.{◌≡◌, ◌+◌, ◌-◌, [], List, ℕ, vec_len, string_bytes}
+use Rattle.gob_stream.specs.Calls.Ends.{failed_reads, failed_writes, reader_of, writer_of}
+use Rattle.gob_tool.specs.Machine.Tallying.{HasTallied}
+use Rattle.gob_why.specs.Machine.Keeping.{ExplainsSo}
+use Rattle.gob_why.proofs.explain.explain_items.Given as goal
+
+abbrev pub invariant-pieces : goal.invariant-pieces
+invariant-pieces g l =
+    (l.session.limits ≡ l.fn.session.limits)
+    × (failed_reads l.input ≡ failed_reads l.fn.input)
+    × (failed_writes l.output ≡ failed_writes l.fn.output)
+    × (vec_len l.piece ≡ 65536)
+    × (string_bytes l.kept.lines ≡ [])
+    × (l.kept.explained ≡ l.fn.kept.explained)
+    × ((bytes : List ℕ) × HasTallied l.session l.items bytes)
+    × ExplainsSo l.kept.explained l.session (g.R.Read.remaining (reader_of l.fn.input))
+    (g.R.Read.remaining (reader_of l.input)) (g.W.Write.contents (writer_of l.fn.output))
+    (g.W.Write.contents (writer_of l.output)) l.kept.item.items l.kept.begin
+
+-- each turn takes a byte
+abbrev pub decreases-pieces : goal.decreases-pieces
+decreases-pieces g l = l.session.limits.stream + 9 - l.session.taken
