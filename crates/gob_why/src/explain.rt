@@ -17,12 +17,12 @@ ghost use Rattle.gob_types.specs.Defined.{types};
 
 use crate::explained::Explained;
 use crate::kept::Kept;
-use crate::reading::{read_piece, room_for_piece, take_piece};
+use crate::reading::take_piece;
 use crate::refused::refused_text;
 use crate::scene::Scene;
 use gob_read::SkipBuilder;
 use gob_stream::{Input, Limits, Output, Session, WriteFault};
-use gob_tool::{ToolFault, end_run};
+use gob_tool::{ToolFault, end_run, read_piece, room_for_piece};
 use std::alloc::Global;
 use std::io::{Read, Write};
 

@@ -3,7 +3,7 @@
 //!
 //! ```text
 //! refused 22 Ended at 36 seen 36
-//! what: The input ends within an item.
+//! what: The file ends within an item.
 //! where: item 1, Point.X: a value of type 65, Point, which begins at byte 32
 //! expected: a whole number
 //! found: the end of the input, at byte 36

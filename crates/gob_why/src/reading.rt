@@ -1,28 +1,22 @@
 //! Reading a stream to its end or to its refusal, where the bytes of the item under way are kept.
 
-ghost use Rattle.std.specs.Prelude.{◌≡◌, ◌≢◌, ◌<◌, ◌≤◌, ◌++◌, ℕ, List, [], Some, length, take, vec_len, IfErr, IfOk};
-ghost use Rattle.std.specs.Prelude.{IfSome, OnErr, string_bytes};
-ghost use Rattle.std.specs.Io.KnownBytes.{Consumes, IsAtEnd, Keeps};
+ghost use Rattle.std.specs.Prelude.{◌≡◌, ◌≢◌, ◌<◌, ◌≤◌, ◌++◌, ℕ, List, [], Some, length, IfErr, IfOk};
+ghost use Rattle.std.specs.Prelude.{IfSome, string_bytes};
 ghost use Rattle.gob_stream.specs.Bounds.{AreLimits, deepest, no_deeper};
 ghost use Rattle.gob_stream.specs.Calls.Session.{limits_of};
 ghost use Rattle.gob_stream.specs.Calls.Ends.{failed_reads, reader_of};
-ghost use Rattle.gob_stream.specs.Reading.{CountsReads};
 ghost use Rattle.gob_tool.specs.Machine.Counting.{CountsCounting, EndsCounting, tally_line};
 ghost use Rattle.gob_tool.specs.Machine.Tallying.{HasTallied, TalliesAll, TalliesPrefix};
 ghost use Rattle.gob_why.specs.Machine.Keeping.{HasReadKept, KeepsAll, KeepsNext};
 ghost use Rattle.gob_why.specs.Machine.Reading.{HasValueNext};
 
 use crate::kept::Kept;
-use gob_num::Memory;
 use gob_read::SkipBuilder;
 use gob_stream::{Fault, Input, Session, Whole};
-use gob_tool::{Tally, ToolFault};
+use gob_tool::{Tally, ToolFault, read_piece, room_for_piece};
 use gob_value::is_whole;
 use std::alloc::Global;
 use std::io::Read;
-
-// How many bytes are read at a time, at most.
-const PIECE: usize = 65536;
 
 /// Reads all of the input, and counts what there is in it. Behind a refusal `items` is how many items stand before it,
 /// and `kept` has the bytes from the start of the refused item on that were read.
@@ -54,32 +48,6 @@ pub(crate) fn read_all<R: Read>(
         }
         take_piece(alloc, session, &piece.as_slice()[..count], items, kept)?;
         bytes += count as u64;
-    }
-}
-
-/// Room for a piece.
-pub(crate) fn room_for_piece(alloc: Global) -> Result<Vec<u8>, Memory>
-    ensures { IfOk result (λ piece. vec_len piece ≡ 65536) }
-{
-    let piece = vec![in alloc; 0; PIECE].map_err(Memory::from)?;
-    Ok(piece)
-}
-
-/// Reads once. How many bytes came: none only at the end of the input.
-pub(crate) fn read_piece<R: Read>(input: &mut Input<R>, piece: &mut Vec<u8>) -> Result<usize, Fault>
-    requires { 0 < vec_len piece.old }
-    ensures room { vec_len piece.new ≡ vec_len piece.old }
-    ensures within { IfOk result (λ count. count ≤ vec_len piece.new) }
-    ensures read { IfOk result (λ count. Consumes (R.remaining (reader_of input.old))
-        (R.remaining (reader_of input.new)) (take count piece.new.items)) }
-    ensures at_end { IfOk result (λ count. count ≡ 0 → IsAtEnd (R.remaining (reader_of input.new))) }
-    ensures unread { OnErr result (Keeps (R.remaining (reader_of input.old)) (R.remaining (reader_of input.new))) }
-    ensures fault { IfErr result (λ fault. fault ≡ Fault.Read) }
-    ensures counted { CountsReads (failed_reads input.old) (failed_reads input.new) result }
-{
-    match input.read(piece.as_mut_slice()) {
-        Ok(count) => Ok(count),
-        Err(_) => Err(Fault::Read),
     }
 }
 

@@ -10,32 +10,35 @@ use Rattle.gob_words.specs.declared.words.OrderFault.{OrderFault}
 use Rattle.gob_words.specs.declared.words.OrderFault.TheVariants as fault
 use Rattle.gob_words.specs.declared.view.View.{View}
 use Rattle.gob_words.specs.declared.view.ViewCommand.{ViewCommand}
-use Rattle.gob_words.specs.declared.view.ViewCommand.TheVariants.{Values, Types, Why, Explain, Version}
+use Rattle.gob_words.specs.declared.view.ViewCommand.TheVariants.{Values, Types, Why, Explain, Version, CheckGo}
 use Rattle.gob_words.specs.declared.view.ViewFault.{ViewFault}
 use Rattle.gob_words.specs.declared.view.ViewFault.TheVariants as view_fault
 use Rattle.gob_words.specs.Words.{IsNumber, IsFaultOf, program}
-use Rattle.gob_words.specs.Views.{AsksToView, IsPlaceOf, IsViewFaultOf, IsViewOf, IsWordAtFault, RefusesToView}
+use Rattle.gob_words.specs.Views.{AsksToView, IsAskedFor, IsPlaceOf, IsViewFaultOf, IsViewOf, IsWordAtFault}
+use Rattle.gob_words.specs.Views.{RefusesToView}
 use Rattle.gob_words.specs.Views.{IsVersionView, view_name}
 use Rattle.gob_words.specs.ViewDepths.{most_view_depth}
 use Rattle.gob_words.proofs.WordLaws.{together, name_met, rows_met}
 
 -- ---- names
 
--- the command whose name has this as its second letter
-abbrev having : ℕ → ViewCommand
-having c =
-    if c == 97 then Values
-    else (if c == 121 then Types else (if c == 104 then Why else (if c == 120 then Explain else Version)))
+-- the command of this name, by its first letter or its second one
+abbrev having : (first second : ℕ) → ViewCommand
+having first c =
+    if first == 99 then CheckGo
+    else (if c == 97 then Values
+    else (if c == 121 then Types else (if c == 104 then Why else (if c == 120 then Explain else Version))))
 
-has : (a : ViewCommand) → having (slice_index (view_name a) 1) ≡ a
+has : (a : ViewCommand) → having (slice_index (view_name a) 0) (slice_index (view_name a) 1) ≡ a
 has Values = refl
 has Types = refl
 has Why = refl
 has Explain = refl
 has Version = refl
+has CheckGo = refl
 
 one_view : (a b : ViewCommand) → view_name a ≡ view_name b → a ≡ b
-one_view a b e = sym (has a) ∙ ap (λ name. having (slice_index name 1)) e ∙ has b
+one_view a b e = sym (has a) ∙ ap (λ name. having (slice_index name 0) (slice_index name 1)) e ∙ has b
 
 -- ---- what was met
 
@@ -54,6 +57,7 @@ pub record ViewMeets (command : ViewCommand) (rows : List Row) (view : View) : T
   pub least : 1 ≤ view.depth
   pub most : view.depth ≤ most_view_depth command
   pub at : IsPlaceOf command (first_of (codes "at") rows) view.at
+  pub asked : IsAskedFor command (first_of (codes "go") rows)
 
 pub view_meets : (met : Option (Text × List Row)) (command : ViewCommand) (rows : List Row) (view : View)
     → met ≡ Some (view_name command, rows) → IsViewOf met view → ViewMeets command rows view
@@ -67,6 +71,8 @@ view_meets met command rows view e h =
       most = subst (λ c. view.depth ≤ most_view_depth c) one h.most;
       at = subst (λ c. IsPlaceOf c (first_of (codes "at") rows) view.at) one
           (subst (λ r. IsPlaceOf view.command (first_of (codes "at") r) view.at) same h.at);
+      asked = subst (λ c. IsAskedFor c (first_of (codes "go") rows)) one
+          (subst (λ r. IsAskedFor view.command (first_of (codes "go") r)) same h.asked);
     }
 
 -- ---- the ends

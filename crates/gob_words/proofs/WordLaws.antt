@@ -19,7 +19,7 @@ use Rattle.gob_words.specs.declared.words.OrderFault.{OrderFault}
 use Rattle.gob_words.specs.declared.words.OrderFault.TheVariants as fault
 use Rattle.std.specs.Borrow.{Bor}
 use Rattle.gob_words.specs.Depths.{most_depth}
-use Rattle.gob_words.specs.Words.{IsDigit, IsNumber, IsOrderOf, name_of, text_of, wanted_in}
+use Rattle.gob_words.specs.Words.{IsDigit, IsNumber, IsOrderOf, IsSet, name_of, text_of, wanted_in}
 use Rattle.gob_words.specs.Words.{Asks, IsFaultOf, IsWithoutLast, of_nothing, of_more, Refuses, program}
 use Rattle.gob_words.specs.declared.words.Order.{Order}
 use Rattle.gob_words.specs.declared.words.Chosen.{Chosen}
@@ -112,6 +112,7 @@ pub record Meets (command : Chosen) (rows : List Row) (order : Order) : Type 0 w
   pub wanted : text_of order.wanted ≡ wanted_in command rows
   pub least : 1 ≤ order.depth
   pub most : order.depth ≤ most_depth command
+  pub plain : ¬ IsSet (first_of (codes "go") rows)
 
 pub meets : (met : Option (Text × List Row)) (command : Chosen) (rows : List Row) (order : Order)
     → met ≡ Some (name_of command, rows) → IsOrderOf met order → Meets command rows order
@@ -124,6 +125,7 @@ meets met command rows order e h =
       wanted = h.wanted ∙ ap₂ wanted_in same.0 same.1;
       least = h.least;
       most = subst (λ c. order.depth ≤ most_depth c) same.0 h.most;
+      plain = subst (λ r. ¬ IsSet (first_of (codes "go") r)) same.1 h.plain;
     }
 
 -- a name is there where its text is

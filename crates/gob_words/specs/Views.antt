@@ -10,7 +10,7 @@ use Rattle.gob_words.specs.declared.view.ViewFault.{ViewFault}
 use Rattle.gob_words.specs.declared.view.ViewFault.TheVariants as view_fault
 use Rattle.gob_words.specs.declared.words.OrderFault.TheVariants as fault
 use Rattle.gob_words.specs.ViewDepths.{most_view_depth}
-use Rattle.gob_words.specs.Words.{IsNumber, order_line, order_status, program, text_of}
+use Rattle.gob_words.specs.Words.{IsNumber, IsSet, order_line, order_status, program, text_of}
 
 abbrev pub view_name : ViewCommand → Text
 view_name view.Values = codes "values"
@@ -18,6 +18,12 @@ view_name view.Types = codes "types"
 view_name view.Why = codes "why"
 view_name view.Explain = codes "explain"
 view_name view.Version = codes "version"
+view_name view.CheckGo = codes "check"
+
+-- the command is a view, by clap's value of the flag of check, which is one with that flag alone
+abbrev pub IsAskedFor : ViewCommand → Option Text → Type 0
+IsAskedFor view.CheckGo value = IsSet value
+IsAskedFor _ value = ⊤
 
 -- the file that a word names: a minus sign is standard input
 pub record IsFileOf (word file : Option Text) : Type 0 where
@@ -53,6 +59,7 @@ IsPlaceOf _ word at = at ≡ None
 pub record IsViewOf (met : Option (Text × List Row)) (view : View) : Type 0 where
   pub rows : List Row
   pub command : met ≡ Some (view_name view.command, rows)
+  pub asked : IsAskedFor view.command (first_of (codes "go") rows)
   pub input : IsFileOf (first_of (codes "IN") rows) (text_of view.input)
   pub depth : IsNumber (first_of (codes "depth") rows) 1000 view.depth
   pub item : IsNumber (first_of (codes "item") rows) 67108864 view.item

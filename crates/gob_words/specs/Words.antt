@@ -43,13 +43,17 @@ abbrev pub two_streams : Text → App
 two_streams name =
     with_input (with_rule (with_options name) (record (new_rule (codes "WANTED")) { required = true }))
 
+-- the command that checks a stream, with the flag that says that Go's encoder wrote it
+abbrev pub check : App
+check = with_input (with_rule (with_options (codes "check")) (flag_rule (codes "go")))
+
 -- the commands that write exactly what a stream has
 abbrev pub exact_program : App
 exact_program =
     let top = (new_app (codes "gob")).top in
     let bare : App = record { top = record top { has_version = true; subcommand_required = true }; subs = [] } in
-    with_subcommand (with_subcommand (with_subcommand (with_subcommand bare (one_stream (codes "show")).top)
-    (one_stream (codes "check")).top) (one_stream (codes "rewrite")).top) (two_streams (codes "take")).top
+    with_subcommand (with_subcommand (with_subcommand (with_subcommand bare (one_stream (codes "show")).top) check.top)
+    (one_stream (codes "rewrite")).top) (two_streams (codes "take")).top
 
 -- the flags that say how values are shown
 abbrev pub with_flags : App → App
@@ -99,11 +103,16 @@ wanted_in _ rows = None
 abbrev pub text_of : Option (Bor Text) → Option Text
 text_of = option_map (λ word. word.now)
 
--- clap met a subcommand with these rows, and this is the order that they make
+-- by clap's value of it a flag is given: the word true where it is, and else false or none
+abbrev pub IsSet : Option Text → Type 0
+IsSet value = value ≡ Some (codes "true")
+
+-- clap met a subcommand with these rows, and this is the order that they make: with the flag of check they make none
 pub record IsOrderOf (met : Option (Text × List Row)) (order : Order) : Type 0 where
   pub rows : List Row
   pub command : met ≡ Some (name_of order.command, rows)
   pub wanted : text_of order.wanted ≡ wanted_in order.command rows
+  pub plain : ¬ IsSet (first_of (codes "go") rows)
   pub input : text_of order.input ≡ first_of (codes "IN") rows
   pub depth : IsNumber (first_of (codes "depth") rows) 1000 order.depth
   pub item : IsNumber (first_of (codes "item") rows) 67108864 order.item

@@ -4,7 +4,7 @@ ghost use Rattle.std.specs.Prelude.{◌≡◌, IfOk, codes, false};
 ghost use Rattle.clap.specs.Words.{app_of, rule_of, with_subcommand};
 ghost use Rattle.clap.specs.declared.builder.Command.TheViews.{out-Command};
 ghost use Rattle.gob_words.specs.Words.{flag_rule, option_rule, with_flags, with_options, with_input, one_stream};
-ghost use Rattle.gob_words.specs.Words.{two_streams, exact_program, explain, program, values, with_parts};
+ghost use Rattle.gob_words.specs.Words.{check, two_streams, exact_program, explain, program, values, with_parts};
 
 use crate::help;
 use clap::{Arg, ArgAction, Command};
@@ -47,6 +47,16 @@ fn explain<'a>(alloc: Global) -> Result<Command<'a>, AllocError>
     with_input(alloc, with_parts(alloc, options)?, help::FILE)
 }
 
+// The command that checks a stream, with its flag behind the options that other commands have too.
+fn check<'a>(alloc: Global) -> Result<Command<'a>, AllocError>
+    ensures app { IfOk result (λ command. app_of command ≡ check) }
+    ensures local { IfOk result (λ command. (out-Command command).has_globals ≡ false) }
+{
+    let options = with_options(alloc, "check", help::CHECK, help::DEPTH_OF_CHECK)?;
+    let flagged = options.arg(flag(alloc, "go", help::GO))?;
+    with_input(alloc, flagged, help::INPUT)
+}
+
 // The program with the commands that write exactly what a stream has.
 fn exact_program<'a>(alloc: Global) -> Result<Command<'a>, AllocError>
     ensures { IfOk result (λ command. app_of command ≡ exact_program) }
@@ -64,14 +74,7 @@ fn exact_program<'a>(alloc: Global) -> Result<Command<'a>, AllocError>
         help::DEPTH_OF_TREES,
         help::INPUT,
     )?;
-    let checking = with_one_stream(
-        alloc,
-        showing,
-        "check",
-        help::CHECK,
-        help::DEPTH,
-        help::INPUT,
-    )?;
+    let checking = showing.subcommand(check(alloc)?)?;
     let rewriting = with_one_stream(
         alloc,
         checking,

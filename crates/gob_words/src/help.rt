@@ -29,10 +29,15 @@ pub(crate) const NAME_AND_VERSION: &str = "Print the program's name and version"
 /// Their options and files.
 pub(crate) const DEPTH: &str = "Refuse deeper values: 1 to 65536, and 1000 without it";
 
+pub(crate) const DEPTH_OF_CHECK: &str =
+    "Refuse deeper values: 1 to 65536, to 1000 with --go, and 1000 without it";
+
 pub(crate) const DEPTH_OF_TREES: &str = "Refuse deeper values: 1 to 1000, and 1000 without it";
 
 pub(crate) const ITEM: &str =
     "Refuse items of more bytes: 0 to 18446744073709551615, and 67108864 without it";
+
+pub(crate) const GO: &str = "Take all that Go's encoder writes, as values in interfaces";
 
 pub(crate) const ZEROS: &str = "Show absent fields too, as zeros";
 
@@ -66,7 +71,9 @@ reason, the offset of the first byte that is refused, and how many bytes show it
       yet. Get the whole file. The items before the offset are whole.
   gob: refused 16 InterfaceValue at 3 seen 4
       A field of an interface type isn't nil: only the Go program that sent it
-      knows its type. Send a struct with fields of other types.
+      knows its type. Send a struct with fields of other types. Whether such a
+      stream is whole is told by gob check --go.
   gob: refused 19 WrongId at 3 seen 11
       A type that encodes itself, as big.Int, was first sent by a pointer, and Go
-      described it under two ids. Send the value in place of the pointer.";
+      described it under two ids. Send the value in place of the pointer. Whether
+      such a stream is whole is told by gob check --go.";

@@ -1,11 +1,11 @@
 //! What the words of the command line ask for.
 
-ghost use Rattle.std.specs.Prelude.{◌≡◌, ◌≢◌, ℕ, IfOk, IfSome, MatchOption, MatchResult, map, string_bytes};
+ghost use Rattle.std.specs.Prelude.{◌≡◌, ◌≢◌, ℕ, IfOk, IfSome, MatchBool, MatchOption, MatchResult, map, string_bytes};
 ghost use Rattle.clap.specs.Words.{found_of, rows_of, subcommand_rows_of};
 ghost use Rattle.gob_words.specs.declared.words.Chosen.{Chosen};
 ghost use Rattle.gob_words.specs.declared.words.Order.{Order};
 ghost use Rattle.gob_words.specs.Words.{Asks, HasNoFault, IsFaultOf, IsOrderOf, IsWithoutLast, Refuses};
-ghost use Rattle.gob_words.specs.Words.{name_of, text_of, wanted_in};
+ghost use Rattle.gob_words.specs.Words.{IsSet, name_of, text_of, wanted_in};
 
 use crate::command_line::program;
 use crate::decimal::number_of;
@@ -56,7 +56,8 @@ fn help_in<D: Display>(alloc: Global, shown: &D) -> Result<String, AllocError>
     Ok(text)
 }
 
-// The order that clap's matches make. None: no command is named, or a number is none or out of its range.
+// The order that clap's matches make. None: no command is named, a number is none or out of its range, or what is asked
+// for is a view.
 fn order_in<'a>(matches: &ArgMatches<'a>) -> Option<Order<'a>>
     ensures { MatchOption result
         ((order : Order) → ¬ IsOrderOf (subcommand_rows_of matches.now) order)
@@ -64,6 +65,9 @@ fn order_in<'a>(matches: &ArgMatches<'a>) -> Option<Order<'a>>
 {
     let (name, matches) = matches.subcommand()?;
     let command = command_of(name)?;
+    if is_set(matches.get_str("go")) {
+        return None;
+    }
     let wanted = wanted_in(command, matches);
     let depth = number_of(matches.get_str("depth"), USUAL_DEPTH)?;
     let item = number_of(matches.get_str("item"), USUAL_ITEM)?;
@@ -77,6 +81,13 @@ fn order_in<'a>(matches: &ArgMatches<'a>) -> Option<Order<'a>>
         depth,
         item,
     })
+}
+
+// Whether a flag is given, by clap's value of it: the word true where it is.
+pub(crate) fn is_set(value: Option<&str>) -> bool
+    ensures { MatchBool result (IsSet (text_of value.entry)) (¬ IsSet (text_of value.entry)) }
+{
+    matches!(value, Some("true"))
 }
 
 // The command of this name.

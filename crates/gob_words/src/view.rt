@@ -8,7 +8,8 @@ use std::alloc::AllocError;
 use std::fmt;
 use thiserror::Error;
 
-// The greatest depth of a value that is written as plain JSON, and of one that is only read.
+// The greatest depth of a value that is written as plain JSON or read with what interfaces hold, and of one that is only
+// read.
 const DEEPEST_PLAIN: u64 = 1000;
 
 const DEEPEST: u64 = 65536;
@@ -26,6 +27,8 @@ pub enum ViewCommand {
     Explain,
     /// The program's name and version.
     Version,
+    /// Print how many items, types and bytes a whole stream of Go's encoder has, with what interfaces hold.
+    CheckGo,
 }
 
 impl ViewCommand {
@@ -34,7 +37,7 @@ impl ViewCommand {
         ensures { result ≡ most_view_depth self }
     {
         match self {
-            ViewCommand::Values | ViewCommand::Version => DEEPEST_PLAIN,
+            ViewCommand::Values | ViewCommand::Version | ViewCommand::CheckGo => DEEPEST_PLAIN,
             ViewCommand::Types | ViewCommand::Why | ViewCommand::Explain => DEEPEST,
         }
     }
@@ -48,7 +51,7 @@ pub struct View<'a> {
     /// The name of the file that is read. None: standard input, which the word `-` stands for too.
     pub input: Option<&'a str>,
     /// The greatest depth of a value: 1 to 65536 for [`ViewCommand::Types`], [`ViewCommand::Why`] and
-    /// [`ViewCommand::Explain`], to 1000 for [`ViewCommand::Values`].
+    /// [`ViewCommand::Explain`], to 1000 for [`ViewCommand::Values`] and [`ViewCommand::CheckGo`].
     pub depth: u64,
     /// The most bytes of an item's body.
     pub item: u64,

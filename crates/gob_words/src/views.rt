@@ -1,17 +1,18 @@
 //! What the words of the command line ask to be shown to people and to other programs, beside the orders.
 
-ghost use Rattle.std.specs.Prelude.{◌≡◌, ◌≢◌, ℕ, Option, MatchOption, MatchResult, map};
+ghost use Rattle.std.specs.Prelude.{◌≡◌, ◌≢◌, ℕ, Option, MatchBool, MatchOption, MatchResult, map};
 ghost use Rattle.clap.specs.Words.{subcommand_rows_of};
 ghost use Rattle.gob_words.specs.declared.view.View.{View};
 ghost use Rattle.gob_words.specs.declared.view.ViewCommand.{ViewCommand};
 ghost use Rattle.gob_words.specs.Views.{AsksToView, IsFileOf, IsViewFaultOf, IsViewOf, RefusesToView, view_name};
-ghost use Rattle.gob_words.specs.Views.{IsFaultFlagOf, IsFlagOf, IsPlaceIn, IsPlaceOf, IsVersionView, IsWordAtFault};
+ghost use Rattle.gob_words.specs.Views.{IsAskedFor, IsFaultFlagOf, IsFlagOf, IsPlaceIn, IsPlaceOf, IsVersionView};
+ghost use Rattle.gob_words.specs.Views.{IsWordAtFault};
 ghost use Rattle.gob_words.specs.Words.{text_of};
 
 use crate::command_line::program;
 use crate::decimal::number_of;
 use crate::message::{number_line, shown_line};
-use crate::orders::{USUAL_DEPTH, USUAL_ITEM, fault_of};
+use crate::orders::{USUAL_DEPTH, USUAL_ITEM, fault_of, is_set};
 use crate::view::{View, ViewCommand, ViewFault};
 use crate::words::OrderFault;
 use clap::ArgMatches;
@@ -61,6 +62,9 @@ fn view_in<'a>(matches: &ArgMatches<'a>) -> Option<View<'a>>
 {
     let (name, matches) = matches.subcommand()?;
     let command = command_of(name)?;
+    if !is_asked(command, matches.get_str("go")) {
+        return None;
+    }
     let depth = number_of(matches.get_str("depth"), USUAL_DEPTH)?;
     let item = number_of(matches.get_str("item"), USUAL_ITEM)?;
     let at = place_of(command, matches.get_str("at"))?;
@@ -90,7 +94,23 @@ fn command_of(name: &str) -> Option<ViewCommand>
         "why" => Some(ViewCommand::Why),
         "explain" => Some(ViewCommand::Explain),
         "version" => Some(ViewCommand::Version),
+        "check" => Some(ViewCommand::CheckGo),
         _ => None,
+    }
+}
+
+// Whether the command is a view, by clap's value of the flag of check, which is one with that flag alone.
+fn is_asked(command: ViewCommand, value: Option<&str>) -> bool
+    ensures { MatchBool result (IsAskedFor command (text_of value.entry))
+        (¬ IsAskedFor command (text_of value.entry)) }
+{
+    match command {
+        ViewCommand::CheckGo => is_set(value),
+        ViewCommand::Values
+        | ViewCommand::Types
+        | ViewCommand::Why
+        | ViewCommand::Explain
+        | ViewCommand::Version => true,
     }
 }
 
@@ -100,7 +120,11 @@ fn is_fault_asked(command: ViewCommand, value: Option<&str>) -> bool
 {
     match command {
         ViewCommand::Explain => matches!(value, Some("true")),
-        ViewCommand::Values | ViewCommand::Types | ViewCommand::Why | ViewCommand::Version => false,
+        ViewCommand::Values
+        | ViewCommand::Types
+        | ViewCommand::Why
+        | ViewCommand::Version
+        | ViewCommand::CheckGo => false,
     }
 }
 
@@ -111,9 +135,11 @@ fn place_of(command: ViewCommand, word: Option<&str>) -> Option<Option<u64>>
 {
     match command {
         ViewCommand::Explain => place_in(word),
-        ViewCommand::Values | ViewCommand::Types | ViewCommand::Why | ViewCommand::Version => {
-            Some(None)
-        }
+        ViewCommand::Values
+        | ViewCommand::Types
+        | ViewCommand::Why
+        | ViewCommand::Version
+        | ViewCommand::CheckGo => { Some(None) }
     }
 }
 
@@ -137,9 +163,11 @@ fn is_given(command: ViewCommand, value: Option<&str>) -> bool
 {
     match command {
         ViewCommand::Values => matches!(value, Some("true")),
-        ViewCommand::Types | ViewCommand::Why | ViewCommand::Explain | ViewCommand::Version => {
-            false
-        }
+        ViewCommand::Types
+        | ViewCommand::Why
+        | ViewCommand::Explain
+        | ViewCommand::Version
+        | ViewCommand::CheckGo => { false }
     }
 }
 
@@ -163,6 +191,9 @@ fn number_fault(alloc: Global, matches: &ArgMatches<'_>) -> ViewFault
     let Some(command) = command_of(name) else {
         return ViewFault::Order(OrderFault::Words);
     };
+    if !is_asked(command, matches.get_str("go")) {
+        return ViewFault::Order(OrderFault::Words);
+    }
     let most = command.most_depth();
     let line = match matches.get_str("depth") {
         Some(word) if !is_number(word, 1, most) => number_line(alloc, "depth", word, 1, most),
@@ -196,10 +227,14 @@ fn word_fault<D: Display>(alloc: Global, words: &[&str], kind: ErrorKind, shown:
     }
 }
 
-// Whether the word behind the program's name is one of these commands.
+// Whether the word behind the program's name is one of these commands: check is one with its flag alone.
 fn names_view(words: &[&str]) -> bool {
     match words.get(1) {
-        Some(name) => command_of(name).is_some(),
+        Some(name) => match command_of(name) {
+            Some(ViewCommand::CheckGo) => words.iter().any(|word| *word == "--go"),
+            Some(_) => true,
+            None => false,
+        },
         None => false,
     }
 }

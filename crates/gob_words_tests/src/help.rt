@@ -33,7 +33,16 @@ Example:
 Exit status:
 Ended
 InterfaceValue
+gob check --go.
 WrongId";
+
+const CHECK: &str = "\
+Usage: gob check [OPTIONS] [IN]
+--depth <N>
+--item <N>
+--go 
+1 to 65536,
+1000 with --go,";
 
 const TAKE: &str = "\
 Usage: gob take [OPTIONS] <WANTED> [IN]
@@ -71,7 +80,7 @@ fn help_has_its_texts(rt: HostRuntime) {
         "take --help"
     );
     assert!(rt;
-        tells(alloc, &["gob", "check", "--help"], "1 to 65536,"),
+        tells(alloc, &["gob", "check", "--help"], CHECK),
         "check --help"
     );
     assert!(rt;

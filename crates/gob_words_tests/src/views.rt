@@ -1,6 +1,6 @@
 //! The words that ask for a stream to be shown.
 
-use gob_words::{OrderFault, VERSION, View, ViewCommand, ViewFault, escaped, view_of};
+use gob_words::{OrderFault, VERSION, View, ViewCommand, ViewFault, escaped, order_of, view_of};
 use std::alloc::{AllocError, Global};
 use std::test::*;
 
@@ -113,6 +113,42 @@ fn words_give_views(rt: HostRuntime) {
     assert!(rt; VERSION == "gob 0.1.0", "the version");
 }
 
+// The view of what a stream of Go's encoder has, in this file.
+fn checked(input: Option<&'static str>, depth: u64) -> View<'static> {
+    View {
+        command: ViewCommand::CheckGo,
+        input,
+        depth,
+        item: 67108864,
+        zeros: false,
+        raw: false,
+    }
+}
+
+// Whether the words give no order.
+fn gives_no_order(alloc: Global, words: &[&str]) -> bool {
+    match order_of(alloc, words) {
+        Err(OrderFault::Words) => true,
+        _ => false,
+    }
+}
+
+#[test]
+fn check_is_a_view_with_its_flag_alone(rt: HostRuntime) {
+    let alloc = rt.alloc();
+    let words = ["gob", "check", "--go"];
+    assert!(rt; gives(alloc, &words, checked(None, 1000)), "check --go");
+    assert!(rt; gives_no_order(alloc, &words), "no order");
+    let words = ["gob", "check", "--depth", "7", "f", "--go"];
+    assert!(rt; gives(alloc, &words, checked(Some("f"), 7)), "of a file");
+    assert!(rt; gives_no_order(alloc, &words), "no order, of a file");
+    let words = ["gob", "check", "--", "--go"];
+    assert!(rt;
+        !gives_no_order(alloc, &words),
+        "an order, of a file named as the flag"
+    );
+}
+
 // The view of the values with these flags.
 fn flagged(zeros: bool, raw: bool) -> View<'static> {
     View {
@@ -204,9 +240,23 @@ version --zeros
 gob: unexpected argument '--zeros' found
 version now
 gob: unexpected argument 'now' found
+check --go --depth 1001
+gob: invalid value '1001' for '--depth <N>': no number from 1 to 1000
+check --go a b
+gob: unexpected argument 'b' found
+check a --go=yes
+gob: bad arguments
+show --go
+gob: bad arguments
 
 gob: bad arguments
 list
+gob: bad arguments
+check f
+gob: bad arguments
+check --depth 0 f
+gob: bad arguments
+check a b
 gob: bad arguments
 show f
 gob: bad arguments

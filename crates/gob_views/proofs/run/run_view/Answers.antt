@@ -54,6 +54,18 @@ returns-in-Why-clause-shows g c = λ bytes known.
     (sym c.in-Why.is)
     (told bytes known)
 
+pub returns-in-CheckGo-clause-shows : goal.returns-in-CheckGo-clause-shows
+returns-in-CheckGo-clause-shows g c = λ bytes known.
+    let old = g.W.Write.contents (writer_of c.args.output.now) in
+    let new = g.W.Write.contents (writer_of c.run_check_go.new.output) in
+    let next = g.R.Read.remaining (reader_of c.run_check_go.new.input) in
+    let view = c.args.view.now in
+    let checked = rw (c.limits_of-in-CheckGo.ensures, within_view view _ c.in-CheckGo.is) at
+    c.run_check_go.ensures.checked in
+    subst (λ x. ViewAnswers x (view_limits view) (view_style view) bytes next old new c.run_check_go.result)
+    (sym c.in-CheckGo.is)
+    (checked bytes known)
+
 pub returns-in-Version-clause-shows : goal.returns-in-Version-clause-shows
 returns-in-Version-clause-shows g c = λ bytes known.
     let old = g.W.Write.contents (writer_of c.args.output.now) in

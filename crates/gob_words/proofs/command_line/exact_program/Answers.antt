@@ -14,7 +14,8 @@ returns c =
     let bare = ap app_of_fields c.subcommand_required-bare.ensures
     ∙ ap (λ (x : App). record { top = record x.top { subcommand_required = true }; subs = x.subs }) used in
     let show = c.in_ok-showing.ensures ∙ ap₂ with_subcommand bare refl in
-    let check = c.in_ok-checking.ensures ∙ ap₂ with_subcommand show refl in
+    let check = c.in_ok-checking.ensures.shape c.in_ok-check.ensures.local
+    ∙ ap₂ with_subcommand show (ap (λ (x : App). x.top) c.in_ok-check.ensures.app) in
     let rewrite = c.in_ok-rewriting.ensures ∙ ap₂ with_subcommand check refl in
-    IfOk-weaker c.subcommand.result _ _ (λ r added. added.shape c.in_ok-two_streams.ensures.local
-    ∙ ap₂ with_subcommand rewrite (ap (λ (x : App). x.top) c.in_ok-two_streams.ensures.app)) c.subcommand.ensures
+    IfOk-weaker c.subcommand-2.result _ _ (λ r added. added.shape c.in_ok-two_streams.ensures.local
+    ∙ ap₂ with_subcommand rewrite (ap (λ (x : App). x.top) c.in_ok-two_streams.ensures.app)) c.subcommand-2.ensures

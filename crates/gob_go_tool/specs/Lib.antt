@@ -1,0 +1,2 @@
+pub mod CheckingGo
+pub mod Machine

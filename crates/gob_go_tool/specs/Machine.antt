@@ -1,0 +1,2 @@
+-- Where a run over a stream of Go's encoder stands.
+pub mod Counting

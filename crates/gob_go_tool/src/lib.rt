@@ -1,0 +1,12 @@
+//! The runs of the commands over streams of Go's encoder, with what interfaces hold.
+//!
+//! ```text
+//! 0a 10 00 03 69 6e 74 04 02 00 0a        an item: the int 5 in an interface, under the name int
+//! ok: 1 items, 0 types, 11 bytes          what is said of it
+//! ```
+#![tactic(auto)]
+
+mod check;
+mod reading;
+
+pub use check::run_check_go;
