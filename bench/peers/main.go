@@ -2,6 +2,7 @@
 //
 //	peers make KIND BYTES >FILE    a stream of some such bytes
 //	peers discard KIND FILE        decodes it into nothing
+//	peers decode KIND FILE         decodes it
 //	peers json KIND FILE           decodes it, and prints a line of JSON for each value
 //	peers recode KIND FILE         decodes it, and encodes it again
 package main
@@ -43,6 +44,12 @@ type Deep struct {
 	Lists Lists
 }
 
+// Event has an interface.
+type Event struct {
+	At   int
+	Held any
+}
+
 // kind is a sort of stream: its n-th value, and room for a value that is decoded.
 type kind struct {
 	value func(n int) any
@@ -57,6 +64,7 @@ var kinds = map[string]kind{
 	"strings": {func(n int) any { return texts(n) }, func() any { return new([]string) }},
 	"maps":    {func(n int) any { return scores(n) }, func() any { return new(map[string]int) }},
 	"deep":    {func(n int) any { return deep(n) }, func() any { return new(Deep) }},
+	"held":    {func(n int) any { return Event{n, held(n)} }, func() any { return new(Event) }},
 }
 
 // one item each
@@ -64,6 +72,7 @@ var large = map[string]kind{
 	"one-ints":    {func(n int) any { return ints(n, 14000000) }, func() any { return new([]int) }},
 	"one-records": {func(n int) any { return records(1350000) }, func() any { return new([]Record) }},
 	"one-map":     {func(n int) any { return recordsByName(970000) }, func() any { return new(map[string]Record) }},
+	"one-held":    {func(n int) any { return manyHeld(1000000) }, func() any { return new([]any) }},
 }
 
 func record(n int) Record {
@@ -148,6 +157,25 @@ func recordsByName(count int) map[string]Record {
 	return pairs
 }
 
+// held is a small value for an interface: an int, a string or a struct.
+func held(n int) any {
+	switch n % 3 {
+	case 0:
+		return n
+	case 1:
+		return "text " + strconv.Itoa(n%100)
+	}
+	return Message{n%100 + 1}
+}
+
+func manyHeld(count int) []any {
+	list := make([]any, count)
+	for n := range list {
+		list[n] = held(n)
+	}
+	return list
+}
+
 // counter counts what is written.
 type counter struct {
 	to    io.Writer
@@ -211,6 +239,7 @@ func read(how, name, path string) {
 }
 
 func main() {
+	gob.Register(Message{})
 	if os.Args[1] == "make" {
 		bytes, err := strconv.Atoi(os.Args[3])
 		check(err)

@@ -1,7 +1,8 @@
 //! The program `gob`: shows and checks gob streams.
 //!
 //! `gob show [IN]` reads the file IN, or standard input without one, and prints a line of JSON for each item on
-//! standard output. `gob check [IN]` prints one line that says how much there is in a whole stream.
+//! standard output. `gob check [IN]` prints one line that says how much there is in a whole stream, and `gob rewrite
+//! [IN]` writes the stream without the fields that are zero.
 //! `gob take WANTED [IN]` receives each value of IN as one of the type of the first value in the file WANTED, and
 //! prints a line for each. `gob values [IN]` prints each value as plain JSON, `gob types [IN]` the types as Go source,
 //! `gob why [IN]` why IN is refused or how much is in it, `gob explain [IN]` the bytes row by row, and `gob version`

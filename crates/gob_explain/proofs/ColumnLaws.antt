@@ -1,6 +1,6 @@
 -- Lines one behind another.
-use Rattle.std.proofs.Common.{◌≡◌, ℕ, ◌+◌, ◌-◌, ◌^◌, ◌<◌, ◌≤◌, List, []}
-use Rattle.std.proofs.Common.{◌∷◌, ◌++◌, length, take, drop, min, refl, sym, ap}
+use Rattle.std.proofs.Common.{◌≡◌, ℕ, ◌+◌, ◌-◌, ◌<◌, ◌≤◌, List, []}
+use Rattle.std.proofs.Common.{◌∷◌, ◌++◌, length, take, drop, refl, sym, ap}
 use Rattle.std.proofs.Common.{◌∙◌, get_or}
 use Rattle.std.proofs.Common.{subst, append_assoc, length-append, length-drop, arith, Option, None, Some}
 use Rattle.std.proofs.lemmas.List.{length-take-le, take_more}
@@ -8,7 +8,7 @@ use Rattle.std.specs.Prelude.{OnOk, Result, Ok, Err}
 use Rattle.gob_explain.specs.Column.{ColumnIs, HasLineAdded, HasMoreAdded, AddsSpaces, AreSpaces, IsLine, no_line}
 use Rattle.gob_explain.specs.Column.{line_behind, no_space, a_space, hex_column, hex_text, offset_text, saturated}
 use Rattle.gob_explain.specs.Walk.{between}
-use Rattle.gob_explain.specs.Machine.Printing.{HasPrinted, begin_of}
+use Rattle.gob_explain.specs.Machine.Printing.{HasPrinted}
 use Rattle.gob_explain.specs.declared.text.printer.Line.{Line}
 use Rattle.gob_explain.proofs.RowLaws.{append_nil}
 use Rattle.gob_explain.proofs.WalkLaws.{take_between}

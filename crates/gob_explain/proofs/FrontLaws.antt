@@ -7,7 +7,6 @@ use Rattle.gob_types.specs.declared.kind.Field.{Field}
 use Rattle.gob_types.specs.declared.kind.Kind.{Kind}
 use Rattle.gob_types.specs.declared.kind.Kind.TheVariants as kind
 use Rattle.gob_types.specs.Table.{Table}
-use Rattle.gob_value.specs.Tree.{Tree, tree_count, pair_count}
 use Rattle.gob_value.specs.Tree as Value
 use Rattle.gob_value.specs.Spelling as spelling
 use Rattle.gob_read.specs.Expected.{Expected}

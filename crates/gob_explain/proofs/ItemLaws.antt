@@ -1,12 +1,12 @@
 -- Lines of an item: of its count, its type number and its body.
-use Rattle.std.proofs.Common.{◌≡◌, ℕ, ◌+◌, ◌-◌, ◌*◌, ◌/◌, ◌%◌, ◌^◌, ◌<◌}
+use Rattle.std.proofs.Common.{◌≡◌, ℕ, ◌+◌, ◌-◌, ◌*◌, ◌^◌, ◌<◌}
 use Rattle.std.proofs.Common.{◌≤◌, Bool, List, [], ◌∷◌, ◌++◌, length, take, drop}
-use Rattle.std.proofs.Common.{min, refl, sym, ap, ◌∙◌, subst, append_assoc, length-append, length-drop, arith}
+use Rattle.std.proofs.Common.{refl, sym, ap, ◌∙◌, subst, append_assoc, length-drop, arith}
 use Rattle.std.proofs.lemmas.List.{length-take-le}
 use Rattle.std.specs.Prelude.{Option, Ok}
 use Rattle.std.proofs.Math.Seq.{take-length}
 use Rattle.gob_num.specs.Place.{IsUnsignedAt, NoNumberStandsAt}
-use Rattle.gob_num.specs.Signed.{IsSigned, not_negative, negative}
+use Rattle.gob_num.specs.Signed.{not_negative, negative}
 use Rattle.gob_num.specs.Unsigned.{IsUnsigned}
 use Rattle.gob_types.specs.Base.{wire_type}
 use Rattle.gob_types.specs.Ready.{IsReady}

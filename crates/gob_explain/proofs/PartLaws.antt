@@ -12,9 +12,9 @@ use Rattle.gob_types.specs.declared.kind.Kind.{Kind}
 use Rattle.gob_types.specs.declared.kind.Kind.TheVariants as kind
 use Rattle.gob_types.specs.declared.kind.Shape.{Shape}
 use Rattle.gob_types.specs.Table.{Table, shape_of}
-use Rattle.gob_value.specs.Tree.{Tree, no_tree, no_pair, no_field, tree_count, pair_count}
+use Rattle.gob_value.specs.Tree.{Tree, no_tree, no_pair, no_field}
 use Rattle.gob_value.specs.Tree as Value
-use Rattle.gob_value.specs.Spelling.{Spells, SpellsAs, SpellsEach, SpellsPairs}
+use Rattle.gob_value.specs.Spelling.{SpellsAs}
 use Rattle.gob_value.specs.Spelling as spelling
 use Rattle.gob_read.specs.Expected.{Allows, first_allowed}
 use Rattle.gob_read.specs.Expects.{FieldsRun, no_fields}

@@ -13,15 +13,14 @@ use Rattle.gob_types.specs.Table.{Table}
 use Rattle.gob_value.specs.Tree.{Tree, Trees, tree_count, Pairs, pair_count, Fields}
 use Rattle.gob_value.specs.Spelling.{Spells, SpellsEach, SpellsPairs, truth}
 use Rattle.gob_value.specs.Spelling as spelling
-use Rattle.gob_read.specs.Expected.{Expected, Allowed, a_number, any, truth_value, array_count, delta, first_allowed}
-use Rattle.gob_read.specs.Expected.{Allows}
+use Rattle.gob_read.specs.Expected.{Expected, a_number, any, delta, first_allowed}
 use Rattle.gob_read.specs.Expected as expected
 use Rattle.gob_read.specs.Expects.{FieldsRun, no_fields, field_then, Enters, ExpectsAt, ExpectsTop, first, second}
 use Rattle.gob_read.specs.Expects as expects
 use Rattle.gob_read.proofs.Grammar.Inside.{InsideTop, inside_struct, inside_behind_tag, outermost, inside_more_top}
 use Rattle.gob_read.proofs.Grammar.Inside.{inside_expects_top}
 use Rattle.gob_read.proofs.Grammar.Inside.{each_more, pairs_more, run_more}
-use Rattle.gob_explain.specs.Rows.{Row, row, What, joined, raw, raw_rows, Explains, ExplainsAs, ExplainsEach}
+use Rattle.gob_explain.specs.Rows.{Row, row, joined, raw, raw_rows, Explains, ExplainsAs, ExplainsEach}
 use Rattle.gob_explain.specs.Rows.{ExplainsPairs, ExplainsFields, ExplainsTop}
 use Rattle.gob_explain.specs.Rows as rows
 use Rattle.gob_explain.specs.Laws.{Answers, EachStands}

@@ -15,7 +15,7 @@ use Rattle.gob_types.specs.declared.kind.Shape.{Shape}
 use Rattle.gob_types.specs.Table.{Table, shape_of}
 use Rattle.gob_value.specs.Top.{IsStruct}
 use Rattle.gob_read.specs.Expected.{Expected, Allowed, Allows, a_number, any, raw, delta, first_allowed}
-use Rattle.gob_read.specs.Expects.{FieldsRun, no_fields, field_then, Enters, ExpectsAt, Expects, ExpectsTop}
+use Rattle.gob_read.specs.Expects.{FieldsRun, no_fields, field_then, Enters, ExpectsAt, ExpectsTop}
 use Rattle.gob_read.specs.Expected as expected
 use Rattle.gob_read.specs.Expects as expects
 use Rattle.gob_read.proofs.Machine.Pieces.{take_further}
@@ -24,7 +24,7 @@ use Rattle.gob_explain.specs.declared.row.What.{What}
 use Rattle.gob_explain.specs.declared.row.What.TheVariants as what
 use Rattle.gob_explain.specs.declared.stop.Stop.{Stop}
 use Rattle.gob_explain.specs.declared.stop.Stop.TheVariants as stops
-use Rattle.gob_explain.specs.Walk.{BeginsPart, Comes, HasRawBytes, RowsLead, StandsAt, StopsAt, TellsNumber, between}
+use Rattle.gob_explain.specs.Walk.{BeginsPart, Comes, HasRawBytes, RowsLead, StandsAt, StopsAt, between}
 use Rattle.gob_explain.specs.Walk as walk
 use Rattle.gob_explain.specs.Machine.Walking.{AllowsRange, Fails, Told, Walks}
 use Rattle.gob_explain.proofs.RowLaws.{append_nil}

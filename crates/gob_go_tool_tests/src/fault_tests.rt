@@ -1,4 +1,5 @@
-//! Runs whose readers or writers fail: the line is written whole, or a prefix of it where the writer failed, or nothing.
+//! Runs whose readers or writers fail: the line is written whole, or a prefix of it where the writer failed, or else
+//! nothing.
 
 use crate::devices::{SlowReader, SlowWriter};
 use crate::runs::{check, ends_so};

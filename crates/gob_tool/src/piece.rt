@@ -21,8 +21,8 @@ pub fn room_for_piece(alloc: Global) -> Result<Vec<u8>, Memory>
     Ok(piece)
 }
 
-/// Reads a piece, by one read of the input, and answers how many bytes came: they stand at the front of `piece`. None come
-/// only at the end of the input. Behind `Fault::Read` what the input had is still to be read.
+/// Reads a piece, by one read of the input, and answers how many bytes came: they stand at the front of `piece`. None
+/// come only at the end of the input. Behind [`Fault::Read`] what the input had is still to be read.
 pub fn read_piece<R: Read>(input: &mut Input<R>, piece: &mut Vec<u8>) -> Result<usize, Fault>
     requires { 0 < vec_len piece.old }
     ensures room { vec_len piece.new ≡ vec_len piece.old }

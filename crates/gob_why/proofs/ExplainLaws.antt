@@ -1,10 +1,9 @@
 -- How a run that explains a stream goes on from piece to piece, and how it ends.
-use Rattle.std.proofs.Common.{◌≡◌, ℕ, ◌+◌, ◌-◌, ◌<◌, ◌≤◌, arith, List, [], ◌∷◌, ◌++◌, length, take}
-use Rattle.std.proofs.Common.{Option, Some, None, Result, Ok, Err, ◌∙◌, ap, sym, subst, refl, length-append}
+use Rattle.std.proofs.Common.{◌≡◌, ℕ, ◌+◌, ◌-◌, List, [], ◌++◌, take}
+use Rattle.std.proofs.Common.{Option, Some, Result, Ok, Err, ◌∙◌, ap, sym, subst, refl}
 use Rattle.std.proofs.Common.{append_assoc, append-nil}
 use Rattle.std.proofs.lemmas.List.{take-append-le}
 use Rattle.std.specs.Io.KnownBytes.{Appends, Consumes, IsAtEnd, Keeps}
-use Rattle.std.specs.Result.{IsErrAnd}
 use Rattle.std.proofs.KnownBytes.{Appends-kept, Appends-nil, Appends-trans, Consumes-kept, Consumes-nil, Consumes-trans}
 use Rattle.gob_types.specs.Base.{base_table}
 use Rattle.gob_types.specs.Table.{Table}
@@ -20,16 +19,16 @@ use Rattle.gob_stream.specs.Stream.{Stream, no_more}
 use Rattle.gob_stream.specs.declared.fault.Fault.{Fault}
 use Rattle.gob_stream.specs.declared.fault.Fault.TheVariants as reading
 use Rattle.gob_stream.specs.declared.fault.Refusal.{Refusal}
-use Rattle.gob_stream.proofs.PublicLaws.{after_gives, shown_refusal_stays, shown_there, stands_within}
+use Rattle.gob_stream.proofs.PublicLaws.{after_gives, shown_refusal_stays, shown_there}
 use Rattle.gob_tool.specs.Ending.{EndsRun, ends_so, flush_fails}
 use Rattle.gob_tool.specs.Fault.{reading_fault}
 use Rattle.gob_tool.specs.Showing.{AppendsPrefix, BeginsOutcome, EndsWhole, GivesOutcome, IsRefused}
 use Rattle.gob_tool.specs.declared.fault.ToolFault.{ToolFault}
 use Rattle.gob_tool.specs.declared.fault.ToolFault.TheVariants as fault
-use Rattle.gob_tool.proofs.EndLaws.{all_kept, prefix_kept, sent_prefix}
-use Rattle.gob_why.specs.Explain.{AreExplained, ExplainAnswers, HasExplained, HasRefused, IsCutOff, IsRefusedText}
+use Rattle.gob_tool.proofs.EndLaws.{all_kept, prefix_kept}
+use Rattle.gob_why.specs.Explain.{ExplainAnswers, HasExplained, HasRefused, IsCutOff, IsRefusedText}
 use Rattle.gob_why.specs.Explain.{IsRefusedChosen, explained_up_to, in_items, in_refused, no_item, refused_so}
-use Rattle.gob_why.specs.Machine.Keeping.{BeginsKept, ExplainsAll, ExplainsSo, HasKept, HasReadKept, HasRefusedKept}
+use Rattle.gob_why.specs.Machine.Keeping.{BeginsKept, ExplainsAll, ExplainsSo, HasKept, HasReadKept}
 use Rattle.gob_why.specs.Machine.Keeping.{KeepsAll, RefusesSo, ShowsRefused, Skipping, TellsRefused}
 use Rattle.gob_why.specs.declared.explained.Explained.{Explained}
 use Rattle.gob_why.proofs.KeepingLaws.{kept_first}

@@ -1,5 +1,5 @@
 -- What is kept of a stream goes on from item to item.
-use Rattle.std.proofs.Common.{◌≡◌, ℕ, ◌+◌, ◌-◌, ◌<◌, ◌≤◌, ◌^◌, arith, List, [], ◌∷◌, ◌++◌, length, take, drop, min}
+use Rattle.std.proofs.Common.{◌≡◌, ℕ, ◌+◌, ◌-◌, ◌<◌, ◌^◌, arith, List, [], ◌∷◌, ◌++◌, length, take, drop}
 use Rattle.std.proofs.Common.{Option, Some, None, Result, Ok, Err, ◌∙◌, ap, sym, subst, refl, length-append}
 use Rattle.std.proofs.Common.{append_assoc, append-nil, take-append-drop, IfSome, OnOk}
 use Rattle.std.proofs.lemmas.List.{length-take-le}
@@ -7,24 +7,22 @@ use Rattle.std.specs.Result.{IsErrAnd}
 use Rattle.gob_types.specs.Base.{base_table}
 use Rattle.gob_types.specs.Table.{Table}
 use Rattle.gob_read.specs.Calls.Builders.{skip_building}
-use Rattle.gob_explain.specs.Column.{saturated}
 use Rattle.gob_stream.specs.Bounds.{Bounds, AreLimits, deepest, no_deeper}
 use Rattle.gob_stream.specs.Calls.Session.{HasRead, IsBetweenItems, ReadsOn, StepAnswers, limits_of, types_of}
 use Rattle.gob_stream.specs.Item.{StreamItem, puts}
 use Rattle.gob_stream.specs.Machine.ReadParts.{AdvancesOver, over_some, over_item}
 use Rattle.gob_stream.specs.Reading.{ShowsRefusal}
-use Rattle.gob_stream.specs.Stream.{AreItems, Stream, no_more, and_then}
+use Rattle.gob_stream.specs.Stream.{AreItems, Stream, no_more}
 use Rattle.gob_stream.specs.declared.fault.Fault.{Fault}
 use Rattle.gob_stream.specs.declared.fault.Fault.TheVariants as reading
-use Rattle.gob_stream.specs.declared.fault.Refusal.{Refusal}
 use Rattle.gob_stream.specs.declared.item.Item as declared
 use Rattle.gob_stream.proofs.PublicLaws.{one_prefix, stands_within, whole_item}
 use Rattle.gob_stream.proofs.Reader.UnderWayLaws.{count_begins_here}
 use Rattle.gob_explain.specs.Items.{ShowsItem}
 use Rattle.gob_why.specs.Explain.{AreExplained, IsChosen, IsItemText, no_item, item_behind, explained_so, left_out}
 use Rattle.gob_why.specs.Machine.Keeping.{BeginsKept, EndsItem, ExplainsNext, HasKept}
-use Rattle.gob_why.specs.Machine.Keeping.{HasReadKept, HasRefusedKept, KeepsAll, KeepsNext}
-use Rattle.gob_why.specs.Machine.Keeping.{ShowsNext, KeepsUpTo, Skipping, StopsKeeping, StopsNext}
+use Rattle.gob_why.specs.Machine.Keeping.{HasReadKept, KeepsAll, KeepsNext}
+use Rattle.gob_why.specs.Machine.Keeping.{ShowsNext, KeepsUpTo, Skipping}
 use Rattle.gob_why.specs.Machine.Reading.{HasValueNext}
 use Rattle.gob_why.specs.declared.explained.Explained.{Explained}
 

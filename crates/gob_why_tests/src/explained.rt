@@ -179,8 +179,10 @@ fn is_explained(alloc: Global, row: &Row) -> Result<bool, Memory> {
     let mut output = Output::new(&mut written);
     let limits = Limits::standard();
     let ended = run_explain(alloc, &mut input, &mut output, limits, row.which);
-    let due = row.text.as_bytes();
-    let is_written = written.as_slice() == &due[1..];
+    let Some(due) = row.text.as_bytes().get(1..) else {
+        return Ok(false);
+    };
+    let is_written = written.as_slice() == due;
     match ended {
         Ok(()) => Ok(is_written && row.fault.is_empty()),
         Err(ToolFault::Memory | ToolFault::Write) => Err(Memory),

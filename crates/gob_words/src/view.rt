@@ -8,8 +8,8 @@ use std::alloc::AllocError;
 use std::fmt;
 use thiserror::Error;
 
-// The greatest depth of a value that is written as plain JSON or read with what interfaces hold, and of one that is only
-// read.
+// The greatest depth of a value that is written as plain JSON or read with what interfaces hold, and of one that is
+// only read.
 const DEEPEST_PLAIN: u64 = 1000;
 
 const DEEPEST: u64 = 65536;

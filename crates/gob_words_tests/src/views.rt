@@ -114,14 +114,16 @@ fn words_give_views(rt: HostRuntime) {
 }
 
 // The view of what a stream of Go's encoder has, in this file.
-fn checked(input: Option<&'static str>, depth: u64) -> View<'static> {
+fn checked(input: Option<&'static str>) -> View<'static> {
     View {
         command: ViewCommand::CheckGo,
         input,
-        depth,
+        depth: 1000,
         item: 67108864,
         zeros: false,
         raw: false,
+        fault: false,
+        at: None,
     }
 }
 
@@ -137,10 +139,10 @@ fn gives_no_order(alloc: Global, words: &[&str]) -> bool {
 fn check_is_a_view_with_its_flag_alone(rt: HostRuntime) {
     let alloc = rt.alloc();
     let words = ["gob", "check", "--go"];
-    assert!(rt; gives(alloc, &words, checked(None, 1000)), "check --go");
+    assert!(rt; gives(alloc, &words, checked(None)), "check --go");
     assert!(rt; gives_no_order(alloc, &words), "no order");
-    let words = ["gob", "check", "--depth", "7", "f", "--go"];
-    assert!(rt; gives(alloc, &words, checked(Some("f"), 7)), "of a file");
+    let words = ["gob", "check", "--depth", "1000", "f", "--go"];
+    assert!(rt; gives(alloc, &words, checked(Some("f"))), "of a file");
     assert!(rt; gives_no_order(alloc, &words), "no order, of a file");
     let words = ["gob", "check", "--", "--go"];
     assert!(rt;

@@ -1,6 +1,5 @@
 -- What the writer has and what was lost are what the run wrote.
 use Rattle.std.proofs.Common.{◌≡◌, ◌∙◌, ap, sym}
-use Rattle.std.specs.Io.Buffered.{writer_contents}
 use Rattle.std.specs.Io.KnownBytes.{append_known}
 use Rattle.gob_stream.specs.Calls.Ends.{writer_of}
 use Rattle.gob.proofs.settled.Goals as goal

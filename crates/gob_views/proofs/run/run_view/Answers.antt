@@ -62,7 +62,8 @@ returns-in-CheckGo-clause-shows g c = λ bytes known.
     let view = c.args.view.now in
     let checked = rw (c.limits_of-in-CheckGo.ensures, within_view view _ c.in-CheckGo.is) at
     c.run_check_go.ensures.checked in
-    subst (λ x. ViewAnswers x (view_limits view) (view_style view) bytes next old new c.run_check_go.result)
+    subst (λ x. ViewAnswers x (view_limits view) (view_style view) (view_explained view) bytes next old new
+    c.run_check_go.result)
     (sym c.in-CheckGo.is)
     (checked bytes known)
 

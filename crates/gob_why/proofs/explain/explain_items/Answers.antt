@@ -1,5 +1,5 @@
 -- From piece to piece what was taken is explained, and each end is that of the stream.
-use Rattle.std.proofs.Common.{◌≡◌, ◌∙◌, ◌++◌, ℕ, List, [], Err, ap, arith, length, length-append, refl, string_bytes}
+use Rattle.std.proofs.Common.{◌∙◌, ℕ, [], Err, ap, arith, length-append, refl, string_bytes}
 use Rattle.std.proofs.Common.{subst, sym, take}
 use Rattle.std.proofs.lemmas.List.{length-take-le}
 use Rattle.gob_types.specs.Defined.{types}
@@ -11,10 +11,9 @@ use Rattle.gob_tool.specs.Ending.{CountsOnlyWrites}
 use Rattle.gob_tool.specs.Fault.{reading_fault, writing_fault}
 use Rattle.gob_tool.specs.Showing.{CountsReadFaults}
 use Rattle.gob_tool.specs.declared.fault.ToolFault.TheVariants as fault
-use Rattle.gob_tool.proofs.CheckLaws.{limits_as}
 use Rattle.gob_tool.proofs.EndLaws.{at_error, reading_unread, reads_unread, write_counts, writing_unread}
 use Rattle.gob_tool.proofs.ShowRuns.{stop_faults}
-use Rattle.gob_why.specs.Machine.Keeping.{ExplainsAll, KeepsAll}
+use Rattle.gob_why.specs.Machine.Keeping.{ExplainsAll}
 use Rattle.gob_why.proofs.ExplainLaws.{end_explained, end_refused, explains_first, explains_turn, no_lines}
 use Rattle.gob_why.proofs.ExplainLaws.{none_explained, piece_cut, piece_refused, read_stops}
 use Rattle.gob_why.proofs.ReadingLaws.{none_came, piece_came}

@@ -1,5 +1,5 @@
 -- From piece to piece what was taken is counted, and each end is that of the stream.
-use Rattle.std.proofs.Common.{◌≡◌, ◌∙◌, ap, arith, length, refl, subst, sym}
+use Rattle.std.proofs.Common.{◌∙◌, ap, arith, refl, subst, sym}
 use Rattle.std.proofs.lemmas.List.{length-take-le}
 use Rattle.gob_types.specs.Defined.{types, definition_count}
 use Rattle.gob_stream.specs.Bounds.{Bounds, deepest, no_deeper}

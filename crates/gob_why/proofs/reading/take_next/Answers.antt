@@ -1,5 +1,5 @@
 -- A value that stands whole is passed, and what comes with a step is counted.
-use Rattle.std.proofs.Common.{◌∙◌, refl, arith}
+use Rattle.std.proofs.Common.{refl, arith}
 use Rattle.gob_stream.specs.Bounds.{deepest}
 use Rattle.gob_stream.proofs.PublicLaws.{has_item}
 use Rattle.gob_stream.specs.declared.fault.Fault.TheVariants as reading
@@ -7,7 +7,6 @@ use Rattle.gob_tool.proofs.TallyLaws.{items_fit, counts_item, counts_none, step_
 use Rattle.gob_tool.proofs.CheckLaws.{limits_as}
 use Rattle.std.proofs.Common.{[], ap}
 use Rattle.gob_types.specs.Defined.{types}
-use Rattle.gob_stream.specs.Calls.Session.{limits_of}
 use Rattle.gob_why.proofs.KeepingLaws.{keeps_at, kept_step_item, kept_step_more, no_memory_next, passes_kept}
 use Rattle.gob_why.proofs.KeepingLaws.{step_stops_kept}
 use Rattle.gob_why.proofs.ReadingLaws.{counts_value}

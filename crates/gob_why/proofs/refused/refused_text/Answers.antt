@@ -1,5 +1,5 @@
 -- The lines of the item, or nothing.
-use Rattle.std.proofs.Common.{[], subst, string_bytes, sym}
+use Rattle.std.proofs.Common.{subst, string_bytes, sym}
 use Rattle.gob_types.specs.Defined.{types}
 use Rattle.gob_why.specs.Explain.{IsRefusedText, not_chosen}
 use Rattle.gob_why.proofs.ExplainLaws.{refused_made}

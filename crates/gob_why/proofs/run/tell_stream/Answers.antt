@@ -1,5 +1,4 @@
 -- What was read is said, of a whole stream and of one that is refused.
-use Rattle.std.proofs.Common.{◌∙◌}
 use Rattle.std.proofs.KnownBytes.{Appends-nil}
 use Rattle.gob_stream.specs.Bounds.{deepest, no_deeper}
 use Rattle.gob_stream.specs.Calls.Ends.{reader_of, writer_of}

@@ -1,5 +1,5 @@
 -- What is left stands in a line of its own.
-use Rattle.std.proofs.Common.{arith, length, string_bytes}
+use Rattle.std.proofs.Common.{arith, string_bytes}
 use Rattle.gob_types.specs.Defined.{types}
 use Rattle.gob_explain.proofs.ItemLaws.{all_shown, rest_shown}
 use Rattle.gob_explain.proofs.text.item.push_first_bytes.Goals as goal

@@ -1,5 +1,5 @@
 -- The line of the count, that of the type number, and those of the body.
-use Rattle.std.proofs.Common.{◌≤◌, arith, length, subst, string_bytes, sym}
+use Rattle.std.proofs.Common.{◌≤◌, arith, subst, string_bytes, sym}
 use Rattle.gob_types.specs.Defined.{types}
 use Rattle.gob_explain.specs.Items.{HasItemLines}
 use Rattle.gob_explain.proofs.ItemLaws.{count_lines, item_lines, no_item_lines, rest_is}
