@@ -35,7 +35,7 @@ use Rattle.gob_stream.specs.Calls.Reader.{session_of}
 use Rattle.gob_stream.specs.Calls.Reader.{most_ahead, room_in, waits_in}
 use Rattle.gob_stream.proofs.PublicLaws.{ahead_so, begins_so}
 use Rattle.gob_tool.specs.declared.fault.ToolFault.{ToolFault}
-use Rattle.gob_tool.specs.declared.rewrite.WaitingItem.{WaitingItem}
+use Rattle.gob_tool.specs.declared.untidy.WaitingItem.{WaitingItem}
 use Rattle.gob_tool.specs.declared.fault.ToolFault.TheVariants as fault
 use Rattle.gob_tool.specs.Ending.{CountsOnlyWrites, EndsRun, ends_so, flush_fails}
 use Rattle.gob_tool.specs.Fault.{reading_fault, writing_fault}

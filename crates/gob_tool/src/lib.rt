@@ -21,6 +21,7 @@ mod run;
 mod show;
 mod take;
 mod tidied;
+mod untidy;
 mod wanted;
 
 pub use check::run_check;

@@ -1,6 +1,6 @@
 //! The run that writes a stream again, in its tidy form.
 
-ghost use Rattle.std.specs.Prelude.{◌≡◌, ◌<◌, ℕ, List, Option, Some, IfOk, IfSome, length};
+ghost use Rattle.std.specs.Prelude.{◌≡◌, ◌<◌, ℕ, List, Option, Some, IfSome, length};
 ghost use Rattle.gob_stream.specs.Bounds.{deepest, no_deeper};
 ghost use Rattle.gob_stream.specs.Calls.Session.{limits_of};
 ghost use Rattle.gob_stream.specs.Calls.Ends.{failed_reads, failed_writes, reader_of, writer_of};
@@ -12,13 +12,10 @@ ghost use Rattle.gob_tool.specs.Showing.{CountsReadFaults, CountsWriteFaults, Is
 
 use crate::end::{end_run, flush_before_waiting};
 use crate::fault::ToolFault;
-use crate::tidied::{write_as_spelled, write_tidy};
-use gob_num::Memory;
-use gob_read::Builder;
-use gob_stream::{Input, Limits, Output, Step, StreamReader, StreamWriter, Whole};
+use crate::tidied::write_as_spelled;
+use crate::untidy::{rewrite_untidy, rewritten_depth};
+use gob_stream::{Input, Limits, Output, StreamReader, StreamWriter, Whole};
 use gob_tape::TapeBuilder;
-use gob_tidy::tidy_whole;
-use gob_types::TypeId;
 use gob_value::is_tidy_whole;
 use std::alloc::Global;
 use std::io::{Read, Write};
@@ -92,32 +89,6 @@ fn rewrite_next<W: Write>(
     Ok(written?)
 }
 
-/// Takes some of the bytes that wait, and writes the item that is whole with them: a value that waits as a whole by the
-/// bytes of its tidy form, which are made of its bytes. `spelling` is room for them, or for the spelling of another
-/// one.
-fn rewrite_untidy<W: Write>(
-    alloc: Global,
-    reader: &mut StreamReader<TapeBuilder>,
-    writer: &mut StreamWriter,
-    spelling: &mut Vec<u8>,
-    output: &mut Output<W>,
-) -> Result<(), ToolFault>
-    requires some { 0 < length (waits_in reader.old) }
-    requires so_far { RewritesSome reader.old writer.old }
-    ensures rewritten { (read now start : Option (List ℕ))
-        → Rewrites reader.old writer.old read now start (W.contents (writer_of output.old))
-        → RewritesNext reader.old reader.new writer.new read now start (W.contents (writer_of output.new)) result }
-    ensures limits { limits_of (session_of reader.new) ≡ limits_of (session_of reader.old) }
-    ensures writes { CountsOnlyWrites (failed_writes output.old) (failed_writes output.new) result }
-{
-    let Some(item) = tidied_item(alloc, reader, spelling)? else {
-        return rewrite_step(alloc, reader, writer, spelling, output);
-    };
-    let written = write_as_spelled(alloc, reader.table(), item.id, spelling, writer, output);
-    reader.pass(item.used);
-    Ok(written?)
-}
-
 /// The item of a value that waits as a whole, where it is tidy already. None says nothing of what waits.
 fn tidy_item(reader: &StreamReader<TapeBuilder>) -> Option<Whole<'_>>
     ensures { IfSome result (λ item. WaitsTidied reader.now item.id item.body.now item.used) }
@@ -127,68 +98,4 @@ fn tidy_item(reader: &StreamReader<TapeBuilder>) -> Option<Whole<'_>>
         return None;
     }
     Some(item)
-}
-
-/// An item of a value that waits as a whole.
-#[derive(Clone, Copy)]
-struct WaitingItem {
-    /// The id of its type.
-    id: TypeId,
-    /// How many bytes are in it.
-    used: usize,
-}
-
-/// The item of a value that waits as a whole, the bytes of whose tidy form were made in `tidied`. None says nothing of
-/// what waits.
-fn tidied_item(
-    alloc: Global,
-    reader: &StreamReader<TapeBuilder>,
-    tidied: &mut Vec<u8>,
-) -> Result<Option<WaitingItem>, Memory>
-    ensures { IfOk result (λ found. IfSome found (λ item.
-        WaitsTidied reader.now item.id tidied.new.items item.used)) }
-{
-    let Some(item) = reader.whole() else {
-        return Ok(None);
-    };
-    let depth = rewritten_depth(reader);
-    let is_whole = tidy_whole(alloc, reader.table(), item.id, item.body, depth, tidied)?;
-    if !is_whole {
-        return Ok(None);
-    }
-    Ok(Some(WaitingItem {
-        id: item.id,
-        used: item.used,
-    }))
-}
-
-/// How deep a value may be that is written again: no deeper than one that the session builds.
-fn rewritten_depth(reader: &StreamReader<TapeBuilder>) -> u64
-    ensures { result ≡ (no_deeper deepest (limits_of (session_of reader.now))).depth }
-{
-    reader.limits().depth().min(TapeBuilder::DEPTH)
-}
-
-/// Takes some of the bytes that wait by a step, which makes a tape of a value, and writes the item that is whole with
-/// them in its tidy form.
-fn rewrite_step<W: Write>(
-    alloc: Global,
-    reader: &mut StreamReader<TapeBuilder>,
-    writer: &mut StreamWriter,
-    spelling: &mut Vec<u8>,
-    output: &mut Output<W>,
-) -> Result<(), ToolFault>
-    requires some { 0 < length (waits_in reader.old) }
-    requires so_far { RewritesSome reader.old writer.old }
-    ensures rewritten { (read now start : Option (List ℕ))
-        → Rewrites reader.old writer.old read now start (W.contents (writer_of output.old))
-        → RewritesNext reader.old reader.new writer.new read now start (W.contents (writer_of output.new)) result }
-    ensures limits { limits_of (session_of reader.new) ≡ limits_of (session_of reader.old) }
-    ensures writes { CountsOnlyWrites (failed_writes output.old) (failed_writes output.new) result }
-{
-    let Step { item, .. } = reader.step(alloc)?;
-    let Some(item) = item else {
-        return Ok(());
-    };
-    Ok(write_tidy(alloc, item, reader.table(), writer, spelling, output)?)
 }

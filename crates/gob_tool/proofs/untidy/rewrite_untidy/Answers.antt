@@ -13,7 +13,7 @@ use Rattle.gob_tool.proofs.EndLaws.{at_error}
 use Rattle.gob_tool.proofs.RewriteRuns.{body_some, next_wanting, rewrites_one, rewrites_stopped, tidy_behind, tidy_item}
 use Rattle.gob_tool.proofs.RewriteRuns.{rewrites_wanting, tidy_next}
 use Rattle.gob_tool.proofs.RewriteRuns.{tidy_spelled, waits_found, wanting_counts, whole_of}
-use Rattle.gob_tool.proofs.rewrite.rewrite_untidy.Goals as goal
+use Rattle.gob_tool.proofs.untidy.rewrite_untidy.Goals as goal
 
 pub write_as_spelled-written-requires : goal.write_as_spelled-written-requires
 write_as_spelled-written-requires g c =

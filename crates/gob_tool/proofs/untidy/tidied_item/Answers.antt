@@ -1,7 +1,7 @@
 use Rattle.std.proofs.Common.{subst}
 use Rattle.gob_types.specs.Defined.{Defined, types}
 use Rattle.gob_tidy.specs.TidiedWhole.{TidiesWhole}
-use Rattle.gob_tool.proofs.rewrite.tidied_item.Goals as goal
+use Rattle.gob_tool.proofs.untidy.tidied_item.Goals as goal
 
 pub returns : goal.returns
 returns c =

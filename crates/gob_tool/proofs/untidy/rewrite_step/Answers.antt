@@ -12,7 +12,7 @@ use Rattle.gob_tool.proofs.ReaderRuns.{read_alone}
 use Rattle.gob_tool.proofs.RewriteRuns.{next_there, next_wanting, none_taken, rewrites_none, rewrites_one}
 use Rattle.gob_tool.proofs.RewriteRuns.{rewrites_stopped}
 use Rattle.gob_tool.proofs.RewriteRuns.{step_stopped, tape_given, wanting_counts}
-use Rattle.gob_tool.proofs.rewrite.rewrite_step.Goals as goal
+use Rattle.gob_tool.proofs.untidy.rewrite_step.Goals as goal
 
 pub returns-in_err-item-clause-rewritten : goal.returns-in_err-item-clause-rewritten
 returns-in_err-item-clause-rewritten g c = λ read now start p.
