@@ -7,4 +7,6 @@ mod PartLaws
 mod BodyLaws
 mod ReachLaws
 pub mod ColumnLaws
+mod LineLaws
+mod NameLaws
 pub mod ItemLaws

@@ -1,7 +1,8 @@
 -- Lines of text that show bytes of a stream with their offset, and beside them what they are. (docs/FORMAT.md,
 -- Explained bytes: this project's own.)
-use Rattle.std.specs.Prelude.{◌≡◌, ℕ, ◌+◌, ◌-◌, ◌^◌, ◌≤◌, false, List, [], ◌∷◌, ◌++◌, length, take, min, codes}
-use Rattle.std.specs.Fmt.{digits, format_spec, padded_integral, styled_decimal}
+use Rattle.std.specs.Prelude.{◌≡◌, ℕ, zero, suc, ◌+◌, ◌-◌, ◌*◌, ◌^◌, false, List, [], ◌∷◌, ◌++◌, length, take, drop}
+use Rattle.std.specs.Prelude.{min, codes}
+use Rattle.std.specs.Fmt.{decimal, digits, format_spec, padded_integral, styled_decimal}
 
 -- a byte in two hexadecimal digits, behind a space
 abbrev pub hex_text : ℕ → List ℕ
@@ -16,40 +17,48 @@ hex_column (b ∷ bytes) = hex_text b ++ hex_column bytes
 abbrev pub offset_text : ℕ → List ℕ
 offset_text offset = styled_decimal (format_spec 32 3 0 6 (2 ^ 64 - 1)) offset ++ codes " "
 
--- these are spaces alone
-pub data AreSpaces : List ℕ → Type 0 where
-  no_space : AreSpaces []
-  a_space : {more : List ℕ} → AreSpaces more → AreSpaces (32 ∷ more)
-
--- the text is a line of these bytes and what they are; the lines in which more than 8 bytes go on are any text
-pub record IsLine (offset : ℕ) (bytes meaning text : List ℕ) : Type 0 where
-  pub gap : List ℕ
-  pub more : List ℕ
-  pub spaces : AreSpaces gap
-  pub line : text ≡ offset_text offset ++ (hex_column (take 8 bytes) ++ (gap ++ (meaning ++ (10 ∷ more))))
-  pub short : length bytes ≤ 8 → more ≡ []
+-- so many spaces
+unfoldable pub spaces : ℕ → List ℕ
+spaces zero = []
+spaces (suc n) = 32 ∷ spaces n
 
 -- the greatest number of 64 bits stands for what is greater
 abbrev pub saturated : ℕ → ℕ
 saturated n = min n (2 ^ 64 - 1)
 
+-- lines of 8 bytes each and nothing else, so many at most
+unfoldable pub byte_lines : (most offset : ℕ) → List ℕ → List ℕ
+byte_lines most offset [] = []
+byte_lines zero offset (b ∷ bytes) = []
+byte_lines (suc most) offset (b ∷ bytes) =
+    offset_text offset ++ (hex_column (take 8 (b ∷ bytes)) ++ (10 ∷ byte_lines most
+    (saturated (offset + length (take 8 (b ∷ bytes)))) (drop 8 (b ∷ bytes))))
+
+-- how many bytes aren't shown, if there are any
+unfoldable pub count_line : ℕ → List ℕ
+count_line zero = []
+count_line (suc n) = codes "        .. " ++ (decimal (suc n) ++ codes " bytes more\n")
+
+-- the lines below the first one of these bytes: the next 24 in lines of their own, and behind them the number of the
+-- others
+abbrev pub lines_below : (offset : ℕ) → List ℕ → List ℕ
+lines_below offset bytes = byte_lines 3 offset (take 24 bytes) ++ count_line (length (drop 24 bytes))
+
+-- the line of bytes at an offset, and what they are so many levels deep: the first 8 bytes, room for those that are
+-- missing of 8, two spaces and two more for each level, and what they are; and the lines below it
+unfoldable pub line_text : (offset : ℕ) → (bytes : List ℕ) → (levels : ℕ) → (meaning : List ℕ) → List ℕ
+line_text offset bytes levels meaning =
+    offset_text offset ++ (hex_column (take 8 bytes) ++ (spaces (3 * (8 - length (take 8 bytes)) + 2 + 2 * levels)
+    ++ (meaning ++ (10 ∷ lines_below (saturated (offset + length (take 8 bytes))) (drop 8 bytes)))))
+
 -- the text is lines one behind another, and the column of their bytes, joined, is these bytes of the stream, which
 -- begin at this offset
 pub data ColumnIs (offset : ℕ) : List ℕ → List ℕ → Type 0 where
   no_line : ColumnIs offset [] []
-  line_behind : {bytes more meaning text line : List ℕ} → ColumnIs offset bytes text
-      → IsLine (saturated (offset + length bytes)) more meaning line
-      → ColumnIs offset (bytes ++ more) (text ++ line)
+  line_behind : {bytes text : List ℕ} (more : List ℕ) (levels : ℕ) (meaning : List ℕ) → ColumnIs offset bytes text
+      → ColumnIs offset (bytes ++ more) (text ++ line_text (saturated (offset + length bytes)) more levels meaning)
 
 -- ---- what calls add to a text
-abbrev pub AddsSpaces : (old new : List ℕ) → Type 0
-AddsSpaces old new = (gap : List ℕ) × AreSpaces gap × (new ≡ old ++ gap)
-
--- nothing where there are no bytes
-abbrev pub HasMoreAdded : (bytes old new : List ℕ) → Type 0
-HasMoreAdded bytes old new = (more : List ℕ) × (new ≡ old ++ more) × (length bytes ≡ 0 → more ≡ [])
-
 -- a line
-abbrev pub HasLineAdded : (offset : ℕ) → (bytes meaning old new : List ℕ) → Type 0
-HasLineAdded offset bytes meaning old new =
-    (line : List ℕ) × (new ≡ old ++ line) × IsLine offset bytes meaning line
+abbrev pub HasLineAdded : (offset : ℕ) → (bytes : List ℕ) → (levels : ℕ) → (meaning old new : List ℕ) → Type 0
+HasLineAdded offset bytes levels meaning old new = new ≡ old ++ line_text offset bytes levels meaning

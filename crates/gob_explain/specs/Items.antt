@@ -1,6 +1,6 @@
 -- Which rows the first bytes of an item have, and that text shows them. (docs/FORMAT.md, Explained bytes: this
 -- project's own.)
-use Rattle.std.specs.Prelude.{◌≡◌, ℕ, pos, negsuc, ◌+◌, ◌≤◌, Bool, List, ◌++◌, length, take, drop}
+use Rattle.std.specs.Prelude.{◌≡◌, ℕ, pos, negsuc, ◌+◌, ◌<◌, ◌≤◌, Bool, List, [], ◌++◌, length, take, drop}
 use Rattle.gob_num.specs.Place.{IsUnsignedAt, NoNumberStandsAt}
 use Rattle.gob_num.specs.Signed.{IsSigned}
 use Rattle.gob_types.specs.Base.{wire_type}
@@ -8,7 +8,8 @@ use Rattle.gob_types.specs.Ready.{IsReady}
 use Rattle.gob_types.specs.Table.{Table}
 use Rattle.gob_types.specs.declared.id.TypeId.{TypeId}
 use Rattle.gob_explain.specs.Body.{EndsSo}
-use Rattle.gob_explain.specs.Column.{ColumnIs, HasLineAdded}
+use Rattle.gob_explain.specs.Column.{ColumnIs, HasLineAdded, line_text, saturated}
+use Rattle.gob_explain.specs.Lines.{AreLines}
 use Rattle.gob_explain.specs.Walk.{RowsLead, between}
 use Rattle.gob_explain.specs.declared.row.Row.{Row}
 
@@ -17,40 +18,53 @@ pub data NamesBody : List ℕ → TypeId → Type 0 where
   of_value : {t : TypeId} {b : List ℕ} → IsSigned (pos t.0) b → NamesBody b t
   of_definition : {n : ℕ} {b : List ℕ} → IsSigned (negsuc n) b → NamesBody b wire_type
 
--- rows of a body lead to the place, and no further: a value is whole there, or what comes next doesn't stand there; of
--- a type that isn't ready there are none
-pub data RowsOfBody (T : Table) (t : TypeId) (body : List ℕ) : ℕ → Type 0 where
-  no_rows : ¬ IsReady T t → RowsOfBody T t body 0
-  rows_lead : {place : ℕ} (rows : List Row) (whole : Bool) → IsReady T t → RowsLead T t body 0 rows place
-      → EndsSo T t body 1000 whole place
-      → RowsOfBody T t body place
+-- the text is the lines of rows of a body that lead to the place, and no further: a value is whole there, or what comes
+-- next doesn't stand there; of a type that isn't ready there are none
+pub data LinesOfBody (T : Table) (t : TypeId) (offset : ℕ) (body : List ℕ) : ℕ → List ℕ → Type 0 where
+  no_rows : ¬ IsReady T t → LinesOfBody T t offset body 0 []
+  rows_lead : {place : ℕ} {text : List ℕ} (rows : List Row) (whole : Bool) → IsReady T t
+      → RowsLead T t body 0 rows place → EndsSo T t body 1000 whole place → AreLines T offset body rows text
+      → LinesOfBody T t offset body place text
 
--- rows of an item lead to the place, and no further: its count, its type number, and those of its body
-pub data RowsOfItem (T : Table) (bytes : List ℕ) : ℕ → Type 0 where
-  no_count : NoNumberStandsAt bytes 0 → RowsOfItem T bytes 0
-  no_type_number : {n begin : ℕ} → IsUnsignedAt n bytes 0 begin → NoNumberStandsAt bytes begin
-      → RowsOfItem T bytes begin
-  of_body : {n m begin body place : ℕ} {t : TypeId} → IsUnsignedAt n bytes 0 begin → IsUnsignedAt m bytes begin body
-      → NamesBody (between begin body bytes) t → RowsOfBody T t (drop body bytes) place
-      → RowsOfItem T bytes (body + place)
+-- the text is the lines of an item that begins at this offset of the stream, up to the place, which is as far as they
+-- lead: that of its count, that of its type number one level deeper, and those of its body
+pub data LinesOfItem (T : Table) (offset : ℕ) (bytes : List ℕ) : ℕ → List ℕ → Type 0 where
+  no_count : NoNumberStandsAt bytes 0 → LinesOfItem T offset bytes 0 []
+  no_type_number : {n begin : ℕ} (meaning : List ℕ) → IsUnsignedAt n bytes 0 begin → NoNumberStandsAt bytes begin
+      → LinesOfItem T offset bytes begin (line_text offset (between 0 begin bytes) 0 meaning)
+  of_body : {n m begin body place : ℕ} {t : TypeId} {text : List ℕ} (meaning named : List ℕ)
+      → IsUnsignedAt n bytes 0 begin → IsUnsignedAt m bytes begin body → NamesBody (between begin body bytes) t
+      → LinesOfBody T t (saturated (offset + body)) (drop body bytes) place text
+      → LinesOfItem T offset bytes (body + place) (line_text offset (between 0 begin bytes) 0 meaning
+      ++ (line_text (saturated (offset + begin)) (between begin body bytes) 1 named ++ text))
 
--- the text is lines that show these first bytes of an item, which begin at this offset of the stream: its rows, as far
--- as they lead, and in a line of its own what is left of the bytes
+-- the text is a line of what is left of the bytes from the place on, if anything is
+pub data LineOfRest (offset : ℕ) (bytes : List ℕ) (place : ℕ) : List ℕ → Type 0 where
+  none_left : place ≡ length bytes → LineOfRest offset bytes place []
+  some_left : (meaning : List ℕ) → place < length bytes
+      → LineOfRest offset bytes place (line_text (saturated (offset + place)) (drop place bytes) 0 meaning)
+
+-- the text is lines that show these first bytes of an item, which begin at this offset of the stream: those of its
+-- rows, as far as they lead, and one of what is left of the bytes; so the column of their bytes is the bytes
 pub record ShowsItem (T : Table) (offset : ℕ) (bytes text : List ℕ) : Type 0 where
   pub reached : ℕ
-  pub rows : RowsOfItem T bytes reached
+  pub lines : List ℕ
+  pub last : List ℕ
+  pub all : text ≡ lines ++ last
+  pub rows : LinesOfItem T offset bytes reached lines
+  pub rest : LineOfRest offset bytes reached last
   pub column : ColumnIs offset bytes text
 
 -- ---- what calls add to a text
--- a line of these bytes
-abbrev pub HasSomeLine : (offset : ℕ) → (bytes old new : List ℕ) → Type 0
-HasSomeLine offset bytes old new = (meaning : List ℕ) × HasLineAdded offset bytes meaning old new
+-- a line of these bytes, so many levels deep
+abbrev pub HasSomeLine : (offset : ℕ) → (bytes : List ℕ) → (levels : ℕ) → (old new : List ℕ) → Type 0
+HasSomeLine offset bytes levels old new = (meaning : List ℕ) × HasLineAdded offset bytes levels meaning old new
 
 -- lines of a body
 pub record HasBodyLines (T : Table) (t : TypeId) (offset : ℕ) (body old new : List ℕ) (place : ℕ) : Type 0 where
   pub text : List ℕ
   pub added : new ≡ old ++ text
-  pub rows : RowsOfBody T t body place
+  pub rows : LinesOfBody T t offset body place text
   pub inside : place ≤ length body
   pub column : ColumnIs offset (take place body) text
 
@@ -58,7 +72,7 @@ pub record HasBodyLines (T : Table) (t : TypeId) (offset : ℕ) (body old new : 
 pub record HasItemLines (T : Table) (offset : ℕ) (bytes old new : List ℕ) (place : ℕ) : Type 0 where
   pub text : List ℕ
   pub added : new ≡ old ++ text
-  pub rows : RowsOfItem T bytes place
+  pub rows : LinesOfItem T offset bytes place text
   pub inside : place ≤ length bytes
   pub column : ColumnIs offset (take place bytes) text
 

@@ -5,4 +5,7 @@ pub mod Machine
 pub mod Body
 pub mod Reach
 pub mod Column
+pub mod Lines
+pub mod Names
+pub mod Awaited
 pub mod Items

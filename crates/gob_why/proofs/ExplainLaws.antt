@@ -1,7 +1,7 @@
 -- How a run that explains a stream goes on from piece to piece, and how it ends.
 use Rattle.std.proofs.Common.{◌≡◌, ℕ, ◌+◌, ◌-◌, List, [], ◌++◌, take}
 use Rattle.std.proofs.Common.{Option, Some, Result, Ok, Err, ◌∙◌, ap, sym, subst, refl}
-use Rattle.std.proofs.Common.{append_assoc, append-nil}
+use Rattle.std.proofs.Common.{append_assoc, append-nil, arith, length, length-append}
 use Rattle.std.proofs.lemmas.List.{take-append-le}
 use Rattle.std.specs.Io.KnownBytes.{Appends, Consumes, IsAtEnd, Keeps}
 use Rattle.std.proofs.KnownBytes.{Appends-kept, Appends-nil, Appends-trans, Consumes-kept, Consumes-nil, Consumes-trans}
@@ -33,6 +33,7 @@ use Rattle.gob_why.specs.Machine.Keeping.{KeepsAll, RefusesSo, ShowsRefused, Ski
 use Rattle.gob_why.specs.declared.explained.Explained.{Explained}
 use Rattle.gob_why.proofs.KeepingLaws.{kept_first}
 use Rattle.gob_why.proofs.ReadingLaws.{all_taken, taken_of}
+use Rattle.gob_why.proofs.RefusedLaws.{explained_there, refused_longer}
 
 -- ---- what is known of some text
 pub kept_begins : {which : Option Explained} {L : Bounds} {T : Table} {given : List StreamItem} {bytes item : List ℕ}
@@ -189,6 +190,8 @@ pub end_refused : (o : Option Explained) (which : Explained) (s s' : Skipping) (
     → ExplainsAll which (no_deeper deepest M) (types_of s') bytes item begin next old new (Err (reading_fault e))
 end_refused o which s s' M read now next old new item begin bytes (reading.Refused R) e f t x c end g known =
     let a = all_taken now next bytes x.taken known x.input c end in
+    let k = x.kept.kept in
+    let reached = explained_there k.prefix item g.0.ends k.stream k.whole in
     let kept = kept_for o which (limits_of s) M (types_of s) x.kept.given x.taken item begin x.text e f x.kept.kept in
     record {
       given = x.kept.given;
@@ -198,6 +201,8 @@ end_refused o which s s' M read now next old new item begin bytes (reading.Refus
       rest = [];
       read = x.taken;
       whole = sym a.all ∙ sym (append-nil x.taken);
+      behind = omega (arith, reached.0, k.begins);
+      there = reached.1;
       text = x.text;
       kept = subst (λ (T : Table). HasKept (Some which) (no_deeper deepest M) T x.kept.given x.taken item begin x.text)
           (sym t) kept;
@@ -222,6 +227,7 @@ piece_refused o which s s' M read now next old mid new piece item item' lines be
     let front = ap (λ b. take R.seen b) t.whole ∙ take-append-le R.seen (x.taken ++ piece) t.left (shown_there k.shown)
     in
     let stays = shown_refusal_stays (no_deeper deepest L) (x.taken ++ piece) bytes k.given R k.shown front in
+    let reached = explained_there k.kept.prefix item' k.shown.outcome.ends k.kept.stream k.kept.whole in
     record {
       given = k.given;
       outcome = subst (λ (L : Bounds). Outcome base_table (no_deeper deepest L) bytes k.given (refused R)) f
@@ -229,6 +235,8 @@ piece_refused o which s s' M read now next old mid new piece item item' lines be
       rest = t.left;
       read = x.taken ++ piece;
       whole = t.whole;
+      behind = omega (arith, reached.0, k.kept.begins);
+      there = reached.1;
       text = x.text ++ lines;
       kept = kept_for o which L M (types_of s') k.given (x.taken ++ piece) item' begin' (x.text ++ lines) e f k.kept;
       out = Appends-trans old mid new x.text lines x.out a;
@@ -269,22 +277,27 @@ pub refused_whole : (which : Explained) (L : Bounds) (T : Table) (bytes item : L
     (old mid new : Option (List ℕ)) (R : Refusal) (P : List ℕ → Type 0) (last : List ℕ)
     → (x : RefusesSo which L T bytes item begin old mid R) → IsRefusedText which T begin R item last
     → P (x.text ++ last) → IsRefused L bytes R (HasRefused which L bytes R P)
-refused_whole which L T bytes item begin old mid new R P last x t p = record {
-  items = x.given;
-  outcome = x.outcome;
-  holds = record {
-    before = x.kept.prefix;
-    read = item;
-    rest = x.rest;
-    whole = x.whole ∙ ap (λ (l : List ℕ). l ++ x.rest) x.kept.whole ∙ append_assoc x.kept.prefix item x.rest;
-    table = T;
-    text = x.text;
-    explained = x.kept.explained;
-    last = last;
-    refused = subst (λ (n : ℕ). IsRefusedText which T n R item last) x.kept.begins t;
-    holds = p;
-  };
-}
+refused_whole which L T bytes item begin old mid new R P last x t p =
+    let k = x.kept in
+    let read : length x.read ≡ length k.prefix + length item = ap length k.whole ∙ length-append k.prefix item in
+    let longer = refused_longer which T begin R item x.rest last (omega (arith, x.there, k.begins)) t in
+    record {
+      items = x.given;
+      outcome = x.outcome;
+      holds = record {
+        before = k.prefix;
+        rest = item ++ x.rest;
+        whole = x.whole ∙ ap (λ (l : List ℕ). l ++ x.rest) k.whole ∙ append_assoc k.prefix item x.rest;
+        behind = omega (arith, x.behind, k.begins);
+        there = omega (arith, x.there, ap length x.whole, length-append x.read x.rest);
+        table = T;
+        text = x.text;
+        explained = k.explained;
+        last = last;
+        refused = subst (λ (n : ℕ). IsRefusedText which T n R (item ++ x.rest) last) k.begins longer;
+        holds = p;
+      };
+    }
 
 pub refused_told : (which : Explained) (L M : Bounds) (T : Table) (bytes item : List ℕ) (begin : ℕ)
     (now old mid new : Option (List ℕ)) (R : Refusal) (f : ToolFault) (u : Unit {0}) → f ≡ fault.Refused R → L ≡ M
@@ -385,9 +398,10 @@ refused_as : {which : Explained} {L : Bounds} {bytes : List ℕ} {R : Refusal} {
     → HasRefused which L bytes R Q T items
 refused_as h f = record {
   before = h.before;
-  read = h.read;
   rest = h.rest;
   whole = h.whole;
+  behind = h.behind;
+  there = h.there;
   table = h.table;
   text = h.text;
   explained = h.explained;

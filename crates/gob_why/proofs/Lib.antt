@@ -1,4 +1,5 @@
 pub mod ReadingLaws
 pub mod WhyLaws
 pub mod KeepingLaws
+mod RefusedLaws
 pub mod ExplainLaws

@@ -70,26 +70,28 @@ up_to _ place seen = place
 abbrev pub explained_up_to : Refusal → ℕ
 explained_up_to R = up_to R.reason R.place R.seen
 
--- of a refused one, of which these bytes were read: lines that show them up to that offset, and then words; or nothing
-pub data IsRefusedText (which : Explained) (T : Table) (offset : ℕ) (R : Refusal) (read : List ℕ) : List ℕ → Type
+-- of a refused one, with which these bytes begin: lines that show them up to that offset, and then words; or nothing
+pub data IsRefusedText (which : Explained) (T : Table) (offset : ℕ) (R : Refusal) (bytes : List ℕ) : List ℕ → Type
     0 where
   refused_so : {text : List ℕ} (words : List ℕ) → IsRefusedChosen which offset
-      → ShowsItem T offset (take (explained_up_to R - offset) read) text
-      → IsRefusedText which T offset R read (text ++ words)
-  not_chosen : ¬ IsRefusedChosen which offset → IsRefusedText which T offset R read []
+      → ShowsItem T offset (take (explained_up_to R - offset) bytes) text
+      → IsRefusedText which T offset R bytes (text ++ words)
+  not_chosen : ¬ IsRefusedChosen which offset → IsRefusedText which T offset R bytes []
 
--- this holds of the text of the items and of the refused bytes behind them, of which some were read
+-- this holds of the text of the items and of the refused bytes behind them, which are there up to where they are
+-- explained
 pub record HasRefused (which : Explained) (L : Bounds) (bytes : List ℕ) (R : Refusal) (P : List ℕ → Type 0) (T : Table)
     (items : List StreamItem) : Type 0 where
   pub before : List ℕ
-  pub read : List ℕ
   pub rest : List ℕ
-  pub whole : bytes ≡ before ++ (read ++ rest)
+  pub whole : bytes ≡ before ++ rest
+  pub behind : length before ≤ explained_up_to R
+  pub there : explained_up_to R ≤ length bytes
   pub table : Table
   pub text : List ℕ
   pub explained : AreExplained (Some which) L items before table text
   pub last : List ℕ
-  pub refused : IsRefusedText which table (length before) R read last
+  pub refused : IsRefusedText which table (length before) R rest last
   pub holds : P (text ++ last)
 
 -- ---- the run

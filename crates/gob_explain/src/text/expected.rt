@@ -1,5 +1,10 @@
 //! What comes next behind rows, in words.
 
+ghost use Rattle.std.specs.Prelude.{◌≡◌, ◌++◌, OnOk, codes, length, min, slice_get, string_bytes};
+ghost use Rattle.std.specs.Fmt.{decimal};
+ghost use Rattle.gob_explain.specs.Awaited.{awaited_text, basic_text, deltas_text, kind_text};
+ghost use Rattle.gob_explain.specs.Names.{field_name};
+
 use crate::row::{Awaited, What};
 use crate::text::names::push_name;
 use gob_types::{Basic, Fields, Kind, Shapes};
@@ -15,7 +20,10 @@ pub fn push_expected<S: Shapes>(
     shapes: &S,
     awaited: &Awaited,
     out: &mut String,
-) -> Result<(), AllocError> {
+) -> Result<(), AllocError>
+    ensures { OnOk result
+        (string_bytes out.new ≡ string_bytes out.old ++ awaited_text (S.table shapes.now) awaited.now) }
+{
     match awaited.what {
         What::Tag => out.push_str("the tag, which is 0"),
         What::Imaginary => out.push_str("the imaginary part of a complex"),
@@ -27,7 +35,9 @@ pub fn push_expected<S: Shapes>(
     }
 }
 
-fn push_first(alloc: Global, kind: &Kind, most: u64, out: &mut String) -> Result<(), AllocError> {
+fn push_first(alloc: Global, kind: &Kind, most: u64, out: &mut String) -> Result<(), AllocError>
+    ensures { OnOk result (string_bytes out.new ≡ string_bytes out.old ++ kind_text kind.now most) }
+{
     match kind {
         Kind::Basic(basic) => out.push_str(basic_words(*basic)),
         Kind::Array { len, .. } => write!(out, "{len}, the count of the elements"),
@@ -38,7 +48,9 @@ fn push_first(alloc: Global, kind: &Kind, most: u64, out: &mut String) -> Result
     }
 }
 
-fn basic_words(basic: Basic) -> &'static str {
+fn basic_words(basic: Basic) -> &'static str
+    ensures { result.now ≡ basic_text basic }
+{
     match basic {
         Basic::Bool => "a bool, 0 or 1",
         Basic::Int => "an int",
@@ -56,19 +68,37 @@ fn push_fields(
     fields: &Fields,
     most: u64,
     out: &mut String,
-) -> Result<(), AllocError> {
+) -> Result<(), AllocError>
+    ensures { OnOk result
+        (string_bytes out.new ≡ string_bytes out.old ++ deltas_text fields.now (min most (length fields.now))) }
+{
     out.push_str("0, which ends the struct")?;
     let count = fields.count();
     let left = most.min(count);
     let next = count - left;
-    for delta in 1..=left.min(NAMED) {
-        write!(out, ", {delta} for ")?;
-        if let Some(field) = fields.get(next.saturating_add(delta - 1)) {
-            push_name(alloc, field.name.as_bytes(), out)?;
-        }
+    'deltas: for index in 0..left.min(NAMED) {
+        push_delta(alloc, fields, next + index, index + 1, out)?;
     }
     if left > NAMED {
         out.push_str(" ..")?;
     }
     Ok(())
+}
+
+// A delta, and the name of the field of this number, to which it leads.
+fn push_delta(
+    alloc: Global,
+    fields: &Fields,
+    number: u64,
+    delta: u64,
+    out: &mut String,
+) -> Result<(), AllocError>
+    ensures { OnOk result (string_bytes out.new ≡ string_bytes out.old ++ (codes ", " ++ (decimal delta
+        ++ (codes " for " ++ field_name (slice_get fields.now number))))) }
+{
+    write!(out, ", {delta} for ")?;
+    match fields.get(number) {
+        Some(field) => push_name(alloc, field.name.as_bytes(), out),
+        None => Ok(()),
+    }
 }

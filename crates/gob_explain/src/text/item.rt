@@ -126,7 +126,7 @@ fn push_count(
     offset: u64,
     out: &mut String,
 ) -> Result<(), AllocError>
-    ensures { OnOk result (HasSomeLine offset bytes.now (string_bytes out.old) (string_bytes out.new)) }
+    ensures { OnOk result (HasSomeLine offset bytes.now 0 (string_bytes out.old) (string_bytes out.new)) }
 {
     let noun = if count == 1 { "byte" } else { "bytes" };
     let meaning = format!(in alloc; "an item of {count} {noun}")?;
@@ -153,7 +153,7 @@ fn push_type(
     offset: u64,
     out: &mut String,
 ) -> Result<(), AllocError>
-    ensures { OnOk result (HasSomeLine offset bytes.now (string_bytes out.old) (string_bytes out.new)) }
+    ensures { OnOk result (HasSomeLine offset bytes.now 1 (string_bytes out.old) (string_bytes out.new)) }
 {
     let meaning = type_meaning(alloc, table, number)?;
     push_line(offset, bytes, 1, meaning.as_str(), out)

@@ -1,5 +1,9 @@
 //! Paths of parts, and what the part of a row is called.
 
+ghost use Rattle.std.specs.Prelude.{◌≡◌, ◌++◌, IfOk, OnOk, string_bytes};
+ghost use Rattle.gob_types.specs.Table.{shape_of};
+ghost use Rattle.gob_explain.specs.Names.{field_in, path_text, step_text};
+
 use crate::row::Step;
 use crate::text::names::push_name;
 use gob_num::Memory;
@@ -8,7 +12,9 @@ use std::alloc::{AllocError, Global};
 
 /// The path as text: `[2].Lines[0].Count`, with ` key` behind the index of a pair whose key it leads to. Names of
 /// fields are those of the table, with no character that a terminal obeys. Empty where there is no step.
-pub fn path_text<S: Shapes>(alloc: Global, shapes: &S, path: &[Step]) -> Result<String, Memory> {
+pub fn path_text<S: Shapes>(alloc: Global, shapes: &S, path: &[Step]) -> Result<String, Memory>
+    ensures { IfOk result (λ text. string_bytes text ≡ path_text (S.table shapes.now) path.now) }
+{
     let mut text = String::new(alloc);
     for step in path {
         push_path_step(alloc, shapes, *step, &mut text)?;
@@ -21,7 +27,9 @@ fn push_path_step<S: Shapes>(
     shapes: &S,
     step: Step,
     out: &mut String,
-) -> Result<(), AllocError> {
+) -> Result<(), AllocError>
+    ensures { OnOk result (string_bytes out.new ≡ string_bytes out.old ++ step_text (S.table shapes.now) step) }
+{
     match step {
         Step::Element(index) => write!(out, "[{index}]"),
         Step::Key(index) => write!(out, "[{index}] key"),
@@ -72,7 +80,10 @@ fn push_field<S: Shapes>(
     of: TypeId,
     number: u64,
     out: &mut String,
-) -> Result<(), AllocError> {
+) -> Result<(), AllocError>
+    ensures { OnOk result
+        (string_bytes out.new ≡ string_bytes out.old ++ field_in (shape_of (S.table shapes.now) of) number) }
+{
     let Some(shape) = shapes.shape_of(of) else {
         return Ok(());
     };

@@ -1,7 +1,7 @@
 //! Lines: bytes of a stream with their offset, and beside them what they are.
 
-ghost use Rattle.std.specs.Prelude.{◌≡◌, ◌-◌, ◌++◌, ◌≤◌, length, take, drop, min, OnOk, string_bytes};
-ghost use Rattle.gob_explain.specs.Column.{AddsSpaces, HasLineAdded, HasMoreAdded, hex_column, offset_text};
+ghost use Rattle.std.specs.Prelude.{◌≡◌, ℕ, ◌+◌, ◌-◌, ◌*◌, ◌++◌, ◌≤◌, length, take, drop, min, OnOk, string_bytes};
+ghost use Rattle.gob_explain.specs.Column.{HasLineAdded, byte_lines, hex_column, lines_below, offset_text, spaces};
 
 use std::alloc::AllocError;
 
@@ -20,7 +20,8 @@ pub fn push_line(
     meaning: &str,
     out: &mut String,
 ) -> Result<(), AllocError>
-    ensures { OnOk result (HasLineAdded offset bytes.now meaning.now (string_bytes out.old) (string_bytes out.new)) }
+    ensures { OnOk result (HasLineAdded offset bytes.now levels meaning.now (string_bytes out.old)
+        (string_bytes out.new)) }
 {
     let (shown, more) = split(bytes, WIDTH);
     push_bytes(offset, shown, out)?;
@@ -32,13 +33,13 @@ pub fn push_line(
 
 // What stands between the bytes and what they are: room for so many bytes more, and two spaces for each level.
 fn push_gap(missing: usize, levels: u64, out: &mut String) -> Result<(), AllocError>
-    ensures { OnOk result (AddsSpaces (string_bytes out.old) (string_bytes out.new)) }
+    ensures { OnOk result (string_bytes out.new ≡ string_bytes out.old ++ spaces (3 * missing + 2 + 2 * levels)) }
 {
-    'bytes: for _ in 0..missing {
+    'bytes: for byte in 0..missing {
         out.push_str("   ")?;
     }
     out.push_str("  ")?;
-    'levels: for _ in 0..levels {
+    'levels: for level in 0..levels {
         out.push_str("  ")?;
     }
     Ok(())
@@ -46,7 +47,7 @@ fn push_gap(missing: usize, levels: u64, out: &mut String) -> Result<(), AllocEr
 
 // The lines of the bytes behind the first ones.
 fn push_more(begin: u64, bytes: &[u8], out: &mut String) -> Result<(), AllocError>
-    ensures { OnOk result (HasMoreAdded bytes.now (string_bytes out.old) (string_bytes out.new)) }
+    ensures { OnOk result (string_bytes out.new ≡ string_bytes out.old ++ lines_below begin bytes.now) }
 {
     let (shown, more) = split(bytes, MOST - WIDTH);
     push_shown(begin, shown, out)?;
@@ -58,7 +59,8 @@ fn push_more(begin: u64, bytes: &[u8], out: &mut String) -> Result<(), AllocErro
 
 // A line for each 8 bytes.
 fn push_shown(begin: u64, bytes: &[u8], out: &mut String) -> Result<(), AllocError>
-    ensures { OnOk result (HasMoreAdded bytes.now (string_bytes out.old) (string_bytes out.new)) }
+    ensures { (most : ℕ) → length bytes.now ≤ 8 * most
+        → OnOk result (string_bytes out.new ≡ string_bytes out.old ++ byte_lines most begin bytes.now) }
 {
     let mut offset = begin;
     let mut rest = bytes;

@@ -1,5 +1,8 @@
 //! Names and strings of a stream, as a terminal may show them.
 
+ghost use Rattle.std.specs.Prelude.{◌≡◌, ◌++◌, OnOk, string_bytes};
+ghost use Rattle.gob_explain.specs.Names.{go_name, shown_name, type_name};
+
 use gob_types::{Shapes, TypeId};
 use gob_words::escaped;
 use std::alloc::{AllocError, Global};
@@ -10,7 +13,9 @@ const SHOWN: usize = 48;
 
 /// Puts a name behind the text: with no character that a terminal obeys where it is UTF-8, else as `0x` and its bytes
 /// in lower case hexadecimal.
-pub fn push_name(alloc: Global, name: &[u8], out: &mut String) -> Result<(), AllocError> {
+pub fn push_name(alloc: Global, name: &[u8], out: &mut String) -> Result<(), AllocError>
+    ensures { OnOk result (string_bytes out.new ≡ string_bytes out.old ++ shown_name name.now) }
+{
     match str::from_utf8(name) {
         Ok(text) => out.push_str(escaped(alloc, text)?.as_str()),
         Err(_) => {
@@ -48,7 +53,9 @@ pub fn push_type_name<S: Shapes>(
     shapes: &S,
     id: TypeId,
     out: &mut String,
-) -> Result<(), AllocError> {
+) -> Result<(), AllocError>
+    ensures { OnOk result (string_bytes out.new ≡ string_bytes out.old ++ type_name (S.table shapes.now) id) }
+{
     let known = known_name(id);
     if !known.is_empty() {
         return out.push_str(known);
@@ -60,7 +67,9 @@ pub fn push_type_name<S: Shapes>(
 }
 
 // The name of a type of the base table whose name there isn't that of a Go type.
-fn known_name(id: TypeId) -> &'static str {
+fn known_name(id: TypeId) -> &'static str
+    ensures { result.now ≡ go_name id.0 }
+{
     match id.0 {
         1 => "bool",
         2 => "int",

@@ -1,9 +1,13 @@
 //! A sink that makes lines of the rows of a body.
 
-ghost use Rattle.std.specs.Prelude.{◌≡◌, ◌+◌, ◌<◌, ◌≤◌, ℕ, List, None, length, take, IfOk, OnOk, string_bytes};
+ghost use Rattle.std.specs.Prelude.{◌≡◌, ◌+◌, ◌<◌, ◌≤◌, ◌++◌, ◌∷◌, [], ℕ, List, None, Some, length, IfOk, OnOk};
+ghost use Rattle.std.specs.Prelude.{MatchBool, string_bytes};
+ghost use Rattle.gob_types.specs.Table.{shape_of};
 ghost use Rattle.gob_explain.specs.declared.row.Row.{Row};
-ghost use Rattle.gob_explain.specs.Column.{ColumnIs, HasLineAdded, saturated};
-ghost use Rattle.gob_explain.specs.Machine.Printing.{HasPrinted, PrintsRows};
+ghost use Rattle.gob_explain.specs.declared.text.printer.Line.{Line};
+ghost use Rattle.gob_explain.specs.Column.{HasLineAdded, saturated};
+ghost use Rattle.gob_explain.specs.Lines.{BeginsLine, IsFollowed, last_of};
+ghost use Rattle.gob_explain.specs.Machine.Printing.{FitsIn, HasLines, HasPrinted, HasTold, PrintsRows};
 ghost use Rattle.gob_explain.specs.Walk.{between};
 
 use crate::row::{Row, Step, What};
@@ -47,6 +51,7 @@ impl Line {
     fn of(row: &Row) -> Line
         ensures begin { result.begin ≡ row.now.begin }
         ensures end { result.end ≡ row.now.end }
+        ensures depth { result.depth ≡ row.now.depth }
     {
         Line {
             begin: row.begin,
@@ -63,7 +68,8 @@ impl<'a, S: Shapes> Printer<'a, S> {
     pub fn new(alloc: Global, shapes: &'a S, body: &'a [u8], offset: u64) -> Printer<'a, S>
         ensures offset { result.offset ≡ offset }
         ensures body { result.body.now ≡ body.now }
-        ensures printed { HasPrinted offset body.now result.line (string_bytes result.text) 0 }
+        ensures shapes { result.shapes.now ≡ shapes.now }
+        ensures told { HasTold (S.table shapes.now) offset body.now result.line (string_bytes result.text) [] 0 }
     {
         Printer {
             alloc,
@@ -78,9 +84,11 @@ impl<'a, S: Shapes> Printer<'a, S> {
 
     /// The lines, with one for what was told of a part that isn't whole.
     pub fn finish(mut self) -> Result<String, Memory>
-        ensures { (at : ℕ)
-            → HasPrinted self.entry.offset self.entry.body.now self.entry.line (string_bytes self.entry.text) at
-            → IfOk result (λ text. ColumnIs self.entry.offset (take at self.entry.body.now) (string_bytes text)) }
+        ensures { (rows : List Row) (at : ℕ)
+            → HasPrinted (S.table self.entry.shapes.now) self.entry.offset self.entry.body.now self.entry.line
+            (string_bytes self.entry.text) rows at
+            → IfOk result (λ text. HasLines (S.table self.entry.shapes.now) self.entry.offset self.entry.body.now rows
+            at (string_bytes text)) }
     {
         self.end_line(Behind::Missing)?;
         let Printer {
@@ -99,11 +107,13 @@ impl<'a, S: Shapes> Printer<'a, S> {
     fn end_line(&mut self, behind: Behind<'_>) -> Result<(), AllocError>
         ensures offset { self.new.offset ≡ self.old.offset }
         ensures body { self.new.body ≡ self.old.body }
+        ensures shapes { self.new.shapes ≡ self.old.shapes }
         ensures none { OnOk result (self.new.line ≡ None) }
-        ensures printed { (at : ℕ)
-            → HasPrinted self.old.offset self.old.body.now self.old.line (string_bytes self.old.text) at
-            → OnOk result
-            (HasPrinted self.new.offset self.new.body.now self.new.line (string_bytes self.new.text) at) }
+        ensures printed { (rows : List Row) (at : ℕ)
+            → HasPrinted (S.table self.old.shapes.now) self.old.offset self.old.body.now self.old.line
+            (string_bytes self.old.text) rows at
+            → OnOk result (HasPrinted (S.table self.old.shapes.now) self.old.offset self.old.body.now None
+            (string_bytes self.new.text) rows at) }
     {
         let Some(line) = self.line.take() else {
             return Ok(());
@@ -123,11 +133,12 @@ impl<'a, S: Shapes> Printer<'a, S> {
     fn push(&mut self, line: &Line, meaning: &str) -> Result<(), AllocError>
         ensures offset { self.new.offset ≡ self.old.offset }
         ensures body { self.new.body ≡ self.old.body }
+        ensures shapes { self.new.shapes ≡ self.old.shapes }
         ensures under_way { self.new.line ≡ self.old.line }
         ensures added { line.now.begin ≤ line.now.end → line.now.end ≤ length self.old.body.now
             → OnOk result (HasLineAdded (saturated (self.old.offset + line.now.begin))
-            (between line.now.begin line.now.end self.old.body.now) meaning.now (string_bytes self.old.text)
-            (string_bytes self.new.text)) }
+            (between line.now.begin line.now.end self.old.body.now) (saturated (line.now.depth + 1)) meaning.now
+            (string_bytes self.old.text) (string_bytes self.new.text)) }
     {
         let bytes = self.bytes(line.begin, line.end);
         let offset = self.offset.saturating_add(line.begin as u64);
@@ -146,9 +157,14 @@ impl<'a, S: Shapes> Printer<'a, S> {
     fn go_on(&mut self, row: &Row)
         ensures offset { self.new.offset ≡ self.old.offset }
         ensures body { self.new.body ≡ self.old.body }
-        ensures printed { row.now.begin < row.now.end → row.now.end ≤ length self.old.body.now
-            → HasPrinted self.old.offset self.old.body.now self.old.line (string_bytes self.old.text) row.now.begin
-            → HasPrinted self.new.offset self.new.body.now self.new.line (string_bytes self.new.text) row.now.end }
+        ensures shapes { self.new.shapes ≡ self.old.shapes }
+        ensures under_way { (line : Line) × (self.new.line ≡ Some line) }
+        ensures printed { (rows : List Row) → row.now.begin < row.now.end → row.now.end ≤ length self.old.body.now
+            → FitsIn (S.table self.old.shapes.now) self.old.line (last_of rows) row.now
+            → HasPrinted (S.table self.old.shapes.now) self.old.offset self.old.body.now self.old.line
+            (string_bytes self.old.text) rows row.now.begin
+            → HasPrinted (S.table self.old.shapes.now) self.old.offset self.old.body.now self.new.line
+            (string_bytes self.new.text) (rows ++ row.now ∷ []) row.now.end }
     {
         let mut line = self.line.unwrap_or(Line::of(row));
         line.end = row.end;
@@ -162,10 +178,14 @@ impl<'a, S: Shapes> Printer<'a, S> {
     fn push_row(&mut self, row: &Row, meaning: &str) -> Result<(), AllocError>
         ensures offset { self.new.offset ≡ self.old.offset }
         ensures body { self.new.body ≡ self.old.body }
-        ensures printed { self.old.line ≡ None → row.now.begin < row.now.end → row.now.end ≤ length self.old.body.now
-            → HasPrinted self.old.offset self.old.body.now self.old.line (string_bytes self.old.text) row.now.begin
-            → OnOk result
-            (HasPrinted self.new.offset self.new.body.now self.new.line (string_bytes self.new.text) row.now.end) }
+        ensures shapes { self.new.shapes ≡ self.old.shapes }
+        ensures under_way { self.new.line ≡ self.old.line }
+        ensures printed { (rows : List Row) → row.now.begin < row.now.end → row.now.end ≤ length self.old.body.now
+            → BeginsLine (S.table self.old.shapes.now) (last_of rows) row.now
+            → HasPrinted (S.table self.old.shapes.now) self.old.offset self.old.body.now None
+            (string_bytes self.old.text) rows row.now.begin
+            → OnOk result (HasPrinted (S.table self.old.shapes.now) self.old.offset self.old.body.now None
+            (string_bytes self.new.text) (rows ++ row.now ∷ []) row.now.end) }
     {
         self.push(&Line::of(row), meaning)
     }
@@ -190,10 +210,12 @@ impl<'a, S: Shapes> Printer<'a, S> {
     fn put_row(&mut self, row: &Row) -> Result<(), AllocError>
         ensures offset { self.new.offset ≡ self.old.offset }
         ensures body { self.new.body ≡ self.old.body }
-        ensures printed { row.now.begin < row.now.end → row.now.end ≤ length self.old.body.now
-            → HasPrinted self.old.offset self.old.body.now self.old.line (string_bytes self.old.text) row.now.begin
-            → OnOk result
-            (HasPrinted self.new.offset self.new.body.now self.new.line (string_bytes self.new.text) row.now.end) }
+        ensures shapes { self.new.shapes ≡ self.old.shapes }
+        ensures told { (rows : List Row) → row.now.begin < row.now.end → row.now.end ≤ length self.old.body.now
+            → HasTold (S.table self.old.shapes.now) self.old.offset self.old.body.now self.old.line
+            (string_bytes self.old.text) rows row.now.begin
+            → OnOk result (HasTold (S.table self.old.shapes.now) self.old.offset self.old.body.now self.new.line
+            (string_bytes self.new.text) (rows ++ row.now ∷ []) row.now.end) }
     {
         match row.what {
             What::Tag => {
@@ -224,10 +246,13 @@ impl<'a, S: Shapes> Printer<'a, S> {
     fn put_delta(&mut self, row: &Row) -> Result<(), AllocError>
         ensures offset { self.new.offset ≡ self.old.offset }
         ensures body { self.new.body ≡ self.old.body }
-        ensures printed { row.now.begin < row.now.end → row.now.end ≤ length self.old.body.now
-            → HasPrinted self.old.offset self.old.body.now self.old.line (string_bytes self.old.text) row.now.begin
-            → OnOk result
-            (HasPrinted self.new.offset self.new.body.now self.new.line (string_bytes self.new.text) row.now.end) }
+        ensures shapes { self.new.shapes ≡ self.old.shapes }
+        ensures told { row.now.what ≡ What.Delta → (rows : List Row) → row.now.begin < row.now.end
+            → row.now.end ≤ length self.old.body.now
+            → HasTold (S.table self.old.shapes.now) self.old.offset self.old.body.now self.old.line
+            (string_bytes self.old.text) rows row.now.begin
+            → OnOk result (HasTold (S.table self.old.shapes.now) self.old.offset self.old.body.now self.new.line
+            (string_bytes self.new.text) (rows ++ row.now ∷ []) row.now.end) }
     {
         self.end_line(Behind::Missing)?;
         if row.number > 0 {
@@ -244,8 +269,9 @@ impl<S: Shapes> RowSink for Printer<'_, S> {
 
     ghost use Rattle.gob_explain.specs.Machine.Printing.{prints_both, prints_nothing};
 
-    ghost tells = { λ old new rows result. PrintsRows old.offset old.body.now old.line (string_bytes old.text)
-        new.offset new.body.now new.line (string_bytes new.text) rows result };
+    ghost tells = { λ old new rows result. PrintsRows (S.table old.shapes.now) old.offset old.body.now old.line
+        (string_bytes old.text) (S.table new.shapes.now) new.offset new.body.now new.line (string_bytes new.text) rows
+        result };
 
     fn put(&mut self, row: Row) -> Result<(), Memory> {
         Ok(self.put_row(&row)?)
@@ -259,15 +285,18 @@ impl<S: Shapes> RowSink for Printer<'_, S> {
         self.path.pop();
     }
 
-    ghost nothing = { λ a. prints_nothing a.offset a.body.now a.line (string_bytes a.text) };
+    ghost nothing = { λ a. prints_nothing (S.table a.shapes.now) a.offset a.body.now a.line (string_bytes a.text) };
 
-    ghost joined = { λ a b c x y r p q. prints_both a.offset a.body.now a.line (string_bytes a.text)
-        b.offset b.body.now b.line (string_bytes b.text)
-        c.offset c.body.now c.line (string_bytes c.text) x y r p q };
+    ghost joined = { λ a b c x y r p q. prints_both (S.table a.shapes.now) a.offset a.body.now a.line
+        (string_bytes a.text) (S.table b.shapes.now) b.offset b.body.now b.line (string_bytes b.text)
+        (S.table c.shapes.now) c.offset c.body.now c.line (string_bytes c.text) x y r p q };
 }
 
 // Whether the first number of a part is followed by more in the same line.
-fn goes_on<S: Shapes>(shapes: &S, first: &Row) -> bool {
+fn goes_on<S: Shapes>(shapes: &S, first: &Row) -> bool
+    ensures { MatchBool result (IsFollowed (shape_of (S.table shapes.now) first.now.id) first.now.number)
+        (¬ IsFollowed (shape_of (S.table shapes.now) first.now.id) first.now.number) }
+{
     let Some(shape) = shapes.shape_of(first.id) else {
         return false;
     };

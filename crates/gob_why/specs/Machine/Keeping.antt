@@ -128,7 +128,7 @@ pub record ExplainsSo (which : Option Explained) (s : Skipping) (read now old ne
   pub kept : HasReadKept which s taken item begin text
   pub out : Appends old new text
 
--- and the next item is refused, of which this was read
+-- and the next item is refused, of which this was read, as far as it is explained at least
 pub record RefusesSo (which : Explained) (L : Bounds) (T : Table) (bytes item : List ℕ) (begin : ℕ)
     (old new : Option (List ℕ)) (R : Refusal) : Type 0 where
   pub given : List StreamItem
@@ -136,6 +136,8 @@ pub record RefusesSo (which : Explained) (L : Bounds) (T : Table) (bytes item : 
   pub rest : List ℕ
   pub read : List ℕ
   pub whole : bytes ≡ read ++ rest
+  pub behind : begin ≤ explained_up_to R
+  pub there : explained_up_to R ≤ length read
   pub text : List ℕ
   pub kept : HasKept (Some which) L T given read item begin text
   pub out : Appends old new text

@@ -15,7 +15,8 @@ returns c =
     let walked = c.in_ok-walked.ensures ready in
     let old = string_bytes c.args.out.now in
     body_shown (types c.args.table.now) c.args.id c.args.offset c.args.body.now old (string_bytes c.push_str.new.self)
-    _ _ _ _ _ _ _ _ (string_bytes c.in_ok-finish.field-0) c.in_ok-walked.walked.place walked.0.rows
-    c.in_ok-walked.walked.whole ready walked.0.lead walked.0.inside walked.1 c.new-printer.ensures.offset
-    c.new-printer.ensures.body c.new-printer.ensures.printed walked.0.told c.in_ok-finish.ensures
+    _ _ _ _ _ _ _ _ _ _ (string_bytes c.in_ok-finish.field-0) c.in_ok-walked.walked.place walked.0.rows
+    c.in_ok-walked.walked.whole ready walked.0.lead walked.0.inside walked.1 (ap types c.new-printer.ensures.shapes)
+    c.new-printer.ensures.offset c.new-printer.ensures.body c.new-printer.ensures.told walked.0.told
+    c.in_ok-finish.ensures
     (c.in_ok-push_str.ensures.bytes ∙ ap (λ (l : List ℕ). old ++ l) c.as_str.ensures.value)
