@@ -1,2 +1,3 @@
+mod NilsLaws
 pub mod WrittenLaws
 pub mod TapeLaws

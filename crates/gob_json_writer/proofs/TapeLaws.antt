@@ -2,7 +2,7 @@
 use Rattle.std.proofs.Common.{◌≡◌, ◌≢◌, ℕ, ℤ, pos, negsuc, ◌+◌, ◌*◌, ◌/◌, ◌%◌, ◌<◌, ◌≤◌, List, [], ◌∷◌, ◌++◌}
 use Rattle.std.proofs.Common.{Option, Some, None, Bool, true, false, not, arith, refl, sym, ap, ◌∙◌, subst}
 use Rattle.std.proofs.Common.{append_assoc, Result, Ok}
-use Rattle.std.specs.Prelude.{◌==◌, if◌then◌else◌, slice_get}
+use Rattle.std.specs.Prelude.{◌==◌, if◌then◌else◌, slice_get, OnOk, codes, decimal}
 use Rattle.std.specs.Fmt.{signed_decimal}
 use Rattle.json.specs.Token.{Token}
 use Rattle.json.specs.Tree.{json_tokens, items_tokens}
@@ -20,14 +20,20 @@ use Rattle.gob_tape.specs.declared.kind.ValueKind.{ValueKind}
 use Rattle.gob_tape.specs.declared.kind.ValueKind.TheVariants as kind
 use Rattle.gob_tape.specs.declared.view.View.{View}
 use Rattle.gob_tape.specs.declared.view.Children.{Children}
+use Rattle.gob_tape.specs.Meaning.{Means}
 use Rattle.gob_tape.specs.Seeing.{kind_of, numbers_of, bytes_of, unsigned_of, elements, alternating, present}
 use Rattle.gob_tape.specs.Seeing.{Sees, Gives, GivesNext, gives_one, GivesPart, TakesNodes}
-use Rattle.gob_tape.specs.Seeing.{takes_some, nodes_left}
-use Rattle.gob_json.specs.Json.{value_json, elements_json, pairs_json, fields_json}
+use Rattle.gob_tape.specs.Seeing.{takes_some, nodes_from, nodes_left}
+use Rattle.gob_read.specs.Weight.{part_count, parts_of_all, parts_of_pairs, parts_of_fields}
+use Rattle.gob_json.specs.Json.{value_json}
+use Rattle.gob_json_writer.specs.Nils.{HeldShows, holds_none, holds, WritesOn}
+use Rattle.gob_json_writer.specs.declared.held.Held.{Held}
+use Rattle.gob_json_writer.specs.NilsJson.{value_json_with, elements_json_with, pairs_json_with, fields_json_with}
+use Rattle.gob_json_writer.specs.NilsJson.{interface_front}
 use Rattle.gob_json.specs.Json.{triple_json, natural_json, integer_json, text_json, field_name, field_type}
 use Rattle.gob_json_writer.specs.TapeJson.{leaf_json, Shows}
-use Rattle.gob_json_writer.specs.WritesJson.{WritesTokens, WritesJson, WritesJsonOf}
-use Rattle.gob_json_writer.proofs.WrittenLaws.{IsLeft, left_begun, left_on, left_end, both_written}
+use Rattle.gob_json_writer.specs.WritesJson.{WritesTokens, WritesJson}
+use Rattle.gob_json_writer.proofs.WrittenLaws.{IsLeft, left_begun, left_on, left_end, both_written, on_ok_of}
 
 -- ---- parts without parts
 
@@ -70,6 +76,22 @@ leaf_seen T t v k n s e q r m p f =
     (λ s. leaf_json (kind_of v) (numbers_of v).0 (numbers_of v).1 s) r
     ∙ leaf_shown T t v (λ h. m (e ∙ h)) (λ h. p (e ∙ h)) (λ h. f (e ∙ h))
 
+leaf_alone : (N : ℕ → Data) (T : Table) (t : TypeId) (n : ℕ) (v : Tree) → (kind_of v ≢ kind.Many)
+    → (kind_of v ≢ kind.Pairs) → (kind_of v ≢ kind.Fields) → (kind_of v ≢ kind.Nil)
+    → (value_json T t v ≡ value_json_with N T t n v) × (part_count v ≡ 1)
+leaf_alone N T t n Value.nil m p f z = absurd (z refl)
+leaf_alone N T t n (Value.many vs) m p f z = absurd (m refl)
+leaf_alone N T t n (Value.pairs ps) m p f z = absurd (p refl)
+leaf_alone N T t n (Value.fields fs) m p f z = absurd (f refl)
+leaf_alone N T t n _ m p f z = (refl, refl)
+
+-- nothing stands in a part without parts that is no nil
+pub leaf_holds_none : (N : ℕ → Data) (T : Table) (t : TypeId) (n : ℕ) (v : Tree) (k : ValueKind) → k ≡ kind_of v
+    → (k ≢ kind.Many) → (k ≢ kind.Pairs) → (k ≢ kind.Fields) → (k ≢ kind.Nil)
+    → (value_json T t v ≡ value_json_with N T t n v) × (part_count v ≡ 1)
+leaf_holds_none N T t n v k e m p f z =
+    leaf_alone N T t n v (λ h. m (e ∙ h)) (λ h. p (e ∙ h)) (λ h. f (e ∙ h)) (λ h. z (e ∙ h))
+
 -- ---- which value has parts of which kind
 
 -- the value is made of parts
@@ -82,12 +104,14 @@ abbrev Made : Tree → ValueKind → Type 0
 Made v kind.Many = IsMadeOf Value.many v
 Made v kind.Pairs = IsMadeOf Value.pairs v
 Made v kind.Fields = IsMadeOf Value.fields v
+Made v kind.Nil = v ≡ Value.nil
 Made v _ = Unit {0}
 
 made : (v : Tree) → Made v (kind_of v)
 made (Value.many vs) = record { parts = vs; is = refl }
 made (Value.pairs ps) = record { parts = ps; is = refl }
 made (Value.fields fs) = record { parts = fs; is = refl }
+made Value.nil = refl
 made _ = tt
 
 pub as_many : (v : Tree) → kind.Many ≡ kind_of v → IsMadeOf Value.many v
@@ -98,6 +122,9 @@ as_pairs v e = subst (Made v) (sym e) (made v)
 
 pub as_fields : (v : Tree) → kind.Fields ≡ kind_of v → IsMadeOf Value.fields v
 as_fields v e = subst (Made v) (sym e) (made v)
+
+pub as_nil : (v : Tree) → kind.Nil ≡ kind_of v → v ≡ Value.nil
+as_nil v e = subst (Made v) (sym e) (made v)
 
 -- ---- the next part
 
@@ -115,6 +142,14 @@ fewer_left {old = old} {new = new} {part = part} p e = by (subst (λ p. TakesNod
     by : TakesNodes old new (Some part) → nodes_left new < nodes_left old
     by (takes_some a b) = b
 
+-- a part has no more nodes than were left
+pub within_left : {old new : Children} {given : Option View} {part : View} → GivesPart old given new
+    → given ≡ Some part → nodes_from part ≤ nodes_left old
+within_left {old = old} {new = new} {part = part} p e = by (subst (λ p. TakesNodes old new p) e p.nodes)
+  where
+    by : TakesNodes old new (Some part) → nodes_from part ≤ nodes_left old
+    by (takes_some a b) = a
+
 -- no more nodes are left than a loop began with
 pub none_fewer : {parts others : Children} → others ≡ parts → nodes_left others ≤ nodes_left parts
 none_fewer e = let f = ap nodes_left e in omega arith
@@ -123,168 +158,285 @@ pub still_fewer : {old new : Children} {given : Option View} {part : View} {n : 
     → given ≡ Some part → nodes_left old ≤ n → nodes_left new ≤ n
 still_fewer p e h = let f = fewer_left p e in omega arith
 
+-- ---- parts that are written one behind another, where their nils show what N has from a number on
+
+-- the number of the next part, up to that behind the last, and what nils show there
+pub record Stands (to : (ℕ → Data) → ℕ → Type 0) (N : ℕ → Data) (number count end : ℕ) : Type 0 where
+  pub shown : to N number
+  pub ends : number + count ≡ end
+
+end_shown : {to : (ℕ → Data) → ℕ → Type 0} {N : ℕ → Data} {number end : ℕ} → Stands to N number 0 end → to N end
+end_shown {to = to} {N = N} {number = number} {end = end} s =
+    let same : number ≡ end = let k = s.ends in omega arith in
+    subst (to N) same s.shown
+
 -- ---- elements
 
 -- these elements are to come, and with what is written of them the tokens are all
-pub record ElementsLeft (T : Table) (e : TypeId) (parts : Children) (old now : Written) (all : List Token) : Type
-    0 where
+pub record ElementsLeft (N : ℕ → Data) (T : Table) (e : TypeId) (shown : (ℕ → Data) → ℕ → Type 0) (parts : Children)
+    (old now : Written) (end : ℕ) (all : List Token) : Type 0 where
   pub rest : Trees
+  pub number : ℕ
   pub gives : Gives parts (elements rest)
-  pub left : IsLeft old now (items_tokens (items_outline (elements_json T e rest))) all
+  pub stands : Stands shown N number (parts_of_all rest) end
+  pub left : IsLeft old now (items_tokens (items_outline (elements_json_with N T e number rest))) all
 
-pub elements_begun : {E : Type 0} {u : Unit {0}} {T : Table} {e : TypeId} {parts : Children} {old now : Written}
-    (vs : Trees)
-    → WritesTokens {E = E} (Ok u) old now (Token.begin_array ∷ []) → Gives parts (elements vs)
-    → ElementsLeft T e parts old now (json_tokens (outline (array (elements_json T e vs))))
-elements_begun vs w g = record { rest = vs; gives = g; left = left_begun _ w }
+pub elements_begun : {E : Type 0} {u : Unit {0}} {N : ℕ → Data} {T : Table} {e : TypeId}
+    {shown : (ℕ → Data) → ℕ → Type 0} {parts : Children} {old now : Written} (n : ℕ) (vs : Trees)
+    → WritesTokens {E = E} (Ok u) old now (Token.begin_array ∷ []) → Gives parts (elements vs) → shown N n
+    → ElementsLeft N T e shown parts old now (n + parts_of_all vs)
+    (json_tokens (outline (array (elements_json_with N T e n vs))))
+elements_begun n vs w g s = record {
+  rest = vs;
+  number = n;
+  gives = g;
+  stands = record { shown = s; ends = refl };
+  left = left_begun _ w;
+}
 
-pub elements_on : {E : Type 0} {u : Unit {0}} {T : Table} {e : TypeId} {parts others : Children} {part : View}
-    {old now new : Written} {all : List Token}
-    → ElementsLeft T e parts old now all → NextIs parts (Some part) others
-    → WritesJsonOf {E = E} (Ok u) now new (Shows part) (value_json T e) → ElementsLeft T e others old new all
-elements_on {T = T} {e = e} {others = others} {part = part} {old = old} {now = now} {new = new} {all = all} l n w =
-    by l.rest l.left (n _ l.gives)
+pub elements_on : {E : Type 0} {u : Unit {0}} {N : ℕ → Data} {T : Table} {e : TypeId}
+    {shown after : (ℕ → Data) → ℕ → Type 0} {parts others : Children} {part : View} {old now new : Written} {end : ℕ}
+    {all : List Token}
+    → ElementsLeft N T e shown parts old now end all → NextIs parts (Some part) others
+    → WritesOn {E = E} (Ok u) now new (Shows part) shown after part_count (λ N n. value_json_with N T e n)
+    → ElementsLeft N T e after others old new end all
+elements_on {N = N} {T = T} {e = e} {shown = shown} {after = after} {others = others} {part = part} {old = old}
+    {now = now} {new = new} {end = end} {all = all} l n w = by l.number l.rest l.stands l.left (n _ l.gives)
   where
-    by : (vs : Trees) → IsLeft old now (items_tokens (items_outline (elements_json T e vs))) all
-        → GivesNext others (elements vs) (Some part) → ElementsLeft T e others old new all
-    by no_tree q h = elim h [ ]
-    by (tree v vs) q (gives_one s g) = record { rest = vs; gives = g; left = left_on _ q (w.each v (None, s)) }
+    by : (m : ℕ) (vs : Trees) → Stands shown N m (parts_of_all vs) end
+        → IsLeft old now (items_tokens (items_outline (elements_json_with N T e m vs))) all
+        → GivesNext others (elements vs) (Some part) → ElementsLeft N T e after others old new end all
+    by m no_tree s q h = elim h [ ]
+    by m (tree v vs) s q (gives_one p g) =
+        let written = w.each v N m (None, p) s.shown in record {
+          rest = vs;
+          number = m + part_count v;
+          gives = g;
+          stands = record { shown = written.1; ends = let k = s.ends in omega arith };
+          left = left_on _ q written.0;
+        }
 
-pub elements_end : {E : Type 0} {r : Result (Unit {0}) E} {T : Table} {e : TypeId} {parts others : Children}
-    {old now new : Written} {all : List Token}
-    → ElementsLeft T e parts old now all → NextIs parts None others
-    → WritesTokens r now new (Token.end_array ∷ []) → WritesTokens r old new all
-elements_end {r = r} {T = T} {e = e} {others = others} {old = old} {now = now} {new = new} {all = all} l n w =
-    by l.rest l.left (n _ l.gives)
+pub elements_end : {E : Type 0} {r : Result (Unit {0}) E} {N : ℕ → Data} {T : Table} {e : TypeId}
+    {shown : (ℕ → Data) → ℕ → Type 0} {parts others : Children} {old now new : Written} {end : ℕ} {all : List Token}
+    → ElementsLeft N T e shown parts old now end all → NextIs parts None others
+    → WritesTokens r now new (Token.end_array ∷ [])
+    → WritesTokens r old new all × OnOk r (shown N end)
+elements_end {r = r} {N = N} {T = T} {e = e} {shown = shown} {others = others} {old = old} {now = now} {new = new}
+    {end = end} {all = all} l n w = by l.number l.rest l.stands l.left (n _ l.gives)
   where
-    by : (vs : Trees) → IsLeft old now (items_tokens (items_outline (elements_json T e vs))) all
-        → GivesNext others (elements vs) None → WritesTokens r old new all
-    by no_tree q h = left_end q w
-    by (tree v vs) q h = elim h [ ]
+    by : (m : ℕ) (vs : Trees) → Stands shown N m (parts_of_all vs) end
+        → IsLeft old now (items_tokens (items_outline (elements_json_with N T e m vs))) all
+        → GivesNext others (elements vs) None → WritesTokens r old new all × OnOk r (shown N end)
+    by m no_tree s q h = (left_end q w, on_ok_of r (end_shown s))
+    by m (tree v vs) s q h = elim h [ ]
 
 -- ---- fields
 
-pub record FieldsLeft (T : Table) (types : List Field) (parts : Children) (old now : Written) (all : List Token) : Type
-    0 where
+pub record FieldsLeft (N : ℕ → Data) (T : Table) (types : List Field) (shown : (ℕ → Data) → ℕ → Type 0)
+    (parts : Children) (old now : Written) (end : ℕ) (all : List Token) : Type 0 where
   pub rest : Fields
+  pub number : ℕ
   pub gives : Gives parts (present rest)
-  pub left : IsLeft old now (items_tokens (items_outline (fields_json T types rest))) all
+  pub stands : Stands shown N number (parts_of_fields rest) end
+  pub left : IsLeft old now (items_tokens (items_outline (fields_json_with N T types number rest))) all
 
 -- the number, the name and the value of a field
 abbrev pub field_json : Table → List Field → ℕ → Tree → Data
 field_json T types f v = triple_json (natural_json f) (text_json (field_name (slice_get types f)))
     (value_json T (field_type (slice_get types f)) v)
 
-pub fields_begun : {E : Type 0} {u : Unit {0}} {T : Table} {types : List Field} {parts : Children} {old now : Written}
-    (fs : Fields)
-    → WritesTokens {E = E} (Ok u) old now (Token.begin_array ∷ []) → Gives parts (present fs)
-    → FieldsLeft T types parts old now (json_tokens (outline (array (fields_json T types fs))))
-fields_begun fs w g = record { rest = fs; gives = g; left = left_begun _ w }
+abbrev pub field_json_with : (ℕ → Data) → Table → List Field → ℕ → ℕ → Tree → Data
+field_json_with N T types n f v = triple_json (natural_json f) (text_json (field_name (slice_get types f)))
+    (value_json_with N T (field_type (slice_get types f)) n v)
 
-pub fields_on : {E : Type 0} {u : Unit {0}} {T : Table} {types : List Field} {parts others : Children} {part : View}
-    {old now new : Written} {all : List Token}
-    → FieldsLeft T types parts old now all → NextIs parts (Some part) others
-    → ((f : ℕ) (v : Tree) → Sees part (Some f) v → WritesJson {E = E} (Ok u) now new (field_json T types f v))
-    → FieldsLeft T types others old new all
-fields_on {T = T} {types = types} {others = others} {part = part} {old = old} {now = now} {new = new} {all = all} l n
-    w = by l.rest l.left (n _ l.gives)
-  where
-    by : (fs : Fields) → IsLeft old now (items_tokens (items_outline (fields_json T types fs))) all
-        → GivesNext others (present fs) (Some part) → FieldsLeft T types others old new all
-    by no_field q h = elim h [ ]
-    by (field f v fs) q (gives_one s g) = record { rest = fs; gives = g; left = left_on _ q (w f v s) }
+pub fields_begun : {E : Type 0} {u : Unit {0}} {N : ℕ → Data} {T : Table} {types : List Field}
+    {shown : (ℕ → Data) → ℕ → Type 0} {parts : Children} {old now : Written} (n : ℕ) (fs : Fields)
+    → WritesTokens {E = E} (Ok u) old now (Token.begin_array ∷ []) → Gives parts (present fs) → shown N n
+    → FieldsLeft N T types shown parts old now (n + parts_of_fields fs)
+    (json_tokens (outline (array (fields_json_with N T types n fs))))
+fields_begun n fs w g s = record {
+  rest = fs;
+  number = n;
+  gives = g;
+  stands = record { shown = s; ends = refl };
+  left = left_begun _ w;
+}
 
-pub fields_end : {E : Type 0} {r : Result (Unit {0}) E} {T : Table} {types : List Field} {parts others : Children}
-    {old now new : Written} {all : List Token}
-    → FieldsLeft T types parts old now all → NextIs parts None others
-    → WritesTokens r now new (Token.end_array ∷ []) → WritesTokens r old new all
-fields_end {r = r} {T = T} {types = types} {others = others} {old = old} {now = now} {new = new} {all = all} l n w =
-    by l.rest l.left (n _ l.gives)
+-- a field of this number was written
+pub record WritesField (E : Type 0) (u : Unit {0}) (N : ℕ → Data) (T : Table) (types : List Field)
+    (shown after : (ℕ → Data) → ℕ → Type 0) (part : View) (now new : Written) : Type 0 where
+  pub each : (f n : ℕ) (v : Tree) → Sees part (Some f) v → shown N n
+      → WritesTokens {E = E} (Ok u) now new (json_tokens (outline (field_json_with N T types n f v)))
+      × after N (n + part_count v)
+
+pub fields_on : {E : Type 0} {u : Unit {0}} {N : ℕ → Data} {T : Table} {types : List Field}
+    {shown after : (ℕ → Data) → ℕ → Type 0} {parts others : Children} {part : View} {old now new : Written} {end : ℕ}
+    {all : List Token}
+    → FieldsLeft N T types shown parts old now end all → NextIs parts (Some part) others
+    → WritesField E u N T types shown after part now new → FieldsLeft N T types after others old new end all
+fields_on {N = N} {T = T} {types = types} {shown = shown} {after = after} {others = others} {part = part} {old = old}
+    {now = now} {new = new} {end = end} {all = all} l n w = by l.number l.rest l.stands l.left (n _ l.gives)
   where
-    by : (fs : Fields) → IsLeft old now (items_tokens (items_outline (fields_json T types fs))) all
-        → GivesNext others (present fs) None → WritesTokens r old new all
-    by no_field q h = left_end q w
-    by (field f v fs) q h = elim h [ ]
+    by : (m : ℕ) (fs : Fields) → Stands shown N m (parts_of_fields fs) end
+        → IsLeft old now (items_tokens (items_outline (fields_json_with N T types m fs))) all
+        → GivesNext others (present fs) (Some part) → FieldsLeft N T types after others old new end all
+    by m no_field s q h = elim h [ ]
+    by m (field f v fs) s q (gives_one p g) =
+        let written = w.each f m v p s.shown in record {
+          rest = fs;
+          number = m + part_count v;
+          gives = g;
+          stands = record { shown = written.1; ends = let k = s.ends in omega arith };
+          left = left_on _ q written.0;
+        }
+
+pub fields_end : {E : Type 0} {r : Result (Unit {0}) E} {N : ℕ → Data} {T : Table} {types : List Field}
+    {shown : (ℕ → Data) → ℕ → Type 0} {parts others : Children} {old now new : Written} {end : ℕ} {all : List Token}
+    → FieldsLeft N T types shown parts old now end all → NextIs parts None others
+    → WritesTokens r now new (Token.end_array ∷ [])
+    → WritesTokens r old new all × OnOk r (shown N end)
+fields_end {r = r} {N = N} {T = T} {types = types} {shown = shown} {others = others} {old = old} {now = now}
+    {new = new} {end = end} {all = all} l n w = by l.number l.rest l.stands l.left (n _ l.gives)
+  where
+    by : (m : ℕ) (fs : Fields) → Stands shown N m (parts_of_fields fs) end
+        → IsLeft old now (items_tokens (items_outline (fields_json_with N T types m fs))) all
+        → GivesNext others (present fs) None → WritesTokens r old new all × OnOk r (shown N end)
+    by m no_field s q h = (left_end q w, on_ok_of r (end_shown s))
+    by m (field f v fs) s q h = elim h [ ]
 
 -- ---- entries
 
 -- the element of a key that was written, and then these entries, are to come; or these entries
-pub data EntriesLeft (T : Table) (k e : TypeId) (parts : Children) (old now : Written) (all : List Token) : Bool
-    → Type 0 where
-  key_next : (ps : Pairs) → Gives parts (alternating ps)
-      → IsLeft old now (items_tokens (items_outline (pairs_json T k e ps))) all
-      → EntriesLeft T k e parts old now all true
-  element_next : (v : Tree) (ps : Pairs) → Gives parts ((None, v) ∷ alternating ps)
-      → IsLeft old now ((json_tokens (outline (value_json T e v)) ++ Token.end_array ∷ [])
-      ++ items_tokens (items_outline (pairs_json T k e ps))) all → EntriesLeft T k e parts old now all false
+pub data EntriesLeft (N : ℕ → Data) (T : Table) (k e : TypeId) (shown : (ℕ → Data) → ℕ → Type 0) (parts : Children)
+    (old now : Written) (end : ℕ) (all : List Token) : Bool → Type 0 where
+  key_next : (n : ℕ) (ps : Pairs) → Gives parts (alternating ps) → Stands shown N n (parts_of_pairs ps) end
+      → IsLeft old now (items_tokens (items_outline (pairs_json_with N T k e n ps))) all
+      → EntriesLeft N T k e shown parts old now end all true
+  element_next : (n : ℕ) (v : Tree) (ps : Pairs) → Gives parts ((None, v) ∷ alternating ps)
+      → Stands shown N n (part_count v + parts_of_pairs ps) end
+      → IsLeft old now ((json_tokens (outline (value_json_with N T e n v)) ++ Token.end_array ∷ [])
+      ++ items_tokens (items_outline (pairs_json_with N T k e (n + part_count v) ps))) all
+      → EntriesLeft N T k e shown parts old now end all false
 
-pub entries_begun : {E : Type 0} {u : Unit {0}} {T : Table} {k e : TypeId} {parts : Children} {old now : Written}
-    (ps : Pairs)
-    → WritesTokens {E = E} (Ok u) old now (Token.begin_array ∷ []) → Gives parts (alternating ps)
-    → EntriesLeft T k e parts old now (json_tokens (outline (array (pairs_json T k e ps)))) true
-entries_begun ps w g = key_next ps g (left_begun _ w)
+pub entries_begun : {E : Type 0} {u : Unit {0}} {N : ℕ → Data} {T : Table} {k e : TypeId}
+    {shown : (ℕ → Data) → ℕ → Type 0} {parts : Children} {old now : Written} (n : ℕ) (ps : Pairs)
+    → WritesTokens {E = E} (Ok u) old now (Token.begin_array ∷ []) → Gives parts (alternating ps) → shown N n
+    → EntriesLeft N T k e shown parts old now (n + parts_of_pairs ps)
+    (json_tokens (outline (array (pairs_json_with N T k e n ps)))) true
+entries_begun n ps w g s = key_next n ps g (record { shown = s; ends = refl }) (left_begun _ w)
 
-module _ {E : Type 0} {u : Unit {0}} {T : Table} {k e : TypeId} {parts others : Children} {part : View}
-    {old now mid new : Written} {all : List Token} where
-  key_on : EntriesLeft T k e parts old now all true → NextIs parts (Some part) others
+module _ {E : Type 0} {u : Unit {0}} {N : ℕ → Data} {T : Table} {k e : TypeId}
+    {shown after : (ℕ → Data) → ℕ → Type 0} {parts others : Children} {part : View} {old now mid new : Written}
+    {end : ℕ} {all : List Token} where
+  key_on : EntriesLeft N T k e shown parts old now end all true → NextIs parts (Some part) others
       → WritesTokens {E = E} (Ok u) now mid (Token.begin_array ∷ [])
-      → WritesJsonOf {E = E} (Ok u) mid new (Shows part) (value_json T k) → EntriesLeft T k e others old new all false
-  key_on (key_next ps g q) n b w = by ps q (n _ g)
+      → WritesOn {E = E} (Ok u) mid new (Shows part) shown after part_count (λ N n. value_json_with N T k n)
+      → EntriesLeft N T k e after others old new end all false
+  key_on (key_next n ps g s q) next b w = by ps s q (next _ g)
     where
-      by : (ps : Pairs) → IsLeft old now (items_tokens (items_outline (pairs_json T k e ps))) all
-          → GivesNext others (alternating ps) (Some part) → EntriesLeft T k e others old new all false
-      by no_pair q h = elim h [ ]
-      by (pair x v ps) q (gives_one s g) =
-          let key = json_tokens (outline (value_json T k x)) in
-          let element = json_tokens (outline (value_json T e v)) ++ Token.end_array ∷ [] in
-          let rest = items_tokens (items_outline (pairs_json T k e ps)) in
+      by : (ps : Pairs) → Stands shown N n (parts_of_pairs ps) end
+          → IsLeft old now (items_tokens (items_outline (pairs_json_with N T k e n ps))) all
+          → GivesNext others (alternating ps) (Some part) → EntriesLeft N T k e after others old new end all false
+      by no_pair s q h = elim h [ ]
+      by (pair x v ps) s q (gives_one p g) =
+          let m = n + part_count x in
+          let key = json_tokens (outline (value_json_with N T k n x)) in
+          let element = json_tokens (outline (value_json_with N T e m v)) ++ Token.end_array ∷ [] in
+          let rest = items_tokens (items_outline (pairs_json_with N T k e (m + part_count v) ps)) in
           let same = ap (λ (l : List Token). Token.begin_array ∷ l) (append_assoc key element rest) in
-          element_next v ps g (left_on (element ++ rest) (subst (λ l. IsLeft old now l all) same q)
-          (both_written b (w.each x (None, s))))
+          let written = w.each x N n (None, p) s.shown in
+          element_next m v ps g (record { shown = written.1; ends = let a = s.ends in omega arith })
+          (left_on (element ++ rest) (subst (λ l. IsLeft old now l all) same q) (both_written b written.0))
 
-  element_on : EntriesLeft T k e parts old now all false → NextIs parts (Some part) others
-      → WritesJsonOf {E = E} (Ok u) now mid (Shows part) (value_json T e)
-      → WritesTokens {E = E} (Ok u) mid new (Token.end_array ∷ []) → EntriesLeft T k e others old new all true
-  element_on (element_next v ps g q) n w d = by (n _ g)
+  element_on : EntriesLeft N T k e shown parts old now end all false → NextIs parts (Some part) others
+      → WritesOn {E = E} (Ok u) now mid (Shows part) shown after part_count (λ N n. value_json_with N T e n)
+      → WritesTokens {E = E} (Ok u) mid new (Token.end_array ∷ [])
+      → EntriesLeft N T k e after others old new end all true
+  element_on (element_next n v ps g s q) next w d = by (next _ g)
     where
-      by : GivesNext others ((None, v) ∷ alternating ps) (Some part) → EntriesLeft T k e others old new all true
-      by (gives_one s h) = key_next ps h (left_on _ q (both_written (w.each v (None, s)) d))
+      by : GivesNext others ((None, v) ∷ alternating ps) (Some part)
+          → EntriesLeft N T k e after others old new end all true
+      by (gives_one p h) =
+          let written = w.each v N n (None, p) s.shown in
+          key_next (n + part_count v) ps h (record { shown = written.1; ends = let a = s.ends in omega arith })
+          (left_on _ q (both_written written.0 d))
 
   -- a key, and an element, was written
   pub key_turn : {is_key : Bool} {out : Written} → out ≡ new → is_key ≡ true
-      → EntriesLeft T k e parts old now all is_key → NextIs parts (Some part) others
+      → EntriesLeft N T k e shown parts old now end all is_key → NextIs parts (Some part) others
       → WritesTokens {E = E} (Ok u) now mid (Token.begin_array ∷ [])
-      → WritesJsonOf {E = E} (Ok u) mid new (Shows part) (value_json T k)
-      → EntriesLeft T k e others old out all (not is_key)
+      → WritesOn {E = E} (Ok u) mid new (Shows part) shown after part_count (λ N n. value_json_with N T k n)
+      → EntriesLeft N T k e after others old out end all (not is_key)
   key_turn {is_key = is_key} is h l n b w =
-      subst (λ o. EntriesLeft T k e others old o all (not is_key)) (sym is)
-      (subst (λ x. EntriesLeft T k e others old new all (not x)) (sym h)
-      (key_on (subst (λ x. EntriesLeft T k e parts old now all x) h l) n b w))
+      subst (λ o. EntriesLeft N T k e after others old o end all (not is_key)) (sym is)
+      (subst (λ x. EntriesLeft N T k e after others old new end all (not x)) (sym h)
+      (key_on (subst (λ x. EntriesLeft N T k e shown parts old now end all x) h l) n b w))
 
   pub element_turn : {is_key : Bool} {out : Written} → out ≡ new → is_key ≡ false
-      → EntriesLeft T k e parts old now all is_key → NextIs parts (Some part) others
-      → WritesJsonOf {E = E} (Ok u) now mid (Shows part) (value_json T e)
-      → WritesTokens {E = E} (Ok u) mid new (Token.end_array ∷ []) → EntriesLeft T k e others old out all (not is_key)
+      → EntriesLeft N T k e shown parts old now end all is_key → NextIs parts (Some part) others
+      → WritesOn {E = E} (Ok u) now mid (Shows part) shown after part_count (λ N n. value_json_with N T e n)
+      → WritesTokens {E = E} (Ok u) mid new (Token.end_array ∷ [])
+      → EntriesLeft N T k e after others old out end all (not is_key)
   element_turn {is_key = is_key} is h l n w d =
-      subst (λ o. EntriesLeft T k e others old o all (not is_key)) (sym is)
-      (subst (λ x. EntriesLeft T k e others old new all (not x)) (sym h)
-      (element_on (subst (λ x. EntriesLeft T k e parts old now all x) h l) n w d))
+      subst (λ o. EntriesLeft N T k e after others old o end all (not is_key)) (sym is)
+      (subst (λ x. EntriesLeft N T k e after others old new end all (not x)) (sym h)
+      (element_on (subst (λ x. EntriesLeft N T k e shown parts old now end all x) h l) n w d))
 
-pub entries_end : {E : Type 0} {r : Result (Unit {0}) E} {T : Table} {k e : TypeId} {parts others : Children}
-    {old now new : Written} {all : List Token} {is_key : Bool}
-    → EntriesLeft T k e parts old now all is_key → NextIs parts None others
-    → WritesTokens r now new (Token.end_array ∷ []) → WritesTokens r old new all
-entries_end {r = r} {T = T} {k = k} {e = e} {others = others} {old = old} {now = now} {new = new} {all = all}
-    (key_next ps g q) n w = by ps q (n _ g)
+pub entries_end : {E : Type 0} {r : Result (Unit {0}) E} {N : ℕ → Data} {T : Table} {k e : TypeId}
+    {shown : (ℕ → Data) → ℕ → Type 0} {parts others : Children} {old now new : Written} {end : ℕ} {all : List Token}
+    {is_key : Bool}
+    → EntriesLeft N T k e shown parts old now end all is_key → NextIs parts None others
+    → WritesTokens r now new (Token.end_array ∷ [])
+    → WritesTokens r old new all × OnOk r (shown N end)
+entries_end {r = r} {N = N} {T = T} {k = k} {e = e} {shown = shown} {others = others} {old = old} {now = now}
+    {new = new} {end = end} {all = all} (key_next n ps g s q) next w = by ps s q (next _ g)
   where
-    by : (ps : Pairs) → IsLeft old now (items_tokens (items_outline (pairs_json T k e ps))) all
-        → GivesNext others (alternating ps) None → WritesTokens r old new all
-    by no_pair q h = left_end q w
-    by (pair x v ps) q h = elim h [ ]
-entries_end {r = r} {others = others} {old = old} {new = new} {all = all} (element_next v ps g q) n w = by (n _ g)
+    by : (ps : Pairs) → Stands shown N n (parts_of_pairs ps) end
+        → IsLeft old now (items_tokens (items_outline (pairs_json_with N T k e n ps))) all
+        → GivesNext others (alternating ps) None → WritesTokens r old new all × OnOk r (shown N end)
+    by no_pair s q h = (left_end q w, on_ok_of r (end_shown s))
+    by (pair x v ps) s q h = elim h [ ]
+entries_end {r = r} {N = N} {shown = shown} {others = others} {old = old} {new = new} {end = end} {all = all}
+    (element_next n v ps g s q) next w = by (next _ g)
   where
-    by : GivesNext others ((None, v) ∷ alternating ps) None → WritesTokens r old new all
+    by : GivesNext others ((None, v) ∷ alternating ps) None → WritesTokens r old new all × OnOk r (shown N end)
     by h = elim h [ ]
+
+-- ---- what an interface holds
+
+front_then : (name value : List Token) (k n l e : Token)
+    → (name ++ (k ∷ (n ∷ (l ∷ [])))) ++ (value ++ (e ∷ (e ∷ [])))
+    ≡ (name ++ (k ∷ (n ∷ (l ∷ (value ++ e ∷ []))))) ++ e ∷ []
+front_then name value k n l e =
+    append_assoc name (k ∷ (n ∷ (l ∷ []))) (value ++ (e ∷ (e ∷ [])))
+    ∙ ap (λ (x : List Token). name ++ (k ∷ (n ∷ (l ∷ x)))) (sym (append_assoc value (e ∷ []) (e ∷ [])))
+    ∙ sym (append_assoc name (k ∷ (n ∷ (l ∷ (value ++ e ∷ [])))) (e ∷ []))
+
+pub null_written : {E X : Type 0} {r : Result (Unit {0}) E} {shows : Table → X → (ℕ → Data) → ℕ → Type 0}
+    {T : Table} {old new : Written} {json : Data}
+    → HeldShows shows T None json → WritesTokens r old new (Token.null ∷ []) → WritesJson r old new json
+null_written holds_none w = w
+
+-- behind the name and the id of the type the value was written
+pub held_written : {E X : Type 0} {r : Result (Unit {0}) E} {u : Unit {0}}
+    {shows : Table → X → (ℕ → Data) → ℕ → Type 0} {T : Table} {old mid before behind new : Written} {held : Held X}
+    {json : Data}
+    → HeldShows shows T (Some held) json
+    → WritesTokens {E = E} (Ok u) old mid (interface_front held.name.items held.id)
+    → ((v : Tree) (N : ℕ → Data) → Means held.tape v → shows T held.nils N 0
+    → WritesJson {E = E} (Ok u) mid before (value_json_with N T held.id 0 v))
+    → WritesTokens {E = E} (Ok u) before behind (Token.end_object ∷ [])
+    → WritesTokens r behind new (Token.end_object ∷ [])
+    → WritesJson r old new json
+held_written {r = r} {T = T} {old = old} {new = new} (holds {v = v} {N = N} held m s) front value one other =
+    let name = json_tokens (outline (text_json held.name.items)) in
+    let inner = json_tokens (outline (value_json_with N T held.id 0 v)) in
+    let same = ap (λ (x : List Token). Token.begin_object ∷ (Token.key (codes "interface") ∷ (Token.begin_object
+    ∷ (Token.key (codes "name") ∷ x))))
+    (front_then name inner (Token.key (codes "type")) (Token.number (decimal held.id.0))
+    (Token.key (codes "value")) Token.end_object) in
+    subst (WritesTokens r old new) same
+    (both_written front (both_written (value v N m s) (both_written one other)))
 
 -- the token of a signed number
 pub integer_token : (i : ℤ) → Token.number (signed_decimal i) ∷ [] ≡ json_tokens (outline (integer_json i))

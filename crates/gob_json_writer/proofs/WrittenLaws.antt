@@ -1,12 +1,13 @@
 -- Calls that write tokens, one behind another, and what is left to be written of a list.
 use Rattle.std.proofs.Common.{◌≡◌, ℕ, ◌+◌, ◌<◌, ◌≤◌, List, [], ◌∷◌, ◌++◌, length, get_or, drop, ◌∙◌, ap, sym, subst}
-use Rattle.std.proofs.Common.{append_assoc, Result, Ok}
-use Rattle.std.specs.Prelude.{IsErr}
+use Rattle.std.proofs.Common.{append_assoc, Result, Ok, Err, arith}
+use Rattle.std.specs.Prelude.{IsErr, OnOk}
 use Rattle.std.proofs.lemmas.List.{at_drop_more, drop_all}
 use Rattle.std.proofs.lemmas.Result.{on_ok_weaker, IfOk-from_err}
 use Rattle.json.specs.Token.{Token}
 use Rattle.json.specs.Written.{Written, Writes}
 use Rattle.serde_json.specs.Data.{Data}
+use Rattle.gob_json_writer.specs.Nils.{WritesOn}
 use Rattle.gob_json_writer.specs.WritesJson.{WritesTokens, WritesJson, WritesJsonOf}
 
 -- ---- one call behind another
@@ -33,6 +34,36 @@ none_written {r = r} {old = old} {new = new} {ts = ts} e b = record {
 pub none_written_of : {E V : Type 0} {r : Result (Unit {0}) E} {old new : Written} {Is : V → Type 0} {json : V → Data}
     → IsErr r → new.before ≡ old.before → WritesJsonOf r old new Is json
 none_written_of e b = record { before = b; each = λ v h. none_written e b }
+
+-- a call that failed says nothing either of what nils show
+pub none_on : {E V : Type 0} {r : Result (Unit {0}) E} {old new : Written} {Is : V → Type 0}
+    {from to : (ℕ → Data) → ℕ → Type 0} {count : V → ℕ} {json : (ℕ → Data) → ℕ → V → Data} → IsErr r
+    → new.before ≡ old.before → WritesOn r old new Is from to count json
+none_on {r = r} {to = to} {count = count} e b = record {
+  before = b;
+  each = λ v N n h s. (none_written e b, IfOk-from_err r (λ _. to N (n + count v)) e);
+}
+
+-- what holds in any case holds where a call is well
+pub on_ok_of : {E A P : Type 0} (r : Result A E) → P → OnOk r P
+on_ok_of (Ok x) p = p
+on_ok_of (Err e) p = tt
+
+-- a part counts for as many numbers
+pub on_counted : {E A : Type 0} (r : Result A E) (to : ℕ → Type 0) {i j : ℕ} → i ≡ j → OnOk r (to i) → OnOk r (to j)
+on_counted r to e p = on_ok_weaker r (subst to e) p
+
+-- the nils are those under another name
+pub with_nils : {E V X : Type 0} {r : Result (Unit {0}) E} {old new : Written} {Is : V → Type 0}
+    {from : (ℕ → Data) → ℕ → Type 0} (shows : X → (ℕ → Data) → ℕ → Type 0) {nils other : X} {count : V → ℕ}
+    {json : (ℕ → Data) → ℕ → V → Data} → other ≡ nils → WritesOn r old new Is from (shows nils) count json
+    → WritesOn r old new Is from (shows other) count json
+with_nils {r = r} {old = old} {new = new} {Is = Is} {from = from} shows {count = count} {json = json} e w =
+    subst (λ x. WritesOn r old new Is from (shows x) count json) (sym e) w
+
+pub no_more_levels : {X : Type 0} (levels : X → ℕ) {before mid after other : X} → other ≡ after
+    → levels after ≤ levels mid → levels mid ≤ levels before → levels other ≤ levels before
+no_more_levels levels e a b = let f = ap levels e in omega arith
 
 -- what writes some JSON writes any that equals it
 pub same_written : {E : Type 0} {r : Result (Unit {0}) E} {old new : Written} {d e : Data} → d ≡ e

@@ -1,2 +1,4 @@
+pub mod Nils
+pub mod NilsJson
 pub mod TapeJson
 pub mod WritesJson

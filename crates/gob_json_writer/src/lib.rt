@@ -2,17 +2,23 @@
 //!
 //! - [`write_put`] and [`write_tape`] tell it a value with its type: `{"type":65,"value":[3,4]}`; the one of a tree,
 //!   the other of a tape.
+//! - [`write_filled_tape`] tells it a value of a tape whose interfaces may hold others: [`Nils`] says what stands in
+//!   its nils.
 //! - [`write_definition`] tells it the shape of a type: `{"define":65,"elem":2,"kind":"slice","name":""}`.
 #![tactic(auto)]
 
 mod definition_json;
+mod held;
 mod leaf;
+mod nils;
 mod part_types;
 mod tape_json;
 mod value_json;
 
 pub use definition_json::write_definition;
+pub use held::Held;
 pub use leaf::write_text;
+pub use nils::{Empty, Nils};
 pub use part_types::{element_of, fields_of, key_of, name_at, type_at};
-pub use tape_json::write_tape;
+pub use tape_json::{write_filled_tape, write_tape};
 pub use value_json::write_put;

@@ -71,6 +71,14 @@ impl<'a> View<'a> {
         }
     }
 
+    /// How many nodes the tape has from its own on: fewer than 2^64, so that a recursion which goes from a view into
+    /// other tapes, and says how often it may, comes to an end.
+    pub fn nodes(self) -> u64
+        ensures { result ≡ nodes_from self.entry }
+    {
+        (self.nodes.len() - self.place) as u64
+    }
+
     /// Its parts, none where it has none. The keys and elements of a map alternate. They have fewer nodes than it has,
     /// so a recursion over the parts of parts comes to an end.
     pub fn children(self) -> Children<'a>

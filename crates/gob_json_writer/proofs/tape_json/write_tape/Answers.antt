@@ -1,14 +1,15 @@
--- The value is what the tape's root shows.
-use Rattle.std.proofs.Common.{None, rules}
-use Rattle.gob_json_writer.proofs.WrittenLaws.{one_written, both_written}
+-- In nils in which nothing stands null is shown.
+use Rattle.std.proofs.Common.{refl}
+use Rattle.gob_types.specs.Defined.{types}
+use Rattle.gob_json_writer.specs.Nils.{put_shows}
+use Rattle.gob_json_writer.proofs.NilsLaws.{nulls, put_nulls}
+use Rattle.gob_json_writer.proofs.WrittenLaws.{same_written}
 use Rattle.gob_json_writer.proofs.tape_json.write_tape.Goals as goal
 
 pub returns : goal.returns
 returns c = record {
-  before = search rules;
+  before = c.write_filled_tape.ensures.before;
   each = λ v m.
-      both_written (one_written c.in_ok-begin_object.ensures) (both_written (one_written c.in_ok-key.ensures)
-      (both_written (one_written c.in_ok-u64.ensures) (both_written (one_written c.in_ok-key-2.ensures)
-      (both_written (c.in_ok-write_part.ensures.each v (None, c.root.ensures v m))
-      (one_written c.end_object.ensures)))));
+      same_written (put_nulls (types c.args.table.now) c.args.id v)
+      (c.write_filled_tape.ensures.each _ (put_shows {N = nulls} m (λ k. refl)));
 }

@@ -1,0 +1,4 @@
+mod GapsLaws
+mod HoldingLaws
+mod LevelLaws
+mod OnceLaws

@@ -1,0 +1,3 @@
+pub mod FilledJson
+pub mod Laws
+pub mod Machine

@@ -1,0 +1,2 @@
+-- Where the writing of values stands that hold others.
+pub mod Holding

@@ -1,0 +1,18 @@
+//! The JSON of values of streams of Go's encoder, with what their interfaces hold.
+//!
+//! ```text
+//! 0a 10 00 03 69 6e 74 04 02 00 0a        an item: the int 5 in an interface, under the name int
+//! {"type":8,"value":{"interface":{"name":"int","type":2,"value":5}}}
+//! ```
+//!
+//! - [`write_filled`] tells a writer of JSON a value with its type.
+//! - [`laws`] has what the definitions in `specs/` entail: a value shows one JSON.
+#![tactic(auto)]
+
+mod filled_json;
+mod filling_here;
+mod holding;
+pub mod laws;
+mod level;
+
+pub use filled_json::write_filled;
