@@ -14,7 +14,9 @@ use Rattle.gob_value.specs.Tree.{Tree, Trees, no_tree, tree, Pairs, no_pair, pai
 use Rattle.gob_value.specs.Tree as Value
 use Rattle.gob_json.specs.Json.{element_type, key_type, struct_fields, field_type}
 use Rattle.gob_plain.specs.declared.style.Style.{Style}
-use Rattle.gob_plain.specs.Plain.{Says, SaysElements, SaysMembers, SaysPairs, SaysMap, SaysStruct}
+use Rattle.gob_plain.specs.Plain.{all_null, nils, nils_of_each, nils_of_members, nils_of_pairs, nils_of_fields}
+use Rattle.gob_plain.specs.Plain.{SaysWith, SaysElementsWith, SaysMembersWith, SaysPairsWith, SaysMapWith}
+use Rattle.gob_plain.specs.Plain.{SaysStructWith}
 
 -- the zero that a struct drops from a field of this kind: that of a basic type, or a slice without elements
 abbrev pub zero_by : Kind → Option Tree
@@ -89,22 +91,46 @@ shown_pairs style T k e ps = if style.zeros then pairs_filled T k e ps else ps
 abbrev pub shown_fields : Style → Table → List Field → ℕ → Fields → Fields
 shown_fields style T types from fs = if style.zeros then fields_filled T types from fs else fs
 
--- the JSON says the value in this style
+-- how many nils the value has that is written in this style, or a part of it
+abbrev pub nils_in : Style → Table → TypeId → Tree → ℕ
+nils_in style T t v = nils T t (shown style T t v)
+
+abbrev pub nils_of_each_in : Style → Table → TypeId → Trees → ℕ
+nils_of_each_in style T e vs = nils_of_each T e (shown_all style T e vs)
+
+abbrev pub nils_of_members_in : Style → Table → TypeId → TypeId → Pairs → ℕ
+nils_of_members_in style T k e ps = nils_of_members T e (shown_pairs style T k e ps)
+
+abbrev pub nils_of_pairs_in : Style → Table → TypeId → TypeId → Pairs → ℕ
+nils_of_pairs_in style T k e ps = nils_of_pairs T k e (shown_pairs style T k e ps)
+
+abbrev pub nils_of_map_in : Bool → Style → Table → TypeId → TypeId → Pairs → ℕ
+nils_of_map_in named style T k e ps =
+    if named then nils_of_members_in style T k e ps else nils_of_pairs_in style T k e ps
+
+abbrev pub nils_of_fields_in : Style → Table → List Field → ℕ → Fields → ℕ
+nils_of_fields_in style T types from fs = nils_of_fields T types (shown_fields style T types from fs)
+
+-- the JSON says the value, whose nils say this, in this style
+abbrev pub SaysInWith : (ℕ → Json → Type 0) → Style → Table → TypeId → Tree → Json → Type 0
+SaysInWith N style T t v j = SaysWith N style.raw T t (shown style T t v) j
+
+-- the same with null for each nil
 abbrev pub SaysIn : Style → Table → TypeId → Tree → Json → Type 0
-SaysIn style T t v j = Says style.raw T t (shown style T t v) j
+SaysIn style T t v j = SaysInWith all_null style T t v j
 
 -- what is said of the parts of a value in this style
-abbrev pub SaysElementsIn : Style → Table → TypeId → Trees → Json → Type 0
-SaysElementsIn style T e vs j = SaysElements style.raw T e (shown_all style T e vs) j
+abbrev pub SaysElementsIn : (ℕ → Json → Type 0) → Style → Table → TypeId → Trees → Json → Type 0
+SaysElementsIn N style T e vs j = SaysElementsWith N style.raw T e (shown_all style T e vs) j
 
-abbrev pub SaysMembersIn : Style → Table → TypeId → TypeId → Pairs → Json → Type 0
-SaysMembersIn style T k e ps j = SaysMembers style.raw T e (shown_pairs style T k e ps) j
+abbrev pub SaysMembersIn : (ℕ → Json → Type 0) → Style → Table → TypeId → TypeId → Pairs → Json → Type 0
+SaysMembersIn N style T k e ps j = SaysMembersWith N style.raw T e (shown_pairs style T k e ps) j
 
-abbrev pub SaysPairsIn : Style → Table → TypeId → TypeId → Pairs → Json → Type 0
-SaysPairsIn style T k e ps j = SaysPairs style.raw T k e (shown_pairs style T k e ps) j
+abbrev pub SaysPairsIn : (ℕ → Json → Type 0) → Style → Table → TypeId → TypeId → Pairs → Json → Type 0
+SaysPairsIn N style T k e ps j = SaysPairsWith N style.raw T k e (shown_pairs style T k e ps) j
 
-abbrev pub SaysMapIn : Bool → Style → Table → TypeId → TypeId → Pairs → Json → Type 0
-SaysMapIn named style T k e ps j = SaysMap named style.raw T k e (shown_pairs style T k e ps) j
+abbrev pub SaysMapIn : (ℕ → Json → Type 0) → Bool → Style → Table → TypeId → TypeId → Pairs → Json → Type 0
+SaysMapIn N named style T k e ps j = SaysMapWith N named style.raw T k e (shown_pairs style T k e ps) j
 
-abbrev pub SaysStructIn : Style → Table → List Field → Fields → Json → Type 0
-SaysStructIn style T types fs j = SaysStruct style.raw T types (shown_fields style T types 0 fs) j
+abbrev pub SaysStructIn : (ℕ → Json → Type 0) → Style → Table → List Field → Fields → Json → Type 0
+SaysStructIn N style T types fs j = SaysStructWith N style.raw T types (shown_fields style T types 0 fs) j

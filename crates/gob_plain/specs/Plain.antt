@@ -1,8 +1,8 @@
 -- The JSON that says a value plainly, for programs that know nothing of gob: a struct is an object by the names of its
 -- present fields, a map whose keys are texts or whole numbers an object, a float a number. The parts' types are told as
 -- in the lines of a stream (gob_json's Json). Which digits a float's number has is left open: it reads back as the
--- float. (docs/FORMAT.md, Plain values: this project's own.)
-use Rattle.std.specs.Prelude.{◌≡◌, ℕ, List, [], ◌++◌, Bool, true, false, ◌==◌, ◌||◌, if◌then◌else◌, codes, Some}
+-- float. A nil says null, or what fills it. (docs/FORMAT.md, Plain values: this project's own.)
+use Rattle.std.specs.Prelude.{◌≡◌, ℕ, ◌+◌, List, [], ◌++◌, Bool, true, false, ◌==◌, ◌||◌, if◌then◌else◌, codes, Some}
 use Rattle.std.specs.Prelude.{slice_get, from_bits, ⊤}
 use Rattle.std.specs.Fmt.{decimal, signed_decimal}
 use Rattle.std.specs.Float.Ieee.{Float, binary64, nan, inf, fin}
@@ -56,6 +56,46 @@ key_text _ = []
 abbrev pub gives_names : TypeId → Bool
 gives_names k = (k.0 == 6) || ((k.0 == 2) || (k.0 == 3))
 
+-- ---- nils
+
+-- What nils say is told by the order in which they stand: of the one with so many others before it this JSON is said.
+
+-- each says null
+abbrev pub all_null : ℕ → Json → Type 0
+all_null k j = j ≡ json.null
+
+-- what the nils behind the first m say
+abbrev pub behind : ℕ → (ℕ → Json → Type 0) → ℕ → Json → Type 0
+behind m N k j = N (m + k) j
+
+abbrev mutual
+  -- how many nils a value of this type has; none in keys that give names
+  pub nils : Table → TypeId → Tree → ℕ
+  nils T t Value.nil = 1
+  nils T t (Value.many vs) = nils_of_each T (element_type (shape_of T t)) vs
+  nils T t (Value.pairs ps) =
+      if gives_names (key_type (shape_of T t)) then nils_of_members T (element_type (shape_of T t)) ps
+      else nils_of_pairs T (key_type (shape_of T t)) (element_type (shape_of T t)) ps
+  nils T t (Value.fields fs) = nils_of_fields T (struct_fields (shape_of T t)) fs
+  nils T t v = 0
+
+  pub nils_of_each : Table → TypeId → Trees → ℕ
+  nils_of_each T e no_tree = 0
+  nils_of_each T e (tree v vs) = nils T e v + nils_of_each T e vs
+
+  pub nils_of_members : Table → TypeId → Pairs → ℕ
+  nils_of_members T e no_pair = 0
+  nils_of_members T e (pair x v ps) = nils T e v + nils_of_members T e ps
+
+  pub nils_of_pairs : Table → TypeId → TypeId → Pairs → ℕ
+  nils_of_pairs T k e no_pair = 0
+  nils_of_pairs T k e (pair x v ps) = nils T k x + (nils T e v + nils_of_pairs T k e ps)
+
+  pub nils_of_fields : Table → List Field → Fields → ℕ
+  nils_of_fields T types no_field = 0
+  nils_of_fields T types (field f v fs) =
+      nils T (field_type (slice_get types f)) v + nils_of_fields T types fs
+
 -- ---- values
 
 -- an array of items, or an object of members, of which this holds
@@ -71,61 +111,84 @@ IsMapOf true P Q j = IsObjectOf P j
 IsMapOf false P Q j = IsArrayOf Q j
 
 abbrev mutual
-  -- the JSON says the value as one of this type; raw, with each opaque value as bytes
-  pub Says : Bool → Table → TypeId → Tree → Json → Type 0
-  Says raw T t (Value.float p) j = SaysPattern p j
-  Says raw T t (Value.complex p q) j = SaysBoth (SaysPattern p) (SaysPattern q) j
-  Says raw T t (Value.bytes b) j = SaysBytes b j
-  Says raw T t (Value.opaque b) j = SaysOpaque raw (shape_of T t) b j
-  Says raw T t (Value.many vs) j = IsArrayOf (λ js. SayEach raw T (element_type (shape_of T t)) vs js) j
-  Says raw T t (Value.pairs ps) j =
-      IsMapOf (gives_names (key_type (shape_of T t))) (λ ms. SayMembers raw T (element_type (shape_of T t)) ps ms)
-      (λ js. SayPairs raw T (key_type (shape_of T t)) (element_type (shape_of T t)) ps js) j
-  Says raw T t (Value.fields fs) j = IsObjectOf (λ ms. SayFields raw T (struct_fields (shape_of T t)) fs ms) j
+  -- the JSON says the value as one of this type, whose nils say this; raw, with each opaque value as bytes
+  pub SaysWith : (ℕ → Json → Type 0) → Bool → Table → TypeId → Tree → Json → Type 0
+  SaysWith N raw T t (Value.float p) j = SaysPattern p j
+  SaysWith N raw T t (Value.complex p q) j = SaysBoth (SaysPattern p) (SaysPattern q) j
+  SaysWith N raw T t (Value.bytes b) j = SaysBytes b j
+  SaysWith N raw T t (Value.opaque b) j = SaysOpaque raw (shape_of T t) b j
+  SaysWith N raw T t Value.nil j = N 0 j
+  SaysWith N raw T t (Value.many vs) j = IsArrayOf (λ js. SayEachWith N raw T (element_type (shape_of T t)) vs js) j
+  SaysWith N raw T t (Value.pairs ps) j =
+      IsMapOf (gives_names (key_type (shape_of T t)))
+      (λ ms. SayMembersWith N raw T (element_type (shape_of T t)) ps ms)
+      (λ js. SayPairsWith N raw T (key_type (shape_of T t)) (element_type (shape_of T t)) ps js) j
+  SaysWith N raw T t (Value.fields fs) j =
+      IsObjectOf (λ ms. SayFieldsWith N raw T (struct_fields (shape_of T t)) fs ms) j
   -- all other values stand as they do in the lines of a stream
-  Says raw T t v j = j ≡ outline (value_json T t v)
+  SaysWith N raw T t v j = j ≡ outline (value_json T t v)
 
   -- each element, in order
-  pub SayEach : Bool → Table → TypeId → Trees → Items → Type 0
-  SayEach raw T e no_tree json.no_items = ⊤
-  SayEach raw T e (tree v vs) (json.item j js) = Says raw T e v j × SayEach raw T e vs js
-  SayEach raw T e _ _ = ⊥
+  pub SayEachWith : (ℕ → Json → Type 0) → Bool → Table → TypeId → Trees → Items → Type 0
+  SayEachWith N raw T e no_tree json.no_items = ⊤
+  SayEachWith N raw T e (tree v vs) (json.item j js) =
+      SaysWith N raw T e v j × SayEachWith (behind (nils T e v) N) raw T e vs js
+  SayEachWith N raw T e _ _ = ⊥
 
   -- a member for each entry, named by its key, in order; a repeated key is kept
-  pub SayMembers : Bool → Table → TypeId → Pairs → Members → Type 0
-  SayMembers raw T e no_pair json.no_members = ⊤
-  SayMembers raw T e (pair x v ps) (json.member name j ms) = (name ≡ key_text x) × Says raw T e v j
-      × SayMembers raw T e ps ms
-  SayMembers raw T e _ _ = ⊥
+  pub SayMembersWith : (ℕ → Json → Type 0) → Bool → Table → TypeId → Pairs → Members → Type 0
+  SayMembersWith N raw T e no_pair json.no_members = ⊤
+  SayMembersWith N raw T e (pair x v ps) (json.member name j ms) = (name ≡ key_text x) × SaysWith N raw T e v j
+      × SayMembersWith (behind (nils T e v) N) raw T e ps ms
+  SayMembersWith N raw T e _ _ = ⊥
 
   -- [key,element] for each entry, in order
-  pub SayPairs : Bool → Table → TypeId → TypeId → Pairs → Items → Type 0
-  SayPairs raw T k e no_pair json.no_items = ⊤
-  SayPairs raw T k e (pair x v ps) (json.item j js) =
-      SaysBoth (λ a. Says raw T k x a) (λ b. Says raw T e v b) j × SayPairs raw T k e ps js
-  SayPairs raw T k e _ _ = ⊥
+  pub SayPairsWith : (ℕ → Json → Type 0) → Bool → Table → TypeId → TypeId → Pairs → Items → Type 0
+  SayPairsWith N raw T k e no_pair json.no_items = ⊤
+  SayPairsWith N raw T k e (pair x v ps) (json.item j js) =
+      SaysBoth (λ a. SaysWith N raw T k x a) (λ b. SaysWith (behind (nils T k x) N) raw T e v b) j
+      × SayPairsWith (behind (nils T e v) (behind (nils T k x) N)) raw T k e ps js
+  SayPairsWith N raw T k e _ _ = ⊥
 
   -- a member for each field that is present, in order
-  pub SayFields : Bool → Table → List Field → Fields → Members → Type 0
-  SayFields raw T types no_field json.no_members = ⊤
-  SayFields raw T types (field f v fs) (json.member name j ms) =
-      (name ≡ name_text (field_name (slice_get types f))) × Says raw T (field_type (slice_get types f)) v j
-      × SayFields raw T types fs ms
-  SayFields raw T types _ _ = ⊥
+  pub SayFieldsWith : (ℕ → Json → Type 0) → Bool → Table → List Field → Fields → Members → Type 0
+  SayFieldsWith N raw T types no_field json.no_members = ⊤
+  SayFieldsWith N raw T types (field f v fs) (json.member name j ms) =
+      (name ≡ name_text (field_name (slice_get types f)))
+      × SaysWith N raw T (field_type (slice_get types f)) v j
+      × SayFieldsWith (behind (nils T (field_type (slice_get types f)) v) N) raw T types fs ms
+  SayFieldsWith N raw T types _ _ = ⊥
+
+-- the JSON says the value as one of this type, and null for each nil
+abbrev pub Says : Bool → Table → TypeId → Tree → Json → Type 0
+Says raw T t v j = SaysWith all_null raw T t v j
+
+abbrev pub SayEach : Bool → Table → TypeId → Trees → Items → Type 0
+SayEach raw T e vs js = SayEachWith all_null raw T e vs js
+
+abbrev pub SayMembers : Bool → Table → TypeId → Pairs → Members → Type 0
+SayMembers raw T e ps ms = SayMembersWith all_null raw T e ps ms
+
+abbrev pub SayPairs : Bool → Table → TypeId → TypeId → Pairs → Items → Type 0
+SayPairs raw T k e ps js = SayPairsWith all_null raw T k e ps js
+
+abbrev pub SayFields : Bool → Table → List Field → Fields → Members → Type 0
+SayFields raw T types fs ms = SayFieldsWith all_null raw T types fs ms
 
 -- ---- the same by the parts of a value
 
-abbrev pub SaysElements : Bool → Table → TypeId → Trees → Json → Type 0
-SaysElements raw T e vs j = IsArrayOf (λ js. SayEach raw T e vs js) j
+abbrev pub SaysElementsWith : (ℕ → Json → Type 0) → Bool → Table → TypeId → Trees → Json → Type 0
+SaysElementsWith N raw T e vs j = IsArrayOf (λ js. SayEachWith N raw T e vs js) j
 
-abbrev pub SaysMembers : Bool → Table → TypeId → Pairs → Json → Type 0
-SaysMembers raw T e ps j = IsObjectOf (λ ms. SayMembers raw T e ps ms) j
+abbrev pub SaysMembersWith : (ℕ → Json → Type 0) → Bool → Table → TypeId → Pairs → Json → Type 0
+SaysMembersWith N raw T e ps j = IsObjectOf (λ ms. SayMembersWith N raw T e ps ms) j
 
-abbrev pub SaysPairs : Bool → Table → TypeId → TypeId → Pairs → Json → Type 0
-SaysPairs raw T k e ps j = IsArrayOf (λ js. SayPairs raw T k e ps js) j
+abbrev pub SaysPairsWith : (ℕ → Json → Type 0) → Bool → Table → TypeId → TypeId → Pairs → Json → Type 0
+SaysPairsWith N raw T k e ps j = IsArrayOf (λ js. SayPairsWith N raw T k e ps js) j
 
-abbrev pub SaysMap : Bool → Bool → Table → TypeId → TypeId → Pairs → Json → Type 0
-SaysMap named raw T k e ps j = IsMapOf named (λ ms. SayMembers raw T e ps ms) (λ js. SayPairs raw T k e ps js) j
+abbrev pub SaysMapWith : (ℕ → Json → Type 0) → Bool → Bool → Table → TypeId → TypeId → Pairs → Json → Type 0
+SaysMapWith N named raw T k e ps j =
+    IsMapOf named (λ ms. SayMembersWith N raw T e ps ms) (λ js. SayPairsWith N raw T k e ps js) j
 
-abbrev pub SaysStruct : Bool → Table → List Field → Fields → Json → Type 0
-SaysStruct raw T types fs j = IsObjectOf (λ ms. SayFields raw T types fs ms) j
+abbrev pub SaysStructWith : (ℕ → Json → Type 0) → Bool → Table → List Field → Fields → Json → Type 0
+SaysStructWith N raw T types fs j = IsObjectOf (λ ms. SayFieldsWith N raw T types fs ms) j

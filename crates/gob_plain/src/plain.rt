@@ -7,10 +7,14 @@ ghost use Rattle.gob_json.specs.Json.{element_type, key_type};
 ghost use Rattle.gob_tape.specs.Meaning.{Means};
 ghost use Rattle.gob_tape.specs.Seeing.{Gives, elements, alternating, present};
 ghost use Rattle.gob_plain.specs.Plain.{gives_names};
-ghost use Rattle.gob_plain.specs.Filled.{SaysIn, SaysElementsIn, SaysMapIn, SaysMembersIn, SaysPairsIn, SaysStructIn};
-ghost use Rattle.gob_plain.specs.WritesPlain.{WritesPlainOf, Shows};
+ghost use Rattle.gob_plain.specs.Filled.{nils_in, nils_of_each_in, nils_of_map_in, nils_of_members_in};
+ghost use Rattle.gob_plain.specs.Filled.{nils_of_pairs_in, nils_of_fields_in, SaysIn, SaysInWith, SaysElementsIn};
+ghost use Rattle.gob_plain.specs.Filled.{SaysMapIn};
+ghost use Rattle.gob_plain.specs.Filled.{SaysMembersIn, SaysPairsIn, SaysStructIn};
+ghost use Rattle.gob_plain.specs.WritesPlain.{WritesNilsOf, WritesPlainOf, Shows};
 
 use crate::leaf::{write_key, write_leaf, write_name};
+use crate::nils::{Nils, Nulls};
 use crate::opaque::write_opaque;
 use crate::style::Style;
 use crate::zeros::write_absent;
@@ -20,7 +24,8 @@ use gob_types::{Field, Shapes, Table, TypeId};
 use json::Writer;
 use std::alloc::{AllocError, Global};
 
-/// Writes the value that a tape means as one of this type. The writing goes as deep as the value.
+/// Writes the value that a tape means as one of this type, and `null` for each nil. The writing goes as deep as the
+/// value.
 pub fn write_plain(
     alloc: Global,
     id: TypeId,
@@ -31,7 +36,26 @@ pub fn write_plain(
 ) -> Result<(), AllocError>
     ensures { WritesPlainOf result out.old out.new (Means tape.now) (SaysIn style (types table.now) id) }
 {
-    write_part(alloc, tape.root(), id, table, style, out)
+    write_plain_with(alloc, id, tape, table, style, &mut Nulls, out)
+}
+
+/// Writes the value that a tape means as one of this type. Each nil of it says what the next of `nils` does, in the
+/// order in which they stand: the elements in theirs, of an entry of a map the key first, the fields by their numbers.
+pub fn write_plain_with<N: Nils>(
+    alloc: Global,
+    id: TypeId,
+    tape: &Tape,
+    table: &Table,
+    style: Style,
+    nils: &mut N,
+    out: &mut Writer,
+) -> Result<(), AllocError>
+    requires { N.fit nils.old }
+    ensures said { WritesNilsOf result out.old out.new (N.says nils.old) (N.says nils.new) (Means tape.now)
+        (nils_in style (types table.now) id) (SaysInWith (N.says nils.old) style (types table.now) id) }
+    ensures fit { N.fit nils.new }
+{
+    write_part(alloc, tape.root(), id, table, style, nils, out)
 }
 
 // The types of a map's entries.
@@ -61,21 +85,50 @@ fn gives_names(key: TypeId) -> bool
 
 // Writes the part as one of this type.
 #[cycle(part)]
-fn write_part<S: Shapes>(
+fn write_part<S: Shapes, N: Nils>(
     alloc: Global,
     part: View<'_>,
     id: TypeId,
     table: &S,
     style: Style,
+    nils: &mut N,
     out: &mut Writer,
 ) -> Result<(), AllocError>
-    ensures { WritesPlainOf result out.old out.new (Shows part.entry) (SaysIn style (S.table table.now) id) }
+    requires { N.fit nils.old }
+    ensures said { WritesNilsOf result out.old out.new (N.says nils.old) (N.says nils.new) (Shows part.entry)
+        (nils_in style (S.table table.now) id) (SaysInWith (N.says nils.old) style (S.table table.now) id) }
+    ensures fit { N.fit nils.new }
 {
     let parts = part.children();
     match part.kind() {
-        ValueKind::Many => write_elements(alloc, parts, element_of(table, id), table, style, out),
-        ValueKind::Pairs => write_map(alloc, parts, entry_types(table, id), table, style, out),
-        ValueKind::Fields => write_fields(alloc, parts, fields_of(table, id), table, style, out),
+        ValueKind::Nil => nils.write_nil(alloc, out),
+        ValueKind::Many => write_elements(
+            alloc,
+            parts,
+            element_of(table, id),
+            table,
+            style,
+            nils,
+            out,
+        ),
+        ValueKind::Pairs => write_map(
+            alloc,
+            parts,
+            entry_types(table, id),
+            table,
+            style,
+            nils,
+            out,
+        ),
+        ValueKind::Fields => write_fields(
+            alloc,
+            parts,
+            fields_of(table, id),
+            table,
+            style,
+            nils,
+            out,
+        ),
         ValueKind::Opaque => write_opaque(alloc, table.shape_of(id), part.bytes(), style.raw, out),
         kind => {
             let (first, second) = part.numbers();
@@ -86,56 +139,70 @@ fn write_part<S: Shapes>(
 
 // Writes an array of the elements, each of this type.
 #[cycle(part)]
-fn write_elements<S: Shapes>(
+fn write_elements<S: Shapes, N: Nils>(
     alloc: Global,
     parts: Children<'_>,
     id: TypeId,
     table: &S,
     style: Style,
+    nils: &mut N,
     out: &mut Writer,
 ) -> Result<(), AllocError>
-    ensures { WritesPlainOf result out.old out.new (λ vs. Gives parts.entry (elements vs))
-        (SaysElementsIn style (S.table table.now) id) }
+    requires { N.fit nils.old }
+    ensures said { WritesNilsOf result out.old out.new (N.says nils.old) (N.says nils.new)
+        (λ vs. Gives parts.entry (elements vs)) (nils_of_each_in style (S.table table.now) id)
+        (SaysElementsIn (N.says nils.old) style (S.table table.now) id) }
+    ensures fit { N.fit nils.new }
 {
     out.begin_array()?;
     for part in parts {
-        write_part(alloc, part, id, table, style, out)?;
+        write_part(alloc, part, id, table, style, nils, out)?;
     }
     out.end_array()
 }
 
 // Writes the entries of a map: as an object where the keys give names, else as an array.
 #[cycle(part)]
-fn write_map<S: Shapes>(
+fn write_map<S: Shapes, N: Nils>(
     alloc: Global,
     parts: Children<'_>,
     types: EntryTypes,
     table: &S,
     style: Style,
+    nils: &mut N,
     out: &mut Writer,
 ) -> Result<(), AllocError>
-    ensures { WritesPlainOf result out.old out.new (λ ps. Gives parts.entry (alternating ps))
-        (SaysMapIn (gives_names types.key) style (S.table table.now) types.key types.element) }
+    requires { N.fit nils.old }
+    ensures said { WritesNilsOf result out.old out.new (N.says nils.old) (N.says nils.new)
+        (λ ps. Gives parts.entry (alternating ps))
+        (nils_of_map_in (gives_names types.key) style (S.table table.now) types.key types.element)
+        (SaysMapIn (N.says nils.old) (gives_names types.key) style (S.table table.now) types.key types.element) }
+    ensures fit { N.fit nils.new }
 {
     if gives_names(types.key) {
-        write_members(alloc, parts, types, table, style, out)
+        write_members(alloc, parts, types, table, style, nils, out)
     } else {
-        write_pairs(alloc, parts, types, table, style, out)
+        write_pairs(alloc, parts, types, table, style, nils, out)
     }
 }
 
 // Writes an object with a member for each entry, named by its key.
 #[cycle(part)]
-fn write_members<S: Shapes>(
+fn write_members<S: Shapes, N: Nils>(
     alloc: Global,
     parts: Children<'_>,
     types: EntryTypes,
     table: &S,
     style: Style,
+    nils: &mut N,
     out: &mut Writer,
 ) -> Result<(), AllocError>
-    ensures { WritesPlainOf result out.old out.new (λ ps. Gives parts.entry (alternating ps))
-        (SaysMembersIn style (S.table table.now) types.key types.element) }
+    requires { N.fit nils.old }
+    ensures said { WritesNilsOf result out.old out.new (N.says nils.old) (N.says nils.new)
+        (λ ps. Gives parts.entry (alternating ps))
+        (nils_of_members_in style (S.table table.now) types.key types.element)
+        (SaysMembersIn (N.says nils.old) style (S.table table.now) types.key types.element) }
+    ensures fit { N.fit nils.new }
 {
     out.begin_object()?;
     let mut is_key = true;
@@ -143,7 +210,7 @@ fn write_members<S: Shapes>(
         if is_key {
             write_key(alloc, part, out)?;
         } else {
-            write_part(alloc, part, types.element, table, style, out)?;
+            write_part(alloc, part, types.element, table, style, nils, out)?;
         }
         is_key = !is_key;
     }
@@ -152,25 +219,30 @@ fn write_members<S: Shapes>(
 
 // Writes an array of the entries, each an array of a key and an element of these types.
 #[cycle(part)]
-fn write_pairs<S: Shapes>(
+fn write_pairs<S: Shapes, N: Nils>(
     alloc: Global,
     parts: Children<'_>,
     types: EntryTypes,
     table: &S,
     style: Style,
+    nils: &mut N,
     out: &mut Writer,
 ) -> Result<(), AllocError>
-    ensures { WritesPlainOf result out.old out.new (λ ps. Gives parts.entry (alternating ps))
-        (SaysPairsIn style (S.table table.now) types.key types.element) }
+    requires { N.fit nils.old }
+    ensures said { WritesNilsOf result out.old out.new (N.says nils.old) (N.says nils.new)
+        (λ ps. Gives parts.entry (alternating ps))
+        (nils_of_pairs_in style (S.table table.now) types.key types.element)
+        (SaysPairsIn (N.says nils.old) style (S.table table.now) types.key types.element) }
+    ensures fit { N.fit nils.new }
 {
     out.begin_array()?;
     let mut is_key = true;
     for part in parts {
         if is_key {
             out.begin_array()?;
-            write_part(alloc, part, types.key, table, style, out)?;
+            write_part(alloc, part, types.key, table, style, nils, out)?;
         } else {
-            write_part(alloc, part, types.element, table, style, out)?;
+            write_part(alloc, part, types.element, table, style, nils, out)?;
             out.end_array()?;
         }
         is_key = !is_key;
@@ -181,16 +253,20 @@ fn write_pairs<S: Shapes>(
 // Writes an object with a member for each field that is present, and for the absent ones that the style shows. The
 // struct's fields tell the names and the types.
 #[cycle(part)]
-fn write_fields<S: Shapes>(
+fn write_fields<S: Shapes, N: Nils>(
     alloc: Global,
     parts: Children<'_>,
     types: &[Field],
     table: &S,
     style: Style,
+    nils: &mut N,
     out: &mut Writer,
 ) -> Result<(), AllocError>
-    ensures { WritesPlainOf result out.old out.new (λ fs. Gives parts.entry (present fs))
-        (SaysStructIn style (S.table table.now) types.now) }
+    requires { N.fit nils.old }
+    ensures said { WritesNilsOf result out.old out.new (N.says nils.old) (N.says nils.new)
+        (λ fs. Gives parts.entry (present fs)) (nils_of_fields_in style (S.table table.now) types.now 0)
+        (SaysStructIn (N.says nils.old) style (S.table table.now) types.now) }
+    ensures fit { N.fit nils.new }
 {
     out.begin_object()?;
     let count = types.len() as u64;
@@ -199,7 +275,7 @@ fn write_fields<S: Shapes>(
         let number = part.field().unwrap_or(0);
         write_absent(alloc, types, next..number, table, style, out)?;
         write_name(alloc, name_at(types, number), out)?;
-        write_part(alloc, part, type_at(types, number), table, style, out)?;
+        write_part(alloc, part, type_at(types, number), table, style, nils, out)?;
         next = number.saturating_add(1);
     }
     write_absent(alloc, types, next..count, table, style, out)?;

@@ -4,6 +4,8 @@
 #![tactic(auto)]
 
 #[cfg(test)]
+mod filled_values;
+#[cfg(test)]
 mod opaque_rows;
 #[cfg(test)]
 mod rows;

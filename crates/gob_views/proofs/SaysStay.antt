@@ -24,7 +24,7 @@ use Rattle.gob_json.specs.Json.{element_type, key_type, struct_fields, field_typ
 use Rattle.gob_plain.specs.declared.style.Style.{Style}
 use Rattle.gob_plain.specs.OpaqueText.{SaysOpaque}
 use Rattle.gob_plain.specs.Plain.{Says, SayEach, SayFields, SaysBoth}
-use Rattle.gob_plain.specs.Plain.{IsMapOf, gives_names}
+use Rattle.gob_plain.specs.Plain.{IsMapOf, gives_names, all_null}
 use Rattle.gob_plain.specs.Filled.{filled, fields_filled, zero_by, zero_of, zero_at}
 use Rattle.gob_plain.specs.Filled.{zeros_before, put_before, between, SaysIn, SaysElementsIn, SaysMapIn, SaysStructIn}
 use Rattle.gob_plain.proofs.PublicLaws.{EachIn, MembersIn, PairsIn, FieldsIn, no_element_in, element_in, element_out}
@@ -105,7 +105,8 @@ zeros_stay {T = T} {U = U} {types = types} raw keeps ready f (suc n) gs hs rest 
 -- ---- the fields in a style
 
 no_field_stays : {T U : Table} {types : List Field} (style : Style) → Keeps T U → AllReady T (kind.Struct types)
-    → (from : ℕ) (ms : Members) → FieldsIn style T types from no_field ms → FieldsIn style U types from no_field ms
+    → (from : ℕ) (ms : Members) → FieldsIn all_null style T types from no_field ms
+    → FieldsIn all_null style U types from no_field ms
 no_field_stays {T = T} {U = U} {types = types} style keeps ready from = by style.zeros
   where
     none : (ms : Members) → SayFields style.raw T types no_field ms → SayFields style.raw U types no_field ms
@@ -122,8 +123,9 @@ field_stays : {T U : Table} {types : List Field} (style : Style) → Keeps T U �
     → (from f : ℕ) (v : Tree) (fs : Fields)
     → ((j : Json) → SaysIn style T (field_type (slice_get types f)) v j
     → SaysIn style U (field_type (slice_get types f)) v j)
-    → ((ms : Members) → FieldsIn style T types (f + 1) fs ms → FieldsIn style U types (f + 1) fs ms)
-    → (ms : Members) → FieldsIn style T types from (field f v fs) ms → FieldsIn style U types from (field f v fs) ms
+    → ((ms : Members) → FieldsIn all_null style T types (f + 1) fs ms → FieldsIn all_null style U types (f + 1) fs ms)
+    → (ms : Members) → FieldsIn all_null style T types from (field f v fs) ms
+    → FieldsIn all_null style U types from (field f v fs) ms
 field_stays {T = T} {U = U} {types = types} style keeps ready from f v fs = by style.zeros
   where
     one : (v w : Tree) (gs hs : Fields) → ((j : Json) → Says style.raw T (field_type (slice_get types f)) v j
@@ -203,84 +205,87 @@ mutual
   said_as {T = T} {U = U} {t = t} style keeps ready h (of_slice {e = e} {vs = vs} p ps) j s =
       let now : element_type (shape_of U t) ≡ e = elements_of (kept_kind keeps h) refl in
       let before : element_type (shape_of T t) ≡ e = elements_of h refl in
-      let known : SaysElementsIn style T e vs j =
-      subst (λ x. SaysElementsIn style T x vs j) before (many_out style T t vs j s) in
-      let stays : SaysElementsIn style U e vs j =
+      let known : SaysElementsIn all_null style T e vs j =
+      subst (λ x. SaysElementsIn all_null style T x vs j) before (many_out all_null style T t vs j s) in
+      let stays : SaysElementsIn all_null style U e vs j =
       (known.0, known.1, each_stays style keeps (ready.each e refl) ps known.0 known.2) in
-      many_in style U t vs j (subst (λ x. SaysElementsIn style U x vs j) (sym now) stays)
+      many_in all_null style U t vs j (subst (λ x. SaysElementsIn all_null style U x vs j) (sym now) stays)
   said_as {T = T} {U = U} {t = t} style keeps ready h (of_array {e = e} {vs = vs} n p ps) j s =
       let now : element_type (shape_of U t) ≡ e = elements_of (kept_kind keeps h) refl in
       let before : element_type (shape_of T t) ≡ e = elements_of h refl in
-      let known : SaysElementsIn style T e vs j =
-      subst (λ x. SaysElementsIn style T x vs j) before (many_out style T t vs j s) in
-      let stays : SaysElementsIn style U e vs j =
+      let known : SaysElementsIn all_null style T e vs j =
+      subst (λ x. SaysElementsIn all_null style T x vs j) before (many_out all_null style T t vs j s) in
+      let stays : SaysElementsIn all_null style U e vs j =
       (known.0, known.1, each_stays style keeps (ready.each e refl) ps known.0 known.2) in
-      many_in style U t vs j (subst (λ x. SaysElementsIn style U x vs j) (sym now) stays)
+      many_in all_null style U t vs j (subst (λ x. SaysElementsIn all_null style U x vs j) (sym now) stays)
   said_as {T = T} {U = U} {t = t} style keeps ready h (of_map {k = k} {e = e} {ps = ps} p qs) j s =
       let keys_now : key_type (shape_of U t) ≡ k = keys_of (kept_kind keeps h) refl in
       let keys_before : key_type (shape_of T t) ≡ k = keys_of h refl in
       let now : element_type (shape_of U t) ≡ e = elements_of (kept_kind keeps h) refl in
       let before : element_type (shape_of T t) ≡ e = elements_of h refl in
-      let of_elements : SaysMapIn (gives_names (key_type (shape_of T t))) style T (key_type (shape_of T t)) e ps j =
-      subst (λ x. SaysMapIn (gives_names (key_type (shape_of T t))) style T (key_type (shape_of T t)) x ps j) before
-      (map_out style T t ps j s) in
-      let known : SaysMapIn (gives_names k) style T k e ps j =
-      subst (λ x. SaysMapIn (gives_names x) style T x e ps j) keys_before of_elements in
-      let stays : SaysMapIn (gives_names k) style U k e ps j =
-      map_as (λ ms. MembersIn style T k e ps ms) (λ ms. MembersIn style U k e ps ms) (λ js. PairsIn style T k e ps js)
-      (λ js. PairsIn style U k e ps js) (gives_names k) j
+      let key_before = key_type (shape_of T t) in
+      let of_elements : SaysMapIn all_null (gives_names key_before) style T key_before e ps j =
+      subst (λ x. SaysMapIn all_null (gives_names key_before) style T key_before x ps j) before
+      (map_out all_null style T t ps j s) in
+      let known : SaysMapIn all_null (gives_names k) style T k e ps j =
+      subst (λ x. SaysMapIn all_null (gives_names x) style T x e ps j) keys_before of_elements in
+      let stays : SaysMapIn all_null (gives_names k) style U k e ps j =
+      map_as (λ ms. MembersIn all_null style T k e ps ms) (λ ms. MembersIn all_null style U k e ps ms)
+      (λ js. PairsIn all_null style T k e ps js) (λ js. PairsIn all_null style U k e ps js) (gives_names k) j
       (λ ms m. members_stay style keeps (ready.each e (inr refl)) qs ms m)
       (λ js q. pairs_stay style keeps (ready.each k (inl refl)) (ready.each e (inr refl)) qs js q) known in
-      let of_keys : SaysMapIn (gives_names (key_type (shape_of U t))) style U (key_type (shape_of U t)) e ps j =
-      subst (λ x. SaysMapIn (gives_names x) style U x e ps j) (sym keys_now) stays in
-      map_in style U t ps j
-      (subst (λ x. SaysMapIn (gives_names (key_type (shape_of U t))) style U (key_type (shape_of U t)) x ps j) (sym now)
-      of_keys)
+      let key_now = key_type (shape_of U t) in
+      let of_keys : SaysMapIn all_null (gives_names key_now) style U key_now e ps j =
+      subst (λ x. SaysMapIn all_null (gives_names x) style U x e ps j) (sym keys_now) stays in
+      map_in all_null style U t ps j
+      (subst (λ x. SaysMapIn all_null (gives_names key_now) style U key_now x ps j) (sym now) of_keys)
   said_as {T = T} {U = U} {t = t} style keeps ready h (of_struct {types = types} {fs = fs} ps) j s =
       let now : struct_fields (shape_of U t) ≡ types = fields_of (kept_kind keeps h) in
       let before : struct_fields (shape_of T t) ≡ types = fields_of h in
-      let known : SaysStructIn style T types fs j =
-      subst (λ x. SaysStructIn style T x fs j) before (struct_out style T t fs j s) in
-      let stays : SaysStructIn style U types fs j =
+      let known : SaysStructIn all_null style T types fs j =
+      subst (λ x. SaysStructIn all_null style T x fs j) before (struct_out all_null style T t fs j s) in
+      let stays : SaysStructIn all_null style U types fs j =
       (known.0, known.1, fields_stay style keeps ready ps 0 known.0 known.2) in
-      struct_in style U t fs j (subst (λ x. SaysStructIn style U x fs j) (sym now) stays)
+      struct_in all_null style U t fs j (subst (λ x. SaysStructIn all_null style U x fs j) (sym now) stays)
 
   each_stays : {T U : Table} {e : TypeId} {vs : Trees} {b : List ℕ} (style : Style) → Keeps T U → IsReady T e
-      → SpellsEach T e vs b → (js : Items) → EachIn style T e vs js → EachIn style U e vs js
-  each_stays {U = U} {e = e} style keeps ready no_element json.no_items s = no_element_in style U e
+      → SpellsEach T e vs b → (js : Items) → EachIn all_null style T e vs js → EachIn all_null style U e vs js
+  each_stays {U = U} {e = e} style keeps ready no_element json.no_items s = no_element_in all_null style U e
   each_stays {T = T} {e = e} style keeps ready no_element (json.item j js) s =
-      absurd (item_too_many style T e j js s)
+      absurd (item_too_many all_null style T e j js s)
   each_stays {T = T} {e = e} style keeps ready (element {v = v} {vs = vs} p ps) json.no_items s =
-      absurd (element_missing style T e v vs s)
+      absurd (element_missing all_null style T e v vs s)
   each_stays {T = T} {U = U} {e = e} style keeps ready (element {v = v} {vs = vs} p ps) (json.item j js) s =
-      let parts = element_out style T e v vs j js s in
-      element_in style U e v vs j js (says_stay style keeps ready p j parts.0)
+      let parts = element_out all_null style T e v vs j js s in
+      element_in all_null style U e v vs j js (says_stay style keeps ready p j parts.0)
       (each_stays style keeps ready ps js parts.1)
 
   members_stay : {T U : Table} {k e : TypeId} {ps : Pairs} {b : List ℕ} (style : Style) → Keeps T U → IsReady T e
-      → SpellsPairs T k e ps b → (ms : Members) → MembersIn style T k e ps ms → MembersIn style U k e ps ms
-  members_stay {U = U} {k = k} {e = e} style keeps ready no_entry json.no_members s = no_member_in style U k e
+      → SpellsPairs T k e ps b → (ms : Members) → MembersIn all_null style T k e ps ms
+      → MembersIn all_null style U k e ps ms
+  members_stay {U = U} {k = k} {e = e} style keeps ready no_entry json.no_members s = no_member_in all_null style U k e
   members_stay {T = T} {k = k} {e = e} style keeps ready no_entry (json.member name j ms) s =
-      absurd (member_too_many style T k e name j ms s)
+      absurd (member_too_many all_null style T k e name j ms s)
   members_stay {T = T} {k = k} {e = e} style keeps ready (entry {x = x} {v = v} {ps = ps} p q r) json.no_members s =
-      absurd (member_missing style T k e x v ps s)
+      absurd (member_missing all_null style T k e x v ps s)
   members_stay {T = T} {U = U} {k = k} {e = e} style keeps ready (entry {x = x} {v = v} {ps = ps} p q r)
       (json.member name j ms) s =
-      let parts = member_out style T k e x v ps name j ms s in
-      subst (λ name. MembersIn style U k e (pair x v ps) (json.member name j ms)) (sym parts.0)
-      (member_in style U k e x v ps j ms (says_stay style keeps ready q j parts.1)
+      let parts = member_out all_null style T k e x v ps name j ms s in
+      subst (λ name. MembersIn all_null style U k e (pair x v ps) (json.member name j ms)) (sym parts.0)
+      (member_in all_null style U k e x v ps j ms (says_stay style keeps ready q j parts.1)
       (members_stay style keeps ready r ms parts.2))
 
   pairs_stay : {T U : Table} {k e : TypeId} {ps : Pairs} {b : List ℕ} (style : Style) → Keeps T U → IsReady T k
-      → IsReady T e → SpellsPairs T k e ps b → (js : Items) → PairsIn style T k e ps js → PairsIn style U k e ps js
-  pairs_stay {U = U} {k = k} {e = e} style keeps keys ready no_entry json.no_items s = no_entry_in style U k e
+      → IsReady T e → SpellsPairs T k e ps b → (js : Items) → PairsIn all_null style T k e ps js
+      → PairsIn all_null style U k e ps js
+  pairs_stay {U = U} {k = k} {e = e} style keeps keys ready no_entry json.no_items s = no_entry_in all_null style U k e
   pairs_stay {T = T} {k = k} {e = e} style keeps keys ready no_entry (json.item j js) s =
-      absurd (entry_too_many style T k e j js s)
+      absurd (entry_too_many all_null style T k e j js s)
   pairs_stay {T = T} {k = k} {e = e} style keeps keys ready (entry {x = x} {v = v} {ps = ps} p q r) json.no_items s =
-      absurd (entry_missing style T k e x v ps s)
+      absurd (entry_missing all_null style T k e x v ps s)
   pairs_stay {T = T} {U = U} {k = k} {e = e} style keeps keys ready (entry {x = x} {v = v} {ps = ps} p q r)
       (json.item j js) s =
-      let parts = entry_out style T k e x v ps j js s in
+      let parts = entry_out all_null style T k e x v ps j js s in
       let both = parts.0 in
       let stays : SaysBoth (λ a. SaysIn style U k x a) (λ b. SaysIn style U e v b) j = (
         both.0,
@@ -289,11 +294,11 @@ mutual
         says_stay style keeps keys p both.0 both.3,
         says_stay style keeps ready q both.1 both.4,
       ) in
-      entry_in style U k e x v ps j js stays (pairs_stay style keeps keys ready r js parts.1)
+      entry_in all_null style U k e x v ps j js stays (pairs_stay style keeps keys ready r js parts.1)
 
   fields_stay : {T U : Table} {types : List Field} {next : ℕ} {fs : Fields} {b : List ℕ} (style : Style) → Keeps T U
       → AllReady T (kind.Struct types) → SpellsFields T types next fs b → (from : ℕ) (ms : Members)
-      → FieldsIn style T types from fs ms → FieldsIn style U types from fs ms
+      → FieldsIn all_null style T types from fs ms → FieldsIn all_null style U types from fs ms
   fields_stay style keeps ready (end_of_fields p) from = no_field_stays style keeps ready from
   fields_stay {T = T} {U = U} style keeps ready (next_field {f = f} {e = e} {v = v} {fs = fs} l there p q ps) from =
       field_stays style keeps ready from f v fs
