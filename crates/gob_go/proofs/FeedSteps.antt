@@ -112,7 +112,7 @@ gives_over {s' = s'} {given = given} (over_item {given = one} {i = i} p l m a) e
     record { item = i; mean = subst (λ x. ItemMeans (types s'.types) x i) same m; after = a }
 
 -- behind which no byte was taken, so the types are those of the stream
-between_table : {L : Bounds} {T U : Table} {offset n : ℕ} {expects : Stage} {y : List ℕ}
+pub between_table : {L : Bounds} {T U : Table} {offset n : ℕ} {expects : Stage} {y : List ℕ}
     → StageHasRead L T offset U expects y → expects ≡ count_at n → U ≡ T
 between_table (in_count q g k) e = g
 between_table (in_type_number a g k n) e = absurd (cc)
@@ -124,7 +124,7 @@ is_between : (s : SessionState) {item : Option GoItem} {given : GoItem} → IfSo
 is_between s b e = subst (λ i. IfSome i (λ _. IsBetweenItems s)) e b
 
 -- equal items lead to one table
-one_table : {s s' : SessionState} {items : List FilledItem} {b c : List ℕ} (x y : List ℕ) (a : HasRead s items b)
+pub one_table : {s s' : SessionState} {items : List FilledItem} {b c : List ℕ} (x y : List ℕ) (a : HasRead s items b)
     (h : HasRead s' items c) → s'.limits ≡ s.limits → b ++ x ≡ c ++ y → a.table ≡ h.table
 one_table {s = s} {items = items} x y a h e f =
     (one_reading (a.under_way ++ x) (h.under_way ++ y) a.stream

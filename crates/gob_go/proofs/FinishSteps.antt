@@ -23,16 +23,16 @@ use Rattle.gob_go.proofs.UnderWayLaws.{no_item_yet, unrefused, part_at_rest}
 -- ---- where an item begins
 
 -- the count of the next item is expected from there on
-record ExpectsCount (offset : ℕ) (expects : Stage) : Type 0 where
-  at : ItemCount
-  is : expects ≡ stage.Count at
-  begins_at : at.number.rest.begin ≡ offset
+pub record ExpectsCount (offset : ℕ) (expects : Stage) : Type 0 where
+  pub at : ItemCount
+  pub is : expects ≡ stage.Count at
+  pub begins_at : at.number.rest.begin ≡ offset
 
 not_nothing : {m : ℕ} {c : List ℕ} {A : Type 0} (y : List ℕ) → IsUnsigned m c → c ++ y ≡ [] → A
 not_nothing {c = c} y u e =
     absurd (let l = (unsigned_length u).0 in omega (arith, ap length e, length-append c y))
 
-nothing_expects : {L : Bounds} {T U : Table} {offset : ℕ} {expects : Stage} {y : List ℕ}
+pub nothing_expects : {L : Bounds} {T U : Table} {offset : ℕ} {expects : Stage} {y : List ℕ}
     → StageHasRead L T offset U expects y → y ≡ [] → ExpectsCount offset expects
 nothing_expects (in_count q g n) e = record { at = _; is = refl; begins_at = n.begins }
 nothing_expects (in_type_number a g k n) e = not_nothing a k.count e

@@ -10,6 +10,7 @@ pub mod EndSteps
 pub mod FeedSteps
 pub mod FillSteps
 pub mod FinishSteps
+pub mod GoReaderLaws
 pub mod GrownLaws
 pub mod HeldBeginSteps
 pub mod HeldDefinitionSteps
@@ -37,3 +38,4 @@ pub mod StageSteps
 pub mod TypeNumberSteps
 pub mod UnderWayLaws
 pub mod ValueSteps
+pub mod WholeSteps

@@ -319,7 +319,7 @@ item_counts (of_definition {c = c} {d = d} n l s p) =
 item_counts (of_value may sg k cs) = segments_count cs
 
 -- behind a count there is less than it says
-fewer_no_item : {L : Bounds} {T U : Table} {offset m : ℕ} {c b : List ℕ} {i : FilledItem} (y x : List ℕ)
+pub fewer_no_item : {L : Bounds} {T U : Table} {offset m : ℕ} {c b : List ℕ} {i : FilledItem} (y x : List ℕ)
     → IsUnsigned m c → length y < m → IsFilledItem base_table L T offset i b U → c ++ y ≡ b ++ x → ⊥
 fewer_no_item y x u few h e =
     let k = item_counts h in let all = k.all_there in

@@ -7,6 +7,10 @@ mod again;
 #[cfg(test)]
 mod memory_tests;
 #[cfg(test)]
+mod reader_tests;
+#[cfg(test)]
+mod readers;
+#[cfg(test)]
 mod reading_tests;
 #[cfg(test)]
 mod rows;
@@ -16,3 +20,5 @@ mod session_tests;
 mod sessions;
 #[cfg(test)]
 mod streams;
+#[cfg(test)]
+mod writing_tests;

@@ -1,8 +1,10 @@
-//! Reading where memory may be refused: the items, or want of memory behind those before it. tools/refuse-memory runs
-//! these with each allocation refused in turn, so they make little beside what they test.
+//! Reading and writing where memory may be refused: the items, or want of memory behind those before it.
+//! tools/refuse-memory runs these with each allocation refused in turn, so they make little beside what they test.
 
+use crate::readers::count;
 use crate::sessions::feed;
 use gob_go::GoSession;
+use gob_go_writer::write_again;
 use gob_num::Memory;
 use gob_stream::{Fault, Limits};
 use gob_test_rows::{bytes_of, number, part};
@@ -34,9 +36,43 @@ fn is_fed(alloc: Global, row: &str) -> Result<bool, Memory> {
     Ok(answer.is_ok() && count == due || answer == Err(Fault::Memory) && count <= due)
 }
 
+// Whether the row is written again as its own bytes, where there is memory for that.
+fn is_written_again(alloc: Global, row: &str) -> Result<bool, Memory> {
+    let bytes = bytes_of(alloc, part(row, 1))?;
+    match write_again(alloc, &bytes, Limits::standard()) {
+        Ok(again) => Ok(again.as_slice() == bytes.as_slice()),
+        Err(fault) => Ok(fault == Fault::Memory),
+    }
+}
+
 #[test]
 fn sessions_want_memory(rt: HostRuntime) {
     for row in STREAMS.trim().split("\n\n") {
         assert!(rt; is_fed(rt.alloc(), row) != Ok(false), "{row}");
+    }
+}
+
+#[test]
+fn writing_wants_memory(rt: HostRuntime) {
+    for row in STREAMS.trim().split("\n\n") {
+        assert!(rt; is_written_again(rt.alloc(), row) != Ok(false), "{row}");
+    }
+}
+
+// Whether a reader over pieces of seven bytes gives the items of the row, or no more than they are before want of
+// memory.
+fn is_counted(alloc: Global, row: &str) -> Result<bool, Memory> {
+    let bytes = bytes_of(alloc, part(row, 1))?;
+    let due = number(part(row, 2), 0);
+    let counted = count(alloc, &bytes, Limits::standard(), 7)?;
+    let items = counted.items;
+    let answer = counted.answer;
+    Ok(answer.is_ok() && items == due || answer == Err(Fault::Memory) && items <= due)
+}
+
+#[test]
+fn readers_want_memory(rt: HostRuntime) {
+    for row in STREAMS.trim().split("\n\n") {
+        assert!(rt; is_counted(rt.alloc(), row) != Ok(false), "{row}");
     }
 }

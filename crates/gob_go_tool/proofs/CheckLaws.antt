@@ -2,18 +2,11 @@
 use Rattle.std.proofs.Common.{◌≡◌, ℕ, List, [], Option, Result, ◌∙◌, sym, subst, append-nil}
 use Rattle.std.specs.Io.KnownBytes.{Keeps}
 use Rattle.std.proofs.KnownBytes.{Appends-kept}
-use Rattle.gob_stream.specs.Bounds.{Bounds, within_trees}
+use Rattle.gob_stream.specs.Bounds.{Bounds}
 use Rattle.gob_tool.specs.Ending.{EndsRun, ends_so, flush_fails}
 use Rattle.gob_tool.specs.declared.fault.ToolFault.{ToolFault}
-use Rattle.gob_tool.specs.declared.in_memory.Tally.{Tally}
 use Rattle.gob_tool.proofs.EndLaws.{prefix_kept}
 use Rattle.gob_go_tool.specs.CheckingGo.{CheckGoAnswers, IsCountedGoStream, is_accepted, is_cut, is_stopped}
-use Rattle.gob_go_tool.specs.Machine.Counting.{EndsCountingGo}
-
--- under the limits that a session was made with
-pub counting_under : (L M : Bounds) (bytes : List ℕ) (now : Option (List ℕ)) (r : Result Tally ToolFault) → L ≡ M
-    → EndsCountingGo (within_trees L) bytes now r → EndsCountingGo (within_trees M) bytes now r
-counting_under L M bytes now r same h = subst (λ (L : Bounds). EndsCountingGo (within_trees L) bytes now r) same h
 
 counted_as : {L : Bounds} {bytes : List ℕ} {now : Option (List ℕ)} {P Q : List ℕ → Type 0}
     → IsCountedGoStream L bytes now P → ((line : List ℕ) → P line → Q line) → IsCountedGoStream L bytes now Q

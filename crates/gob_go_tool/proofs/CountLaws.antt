@@ -1,24 +1,34 @@
--- How the counting of items goes on from step to step, and where it stops.
-use Rattle.std.proofs.Common.{◌≡◌, ℕ, ◌+◌, ◌<◌, ◌≤◌, ◌^◌, arith, List, [], ◌∷◌, ◌++◌, length, take, drop}
-use Rattle.std.proofs.Common.{Option, Result, Ok, Err, ◌∙◌, ap, sym, subst, refl, length-append}
-use Rattle.std.proofs.Common.{append_assoc, append-nil, take-append-drop}
+-- How the counting of items goes on from turn to turn, and how it ends.
+use Rattle.std.proofs.Common.{◌≡◌, ℕ, ◌+◌, ◌-◌, ◌<◌, ◌≤◌, arith, List, [], ◌∷◌, ◌++◌, length, Option, Bool, true}
+use Rattle.std.proofs.Common.{Result, Ok, Err, ◌∙◌, ap, sym, subst, refl, length-append, append-nil}
 use Rattle.std.specs.Result.{IsErrAnd}
 use Rattle.gob_num.proofs.PublicLaws.{unsigned_length}
 use Rattle.gob_types.specs.Base.{base_table}
+use Rattle.gob_types.specs.Defined.{definition_count}
 use Rattle.gob_types.specs.Table.{Table}
-use Rattle.gob_stream.specs.Bounds.{Bounds, AreLimits, deepest, within_trees}
+use Rattle.gob_stream.specs.Bounds.{Bounds, within_trees}
 use Rattle.gob_stream.specs.declared.fault.Fault.{Fault}
 use Rattle.gob_stream.specs.declared.fault.Fault.TheVariants as reading
+use Rattle.gob_stream.specs.declared.values.Passed.{Passed}
 use Rattle.gob_filled.specs.Stream.{FilledItem, IsFilledItem, of_definition, of_value, AreCounted, last_counted}
 use Rattle.gob_filled.specs.Stream.{next_counted, AreFilledItems, no_more, and_then}
-use Rattle.gob_go.specs.Calls.Session.{HasRead, StepAnswers}
+use Rattle.gob_go.specs.Calls.Reader.{EndsWith, Fills, GivesItems, gives_none, gives_one, HasReadFrom, PassesFrom}
+use Rattle.gob_go.specs.Calls.Reader.{StepsOnFrom, Stops, StopsFrom, session_of}
+use Rattle.gob_go.specs.Calls.Session.{HasRead, limits_of, taken_of}
 use Rattle.gob_go.specs.Machine.SessionState.{SessionState}
-use Rattle.gob_go.specs.Machine.Stages.{AdvancesOver, over_some, over_item}
 use Rattle.gob_go.specs.declared.item.GoItem.{GoItem}
-use Rattle.gob_go.proofs.ItemsLaws.{items_end}
+use Rattle.gob_go.specs.declared.reader.GoReader.{GoReader}
+use Rattle.gob_go.specs.declared.session.GoStep.{GoStep}
+use Rattle.gob_go.proofs.GoReaderLaws.{goes_on}
+use Rattle.gob_go.proofs.ItemsLaws.{items_end as items_end_within}
 use Rattle.gob_go.proofs.UnderWayLaws.{stage_bound}
-use Rattle.gob_tool.specs.Machine.Counting.{given_count}
-use Rattle.gob_go_tool.specs.Machine.Counting.{CountsNext, CountsOn, CountsPiece, CountsUpTo, HasCounted, StopsCounting}
+use Rattle.gob_tool.specs.Checking.{counts_line}
+use Rattle.gob_tool.specs.Fault.{reading_fault}
+use Rattle.gob_tool.specs.Machine.Counting.{given_count, tally_line}
+use Rattle.gob_tool.specs.declared.fault.ToolFault.{ToolFault}
+use Rattle.gob_tool.specs.declared.in_memory.Tally.{Tally}
+use Rattle.gob_go_tool.specs.CheckingGo.{IsNoGoStream}
+use Rattle.gob_go_tool.specs.Machine.Counting.{CountsNext, CountsOn, CountsSo, EndsCountingGo}
 
 -- ---- how many items and bytes there are at most
 -- an item has a byte at least
@@ -39,10 +49,10 @@ items_few (and_then {b = b} {c = c} i n is) = let some = item_some i in let few 
     omega (arith, length-append b c)
 
 -- no more bytes than the limit for the stream, and a count
-pub read_within : {s : SessionState} {items : List FilledItem} {bytes : List ℕ} → HasRead s items bytes
+read_within : {s : SessionState} {items : List FilledItem} {bytes : List ℕ} → HasRead s items bytes
     → length bytes ≤ s.limits.stream + 9
 read_within a =
-    let end = items_end a.stream (omega arith) in
+    let end = items_end_within a.stream (omega arith) in
     let bound = stage_bound (omega arith) a.stage in
     omega (arith, ap length a.whole, length-append a.prefix a.under_way)
 
@@ -50,94 +60,136 @@ items_within : {s : SessionState} {items : List FilledItem} {bytes : List ℕ} �
     → length items ≤ length bytes
 items_within a = let few = items_few a.stream in omega (arith, ap length a.whole, length-append a.prefix a.under_way)
 
--- so their number fits
-pub items_fit : {s : SessionState} {n : ℕ} {bytes : List ℕ} → HasCounted s n bytes → AreLimits deepest s.limits
-    → n < 2 ^ 64
-items_fit h l =
-    let bound = read_within h.gave in
-    let few = items_within h.gave in
-    omega (arith, l.stream, h.items_are)
+module _ {r : GoReader} {read now : Option (List ℕ)} {n m : ℕ} (i : CountsSo r read now n m) where
+  pub items_end : n ≤ (limits_of (session_of r)).stream + 9
+  items_end =
+      let bound = read_within i.has.gave in
+      let few = items_within i.has.gave in
+      omega (arith, i.items_are)
 
--- ---- from step to step
--- no byte was taken
-pub counted_none : {s : SessionState} → HasRead s [] [] → HasCounted s 0 []
-counted_none gave = record { given = []; gave = gave; items_are = refl }
+  pub bytes_end : m ≤ (limits_of (session_of r)).stream + 9
+  bytes_end = let bound = read_within i.has.gave in omega (arith, i.bytes_are, i.has.gave.taken)
 
--- the item that is whole with the bytes of a step, if one is
-pub counts_step : {s s' : SessionState} {used n k : ℕ} {bytes piece : List ℕ} {o : Option GoItem}
-    (h : HasCounted s n bytes) → 0 < length piece → k ≡ given_count o
-    → AdvancesOver s' h.given bytes piece used o → CountsOn s' (n + k) bytes piece used
-counts_step {k = k} h some e (over_some l w a) =
-    let none : k ≡ 0 = e in
-    record {
-      within = w;
-      nearer = l some;
-      counted = record { given = h.given; gave = a; items_are = omega (arith, none, h.items_are) };
-    }
-counts_step {k = k} h some e (over_item {i = i} l w m a) =
-    let one : k ≡ 1 = e in
-    record {
-      within = w;
-      nearer = l;
-      counted = record {
-        given = h.given ++ i ∷ [];
-        gave = a;
-        items_are = omega (arith, one, h.items_are, length-append h.given (i ∷ []));
-      };
-    }
+no_items : (items : List FilledItem) → length items ≡ 0 → items ≡ []
+no_items [] l = refl
+no_items (i ∷ items) l = absurd (omega arith)
 
--- a step was refused
-pub step_stops : (s s' : SessionState) (items : List FilledItem) (bytes piece : List ℕ) (e : Fault)
-    → StepAnswers s s' items bytes piece (Err e) → StopsCounting (within_trees s.limits) (bytes ++ piece) e
-step_stops s s' items bytes piece (reading.Refused R) f = (items, f.0)
-step_stops s s' items bytes piece reading.Read f = absurd f
-step_stops s s' items bytes piece reading.Memory f = tt
-step_stops s s' items bytes piece reading.Failed f = absurd f
+-- ---- from turn to turn
+pub counts_first : (r : GoReader) (read : Option (List ℕ)) → HasReadFrom r read read []
+    → taken_of (session_of r) ≡ 0 → CountsSo r read read 0 0
+counts_first r read has none = record { given = []; has = has; items_are = refl; bytes_are = sym none }
 
--- ---- from the front of a piece on
-pub counts_none_yet : {s : SessionState} {n : ℕ} (piece bytes : List ℕ) → HasCounted s n bytes
-    → CountsUpTo s n bytes piece piece
-counts_none_yet {s = s} {n = n} piece bytes h = record {
-  prefix = [];
-  whole = refl;
-  counted = subst (λ (l : List ℕ). HasCounted s n l) (sym (append-nil bytes)) h;
+counts_on : {r r' : GoReader} {read now : Option (List ℕ)} {n m : ℕ} (given : List FilledItem) (passed : Passed)
+    → n ≡ length given → m ≡ taken_of (session_of r) → CountsOn r r' read now given passed
+    → CountsSo r' read now (n + passed.items) (m + passed.used)
+counts_on given passed items bytes on = record {
+  given = given ++ on.more;
+  has = on.takes.after;
+  items_are = omega (arith, items, on.counted, length-append given on.more);
+  bytes_are = omega (arith, bytes, on.takes.onward);
 }
 
-pub counts_up_to : {s s' : SessionState} {n n' used : ℕ} {bytes piece rest later : List ℕ} → later ≡ drop used rest
-    → (u : CountsUpTo s n bytes piece rest) → CountsOn s' n' (bytes ++ u.prefix) rest used
-    → CountsUpTo s' n' bytes piece later
-counts_up_to {s' = s'} {n' = n'} {used = used} {bytes = bytes} {rest = rest} so u on = record {
-  prefix = u.prefix ++ take used rest;
-  whole = u.whole
-      ∙ ap (λ (l : List ℕ). u.prefix ++ l)
-      (sym (take-append-drop used rest) ∙ ap (λ (l : List ℕ). take used rest ++ l) (sym so))
-      ∙ sym (append_assoc u.prefix (take used rest) _);
-  counted = subst (λ (l : List ℕ). HasCounted s' n' l) (append_assoc bytes u.prefix (take used rest)) on.counted;
+-- items of values that stand whole
+pub counts_passed : {r r' : GoReader} {read now : Option (List ℕ)} {given : List FilledItem} {passed : Passed}
+    (p : PassesFrom r r' passed) → HasReadFrom r read now given → CountsOn r r' read now given passed
+counts_passed {read = read} {now = now} {given = given} p h = record
+    { more = p.more; counted = p.counted; takes = p.each read now given h }
+
+-- none of them
+pub record PassesNone (r r' : GoReader) (read now : Option (List ℕ)) (given : List FilledItem) : Type 0 where
+  pub still : HasReadFrom r' read now given
+  pub taken : taken_of (session_of r') ≡ taken_of (session_of r)
+
+pub passes_none : {r r' : GoReader} {read now : Option (List ℕ)} {given : List FilledItem} {passed : Passed}
+    → PassesFrom r r' passed → passed.items ≡ 0 → HasReadFrom r read now given → PassesNone r r' read now given
+passes_none {r' = r'} {read = read} {now = now} {given = given} p none h =
+    let t = p.each read now given h in
+    let empty = no_items p.more (omega (arith, none, p.counted)) in
+    record {
+      still = subst (λ l. HasReadFrom r' read now l) (ap (λ l. given ++ l) empty ∙ append-nil given) t.after;
+      taken = omega (arith, t.onward, p.none none);
+    }
+
+-- as many items as a step gave
+given_so : {T : Table} {o : Option GoItem} {more : List FilledItem} → GivesItems T o more → given_count o ≡ length more
+given_so gives_none = refl
+given_so (gives_one m) = refl
+
+pub counts_step : {r q r' : GoReader} {read now : Option (List ℕ)} {given : List FilledItem} {step : GoStep}
+    (passed : Passed) → taken_of (session_of q) ≡ taken_of (session_of r)
+    → StepsOnFrom q r' read now given step → passed.used ≡ step.used → passed.items ≡ given_count step.item
+    → CountsOn r r' read now given passed
+counts_step passed same st used items = record {
+  more = st.more;
+  counted = items ∙ given_so st.gives;
+  takes = record { after = st.takes.after; onward = omega (arith, same, st.takes.onward, used) };
 }
 
--- all of the piece was taken
-pub counts_piece : {s : SessionState} {n : ℕ} {bytes piece rest : List ℕ} → length rest ≡ 0
-    → CountsUpTo s n bytes piece rest → HasCounted s n (bytes ++ piece)
-counts_piece {s = s} {n = n} {bytes = bytes} {rest = []} none u =
-    subst (λ (l : List ℕ). HasCounted s n (bytes ++ l)) (sym (u.whole ∙ append-nil u.prefix)) u.counted
-counts_piece {rest = b ∷ rest} none u = absurd (omega (arith, none))
+-- what stops it, in the words of the session as it was before
+pub stops_still : (s t : SessionState) (T : Table) (read now : Option (List ℕ)) (given : List FilledItem) (e : Fault)
+    → limits_of t ≡ limits_of s → StopsFrom t T read now given e → StopsFrom s T read now given e
+stops_still s t T read now given e same f = λ bytes known.
+    subst (λ (L : Bounds). Stops (within_trees L) T given bytes now e) same (f bytes known)
 
--- or the rest of it is refused
-pub stops_piece : {s : SessionState} {n : ℕ} {bytes piece rest : List ℕ} (L M : Bounds) (e : Fault) → L ≡ M
-    → (u : CountsUpTo s n bytes piece rest) → StopsCounting (within_trees L) ((bytes ++ u.prefix) ++ rest) e
-    → StopsCounting (within_trees M) (bytes ++ piece) e
-stops_piece {bytes = bytes} {piece = piece} {rest = rest} L M e same u f =
-    subst (λ (L : Bounds). StopsCounting (within_trees L) (bytes ++ piece) e) same
-    (subst (λ (l : List ℕ). StopsCounting (within_trees L) l e)
-    (append_assoc bytes u.prefix rest ∙ ap (λ (l : List ℕ). bytes ++ l) (sym u.whole)) f)
+pub next_at : (r r' : GoReader) (T : Table) (read now : Option (List ℕ)) (given : List FilledItem)
+    (res : Result Passed Fault) (e : Fault) → IsErrAnd res (λ x. x ≡ e)
+    → StopsFrom (session_of r) T read now given e → CountsNext r r' read now given res
+next_at r r' T read now given (Ok passed) e is h = absurd is
+next_at r r' T read now given (Err f) e is h =
+    (T, subst (λ e. StopsFrom (session_of r) T read now given e) (sym is) h)
 
--- ---- at the error that a `?` returns
-pub counts_next_at : (L : Bounds) (s : SessionState) (n : ℕ) (bytes piece : List ℕ) (r : Result ℕ Fault) (e : Fault)
-    → IsErrAnd r (λ x. x ≡ e) → StopsCounting L (bytes ++ piece) e → CountsNext L s n bytes piece r
-counts_next_at L s n bytes piece (Ok u) e is h = absurd is
-counts_next_at L s n bytes piece (Err g) e is h = subst (λ e. StopsCounting L (bytes ++ piece) e) (sym is) h
+-- what was counted with a turn of the loop
+pub counts_turn : {r : GoReader} {read now : Option (List ℕ)} {n m : ℕ} (q r' : GoReader) (next : Option (List ℕ))
+    (more : Bool) (passed : Passed) → more ≡ true → (i : CountsSo r read now n m)
+    → Fills (session_of r) i.has.gave.table q read next i.given (Ok more)
+    → ((read now : Option (List ℕ)) (given : List FilledItem) → HasReadFrom q read now given
+    → CountsNext q r' read now given (Ok passed)) → CountsSo r' read next (n + passed.items) (m + passed.used)
+counts_turn {r = r} {read = read} q r' next more passed e i f next_so =
+    let on = goes_on (session_of r) i.has.gave.table q read next i.given more e f in
+    counts_on i.given passed i.items_are (i.bytes_are ∙ sym on.1) (next_so read next i.given on.0)
 
-pub counts_piece_at : (L : Bounds) (s : SessionState) (n : ℕ) (bytes : List ℕ) (r : Result (Unit {0}) Fault) (e : Fault)
-    → IsErrAnd r (λ x. x ≡ e) → StopsCounting L bytes e → CountsPiece L s n bytes r
-counts_piece_at L s n bytes (Ok u) e is h = absurd is
-counts_piece_at L s n bytes (Err g) e is h = subst (λ e. StopsCounting L bytes e) (sym is) h
+-- the two counts rise, and no further than the limit
+pub counts_fall : {r r' : GoReader} {read now later : Option (List ℕ)} {n m : ℕ} (j k : ℕ)
+    → limits_of (session_of r') ≡ limits_of (session_of r) → CountsSo r read now n m
+    → CountsSo r' read later (n + j) (m + k)
+    → 0 < j + k
+    → ((limits_of (session_of r')).stream + 9 - (n + j)) + ((limits_of (session_of r')).stream + 9 - (m + k))
+    < ((limits_of (session_of r)).stream + 9 - n) + ((limits_of (session_of r)).stream + 9 - m)
+counts_fall j k same h on some =
+    let stream = ap (λ (L : Bounds). L.stream) same in
+    let items = items_end on in
+    let bytes = bytes_end on in
+    omega (arith, items, bytes, stream, some)
+
+-- ---- the ends
+pub counted_whole : {L : Bounds} {T : Table} {items : List FilledItem} {bytes : List ℕ} {now : Option (List ℕ)}
+    {taken : ℕ}
+    (tally : Tally) → tally.items ≡ length items → tally.types ≡ definition_count T → tally.bytes ≡ taken
+    → EndsWith L T taken items bytes now → EndsCountingGo L bytes now (Ok tally)
+counted_whole {T = T} {items = items} {bytes = bytes} tally items_so types_so bytes_are e =
+    let bytes_so : tally.bytes ≡ length bytes = bytes_are ∙ e.count in
+    record {
+      items = items;
+      table = T;
+      stream = e.stream;
+      end = e.end;
+      holds = ap (λ (k : ℕ). counts_line k tally.types tally.bytes) items_so
+          ∙ ap (λ (k : ℕ). counts_line (length items) k tally.bytes) types_so
+          ∙ ap (λ (k : ℕ). counts_line (length items) (definition_count T) k) bytes_so;
+    }
+
+pub counted_stops : (L : Bounds) (T : Table) (items : List FilledItem) (bytes : List ℕ) (now : Option (List ℕ))
+    (e : Fault)
+    → Stops L T items bytes now e → IsNoGoStream L bytes now (reading_fault e)
+counted_stops L T items bytes now (reading.Refused R) h = (items, h.outcome)
+counted_stops L T items bytes now reading.Read h = record {
+  bytes = h.bytes;
+  taken = h.taken;
+  holds = (items, record { begins = h.holds.begins; longest = h.holds.longest });
+}
+counted_stops L T items bytes now reading.Memory h = tt
+counted_stops L T items bytes now reading.Failed h = absurd h
+
+pub no_stream_under : (L M : Bounds) (bytes : List ℕ) (now : Option (List ℕ)) (f : ToolFault) → L ≡ M
+    → IsNoGoStream (within_trees L) bytes now f → IsNoGoStream (within_trees M) bytes now f
+no_stream_under L M bytes now f same h = subst (λ (L : Bounds). IsNoGoStream (within_trees L) bytes now f) same h

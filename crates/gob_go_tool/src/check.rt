@@ -1,18 +1,20 @@
 //! The run that says whether bytes are a stream of Go's encoder, and how much there is in it.
 
-ghost use Rattle.std.specs.Prelude.{◌≡◌, ℕ, List, Some, IfOk, string_bytes};
+ghost use Rattle.std.specs.Prelude.{◌≡◌, ◌≢◌, ◌+◌, ◌<◌, ℕ, List, Option, Some, IfErr, IfOk, length, string_bytes};
 ghost use Rattle.gob_stream.specs.Bounds.{within_trees};
 ghost use Rattle.gob_stream.specs.Calls.Ends.{failed_reads, failed_writes, reader_of, writer_of};
+ghost use Rattle.gob_filled.specs.Stream.{FilledItem};
+ghost use Rattle.gob_go.specs.Calls.Session.{limits_of};
+ghost use Rattle.gob_go.specs.Calls.Reader.{HasReadFrom, session_of, waits_in};
 ghost use Rattle.gob_tool.specs.Ending.{CountsOnlyWrites};
-ghost use Rattle.gob_tool.specs.Machine.Counting.{CountsCounting, tally_line};
+ghost use Rattle.gob_tool.specs.Machine.Counting.{CountsCounting, given_count, tally_line};
 ghost use Rattle.gob_tool.specs.Showing.{CountsReadFaults, CountsWriteFaults, IsFlushedSince};
 ghost use Rattle.gob_go_tool.specs.CheckingGo.{CheckGoAnswers};
-ghost use Rattle.gob_go_tool.specs.Machine.Counting.{EndsCountingGo};
+ghost use Rattle.gob_go_tool.specs.Machine.Counting.{CountsNext, EndsCountingGo};
 
-use crate::reading::read_all;
-use gob_go::GoSession;
+use gob_go::{GoItem, GoReader};
 use gob_num::Memory;
-use gob_stream::{Input, Limits, Output};
+use gob_stream::{Fault, Input, Limits, Output, Passed};
 use gob_tool::{Tally, ToolFault, end_run};
 use std::alloc::Global;
 use std::io::{Read, Write};
@@ -76,6 +78,51 @@ fn count_stream<R: Read>(
         → EndsCountingGo (within_trees limits) bytes (R.remaining (reader_of input.new)) result }
     ensures reads { CountsCounting (failed_reads input.old) (failed_reads input.new) result }
 {
-    let mut session = GoSession::new(alloc, limits)?;
-    read_all(alloc, input, &mut session)
+    let mut reader = GoReader::new(alloc, limits)?;
+    let mut items = 0;
+    let mut bytes = 0;
+    while reader.more(input)? {
+        let passed = count_next(alloc, &mut reader)?;
+        items += passed.items;
+        bytes += passed.used as u64;
+    }
+    let types = reader.table().count();
+    Ok(Tally {
+        items,
+        types,
+        bytes,
+    })
+}
+
+/// Takes some of the bytes that wait: items of values that stand whole, or else one item at the most. How many items
+/// are whole with them, and how many bytes they are. Nothing is built of a value that stands whole.
+fn count_next(alloc: Global, reader: &mut GoReader) -> Result<Passed, Fault>
+    requires { 0 < length (waits_in reader.old) }
+    ensures counted { (read now : Option (List ℕ)) (given : List FilledItem) → HasReadFrom reader.old read now given
+        → CountsNext reader.old reader.new read now given result }
+    ensures onward { IfOk result (λ passed. 0 < passed.items + passed.used) }
+    ensures unread { IfErr result (λ fault. fault ≢ Fault.Read) }
+    ensures limits { limits_of (session_of reader.new) ≡ limits_of (session_of reader.old) }
+{
+    let passed = reader.pass_values();
+    if passed.items > 0 {
+        return Ok(passed);
+    }
+    let step = reader.step(alloc)?;
+    let passed = Passed {
+        items: count_given(&step.item),
+        used: step.used,
+    };
+    drop(step);
+    Ok(passed)
+}
+
+/// How many items a step gave.
+fn count_given(item: &Option<GoItem>) -> u64
+    ensures { result ≡ given_count item.now }
+{
+    match item {
+        Some(_) => 1,
+        None => 0,
+    }
 }

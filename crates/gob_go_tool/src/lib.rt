@@ -7,6 +7,5 @@
 #![tactic(auto)]
 
 mod check;
-mod reading;
 
 pub use check::run_check_go;

@@ -1,15 +1,20 @@
 -- What contracts see of a session: the items that it has read of the bytes so far, its types and its limits.
-use Rattle.std.specs.Prelude.{◌≡◌, ℕ, ◌<◌, List, ◌++◌, length, Result, Ok, Err}
+use Rattle.std.specs.Prelude.{◌≡◌, ℕ, ◌<◌, ◌≤◌, List, [], ◌∷◌, ◌++◌, length, take, Result, Ok, Err}
 use Rattle.gob_types.specs.declared.reason.Reason.TheVariants as reason
 use Rattle.gob_types.specs.Defined.{Defined, types}
 use Rattle.gob_types.specs.Table.{Table}
 use Rattle.gob_types.specs.Base.{base_table}
+use Rattle.gob_types.specs.declared.id.TypeId.{TypeId}
 use Rattle.gob_stream.specs.declared.fault.Fault.{Fault}
 use Rattle.gob_stream.specs.declared.fault.Fault.TheVariants as fault
 use Rattle.gob_stream.specs.Bounds.{Bounds, within_trees}
 use Rattle.gob_stream.specs.Honest.{OfRefusal}
+use Rattle.gob_stream.specs.Item.{StreamItem}
+use Rattle.gob_stream.specs.Stream.{IsItem, AreItems}
+use Rattle.gob_stream.specs.Whole.{HasBody, HasBegun}
 use Rattle.gob_filled.specs.Stream.{FilledItem}
 use Rattle.gob_filled.specs.Outcome.{FilledOutcome, the_end, refused}
+use Rattle.gob_filled.specs.OutcomeLaws.{unfilled_item}
 use Rattle.gob_go.specs.Honest.{IsHonest}
 use Rattle.gob_go.specs.Reading.{GivesOn, ShowsRefusal, RefusesBehind, GivesOfTaken, HasTypesBeyond}
 use Rattle.gob_go.specs.Machine.SessionState.{SessionState}
@@ -32,6 +37,9 @@ IsBetweenItems s = s.stage ≡ count_at s.taken
 abbrev pub table_of : SessionState → Defined
 table_of s = s.types
 
+abbrev pub types_of : SessionState → Table
+types_of s = types (table_of s)
+
 abbrev pub taken_of : SessionState → ℕ
 taken_of s = s.taken
 
@@ -42,6 +50,54 @@ limits_of s = s.limits
 abbrev pub StaysAsItWas : (s s' : SessionState) → Type 0
 StaysAsItWas s s' = s' ≡ s
 
+-- ---- items of the format, as they stand whole in a piece
+-- the first bytes of the piece are a count, the number of the type and this body, as of the next item
+abbrev pub HasBodyNext : SessionState → TypeId → (body : List ℕ) → (used : ℕ) → (piece : List ℕ) → Type 0
+HasBodyNext s id body used piece = HasBody (limits_of s) (types_of s) (taken_of s) id body used piece
+
+-- the piece is the first bytes of the first segment of the next item, which has so many, of a value of the type
+abbrev pub HasBegunNext : SessionState → TypeId → (head size : ℕ) → (piece : List ℕ) → Type 0
+HasBegunNext s id head size piece = HasBegun (limits_of s) (types_of s) (taken_of s) id head size piece
+
+-- the bytes are this item of the format, as the next one, and it defines nothing
+abbrev pub IsNext : SessionState → StreamItem → List ℕ → Type 0
+IsNext s i z = IsItem base_table (within_trees (limits_of s)) (types_of s) (taken_of s) i z (types_of s)
+
+abbrev pub AreNext : SessionState → List StreamItem → List ℕ → Type 0
+AreNext s is z = AreItems base_table (within_trees (limits_of s)) (types_of s) (taken_of s) is z (types_of s)
+
+-- they are some item, or some items
+abbrev pub HasItemNext : SessionState → List ℕ → Type 0
+HasItemNext s z = (i : StreamItem) × IsNext s i z
+
+abbrev pub HasItemsNext : SessionState → List ℕ → Type 0
+HasItemsNext s z = (is : List StreamItem) × AreNext s is z
+
+-- items of the format as items of the profile, whose values aren't filled
+abbrev pub unfilled_items : List StreamItem → List FilledItem
+unfilled_items [] = []
+unfilled_items (i ∷ is) = unfilled_item i ∷ unfilled_items is
+
+-- it has read the item that these bytes are
+abbrev pub ReadsOn : (s s' : SessionState) → List ℕ → Type 0
+ReadsOn s s' z = (items : List FilledItem) (bytes : List ℕ) (i : StreamItem) → HasRead s items bytes → IsNext s i z
+    → HasRead s' (items ++ unfilled_item i ∷ []) (bytes ++ z)
+
+-- or the items
+abbrev pub ReadsAll : (s s' : SessionState) → List ℕ → Type 0
+ReadsAll s s' z = (items : List FilledItem) (bytes : List ℕ) (is : List StreamItem) → HasRead s items bytes
+    → AreNext s is z → HasRead s' (items ++ unfilled_items is) (bytes ++ z)
+
+-- it stands behind so many items, the first bytes of the piece
+pub record ReadsItems (s s' : SessionState) (count used : ℕ) (piece : List ℕ) : Type 0 where
+  pub given : List FilledItem
+  pub counted : count ≡ length given
+  pub within : used ≤ length piece
+  pub none : count ≡ 0 → used ≡ 0
+  pub passed : (items : List FilledItem) (bytes : List ℕ) → HasRead s items bytes
+      → HasRead s' (items ++ given) (bytes ++ take used piece)
+
+-- ---- what its calls answer
 -- what feeding a piece answers, where the items were given, to a session that had given the items before, of these
 -- bytes
 abbrev pub FeedAnswers : (s s' : SessionState) → List FilledItem → (bytes piece : List ℕ) → List GoItem

@@ -1,0 +1,209 @@
+-- Items of the format that stand whole at the front of a piece, between two items.
+use Rattle.std.proofs.Common.{◌≡◌, ℕ, suc, ◌+◌, ◌-◌, ◌<◌, ◌≤◌, ◌^◌, List, [], ◌∷◌, ◌++◌, length, take, drop, min, arith}
+use Rattle.std.proofs.Common.{refl, sym, ap, ◌∙◌, subst, append_assoc, length-append}
+use Rattle.std.proofs.Math.Seq.{take-take}
+use Rattle.std.proofs.lemmas.List.{append-nil, length-take, length-take-le}
+use Rattle.gob_num.specs.Unsigned.{AreBytes}
+use Rattle.gob_num.proofs.PublicLaws.{begins_prefix, bytes-append, bytes_prefix, bytes_rest}
+use Rattle.gob_types.specs.Base.{base_table}
+use Rattle.gob_types.specs.Defined.{types}
+use Rattle.gob_types.specs.Table.{Table}
+use Rattle.gob_types.specs.declared.id.TypeId.{TypeId}
+use Rattle.gob_stream.specs.Bounds.{Bounds, greatest_depth, within_trees}
+use Rattle.gob_stream.specs.Item.{StreamItem}
+use Rattle.gob_stream.specs.Stream.{AreItems, no_more, and_then}
+use Rattle.gob_stream.specs.Whole.{AllowsIn, AreItemsBetween, HasBegun}
+use Rattle.gob_stream.proofs.Stream.StreamLaws.{items_within, no_items_empty}
+use Rattle.gob_filled.specs.Stream.{FilledItem, AreFilledItems, FilledStream}
+use Rattle.gob_filled.specs.Stream as filled
+use Rattle.gob_filled.proofs.Contained.{item_stays}
+use Rattle.gob_go.specs.Calls.Session.{AreNext, HasItemsNext, ReadsAll, ReadsItems, unfilled_items}
+use Rattle.gob_go.specs.Machine.HasRead.{StageHasRead, in_count, in_type_number, in_definition, in_put, HasRead}
+use Rattle.gob_go.specs.Machine.HasRead.{IsUsable, has_failed, stands_after, no_end}
+use Rattle.gob_go.specs.Machine.SessionState.{SessionState}
+use Rattle.gob_go.specs.Machine.Stages.{count_at}
+use Rattle.gob_go.specs.declared.count.ItemCount.{ItemCount}
+use Rattle.gob_go.specs.declared.stage.Stage.{Stage}
+use Rattle.gob_go.specs.declared.stage.Stage.TheVariants as stage
+use Rattle.gob_go.proofs.FinishSteps.{count_begins_here, nothing_expects}
+use Rattle.gob_go.proofs.FeedSteps.{between_table}
+use Rattle.gob_go.proofs.ItemsLaws.{NoNext, items_end}
+use Rattle.gob_go.proofs.UnderWayLaws.{fewer_no_item}
+
+-- ---- between two items
+-- the count that is expected has no byte yet
+count_is_new : {L : Bounds} {T U : Table} {offset : ℕ} {expects : Stage} {y : List ℕ} {at : ItemCount}
+    → StageHasRead L T offset U expects y → expects ≡ stage.Count at → y ≡ [] → expects ≡ count_at offset
+count_is_new {offset = offset} (in_count {number = number} q g n) e none =
+    let make : ℕ → ℕ → List ℕ → Stage =
+    λ b e q. stage.Count (record { number = record { rest = record { begin = b; end = e }; number = q } }) in
+    ap (λ b. make b number.rest.end number.number) n.begins ∙ ap (λ e. make offset e number.number) n.ends
+    ∙ ap (λ q. make offset no_end q) (n.bytes ∙ none)
+count_is_new (in_type_number a g k n) e none = absurd (cc)
+count_is_new (in_definition a y g k d) e none = absurd (cc)
+count_is_new (in_put p) e none = absurd (cc)
+
+pub between_at : {s : SessionState} {at : ItemCount} → IsUsable s → s.stage ≡ stage.Count at
+    → at.number.rest.begin ≡ s.taken → s.stage ≡ count_at s.taken
+between_at {at = at} (has_failed f) e b = absurd (let n : stage.Failed ≡ stage.Count at = sym f ∙ e in cc)
+between_at {s = s} (stands_after a) e b =
+    let none = count_begins_here a e b in
+    let here : length a.prefix ≡ s.taken =
+    omega (arith, a.taken, ap length a.whole, length-append a.prefix a.under_way, ap length none) in
+    count_is_new a.stage e none ∙ ap (λ n. count_at n) here
+
+-- where no byte was taken, the types are those of the stream
+pub types_between : {L : Bounds} {T U : Table} {offset : ℕ} {expects : Stage} {y : List ℕ}
+    → StageHasRead L T offset U expects y → y ≡ [] → U ≡ T
+types_between h none = let k = nothing_expects h none in between_table h (count_is_new h k.is none)
+
+-- ---- items of the format are items of the profile
+pub unfilled_count : (is : List StreamItem) → length (unfilled_items is) ≡ length is
+unfilled_count [] = refl
+unfilled_count (i ∷ is) = ap suc (unfilled_count is)
+
+pub items_stay : {L : Bounds} {T U : Table} {offset : ℕ} {is : List StreamItem} {z : List ℕ} → AreBytes z
+    → AreItems base_table L T offset is z U → AreFilledItems base_table L T offset (unfilled_items is) z U
+items_stay o no_more = filled.no_more
+items_stay o (and_then {b = b} {c = c} p e r) =
+    filled.and_then (item_stays (bytes_prefix b c o) p) e (items_stay (bytes_rest b c o) r)
+
+more_behind : {L : Bounds} {T U V : Table} {offset next : ℕ} {items more : List FilledItem} {b c : List ℕ}
+    → AreFilledItems base_table L T offset items b U → next ≡ offset + length b
+    → AreFilledItems base_table L U next more c V → AreFilledItems base_table L T offset (items ++ more) (b ++ c) V
+more_behind {L = L} {T = T} {V = V} {next = next} {more = more} {c = c} (filled.no_more {offset = offset}) e r =
+    let here : next ≡ offset = omega arith in
+    subst (λ n. AreFilledItems base_table L T n more c V) here r
+more_behind {L = L} {T = T} {V = V} {offset = offset} {more = more} {c = c}
+    (filled.and_then {i = j} {items = items} {b = a} {c = b} p e r) f q =
+    subst (λ c. AreFilledItems base_table L T offset (j ∷ (items ++ more)) c V) (sym (append_assoc a b c))
+    (filled.and_then p e (more_behind r (omega (arith, length-append a b)) q))
+
+-- ---- going past them
+pub passed : {s s' : SessionState} {z : List ℕ} {now : Stage} → s.stage ≡ count_at s.taken → s.limits.stream < 2 ^ 63
+    → AreBytes z → now ≡ count_at (s.taken + length z) → s' ≡ record s { taken = s.taken + length z; stage = now }
+    → ReadsAll s s' z
+passed {s = s} {z = z} {now = now} between most o new e items bytes is a there =
+    let none : a.under_way ≡ [] = count_begins_here a between refl in
+    let table : types s.types ≡ a.table = between_table a.stage between in
+    let prefix : bytes ≡ a.prefix = a.whole ∙ ap (λ y. a.prefix ++ y) none ∙ append-nil a.prefix in
+    let here : s.taken ≡ length a.prefix = a.taken ∙ ap length prefix in
+    let long : length (a.prefix ++ z) ≡ s.taken + length z = omega (arith, length-append a.prefix z) in
+    let ends = items_end a.stream (omega arith) in
+    let few = items_within there in
+    let behind : StageHasRead (within_trees s.limits) (types s.types) (length (a.prefix ++ z)) (types s.types)
+    (count_at (length (a.prefix ++ z))) [] = in_count [] refl (record {
+      begins = refl;
+      ends = refl;
+      bytes = refl;
+      prefix = begins_prefix {bytes = []} tt;
+      room = omega arith;
+    }) in
+    rw e (record {
+      prefix = a.prefix ++ z;
+      under_way = [];
+      table = types s.types;
+      whole = ap (λ y. y ++ z) prefix ∙ sym (append-nil (a.prefix ++ z));
+      are_bytes = bytes-append bytes z a.are_bytes o;
+      stream = more_behind (subst (λ (T : Table). FilledStream base_table (within_trees s.limits) items a.prefix T)
+          (sym table) a.stream) (omega arith) (items_stay o there);
+      stage = subst (λ st. StageHasRead (within_trees s.limits) (types s.types) (length (a.prefix ++ z)) (types s.types)
+          st []) (sym (new ∙ ap (λ n. count_at n) (sym long))) behind;
+      taken = sym (ap (λ y. length (y ++ z)) prefix ∙ long);
+      room = a.room;
+    })
+
+-- what stood after some bytes is behind items, so it stands after some
+pub usable_behind : {s s' : SessionState} {z : List ℕ} → s.stage ≡ count_at s.taken → HasItemsNext s z
+    → ReadsAll s s' z → IsUsable s → IsUsable s'
+usable_behind {s = s} between h f (has_failed e) =
+    absurd (let n : stage.Failed ≡ count_at s.taken = sym e ∙ between in cc)
+usable_behind between h f (stands_after {items = items} {bytes = bytes} a) =
+    stands_after (f items bytes h.0 a h.1)
+
+-- ---- items that stand one behind another at the front of a piece
+items_at_0 : {L : Bounds} {T : Table} {offset count used : ℕ} {piece : List ℕ}
+    → (b : AreItemsBetween L T offset count piece 0 used) → AreItems base_table L T offset b.items (take used piece) T
+items_at_0 {L = L} {T = T} {offset = offset} {used = used} {piece = piece} b =
+    let here : offset + 0 ≡ offset = omega arith in
+    let all : used - 0 ≡ used = omega arith in
+    subst (λ n. AreItems base_table L T n b.items (take used piece) T) here
+    (subst (λ n. AreItems base_table L T (offset + 0) b.items (take n piece) T) all b.are)
+
+-- what a look at the front of a piece finds under the limits that are left
+found_items : (s : SessionState) (piece : List ℕ) (near : ℕ) {count used limit item : ℕ}
+    → ((L : Bounds) (offset : ℕ) → AllowsIn L item limit offset (take near piece)
+    → AreItemsBetween L (types s.types) offset count (take near piece) 0 used)
+    → item ≡ s.limits.item → limit ≡ min s.limits.depth greatest_depth → near ≤ s.limits.stream - s.taken
+    → AreItemsBetween (within_trees s.limits) (types s.types) s.taken count (take near piece) 0 used
+found_items s piece near are items depths room = are (within_trees s.limits) s.taken (record {
+  item_is = omega (arith, items);
+  depth_is = omega (arith, depths);
+  stream_is = omega (arith, room, length-take near piece);
+})
+
+-- of the session by its other name
+pub found_there : (s t : SessionState) (piece : List ℕ) (near : ℕ) {count used limit item : ℕ} → t ≡ s
+    → ((L : Bounds) (offset : ℕ) → AllowsIn L item limit offset (take near piece)
+    → AreItemsBetween L (types t.types) offset count (take near piece) 0 used)
+    → item ≡ t.limits.item → limit ≡ min t.limits.depth greatest_depth → near ≤ t.limits.stream - t.taken
+    → AreItemsBetween (within_trees s.limits) (types s.types) s.taken count (take near piece) 0 used
+found_there s t piece near {count = count} {used = used} same are items depths room =
+    subst (λ (s : SessionState). AreItemsBetween (within_trees s.limits) (types s.types) s.taken count (take near piece)
+    0 used) same (found_items t piece near are items depths room)
+
+-- these are the first bytes of the piece
+front_is : (s : SessionState) {count used : ℕ} (room : ℕ) (piece : List ℕ)
+    → (b : AreItemsBetween (within_trees s.limits) (types s.types) s.taken count (take room piece) 0 used)
+    → AreNext s b.items (take used piece)
+front_is s {used = used} room piece b =
+    let near = b.inside in
+    let same : take used (take room piece) ≡ take used piece =
+    take-take used room piece (omega (arith, length-take room piece)) in
+    subst (λ z. AreNext s b.items z) same (items_at_0 b)
+
+pub prefix_items : (s : SessionState) {count used : ℕ} (room : ℕ) (piece : List ℕ)
+    → AreItemsBetween (within_trees s.limits) (types s.types) s.taken count (take room piece) 0 used
+    → HasItemsNext s (take used piece)
+prefix_items s room piece b = (b.items, front_is s room piece b)
+
+pub passes_items : {s s' : SessionState} {count used : ℕ} (room : ℕ) (piece : List ℕ)
+    → AreItemsBetween (within_trees s.limits) (types s.types) s.taken count (take room piece) 0 used
+    → ReadsAll s s' (take used piece) → ReadsItems s s' count used piece
+passes_items {s = s} {used = used} room piece b f =
+    let near = b.inside in
+    let short = length-take room piece in
+    record {
+      given = unfilled_items b.items;
+      counted = b.counted ∙ sym (unfilled_count b.items);
+      within = omega (arith, short);
+      none = λ e. omega (
+        arith,
+        no_items_empty (items_at_0 b) (sym b.counted ∙ e),
+        length-take-le used (take room piece) near,
+      );
+      passed = λ items bytes a. f items bytes b.items a (front_is s room piece b);
+    }
+
+-- and nothing is passed where nothing is found
+pub passes_none : {s : SessionState} {piece : List ℕ} → ReadsItems s s 0 0 piece
+passes_none {s = s} = record {
+  given = [];
+  counted = refl;
+  within = omega arith;
+  none = λ e. refl;
+  passed =
+      λ items bytes a. subst (λ z. HasRead s z (bytes ++ []))
+      (sym (append-nil items))
+      (subst (λ z. HasRead s items z) (sym (append-nil bytes)) a);
+}
+
+-- ---- the first segment of an item that has begun
+-- no item is whole there
+pub begun_no_next : {L M : Bounds} {T U : Table} {offset begin head size : ℕ} {id : TypeId} {piece : List ℕ}
+    → HasBegun L T begin id head size piece → NoNext M U offset piece
+begun_no_next h i V b y k e =
+    let few = h.short in
+    let all = h.all in
+    fewer_no_item (h.number ++ h.rest) y h.counts
+    (omega (arith, ap length h.whole, length-append h.count (h.number ++ h.rest))) k (sym h.whole ∙ e)

@@ -1,0 +1,59 @@
+use Rattle.std.proofs.Common.{◌∙◌, Bool, ap, refl}
+use Rattle.gob_stream.specs.Calls.Ends.{failed_reads, reader_of}
+use Rattle.gob_stream.proofs.Reader.StreamReaderLaws.{counts_at, counts_nothing}
+use Rattle.gob_go.specs.Calls.Reader.{session_of}
+use Rattle.gob_go.specs.Calls.Session.{taken_of, types_of}
+use Rattle.gob_go.proofs.GoReaderLaws.{fills_at, fills_from, read_on, read_stops, reads_fall, stands_so}
+use Rattle.gob_go.proofs.reader.GoReader.fill.Goals as goal
+
+pub reads-init : goal.reads-init
+reads-init g c = (refl, refl, λ read items h. stands_so h)
+
+pub reads-preserved : goal.reads-preserved
+reads-preserved g c =
+    let i = c.reads.invariant in (
+      c.in_ok-read_once.ensures.same ∙ i.0,
+      c.in_ok-read_once.ensures.reads ∙ i.1,
+      λ read items h. read_on c.in_ok-read_once.ensures.same
+          (c.has_next.ensures.lacks c.if-has_next.false)
+          c.in_ok-read_once.ensures.read (i.2 read items h),
+    )
+
+pub reads-smaller : goal.reads-smaller
+reads-smaller g c =
+    reads_fall c.in_ok-read_once.ensures.same c.in_ok-read_once.ensures.read
+    (c.has_next.ensures.lacks c.if-has_next.false)
+    c.if-self.false
+
+pub returns-then-has_next-clause-filled : goal.returns-then-has_next-clause-filled
+returns-then-has_next-clause-filled g c = λ read items h.
+    let i = c.reads.invariant in
+    ((i.2 read items h).has, ap (λ s. taken_of s) i.0, ap (λ s. types_of s) i.0)
+
+pub returns-then-self-clause-filled : goal.returns-then-self-clause-filled
+returns-then-self-clause-filled g c = λ read items h.
+    let i = c.reads.invariant in
+    fills_from (session_of c.args.self.now) c.reads.self c.end.new.self read
+    (g.R.Read.remaining (reader_of c.reads.input)) items c.end.result i.0 (i.2 read items h)
+    (c.end.ensures.filled read (g.R.Read.remaining (reader_of c.reads.input)) items (i.2 read items h).has)
+
+pub returns-then-self-clause-counted : goal.returns-then-self-clause-counted
+returns-then-self-clause-counted g c =
+    counts_nothing Bool (failed_reads c.args.input.now) (failed_reads c.reads.input) c.end.result c.reads.invariant.1
+    c.end.ensures.unread
+
+pub returns-in_err-read_once-clause-filled : goal.returns-in_err-read_once-clause-filled
+returns-in_err-read_once-clause-filled g c = λ read items h.
+    let i = c.reads.invariant in
+    let e = c.in_err-read_once.field-0.0 in
+    let now = g.R.Read.remaining (reader_of c.read_once.new.input) in
+    fills_at (session_of c.args.self.now) h.gave.table c.read_once.new.self read now items
+    c.from_residual.result e c.from_residual.ensures.1
+    (read_stops (session_of c.args.self.now) c.read_once.new.self now e i.0
+    (c.has_next.ensures.lacks c.if-has_next.false) c.in_err-read_once.ensures.read (i.2 read items h))
+
+pub returns-in_err-read_once-clause-counted : goal.returns-in_err-read_once-clause-counted
+returns-in_err-read_once-clause-counted g c =
+    counts_at Bool (failed_reads c.args.input.now) (failed_reads c.reads.input) (failed_reads c.read_once.new.input)
+    c.from_residual.result c.in_err-read_once.field-0.0 c.from_residual.ensures.1 c.reads.invariant.1
+    c.in_err-read_once.ensures.reads

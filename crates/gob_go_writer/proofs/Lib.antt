@@ -1,0 +1,5 @@
+pub mod LetterLaws
+pub mod PartSteps
+pub mod ValueSteps
+pub mod ItemSteps
+pub mod AgainSteps

@@ -1,0 +1,21 @@
+//! Items of streams of Go's encoder, written as they were read.
+//!
+//! [`write_item`] appends the bytes of an item as a [`GoSession`](gob_go::GoSession) gave it, and [`write_again`] those
+//! of all items of a stream. A value is spelled level by level: the skeleton, where a name, definitions, a type number
+//! and a value stand in the place of each nil that is filled. A segment ends behind each definition that stands in a
+//! value, and a count is put in front of each:
+//!
+//! ```text
+//! skeleton  01 02 01 00 01 08 00          place 3
+//! spelled   01 02 01 | 09 "main.Wrap" ff83 .. | ff84 23 .. 0a .. | 01 08 00
+//! segments  33 .. 01 02 01 09 "main.Wrap" ff83 ..      34 ff84 23 .. 0a .. 01 08 00
+//! ```
+#![tactic(auto)]
+
+mod again;
+mod item;
+mod segments;
+mod value;
+
+pub use again::write_again;
+pub use item::write_item;

@@ -1,0 +1,116 @@
+//! The segments of a value, level by level. Recursion is as deep as interfaces hold others, at most 1000.
+
+ghost use Rattle.std.specs.Prelude.{◌≡◌, ◌^◌, ◌<◌, ℕ, List, OnOk};
+ghost use Rattle.gob_num.specs.Spelled.{Appends, IsSpelled};
+ghost use Rattle.gob_num.specs.Unsigned.{AreBytes};
+ghost use Rattle.gob_types.specs.Base.{wire_type};
+ghost use Rattle.gob_types.specs.Defined.{types};
+ghost use Rattle.gob_value.specs.Spelling.{Spells};
+ghost use Rattle.gob_value.specs.View.{view};
+ghost use Rattle.gob_value.specs.Within.{FitsWithin};
+ghost use Rattle.gob_stream.specs.Bounds.{greatest_depth};
+ghost use Rattle.gob_go_writer.specs.Machine.Letters.{Takes, TakesBytes};
+ghost use Rattle.gob_go_writer.specs.Machine.Parts.{AreOfDefinition, AreOfDefinitions, AreOfFilling, AreOfValue};
+
+use crate::segments::Segments;
+use gob_go::{Definition, Filled, Filling};
+use gob_num::Memory;
+use gob_types::{Table, TypeId};
+use gob_value::{SpellFault, Value, spell};
+use std::alloc::Global;
+
+/// Goes on with the definition of a type: the id below 0, and the description.
+pub(crate) fn put_definition(
+    alloc: Global,
+    table: &Table,
+    id: TypeId,
+    described: &Value,
+    segments: &mut Segments,
+) -> Result<(), Memory>
+    requires { IsSpelled (AreOfDefinition (types table.now) id (view described.now)) }
+    ensures { OnOk result ((letters : List ℕ) → AreOfDefinition (types table.now) id (view described.now) letters
+        → TakesBytes segments.old segments.new letters) }
+{
+    segments.put_int(alloc, -(id.0 as i64))?;
+    write_description(alloc, table, described, &mut segments.last)
+}
+
+// Appends a description, which fits its type.
+fn write_description(
+    alloc: Global,
+    table: &Table,
+    described: &Value,
+    out: &mut Vec<u8>,
+) -> Result<(), Memory>
+    requires { FitsWithin (types table.now) wire_type greatest_depth (view described.now) }
+    ensures spelled { OnOk result (Appends (Spells (types table.now) wire_type (view described.now)) out.old.items
+        out.new.items) }
+    ensures bytes { AreBytes out.new.items }
+{
+    match spell(alloc, table, TypeId::WIRE_TYPE, described, 1000, out) {
+        Ok(()) => Ok(()),
+        Err(SpellFault::Memory) => Err(Memory),
+        Err(SpellFault::TooDeep) => unreachable!(),
+        Err(SpellFault::DoesNotFit) => unreachable!(),
+    }
+}
+
+// Goes on with definitions in a value, each of which ends its segment.
+fn put_definitions(
+    alloc: Global,
+    table: &Table,
+    definitions: &[Definition],
+    segments: &mut Segments,
+) -> Result<(), Memory>
+    requires { IsSpelled (AreOfDefinitions (types table.now) definitions.now) }
+    ensures { OnOk result ((letters : List ℕ) → AreOfDefinitions (types table.now) definitions.now letters
+        → Takes segments.old segments.new letters) }
+{
+    for definition in definitions {
+        put_definition(alloc, table, definition.id, &definition.described, segments)?;
+        segments.cut(alloc)?;
+    }
+    Ok(())
+}
+
+/// Goes on with a value: its skeleton, where each filled nil is replaced.
+#[cycle(value)]
+pub(crate) fn put_value(
+    alloc: Global,
+    table: &Table,
+    value: &Filled,
+    segments: &mut Segments,
+) -> Result<(), Memory>
+    requires { IsSpelled (AreOfValue (types table.now) value.now) }
+    ensures { OnOk result ((letters : List ℕ) → AreOfValue (types table.now) value.now letters
+        → Takes segments.old segments.new letters) }
+{
+    let mut done = 0;
+    for filling in &value.fillings {
+        let place = filling.place as usize;
+        segments.put(&value.skeleton[done..place])?;
+        put_filling(alloc, table, filling, segments)?;
+        done = place + 1;
+    }
+    segments.put(&value.skeleton[done..])
+}
+
+// Goes on with what fills a nil: a name, definitions, the type number, and the segments of the value.
+#[cycle(value)]
+fn put_filling(
+    alloc: Global,
+    table: &Table,
+    filling: &Filling,
+    segments: &mut Segments,
+) -> Result<(), Memory>
+    requires { IsSpelled (AreOfFilling (types table.now) filling.now) }
+    ensures { OnOk result ((letters : List ℕ) → AreOfFilling (types table.now) filling.now letters
+        → Takes segments.old segments.new letters) }
+{
+    segments.put_name(alloc, &filling.name)?;
+    put_definitions(alloc, table, &filling.definitions, segments)?;
+    segments.put_int(alloc, filling.id.0 as i64)?;
+    let mut held = Segments::new(alloc);
+    put_value(alloc, table, &filling.value, &mut held)?;
+    held.append_to(alloc, &mut segments.last)
+}
