@@ -135,11 +135,11 @@ REASONS = [
         "02, at byte 37", CHANGED, FETCH)),
     Row("interface_value", HEX("0a1000066d61696e2e5000"), due(
         "16 InterfaceValue at 3 seen 4",
-        "An interface holds a value here, and only the Go program that wrote it knows the type.",
+        "An interface holds a value here, which is read with --go alone.",
         "item 0, interface{}: a value of type 8, interface{}, which begins at byte 0",
         "the byte 0, for an interface that holds nothing", "06, at byte 3",
         "The interface holds a value of the Go type main.P.",
-        "Send a struct with fields of other types in place of the interface.")),
+        "gob show --go IN")),
     Row("too_deep", NODE + item(HEX("ff82"), b"\1" * 5, bytes(6)), due(
         "17 TooDeep at 37 seen 37", "Parts lie in one another deeper than the limit allows.",
         "item 1, Node.Next.Next.Next.Next.Next: a value of type 65, Node, which begins at byte 29",
@@ -154,7 +154,7 @@ REASONS = [
         "item 0, wireType: the definition of type 65, which begins at byte 0", DESCRIPTION,
         "05 01 01 04 54 69 6d 65 01 ff 84 00 00 00, at byte 3",
         "A type that encodes itself, as big.Int, was first sent by a pointer, and Go described it twice.",
-        "Send the value in place of the pointer.")),
+        "gob show --go IN")),
     Row("bad_reference", HEX("0eff81010102ff82000130010400 00".replace(" ", "")), due(
         "20 BadReference at 3 seen 15", "A definition leads to a number that no type can have.",
         "item 0, wireType: the definition of type 65, which begins at byte 0", DESCRIPTION,

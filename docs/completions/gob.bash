@@ -12,6 +12,7 @@ _gob() {
     elif [[ $current == -* ]]; then
         words='--depth --item -h --help'
         case ${COMP_WORDS[1]} in
+        show) words+=' --go' ;;
         check) words+=' --go' ;;
         values) words+=' --zeros --raw' ;;
         explain) words+=' --fault --at' ;;

@@ -13,6 +13,7 @@ complete -c gob -n __fish_use_subcommand -a help -d 'Print this message or the h
 complete -c gob -n '__fish_seen_subcommand_from help' -a 'show check rewrite take values types why explain version help'
 complete -c gob -n '__fish_seen_subcommand_from show check rewrite take values types why explain' -l depth -x -d 'Refuse deeper values'
 complete -c gob -n '__fish_seen_subcommand_from show check rewrite take values types why explain' -l item -x -d 'Refuse items of more bytes'
+complete -c gob -n '__fish_seen_subcommand_from show' -l go -d 'Take all that Go'\''s encoder writes, as values in interfaces'
 complete -c gob -n '__fish_seen_subcommand_from check' -l go -d 'Take all that Go'\''s encoder writes, as values in interfaces'
 complete -c gob -n '__fish_seen_subcommand_from values' -l zeros -d 'Show absent fields too, as zeros'
 complete -c gob -n '__fish_seen_subcommand_from values' -l raw -d 'Show values of types that encode themselves, as time.Time, in base64'

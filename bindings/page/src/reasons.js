@@ -25,13 +25,13 @@ const REASONS = [
     ["Bool", "A bool is neither 0 nor 1.", CHANGED],
     ["ArrayCount", "An array has another length than its type says.", CHANGED],
     ["FieldNumber", "A struct has no such field.", CHANGED],
-    ["InterfaceValue", "An interface holds a value here, and only the Go program that wrote it knows the type.",
-        "Send a struct with fields of other types in place of the interface."],
+    ["InterfaceValue", "An interface holds a value here, which is read with --go alone.", "Type gob show --go FILE: the " +
+        "program prints what interfaces hold."],
     ["TooDeep", "Parts lie in one another more than 1000 deep.", CHANGED],
     ["KindCount", "A definition gives no kind of type, or more than one.", WRITER],
     ["WrongId", "A definition names another number than the type that it defines.", "A type that encodes itself, as " +
-        "big.Int, was first sent by a pointer, and Go described it under two numbers. Send the value in place of the " +
-        "pointer."],
+        "big.Int, was first sent by a pointer, and Go described it under two numbers. Type gob show --go FILE: the " +
+        "program takes both."],
     ["BadReference", "A definition leads to a number that no type can have.", WRITER],
     ["BadLength", "A definition gives an array a length below 0.", WRITER],
     ["Ended", "The file ends within an item.", "The file was cut off, or isn't all written yet. Get the whole " +

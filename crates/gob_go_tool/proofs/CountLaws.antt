@@ -24,7 +24,7 @@ use Rattle.gob_go.proofs.ItemsLaws.{items_end as items_end_within}
 use Rattle.gob_go.proofs.UnderWayLaws.{stage_bound}
 use Rattle.gob_tool.specs.Checking.{counts_line}
 use Rattle.gob_tool.specs.Fault.{reading_fault}
-use Rattle.gob_tool.specs.Machine.Counting.{given_count, tally_line}
+use Rattle.gob_tool.specs.Machine.Counting.{given_count}
 use Rattle.gob_tool.specs.declared.fault.ToolFault.{ToolFault}
 use Rattle.gob_tool.specs.declared.in_memory.Tally.{Tally}
 use Rattle.gob_go_tool.specs.CheckingGo.{IsNoGoStream}
@@ -42,14 +42,14 @@ item_some : {L : Bounds} {T U : Table} {offset : ℕ} {i : FilledItem} {b : List
 item_some (of_definition {c = c} {d = d} u l s p) = let n = (unsigned_length u).0 in omega (arith, length-append c d)
 item_some (of_value may sg k cs) = segments_some cs
 
-items_few : {L : Bounds} {T U : Table} {offset : ℕ} {items : List FilledItem} {bytes : List ℕ}
+pub items_few : {L : Bounds} {T U : Table} {offset : ℕ} {items : List FilledItem} {bytes : List ℕ}
     → AreFilledItems base_table L T offset items bytes U → length items ≤ length bytes
 items_few no_more = omega arith
 items_few (and_then {b = b} {c = c} i n is) = let some = item_some i in let few = items_few is in
     omega (arith, length-append b c)
 
 -- no more bytes than the limit for the stream, and a count
-read_within : {s : SessionState} {items : List FilledItem} {bytes : List ℕ} → HasRead s items bytes
+pub read_within : {s : SessionState} {items : List FilledItem} {bytes : List ℕ} → HasRead s items bytes
     → length bytes ≤ s.limits.stream + 9
 read_within a =
     let end = items_end_within a.stream (omega arith) in

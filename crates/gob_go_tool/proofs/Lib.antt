@@ -1,2 +1,4 @@
 pub mod CountLaws
 pub mod CheckLaws
+pub mod LineLaws
+pub mod ShowLaws

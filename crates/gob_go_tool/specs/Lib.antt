@@ -1,2 +1,4 @@
 pub mod CheckingGo
+pub mod LineGo
 pub mod Machine
+pub mod ShowingGo

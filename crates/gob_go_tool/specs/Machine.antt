@@ -1,2 +1,3 @@
 -- Where a run over a stream of Go's encoder stands.
 pub mod Counting
+pub mod Lines

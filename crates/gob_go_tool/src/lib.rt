@@ -3,9 +3,13 @@
 //! ```text
 //! 0a 10 00 03 69 6e 74 04 02 00 0a        an item: the int 5 in an interface, under the name int
 //! ok: 1 items, 0 types, 11 bytes          what is said of it
+//! {"type":8,"value":{"interface":{"name":"int","type":2,"value":5}}}      its line
 //! ```
 #![tactic(auto)]
 
 mod check;
+mod item_lines;
+mod show;
 
 pub use check::run_check_go;
+pub use show::run_show_go;

@@ -12,3 +12,5 @@ mod fault_tests;
 mod memory_tests;
 #[cfg(test)]
 mod runs;
+#[cfg(test)]
+mod shows;

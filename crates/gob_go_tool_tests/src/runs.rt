@@ -1,6 +1,6 @@
 //! Runs over devices, and how they end.
 
-use gob_go_tool::run_check_go;
+use gob_go_tool::{run_check_go, run_show_go};
 use gob_stream::{Input, Limits, Output};
 use gob_tool::ToolFault;
 use std::alloc::Global;
@@ -39,5 +39,30 @@ pub(crate) fn is_checked(
 ) -> bool {
     let mut held = Vec::new(alloc);
     let ended = check(alloc, bytes, &mut held, limits);
+    ends_so(alloc, &ended, due) && held.as_slice() == written
+}
+
+/// How a run that writes the lines of what these devices give ends.
+pub(crate) fn show<R: Read + Drop, W: Write + Drop>(
+    alloc: Global,
+    reader: R,
+    writer: W,
+    limits: Limits,
+) -> Result<(), ToolFault> {
+    let mut input = Input::new(reader);
+    let mut output = Output::new(writer);
+    run_show_go(alloc, &mut input, &mut output, limits)
+}
+
+/// Whether a run over the bytes writes these lines, and ends by a fault of this line.
+pub(crate) fn is_shown(
+    alloc: Global,
+    bytes: &[u8],
+    limits: Limits,
+    written: &[u8],
+    due: &[u8],
+) -> bool {
+    let mut held = Vec::new(alloc);
+    let ended = show(alloc, bytes, &mut held, limits);
     ends_so(alloc, &ended, due) && held.as_slice() == written
 }

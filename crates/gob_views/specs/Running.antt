@@ -1,6 +1,7 @@
 -- What the run of a view answers. (docs/FORMAT.md, The program: this project's own.)
 use Rattle.std.specs.Prelude.{ℕ, Bool, true, false, List, [], ◌∷◌, ◌++◌, Option, None, Some, Result, codes}
 use Rattle.gob_go_tool.specs.CheckingGo.{CheckGoAnswers}
+use Rattle.gob_go_tool.specs.ShowingGo.{ShowGoAnswers}
 use Rattle.gob_plain.specs.declared.style.Style.{Style}
 use Rattle.gob_stream.specs.Bounds.{Bounds}
 use Rattle.gob_tool.specs.declared.fault.ToolFault.{ToolFault}
@@ -45,4 +46,5 @@ ViewAnswers command.Why L style which bytes now old new result = WhyAnswers L by
 ViewAnswers command.Explain L style which bytes now old new result =
     ExplainAnswers which L bytes now old new result
 ViewAnswers command.Version L style which bytes now old new result = SendsText old new version_line result
+ViewAnswers command.ShowGo L style which bytes now old new result = ShowGoAnswers L bytes now old new result
 ViewAnswers command.CheckGo L style which bytes now old new result = CheckGoAnswers L bytes now old new result

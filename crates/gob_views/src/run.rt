@@ -9,7 +9,7 @@ ghost use Rattle.gob_views.specs.Sending.{SendsText};
 
 use crate::types::run_types;
 use crate::values::run_values;
-use gob_go_tool::run_check_go;
+use gob_go_tool::{run_check_go, run_show_go};
 use gob_plain::Style;
 use gob_stream::{Input, Limits, Output};
 use gob_tool::{ToolFault, end_run};
@@ -41,6 +41,7 @@ pub fn run_view<R: Read, W: Write>(
             run_explain(alloc, input, output, limits_of(view), explained_of(view))
         }
         ViewCommand::Version => end_run(write_version(output), output),
+        ViewCommand::ShowGo => run_show_go(alloc, input, output, limits_of(view)),
         ViewCommand::CheckGo => run_check_go(alloc, input, output, limits_of(view)),
     }
 }

@@ -195,8 +195,7 @@ fn plain_step(cause: Cause<'_>) -> &'static str {
             "Get the file once more from where it comes from, and compare its checksum."
         }
         Cause::Torn => "Get the whole file.",
-        Cause::Held { .. } => "Send a struct with fields of other types in place of the interface.",
-        Cause::SentByPointer => "Send the value in place of the pointer.",
+        Cause::Held { .. } | Cause::SentByPointer => "gob show --go IN",
         Cause::NoBeginning => "Get the file from its first byte on.",
         _ => "",
     }

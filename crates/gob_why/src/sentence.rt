@@ -32,9 +32,7 @@ pub(crate) fn what(reason: Reason) -> &'static str {
         Reason::Bool => "A bool is neither 0 nor 1.",
         Reason::ArrayCount => "An array has another length than its type says.",
         Reason::FieldNumber => "A struct has no such field.",
-        Reason::InterfaceValue => {
-            "An interface holds a value here, and only the Go program that wrote it knows the type."
-        }
+        Reason::InterfaceValue => "An interface holds a value here, which is read with --go alone.",
         Reason::TooDeep => "Parts lie in one another deeper than the limit allows.",
         Reason::KindCount => "A definition gives no kind of type, or more than one.",
         Reason::WrongId => "A definition names another number than the type that it defines.",
@@ -66,9 +64,7 @@ pub(crate) fn usual_cause(reason: Reason) -> &'static str {
 /// What to do then.
 pub(crate) fn usual_step(reason: Reason) -> &'static str {
     match reason {
-        Reason::InterfaceValue => {
-            "Send a struct with fields of other types in place of the interface."
-        }
+        Reason::InterfaceValue => "gob show --go IN",
         Reason::TooDeep => "If the values are meant to be so deep, type: gob why --depth 65536 IN",
         Reason::UndefinedType(_) => "Get the file from its first byte on.",
         _ => FETCH,

@@ -10,7 +10,8 @@ use Rattle.gob_words.specs.declared.words.OrderFault.{OrderFault}
 use Rattle.gob_words.specs.declared.words.OrderFault.TheVariants as fault
 use Rattle.gob_words.specs.declared.view.View.{View}
 use Rattle.gob_words.specs.declared.view.ViewCommand.{ViewCommand}
-use Rattle.gob_words.specs.declared.view.ViewCommand.TheVariants.{Values, Types, Why, Explain, Version, CheckGo}
+use Rattle.gob_words.specs.declared.view.ViewCommand.TheVariants.{Values, Types, Why, Explain, Version}
+use Rattle.gob_words.specs.declared.view.ViewCommand.TheVariants.{ShowGo, CheckGo}
 use Rattle.gob_words.specs.declared.view.ViewFault.{ViewFault}
 use Rattle.gob_words.specs.declared.view.ViewFault.TheVariants as view_fault
 use Rattle.gob_words.specs.Words.{IsNumber, IsFaultOf, program}
@@ -25,9 +26,9 @@ use Rattle.gob_words.proofs.WordLaws.{together, name_met, rows_met}
 -- the command of this name, by its first letter or its second one
 abbrev having : (first second : ℕ) → ViewCommand
 having first c =
-    if first == 99 then CheckGo
+    if first == 99 then CheckGo else (if first == 115 then ShowGo
     else (if c == 97 then Values
-    else (if c == 121 then Types else (if c == 104 then Why else (if c == 120 then Explain else Version))))
+    else (if c == 121 then Types else (if c == 104 then Why else (if c == 120 then Explain else Version)))))
 
 has : (a : ViewCommand) → having (slice_index (view_name a) 0) (slice_index (view_name a) 1) ≡ a
 has Values = refl
@@ -35,6 +36,7 @@ has Types = refl
 has Why = refl
 has Explain = refl
 has Version = refl
+has ShowGo = refl
 has CheckGo = refl
 
 one_view : (a b : ViewCommand) → view_name a ≡ view_name b → a ≡ b

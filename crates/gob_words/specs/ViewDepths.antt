@@ -11,4 +11,5 @@ most_view_depth view.Types = 65536
 most_view_depth view.Why = 65536
 most_view_depth view.Explain = 65536
 most_view_depth view.Version = 1000
+most_view_depth view.ShowGo = 1000
 most_view_depth view.CheckGo = 1000

@@ -18,10 +18,12 @@ view_name view.Types = codes "types"
 view_name view.Why = codes "why"
 view_name view.Explain = codes "explain"
 view_name view.Version = codes "version"
+view_name view.ShowGo = codes "show"
 view_name view.CheckGo = codes "check"
 
--- the command is a view, by clap's value of the flag of check, which is one with that flag alone
+-- the command is a view, by clap's value of the flag for Go's encoder: an exact command is one with that flag alone
 abbrev pub IsAskedFor : ViewCommand → Option Text → Type 0
+IsAskedFor view.ShowGo value = IsSet value
 IsAskedFor view.CheckGo value = IsSet value
 IsAskedFor _ value = ⊤
 

@@ -43,17 +43,17 @@ abbrev pub two_streams : Text → App
 two_streams name =
     with_input (with_rule (with_options name) (record (new_rule (codes "WANTED")) { required = true }))
 
--- the command that checks a stream, with the flag that says that Go's encoder wrote it
-abbrev pub check : App
-check = with_input (with_rule (with_options (codes "check")) (flag_rule (codes "go")))
+-- a command on one stream, with the flag that says that Go's encoder wrote it
+abbrev pub go_stream : Text → App
+go_stream name = with_input (with_rule (with_options name) (flag_rule (codes "go")))
 
 -- the commands that write exactly what a stream has
 abbrev pub exact_program : App
 exact_program =
     let top = (new_app (codes "gob")).top in
     let bare : App = record { top = record top { has_version = true; subcommand_required = true }; subs = [] } in
-    with_subcommand (with_subcommand (with_subcommand (with_subcommand bare (one_stream (codes "show")).top) check.top)
-    (one_stream (codes "rewrite")).top) (two_streams (codes "take")).top
+    with_subcommand (with_subcommand (with_subcommand (with_subcommand bare (go_stream (codes "show")).top)
+    (go_stream (codes "check")).top) (one_stream (codes "rewrite")).top) (two_streams (codes "take")).top
 
 -- the flags that say how values are shown
 abbrev pub with_flags : App → App
@@ -107,7 +107,7 @@ text_of = option_map (λ word. word.now)
 abbrev pub IsSet : Option Text → Type 0
 IsSet value = value ≡ Some (codes "true")
 
--- clap met a subcommand with these rows, and this is the order that they make: with the flag of check they make none
+-- clap met a subcommand with these rows, and this is the order that they make: with the flag for Go's encoder none
 pub record IsOrderOf (met : Option (Text × List Row)) (order : Order) : Type 0 where
   pub rows : List Row
   pub command : met ≡ Some (name_of order.command, rows)

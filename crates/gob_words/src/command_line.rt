@@ -4,7 +4,7 @@ ghost use Rattle.std.specs.Prelude.{◌≡◌, IfOk, codes, false};
 ghost use Rattle.clap.specs.Words.{app_of, rule_of, with_subcommand};
 ghost use Rattle.clap.specs.declared.builder.Command.TheViews.{out-Command};
 ghost use Rattle.gob_words.specs.Words.{flag_rule, option_rule, with_flags, with_options, with_input, one_stream};
-ghost use Rattle.gob_words.specs.Words.{check, two_streams, exact_program, explain, program, values, with_parts};
+ghost use Rattle.gob_words.specs.Words.{exact_program, explain, go_stream, program, two_streams, values, with_parts};
 
 use crate::help;
 use clap::{Arg, ArgAction, Command};
@@ -47,12 +47,17 @@ fn explain<'a>(alloc: Global) -> Result<Command<'a>, AllocError>
     with_input(alloc, with_parts(alloc, options)?, help::FILE)
 }
 
-// The command that checks a stream, with its flag behind the options that other commands have too.
-fn check<'a>(alloc: Global) -> Result<Command<'a>, AllocError>
-    ensures app { IfOk result (λ command. app_of command ≡ check) }
+// A command that reads one stream, with the flag for Go's encoder behind the options that other commands have too.
+fn go_stream<'a>(
+    alloc: Global,
+    name: &'a str,
+    about: &'a str,
+    depth: &'a str,
+) -> Result<Command<'a>, AllocError>
+    ensures app { IfOk result (λ command. app_of command ≡ go_stream name.now) }
     ensures local { IfOk result (λ command. (out-Command command).has_globals ≡ false) }
 {
-    let options = with_options(alloc, "check", help::CHECK, help::DEPTH_OF_CHECK)?;
+    let options = with_options(alloc, name, about, depth)?;
     let flagged = options.arg(flag(alloc, "go", help::GO))?;
     with_input(alloc, flagged, help::INPUT)
 }
@@ -66,15 +71,13 @@ fn exact_program<'a>(alloc: Global) -> Result<Command<'a>, AllocError>
         .version(help::VERSION)
         .after_help(help::USE)
         .subcommand_required(true);
-    let showing = with_one_stream(
+    let showing = bare.subcommand(go_stream(alloc, "show", help::SHOW, help::DEPTH_OF_TREES)?)?;
+    let checking = showing.subcommand(go_stream(
         alloc,
-        bare,
-        "show",
-        help::SHOW,
-        help::DEPTH_OF_TREES,
-        help::INPUT,
-    )?;
-    let checking = showing.subcommand(check(alloc)?)?;
+        "check",
+        help::CHECK,
+        help::DEPTH_OF_CHECK,
+    )?)?;
     let rewriting = with_one_stream(
         alloc,
         checking,

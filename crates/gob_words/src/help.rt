@@ -70,10 +70,9 @@ reason, the offset of the first byte that is refused, and how many bytes show it
       The input ends within an item: the file was cut off, or isn't all written
       yet. Get the whole file. The items before the offset are whole.
   gob: refused 16 InterfaceValue at 3 seen 4
-      A field of an interface type isn't nil: only the Go program that sent it
-      knows its type. Send a struct with fields of other types. Whether such a
-      stream is whole is told by gob check --go.
+      A field of an interface type isn't nil. Type gob show --go: with --go show
+      and check take what an interface holds.
   gob: refused 19 WrongId at 3 seen 11
       A type that encodes itself, as big.Int, was first sent by a pointer, and Go
-      described it under two ids. Send the value in place of the pointer. Whether
-      such a stream is whole is told by gob check --go.";
+      described it under two ids. Type gob show --go: with --go show and check
+      take that too.";

@@ -27,7 +27,9 @@ pub enum ViewCommand {
     Explain,
     /// The program's name and version.
     Version,
-    /// Print how many items, types and bytes a whole stream of Go's encoder has, with what interfaces hold.
+    /// Each item of a stream of Go's encoder as a line of JSON, with what interfaces hold.
+    ShowGo,
+    /// How many items, types and bytes a whole stream of Go's encoder has, with what interfaces hold.
     CheckGo,
 }
 
@@ -37,7 +39,10 @@ impl ViewCommand {
         ensures { result ≡ most_view_depth self }
     {
         match self {
-            ViewCommand::Values | ViewCommand::Version | ViewCommand::CheckGo => DEEPEST_PLAIN,
+            ViewCommand::Values
+            | ViewCommand::Version
+            | ViewCommand::ShowGo
+            | ViewCommand::CheckGo => DEEPEST_PLAIN,
             ViewCommand::Types | ViewCommand::Why | ViewCommand::Explain => DEEPEST,
         }
     }
@@ -51,7 +56,7 @@ pub struct View<'a> {
     /// The name of the file that is read. None: standard input, which the word `-` stands for too.
     pub input: Option<&'a str>,
     /// The greatest depth of a value: 1 to 65536 for [`ViewCommand::Types`], [`ViewCommand::Why`] and
-    /// [`ViewCommand::Explain`], to 1000 for [`ViewCommand::Values`] and [`ViewCommand::CheckGo`].
+    /// [`ViewCommand::Explain`], to 1000 for the others.
     pub depth: u64,
     /// The most bytes of an item's body.
     pub item: u64,

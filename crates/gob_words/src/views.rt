@@ -94,18 +94,20 @@ fn command_of(name: &str) -> Option<ViewCommand>
         "why" => Some(ViewCommand::Why),
         "explain" => Some(ViewCommand::Explain),
         "version" => Some(ViewCommand::Version),
+        "show" => Some(ViewCommand::ShowGo),
         "check" => Some(ViewCommand::CheckGo),
         _ => None,
     }
 }
 
-// Whether the command is a view, by clap's value of the flag of check, which is one with that flag alone.
+// Whether the command is a view, by clap's value of the flag for Go's encoder: an exact command is one with that flag
+// alone.
 fn is_asked(command: ViewCommand, value: Option<&str>) -> bool
     ensures { MatchBool result (IsAskedFor command (text_of value.entry))
         (¬ IsAskedFor command (text_of value.entry)) }
 {
     match command {
-        ViewCommand::CheckGo => is_set(value),
+        ViewCommand::ShowGo | ViewCommand::CheckGo => is_set(value),
         ViewCommand::Values
         | ViewCommand::Types
         | ViewCommand::Why
@@ -124,6 +126,7 @@ fn is_fault_asked(command: ViewCommand, value: Option<&str>) -> bool
         | ViewCommand::Types
         | ViewCommand::Why
         | ViewCommand::Version
+        | ViewCommand::ShowGo
         | ViewCommand::CheckGo => false,
     }
 }
@@ -139,6 +142,7 @@ fn place_of(command: ViewCommand, word: Option<&str>) -> Option<Option<u64>>
         | ViewCommand::Types
         | ViewCommand::Why
         | ViewCommand::Version
+        | ViewCommand::ShowGo
         | ViewCommand::CheckGo => { Some(None) }
     }
 }
@@ -167,6 +171,7 @@ fn is_given(command: ViewCommand, value: Option<&str>) -> bool
         | ViewCommand::Why
         | ViewCommand::Explain
         | ViewCommand::Version
+        | ViewCommand::ShowGo
         | ViewCommand::CheckGo => { false }
     }
 }
@@ -227,11 +232,17 @@ fn word_fault<D: Display>(alloc: Global, words: &[&str], kind: ErrorKind, shown:
     }
 }
 
-// Whether the word behind the program's name is one of these commands: check is one with its flag alone.
+// Whether the word behind the program's name is one of these commands: an exact command is one with the flag for Go's
+// encoder alone, which is none behind the word --.
 fn names_view(words: &[&str]) -> bool {
     match words.get(1) {
         Some(name) => match command_of(name) {
-            Some(ViewCommand::CheckGo) => words.iter().any(|word| *word == "--go"),
+            Some(ViewCommand::ShowGo | ViewCommand::CheckGo) => {
+                words
+                    .iter()
+                    .take_while(|word| **word != "--")
+                    .any(|word| *word == "--go")
+            }
             Some(_) => true,
             None => false,
         },

@@ -33,7 +33,7 @@ Example:
 Exit status:
 Ended
 InterfaceValue
-gob check --go.
+Type gob show --go:
 WrongId";
 
 const CHECK: &str = "\
@@ -43,6 +43,11 @@ Usage: gob check [OPTIONS] [IN]
 --go 
 1 to 65536,
 1000 with --go,";
+
+const SHOW: &str = "\
+Usage: gob show [OPTIONS] [IN]
+--go 
+1 to 1000,";
 
 const TAKE: &str = "\
 Usage: gob take [OPTIONS] <WANTED> [IN]
@@ -83,6 +88,7 @@ fn help_has_its_texts(rt: HostRuntime) {
         tells(alloc, &["gob", "check", "--help"], CHECK),
         "check --help"
     );
+    assert!(rt; tells(alloc, &["gob", "help", "show"], SHOW), "help show");
     assert!(rt;
         tells(alloc, &["gob", "help", "values"], VALUES),
         "help values"

@@ -113,10 +113,10 @@ fn words_give_views(rt: HostRuntime) {
     assert!(rt; VERSION == "gob 0.1.0", "the version");
 }
 
-// The view of what a stream of Go's encoder has, in this file.
-fn checked(input: Option<&'static str>) -> View<'static> {
+// The view of a stream of Go's encoder, in this file.
+fn with_go(command: ViewCommand, input: Option<&'static str>) -> View<'static> {
     View {
-        command: ViewCommand::CheckGo,
+        command,
         input,
         depth: 1000,
         item: 67108864,
@@ -135,19 +135,28 @@ fn gives_no_order(alloc: Global, words: &[&str]) -> bool {
     }
 }
 
+// Whether the exact command of this name is a view with the flag for Go's encoder alone.
+fn is_view_with_flag(alloc: Global, name: &'static str, command: ViewCommand) -> bool {
+    let alone = ["gob", name, "--go"];
+    let of_file = ["gob", name, "--depth", "1000", "f", "--go"];
+    let file_named_so = ["gob", name, "--", "--go"];
+    gives(alloc, &alone, with_go(command, None))
+        && gives_no_order(alloc, &alone)
+        && gives(alloc, &of_file, with_go(command, Some("f")))
+        && gives_no_order(alloc, &of_file)
+        && !gives_no_order(alloc, &file_named_so)
+}
+
 #[test]
-fn check_is_a_view_with_its_flag_alone(rt: HostRuntime) {
+fn exact_commands_are_views_with_their_flag_alone(rt: HostRuntime) {
     let alloc = rt.alloc();
-    let words = ["gob", "check", "--go"];
-    assert!(rt; gives(alloc, &words, checked(None)), "check --go");
-    assert!(rt; gives_no_order(alloc, &words), "no order");
-    let words = ["gob", "check", "--depth", "1000", "f", "--go"];
-    assert!(rt; gives(alloc, &words, checked(Some("f"))), "of a file");
-    assert!(rt; gives_no_order(alloc, &words), "no order, of a file");
-    let words = ["gob", "check", "--", "--go"];
     assert!(rt;
-        !gives_no_order(alloc, &words),
-        "an order, of a file named as the flag"
+        is_view_with_flag(alloc, "show", ViewCommand::ShowGo),
+        "show"
+    );
+    assert!(rt;
+        is_view_with_flag(alloc, "check", ViewCommand::CheckGo),
+        "check"
     );
 }
 
@@ -248,7 +257,13 @@ check --go a b
 gob: unexpected argument 'b' found
 check a --go=yes
 gob: bad arguments
-show --go
+check --depth 0 -- --go
+gob: bad arguments
+show --go --depth 0
+gob: invalid value '0' for '--depth <N>': no number from 1 to 1000
+rewrite --go
+gob: bad arguments
+take a --go
 gob: bad arguments
 
 gob: bad arguments

@@ -67,6 +67,19 @@ returns-in-CheckGo-clause-shows g c = λ bytes known.
     (sym c.in-CheckGo.is)
     (checked bytes known)
 
+pub returns-in-ShowGo-clause-shows : goal.returns-in-ShowGo-clause-shows
+returns-in-ShowGo-clause-shows g c = λ bytes known.
+    let old = g.W.Write.contents (writer_of c.args.output.now) in
+    let new = g.W.Write.contents (writer_of c.run_show_go.new.output) in
+    let next = g.R.Read.remaining (reader_of c.run_show_go.new.input) in
+    let view = c.args.view.now in
+    let shown = rw (c.limits_of-in-ShowGo.ensures, within_view view _ c.in-ShowGo.is) at
+    c.run_show_go.ensures.shown in
+    subst (λ x. ViewAnswers x (view_limits view) (view_style view) (view_explained view) bytes next old new
+    c.run_show_go.result)
+    (sym c.in-ShowGo.is)
+    (shown bytes known)
+
 pub returns-in-Version-clause-shows : goal.returns-in-Version-clause-shows
 returns-in-Version-clause-shows g c = λ bytes known.
     let old = g.W.Write.contents (writer_of c.args.output.now) in

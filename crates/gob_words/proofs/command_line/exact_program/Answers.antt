@@ -13,9 +13,10 @@ returns c =
     let used = ap app_of_fields c.after_help.ensures ∙ versioned in
     let bare = ap app_of_fields c.subcommand_required-bare.ensures
     ∙ ap (λ (x : App). record { top = record x.top { subcommand_required = true }; subs = x.subs }) used in
-    let show = c.in_ok-showing.ensures ∙ ap₂ with_subcommand bare refl in
-    let check = c.in_ok-checking.ensures.shape c.in_ok-check.ensures.local
-    ∙ ap₂ with_subcommand show (ap (λ (x : App). x.top) c.in_ok-check.ensures.app) in
+    let show = c.in_ok-showing.ensures.shape c.in_ok-go_stream.ensures.local
+    ∙ ap₂ with_subcommand bare (ap (λ (x : App). x.top) c.in_ok-go_stream.ensures.app) in
+    let check = c.in_ok-checking.ensures.shape c.in_ok-go_stream-2.ensures.local
+    ∙ ap₂ with_subcommand show (ap (λ (x : App). x.top) c.in_ok-go_stream-2.ensures.app) in
     let rewrite = c.in_ok-rewriting.ensures ∙ ap₂ with_subcommand check refl in
-    IfOk-weaker c.subcommand-2.result _ _ (λ r added. added.shape c.in_ok-two_streams.ensures.local
-    ∙ ap₂ with_subcommand rewrite (ap (λ (x : App). x.top) c.in_ok-two_streams.ensures.app)) c.subcommand-2.ensures
+    IfOk-weaker c.subcommand-3.result _ _ (λ r added. added.shape c.in_ok-two_streams.ensures.local
+    ∙ ap₂ with_subcommand rewrite (ap (λ (x : App). x.top) c.in_ok-two_streams.ensures.app)) c.subcommand-3.ensures

@@ -3,16 +3,17 @@ use Rattle.std.proofs.Common.{◌≡◌, ◌∙◌, ap₂, subst}
 use Rattle.std.specs.Result.{IfOk}
 use Rattle.std.proofs.lemmas.Result.{IfOk-from_err}
 use Rattle.clap.specs.Words.{App, app_of, with_rule}
-use Rattle.gob_words.specs.Words.{check, with_input}
-use Rattle.gob_words.proofs.command_line.check.Goals as goal
+use Rattle.gob_words.specs.Words.{go_stream, with_input}
+use Rattle.gob_words.proofs.command_line.go_stream.Goals as goal
 
 pub returns-in_err-options-clause-app : goal.returns-in_err-options-clause-app
 returns-in_err-options-clause-app c =
-    IfOk-from_err c.from_residual.result (λ command. app_of command ≡ check) c.from_residual.ensures.0
+    IfOk-from_err c.from_residual.result (λ command. app_of command ≡ go_stream c.args.name.now)
+    c.from_residual.ensures.0
 
 pub returns-in_err-flagged-clause-app : goal.returns-in_err-flagged-clause-app
 returns-in_err-flagged-clause-app c =
-    IfOk-from_err c.from_residual-in_err-flagged.result (λ command. app_of command ≡ check)
+    IfOk-from_err c.from_residual-in_err-flagged.result (λ command. app_of command ≡ go_stream c.args.name.now)
     c.from_residual-in_err-flagged.ensures.0
 
 pub returns-clause-app : goal.returns-clause-app
