@@ -13,7 +13,7 @@ use Rattle.gob_types.specs.declared.reason.Reason.TheVariants as reason
 use Rattle.gob_stream.specs.Bounds.{Bounds, within_trees}
 use Rattle.gob_stream.specs.Calls.Reader.{left_to_read, most_ahead}
 use Rattle.gob_stream.specs.Item.{StreamItem}
-use Rattle.gob_stream.specs.Machine.Waiting.{Grows}
+use Rattle.gob_stream.specs.Calls.Waiting.{Grows}
 use Rattle.gob_stream.specs.Reading.{SomeTaken, Taken}
 use Rattle.gob_stream.specs.declared.fault.Fault.{Fault}
 use Rattle.gob_stream.specs.declared.fault.Fault.TheVariants as fault

@@ -1,23 +1,23 @@
 -- Items of the format that stand whole at the front of a piece, between two items.
-use Rattle.std.proofs.Common.{◌≡◌, ℕ, suc, ◌+◌, ◌-◌, ◌<◌, ◌≤◌, ◌^◌, List, [], ◌∷◌, ◌++◌, length, take, drop, min, arith}
+use Rattle.std.proofs.Common.{◌≡◌, ℕ, suc, ◌+◌, ◌<◌, ◌^◌, List, [], ◌∷◌, ◌++◌, length, take, arith}
 use Rattle.std.proofs.Common.{refl, sym, ap, ◌∙◌, subst, append_assoc, length-append}
-use Rattle.std.proofs.Math.Seq.{take-take}
-use Rattle.std.proofs.lemmas.List.{append-nil, length-take, length-take-le}
+use Rattle.std.proofs.lemmas.List.{append-nil, length-take-le}
 use Rattle.gob_num.specs.Unsigned.{AreBytes}
 use Rattle.gob_num.proofs.PublicLaws.{begins_prefix, bytes-append, bytes_prefix, bytes_rest}
 use Rattle.gob_types.specs.Base.{base_table}
 use Rattle.gob_types.specs.Defined.{types}
 use Rattle.gob_types.specs.Table.{Table}
 use Rattle.gob_types.specs.declared.id.TypeId.{TypeId}
-use Rattle.gob_stream.specs.Bounds.{Bounds, greatest_depth, within_trees}
+use Rattle.gob_stream.specs.Bounds.{Bounds, within_trees}
 use Rattle.gob_stream.specs.Item.{StreamItem}
 use Rattle.gob_stream.specs.Stream.{AreItems, no_more, and_then}
-use Rattle.gob_stream.specs.Whole.{AllowsIn, AreItemsBetween, HasBegun}
+use Rattle.gob_stream.specs.Whole.{AreItemsBetween, HasBegun}
+use Rattle.gob_stream.proofs.Reader.WholeSteps.{items_at_0}
 use Rattle.gob_stream.proofs.Stream.StreamLaws.{items_within, no_items_empty}
 use Rattle.gob_filled.specs.Stream.{FilledItem, AreFilledItems, FilledStream}
 use Rattle.gob_filled.specs.Stream as filled
 use Rattle.gob_filled.proofs.Contained.{item_stays}
-use Rattle.gob_go.specs.Calls.Session.{AreNext, HasItemsNext, ReadsAll, ReadsItems, unfilled_items}
+use Rattle.gob_go.specs.Calls.Session.{HasItemsNext, ReadsAll, ReadsItems, unfilled_items}
 use Rattle.gob_go.specs.Machine.HasRead.{StageHasRead, in_count, in_type_number, in_definition, in_put, HasRead}
 use Rattle.gob_go.specs.Machine.HasRead.{IsUsable, has_failed, stands_after, no_end}
 use Rattle.gob_go.specs.Machine.SessionState.{SessionState}
@@ -122,67 +122,25 @@ usable_behind between h f (stands_after {items = items} {bytes = bytes} a) =
     stands_after (f items bytes h.0 a h.1)
 
 -- ---- items that stand one behind another at the front of a piece
-items_at_0 : {L : Bounds} {T : Table} {offset count used : ℕ} {piece : List ℕ}
-    → (b : AreItemsBetween L T offset count piece 0 used) → AreItems base_table L T offset b.items (take used piece) T
-items_at_0 {L = L} {T = T} {offset = offset} {used = used} {piece = piece} b =
-    let here : offset + 0 ≡ offset = omega arith in
-    let all : used - 0 ≡ used = omega arith in
-    subst (λ n. AreItems base_table L T n b.items (take used piece) T) here
-    (subst (λ n. AreItems base_table L T (offset + 0) b.items (take n piece) T) all b.are)
-
--- what a look at the front of a piece finds under the limits that are left
-found_items : (s : SessionState) (piece : List ℕ) (near : ℕ) {count used limit item : ℕ}
-    → ((L : Bounds) (offset : ℕ) → AllowsIn L item limit offset (take near piece)
-    → AreItemsBetween L (types s.types) offset count (take near piece) 0 used)
-    → item ≡ s.limits.item → limit ≡ min s.limits.depth greatest_depth → near ≤ s.limits.stream - s.taken
-    → AreItemsBetween (within_trees s.limits) (types s.types) s.taken count (take near piece) 0 used
-found_items s piece near are items depths room = are (within_trees s.limits) s.taken (record {
-  item_is = omega (arith, items);
-  depth_is = omega (arith, depths);
-  stream_is = omega (arith, room, length-take near piece);
-})
-
--- of the session by its other name
-pub found_there : (s t : SessionState) (piece : List ℕ) (near : ℕ) {count used limit item : ℕ} → t ≡ s
-    → ((L : Bounds) (offset : ℕ) → AllowsIn L item limit offset (take near piece)
-    → AreItemsBetween L (types t.types) offset count (take near piece) 0 used)
-    → item ≡ t.limits.item → limit ≡ min t.limits.depth greatest_depth → near ≤ t.limits.stream - t.taken
-    → AreItemsBetween (within_trees s.limits) (types s.types) s.taken count (take near piece) 0 used
-found_there s t piece near {count = count} {used = used} same are items depths room =
-    subst (λ (s : SessionState). AreItemsBetween (within_trees s.limits) (types s.types) s.taken count (take near piece)
-    0 used) same (found_items t piece near are items depths room)
-
--- these are the first bytes of the piece
-front_is : (s : SessionState) {count used : ℕ} (room : ℕ) (piece : List ℕ)
-    → (b : AreItemsBetween (within_trees s.limits) (types s.types) s.taken count (take room piece) 0 used)
-    → AreNext s b.items (take used piece)
-front_is s {used = used} room piece b =
-    let near = b.inside in
-    let same : take used (take room piece) ≡ take used piece =
-    take-take used room piece (omega (arith, length-take room piece)) in
-    subst (λ z. AreNext s b.items z) same (items_at_0 b)
-
-pub prefix_items : (s : SessionState) {count used : ℕ} (room : ℕ) (piece : List ℕ)
-    → AreItemsBetween (within_trees s.limits) (types s.types) s.taken count (take room piece) 0 used
+pub prefix_items : (s : SessionState) {count used : ℕ} (piece : List ℕ)
+    → AreItemsBetween (within_trees s.limits) (types s.types) s.taken count piece 0 used
     → HasItemsNext s (take used piece)
-prefix_items s room piece b = (b.items, front_is s room piece b)
+prefix_items s piece b = (b.items, items_at_0 b)
 
-pub passes_items : {s s' : SessionState} {count used : ℕ} (room : ℕ) (piece : List ℕ)
-    → AreItemsBetween (within_trees s.limits) (types s.types) s.taken count (take room piece) 0 used
+pub passes_items : {s s' : SessionState} {count used : ℕ} (piece : List ℕ)
+    → AreItemsBetween (within_trees s.limits) (types s.types) s.taken count piece 0 used
     → ReadsAll s s' (take used piece) → ReadsItems s s' count used piece
-passes_items {s = s} {used = used} room piece b f =
-    let near = b.inside in
-    let short = length-take room piece in
+passes_items {used = used} piece b f =
     record {
       given = unfilled_items b.items;
       counted = b.counted ∙ sym (unfilled_count b.items);
-      within = omega (arith, short);
+      within = b.inside;
       none = λ e. omega (
         arith,
         no_items_empty (items_at_0 b) (sym b.counted ∙ e),
-        length-take-le used (take room piece) near,
+        length-take-le used piece b.inside,
       );
-      passed = λ items bytes a. f items bytes b.items a (front_is s room piece b);
+      passed = λ items bytes a. f items bytes b.items a (items_at_0 b);
     }
 
 -- and nothing is passed where nothing is found

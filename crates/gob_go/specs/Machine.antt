@@ -5,4 +5,3 @@ pub mod HasRead
 pub mod Parts
 pub mod Stages
 pub mod Held
-pub mod Waiting

@@ -29,7 +29,6 @@ mod stage;
 mod type_number;
 mod value;
 mod values;
-mod waiting;
 mod whole;
 
 pub use filled::{Definition, Filled, Filling};

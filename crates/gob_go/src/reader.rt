@@ -12,9 +12,8 @@ ghost use Rattle.gob_go.specs.Calls.Reader.{PassesOne};
 ghost use Rattle.gob_go.specs.Calls.Reader.{session_of, waits_in};
 
 use crate::session::{GoSession, GoStep};
-use crate::waiting::Waiting;
 use gob_num::Memory;
-use gob_stream::{Fault, Input, Limits, Passed, Whole};
+use gob_stream::{Fault, Input, Limits, Passed, Waiting, Whole};
 use gob_types::Table;
 use std::alloc::Global;
 use std::io::Read;

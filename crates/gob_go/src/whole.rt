@@ -1,35 +1,13 @@
 //! Items of values in which no interface holds a value, where they stand whole at the front of a piece.
 
-ghost use Rattle.std.specs.Prelude.{◌≡◌, ◌+◌, ◌^◌, ◌<◌, ℕ, List, length, pos, IsTrue, IfSome};
-ghost use Rattle.gob_num.specs.Unsigned.{IsUnsigned};
-ghost use Rattle.gob_num.specs.Signed.{IsSigned};
-ghost use Rattle.gob_types.specs.Defined.{types};
-ghost use Rattle.gob_stream.specs.Body.{MayPut};
-ghost use Rattle.gob_stream.specs.Whole.{HasCount, NamesTypeAt};
+ghost use Rattle.std.specs.Prelude.{◌≡◌, ◌+◌, length, IsTrue, IfSome};
 ghost use Rattle.gob_go.specs.Calls.Session.{HasBodyNext, HasBegunNext, HasItemNext, HasItemsNext, IsBetweenItems};
 ghost use Rattle.gob_go.specs.Calls.Session.{HasFailed, ReadsAll, ReadsOn, limits_of, table_of, taken_of};
 
 use crate::count::ItemCount;
 use crate::session::GoSession;
 use crate::stage::Stage;
-use gob_num::{to_signed, uint_at};
-use gob_stream::{Awaited, Whole};
-use gob_types::{Table, TypeId};
-
-// The count of an item.
-#[derive(Clone, Copy)]
-struct Announced {
-    count: u64,
-    used: usize,
-}
-
-// The type of an item's value.
-#[derive(Clone, Copy)]
-pub(crate) struct Named {
-    pub(crate) id: TypeId,
-    // Where the type number ends.
-    pub(crate) end: usize,
-}
+use gob_stream::{Awaited, Whole, awaited_value, whole_value};
 
 impl GoSession {
     /// The item of a value at the front of the piece whose first segment stands whole there, where no byte of an item
@@ -42,21 +20,10 @@ impl GoSession {
         ensures body { IfSome result (λ whole.
             HasBodyNext self.now whole.id whole.body.now whole.used piece.now) }
     {
-        let announced = self.announced(piece)?;
-        let head = announced.used;
-        if announced.count > (piece.len() - head) as u64 {
+        if !self.is_between() {
             return None;
         }
-        let used = head + announced.count as usize;
-        let named = type_of(&self.types, piece, head)?;
-        if named.end > used {
-            return None;
-        }
-        Some(Whole {
-            id: named.id,
-            body: &piece[named.end..used],
-            used,
-        })
+        whole_value(&self.types, &self.limits, self.taken, piece)
     }
 
     /// The item of a value at the front of the piece, where no byte of an item is under way and more bytes of its first
@@ -67,36 +34,10 @@ impl GoSession {
         ensures begun { IfSome result (λ awaited.
             HasBegunNext self.now awaited.id awaited.head awaited.size piece.now) }
     {
-        let announced = self.announced(piece)?;
-        let count_end = announced.used;
-        if announced.count <= (piece.len() - count_end) as u64 {
-            return None;
-        }
-        let named = type_of(&self.types, piece, count_end)?;
-        Some(Awaited {
-            id: named.id,
-            head: named.end,
-            size: count_end as u64 + announced.count,
-        })
-    }
-
-    // The count at the front of the piece, where no byte of the item was taken before and the limits allow its length.
-    #[inline(always)]
-    fn announced(&self, piece: &[u8]) -> Option<Announced>
-        ensures between { IfSome result (λ announced. IsBetweenItems self.now) }
-        ensures count { IfSome result (λ announced. HasCount (limits_of self.now) (taken_of self.now)
-            announced.count announced.used piece.now) }
-        ensures fits { IfSome result (λ announced. announced.used + announced.count < 2 ^ 64) }
-    {
         if !self.is_between() {
             return None;
         }
-        let (count, used) = uint_at(piece, 0)?;
-        let room = self.limits.stream().saturating_sub(self.taken);
-        if count > self.limits.item() || count > room || used as u64 > room - count {
-            return None;
-        }
-        Some(Announced { count, used })
+        awaited_value(&self.types, &self.limits, self.taken, piece)
     }
 
     /// Whether no byte of an item is under way, and there was no fault.
@@ -139,42 +80,4 @@ impl GoSession {
         self.taken += items.len() as u64;
         self.stage = Stage::Count(ItemCount::new(self.taken));
     }
-}
-
-// The type number that stands in the piece from the place on, where values of the type may come now. It is looked for
-// in the piece, and not in the item alone: near the end of its bytes a number is found byte by byte.
-#[inline(always)]
-pub(crate) fn type_of(table: &Table, piece: &[u8], at: usize) -> Option<Named>
-    ensures names { IfSome result (λ named. NamesTypeAt named.id piece.now at named.end) }
-    ensures may { IfSome result (λ named. MayPut (types table.now) named.id) }
-{
-    let (number, end) = uint_at(piece, at)?;
-    let id = value_type(number)?;
-    if !may_put(table, id) {
-        return None;
-    }
-    Some(Named { id, end })
-}
-
-// The type whose number this is, where it is that of a value.
-#[inline(always)]
-pub(crate) fn value_type(number: u64) -> Option<TypeId>
-    ensures { IfSome result (λ id. (bytes : List ℕ) → IsUnsigned number bytes → IsSigned (pos id.0) bytes) }
-{
-    let number = to_signed(number);
-    if number < 0 {
-        return None;
-    }
-    Some(TypeId(number as u64))
-}
-
-// Whether values of the type may come now.
-#[inline(always)]
-fn may_put(table: &Table, id: TypeId) -> bool
-    ensures { IsTrue result → MayPut (types table.now) id }
-{
-    if id.0 == TypeId::GOB_ENCODER_TYPE.0 {
-        return false;
-    }
-    table.kept(id)
 }

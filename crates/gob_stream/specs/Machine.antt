@@ -6,4 +6,3 @@ pub mod Stages
 pub mod HasRead
 pub mod ReadParts
 pub mod Between
-pub mod Waiting

@@ -2,13 +2,13 @@
 
 ghost use Rattle.std.specs.Prelude.{◌≡◌, ℕ, ◌+◌, ◌<◌, ◌≤◌, IfSome, length};
 ghost use Rattle.gob_types.specs.Defined.{types};
-ghost use Rattle.gob_stream.specs.Bounds.{Bounds};
+ghost use Rattle.gob_stream.specs.Bounds.{Bounds, no_deeper};
 ghost use Rattle.gob_stream.specs.Calls.Session.{HasFailed, IsBetweenItems, ReadsItems, StaysAsItWas};
 ghost use Rattle.gob_stream.specs.Calls.Session.{table_of, taken_of, limits_of};
 ghost use Rattle.gob_stream.specs.Whole.{AllowsIn, AreItemsBetween, IsOpenKind, IsValueBetween};
 
+use crate::limits::Limits;
 use crate::session::Session;
-use crate::stage::Stage;
 use crate::whole::{type_of, value_type};
 use gob_num::uint_at;
 use gob_read::Builder;
@@ -25,8 +25,8 @@ pub struct Passed {
 }
 
 impl Passed {
-    // None, at the front of the piece.
-    const NONE: Passed = Passed { items: 0, used: 0 };
+    /// None, at the front of the piece.
+    pub const NONE: Passed = Passed { items: 0, used: 0 };
 }
 
 impl<B: Builder> Session<B> {
@@ -41,22 +41,32 @@ impl<B: Builder> Session<B> {
         ensures types { table_of self.new ≡ table_of self.old }
         ensures limits { limits_of self.new ≡ limits_of self.old }
     {
-        match &self.stage {
-            Stage::Count(count) if count.begin == self.taken => {}
-            _ => return Passed::NONE,
+        if !self.is_between() {
+            return Passed::NONE;
         }
-        let room = self.limits.stream().saturating_sub(self.taken);
-        let near = room.min(piece.len() as u64) as usize;
-        let depth = self.limits.depth().min(B::DEPTH);
-        let passed = whole_values(&self.types, self.limits.item(), &piece[..near], depth);
+        let passed = whole_values(&self.types, &self.limits, B::DEPTH, self.taken, piece);
         self.go_past(passed.used);
         passed
     }
 }
 
+/// The items of values that stand whole at the front of the piece, one behind another, where the piece begins between
+/// two items at this offset of a stream that has these types and limits. None of the values is deeper than the limits
+/// allow, or than `depth`. It takes no memory. It may find fewer than stand there, or none, which says nothing of the
+/// piece.
+pub fn whole_values(table: &Table, limits: &Limits, depth: u64, offset: u64, piece: &[u8]) -> Passed
+    ensures { AreItemsBetween (no_deeper depth limits.now) (types table.now) offset result.items piece.now
+        0 result.used }
+{
+    let room = limits.stream().saturating_sub(offset);
+    let near = room.min(piece.len() as u64) as usize;
+    let depth = limits.depth().min(depth);
+    runs_of(table, limits.item(), &piece[..near], depth)
+}
+
 // The items of values that stand whole at the front of the piece, none of more than `most` bytes behind its count and
 // none of a value that is deeper than `depth`.
-fn whole_values(table: &Table, most: u64, piece: &[u8], depth: u64) -> Passed
+fn runs_of(table: &Table, most: u64, piece: &[u8], depth: u64) -> Passed
     ensures are { (L : Bounds) (offset : ℕ) → AllowsIn L most depth offset piece.now
         → AreItemsBetween L (types table.now) offset result.items piece.now 0 result.used }
 {

@@ -17,10 +17,12 @@ use std::io::Read;
 // How many bytes there is room for at first, and by how many it grows at least.
 const PIECE: usize = 65536;
 
-/// Bytes that were read and not yet taken: those of the room from the start to the end.
+/// The bytes of a stream that were read and not yet taken. A reader keeps them beside its session: it reads behind
+/// them, gives them to the session, and lets go of what that has taken.
 #[derive(Drop)]
-pub(crate) struct Waiting {
+pub struct Waiting {
     room: Vec<u8>,
+    // The bytes are those of the room from here to the end.
     start: usize,
     end: usize,
     ghost ordered: { start ≤ end },
@@ -28,12 +30,12 @@ pub(crate) struct Waiting {
 }
 
 impl Waiting {
-    ghost use Rattle.gob_stream.specs.Machine.Waiting.{waiting, Grows, HasRoom, ReadsMore};
+    ghost use Rattle.gob_stream.specs.Calls.Waiting.{waiting, room_for, Grows, HasRoom, ReadsMore};
 
-    /// No bytes.
-    pub(crate) fn new(alloc: Global) -> Result<Waiting, Memory>
+    /// No bytes, with room for 65536.
+    pub fn new(alloc: Global) -> Result<Waiting, Memory>
         ensures none { IfOk result (λ new. waiting new ≡ []) }
-        ensures room { IfOk result (λ new. vec_len new.room ≡ 65536) }
+        ensures room { IfOk result (λ new. room_for new ≡ 65536) }
     {
         let room = vec![in alloc; 0; PIECE].map_err(Memory::from)?;
         Ok(Waiting {
@@ -45,35 +47,36 @@ impl Waiting {
 
     /// The bytes.
     #[inline(always)]
-    pub(crate) fn bytes(&self) -> &[u8]
+    pub fn bytes(&self) -> &[u8]
         ensures { result.now ≡ waiting self.now }
     {
         &self.room.as_slice()[self.start..self.end]
     }
 
-    /// Lets go of the first of them.
+    /// Lets go of so many of them, from the first on.
     #[inline(always)]
-    pub(crate) fn pass(&mut self, used: usize)
+    pub fn pass(&mut self, used: usize)
         requires { used ≤ length (waiting self.old) }
         ensures bytes { waiting self.new ≡ drop used (waiting self.old) }
-        ensures room { vec_len self.new.room ≡ vec_len self.old.room }
+        ensures room { room_for self.new ≡ room_for self.old }
     {
         self.start += used;
     }
 
     /// Whether there is room behind them: the last read gave less than was asked for, or there was none.
     #[inline(always)]
-    pub(crate) fn has_room(&self) -> bool
+    pub fn has_room(&self) -> bool
         ensures { MatchBool result (HasRoom self.now) (¬ HasRoom self.now) }
     {
         self.end < self.room.len()
     }
 
-    /// Reads once, behind them. How many bytes came: none only at the end of the input.
-    pub(crate) fn read_more<R: Read>(&mut self, input: &mut Input<R>) -> Result<usize, Fault>
+    /// Reads once, behind them. How many bytes came: none only at the end of the input. It makes room for more where
+    /// there is none. After [`Fault::Read`] or [`Fault::Memory`] the same bytes wait, and it may be called again.
+    pub fn read_more<R: Read>(&mut self, input: &mut Input<R>) -> Result<usize, Fault>
         ensures read { ReadsMore (R.remaining (reader_of input.old)) (R.remaining (reader_of input.new))
             (waiting self.old) (waiting self.new) result }
-        ensures grown { Grows (vec_len self.old.room) (vec_len self.new.room) (length (waiting self.old)) }
+        ensures grown { Grows (room_for self.old) (room_for self.new) (length (waiting self.old)) }
         ensures reads { CountsReads (failed_reads input.old) (failed_reads input.new) result }
     {
         self.make_room()?;
@@ -90,7 +93,7 @@ impl Waiting {
     fn make_room(&mut self) -> Result<(), Memory>
         ensures kept { waiting self.new ≡ waiting self.old }
         ensures room { OnOk result (self.new.end < vec_len self.new.room) }
-        ensures grown { Grows (vec_len self.old.room) (vec_len self.new.room) (length (waiting self.old)) }
+        ensures grown { Grows (room_for self.old) (room_for self.new) (length (waiting self.old)) }
     {
         let (start, end) = (self.start, self.end);
         if start > 0 {

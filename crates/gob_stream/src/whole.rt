@@ -5,11 +5,12 @@ ghost use Rattle.gob_num.specs.Unsigned.{IsUnsigned};
 ghost use Rattle.gob_num.specs.Signed.{IsSigned};
 ghost use Rattle.gob_types.specs.Defined.{types};
 ghost use Rattle.gob_stream.specs.Body.{MayPut};
-ghost use Rattle.gob_stream.specs.Calls.Session.{IsBetweenItems, table_of, taken_of, limits_of};
+ghost use Rattle.gob_stream.specs.Calls.Session.{HasFailed, IsBetweenItems, table_of, taken_of, limits_of};
 ghost use Rattle.gob_stream.specs.Calls.Session.{HasBodyNext, HasBegunNext, HasItemNext, HasItemsNext, ReadsOn};
 ghost use Rattle.gob_stream.specs.Calls.Session.{ReadsAll};
-ghost use Rattle.gob_stream.specs.Whole.{HasCount, NamesTypeAt};
+ghost use Rattle.gob_stream.specs.Whole.{HasBegun, HasBody, HasCount, NamesTypeAt};
 
+use crate::limits::Limits;
 use crate::session::Session;
 use crate::stage::Stage;
 use gob_num::{to_signed, uint_at};
@@ -63,21 +64,10 @@ impl<B: Builder> Session<B> {
         ensures body { IfSome result (λ whole.
             HasBodyNext self.now whole.id whole.body.now whole.used piece.now) }
     {
-        let announced = self.announced(piece)?;
-        let head = announced.used;
-        if announced.count > (piece.len() - head) as u64 {
+        if !self.is_between() {
             return None;
         }
-        let used = head + announced.count as usize;
-        let named = type_of(&self.types, piece, head)?;
-        if named.end > used {
-            return None;
-        }
-        Some(Whole {
-            id: named.id,
-            body: &piece[named.end..used],
-            used,
-        })
+        whole_value(&self.types, &self.limits, self.taken, piece)
     }
 
     /// The item of a value at the front of the piece, where no byte of an item is under way and more bytes of it are to
@@ -88,37 +78,22 @@ impl<B: Builder> Session<B> {
         ensures begun { IfSome result (λ awaited.
             HasBegunNext self.now awaited.id awaited.head awaited.size piece.now) }
     {
-        let announced = self.announced(piece)?;
-        let count_end = announced.used;
-        if announced.count <= (piece.len() - count_end) as u64 {
+        if !self.is_between() {
             return None;
         }
-        let named = type_of(&self.types, piece, count_end)?;
-        Some(Awaited {
-            id: named.id,
-            head: named.end,
-            size: count_end as u64 + announced.count,
-        })
+        awaited_value(&self.types, &self.limits, self.taken, piece)
     }
 
-    /// The count at the front of the piece, where no byte of the item was taken before and the limits allow its length.
+    /// Whether no byte of an item is under way, and there was no fault.
     #[inline(always)]
-    fn announced(&self, piece: &[u8]) -> Option<Announced>
-        ensures between { IfSome result (λ announced. IsBetweenItems self.now) }
-        ensures count { IfSome result (λ announced. HasCount (limits_of self.now) (taken_of self.now)
-            announced.count announced.used piece.now) }
-        ensures fits { IfSome result (λ announced. announced.used + announced.count < 2 ^ 64) }
+    pub(crate) fn is_between(&self) -> bool
+        ensures between { IsTrue result → IsBetweenItems self.now }
+        ensures failed { IsTrue result → ¬ HasFailed self.now }
     {
         match &self.stage {
-            Stage::Count(count) if count.begin == self.taken => {}
-            _ => return None,
+            Stage::Count(count) => count.begin == self.taken,
+            _ => false,
         }
-        let (count, used) = uint_at(piece, 0)?;
-        let room = self.limits.stream().saturating_sub(self.taken);
-        if count > self.limits.item() || count > room || used as u64 > room - count {
-            return None;
-        }
-        Some(Announced { count, used })
     }
 
     /// Goes past so many bytes, which the caller has found to be an item that defines nothing.
@@ -151,6 +126,71 @@ impl<B: Builder> Session<B> {
             count.begin = self.taken;
         }
     }
+}
+
+/// The item of a value that stands whole at the front of the piece, where the piece begins between two items at this
+/// offset of a stream that has these types and limits: its type is ready and the limits allow its length. It takes no
+/// memory, and looks at no byte of the value. None says nothing of the piece.
+#[inline(always)]
+pub fn whole_value<'a>(
+    table: &Table,
+    limits: &Limits,
+    offset: u64,
+    piece: &'a [u8],
+) -> Option<Whole<'a>>
+    ensures { IfSome result (λ whole.
+        HasBody limits.now (types table.now) offset whole.id whole.body.now whole.used piece.now) }
+{
+    let announced = front_count(limits, offset, piece)?;
+    let head = announced.used;
+    if announced.count > (piece.len() - head) as u64 {
+        return None;
+    }
+    let used = head + announced.count as usize;
+    let named = type_of(table, piece, head)?;
+    if named.end > used {
+        return None;
+    }
+    Some(Whole {
+        id: named.id,
+        body: &piece[named.end..used],
+        used,
+    })
+}
+
+/// The item of a value of which the piece has the first bytes, and more are to come, where the piece begins between two
+/// items at this offset of a stream that has these types and limits: its type is ready and the limits allow its length.
+/// It takes no memory, and looks at no byte of the value. None says nothing of the piece.
+pub fn awaited_value(table: &Table, limits: &Limits, offset: u64, piece: &[u8]) -> Option<Awaited>
+    ensures { IfSome result (λ awaited.
+        HasBegun limits.now (types table.now) offset awaited.id awaited.head awaited.size piece.now) }
+{
+    let announced = front_count(limits, offset, piece)?;
+    let count_end = announced.used;
+    if announced.count <= (piece.len() - count_end) as u64 {
+        return None;
+    }
+    let named = type_of(table, piece, count_end)?;
+    Some(Awaited {
+        id: named.id,
+        head: named.end,
+        size: count_end as u64 + announced.count,
+    })
+}
+
+// The count of an item at the front of the piece, where the limits allow its length at this offset.
+#[inline(always)]
+fn front_count(limits: &Limits, offset: u64, piece: &[u8]) -> Option<Announced>
+    ensures count { IfSome result (λ announced.
+        HasCount limits.now offset announced.count announced.used piece.now) }
+    ensures fits { IfSome result (λ announced. announced.used + announced.count < 2 ^ 64) }
+{
+    let (count, used) = uint_at(piece, 0)?;
+    let room = limits.stream().saturating_sub(offset);
+    if count > limits.item() || count > room || used as u64 > room - count {
+        return None;
+    }
+    Some(Announced { count, used })
 }
 
 // The type number that stands in the piece from the place on, where values of the type may come now. It is looked for

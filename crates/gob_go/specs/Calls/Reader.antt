@@ -1,5 +1,5 @@
 -- What a reader has read of its input, and what its calls answer.
-use Rattle.std.specs.Prelude.{◌≡◌, ℕ, ◌+◌, ◌<◌, ◌≤◌, vec_len, List, [], ◌∷◌, ◌++◌, length, take, Option, Some}
+use Rattle.std.specs.Prelude.{◌≡◌, ℕ, ◌+◌, ◌<◌, ◌≤◌, List, [], ◌∷◌, ◌++◌, length, take, Option, Some}
 use Rattle.std.specs.Prelude.{None, Result, Ok, Err}
 use Rattle.std.specs.Prelude.{Bool, true, false}
 use Rattle.std.specs.Io.KnownBytes.{Consumes, Keeps, IsAtEnd}
@@ -9,7 +9,7 @@ use Rattle.gob_types.specs.declared.id.TypeId.{TypeId}
 use Rattle.gob_stream.specs.Bounds.{Bounds, within_trees}
 use Rattle.gob_stream.specs.Calls.Reader.{most_ahead}
 use Rattle.gob_stream.specs.Item.{StreamItem}
-use Rattle.gob_stream.specs.Machine.Waiting.{Grows}
+use Rattle.gob_stream.specs.Calls.Waiting.{Grows, HasRoom, room_for, waiting}
 use Rattle.gob_stream.specs.Reading.{SomeTaken}
 use Rattle.gob_stream.specs.declared.fault.Refusal.{Refusal}
 use Rattle.gob_stream.specs.declared.fault.Fault.{Fault}
@@ -20,7 +20,6 @@ use Rattle.gob_filled.specs.Outcome.{BeginsFilled, FilledOutcome, refused}
 use Rattle.gob_filled.specs.OutcomeLaws.{unfilled_item}
 use Rattle.gob_go.specs.Calls.Session.{HasBegunNext, HasRead, IsBetweenItems, IsNext, limits_of, taken_of, types_of}
 use Rattle.gob_go.specs.Machine.SessionState.{SessionState}
-use Rattle.gob_go.specs.Machine.Waiting.{HasRoom, waiting}
 use Rattle.gob_go.specs.Meaning.{ItemMeans}
 use Rattle.gob_go.specs.declared.item.GoItem.{GoItem}
 use Rattle.gob_go.specs.declared.reader.GoReader.{GoReader}
@@ -36,7 +35,7 @@ waits_in r = waiting r.waiting
 
 -- the room that it has for them
 abbrev pub room_in : GoReader → ℕ
-room_in r = vec_len r.waiting.room
+room_in r = room_for r.waiting
 
 -- the last read gave less than was asked for, or there was none
 abbrev pub IsShort : GoReader → Type 0

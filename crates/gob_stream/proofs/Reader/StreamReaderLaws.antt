@@ -35,7 +35,7 @@ use Rattle.gob_stream.specs.Calls.Reader.{BringsOnce, EndsWith, left_to_read, Re
 use Rattle.gob_stream.specs.Calls.Reader.{Begins, PassesFrom, PassesOne}
 use Rattle.gob_stream.specs.Calls.Reader.{StepsFrom, StepsOnFrom, StopsFrom, GivesItems, gives_none, gives_one}
 use Rattle.gob_stream.specs.Calls.Reader.{GivesAllBut, none_wait, some_wait, most_ahead, room_in, session_of, waits_in}
-use Rattle.gob_stream.specs.Machine.Waiting.{Grows}
+use Rattle.gob_stream.specs.Calls.Waiting.{Grows}
 use Rattle.gob_num.proofs.PublicLaws.{unsigned_length}
 use Rattle.gob_stream.specs.declared.stream_reader.StreamReader.{StreamReader}
 

@@ -234,7 +234,7 @@ module _ {L : Bounds} {T : Table} {offset : ℕ} {piece : List ℕ} where
         are = one_item v.item;
       })
 
-items_at_0 : {L : Bounds} {T : Table} {offset count used : ℕ} {piece : List ℕ}
+pub items_at_0 : {L : Bounds} {T : Table} {offset count used : ℕ} {piece : List ℕ}
     → (b : AreItemsBetween L T offset count piece 0 used) → AreItems base_table L T offset b.items (take used piece) T
 items_at_0 {L = L} {T = T} {offset = offset} {used = used} {piece = piece} b =
     let here : offset + 0 ≡ offset = omega arith in
@@ -243,17 +243,29 @@ items_at_0 {L = L} {T = T} {offset = offset} {used = used} {piece = piece} b =
     (subst (λ n. AreItems base_table L T (offset + 0) b.items (take n piece) T) all b.are)
 
 -- what a look at the front of a piece finds under the limits that are left
-pub found_items : {X O : Type 0} (most : ℕ) (s : SessionState X O) (piece : List ℕ) (near : ℕ)
+pub found_items : (L : Bounds) {T : Table} (offset most : ℕ) (piece : List ℕ) (near : ℕ)
     {count used limit item : ℕ}
-    → ((L : Bounds) (offset : ℕ) → AllowsIn L item limit offset (take near piece)
-    → AreItemsBetween L (types s.types) offset count (take near piece) 0 used)
-    → item ≡ s.limits.item → limit ≡ min s.limits.depth most → near ≤ s.limits.stream - s.taken
-    → AreItemsBetween (no_deeper most s.limits) (types s.types) s.taken count (take near piece) 0 used
-found_items most s piece near are items depths room = are (no_deeper most s.limits) s.taken (record {
-  item_is = omega (arith, items);
-  depth_is = omega (arith, depths);
-  stream_is = omega (arith, room, length-take near piece);
-})
+    → ((M : Bounds) (begin : ℕ) → AllowsIn M item limit begin (take near piece)
+    → AreItemsBetween M T begin count (take near piece) 0 used)
+    → item ≡ L.item → limit ≡ min L.depth most → near ≤ L.stream - offset
+    → AreItemsBetween (no_deeper most L) T offset count piece 0 used
+found_items L {T = T} offset most piece near {used = used} are items depths room =
+    let short = length-take near piece in
+    let found = are (no_deeper most L) offset (record {
+      item_is = omega (arith, items);
+      depth_is = omega (arith, depths);
+      stream_is = omega (arith, room, short);
+    }) in
+    let inside = found.inside in
+    let same : take (used - 0) (take near piece) ≡ take (used - 0) piece =
+    take-take (used - 0) near piece (omega (arith, inside, short)) in
+    record {
+      items = found.items;
+      counted = found.counted;
+      order = found.order;
+      inside = omega (arith, inside, short);
+      are = subst (λ z. AreItems base_table (no_deeper most L) T (offset + 0) found.items z T) same found.are;
+    }
 
 -- ---- going past items
 module _ {X O : Type 0} {most : ℕ} {building : Building X O most} where
@@ -285,25 +297,17 @@ module _ {X O : Type 0} {most : ℕ} {building : Building X O most} where
       })
 
   -- past items that were found to stand at the front of a piece
-  pub passes_items : {s s' : SessionState X O} {count used : ℕ} (room : ℕ) (piece : List ℕ)
-      → AreItemsBetween (no_deeper most s.limits) (types s.types) s.taken count (take room piece) 0 used
+  pub passes_items : {s s' : SessionState X O} {count used : ℕ} (piece : List ℕ)
+      → AreItemsBetween (no_deeper most s.limits) (types s.types) s.taken count piece 0 used
       → ReadsAll building s s' used → ReadsItems building s s' count used piece
-  passes_items {s' = s'} {used = used} room piece b f =
-      let near = b.inside in
-      let short = length-take room piece in
-      let same : take used (take room piece) ≡ take used piece = take-take used room piece (omega (arith, short)) in
+  passes_items {used = used} piece b f =
+      let size = length-take-le used piece b.inside in
       record {
         given = b.items;
         counted = b.counted;
-        within = omega (arith, short);
-        none = λ e. omega (
-          arith,
-          no_items_empty (items_at_0 b) (sym b.counted ∙ e),
-          length-take-le used (take room piece) near,
-        );
-        passed = λ items bytes a. subst (λ z. HasRead building s' (items ++ b.items) (bytes ++ z)) same
-            (f items bytes b.items (take used (take room piece)) a (items_at_0 b) (length-take-le used (take room piece)
-            near));
+        within = b.inside;
+        none = λ e. omega (arith, no_items_empty (items_at_0 b) (sym b.counted ∙ e), size);
+        passed = λ items bytes a. f items bytes b.items (take used piece) a (items_at_0 b) size;
       }
 
   -- and nothing is passed where nothing is found

@@ -1,5 +1,5 @@
 -- What a reader has read of its input, and what its calls answer.
-use Rattle.std.specs.Prelude.{◌≡◌, ℕ, ◌+◌, ◌-◌, ◌*◌, ◌<◌, ◌≤◌, vec_len, List, [], ◌∷◌, ◌++◌, length, take, Option, Some}
+use Rattle.std.specs.Prelude.{◌≡◌, ℕ, ◌+◌, ◌-◌, ◌*◌, ◌<◌, ◌≤◌, List, [], ◌∷◌, ◌++◌, length, take, Option, Some}
 use Rattle.std.specs.Prelude.{None, Result, Ok, Err}
 use Rattle.std.specs.Prelude.{Bool, true, false}
 use Rattle.std.specs.Io.KnownBytes.{Consumes, Keeps, IsAtEnd}
@@ -21,7 +21,7 @@ use Rattle.gob_stream.specs.declared.fault.Fault.TheVariants as fault
 use Rattle.gob_stream.specs.declared.item.Item as declared
 use Rattle.gob_stream.specs.declared.session.Step.{Step}
 use Rattle.gob_stream.specs.declared.values.Passed.{Passed}
-use Rattle.gob_stream.specs.Machine.Waiting.{Grows, HasRoom, waiting}
+use Rattle.gob_stream.specs.Calls.Waiting.{Grows, HasRoom, room_for, waiting}
 use Rattle.gob_stream.specs.declared.stream_reader.StreamReader.{StreamReader}
 
 -- ---- what contracts see of a reader
@@ -34,7 +34,7 @@ waits_in r = waiting r.waiting
 
 -- the room that it has for them
 abbrev pub room_in : {X O : Type 0} → StreamReader X O → ℕ
-room_in r = vec_len r.waiting.room
+room_in r = room_for r.waiting
 
 -- how many bytes wait at most: as many as are read behind the first bytes of an item, which are no more than the item's
 abbrev pub most_ahead : Bounds → ℕ

@@ -1,13 +1,14 @@
-use Rattle.std.proofs.Common.{arith}
-use Rattle.gob_stream.proofs.Reader.WholeSteps.{no_items, items_more}
+use Rattle.std.proofs.Common.{arith, length-take}
+use Rattle.gob_stream.proofs.Reader.WholeSteps.{found_items}
 use Rattle.gob_stream.proofs.values.whole_values.Goals as goal
 
-pub runs-init : goal.runs-init
-runs-init c = record { inside = omega arith; few = omega arith; are = λ L offset a. no_items 0 (omega arith) }
+pub returns : goal.returns
+returns c =
+    found_items c.args.limits.now c.args.offset c.args.depth c.args.piece.now c.min-near.result
+    c.runs_of.ensures.are c.item.ensures
+    (omega (arith, c.depth.ensures.depth, c.min-depth.ensures))
+    (omega (arith, c.min-near.ensures, c.saturating_sub-room.ensures, c.stream.ensures.stream))
 
-pub runs-preserved : goal.runs-preserved
-runs-preserved c = record {
-  inside = c.values_of-run.ensures.inside;
-  few = omega (arith, c.runs.invariant.few, c.values_of-run.ensures.few);
-  are = λ L offset a. items_more (c.runs.invariant.are L offset a) (c.values_of-run.ensures.are L offset a);
-}
+pub slice_bounds-runs_of-end : goal.slice_bounds-runs_of-end
+slice_bounds-runs_of-end c =
+    omega (arith, c.min-near.ensures, length-take c.min-near.result c.args.piece.now)
