@@ -1,2 +1,3 @@
 pub mod DroppedLaws
+pub mod MovedLaws
 pub mod WholeTidied

@@ -1,2 +1,3 @@
 pub mod TidiedWhole
+pub mod SameNil
 pub mod Machine

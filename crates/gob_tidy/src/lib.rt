@@ -9,10 +9,11 @@
 //!
 //! - [`tidy_whole`] makes of the bytes that spell a value those that spell its tidy form. It is one walk over the
 //!   bytes, which makes no tree.
+//! - [`tidy_with_nils`] also tells where nils of the value stand in its tidy form.
 #![tactic(auto)]
 
 mod dropped;
 mod part;
 mod tidying;
 
-pub use tidying::tidy_whole;
+pub use tidying::{tidy_whole, tidy_with_nils};

@@ -5,7 +5,7 @@ ghost use Rattle.std.specs.Prelude.{slice_get};
 ghost use Rattle.gob_num.specs.Spelled.{Appends};
 ghost use Rattle.gob_num.specs.Unsigned.{IsUnsigned};
 ghost use Rattle.gob_value.specs.Machine.Begins.{HoldsBetween};
-ghost use Rattle.gob_tidy.specs.Machine.Tidying.{BeginsZero, CopiesEach, CopiesNumber};
+ghost use Rattle.gob_tidy.specs.Machine.Tidying.{BeginsZero, CopiesEach, CopiesNumber, PutsPlace};
 
 use gob_num::write_uint;
 use gob_types::{Shapes, TypeId};
@@ -16,8 +16,37 @@ use std::alloc::Global;
 #[derive(Clone, Copy)]
 pub(crate) struct Part<'a> {
     pub(crate) body: &'a [u8],
+    /// The places of the nils that are asked for, in their order.
+    pub(crate) nils: &'a [u64],
     pub(crate) at: usize,
     pub(crate) depth: u64,
+}
+
+/// A tidy form under way.
+pub(crate) struct Form {
+    pub(crate) bytes: Vec<u8>,
+    /// Where those of the nils stand in it that are asked for.
+    pub(crate) places: Vec<u64>,
+}
+
+/// Appends the place of a nil, if it is the next one that is asked for.
+pub(crate) fn put_place(part: Part<'_>, form: &mut Form) -> Option<()>
+    ensures { IfSome result (λ _. PutsPlace part.entry.nils.now part.entry.at form.old form.new) }
+{
+    if is_asked(part, form.places.len()) {
+        form.places.push(form.bytes.len() as u64).ok()?;
+    }
+    Some(())
+}
+
+// Whether the part is the nil of this number that is asked for.
+fn is_asked(part: Part<'_>, number: usize) -> bool
+    ensures { IsTrue result → slice_get part.entry.nils.now number ≡ Some part.entry.at }
+{
+    match part.nils.get(number) {
+        Some(place) => *place == part.at as u64,
+        None => false,
+    }
 }
 
 /// Copies so many values of the type that stand there, and tells where they end.

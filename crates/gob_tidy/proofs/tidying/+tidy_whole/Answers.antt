@@ -1,5 +1,5 @@
 -- Each step's answer is a lemma on the bytes that it takes and appends.
-use Rattle.std.proofs.Common.{◌≡◌, ℕ, ◌+◌, ◌*◌, ◌-◌, ◌<◌, ◌≤◌, arith, sym}
+use Rattle.std.proofs.Common.{◌≡◌, ℕ, ◌+◌, ◌*◌, ◌-◌, ◌<◌, ◌≤◌, arith, refl, sym}
 use native.Mathlib.Nat.{sub-zero}
 use Rattle.gob_value.proofs.PublicLaws.{all_three, both, seen}
 use Rattle.gob_tidy.proofs.WholeTidied.{array_given, element_given, entry_given, field_dropped, field_kept}
@@ -36,7 +36,7 @@ further p q r = omega arith
 pub tidy_each-returns-then-is_leaf : goal.tidy_each-returns-then-is_leaf
 tidy_each-returns-then-is_leaf g t c =
     if_some c.copy_each.result (λ end s. leaves_given (sym c.in_ok-shape.ensures)
-    (c.is_leaf.ensures c.if-is_leaf.true) _ _ end s) c.copy_each.ensures
+    (c.is_leaf.ensures c.if-is_leaf.true) _ _ _ refl _ _ end s) c.copy_each.ensures
 
 pub tidy_each-elements-init : goal.tidy_each-elements-init
 tidy_each-elements-init g t c = record { inside = c.requires.place; parts = λ end new s. rw sub-zero at s }
@@ -49,12 +49,12 @@ pub tidy_each-elements-preserved : goal.tidy_each-elements-preserved
 tidy_each-elements-preserved g t c = record {
   inside = c.in_ok-at.ensures.inside;
   parts = λ end new s. c.elements.invariant.parts end new (both c.in_ok-at.ensures s
-      (element_given _ _ _ _ _ _ _ new (omega arith)));
+      (element_given _ _ _ _ _ _ _ _ _ new (omega arith)));
 }
 
 pub tidy_each-returns : goal.tidy_each-returns
 tidy_each-returns g t c = c.elements.invariant.parts c.elements.at _
-    (none_given _ _ _ _ _ _ _ (omega arith) c.elements.invariant.inside)
+    (none_given _ _ _ _ _ _ _ _ _ (omega arith) c.elements.invariant.inside)
 
 pub tidy_list-tidy_each-requires : goal.tidy_list-tidy_each-requires
 tidy_list-tidy_each-requires g t c κs within =
@@ -63,7 +63,7 @@ tidy_list-tidy_each-requires g t c κs within =
 pub tidy_list-returns : goal.tidy_list-returns
 tidy_list-returns g t c =
     if_some c.tidy_each.result (λ end s. both c.in_ok-count.ensures s
-    (list_given _ _ _ _ _ _ _ _ (c.admits.ensures c.if-not-admits.false))) c.tidy_each.ensures
+    (list_given _ _ _ _ _ _ _ _ _ _ (c.admits.ensures c.if-not-admits.false) refl)) c.tidy_each.ensures
 
 -- ---- entries
 
@@ -85,15 +85,15 @@ pub tidy_map-entries-preserved : goal.tidy_map-entries-preserved
 tidy_map-entries-preserved g t c = record {
   inside = c.in_ok-at.ensures.inside;
   parts = λ end new s. c.entries.invariant.parts end new (all_three c.in_ok-behind.ensures c.in_ok-at.ensures s
-      (entry_given _ _ _ _ _ _ _ _ _ new (omega arith)));
+      (entry_given _ _ _ _ _ _ _ _ _ _ _ new (omega arith)));
 }
 
 pub tidy_map-returns : goal.tidy_map-returns
 tidy_map-returns g t c =
     both c.in_ok-count.ensures
-    (c.entries.invariant.parts c.entries.at _ (no_entries_given _ _ _ _ _ _ _ _ (omega arith)
+    (c.entries.invariant.parts c.entries.at _ (no_entries_given _ _ _ _ _ _ _ _ _ _ (omega arith)
     c.entries.invariant.inside))
-    (map_given _ _ _ _ _ _ _ _)
+    (map_given _ _ _ _ _ _ _ _ _ _ refl)
 
 -- ---- fields
 
@@ -107,7 +107,7 @@ tidy_fields-fields-init g t c = record {
 pub tidy_fields-returns-then-delta-eq0 : goal.tidy_fields-returns-then-delta-eq0
 tidy_fields-returns-then-delta-eq0 g t c =
     c.fields.invariant.parts c.in_ok-delta.behind _ (seen c.in_ok-delta.ensures.stands
-    (fields_end_given _ _ _ _ _ _ _ _ (omega arith) c.in_ok-put_number.ensures))
+    (fields_end_given _ _ _ _ _ _ _ _ _ _ (omega arith) refl c.in_ok-put_number.ensures))
 
 pub tidy_fields-fields-preserved-in-Some : goal.tidy_fields-fields-preserved-in-Some
 tidy_fields-fields-preserved-in-Some g t c =
@@ -116,7 +116,8 @@ tidy_fields-fields-preserved-in-Some g t c =
       inside = gone.inside;
       ordered = let o = c.fields.invariant.ordered in let is = c.in_ok-number.ensures.found in omega arith;
       parts = λ end new s. c.fields.invariant.parts end new (all_three c.in_ok-delta.ensures.stands gone s
-          (field_dropped _ _ _ _ _ c.in_ok-number.number c.in_ok-field.field.now c.in_ok-shape.shape.now (omega arith)
+          (field_dropped _ _ _ _ _ _ _ c.in_ok-number.number c.in_ok-field.field.now c.in_ok-shape.shape.now
+          (omega arith)
           c.in_ok-number.ensures.found (sym c.in_ok-field.ensures.found) (sym c.in_ok-shape.ensures) _ _ new
           (omega arith)));
     }
@@ -128,9 +129,9 @@ tidy_fields-fields-preserved g t c = record {
   parts = λ end new s. c.fields.invariant.parts end new
       (all_three c.in_ok-delta.ensures.stands
       (kept_there (c.dropped_end.ensures.kept c.in_default.is) c.in_ok-at.ensures) s
-      (field_kept _ _ _ _ _ c.in_ok-number.number c.in_ok-field.field.now c.in_ok-shape.shape.now (omega arith)
+      (field_kept _ _ _ _ _ _ _ c.in_ok-number.number c.in_ok-field.field.now c.in_ok-shape.shape.now (omega arith)
       c.in_ok-number.ensures.found (sym c.in_ok-field.ensures.found) (sym c.in_ok-shape.ensures) _ _ _ _ new
-      (let o = c.fields.invariant.ordered in let is = c.in_ok-number.ensures.found in omega arith)
+      (let o = c.fields.invariant.ordered in let is = c.in_ok-number.ensures.found in omega arith) refl
       c.in_ok-put_number-2.ensures));
 }
 
@@ -143,25 +144,26 @@ tidy_fields-fields-smaller-in-Some g t c =
 
 pub tidy_value-returns-in-Basic : goal.tidy_value-returns-in-Basic
 tidy_value-returns-in-Basic g t c =
-    if_some c.copy_each.result (λ end s. leaf_given (sym c.in_ok-shape.ensures) (leaf_kind c.in-Basic.is) _ _ end s)
+    if_some c.copy_each.result
+    (λ end s. leaf_given (sym c.in_ok-shape.ensures) (leaf_kind c.in-Basic.is) _ _ _ refl _ _ end s)
     c.copy_each.ensures
 
 pub tidy_value-returns-in-Slice : goal.tidy_value-returns-in-Slice
 tidy_value-returns-in-Slice g t c =
-    if_some c.tidy_list.result (λ end s. seen s (λ x y q. slice_given _ (some_depth c.if-part-eq0.false)
+    if_some c.tidy_list.result (λ end s. seen s (λ x y q. slice_given _ _ _ (some_depth c.if-part-eq0.false)
     (sym c.in_ok-shape.ensures) _ _ x y c.in-Slice.is q)) c.tidy_list.ensures
 
 pub tidy_value-returns-in-Array : goal.tidy_value-returns-in-Array
 tidy_value-returns-in-Array g t c =
-    if_some c.tidy_list-in-Array.result (λ end s. seen s (λ x y q. array_given _ (some_depth c.if-part-eq0.false)
+    if_some c.tidy_list-in-Array.result (λ end s. seen s (λ x y q. array_given _ _ _ (some_depth c.if-part-eq0.false)
     (sym c.in_ok-shape.ensures) _ _ x y c.in-Array.is q)) c.tidy_list-in-Array.ensures
 
 pub tidy_value-returns-in-Map : goal.tidy_value-returns-in-Map
 tidy_value-returns-in-Map g t c =
-    if_some c.tidy_map.result (λ end s. seen s (λ x y q. map_is_given _ (some_depth c.if-part-eq0.false)
+    if_some c.tidy_map.result (λ end s. seen s (λ x y q. map_is_given _ _ _ (some_depth c.if-part-eq0.false)
     (sym c.in_ok-shape.ensures) _ _ x y c.in-Map.is q)) c.tidy_map.ensures
 
 pub tidy_value-returns-in-Struct : goal.tidy_value-returns-in-Struct
 tidy_value-returns-in-Struct g t c =
-    if_some c.tidy_fields.result (λ end s. seen s (λ x y q. struct_given _ (some_depth c.if-part-eq0.false)
+    if_some c.tidy_fields.result (λ end s. seen s (λ x y q. struct_given _ _ _ (some_depth c.if-part-eq0.false)
     (sym c.in_ok-shape.ensures) _ _ x y c.in-Struct.is q)) c.tidy_fields.ensures

@@ -1,0 +1,5 @@
+pub mod PlaceLaws
+pub mod LetterLaws
+pub mod WayLaws
+pub mod AgainLaws
+pub mod TidiedLaws

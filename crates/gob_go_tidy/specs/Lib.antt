@@ -1,0 +1,2 @@
+pub mod TidyItem
+pub mod Machine

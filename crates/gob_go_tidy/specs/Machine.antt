@@ -1,0 +1,3 @@
+-- What the steps of tidying an item give. No clause of a public call names these.
+pub mod Places
+pub mod Tidied
