@@ -5,6 +5,8 @@
 #[cfg(test)]
 mod again;
 #[cfg(test)]
+mod hoist_tests;
+#[cfg(test)]
 mod memory_tests;
 #[cfg(test)]
 mod reader_tests;
@@ -20,5 +22,7 @@ mod session_tests;
 mod sessions;
 #[cfg(test)]
 mod streams;
+#[cfg(test)]
+mod tidy_tests;
 #[cfg(test)]
 mod writing_tests;

@@ -28,7 +28,7 @@ use Rattle.gob_go_writer.proofs.PartSteps.{defs_keep, item_left}
 
 -- ---- tables behind tables
 
-fills_keep : {L : Bounds} {T U V : Table} {t : TypeId} {limit : ℕ} {done left ls : List ℕ} {fs : Fillings}
+pub fills_keep : {L : Bounds} {T U V : Table} {t : TypeId} {limit : ℕ} {done left ls : List ℕ} {fs : Fillings}
     → Fills base_table L T t limit U done left fs ls V → Keeps U V
 fills_keep (as_it_stands o) = record { shape = λ t s e. e }
 fills_keep (next_filled c oc ex l o u ds may i vs g fl) = in_turn (defs_keep ds)
@@ -88,7 +88,7 @@ all_left a = all_left_by a.means a.spells (in_turn (filled_keeps a.spells) (reco
 
 -- ---- the next filling
 
-record FirstFilling (now : Table) (f : Filling) (fs : List Filling) (all : Fillings) : Type 0 where
+pub record FirstFilling (now : Table) (f : Filling) (fs : List Filling) (all : Fillings) : Type 0 where
   pub value : spelled.Filled
   pub others : Fillings
   pub is : all ≡ filling (out-Filling f).place (out-Filling f).name.items
@@ -96,7 +96,7 @@ record FirstFilling (now : Table) (f : Filling) (fs : List Filling) (all : Filli
   pub means : IsFilled now (out-Filling f).id (out-Filling f).value value
   pub others_mean : AreFillings now fs others
 
-first_filling : {now : Table} {f : Filling} {fs : List Filling} {all : Fillings} → AreFillings now (f ∷ fs) all
+pub first_filling : {now : Table} {f : Filling} {fs : List Filling} {all : Fillings} → AreFillings now (f ∷ fs) all
     → FirstFilling now f fs all
 first_filling (filling_then {w = w} {fs = others} m ms) =
     record { value = w; others = others; is = refl; means = m; others_mean = ms }

@@ -1,3 +1,5 @@
 pub mod Calls
+pub mod Hoisting
+pub mod HoistingLaws
 pub mod Item
 pub mod Machine

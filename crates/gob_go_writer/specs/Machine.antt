@@ -1,2 +1,3 @@
+pub mod Hoisted
 pub mod Letters
 pub mod Parts

@@ -10,12 +10,18 @@
 //! spelled   01 02 01 | 09 "main.Wrap" ff83 .. | ff84 23 .. 0a .. | 01 08 00
 //! segments  33 .. 01 02 01 09 "main.Wrap" ff83 ..      34 ff84 23 .. 0a .. 01 08 00
 //! ```
+//!
+//! [`hoist_item`] gives each definition in a value an item of its own, in front of the value's: a stream of such items
+//! has the types of the other one, and no definition in a value. [`laws`] says that they have bytes where the item has.
 #![tactic(auto)]
 
 mod again;
+mod hoist;
 mod item;
+pub mod laws;
 mod segments;
 mod value;
 
 pub use again::write_again;
+pub use hoist::hoist_item;
 pub use item::write_item;
